@@ -4,3 +4,4 @@ pub mod MovedLemmas
 pub mod StepEventLemmas
 pub mod LossLemmas
 pub mod CountLemmas
+pub mod ResultLemmas

@@ -68,10 +68,7 @@ pub(crate) fn mark_units<R: Rack>(core: &mut Core<R>, disk: DiskNo, end: u32) ->
 {
     core.mark_rebuilt(end);
     core.commit()?;
-    if is_gone(core) {
-        return Ok(false);
-    }
-    Ok(true)
+    Ok(!is_gone(core))
 }
 
 // Takes the disk that is rebuilt into the array again, by a commit, where each of its units is copied. False where it was
@@ -124,8 +121,5 @@ pub(crate) fn come_back<R: Rack>(core: &mut Core<R>, disk: DiskNo) -> Result<boo
 {
     core.rejoin();
     core.commit()?;
-    if is_gone(core) {
-        return Ok(false);
-    }
-    Ok(true)
+    Ok(!is_gone(core))
 }

@@ -75,8 +75,7 @@ fn conclude<R: Rack>(core: &mut Core<R>, disk: DiskNo, end: u32) -> Result<bool,
     if !copied {
         return Ok(false);
     }
-    let joined = come_back(core, disk)?;
-    Ok(joined)
+    come_back(core, disk)
 }
 
 /// Ends a rebuild, with nothing staged: copies the units that are left, and takes the disk into the array again by one

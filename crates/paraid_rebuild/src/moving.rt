@@ -110,8 +110,5 @@ pub(crate) fn move_units<R: Rack>(
     if !done {
         return Ok(false);
     }
-    if is_gone(core) {
-        return Ok(false);
-    }
-    Ok(true)
+    Ok(!is_gone(core))
 }

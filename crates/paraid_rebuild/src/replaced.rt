@@ -119,10 +119,7 @@ fn bring_fresh<R: Rack>(core: &mut Core<R>, disk: DiskNo) -> Result<bool, Two>
         return Ok(false);
     }
     core.commit()?;
-    if is_gone(core) {
-        return Ok(false);
-    }
-    Ok(true)
+    Ok(!is_gone(core))
 }
 
 /// Replaces a disk that is out, also one that is being rebuilt: that it is gone is committed, with all that is staged and
@@ -177,6 +174,5 @@ pub fn begin<R: Rack>(core: &mut Core<R>, disk: DiskNo) -> Result<bool, Two>
         (service_of R.slot_count core.old samples served energy) h lo disk two) }
 {
     commit_gone(core, disk)?;
-    let there = bring_fresh(core, disk)?;
-    Ok(there)
+    bring_fresh(core, disk)
 }

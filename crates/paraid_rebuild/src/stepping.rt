@@ -74,10 +74,7 @@ pub fn commit_staged<R: Rack>(core: &mut Core<R>, disk: DiskNo) -> Result<bool, 
         return Ok(true);
     }
     core.commit()?;
-    if is_gone(core) {
-        return Ok(false);
-    }
-    Ok(true)
+    Ok(!is_gone(core))
 }
 
 /// Commits that a disk which was rebuilt is gone again, in the tick in which it was lost.
@@ -167,8 +164,7 @@ fn advance<R: Rack>(core: &mut Core<R>, disk: DiskNo, end: u32) -> Result<bool, 
     if !copied {
         return Ok(false);
     }
-    let marked = mark_units(core, disk, end)?;
-    Ok(marked)
+    mark_units(core, disk, end)
 }
 
 // The same after a commit of what is staged, if anything is.
@@ -219,8 +215,7 @@ fn go_on<R: Rack>(core: &mut Core<R>, disk: DiskNo, end: u32) -> Result<bool, Tw
     if !there {
         return Ok(false);
     }
-    let moved = advance(core, disk, end)?;
-    Ok(moved)
+    advance(core, disk, end)
 }
 
 /// A step of a rebuild: what is staged is committed first, if anything is; then the units below `end` that are not rebuilt

@@ -25,6 +25,7 @@ use Rattle.paraid_txn.specs.Uses.{EachCall}
 use Rattle.paraid_core.specs.Calls.{IsDataCall}
 use Rattle.paraid_rebuild.proofs.MovedLemmas.{data_settled, gone_away, stays_away}
 use Rattle.paraid_rebuild.proofs.moving.move_units.Given.{Over}
+use Rattle.paraid_rebuild.proofs.ResultLemmas.{back_is, gone_is}
 use Rattle.paraid_rebuild.proofs.moving.move_units.Goals as goal
 use Rattle.std.proofs.Common.{Some}
 use Rattle.paraid_image.specs.Lost.{TellsLosses}
@@ -158,32 +159,6 @@ returns-then-not-done g c =
       moments = held g c.before;
     }
 
-pub returns-then-is_gone : goal.returns-then-is_gone
-returns-then-is_gone g c =
-    let a = c.args.core.now in
-    let b = c.copy_units.new.core in
-    let d = c.settle.new.self in
-    let same = c.in_ok-done.ensures.same (ap Ok c.if-not-done.false) in
-    let out : b.meta.out ≡ Fresh c.args.disk (rebuilt_count a.meta.out) = ap (λ (m : Meta). m.out) same ∙ c.requires.fresh in
-    record {
-      serving = serving g c.before.before.before;
-      leaves = left g c.before.before.before;
-      same = λ is. let z : Ok false ≡ Ok true = is in cc;
-      spins = λ is. let z : Ok false ≡ Ok true = is in cc;
-      gone = λ is. marked_lost b.meta d.meta c.args.disk (ap named_out out) (ap gone_out out) c.in_ok-settle.ensures.leaves.meta (c.is_gone.ensures.gone c.if-is_gone.true) ∙ ap (λ (m : Meta). meta_after_loss m c.args.disk) same;
-      failed = λ is.
-          HasRisen-sooner _ _ _ (c.copy_units.ensures.spared.no_fall c.args.disk)
-          (gone_failed (g.R.Rack.slot (store_rack b.store)) (g.R.Rack.slot (store_rack d.store)) b.meta d.meta c.args.disk (ap named_out out) (ap gone_out out) c.in_ok-settle.ensures.marks (c.is_gone.ensures.gone c.if-is_gone.true));
-      away = λ is. gone_away (g.R.Rack.slot (store_rack b.store)) (g.R.Rack.slot (store_rack d.store)) b.meta d.meta c.args.disk (ap named_out out) (ap gone_out out) c.in_ok-settle.ensures.marks (c.is_gone.ensures.gone c.if-is_gone.true);
-      spared = (left g c.before.before.before).spared;
-      calls = calls g c.before.before.before;
-      two = tt;
-      tells = tt;
-      copied = λ is. let z : Ok false ≡ Ok true = is in cc;
-      stands = stands g c.before.before.before;
-      moments = held g c.before.before.before;
-    }
-
 pub returns : goal.returns
 returns g c =
     let a = c.args.core.now in
@@ -191,24 +166,26 @@ returns g c =
     let d = c.settle.new.self in
     let same = c.in_ok-done.ensures.same (ap Ok c.if-not-done.false) in
     let out : b.meta.out ≡ Fresh c.args.disk (rebuilt_count a.meta.out) = ap (λ (m : Meta). m.out) same ∙ c.requires.fresh in
-    let still : d.meta.out ≡ Fresh c.args.disk (rebuilt_count a.meta.out) = ap (λ (m : Meta). m.out) (marked_back b.meta d.meta c.in_ok-settle.ensures.leaves.meta (c.is_gone.ensures.back c.if-is_gone.false)) ∙ out in
     record {
-      serving = serving g c.before.before.before;
-      leaves = left g c.before.before.before;
-      same = λ is. marked_back b.meta d.meta c.in_ok-settle.ensures.leaves.meta (c.is_gone.ensures.back c.if-is_gone.false) ∙ same;
+      serving = serving g c.before.before;
+      leaves = left g c.before.before;
+      same = λ is. marked_back b.meta d.meta c.in_ok-settle.ensures.leaves.meta (c.is_gone.ensures.back (back_is _ is)) ∙ same;
       spins = λ is.
-          (back_well (g.R.Rack.slot (store_rack b.store)) (g.R.Rack.slot (store_rack d.store)) b.meta d.meta c.args.disk c.in_ok-settle.ensures.marks (c.is_gone.ensures.back c.if-is_gone.false)).0
+          (back_well (g.R.Rack.slot (store_rack b.store)) (g.R.Rack.slot (store_rack d.store)) b.meta d.meta c.args.disk c.in_ok-settle.ensures.marks (c.is_gone.ensures.back (back_is _ is))).0
           ∙ c.in_ok-done.ensures.spins (ap Ok c.if-not-done.false);
-      gone = λ is. let z : Ok true ≡ Ok false = is in cc;
-      failed = λ is. let z : Ok true ≡ Ok false = is in cc;
-      away = λ is. let z : Ok true ≡ Ok false = is in cc;
-      spared = (left g c.before.before.before).spared;
-      calls = calls g c.before.before.before;
+      gone = λ is. marked_lost b.meta d.meta c.args.disk (ap named_out out) (ap gone_out out) c.in_ok-settle.ensures.leaves.meta (c.is_gone.ensures.gone (gone_is _ is)) ∙ ap (λ (m : Meta). meta_after_loss m c.args.disk) same;
+      failed = λ is.
+          HasRisen-sooner _ _ _ (c.copy_units.ensures.spared.no_fall c.args.disk)
+          (gone_failed (g.R.Rack.slot (store_rack b.store)) (g.R.Rack.slot (store_rack d.store)) b.meta d.meta c.args.disk (ap named_out out) (ap gone_out out) c.in_ok-settle.ensures.marks (c.is_gone.ensures.gone (gone_is _ is)));
+      away = λ is. gone_away (g.R.Rack.slot (store_rack b.store)) (g.R.Rack.slot (store_rack d.store)) b.meta d.meta c.args.disk (ap named_out out) (ap gone_out out) c.in_ok-settle.ensures.marks (c.is_gone.ensures.gone (gone_is _ is));
+      spared = (left g c.before.before).spared;
+      calls = calls g c.before.before;
       two = tt;
       tells = tt;
       copied = λ is h lo.
+          let still : d.meta.out ≡ Fresh c.args.disk (rebuilt_count a.meta.out) = ap (λ (m : Meta). m.out) (marked_back b.meta d.meta c.in_ok-settle.ensures.leaves.meta (c.is_gone.ensures.back (back_is _ is))) ∙ out in
           runs_then g.R.Rack.slot_count g.R.Rack.slot g.R.Rack.told a b c.in_ok-done.ensures.leaves d (UnitsRebuilt g.R.Rack.slot_count a h lo c.args.first) (UnitsRebuilt g.R.Rack.slot_count b h lo c.args.end) (UnitsRebuilt g.R.Rack.slot_count d h lo c.args.end) h lo
           (c.in_ok-done.ensures.copied (ap Ok c.if-not-done.false) h lo) ((c.in_ok-settle.ensures.rebuilt c.args.disk (rebuilt_count a.meta.out) still).1 h lo c.args.end);
-      stands = stands g c.before.before.before;
-      moments = held g c.before.before.before;
+      stands = stands g c.before.before;
+      moments = held g c.before.before;
     }

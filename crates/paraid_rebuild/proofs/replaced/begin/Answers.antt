@@ -15,6 +15,12 @@ use Rattle.paraid_core.proofs.AfterLemmas.{handed}
 use Rattle.paraid_event.specs.Replacements.LosesReplaced.{second}
 use Rattle.paraid_rebuild.proofs.LossLemmas.{LosesBegun}
 use Rattle.paraid_session.proofs.FaultLemmas.{counts_then, no_fall_counts}
+use Rattle.paraid_rebuild.proofs.ResultLemmas.{err_map, on_all, on_at, on_both, on_map, one_later, two_later}
+use Rattle.std.specs.Prelude.{List}
+use Rattle.paraid_base.specs.History.{History}
+use Rattle.paraid_rack.specs.Told.{CrashTriple, Ran}
+use Rattle.paraid_event.specs.Replacements.{ReplacesDisk}
+use Rattle.paraid_rebuild.specs.Replacing.{LeavesArrayBut}
 use Rattle.paraid_rebuild.proofs.replaced.begin.Goals as goal
 use Rattle.std.specs.Prelude.{◌+◌, ◌<◌, ◌^◌}
 use Rattle.std.proofs.Common.{inl, inr, subst}
@@ -60,49 +66,6 @@ returns-in_err-commit_gone g c =
       loses = handed _ from.result _ from.ensures.1 c.in_err-commit_gone.ensures.loses;
     }
 
-pub returns-in_err-there : goal.returns-in_err-there
-returns-in_err-there g c =
-    let old = g.R.Rack.slot (store_rack c.args.core.now.store) in
-    let mid = g.R.Rack.slot (store_rack c.commit_gone.new.core.store) in
-    let a = c.args.core.now in
-    let b = c.commit_gone.new.core in
-    let new = c.bring_fresh.new.core in
-    let was = c.in_ok-commit_gone.ensures in
-    let down : core_down b ≡ Some c.args.disk = ap (λ (o : Option ℕ). or_else o (named_out b.meta.out)) was.named in
-    let known : core_down a ≡ Some c.args.disk = down_named (named_of a.store) a.meta c.requires.serving.ready.one c.args.disk c.requires.out in
-    let from = c.from_residual-in_err-there in
-    record {
-      serving = none_done _ from.result _ from.ensures.1;
-      absent = none_done _ from.result _ from.ensures.1;
-      nothing = none_done _ from.result _ from.ensures.1;
-      leaves = none_done _ from.result _ from.ensures.1;
-      fresh = λ is. none_done_as _ from.result _ _ from.ensures.1 is;
-      gone = λ is. none_done_as _ from.result _ _ from.ensures.1 is;
-      risen = λ is. none_done_as _ from.result _ _ from.ensures.1 is;
-      spins = λ is. none_done_as _ from.result _ _ from.ensures.1 is;
-      size = λ is. none_done_as _ from.result _ _ from.ensures.1 is;
-      table = c.bring_fresh.ensures.table ∙ c.commit_gone.ensures.table;
-      named = none_done _ from.result _ from.ensures.1;
-      later = counts_then old mid (g.R.Rack.slot (store_rack c.bring_fresh.new.core.store)) (no_fall_counts old mid c.commit_gone.ensures.spared.no_fall) c.bring_fresh.ensures.later;
-      two =
-          handed _ from.result _ from.ensures.1
-          (two_since (core_down a) (core_down b) (g.R.Rack.slot (store_rack a.store)) (g.R.Rack.slot (store_rack b.store)) (g.R.Rack.slot (store_rack new.store)) _ (down ∙ sym known) c.commit_gone.ensures.spared.no_fall c.in_err-there.ensures.two);
-      moments = λ h lo.
-          ended (IsCoreHeld g.R.Rack.slot_count a h lo) (CoreStandsFor g.R.Rack.slot_count a h lo) (IsCoreHeld g.R.Rack.slot_count b h (length h)) _ _
-          (after _ _ _ _ (core_down a) (core_down b) h was.slots (ap (λ (m : Meta). m.setup.geometry.disks) was.meta.is) (λ x is. known ∙ sym down ∙ is) lo
-          (CoreStandsFor g.R.Rack.slot_count a h lo) (CoreCommitted g.R.Rack.slot_count b h (length h) (Gone c.args.disk)) (IsCoreHeld g.R.Rack.slot_count b h (length h)) _ _ _
-          (λ s k. keeps_low _ _ _ _ _ _ h lo s k) (was.committed h lo) (c.bring_fresh.ensures.moments h (length h)));
-      stands = none_done _ from.result _ from.ensures.1;
-      committed = λ is. none_done_as _ from.result _ _ from.ensures.1 is;
-      event = none_done _ from.result _ from.ensures.1;
-      loses =
-          handed (LosesBegun g.R.Rack.slot_count g.R.Rack.told a new c.args.disk) from.result _ from.ensures.1
-          (λ samples served energy h lo.
-          let one = c.in_ok-commit_gone.ensures.event samples served energy h lo in
-          let fresh = c.in_err-there.ensures.loses samples served energy h lo in
-          second (g.R.Rack.told (store_rack b.store)) fresh.attached one.0 (service_of g.R.Rack.slot_count b samples served energy) one.1 fresh.attach fresh.ran);
-    }
-
 pub returns : goal.returns
 returns g c =
     let old = g.R.Rack.slot (store_rack c.args.core.now.store) in
@@ -114,48 +77,51 @@ returns g c =
     let down : core_down b ≡ Some c.args.disk = ap (λ (o : Option ℕ). or_else o (named_out b.meta.out)) was.named in
     let known : core_down a ≡ Some c.args.disk = down_named (named_of a.store) a.meta c.requires.serving.ready.one c.args.disk c.requires.out in
     record {
-      serving = c.in_ok-there.ensures.serving;
-      absent = c.in_ok-there.ensures.absent;
-      nothing = c.in_ok-there.ensures.nothing;
-      leaves = record {
-        slots = c.in_ok-there.ensures.leaves.slots ∙ was.slots;
-        setup = c.in_ok-there.ensures.leaves.setup ∙ ap (λ (m : Meta). m.setup) was.meta.is;
-        writes = c.in_ok-there.ensures.leaves.writes ∙ ap (λ (m : Meta). m.writes) was.meta.is;
-        spared = but_then (g.R.Rack.slot (store_rack a.store)) (g.R.Rack.slot (store_rack b.store)) (g.R.Rack.slot (store_rack new.store)) c.args.disk c.commit_gone.ensures.spared c.in_ok-there.ensures.leaves.spared;
-      };
-      fresh = λ is. replaced_then c.args.core.now.meta c.commit_gone.new.core.meta c.bring_fresh.new.core.meta c.args.disk (Fresh c.args.disk 0) c.in_ok-commit_gone.ensures.meta (c.in_ok-there.ensures.fresh is);
-      gone = λ is. elim (c.in_ok-there.ensures.gone is) [
+      serving = c.bring_fresh.ensures.serving;
+      absent = c.bring_fresh.ensures.absent;
+      nothing = c.bring_fresh.ensures.nothing;
+      leaves = on_map {Y = LeavesArrayBut g.R.Rack.slot_count g.R.Rack.slot a new c.args.disk} _ c.bring_fresh.ensures.leaves (λ it. record {
+        slots = it.slots ∙ was.slots;
+        setup = it.setup ∙ ap (λ (m : Meta). m.setup) was.meta.is;
+        writes = it.writes ∙ ap (λ (m : Meta). m.writes) was.meta.is;
+        spared = but_then (g.R.Rack.slot (store_rack a.store)) (g.R.Rack.slot (store_rack b.store)) (g.R.Rack.slot (store_rack new.store)) c.args.disk c.commit_gone.ensures.spared it.spared;
+      });
+      fresh = λ is. replaced_then c.args.core.now.meta c.commit_gone.new.core.meta c.bring_fresh.new.core.meta c.args.disk (Fresh c.args.disk 0) c.in_ok-commit_gone.ensures.meta (c.bring_fresh.ensures.fresh is);
+      gone = λ is. elim (c.bring_fresh.ensures.gone is) [
         | inl same ↦ inl (subst (λ (m : Meta). IsReplacedFrom a.meta m c.args.disk 1 (Gone c.args.disk)) (sym same) was.meta)
         | inr next ↦ inr (replaced_then a.meta b.meta new.meta c.args.disk (Gone c.args.disk) was.meta (next ∙ ap (λ (o : Out). record b.meta { epoch = b.meta.epoch + 1; out = o }) (ap (λ (m : Meta). m.out) was.meta.is)))
       ];
-      risen = λ is. HasRisen-sooner _ _ _ (c.commit_gone.ensures.spared.no_fall c.args.disk) (c.in_ok-there.ensures.risen is);
-      spins = c.in_ok-there.ensures.spins;
-      size = λ is. c.in_ok-there.ensures.size is ∙ ap (λ (m : Meta). disk_size m.setup.geometry) was.meta.is;
+      risen = λ is. HasRisen-sooner _ _ _ (c.commit_gone.ensures.spared.no_fall c.args.disk) (c.bring_fresh.ensures.risen is);
+      spins = c.bring_fresh.ensures.spins;
+      size = λ is. c.bring_fresh.ensures.size is ∙ ap (λ (m : Meta). disk_size m.setup.geometry) was.meta.is;
       table = c.bring_fresh.ensures.table ∙ c.commit_gone.ensures.table;
-      named = c.in_ok-there.ensures.named;
+      named = c.bring_fresh.ensures.named;
       later = counts_then old mid (g.R.Rack.slot (store_rack c.bring_fresh.new.core.store)) (no_fall_counts old mid c.commit_gone.ensures.spared.no_fall) c.bring_fresh.ensures.later;
-      two = tt;
+      two = err_map _ c.bring_fresh.ensures.two (λ two it. (two_since (core_down a) (core_down b) (g.R.Rack.slot (store_rack a.store)) (g.R.Rack.slot (store_rack b.store)) (g.R.Rack.slot (store_rack new.store)) _ (down ∙ sym known) c.commit_gone.ensures.spared.no_fall it));
       moments = λ h lo.
           ended (IsCoreHeld g.R.Rack.slot_count a h lo) (CoreStandsFor g.R.Rack.slot_count a h lo) (IsCoreHeld g.R.Rack.slot_count b h (length h)) _ _
           (after _ _ _ _ (core_down a) (core_down b) h was.slots (ap (λ (m : Meta). m.setup.geometry.disks) was.meta.is) (λ x is. known ∙ sym down ∙ is) lo
           (CoreStandsFor g.R.Rack.slot_count a h lo) (CoreCommitted g.R.Rack.slot_count b h (length h) (Gone c.args.disk)) (IsCoreHeld g.R.Rack.slot_count b h (length h)) _ _ _
           (λ s k. keeps_low _ _ _ _ _ _ h lo s k) (was.committed h lo) (c.bring_fresh.ensures.moments h (length h)));
-      stands = λ h lo.
+      stands = on_map {Y = (h : History) (lo : ℕ) → Ran (g.R.Rack.told (store_rack a.store)) (g.R.Rack.told (store_rack new.store)) (CrashTriple (IsCoreHeld g.R.Rack.slot_count a h lo) (CoreStandsFor g.R.Rack.slot_count a h lo) (CoreStandsFor g.R.Rack.slot_count new h (length h)))} _ c.bring_fresh.ensures.stands (λ it. λ h lo.
           after _ _ _ _ (core_down a) (core_down b) h was.slots (ap (λ (m : Meta). m.setup.geometry.disks) was.meta.is) (λ x is. known ∙ sym down ∙ is) lo
           (CoreStandsFor g.R.Rack.slot_count a h lo) (CoreCommitted g.R.Rack.slot_count b h (length h) (Gone c.args.disk)) (CoreStandsFor g.R.Rack.slot_count new h (length h)) _ _ _
-          (λ s k. keeps_low _ _ _ _ _ _ h lo s k) (was.committed h lo) (c.in_ok-there.ensures.stands h);
+          (λ s k. keeps_low _ _ _ _ _ _ h lo s k) (was.committed h lo) (it h));
       committed = λ is h lo.
           after _ _ _ _ (core_down a) (core_down b) h was.slots (ap (λ (m : Meta). m.setup.geometry.disks) was.meta.is) (λ x is. known ∙ sym down ∙ is) lo
           (CoreStandsFor g.R.Rack.slot_count a h lo) (CoreCommitted g.R.Rack.slot_count b h (length h) (Gone c.args.disk)) (CoreCommitted g.R.Rack.slot_count new h (length h) (Fresh c.args.disk 0)) _ _ _
-          (λ s k. keeps_low _ _ _ _ _ _ h lo s k) (was.committed h lo) (c.in_ok-there.ensures.committed is h);
-      event = λ samples served energy h lo.
+          (λ s k. keeps_low _ _ _ _ _ _ h lo s k) (was.committed h lo) (c.bring_fresh.ensures.committed is h);
+      event = on_map {Y = (samples : List ℕ) (served energy : ℕ) (h : History) (lo : ℕ) → ReplacesDisk (g.R.Rack.told (store_rack a.store)) (g.R.Rack.told (store_rack new.store)) (service_of g.R.Rack.slot_count a samples served energy) (service_of g.R.Rack.slot_count new samples served energy) h lo c.args.disk} _ c.bring_fresh.ensures.event (λ it. λ samples served energy h lo.
           let one = c.in_ok-commit_gone.ensures.event samples served energy h lo in
           record {
             mid = g.R.Rack.told (store_rack b.store);
             marked = one.0;
             committed = service_of g.R.Rack.slot_count b samples served energy;
             commits = one.1;
-            brings = c.in_ok-there.ensures.event samples served energy h lo;
-          };
-      loses = tt;
+            brings = it samples served energy h lo;
+          });
+      loses = err_map {Q = LosesBegun g.R.Rack.slot_count g.R.Rack.told a new c.args.disk} _ c.bring_fresh.ensures.loses (λ two it. (λ samples served energy h lo.
+          let one = c.in_ok-commit_gone.ensures.event samples served energy h lo in
+          let fresh = it samples served energy h lo in
+          second (g.R.Rack.told (store_rack b.store)) fresh.attached one.0 (service_of g.R.Rack.slot_count b samples served energy) one.1 fresh.attach fresh.ran));
     }

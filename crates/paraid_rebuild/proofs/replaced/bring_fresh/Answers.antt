@@ -31,6 +31,7 @@ use Rattle.paraid_rebuild.proofs.ReplacementEventLemmas.{attach_told, commit_tol
 use Rattle.paraid_rebuild.proofs.LossLemmas.{LosesBrought, commit_lost_fresh, tells_by}
 use Rattle.paraid_session.proofs.FaultLemmas.{counts_then, no_fall_counts}
 use Rattle.paraid_rebuild.proofs.CountLemmas.{attached_counts, failed_counts}
+use Rattle.paraid_rebuild.proofs.ResultLemmas.{back_is, gone_is}
 use Rattle.paraid_rebuild.proofs.replaced.bring_fresh.Goals as goal
 use Rattle.std.specs.Prelude.{true, false, Ok}
 use Rattle.paraid_shift.proofs.AnswerLemmas.{none_done, none_done_as}
@@ -145,84 +146,6 @@ returns-in_err-commit g c =
           });
     }
 
-pub returns-then-is_gone : goal.returns-then-is_gone
-returns-then-is_gone g c =
-    let a = c.args.core.now in
-    let b = c.attach.new.self in
-    let new = c.commit.new.self in
-    let here : c.attach.result ≡ true = c.if-not-attach.false in
-    let fresh = c.attach.ensures.fresh here in
-    let out : b.meta.out ≡ Fresh c.args.disk 0 = ap (λ (m : Meta). m.out) fresh in
-    let setup : b.meta.setup ≡ a.meta.setup = ap (λ (m : Meta). m.setup) fresh in
-    let same = c.attach.ensures.store in
-    let marked = c.in_ok-commit.ensures.meta in
-    let lost = marked_lost _ new.meta c.args.disk (ap named_out out) (ap gone_out out) marked (c.is_gone.ensures.gone c.if-is_gone.true) in
-    let faults = ap (λ (s : Slot). s.faults) (c.attach.ensures.attached here) in
-    let old = g.R.Rack.slot (store_rack c.args.core.now.store) in
-    let mid = g.R.Rack.slot (store_rack c.attach.new.self.store) in
-    let it = c.attach.ensures in
-    let spins : is_present (g.R.Rack.slot (store_rack b.store) c.args.disk).power ≡ true = ap (λ (s : Slot). is_present s.power) (it.attached here) in
-    let ready = c.in_ok-commit.ensures.ready in
-    let new_setup : new.meta.setup ≡ b.meta.setup = c.in_ok-commit.ensures.setup in
-    record {
-      serving =
-          serving_then g.R.Rack.slot_count g.R.Rack.slot a new c.requires.serving c.in_ok-commit.ensures.ready (c.in_ok-commit.ensures.serves (c.attach.ensures.serves c.requires.serving.serves))
-          (c.in_ok-commit.ensures.unsynced (c.attach.ensures.unsynced c.requires.serving.unsynced)) (c.in_ok-commit.ensures.draft ∙ c.attach.ensures.draft) (c.in_ok-commit.ensures.copied ∙ c.attach.ensures.copied)
-          (c.in_ok-commit.ensures.setup ∙ setup)
-          (λ d is. marked_named _ new.meta marked d (ap named_out out ∙ sym (ap named_out c.requires.gone) ∙ is))
-          (λ d not there. c.commit.ensures.spared.size d there ∙ ap (λ (s : Slot). s.size) (c.attach.ensures.others d (λ is. not (marked_named _ new.meta marked d (ap named_out out ∙ ap Some (sym is))))));
-      absent = c.in_ok-commit.ensures.absent;
-      nothing = c.in_ok-commit.ensures.nothing;
-      leaves =
-          record {
-            slots = c.in_ok-commit.ensures.slots ∙ c.attach.ensures.slots;
-            setup = c.in_ok-commit.ensures.setup ∙ setup;
-            writes = c.in_ok-commit.ensures.writes ∙ ap (λ (m : Meta). m.writes) fresh;
-            spared = but_lost (g.R.Rack.slot (store_rack a.store)) (g.R.Rack.slot (store_rack b.store)) (g.R.Rack.slot (store_rack new.store)) c.args.disk c.attach.ensures.others c.commit.ensures.spared;
-          };
-      fresh = λ is. let z : Ok false ≡ Ok true = is in cc;
-      gone = λ is. inr (lost ∙ ap (λ (m : Meta). meta_after_loss (record m { epoch = m.epoch + 1 }) c.args.disk) fresh ∙ ap (λ (m : Meta). record m { epoch = m.epoch + 1 }) (gone_settled a.meta c.args.disk c.requires.serving.ready.in_range c.requires.gone));
-      risen = λ is.
-          subst (λ (x : ℕ). HasRisen x (g.R.Rack.slot (store_rack new.store) c.args.disk).faults) faults
-          (gone_failed (g.R.Rack.slot (store_rack b.store)) (g.R.Rack.slot (store_rack new.store)) b.meta new.meta c.args.disk (ap named_out out) (ap gone_out out) c.in_ok-commit.ensures.marks (c.is_gone.ensures.gone c.if-is_gone.true));
-      spins = λ is. let z : Ok false ≡ Ok true = is in cc;
-      size = λ is. let z : Ok false ≡ Ok true = is in cc;
-      table = c.commit.ensures.table ∙ c.attach.ensures.table;
-      named = c.in_ok-commit.ensures.named ∙ ap named_out out;
-      later =
-          let new = g.R.Rack.slot (store_rack c.commit.new.self.store) in
-          counts_then old mid new (attached_counts old mid c.args.disk c.attach.ensures.others (ap (λ (s : Slot). s.faults) (c.attach.ensures.attached c.if-not-attach.false))) (no_fall_counts mid new c.commit.ensures.spared.no_fall);
-      two = tt;
-      moments = λ h lo.
-          ended (IsCoreHeld g.R.Rack.slot_count a h lo) (CoreCommitted g.R.Rack.slot_count a h lo (Gone c.args.disk)) (IsCoreHeldSinceCommit g.R.Rack.slot_count a h lo) _ _
-          (beside _ _ _ _ (core_down a) (named_of a.store) h refl refl (λ x is. knows_named (named_of a.store) (named_out a.meta.out) x is) lo (CoreCommitted g.R.Rack.slot_count a h lo (Gone c.args.disk)) (IsCoreHeldSinceCommit g.R.Rack.slot_count a h lo) _ _
-          (chain_held g.R.Rack.slot_count g.R.Rack.told a b c.attach.ensures.slots setup same.named (CoreCommitted g.R.Rack.slot_count a h lo (Gone c.args.disk)) (CoreStandsFor g.R.Rack.slot_count b h lo) h lo _ (c.attach.ensures.stands h lo) (c.commit.ensures.moments_since c.attach.ensures.absent h lo)));
-      stands = λ h.
-          beside _ _ _ _ (core_down a) (named_of a.store) h refl refl (λ x is. knows_named (named_of a.store) (named_out a.meta.out) x is) (length h) (CoreCommitted g.R.Rack.slot_count a h (length h) (Gone c.args.disk)) (CoreStandsFor g.R.Rack.slot_count new h (length h)) _ _
-          (chain g.R.Rack.slot_count g.R.Rack.told a b c.attach.ensures.slots setup same.named (CoreCommitted g.R.Rack.slot_count a h (length h) (Gone c.args.disk)) (CoreStandsFor g.R.Rack.slot_count b h (length h)) (CoreStandsFor g.R.Rack.slot_count new h (length h)) h (length h) _ (c.attach.ensures.stands h (length h)) (c.in_ok-commit.ensures.since c.attach.ensures.absent h (length h)));
-      committed = λ is. let z : Ok false ≡ Ok true = is in cc;
-      event = λ samples served energy h lo.
-          let fresh = it.fresh here in
-          let k = service_of g.R.Rack.slot_count a samples served energy in
-          let k_fresh = service_of g.R.Rack.slot_count b samples served energy in
-          let k_then = service_of g.R.Rack.slot_count new samples served energy in
-          let equal : k_fresh ≡ with_fresh k c.args.disk = same_service g.R.Rack.slot_count a b samples served energy (meta_with_out a.meta (Fresh c.args.disk 0)) it.slots it.store.named fresh it.table it.batch it.copied in
-          came (record {
-            attached = g.R.Rack.told (store_rack b.store);
-            attach = subst (λ (y : Service). Ran (g.R.Rack.told (store_rack a.store)) (g.R.Rack.told (store_rack b.store)) (AttachesInEvent k y h lo c.args.disk true)) equal
-                (attach_told (g.R.Rack.told (store_rack a.store)) (g.R.Rack.told (store_rack b.store)) k k_fresh h lo c.args.disk true (g.R.Rack.slot (store_rack b.store)) (g.met.R.Rack.agrees (store_rack b.store)) spins it.calls (it.stands h lo));
-            ran = subst (λ (y : Service). Ran (g.R.Rack.told (store_rack b.store)) (g.R.Rack.told (store_rack new.store)) (ServesEvent y k_then h lo h (length h))) equal
-                (commit_told (g.R.Rack.told (store_rack b.store)) (g.R.Rack.told (store_rack new.store)) k_fresh k_then h lo c.commit.ensures.calls (c.in_ok-commit.ensures.since it.absent h lo) (c.commit.ensures.whole h lo)
-                (marked_told (g.R.Rack.told (store_rack new.store)) (g.R.Rack.slot (store_rack b.store)) (g.R.Rack.slot (store_rack new.store)) (g.met.R.Rack.agrees (store_rack new.store)) b.meta new.meta c.in_ok-commit.ensures.marks
-                (λ x low absent. ready.absent x (subst (λ (z : Setup). x < z.geometry.disks) (sym new_setup) low) absent)
-                (fresh_stays (g.R.Rack.slot (store_rack b.store)) (g.R.Rack.slot (store_rack new.store)) b.meta new.meta c.in_ok-commit.ensures.marks
-                (λ x u out. fresh_there (g.R.Rack.slot (store_rack b.store)) c.args.disk x u spins (sym (ap (λ (m : Meta). m.out) fresh) ∙ out)))));
-            ends = subst (λ (y : Service). CommitsAll y k_then) equal
-                (commits_all g.R.Rack.slot_count b new samples served energy (copies_kept a b setup it.copied c.requires.serving.copies_synced) c.commit.ensures.slots new_setup c.in_ok-commit.ensures.epoch c.in_ok-commit.ensures.nothing c.commit.ensures.table c.commit.ensures.copied);
-          });
-      loses = tt;
-    }
-
 pub returns : goal.returns
 returns g c =
     let a = c.args.core.now in
@@ -240,6 +163,7 @@ returns g c =
     let spins : is_present (g.R.Rack.slot (store_rack b.store) c.args.disk).power ≡ true = ap (λ (s : Slot). is_present s.power) (it.attached here) in
     let ready = c.in_ok-commit.ensures.ready in
     let new_setup : new.meta.setup ≡ b.meta.setup = c.in_ok-commit.ensures.setup in
+    let faults = ap (λ (s : Slot). s.faults) (c.attach.ensures.attached here) in
     record {
       serving =
           serving_then g.R.Rack.slot_count g.R.Rack.slot a new c.requires.serving c.in_ok-commit.ensures.ready (c.in_ok-commit.ensures.serves (c.attach.ensures.serves c.requires.serving.serves))
@@ -256,14 +180,18 @@ returns g c =
             writes = c.in_ok-commit.ensures.writes ∙ ap (λ (m : Meta). m.writes) fresh;
             spared = but_lost (g.R.Rack.slot (store_rack a.store)) (g.R.Rack.slot (store_rack b.store)) (g.R.Rack.slot (store_rack new.store)) c.args.disk c.attach.ensures.others c.commit.ensures.spared;
           };
-      fresh = λ is. marked_back _ new.meta marked (c.is_gone.ensures.back c.if-is_gone.false) ∙ ap (λ (m : Meta). record m { epoch = m.epoch + 1 }) fresh;
-      gone = λ is. let z : Ok true ≡ Ok false = is in cc;
-      risen = λ is. let z : Ok true ≡ Ok false = is in cc;
+      fresh = λ is. marked_back _ new.meta marked (c.is_gone.ensures.back (back_is _ is)) ∙ ap (λ (m : Meta). record m { epoch = m.epoch + 1 }) fresh;
+      gone = λ is.
+          let lost = marked_lost _ new.meta c.args.disk (ap named_out out) (ap gone_out out) marked (c.is_gone.ensures.gone (gone_is _ is)) in
+          inr (lost ∙ ap (λ (m : Meta). meta_after_loss (record m { epoch = m.epoch + 1 }) c.args.disk) fresh ∙ ap (λ (m : Meta). record m { epoch = m.epoch + 1 }) (gone_settled a.meta c.args.disk c.requires.serving.ready.in_range c.requires.gone));
+      risen = λ is.
+          subst (λ (x : ℕ). HasRisen x (g.R.Rack.slot (store_rack new.store) c.args.disk).faults) faults
+          (gone_failed (g.R.Rack.slot (store_rack b.store)) (g.R.Rack.slot (store_rack new.store)) b.meta new.meta c.args.disk (ap named_out out) (ap gone_out out) c.in_ok-commit.ensures.marks (c.is_gone.ensures.gone (gone_is _ is)));
       spins = λ is.
-          (back_well (g.R.Rack.slot (store_rack b.store)) (g.R.Rack.slot (store_rack new.store)) b.meta new.meta c.args.disk c.in_ok-commit.ensures.marks (c.is_gone.ensures.back c.if-is_gone.false)).0
+          (back_well (g.R.Rack.slot (store_rack b.store)) (g.R.Rack.slot (store_rack new.store)) b.meta new.meta c.args.disk c.in_ok-commit.ensures.marks (c.is_gone.ensures.back (back_is _ is))).0
           ∙ ap (λ (s : Slot). s.power) (c.attach.ensures.attached here);
       size = λ is.
-          (back_well (g.R.Rack.slot (store_rack b.store)) (g.R.Rack.slot (store_rack new.store)) b.meta new.meta c.args.disk c.in_ok-commit.ensures.marks (c.is_gone.ensures.back c.if-is_gone.false)).1
+          (back_well (g.R.Rack.slot (store_rack b.store)) (g.R.Rack.slot (store_rack new.store)) b.meta new.meta c.args.disk c.in_ok-commit.ensures.marks (c.is_gone.ensures.back (back_is _ is))).1
           ∙ ap (λ (s : Slot). s.size) (c.attach.ensures.attached here);
       table = c.commit.ensures.table ∙ c.attach.ensures.table;
       named = c.in_ok-commit.ensures.named ∙ ap named_out out;

@@ -29,6 +29,11 @@ use Rattle.paraid_rebuild.proofs.ReplacementEventLemmas.{named_there}
 use Rattle.paraid_rebuild.proofs.StepEventLemmas.{copies_committed, copies_step, fresh_low, gone_told, same_told, steps_within}
 use Rattle.paraid_rebuild.proofs.LossLemmas.{LosesSteps, copies_lost_steps, lost_within}
 use Rattle.paraid_rebuild.proofs.StepEventLemmas.{copies_lost}
+use Rattle.paraid_rebuild.proofs.ResultLemmas.{err_map, on_all, on_at, on_both, on_map, one_later, two_later}
+use Rattle.std.specs.Prelude.{List}
+use Rattle.paraid_base.specs.History.{History}
+use Rattle.paraid_rack.specs.Told.{CrashTriple, Ran}
+use Rattle.paraid_event.specs.Steps.{StepsInEvent}
 use Rattle.paraid_rebuild.proofs.stepping.advance.Goals as goal
 use Rattle.std.specs.Prelude.{true, false, Ok}
 use Rattle.paraid_shift.proofs.AnswerLemmas.{none_done, none_done_as}
@@ -119,60 +124,6 @@ returns-then-not-copied g c =
       loses = tt;
     }
 
-pub returns-in_err-marked : goal.returns-in_err-marked
-returns-in_err-marked g c =
-    let a = c.args.core.now in
-    let b = c.move_units.new.core in
-    let first : c.rebuilt-first.result ≡ rebuilt_count a.meta.out = c.rebuilt-first.ensures ∙ ap rebuilt_count c.out.ensures in
-    let new = c.mark_units.new.core in
-    let left = c.in_ok-copied.ensures.leaves in
-    let setup = marked_from_setup a.meta b.meta left.meta in
-    let names : (x : ℕ) → x < a.meta.setup.geometry.disks → is_present (g.R.Rack.slot (store_rack b.store) x).power ≡ false → named_out b.meta.out ≡ Some x = (λ x low absent. left.ready.absent x (subst (λ (z : Setup). x < z.geometry.disks) (sym setup) low) absent) in
-    let same = c.in_ok-copied.ensures.same (ap Ok c.if-not-copied.false) in
-    let out : b.meta.out ≡ Fresh c.args.disk (rebuilt_count a.meta.out) = ap (λ (m : Meta). m.out) same ∙ c.requires.fresh in
-    let spins = c.in_ok-copied.ensures.spins (ap Ok c.if-not-copied.false) in
-    let nothing : b.batch ≡ [] = left.batch ∙ c.requires.nothing in
-    let from = c.from_residual-in_err-marked in
-    record {
-      serving = none_done _ from.result _ from.ensures.1;
-      nothing = none_done _ from.result _ from.ensures.1;
-      named = none_done _ from.result _ from.ensures.1;
-      slots = none_done _ from.result _ from.ensures.1;
-      few = none_done _ from.result _ from.ensures.1;
-      moved = λ is. none_done_as _ from.result _ _ from.ensures.1 is;
-      spins = λ is. none_done_as _ from.result _ _ from.ensures.1 is;
-      gone = λ is. none_done_as _ from.result _ _ from.ensures.1 is;
-      failed = λ is. none_done_as _ from.result _ _ from.ensures.1 is;
-      away = λ is. none_done_as _ from.result _ _ from.ensures.1 is;
-      table = none_done _ from.result _ from.ensures.1;
-      spared = spared_then (g.R.Rack.slot (store_rack a.store)) (g.R.Rack.slot (store_rack b.store)) (g.R.Rack.slot (store_rack c.mark_units.new.core.store)) c.move_units.ensures.spared c.mark_units.ensures.spared;
-      two =
-          handed _ from.result _ from.ensures.1
-          (two_then g.R.Rack.slot_count g.R.Rack.slot g.R.Rack.told c.args.core.now c.move_units.new.core c.in_ok-copied.ensures.leaves c.mark_units.new.core c.mark_units.ensures.spared _ c.in_err-marked.ensures.two);
-      moments = λ h lo.
-          let begins : (s : Disks) → RestsInShift g.R.Rack.slot_count a h lo s → UnitsRebuilt g.R.Rack.slot_count a h lo c.rebuilt-first.result s = (λ s k. subst (λ (z : ℕ). UnitsRebuilt g.R.Rack.slot_count a h lo z s) (sym first)
-          (units_begin (g.R.Rack.slot_count (store_rack a.store)) (named_of a.store) a.meta a.dirty a.copied h lo s k)) in
-          let one = weaker (IsCoreHeldSinceCommit g.R.Rack.slot_count a h lo) (UnitsRebuilt g.R.Rack.slot_count a h lo c.rebuilt-first.result) (RestsInShift g.R.Rack.slot_count a h lo) (UnitsRebuilt g.R.Rack.slot_count b h lo c.args.end) (UnitsRebuilt g.R.Rack.slot_count b h lo c.args.end) _ _ begins (λ s k. k) (c.in_ok-copied.ensures.copied (ap Ok c.if-not-copied.false) h lo) in
-          held_runs_then g.R.Rack.slot_count g.R.Rack.slot g.R.Rack.told a b c.in_ok-copied.ensures.leaves new (RestsInShift g.R.Rack.slot_count a h lo) (UnitsRebuilt g.R.Rack.slot_count b h lo c.args.end) h lo one (c.mark_units.ensures.moments h lo);
-      stands = none_done _ from.result _ from.ensures.1;
-      rests = λ is. none_done_as _ from.result _ _ from.ensures.1 is;
-      event = none_done _ from.result _ from.ensures.1;
-      loses =
-          handed (LosesSteps g.R.Rack.slot_count g.R.Rack.told a new 1) from.result _ from.ensures.1
-          (λ samples served energy h lo.
-          let k = service_of g.R.Rack.slot_count a samples served energy in
-          let j = service_of g.R.Rack.slot_count b samples served energy in
-          let begins : (s : Disks) → RestsInShift g.R.Rack.slot_count a h lo s → UnitsRebuilt g.R.Rack.slot_count a h lo c.rebuilt-first.result s = (λ s z. subst (λ (u : ℕ). UnitsRebuilt g.R.Rack.slot_count a h lo u s) (sym first)
-          (units_begin (g.R.Rack.slot_count (store_rack a.store)) (named_of a.store) a.meta a.dirty a.copied h lo s z)) in
-          let marked = c.in_err-marked.ensures.loses samples served energy h lo in
-          copies_lost (g.R.Rack.told (store_rack a.store)) (g.R.Rack.told (store_rack b.store)) k j h lo (UnitsRebuilt g.R.Rack.slot_count a h lo c.rebuilt-first.result) (UnitsRebuilt g.R.Rack.slot_count b h lo c.args.end)
-          (λ s z shows. begins s (shown_rests k h lo s z shows c.requires.nothing)) c.move_units.ensures.calls (c.in_ok-copied.ensures.copied (ap Ok c.if-not-copied.false) h lo)
-          (same_told (g.R.Rack.told (store_rack b.store)) (g.R.Rack.slot (store_rack b.store)) (g.met.R.Rack.agrees (store_rack b.store)) a.meta b.meta same names
-          (named_there (g.R.Rack.slot (store_rack b.store)) b.meta c.args.disk (rebuilt_count a.meta.out) out (ap is_present spins)))
-          left.slots (g.R.Rack.told (store_rack new.store)) marked.0 _
-          (λ t tells kr. subst (λ (z : Batch). HoldsBetweenCalls (g.R.Rack.slot_count (store_rack b.store)) (named_of b.store) b.meta b.dirty z b.copied h lo (now t)) (sym nothing) kr.keeps) marked.1);
-    }
-
 pub returns : goal.returns
 returns g c =
     let a = c.args.core.now in
@@ -180,7 +131,6 @@ returns g c =
     let new = c.mark_units.new.core in
     let same = c.in_ok-copied.ensures.same (ap Ok c.if-not-copied.false) in
     let one = ap (λ (m : Meta). m.epoch) same in
-    let two = c.in_ok-marked.ensures.epoch in
     let first : c.rebuilt-first.result ≡ rebuilt_count a.meta.out = c.rebuilt-first.ensures ∙ ap rebuilt_count c.out.ensures in
     let left = c.in_ok-copied.ensures.leaves in
     let setup = marked_from_setup a.meta b.meta left.meta in
@@ -189,51 +139,62 @@ returns g c =
     let spins = c.in_ok-copied.ensures.spins (ap Ok c.if-not-copied.false) in
     let nothing : b.batch ≡ [] = left.batch ∙ c.requires.nothing in
     record {
-      serving = c.in_ok-marked.ensures.serving;
-      nothing = c.in_ok-marked.ensures.nothing;
-      named = c.in_ok-marked.ensures.named;
-      slots = c.mark_units.ensures.slots ∙ c.in_ok-copied.ensures.leaves.slots;
-      few = omega arith;
+      serving = c.mark_units.ensures.serving;
+      nothing = c.mark_units.ensures.nothing;
+      named = c.mark_units.ensures.named;
+      slots = on_all _ (c.mark_units.ensures.slots ∙ c.in_ok-copied.ensures.leaves.slots);
+      few = on_map _ c.mark_units.ensures.epoch (λ it. one_later a.meta.epoch b.meta.epoch new.meta.epoch (ap (λ (m : Meta). m.epoch) same) it);
       moved = λ is.
-          let e = c.in_ok-marked.ensures.marked is ∙ ap (λ (m : Meta). record m { epoch = m.epoch + 1; out = Fresh c.args.disk c.args.end }) same in
+          let e = c.mark_units.ensures.marked is ∙ ap (λ (m : Meta). record m { epoch = m.epoch + 1; out = Fresh c.args.disk c.args.end }) same in
           e ∙ ap (λ (x : ℕ). record a.meta { epoch = x; out = Fresh c.args.disk c.args.end }) (sym (ap (λ (m : Meta). m.epoch) e));
-      spins = c.in_ok-marked.ensures.spins;
+      spins = c.mark_units.ensures.spins;
       gone = λ is.
-          let e = c.in_ok-marked.ensures.gone is ∙ ap (λ (m : Meta). record (meta_after_loss m c.args.disk) { epoch = m.epoch + 1 }) same in
+          let e = c.mark_units.ensures.gone is ∙ ap (λ (m : Meta). record (meta_after_loss m c.args.disk) { epoch = m.epoch + 1 }) same in
           e ∙ ap (λ (x : ℕ). record (meta_after_loss a.meta c.args.disk) { epoch = x }) (sym (ap (λ (m : Meta). m.epoch) e));
-      failed = λ is. HasRisen-sooner _ _ _ (c.move_units.ensures.spared.no_fall c.args.disk) (c.in_ok-marked.ensures.failed is);
-      away = c.in_ok-marked.ensures.away;
-      table = c.mark_units.ensures.table ∙ c.in_ok-copied.ensures.leaves.table;
+      failed = λ is. HasRisen-sooner _ _ _ (c.move_units.ensures.spared.no_fall c.args.disk) (c.mark_units.ensures.failed is);
+      away = c.mark_units.ensures.away;
+      table = on_all _ (c.mark_units.ensures.table ∙ c.in_ok-copied.ensures.leaves.table);
       spared = spared_then (g.R.Rack.slot (store_rack a.store)) (g.R.Rack.slot (store_rack b.store)) (g.R.Rack.slot (store_rack c.mark_units.new.core.store)) c.move_units.ensures.spared c.mark_units.ensures.spared;
-      two = tt;
+      two = err_map _ c.mark_units.ensures.two (λ two it. (two_then g.R.Rack.slot_count g.R.Rack.slot g.R.Rack.told c.args.core.now c.move_units.new.core c.in_ok-copied.ensures.leaves c.mark_units.new.core c.mark_units.ensures.spared _ it));
       moments = λ h lo.
           let begins : (s : Disks) → RestsInShift g.R.Rack.slot_count a h lo s → UnitsRebuilt g.R.Rack.slot_count a h lo c.rebuilt-first.result s = (λ s k. subst (λ (z : ℕ). UnitsRebuilt g.R.Rack.slot_count a h lo z s) (sym first)
           (units_begin (g.R.Rack.slot_count (store_rack a.store)) (named_of a.store) a.meta a.dirty a.copied h lo s k)) in
           let one = weaker (IsCoreHeldSinceCommit g.R.Rack.slot_count a h lo) (UnitsRebuilt g.R.Rack.slot_count a h lo c.rebuilt-first.result) (RestsInShift g.R.Rack.slot_count a h lo) (UnitsRebuilt g.R.Rack.slot_count b h lo c.args.end) (UnitsRebuilt g.R.Rack.slot_count b h lo c.args.end) _ _ begins (λ s k. k) (c.in_ok-copied.ensures.copied (ap Ok c.if-not-copied.false) h lo) in
           held_runs_then g.R.Rack.slot_count g.R.Rack.slot g.R.Rack.told a b c.in_ok-copied.ensures.leaves new (RestsInShift g.R.Rack.slot_count a h lo) (UnitsRebuilt g.R.Rack.slot_count b h lo c.args.end) h lo one (c.mark_units.ensures.moments h lo);
-      stands = λ h lo.
+      stands = on_both {Z = (h : History) (lo : ℕ) → Ran (g.R.Rack.told (store_rack a.store)) (g.R.Rack.told (store_rack new.store)) (CrashTriple (IsCoreHeldSinceCommit g.R.Rack.slot_count a h lo) (RestsInShift g.R.Rack.slot_count a h lo) (CoreStandsFor g.R.Rack.slot_count new h lo))} _ c.mark_units.ensures.nothing c.mark_units.ensures.rests (λ it also. λ h lo.
           let begins : (s : Disks) → RestsInShift g.R.Rack.slot_count a h lo s → UnitsRebuilt g.R.Rack.slot_count a h lo c.rebuilt-first.result s = (λ s k. subst (λ (z : ℕ). UnitsRebuilt g.R.Rack.slot_count a h lo z s) (sym first)
           (units_begin (g.R.Rack.slot_count (store_rack a.store)) (named_of a.store) a.meta a.dirty a.copied h lo s k)) in
           let one = weaker (IsCoreHeldSinceCommit g.R.Rack.slot_count a h lo) (UnitsRebuilt g.R.Rack.slot_count a h lo c.rebuilt-first.result) (RestsInShift g.R.Rack.slot_count a h lo) (UnitsRebuilt g.R.Rack.slot_count b h lo c.args.end) (UnitsRebuilt g.R.Rack.slot_count b h lo c.args.end) _ _ begins (λ s k. k) (c.in_ok-copied.ensures.copied (ap Ok c.if-not-copied.false) h lo) in
           weaker (IsCoreHeldSinceCommit g.R.Rack.slot_count a h lo) (RestsInShift g.R.Rack.slot_count a h lo) (RestsInShift g.R.Rack.slot_count a h lo) (RestsInShift g.R.Rack.slot_count new h lo) (CoreStandsFor g.R.Rack.slot_count new h lo) _ _ (λ s k. k)
-          (λ s kf. subst (λ (z : Batch). HoldsBetweenCalls (g.R.Rack.slot_count (store_rack new.store)) (named_of new.store) new.meta new.dirty z new.copied h lo s) (sym c.in_ok-marked.ensures.nothing) kf.keeps)
-          (runs_then g.R.Rack.slot_count g.R.Rack.slot g.R.Rack.told a b c.in_ok-copied.ensures.leaves new (RestsInShift g.R.Rack.slot_count a h lo) (UnitsRebuilt g.R.Rack.slot_count b h lo c.args.end) (RestsInShift g.R.Rack.slot_count new h lo) h lo one (c.in_ok-marked.ensures.rests h lo));
+          (λ s kf. subst (λ (z : Batch). HoldsBetweenCalls (g.R.Rack.slot_count (store_rack new.store)) (named_of new.store) new.meta new.dirty z new.copied h lo s) (sym it) kf.keeps)
+          (runs_then g.R.Rack.slot_count g.R.Rack.slot g.R.Rack.told a b c.in_ok-copied.ensures.leaves new (RestsInShift g.R.Rack.slot_count a h lo) (UnitsRebuilt g.R.Rack.slot_count b h lo c.args.end) (RestsInShift g.R.Rack.slot_count new h lo) h lo one (also h lo)));
       rests = λ is h lo.
           let begins : (s : Disks) → RestsInShift g.R.Rack.slot_count a h lo s → UnitsRebuilt g.R.Rack.slot_count a h lo c.rebuilt-first.result s = (λ s k. subst (λ (z : ℕ). UnitsRebuilt g.R.Rack.slot_count a h lo z s) (sym first)
           (units_begin (g.R.Rack.slot_count (store_rack a.store)) (named_of a.store) a.meta a.dirty a.copied h lo s k)) in
           let one = weaker (IsCoreHeldSinceCommit g.R.Rack.slot_count a h lo) (UnitsRebuilt g.R.Rack.slot_count a h lo c.rebuilt-first.result) (RestsInShift g.R.Rack.slot_count a h lo) (UnitsRebuilt g.R.Rack.slot_count b h lo c.args.end) (UnitsRebuilt g.R.Rack.slot_count b h lo c.args.end) _ _ begins (λ s k. k) (c.in_ok-copied.ensures.copied (ap Ok c.if-not-copied.false) h lo) in
-          runs_then g.R.Rack.slot_count g.R.Rack.slot g.R.Rack.told a b c.in_ok-copied.ensures.leaves new (RestsInShift g.R.Rack.slot_count a h lo) (UnitsRebuilt g.R.Rack.slot_count b h lo c.args.end) (RestsInShift g.R.Rack.slot_count new h lo) h lo one (c.in_ok-marked.ensures.rests h lo);
-      event = λ samples served energy h lo.
+          runs_then g.R.Rack.slot_count g.R.Rack.slot g.R.Rack.told a b c.in_ok-copied.ensures.leaves new (RestsInShift g.R.Rack.slot_count a h lo) (UnitsRebuilt g.R.Rack.slot_count b h lo c.args.end) (RestsInShift g.R.Rack.slot_count new h lo) h lo one ((on_at _ _ is c.mark_units.ensures.rests) h lo);
+      event = on_map {Y = (samples : List ℕ) (served energy : ℕ) (h : History) (lo : ℕ) → Ran (g.R.Rack.told (store_rack a.store)) (g.R.Rack.told (store_rack new.store)) (StepsInEvent (service_of g.R.Rack.slot_count a samples served energy) (service_of g.R.Rack.slot_count new samples served energy) h lo 1)} _ c.mark_units.ensures.event (λ it. λ samples served energy h lo.
           let begins : (s : Disks) → RestsInShift g.R.Rack.slot_count a h lo s → UnitsRebuilt g.R.Rack.slot_count a h lo c.rebuilt-first.result s = (λ s k. subst (λ (z : ℕ). UnitsRebuilt g.R.Rack.slot_count a h lo z s) (sym first)
           (units_begin (g.R.Rack.slot_count (store_rack a.store)) (named_of a.store) a.meta a.dirty a.copied h lo s k)) in
           let k = service_of g.R.Rack.slot_count a samples served energy in
           let j = service_of g.R.Rack.slot_count b samples served energy in
-          let marked = c.in_ok-marked.ensures.event samples served energy h lo in
+          let marked = it samples served energy h lo in
           copies_committed (g.R.Rack.told (store_rack a.store)) (g.R.Rack.told (store_rack b.store)) k j h lo (UnitsRebuilt g.R.Rack.slot_count a h lo c.rebuilt-first.result) (UnitsRebuilt g.R.Rack.slot_count b h lo c.args.end)
           (λ s z shows. begins s (shown_rests k h lo s z shows c.requires.nothing)) c.move_units.ensures.calls (c.in_ok-copied.ensures.copied (ap Ok c.if-not-copied.false) h lo)
           (same_told (g.R.Rack.told (store_rack b.store)) (g.R.Rack.slot (store_rack b.store)) (g.met.R.Rack.agrees (store_rack b.store)) a.meta b.meta same names
           (named_there (g.R.Rack.slot (store_rack b.store)) b.meta c.args.disk (rebuilt_count a.meta.out) out (ap is_present spins)))
           left.slots (g.R.Rack.told (store_rack new.store)) marked.0 (service_of g.R.Rack.slot_count new samples served energy)
-          (λ t tells kr. subst (λ (z : Batch). HoldsBetweenCalls (g.R.Rack.slot_count (store_rack b.store)) (named_of b.store) b.meta b.dirty z b.copied h lo (now t)) (sym nothing) kr.keeps) marked.1;
-      loses = tt;
+          (λ t tells kr. subst (λ (z : Batch). HoldsBetweenCalls (g.R.Rack.slot_count (store_rack b.store)) (named_of b.store) b.meta b.dirty z b.copied h lo (now t)) (sym nothing) kr.keeps) marked.1);
+      loses = err_map {Q = LosesSteps g.R.Rack.slot_count g.R.Rack.told a new 1} _ c.mark_units.ensures.loses (λ two it. (λ samples served energy h lo.
+          let k = service_of g.R.Rack.slot_count a samples served energy in
+          let j = service_of g.R.Rack.slot_count b samples served energy in
+          let begins : (s : Disks) → RestsInShift g.R.Rack.slot_count a h lo s → UnitsRebuilt g.R.Rack.slot_count a h lo c.rebuilt-first.result s = (λ s z. subst (λ (u : ℕ). UnitsRebuilt g.R.Rack.slot_count a h lo u s) (sym first)
+          (units_begin (g.R.Rack.slot_count (store_rack a.store)) (named_of a.store) a.meta a.dirty a.copied h lo s z)) in
+          let marked = it samples served energy h lo in
+          copies_lost (g.R.Rack.told (store_rack a.store)) (g.R.Rack.told (store_rack b.store)) k j h lo (UnitsRebuilt g.R.Rack.slot_count a h lo c.rebuilt-first.result) (UnitsRebuilt g.R.Rack.slot_count b h lo c.args.end)
+          (λ s z shows. begins s (shown_rests k h lo s z shows c.requires.nothing)) c.move_units.ensures.calls (c.in_ok-copied.ensures.copied (ap Ok c.if-not-copied.false) h lo)
+          (same_told (g.R.Rack.told (store_rack b.store)) (g.R.Rack.slot (store_rack b.store)) (g.met.R.Rack.agrees (store_rack b.store)) a.meta b.meta same names
+          (named_there (g.R.Rack.slot (store_rack b.store)) b.meta c.args.disk (rebuilt_count a.meta.out) out (ap is_present spins)))
+          left.slots (g.R.Rack.told (store_rack new.store)) marked.0 _
+          (λ t tells kr. subst (λ (z : Batch). HoldsBetweenCalls (g.R.Rack.slot_count (store_rack b.store)) (named_of b.store) b.meta b.dirty z b.copied h lo (now t)) (sym nothing) kr.keeps) marked.1));
     }

@@ -28,6 +28,7 @@ use Rattle.std.proofs.Common.{refl}
 use Rattle.paraid_core.specs.Cores.{core_down}
 use Rattle.paraid_core.proofs.AfterLemmas.{handed}
 use Rattle.paraid_rebuild.proofs.LossLemmas.{LosesSteps, commit_lost_steps, tells_by}
+use Rattle.paraid_rebuild.proofs.ResultLemmas.{back_is, gone_is}
 use Rattle.paraid_rebuild.proofs.stepping.commit_staged.Goals as goal
 use Rattle.std.proofs.Math.Nat.{le-add_right}
 use Rattle.paraid_rebuild.proofs.ReplacingLemmas.{lost_none}
@@ -96,49 +97,6 @@ returns-in_err-commit g c =
           c.commit.ensures.calls (c.commit.ensures.moments_since away h lo) (c.commit.ensures.whole h lo) (tells_by (g.R.Rack.told (store_rack a.store)) (g.R.Rack.told (store_rack new.store)) (core_down a) (named_out a.meta.out) _ down c.in_err-commit.ensures.tells));
     }
 
-pub returns-then-is_gone : goal.returns-then-is_gone
-returns-then-is_gone g c =
-    let a = c.args.core.now in
-    let new = c.commit.new.self in
-    let was : named_out a.meta.out ≡ Some c.args.disk = ap named_out c.requires.fresh in
-    let away : IsNamedOrAbsent g.R.Rack.slot a = (λ x is. inl (c.requires.named ∙ sym was ∙ is)) in
-    let done = c.in_ok-commit.ensures in
-    let e = c.in_ok-commit.ensures.epoch in
-    let new_setup : new.meta.setup ≡ a.meta.setup = c.in_ok-commit.ensures.setup in
-    let ready = c.in_ok-commit.ensures.ready in
-    let lost = c.in_ok-commit.ensures.marks in
-    record {
-      serving =
-          serving_then g.R.Rack.slot_count g.R.Rack.slot a new c.requires.serving done.ready (done.serves c.requires.serving.serves) (done.unsynced c.requires.serving.unsynced) done.draft done.copied done.setup
-          (λ d is. marked_named _ new.meta done.meta d is) (λ d not there. c.commit.ensures.spared.size d there);
-      nothing = c.in_ok-commit.ensures.nothing;
-      named = c.in_ok-commit.ensures.named ∙ was;
-      slots = c.commit.ensures.slots;
-      few = omega arith;
-      same = λ is. let z : Ok false ≡ Ok true = is in cc;
-      spins = λ is. let z : Ok false ≡ Ok true = is in cc;
-      gone = λ is. marked_lost _ new.meta c.args.disk was (ap gone_out c.requires.fresh) c.in_ok-commit.ensures.meta (c.is_gone.ensures.gone c.if-is_gone.true);
-      failed = λ is. gone_failed (g.R.Rack.slot (store_rack a.store)) (g.R.Rack.slot (store_rack new.store)) a.meta new.meta c.args.disk was (ap gone_out c.requires.fresh) c.in_ok-commit.ensures.marks (c.is_gone.ensures.gone c.if-is_gone.true);
-      away = λ is. gone_away (g.R.Rack.slot (store_rack a.store)) (g.R.Rack.slot (store_rack new.store)) a.meta new.meta c.args.disk (ap named_out c.requires.fresh) (ap gone_out c.requires.fresh) c.in_ok-commit.ensures.marks (c.is_gone.ensures.gone c.if-is_gone.true);
-      table = c.commit.ensures.table;
-      spared = c.commit.ensures.spared;
-      two = tt;
-      moments = λ h lo. weaker (IsCoreHeldSinceCommit g.R.Rack.slot_count a h lo) (CoreStandsFor g.R.Rack.slot_count a h lo) (StandsInShift g.R.Rack.slot_count a h lo) (IsCoreHeldSinceCommit g.R.Rack.slot_count a h lo) (IsCoreHeldSinceCommit g.R.Rack.slot_count a h lo) _ _ (λ s k. k.keeps) (λ s p. p) (c.commit.ensures.moments_since away h lo);
-      rests = λ h lo.
-          weaker (IsCoreHeldSinceCommit g.R.Rack.slot_count a h lo) (CoreStandsFor g.R.Rack.slot_count a h lo) (StandsInShift g.R.Rack.slot_count a h lo) (RestsInShift g.R.Rack.slot_count new h lo) (RestsInShift g.R.Rack.slot_count new h lo) _ _ (λ s k. k.keeps) (λ s p. p)
-          (lowered g.R.Rack.slot_count a new (IsCoreHeldSinceCommit g.R.Rack.slot_count a h lo) h lo _ _ (c.in_ok-commit.ensures.filled_since away h lo));
-      event = λ samples served energy h lo.
-          let k = service_of g.R.Rack.slot_count a samples served energy in
-          let k_then = service_of g.R.Rack.slot_count new samples served energy in
-          commit_steps (g.R.Rack.told (store_rack a.store)) (g.R.Rack.told (store_rack new.store)) k k_then h lo c.commit.ensures.slots
-          (commit_told (g.R.Rack.told (store_rack a.store)) (g.R.Rack.told (store_rack new.store)) k k_then h lo c.commit.ensures.calls (c.in_ok-commit.ensures.since away h lo) (c.commit.ensures.whole h lo)
-          (marked_told (g.R.Rack.told (store_rack new.store)) (g.R.Rack.slot (store_rack a.store)) (g.R.Rack.slot (store_rack new.store)) (g.met.R.Rack.agrees (store_rack new.store)) a.meta new.meta lost
-          (λ x low absent. ready.absent x (subst (λ (z : Setup). x < z.geometry.disks) (sym new_setup) low) absent)
-          (fresh_stays (g.R.Rack.slot (store_rack a.store)) (g.R.Rack.slot (store_rack new.store)) a.meta new.meta lost
-          (named_there (g.R.Rack.slot (store_rack a.store)) a.meta c.args.disk (rebuilt_count a.meta.out) c.requires.fresh (ap is_present c.requires.spins)))));
-      loses = tt;
-    }
-
 pub returns : goal.returns
 returns g c =
     let a = c.args.core.now in
@@ -159,12 +117,12 @@ returns g c =
       slots = c.commit.ensures.slots;
       few = omega arith;
       same = λ is.
-          let e = marked_back _ new.meta c.in_ok-commit.ensures.meta (c.is_gone.ensures.back c.if-is_gone.false) in
+          let e = marked_back _ new.meta c.in_ok-commit.ensures.meta (c.is_gone.ensures.back (back_is _ is)) in
           e ∙ ap (λ (x : ℕ). record a.meta { epoch = x }) (sym (ap (λ (m : Meta). m.epoch) e));
-      spins = λ is. (back_well (g.R.Rack.slot (store_rack a.store)) (g.R.Rack.slot (store_rack new.store)) a.meta new.meta c.args.disk c.in_ok-commit.ensures.marks (c.is_gone.ensures.back c.if-is_gone.false)).0 ∙ c.requires.spins;
-      gone = λ is. let z : Ok true ≡ Ok false = is in cc;
-      failed = λ is. let z : Ok true ≡ Ok false = is in cc;
-      away = λ is. let z : Ok true ≡ Ok false = is in cc;
+      spins = λ is. (back_well (g.R.Rack.slot (store_rack a.store)) (g.R.Rack.slot (store_rack new.store)) a.meta new.meta c.args.disk c.in_ok-commit.ensures.marks (c.is_gone.ensures.back (back_is _ is))).0 ∙ c.requires.spins;
+      gone = λ is. marked_lost _ new.meta c.args.disk was (ap gone_out c.requires.fresh) c.in_ok-commit.ensures.meta (c.is_gone.ensures.gone (gone_is _ is));
+      failed = λ is. gone_failed (g.R.Rack.slot (store_rack a.store)) (g.R.Rack.slot (store_rack new.store)) a.meta new.meta c.args.disk was (ap gone_out c.requires.fresh) c.in_ok-commit.ensures.marks (c.is_gone.ensures.gone (gone_is _ is));
+      away = λ is. gone_away (g.R.Rack.slot (store_rack a.store)) (g.R.Rack.slot (store_rack new.store)) a.meta new.meta c.args.disk (ap named_out c.requires.fresh) (ap gone_out c.requires.fresh) c.in_ok-commit.ensures.marks (c.is_gone.ensures.gone (gone_is _ is));
       table = c.commit.ensures.table;
       spared = c.commit.ensures.spared;
       two = tt;

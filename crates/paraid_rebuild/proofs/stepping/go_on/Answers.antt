@@ -18,6 +18,11 @@ use Rattle.paraid_rebuild.proofs.ReplacingLemmas.{two_since}
 use Rattle.paraid_event.specs.Service.{service_of}
 use Rattle.paraid_rebuild.proofs.StepEventLemmas.{steps_then, steps_within}
 use Rattle.paraid_rebuild.proofs.LossLemmas.{LosesSteps, lost_then, lost_within}
+use Rattle.paraid_rebuild.proofs.ResultLemmas.{err_map, on_all, on_at, on_both, on_map, one_later, two_later}
+use Rattle.std.specs.Prelude.{List}
+use Rattle.paraid_base.specs.History.{History}
+use Rattle.paraid_rack.specs.Told.{CrashTriple, Ran}
+use Rattle.paraid_event.specs.Steps.{StepsInEvent}
 use Rattle.paraid_rebuild.proofs.stepping.go_on.Goals as goal
 use Rattle.std.specs.Prelude.{true, false, Ok}
 use Rattle.paraid_shift.proofs.AnswerLemmas.{none_done, none_done_as}
@@ -80,71 +85,36 @@ returns-then-not-there g c =
       loses = tt;
     }
 
-pub returns-in_err-moved : goal.returns-in_err-moved
-returns-in_err-moved g c =
-    let a = c.args.core.now in
-    let b = c.commit_staged.new.core in
-    let new = c.advance.new.core in
-    let same = c.in_ok-there.ensures.same (ap Ok c.if-not-there.false) in
-    let down : core_down b ≡ core_down a = ap (λ (o : Option ℕ). or_else o (named_out b.meta.out)) c.in_ok-there.ensures.named ∙ sym (ap (λ (o : Option ℕ). or_else o (named_out a.meta.out)) c.requires.named) in
-    let setup = ap (λ (m : Meta). m.setup) same in
-    let named : named_of b.store ≡ named_of a.store = c.in_ok-there.ensures.named ∙ sym c.requires.named in
-    let from = c.from_residual-in_err-moved in
-    record {
-      serving = none_done _ from.result _ from.ensures.1;
-      nothing = none_done _ from.result _ from.ensures.1;
-      named = none_done _ from.result _ from.ensures.1;
-      slots = none_done _ from.result _ from.ensures.1;
-      few = none_done _ from.result _ from.ensures.1;
-      moved = λ is. none_done_as _ from.result _ _ from.ensures.1 is;
-      spins = λ is. none_done_as _ from.result _ _ from.ensures.1 is;
-      gone = λ is. none_done_as _ from.result _ _ from.ensures.1 is;
-      failed = λ is. none_done_as _ from.result _ _ from.ensures.1 is;
-      away = λ is. none_done_as _ from.result _ _ from.ensures.1 is;
-      table = none_done _ from.result _ from.ensures.1;
-      spared = spared_then (g.R.Rack.slot (store_rack a.store)) (g.R.Rack.slot (store_rack b.store)) (g.R.Rack.slot (store_rack c.advance.new.core.store)) c.commit_staged.ensures.spared c.advance.ensures.spared;
-      two =
-          handed _ from.result _ from.ensures.1
-          (two_since (core_down a) (core_down b) (g.R.Rack.slot (store_rack a.store)) (g.R.Rack.slot (store_rack b.store)) (g.R.Rack.slot (store_rack new.store)) _ down c.commit_staged.ensures.spared.no_fall c.in_err-moved.ensures.two);
-      moments = λ h lo. chain_held g.R.Rack.slot_count g.R.Rack.told a b c.commit_staged.ensures.slots setup named (StandsInShift g.R.Rack.slot_count a h lo) (RestsInShift g.R.Rack.slot_count b h lo) h lo _ (c.in_ok-there.ensures.rests h lo) (c.advance.ensures.moments h lo);
-      stands = none_done _ from.result _ from.ensures.1;
-      rests = λ is. none_done_as _ from.result _ _ from.ensures.1 is;
-      event = none_done _ from.result _ from.ensures.1;
-      loses =
-          handed (LosesSteps g.R.Rack.slot_count g.R.Rack.told a new 2) from.result _ from.ensures.1
-          (λ samples served energy h lo. lost_then (g.R.Rack.told (store_rack a.store)) (g.R.Rack.told (store_rack b.store)) (g.R.Rack.told (store_rack new.store)) (service_of g.R.Rack.slot_count a samples served energy) (service_of g.R.Rack.slot_count b samples served energy)
-          h lo 1 1 _ (c.in_ok-there.ensures.event samples served energy h lo) (c.in_err-moved.ensures.loses samples served energy h lo));
-    }
-
 pub returns : goal.returns
 returns g c =
     let one = c.in_ok-there.ensures.few in
-    let two = c.in_ok-moved.ensures.few in
     let a = c.args.core.now in
     let b = c.commit_staged.new.core in
     let new = c.advance.new.core in
     let same = c.in_ok-there.ensures.same (ap Ok c.if-not-there.false) in
     let setup = ap (λ (m : Meta). m.setup) same in
     let named : named_of b.store ≡ named_of a.store = c.in_ok-there.ensures.named ∙ sym c.requires.named in
+    let down : core_down b ≡ core_down a = ap (λ (o : Option ℕ). or_else o (named_out b.meta.out)) c.in_ok-there.ensures.named ∙ sym (ap (λ (o : Option ℕ). or_else o (named_out a.meta.out)) c.requires.named) in
     record {
-      serving = c.in_ok-moved.ensures.serving;
-      nothing = c.in_ok-moved.ensures.nothing;
-      named = c.in_ok-moved.ensures.named;
-      slots = c.in_ok-moved.ensures.slots ∙ c.commit_staged.ensures.slots;
-      few = omega arith;
-      moved = λ is. c.in_ok-moved.ensures.moved is ∙ ap (λ (m : Meta). record m { epoch = new.meta.epoch; out = Fresh c.args.disk c.args.end }) same;
-      spins = c.in_ok-moved.ensures.spins;
-      gone = λ is. c.in_ok-moved.ensures.gone is ∙ ap (λ (m : Meta). record (meta_after_loss m c.args.disk) { epoch = new.meta.epoch }) same;
-      failed = λ is. HasRisen-sooner _ _ _ (c.commit_staged.ensures.spared.no_fall c.args.disk) (c.in_ok-moved.ensures.failed is);
-      away = c.in_ok-moved.ensures.away;
-      table = c.in_ok-moved.ensures.table ∙ c.commit_staged.ensures.table;
+      serving = c.advance.ensures.serving;
+      nothing = c.advance.ensures.nothing;
+      named = c.advance.ensures.named;
+      slots = on_map {X = g.R.Rack.slot_count (store_rack new.store) ≡ g.R.Rack.slot_count (store_rack b.store)} {Y = g.R.Rack.slot_count (store_rack new.store) ≡ g.R.Rack.slot_count (store_rack a.store)} _ c.advance.ensures.slots (λ it. it ∙ c.commit_staged.ensures.slots);
+      few = on_map _ c.advance.ensures.few (λ it. two_later a.meta.epoch b.meta.epoch new.meta.epoch one it);
+      moved = λ is. c.advance.ensures.moved is ∙ ap (λ (m : Meta). record m { epoch = new.meta.epoch; out = Fresh c.args.disk c.args.end }) same;
+      spins = c.advance.ensures.spins;
+      gone = λ is. c.advance.ensures.gone is ∙ ap (λ (m : Meta). record (meta_after_loss m c.args.disk) { epoch = new.meta.epoch }) same;
+      failed = λ is. HasRisen-sooner _ _ _ (c.commit_staged.ensures.spared.no_fall c.args.disk) (c.advance.ensures.failed is);
+      away = c.advance.ensures.away;
+      table = on_map {X = new.dirty ≡ b.dirty} {Y = new.dirty ≡ a.dirty} _ c.advance.ensures.table (λ it. it ∙ c.commit_staged.ensures.table);
       spared = spared_then (g.R.Rack.slot (store_rack a.store)) (g.R.Rack.slot (store_rack b.store)) (g.R.Rack.slot (store_rack c.advance.new.core.store)) c.commit_staged.ensures.spared c.advance.ensures.spared;
-      two = tt;
+      two = err_map _ c.advance.ensures.two (λ two it. (two_since (core_down a) (core_down b) (g.R.Rack.slot (store_rack a.store)) (g.R.Rack.slot (store_rack b.store)) (g.R.Rack.slot (store_rack new.store)) _ down c.commit_staged.ensures.spared.no_fall it));
       moments = λ h lo. chain_held g.R.Rack.slot_count g.R.Rack.told a b c.commit_staged.ensures.slots setup named (StandsInShift g.R.Rack.slot_count a h lo) (RestsInShift g.R.Rack.slot_count b h lo) h lo _ (c.in_ok-there.ensures.rests h lo) (c.advance.ensures.moments h lo);
-      stands = λ h lo. chain g.R.Rack.slot_count g.R.Rack.told a b c.commit_staged.ensures.slots setup named (StandsInShift g.R.Rack.slot_count a h lo) (RestsInShift g.R.Rack.slot_count b h lo) (CoreStandsFor g.R.Rack.slot_count new h lo) h lo _ (c.in_ok-there.ensures.rests h lo) (c.in_ok-moved.ensures.stands h lo);
-      rests = λ is h lo. chain g.R.Rack.slot_count g.R.Rack.told a b c.commit_staged.ensures.slots setup named (StandsInShift g.R.Rack.slot_count a h lo) (RestsInShift g.R.Rack.slot_count b h lo) (RestsInShift g.R.Rack.slot_count new h lo) h lo _ (c.in_ok-there.ensures.rests h lo) (c.in_ok-moved.ensures.rests is h lo);
-      event = λ samples served energy h lo.
+      stands = on_map {Y = (h : History) (lo : ℕ) → Ran (g.R.Rack.told (store_rack a.store)) (g.R.Rack.told (store_rack new.store)) (CrashTriple (IsCoreHeldSinceCommit g.R.Rack.slot_count a h lo) (StandsInShift g.R.Rack.slot_count a h lo) (CoreStandsFor g.R.Rack.slot_count new h lo))} _ c.advance.ensures.stands (λ it. λ h lo. chain g.R.Rack.slot_count g.R.Rack.told a b c.commit_staged.ensures.slots setup named (StandsInShift g.R.Rack.slot_count a h lo) (RestsInShift g.R.Rack.slot_count b h lo) (CoreStandsFor g.R.Rack.slot_count new h lo) h lo _ (c.in_ok-there.ensures.rests h lo) (it h lo));
+      rests = λ is h lo. chain g.R.Rack.slot_count g.R.Rack.told a b c.commit_staged.ensures.slots setup named (StandsInShift g.R.Rack.slot_count a h lo) (RestsInShift g.R.Rack.slot_count b h lo) (RestsInShift g.R.Rack.slot_count new h lo) h lo _ (c.in_ok-there.ensures.rests h lo) (c.advance.ensures.rests is h lo);
+      event = on_map {Y = (samples : List ℕ) (served energy : ℕ) (h : History) (lo : ℕ) → Ran (g.R.Rack.told (store_rack a.store)) (g.R.Rack.told (store_rack new.store)) (StepsInEvent (service_of g.R.Rack.slot_count a samples served energy) (service_of g.R.Rack.slot_count new samples served energy) h lo 2)} _ c.advance.ensures.event (λ it. λ samples served energy h lo.
           steps_then (g.R.Rack.told (store_rack a.store)) (g.R.Rack.told (store_rack b.store)) (g.R.Rack.told (store_rack new.store)) (service_of g.R.Rack.slot_count a samples served energy) (service_of g.R.Rack.slot_count b samples served energy)
-          (service_of g.R.Rack.slot_count new samples served energy) h lo 1 1 (c.in_ok-there.ensures.event samples served energy h lo) (c.in_ok-moved.ensures.event samples served energy h lo);
-      loses = tt;
+          (service_of g.R.Rack.slot_count new samples served energy) h lo 1 1 (c.in_ok-there.ensures.event samples served energy h lo) (it samples served energy h lo));
+      loses = err_map {Q = LosesSteps g.R.Rack.slot_count g.R.Rack.told a new 2} _ c.advance.ensures.loses (λ two it. (λ samples served energy h lo. lost_then (g.R.Rack.told (store_rack a.store)) (g.R.Rack.told (store_rack b.store)) (g.R.Rack.told (store_rack new.store)) (service_of g.R.Rack.slot_count a samples served energy) (service_of g.R.Rack.slot_count b samples served energy)
+          h lo 1 1 _ (c.in_ok-there.ensures.event samples served energy h lo) (it samples served energy h lo)));
     }
