@@ -24,8 +24,10 @@ use Rattle.paraid_event.specs.Service.{service_of}
 use Rattle.paraid_rebuild.proofs.ReplacementEventLemmas.{commit_told, fresh_stays, marked_told, same_service, still_told}
 use Rattle.paraid_rebuild.proofs.LossLemmas.{LosesBack, join_lost, tells_by}
 use Rattle.paraid_rebuild.proofs.ResultLemmas.{back_is, gone_is}
+use Rattle.std.specs.Prelude.{◌<◌, ◌^◌}
+use Rattle.std.proofs.Common.{ℕ}
+use Rattle.paraid_shift.proofs.ServingLemmas.{copies_kept}
 use Rattle.paraid_rebuild.proofs.ending.come_back.Goals as goal
-use Rattle.std.specs.Prelude.{true, false, Ok}
 use Rattle.paraid_shift.proofs.AnswerLemmas.{none_done, none_done_as}
 
 pub rejoin-requires-clause-there : goal.rejoin-requires-clause-there
@@ -148,4 +150,16 @@ returns g c =
             },
           );
       loses = tt;
+    }
+
+pub commit-requires : goal.commit-requires
+commit-requires g c =
+    let q = c.requires in
+    let a = c.args.core.now in
+    let b = c.rejoin.new.self in
+    let marks = c.rejoin.ensures in
+    record {
+      ready = marks.ready;
+      epoch = subst (λ (e : ℕ). e < 2 ^ 63) (sym (ap (λ (m : Meta). m.epoch) marks.meta)) q.epoch;
+      copies_synced = copies_kept a b (ap (λ (m : Meta). m.setup) marks.meta) marks.copied q.serving.copies_synced;
     }

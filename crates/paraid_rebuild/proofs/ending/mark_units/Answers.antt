@@ -28,8 +28,11 @@ use Rattle.paraid_rebuild.proofs.StepEventLemmas.{marked_serves, units_marked}
 use Rattle.paraid_rebuild.proofs.MovedLemmas.{gone_away}
 use Rattle.paraid_rebuild.proofs.LossLemmas.{LosesMark, commit_lost, tells_by}
 use Rattle.paraid_rebuild.proofs.ResultLemmas.{back_is, gone_is}
+use Rattle.std.specs.Prelude.{◌<◌, ◌^◌}
+use Rattle.std.proofs.Common.{ℕ}
+use Rattle.paraid_shift.proofs.ServingLemmas.{copies_kept}
 use Rattle.paraid_rebuild.proofs.ending.mark_units.Goals as goal
-use Rattle.std.specs.Prelude.{true, false, Ok}
+use Rattle.std.specs.Prelude.{true}
 use Rattle.paraid_shift.proofs.AnswerLemmas.{none_done, none_done_as}
 
 pub returns-in_err-commit : goal.returns-in_err-commit
@@ -162,4 +165,17 @@ returns g c =
             },
           );
       loses = tt;
+    }
+
+pub commit-requires : goal.commit-requires
+commit-requires g c =
+    let q = c.requires in
+    let a = c.args.core.now in
+    let b = c.mark_rebuilt.new.self in
+    let marks = c.mark_rebuilt.ensures in
+    let is_meta = marks.meta c.args.disk (ap named_out q.fresh) in
+    record {
+      ready = marks.ready;
+      epoch = subst (λ (e : ℕ). e < 2 ^ 63) (sym (ap (λ (m : Meta). m.epoch) is_meta)) q.epoch;
+      copies_synced = copies_kept a b (ap (λ (m : Meta). m.setup) is_meta) marks.copied q.serving.copies_synced;
     }

@@ -34,11 +34,13 @@ use Rattle.paraid_event.proofs.ShownLemmas.{shown_rests}
 use Rattle.paraid_rebuild.proofs.LossLemmas.{LosesEnding, copies_lost_steps}
 use Rattle.paraid_rebuild.proofs.ReplacementEventLemmas.{named_there}
 use Rattle.paraid_rebuild.proofs.StepEventLemmas.{copies_both, copies_step, fresh_low, gone_told, same_told}
-use Rattle.paraid_rebuild.proofs.ResultLemmas.{err_map, on_all, on_at, on_both, on_map, one_later, two_later}
+use Rattle.paraid_rebuild.proofs.ResultLemmas.{err_map, on_all, on_at, on_both, on_map, one_later}
 use Rattle.std.specs.Prelude.{List}
 use Rattle.paraid_base.specs.History.{History}
 use Rattle.paraid_rack.specs.Told.{CrashTriple, Ran}
 use Rattle.paraid_event.specs.RebuildEnds.{FinishesRebuild}
+use Rattle.std.specs.Prelude.{◌<◌, ◌≤◌, ◌^◌}
+use Rattle.paraid_core.specs.Units.{IsRebuilding}
 use Rattle.paraid_rebuild.proofs.last.conclude.Goals as goal
 use Rattle.std.specs.Prelude.{true, false, Ok}
 use Rattle.paraid_shift.proofs.AnswerLemmas.{none_done, none_done_as}
@@ -225,4 +227,42 @@ returns g c =
             mark = joined.1.mark;
           } in
           as_committed (g.R.Rack.told (store_rack b.store)) j joined.0 rejoins joined.1.ran));
+    }
+
+-- the units that are left begin where the rebuild stands
+first_low : (first count : ℕ) → first ≡ count → count ≤ first
+first_low first count is = omega arith
+
+first_high : (first count end : ℕ) → first ≡ count → count ≤ end → first ≤ end
+first_high first count end is low = omega arith
+
+all_of : (end units : ℕ) → end ≡ units → end ≤ units
+all_of end units is = omega arith
+
+pub move_units-requires : goal.move_units-requires
+move_units-requires g c =
+    let q = c.requires in
+    let first : c.rebuilt-first.result ≡ rebuilt_count c.args.core.now.meta.out = c.rebuilt-first.ensures ∙ ap rebuilt_count c.out.ensures in
+    record {
+      serving = q.serving;
+      nothing = q.nothing;
+      fresh = q.fresh;
+      spins = q.spins;
+      from = first_low _ _ first;
+      order = first_high _ _ _ first q.from;
+      limit = all_of _ _ q.all;
+    }
+
+pub come_back-requires : goal.come_back-requires
+come_back-requires g c =
+    let q = c.requires in
+    let done = c.in_ok-copied.ensures in
+    let back = sym (done.same (ap Ok c.if-not-copied.false)) in
+    record {
+      serving = done.serving;
+      nothing = done.leaves.batch ∙ q.nothing;
+      fresh = subst (λ (m : Meta). IsRebuilding m c.args.disk) back q.fresh;
+      named = done.leaves.same.named ∙ q.named;
+      spins = done.spins (ap Ok c.if-not-copied.false);
+      epoch = subst (λ (m : Meta). m.epoch < 2 ^ 63) back q.epoch;
     }

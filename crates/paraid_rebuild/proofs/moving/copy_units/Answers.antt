@@ -1,4 +1,4 @@
-use Rattle.std.specs.Prelude.{ℕ, ◌+◌, Some}
+use Rattle.std.specs.Prelude.{ℕ, ◌+◌, Option, Some}
 use Rattle.std.proofs.Common.{◌≡◌, ◌∙◌, sym, ap, subst, refl, arith, Ok}
 use Rattle.paraid_base.proofs.ToldLemmas.{HasRisen-sooner}
 use Rattle.paraid_image.specs.Mark.{meta_after_loss}
@@ -20,6 +20,10 @@ use Rattle.paraid_rebuild.proofs.MovedLemmas.{data_then}
 use Rattle.paraid_image.specs.Lost.{TellsLosses}
 use Rattle.paraid_txn.specs.Uses.{EachCall}
 use Rattle.paraid_rebuild.proofs.LossLemmas.{tells_later}
+use Rattle.std.specs.Prelude.{◌<◌, ◌≤◌}
+use Rattle.paraid_base.specs.States.{has_out, rebuilt_count}
+use Rattle.paraid_rack.specs.declared.call.Power.TheVariants.{Spinning}
+use Rattle.paraid_record.specs.Range.{rebuild_units}
 use Rattle.paraid_rebuild.proofs.moving.copy_units.Goals as goal
 use Rattle.std.specs.Prelude.{true, false, Ok}
 use Rattle.paraid_shift.proofs.AnswerLemmas.{none_done, none_done_as}
@@ -124,4 +128,34 @@ returns g c =
           weaker _ _ _ (UnitsRebuilt g.R.Rack.slot_count l h lo c.loop-number.number) (CoreStandsFor g.R.Rack.slot_count l h lo) _ _ (λ s k. k)
           (λ s kf. subst (λ (z : _). HoldsBetweenCalls (g.R.Rack.slot_count (store_rack l.store)) (named_of l.store) l.meta l.dirty z l.copied h lo s) (sym (was.leaves.batch ∙ c.requires.nothing)) kf.keeps) (was.copied h lo);
       moments = λ h lo. runs_end g.R.Rack.slot_count g.R.Rack.slot g.R.Rack.told c.args.core.now _ _ _ h lo (c.loop-number.invariant.copied h lo);
+    }
+
+one_disk : (out : Option ℕ) (d disk : ℕ) → out ≡ Some disk → out ≡ Some d → disk ≡ d
+one_disk out d disk named is = let z : Some disk ≡ Some d = sym named ∙ is in cc
+
+reaches : (count first number : ℕ) → count ≤ first → first ≤ number → count ≤ number
+reaches count first number low from = omega arith
+
+below : (number end units : ℕ) → number < end → end ≤ units → number < units
+below number end units low within = omega arith
+
+pub rebuild_unit-requires : goal.rebuild_unit-requires
+rebuild_unit-requires g c =
+    let q = c.requires in
+    let was = c.loop-number.invariant in
+    let l = c.loop-number.core in
+    let named : named_out l.meta.out ≡ Some c.args.disk = ap (λ (m : Meta). named_out m.out) was.meta ∙ ap named_out q.fresh in
+    let back = sym was.meta in
+    record {
+      ready = was.leaves.ready;
+      serves = was.leaves.serves q.serves;
+      no_draft = was.leaves.draft ∙ q.no_draft;
+      out = ap (λ (m : Meta). has_out m.out) was.meta ∙ ap has_out q.fresh;
+      back = ap (λ (m : Meta). gone_out m.out) was.meta ∙ ap gone_out q.fresh;
+      from = subst (λ (m : Meta). rebuilt_count m.out ≤ c.loop-number.number) back (reaches _ _ _ q.from was.from);
+      unit = λ d is.
+          subst (λ (x : ℕ). c.loop-number.number < rebuild_units l.meta.setup.geometry l.meta.gear x) (one_disk _ d c.args.disk named is)
+          (subst (λ (m : Meta). c.loop-number.number < rebuild_units m.setup.geometry m.gear c.args.disk) back (below _ _ _ c.loop-number-test.true q.limit));
+      spins = λ d is. subst (λ (x : ℕ). (g.R.Rack.slot (store_rack l.store) x).power ≡ Spinning) (one_disk _ d c.args.disk named is) was.spins;
+      nothing = was.leaves.batch ∙ q.nothing;
     }

@@ -15,7 +15,7 @@ use Rattle.paraid_core.proofs.AfterLemmas.{handed}
 use Rattle.paraid_event.specs.Replacements.LosesReplaced.{second}
 use Rattle.paraid_rebuild.proofs.LossLemmas.{LosesBegun}
 use Rattle.paraid_session.proofs.FaultLemmas.{counts_then, no_fall_counts}
-use Rattle.paraid_rebuild.proofs.ResultLemmas.{err_map, on_all, on_at, on_both, on_map, one_later, two_later}
+use Rattle.paraid_rebuild.proofs.ResultLemmas.{err_map, on_map}
 use Rattle.std.specs.Prelude.{List}
 use Rattle.paraid_base.specs.History.{History}
 use Rattle.paraid_rack.specs.Told.{CrashTriple, Ran}

@@ -22,6 +22,9 @@ use Rattle.paraid_core.proofs.KindLemmas.{gone_named}
 use Rattle.paraid_core.proofs.AfterLemmas.{down_named, handed}
 use Rattle.paraid_event.specs.Replacements.LosesReplaced.{first}
 use Rattle.paraid_rebuild.proofs.LossLemmas.{LosesBegun, commit_lost, tells_by}
+use Rattle.std.specs.Prelude.{◌<◌, ◌^◌}
+use Rattle.std.proofs.Common.{ℕ}
+use Rattle.paraid_shift.proofs.ServingLemmas.{copies_kept}
 use Rattle.paraid_rebuild.proofs.replaced.commit_gone.Goals as goal
 use Rattle.std.specs.Prelude.{List, ◌+◌}
 use Rattle.std.proofs.Common.{ℕ}
@@ -174,4 +177,17 @@ returns g c =
             },
           );
       loses = tt;
+    }
+
+pub commit-requires : goal.commit-requires
+commit-requires g c =
+    let q = c.requires in
+    let a = c.args.core.now in
+    let b = c.clear_spins.new.self in
+    let marks = c.mark_out.ensures in
+    let clears = c.clear_spins.ensures in
+    record {
+      ready = clears.ready;
+      epoch = subst (λ (e : ℕ). e < 2 ^ 63) (sym (ap (λ (m : Meta). m.epoch) clears.meta ∙ ap (λ (m : Meta). m.epoch) marks.meta)) q.epoch;
+      copies_synced = copies_kept a b (ap (λ (m : Meta). m.setup) clears.meta ∙ ap (λ (m : Meta). m.setup) marks.meta) (clears.copied ∙ marks.copied) q.serving.copies_synced;
     }

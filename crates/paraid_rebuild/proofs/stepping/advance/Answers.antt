@@ -29,11 +29,14 @@ use Rattle.paraid_rebuild.proofs.ReplacementEventLemmas.{named_there}
 use Rattle.paraid_rebuild.proofs.StepEventLemmas.{copies_committed, copies_step, fresh_low, gone_told, same_told, steps_within}
 use Rattle.paraid_rebuild.proofs.LossLemmas.{LosesSteps, copies_lost_steps, lost_within}
 use Rattle.paraid_rebuild.proofs.StepEventLemmas.{copies_lost}
-use Rattle.paraid_rebuild.proofs.ResultLemmas.{err_map, on_all, on_at, on_both, on_map, one_later, two_later}
+use Rattle.paraid_rebuild.proofs.ResultLemmas.{err_map, on_all, on_at, on_both, on_map, one_later}
 use Rattle.std.specs.Prelude.{List}
 use Rattle.paraid_base.specs.History.{History}
 use Rattle.paraid_rack.specs.Told.{CrashTriple, Ran}
 use Rattle.paraid_event.specs.Steps.{StepsInEvent}
+use Rattle.std.specs.Prelude.{◌<◌, ◌≤◌, ◌^◌}
+use Rattle.paraid_core.specs.Units.{IsRebuilding}
+use Rattle.paraid_record.specs.Range.{rebuild_units}
 use Rattle.paraid_rebuild.proofs.stepping.advance.Goals as goal
 use Rattle.std.specs.Prelude.{true, false, Ok}
 use Rattle.paraid_shift.proofs.AnswerLemmas.{none_done, none_done_as}
@@ -197,4 +200,40 @@ returns g c =
           (named_there (g.R.Rack.slot (store_rack b.store)) b.meta c.args.disk (rebuilt_count a.meta.out) out (ap is_present spins)))
           left.slots (g.R.Rack.told (store_rack new.store)) marked.0 _
           (λ t tells kr. subst (λ (z : Batch). HoldsBetweenCalls (g.R.Rack.slot_count (store_rack b.store)) (named_of b.store) b.meta b.dirty z b.copied h lo (now t)) (sym nothing) kr.keeps) marked.1));
+    }
+
+-- the units that are left begin where the rebuild stands
+first_low : (first count : ℕ) → first ≡ count → count ≤ first
+first_low first count is = omega arith
+
+first_high : (first count end : ℕ) → first ≡ count → count ≤ end → first ≤ end
+first_high first count end is low = omega arith
+
+pub move_units-requires : goal.move_units-requires
+move_units-requires g c =
+    let q = c.requires in
+    let first : c.rebuilt-first.result ≡ rebuilt_count c.args.core.now.meta.out = c.rebuilt-first.ensures ∙ ap rebuilt_count c.out.ensures in
+    record {
+      serving = q.serving;
+      nothing = q.nothing;
+      fresh = q.fresh;
+      spins = q.spins;
+      from = first_low _ _ first;
+      order = first_high _ _ _ first q.from;
+      limit = q.limit;
+    }
+
+pub mark_units-requires : goal.mark_units-requires
+mark_units-requires g c =
+    let q = c.requires in
+    let done = c.in_ok-copied.ensures in
+    let back = sym (done.same (ap Ok c.if-not-copied.false)) in
+    record {
+      serving = done.serving;
+      nothing = done.leaves.batch ∙ q.nothing;
+      fresh = subst (λ (m : Meta). IsRebuilding m c.args.disk) back q.fresh;
+      named = done.leaves.same.named ∙ q.named;
+      spins = done.spins (ap Ok c.if-not-copied.false);
+      limit = subst (λ (m : Meta). c.args.end ≤ rebuild_units m.setup.geometry m.gear c.args.disk) back q.limit;
+      epoch = subst (λ (m : Meta). m.epoch < 2 ^ 63) back q.epoch;
     }

@@ -19,6 +19,9 @@ use Rattle.paraid_event.specs.Service.{Service, service_of}
 use Rattle.paraid_event.specs.Steps.{StepsInEvent}
 use Rattle.paraid_rebuild.proofs.ReplacementEventLemmas.{commit_steps, commit_told, gone_fresh, marked_told, same_service}
 use Rattle.paraid_rebuild.proofs.LossLemmas.{LosesSteps, commit_lost_steps, lost_same, tells_by}
+use Rattle.std.specs.Prelude.{◌<◌, ◌^◌}
+use Rattle.std.proofs.Common.{ℕ}
+use Rattle.paraid_shift.proofs.ServingLemmas.{copies_kept}
 use Rattle.paraid_rebuild.proofs.stepping.commit_lost.Goals as goal
 use Rattle.paraid_shift.proofs.AnswerLemmas.{none_done}
 
@@ -115,4 +118,16 @@ returns g c =
           (λ x low absent. ready.absent x (subst (λ (z : Setup). x < z.geometry.disks) (sym new_setup) low) absent)
           (gone_fresh (g.R.Rack.slot (store_rack b.store)) (g.R.Rack.slot (store_rack new.store)) b.meta new.meta lost c.args.disk gone)))));
       loses = tt;
+    }
+
+pub commit-requires : goal.commit-requires
+commit-requires g c =
+    let q = c.requires in
+    let a = c.args.core.now in
+    let b = c.mark_out.new.self in
+    let marks = c.mark_out.ensures in
+    record {
+      ready = marks.ready;
+      epoch = subst (λ (e : ℕ). e < 2 ^ 63) (sym (ap (λ (m : Meta). m.epoch) marks.meta)) q.epoch;
+      copies_synced = copies_kept a b (ap (λ (m : Meta). m.setup) marks.meta) marks.copied q.serving.copies_synced;
     }

@@ -141,3 +141,6 @@ returns g c =
           (named_there (g.R.Rack.slot (store_rack a.store)) a.meta c.args.disk (rebuilt_count a.meta.out) c.requires.fresh (ap is_present c.requires.spins)))));
       loses = tt;
     }
+
+pub commit-requires : goal.commit-requires
+commit-requires g c = record { ready = c.requires.serving.ready; epoch = c.requires.epoch; copies_synced = c.requires.serving.copies_synced }

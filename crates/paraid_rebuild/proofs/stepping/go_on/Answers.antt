@@ -18,11 +18,15 @@ use Rattle.paraid_rebuild.proofs.ReplacingLemmas.{two_since}
 use Rattle.paraid_event.specs.Service.{service_of}
 use Rattle.paraid_rebuild.proofs.StepEventLemmas.{steps_then, steps_within}
 use Rattle.paraid_rebuild.proofs.LossLemmas.{LosesSteps, lost_then, lost_within}
-use Rattle.paraid_rebuild.proofs.ResultLemmas.{err_map, on_all, on_at, on_both, on_map, one_later, two_later}
+use Rattle.paraid_rebuild.proofs.ResultLemmas.{err_map, on_map, two_later}
 use Rattle.std.specs.Prelude.{List}
 use Rattle.paraid_base.specs.History.{History}
 use Rattle.paraid_rack.specs.Told.{CrashTriple, Ran}
 use Rattle.paraid_event.specs.Steps.{StepsInEvent}
+use Rattle.std.specs.Prelude.{◌<◌, ◌≤◌, ◌+◌}
+use Rattle.paraid_base.specs.States.{rebuilt_count}
+use Rattle.paraid_core.specs.Units.{IsRebuilding}
+use Rattle.paraid_record.specs.Range.{rebuild_units}
 use Rattle.paraid_rebuild.proofs.stepping.go_on.Goals as goal
 use Rattle.std.specs.Prelude.{true, false, Ok}
 use Rattle.paraid_shift.proofs.AnswerLemmas.{none_done, none_done_as}
@@ -117,4 +121,33 @@ returns g c =
           (service_of g.R.Rack.slot_count new samples served energy) h lo 1 1 (c.in_ok-there.ensures.event samples served energy h lo) (it samples served energy h lo));
       loses = err_map {Q = LosesSteps g.R.Rack.slot_count g.R.Rack.told a new 2} _ c.advance.ensures.loses (λ two it. (λ samples served energy h lo. lost_then (g.R.Rack.told (store_rack a.store)) (g.R.Rack.told (store_rack b.store)) (g.R.Rack.told (store_rack new.store)) (service_of g.R.Rack.slot_count a samples served energy) (service_of g.R.Rack.slot_count b samples served energy)
           h lo 1 1 _ (c.in_ok-there.ensures.event samples served energy h lo) (it samples served energy h lo)));
+    }
+
+room : (a top : ℕ) → a + 1 < top → a < top
+room a top low = omega arith
+
+room_then : (a b top : ℕ) → b ≤ a + 1 → a + 1 < top → b < top
+room_then a b top few low = omega arith
+
+pub commit_staged-requires : goal.commit_staged-requires
+commit_staged-requires g c =
+    let q = c.requires in
+    record { serving = q.serving; fresh = q.fresh; named = q.named; spins = q.spins; epoch = room _ _ q.epoch }
+
+pub advance-requires : goal.advance-requires
+advance-requires g c =
+    let q = c.requires in
+    let done = c.in_ok-there.ensures in
+    let a = c.args.core.now in
+    let b = c.commit_staged.new.core in
+    let back : record a.meta { epoch = b.meta.epoch } ≡ b.meta = sym (done.same (ap Ok c.if-not-there.false)) in
+    record {
+      serving = done.serving;
+      nothing = done.nothing;
+      fresh = subst (λ (m : Meta). IsRebuilding m c.args.disk) back q.fresh;
+      named = done.named;
+      spins = done.spins (ap Ok c.if-not-there.false);
+      from = subst (λ (m : Meta). rebuilt_count m.out ≤ c.args.end) back q.from;
+      limit = subst (λ (m : Meta). c.args.end ≤ rebuild_units m.setup.geometry m.gear c.args.disk) back q.limit;
+      epoch = room_then a.meta.epoch b.meta.epoch _ done.few q.epoch;
     }

@@ -14,14 +14,10 @@ use Rattle.paraid_event.specs.Service.{service_of}
 use Rattle.paraid_rebuild.proofs.MovedLemmas.{stays_away}
 use Rattle.paraid_rebuild.proofs.StepEventLemmas.{steps_then, steps_within}
 use Rattle.paraid_rebuild.proofs.LossLemmas.{LosesSteps, lost_then, lost_within}
+use Rattle.std.specs.Prelude.{◌<◌, ◌≤◌, ◌+◌}
 use Rattle.paraid_rebuild.proofs.stepping.step.Goals as goal
 use Rattle.std.specs.Prelude.{true, false, Ok}
 use Rattle.paraid_shift.proofs.AnswerLemmas.{none_done, none_done_as}
-
-pub commit_lost-requires-clause-absent : goal.commit_lost-requires-clause-absent
-commit_lost-requires-clause-absent g c x is =
-    let out = ap (λ (m : Meta). named_out m.out) (c.in_ok-moved.ensures.gone (ap Ok c.if-moved.false)) in
-    inl (c.in_ok-moved.ensures.named ∙ sym out ∙ is)
 
 pub returns-in_err-moved : goal.returns-in_err-moved
 returns-in_err-moved g c =
@@ -149,4 +145,26 @@ returns g c =
           steps_then (g.R.Rack.told (store_rack a.store)) (g.R.Rack.told (store_rack b.store)) (g.R.Rack.told (store_rack new.store)) (service_of g.R.Rack.slot_count a samples served energy) (service_of g.R.Rack.slot_count b samples served energy)
           (service_of g.R.Rack.slot_count new samples served energy) h lo 2 1 (c.in_ok-moved.ensures.event samples served energy h lo) (c.in_ok-commit_lost.ensures.event samples served energy h lo);
       loses = tt;
+    }
+
+room : (a top : ℕ) → a + 2 < top → a + 1 < top
+room a top low = omega arith
+
+room_then : (a b top : ℕ) → b ≤ a + 2 → a + 2 < top → b < top
+room_then a b top few low = omega arith
+
+pub go_on-requires : goal.go_on-requires
+go_on-requires g c =
+    let q = c.requires in
+    record { serving = q.serving; fresh = q.fresh; named = q.named; spins = q.spins; from = q.from; limit = q.limit; epoch = room _ _ q.epoch }
+
+pub commit_lost-requires : goal.commit_lost-requires
+commit_lost-requires g c =
+    let done = c.in_ok-moved.ensures in
+    let gone = done.gone (ap Ok c.if-moved.false) in
+    record {
+      serving = done.serving;
+      out = ap (λ (m : Meta). m.out) gone;
+      absent = λ x is. inl (done.named ∙ sym (ap (λ (m : Meta). named_out m.out) gone) ∙ is);
+      epoch = room_then c.args.core.now.meta.epoch c.go_on.new.core.meta.epoch _ done.few c.requires.epoch;
     }
