@@ -18,6 +18,9 @@ use Rattle.paraid_core.specs.Fills.{Filled}
 use Rattle.paraid_shift.proofs.ServingLemmas.{array_marked, leaves_array_then, two_array, chain, chain_held, copies_still, large_then, none_away, none_known, turns_lost, unsynced_still}
 use Rattle.paraid_core.proofs.AfterLemmas.{handed}
 use Rattle.paraid_shift.proofs.LossLemmas.{commit_is_lost, marks_lost}
+use Rattle.std.specs.Prelude.{◌<◌, ◌^◌}
+use Rattle.std.proofs.Common.{ℕ}
+use Rattle.paraid_shift.proofs.ServingLemmas.{copies_kept}
 use Rattle.paraid_shift.proofs.begin.begin_down.Goals as goal
 
 pub returns-in_err-commit : goal.returns-in_err-commit
@@ -99,4 +102,26 @@ returns g c =
       rests = λ h lo.
           chain g.R.Rack.slot_count g.R.Rack.told a b (ap (λ (z : _). g.R.Rack.slot_count (store_rack z)) marks.store) (ap (λ (m : Meta). m.setup) marks.meta) (ap named_of marks.store)
           (CoreStandsFor g.R.Rack.slot_count a h lo) (CoreStandsFor g.R.Rack.slot_count b h lo) (Filled g.R.Rack.slot_count new h (length h) new.meta.fill) h lo _ (marks.stands h lo) (done.filled_since away h lo);
+    }
+
+pub begin_down-requires : goal.begin_down-requires
+begin_down-requires g c =
+    let q = c.requires in
+    record {
+      ready = q.serving.ready;
+      serves = q.serving.serves;
+      whole = q.whole;
+      steady = q.steady;
+      next = q.next;
+      spared = q.spared;
+    }
+
+pub commit-requires : goal.commit-requires
+commit-requires g c =
+    let q = c.requires in
+    let marks = c.begin_down.ensures in
+    record {
+      ready = marks.ready;
+      epoch = subst (λ (e : ℕ). e < 2 ^ 63) (sym (ap (λ (m : Meta). m.epoch) marks.meta)) q.epoch;
+      copies_synced = copies_kept c.args.core.now c.begin_down.new.self (ap (λ (m : Meta). m.setup) marks.meta) marks.copied q.serving.copies_synced;
     }

@@ -121,3 +121,14 @@ returns g c =
           chain g.R.Rack.slot_count g.R.Rack.told a b one.leaves.slots one.leaves.setup one.named
           (CoreStandsFor g.R.Rack.slot_count a h lo) (RestsInShift g.R.Rack.slot_count b h lo) (RestsInShift g.R.Rack.slot_count n h lo) h lo _ (one.rests h lo) (two.powers.rests h lo);
     }
+
+pub commit_up-requires : goal.commit_up-requires
+commit_up-requires g c =
+    let q = c.requires in
+    record {
+      serving = q.serving;
+      epoch = q.epoch;
+      whole = q.whole;
+      steady = q.steady;
+      next = q.next;
+    }

@@ -138,3 +138,25 @@ returns g c =
       within = c.requires.rises;
       moments = all.moments;
     }
+
+pub is_down-requires : goal.is_down-requires
+is_down-requires g c =
+    let q = c.requires in
+    record {
+      ready = q.rising.ready;
+      disk = q.disk;
+    }
+
+pub spin_up-requires : goal.spin_up-requires
+spin_up-requires g c =
+    let q = c.requires in
+    record {
+      ready = q.rising.ready;
+      still = q.rising.still;
+      disk = q.disk;
+      past_gear = q.past_gear;
+      rises = q.rises;
+      not_out = c.is_down.ensures.not_out c.if-not-is_down.false;
+      parked = c.is_down.ensures.parked c.if-not-is_down.false;
+      nothing = q.rising.nothing;
+    }

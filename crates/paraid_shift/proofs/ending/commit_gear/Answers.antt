@@ -29,6 +29,9 @@ use Rattle.paraid_shift.proofs.LossLemmas.{commit_is_lost, mark_is_lost}
 use Rattle.paraid_base.specs.declared.state.Out.TheVariants.{No}
 use Rattle.paraid_image.specs.Out.{named_out}
 use Rattle.paraid_shift.proofs.OutcomeLemmas.{none_named}
+use Rattle.std.specs.Prelude.{◌<◌, ◌^◌}
+use Rattle.std.proofs.Common.{ℕ}
+use Rattle.paraid_shift.proofs.ServingLemmas.{copies_kept}
 use Rattle.paraid_shift.proofs.ending.commit_gear.Goals as goal
 
 pub returns-in_err-commit : goal.returns-in_err-commit
@@ -113,4 +116,26 @@ returns g c =
       moments = λ h lo.
           chain_held g.R.Rack.slot_count g.R.Rack.told a b (ap (λ (z : _). g.R.Rack.slot_count (store_rack z)) marks.store) (ap (λ (m : Meta). m.setup) marks.meta) (ap named_of marks.store)
           (CoreStandsFor g.R.Rack.slot_count a h lo) (CoreStandsFor g.R.Rack.slot_count b h lo) h lo _ (marks.stands h lo) (all.moments_since away h lo);
+    }
+
+pub flip-requires : goal.flip-requires
+flip-requires g c =
+    let q = c.requires in
+    record {
+      ready = q.serving.ready;
+      serves = q.serving.serves;
+      whole = q.whole;
+      shifts = q.shifts;
+      filled = q.filled;
+      clean = q.clean;
+    }
+
+pub commit-requires : goal.commit-requires
+commit-requires g c =
+    let q = c.requires in
+    let marks = c.flip.ensures in
+    record {
+      ready = marks.ready;
+      epoch = subst (λ (e : ℕ). e < 2 ^ 63) (sym (ap (λ (m : Meta). m.epoch) marks.meta)) q.epoch;
+      copies_synced = copies_kept c.args.core.now c.flip.new.self (ap (λ (m : Meta). m.setup) marks.meta) marks.copied q.serving.copies_synced;
     }

@@ -131,3 +131,15 @@ park_down-requires g c =
       high = within _ _ _ _ (ap (λ (m : Meta). m.gear) c.meta.ensures) (gear_high a.meta c.requires.serving.ready.in_range) (ap (λ (z : Setup). z.geometry.disks) one.leaves.setup);
       nothing = one.nothing;
     }
+
+pub commit_gear-requires : goal.commit_gear-requires
+commit_gear-requires g c =
+    let q = c.requires in
+    record {
+      serving = q.serving;
+      epoch = q.epoch;
+      whole = q.whole;
+      shifts = q.shifts;
+      filled = q.filled;
+      clean = q.clean;
+    }

@@ -113,3 +113,11 @@ returns g c =
       others = all.others;
       moments = all.moments;
     }
+
+pub is_up-requires : goal.is_up-requires
+is_up-requires g c =
+    let q = c.requires in
+    record {
+      ready = q.serving.ready;
+      disk = q.disk;
+    }

@@ -51,3 +51,11 @@ returns g c =
       two = err_map {P = L} _ (λ two k. k.down) c.commit.ensures.loses;
       loses = err_map {P = L} _ (λ two k. k.loses) c.commit.ensures.loses;
     }
+
+pub commit-requires : goal.commit-requires
+commit-requires g c =
+    let q = c.requires in
+    record {
+      serving = q.serving;
+      epoch = q.epoch;
+    }
