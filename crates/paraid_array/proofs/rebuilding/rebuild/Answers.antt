@@ -1,3 +1,4 @@
+use Rattle.paraid_base.specs.Regions.{IsGear}
 use Rattle.paraid_record.specs.Range.{IsOutInRange, rebuild_units}
 use Rattle.paraid_core.specs.Units.{IsRebuilding}
 use Rattle.paraid_base.specs.States.{rebuilt_count}
@@ -20,6 +21,18 @@ moving_not_gone d is = absurd cc
 
 back_not_gone : {A : Type 0} (d e : ℕ) → Rebuilt d ≡ GoneAgain e → A
 back_not_gone d e is = absurd cc
+
+pub rebuild_units-requires : goal.rebuild_units-requires
+rebuild_units-requires g c =
+    let a = c.args.core.now in
+    subst (λ (z : Meta). IsGear z.setup.geometry c.meta-2.result.now.gear) (sym c.meta.ensures) (subst (λ (z : Meta). IsGear a.meta.setup.geometry z.gear) (sym c.meta-2.ensures) c.requires.serving.ready.in_range.gear)
+
+pub overflow_sub-left : goal.overflow_sub-left
+overflow_sub-left g c =
+    let a = c.args.core.now in
+    let most = (subst (λ (o : Out). IsOutInRange a.meta.setup.geometry a.meta.gear o) c.requires.fresh c.requires.serving.ready.in_range.out).1 in
+    let full = c.rebuild_units.ensures ∙ ap (λ (z : Meta). rebuild_units z.setup.geometry c.meta-2.result.now.gear c.args.disk) c.meta.ensures ∙ ap (λ (z : Meta). rebuild_units a.meta.setup.geometry z.gear c.args.disk) c.meta-2.ensures in
+    omega (arith, most, full)
 
 pub move_units-requires : goal.move_units-requires
 move_units-requires g c =

@@ -1,4 +1,4 @@
-use Rattle.std.proofs.Common.{ℕ, Some, None, refl, subst}
+use Rattle.std.proofs.Common.{ℕ, Some, None, refl, subst, arith}
 use Rattle.paraid_ration.specs.Ration.{IsFirstUsedUp, IsWithinAllowance}
 use Rattle.paraid_core.proofs.AfterLemmas.{handed}
 use Rattle.paraid_array.proofs.ResultLemmas.{none_done, none_done_if}
@@ -7,6 +7,17 @@ use Rattle.paraid_array.proofs.shifts.gear_below.Goals as goal
 
 pub lower-requires : goal.lower-requires
 lower-requires c = c.args.meta.now.setup.geometry.gears_high c.args.meta.now.gear c.requires.in_range.gear
+
+pub allowance-allowed-requires : goal.allowance-allowed-requires
+allowance-allowed-requires c = c.requires.in_range.setup.period.0
+
+pub may_park-requires : goal.may_park-requires
+may_park-requires c =
+    let m = c.args.meta.now in
+    let below = c.in-Some.ensures.0 in
+    let high = m.setup.geometry.gears_high m.gear c.requires.in_range.gear in
+    let eight = m.setup.geometry.disks_high in
+    record { order = omega (arith, below); high = omega (arith, high, eight) }
 
 pub returns-in_default : goal.returns-in_default
 returns-in_default c = record {

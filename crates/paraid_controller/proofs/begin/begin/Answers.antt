@@ -1,5 +1,10 @@
 use Rattle.paraid_controller.proofs.begin.begin.Goals as goal
 
+pub start-requires : goal.start-requires
+start-requires g c =
+    let windows = c.requires.in_range.setup.windows in
+    record { first = windows.first.1; second = windows.second; third = windows.third }
+
 pub returns : goal.returns
 returns g c = record {
   store = c.new.ensures.store;
