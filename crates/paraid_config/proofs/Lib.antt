@@ -1,3 +1,4 @@
+mod ExitLemmas
 mod FaultLemmas
 mod KeyLemmas
 mod ListLemmas

@@ -75,10 +75,7 @@ fn checked(
         let value = count as i64;
         return Err(ConfigFault::Range { key, value });
     }
-    match members_in_range(alloc, key, members) {
-        Ok(numbers) => Ok(numbers),
-        Err(fault) => Err(fault),
-    }
+    members_in_range(alloc, key, members)
 }
 
 /// The numbers in the list at a key, which has from `few` to `many` members.

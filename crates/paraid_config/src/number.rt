@@ -35,10 +35,7 @@ pub fn in_range(key: Key, value: i64) -> Result<u32, ConfigFault>
     ensures err { IfErr result (λ fault. range_fault key value ≡ Some fault) }
 {
     let (low, high) = key.limits();
-    match within(key, low, high, value) {
-        Ok(number) => Ok(number),
-        Err(fault) => Err(fault),
-    }
+    within(key, low, high, value)
 }
 
 /// The number at a key.
@@ -69,10 +66,7 @@ fn number_or(table: &Table, key: Key, high: u32, absent: u32) -> Result<u32, Con
 {
     let (low, _high) = key.limits();
     match optional_at(table, key) {
-        Ok(Some(value)) => match within(key, low, high, value) {
-            Ok(number) => Ok(number),
-            Err(fault) => Err(fault),
-        },
+        Ok(Some(value)) => within(key, low, high, value),
         Ok(None) => Ok(absent),
         Err(fault) => Err(fault),
     }
@@ -101,10 +95,7 @@ pub fn period(table: &Table) -> Result<u32, ConfigFault>
     ensures accepted { OnOk result (period_fault (table_view table.now) ≡ None) }
     ensures err { IfErr result (λ fault. period_fault (table_view table.now) ≡ Some fault) }
 {
-    match number_or(table, Key::Period, u32::MAX, 1) {
-        Ok(period) => Ok(period),
-        Err(fault) => Err(fault),
-    }
+    number_or(table, Key::Period, u32::MAX, 1)
 }
 
 /// The mode that a word names.

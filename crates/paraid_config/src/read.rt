@@ -24,10 +24,7 @@ pub fn read_config(alloc: Global, bytes: &[u8]) -> Result<Setup, ConfigFault>
         return Err(ConfigFault::Long);
     }
     match toml::table_from_slice(alloc, bytes) {
-        Ok(table) => match setup_of(alloc, &table) {
-            Ok(setup) => Ok(setup),
-            Err(fault) => Err(fault),
-        },
+        Ok(table) => setup_of(alloc, &table),
         Err(error) => {
             if error.is_memory() {
                 Err(ConfigFault::NoMemory)
