@@ -2,5 +2,6 @@ mod ExitLemmas
 mod FaultLemmas
 mod KeyLemmas
 mod ListLemmas
+mod NumberLemmas
 mod PartLemmas
 mod SayLemmas

@@ -1,5 +1,6 @@
 -- How far a list of a document was read, and what the rest of it adds
-use Rattle.std.proofs.Common.{◌≡◌, ℕ, ◌<◌, ◌≤◌, ◌+◌, ◌-◌, ℤ, pos, List, [], ◌∷◌, ◌++◌, All, length, get_or, take, drop, map, Option, Some, None, option_map, refl, sym, ap, ◌∙◌, append_assoc, arith, replicate}
+use Rattle.std.proofs.Common.{◌≡◌, ℕ, ◌<◌, ◌≤◌, ◌+◌, ◌-◌, ℤ, pos, List, [], ◌∷◌, ◌++◌, All, length, get_or, take, drop, map, Option, Some, None, option_map, refl, sym, ap, subst, ◌∙◌, append_assoc, arith, replicate}
+use Rattle.std.specs.Prelude.{Result, OnOk, IfErr}
 use Rattle.std.proofs.Common.{w8, w16, w64, Fits, SFits, to_z, of_z}
 use Rattle.std.proofs.lemmas.Int.{to_z-of_z}
 use Rattle.std.proofs.lemmas.List.{append-nil, drop_all, drop_more, take_all, take_more, map-append}
@@ -14,7 +15,7 @@ use Rattle.paraid_config.specs.declared.key.Key.{Key}
 use Rattle.paraid_config.specs.declared.key.Key.TheVariants.{Windows}
 use Rattle.paraid_config.specs.Config.{AreWindowsOf}
 use Rattle.paraid_config.specs.Keys.{high_of}
-use Rattle.paraid_config.specs.Values.{integers_of, integer_items, range_fault, member_fault, members_fault, list_fault, value_at, IsListAt, IsFaultOf}
+use Rattle.paraid_config.specs.Values.{integers_of, integer_items, range_fault, member_fault, members_fault, list_fault, list_fault_in, value_at, IsListAt, IsFaultOf}
 
 pub fits_byte : (n : ℕ) → n ≤ 255 → Fits w8 n
 fits_byte n h = omega arith
@@ -153,3 +154,14 @@ used_windows (a ∷ b ∷ d ∷ e ∷ more) low high = absurd (omega arith)
 pub AreWindowsOf-used : (document : Members) (used : List ℕ) → IsListAt document Windows used → 1 ≤ length used → length used ≤ 3
     → AreWindowsOf document (get_or used 0 0 ∷ get_or used 1 0 ∷ get_or used 2 0 ∷ [])
 AreWindowsOf-used document used at low high = record { used = used; used_at = at; rest = used_windows used low high }
+
+-- the list at the key has these members
+module _ {A : Type 0} (document : Members) (k : Key) (few many : ℕ) (ds : Items) (zs : List ℤ) (r : Result A ConfigFault) (at : value_at document k ≡ Some (array ds)) (read : integers_of ds ≡ Some zs) where
+  list_fault-read : list_fault document k few many ≡ members_fault k few many (Some zs)
+  list_fault-read = ap (list_fault_in k few many) at ∙ ap (members_fault k few many) read
+
+  pub list_accepted : OnOk r (members_fault k few many (Some zs) ≡ None) → OnOk r (list_fault document k few many ≡ None)
+  list_accepted h = subst (λ (x : Option ConfigFault). OnOk r (x ≡ None)) (sym list_fault-read) h
+
+  pub list_refused : IfErr r (IsFaultOf (members_fault k few many (Some zs))) → IfErr r (IsFaultOf (list_fault document k few many))
+  list_refused h = subst (λ (x : Option ConfigFault). IfErr r (IsFaultOf x)) (sym list_fault-read) h

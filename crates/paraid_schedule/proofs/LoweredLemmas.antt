@@ -2,7 +2,6 @@
 use Rattle.std.proofs.Common.{◌≡◌, ◌⊎◌, ℕ, ◌+◌, ◌<◌, ◌≤◌, List, slice_index, min, inl, inr, refl, sym, subst}
 use Rattle.paraid_record.specs.declared.meta.Setup.{Setup}
 use Rattle.paraid_record.specs.Range.{AreNextGears}
-use Rattle.paraid_schedule.specs.Schedule.{rise}
 use Rattle.paraid_schedule.specs.Cost.{period_cost, step_cost}
 use Rattle.paraid_schedule.specs.Bounds.{no_bound, row_start, bound}
 use Rattle.paraid_schedule.specs.Solved.{AreLoweredBy}

@@ -1,4 +1,4 @@
-use Rattle.std.proofs.Common.{arith, subst, sym}
+use Rattle.std.proofs.Common.{arith, subst}
 use Rattle.paraid_schedule.specs.Solved.{IsMetBy}
 use Rattle.paraid_schedule.proofs.RoomLemmas.{gear_low, period_low, period_next, period_fits, place_fits, cost_fits, at_within, row_within, next_within}
 use Rattle.paraid_schedule.proofs.GearStepLemmas.{next_lower-is, next_lower-none, next_lower-one}
@@ -51,7 +51,7 @@ returns-then-period_cost-next c =
     let low = c.in-Some.ensures.0 in (
       fall,
       level_is_met c.args.setup.now c.args.ups c.args.bounds.now c.args.t c.args.a c.in-Some.b c.args.left c.place.result c.place-in-Some.result c.period_cost.result
-      (omega (arith, low)) c.place.ensures.value c.place-in-Some.ensures.value c.period_cost.ensures.value c.if-period_cost-next.true,
+          (omega (arith, low)) c.place.ensures.value c.place-in-Some.ensures.value c.period_cost.ensures.value c.if-period_cost-next.true,
     )
 
 pub returns-else-period_cost-next : goal.returns-else-period_cost-next

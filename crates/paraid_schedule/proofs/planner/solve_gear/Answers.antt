@@ -1,4 +1,4 @@
-use Rattle.std.proofs.Common.{ℕ, ◌+◌, ◌≤◌, ◌∙◌, refl, arith}
+use Rattle.std.proofs.Common.{◌∙◌, arith}
 use Rattle.paraid_schedule.proofs.RoomLemmas.{gear_low, period_low, ups_fit, row_within, HasRow-after}
 use Rattle.paraid_schedule.proofs.SolvedLemmas.{solved_served, solved_unserved, cleared_row}
 use Rattle.paraid_schedule.proofs.TestLemmas.{not_so}
