@@ -7,3 +7,6 @@ returns-in-Ok-clause-value c =
     let second = rw c.deref-in-Ok.ensures.value at c.window-in-Ok.ensures in
     let third = rw c.deref-in-Ok-2.ensures.value at c.window-in-Ok-2.ensures in
     rw (first, second, third) (AreWindowsOf-used _ c.in-Ok.used.items c.in-Ok.ensures.value c.in-Ok.ensures.low_count c.in-Ok.ensures.high_count)
+
+pub returns-in-Err : goal.returns-in-Err
+returns-in-Err c = record { value = tt; accepted = tt; err = c.in-Err.ensures.err; range = tt }

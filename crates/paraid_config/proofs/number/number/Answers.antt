@@ -1,4 +1,4 @@
-use Rattle.std.proofs.Common.{◌≡◌, ℤ, Some, ap, sym, ◌∙◌, rules, w64, SFits}
+use Rattle.std.proofs.Common.{ℤ, Some, ap, sym, ◌∙◌, rules, w64, SFits}
 use Rattle.std.proofs.lemmas.Int.{to_z-of_z}
 use Rattle.toml.specs.Data.{integer}
 use Rattle.toml.specs.View.{table_view}

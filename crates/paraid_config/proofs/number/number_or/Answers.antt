@@ -1,4 +1,4 @@
-use Rattle.std.proofs.Common.{◌≡◌, ℕ, ℤ, ◌≤◌, Some, option_map, inr, refl, ap, sym, subst, ◌∙◌, rules, w64, SFits}
+use Rattle.std.proofs.Common.{ℕ, ℤ, ◌≤◌, Some, option_map, inr, refl, ap, sym, subst, ◌∙◌, rules, w64, SFits}
 use Rattle.std.proofs.lemmas.Int.{to_z-of_z}
 use Rattle.std.specs.Prelude.{IfOk}
 use Rattle.toml.specs.Data.{integer}
