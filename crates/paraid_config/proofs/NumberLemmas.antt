@@ -1,6 +1,6 @@
 -- What a number that is within its bounds, or is not, says of the value at its key
-use Rattle.std.proofs.Common.{◌≡◌, ℕ, ◌≤◌, ℤ, pos, Option, Some, None, option_map, inl, sym, ap, subst, ◌∙◌}
-use Rattle.std.specs.Prelude.{Result, Ok, Err, OnOk, IfOk, IfErr}
+use Rattle.std.proofs.Common.{◌≡◌, ℕ, ℤ, pos, Option, Some, None, inl, sym, ap, subst, ◌∙◌}
+use Rattle.std.specs.Prelude.{Result, OnOk, IfOk, IfErr}
 use Rattle.std.proofs.lemmas.Result.{IfOk-weaker}
 use Rattle.toml.specs.Data.{Data, integer, Members}
 use Rattle.paraid_config.specs.declared.key.Key.{Key}
