@@ -1,12 +1,13 @@
 -- The cells of a table in the bits of its words
 use Rattle.std.specs.Prelude.{◌≡◌, ◌≢◌, ◌⊎◌, ℕ, ◌+◌, ◌*◌, ◌/◌, ◌%◌, ◌^◌, ◌<◌, ◌≤◌, ◌==◌, ◌&&◌, nat_le, nat_lt, Bool, true, false, List, [], length, get_or, replicate, if◌then◌else◌}
-use Rattle.std.proofs.Common.{arith, ap, inl, inr, sym, ◌∙◌, bit_and, zero-add}
-use Rattle.std.specs.Int.{bit_at}
+use Rattle.std.proofs.Common.{arith, ap, inl, inr, sym, ◌∙◌, bit_and, refl, zero, suc, zero-add}
+use Rattle.std.specs.Int.{bit_at, byte_at, bytes_low_first, to_le_bytes, w64}
 use Rattle.std.proofs.lemmas.Bool.{cases_lt, cases_eq}
 use Rattle.std.proofs.lemmas.Bool.Decides.{nat_tests}
 use Rattle.std.proofs.lemmas.List.{get_or_past, get_or-replicate, length-replicate}
 use Rattle.std.proofs.lemmas.List.FromFn.{get_or-map-range_with_len, length-map-range_with_len}
-use Rattle.std.proofs.lemmas.Nat.{and_le_r, shr-shr}
+use Rattle.std.proofs.lemmas.Nat.{and_le_r, and_mask, pow-add, shr-shr}
+use Rattle.std.proofs.Math.Nat.{pow-suc}
 use Rattle.std.proofs.lemmas.Nat.Bits.{bit_at_and, bit_at-lt, bit_at_above, bit_at_ones}
 use Rattle.paraid_dirty.specs.Bits.{bit_of, bit_in, on_disks, AreClear, IsFirstBit}
 use Rattle.paraid_dirty.specs.Table.{table_with_bit, is_dirty, row_bits, rows_of, IsCleanFrom, IsFirstFrom, IsFrom, IsDirtyTable}
@@ -120,15 +121,15 @@ clear_table words after marks marks_after rows r d word table row low size bits 
       ];
     }
 
-get_or-zeros : (n i : ℕ) → ◌≡◌ {A = ℕ} (get_or (replicate n 0) i 0) 0
-get_or-zeros n i = elim (cases_lt i n) [
+pub zeros_read : (n i : ℕ) → ◌≡◌ {A = ℕ} (get_or (replicate n 0) i 0) 0
+zeros_read n i = elim (cases_lt i n) [
   | inl inside ↦ get_or-replicate n i 0 0 inside
   | inr past ↦ get_or_past (replicate n 0) i 0 (rw (length-replicate {A = ℕ} n 0) past)
 ]
 
 pub zeros_clear : (n p : ℕ) → bit_in (replicate n 0) p ≡ false
 unfolding bit_in
-zeros_clear n p = ap (λ (w : ℕ). bit_of w (p % 64)) (get_or-zeros n (p / 64)) ∙ bit_of-zero (p % 64)
+zeros_clear n p = ap (λ (w : ℕ). bit_of w (p % 64)) (zeros_read n (p / 64)) ∙ bit_of-zero (p % 64)
 
 pub new_table : (words marks : List ℕ) (count sets rows : ℕ) → words ≡ replicate count 0 → marks ≡ replicate sets 0 → rows ≤ 65536
     → count ≤ 8192 → rows ≤ 8 * count → sets ≤ 128 → count ≤ 64 * sets → IsDirtyTable words marks rows
@@ -142,7 +143,7 @@ new_table words marks count sets rows is_words is_marks few small room sets_smal
       marks_small = omega arith;
       marks_room = omega arith;
       unused = λ p past. ap (λ (ws : List ℕ). bit_in ws p) is_words ∙ zeros_clear count p;
-      marked = λ w none. ap (λ (ws : List ℕ). get_or ws w 0) is_words ∙ get_or-zeros count w;
+      marked = λ w none. ap (λ (ws : List ℕ). get_or ws w 0) is_words ∙ zeros_read count w;
     }
 
 pub new_clean : (words marks : List ℕ) (count rows : ℕ) → words ≡ replicate count 0 → IsDirtyTable words marks rows → (r d : ℕ) → is_dirty (rows_of words rows) r d ≡ false
@@ -171,6 +172,30 @@ row_of_word words marks rows r d table =
           ∙ ap (λ (n : ℕ). bit_of (get_or words n 0) ((8 * r + d) % 64)) (sym (word_of_cell r d low))
           ∙ sym (is_dirty-bit words marks rows r d table low)
     ]
+
+-- byte `k` of a word
+byte_read : (n i count k : ℕ) → k < count → get_or (bytes_low_first i count n) k 0 ≡ byte_at (i + k) n
+byte_read n i zero k lt = absurd (omega arith)
+byte_read n i (suc count) zero lt = ap (λ j. byte_at j n) (omega arith)
+byte_read n i (suc count) (suc k) lt = byte_read n (suc i) count k (omega arith) ∙ ap (λ j. byte_at j n) (omega arith)
+
+powers : (m : ℕ) → 256 ^ m ≡ 2 ^ (8 * m)
+powers zero = refl
+powers (suc m) = pow-suc 256 m ∙ ap (λ x. x * 256) (powers m) ∙ sym (pow-add 2 (8 * m) 8) ∙ ap (λ e. 2 ^ e) (omega arith)
+
+byte_shifted : (n k : ℕ) → byte_at k n ≡ bit_and (n / 2 ^ (8 * k)) 255
+byte_shifted n zero = ap (λ x. x % 256) (omega arith) ∙ sym (and_mask (n / 2 ^ (8 * 0)) 8)
+byte_shifted n (suc k) = ap (λ p. n / p % 256) (powers (suc k)) ∙ sym (and_mask (n / 2 ^ (8 * suc k)) 8)
+
+-- the bits of a row in its byte of a word
+pub row_of_byte : (words marks : List ℕ) (rows at k d : ℕ) → IsDirtyTable words marks rows → k < 8
+    → bit_of (get_or (to_le_bytes w64 (get_or words at 0)) k 0) d ≡ is_dirty (rows_of words rows) (8 * at + k) d
+row_of_byte words marks rows at k d table lt =
+    let word = get_or words at 0 in
+    let place : (8 * at + k) / 8 ≡ at = omega arith in
+    let turn : (8 * at + k) % 8 ≡ k = omega arith in
+    ap (λ (x : ℕ). bit_of x d) (byte_read word 0 8 k lt ∙ ap (λ j. byte_at j word) (zero-add k) ∙ byte_shifted word k)
+    ∙ (rw (place, turn) at (row_of_word words marks rows (8 * at + k) d table))
 
 pub row_past : (words marks : List ℕ) (rows r d : ℕ) → IsDirtyTable words marks rows → length words ≤ r / 8 → bit_of 0 d ≡ is_dirty (rows_of words rows) r d
 row_past words marks rows r d table past = bit_of-zero d ∙ sym (elim (cases_lt d 8) [

@@ -101,6 +101,14 @@ impl DirtyTable {
         has_bit(&self.words, 8 * r as usize + d as usize)
     }
 
+    /// The bits of row `r`, the lowest for disk 0.
+    pub fn row(&self, r: Row) -> u8
+        requires { r < length self.now }
+        ensures { (d : ℕ) → bit_of result d ≡ is_dirty self.now r d }
+    {
+        (self.words[r as usize / 8] >> (8 * (r % 8)) & 255) as u8
+    }
+
     /// The number of dirty cells on disks from `lo` to `hi - 1`.
     pub fn count(&self, lo: DiskNo, hi: DiskNo) -> u32
         requires order { lo ≤ hi }
@@ -149,20 +157,22 @@ impl DirtyTable {
         ensures { ShowsBits into.new j (is_dirty self.now) }
     {
         let mut bytes = [0; 512];
-        for i in 0..512 {
-            bytes[i] = self.row_byte(512 * j as usize + i);
+        for at in 0..64 {
+            let eight = self.eight_rows(64 * j as usize + at);
+            bytes[8 * at..8 * at + 8].copy_from_slice(&eight);
         }
         *into = Block::from_array(bytes);
     }
 
-    /// The bits of a row, none past the table.
-    fn row_byte(&self, r: usize) -> u8
-        ensures { (d : ℕ) → bit_of result d ≡ is_dirty self.now r d }
+    /// The bits of eight rows from `8 * at` on, one row a byte, none past the table.
+    fn eight_rows(&self, at: usize) -> [u8; 8]
+        ensures length { length result ≡ 8 }
+        ensures bits { (k d : ℕ) → k < 8 → bit_of (slice_index result k) d ≡ is_dirty self.now (8 * at + k) d }
     {
-        if r / 8 < self.words.len() {
-            (self.words[r / 8] >> (8 * (r % 8)) & 255) as u8
+        if at < self.words.len() {
+            self.words[at].to_le_bytes()
         } else {
-            0
+            [0; 8]
         }
     }
 }

@@ -19,14 +19,13 @@ pub fn xor_into(to: &mut Block, from: &Block)
     }
 }
 
-/// Whether all 512 bytes are zero.
+/// Whether all 512 bytes are zero. It looks at each, so that many are read at once.
 pub fn is_zero(block: &Block) -> bool
     ensures { IsTrue result ↔ (block.now ≡ zero_block) }
 {
-    for byte in &block.bytes {
-        if *byte != 0 {
-            return false;
-        }
+    let mut most: u8 = 0;
+    for at in 0..512 {
+        most = most.max(block.bytes[at]);
     }
-    true
+    most == 0
 }

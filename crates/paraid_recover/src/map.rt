@@ -44,7 +44,7 @@ fn put_bit(table: &mut DirtyTable, row: Row, disk: DiskNo, dirty: bool)
     table.clear(row, disk);
 }
 
-// Takes the bits of a row, if it is one of the table.
+// Takes the bits of a row, if it is one of the table. Most rows have them already.
 fn take_row(table: &mut DirtyTable, row: Row, byte: u8)
     ensures rows { length table.new ≡ length table.old }
     ensures here { (d : ℕ) → row < length table.old → d < 8
@@ -53,6 +53,9 @@ fn take_row(table: &mut DirtyTable, row: Row, byte: u8)
     ensures others { (q d : ℕ) → q ≢ row → is_dirty table.new q d ≡ is_dirty table.old q d }
 {
     if row >= table.rows() {
+        return;
+    }
+    if table.row(row) == byte {
         return;
     }
     for disk in 0..8 {

@@ -7,3 +7,4 @@ pub mod SpaceLemmas
 pub mod GroupLemmas
 pub mod GroupSteps
 pub mod LineLemmas
+mod DecodeSteps

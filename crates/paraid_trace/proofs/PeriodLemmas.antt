@@ -1,13 +1,14 @@
 -- The least period of a block
 use Rattle.std.proofs.Common.{◌≡◌, ℕ, zero, suc, ◌+◌, ◌-◌, ◌%◌, ◌<◌, ◌≤◌, List, length, take, drop, get_or, Bool, true, false, sym, ap, ◌∙◌, arith, inl, inr, length-drop}
-use Rattle.std.specs.Prelude.{slice_index}
-use Rattle.std.proofs.lemmas.Bool.{both_ways, cases_lt, cond-false, cond-true}
+use Rattle.std.specs.Prelude.{◌≢◌, slice_index}
+use Rattle.std.proofs.lemmas.Bool.{both_ways, cases_Bool, cases_lt, cases_order, eq-eqb, cond-false, cond-true}
 use Rattle.std.proofs.lemmas.List.{get_or-drop, get_or-take, length-take-le}
 use Rattle.std.proofs.lemmas.Slice.Eq.{bytes_eq-Decides}
 use Rattle.std.proofs.Math.Nat.{add-mod_left, mod-eq-sub-mod, mod-eq_of_lt}
 use Rattle.std.proofs.lemmas.Nat.{mod_below}
 use Rattle.paraid_base.specs.declared.block.Block.{Block}
 use Rattle.paraid_trace.specs.BlockTexts.{IsBlockText, block_text, is_period, least_from, period_of}
+use Rattle.memchr.specs.Find.{Nowhere, Passes, is_byte}
 use Rattle.hex.specs.Hex.{encode_lower}
 use Rattle.paraid_trace.specs.Repeats.{Repeats}
 use Rattle.paraid_trace.proofs.RepeatsLemmas.{same_list}
@@ -41,6 +42,28 @@ carried bytes p k h le lt =
     let front = get_or-take (512 - p) bytes (k - p) 0 (omega arith) in
     let back = get_or-drop p bytes (k - p) 0 in
     sym (ap (λ i. get_or bytes i 0) there) ∙ sym back ∙ at ∙ front
+
+-- a place whose byte is not the first one is no period
+pub no_period : (bytes : List ℕ) (p : ℕ) → p < 512 → get_or bytes p 0 ≢ get_or bytes 0 0 → false ≡ is_period bytes p
+no_period bytes p lt differs = elim (cases_Bool (is_period bytes p)) [
+  | inl yes' ↦ absurd (differs (carried bytes p p yes' (omega arith) lt ∙ ap (λ i. get_or bytes i 0) (omega arith)))
+  | inr no' ↦ sym no'
+]
+
+-- places that a search for the first byte has passed are no periods
+pub passed_place : (bytes : List ℕ) (p n more q : ℕ) → Nowhere (Passes (is_byte (get_or bytes 0 0)) (take n (drop p bytes))) 0 more
+    → more ≤ n → p ≤ q → q < p + more → q < 512 → is_period bytes q ≡ false
+passed_place bytes p n more q nowhere within from below lt =
+    let there : p + (q - p) ≡ q = omega arith in
+    let read = get_or-take n (drop p bytes) (q - p) 0 (omega arith) ∙ get_or-drop p bytes (q - p) 0 ∙ ap (λ i. get_or bytes i 0) there in
+    sym (no_period bytes q lt (λ same. nowhere (q - p) (omega arith) (omega arith) (eq-eqb _ _ (read ∙ same))))
+
+pub NoneBelow-next : (bytes : List ℕ) (p next : ℕ) → is_period bytes p ≡ false → ((q : ℕ) → p + 1 ≤ q → q < next → is_period bytes q ≡ false) → NoneBelow bytes p → NoneBelow bytes next
+NoneBelow-next bytes p next fails passed none q from below = elim (cases_order q p) [
+  | inl same ↦ ap (is_period bytes) same ∙ fails
+  | inr (inl before) ↦ none q from before
+  | inr (inr after) ↦ passed q (omega arith) below
+]
 
 reduced : (bytes : List ℕ) (p n k : ℕ) → 1 ≤ p → is_period bytes p ≡ true → k < n → k < 512 → get_or bytes k 0 ≡ get_or bytes (k % p) 0
 reduced bytes p zero k low h within lt = absurd (omega arith)

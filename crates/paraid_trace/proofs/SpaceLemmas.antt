@@ -1,5 +1,5 @@
 -- The spaces of a line
-use Rattle.std.proofs.Common.{◌≡◌, ℕ, ◌+◌, ◌<◌, ◌≤◌, List, [], ◌∷◌, ◌++◌, length, take, drop, get_or, Some, None, true, false, inl, inr, refl, sym, ap, ◌∙◌, arith}
+use Rattle.std.proofs.Common.{Bool, Option, unwrap_or, ◌≡◌, ℕ, ◌+◌, ◌<◌, ◌≤◌, List, [], ◌∷◌, ◌++◌, length, take, drop, get_or, Some, None, true, false, inl, inr, refl, sym, ap, ◌∙◌, arith}
 use Rattle.std.specs.Prelude.{decimal}
 use Rattle.std.specs.List.{AllPass, list_any, position, position_or_len}
 use Rattle.std.specs.Char.{digit_value}
@@ -7,10 +7,11 @@ use Rattle.std.specs.Str.Parse.{AllDigits}
 use Rattle.std.proofs.lemmas.Bool.{cases_Bool, cases_lt, cond-true, eqb-true, lt-ltb, ltb-true, ne_eqb, or_parts, or_from}
 use Rattle.std.proofs.lemmas.List.{append_assoc, drop_at, length_push}
 use Rattle.std.proofs.lemmas.List.Elements.{All-head, All-tail}
-use Rattle.std.proofs.lemmas.List.Sums.{passes_at_first, split_at_first}
+use Rattle.std.proofs.lemmas.List.Sums.{passes_at_first, position_or_len_is, split_at_first}
 use Rattle.std.proofs.lemmas.Option.{cond_some}
 use Rattle.std.proofs.lemmas.Fmt.{decimal_is_IsNumeral}
 use Rattle.std.proofs.lemmas.Grind.{common_steps}
+use Rattle.memchr.specs.Find.{IsFirstByte, is_byte}
 use Rattle.hex.proofs.HexLemmas.{decode_of-ok}
 use Rattle.hex.specs.Hex.{is_hex_digit}
 use Rattle.paraid_base.specs.declared.block.Block.{Block}
@@ -18,6 +19,17 @@ use Rattle.paraid_trace.specs.Grammar.{IsHexOf, IsNumber}
 use Rattle.paraid_trace.specs.LineEvents.{is_space}
 
 -- ---- the first space
+
+not_true : (b : Bool) → (b ≡ true → ⊥) → b ≡ false
+not_true true h = absurd (h refl)
+not_true false h = refl
+
+-- the first space as a search for a byte finds it
+pub place_found : (text : List ℕ) (r : Option ℕ) → IsFirstByte (is_byte 32) text r → unwrap_or r (length text) ≡ position_or_len is_space text
+place_found text None none =
+    sym (position_or_len_is is_space text (length text) 0 (omega arith) (λ k lt. not_true _ (none k (omega arith) lt)) (λ lt. absurd (omega arith)))
+place_found text (Some at) (none, here) =
+    sym (position_or_len_is is_space text at 0 (omega (arith, none.high)) (λ k lt. not_true _ (none.before k (omega arith) lt)) (λ lt. here))
 
 -- the first space of a list whose front has none
 pub position-at : (front rest : List ℕ) → list_any is_space front ≡ false → position_or_len is_space (front ++ 32 ∷ rest) ≡ length front

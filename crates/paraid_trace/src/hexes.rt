@@ -1,4 +1,5 @@
-ghost use Rattle.std.specs.Prelude.{◌≡◌, ◌/◌, ◌<◌, ◌≤◌, length, take};
+ghost use Rattle.std.specs.Prelude.{◌≡◌, ◌/◌, ◌*◌, ◌<◌, ◌≤◌, length, take, Ok, None, IsErr, unwrap_or};
+ghost use Rattle.hex.specs.Hex.{decode_pairs, hex_digit_value};
 ghost use Rattle.paraid_trace.specs.LineEvents.{block_from_digits};
 ghost use Rattle.paraid_trace.specs.Asked.{if_read};
 ghost use Rattle.paraid_trace.specs.Repeats.{repeating_block as repetition_of};
@@ -34,9 +35,40 @@ fn decoded(digits: &[u8], room: &mut [u8]) -> bool
     ensures value { block_from_digits digits.now ≡ if_read result (repetition_of room.new) }
     ensures length { length room.new ≡ length digits.now / 2 }
 {
-    match hex::decode_to_slice(digits, room) {
-        Ok(()) => true,
-        Err(_) => false,
+    if digits.len() % 2 == 1 {
+        return false;
+    }
+    greatest(digits, room) < 16
+}
+
+// Reads pairs of digits as bytes, and gives the greatest of their values, which is above 15 where
+// one of them is no digit. It looks at each, so that many are read at once.
+fn greatest(digits: &[u8], room: &mut [u8]) -> u8
+    requires { length digits.now ≡ 2 * length room.old }
+    ensures length { length room.new ≡ length room.old }
+    ensures read { result < 16 → decode_pairs 0 digits.now ≡ Ok room.new }
+    ensures refused { 16 ≤ result → IsErr (decode_pairs 0 digits.now) }
+{
+    let mut greatest: u8 = 0;
+    for i in 0..room.len() {
+        let high = digit(digits[2 * i]);
+        let low = digit(digits[2 * i + 1]);
+        greatest = greatest.max(high.max(low));
+        room[i] = (high & 15) * 16 + (low & 15);
+    }
+    greatest
+}
+
+// The value of a digit, or 255.
+fn digit(c: u8) -> u8
+    ensures value { result ≡ unwrap_or (hex_digit_value c) 255 }
+    ensures none { 16 ≤ result → hex_digit_value c ≡ None }
+{
+    match c {
+        b'A'..=b'F' => c - b'A' + 10,
+        b'a'..=b'f' => c - b'a' + 10,
+        b'0'..=b'9' => c - b'0',
+        _ => 255,
     }
 }
 
@@ -53,12 +85,16 @@ pub fn repeated(pattern: &[u8]) -> Block
 }
 
 // Repeats the first bytes up to the end. Each step copies all that is there behind itself, so that
-// it takes at most nine copies.
+// it takes at most eight copies, and none for one byte.
 fn repeat(bytes: &mut [u8; BLOCK_SIZE], length: usize)
     requires some { 0 < length }
     requires within { length ≤ 512 }
     ensures { bytes.new ≡ (repetition_of (take length bytes.old)).bytes }
 {
+    if length == 1 {
+        *bytes = [bytes[0]; BLOCK_SIZE];
+        return;
+    }
     let mut done = length;
     while done < BLOCK_SIZE {
         let more = done.min(BLOCK_SIZE - done);

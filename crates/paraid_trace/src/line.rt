@@ -13,6 +13,7 @@ ghost use Rattle.paraid_trace.specs.Asked.{event_with, group_in};
 
 use crate::Asked;
 use crate::hexes::block;
+use memchr::memchr;
 use paraid_base::{Block, BlockNo, Event, Pairs};
 
 /// The most bytes of a line that asks for something.
@@ -82,12 +83,12 @@ fn first_space(text: &[u8]) -> Option<usize>
     text.iter().position(|c| *c == b' ')
 }
 
-// The place of the first space, or of the end.
+// The place of the first space, or of the end, of a text that may be long.
 fn until_space(text: &[u8]) -> usize
     ensures value { result ≡ position_or_len is_space text.now }
     ensures within { result ≤ length text.now }
 {
-    match first_space(text) {
+    match memchr(b' ', text) {
         Some(at) => at,
         None => text.len(),
     }

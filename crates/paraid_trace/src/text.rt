@@ -1,5 +1,5 @@
-ghost use Rattle.std.specs.Prelude.{◌≡◌, ℕ, ◌+◌, ◌*◌, ◌≤◌, List, [], ◌++◌, length, take, decimal};
-ghost use Rattle.hex.specs.Hex.{encode_lower};
+ghost use Rattle.std.specs.Prelude.{◌≡◌, ℕ, ◌+◌, ◌*◌, ◌<◌, ◌≤◌, List, [], ◌++◌, length, take, slice_index, decimal};
+ghost use Rattle.hex.specs.Hex.{encode_lower, lower_digits};
 ghost use Rattle.paraid_trace.specs.BlockTexts.{IsBlockText, block_text};
 
 use crate::periods::period;
@@ -78,11 +78,8 @@ impl Text {
         ensures length { length self.new ≡ length self.old + 2 * length bytes.now }
     {
         let end = self.length + 2 * bytes.len();
-        match hex::encode_to_slice(bytes, &mut self.bytes[self.length..end]) {
-            Ok(()) => self.length = end,
-            // The room is that of the digits.
-            Err(_) => {}
-        }
+        spell(bytes, &mut self.bytes[self.length..end]);
+        self.length = end;
     }
 
     /// Appends the text of a block, which takes at most 1,024 bytes: in lower case the shortest
@@ -94,5 +91,28 @@ impl Text {
         ensures length { length self.new ≤ length self.old + 1024 }
     {
         self.push_hex(&block.as_slice()[..period(block)]);
+    }
+}
+
+// Writes bytes as pairs of hexadecimal digits in lower case.
+fn spell(bytes: &[u8], room: &mut [u8])
+    requires { length room.old ≡ 2 * length bytes.now }
+    ensures { room.new ≡ encode_lower bytes.now }
+{
+    for i in 0..bytes.len() {
+        room[2 * i] = digit(bytes[i] / 16);
+        room[2 * i + 1] = digit(bytes[i] % 16);
+    }
+}
+
+// The digit of a value.
+fn digit(value: u8) -> u8
+    requires { value < 16 }
+    ensures { result ≡ slice_index lower_digits value }
+{
+    if value < 10 {
+        b'0' + value
+    } else {
+        b'a' - 10 + value
     }
 }

@@ -1,5 +1,5 @@
-use Rattle.std.proofs.Common.{arith, ap, length, take, ◌%◌, ◌<◌, ◌≡◌, ◌∙◌, sym}
-use Rattle.std.proofs.lemmas.List.{get_or-take, length-take-le}
+use Rattle.std.proofs.Common.{arith, ap, get_or, replicate, length, take, ◌%◌, ◌<◌, ◌≡◌, ◌∙◌, sym}
+use Rattle.std.proofs.lemmas.List.{get_or-replicate, get_or-take, length-replicate, length-take-le}
 use Rattle.std.proofs.Math.Nat.{mod-lt, mod_self}
 use Rattle.paraid_trace.proofs.RepeatsLemmas.{repeating_block-bytes}
 use Rattle.paraid_trace.proofs.RepeatSteps.{doubled, first_turn, turned}
@@ -50,3 +50,17 @@ returns c =
     let there = get_or-take c.args.length bytes (k % length pattern) 0 (omega (arith, near, size)) in
     let small = c.fits-bytes (k % length pattern) in
     omega (arith, each, there, small))
+
+pub returns-then-length-eq1 : goal.returns-then-length-eq1
+returns-then-length-eq1 c =
+    let bytes = c.args.bytes.now in
+    let first = get_or bytes 0 0 in
+    let pattern = take c.args.length bytes in
+    let one = c.if-length-eq1.true in
+    let size : length pattern ≡ 1 = length-take-le c.args.length bytes (omega (arith, c.told-bytes, one)) ∙ one in
+    repeating_block-bytes pattern (replicate 512 first) (length-replicate 512 first) (λ k lt.
+    let copy = get_or-replicate 512 k first 0 lt in
+    let near : k % length pattern ≡ 0 = ap (λ n. k % n) size ∙ omega arith in
+    let there = ap (λ i. get_or pattern i 0) near ∙ get_or-take c.args.length bytes 0 0 c.requires.some in
+    let small = c.fits-bytes 0 in
+    omega (arith, copy, there, small))
