@@ -4,8 +4,11 @@ use Rattle.std.proofs.Common.{refl, sym, ◌∙◌, ap, subst, inl, inr}
 use Rattle.paraid_base.specs.declared.fault.Two.{Two}
 use Rattle.paraid_base.specs.declared.state.Out.{Out}
 use Rattle.paraid_base.specs.declared.state.Out.TheVariants.{Fresh, Gone, No}
-use Rattle.paraid_base.specs.declared.state.Phase.TheVariants.{Steady}
+use Rattle.paraid_base.specs.declared.state.Phase.{Phase}
+use Rattle.paraid_base.specs.declared.state.Phase.TheVariants.{Down as DownPhase, Steady, Up as UpPhase}
+use Rattle.paraid_image.specs.Mark.{meta_after_loss}
 use Rattle.paraid_base.specs.States.{gone_out, phase_beside, rebuilt_count}
+use Rattle.paraid_base.specs.Told.{HasRisen}
 use Rattle.paraid_base.proofs.ToldLemmas.{HasRisen-later, HasRisen-sooner}
 use Rattle.paraid_rack.specs.declared.call.Power.TheVariants.{Spinning}
 use Rattle.paraid_rack.specs.Disks.{is_present}
@@ -200,3 +203,61 @@ module _ {R : Type 0} {g : _} (count : R → ℕ) (slot : R → ℕ → Slot) wh
   leaves_back a b named whole slots setup writes spared =
       leaves_rebuilt a b slots setup writes spared (λ d down.
       let z : None ≡ Some d = sym (ap (λ (o : Option ℕ). or_else o (named_out b.meta.out)) named ∙ ap named_out whole) ∙ down in absurd cc)
+
+-- the disk that is down by the last commit or the meta is the one that is out by the meta
+known_out : (named out : Option ℕ) → ((d : ℕ) → named ≡ Some d → out ≡ Some d) → (x : ℕ) → or_else named out ≡ Some x → out ≡ Some x
+known_out None out stays x is = is
+known_out (Some d) out stays x is = stays x is
+
+known_down : (named out : Option ℕ) → ((d : ℕ) → named ≡ Some d → out ≡ Some d) → (x : ℕ) → out ≡ Some x → or_else named out ≡ Some x
+known_down None out stays x is = is
+known_down (Some d) out stays x is = sym (stays d refl) ∙ is
+
+-- where none was out, one that is out has failed
+pub fails_newly : (old new : ℕ → Slot) (was now was_named now_named : Option ℕ) → ((d : ℕ) → was_named ≡ Some d → was ≡ Some d) → ((d : ℕ) → now_named ≡ Some d → now ≡ Some d)
+    → IsDownAfter (or_else was_named was) (or_else now_named now) old new → was ≡ None → (d : ℕ) → now ≡ Some d → HasRisen (old d).faults (new d).faults
+fails_newly old new was now was_named now_named was_stays now_stays down none d is = elim (down.known d (known_down now_named now now_stays d is)) [
+  | inl before ↦ let z : None ≡ Some d = sym none ∙ known_out was_named was was_stays d before in absurd cc
+  | inr risen ↦ risen
+]
+
+-- nothing was marked
+pub none_marked : (m : Meta) → IsMarkedFrom m m
+none_marked m = record { lost = None; is = refl; alone = λ d x is. let z : None ≡ Some d = is in absurd cc }
+
+phase_twice : (p : Phase) → phase_beside true (phase_beside true p) ≡ phase_beside true p
+phase_twice Steady = refl
+phase_twice (DownPhase to) = refl
+phase_twice (UpPhase to) = refl
+
+loss_twice : (m : Meta) (d e : ℕ) → meta_after_loss (record (meta_after_loss m d) { epoch = e }) d ≡ record (meta_after_loss m d) { epoch = e }
+loss_twice m d e = ap (λ (p : Phase). record (meta_after_loss m d) { epoch = e; phase = p }) (phase_twice m.phase)
+
+loss_after : (m : Meta) (d e : ℕ) → meta_after_loss (meta_after_loss (record m { epoch = e }) d) d ≡ meta_after_loss (record m { epoch = e }) d
+loss_after m d e = ap (λ (p : Phase). record (meta_after_loss m d) { epoch = e; phase = p }) (phase_twice m.phase)
+
+epoch_own : (m n : Meta) (e : ℕ) → n ≡ record m { epoch = e } → n ≡ record m { epoch = n.epoch }
+epoch_own m n e is = subst (λ (z : Meta). z ≡ record m { epoch = z.epoch }) (sym is) refl
+
+-- the mark that disk `d` is gone stays in its commit
+pub marked_taken : (m b n : Meta) (d e : ℕ) → b ≡ meta_after_loss m d → IsMarkedFrom (record b { epoch = e }) n → n ≡ record (meta_after_loss m d) { epoch = n.epoch }
+marked_taken m b n d e taken marked = epoch_own (meta_after_loss m d) n e (by marked.lost refl)
+  where
+    by : (o : Option ℕ) → marked.lost ≡ o → n ≡ record (meta_after_loss m d) { epoch = e }
+    by None is = marked.is ∙ ap (λ (o : Option ℕ). meta_with_lost o (record b { epoch = e })) is ∙ ap (λ (z : Meta). record z { epoch = e }) taken
+    by (Some x) is =
+        let same : d ≡ x = marked.alone x d is (ap (λ (z : Meta). named_out z.out) taken) in
+        marked.is ∙ ap (λ (o : Option ℕ). meta_with_lost o (record b { epoch = e })) is ∙ ap (λ (y : ℕ). meta_after_loss (record b { epoch = e }) y) (sym same)
+        ∙ ap (λ (z : Meta). meta_after_loss (record z { epoch = e }) d) taken ∙ loss_twice m d e
+
+-- so it does where the same disk was lost before
+pub taken_then : (a m b : Meta) (d e : ℕ) → IsMarkedFrom (record a { epoch = e }) m → ((x : ℕ) → named_out m.out ≡ Some x → x ≡ d) → b ≡ record (meta_after_loss m d) { epoch = b.epoch } → b ≡ record (meta_after_loss a d) { epoch = b.epoch }
+taken_then a m b d e marked alone taken = by marked.lost refl
+  where
+    by : (o : Option ℕ) → marked.lost ≡ o → b ≡ record (meta_after_loss a d) { epoch = b.epoch }
+    by None is = taken ∙ ap (λ (z : Meta). record (meta_after_loss z d) { epoch = b.epoch }) (marked.is ∙ ap (λ (o : Option ℕ). meta_with_lost o (record a { epoch = e })) is)
+    by (Some x) is =
+        let was : m ≡ meta_after_loss (record a { epoch = e }) x = marked.is ∙ ap (λ (o : Option ℕ). meta_with_lost o (record a { epoch = e })) is in
+        let same : x ≡ d = alone x (ap (λ (z : Meta). named_out z.out) was) in
+        taken ∙ ap (λ (z : Meta). record (meta_after_loss z d) { epoch = b.epoch }) (was ∙ ap (λ (y : ℕ). meta_after_loss (record a { epoch = e }) y) same)
+        ∙ ap (λ (z : Meta). record z { epoch = b.epoch }) (loss_after a d e)

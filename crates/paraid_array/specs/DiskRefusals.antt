@@ -1,6 +1,8 @@
 -- Why a disk is not taken out, and why one is not replaced.
-use Rattle.std.specs.Prelude.{◌≡◌, ◌≢◌, ℕ, ◌<◌, ◌≤◌, ◌⊎◌, Some, None}
+use Rattle.std.specs.Prelude.{◌≡◌, ◌≢◌, ℕ, ◌<◌, ◌≤◌, ◌⊎◌, Option, Some, None}
 use Rattle.paraid_record.specs.declared.meta.Meta.{Meta}
+use Rattle.paraid_core.specs.Steps.{IsMarkedFrom}
+use Rattle.paraid_image.specs.Mark.{meta_after_loss}
 use Rattle.paraid_image.specs.Out.{named_out}
 use Rattle.paraid_array.specs.declared.fault.FailFault.{FailFault}
 use Rattle.paraid_array.specs.declared.fault.FailFault.TheVariants.{NoDisk as FailNoDisk, Out}
@@ -19,3 +21,9 @@ abbrev pub IsReplaceRefused : Meta → ℕ → ReplaceFault → Type 0
 IsReplaceRefused m d (NoDisk e) = (e ≡ d) × (m.setup.geometry.disks ≤ d)
 IsReplaceRefused m d (NotOut e) = (e ≡ d) × (d < m.setup.geometry.disks) × (named_out m.out ≢ Some d)
 IsReplaceRefused m d (NoFresh e) = (e ≡ d) × (d < m.setup.geometry.disks) × (named_out m.out ≡ Some d)
+
+-- What taking out disk `d` has left of the meta, some commits later: the marks that it is gone, or where it was refused those of a
+-- disk that was lost with what was staged.
+abbrev pub HasMarkedTaken : Meta → Meta → ℕ → Option FailFault → Type 0
+HasMarkedTaken m m_then d None = m_then ≡ record (meta_after_loss m d) { epoch = m_then.epoch }
+HasMarkedTaken m m_then d (Some fault) = (epoch : ℕ) × IsMarkedFrom (record m { epoch = epoch }) m_then

@@ -5,13 +5,16 @@ use Rattle.paraid_base.specs.declared.event.Answer.TheVariants.{Lowest as IsLowe
 use Rattle.paraid_base.specs.declared.state.Out.{Out as OutState}
 use Rattle.paraid_base.specs.declared.state.Out.TheVariants.{No}
 use Rattle.paraid_base.specs.declared.state.Phase.{Phase}
-use Rattle.paraid_base.specs.declared.state.Phase.TheVariants.{Steady}
+use Rattle.paraid_base.specs.declared.state.Phase.TheVariants.{Down, Steady}
 use Rattle.paraid_base.specs.Gears.{next_higher, next_lower}
 use Rattle.paraid_base.specs.States.{named_out, phase_to}
 use Rattle.paraid_record.specs.declared.meta.Meta.{Meta}
 use Rattle.paraid_record.specs.declared.meta.Setup.{Setup}
 use Rattle.paraid_image.specs.Power.{PowerState}
 use Rattle.paraid_machine.specs.Moves.{first_worn}
+use Rattle.paraid_moves.specs.MoveMetas.{meta_after_begin}
+use Rattle.paraid_core.specs.Steps.{IsMarkedFrom}
+use Rattle.paraid_shift.specs.Serving.{HasBegunUp}
 use Rattle.paraid_array.specs.declared.asked.Asked.{Asked}
 use Rattle.paraid_array.specs.declared.asked.Asked.TheVariants.{Begun, Refused}
 use Rattle.paraid_array.specs.declared.fault.ShiftFault.{ShiftFault}
@@ -77,3 +80,14 @@ IsUpRefused setup s (Ration d) = ⊥
 abbrev pub HasBegunOrLost : Meta → ℕ → Asked → Type 0
 HasBegunOrLost m_then to (Begun gear) = gear ≡ to
 HasBegunOrLost m_then to (Refused fault) = (d : ℕ) × (fault ≡ Out d) × (named_out m_then.out ≡ Some d)
+
+-- What a shift up that was asked for has left of the meta, so many commits later: where it has begun its marks and the spin-ups of
+-- the disks that come up, and else the marks of a disk that was lost with what was staged.
+abbrev pub HasMarkedUp : Meta → Meta → Asked → Type 0
+HasMarkedUp m m_then (Begun to) = (epoch : ℕ) × HasBegunUp (record m { epoch = epoch }) m_then to
+HasMarkedUp m m_then (Refused fault) = (epoch : ℕ) × IsMarkedFrom (record m { epoch = epoch }) m_then
+
+-- the same of a shift down, which spins up no disk
+abbrev pub HasMarkedDown : Meta → Meta → Asked → Type 0
+HasMarkedDown m m_then (Begun to) = (epoch : ℕ) × IsMarkedFrom (record (meta_after_begin m (Down to) m.spins) { epoch = epoch }) m_then
+HasMarkedDown m m_then (Refused fault) = (epoch : ℕ) × IsMarkedFrom (record m { epoch = epoch }) m_then

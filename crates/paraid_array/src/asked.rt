@@ -5,7 +5,7 @@ ghost use Rattle.paraid_base.specs.declared.state.Out.TheVariants.{No};
 ghost use Rattle.paraid_core.specs.Cores.{core_down, core_rack, meta_of};
 ghost use Rattle.paraid_array.specs.declared.fault.ShiftFault.{ShiftFault as ShiftFaultType};
 ghost use Rattle.paraid_array.specs.declared.asked.Asked.TheVariants.{Refused};
-ghost use Rattle.paraid_array.specs.Refusals.{HasBegunOrLost, IsDownRefused, IsShiftStateOf, IsUpRefused, MayGoDown, MayGoUp};
+ghost use Rattle.paraid_array.specs.Refusals.{HasBegunOrLost, HasMarkedDown, HasMarkedUp, IsDownRefused, IsShiftStateOf, IsUpRefused, MayGoDown, MayGoUp};
 ghost use Rattle.paraid_array.specs.Service.{IsOutKnown};
 ghost use Rattle.paraid_array.specs.Turns.{CoreGoesOn, CoreHalts, asked_answer};
 ghost use Rattle.paraid_image.specs.Power.{PowerState};
@@ -42,6 +42,7 @@ pub fn down<R: Rack>(core: &mut Core<R>) -> Result<Asked, Two>
     // What it does not refuse begins, unless a disk is lost with what was staged.
     ensures begins { IfOk result (λ asked. (to : ℕ) (s : PowerState) → IsShiftStateOf (meta_of core.old) s
         → MayGoDown (meta_of core.old).setup s to → HasBegunOrLost (meta_of core.new) to asked) }
+    ensures marks { IfOk result (HasMarkedDown (meta_of core.old) (meta_of core.new)) }
     ensures known { OnOk result (IsOutKnown R.slot core.old → IsOutKnown R.slot core.new) }
     ensures epoch { OnOk result ((meta_of core.new).epoch ≤ (meta_of core.old).epoch + 2) }
     // It is an event of a session.
@@ -80,6 +81,7 @@ pub fn up<R: Rack>(core: &mut Core<R>) -> Result<Asked, Two>
     // What it does not refuse begins, unless a disk is lost with what was staged.
     ensures begins { IfOk result (λ asked. (to : ℕ) (s : PowerState) → IsShiftStateOf (meta_of core.old) s
         → MayGoUp (meta_of core.old).setup s to → HasBegunOrLost (meta_of core.new) to asked) }
+    ensures marks { IfOk result (HasMarkedUp (meta_of core.old) (meta_of core.new)) }
     ensures known { OnOk result (IsOutKnown R.slot core.old → IsOutKnown R.slot core.new) }
     ensures epoch { OnOk result ((meta_of core.new).epoch ≤ (meta_of core.old).epoch + 2) }
     // It is an event of a session.

@@ -2,15 +2,17 @@
 ghost use Rattle.std.specs.Prelude.{◌≡◌, ℕ, ◌+◌, ◌^◌, ◌<◌, ◌≤◌, ◌⊎◌, [], None, Ok, Some, OnOk, IfErr, IfOk, IfSome};
 ghost use Rattle.paraid_base.specs.declared.event.Event.TheVariants.{Fail as FailEvent};
 ghost use Rattle.paraid_base.specs.declared.state.Out.TheVariants.{Gone};
+ghost use Rattle.paraid_base.specs.Told.{HasRisen};
 ghost use Rattle.paraid_core.specs.Cores.{batch_of, core_down, core_rack, core_table, meta_of};
 ghost use Rattle.paraid_core.specs.Down.{IsDownAfter};
-ghost use Rattle.paraid_core.specs.Steps.{AreUnsyncedCopied};
+ghost use Rattle.paraid_core.specs.Steps.{AreUnsyncedCopied, IsMarkedFrom};
 ghost use Rattle.paraid_array.specs.declared.fault.FailFault.TheVariants.{NoDisk, Out as OutFault};
-ghost use Rattle.paraid_array.specs.DiskRefusals.{IsFailRefused};
+ghost use Rattle.paraid_array.specs.DiskRefusals.{HasMarkedTaken, IsFailRefused};
 ghost use Rattle.paraid_array.specs.Service.{IsInService, IsOutKnown};
 ghost use Rattle.paraid_array.specs.Turns.{CanMarkTaken, CoreCommits, CoreCommitsTaken, CoreGoesOn, CoreHalts, CoreLosesCommit, CoreLosesTaken, fail_answer};
 ghost use Rattle.paraid_recover.specs.HeldMoments.{Extends};
 ghost use Rattle.paraid_txn.specs.Losses.{AreTwoDown, AreTwoDownBeside, OnlyLosesSlots};
+ghost use Rattle.paraid_image.specs.Mark.{meta_after_loss};
 ghost use Rattle.paraid_image.specs.Out.{named_out};
 
 use crate::fault::FailFault;
@@ -34,6 +36,8 @@ fn commit_writes<R: Rack>(core: &mut Core<R>) -> Result<(), Two>
     ensures down { OnOk result (IsDownAfter (core_down core.old) (core_down core.new)
         (R.slot (core_rack core.old)) (R.slot (core_rack core.new))) }
     ensures setup { OnOk result ((meta_of core.new).setup ≡ (meta_of core.old).setup) }
+    ensures meta { OnOk result (IsMarkedFrom (record (meta_of core.old) { epoch = (meta_of core.new).epoch })
+        (meta_of core.new)) }
     ensures writes { OnOk result ((meta_of core.new).writes ≡ (meta_of core.old).writes) }
     ensures epoch { OnOk result ((meta_of core.new).epoch ≤ (meta_of core.old).epoch + 1) }
     ensures commits { OnOk result (CoreCommits R.slot_count R.told core.old core.new) }
@@ -57,6 +61,8 @@ fn mark_gone<R: Rack>(core: &mut Core<R>, disk: DiskNo) -> Result<(), Two>
     requires alone { (x : ℕ) → named_out (meta_of core.old).out ≡ Some x → x ≡ disk }
     ensures service { OnOk result (IsInService R.slot_count R.slot core.new) }
     ensures setup { OnOk result ((meta_of core.new).setup ≡ (meta_of core.old).setup) }
+    ensures meta { OnOk result (meta_of core.new
+        ≡ record (meta_after_loss (meta_of core.old) disk) { epoch = (meta_of core.new).epoch }) }
     ensures writes { OnOk result ((meta_of core.new).writes ≡ (meta_of core.old).writes) }
     ensures unsynced { OnOk result (AreUnsyncedCopied R.slot core.old → AreUnsyncedCopied R.slot core.new) }
     ensures known { OnOk result (IsOutKnown R.slot core.new) }
@@ -85,6 +91,7 @@ pub fn take_out<R: Rack>(core: &mut Core<R>, disk: DiskNo) -> Result<Option<Fail
     requires epoch { (meta_of core.old).epoch < 2 ^ 62 }
     ensures service { OnOk result (IsInService R.slot_count R.slot core.new) }
     ensures setup { OnOk result ((meta_of core.new).setup ≡ (meta_of core.old).setup) }
+    ensures marks { IfOk result (HasMarkedTaken (meta_of core.old) (meta_of core.new) disk) }
     ensures writes { OnOk result ((meta_of core.new).writes ≡ (meta_of core.old).writes) }
     ensures unsynced { OnOk result (AreUnsyncedCopied R.slot core.old → AreUnsyncedCopied R.slot core.new) }
     ensures known { OnOk result (IsOutKnown R.slot core.old → IsOutKnown R.slot core.new) }
@@ -95,6 +102,9 @@ pub fn take_out<R: Rack>(core: &mut Core<R>, disk: DiskNo) -> Result<Option<Fail
         → named_out (meta_of core.old).out ≡ Some d → (result ≡ Ok (Some (OutFault d))) × (core.new ≡ core.old) }
     ensures refused { IfOk result (λ refusal. IfSome refusal
         (IsFailRefused (meta_of core.old) (meta_of core.new) disk)) }
+    // Where none was out, the other disk that is named has failed in the call.
+    ensures lost { IfOk result (λ refusal. (e : ℕ) → refusal ≡ Some (OutFault e) → named_out (meta_of core.old).out ≡ None
+        → HasRisen (R.slot (core_rack core.old) e).faults (R.slot (core_rack core.new) e).faults) }
     ensures taken { result ≡ Ok None → (disk < (meta_of core.old).setup.geometry.disks)
         × (named_out (meta_of core.old).out ≡ None) × ((meta_of core.new).out ≡ Gone disk) }
     ensures slots { R.slot_count (core_rack core.new) ≡ R.slot_count (core_rack core.old) }

@@ -12,6 +12,7 @@ use Rattle.paraid_rack.specs.Slots.{Slot}
 use Rattle.paraid_rack.specs.Trail.{Trail}
 use Rattle.paraid_core.specs.Cores.{core_rack}
 use Rattle.paraid_scrub.specs.declared.kind.CheckReport.{CheckReport}
+use Rattle.paraid_serve.specs.Causes.{HasCause}
 use Rattle.paraid_serve.specs.Form.{is_answer_to}
 use Rattle.paraid_session.specs.Turn.{halt_told, may_halt}
 use Rattle.paraid_session.proofs.FaultLemmas.{same_counts}
@@ -20,7 +21,7 @@ use Rattle.paraid_trace.specs.declared.asked.Asked.{Asked}
 use Rattle.paraid_trace.specs.Replies.{HasFewDisks}
 use Rattle.paraid_array.proofs.ToldLemmas.{extends_none}
 use Rattle.paraid_controller.specs.declared.array.Array.{Array}
-use Rattle.paraid_controller.specs.Arrays.{AnswersEvent, GoesOnByEvent, halt_of_array, told_of_array}
+use Rattle.paraid_controller.specs.Arrays.{AnswersEvent, GoesOnByEvent, halt_of_array, shown_of_array, told_of_array}
 use Rattle.paraid_controller.specs.Checked.{answer_to_check}
 use Rattle.paraid_controller.specs.Lasting.{halt_of_end}
 use Rattle.paraid_controller.proofs.LossLemmas.{going_lost}
@@ -45,8 +46,8 @@ halted_kind Bad halt asked = let z : false ≡ true = asked in absurd cc
 
 -- with no call, and it serves on
 pub quiet_answers : {R : Type 0} {g : _} (count : R → ℕ) (slot : R → ℕ → Slot) (told : R → Option Trail) (a : Array R g) (event : Event) (answer : Answer) → halt_of_end a.ended ≡ None → GoesOnByEvent count told a a event answer → halt_told answer ≡ None
-    → is_answer_to event answer ≡ true → HasFewDisks answer → AnswersEvent count slot told a a event answer
-quiet_answers count slot told a event answer going turn no_halt kind few = record {
+    → is_answer_to event answer ≡ true → HasFewDisks answer → HasCause (shown_of_array slot a) event answer (shown_of_array slot a) → AnswersEvent count slot told a a event answer
+quiet_answers count slot told a event answer going turn no_halt kind few cause = record {
   turn = turn;
   grows = extends_none (told_of_array told a);
   slots = refl;
@@ -56,6 +57,7 @@ quiet_answers count slot told a event answer going turn no_halt kind few = recor
   later = same_counts (slot (core_rack a.core));
   kind = kind;
   few = few;
+  cause = cause;
 }
 
 -- what was asked for is an event

@@ -18,3 +18,4 @@ pub mod AnswersLemmas
 pub mod CountLemmas
 pub mod SettledLemmas
 pub mod BeginLemmas
+pub mod CauseLemmas

@@ -28,7 +28,9 @@ use Rattle.paraid_event.specs.Stands.{StandsAt}
 use Rattle.paraid_event.proofs.EventLemmas.{energy_turn, state_turn}
 use Rattle.paraid_event.proofs.QuietLemmas.{fail_no_disk, fail_out, read_missing, replace_no_disk, replace_not_out, write_missing}
 use Rattle.paraid_controller.specs.declared.array.Array.{Array}
-use Rattle.paraid_controller.specs.Arrays.{ArrayStandsAt, GoesOnByEvent, told_of_array}
+use Rattle.paraid_controller.specs.Arrays.{ArrayStandsAt, GoesOnByEvent, shown_of_array, told_of_array}
+use Rattle.paraid_rack.specs.Slots.{Slot}
+use Rattle.paraid_serve.specs.Causes.{state_shown}
 use Rattle.paraid_controller.specs.Lasting.{halt_of_end}
 use Rattle.paraid_controller.proofs.StandLemmas.{none_ended, refuses, served_on, stays_on}
 
@@ -109,6 +111,20 @@ module _ {R : Type 0} {g : _} (count : R → ℕ) (told : R → Option Trail) (a
       (ap (λ (z : Meta). z.fill) is ∙ sym s.stands.state.fill)
       (ap (λ (z : Meta). z.out) is ∙ sym s.stands.state.out)
       (ap (λ (z : Meta). z.spins) is ∙ sym s.stands.state.spins)
+
+-- and that of its meta and its dirty cells, whatever the rack holds
+pub status_shown : {R : Type 0} {g : _} (slot : R → ℕ → Slot) (a : Array R g) (m : Meta) → m ≡ a.core.meta → (dirty disks : ℕ) → dirty ≡ dirty_count (is_dirty a.core.dirty) (length a.core.dirty) m.gear disks → length a.core.dirty ≡ a.setup.geometry.rows
+    → disks ≡ a.setup.geometry.disks → status_by m.writes m.ticks m.gear m.phase dirty m.fill m.out m.spins ≡ state_status a.setup a.core.meta.writes (state_shown (shown_of_array slot a))
+status_shown slot a m is dirty disks counts rows few =
+    let x = a.core.meta in
+    same_status m.writes m.ticks m.gear m.phase dirty m.fill m.out m.spins x.writes x.ticks x.gear x.phase
+    (dirty_count (is_dirty a.core.dirty) a.setup.geometry.rows x.gear a.setup.geometry.disks) x.fill x.out x.spins
+    (ap (λ (z : Meta). z.writes) is) (ap (λ (z : Meta). z.ticks) is) (ap (λ (z : Meta). z.gear) is) (ap (λ (z : Meta). z.phase) is)
+    (counts
+    ∙ ap (λ (n : ℕ). dirty_count (is_dirty a.core.dirty) n m.gear disks) rows
+    ∙ ap (λ (n : ℕ). dirty_count (is_dirty a.core.dirty) a.setup.geometry.rows m.gear n) few
+    ∙ ap (λ (n : ℕ). dirty_count (is_dirty a.core.dirty) a.setup.geometry.rows n a.setup.geometry.disks) (ap (λ (z : Meta). z.gear) is))
+    (ap (λ (z : Meta). z.fill) is) (ap (λ (z : Meta). z.out) is) (ap (λ (z : Meta). z.spins) is)
 
 below_count : (a b : ℕ) → a < b → nat_lt a b ≡ true
 below_count a b l = grind (arith, nat_tests)

@@ -15,6 +15,7 @@ use Rattle.paraid_record.specs.declared.meta.Setup.{Setup}
 use Rattle.paraid_core.specs.declared.staged.Core.{Core}
 use Rattle.paraid_core.specs.Cores.{core_rack}
 use Rattle.paraid_recover.specs.HeldMoments.{Extends}
+use Rattle.paraid_serve.specs.Causes.{HasCause, Shown}
 use Rattle.paraid_serve.specs.Form.{is_answer_to}
 use Rattle.paraid_serve.specs.Lost.{HaltsByTwoLost}
 use Rattle.paraid_session.specs.Faults.{HaveNotFallen}
@@ -71,6 +72,21 @@ end_of_array array = array.ended
 abbrev pub halt_of_array : {R : Type 0} {g : _} → Array R g → Option Halt
 halt_of_array array = halt_of_end array.ended
 
+-- the energy that it has used since its mount
+abbrev pub energy_of_array : {R : Type 0} {g : _} → Array R g → ℕ
+energy_of_array array = array.energy
+
+-- what is seen of it over every rack
+abbrev pub shown_of_array : {R : Type 0} {g : _} → (R → ℕ → Slot) → Array R g → Shown
+shown_of_array slot array = record {
+  setup = array.setup;
+  meta = array.core.meta;
+  dirty = is_dirty array.core.dirty;
+  slot = slot (core_rack array.core);
+  energy = array.energy;
+  halt = halt_of_end array.ended;
+}
+
 -- It serves, and stands at this point of a session: by all samples since its mount, of which its windows hold the last, and
 -- all requests since the last tick, of which it counts no more than a sample may have.
 pub record ServesAt {R : Type 0} {g : _} (count : R → ℕ) (told : R → Option Trail) (array : Array R g) (p : Point) : Type 0 where
@@ -109,6 +125,7 @@ pub record AnswersEvent {R : Type 0} {g : _} (count : R → ℕ) (slot : R → �
   pub later : HaveNotFallen (slot_of_array slot old) (slot_of_array slot new)
   pub kind : is_answer_to event answer ≡ true
   pub few : HasFewDisks answer
+  pub cause : HasCause (shown_of_array slot old) event answer (shown_of_array slot new)
 
 -- The dirty cells are then those that this change makes of each state that the array showed, by its meta as it is then.
 abbrev pub ChangesCellsBy : {R : Type 0} {g : _} → (R → ℕ) → Array R g → Array R g → (PowerState → PowerState) → Type 0

@@ -7,11 +7,13 @@ use Rattle.paraid_record.specs.declared.meta.Setup.{Setup}
 use Rattle.paraid_image.specs.Out.{named_out}
 use Rattle.paraid_txn.specs.Stores.{store_rack}
 use Rattle.paraid_core.specs.declared.staged.Core.{Core}
+use Rattle.paraid_serve.specs.Causes.{Shown, Shows}
+use Rattle.paraid_base.specs.declared.fault.Halt.{Halt}
 use Rattle.paraid_serve.specs.Calls.{IsAbsentOut, IsNotDouble}
 use Rattle.paraid_session.specs.Turn.{Point}
 use Rattle.paraid_controller.specs.declared.array.Array.{Array}
 use Rattle.paraid_controller.specs.declared.ended.Ended.{Ended}
-use Rattle.paraid_controller.specs.Arrays.{ArrayStandsAt}
+use Rattle.paraid_controller.specs.Arrays.{ArrayStandsAt, dirty_of_array, shown_of_array, slot_of_array}
 use Rattle.paraid_controller.specs.Lasting.{IsArrayServing, halt_of_end}
 
 -- a point at which it stands tells its halt
@@ -26,6 +28,22 @@ halt_at count told a p at = by a.ended refl
 pub going_end : (o : Option Ended) → halt_of_end o ≡ None → o ≡ None
 going_end None e = refl
 going_end (Some ended) e = let z : Some ended.halt ≡ None = e in cc
+
+-- what is seen of it has its setup, its slots and its halt
+pub shown_as : {R : Type 0} {g : _} (slot : R → ℕ → Slot) (a : Array R g) → Shows (shown_of_array slot a) a.setup (slot_of_array slot a) (halt_of_end a.ended)
+shown_as slot a = record { setup = refl; slot = refl; halt = refl }
+
+-- what is seen of it with another setup, energy and halt
+abbrev shown_but : {R : Type 0} {g : _} → (R → ℕ → Slot) → Array R g → Setup → ℕ → Option Halt → Shown
+shown_but slot a z n h = record { setup = z; meta = a.core.meta; dirty = dirty_of_array a; slot = slot_of_array slot a; energy = n; halt = h }
+
+-- and as it begins it has its own setup, no energy used and no halt
+pub begins_as : {R : Type 0} {g : _} (slot : R → ℕ → Slot) (a : Array R g) → a.setup ≡ a.core.meta.setup → a.energy ≡ 0 → halt_of_end a.ended ≡ None
+    → shown_of_array slot a ≡ record { setup = a.core.meta.setup; meta = a.core.meta; dirty = dirty_of_array a; slot = slot_of_array slot a; energy = 0; halt = None }
+begins_as slot a setup energy going =
+    ap (λ (x : Setup). shown_but slot a x a.energy (halt_of_end a.ended)) setup
+    ∙ ap (λ (x : ℕ). shown_but slot a a.core.meta.setup x (halt_of_end a.ended)) energy
+    ∙ ap (λ (x : Option Halt). shown_but slot a a.core.meta.setup 0 x) going
 
 -- a disk of one that serves is absent only where it is out
 pub absent_out : {R : Type 0} {g : _} (count : R → ℕ) (slot : R → ℕ → Slot) (core : Core R g) (lengths : List ℕ) (setup : Setup) (slots : ℕ) → IsArrayServing count slot core lengths setup slots

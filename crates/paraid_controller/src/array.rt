@@ -33,7 +33,7 @@ impl<R: Rack> Array<R> {
     ghost use Rattle.paraid_event.specs.Stands.{StandsAt};
     ghost use Rattle.paraid_gear.specs.ThreeWindows.{HoldLastSamples};
     ghost use Rattle.paraid_session.specs.Turn.{Point};
-    ghost use Rattle.paraid_controller.specs.Arrays.{ArrayStandsAt, core_of_array, halt_of_array, setup_of_array, slots_of_array};
+    ghost use Rattle.paraid_controller.specs.Arrays.{ArrayStandsAt, core_of_array, energy_of_array, halt_of_array, setup_of_array, slots_of_array};
 
     /// Takes over a core as a mount leaves it, over so many slots, with windows of the lengths of its setup that hold no
     /// sample.
@@ -43,6 +43,7 @@ impl<R: Rack> Array<R> {
         ensures setup { setup_of_array result ≡ (meta_of core).setup }
         ensures slots { slots_of_array result ≡ slots }
         ensures going { halt_of_array result ≡ None }
+        ensures energy { energy_of_array result ≡ 0 }
         // It stands where its core does.
         ensures stands { (p : Point) → HoldLastSamples windows []
             → StandsAt (R.told (core_rack core)) (service_of R.slot_count core [] 0 0) (meta_of core).setup p
@@ -71,6 +72,7 @@ impl<R: Rack> Array<R> {
     pub fn writes(&self) -> u64
         ensures point { halt_of_array self.now ≡ None → (p : Point) → ArrayStandsAt R.slot_count R.told self.now p
             → result ≡ length p.history }
+        ensures shown { result ≡ (meta_of (core_of_array self.now)).writes }
     {
         self.core.meta().writes
     }

@@ -59,6 +59,7 @@ pub(crate) fn commit_and_count<R: Rack>(core: &mut Core<R>) -> Result<CheckRepor
     ensures ready { OnOk result (IsCoreReady R.slot_count R.slot core.new) }
     ensures serves { OnOk result (CanCoreServe R.slot core.new) }
     ensures setup { OnOk result ((meta_of core.new).setup ≡ (meta_of core.old).setup) }
+    ensures writes { OnOk result ((meta_of core.new).writes ≡ (meta_of core.old).writes) }
     ensures unsynced { OnOk result (AreUnsyncedCopied R.slot core.old → AreUnsyncedCopied R.slot core.new) }
     ensures named { OnOk result (named_of (store_of core.new) ≡ named_out (meta_of core.old).out) }
     ensures marks { OnOk result (CoreMarksLost R.slot core.old core.new) }

@@ -21,7 +21,8 @@ const WORN: u64 = 1 << 62;
 
 impl<R: Rack> Array<R> {
     ghost use Rattle.paraid_controller.specs.Lasting.{TellsItsWear};
-    ghost use Rattle.paraid_controller.specs.Arrays.{AnswersEvent, ArrayStandsAt, core_of_array, down_of_array, halt_of_array, setup_of_array};
+    ghost use Rattle.paraid_controller.specs.Arrays.{AnswersEvent, ArrayStandsAt, core_of_array, down_of_array, halt_of_array, setup_of_array, shown_of_array};
+    ghost use Rattle.paraid_serve.specs.Causes.{state_shown};
 
     /// The halt that each event gives from now on, if it has halted.
     pub fn halt(&self) -> Option<Halt>
@@ -37,6 +38,7 @@ impl<R: Rack> Array<R> {
     /// Its gear, after a halt that before it.
     pub fn gear(&self) -> u8
         ensures point { (p : Point) → ArrayStandsAt R.slot_count R.told self.now p → result ≡ p.state.gear }
+        ensures shown { halt_of_array self.now ≡ None → result ≡ (meta_of (core_of_array self.now)).gear }
     {
         match self.ended {
             Some(ended) => ended.gear,
@@ -66,6 +68,9 @@ impl<R: Rack> Array<R> {
         ensures point { (p : Point) → ArrayStandsAt R.slot_count R.told self.now p
             → result ≡ state_status (setup_of_array self.now) (length p.history) p.state }
         ensures down { named_out result.out ≡ down_of_array self.now }
+        // Over every rack it is that of the meta and the dirty cells.
+        ensures shown { result ≡ state_status (setup_of_array self.now) (meta_of (core_of_array self.now)).writes
+            (state_shown (shown_of_array R.slot self.now)) }
     {
         let meta = self.core.meta();
         Status {

@@ -63,8 +63,8 @@ impl<R: Rack> Array<R> {
 }
 
 impl<R: Rack> Serves for Array<R> {
-    ghost use Rattle.paraid_controller.specs.Arrays.{ArrayStandsAt, down_of_array, halt_of_array, setup_of_array, slot_of_array, slots_of_array, told_of_array};
-    ghost use Rattle.paraid_controller.specs.Laws.{absent_out, going_end, halt_at, not_double};
+    ghost use Rattle.paraid_controller.specs.Arrays.{ArrayStandsAt, down_of_array, halt_of_array, setup_of_array, shown_of_array, slot_of_array, slots_of_array, told_of_array};
+    ghost use Rattle.paraid_controller.specs.Laws.{absent_out, going_end, halt_at, not_double, shown_as};
     ghost use Rattle.paraid_gear.specs.ThreeWindows.{lengths_of};
 
     ghost told = { told_of_array R.told };
@@ -79,6 +79,8 @@ impl<R: Rack> Serves for Array<R> {
 
     ghost down = { down_of_array };
 
+    ghost shown = { shown_of_array R.slot };
+
     ghost stands = { ArrayStandsAt R.slot_count R.told };
 
     ghost serves = { λ array going. not_double R.slot_count R.slot array.core (lengths_of array.windows) array.setup array.slots (array.serving (going_end array.ended going)) };
@@ -86,6 +88,8 @@ impl<R: Rack> Serves for Array<R> {
     ghost absent = { λ array going. absent_out R.slot_count R.slot array.core (lengths_of array.windows) array.setup array.slots (array.serving (going_end array.ended going)) };
 
     ghost worn = { λ array count is. (array.worn count is).0 };
+
+    ghost shows = { λ array. shown_as R.slot array };
 
     ghost agrees = { λ array p at. halt_at R.slot_count R.told array p at };
 

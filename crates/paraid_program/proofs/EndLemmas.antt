@@ -8,6 +8,7 @@ use Rattle.paraid_record.specs.declared.meta.Setup.{Setup}
 use Rattle.paraid_session.specs.Faults.{HaveNotFallen}
 use Rattle.paraid_serve.specs.Ending.{EndsWithLine}
 use Rattle.paraid_serve.specs.Calls.{IsNotDouble}
+use Rattle.paraid_serve.specs.Causes.{Shown}
 use Rattle.paraid_serve.specs.Lost.{NamesTwoLost, TellsWear}
 use Rattle.paraid_serve.specs.Output.{Headline, IsServedStatus}
 use Rattle.paraid_serve.proofs.HaltLemmas.{names_since}
@@ -15,7 +16,7 @@ use Rattle.paraid_program.specs.Generating.{GenHeadline, IsGenStatus}
 use Rattle.paraid_recover.specs.HeldMoments.{Extends}
 use Rattle.paraid_program.specs.MountFaults.{mount_fault_status}
 use Rattle.paraid_program.specs.Showing.{BeganAt}
-use Rattle.paraid_program.specs.Ends.{BeginsAt, IsEndOver, IsStatusOfGen, IsStatusOfRun, ServedArray, ServesGenerated, ServesLines}
+use Rattle.paraid_program.specs.Ends.{BeginsAt, IsEndOver, IsStatusOfGen, IsStatusOfRun, ServedArray, ServesGenerated, ServesLines, shown_served}
 
 -- the moment at which a record ends, or the first one where none is told
 abbrev pub end_moment : Option Trail → ℕ
@@ -42,10 +43,12 @@ end_over setup old first now slot w x status same later present two worn = recor
 
 module _ (slots slots_now : ℕ) (setup : Setup) (array : ServedArray) (old slot : ℕ → Slot) (began : ℕ) (middle final after : Option Trail) (w x : Option (List ℕ)) (status : ℕ) (e : slots_now ≡ slots) (same : setup ≡ array.meta.setup) (f : after ≡ final)
     (end : IsEndOver setup old slot w x status) where
-  pub headline_over : (l m : Option (List ℕ)) → Headline slots_now setup began middle final l m w x status → ServesLines slots old slot after l m w x status array began middle
-  headline_over l m h = record {
-    headline = subst (λ (z : Setup). Headline slots z began middle after l m w x status) same
-        (subst (λ (k : ℕ). Headline k setup began middle after l m w x status) e (subst (λ (t : Option Trail). Headline slots_now setup began middle t l m w x status) (sym f) h));
+  pub headline_over : (l m : Option (List ℕ)) (first seen : Shown) → first ≡ shown_served array → seen.slot ≡ slot → Headline first seen slots_now setup began middle final l m w x status → ServesLines slots old slot after l m w x status array began middle
+  headline_over l m first seen begins ends h = record {
+    seen = seen;
+    last = ends;
+    headline = subst (λ (y : Shown). Headline y seen slots array.meta.setup began middle after l m w x status) begins (subst (λ (z : Setup). Headline first seen slots z began middle after l m w x status) same
+        (subst (λ (k : ℕ). Headline first seen k setup began middle after l m w x status) e (subst (λ (t : Option Trail). Headline first seen slots_now setup began middle t l m w x status) (sym f) h)));
     end = subst (λ (z : Setup). IsEndOver z old slot w x status) same end;
   }
 

@@ -1,5 +1,5 @@
 -- How the program ends on each of its words.
-use Rattle.std.specs.Prelude.{◌≡◌, ℕ, ◌⊎◌, Bool, List, [], ◌∷◌, length, Option, Some, IsSome}
+use Rattle.std.specs.Prelude.{◌≡◌, ℕ, ◌⊎◌, Bool, List, [], ◌∷◌, length, Option, Some, None, IsSome}
 use Rattle.paraid_base.specs.declared.event.Answer.{Answer}
 use Rattle.paraid_base.specs.declared.event.Answer.TheVariants.{Flushed, Halted}
 use Rattle.paraid_base.specs.declared.event.Event.TheVariants.{Flush}
@@ -16,6 +16,7 @@ use Rattle.paraid_scrub.specs.declared.kind.CheckReport.{CheckReport}
 use Rattle.paraid_session.specs.Mount.{IsMountedFromEach, IsRefusedFromEach}
 use Rattle.paraid_serve.specs.Ending.{EndsWithLine, halt_line, status_of_halt}
 use Rattle.paraid_serve.specs.Calls.{IsNotDouble}
+use Rattle.paraid_serve.specs.Causes.{Shown}
 use Rattle.paraid_serve.specs.Lost.{NamesTwoLost, TellsWear}
 use Rattle.paraid_serve.specs.Output.{Headline, IsLeftByStretch}
 use Rattle.paraid_serve.specs.Stretch.{EndsStretch}
@@ -49,6 +50,10 @@ pub record ServedArray : Type 0 where
   pub dirty : ℕ → ℕ → Bool
   pub slot : ℕ → Slot
 
+-- what is seen of it as its service begins
+abbrev pub shown_served : ServedArray → Shown
+shown_served array = record { setup = array.meta.setup; meta = array.meta; dirty = array.dirty; slot = array.slot; energy = 0; halt = None }
+
 -- A rack was not mounted, and the fault was told; or it was, and this array is what stood on its disks, and then this holds of it.
 pub data MountsAndThen (slots : ℕ) (old new : ℕ → Slot) (before after : Option Trail) (written_before written : Option (List ℕ)) (status : ℕ) (P : ServedArray → ℕ → Option Trail → Type 0) : Type 0 where
   refused : (fault : MountFault) → HandsBack slots old new before after fault → EndsWithLine written_before written (mount_fault_line fault) (mount_fault_status fault) status
@@ -80,9 +85,12 @@ pub record IsEndOver (setup : Setup) (old new : ℕ → Slot) (written_before wr
   pub two : status ≡ 5 → NamesTwoLost old new written_before written
   pub worn : status ≡ 12 → TellsWear written_before written
 
--- A run served a mounted array: its headline, and what is known of its end over every rack.
+-- A run served a mounted array: its headline, by what was seen of the array from its mount to the end, when its slots were those
+-- that are handed back; and what is known of its end over every rack.
 pub record ServesLines (slots : ℕ) (old new : ℕ → Slot) (after : Option Trail) (left_before left written_before written : Option (List ℕ)) (status : ℕ) (array : ServedArray) (began : ℕ) (middle : Option Trail) : Type 0 where
-  pub headline : Headline slots array.meta.setup began middle after left_before left written_before written status
+  pub seen : Shown
+  pub headline : Headline (shown_served array) seen slots array.meta.setup began middle after left_before left written_before written status
+  pub last : seen.slot ≡ new
   pub end : IsEndOver array.meta.setup old new written_before written status
 
 -- The same of generated lines.

@@ -9,7 +9,7 @@ ghost use Rattle.paraid_session.specs.Faults.{HaveNotFallen};
 ghost use Rattle.paraid_session.specs.Mount.{IsMountedFromEach};
 ghost use Rattle.paraid_session.specs.Turn.{GoesOn, Point};
 ghost use Rattle.paraid_program.specs.Showing.{BeganAt, IsServedBy};
-ghost use Rattle.paraid_program.specs.Ends.{CountsArray, HandsBack, ServedArray};
+ghost use Rattle.paraid_program.specs.Ends.{CountsArray, HandsBack, ServedArray, shown_served};
 
 use paraid_base::Halt;
 use paraid_io::{Sink, Source};
@@ -45,6 +45,7 @@ pub trait Outside<R: Rack, A: Serves> {
         ensures served { IfOk result (λ a. IsServedBy (R.slot_count rack) (R.slot rack)
             (served a).slot (R.told rack) (A.told a) (served a).meta (served a).dirty) }
         ensures setup { IfOk result (λ a. A.setup a ≡ (served a).meta.setup) }
+        ensures shown { IfOk result (λ a. A.shown a ≡ shown_served (served a)) }
         ensures nothing { IfOk result nothing };
 
     /// Keeps all writes, and counts what is false. It is one flush of a session.

@@ -23,6 +23,7 @@ use Rattle.paraid_serve.specs.Output.{FollowsFromPoint, Headline, IsLeftByStretc
 use Rattle.paraid_serve.specs.Output.IsLeftByStretch.{two_down as left_two, rests as left_rests}
 use Rattle.paraid_serve.specs.Output.OutputText.{done as text_done, halted as text_halted, source as text_source, too_long as text_long}
 use Rattle.paraid_serve.specs.Output.WritesOutput.{whole as wrote_whole, last_line as wrote_last, answers as wrote_answers}
+use Rattle.paraid_serve.specs.Causes.{Shown}
 use Rattle.paraid_serve.specs.Stretch.{EndsStretch, Stretch, Turn, TurnsLead, events_in, turn_calls}
 use Rattle.paraid_session.specs.Turn.{IsMark, IsTurn, Point, with_halt}
 use Rattle.paraid_session.specs.Turn.IsTurn.{again, answered, bad, two, worn}
@@ -123,10 +124,10 @@ module _ (slots : ℕ) (setup : Setup) (start final : Option Trail) (p : Point) 
   output_synced bytes status text (wrote_last four code full rest out front) zero = absurd (omega (arith, four, zero))
   output_synced bytes status text (wrote_answers four lines more rest lines_are c front) zero = absurd (omega (arith, four, zero))
 
-pub headline : (slots : ℕ) (setup : Setup) (began : ℕ) (stood : Point → Type 0) (start final : Option Trail) (left_before left written_before written : Option (List ℕ)) (status : ℕ)
-    → IsMountedFromEach slots setup began start stood → ProgramRun slots setup stood start final left_before left written_before written status
-    → Headline slots setup began start final left_before left written_before written status
-headline slots setup began stood start final left_before left written_before written status mounted r = record {
+pub headline : (seen seen_now : Shown) (slots : ℕ) (setup : Setup) (began : ℕ) (stood : Point → Type 0) (start final : Option Trail) (left_before left written_before written : Option (List ℕ)) (status : ℕ)
+    → IsMountedFromEach slots setup began start stood → ProgramRun seen seen_now slots setup stood start final left_before left written_before written status
+    → Headline seen seen_now slots setup began start final left_before left written_before written status
+headline seen seen_now slots setup began stood start final left_before left written_before written status mounted r = record {
   bytes = r.bytes;
   text = r.text;
   given = r.given;

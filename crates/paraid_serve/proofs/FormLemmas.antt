@@ -1,8 +1,8 @@
 -- To each line that is answered belongs one answer more.
-use Rattle.std.proofs.Common.{◌≡◌, ◌≢◌, ℕ, true, List, [], ◌∷◌, ◌++◌, refl, sym, ap, ◌∙◌, subst}
+use Rattle.std.proofs.Common.{◌≡◌, ◌≢◌, ℕ, true, List, Some, [], ◌∷◌, ◌++◌, refl, sym, ap, ◌∙◌, subst}
 use Rattle.std.proofs.lemmas.List.{append_assoc, append-nil}
 use Rattle.paraid_base.specs.declared.event.Answer.{Answer}
-use Rattle.paraid_base.specs.declared.event.Answer.TheVariants.{Halted}
+use Rattle.paraid_base.specs.declared.event.Answer.TheVariants.{Bad as IsBad, Halted}
 use Rattle.paraid_base.specs.declared.event.Event.{Event}
 use Rattle.paraid_base.specs.declared.event.Event.TheVariants.{Read, Write, Flush, Tick, Up, Down, Fail, Replace, State as AskState, Energy as AskEnergy, Bad}
 use Rattle.paraid_base.specs.declared.fault.Halt.{Halt}
@@ -12,7 +12,10 @@ use Rattle.paraid_trace.specs.declared.asked.Asked.{Asked}
 use Rattle.paraid_trace.specs.declared.asked.Asked.TheVariants.{Read as AskRead, Write as AskWrite, Flush as AskFlush, Tick as AskTick, Up as AskUp, Down as AskDown, Fail as AskFail, Replace as AskReplace, State as AskTellState, Energy as AskTellEnergy, Bad as AskBad}
 use Rattle.paraid_trace.specs.LineEvents.{event_of}
 use Rattle.paraid_trace.specs.Replies.{reply_of}
+use Rattle.paraid_serve.specs.Causes.{HasCause, HaveCauses, Shown}
 use Rattle.paraid_serve.specs.Form.{AreAnswersTo, HasAnswers, is_answer_to, texts}
+use Rattle.paraid_serve.specs.Causes.HasReason.{again as reason_again, bad as reason_bad}
+use Rattle.paraid_session.proofs.FaultLemmas.{same_counts}
 use Rattle.paraid_serve.specs.Stretch.{events_in}
 use Rattle.paraid_serve.proofs.StretchLemmas.{events_in-push}
 
@@ -53,14 +56,30 @@ texts_push : (answers : List Answer) (answer : Answer) → texts (answers ++ ans
 texts_push [] answer = append-nil (reply_of answer)
 texts_push (a ∷ answers) answer = ap (λ (l : List ℕ). reply_of a ++ l) (texts_push answers answer) ∙ sym (append_assoc (reply_of a) (texts answers) (reply_of answer))
 
-pub no_answers : HasAnswers [] []
-no_answers = record { answers = []; kinds = tt; is = refl }
+-- with nothing done
+pub bad_cause : (x : Shown) → HasCause x Bad IsBad x
+bad_cause x = record { reason = reason_bad refl refl refl; setup = refl; halt = λ not. absurd (not refl); later = same_counts x.slot }
 
-pub answers_push : (lines : List (List ℕ)) (text line : List ℕ) (event : Event) (answer : Answer) → event ≡ event_of line → is_answer_to event answer ≡ true → HasAnswers lines text
-    → HasAnswers (lines ++ line ∷ []) (text ++ reply_of answer)
-answers_push lines text line event answer same kind h = record {
+pub again_cause : (x : Shown) (event : Event) (halt : Halt) → event ≢ Bad → x.halt ≡ Some halt → HasCause x event (Halted halt) x
+again_cause x event halt good is = record { reason = reason_again halt is good refl refl; setup = refl; halt = λ not. is; later = same_counts x.slot }
+
+causes_push : (old mid new : Shown) (events : List Event) (answers : List Answer) (event : Event) (answer : Answer) → HaveCauses old events answers mid → HasCause mid event answer new
+    → HaveCauses old (events ++ event ∷ []) (answers ++ answer ∷ []) new
+causes_push old mid new [] [] event answer all is = (new, subst (λ (x : Shown). HasCause x event answer new) all is, refl)
+causes_push old mid new [] (a ∷ answers) event answer all is = absurd all
+causes_push old mid new (e ∷ events) [] event answer all is = absurd all
+causes_push old mid new (e ∷ events) (a ∷ answers) event answer all is = (all.0, all.1, causes_push all.0 mid new events answers event answer all.2 is)
+
+pub no_answers : (x : Shown) → HasAnswers x [] [] x
+no_answers x = record { answers = []; kinds = tt; causes = refl; is = refl }
+
+pub answers_push : (old mid new : Shown) (lines : List (List ℕ)) (text line : List ℕ) (event : Event) (answer : Answer) → event ≡ event_of line → is_answer_to event answer ≡ true → HasCause mid event answer new → HasAnswers old lines text mid
+    → HasAnswers old (lines ++ line ∷ []) (text ++ reply_of answer) new
+answers_push old mid new lines text line event answer same kind cause h = record {
   answers = h.answers ++ answer ∷ [];
   kinds = subst (λ (es : List Event). AreAnswersTo es (h.answers ++ answer ∷ [])) (sym (events_in-push lines line))
       (kinds_push (events_in lines) h.answers (event_of line) answer h.kinds (subst (λ (e : Event). is_answer_to e answer ≡ true) same kind));
+  causes = subst (λ (es : List Event). HaveCauses old es (h.answers ++ answer ∷ []) new) (sym (events_in-push lines line))
+      (causes_push old mid new (events_in lines) h.answers (event_of line) answer h.causes (subst (λ (e : Event). HasCause mid e answer new) same cause));
   is = ap (λ x. x ++ reply_of answer) h.is ∙ sym (texts_push h.answers answer);
 }

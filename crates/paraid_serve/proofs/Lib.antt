@@ -10,3 +10,4 @@ pub mod QuietLemmas
 pub mod OutcomeLemmas
 pub mod CauseLemmas
 pub mod StatusLemmas
+pub mod CauseLaws

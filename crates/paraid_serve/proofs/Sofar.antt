@@ -18,6 +18,7 @@ use Rattle.paraid_record.specs.declared.meta.Setup.{Setup}
 use Rattle.paraid_trace.specs.LineEvents.{event_of}
 use Rattle.paraid_trace.specs.Replies.{reply_of}
 use Rattle.paraid_serve.specs.Heard.{HearsLine, IsNextLine}
+use Rattle.paraid_serve.specs.Causes.{HasCause, Shown}
 use Rattle.paraid_serve.specs.Form.{HasAnswers, is_answer_to}
 use Rattle.paraid_serve.specs.Session.{ServesSession}
 use Rattle.paraid_serve.proofs.FormLemmas.{answers_push, no_answers}
@@ -32,7 +33,7 @@ pub record Said (slots : ℕ) (setup : Setup) (start now : Option Trail) (p : Po
   pub text_is : text ≡ replies all.turns
   pub stands : stood all.end
 
-pub record Sofar (slots : ℕ) (setup : Setup) (first : Point → Type 0) (left_before left written_before written : Option (List ℕ)) (start now : Option Trail) (stood : Point → Type 0) (reader : Reading) : Type 0 where
+pub record Sofar (seen seen_now : Shown) (slots : ℕ) (setup : Setup) (first : Point → Type 0) (left_before left written_before written : Option (List ℕ)) (start now : Option Trail) (stood : Point → Type 0) (reader : Reading) : Type 0 where
   pub bytes : List ℕ
   pub answered : List (List ℕ)
   pub text : List ℕ
@@ -46,12 +47,12 @@ pub record Sofar (slots : ℕ) (setup : Setup) (first : Point → Type 0) (left_
   pub limit : reader.taken ≤ 2 ^ 40
   pub count : reader.taken ≡ length bytes
   pub grows : GrowsByBytes written_before written text
-  pub form : HasAnswers answered text
+  pub form : HasAnswers seen answered text seen_now
   pub tells : IsSome now → IsSome start
   pub said : IsSome now → (p : Point) → first p → Said slots setup start now p answered text stood
 
-pub sofar_start : (slots : ℕ) (setup : Setup) (left written : Option (List ℕ)) (start : Option Trail) (stood : Point → Type 0) → Sofar slots setup stood left left written written start start stood (fresh_reader 0)
-sofar_start slots setup left written start stood = record {
+pub sofar_start : (seen : Shown) (slots : ℕ) (setup : Setup) (left written : Option (List ℕ)) (start : Option Trail) (stood : Point → Type 0) → Sofar seen seen slots setup stood left left written written start start stood (fresh_reader 0)
+sofar_start seen slots setup left written start stood = record {
   bytes = [];
   answered = [];
   text = [];
@@ -64,7 +65,7 @@ sofar_start slots setup left written start stood = record {
   limit = omega arith;
   count = refl;
   grows = GrowsByBytes-none written;
-  form = no_answers;
+  form = no_answers seen;
   tells = λ t. t;
   said = λ t p first. record { all = stretch_none slots setup start p t; text_is = refl; stands = first };
 }
@@ -112,7 +113,7 @@ one_event {slots} {setup} {start} {now} {p} {lines} {text} {stood} said event an
     stretch_more said.all later event answer stood new_stood said.stands
     (λ q is. subst (λ (k : ℕ). Ran now later (GoesOn k setup q event answer new_stood)) same_slots (subst (λ (u : Setup). Ran now later (GoesOn slots_now u q event answer new_stood)) same_setup (goes q is))) t
 
-module _ {slots : ℕ} {setup : Setup} {first : Point → Type 0} {left_before left after written_before written : Option (List ℕ)} {start now : Option Trail} {stood : Point → Type 0} {old new : Reading} (s : Sofar slots setup first left_before left written_before written start now stood old) where
+module _ {seen seen_now : Shown} {slots : ℕ} {setup : Setup} {first : Point → Type 0} {left_before left after written_before written : Option (List ℕ)} {start now : Option Trail} {stood : Point → Type 0} {old new : Reading} (s : Sofar seen seen_now slots setup first left_before left written_before written start now stood old) where
   -- what is said with one line more
   one_more : {event : Event} (h : HearsLine left after old new (Ok (Some event))) → (answer : Answer) (later : Option Trail) (new_stood : Point → Type 0) (slots_now : ℕ) (setup_now : Setup) → slots_now ≡ slots → setup_now ≡ setup
       → (IsSome later → IsSome now) → ((q : Point) → stood q → Ran now later (GoesOn slots_now setup_now q event answer new_stood))
@@ -138,11 +139,11 @@ module _ {slots : ℕ} {setup : Setup} {first : Point → Type 0} {left_before l
         stands = more.stands;
       }
 
-  pub sofar_more : {event : Event} (h : HearsLine left after old new (Ok (Some event))) → new.fault ≡ None → (answer : Answer) → is_answer_to event answer ≡ true → (later : Option Trail) (wrote : Option (List ℕ)) (new_stood : Point → Type 0) (slots_now : ℕ) (setup_now : Setup) → slots_now ≡ slots → setup_now ≡ setup
+  pub sofar_more : {event : Event} (h : HearsLine left after old new (Ok (Some event))) → new.fault ≡ None → (answer : Answer) → is_answer_to event answer ≡ true → (seen_later : Shown) → HasCause seen_now event answer seen_later → (later : Option Trail) (wrote : Option (List ℕ)) (new_stood : Point → Type 0) (slots_now : ℕ) (setup_now : Setup) → slots_now ≡ slots → setup_now ≡ setup
       → (IsSome later → IsSome now) → ((q : Point) → stood q → Ran now later (GoesOn slots_now setup_now q event answer new_stood))
       → GrowsByBytes written wrote (reply_of answer)
-      → Sofar slots setup first left_before after written_before wrote start later new_stood new
-  sofar_more {event} h fault answer kind later wrote new_stood slots_now setup_now same_slots same_setup tells goes grew =
+      → Sofar seen seen_later slots setup first left_before after written_before wrote start later new_stood new
+  sofar_more {event} h fault answer kind seen_later cause later wrote new_stood slots_now setup_now same_slots same_setup tells goes grew =
       let line : List ℕ = h.says.0 in
       let n : IsNextLine (old.rest ++ h.got) line new = h.says.2 in
       record {
@@ -158,7 +159,7 @@ module _ {slots : ℕ} {setup : Setup} {first : Point → Type 0} {left_before l
         limit = h.limit;
         count = omega (arith, s.count, h.taken, length-append s.bytes h.got);
         grows = GrowsByBytes-then written_before written wrote s.text (reply_of answer) s.grows grew;
-        form = answers_push s.answered s.text line event answer h.says.1 kind s.form;
+        form = answers_push seen seen_now seen_later s.answered s.text line event answer h.says.1 kind cause s.form;
         tells = λ t. s.tells (tells t);
         said = one_more h answer later new_stood slots_now setup_now same_slots same_setup tells goes;
       }
@@ -203,27 +204,27 @@ module _ {slots : ℕ} {setup : Setup} {first : Point → Type 0} {left_before l
   )
 
   module _ (h : HearsLine left after old new (Ok None)) (later : Option Trail) (new_stood : Point → Type 0) (slots_now : ℕ) (setup_now : Setup) (same_slots : slots_now ≡ slots) (same_setup : setup_now ≡ setup) (tells : IsSome later → IsSome now) where
-    pub ends_well : (writes : ℕ) → ((q : Point) → stood q → Ran now later (GoesOn slots_now setup_now q Flush (Flushed writes) new_stood))
-        → ServesSession slots setup first start later left_before after written_before written (Ok writes)
-    ends_well writes goes = record {
+    pub ends_well : (writes : ℕ) → (seen_later : Shown) → HasCause seen_now Flush (Flushed writes) seen_later → ((q : Point) → stood q → Ran now later (GoesOn slots_now setup_now q Flush (Flushed writes) new_stood))
+        → ServesSession seen seen_later slots setup first start later left_before after written_before written (Ok writes)
+    ends_well writes seen_later cause goes = record {
       bytes = s.bytes ++ h.got;
       text = s.text;
       given = Gives-then left_before left after s.bytes h.got s.given h.given;
       grows = s.grows;
       full = all_taken h;
-      form = subst (λ (ls : List (List ℕ)). HasAnswers ls s.text) (sym (all_lines h)) s.form;
+      form = (seen_now, subst (λ (ls : List (List ℕ)). HasAnswers seen ls s.text seen_now) (sym (all_lines h)) s.form, cause);
       answered = ended h (Flushed writes) later new_stood slots_now setup_now same_slots same_setup tells goes;
     }
 
-    pub ends_halted : (halt : Halt) → ((q : Point) → stood q → Ran now later (GoesOn slots_now setup_now q Flush (Halted halt) new_stood))
-        → ServesSession slots setup first start later left_before after written_before written (Err (Halts halt))
-    ends_halted halt goes = record {
+    pub ends_halted : (halt : Halt) → (seen_later : Shown) → HasCause seen_now Flush (Halted halt) seen_later → ((q : Point) → stood q → Ran now later (GoesOn slots_now setup_now q Flush (Halted halt) new_stood))
+        → ServesSession seen seen_later slots setup first start later left_before after written_before written (Err (Halts halt))
+    ends_halted halt seen_later cause goes = record {
       bytes = s.bytes ++ h.got;
       text = s.text;
       given = Gives-then left_before left after s.bytes h.got s.given h.given;
       grows = s.grows;
       full = all_taken h;
-      form = subst (λ (ls : List (List ℕ)). HasAnswers ls s.text) (sym (all_lines h)) s.form;
+      form = (seen_now, subst (λ (ls : List (List ℕ)). HasAnswers seen ls s.text seen_now) (sym (all_lines h)) s.form, cause);
       answered = ended h (Halted halt) later new_stood slots_now setup_now same_slots same_setup tells goes;
     }
 
@@ -236,33 +237,33 @@ module _ {slots : ℕ} {setup : Setup} {first : Point → Type 0} {left_before l
       let said = s.said t p f in
       subst (λ (ls : List (List ℕ)). (c : Stretch slots setup start now p (events_in ls)) × (s.text ≡ replies c.turns)) (fault_lines h) (said.all, said.text_is)
 
-  pub ends_at_source : {fault : LineFault} (h : HearsLine left after old new (Err fault)) → ServesSession slots setup first start now left_before after written_before written (Err Source)
+  pub ends_at_source : {fault : LineFault} (h : HearsLine left after old new (Err fault)) → ServesSession seen seen_now slots setup first start now left_before after written_before written (Err Source)
   ends_at_source h = record {
     bytes = s.bytes ++ h.got;
     text = s.text;
     given = Gives-then left_before left after s.bytes h.got s.given h.given;
     grows = s.grows;
     full = tt;
-    form = subst (λ (ls : List (List ℕ)). HasAnswers ls s.text) (fault_lines h) s.form;
+    form = subst (λ (ls : List (List ℕ)). HasAnswers seen ls s.text seen_now) (fault_lines h) s.form;
     answered = faulted h;
   }
 
-  pub ends_too_long : {fault : LineFault} (h : HearsLine left after old new (Err fault)) → new.taken ≡ 2 ^ 40 → ServesSession slots setup first start now left_before after written_before written (Err TooLong)
+  pub ends_too_long : {fault : LineFault} (h : HearsLine left after old new (Err fault)) → new.taken ≡ 2 ^ 40 → ServesSession seen seen_now slots setup first start now left_before after written_before written (Err TooLong)
   ends_too_long h full = record {
     bytes = s.bytes ++ h.got;
     text = s.text;
     given = Gives-then left_before left after s.bytes h.got s.given h.given;
     grows = s.grows;
     full = omega (arith, s.count, h.taken, length-append s.bytes h.got, full);
-    form = subst (λ (ls : List (List ℕ)). HasAnswers ls s.text) (fault_lines h) s.form;
+    form = subst (λ (ls : List (List ℕ)). HasAnswers seen ls s.text seen_now) (fault_lines h) s.form;
     answered = faulted h;
   }
 
   -- an answer could not be written
-  pub ends_at_sink : {event : Event} (h : HearsLine left after old new (Ok (Some event))) → (answer : Answer) → is_answer_to event answer ≡ true → (later : Option Trail) (wrote : Option (List ℕ)) (new_stood : Point → Type 0) (slots_now : ℕ) (setup_now : Setup) → slots_now ≡ slots → setup_now ≡ setup
+  pub ends_at_sink : {event : Event} (h : HearsLine left after old new (Ok (Some event))) → (answer : Answer) → is_answer_to event answer ≡ true → (seen_later : Shown) → HasCause seen_now event answer seen_later → (later : Option Trail) (wrote : Option (List ℕ)) (new_stood : Point → Type 0) (slots_now : ℕ) (setup_now : Setup) → slots_now ≡ slots → setup_now ≡ setup
       → (IsSome later → IsSome now) → ((q : Point) → stood q → Ran now later (GoesOn slots_now setup_now q event answer new_stood))
-      → (n : ℕ) → GrowsByBytes written wrote (take n (reply_of answer)) → ServesSession slots setup first start later left_before after written_before wrote (Err Sink)
-  ends_at_sink {event} h answer kind later wrote new_stood slots_now setup_now same_slots same_setup tells goes n grew =
+      → (n : ℕ) → GrowsByBytes written wrote (take n (reply_of answer)) → ServesSession seen seen_later slots setup first start later left_before after written_before wrote (Err Sink)
+  ends_at_sink {event} h answer kind seen_later cause later wrote new_stood slots_now setup_now same_slots same_setup tells goes n grew =
       let line : List ℕ = h.says.0 in
       let next_line : IsNextLine (old.rest ++ h.got) line new = h.says.2 in
       let cut : lines_of (s.bytes ++ h.got) ≡ (s.answered ++ line ∷ []) ++ lines_of new.rest = s.lines h.got h.ended_before ∙ ap (λ x. s.answered ++ lines_of x) (sym (append-nil (old.rest ++ h.got))) ∙ ap (λ x. s.answered ++ x) (next_line.lines [] (λ e. refl)) ∙ ap (λ x. s.answered ++ line ∷ lines_of x) (append-nil new.rest) ∙ sym (append_assoc s.answered (line ∷ []) (lines_of new.rest)) in
@@ -277,9 +278,9 @@ module _ {slots : ℕ} {setup : Setup} {first : Point → Type 0} {left_before l
           more = lines_of new.rest;
           rest = drop n (reply_of answer);
           split = cut;
-          told = subst (HasAnswers (s.answered ++ line ∷ []))
+          told = subst (λ (x : List ℕ). HasAnswers seen (s.answered ++ line ∷ []) x seen_later)
               (ap (λ x. s.text ++ x) (sym (take-append-drop n (reply_of answer))) ∙ sym (append_assoc s.text (take n (reply_of answer)) (drop n (reply_of answer))))
-              (answers_push s.answered s.text line event answer h.says.1 kind s.form);
+              (answers_push seen seen_now seen_later s.answered s.text line event answer h.says.1 kind cause s.form);
         };
         answered = λ t p f.
             let said = one_more h answer later new_stood slots_now setup_now same_slots same_setup tells goes t p f in (

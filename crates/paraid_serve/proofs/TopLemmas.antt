@@ -10,7 +10,8 @@ use Rattle.paraid_record.specs.declared.meta.Setup.{Setup}
 use Rattle.paraid_serve.specs.declared.stop.Stop.{Stop}
 use Rattle.paraid_serve.specs.declared.stop.Stop.TheVariants.{Source, TooLong, Sink, Halt as Halts}
 use Rattle.paraid_serve.specs.Ending.{EndsWithLine, end_line, halt_line, mount_line, status_of_halt}
-use Rattle.paraid_serve.specs.Output.{OutputForm, HasForm, IsWholeStatus, OutputText, ProgramRun, WritesOutput, begins_with}
+use Rattle.paraid_serve.specs.Output.{OutputForm, HasForm, IsWholeStatus, OutputText, ProgramRun, WritesOutput, begins_with, first_line}
+use Rattle.paraid_serve.specs.Causes.{Shown}
 use Rattle.paraid_serve.specs.Output.OutputText.{done, halted, source, too_long}
 use Rattle.paraid_serve.specs.Output.WritesOutput.{answers, last_line, whole}
 use Rattle.paraid_serve.specs.Output.OutputForm.{done as form_done, halted as form_halted, source as form_source, too_long as form_too_long}
@@ -19,6 +20,10 @@ use Rattle.paraid_serve.proofs.FormLemmas.{no_answers}
 use Rattle.paraid_serve.specs.Session.{ServesSession}
 use Rattle.paraid_session.specs.Turn.{Point}
 use Rattle.paraid_serve.proofs.StretchLemmas.{stretch_none}
+
+-- the first line tells what is seen
+pub shown_line : (writes gear : ℕ) (x : Shown) → writes ≡ x.meta.writes → gear ≡ x.meta.gear → mount_line writes gear ≡ first_line x
+shown_line writes gear x w e = rw (w, e) refl
 
 -- what was written of the last line
 wrote_last : (slots : ℕ) (setup : Setup) (start now : Option Trail) (p : Point) (bytes text line : List ℕ) (before after : Option (List ℕ)) (code status : ℕ) → OutputText slots setup start now p bytes code (text ++ line)
@@ -34,12 +39,12 @@ wrote_last slots setup start now p bytes text line before after code status out 
     taken n line is = take_all n line (omega (arith, is))
 
 -- and its form
-form_last : (bytes text line : List ℕ) (before after : Option (List ℕ)) (code status : ℕ) → OutputForm bytes code (text ++ line) → (e : EndsWithLine before after line code status) → HasForm bytes status (text ++ take e.count line)
-form_last bytes text line before after code status out e = elim e.whole [
+form_last : (seen seen_now : Shown) (bytes text line : List ℕ) (before after : Option (List ℕ)) (code status : ℕ) → OutputForm seen seen_now bytes code (text ++ line) → (e : EndsWithLine before after line code status) → HasForm seen seen_now bytes status (text ++ take e.count line)
+form_last seen seen_now bytes text line before after code status out e = elim e.whole [
   | inl four ↦ form_last_line four code (text ++ line) (drop e.count line) out
       (ap (λ x. text ++ x) (sym (take-append-drop e.count line)) ∙ sym (append_assoc text (take e.count line) (drop e.count line)))
-  | inr all ↦ form_whole (subst (λ (k : ℕ). OutputForm bytes k (text ++ take e.count line)) (sym all.1)
-      (subst (λ (x : List ℕ). OutputForm bytes code (text ++ x)) (sym (taken e.count line all.0)) out))
+  | inr all ↦ form_whole (subst (λ (k : ℕ). OutputForm seen seen_now bytes k (text ++ take e.count line)) (sym all.1)
+      (subst (λ (x : List ℕ). OutputForm seen seen_now bytes code (text ++ x)) (sym (taken e.count line all.0)) out))
 ]
   where
     taken : (n : ℕ) (line : List ℕ) → n ≡ length line → take n line ≡ line
@@ -63,25 +68,25 @@ whole_code status code k n either is = elim either [ inl four ↦ absurd (not_fo
     not_four status four (inr (inl e)) = omega (arith, four, e)
     not_four status four (inr (inr e)) = omega (arith, four, e)
 
-module _ (slots : ℕ) (setup : Setup) (stood : Point → Type 0) (start now : Option Trail) (left_before left first second third last_text : Option (List ℕ)) (writes gear : ℕ) (counts : (p : Point) → stood p → writes ≡ length p.history) (in_gear : (p : Point) → stood p → gear ≡ p.state.gear) where
+module _ (seen seen_now : Shown) (slots : ℕ) (setup : Setup) (stood : Point → Type 0) (start now : Option Trail) (left_before left first second third last_text : Option (List ℕ)) (writes gear : ℕ) (counts : (p : Point) → stood p → writes ≡ length p.history) (in_gear : (p : Point) → stood p → gear ≡ p.state.gear) (shows : mount_line writes gear ≡ first_line seen) where
   -- the mount line is that of the point
   head_is : (p : Point) → stood p → mount_line writes gear ≡ begins_with p
   head_is p s = ap (λ (w : ℕ). mount_line w gear) (counts p s) ∙ ap (λ (g : ℕ). mount_line (length p.history) g) (in_gear p s)
 
   -- A session after the first line, and the last line after it.
   finish : (result : Result ℕ Stop) (line : List ℕ) (code status : ℕ)
-      → GrowsByBytes first second (mount_line writes gear) → (s : ServesSession slots setup stood start now left_before left second third result) → EndsWithLine third last_text line code status
+      → GrowsByBytes first second (mount_line writes gear) → (s : ServesSession seen seen_now slots setup stood start now left_before left second third result) → EndsWithLine third last_text line code status
       → (IsSome now → (p : Point) → stood p → OutputText slots setup start now p s.bytes code (begins_with p ++ s.text ++ line))
       → (code ≡ 10 → length s.bytes ≡ 2 ^ 40) → (IsWholeStatus code → (length s.bytes < 2 ^ 40) × AtEnd left)
-      → OutputForm s.bytes code ((mount_line writes gear ++ s.text) ++ line)
-      → ProgramRun slots setup stood start now left_before left first last_text status
+      → OutputForm seen seen_now s.bytes code ((first_line seen ++ s.text) ++ line)
+      → ProgramRun seen seen_now slots setup stood start now left_before left first last_text status
   finish result line code status head s end out full all form = record {
     bytes = s.bytes;
     text = (mount_line writes gear ++ s.text) ++ take end.count line;
     given = s.given;
     grows = GrowsByBytes-then first third last_text (mount_line writes gear ++ s.text) (take end.count line) (GrowsByBytes-then first second third (mount_line writes gear) s.text head s.grows) end.grows;
     full = λ ten. full (the_code status code (length line) end.count 10 end.whole ten (λ e. absurd (omega (arith, e))));
-    form = form_last s.bytes (mount_line writes gear ++ s.text) line third last_text code status form end;
+    form = form_last seen seen_now s.bytes (mount_line writes gear ++ s.text) line third last_text code status (subst (λ (x : List ℕ). OutputForm seen seen_now s.bytes code ((x ++ s.text) ++ line)) (sym shows) form) end;
     all = λ is. all (whole_code status code (length line) end.count end.whole is);
     wrote = λ t p at_p. subst (λ (x : List ℕ). WritesOutput slots setup start now p s.bytes status ((x ++ s.text) ++ take end.count line)) (sym (head_is p at_p))
         (wrote_last slots setup start now p s.bytes (begins_with p ++ s.text) line third last_text code status
@@ -89,36 +94,36 @@ module _ (slots : ℕ) (setup : Setup) (stood : Point → Type 0) (start now : O
   }
 
   module _ (status : ℕ) (head : GrowsByBytes first second (mount_line writes gear)) where
-    pub done_run : (count : ℕ) → ServesSession slots setup stood start now left_before left second third (Ok count) → EndsWithLine third last_text (end_line count) 0 status
-        → ProgramRun slots setup stood start now left_before left first last_text status
+    pub done_run : (count : ℕ) → ServesSession seen seen_now slots setup stood start now left_before left second third (Ok count) → EndsWithLine third last_text (end_line count) 0 status
+        → ProgramRun seen seen_now slots setup stood start now left_before left first last_text status
     done_run count s end = finish (Ok count) (end_line count) 0 status head s end
         (λ t p at_p. let a = s.answered t p at_p in rw a.1 (done count a.0))
-        (λ e. absurd (omega (arith, e))) (λ is. s.full) (form_done writes gear count s.text s.form)
+        (λ e. absurd (omega (arith, e))) (λ is. s.full) (form_done count s.text s.form.0 s.form.1 s.form.2)
 
-    pub halted_run : (halt : Halt) → ServesSession slots setup stood start now left_before left second third (Err (Halts halt)) → EndsWithLine third last_text (halt_line halt) (status_of_halt halt) status
-        → ProgramRun slots setup stood start now left_before left first last_text status
+    pub halted_run : (halt : Halt) → ServesSession seen seen_now slots setup stood start now left_before left second third (Err (Halts halt)) → EndsWithLine third last_text (halt_line halt) (status_of_halt halt) status
+        → ProgramRun seen seen_now slots setup stood start now left_before left first last_text status
     halted_run halt s end = finish (Err (Halts halt)) (halt_line halt) (status_of_halt halt) status head s end
         (λ t p at_p. let a = s.answered t p at_p in rw a.1 (halted halt a.0))
-        (λ e. absurd (not_ten halt e)) (λ is. s.full) (form_halted writes gear halt s.text s.form)
+        (λ e. absurd (not_ten halt e)) (λ is. s.full) (form_halted halt s.text s.form.0 s.form.1 s.form.2)
       where
         not_ten : (h : Halt) → status_of_halt h ≢ 10
         not_ten (HaltTwo two) e = omega (arith, e)
         not_ten (Worn count) e = omega (arith, e)
 
-    pub source_run : ServesSession slots setup stood start now left_before left second third (Err Source) → EndsWithLine third last_text (codes "source\n") 3 status
-        → ProgramRun slots setup stood start now left_before left first last_text status
+    pub source_run : ServesSession seen seen_now slots setup stood start now left_before left second third (Err Source) → EndsWithLine third last_text (codes "source\n") 3 status
+        → ProgramRun seen seen_now slots setup stood start now left_before left first last_text status
     source_run s end = finish (Err Source) (codes "source\n") 3 status head s end
         (λ t p at_p. let a = s.answered t p at_p in rw a.1 (source a.0))
-        (λ e. absurd (omega (arith, e))) (λ is. absurd (partly 3 (λ e. omega (arith, e)) (λ e. omega (arith, e)) (λ e. omega (arith, e)) is)) (form_source writes gear s.text s.form)
+        (λ e. absurd (omega (arith, e))) (λ is. absurd (partly 3 (λ e. omega (arith, e)) (λ e. omega (arith, e)) (λ e. omega (arith, e)) is)) (form_source s.text s.form)
 
-    pub too_long_run : ServesSession slots setup stood start now left_before left second third (Err TooLong) → EndsWithLine third last_text (codes "toolong\n") 10 status
-        → ProgramRun slots setup stood start now left_before left first last_text status
+    pub too_long_run : ServesSession seen seen_now slots setup stood start now left_before left second third (Err TooLong) → EndsWithLine third last_text (codes "toolong\n") 10 status
+        → ProgramRun seen seen_now slots setup stood start now left_before left first last_text status
     too_long_run s end = finish (Err TooLong) (codes "toolong\n") 10 status head s end
         (λ t p at_p. let a = s.answered t p at_p in rw a.1 (too_long s.full a.0))
-        (λ e. s.full) (λ is. absurd (partly 10 (λ e. omega (arith, e)) (λ e. omega (arith, e)) (λ e. omega (arith, e)) is)) (form_too_long writes gear s.text s.form)
+        (λ e. s.full) (λ is. absurd (partly 10 (λ e. omega (arith, e)) (λ e. omega (arith, e)) (λ e. omega (arith, e)) is)) (form_too_long s.text s.form)
 
   -- the sink failed within an answer
-  pub sink_run : GrowsByBytes first second (mount_line writes gear) → ServesSession slots setup stood start now left_before left second third (Err Sink) → ProgramRun slots setup stood start now left_before left first third 4
+  pub sink_run : GrowsByBytes first second (mount_line writes gear) → ServesSession seen seen_now slots setup stood start now left_before left second third (Err Sink) → ProgramRun seen seen_now slots setup stood start now left_before left first third 4
   sink_run head s = record {
     bytes = s.bytes;
     text = mount_line writes gear ++ s.text;
@@ -126,24 +131,24 @@ module _ (slots : ℕ) (setup : Setup) (stood : Point → Type 0) (start now : O
     grows = GrowsByBytes-then first second third (mount_line writes gear) s.text head s.grows;
     full = λ e. absurd (omega (arith, e));
     all = λ is. absurd (partly 4 (λ e. omega (arith, e)) (λ e. omega (arith, e)) (λ e. omega (arith, e)) is);
-    form = form_answers refl writes gear s.form.lines s.form.more (s.text ++ s.form.rest) s.form.rest s.form.split s.form.told (sym (append_assoc (mount_line writes gear) s.text s.form.rest));
+    form = form_answers refl s.form.lines s.form.more (s.text ++ s.form.rest) s.form.rest s.form.split s.form.told (ap (λ (x : List ℕ). x ++ (s.text ++ s.form.rest)) (sym shows) ∙ sym (append_assoc (mount_line writes gear) s.text s.form.rest));
     wrote = λ t p at_p.
         let a = s.answered t p at_p in
         answers refl a.0 a.1 a.2 a.3 a.4 (ap (λ x. begins_with p ++ x) a.5 ∙ sym (append_assoc (begins_with p) s.text a.2) ∙ ap (λ x. (x ++ s.text) ++ a.2) (sym (head_is p at_p)));
   }
 
 -- the sink failed at the first line
-pub no_mount_run : (slots : ℕ) (setup : Setup) (stood : Point → Type 0) (told : Option Trail) (left first second : Option (List ℕ)) (writes gear : ℕ) → ((p : Point) → stood p → writes ≡ length p.history) → ((p : Point) → stood p → gear ≡ p.state.gear)
-    → (n : ℕ) × (n ≤ length (mount_line writes gear)) × GrowsByBytes first second (take n (mount_line writes gear)) → ProgramRun slots setup stood told told left left first second 4
-no_mount_run slots setup stood told left first second writes gear counts in_gear part = record {
+pub no_mount_run : (seen : Shown) (slots : ℕ) (setup : Setup) (stood : Point → Type 0) (told : Option Trail) (left first second : Option (List ℕ)) (writes gear : ℕ) → ((p : Point) → stood p → writes ≡ length p.history) → ((p : Point) → stood p → gear ≡ p.state.gear) → mount_line writes gear ≡ first_line seen
+    → (n : ℕ) × (n ≤ length (mount_line writes gear)) × GrowsByBytes first second (take n (mount_line writes gear)) → ProgramRun seen seen slots setup stood told told left left first second 4
+no_mount_run seen slots setup stood told left first second writes gear counts in_gear shows part = record {
   bytes = [];
   text = take part.0 (mount_line writes gear);
   given = Gives-none left;
   grows = part.2;
   full = λ e. absurd (omega (arith, e));
   all = λ is. absurd (partly 4 (λ e. omega (arith, e)) (λ e. omega (arith, e)) (λ e. omega (arith, e)) is);
-  form = form_answers refl writes gear [] [] [] (drop part.0 (mount_line writes gear)) refl no_answers
-      (append-nil (mount_line writes gear) ∙ sym (take-append-drop part.0 (mount_line writes gear)));
+  form = form_answers refl [] [] [] (drop part.0 (mount_line writes gear)) refl (no_answers seen)
+      (ap (λ (x : List ℕ). x ++ []) (sym shows) ∙ append-nil (mount_line writes gear) ∙ sym (take-append-drop part.0 (mount_line writes gear)));
   wrote = λ t p at_p. answers refl [] [] (drop part.0 (mount_line writes gear)) refl (stretch_none slots setup told p t)
-      (append-nil (begins_with p) ∙ sym (head_is slots setup stood told told left left first first first first writes gear counts in_gear p at_p) ∙ sym (take-append-drop part.0 (mount_line writes gear)));
+      (append-nil (begins_with p) ∙ sym (head_is seen seen slots setup stood told told left left first first first first writes gear counts in_gear shows p at_p) ∙ sym (take-append-drop part.0 (mount_line writes gear)));
 }

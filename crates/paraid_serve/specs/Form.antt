@@ -6,6 +6,7 @@ use Rattle.paraid_base.specs.declared.event.Event.{Event}
 use Rattle.paraid_base.specs.declared.event.Event.TheVariants.{Read, Write, Flush, Tick, Up, Down, Fail, Replace, State as AskState, Energy as AskEnergy, Bad}
 use Rattle.paraid_io.specs.Lines.{lines_of}
 use Rattle.paraid_trace.specs.Replies.{reply_of}
+use Rattle.paraid_serve.specs.Causes.{HaveCauses, Shown}
 use Rattle.paraid_serve.specs.Stretch.{events_in}
 
 abbrev pub is_bad_answer : Answer → Bool
@@ -102,16 +103,17 @@ abbrev pub texts : List Answer → List ℕ
 texts [] = []
 texts (answer ∷ answers) = reply_of answer ++ texts answers
 
--- a text that tells an answer to each of these lines
-pub record HasAnswers (lines : List (List ℕ)) (text : List ℕ) : Type 0 where
+-- A text that tells an answer to each of these lines, with its cause: so an array was seen first, and so after them.
+pub record HasAnswers (old : Shown) (lines : List (List ℕ)) (text : List ℕ) (new : Shown) : Type 0 where
   pub answers : List Answer
   pub kinds : AreAnswersTo (events_in lines) answers
+  pub causes : HaveCauses old (events_in lines) answers new
   pub is : text ≡ texts answers
 
 -- a text that begins so
-pub record BeginsAnswers (bytes text : List ℕ) : Type 0 where
+pub record BeginsAnswers (old : Shown) (bytes text : List ℕ) (new : Shown) : Type 0 where
   pub lines : List (List ℕ)
   pub more : List (List ℕ)
   pub rest : List ℕ
   pub split : lines_of bytes ≡ lines ++ more
-  pub told : HasAnswers lines (text ++ rest)
+  pub told : HasAnswers old lines (text ++ rest) new

@@ -6,3 +6,4 @@ pub mod Form
 pub mod Session
 pub mod Output
 pub mod Lost
+pub mod Causes

@@ -15,6 +15,7 @@ use Rattle.paraid_image.specs.Out.{named_out}
 use Rattle.paraid_image.specs.Rest.{AreSynced}
 use Rattle.paraid_image.specs.RunStart.{IsRunStart}
 use Rattle.paraid_session.specs.Mount.{IsMountedFromEach}
+use Rattle.paraid_serve.specs.Causes.{HasCause, Shown}
 use Rattle.paraid_serve.specs.Form.{HasAnswers}
 use Rattle.paraid_serve.specs.Stretch.{EndsStretch, Stretch, events_in, replies}
 use Rattle.paraid_session.specs.Turn.{Point}
@@ -30,6 +31,10 @@ IsWholeStatus status = (status ≡ 0) ⊎ (status ≡ 5) ⊎ (status ≡ 12)
 -- the line of the first point of a session
 abbrev pub begins_with : Point → List ℕ
 begins_with p = mount_line (length p.history) p.state.gear
+
+-- the line of an array that is seen so as it begins
+abbrev pub first_line : Shown → List ℕ
+first_line x = mount_line x.meta.writes x.meta.gear
 
 -- The text of a run that took these bytes and met no fault of the sink, by its status.
 pub data OutputText (slots : ℕ) (setup : Setup) (start final : Option Trail) (p : Point) (bytes : List ℕ) : ℕ → List ℕ → Type 0 where
@@ -55,35 +60,36 @@ pub data WritesOutput (slots : ℕ) (setup : Setup) (start final : Option Trail)
       → (c : Stretch slots setup start final p (events_in lines)) → begins_with p ++ replies c.turns ≡ text ++ rest
       → WritesOutput slots setup start final p bytes status text
 
--- The form of a whole text, by the status, whatever the rack holds.
-pub data OutputForm (bytes : List ℕ) : ℕ → List ℕ → Type 0 where
-  done : (count gear writes : ℕ) (replies : List ℕ) → HasAnswers (lines_of bytes) replies
-      → OutputForm bytes 0 (mount_line count gear ++ replies ++ end_line writes)
-  halted : (count gear : ℕ) (halt : Halt) (replies : List ℕ) → HasAnswers (lines_of bytes) replies
-      → OutputForm bytes (status_of_halt halt) (mount_line count gear ++ replies ++ halt_line halt)
-  source : (count gear : ℕ) (replies : List ℕ) → HasAnswers (whole_lines bytes) replies
-      → OutputForm bytes 3 (mount_line count gear ++ replies ++ codes "source\n")
-  too_long : (count gear : ℕ) (replies : List ℕ) → HasAnswers (whole_lines bytes) replies
-      → OutputForm bytes 10 (mount_line count gear ++ replies ++ codes "toolong\n")
+-- The form of a whole text, by the status, whatever the rack holds: the first line tells the writes and the gear with which the
+-- array was seen first, each answer has its cause, and so has the flush at the end.
+pub data OutputForm (old new : Shown) (bytes : List ℕ) : ℕ → List ℕ → Type 0 where
+  done : (writes : ℕ) (replies : List ℕ) (mid : Shown) → HasAnswers old (lines_of bytes) replies mid → HasCause mid Flush (Flushed writes) new
+      → OutputForm old new bytes 0 (first_line old ++ replies ++ end_line writes)
+  halted : (halt : Halt) (replies : List ℕ) (mid : Shown) → HasAnswers old (lines_of bytes) replies mid → HasCause mid Flush (Halted halt) new
+      → OutputForm old new bytes (status_of_halt halt) (first_line old ++ replies ++ halt_line halt)
+  source : (replies : List ℕ) → HasAnswers old (whole_lines bytes) replies new
+      → OutputForm old new bytes 3 (first_line old ++ replies ++ codes "source\n")
+  too_long : (replies : List ℕ) → HasAnswers old (whole_lines bytes) replies new
+      → OutputForm old new bytes 10 (first_line old ++ replies ++ codes "toolong\n")
 
 -- the form of what was written: of a whole text; or at 4 of a first part of such a text, or of the
 -- answers to a first part of the lines
-pub data HasForm (bytes : List ℕ) (status : ℕ) (text : List ℕ) : Type 0 where
-  whole : OutputForm bytes status text → HasForm bytes status text
-  last_line : status ≡ 4 → (code : ℕ) (full rest : List ℕ) → OutputForm bytes code full → full ≡ text ++ rest → HasForm bytes status text
-  answers : status ≡ 4 → (count gear : ℕ) (lines more : List (List ℕ)) (replies rest : List ℕ) → lines_of bytes ≡ lines ++ more
-      → HasAnswers lines replies → mount_line count gear ++ replies ≡ text ++ rest → HasForm bytes status text
+pub data HasForm (old new : Shown) (bytes : List ℕ) (status : ℕ) (text : List ℕ) : Type 0 where
+  whole : OutputForm old new bytes status text → HasForm old new bytes status text
+  last_line : status ≡ 4 → (code : ℕ) (full rest : List ℕ) → OutputForm old new bytes code full → full ≡ text ++ rest → HasForm old new bytes status text
+  answers : status ≡ 4 → (lines more : List (List ℕ)) (replies rest : List ℕ) → lines_of bytes ≡ lines ++ more
+      → HasAnswers old lines replies new → first_line old ++ replies ≡ text ++ rest → HasForm old new bytes status text
 
 -- A run took these bytes and wrote this text. What it is is known where source, sink and rack
 -- tell, from each point at which the array stood.
-pub record ProgramRun (slots : ℕ) (setup : Setup) (stood : Point → Type 0) (start final : Option Trail) (left_before left written_before written : Option (List ℕ)) (status : ℕ) : Type 0 where
+pub record ProgramRun (seen seen_now : Shown) (slots : ℕ) (setup : Setup) (stood : Point → Type 0) (start final : Option Trail) (left_before left written_before written : Option (List ℕ)) (status : ℕ) : Type 0 where
   pub bytes : List ℕ
   pub text : List ℕ
   pub given : Gives left_before left bytes
   pub grows : GrowsByBytes written_before written text
   pub full : status ≡ 10 → length bytes ≡ 2 ^ 40
   pub all : IsWholeStatus status → (length bytes < 2 ^ 40) × AtEnd left
-  pub form : HasForm bytes status text
+  pub form : HasForm seen seen_now bytes status text
   pub wrote : IsSome final → (p : Point) → stood p → WritesOutput slots setup start final p bytes status text
 
 -- What a stretch of a session leaves: two disks are down; or the rack holds the history of its end,
@@ -102,12 +108,12 @@ pub record FollowsFromPoint (slots : ℕ) (setup : Setup) (start final : Option 
 -- The headline. The run took these bytes, and its text has the form of a run's. On a rack that held a
 -- history the mount keeps it; and from its end on, unless two disks are down there, the text is what
 -- a session answers, and the run leaves such a rack.
-pub record Headline (slots : ℕ) (setup : Setup) (began : ℕ) (start final : Option Trail) (left_before left written_before written : Option (List ℕ)) (status : ℕ) : Type 0 where
+pub record Headline (seen seen_now : Shown) (slots : ℕ) (setup : Setup) (began : ℕ) (start final : Option Trail) (left_before left written_before written : Option (List ℕ)) (status : ℕ) : Type 0 where
   pub bytes : List ℕ
   pub text : List ℕ
   pub given : Gives left_before left bytes
   pub grows : GrowsByBytes written_before written text
   pub full : status ≡ 10 → length bytes ≡ 2 ^ 40
   pub all : IsWholeStatus status → (length bytes < 2 ^ 40) × AtEnd left
-  pub form : HasForm bytes status text
+  pub form : HasForm seen seen_now bytes status text
   pub said : IsSome final → IsMountedFromEach slots setup began start (FollowsFromPoint slots setup start final bytes status text)

@@ -10,6 +10,7 @@ use Rattle.paraid_record.specs.declared.meta.Setup.{Setup}
 use Rattle.paraid_serve.specs.declared.stop.Stop.{Stop}
 use Rattle.paraid_serve.specs.declared.stop.Stop.TheVariants.{Source, TooLong, Sink, Halt as Halts}
 use Rattle.paraid_serve.specs.Lost.{HaltsBySecondLoss, HaltsByWear}
+use Rattle.paraid_serve.specs.Causes.{HasCause, Shown}
 use Rattle.paraid_serve.specs.Form.{BeginsAnswers, HasAnswers}
 use Rattle.paraid_serve.specs.Stretch.{EndsStretch, Stretch, events_in, replies}
 use Rattle.paraid_session.specs.Turn.{Point}
@@ -31,13 +32,14 @@ AreLinesAnswered slots setup start now p (Err Sink) bytes text =
     (lines more : List (List ℕ)) × (rest : List ℕ) × (lines_of bytes ≡ lines ++ more)
     × (c : Stretch slots setup start now p (events_in lines)) × (replies c.turns ≡ text ++ rest)
 
--- the form of what was written for the lines, by how the session ended
-abbrev pub HaveLinesForm : Result ℕ Stop → List ℕ → List ℕ → Type 0
-HaveLinesForm (Ok writes) bytes text = HasAnswers (lines_of bytes) text
-HaveLinesForm (Err (Halts halt)) bytes text = HasAnswers (lines_of bytes) text
-HaveLinesForm (Err Source) bytes text = HasAnswers (whole_lines bytes) text
-HaveLinesForm (Err TooLong) bytes text = HasAnswers (whole_lines bytes) text
-HaveLinesForm (Err Sink) bytes text = BeginsAnswers bytes text
+-- the form of what was written for the lines, by how the session ended, and the cause of each answer; all lines are followed by a
+-- flush
+abbrev pub HaveLinesForm : Shown → Result ℕ Stop → List ℕ → List ℕ → Shown → Type 0
+HaveLinesForm old (Ok writes) bytes text new = (mid : Shown) × HasAnswers old (lines_of bytes) text mid × HasCause mid Flush (Flushed writes) new
+HaveLinesForm old (Err (Halts halt)) bytes text new = (mid : Shown) × HasAnswers old (lines_of bytes) text mid × HasCause mid Flush (Halted halt) new
+HaveLinesForm old (Err Source) bytes text new = HasAnswers old (whole_lines bytes) text new
+HaveLinesForm old (Err TooLong) bytes text new = HasAnswers old (whole_lines bytes) text new
+HaveLinesForm old (Err Sink) bytes text new = BeginsAnswers old bytes text new
 
 -- how much was taken: all of the source, or all that may be taken
 abbrev pub IsAllTaken : Result ℕ Stop → List ℕ → Option (List ℕ) → Type 0
@@ -63,11 +65,11 @@ IsStopByWear Sink = Unit {0}
 
 -- A session took these bytes and wrote this text. What it answered is known where the record is
 -- told, from each point at which the array stood.
-pub record ServesSession (slots : ℕ) (setup : Setup) (stood : Point → Type 0) (start now : Option Trail) (left_before left written_before written : Option (List ℕ)) (result : Result ℕ Stop) : Type 0 where
+pub record ServesSession (seen seen_now : Shown) (slots : ℕ) (setup : Setup) (stood : Point → Type 0) (start now : Option Trail) (left_before left written_before written : Option (List ℕ)) (result : Result ℕ Stop) : Type 0 where
   pub bytes : List ℕ
   pub text : List ℕ
   pub given : Gives left_before left bytes
   pub grows : GrowsByBytes written_before written text
   pub full : IsAllTaken result bytes left
-  pub form : HaveLinesForm result bytes text
+  pub form : HaveLinesForm seen result bytes text seen_now
   pub answered : IsSome now → (p : Point) → stood p → AreLinesAnswered slots setup start now p result bytes text

@@ -9,6 +9,7 @@ ghost use Rattle.paraid_trace.specs.Asked.{event_with};
 ghost use Rattle.paraid_trace.specs.declared.answered.Beside.{Beside as BesideType};
 ghost use Rattle.paraid_trace.specs.Replies.{HasFewDisks};
 ghost use Rattle.paraid_serve.specs.Calls.{Grows};
+ghost use Rattle.paraid_serve.specs.Causes.{HasCause};
 ghost use Rattle.paraid_serve.specs.Form.{is_answer_to};
 ghost use Rattle.paraid_serve.specs.Lost.{HasServedSince, HaltsByWear};
 ghost use Rattle.paraid_session.specs.Turn.{GoesOn, Point, halt_told};
@@ -80,6 +81,8 @@ pub fn answer<A: Serves>(
         → HasServedSince start (A.slot array.new) (A.halted array.new) }
     ensures kind { is_answer_to (event_with asked pairs.now) (answer_with result beside.new) ≡ true }
     ensures few { HasFewDisks (answer_with result beside.new) }
+    ensures cause { HasCause (A.shown array.old) (event_with asked pairs.now)
+        (answer_with result beside.new) (A.shown array.new) }
 {
     if let Asked::Bad = asked {
         return Answered::Brief(Brief::Bad);
@@ -105,6 +108,7 @@ pub fn answer_event<A: Serves>(array: &mut A, halt: &mut Option<Halt>, event: &E
         → HasServedSince start (A.slot array.new) (A.halted array.new) }
     ensures kind { is_answer_to event.now result ≡ true }
     ensures few { HasFewDisks result }
+    ensures cause { HasCause (A.shown array.old) event.now result (A.shown array.new) }
 {
     let mut beside = Beside::new();
     if let Event::Write { pairs } = event {
@@ -130,6 +134,7 @@ pub fn finish<A: Serves>(array: &mut A, halt: Option<Halt>) -> Result<u64, Halt>
         → HasServedSince start (A.slot array.old) (A.halted array.old)
         → HasServedSince start (A.slot array.new) (Some halt)) }
     ensures worn { IfErr result (λ halt. HaltsByWear (Some halt)) }
+    ensures cause { HasCause (A.shown array.old) FlushEvent (answer_to_flush result) (A.shown array.new) }
 {
     if let Some(halt) = halt {
         return Err(halt);

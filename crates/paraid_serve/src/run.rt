@@ -18,7 +18,7 @@ pub fn session<S: Source, K: Sink, A: Serves>(
     array: &mut A,
 ) -> Result<u64, Stop>
     requires going { A.halted array.old ≡ None }
-    ensures session { ServesSession (A.slots array.old) (A.setup array.old) (A.stands array.old)
+    ensures session { ServesSession (A.shown array.old) (A.shown array.new) (A.slots array.old) (A.setup array.old) (A.stands array.old)
         (A.told array.old) (A.told array.new)
         (S.left source.old) (S.left source.new) (K.written sink.old) (K.written sink.new) result }
     ensures told { Grows (A.told array.old) (A.told array.new) }

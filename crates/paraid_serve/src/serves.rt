@@ -12,6 +12,7 @@ ghost use Rattle.paraid_trace.specs.Answered.{answer_with};
 ghost use Rattle.paraid_trace.specs.Asked.{event_with};
 ghost use Rattle.paraid_trace.specs.Replies.{HasFewDisks};
 ghost use Rattle.paraid_serve.specs.Calls.{Grows, IsAbsentOut, IsNotDouble};
+ghost use Rattle.paraid_serve.specs.Causes.{HasCause, Shown, Shows};
 ghost use Rattle.paraid_serve.specs.Form.{is_answer_to};
 ghost use Rattle.paraid_serve.specs.Lost.{HaltsByTwoLost, HaltsByWear};
 ghost use Rattle.paraid_session.specs.Faults.{HaveNotFallen};
@@ -40,6 +41,9 @@ pub trait Serves {
     /// The disk that is out, while there is no halt.
     ghost down: { Self → Option ℕ };
 
+    /// What is seen of it, whatever its rack holds.
+    ghost shown: { Self → Shown };
+
     /// It stands at this point of a session.
     ghost stands: { Self → Point → Type 0 };
 
@@ -59,7 +63,9 @@ pub trait Serves {
             (halted self.new) }
         ensures later { HaveNotFallen (slot self.old) (slot self.new) }
         ensures kind { is_answer_to (event_with asked pairs.now) (answer_with result beside.new) ≡ true }
-        ensures few { HasFewDisks (answer_with result beside.new) };
+        ensures few { HasFewDisks (answer_with result beside.new) }
+        ensures cause { HasCause (shown self.old) (event_with asked pairs.now)
+            (answer_with result beside.new) (shown self.new) };
 
     /// Keeps all writes that were accepted.
     fn flush(&mut self) -> Result<u64, Halt>
@@ -73,16 +79,19 @@ pub trait Serves {
         ensures halt { halted self.new ≡ flush_halt_of result }
         ensures two { HaltsByTwoLost (down self.old) FlushEvent (slot self.old) (slot self.new)
             (halted self.new) }
-        ensures later { HaveNotFallen (slot self.old) (slot self.new) };
+        ensures later { HaveNotFallen (slot self.old) (slot self.new) }
+        ensures cause { HasCause (shown self.old) FlushEvent (answer_to_flush result) (shown self.new) };
 
     /// How many writes it has accepted, while there is no halt.
     fn writes(&self) -> u64
-        ensures { halted self.now ≡ None → (p : Point) → stands self.now p
-            → result ≡ length p.history };
+        ensures point { halted self.now ≡ None → (p : Point) → stands self.now p
+            → result ≡ length p.history }
+        ensures shown { result ≡ (shown self.now).meta.writes };
 
     /// Its gear.
     fn gear(&self) -> u8
-        ensures { (p : Point) → stands self.now p → result ≡ p.state.gear };
+        ensures point { (p : Point) → stands self.now p → result ≡ p.state.gear }
+        ensures shown { halted self.now ≡ None → result ≡ (shown self.now).meta.gear };
 
     /// The number of its blocks.
     fn blocks(&self) -> u32
@@ -111,6 +120,9 @@ pub trait Serves {
 
     /// It halts by wear only after 2^62 commits or writes, or more.
     ghost worn: { (x : Self) → HaltsByWear (halted x) };
+
+    /// What is seen has its setup, its slots and its halt.
+    ghost shows: { (x : Self) → Shows (shown x) (setup x) (slot x) (halted x) };
 
     /// A point tells the halt.
     ghost agrees: { (x : Self) (p : Point) → stands x p → p.halt ≡ halted x };

@@ -15,7 +15,7 @@ use paraid_trace::{Brief, Text, reply};
 /// Serves the trace with a mounted array, and gives the status.
 pub fn serve<S: Source, K: Sink, A: Serves>(source: &mut S, sink: &mut K, array: &mut A) -> u8
     requires going { A.halted array.old ≡ None }
-    ensures run { ProgramRun (A.slots array.old) (A.setup array.old) (A.stands array.old)
+    ensures run { ProgramRun (A.shown array.old) (A.shown array.new) (A.slots array.old) (A.setup array.old) (A.stands array.old)
         (A.told array.old) (A.told array.new) (S.left source.old) (S.left source.new)
         (K.written sink.old) (K.written sink.new) result }
     ensures told { Grows (A.told array.old) (A.told array.new) }
@@ -57,7 +57,7 @@ pub fn serve_mounted<S: Source, K: Sink, A: Serves>(
     requires going { A.halted array.old ≡ None }
     ensures headline { (began : ℕ) → IsMountedFromEach (A.slots array.old) (A.setup array.old) began
         (A.told array.old) (A.stands array.old)
-        → Headline (A.slots array.old) (A.setup array.old) began
+        → Headline (A.shown array.old) (A.shown array.new) (A.slots array.old) (A.setup array.old) began
         (A.told array.old) (A.told array.new) (S.left source.old) (S.left source.new)
         (K.written sink.old) (K.written sink.new) result }
     ensures told { Grows (A.told array.old) (A.told array.new) }

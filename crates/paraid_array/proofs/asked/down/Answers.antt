@@ -1,3 +1,5 @@
+use Rattle.paraid_core.specs.Steps.{IsMarkedFrom}
+use Rattle.std.proofs.Common.{None, Some}
 use Rattle.std.proofs.Common.{◌≡◌, ℕ, ◌+◌, ◌<◌, ◌≤◌, sym, ap, subst, refl, arith, Ok, []}
 use Rattle.std.specs.Prelude.{slice_index}
 use Rattle.paraid_base.specs.declared.state.Out.TheVariants.{No}
@@ -9,7 +11,7 @@ use Rattle.paraid_moves.specs.MoveMetas.{meta_after_begin}
 use Rattle.paraid_array.specs.Refusals.{IsDownRefused, IsShiftStateOf, MayGoDown}
 use Rattle.paraid_array.specs.declared.fault.ShiftFault.{ShiftFault}
 use Rattle.paraid_array.specs.declared.asked.Asked.TheVariants.{Refused}
-use Rattle.paraid_array.proofs.AskedLemmas.{core_loses_then, down_begun, down_halts, down_lost, down_same, down_stays, down_stopped, known_marked}
+use Rattle.paraid_array.proofs.AskedLemmas.{unmarked, core_loses_then, down_begun, down_halts, down_lost, down_same, down_stays, down_stopped, known_marked}
 use Rattle.paraid_array.proofs.RefusalLemmas.{down_may_not, down_refused_same}
 use Rattle.paraid_array.proofs.TickTurnLemmas.{marked_then}
 use Rattle.paraid_txn.specs.Stores.{store_rack}
@@ -35,6 +37,7 @@ returns-in-Err g c =
       begins = λ to s of may.
           let is = subst (λ (z : Meta). IsShiftStateOf z s) (sym c.meta.ensures) of in
           absurd (down_may_not a.meta.setup s to c.in-Err.fault may (subst (λ (z : Meta). IsDownRefused z.setup s c.in-Err.fault) c.meta.ensures (c.in-Err.ensures.refused s is)));
+      marks = (a.meta.epoch, record { lost = None; is = refl; alone = λ d x is. let z : None ≡ Some d = is in absurd cc });
       known = λ before. before;
       epoch = omega arith;
       turn = down_stays g.R.Rack.slot_count g.R.Rack.told a c.in-Err.fault (subst (λ (z : Meta). (s : PowerState) → IsShiftStateOf z s → IsDownRefused z.setup s c.in-Err.fault) c.meta.ensures c.in-Err.ensures.refused);
@@ -62,6 +65,7 @@ returns-in_err-commit_staged g c =
           let is = subst (λ (z : Meta). IsShiftStateOf z s) (sym c.meta.ensures) of in
           absurd (down_may_not c.meta.result.now.setup s c.in_default.field-0 fault (c.in_default.ensures.may s is) (subst (λ (z : Meta). IsDownRefused z.setup s fault) (sym c.meta.ensures) why));
       begins = none_done_if _ c.from_residual.result _ c.from_residual.ensures.1;
+      marks = none_done_if _ c.from_residual.result _ c.from_residual.ensures.1;
       known = none_done _ c.from_residual.result _ c.from_residual.ensures.1;
       epoch = none_done _ c.from_residual.result _ c.from_residual.ensures.1;
       turn = none_done_if _ c.from_residual.result _ c.from_residual.ensures.1;
@@ -106,6 +110,7 @@ returns-in_err-begin_down-in-Ok g c =
           let is = subst (λ (z : Meta). IsShiftStateOf z s) (sym c.meta.ensures) of in
           absurd (down_may_not c.meta.result.now.setup s c.in_default.field-0 fault (c.in_default.ensures.may s is) (subst (λ (z : Meta). IsDownRefused z.setup s fault) (sym c.meta.ensures) why));
       begins = none_done_if _ c.from_residual-in_err-begin_down-in-Ok.result _ c.from_residual-in_err-begin_down-in-Ok.ensures.1;
+      marks = none_done_if _ c.from_residual-in_err-begin_down-in-Ok.result _ c.from_residual-in_err-begin_down-in-Ok.ensures.1;
       known = none_done _ c.from_residual-in_err-begin_down-in-Ok.result _ c.from_residual-in_err-begin_down-in-Ok.ensures.1;
       epoch = none_done _ c.from_residual-in_err-begin_down-in-Ok.result _ c.from_residual-in_err-begin_down-in-Ok.ensures.1;
       turn = none_done_if _ c.from_residual-in_err-begin_down-in-Ok.result _ c.from_residual-in_err-begin_down-in-Ok.ensures.1;
@@ -140,6 +145,7 @@ returns-in_ok-begin_down-in-Ok g c =
           let is = subst (λ (z : Meta). IsShiftStateOf z s) (sym c.meta.ensures) of in
           absurd (down_may_not c.meta.result.now.setup s c.in_default.field-0 fault (c.in_default.ensures.may s is) (subst (λ (z : Meta). IsDownRefused z.setup s fault) (sym c.meta.ensures) why));
       begins = λ goal s of could. down_same a.meta m.meta m.meta.epoch staged.meta steady whole still s of goal to could may;
+      marks = (m.meta.epoch + 1, subst (λ (z : Meta). IsMarkedFrom (record (meta_after_begin z (Down to) z.spins) { epoch = z.epoch + 1 }) b.meta) (unmarked a.meta m.meta m.meta.epoch staged.meta whole still) done.meta);
       known = λ before. known_marked g.R.Rack.slot b (record (meta_after_begin m.meta (Down to) m.meta.spins) { epoch = m.meta.epoch + 1 }) still done.meta done.absent;
       epoch =
           let e = ap (λ (z : Meta). z.epoch) (marked_then (meta_after_begin m.meta (Down to) m.meta.spins) b.meta (m.meta.epoch + 1) done.meta) in
@@ -173,6 +179,7 @@ returns-in-Err-gear_below g c =
           let is = subst (λ (z : Meta). IsShiftStateOf z s) (sym c.meta.ensures) of in
           absurd (down_may_not c.meta.result.now.setup s c.in_default.field-0 fault (c.in_default.ensures.may s is) (subst (λ (z : Meta). IsDownRefused z.setup s fault) (sym c.meta.ensures) was));
       begins = λ to s of may. down_lost a.meta m.meta m.meta.epoch staged.meta steady whole c.in_default.field-0 c.in-Err-gear_below.fault could why;
+      marks = (m.meta.epoch, staged.meta);
       known = λ before. known_marked g.R.Rack.slot m (record a.meta { epoch = m.meta.epoch }) whole staged.meta (staged.absent before.absent);
       epoch = let e = staged.epoch in omega (arith, e);
       turn = down_stopped g.R.Rack.slot_count g.R.Rack.told a steady whole m m.meta.epoch staged.meta c.commit_staged.ensures.table steps c.in_default.field-0 c.in-Err-gear_below.fault staged.serving.copies_synced could why;

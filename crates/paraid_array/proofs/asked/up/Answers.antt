@@ -1,3 +1,5 @@
+use Rattle.paraid_shift.specs.Serving.{HasBegunUp}
+use Rattle.std.proofs.Common.{None, Some}
 use Rattle.std.proofs.Common.{◌≡◌, ◌+◌, sym, ap, subst, refl, arith, Ok, []}
 use Rattle.paraid_base.specs.declared.state.Out.TheVariants.{No}
 use Rattle.paraid_base.specs.declared.state.Phase.TheVariants.{Steady, Up}
@@ -8,7 +10,7 @@ use Rattle.paraid_moves.specs.MoveMetas.{meta_after_begin}
 use Rattle.paraid_array.specs.Refusals.{IsUpRefused, IsShiftStateOf, MayGoUp}
 use Rattle.paraid_array.specs.declared.fault.ShiftFault.{ShiftFault}
 use Rattle.paraid_array.specs.declared.asked.Asked.TheVariants.{Refused}
-use Rattle.paraid_array.proofs.AskedLemmas.{core_loses_then, up_begun, up_halts, up_lost, up_same, up_stays, up_stopped, known_marked}
+use Rattle.paraid_array.proofs.AskedLemmas.{unmarked, core_loses_then, up_begun, up_halts, up_lost, up_same, up_stays, up_stopped, known_marked}
 use Rattle.paraid_array.proofs.RefusalLemmas.{up_may_not, up_refused_same}
 use Rattle.paraid_array.proofs.TickTurnLemmas.{marked_then}
 use Rattle.paraid_txn.specs.Stores.{store_rack}
@@ -34,6 +36,7 @@ returns-in-Err g c =
       begins = λ to s of may.
           let is = subst (λ (z : Meta). IsShiftStateOf z s) (sym c.meta.ensures) of in
           absurd (up_may_not a.meta.setup s to c.in-Err.fault may (subst (λ (z : Meta). IsUpRefused z.setup s c.in-Err.fault) c.meta.ensures (c.in-Err.ensures.refused s is)));
+      marks = (a.meta.epoch, record { lost = None; is = refl; alone = λ d x is. let z : None ≡ Some d = is in absurd cc });
       known = λ before. before;
       epoch = omega arith;
       turn = up_stays g.R.Rack.slot_count g.R.Rack.told a c.in-Err.fault (subst (λ (z : Meta). (s : PowerState) → IsShiftStateOf z s → IsUpRefused z.setup s c.in-Err.fault) c.meta.ensures c.in-Err.ensures.refused);
@@ -61,6 +64,7 @@ returns-in_err-commit_staged g c =
           let is = subst (λ (z : Meta). IsShiftStateOf z s) (sym c.meta.ensures) of in
           absurd (up_may_not c.meta.result.now.setup s c.in_default.field-0 fault (c.in_default.ensures.may s is) (subst (λ (z : Meta). IsUpRefused z.setup s fault) (sym c.meta.ensures) why));
       begins = none_done_if _ c.from_residual.result _ c.from_residual.ensures.1;
+      marks = none_done_if _ c.from_residual.result _ c.from_residual.ensures.1;
       known = none_done _ c.from_residual.result _ c.from_residual.ensures.1;
       epoch = none_done _ c.from_residual.result _ c.from_residual.ensures.1;
       turn = none_done_if _ c.from_residual.result _ c.from_residual.ensures.1;
@@ -104,6 +108,7 @@ returns-in_err-begin_up-in-Ok g c =
           let is = subst (λ (z : Meta). IsShiftStateOf z s) (sym c.meta.ensures) of in
           absurd (up_may_not c.meta.result.now.setup s c.in_default.field-0 fault (c.in_default.ensures.may s is) (subst (λ (z : Meta). IsUpRefused z.setup s fault) (sym c.meta.ensures) why));
       begins = none_done_if _ c.from_residual-in_err-begin_up-in-Ok.result _ c.from_residual-in_err-begin_up-in-Ok.ensures.1;
+      marks = none_done_if _ c.from_residual-in_err-begin_up-in-Ok.result _ c.from_residual-in_err-begin_up-in-Ok.ensures.1;
       known = none_done _ c.from_residual-in_err-begin_up-in-Ok.result _ c.from_residual-in_err-begin_up-in-Ok.ensures.1;
       epoch = none_done _ c.from_residual-in_err-begin_up-in-Ok.result _ c.from_residual-in_err-begin_up-in-Ok.ensures.1;
       turn = none_done_if _ c.from_residual-in_err-begin_up-in-Ok.result _ c.from_residual-in_err-begin_up-in-Ok.ensures.1;
@@ -138,6 +143,7 @@ returns-in_ok-begin_up-in-Ok g c =
           let is = subst (λ (z : Meta). IsShiftStateOf z s) (sym c.meta.ensures) of in
           absurd (up_may_not c.meta.result.now.setup s c.in_default.field-0 fault (c.in_default.ensures.may s is) (subst (λ (z : Meta). IsUpRefused z.setup s fault) (sym c.meta.ensures) why));
       begins = λ goal s of could. up_same a.meta m.meta m.meta.epoch staged.meta steady whole still s of goal to could may;
+      marks = (m.meta.epoch, subst (λ (z : Meta). HasBegunUp z b.meta to) (unmarked a.meta m.meta m.meta.epoch staged.meta whole still) done.meta);
       known = λ before. known_marked g.R.Rack.slot b (record (meta_after_begin m.meta (Up to) done.meta.spins) { epoch = m.meta.epoch + 1 }) still done.meta.is done.absent;
       epoch =
           let e = ap (λ (z : Meta). z.epoch) (marked_then (meta_after_begin m.meta (Up to) done.meta.spins) b.meta (m.meta.epoch + 1) done.meta.is) in
@@ -171,6 +177,7 @@ returns-in-Err-gear_above g c =
           let is = subst (λ (z : Meta). IsShiftStateOf z s) (sym c.meta.ensures) of in
           absurd (up_may_not c.meta.result.now.setup s c.in_default.field-0 fault (c.in_default.ensures.may s is) (subst (λ (z : Meta). IsUpRefused z.setup s fault) (sym c.meta.ensures) was));
       begins = λ to s of may. up_lost a.meta m.meta m.meta.epoch staged.meta steady whole c.in_default.field-0 c.in-Err-gear_above.fault could why;
+      marks = (m.meta.epoch, staged.meta);
       known = λ before. known_marked g.R.Rack.slot m (record a.meta { epoch = m.meta.epoch }) whole staged.meta (staged.absent before.absent);
       epoch = let e = staged.epoch in omega (arith, e);
       turn = up_stopped g.R.Rack.slot_count g.R.Rack.told a steady whole m m.meta.epoch staged.meta c.commit_staged.ensures.table steps c.in_default.field-0 c.in-Err-gear_above.fault staged.serving.copies_synced could why;

@@ -1,5 +1,6 @@
-use Rattle.std.proofs.Common.{◌≡◌, ◌∙◌, [], ◌∷◌, List, length, ap, arith, refl, sym}
+use Rattle.std.proofs.Common.{◌≡◌, ◌∙◌, ℕ, subst, [], ◌∷◌, List, length, ap, arith, refl, sym}
 use Rattle.std.specs.Prelude.{true}
+use Rattle.paraid_core.specs.Steps.{IsMarkedFrom}
 use Rattle.paraid_image.specs.Sides.{Batch}
 use Rattle.paraid_txn.specs.Stores.{store_rack}
 use Rattle.paraid_core.specs.Cores.{core_down}
@@ -7,7 +8,7 @@ use Rattle.paraid_core.proofs.AfterLemmas.{handed}
 use Rattle.paraid_array.proofs.ResultLemmas.{none_done}
 use Rattle.paraid_rebuild.proofs.ReplacingLemmas.{lost_none}
 use Rattle.paraid_shift.proofs.ServingLemmas.{down_none}
-use Rattle.paraid_array.proofs.OutLemmas.{known_then}
+use Rattle.paraid_array.proofs.OutLemmas.{known_then, none_marked}
 use Rattle.paraid_array.proofs.ServiceLemmas.{service_then}
 use Rattle.paraid_array.proofs.TurnLemmas.{commit_lost, commits, commits_none}
 use Rattle.paraid_array.proofs.ToldLemmas.{extends_core, extends_none}
@@ -39,6 +40,7 @@ returns-then-staged-eq0 g c =
       spared = lost_none (g.R.Rack.slot (store_rack a.store));
       down = down_none (core_down a) (g.R.Rack.slot (store_rack a.store));
       setup = refl;
+      meta = none_marked a.meta;
       writes = refl;
       epoch = omega arith;
       commits = commits_none g.R.Rack.slot_count g.R.Rack.slot g.R.Rack.told g.met.R.Rack.agrees a c.requires.service.ready none;
@@ -61,6 +63,7 @@ returns-in_err-commit g c =
       spared = c.commit.ensures.spared;
       down = none_done _ c.from_residual.result _ c.from_residual.ensures.1;
       setup = none_done _ c.from_residual.result _ c.from_residual.ensures.1;
+      meta = none_done _ c.from_residual.result _ c.from_residual.ensures.1;
       writes = none_done _ c.from_residual.result _ c.from_residual.ensures.1;
       epoch = none_done _ c.from_residual.result _ c.from_residual.ensures.1;
       commits = none_done _ c.from_residual.result _ c.from_residual.ensures.1;
@@ -87,6 +90,7 @@ returns g c =
       spared = c.commit.ensures.spared;
       down = done.down;
       setup = done.setup;
+      meta = subst (λ (n : ℕ). IsMarkedFrom (record a.meta { epoch = n }) b.meta) (sym done.epoch) done.meta;
       writes = done.writes;
       epoch = let e = done.epoch in omega (arith, e);
       commits = commits g.R.Rack.slot_count g.R.Rack.slot g.R.Rack.told g.met.R.Rack.agrees a b c.commit.ensures.calls c.commit.ensures.whole done.stands done.marks done.ready done.setup;

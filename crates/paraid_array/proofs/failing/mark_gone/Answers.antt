@@ -7,7 +7,7 @@ use Rattle.paraid_txn.specs.Stores.{store_rack}
 use Rattle.paraid_core.proofs.AfterLemmas.{handed}
 use Rattle.paraid_array.proofs.ResultLemmas.{none_done}
 use Rattle.paraid_shift.proofs.ServingLemmas.{copies_kept}
-use Rattle.paraid_array.proofs.OutLemmas.{gone_marked, known_gone, two_taken}
+use Rattle.paraid_array.proofs.OutLemmas.{marked_taken, gone_marked, known_gone, two_taken}
 use Rattle.paraid_array.proofs.ServiceLemmas.{large_marked, service_then, unsynced_marked}
 use Rattle.paraid_array.proofs.ToldLemmas.{extends_core, extends_store}
 use Rattle.paraid_array.proofs.TurnLemmas.{can_mark, commits_taken, taken_lost}
@@ -39,6 +39,7 @@ returns-in_err-commit g c =
     record {
       service = none_done _ c.from_residual.result _ c.from_residual.ensures.1;
       setup = none_done _ c.from_residual.result _ c.from_residual.ensures.1;
+      meta = none_done _ c.from_residual.result _ c.from_residual.ensures.1;
       writes = none_done _ c.from_residual.result _ c.from_residual.ensures.1;
       unsynced = none_done _ c.from_residual.result _ c.from_residual.ensures.1;
       known = none_done _ c.from_residual.result _ c.from_residual.ensures.1;
@@ -78,6 +79,7 @@ returns g c =
           })
           done.marks done.setup done.ready (done.serves (marks.serves q.serves)) (done.draft ∙ marks.draft ∙ q.draft) done.copied;
       setup = done.setup ∙ ap (λ (m : Meta). m.setup) marks.meta;
+      meta = marked_taken a.meta b.meta new.meta c.args.disk (b.meta.epoch + 1) marks.meta done.meta;
       writes = done.writes ∙ ap (λ (m : Meta). m.writes) marks.meta;
       unsynced = λ before. done.unsynced (unsynced_marked g.R.Rack.slot a b c.args.disk marks.store marks.meta marks.copied c.requires.alone before);
       known = known_gone g.R.Rack.slot new c.args.disk gone done.absent;

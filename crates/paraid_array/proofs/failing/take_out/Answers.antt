@@ -3,13 +3,13 @@ use Rattle.std.specs.Prelude.{Result}
 use Rattle.paraid_image.specs.Out.{named_out}
 use Rattle.paraid_record.specs.declared.meta.Meta.{Meta}
 use Rattle.paraid_record.specs.declared.meta.Setup.{Setup}
-use Rattle.paraid_txn.specs.Stores.{store_rack}
+use Rattle.paraid_txn.specs.Stores.{named_of, store_rack}
 use Rattle.paraid_core.specs.Cores.{core_down}
 use Rattle.paraid_core.proofs.AfterLemmas.{handed}
 use Rattle.paraid_array.proofs.ResultLemmas.{none_done, none_done_as, none_done_if}
 use Rattle.paraid_array.specs.declared.fault.FailFault.{FailFault}
-use Rattle.paraid_array.specs.declared.fault.FailFault.TheVariants.{Out as OutFault}
-use Rattle.paraid_array.proofs.OutLemmas.{two_or, two_taken_then}
+use Rattle.paraid_array.specs.declared.fault.FailFault.TheVariants.{NoDisk, Out as OutFault}
+use Rattle.paraid_array.proofs.OutLemmas.{fails_newly, none_marked, taken_then, two_or, two_taken_then}
 use Rattle.paraid_array.proofs.TurnLemmas.{beside_turn, fail_beside, fail_missing, marked_halts, staged_halts, taken_turn}
 use Rattle.paraid_array.proofs.failing.take_out.Goals.{in-Some-named+else-out-disk, in_default-named}
 use Rattle.paraid_array.proofs.ToldLemmas.{extends_cores, extends_none, no_fall_then}
@@ -41,12 +41,14 @@ returns-then-disk-meta g c =
     record {
       service = c.requires.service;
       setup = refl;
+      marks = (a.meta.epoch, none_marked a.meta);
       writes = refl;
       unsynced = λ unsynced. unsynced;
       known = λ known. known;
       no_disk = λ is. (refl, refl);
       out = λ d below is. not_below c.args.disk a.meta.setup.geometry.disks below past;
       refused = (refl, past);
+      lost = λ e is none. let z : Some (NoDisk c.args.disk) ≡ Some (OutFault e) = is in cc;
       taken = λ is. refused_not_done _ _ refl is;
       slots = refl;
       table = refl;
@@ -67,12 +69,14 @@ returns-in-Some g c =
     record {
       service = c.requires.service;
       setup = refl;
+      marks = (a.meta.epoch, none_marked a.meta);
       writes = refl;
       unsynced = λ unsynced. unsynced;
       known = λ known. known;
       no_disk = λ past. not_below c.args.disk a.meta.setup.geometry.disks below past;
       out = λ d low is. (ap (λ (e : ℕ). Ok (Some (OutFault e))) (one_only (named_out a.meta.out) d d is refl c.in-Some.out named), refl);
       refused = (below, inl named);
+      lost = λ e is none. none_known (named_out a.meta.out) c.in-Some.out none named;
       taken = λ is. refused_not_done _ _ refl is;
       slots = refl;
       table = refl;
@@ -97,12 +101,14 @@ returns-in_err-commit_writes g c =
     record {
       service = none_done _ c.from_residual.result _ c.from_residual.ensures.1;
       setup = none_done _ c.from_residual.result _ c.from_residual.ensures.1;
+      marks = none_done_if _ c.from_residual.result _ c.from_residual.ensures.1;
       writes = none_done _ c.from_residual.result _ c.from_residual.ensures.1;
       unsynced = none_done _ c.from_residual.result _ c.from_residual.ensures.1;
       known = none_done _ c.from_residual.result _ c.from_residual.ensures.1;
       no_disk = λ past. not_below c.args.disk a.meta.setup.geometry.disks below past;
       out = λ d low is. none_known (named_out a.meta.out) d none is;
       refused = none_done_if _ c.from_residual.result _ c.from_residual.ensures.1;
+      lost = none_done_if _ c.from_residual.result _ c.from_residual.ensures.1;
       taken = λ is. none_done_as _ c.from_residual.result _ _ c.from_residual.ensures.1 is;
       slots = c.commit_writes.ensures.slots;
       table = c.commit_writes.ensures.table;
@@ -126,12 +132,17 @@ returns-then-out-disk g c =
     record {
       service = done.service;
       setup = done.setup;
+      marks = (b.meta.epoch, done.meta);
       writes = done.writes;
       unsynced = done.unsynced;
       known = done.known;
       no_disk = λ past. not_below c.args.disk a.meta.setup.geometry.disks below past;
       out = λ d low is. none_known (named_out a.meta.out) d none is;
       refused = (below, inr (none, named, c.if-out-disk.true));
+      lost = λ e is empty.
+          let same : c.in-Some-named.out ≡ e = let z : Some (OutFault c.in-Some-named.out) ≡ Some (OutFault e) = is in cc in
+          fails_newly (g.R.Rack.slot (store_rack a.store)) (g.R.Rack.slot (store_rack b.store)) (named_out a.meta.out) (named_out b.meta.out) (named_of a.store) (named_of b.store) c.requires.service.serves.stays done.service.serves.stays done.down none e
+          (named ∙ ap (λ (x : ℕ). Some x) same);
       taken = λ is. refused_not_done _ _ refl is;
       slots = c.commit_writes.ensures.slots;
       table = c.commit_writes.ensures.table;
@@ -178,12 +189,14 @@ returns-in_err-mark_gone g c =
     record {
       service = none_done _ c.from_residual-in_err-mark_gone.result _ c.from_residual-in_err-mark_gone.ensures.1;
       setup = none_done _ c.from_residual-in_err-mark_gone.result _ c.from_residual-in_err-mark_gone.ensures.1;
+      marks = none_done_if _ c.from_residual-in_err-mark_gone.result _ c.from_residual-in_err-mark_gone.ensures.1;
       writes = none_done _ c.from_residual-in_err-mark_gone.result _ c.from_residual-in_err-mark_gone.ensures.1;
       unsynced = none_done _ c.from_residual-in_err-mark_gone.result _ c.from_residual-in_err-mark_gone.ensures.1;
       known = none_done _ c.from_residual-in_err-mark_gone.result _ c.from_residual-in_err-mark_gone.ensures.1;
       no_disk = λ past. not_below c.args.disk a.meta.setup.geometry.disks below past;
       out = λ d low is. none_known (named_out a.meta.out) d none is;
       refused = none_done_if _ c.from_residual-in_err-mark_gone.result _ c.from_residual-in_err-mark_gone.ensures.1;
+      lost = none_done_if _ c.from_residual-in_err-mark_gone.result _ c.from_residual-in_err-mark_gone.ensures.1;
       taken = λ is. none_done_as _ c.from_residual-in_err-mark_gone.result _ _ c.from_residual-in_err-mark_gone.ensures.1 is;
       slots = c.mark_gone.ensures.slots ∙ c.commit_writes.ensures.slots;
       table = c.mark_gone.ensures.table ∙ c.commit_writes.ensures.table;
@@ -217,12 +230,14 @@ returns g c =
     record {
       service = done.service;
       setup = done.setup ∙ staged.setup;
+      marks = taken_then a.meta m.meta b.meta c.args.disk m.meta.epoch staged.meta alone done.meta;
       writes = done.writes ∙ staged.writes;
       unsynced = λ before. done.unsynced (staged.unsynced before);
       known = λ before. done.known;
       no_disk = λ past. not_below c.args.disk a.meta.setup.geometry.disks below past;
       out = λ d low is. none_known (named_out a.meta.out) d none is;
       refused = tt;
+      lost = λ e is none. let z : None ≡ Some (OutFault e) = is in cc;
       taken = λ is. (below, none, done.gone);
       slots = c.mark_gone.ensures.slots ∙ c.commit_writes.ensures.slots;
       table = c.mark_gone.ensures.table ∙ c.commit_writes.ensures.table;

@@ -26,6 +26,7 @@ returns-in-Ok g c = record {
       subst (λ (k : _). (g.R.Rack.slot c.args.rack d).faults ≤ (g.R.Rack.slot (core_rack k) d).faults) (sym c.new.ensures.core) (c.in-Ok.ensures.later d);
   refused_later = tt;
   nothing = ap (λ (k : _). k.batch) c.new.ensures.core ∙ c.in-Ok.ensures.nothing;
+  energy = c.new.ensures.energy;
   setup = c.new.ensures.setup ∙ sym (ap (λ (k : _). k.meta.setup) c.new.ensures.core);
   served =
       subst (λ (k : _). IsMountedCore g.R.Rack.slot g.R.Rack.told (g.R.Rack.slot_count c.args.rack) (g.R.Rack.slot c.args.rack) (g.R.Rack.told c.args.rack) k) (sym c.new.ensures.core) c.in-Ok.ensures.mounted;
@@ -49,6 +50,7 @@ returns-in-Err g c = record {
   refused_later = c.in-Err.ensures.refused_later;
   nothing = tt;
   setup = tt;
+  energy = tt;
   served = tt;
   grows = tt;
   mounted = tt;

@@ -7,7 +7,7 @@ use Rattle.paraid_program.proofs.generate.serve_generated.Goals as goal
 
 pub returns-in_default-write_all : goal.returns-in_default-write_all
 returns-in_default-write_all g c = record {
-  run = no_summary_run _ _ _ _ _ _ _ _ c.writes.result c.gear.result _ _ (c.writes.ensures c.requires.going) c.gear.ensures _ _ c.answer_lines-tally.ensures.counted c.gear-2.result c.energy.result c.gear-2.ensures c.energy.ensures
+  run = no_summary_run _ _ _ _ _ _ _ _ c.writes.result c.gear.result _ _ (c.writes.ensures.point c.requires.going) c.gear.ensures.point _ _ c.answer_lines-tally.ensures.counted c.gear-2.result c.energy.result c.gear-2.ensures.point c.energy.ensures
       (rw (c.as_slice.ensures.value, c.mount_text.ensures) at c.in-Ok.ensures.grows)
       (rw (c.as_slice-2.ensures.value, c.summary_text.ensures) at c.in_default-write_all.ensures.part);
   told = search rules;
@@ -20,7 +20,7 @@ returns-in_default-write_all g c = record {
 
 pub returns-in_default : goal.returns-in_default
 returns-in_default g c = record {
-  run = no_line_run _ _ _ _ _ _ c.writes.result c.gear.result _ _ (c.writes.ensures c.requires.going) c.gear.ensures (rw (c.as_slice.ensures.value, c.mount_text.ensures) at c.in_default.ensures.part);
+  run = no_line_run _ _ _ _ _ _ c.writes.result c.gear.result _ _ (c.writes.ensures.point c.requires.going) c.gear.ensures.point (rw (c.as_slice.ensures.value, c.mount_text.ensures) at c.in_default.ensures.part);
   told = grows_none _;
   status = search rules;
   present = search rules;
@@ -34,7 +34,7 @@ returns-in-Ok-finish g c = record {
   run =
       let a = c.answer_lines-tally.ensures in
       let f = c.in-Ok-finish.ensures in
-      done_gen _ _ _ _ _ _ _ _ c.writes.result c.gear.result _ _ (c.writes.ensures c.requires.going) c.gear.ensures _ _ a.counted c.gear-2.result c.energy.result c.gear-2.ensures c.energy.ensures
+      done_gen _ _ _ _ _ _ _ _ c.writes.result c.gear.result _ _ (c.writes.ensures.point c.requires.going) c.gear.ensures.point _ _ a.counted c.gear-2.result c.energy.result c.gear-2.ensures.point c.energy.ensures
       (rw (c.as_slice.ensures.value, c.mount_text.ensures) at c.in-Ok.ensures.grows)
       (rw (c.as_slice-2.ensures.value, c.summary_text.ensures) at c.in-Ok-write_all.ensures.grows)
       _ _ _ _ _ a.slots a.setup (told_then _ _ f.told) _ c.in-Ok-finish.writes f.turn
@@ -52,7 +52,7 @@ returns-in-Err g c = record {
   run =
       let a = c.answer_lines-tally.ensures in
       let f = c.in-Err.ensures in
-      halted_gen _ _ _ _ _ _ _ _ c.writes.result c.gear.result _ _ (c.writes.ensures c.requires.going) c.gear.ensures _ _ a.counted c.gear-2.result c.energy.result c.gear-2.ensures c.energy.ensures
+      halted_gen _ _ _ _ _ _ _ _ c.writes.result c.gear.result _ _ (c.writes.ensures.point c.requires.going) c.gear.ensures.point _ _ a.counted c.gear-2.result c.energy.result c.gear-2.ensures.point c.energy.ensures
       (rw (c.as_slice.ensures.value, c.mount_text.ensures) at c.in-Ok.ensures.grows)
       (rw (c.as_slice-2.ensures.value, c.summary_text.ensures) at c.in-Ok-write_all.ensures.grows)
       _ _ _ _ _ a.slots a.setup (told_then _ _ f.told) _ c.in-Err.halt f.turn

@@ -1,11 +1,12 @@
 use Rattle.std.proofs.Common.{◌≡◌, true, refl, sym, ◌∙◌, subst}
+use Rattle.paraid_serve.specs.Causes.{HasCause}
 use Rattle.paraid_serve.specs.Form.{is_answer_to}
 use Rattle.paraid_trace.specs.Asked.{event_with}
 use Rattle.paraid_trace.specs.declared.asked.Asked.{Asked}
 use Rattle.paraid_base.specs.declared.event.Answer.TheVariants.{Bad as IsBad}
 use Rattle.paraid_rack.specs.Told.{Ran}
 use Rattle.paraid_session.specs.Turn.{GoesOn}
-use Rattle.paraid_serve.proofs.FormLemmas.{halted_kind, not_bad}
+use Rattle.paraid_serve.proofs.FormLemmas.{again_cause, bad_cause, halted_kind, not_bad}
 use Rattle.paraid_serve.proofs.GrowsLemmas.{grows_none}
 use Rattle.paraid_serve.proofs.HaltLemmas.{served_more}
 use Rattle.paraid_serve.proofs.StretchLemmas.{bad_turn, again_turn}
@@ -24,6 +25,9 @@ returns-in-Bad g c = record {
   since = λ start s. s;
   kind = subst (λ (a : Asked). is_answer_to (event_with a c.args.pairs.now) IsBad ≡ true) (sym c.in-Bad.is) refl;
   few = tt;
+  cause =
+      let x = g.A.Serves.shown c.args.array.now in
+      subst (λ (a : Asked). HasCause x (event_with a c.args.pairs.now) IsBad x) (sym c.in-Bad.is) (bad_cause x);
 }
 
 pub returns-in-Some : goal.returns-in-Some
@@ -39,6 +43,7 @@ returns-in-Some g c =
       since = λ start s. s;
       kind = halted_kind event c.in-Some.halt good;
       few = tt;
+      cause = again_cause (g.A.Serves.shown c.args.array.now) event c.in-Some.halt good ((g.met.A.Serves.shows c.args.array.now).halt ∙ sym c.requires.halt ∙ c.in-Some.is);
     }
 
 pub returns : goal.returns
@@ -51,4 +56,5 @@ returns g c = record {
   since = λ start s. served_more start _ _ _ _ _ _ c.serve-answered.ensures.two c.serve-answered.ensures.later s;
   kind = c.serve-answered.ensures.kind;
   few = c.serve-answered.ensures.few;
+  cause = c.serve-answered.ensures.cause;
 }

@@ -1,3 +1,4 @@
+use Rattle.paraid_serve.specs.Causes.{HasCause}
 use Rattle.std.specs.Prelude.{◌≡◌, true}
 use Rattle.std.proofs.Common.{subst, sym}
 use Rattle.paraid_base.specs.declared.event.Answer.{Answer}
@@ -27,6 +28,7 @@ returns-in-Write g c =
       since = e.since;
       kind = subst (λ (x : Answer). is_answer_to c.args.event.now x ≡ true) (sym c.answer.ensures) (subst (λ (event : Event). is_answer_to event told ≡ true) is e.kind);
       few = subst HasFewDisks (sym c.answer.ensures) e.few;
+      cause = subst (λ (x : Answer). HasCause (g.A.Serves.shown a) c.args.event.now x (g.A.Serves.shown b)) (sym c.answer.ensures) (subst (λ (event : Event). HasCause (g.A.Serves.shown a) event told (g.A.Serves.shown b)) is e.cause);
     }
 
 pub returns : goal.returns
@@ -47,4 +49,5 @@ returns g c =
       since = e.since;
       kind = subst (λ (x : Answer). is_answer_to c.args.event.now x ≡ true) (sym c.answer-2.ensures) (subst (λ (event : Event). is_answer_to event told ≡ true) is e.kind);
       few = subst HasFewDisks (sym c.answer-2.ensures) e.few;
+      cause = subst (λ (x : Answer). HasCause (g.A.Serves.shown a) c.args.event.now x (g.A.Serves.shown b)) (sym c.answer-2.ensures) (subst (λ (event : Event). HasCause (g.A.Serves.shown a) event told (g.A.Serves.shown b)) is e.cause);
     }

@@ -2,6 +2,7 @@ use Rattle.std.proofs.Common.{Option, refl, sym, ◌∙◌, ◌≢◌, subst}
 use Rattle.paraid_base.specs.declared.event.Event.TheVariants.{Bad, Flush}
 use Rattle.paraid_base.specs.declared.fault.Halt.{Halt}
 use Rattle.paraid_serve.specs.Lost.{HaltsByWear, HasServedSince}
+use Rattle.paraid_serve.proofs.FormLemmas.{again_cause}
 use Rattle.paraid_serve.proofs.GrowsLemmas.{grows_none}
 use Rattle.paraid_serve.proofs.HaltLemmas.{served_more}
 use Rattle.paraid_serve.proofs.StretchLemmas.{again_turn}
@@ -19,6 +20,7 @@ returns-in-Some g c = record {
   going = tt;
   since = λ start s. subst (λ (o : Option Halt). HasServedSince start (g.A.Serves.slot c.args.array.now) o) (sym c.requires.halt ∙ c.in-Some.is) s;
   worn = subst HaltsByWear (sym c.requires.halt ∙ c.in-Some.is) (g.met.A.Serves.worn c.args.array.now);
+  cause = again_cause (g.A.Serves.shown c.args.array.now) Flush c.in-Some.halt apart ((g.met.A.Serves.shows c.args.array.now).halt ∙ sym c.requires.halt ∙ c.in-Some.is);
 }
 
 pub returns-in-Err : goal.returns-in-Err
@@ -30,6 +32,7 @@ returns-in-Err g c = record {
   going = tt;
   since = λ start s. subst (λ (o : Option Halt). HasServedSince start (g.A.Serves.slot c.flush.new.self) o) c.in-Err.ensures.halt (served_more start _ _ _ _ _ _ c.flush.ensures.two c.flush.ensures.later s);
   worn = subst HaltsByWear c.in-Err.ensures.halt (g.met.A.Serves.worn c.flush.new.self);
+  cause = c.in-Err.ensures.cause;
 }
 
 pub returns-in-Ok : goal.returns-in-Ok
@@ -41,4 +44,5 @@ returns-in-Ok g c = record {
   going = c.in-Ok.ensures.halt;
   since = tt;
   worn = tt;
+  cause = c.in-Ok.ensures.cause;
 }

@@ -11,7 +11,7 @@ use Rattle.paraid_serve.proofs.run.session.Goals as goal
 
 pub lines-init : goal.lines-init
 lines-init g c = record {
-  sofar = rw c.new-reader.ensures (sofar_start _ _ _ _ _ _);
+  sofar = rw c.new-reader.ensures (sofar_start _ _ _ _ _ _ _);
   told = grows_none _;
   slots = refl;
   setup = refl;
@@ -28,7 +28,7 @@ lines-preserved g c =
     let k = c.in-Ok.ensures in
     let h = rw c.in-Ok-Some.field-0-is at c.in-Ok-Some.ensures.heard in
     record {
-      sofar = sofar_more i.sofar h c.in-Ok-Some.ensures.goes_on (answer_with c.answer-answered.result c.answer-answered.new.beside) e.kind _ _ _ _ _ i.slots i.setup (told_then _ _ e.told) e.turn (rw (c.as_slice.ensures.value, c.reply_with.ensures.value) at k.grows);
+      sofar = sofar_more i.sofar h c.in-Ok-Some.ensures.goes_on (answer_with c.answer-answered.result c.answer-answered.new.beside) e.kind _ e.cause _ _ _ _ _ i.slots i.setup (told_then _ _ e.told) e.turn (rw (c.as_slice.ensures.value, c.reply_with.ensures.value) at k.grows);
       told = grows_then _ _ _ i.told e.told;
       slots = e.slots ∙ i.slots;
       setup = e.setup ∙ i.setup;
@@ -73,7 +73,7 @@ returns-in_default g c = record {
       let e = c.answer-answered.ensures in
       let p = c.in_default.ensures.part in
       let h = rw c.in-Ok-Some.field-0-is at c.in-Ok-Some.ensures.heard in
-      ends_at_sink i.sofar h (answer_with c.answer-answered.result c.answer-answered.new.beside) e.kind _ _ _ _ _ i.slots i.setup (told_then _ _ e.told) e.turn p.0 (rw (c.as_slice.ensures.value, c.reply_with.ensures.value) at p.2);
+      ends_at_sink i.sofar h (answer_with c.answer-answered.result c.answer-answered.new.beside) e.kind _ e.cause _ _ _ _ _ i.slots i.setup (told_then _ _ e.told) e.turn p.0 (rw (c.as_slice.ensures.value, c.reply_with.ensures.value) at p.2);
   told = grows_then _ _ _ c.lines.invariant.told c.answer-answered.ensures.told;
   setup = c.answer-answered.ensures.setup ∙ c.lines.invariant.setup;
   going = tt;
@@ -90,7 +90,7 @@ returns-in-Ok-finish g c = record {
   session =
       let i = c.lines.invariant in
       let f = c.in-Ok-finish.ensures in
-      ends_well i.sofar (rw c.in-Ok-None.field-0-is at c.in-Ok-None.ensures.heard) _ _ _ _ i.slots i.setup (told_then _ _ f.told) c.in-Ok-finish.writes f.turn;
+      ends_well i.sofar (rw c.in-Ok-None.field-0-is at c.in-Ok-None.ensures.heard) _ _ _ _ i.slots i.setup (told_then _ _ f.told) c.in-Ok-finish.writes _ f.cause f.turn;
   told = grows_then _ _ _ c.lines.invariant.told c.in-Ok-finish.ensures.told;
   setup = c.in-Ok-finish.ensures.setup ∙ c.lines.invariant.setup;
   going = c.in-Ok-finish.ensures.going;
@@ -107,7 +107,7 @@ returns-in-Err g c = record {
   session =
       let i = c.lines.invariant in
       let f = c.in-Err.ensures in
-      ends_halted i.sofar (rw c.in-Ok-None.field-0-is at c.in-Ok-None.ensures.heard) _ _ _ _ i.slots i.setup (told_then _ _ f.told) c.in-Err.halt f.turn;
+      ends_halted i.sofar (rw c.in-Ok-None.field-0-is at c.in-Ok-None.ensures.heard) _ _ _ _ i.slots i.setup (told_then _ _ f.told) c.in-Err.halt _ f.cause f.turn;
   told = grows_then _ _ _ c.lines.invariant.told c.in-Err.ensures.told;
   setup = c.in-Err.ensures.setup ∙ c.lines.invariant.setup;
   going = tt;

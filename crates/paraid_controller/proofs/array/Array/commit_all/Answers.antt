@@ -1,3 +1,7 @@
+use Rattle.paraid_base.specs.declared.event.Event.TheVariants.{Flush}
+use Rattle.paraid_base.specs.declared.event.Answer.TheVariants.{Flushed}
+use Rattle.paraid_controller.specs.Arrays.{shown_of_array}
+use Rattle.paraid_controller.proofs.CauseLemmas.{accepted, done_cause, plus_none, takes, two_cause}
 use Rattle.paraid_controller.specs.Lasting.{halt_of_end}
 use Rattle.std.proofs.Common.{refl, ap, ◌∙◌, Some, true, arith}
 use Rattle.paraid_base.specs.declared.fault.Halt.TheVariants.{Two as HaltTwo}
@@ -48,6 +52,8 @@ returns-in-Ok g c = record {
     later = no_fall_counts (g.R.Rack.slot (store_rack c.args.self.now.core.store)) (g.R.Rack.slot (store_rack c.commit.new.self.store)) c.commit.ensures.spared.no_fall;
     kind = refl;
     few = tt;
+    cause = done_cause (shown_of_array g.R.Rack.slot c.args.self.now) _ Flush (takes (shown_of_array g.R.Rack.slot c.args.self.now) Flush (ap halt_of_end c.requires.going) c.requires.epoch c.requires.writes) refl refl (no_fall_counts (g.R.Rack.slot (store_rack c.args.self.now.core.store)) (g.R.Rack.slot (store_rack c.commit.new.self.store)) c.commit.ensures.spared.no_fall) (Flushed c.meta-2.result.now.writes) (ap halt_of_end c.requires.going)
+        (ap (λ (m : Meta). m.writes) c.meta-2.ensures, accepted (shown_of_array g.R.Rack.slot c.args.self.now) _ 0 c.in-Ok.ensures.marks (c.in-Ok.ensures.writes ∙ plus_none c.args.self.now.core.meta.writes) refl);
   };
 }
 
@@ -70,6 +76,9 @@ returns-in-Err g c = record {
     later = no_fall_counts (g.R.Rack.slot (store_rack c.args.self.now.core.store)) (g.R.Rack.slot (store_rack c.commit.new.self.store)) c.commit.ensures.spared.no_fall;
     kind = refl;
     few = tt;
+    cause = two_cause (shown_of_array g.R.Rack.slot c.args.self.now) _ Flush (takes (shown_of_array g.R.Rack.slot c.args.self.now) Flush (ap halt_of_end c.requires.going) c.requires.epoch c.requires.writes) refl refl (no_fall_counts (g.R.Rack.slot (store_rack c.args.self.now.core.store)) (g.R.Rack.slot (store_rack c.commit.new.self.store)) c.commit.ensures.spared.no_fall) c.in-Err.two refl
+        (let a = c.args.self.now in
+        two_lost (named_of a.core.store) (named_out a.core.meta.out) (a.serving c.requires.going).serving.serves.stays _ _ _ c.in-Err.two c.in-Err.ensures.two);
   };
 }
 

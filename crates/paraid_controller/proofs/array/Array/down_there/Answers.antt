@@ -1,3 +1,8 @@
+use Rattle.paraid_array.proofs.OutLemmas.{fails_newly}
+use Rattle.paraid_controller.specs.Used.{asked_energy}
+use Rattle.paraid_serve.specs.Causes.{HasCause}
+use Rattle.paraid_controller.specs.Arrays.{shown_of_array}
+use Rattle.paraid_controller.proofs.CauseLemmas.{shown_with, down_busy, down_cause, takes, two_cause}
 use Rattle.std.proofs.Common.{◌≡◌, ℕ, refl, sym, ap, ◌∙◌, Some, subst, min, ◌+◌}
 use Rattle.paraid_base.specs.declared.event.Answer.{Answer}
 use Rattle.paraid_base.specs.declared.event.Event.TheVariants.{Bad, Down}
@@ -62,6 +67,17 @@ returns-in-Ok g c = record {
     kind =
         let may : MayTellDown c.in-Ok.asked = down_tells c.args.self.now.core.meta c.down.new.core.meta c.in-Ok.asked (λ f s of why. (c.in-Ok.ensures.refused f s of why).0) c.in-Ok.ensures.begins in
         ap (is_answer_to Down) c.asked_told.ensures ∙ down_kind c.meta.result.now.gear c.in-Ok.asked may;
+    cause =
+        let a = c.args.self.now in
+        let x = c.in-Ok.asked in
+        let done = c.in-Ok.ensures in
+        let q = a.serving c.requires.going in
+        let gear = ap (λ (m : Meta). m.gear) c.meta.ensures in
+        subst (λ (z : Answer). HasCause (shown_of_array g.R.Rack.slot c.args.self.now) Down z (shown_with g.R.Rack.slot c.args.self.now.setup c.down.new.core c.saturating_add-self.result (halt_of_end c.args.self.now.ended))) (sym (c.asked_told.ensures ∙ ap (λ (n : ℕ). asked_answer n x) gear))
+        (down_cause g.R.Rack.slot a c.down.new.core c.saturating_add-self.result q.same_setup (ap halt_of_end c.requires.going) (no_fall_counts (g.R.Rack.slot (store_rack c.args.self.now.core.store)) (g.R.Rack.slot (store_rack c.down.new.core.store)) c.down.ensures.no_fall) done.leaves.writes x
+        (c.saturating_add-self.ensures ∙ ap (λ (n : ℕ). min (a.energy + n) 18446744073709551615) (c.asked_energy-used.ensures ∙ ap (λ (n : ℕ). asked_energy a.setup n x) gear))
+        (fails_newly (g.R.Rack.slot (store_rack a.core.store)) (g.R.Rack.slot (store_rack c.down.new.core.store)) (named_out a.core.meta.out) (named_out c.down.new.core.meta.out) (named_of a.core.store) (named_of c.down.new.core.store) q.serving.serves.stays done.serving.serves.stays done.leaves.down)
+        (takes (shown_of_array g.R.Rack.slot c.args.self.now) Down (ap halt_of_end c.requires.going) c.requires.epoch c.requires.writes) done.refused done.begins done.marks);
     few = subst HasFewDisks (sym c.asked_told.ensures) (asked_few c.meta.result.now.gear c.in-Ok.asked);
   };
 }
@@ -82,6 +98,9 @@ returns-in-Err g c = record {
     later = no_fall_counts (g.R.Rack.slot (store_rack c.args.self.now.core.store)) (g.R.Rack.slot (store_rack c.down.new.core.store)) c.down.ensures.no_fall;
     kind = refl;
     few = tt;
+    cause = two_cause (shown_of_array g.R.Rack.slot c.args.self.now) _ Down (takes (shown_of_array g.R.Rack.slot c.args.self.now) Down (ap halt_of_end c.requires.going) c.requires.epoch c.requires.writes) (down_busy g.R.Rack.slot c.args.self.now (c.args.self.now.serving c.requires.going).same_setup c.in-Err.two _ c.in-Err.ensures.refused) refl (no_fall_counts (g.R.Rack.slot (store_rack c.args.self.now.core.store)) (g.R.Rack.slot (store_rack c.down.new.core.store)) c.down.ensures.no_fall) c.in-Err.two refl
+        (let a = c.args.self.now in
+        two_lost (named_of a.core.store) (named_out a.core.meta.out) (a.serving c.requires.going).serving.serves.stays _ _ _ c.in-Err.two c.in-Err.ensures.two);
   };
 }
 

@@ -1,4 +1,7 @@
-use Rattle.std.proofs.Common.{ℕ, ◌≤◌, refl, subst}
+use Rattle.paraid_machine.specs.Machine.{out_refusal}
+use Rattle.paraid_controller.specs.Arrays.{shown_of_array}
+use Rattle.paraid_controller.proofs.CauseLemmas.{past_disks, quiet_cause, takes}
+use Rattle.std.proofs.Common.{ℕ, ◌≤◌, Some, refl, subst}
 use Rattle.paraid_base.specs.declared.event.Event.TheVariants.{Fail}
 use Rattle.paraid_base.specs.declared.event.Answer.TheVariants.{NoDisk}
 use Rattle.paraid_controller.proofs.StandLemmas.{none_ended}
@@ -22,7 +25,9 @@ returns-then-disk-disks g c =
     record {
       answers =
           quiet_answers g.R.Rack.slot_count g.R.Rack.slot g.R.Rack.told a (Fail c.args.disk) (NoDisk c.args.disk) c.requires.going
-          (fail_refused g.R.Rack.slot_count g.R.Rack.told a c.requires.going fit.0 fit.1 c.args.disk (subst (λ (n : ℕ). n ≤ c.args.disk) c.disks.ensures.value c.if-disk-disks.true)) refl (same_test c.args.disk c.args.disk refl) tt;
+          (fail_refused g.R.Rack.slot_count g.R.Rack.told a c.requires.going fit.0 fit.1 c.args.disk (subst (λ (n : ℕ). n ≤ c.args.disk) c.disks.ensures.value c.if-disk-disks.true)) refl (same_test c.args.disk c.args.disk refl) tt
+          (quiet_cause g.R.Rack.slot a (Fail c.args.disk) (NoDisk c.args.disk) c.requires.going refl (takes (shown_of_array g.R.Rack.slot a) (Fail c.args.disk) c.requires.going fit.0 fit.1)
+          (past_disks c.args.disk a.setup.geometry.disks (out_refusal a.core.meta.out) (Some (NoDisk c.args.disk)) (subst (λ (n : ℕ). n ≤ c.args.disk) c.disks.ensures.value c.if-disk-disks.true)));
     }
 
 pub fail_there-requires : goal.fail_there-requires

@@ -1,3 +1,7 @@
+use Rattle.std.proofs.Common.{Ok}
+use Rattle.paraid_serve.specs.Causes.{HasCause}
+use Rattle.paraid_controller.specs.Arrays.{shown_of_array}
+use Rattle.paraid_controller.proofs.CauseLemmas.{shown_with, fail_busy, fail_cause, takes, two_cause}
 use Rattle.std.proofs.Common.{◌≡◌, refl, sym, ap, ◌∙◌, Some, subst}
 use Rattle.paraid_base.specs.declared.event.Answer.{Answer}
 use Rattle.paraid_base.specs.declared.event.Event.TheVariants.{Bad, Fail}
@@ -58,6 +62,12 @@ returns-in-Ok g c = record {
     two = going_lost _ _ _ _ c.args.self.now.ended c.requires.going;
     later = no_fall_counts (g.R.Rack.slot (store_rack c.args.self.now.core.store)) (g.R.Rack.slot (store_rack c.take_out.new.core.store)) c.take_out.ensures.no_fall;
     kind = ap (is_answer_to (Fail c.args.disk)) c.fail_told.ensures ∙ fail_kind c.args.disk c.args.self.now.core.meta c.take_out.new.core.meta c.in-Ok.refusal c.in-Ok.ensures.refused;
+    cause =
+        let a = c.args.self.now in
+        let done = c.in-Ok.ensures in
+        let q = a.serving c.requires.going in
+        subst (λ (z : Answer). HasCause (shown_of_array g.R.Rack.slot c.args.self.now) (Fail c.args.disk) z (shown_with g.R.Rack.slot c.args.self.now.setup c.take_out.new.core c.args.self.now.energy (halt_of_end c.args.self.now.ended))) (sym c.fail_told.ensures)
+        (fail_cause g.R.Rack.slot a c.take_out.new.core c.args.self.now.energy c.args.disk (takes (shown_of_array g.R.Rack.slot c.args.self.now) (Fail c.args.disk) (ap halt_of_end c.requires.going) c.requires.epoch c.requires.writes) q.same_setup refl (no_fall_counts (g.R.Rack.slot (store_rack c.args.self.now.core.store)) (g.R.Rack.slot (store_rack c.take_out.new.core.store)) c.take_out.ensures.no_fall) done.writes (λ past. (done.no_disk past).1) (λ e low is. (done.out e low is).1) c.in-Ok.refusal (ap halt_of_end c.requires.going) done.refused (λ is. done.taken (ap Ok is)) done.marks done.lost);
     few = subst HasFewDisks (sym c.fail_told.ensures) (fail_few c.args.disk c.in-Ok.refusal);
   };
 }
@@ -78,6 +88,9 @@ returns-in-Err g c = record {
     later = no_fall_counts (g.R.Rack.slot (store_rack c.args.self.now.core.store)) (g.R.Rack.slot (store_rack c.take_out.new.core.store)) c.take_out.ensures.no_fall;
     kind = refl;
     few = tt;
+    cause = two_cause (shown_of_array g.R.Rack.slot c.args.self.now) _ (Fail c.args.disk) (takes (shown_of_array g.R.Rack.slot c.args.self.now) (Fail c.args.disk) (ap halt_of_end c.requires.going) c.requires.epoch c.requires.writes) (fail_busy g.R.Rack.slot c.args.self.now (c.args.self.now.serving c.requires.going).same_setup c.in-Err.two c.args.disk _ c.in-Err.ensures.no_disk c.in-Err.ensures.out) refl (no_fall_counts (g.R.Rack.slot (store_rack c.args.self.now.core.store)) (g.R.Rack.slot (store_rack c.take_out.new.core.store)) c.take_out.ensures.no_fall) c.in-Err.two refl
+        (let a = c.args.self.now in
+        taken_lost (named_of a.core.store) (named_out a.core.meta.out) (a.serving c.requires.going).serving.serves.stays _ _ _ c.in-Err.two c.args.disk refl c.in-Err.ensures.two);
   };
 }
 

@@ -12,6 +12,7 @@ returns g c = record {
   setup = ap (λ (m : Meta). m.setup) c.meta.ensures;
   slots = refl;
   going = refl;
+  energy = refl;
   stands = λ p windows at.
       begins_at g.R.Rack.slot_count g.R.Rack.told _ refl refl refl windows p
       (subst (λ (m : Meta). StandsAt (g.R.Rack.told (core_rack c.args.core)) (service_of g.R.Rack.slot_count c.args.core [] 0 0) m.setup p) (sym c.meta.ensures) at);

@@ -1,3 +1,8 @@
+use Rattle.std.proofs.Common.{◌∙◌}
+use Rattle.paraid_base.specs.declared.event.Event.TheVariants.{Read}
+use Rattle.paraid_base.specs.declared.event.Answer.TheVariants.{Value}
+use Rattle.paraid_controller.specs.Arrays.{shown_of_array}
+use Rattle.paraid_controller.proofs.CauseLemmas.{accepted, done_cause, one_there, plus_none, takes, two_cause}
 use Rattle.paraid_record.specs.declared.meta.Setup.{Setup}
 use Rattle.paraid_machine.specs.Machine.{block_count}
 use Rattle.paraid_controller.proofs.AnswerLemmas.{same_test}
@@ -58,6 +63,8 @@ returns-in-Ok g c = record {
     later = no_fall_counts (g.R.Rack.slot (store_rack c.args.self.now.core.store)) (g.R.Rack.slot (store_rack c.read.new.self.store)) c.read.ensures.spared.no_fall;
     kind = same_test c.args.block c.args.block refl;
     few = tt;
+    cause = done_cause (shown_of_array g.R.Rack.slot c.args.self.now) _ (Read c.args.block) (takes (shown_of_array g.R.Rack.slot c.args.self.now) (Read c.args.block) (ap halt_of_end c.requires.going) c.requires.epoch c.requires.writes) (one_there (block_count c.args.self.now.setup) c.args.block c.requires.block) refl (no_fall_counts (g.R.Rack.slot (store_rack c.args.self.now.core.store)) (g.R.Rack.slot (store_rack c.read.new.self.store)) c.read.ensures.spared.no_fall) (Value c.args.block c.read.new.into) (ap halt_of_end c.requires.going)
+        (refl, accepted (shown_of_array g.R.Rack.slot c.args.self.now) _ 0 c.in-Ok.ensures.marks (c.in-Ok.ensures.writes ∙ plus_none c.args.self.now.core.meta.writes) refl);
   };
 }
 
@@ -79,6 +86,9 @@ returns-in-Err g c = record {
     later = no_fall_counts (g.R.Rack.slot (store_rack c.args.self.now.core.store)) (g.R.Rack.slot (store_rack c.read.new.self.store)) c.read.ensures.spared.no_fall;
     kind = refl;
     few = tt;
+    cause = two_cause (shown_of_array g.R.Rack.slot c.args.self.now) _ (Read c.args.block) (takes (shown_of_array g.R.Rack.slot c.args.self.now) (Read c.args.block) (ap halt_of_end c.requires.going) c.requires.epoch c.requires.writes) (one_there (block_count c.args.self.now.setup) c.args.block c.requires.block) refl (no_fall_counts (g.R.Rack.slot (store_rack c.args.self.now.core.store)) (g.R.Rack.slot (store_rack c.read.new.self.store)) c.read.ensures.spared.no_fall) c.in-Err.two refl
+        (let a = c.args.self.now in
+        two_lost (named_of a.core.store) (named_out a.core.meta.out) (a.serving c.requires.going).serving.serves.stays _ _ _ c.in-Err.two c.in-Err.ensures.two);
   };
 }
 

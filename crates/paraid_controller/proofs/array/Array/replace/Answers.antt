@@ -1,6 +1,9 @@
-use Rattle.std.proofs.Common.{ℕ, ◌≤◌, refl, subst}
+use Rattle.paraid_image.specs.Out.{is_out, named_out}
+use Rattle.paraid_controller.specs.Arrays.{shown_of_array}
+use Rattle.paraid_controller.proofs.CauseLemmas.{past_disks, quiet_cause, takes}
+use Rattle.std.proofs.Common.{ℕ, ◌≤◌, None, Some, if◌then◌else◌, refl, subst}
 use Rattle.paraid_base.specs.declared.event.Event.TheVariants.{Replace}
-use Rattle.paraid_base.specs.declared.event.Answer.TheVariants.{NoDisk}
+use Rattle.paraid_base.specs.declared.event.Answer.TheVariants.{NoDisk, NotOut}
 use Rattle.paraid_controller.proofs.StandLemmas.{none_ended}
 use Rattle.paraid_controller.proofs.AnswerLemmas.{same_test}
 use Rattle.paraid_controller.proofs.AnswersLemmas.{quiet_answers}
@@ -22,7 +25,9 @@ returns-then-disk-disks g c =
     record {
       answers =
           quiet_answers g.R.Rack.slot_count g.R.Rack.slot g.R.Rack.told a (Replace c.args.disk) (NoDisk c.args.disk) c.requires.going
-          (replace_refused g.R.Rack.slot_count g.R.Rack.told a c.requires.going fit.0 fit.1 c.args.disk (subst (λ (n : ℕ). n ≤ c.args.disk) c.disks.ensures.value c.if-disk-disks.true)) refl (same_test c.args.disk c.args.disk refl) tt;
+          (replace_refused g.R.Rack.slot_count g.R.Rack.told a c.requires.going fit.0 fit.1 c.args.disk (subst (λ (n : ℕ). n ≤ c.args.disk) c.disks.ensures.value c.if-disk-disks.true)) refl (same_test c.args.disk c.args.disk refl) tt
+          (quiet_cause g.R.Rack.slot a (Replace c.args.disk) (NoDisk c.args.disk) c.requires.going refl (takes (shown_of_array g.R.Rack.slot a) (Replace c.args.disk) c.requires.going fit.0 fit.1)
+          (past_disks c.args.disk a.setup.geometry.disks (if is_out (named_out a.core.meta.out) c.args.disk then None else Some (NotOut c.args.disk)) (Some (NoDisk c.args.disk)) (subst (λ (n : ℕ). n ≤ c.args.disk) c.disks.ensures.value c.if-disk-disks.true)));
     }
 
 pub replace_there-requires : goal.replace_there-requires

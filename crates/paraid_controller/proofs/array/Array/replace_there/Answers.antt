@@ -1,3 +1,8 @@
+use Rattle.std.proofs.Common.{inl, inr}
+use Rattle.std.proofs.Common.{Ok}
+use Rattle.paraid_serve.specs.Causes.{HasCause}
+use Rattle.paraid_controller.specs.Arrays.{shown_of_array}
+use Rattle.paraid_controller.proofs.CauseLemmas.{shown_with, replace_busy, replace_cause, takes, two_cause}
 use Rattle.std.proofs.Common.{◌≡◌, refl, sym, ap, ◌∙◌, Some, subst}
 use Rattle.paraid_base.specs.declared.event.Answer.{Answer}
 use Rattle.paraid_base.specs.declared.event.Event.TheVariants.{Bad, Replace}
@@ -56,6 +61,14 @@ returns-in-Ok g c = record {
     two = going_lost _ _ _ _ c.args.self.now.ended c.requires.going;
     later = c.replace.ensures.later;
     kind = ap (is_answer_to (Replace c.args.disk)) c.replace_told.ensures ∙ replace_kind c.args.disk c.args.self.now.core.meta c.in-Ok.refusal c.in-Ok.ensures.refused;
+    cause =
+        let a = c.args.self.now in
+        let done = c.in-Ok.ensures in
+        let q = a.serving c.requires.going in
+        subst (λ (z : Answer). HasCause (shown_of_array g.R.Rack.slot c.args.self.now) (Replace c.args.disk) z (shown_with g.R.Rack.slot c.args.self.now.setup c.replace.new.core c.args.self.now.energy (halt_of_end c.args.self.now.ended))) (sym c.replace_told.ensures)
+        (replace_cause g.R.Rack.slot a c.replace.new.core c.args.self.now.energy c.args.disk (takes (shown_of_array g.R.Rack.slot c.args.self.now) (Replace c.args.disk) (ap halt_of_end c.requires.going) c.requires.epoch c.requires.writes) q.same_setup refl (c.replace.ensures.later) done.writes (λ past. (done.missing past).1) (λ low not. (done.in_place low not).1) c.in-Ok.refusal (ap halt_of_end c.requires.going) done.refused
+        (λ is. let there = done.replaced (ap Ok is) in (there.0, there.1, done.fresh (ap Ok is)))
+        (λ is. (done.risen (ap Ok is), done.gone (ap Ok is))));
     few = subst HasFewDisks (sym c.replace_told.ensures) (replace_few c.args.disk c.in-Ok.refusal);
   };
 }
@@ -76,6 +89,9 @@ returns-in-Err g c = record {
     later = c.replace.ensures.later;
     kind = refl;
     few = tt;
+    cause = two_cause (shown_of_array g.R.Rack.slot c.args.self.now) _ (Replace c.args.disk) (takes (shown_of_array g.R.Rack.slot c.args.self.now) (Replace c.args.disk) (ap halt_of_end c.requires.going) c.requires.epoch c.requires.writes) (replace_busy g.R.Rack.slot c.args.self.now (c.args.self.now.serving c.requires.going).same_setup c.in-Err.two c.args.disk _ c.in-Err.ensures.missing c.in-Err.ensures.in_place) refl (c.replace.ensures.later) c.in-Err.two refl
+        (let a = c.args.self.now in
+        two_lost (named_of a.core.store) (named_out a.core.meta.out) (a.serving c.requires.going).serving.serves.stays _ _ _ c.in-Err.two c.in-Err.ensures.two);
   };
 }
 

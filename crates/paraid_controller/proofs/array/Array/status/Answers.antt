@@ -1,7 +1,7 @@
 use Rattle.std.proofs.Common.{◌≡◌, ◌∙◌, Bool, List, length, subst, ap, arith}
 use Rattle.paraid_record.specs.declared.meta.Setup.{Setup}
 use Rattle.paraid_dirty.specs.Table.{dirty_count, is_dirty}
-use Rattle.paraid_controller.proofs.QuietLemmas.{status_is}
+use Rattle.paraid_controller.proofs.QuietLemmas.{status_is, status_shown}
 use Rattle.paraid_controller.proofs.StandLemmas.{none_ended}
 use Rattle.paraid_image.specs.Out.{named_out}
 use Rattle.paraid_record.specs.declared.meta.Meta.{Meta}
@@ -28,4 +28,11 @@ returns g c = record {
       (subst (λ (z : List (List Bool)). c.count.result ≡ dirty_count (is_dirty z) (length z) m.gear c.disks.result) c.dirty.ensures c.count.ensures)
       (serving.serving.ready.rows_are ∙ ap (λ (z : Setup). z.geometry.rows) serving.same_setup) c.disks.ensures;
   down = ap (λ (m : Meta). named_out m.out) c.meta-meta.ensures;
+  shown =
+      let a = c.args.self.now in
+      let serving = a.serving (none_ended a.ended c.requires.going) in
+      let m = c.meta-meta.result.now in
+      status_shown g.R.Rack.slot a m c.meta-meta.ensures c.count.result c.disks.result
+      (subst (λ (z : List (List Bool)). c.count.result ≡ dirty_count (is_dirty z) (length z) m.gear c.disks.result) c.dirty.ensures c.count.ensures)
+      (serving.serving.ready.rows_are ∙ ap (λ (z : Setup). z.geometry.rows) serving.same_setup) c.disks.ensures;
 }

@@ -1,3 +1,5 @@
+use Rattle.paraid_controller.specs.Arrays.{shown_of_array}
+use Rattle.paraid_controller.proofs.CauseLemmas.{quiet_cause, takes_question}
 use Rattle.std.proofs.Common.{refl}
 use Rattle.paraid_base.specs.declared.event.Answer.TheVariants.{Energy as IsEnergy}
 use Rattle.paraid_base.specs.declared.event.Event.TheVariants.{Energy}
@@ -9,5 +11,6 @@ pub returns : goal.returns
 returns g c = record {
   answers =
       quiet_answers g.R.Rack.slot_count g.R.Rack.slot g.R.Rack.told c.args.self.now Energy (IsEnergy c.args.self.now.energy) c.requires.going
-      (energy_asked g.R.Rack.slot_count g.R.Rack.told c.args.self.now c.requires.going) refl refl tt;
+      (energy_asked g.R.Rack.slot_count g.R.Rack.told c.args.self.now c.requires.going) refl refl tt
+      (quiet_cause g.R.Rack.slot c.args.self.now Energy (IsEnergy c.args.self.now.energy) c.requires.going refl (takes_question (shown_of_array g.R.Rack.slot c.args.self.now) Energy c.requires.going refl) refl);
 }

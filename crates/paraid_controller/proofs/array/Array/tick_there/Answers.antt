@@ -1,3 +1,16 @@
+use Rattle.std.proofs.Common.{Option, ◌⊎◌}
+use Rattle.std.proofs.Common.{◌≡◌, ◌≢◌, None, Some}
+use Rattle.paraid_array.proofs.OutLemmas.{fails_newly}
+use Rattle.paraid_array.specs.TickAnswers.{TellsRebuild}
+use Rattle.paraid_base.specs.declared.event.Answer.TheVariants.{Ticked}
+use Rattle.paraid_base.specs.declared.event.Event.TheVariants.{Tick}
+use Rattle.paraid_base.specs.Told.{HasRisen}
+use Rattle.paraid_core.specs.declared.staged.Core.{Core}
+use Rattle.paraid_image.specs.Power.{PowerState}
+use Rattle.paraid_machine.specs.Energy.{tick_energy}
+use Rattle.paraid_serve.specs.Causes.{state_shown}
+use Rattle.paraid_controller.specs.Arrays.{shown_of_array}
+use Rattle.paraid_controller.proofs.CauseLemmas.{out_then, done_cause, ok_event, ok_moved, takes, tick_sum, ticks_by, two_cause}
 use Rattle.paraid_controller.specs.Lasting.{halt_of_end}
 use Rattle.std.proofs.Common.{refl, sym, ap, ◌∙◌, ◌+◌, ◌^◌, ◌<◌, ◌≤◌, Some, ℕ, min, subst}
 use Rattle.paraid_base.specs.declared.fault.Halt.TheVariants.{Two as HaltTwo}
@@ -79,6 +92,42 @@ returns-in-Ok g c = record {
         no_fall_counts (g.R.Rack.slot (store_rack c.args.self.now.core.store)) new (subst (λ (s : Store _ _). (d : ℕ) → (g.R.Rack.slot (store_rack s) d).faults ≤ (new d).faults) c.count_tick.ensures.store c.advance.ensures.no_fall);
     kind = refl;
     few = tt;
+    cause =
+        let a = c.args.self.now in
+        let q = a.serving c.requires.going in
+        let t = c.count_tick.ensures in
+        let mid = c.count_tick.new.self in
+        let new = c.advance.new.core in
+        let done = c.in-Ok.ensures in
+        let s : PowerState = state_shown (shown_of_array g.R.Rack.slot c.args.self.now) in
+        let out : mid.meta.out ≡ a.core.meta.out = ap (λ (m : Meta). m.out) t.meta in
+        let phase : mid.meta.phase ≡ a.core.meta.phase = ap (λ (m : Meta). m.phase) t.meta in
+        done_cause (shown_of_array g.R.Rack.slot c.args.self.now) _ Tick (takes (shown_of_array g.R.Rack.slot c.args.self.now) Tick (ap halt_of_end c.requires.going) c.requires.epoch c.requires.writes) refl refl
+        (let new = g.R.Rack.slot (store_rack c.advance.new.core.store) in
+        no_fall_counts (g.R.Rack.slot (store_rack c.args.self.now.core.store)) new (subst (λ (s : Store _ _). (d : ℕ) → (g.R.Rack.slot (store_rack s) d).faults ≤ (new d).faults) c.count_tick.ensures.store c.advance.ensures.no_fall))
+        (Ticked (report c.meta-in-Ok.result.now.gear c.in-Ok.moved c.in-Ok.event)) (ap halt_of_end c.requires.going)
+        (record {
+          out = λ d is.
+              subst (λ (y : Store _ _). (named_out a.core.meta.out ≡ Some d) ⊎ HasRisen (g.R.Rack.slot (store_rack y) d).faults (g.R.Rack.slot (store_rack new.store) d).faults) t.store
+              (subst (λ (o : Option ℕ). (o ≡ Some d) ⊎ HasRisen (g.R.Rack.slot (store_rack mid.store) d).faults (g.R.Rack.slot (store_rack new.store) d).faults) (ap named_out out)
+              (out_then (g.R.Rack.slot (store_rack mid.store)) (g.R.Rack.slot (store_rack new.store)) (named_out mid.meta.out) (named_out new.meta.out) (named_of mid.store) (named_of new.store) (t.serves q.serving.serves).stays done.serving.serves.stays done.leaves.down d is));
+          gear = ap (λ (m : Meta). m.gear) c.meta-in-Ok.ensures;
+          writes = done.leaves.writes ∙ ap (λ (m : Meta). m.writes) t.meta;
+          energy =
+              tick_sum a.setup a.energy s c.saturating_add-self.result _ (report c.meta-in-Ok.result.now.gear c.in-Ok.moved c.in-Ok.event)
+              (c.saturating_add-self.ensures
+            ∙ ap (λ (n : ℕ). min (a.energy + n) 18446744073709551615) (c.energy_of_tick-used.ensures ∙ ap (λ (m : Meta). sum_before (used_by m) m.setup.geometry.disks) c.meta-2.ensures ∙ tick_uses a.core.meta s refl refl refl ∙ ap (λ (z : Setup). tick_energy z s) q.same_setup))
+              (c.saturating_add-self-in-Ok.ensures ∙ ap (λ (n : ℕ). min (c.saturating_add-self.result + n) 18446744073709551615) (c.begun_energy-begun.ensures ∙ ap (λ (m : Meta). begun_energy a.setup m.gear c.in-Ok.event) c.meta.ensures));
+          by =
+              ticks_by g.R.Rack.slot a new c.saturating_add-self-in-Ok.result q.same_setup c.in-Ok.moved c.in-Ok.event
+              (subst (λ (y : Store _ _). named_out a.core.meta.out ≡ None → (d : ℕ) → named_out new.meta.out ≡ Some d → HasRisen (g.R.Rack.slot (store_rack y) d).faults (g.R.Rack.slot (store_rack new.store) d).faults) t.store
+              (λ none. fails_newly (g.R.Rack.slot (store_rack mid.store)) (g.R.Rack.slot (store_rack new.store)) (named_out mid.meta.out) (named_out new.meta.out) (named_of mid.store) (named_of new.store) (t.serves q.serving.serves).stays done.serving.serves.stays done.leaves.down (ap named_out out ∙ none)))
+              a.core.meta.out refl
+              (λ d is. let w = done.waits d (out ∙ is) in (ok_moved c.in-Ok.moved c.in-Ok.event w.0, ok_event c.in-Ok.moved c.in-Ok.event w.0, ap (λ (z : Core _ _). z.meta.out) w.1 ∙ out ∙ is, ap (λ (z : Core _ _). g.R.Rack.slot (store_rack z.store)) w.1 ∙ ap (λ (y : Store _ _). g.R.Rack.slot (store_rack y)) t.store))
+              (λ d u is. subst (λ (m : Meta). TellsRebuild m new.meta d u c.in-Ok.moved c.in-Ok.event) t.meta (done.rebuilds d u (out ∙ is)))
+              (λ d u is gone. subst (λ (y : Store _ _). HasRisen (g.R.Rack.slot (store_rack y) d).faults (g.R.Rack.slot (store_rack new.store) d).faults) t.store (done.failed d u (out ∙ is) gone))
+              (λ whole shifts. done.moves (out ∙ whole) (λ steady. shifts (sym phase ∙ steady)));
+        });
   };
 }
 
@@ -109,6 +158,16 @@ returns-in-Err g c = record {
         no_fall_counts (g.R.Rack.slot (store_rack c.args.self.now.core.store)) new (subst (λ (s : Store _ _). (d : ℕ) → (g.R.Rack.slot (store_rack s) d).faults ≤ (new d).faults) c.count_tick.ensures.store c.advance.ensures.no_fall);
     kind = refl;
     few = tt;
+    cause = two_cause (shown_of_array g.R.Rack.slot c.args.self.now) _ Tick (takes (shown_of_array g.R.Rack.slot c.args.self.now) Tick (ap halt_of_end c.requires.going) c.requires.epoch c.requires.writes) refl refl
+        (let new = g.R.Rack.slot (store_rack c.advance.new.core.store) in
+        no_fall_counts (g.R.Rack.slot (store_rack c.args.self.now.core.store)) new (subst (λ (s : Store _ _). (d : ℕ) → (g.R.Rack.slot (store_rack s) d).faults ≤ (new d).faults) c.count_tick.ensures.store c.advance.ensures.no_fall)) c.in-Err.two refl
+        (let a = c.args.self.now in
+        let t = c.count_tick.ensures in
+        let new = g.R.Rack.slot (store_rack c.advance.new.core.store) in
+        let counted : AreTwoDown (or_else (named_of a.core.store) (named_out c.count_tick.new.self.meta.out)) (g.R.Rack.slot (store_rack a.core.store)) new c.in-Err.two =
+        subst (λ (s : Store _ _). AreTwoDown (or_else (named_of s) (named_out c.count_tick.new.self.meta.out)) (g.R.Rack.slot (store_rack s)) new c.in-Err.two) t.store c.in-Err.ensures.two in
+        two_lost (named_of a.core.store) (named_out a.core.meta.out) (a.serving c.requires.going).serving.serves.stays _ _ _ c.in-Err.two
+        (subst (λ (m : Meta). AreTwoDown (or_else (named_of a.core.store) (named_out m.out)) (g.R.Rack.slot (store_rack a.core.store)) new c.in-Err.two) t.meta counted));
   };
 }
 

@@ -1,3 +1,5 @@
+use Rattle.paraid_controller.specs.Arrays.{shown_of_array}
+use Rattle.paraid_controller.proofs.CauseLemmas.{worn_cause}
 use Rattle.std.proofs.Common.{refl, ap, Some}
 use Rattle.paraid_base.specs.declared.fault.Halt.TheVariants.{Worn}
 use Rattle.paraid_record.specs.declared.meta.Meta.{Meta}
@@ -24,6 +26,7 @@ returns g c = record {
     later = same_counts (g.R.Rack.slot (store_rack c.args.self.now.core.store));
     kind = halted_kind event _ asked;
     few = tt;
+    cause = worn_cause (shown_of_array g.R.Rack.slot c.args.self.now) _ event c.args.count c.requires.going asked c.requires.many c.requires.is (record { meta = refl; dirty = refl; slot = refl; energy = λ fits. refl }) refl refl (same_counts (g.R.Rack.slot (store_rack c.args.self.now.core.store)));
   };
 }
 

@@ -1,4 +1,7 @@
-use Rattle.std.proofs.Common.{ℕ, ◌<◌, refl, subst}
+use Rattle.paraid_serve.specs.Causes.{missing_answer}
+use Rattle.paraid_controller.specs.Arrays.{shown_of_array}
+use Rattle.paraid_controller.proofs.CauseLemmas.{quiet_cause, takes}
+use Rattle.std.proofs.Common.{ℕ, ◌<◌, ap, refl, subst}
 use Rattle.paraid_base.specs.declared.event.Event.TheVariants.{Write}
 use Rattle.std.specs.Prelude.{All}
 use Rattle.paraid_base.specs.BlockAnswers.{IsFirstMissing}
@@ -29,7 +32,9 @@ returns-in-Some-missing g c =
     record {
       answers =
           quiet_answers g.R.Rack.slot_count g.R.Rack.slot g.R.Rack.told a (Write c.args.pairs.now) (NoBlock block) c.requires.going
-          (write_refused g.R.Rack.slot_count g.R.Rack.told a c.requires.going fit.0 fit.1 c.args.pairs.now block (missing_is (block_count a.setup) entry block missing)) refl refl tt;
+          (write_refused g.R.Rack.slot_count g.R.Rack.told a c.requires.going fit.0 fit.1 c.args.pairs.now block (missing_is (block_count a.setup) entry block missing)) refl refl tt
+          (quiet_cause g.R.Rack.slot a (Write c.args.pairs.now) (NoBlock block) c.requires.going refl (takes (shown_of_array g.R.Rack.slot a) (Write c.args.pairs.now) c.requires.going fit.0 fit.1)
+          (ap missing_answer (missing_is (block_count a.setup) entry block missing)));
     }
 
 pub write_there-requires : goal.write_there-requires

@@ -1,3 +1,7 @@
+use Rattle.paraid_base.specs.declared.event.Event.TheVariants.{Write}
+use Rattle.paraid_base.specs.declared.event.Answer.TheVariants.{Wrote}
+use Rattle.paraid_controller.specs.Arrays.{shown_of_array}
+use Rattle.paraid_controller.proofs.CauseLemmas.{accepted, all_there, done_cause, takes, two_cause}
 use Rattle.paraid_record.specs.declared.meta.Setup.{Setup}
 use Rattle.paraid_machine.specs.Machine.{block_count}
 use Rattle.paraid_base.specs.Pairs.{pairs_of}
@@ -60,6 +64,8 @@ returns-in-Ok g c = record {
     later = no_fall_counts (g.R.Rack.slot (store_rack c.args.self.now.core.store)) (g.R.Rack.slot (store_rack c.write_many.new.self.store)) c.write_many.ensures.spared.no_fall;
     kind = refl;
     few = tt;
+    cause = done_cause (shown_of_array g.R.Rack.slot c.args.self.now) _ (Write c.args.pairs.now) (takes (shown_of_array g.R.Rack.slot c.args.self.now) (Write c.args.pairs.now) (ap halt_of_end c.requires.going) c.requires.epoch c.requires.writes) (all_there (block_count c.args.self.now.setup) (pairs_of c.args.pairs.now) c.requires.blocks) refl (no_fall_counts (g.R.Rack.slot (store_rack c.args.self.now.core.store)) (g.R.Rack.slot (store_rack c.write_many.new.self.store)) c.write_many.ensures.spared.no_fall) (Wrote (c.meta-2.result.now.writes + 1)) (ap halt_of_end c.requires.going)
+        (ap (λ (m : Meta). m.writes + 1) c.meta-2.ensures, accepted (shown_of_array g.R.Rack.slot c.args.self.now) _ 1 c.in-Ok.ensures.marks c.in-Ok.ensures.writes refl);
   };
 }
 
@@ -81,6 +87,9 @@ returns-in-Err g c = record {
     later = no_fall_counts (g.R.Rack.slot (store_rack c.args.self.now.core.store)) (g.R.Rack.slot (store_rack c.write_many.new.self.store)) c.write_many.ensures.spared.no_fall;
     kind = refl;
     few = tt;
+    cause = two_cause (shown_of_array g.R.Rack.slot c.args.self.now) _ (Write c.args.pairs.now) (takes (shown_of_array g.R.Rack.slot c.args.self.now) (Write c.args.pairs.now) (ap halt_of_end c.requires.going) c.requires.epoch c.requires.writes) (all_there (block_count c.args.self.now.setup) (pairs_of c.args.pairs.now) c.requires.blocks) refl (no_fall_counts (g.R.Rack.slot (store_rack c.args.self.now.core.store)) (g.R.Rack.slot (store_rack c.write_many.new.self.store)) c.write_many.ensures.spared.no_fall) c.in-Err.two refl
+        (let a = c.args.self.now in
+        two_lost (named_of a.core.store) (named_out a.core.meta.out) (a.serving c.requires.going).serving.serves.stays _ _ _ c.in-Err.two c.in-Err.ensures.two);
   };
 }
 

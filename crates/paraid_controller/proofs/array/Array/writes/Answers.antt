@@ -4,4 +4,4 @@ use Rattle.paraid_controller.proofs.FirstLemmas.{writes_at}
 use Rattle.paraid_controller.proofs.array.Array.writes.Goals as goal
 
 pub returns : goal.returns
-returns g c = record { point = λ going p at. ap (λ (m : Meta). m.writes) c.meta.ensures ∙ writes_at g.R.Rack.slot_count g.R.Rack.told c.args.self.now going p at }
+returns g c = record { point = λ going p at. ap (λ (m : Meta). m.writes) c.meta.ensures ∙ writes_at g.R.Rack.slot_count g.R.Rack.told c.args.self.now going p at; shown = ap (λ (m : Meta). m.writes) c.meta.ensures }

@@ -26,4 +26,5 @@ returns g c =
       halt = it.halt ∙ flush_halts c.flush.result;
       two = it.two;
       later = it.later;
+      cause = it.cause;
     }

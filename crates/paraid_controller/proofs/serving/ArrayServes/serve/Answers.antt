@@ -27,4 +27,5 @@ returns g c =
       later = it.later;
       kind = it.kind;
       few = it.few;
+      cause = it.cause;
     }

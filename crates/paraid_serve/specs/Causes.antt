@@ -1,0 +1,272 @@
+-- Why an array answers an event so, whatever its rack holds: by its meta before and after, and by the counts of its slots.
+use Rattle.std.specs.Prelude.{◌≡◌, ◌≢◌, ℕ, ◌+◌, ◌<◌, ◌≤◌, ◌^◌, ◌⊎◌, ◌&&◌, nat_le, nat_lt, max, Bool, true, List, [], ◌∷◌, Option, Some, None, slice_index, if◌then◌else◌}
+use Rattle.paraid_base.specs.declared.event.Answer.{Answer}
+use Rattle.paraid_base.specs.declared.event.Answer.TheVariants.{Value, NoBlock, Wrote, Flushed, Ticked, Shift, Top, Lowest, Failed, Replaced, NoDisk, Out as IsOut, NotOut, NoFresh, State as IsState, Energy as EnergyUsed, Bad as IsBad, Halted}
+use Rattle.paraid_base.specs.declared.event.Event.{Event}
+use Rattle.paraid_base.specs.declared.event.Event.TheVariants.{Read, Write, Flush, Tick, Up, Down, Fail, Replace, State as AskState, Energy as AskEnergy, Bad}
+use Rattle.paraid_base.specs.declared.fault.Halt.{Halt}
+use Rattle.paraid_base.specs.declared.fault.Halt.TheVariants.{Two as HaltTwo, Worn}
+use Rattle.paraid_base.specs.declared.fault.Two.{Two}
+use Rattle.paraid_base.specs.declared.state.GearReport.{GearReport}
+use Rattle.paraid_base.specs.declared.state.Out.{Out}
+use Rattle.paraid_base.specs.declared.state.Out.TheVariants.{No, Gone, Fresh}
+use Rattle.paraid_base.specs.declared.state.Phase.{Phase}
+use Rattle.paraid_base.specs.declared.state.Phase.TheVariants.{Steady as IsSteady, Down as IsDown, Up as IsUp}
+use Rattle.paraid_base.specs.declared.state.TickEvent.{TickEvent}
+use Rattle.paraid_base.specs.declared.state.TickEvent.TheVariants.{Steady, Waiting, Moving, Flipped, Begun, Rebuilt, Gone as GoneAgain, Lost, Ration}
+use Rattle.paraid_base.specs.Gears.{next_higher, next_lower}
+use Rattle.paraid_base.specs.Pairs.{pairs_of}
+use Rattle.paraid_base.specs.Told.{HasRisen}
+use Rattle.paraid_image.specs.Mark.{meta_after_loss}
+use Rattle.paraid_image.specs.Out.{is_out, named_out}
+use Rattle.paraid_image.specs.Power.{PowerState}
+use Rattle.paraid_machine.specs.Energy.{energy_after}
+use Rattle.paraid_machine.specs.Machine.{block_count, blocks_named, first_missing, out_refusal, ration_refusal, refusal_else, shift_refusal, state_status}
+use Rattle.paraid_machine.specs.Moves.{first_worn, units_to_rebuild}
+use Rattle.paraid_rack.specs.Slots.{Slot}
+use Rattle.paraid_record.specs.declared.meta.Meta.{Meta}
+use Rattle.paraid_record.specs.declared.meta.Setup.{Setup}
+use Rattle.paraid_session.specs.Faults.{HaveNotFallen}
+use Rattle.paraid_session.specs.Turn.{halt_told, may_halt}
+use Rattle.paraid_serve.specs.Lost.{AreTwoLost}
+
+-- What is seen of an array: what it is configured to be; the meta under which it serves, and its dirty cells; the slots of its
+-- rack; the energy that it has used; and the halt that has come.
+pub record Shown : Type 0 where
+  pub setup : Setup
+  pub meta : Meta
+  pub dirty : ℕ → ℕ → Bool
+  pub slot : ℕ → Slot
+  pub energy : ℕ
+  pub halt : Option Halt
+
+-- it is seen with this setup, these slots and this halt
+pub record Shows (x : Shown) (own : Setup) (slots : ℕ → Slot) (ended : Option Halt) : Type 0 where
+  pub setup : x.setup ≡ own
+  pub slot : x.slot ≡ slots
+  pub halt : x.halt ≡ ended
+
+-- the state that its events see, but for the samples
+abbrev pub state_shown : Shown → PowerState
+state_shown x = record {
+  gear = x.meta.gear;
+  phase = x.meta.phase;
+  dirty = x.dirty;
+  fill = x.meta.fill;
+  out = x.meta.out;
+  spins = x.meta.spins;
+  ticks = x.meta.ticks;
+  samples = [];
+  served = 0;
+}
+
+-- the first of these blocks that there is not is answered
+abbrev pub missing_answer : Option ℕ → Option Answer
+missing_answer None = None
+missing_answer (Some block) = Some (NoBlock block)
+
+-- why a shift up is refused, where it is: there is no higher gear, a shift is under way, or a disk is out
+abbrev pub up_refusal : Option ℕ → PowerState → Option Answer
+up_refusal None s = Some Top
+up_refusal (Some to) s = shift_refusal s.phase s.out
+
+-- why one down is, where it is; a worn disk comes last
+abbrev pub down_refusal : Setup → Option ℕ → PowerState → Option Answer
+down_refusal setup None s = Some Lowest
+down_refusal setup (Some to) s = refusal_else (shift_refusal s.phase s.out) (ration_refusal (first_worn setup s to))
+
+-- What an event is answered for which the array does nothing, where it does nothing. So no block, no disk and no shift is refused
+-- that there is, and none is served that there is not.
+abbrev pub quiet_answer : Shown → Event → Option Answer
+quiet_answer x (Read block) = missing_answer (first_missing (block_count x.setup) (block ∷ []))
+quiet_answer x (Write pairs) = missing_answer (first_missing (block_count x.setup) (blocks_named (pairs_of pairs)))
+quiet_answer x Flush = None
+quiet_answer x Tick = None
+quiet_answer x Up = up_refusal (next_higher x.setup.geometry x.meta.gear) (state_shown x)
+quiet_answer x Down = down_refusal x.setup (next_lower x.setup.geometry x.meta.gear) (state_shown x)
+quiet_answer x (Fail d) = if nat_lt d x.setup.geometry.disks then out_refusal x.meta.out else Some (NoDisk d)
+quiet_answer x (Replace d) = if nat_lt d x.setup.geometry.disks then (if is_out (named_out x.meta.out) d then None else Some (NotOut d)) else Some (NoDisk d)
+quiet_answer x AskState = Some (IsState (state_status x.setup x.meta.writes (state_shown x)) x.setup.geometry.disks)
+quiet_answer x AskEnergy = Some (EnergyUsed x.energy)
+quiet_answer x Bad = None
+
+-- how many commits or writes were made, the greater of the two
+abbrev pub wear_shown : Shown → ℕ
+wear_shown x = max x.meta.epoch x.meta.writes
+
+-- it serves, and takes the event
+pub record Takes (x : Shown) (event : Event) : Type 0 where
+  pub going : x.halt ≡ None
+  pub fit : may_halt event ≡ true → wear_shown x < 2 ^ 62
+
+-- no energy was used; a sum is one of 64 bits
+abbrev pub KeepsEnergy : Shown → Shown → Type 0
+KeepsEnergy old new = old.energy ≤ 18446744073709551615 → new.energy ≡ old.energy
+
+-- nothing has changed but the halt
+pub record IsUnchanged (old new : Shown) : Type 0 where
+  pub meta : new.meta ≡ old.meta
+  pub dirty : new.dirty ≡ old.dirty
+  pub slot : new.slot ≡ old.slot
+  pub energy : KeepsEnergy old new
+
+-- disk `d` has failed in the event
+abbrev pub HasFailed : Shown → Shown → ℕ → Type 0
+HasFailed old new d = HasRisen (old.slot d).faults (new.slot d).faults
+
+-- the meta with the marks of a disk that is lost, or of none
+abbrev pub meta_marked : Option ℕ → Meta → Meta
+meta_marked None m = m
+meta_marked (Some d) m = meta_after_loss m d
+
+-- The meta is as it was, but for its counts of commits and writes, and for the marks of a disk that has failed in the event
+-- while no other one was out. So many writes were accepted, and no energy was used.
+pub record Accepts (old new : Shown) (count : ℕ) : Type 0 where
+  pub lost : Option ℕ
+  pub is : new.meta ≡ record (meta_marked lost old.meta) { epoch = new.meta.epoch; writes = new.meta.writes }
+  pub alone : (d x : ℕ) → lost ≡ Some d → named_out old.meta.out ≡ Some x → x ≡ d
+  pub failed : (d : ℕ) → lost ≡ Some d → HasFailed old new d
+  pub writes : new.meta.writes ≡ old.meta.writes + count
+  pub energy : KeepsEnergy old new
+
+-- the meta is as it was, but for the marks that disk `d` is gone; no energy was used
+pub record TakesOut (old new : Shown) (d : ℕ) : Type 0 where
+  pub is : new.meta ≡ record (meta_after_loss old.meta d) { epoch = new.meta.epoch }
+  pub energy : KeepsEnergy old new
+
+-- where no disk was out, disk `d` has failed in the event, and that is marked
+pub record LosesFirst (old new : Shown) (d : ℕ) : Type 0 where
+  pub none : named_out old.meta.out ≡ None
+  pub failed : HasFailed old new d
+  pub marks : TakesOut old new d
+
+-- A shift has begun by the meta, with so many spin-ups more by disk; a disk that has failed in the event may be marked in it.
+pub record Begins (old new : Shown) (phase : Phase) (raised : ℕ → ℕ) : Type 0 where
+  pub lost : Option ℕ
+  pub is : new.meta ≡ record (meta_marked lost (record old.meta { phase = phase; fill = 0 })) { epoch = new.meta.epoch; spins = new.meta.spins }
+  pub failed : (d : ℕ) → lost ≡ Some d → HasFailed old new d
+  pub spins : (d : ℕ) → slice_index new.meta.spins d ≡ slice_index old.meta.spins d + raised d
+
+-- one for each disk that comes up
+abbrev pub spins_up : ℕ → ℕ → ℕ → ℕ
+spins_up gear to d = if nat_le gear d && nat_lt d to then 1 else 0
+
+-- disk `d` is replaced or gone, with no spin-up counted; a shift down has ended, and nothing else has changed
+pub record Replaces (old new : Shown) (d : ℕ) (state : Out) : Type 0 where
+  pub writes : new.meta.writes ≡ old.meta.writes
+  pub energy : KeepsEnergy old new
+  pub is : new.meta ≡ record (meta_after_loss old.meta d) { epoch = new.meta.epoch; out = state; spins = new.meta.spins }
+  pub cleared : slice_index new.meta.spins d ≡ 0
+  pub others : (e : ℕ) → e ≢ d → slice_index new.meta.spins e ≡ slice_index old.meta.spins e
+
+abbrev pub DoesRead : ℕ → Shown → Shown → Answer → Type 0
+DoesRead block old new (Value b bytes) = (b ≡ block) × Accepts old new 0
+DoesRead block old new answer = ⊥
+
+abbrev pub DoesWrite : Shown → Shown → Answer → Type 0
+DoesWrite old new (Wrote number) = (number ≡ old.meta.writes + 1) × Accepts old new 1
+DoesWrite old new answer = ⊥
+
+abbrev pub DoesFlush : Shown → Shown → Answer → Type 0
+DoesFlush old new (Flushed writes) = (writes ≡ old.meta.writes) × Accepts old new 0
+DoesFlush old new answer = ⊥
+
+-- a shift begins to this next gear, or a disk is lost with what was staged
+abbrev pub DoesShift : Option ℕ → (ℕ → Type 0) → Shown → Shown → Answer → Type 0
+DoesShift next begins old new (Shift gear to) =
+    begins to × (gear ≡ old.meta.gear) × (next ≡ Some to) × (new.meta.writes ≡ old.meta.writes)
+    × (new.energy ≡ energy_after old.setup old.energy (state_shown old) (Shift gear to))
+DoesShift next begins old new (IsOut d) = LosesFirst old new d
+DoesShift next begins old new answer = ⊥
+
+abbrev pub DoesFail : ℕ → Shown → Shown → Answer → Type 0
+DoesFail disk old new (Failed d) = (d ≡ disk) × TakesOut old new disk
+DoesFail disk old new (IsOut d) = (d ≢ disk) × LosesFirst old new d
+DoesFail disk old new answer = ⊥
+
+abbrev pub DoesReplace : ℕ → Shown → Shown → Answer → Type 0
+DoesReplace disk old new (Replaced d) = (d ≡ disk) × Replaces old new disk (Fresh disk 0)
+DoesReplace disk old new (NoFresh d) = (d ≡ disk) × HasFailed old new disk × Replaces old new disk (Gone disk)
+DoesReplace disk old new answer = ⊥
+
+-- a tick that rebuilds disk `d`, of which so many units are left
+abbrev pub Rebuilds : ℕ → ℕ → ℕ → Shown → Shown → ℕ → TickEvent → Type 0
+Rebuilds left d rebuilt old new count Moving = (count ≡ old.setup.rate) × (old.setup.rate < left) × (new.meta.out ≡ Fresh d (rebuilt + count))
+Rebuilds left d rebuilt old new count (Rebuilt e) = (e ≡ d) × (count ≡ left) × (left ≤ old.setup.rate) × (new.meta.out ≡ No)
+Rebuilds left d rebuilt old new count (GoneAgain e) = (e ≡ d) × (count ≡ 0) × (new.meta.out ≡ Gone d) × HasFailed old new d
+Rebuilds left d rebuilt old new count event = ⊥
+
+-- one of a shift moves on, ends it, or loses a disk
+abbrev pub MovesOn : Shown → Shown → TickEvent → Type 0
+MovesOn old new Moving = new.meta.out ≡ No
+MovesOn old new Flipped = new.meta.phase ≡ IsSteady
+MovesOn old new (Lost d) = (named_out new.meta.out ≡ Some d) × HasFailed old new d
+MovesOn old new event = ⊥
+
+abbrev pub MovesBy : Phase → Shown → Shown → ℕ → TickEvent → Type 0
+-- the samples decide
+MovesBy IsSteady old new count event = Unit {0}
+MovesBy (IsDown to) old new count event = MovesOn old new event
+MovesBy (IsUp to) old new count event = MovesOn old new event
+
+abbrev pub TicksBy : Out → Shown → Shown → ℕ → TickEvent → Type 0
+TicksBy No old new count event = MovesBy old.meta.phase old new count event
+TicksBy (Gone d) old new count event = (count ≡ 0) × (event ≡ Waiting) × (new.meta.out ≡ Gone d) × (new.slot ≡ old.slot)
+TicksBy (Fresh d rebuilt) old new count event = Rebuilds (units_to_rebuild old.setup (state_shown old) d rebuilt) d rebuilt old new count event
+
+-- A tick tells the gear that it leaves; no write was accepted, and a disk that is out then was so before or has failed in it.
+pub record Advances (old new : Shown) (report : GearReport) : Type 0 where
+  pub out : (d : ℕ) → named_out new.meta.out ≡ Some d → (named_out old.meta.out ≡ Some d) ⊎ HasFailed old new d
+  pub gear : report.gear ≡ new.meta.gear
+  pub writes : new.meta.writes ≡ old.meta.writes
+  pub energy : new.energy ≡ energy_after old.setup old.energy (state_shown old) (Ticked report)
+  pub by : TicksBy old.meta.out old new report.moved report.event
+
+abbrev pub DoesTick : Shown → Shown → Answer → Type 0
+DoesTick old new (Ticked report) = Advances old new report
+DoesTick old new answer = ⊥
+
+-- what the array does for an event that is not answered quietly
+abbrev pub Does : Shown → Event → Answer → Shown → Type 0
+Does old (Read block) answer new = DoesRead block old new answer
+Does old (Write pairs) answer new = DoesWrite old new answer
+Does old Flush answer new = DoesFlush old new answer
+Does old Tick answer new = DoesTick old new answer
+Does old Up answer new = DoesShift (next_higher old.setup.geometry old.meta.gear) (λ to. Begins old new (IsUp to) (spins_up old.meta.gear to)) old new answer
+Does old Down answer new = DoesShift (next_lower old.setup.geometry old.meta.gear) (λ to. Begins old new (IsDown to) (λ d. 0)) old new answer
+Does old (Fail d) answer new = DoesFail d old new answer
+Does old (Replace d) answer new = DoesReplace d old new answer
+Does old AskState answer new = ⊥
+Does old AskEnergy answer new = ⊥
+Does old Bad answer new = ⊥
+
+-- Why this is the answer.
+pub data HasReason (old : Shown) (event : Event) (answer : Answer) (new : Shown) : Type 0 where
+  -- a halt had come before, and nothing is done
+  again : (halt : Halt) → old.halt ≡ Some halt → event ≢ Bad → answer ≡ Halted halt → new ≡ old → HasReason old event answer new
+  -- so many commits or writes were made that no more are taken
+  worn : (count : ℕ) → old.halt ≡ None → may_halt event ≡ true → 2 ^ 62 ≤ count → count ≡ wear_shown old → answer ≡ Halted (Worn count)
+      → IsUnchanged old new → HasReason old event answer new
+  -- nothing is done
+  quiet : Takes old event → quiet_answer old event ≡ Some answer → IsUnchanged old new → HasReason old event answer new
+  -- the event is served
+  done : Takes old event → quiet_answer old event ≡ None → Does old event answer new → HasReason old event answer new
+  -- two disks were lost in it
+  two : (pair : Two) → Takes old event → quiet_answer old event ≡ None → answer ≡ Halted (HaltTwo pair)
+      → AreTwoLost (named_out old.meta.out) event old.slot new.slot pair → HasReason old event answer new
+  -- it is no event
+  bad : event ≡ Bad → answer ≡ IsBad → new ≡ old → HasReason old event answer new
+
+-- The event found an array so, is answered so, and leaves it so.
+pub record HasCause (old : Shown) (event : Event) (answer : Answer) (new : Shown) : Type 0 where
+  pub reason : HasReason old event answer new
+  pub setup : new.setup ≡ old.setup
+  pub halt : event ≢ Bad → new.halt ≡ halt_told answer
+  pub later : HaveNotFallen old.slot new.slot
+
+-- Each event is answered with a cause, one after the other.
+abbrev pub HaveCauses : Shown → List Event → List Answer → Shown → Type 0
+HaveCauses old [] [] new = new ≡ old
+HaveCauses old [] (answer ∷ answers) new = ⊥
+HaveCauses old (event ∷ events) [] new = ⊥
+HaveCauses old (event ∷ events) (answer ∷ answers) new = (mid : Shown) × HasCause old event answer mid × HaveCauses mid events answers new
