@@ -192,6 +192,7 @@ steps_counted k j e h lo most s cs steps base w same at =
         still = goes.leaves.still;
         newly = goes.leaves.newly;
         awaited = goes.leaves.awaited;
+        used = goes.leaves.used;
       };
       base_then = goes.base_then;
       room = goes.room;

@@ -429,12 +429,12 @@ module _ {R : Type 0} {g : _} (slot : R → ℕ → Slot) (a : Array R g) (new :
       let of : IsShiftStateOf a.core.meta s = record { gear = refl; phase = refl; out = refl; spins = refl; ticks = refl } in
       elim (up_or a.setup s (next_higher a.setup.geometry s.gear) s.phase s.out refl refl refl) [
         | inl why ↦
-          let both = refused why.0 s of (subst (λ (z : Setup). IsUpRefused z s why.0) (sym same_setup) why.1) in
-          refused_cause UpEvent takes why.0 (same_asked x why.0 both.0) both.1 why.2
+            let both = refused why.0 s of (subst (λ (z : Setup). IsUpRefused z s why.0) (sym same_setup) why.1) in
+            refused_cause UpEvent takes why.0 (same_asked x why.0 both.0) both.1 why.2
         | inr goes ↦
-          done_cause (shown_of_array slot a) (shown_with slot a.setup new sum (halt_of_end a.ended)) UpEvent takes goes.2 refl later (asked_answer a.core.meta.gear x) (going ∙ sym (asked_going a.core.meta.gear x))
-          (begun_does (next_higher a.setup.geometry a.core.meta.gear) (λ to. Begins (shown_of_array slot a) (shown_with slot a.setup new sum (halt_of_end a.ended)) (UpPhase to) (spins_up a.core.meta.gear to)) goes.0 goes.1.next (no_out a.core.meta.out goes.1.at_ease.whole) x refl (begins goes.0 s of (subst (λ (z : Setup). MayGoUp z s goes.0) (sym same_setup) goes.1))
-          (up_begins (no_out a.core.meta.out goes.1.at_ease.whole) marks) (up_stops marks))
+            done_cause (shown_of_array slot a) (shown_with slot a.setup new sum (halt_of_end a.ended)) UpEvent takes goes.2 refl later (asked_answer a.core.meta.gear x) (going ∙ sym (asked_going a.core.meta.gear x))
+            (begun_does (next_higher a.setup.geometry a.core.meta.gear) (λ to. Begins (shown_of_array slot a) (shown_with slot a.setup new sum (halt_of_end a.ended)) (UpPhase to) (spins_up a.core.meta.gear to)) goes.0 goes.1.next (no_out a.core.meta.out goes.1.at_ease.whole) x refl (begins goes.0 s of (subst (λ (z : Setup). MayGoUp z s goes.0) (sym same_setup) goes.1))
+            (up_begins (no_out a.core.meta.out goes.1.at_ease.whole) marks) (up_stops marks))
       ]
 
   pub down_cause : Takes (shown_of_array slot a) DownEvent → ((f : ShiftFault) (s : PowerState) → IsShiftStateOf a.core.meta s → IsDownRefused a.core.meta.setup s f → ◌≡◌ {A = Result Asked Two} (Ok x) (Ok (Refused f)) × (new ≡ a.core))
@@ -444,12 +444,12 @@ module _ {R : Type 0} {g : _} (slot : R → ℕ → Slot) (a : Array R g) (new :
       let of : IsShiftStateOf a.core.meta s = record { gear = refl; phase = refl; out = refl; spins = refl; ticks = refl } in
       elim (down_or a.setup s (next_lower a.setup.geometry s.gear) s.phase s.out refl refl refl) [
         | inl why ↦
-          let both = refused why.0 s of (subst (λ (z : Setup). IsDownRefused z s why.0) (sym same_setup) why.1) in
-          refused_cause DownEvent takes why.0 (same_asked x why.0 both.0) both.1 why.2
+            let both = refused why.0 s of (subst (λ (z : Setup). IsDownRefused z s why.0) (sym same_setup) why.1) in
+            refused_cause DownEvent takes why.0 (same_asked x why.0 both.0) both.1 why.2
         | inr goes ↦
-          done_cause (shown_of_array slot a) (shown_with slot a.setup new sum (halt_of_end a.ended)) DownEvent takes goes.2 refl later (asked_answer a.core.meta.gear x) (going ∙ sym (asked_going a.core.meta.gear x))
-          (begun_does (next_lower a.setup.geometry a.core.meta.gear) (λ to. Begins (shown_of_array slot a) (shown_with slot a.setup new sum (halt_of_end a.ended)) (DownPhase to) (λ d. 0)) goes.0 goes.1.next (no_out a.core.meta.out goes.1.at_ease.whole) x refl (begins goes.0 s of (subst (λ (z : Setup). MayGoDown z s goes.0) (sym same_setup) goes.1))
-          (down_begins (no_out a.core.meta.out goes.1.at_ease.whole) marks) (down_stops marks))
+            done_cause (shown_of_array slot a) (shown_with slot a.setup new sum (halt_of_end a.ended)) DownEvent takes goes.2 refl later (asked_answer a.core.meta.gear x) (going ∙ sym (asked_going a.core.meta.gear x))
+            (begun_does (next_lower a.setup.geometry a.core.meta.gear) (λ to. Begins (shown_of_array slot a) (shown_with slot a.setup new sum (halt_of_end a.ended)) (DownPhase to) (λ d. 0)) goes.0 goes.1.next (no_out a.core.meta.out goes.1.at_ease.whole) x refl (begins goes.0 s of (subst (λ (z : Setup). MayGoDown z s goes.0) (sym same_setup) goes.1))
+            (down_begins (no_out a.core.meta.out goes.1.at_ease.whole) marks) (down_stops marks))
       ]
 
 err_not_ok : {A : Type 0} (two : Two) (x : A) → ◌≡◌ {A = Result A Two} (Err two) (Ok x) → ⊥

@@ -45,6 +45,8 @@ use Rattle.paraid_event.specs.Begins.{BeginsDown, MarksShiftDown}
 use Rattle.paraid_event.specs.Lost.{IsHaltedFrom, TellsTwo}
 use Rattle.paraid_event.specs.Marks.{ArePoweredByGear, IsMarkedBy, ShowsMeta}
 use Rattle.paraid_event.specs.Parts.{AreEventCalls, EndsEvent, LosesInEvent, ServesEvent, committed_meta}
+use Rattle.paraid_event.proofs.UpLemmas.{up_append}
+use Rattle.paraid_event.proofs.UsedLemmas.{part_ups}
 use Rattle.paraid_event.specs.Service.{IsStateOf, Service}
 use Rattle.paraid_event.specs.Stands.{IsMidway, ServiceStandsFor, StandsAt, StandsIn}
 use Rattle.paraid_event.proofs.EndLemmas.{IsOnly, fails_tail, only_is, only_serving}
@@ -331,6 +333,11 @@ module _ (told : Option Trail) (k k1 k2 : Service) (setup : Setup) (p : Point) (
             machine = subst (λ (o : Option ℕ). IsEventStep setup p.history p.energy p.state AskDown o (Shift p.state.gear to) s3) (sym (first_append cs ds none_lost)) begun_step;
             moments = each_append (HoldsWhileServing k.slots p.history p.low b) (IsAllowed setup None) w0 cs ds each1 (each2 ds part2);
             once = let a = attach_append cs ds (part_attaches k p.history p.low p.meta w0 mid0 cs part) (part_attaches k2 p.history p.low ends.keeps.base v1 mid2 ds part2) in omega (arith, a);
+            ups = λ e low.
+                let a = up_append e cs ds in
+                let x = part_ups k p.history p.low p.meta w0 mid0 cs part e in
+                let y = part_ups k2 p.history p.low ends.keeps.base v1 mid2 ds part2 e in
+                omega (arith, a, x, y);
             quiet = λ still none. absurd (false≢true still);
             serving = subst (λ (z : Watch). IsServing z.down) (sym watched) serving3;
             mark = subst (λ (m : ℕ). IsMark m setup begun_point) begins.slots (stands_mark told_then k3 setup begun_point there);

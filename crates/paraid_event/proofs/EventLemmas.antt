@@ -240,6 +240,7 @@ module _ (told : Option Trail) (k : Service) (setup : Setup) (p : Point) (at : S
           machine = machine;
           moments = subst (λ (z : Bounds). HoldsWhileServing k.slots p.history p.low z (watch_of p event answer)) (sym bounds) (subst (HoldsWhileServing k.slots p.history p.low (bounds_at setup p p.state)) (sym starts) rests.kept);
           once = omega arith;
+          ups = λ d low. omega arith;
           quiet = λ quiet none. refl;
           serving = subst (λ (z : Watch). IsServing z.down) (sym starts) (serving_from (named_out p.state.out));
           mark = rests.mark;

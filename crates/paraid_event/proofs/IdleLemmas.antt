@@ -146,6 +146,7 @@ module _ (told : Option Trail) (k k_then : Service) (setup : Setup) (p : Point) 
         machine = machine;
         moments = kept;
         once = omega arith;
+        ups = λ d low. omega arith;
         quiet = λ still none. refl;
         serving = serving_from (named_out p.state.out);
         mark = stands_mark told j setup q there;

@@ -43,3 +43,5 @@ pub mod RejoinLemmas
 pub mod ParkBackLemmas
 pub mod RebuildEndLemmas
 pub mod RebuildFinishLemmas
+pub mod UpLemmas
+pub mod UsedLemmas

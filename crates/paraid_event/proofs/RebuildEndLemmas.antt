@@ -27,6 +27,10 @@ use Rattle.paraid_recover.proofs.DownLemmas.{watched_disks}
 use Rattle.paraid_event.proofs.ApartLemmas.{no_one, tick_not_bad}
 use Rattle.paraid_event.specs.RebuildEnds.{MarksRejoined}
 use Rattle.paraid_event.specs.RebuildTicks.{CountsRebuild}
+use Rattle.paraid_session.specs.Ups.{up_count}
+use Rattle.std.specs.Prelude.{slice_index}
+use Rattle.paraid_event.specs.Steps.{made_by}
+use Rattle.paraid_event.proofs.UsedLemmas.{counted_made}
 use Rattle.paraid_event.specs.Service.{IsStateOf, Service}
 use Rattle.paraid_event.specs.Stands.{IsMidway, StandsAt, StandsIn}
 use Rattle.paraid_event.specs.Steps.{AreStepCalls}
@@ -74,7 +78,8 @@ module _ (told : Option Trail) (k k1 : Service) (setup : Setup) (p : Point) (at 
 
   -- The event has ended: the disk is back.
   module _ (k2 : Service) (counts2 : CountsRebuild k k1 k2) (few_left : left ≤ setup.rate) (cs : List Call) (calls : AreStepCalls k1 p.history p.low bound p.meta w0 cs) (base : Meta) (ended : IsEnded k1 k2 p.history p.low d base (watch_all cs w0))
-      (none_out : k2.meta.out ≡ No) (state2 : IsStateOf k2 (record s1 { out = No })) where
+      (none_out : k2.meta.out ≡ No) (state2 : IsStateOf k2 (record s1 { out = No }))
+      (used2 : (e : ℕ) → e < k1.meta.setup.geometry.disks → up_count e cs + made_by k1.meta p.disks.power e ≤ slice_index k2.meta.spins e) where
     abbrev v : Watch
     v = watch_all cs w0
 
@@ -178,6 +183,11 @@ module _ (told : Option Trail) (k k1 : Service) (setup : Setup) (p : Point) (at 
         machine = machine;
         moments = held;
         once = let a = calls.attaches in omega (arith, a);
+        ups = λ e low.
+            let a = used2 e (subst (λ (z : Setup). e < z.geometry.disks) (sym (setup1 told k k1 setup p at d rebuilt is_fresh counts fit bound few)) low) in
+            let r = counted_made told k k1 setup p at counts e low in
+            let l : slice_index p.state.spins e ≡ slice_index k2.meta.spins e = ap (λ (x : List ℕ). slice_index x e) state2.spins in
+            omega (arith, a, r, l);
         quiet = λ still none. absurd (false≢true (sym busy ∙ still));
         serving = serving2;
         mark = subst (λ (m : ℕ). IsMark m setup q) (ended.slots ∙ slots1 told k k1 setup p at d rebuilt is_fresh counts fit bound few) (stands_mark told_then k2 setup q there);

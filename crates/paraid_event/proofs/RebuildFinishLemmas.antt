@@ -36,9 +36,12 @@ use Rattle.paraid_event.specs.RebuildEnds.FinishesRebuild.{committing, copying}
 use Rattle.paraid_event.specs.RebuildEnds.LosesFinishing.{as_committed, as_copied}
 use Rattle.paraid_event.specs.RebuildEnds.ParksBack.{fails, parks, stays}
 use Rattle.paraid_event.specs.RebuildTicks.{CountsRebuild}
+use Rattle.paraid_session.specs.Ups.{up_count}
+use Rattle.std.specs.Prelude.{slice_index}
+use Rattle.paraid_event.proofs.UpLemmas.{rest_made, up_append}
 use Rattle.paraid_event.specs.Service.{IsStateOf, Service}
 use Rattle.paraid_event.specs.Stands.{ServiceStandsFor, StandsAt}
-use Rattle.paraid_event.specs.Steps.{AreStepCalls, GoesInSteps, IsOnly, IsUnderway, LosesInSteps, ServesAndMarks, StepsInEvent}
+use Rattle.paraid_event.specs.Steps.{AreStepCalls, GoesInSteps, IsOnly, IsUnderway, LosesInSteps, ServesAndMarks, StepsInEvent, made_by}
 use Rattle.paraid_event.specs.Ticks.{CountsTick, IsHaltedWith}
 use Rattle.paraid_event.proofs.EndLemmas.{fails_split}
 use Rattle.paraid_event.proofs.FailLemmas.{watch_append}
@@ -130,6 +133,7 @@ record EndsIn (k k_then : Service) (h : History) (lo bound d : ℕ) (base : Meta
   base_then : Meta
   room : base_then.epoch ≤ base.epoch + bound
   ended : IsEnded k k_then h lo d base_then (watch_all cs w)
+  used : (e : ℕ) → e < k.meta.setup.geometry.disks → up_count e cs + made_by k.meta w.disks.power e ≤ slice_index k_then.meta.spins e
 
 abbrev EndsFrom : Service → Service → History → ℕ → ℕ → ℕ → Disks → List Call → Type 0
 EndsFrom k k_then h lo bound d s cs = (base : Meta) (w : Watch) → w.disks ≡ s → IsUnderway k h lo base w → named_out k.meta.out ≡ Some d → EndsIn k k_then h lo bound d base w cs
@@ -155,6 +159,7 @@ ends_gone k back h lo most d gone s cs from base w same at named =
       base_then = goes.base_then;
       room = goes.room;
       ended = ended_for k back back h lo d goes.base_then (watch_all cs w) goes.slots goes.setup (ended_gone back h lo d goes.base_then (watch_all cs w) goes.ends gone);
+      used = goes.used;
     }
 
 ends_spinning : (k back : Service) (h : History) (lo most d : ℕ) → back.meta.out ≡ No → (d < back.meta.gear) ⊎ (d < rising_to back.meta.phase) → (s : Disks) (cs : List Call) → BackFrom k back h lo most d s cs → EndsFrom k back h lo most d s cs
@@ -166,11 +171,16 @@ ends_spinning k back h lo most d none_out under s cs from base w same at named =
       base_then = goes.base_then;
       room = goes.room;
       ended = ended_for k back back h lo d goes.base_then (watch_all cs w) goes.slots goes.setup (ended_spinning back h lo d goes.base_then (watch_all cs w) goes.ends none_out under);
+      used = goes.used;
     }
 
 parked_ticks : (d : ℕ) (done : Bool) (m : Meta) → (meta_with_lost (lost_by d done) m).ticks ≡ m.ticks
 parked_ticks d true m = refl
 parked_ticks d false m = refl
+
+parked_spins : (d : ℕ) (done : Bool) (m : Meta) → (meta_with_lost (lost_by d done) m).spins ≡ m.spins
+parked_spins d true m = refl
+parked_spins d false m = refl
 
 -- or it is parked, or lost in that
 ends_parked : (k back k_then : Service) (h : History) (lo most d : ℕ) (done : Bool) → back.batch ≡ [] → back.meta.out ≡ No → back.meta.gear ≤ d → rising_to back.meta.phase ≤ d → k_then.slots ≡ back.slots → k_then.meta ≡ meta_with_lost (lost_by d done) back.meta
@@ -192,6 +202,12 @@ ends_parked k back k_then h lo most d done nothing none_out past_gear past_rise 
       ended = subst (IsEnded k k_then h lo d goes.base_then) (sym (watch_append cs (Park d done ∷ []) w))
           (ended_for k back k_then h lo d goes.base_then (watch_all (Park d done ∷ []) v) goes.slots goes.setup
           (ended_parked back h lo d goes.base_then v goes.ends none_out past_gear past_rise done held.lawful held.held k_then slots meta_is keeps));
+      used = λ e low.
+          let a = goes.used e low in
+          let f = up_append e cs (Park d done ∷ []) in
+          let z : up_count e (Park d done ∷ []) ≡ 0 = refl in
+          let l : slice_index k_then.meta.spins e ≡ slice_index back.meta.spins e = ap (λ (m : Meta). slice_index m.spins e) meta_is ∙ ap (λ (x : List ℕ). slice_index x e) (parked_spins d done back.meta) in
+          omega (arith, a, f, z, l);
     })
 
 -- where no disk is attached, the one that is awaited stays so
@@ -222,6 +238,10 @@ ends_steps k k_then h lo bound d named gone s cs from base w same at =
         still = λ e is. still ∙ is;
         newly = λ e is. inl (sym still ∙ is);
         awaited = waits_all cs w it.calls.attaches;
+        used = λ e low.
+            let a = it.used e low in
+            let r = rest_made k_then.meta (watch_all cs w).disks.power it.ended.powered e (subst (λ (z : Setup). e < z.geometry.disks) (sym it.ended.setup) low) in
+            omega (arith, a, r);
       };
       base_then = it.base_then;
       room = it.room;
@@ -342,7 +362,7 @@ module _ (told : Option Trail) (k k1 : Service) (setup : Setup) (p : Point) (at 
         was = r.was;
         calls = r.calls;
         is = r.is;
-        holds = ended_turn told k k1 setup p at d rebuilt is_fresh counts fit bound few k2 counts2 few_left r.calls it.calls it.base_then it.ended out2 state2 told_then (λ u u_tells. ap now (some_trail u t (sym u_tells ∙ tells)) ∙ end);
+        holds = ended_turn told k k1 setup p at d rebuilt is_fresh counts fit bound few k2 counts2 few_left r.calls it.calls it.base_then it.ended out2 state2 it.used told_then (λ u u_tells. ap now (some_trail u t (sym u_tells ∙ tells)) ∙ end);
       }
 
   module _ (before mid told_then : Option Trail) (j back k2 : Service) (most : ℕ) (few : most + 1 ≤ 2 ^ 20) (counts2 : CountsRebuild k k1 k2) (steps : Ran told before (StepsInEvent k1 j h lo most)) where

@@ -45,6 +45,9 @@ use Rattle.paraid_recover.proofs.DownLemmas.{watched_disks}
 use Rattle.paraid_event.proofs.ApartLemmas.{tick_not_bad}
 use Rattle.paraid_event.specs.Lost.{TellsTwo}
 use Rattle.paraid_event.specs.RebuildTicks.{CountsRebuild, MarksGoneAgain, MarksRebuilt}
+use Rattle.std.specs.Prelude.{slice_index}
+use Rattle.paraid_event.proofs.UpLemmas.{made_most}
+use Rattle.paraid_event.proofs.UsedLemmas.{counted_made}
 use Rattle.paraid_event.specs.Service.{IsStateOf, Service}
 use Rattle.paraid_event.specs.Stands.{IsMidway, StandsAt, StandsIn}
 use Rattle.paraid_event.specs.Steps.{AreStepCalls, GoesInSteps, IsOnly, IsUnderway, LosesInSteps, StepsInEvent}
@@ -316,6 +319,12 @@ module _ (told : Option Trail) (k k1 : Service) (setup : Setup) (p : Point) (at 
         machine = machine;
         moments = moments cs goes.calls;
         once = let a = goes.calls.attaches in omega (arith, a);
+        ups = λ e low.
+            let a = goes.leaves.used e (subst (λ (z : Setup). e < z.geometry.disks) (sym setup1) low) in
+            let r = counted_made told k k1 setup p at counts e low in
+            let m = made_most k2.meta v.disks.power e in
+            let l = ap (λ (x : List ℕ). slice_index x e) state2.spins in
+            omega (arith, a, r, m, l);
         quiet = λ still none. absurd (false≢true (sym busy ∙ still));
         serving = serving2;
         mark = subst (λ (m : ℕ). IsMark m setup q) (goes.leaves.slots ∙ slots1) (stands_mark told_then k2 setup q there);

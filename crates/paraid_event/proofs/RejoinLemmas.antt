@@ -33,13 +33,16 @@ use Rattle.paraid_event.proofs.ApartLemmas.{no_one, none_not_fresh}
 use Rattle.paraid_event.specs.Marks.{IsMarkedBy, ShowsMeta}
 use Rattle.paraid_event.specs.Parts.{AreEventCalls, BringsMeta, EndsEvent, committed_meta}
 use Rattle.paraid_event.specs.Parts.BringsMeta.{commit, nothing}
+use Rattle.paraid_session.specs.Ups.{up_count}
+use Rattle.std.specs.Prelude.{slice_index}
+use Rattle.paraid_event.proofs.UpLemmas.{made_most, none_up, up_append}
 use Rattle.paraid_event.specs.Service.{Service}
 use Rattle.paraid_event.specs.Stands.{IsMidway, IsRecordedBy, ServiceStandsFor, StandsIn}
-use Rattle.paraid_event.specs.Steps.{AreStepCalls, GoesInSteps, IsOnly, IsUnderway}
+use Rattle.paraid_event.specs.Steps.{AreStepCalls, GoesInSteps, IsOnly, IsUnderway, made_by}
 use Rattle.paraid_event.proofs.ChainLemmas.{Follows, FollowsLog, commit_within_by, data_transfer, data_within, follows_log_step, kept_end, next_stands, no_attach, only_base, start_follows_log, transfer_each}
 use Rattle.paraid_event.proofs.EndLemmas.{end_follows, failed_absent, fails_below, only_end, only_serving, self_image, stays_off, through_last}
 use Rattle.paraid_event.proofs.FailLemmas.{attach_append, same_base, watch_append}
-use Rattle.paraid_event.proofs.MarksLemmas.{marked_gear, marked_setup, marked_used, out_named, same_ticks, still_shown}
+use Rattle.paraid_event.proofs.MarksLemmas.{marked_gear, marked_setup, marked_used, out_named, same_ticks, still_shown, same_spins}
 use Rattle.paraid_event.proofs.TurnLemmas.{moved_less}
 
 beside_none : (phase : Phase) → phase_beside false phase ≡ phase
@@ -86,6 +89,7 @@ pub record GoesBack (k back : Service) (h : History) (lo most d : ℕ) (base : M
   pub base_then : Meta
   pub room : base_then.epoch ≤ base.epoch + most
   pub ends : IsBack back h lo d base_then (watch_all cs w)
+  pub used : (e : ℕ) → e < k.meta.setup.geometry.disks → up_count e cs + made_by k.meta w.disks.power e ≤ slice_index back.meta.spins e
 
 -- so do others before them
 pub back_after : (i k back : Service) (h : History) (lo most more d : ℕ) (base : Meta) (w : Watch) (cs ds : List Call) (first : GoesInSteps i k h lo most (IsUnderway k h lo) base w cs) → GoesBack k back h lo more d first.base_then (watch_all cs w) ds
@@ -98,6 +102,11 @@ back_after i k back h lo most more d base w cs ds first second = record {
   base_then = second.base_then;
   room = let r = first.room in let s = second.room in omega (arith, r, s);
   ends = subst (IsBack back h lo d second.base_then) (sym (watch_append cs ds w)) second.ends;
+  used = λ e low.
+      let a = first.leaves.used e low in
+      let b = second.used e (subst (λ (z : Setup). e < z.geometry.disks) (sym first.leaves.setup) low) in
+      let f = up_append e cs ds in
+      omega (arith, a, b, f);
 }
 
 -- From where the event is underway the disk is back in memory.
@@ -292,6 +301,11 @@ module _ (copied : Service) (d u : ℕ) (h : History) (lo : ℕ) (base : Meta) (
         ticks = same_ticks v.disks.power j.meta back.meta marks;
         base_then = moved_keeps.0.base;
         room = let e = ap (λ (m : Meta). m.epoch) base_is in let f = next_epoch in omega (arith, e, f);
+        used = λ e below_n.
+            let a = none_up n (gone_out copied.meta.out) w.disks cs e calls in
+            let b = made_most copied.meta w.disks.power e in
+            let f : slice_index back.meta.spins e ≡ slice_index copied.meta.spins e = ap (λ (l : List ℕ). slice_index l e) (same_spins v.disks.power j.meta back.meta marks) in
+            omega (arith, a, b, f);
         ends = record {
           midway = midway;
           only = only_v;

@@ -53,6 +53,9 @@ use Rattle.paraid_event.specs.Lost.{TellsTwo}
 use Rattle.paraid_event.specs.Marks.{ArePoweredByGear, IsMarkedBy, ShowsMeta}
 use Rattle.paraid_event.specs.Parts.{AreEventCalls, EndsEvent, committed_meta}
 use Rattle.paraid_event.specs.Replacements.{CommitsAll, MarksReplaced, with_fresh}
+use Rattle.paraid_session.specs.Ups.{up_count}
+use Rattle.paraid_event.proofs.UpLemmas.{up_append}
+use Rattle.paraid_event.proofs.UsedLemmas.{part_ups}
 use Rattle.paraid_event.specs.Service.{IsStateOf, Service}
 use Rattle.paraid_event.specs.Stands.{IsMidway, ServiceStandsFor, StandsAt, StandsIn}
 use Rattle.paraid_event.proofs.AttachingLemmas.{attach_each, attach_only, attach_powered, attach_rests, attach_spins, attach_stands, each_end, fails_beside, forgotten}
@@ -203,7 +206,7 @@ module _ (told : Option Trail) (k : Service) (setup : Setup) (p : Point) (at : S
   -- The event is answered, and the array stands after it.
   module _ (fresh_came : Bool) (kf : Service) (base : Meta) (all : List Call) (vf : Watch) (watched_all : watch_all all w0 ≡ vf) (mid : IsMidway kf p.history p.low base vf) (is_only : IsOnly (Some d) vf.down) (copies : AreCopiesSynced kf.meta.setup.geometry.disks kf.copied)
       (setup_is : kf.meta.setup ≡ setup) (shown : ShowsMeta vf.disks.power base kf.meta) (powered : ArePoweredByGear vf.disks.power kf.meta) (state : IsStateOf kf (state_of p.state d fresh_came))
-      (energy : kf.energy ≡ k.energy) (slots : kf.slots ≡ k.slots) (each : Held w0 all) (once : attach_count all ≤ 1) (loss : first_lost all ≡ loss_of d fresh_came) where
+      (energy : kf.energy ≡ k.energy) (slots : kf.slots ≡ k.slots) (each : Held w0 all) (once : attach_count all ≤ 1) (none_up : (e : ℕ) → up_count e all ≡ 0) (loss : first_lost all ≡ loss_of d fresh_came) where
     abbrev answer : Answer
     answer = answer_of d fresh_came
 
@@ -319,6 +322,7 @@ module _ (told : Option Trail) (k : Service) (setup : Setup) (p : Point) (at : S
         machine = machine;
         moments = subst (λ (z : Watch). Held z all) (sym watched) each;
         once = once;
+        ups = λ e low. let z = none_up e in omega (arith, z);
         quiet = λ still none. absurd (false≢true (sym busy ∙ still));
         serving = subst (λ (z : Watch). IsServing z.down) (sym whole) (only_serving (Some d) vf.down is_only);
         mark = subst (λ (m : ℕ). IsMark m setup q) slots (stands_mark told_then kf setup q there);
@@ -590,6 +594,7 @@ module _ (told : Option Trail) (k : Service) (setup : Setup) (p : Point) (at : S
             commits.copies_synced setup2 failed_shown failed_powered state2 (commits.energy ∙ ap (λ (z : Service). z.energy) marks.mark) slots2
             (each_append (HoldsWhileServing k.slots p.history p.low b) (IsAllowed setup (Some d)) w0 cs (attach false ∷ []) each1 (attached_each false held))
             (let a = attach_after cs (attach false ∷ []) (part_attaches k1 p.history p.low p.meta w0 mid1 cs part) in omega (arith, a))
+            (λ e. let a = up_append e cs (attach false ∷ []) in let x = part_ups k1 p.history p.low p.meta w0 mid1 cs part e in let z : up_count e (attach false ∷ []) ≡ 0 = refl in omega (arith, a, x, z))
             (first_append cs (attach false ∷ []) none_lost) told_then tells
 
       -- a fresh disk is there
@@ -643,6 +648,14 @@ module _ (told : Option Trail) (k : Service) (setup : Setup) (p : Point) (at : S
             let a = attach_after cs (attach true ∷ ds) (part_attaches k1 p.history p.low p.meta w0 mid1 cs part) in
             let c = part_attaches k3 p.history p.low ends.keeps.base v2 mid3 ds part3 in
             omega (arith, a, c)
+
+        all_up : (ds : List Call) → AreEventCalls k3 p.history p.low ends.keeps.base v2.disks ds → (e : ℕ) → up_count e (cs ++ (attach true ∷ ds)) ≡ 0
+        all_up ds part3 e =
+            let a = up_append e cs (attach true ∷ ds) in
+            let x = part_ups k1 p.history p.low p.meta w0 mid1 cs part e in
+            let y = part_ups k3 p.history p.low ends.keeps.base v2 mid3 ds part3 e in
+            let z : up_count e (attach true ∷ ds) ≡ 0 + up_count e ds = refl in
+            omega (arith, a, x, y, z)
 
         -- a second disk is lost in the commit of the fresh one
         pub fresh_lost : (two : Two) (ds : List Call) → AreEventCalls k3 p.history p.low ends.keeps.base v2.disks ds → TellsTwo k3 two v2.disks ds
@@ -756,7 +769,7 @@ module _ (told : Option Trail) (k : Service) (setup : Setup) (p : Point) (at : S
               → GoesOn k.slots setup p (Replace d) (answer_of d fresh_came) (StandsAt told_then k4 setup) p.disks all
           fresh_turn fresh_came is told_then tells = replaced_turn fresh_came k4 ends3.keeps.base all v4 (watch_append cs (attach true ∷ ds) w0) mid4 only4 commits3.copies_synced setup4 shown4 powered4
               (state_by fresh_came is) (commits3.energy ∙ commits.energy ∙ ap (λ (z : Service). z.energy) marks.mark) (commits3.counts.slots ∙ slots2)
-              (all_each ds part3) (all_once ds part3) (first_append cs (attach true ∷ ds) none_lost ∙ loss_by fresh_came is) told_then tells
+              (all_each ds part3) (all_once ds part3) (all_up ds part3) (first_append cs (attach true ∷ ds) none_lost ∙ loss_by fresh_came is) told_then tells
             where
               state_by : (t : Bool) → k4.meta.out ≡ out_of d t → IsStateOf k4 (state_of p.state d t)
               state_by true z = state_came z

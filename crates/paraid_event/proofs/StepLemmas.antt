@@ -22,9 +22,13 @@ use Rattle.paraid_event.proofs.ApartLemmas.{no_one}
 use Rattle.paraid_event.specs.Lost.{TellsTwo}
 use Rattle.paraid_event.specs.Marks.{ArePoweredByGear, IsMarkedBy, ShowsMeta}
 use Rattle.paraid_event.specs.Parts.{AreEventCalls, EndsEvent, LosesInEvent, committed_meta}
+use Rattle.paraid_session.specs.Ups.{up_count}
+use Rattle.paraid_event.proofs.UpLemmas.{up_append}
+use Rattle.paraid_event.proofs.UsedLemmas.{part_used}
+use Rattle.paraid_record.specs.declared.meta.Setup.{Setup}
 use Rattle.paraid_event.specs.Service.{Service}
 use Rattle.paraid_event.specs.Stands.{IsMidway, ServiceStandsFor}
-use Rattle.paraid_event.specs.Steps.{AreStepCalls, GoesInSteps, IsOnly, IsUnderway, LeavesService, LosesInSteps, LosesShown, ServesShown, StepsInEvent}
+use Rattle.paraid_event.specs.Steps.{AreStepCalls, GoesInSteps, IsOnly, IsUnderway, LeavesService, LosesInSteps, LosesShown, ServesShown, StepsInEvent, made_by}
 use Rattle.paraid_event.proofs.BeginLemmas.{first_append}
 use Rattle.paraid_event.proofs.ChainLemmas.{data_within, transfer_each}
 use Rattle.paraid_event.proofs.EndLemmas.{fails_tail, only_serving}
@@ -132,6 +136,8 @@ module _ (k j : Service) (h : History) (lo most more : ℕ) (Mid : Meta → Watc
         | inr lost ↦ inr (by_first e is lost (first_lost cs) refl)
       ];
       awaited = ap (λ (z : Watch). z.awaited) (watch_append cs ds w) ∙ second.leaves.awaited ∙ first.leaves.awaited;
+      used = λ d low. subst (λ (z : Watch). up_count d (cs ++ ds) + made_by k.meta w.disks.power d ≤ made_by k_then.meta z.disks.power d) (sym (watch_append cs ds w))
+          (let a = first.leaves.used d low in let b = second.leaves.used d (subst (λ (z : Setup). d < z.geometry.disks) (sym first.leaves.setup) low) in let e = up_append d cs ds in omega (arith, a, b, e));
     };
     base_then = second.base_then;
     room = let r = first.room in let s = second.room in omega (arith, r, s);
@@ -185,6 +191,7 @@ module _ (k k_then : Service) (h : History) (lo lo_then : ℕ) (le : lo ≤ lo_t
     still = λ e is. still_named v.disks.power k.meta k_then.meta marks e is;
     newly = newly;
     awaited = part_awaited k h lo base w mid cs part k_then h lo_then ends;
+    used = λ d low. part_used k h lo base w mid cs part k_then h lo_then ends d;
   }
 
   pub one_calls : AreStepCalls k h lo 1 base w cs
@@ -330,6 +337,7 @@ no_steps k h lo s base w same at = record {
     still = λ e is. is;
     newly = λ e is. inl is;
     awaited = refl;
+    used = λ d low. omega arith;
   };
   base_then = base;
   room = omega arith;

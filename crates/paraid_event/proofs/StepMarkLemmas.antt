@@ -22,9 +22,11 @@ use Rattle.paraid_event.specs.Lost.{TellsTwo}
 use Rattle.paraid_event.specs.Marks.{ArePoweredByGear, IsMarkedBy, ShowsMeta}
 use Rattle.paraid_event.specs.Parts.{AreEventCalls, EndsEvent, LosesInEvent, committed_meta}
 use Rattle.paraid_event.specs.Powering.{AreDisksPowered, EndsPowered}
+use Rattle.paraid_session.specs.Ups.{up_count}
+use Rattle.paraid_event.proofs.UsedLemmas.{mark_used, power_used}
 use Rattle.paraid_event.specs.Service.{Service}
 use Rattle.paraid_event.specs.Stands.{IsMidway, ServiceStandsFor}
-use Rattle.paraid_event.specs.Steps.{AreStepCalls, AwaitsCommit, GoesInSteps, IsOnly, IsUnderway, LeavesService, LosesInSteps, LosesPowered, MarksInMemory, PowersFrom, ServesAndMarks, ServesMarked, StepsInEvent, StepsToMark}
+use Rattle.paraid_event.specs.Steps.{AreStepCalls, AwaitsCommit, GoesInSteps, IsOnly, IsUnderway, LeavesService, LosesInSteps, LosesPowered, MarksInMemory, PowersFrom, ServesAndMarks, ServesMarked, StepsInEvent, StepsToMark, made_by}
 use Rattle.paraid_event.proofs.EndLemmas.{end_follows, only_serving}
 use Rattle.paraid_event.proofs.FailLemmas.{same_base}
 use Rattle.paraid_event.proofs.MarksLemmas.{newly_named, same_ticks, still_named}
@@ -83,6 +85,10 @@ module _ (k j : Service) (mark : MarksInMemory k j) (h : History) (lo : ℕ) (ba
     still = λ e is. mark.names ∙ leaves.still e is;
     newly = λ e is. leaves.newly e (sym mark.names ∙ is);
     awaited = leaves.awaited;
+    used = λ d low.
+        let a = leaves.used d low in
+        let b = mark_used k j mark (watch_all cs u).disks.power d (subst (λ (z : Setup). d < z.geometry.disks) (sym leaves.setup) low) in
+        omega (arith, a, b);
   }
 
 -- what is told of parts and a mark after them, where the core stands with the mark too
@@ -152,6 +158,7 @@ cells_after i k j meta slots named h lo most base w cs goes keeps = record {
     still = λ e is. ap (λ (m : Meta). named_out m.out) meta ∙ goes.leaves.still e is;
     newly = λ e is. goes.leaves.newly e (ap (λ (m : Meta). named_out m.out) (sym meta) ∙ is);
     awaited = goes.leaves.awaited;
+    used = λ d low. subst (λ (m : Meta). up_count d cs + made_by i.meta w.disks.power d ≤ made_by m (watch_all cs w).disks.power d) (sym meta) (goes.leaves.used d low);
   };
   base_then = goes.base_then;
   room = goes.room;
@@ -286,6 +293,7 @@ module _ (k k_then : Service) (h : History) (lo : ℕ) (slots : k_then.slots ≡
         still = λ e is. still_named u.disks.power k.meta k_then.meta raised_marks e is;
         newly = raised_newly;
         awaited = none_after w.awaited refl;
+        used = λ d low. power_used k base w shown has cs part.calls k_then raised_marks d;
       };
       base_then = base;
       room = omega arith;

@@ -27,6 +27,9 @@ use Rattle.paraid_session.specs.Watch.{Bounds, Down as DownDisks, Each, HoldsWhi
 use Rattle.paraid_session.specs.Resting.{watch_at}
 use Rattle.paraid_recover.proofs.DownLemmas.{watched_disks}
 use Rattle.paraid_event.specs.Lost.{TellsTwo}
+use Rattle.std.specs.Prelude.{slice_index}
+use Rattle.paraid_event.specs.Steps.{made_by}
+use Rattle.paraid_event.proofs.UpLemmas.{made_most}
 use Rattle.paraid_event.specs.Service.{IsStateOf, Service}
 use Rattle.paraid_event.specs.Stands.{StandsAt, StandsIn}
 use Rattle.paraid_event.specs.Steps.{AreStepCalls, GoesInSteps, IsOnly, IsUnderway}
@@ -81,7 +84,8 @@ module _ (told_then : Option Trail) (k k1 : Service) (setup : Setup) (p : Point)
   module _ (k2 : Service) (goes : GoesInSteps k1 k2 p.history p.low most (IsUnderway k2 p.history p.low) p.meta w0 cs) (answer : Answer) (new : PowerState) (starts : watch_of p event answer ≡ w0) (tells : (t : Trail) → told_then ≡ Some t → now t ≡ run p.disks cs)
       (machine : IsEventStep setup p.history p.energy p.state event (first_lost cs) answer new) (state : IsStateOf k2 new) (synced : AreCopiesSynced k2.meta.setup.geometry.disks k2.copied)
       (energy : energy_after setup p.energy p.state answer ≡ k2.energy) (fits : k2.energy ≤ 18446744073709551615) (quiet : makes_no_call answer ≡ true → first_lost cs ≡ None → cs ≡ []) (awaits : (a : Option ℕ) → awaited_by answer a ≡ a)
-      (none : accepted_write event answer ≡ []) (low : with_flush p.low answer ≡ p.low) (not_flush : is_flush answer ≡ false) where
+      (none : accepted_write event answer ≡ []) (low : with_flush p.low answer ≡ p.low) (not_flush : is_flush answer ≡ false)
+      (rest : (d : ℕ) → d < setup.geometry.disks → slice_index p.state.spins d ≤ made_by k1.meta p.disks.power d) where
     abbrev q : Point
     q = record {
       disks = v.disks;
@@ -120,6 +124,12 @@ module _ (told_then : Option Trail) (k k1 : Service) (setup : Setup) (p : Point)
         machine = machine;
         moments = subst (λ (u : Watch). Each (HoldsWhileServing k.slots p.history p.low (bounds_of setup p event)) (IsAllowed setup (replaced_by event)) u cs) (sym starts) (each_of goes.calls);
         once = let a = goes.calls.attaches in omega (arith, a);
+        ups = λ d below.
+            let a = goes.leaves.used d (subst (λ (z : Setup). d < z.geometry.disks) (sym setup1) below) in
+            let r = rest d below in
+            let m = made_most k2.meta v.disks.power d in
+            let l = ap (λ (x : List ℕ). slice_index x d) state.spins in
+            omega (arith, a, r, m, l);
         quiet = quiet;
         serving = subst (λ (u : Watch). IsServing (watch_all cs u).down) (sym starts) (only_serving (named_out k2.meta.out) v.down goes.ends.only);
         mark = subst (λ (n : ℕ). IsMark n setup q) (goes.leaves.slots ∙ slots1) (stands_mark told_then k2 setup q there);
@@ -139,9 +149,10 @@ module _ (told_then : Option Trail) (k k1 : Service) (setup : Setup) (p : Point)
   module _ (k2 : Service) (goes : GoesInSteps k1 k2 p.history p.low most (IsUnderway k2 p.history p.low) p.meta w0 cs) (answer : Answer) (new : PowerState) (starts : watch_of p event answer ≡ w0) (tells : (t : Trail) → told_then ≡ Some t → now t ≡ run p.disks cs)
       (machine : IsEventStep setup p.history p.energy p.state event (first_lost cs) answer new) (state : IsStateOf k2 new) (synced : AreCopiesSynced k2.meta.setup.geometry.disks k2.copied)
       (energy : energy_after setup p.energy p.state answer ≡ k2.energy) (fits : k2.energy ≤ 18446744073709551615) (busy : makes_no_call answer ≡ false) (awaits : (a : Option ℕ) → awaited_by answer a ≡ a)
-      (none : accepted_write event answer ≡ []) (low : with_flush p.low answer ≡ p.low) (not_flush : is_flush answer ≡ false) where
+      (none : accepted_write event answer ≡ []) (low : with_flush p.low answer ≡ p.low) (not_flush : is_flush answer ≡ false)
+      (rest : (d : ℕ) → d < setup.geometry.disks → slice_index p.state.spins d ≤ made_by k1.meta p.disks.power d) where
     pub steps_turn : GoesOn k.slots setup p event answer (StandsAt told_then k2 setup) p.disks cs
-    steps_turn = steps_turn_by k2 goes answer new starts tells machine state synced energy fits (λ still first. absurd (false≢true (sym busy ∙ still))) awaits none low not_flush
+    steps_turn = steps_turn_by k2 goes answer new starts tells machine state synced energy fits (λ still first. absurd (false≢true (sym busy ∙ still))) awaits none low not_flush rest
 
 -- From where an array stands an event is underway.
 pub event_underway : (told : Option Trail) (k : Service) (setup : Setup) (p : Point) → StandsAt told k setup p → IsUnderway k p.history p.low p.meta (watch_at p)

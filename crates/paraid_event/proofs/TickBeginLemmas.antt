@@ -44,6 +44,7 @@ use Rattle.paraid_event.proofs.ApartLemmas.{no_one, tick_not_bad}
 use Rattle.paraid_event.specs.Lost.{TellsTwo}
 use Rattle.paraid_event.specs.Marks.{ArePoweredByGear, ShowsMeta}
 use Rattle.paraid_event.specs.Parts.{AreEventCalls, EndsEvent, LosesInEvent, ServesEvent, committed_meta}
+use Rattle.paraid_event.proofs.UsedLemmas.{part_ups}
 use Rattle.paraid_event.specs.Service.{IsStateOf, Service}
 use Rattle.paraid_event.specs.Stands.{IsMidway, ServiceStandsFor, StandsAt, StandsIn}
 use Rattle.paraid_event.specs.Ticks.{BeginsDownByTick, CountsTick, IsHaltedWith}
@@ -312,6 +313,7 @@ module _ (told : Option Trail) (k k1 k2 : Service) (setup : Setup) (p : Point) (
           machine = begun_step;
           moments = each2 ds part;
           once = let a = part_attaches k2 p.history p.low p.meta w0 mid2 ds part in omega (arith, a);
+          ups = λ e low. let z = part_ups k2 p.history p.low p.meta w0 mid2 ds part e in omega (arith, z);
           quiet = λ still none. absurd (false≢true still);
           serving = serving3;
           mark = subst (λ (m : ℕ). IsMark m setup begun_point) (begins.slots ∙ ap (λ (z : Service). z.slots) counts.is) (stands_mark told_then k3 setup begun_point there);

@@ -34,6 +34,7 @@ use Rattle.paraid_session.proofs.LayerLemmas.{first_fails}
 use Rattle.paraid_session.specs.Resting.{watch_at}
 use Rattle.paraid_event.proofs.ApartLemmas.{no_one, tick_not_bad}
 use Rattle.paraid_event.specs.Moving.{EndsShift, GoesToState, MovesUnits, StartsShiftUp}
+use Rattle.paraid_event.proofs.UsedLemmas.{counted_made}
 use Rattle.paraid_event.specs.Service.{IsStateOf, Service}
 use Rattle.paraid_event.specs.Stands.{StandsAt}
 use Rattle.paraid_event.specs.Steps.{GoesInSteps, IsOnly, IsUnderway, LosesInSteps, StepsInEvent}
@@ -141,7 +142,7 @@ module _ (told : Option Trail) (k k1 : Service) (setup : Setup) (p : Point) (at 
         → IsEventStep setup p.history p.energy p.state Tick (first_lost cs) answer new → GoesOn k.slots setup p Tick answer (StandsAt told_then k2 setup) p.disks cs
     tick_answered busy cs goes tells machine = steps_turn told_then k k1 setup p Tick s1 at.going (λ e. tick_not_bad e) fit refl ticks1 setup1 slots1 most few cs k2 goes answer new refl tells machine state synced
         (capped_sum p.energy k.energy (tick_energy setup p.state) (begun_energy setup p.state.gear event) k1.energy k2.energy at.energy energy1 energy)
-        (under_cap k2.energy (k1.energy + begun_energy setup p.state.gear event) energy) busy (λ a. refl) refl refl refl
+        (under_cap k2.energy (k1.energy + begun_energy setup p.state.gear event) energy) busy (λ a. refl) refl refl refl (λ e low. counted_made told k k1 setup p at counts e low)
 
   -- from what is told of its parts
   pub tick_parts : (told_then : Option Trail) (Q : Disks → List Call → Type 0) (R : Disks → List Call → Type 0) → ((cs : List Call) → Q p.disks cs → ((t : Trail) → told_then ≡ Some t → now t ≡ run p.disks cs) → R p.disks cs) → Ran told told_then Q → Ran told told_then R

@@ -48,6 +48,7 @@ use Rattle.paraid_event.proofs.ApartLemmas.{no_one}
 use Rattle.paraid_event.specs.Marks.{ArePoweredByGear, IsMarkedBy, ShowsMeta}
 use Rattle.paraid_event.specs.Parts.{AreEventCalls, BringsMeta, EndsEvent, committed_meta}
 use Rattle.paraid_event.specs.Parts.BringsMeta.{commit, nothing}
+use Rattle.paraid_event.proofs.UpLemmas.{none_up}
 use Rattle.paraid_event.specs.Service.{IsStateOf, Service}
 use Rattle.paraid_event.specs.Stands.{ServiceStandsFor, StandsAt, StandsIn}
 use Rattle.paraid_event.proofs.ChainLemmas.{base_setup, commit_within, data_transfer, data_within, no_attach, transfer_each}
@@ -356,6 +357,7 @@ module _ (told : Option Trail) (k : Service) (setup : Setup) (p : Point) (at : S
                   (subst (λ (z : Watch). Each (HoldsWhileServing k.slots (p.history ++ accepted_write event answer) p.low b) (IsAllowed setup (replaced_by event)) z cs) (sym starts)
                   (more_each k.slots p.history (accepted_write event answer) p.low b (IsAllowed setup (replaced_by event)) w cs (each (replaced_by event) (omega arith))));
               once = once;
+              ups = λ e low. let z = none_up n (gone_out k.meta.out) p.disks cs e calls in omega (arith, z);
               quiet = quiet;
               serving = subst (λ (z : Watch). IsServing (watch_all cs z).down) (sym starts) serving;
               mark = subst (λ (m : ℕ). IsMark m setup (point_then answer event s)) slots (stands_mark told_then k_then setup (point_then answer event s) there);

@@ -45,6 +45,9 @@ use Rattle.paraid_event.proofs.ApartLemmas.{no_one, up_not_bad}
 use Rattle.paraid_event.specs.Marks.{ArePoweredByGear, IsMarkedBy, ShowsMeta}
 use Rattle.paraid_event.specs.Parts.{AreEventCalls, EndsEvent, LosesInEvent, ServesEvent, committed_meta}
 use Rattle.paraid_event.specs.Powering.{AreDisksPowered, EndsPowered, PowersInEvent}
+use Rattle.paraid_event.proofs.ShiftMarkLemmas.{up_mark}
+use Rattle.paraid_event.proofs.UpLemmas.{made_most, stands_made, up_append}
+use Rattle.paraid_event.proofs.UsedLemmas.{mark_used, part_used, power_used}
 use Rattle.paraid_event.specs.Service.{IsStateOf, Service}
 use Rattle.paraid_event.specs.Stands.{IsMidway, ServiceStandsFor, StandsAt, StandsIn}
 use Rattle.paraid_event.specs.Upshift.{EndsShiftUp, MarksShiftUp, OpensShiftUp}
@@ -559,6 +562,18 @@ module _ (told : Option Trail) (k k1 k2 : Service) (setup : Setup) (p : Point) (
                   machine = subst (λ (o : Option ℕ). IsEventStep setup p.history p.energy p.state AskUp o (Shift p.state.gear to) s4) (sym (first_append cs (ds ++ es) none_lost)) raised_step;
                   moments = each_all;
                   once = let a = none_attached in omega (arith, a);
+                  ups = λ e low.
+                      let r = stands_made told k setup p at e low in
+                      let a = part_used k p.history p.low p.meta w0 mid0 cs part k1 p.history lo1 ends e in
+                      let mark = up_mark k1 k2 (ap (λ (z : Service). z.slots) up.mark) (ap (λ (z : Service). z.named) up.mark) to k2.meta.spins up.whole (ap (λ (z : Service). z.meta) up.mark) up.raised up.others in
+                      let f = mark_used k1 k2 mark v1.disks.power e (subst (λ (z : Setup). e < z.geometry.disks) (sym setup1) low) in
+                      let b2 = part_used k2 p.history p.low ends.keeps.base v1 mid2 ds part2 k3 p.history lo3 ends2 e in
+                      let c = power_used k3 ends2.keeps.base v3 shown3 has3 es part3.calls k4 marks4 e in
+                      let m = made_most k4.meta v4.disks.power e in
+                      let l = ap (λ (x : List ℕ). slice_index x e) state4.spins in
+                      let x = up_append e cs (ds ++ es) in
+                      let y = up_append e ds es in
+                      omega (arith, r, a, f, b2, c, m, l, x, y);
                   quiet = λ still none. absurd (false≢true still);
                   serving = subst (λ (z : Watch). IsServing z.down) (sym watched) serving4;
                   mark = subst (λ (m : ℕ). IsMark m setup raised_point) ends_up.counts.slots (stands_mark told_then k4 setup raised_point there);

@@ -1,9 +1,9 @@
 -- Parts of an event, one after the other: copies, marks, commits, and disks that are powered.
-use Rattle.std.specs.Prelude.{◌≡◌, ℕ, ◌+◌, ◌<◌, ◌≤◌, ◌⊎◌, true, List, Option, Some, if◌then◌else◌}
+use Rattle.std.specs.Prelude.{◌≡◌, ℕ, ◌+◌, ◌<◌, ◌≤◌, ◌⊎◌, true, List, Option, Some, slice_index, if◌then◌else◌}
 use Rattle.paraid_base.specs.History.{History}
 use Rattle.paraid_base.specs.declared.fault.Two.{Two}
 use Rattle.paraid_base.specs.declared.state.Out.TheVariants.{Fresh}
-use Rattle.paraid_base.specs.States.{gone_out, has_out, named_out, phase_beside}
+use Rattle.paraid_base.specs.States.{gone_out, has_out, is_out, named_out, phase_beside}
 use Rattle.paraid_rack.specs.declared.call.Call.{Call}
 use Rattle.paraid_rack.specs.declared.call.Power.{Power}
 use Rattle.paraid_rack.specs.Disks.{Disks, IsPresent}
@@ -11,6 +11,7 @@ use Rattle.paraid_rack.specs.Trail.{run}
 use Rattle.paraid_record.specs.declared.meta.Meta.{Meta}
 use Rattle.paraid_image.specs.Power.{power_by_gear}
 use Rattle.paraid_image.specs.Spins.{first_used}
+use Rattle.paraid_session.specs.Ups.{up_count}
 use Rattle.paraid_session.specs.Watch.{Bounds, Down, Each, HoldsWhileServing, IsAllowed, Watch, attach_count, fails_on, first_lost, nobody, only, several, watch_all}
 use Rattle.paraid_event.specs.Lost.{TellsTwo}
 use Rattle.paraid_event.specs.Marks.{ArePoweredByGear, ShowsMeta}
@@ -53,6 +54,11 @@ pub record AreStepCalls (k : Service) (h : History) (lo most : ℕ) (base : Meta
       → Each (HoldsWhileServing k.slots h lo b) (IsAllowed b.setup asked) w cs
   pub attaches : attach_count cs ≡ 0
 
+-- how many of the spin-ups that a meta has recorded of disk `d` were made, by these powers: all but one that is to be made,
+-- and all of a disk that is gone
+abbrev pub made_by : Meta → (ℕ → Power) → ℕ → ℕ
+made_by m power d = if is_out (gone_out m.out) d then slice_index m.spins d else first_used m power d
+
 -- Of the service after them: a disk that failed is named out, and one that is named out was so or is the first that
 -- failed. Which disk is awaited stays.
 pub record LeavesService (k k_then : Service) (w : Watch) (cs : List Call) : Type 0 where
@@ -63,6 +69,7 @@ pub record LeavesService (k k_then : Service) (w : Watch) (cs : List Call) : Typ
   pub still : (e : ℕ) → named_out k.meta.out ≡ Some e → named_out k_then.meta.out ≡ Some e
   pub newly : (e : ℕ) → named_out k_then.meta.out ≡ Some e → (named_out k.meta.out ≡ Some e) ⊎ (first_lost cs ≡ Some e)
   pub awaited : (watch_all cs w).awaited ≡ w.awaited
+  pub used : (d : ℕ) → d < k.meta.setup.geometry.disks → up_count d cs + made_by k.meta w.disks.power d ≤ made_by k_then.meta (watch_all cs w).disks.power d
 
 -- Parts of an event go from a watch on under `base` to a meta that stands then, at most so many commits later.
 pub record GoesInSteps (k k_then : Service) (h : History) (lo most : ℕ) (Ends : Meta → Watch → Type 0) (base : Meta) (w : Watch) (cs : List Call) : Type 0 where

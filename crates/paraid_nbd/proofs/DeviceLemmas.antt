@@ -3,13 +3,14 @@ use Rattle.std.proofs.Common.{◌≡◌, ℕ, ◌+◌, ◌*◌, ◌/◌, ◌%◌
 use Rattle.std.proofs.lemmas.Bool.Decides.{nat_tests}
 use Rattle.std.proofs.lemmas.List.{append-nil, length-take-le, length-drop, take_all}
 use Rattle.paraid_base.specs.declared.block.Block.{Block}
+use Rattle.paraid_base.specs.declared.event.Answer.{Answer}
 use Rattle.paraid_base.specs.declared.event.Answer.TheVariants.{Halted as HaltedAnswer}
 use Rattle.paraid_base.specs.declared.event.Event.{Event}
 use Rattle.paraid_base.specs.declared.event.Event.TheVariants.{Read as ReadEvent, Write as WriteEvent, Flush as FlushEvent, Tick, Up, Down, Fail, Replace, State, Energy, Bad}
 use Rattle.paraid_base.specs.declared.fault.Halt.{Halt}
 use Rattle.paraid_base.specs.BlockAnswers.{Answers}
 use Rattle.paraid_base.specs.History.{History, after_all}
-use Rattle.paraid_nbd.specs.Export.{byte_at, bytes_from, blocks_joined, byte_after, AreBytesWritten, with_change, changes, IsDeviceState, HaltsHere, HasRead, HasRest, HasBytes, WrittenFirst}
+use Rattle.paraid_nbd.specs.Export.{byte_at, bytes_from, blocks_joined, byte_after, AreBytesWritten, with_change, changes, IsDeviceState, KeepsOn, HaltsHere, HasRead, HasRest, HasBytes, WrittenFirst}
 
 pub with_change-append : (e : Event) (xs ys : List Event) → with_change e (xs ++ ys) ≡ with_change e xs ++ ys
 with_change-append (ReadEvent block) xs ys = refl
@@ -145,3 +146,20 @@ bytes_from-blocks h block (suc n) =
     let first : bytes_from h (512 * block) 512 ≡ bytes = bytes_from-block h block 0 512 (512 * block) (omega arith) (omega arith) ∙ take_all 512 bytes (omega (arith, (after_all h block).whole)) in
     ap (bytes_from h (512 * block)) e ∙ bytes_from-more h (512 * block) 512 (512 * n) ∙ ap (λ (x : List ℕ). x ++ bytes_from h (512 * block + 512) (512 * n)) first
     ∙ ap (λ (x : List ℕ). bytes ++ x) (ap (λ (x : ℕ). bytes_from h x (512 * n)) f ∙ bytes_from-blocks h (block + 1) n)
+
+-- No call was made.
+pub keeps_none : {D : Type 0} (kept : D → D → Answers → Type 0) (device : D) → KeepsOn kept device device
+keeps_none kept device = record { grows = λ first events k. ([], subst (kept first device) (sym (append-nil events)) k) }
+
+-- one call
+pub keeps_call : {D : Type 0} (kept : D → D → Answers → Type 0) (old new : D) (e : Event × Answer) → ((first : D) (events : Answers) → kept first old events → kept first new (events ++ e ∷ [])) → KeepsOn kept old new
+keeps_call kept old new e call = record { grows = λ first events k. (e ∷ [], call first events k) }
+
+-- one part after the other
+pub keeps_then : {D : Type 0} (kept : D → D → Answers → Type 0) (old mid new : D) → KeepsOn kept old mid → KeepsOn kept mid new → KeepsOn kept old new
+keeps_then kept old mid new one two = record {
+  grows = λ first events k.
+      let a = one.grows first events k in
+      let b = two.grows first (events ++ a.0) a.1 in
+      (a.0 ++ b.0, subst (kept first new) (append_assoc events a.0 b.0) b.1);
+}

@@ -209,15 +209,15 @@ each_request : (ps : List RequestParts) (p : RequestParts) → AllByRecursion Is
 each_request [] p each is = (is, tt)
 each_request (q ∷ ps) p each is = (each.0, each_request ps p each.1 is)
 
-pub serves_none : {D : Type 0} (size : ℕ) (stands : D → History → Type 0) (halted : D → Option Halt) (kept : D → Answers → Type 0) (tells : D → Bool)
+pub serves_none : {D : Type 0} (size : ℕ) (stands : D → History → Type 0) (halted : D → Option Halt) (kept : D → D → Answers → Type 0) (tells : D → Bool)
     (was : D) (left : Option (List ℕ)) (at : ℕ) (written : Option (List ℕ)) → ServesAll size stands halted kept tells was was left left at at written written []
 serves_none size stands halted kept tells was left at written = record {
   each = tt;
   takes = Takes-none left at;
-  does = λ t s events is k. record { out = []; new = []; t = s; steps = None_yet; now = is; kept_is = subst (kept was) (sym (append-nil events)) k; grows = GrowsByBytes-none written };
+  does = λ first t s events is k. record { out = []; new = []; t = s; steps = None_yet; now = is; kept_is = subst (kept first was) (sym (append-nil events)) k; grows = GrowsByBytes-none written };
 }
 
-pub serves_more : {D : Type 0} (size : ℕ) (stands : D → History → Type 0) (halted : D → Option Halt) (kept : D → Answers → Type 0) (tells : D → Bool)
+pub serves_more : {D : Type 0} (size : ℕ) (stands : D → History → Type 0) (halted : D → Option Halt) (kept : D → D → Answers → Type 0) (tells : D → Bool)
     {was mid now : D} {before left after : Option (List ℕ)} {old at new : ℕ} {written said now_written : Option (List ℕ)} (ps : List RequestParts)
     → ServesAll size stands halted kept tells was mid before left old at written said ps → (v : Serves size stands halted kept tells mid now left after at new said now_written)
     → (IsTrue (tells now) → IsTrue (tells mid))
@@ -225,16 +225,16 @@ pub serves_more : {D : Type 0} (size : ℕ) (stands : D → History → Type 0) 
 serves_more size stands halted kept tells {was} {mid} {now} {before} {left} {after} {old} {at} {new} ps a v told = record {
   each = each_request ps v.parts a.each v.is;
   takes = subst (λ (x : List ℕ). Takes before after old new x) (flat_map_more request_bytes [] ps v.parts) (Takes-then a.takes v.takes);
-  does = λ t s events is k.
-      let x = a.does (told t) s events is k in
-      let y = v.does t x.t (events ++ x.new) x.now x.kept_is in
+  does = λ first t s events is k.
+      let x = a.does first (told t) s events is k in
+      let y = v.does first t x.t (events ++ x.new) x.now x.kept_is in
       record {
         out = x.out ++ y.out;
         new = x.new ++ y.new;
         t = y.t;
         steps = One_more ps x.out x.new x.t v.parts y.out y.new y.t x.steps y.step;
         now = y.now;
-        kept_is = subst (kept now) (append_assoc events x.new y.new) y.kept_is;
+        kept_is = subst (kept first now) (append_assoc events x.new y.new) y.kept_is;
         grows = GrowsByBytes-then _ _ _ _ _ x.grows y.grows;
       };
 }
@@ -273,7 +273,7 @@ unsent_then {a} {b} {c} {p} {q} {f} {g} {z} {e} grows later u = record {
   is = u.is;
 }
 
-module _ {D : Type 0} (stands : D → History → Type 0) (halted : D → Option Halt) (kept : D → Answers → Type 0) (tells : D → Bool) where
+module _ {D : Type 0} (stands : D → History → Type 0) (halted : D → Option Halt) (kept : D → D → Answers → Type 0) (tells : D → Bool) where
   pub early : {size n start taken f z sf sz : ℕ} {was : D} {before after written said : Option (List ℕ)} {e : NbdEnd} → n ≡ size → start ≡ 0
       → EndsEarly n before after start taken written said f z sf sz e → Service size stands halted kept tells was was before after written said f z sf sz e
   early {size} {n} {start} {taken} {f} {z} {sf} {sz} {was} {before} {after} {written} {said} {e} size_is zero_is ends =

@@ -107,6 +107,10 @@ WrittenFirst (Some h) offset bytes done =
 abbrev pub ForEachState : (History → Type 0) → Option Halt → (Answers → Type 0) → Bool → (Option History → Answers → Type 0) → Type 0
 ForEachState stands halted kept tells P = IsTrue tells → (s : Option History) (events : Answers) → IsDeviceState stands halted s → kept events → P s events
 
+-- Whatever was kept since any time before, more is kept now.
+pub record KeepsOn {D : Type 0} (kept : D → D → Answers → Type 0) (old new : D) : Type 0 where
+  pub grows : (first : D) (events : Answers) → kept first old events → (more : Answers) × kept first new (events ++ more)
+
 -- A call gave a halt, and before it nothing was written.
 pub record HaltsHere (stands : History → Type 0) (halted : Option Halt) (kept : Answers → Type 0) (s : Option History) (events : Answers) : Type 0 where
   pub now : IsDeviceState stands halted None

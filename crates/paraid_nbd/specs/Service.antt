@@ -4,9 +4,9 @@ use Rattle.std.specs.List.{flat_map, AllByRecursion}
 use Rattle.paraid_base.specs.declared.fault.Halt.{Halt}
 use Rattle.paraid_base.specs.BlockAnswers.{Answers}
 use Rattle.paraid_base.specs.History.{History}
-use Rattle.paraid_base.specs.Told.{GrowsByBytes}
+use Rattle.paraid_base.specs.Told.{GrowsByBytes, HasRisen}
 use Rattle.paraid_nbd.specs.declared.ending.NbdEnd.{NbdEnd}
-use Rattle.paraid_nbd.specs.declared.ending.NbdEnd.TheVariants.{Done, Protocol, NoMemory}
+use Rattle.paraid_nbd.specs.declared.ending.NbdEnd.TheVariants.{Done, Protocol, Sink, NoMemory}
 use Rattle.paraid_nbd.specs.declared.request.Command.TheVariants.{Disconnect}
 use Rattle.paraid_nbd.specs.declared.request.Request.{Request}
 use Rattle.paraid_nbd.specs.Export.{IsDeviceState, ForEachState, RequestStep, RequestSteps}
@@ -67,27 +67,27 @@ pub record DoesRequests (size : ℕ) (stands : History → Type 0) (halted : Opt
   pub kept_is : kept (events ++ new)
   pub grows : GrowsByBytes written now_written out
 
-module _ {D : Type 0} (size : ℕ) (stands : D → History → Type 0) (halted : D → Option Halt) (kept : D → Answers → Type 0) (tells : D → Bool) where
+module _ {D : Type 0} (size : ℕ) (stands : D → History → Type 0) (halted : D → Option Halt) (kept : D → D → Answers → Type 0) (tells : D → Bool) where
   -- One request was taken, done and answered.
   pub record Serves (was now : D) (before after : Option (List ℕ)) (old new : ℕ) (written now_written : Option (List ℕ)) : Type 0 where
     pub parts : RequestParts
     pub is : IsRequest parts
     pub takes : Takes before after old new (request_bytes parts)
-    pub does : ForEachState (stands was) (halted was) (kept was) (tells now) (λ s events. DoesRequest size (stands now) (halted now) (kept now) written now_written s events parts)
+    pub does : (first : D) → ForEachState (stands was) (halted was) (kept first was) (tells now) (λ s events. DoesRequest size (stands now) (halted now) (kept first now) written now_written s events parts)
 
   -- The service ends at a request.
   pub data EndsRequest (was now : D) (before after : Option (List ℕ)) (old new : ℕ) (written now_written : Option (List ℕ)) (faults now_faults sink_faults sink_now : ℕ) (end : NbdEnd) : Type 0 where
     UnreadRequest : StopsRequest before after old new faults now_faults end → GrowsByBytes written now_written [] → now ≡ was
         → EndsRequest was now before after old new written now_written faults now_faults sink_faults sink_now end
-    UnsentAnswer : (p : RequestParts) → IsRequest p → Takes before after old new (request_bytes p)
-        → ForEachState (stands was) (halted was) (kept was) (tells now) (λ s events. DoesUnsent size (stands now) (halted now) (kept now) written now_written s events p sink_faults sink_now end)
+    UnsentAnswer : (p : RequestParts) → IsRequest p → Takes before after old new (request_bytes p) → end ≡ Sink → HasRisen sink_faults sink_now
+        → ((first : D) → ForEachState (stands was) (halted was) (kept first was) (tells now) (λ s events. DoesUnsent size (stands now) (halted now) (kept first now) written now_written s events p sink_faults sink_now end))
         → EndsRequest was now before after old new written now_written faults now_faults sink_faults sink_now end
 
   -- These requests were taken, done and answered.
   pub record ServesAll (was now : D) (before after : Option (List ℕ)) (old new : ℕ) (written now_written : Option (List ℕ)) (requests : List RequestParts) : Type 0 where
     pub each : AllByRecursion IsRequest requests
     pub takes : Takes before after old new (flat_map request_bytes requests)
-    pub does : ForEachState (stands was) (halted was) (kept was) (tells now) (λ s events. DoesRequests size (stands now) (halted now) (kept now) written now_written s events requests)
+    pub does : (first : D) → ForEachState (stands was) (halted was) (kept first was) (tells now) (λ s events. DoesRequests size (stands now) (halted now) (kept first now) written now_written s events requests)
 
   -- The requests up to the end.
   pub record Transmits (was now : D) (before after : Option (List ℕ)) (old new : ℕ) (written now_written : Option (List ℕ)) (faults now_faults sink_faults sink_now : ℕ) (end : NbdEnd) : Type 0 where

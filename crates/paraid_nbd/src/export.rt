@@ -1,9 +1,10 @@
 //! The bytes of a block device, read and written at any place.
 ghost use Rattle.std.specs.Prelude.{◌≡◌, ◌*◌, ◌+◌, ◌-◌, ◌/◌, ◌%◌, ◌^◌, ◌<◌, ◌≤◌, ℕ, [], length, min, slice_index, OnOk, OnErr, IsTrue};
 ghost use Rattle.paraid_base.specs.History.{History, after_all};
-ghost use Rattle.paraid_nbd.specs.Export.{ForEachState, HaltsHere, blocks_joined, export_bytes, HasRead, HasBytes, HasRest, HasBlock, HasPart, HasWritten, Stops};
+ghost use Rattle.paraid_nbd.specs.Export.{ForEachState, KeepsOn, HaltsHere, blocks_joined, export_bytes, HasRead, HasBytes, HasRest, HasBlock, HasPart, HasWritten, Stops};
 
-use paraid_base::{BLOCK_SIZE, Block, BlockFault, BlockNo, Blocks, Halt};
+use paraid_base::{BLOCK_SIZE, Block, BlockFault, BlockNo, Halt};
+use paraid_blocks::Blocks;
 
 // The part of one block that is read or written next.
 #[derive(Clone, Copy)]
@@ -35,10 +36,11 @@ fn read_block<B: Blocks>(blocks: &mut B, block: BlockNo, into: &mut Block) -> Re
     requires { block < B.block_count blocks.old }
     ensures size { B.block_count blocks.new ≡ B.block_count blocks.old }
     ensures told { IsTrue (B.tells blocks.new) → IsTrue (B.tells blocks.old) }
-    ensures read { OnOk result (ForEachState (B.stands blocks.old) (B.halted blocks.old) (B.kept blocks.old)
-        (B.tells blocks.new) (λ s events. HasRead (B.stands blocks.new) (B.halted blocks.new) (B.kept blocks.new) s events block into.new)) }
-    ensures stops { OnErr result (ForEachState (B.stands blocks.old) (B.halted blocks.old) (B.kept blocks.old)
-        (B.tells blocks.new) (λ s events. HaltsHere (B.stands blocks.new) (B.halted blocks.new) (B.kept blocks.new) s events)) }
+    ensures keeps { KeepsOn B.kept blocks.old blocks.new }
+    ensures read { OnOk result ((first : B) → ForEachState (B.stands blocks.old) (B.halted blocks.old) (B.kept first blocks.old)
+        (B.tells blocks.new) (λ s events. HasRead (B.stands blocks.new) (B.halted blocks.new) (B.kept first blocks.new) s events block into.new)) }
+    ensures stops { OnErr result ((first : B) → ForEachState (B.stands blocks.old) (B.halted blocks.old) (B.kept first blocks.old)
+        (B.tells blocks.new) (λ s events. HaltsHere (B.stands blocks.new) (B.halted blocks.new) (B.kept first blocks.new) s events)) }
 {
     match blocks.read(block, into) {
         Ok(()) => Ok(()),
@@ -52,10 +54,11 @@ fn write_block<B: Blocks>(blocks: &mut B, block: BlockNo, bytes: &Block) -> Resu
     requires { block < B.block_count blocks.old }
     ensures size { B.block_count blocks.new ≡ B.block_count blocks.old }
     ensures told { IsTrue (B.tells blocks.new) → IsTrue (B.tells blocks.old) }
-    ensures written { OnOk result (ForEachState (B.stands blocks.old) (B.halted blocks.old) (B.kept blocks.old)
-        (B.tells blocks.new) (λ s events. HasBlock (B.stands blocks.new) (B.halted blocks.new) (B.kept blocks.new) s events block bytes.now)) }
-    ensures stops { OnErr result (ForEachState (B.stands blocks.old) (B.halted blocks.old) (B.kept blocks.old)
-        (B.tells blocks.new) (λ s events. HaltsHere (B.stands blocks.new) (B.halted blocks.new) (B.kept blocks.new) s events)) }
+    ensures keeps { KeepsOn B.kept blocks.old blocks.new }
+    ensures written { OnOk result ((first : B) → ForEachState (B.stands blocks.old) (B.halted blocks.old) (B.kept first blocks.old)
+        (B.tells blocks.new) (λ s events. HasBlock (B.stands blocks.new) (B.halted blocks.new) (B.kept first blocks.new) s events block bytes.now)) }
+    ensures stops { OnErr result ((first : B) → ForEachState (B.stands blocks.old) (B.halted blocks.old) (B.kept first blocks.old)
+        (B.tells blocks.new) (λ s events. HaltsHere (B.stands blocks.new) (B.halted blocks.new) (B.kept first blocks.new) s events)) }
 {
     match blocks.write(block, bytes) {
         Ok(_number) => Ok(()),
@@ -79,10 +82,11 @@ pub(crate) fn read_bytes<B: Blocks>(
     requires few { B.block_count blocks.old < 2 ^ 32 }
     ensures size { B.block_count blocks.new ≡ B.block_count blocks.old }
     ensures told { IsTrue (B.tells blocks.new) → IsTrue (B.tells blocks.old) }
-    ensures read { OnOk result (ForEachState (B.stands blocks.old) (B.halted blocks.old) (B.kept blocks.old)
-        (B.tells blocks.new) (λ s events. HasBytes (B.stands blocks.new) (B.halted blocks.new) (B.kept blocks.new) s events offset into.new)) }
-    ensures stops { OnErr result (ForEachState (B.stands blocks.old) (B.halted blocks.old) (B.kept blocks.old)
-        (B.tells blocks.new) (λ s events. HaltsHere (B.stands blocks.new) (B.halted blocks.new) (B.kept blocks.new) s events)) }
+    ensures keeps { KeepsOn B.kept blocks.old blocks.new }
+    ensures read { OnOk result ((first : B) → ForEachState (B.stands blocks.old) (B.halted blocks.old) (B.kept first blocks.old)
+        (B.tells blocks.new) (λ s events. HasBytes (B.stands blocks.new) (B.halted blocks.new) (B.kept first blocks.new) s events offset into.new)) }
+    ensures stops { OnErr result ((first : B) → ForEachState (B.stands blocks.old) (B.halted blocks.old) (B.kept first blocks.old)
+        (B.tells blocks.new) (λ s events. HaltsHere (B.stands blocks.new) (B.halted blocks.new) (B.kept first blocks.new) s events)) }
     ensures some { OnErr result (0 < length into.old) }
 {
     let mut block = Block::zero();
@@ -103,10 +107,11 @@ pub(crate) fn write_bytes<B: Blocks>(blocks: &mut B, offset: u64, from: &[u8]) -
     requires few { B.block_count blocks.old < 2 ^ 32 }
     ensures size { B.block_count blocks.new ≡ B.block_count blocks.old }
     ensures told { IsTrue (B.tells blocks.new) → IsTrue (B.tells blocks.old) }
-    ensures written { OnOk result (ForEachState (B.stands blocks.old) (B.halted blocks.old) (B.kept blocks.old)
-        (B.tells blocks.new) (λ s events. HasWritten (B.stands blocks.new) (B.halted blocks.new) (B.kept blocks.new) s events offset from.now)) }
-    ensures stops { OnErr result (ForEachState (B.stands blocks.old) (B.halted blocks.old) (B.kept blocks.old)
-        (B.tells blocks.new) (λ s events. Stops (B.stands blocks.new) (B.halted blocks.new) (B.kept blocks.new) s events offset from.now)) }
+    ensures keeps { KeepsOn B.kept blocks.old blocks.new }
+    ensures written { OnOk result ((first : B) → ForEachState (B.stands blocks.old) (B.halted blocks.old) (B.kept first blocks.old)
+        (B.tells blocks.new) (λ s events. HasWritten (B.stands blocks.new) (B.halted blocks.new) (B.kept first blocks.new) s events offset from.now)) }
+    ensures stops { OnErr result ((first : B) → ForEachState (B.stands blocks.old) (B.halted blocks.old) (B.kept first blocks.old)
+        (B.tells blocks.new) (λ s events. Stops (B.stands blocks.new) (B.halted blocks.new) (B.kept first blocks.new) s events offset from.now)) }
 {
     let mut done = 0;
     while done < from.len() {
@@ -124,10 +129,11 @@ fn write_part<B: Blocks>(blocks: &mut B, part: Part, bytes: &[u8]) -> Result<(),
     requires length { length bytes.now ≡ part.length }
     ensures size { B.block_count blocks.new ≡ B.block_count blocks.old }
     ensures told { IsTrue (B.tells blocks.new) → IsTrue (B.tells blocks.old) }
-    ensures written { OnOk result (ForEachState (B.stands blocks.old) (B.halted blocks.old) (B.kept blocks.old)
-        (B.tells blocks.new) (λ s events. HasPart (B.stands blocks.new) (B.halted blocks.new) (B.kept blocks.new) s events part.block part.start bytes.now)) }
-    ensures stops { OnErr result (ForEachState (B.stands blocks.old) (B.halted blocks.old) (B.kept blocks.old)
-        (B.tells blocks.new) (λ s events. HaltsHere (B.stands blocks.new) (B.halted blocks.new) (B.kept blocks.new) s events)) }
+    ensures keeps { KeepsOn B.kept blocks.old blocks.new }
+    ensures written { OnOk result ((first : B) → ForEachState (B.stands blocks.old) (B.halted blocks.old) (B.kept first blocks.old)
+        (B.tells blocks.new) (λ s events. HasPart (B.stands blocks.new) (B.halted blocks.new) (B.kept first blocks.new) s events part.block part.start bytes.now)) }
+    ensures stops { OnErr result ((first : B) → ForEachState (B.stands blocks.old) (B.halted blocks.old) (B.kept first blocks.old)
+        (B.tells blocks.new) (λ s events. HaltsHere (B.stands blocks.new) (B.halted blocks.new) (B.kept first blocks.new) s events)) }
 {
     let mut block = Block::zero();
     read_rest(blocks, part, &mut block)?;
@@ -141,10 +147,11 @@ fn read_rest<B: Blocks>(blocks: &mut B, part: Part, into: &mut Block) -> Result<
     requires within { part.start + part.length ≤ 512 }
     ensures size { B.block_count blocks.new ≡ B.block_count blocks.old }
     ensures told { IsTrue (B.tells blocks.new) → IsTrue (B.tells blocks.old) }
-    ensures read { OnOk result (ForEachState (B.stands blocks.old) (B.halted blocks.old) (B.kept blocks.old)
-        (B.tells blocks.new) (λ s events. HasRest (B.stands blocks.new) (B.halted blocks.new) (B.kept blocks.new) s events part.block part.length into.new)) }
-    ensures stops { OnErr result (ForEachState (B.stands blocks.old) (B.halted blocks.old) (B.kept blocks.old)
-        (B.tells blocks.new) (λ s events. HaltsHere (B.stands blocks.new) (B.halted blocks.new) (B.kept blocks.new) s events)) }
+    ensures keeps { KeepsOn B.kept blocks.old blocks.new }
+    ensures read { OnOk result ((first : B) → ForEachState (B.stands blocks.old) (B.halted blocks.old) (B.kept first blocks.old)
+        (B.tells blocks.new) (λ s events. HasRest (B.stands blocks.new) (B.halted blocks.new) (B.kept first blocks.new) s events part.block part.length into.new)) }
+    ensures stops { OnErr result ((first : B) → ForEachState (B.stands blocks.old) (B.halted blocks.old) (B.kept first blocks.old)
+        (B.tells blocks.new) (λ s events. HaltsHere (B.stands blocks.new) (B.halted blocks.new) (B.kept first blocks.new) s events)) }
 {
     if part.length == BLOCK_SIZE {
         return Ok(());

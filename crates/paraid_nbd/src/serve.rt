@@ -1,6 +1,6 @@
 //! The service: the options, and then one request after the other.
 ghost use Rattle.std.specs.Prelude.{◌≡◌, ◌≢◌, ◌*◌, ◌+◌, ◌^◌, ◌≤◌, ◌<◌, ◌++◌, ℕ, List, [], length, take, min, IfOk, IfErr, OnOk, IsTrue};
-ghost use Rattle.paraid_nbd.specs.Export.{ForEachState};
+ghost use Rattle.paraid_nbd.specs.Export.{ForEachState, KeepsOn};
 ghost use Rattle.paraid_nbd.specs.Requests.{IsRequestMagic, content_length, outcome_of, reply_head};
 ghost use Rattle.paraid_nbd.specs.Performing.{Fills, Performs, TakesContent, said_with};
 ghost use Rattle.paraid_nbd.specs.Service.{EndsRequest, Serves, Service, StopsRequest, TakesHead, Transmits};
@@ -15,7 +15,7 @@ use crate::options::{negotiate, send};
 use crate::packet::Packet;
 use crate::request::{Command, MAX_LENGTH, Outcome, REPLY, REQUEST, Request, error_number};
 use byteorder::{BigEndian, ByteOrder};
-use paraid_base::Blocks;
+use paraid_blocks::Blocks;
 use paraid_io::{Sink, Source, write_all};
 use std::alloc::Global;
 
@@ -31,6 +31,7 @@ pub fn serve_nbd<B: Blocks, S: Source, K: Sink>(
         (S.faults source.old) (S.faults source.new) (K.faults sink.old) (K.faults sink.new) result }
     ensures size { B.block_count blocks.new ≡ B.block_count blocks.old }
     ensures told { IsTrue (B.tells blocks.new) → IsTrue (B.tells blocks.old) }
+    ensures keeps { KeepsOn B.kept blocks.old blocks.new }
     ensures later { S.faults source.old ≤ S.faults source.new }
     ensures later_sink { K.faults sink.old ≤ K.faults sink.new }
 {
@@ -63,6 +64,7 @@ fn transmit<B: Blocks, S: Source, K: Sink>(
         (S.faults source.old) (S.faults source.new) (K.faults sink.old) (K.faults sink.new) result }
     ensures size { B.block_count blocks.new ≡ B.block_count blocks.old }
     ensures told { IsTrue (B.tells blocks.new) → IsTrue (B.tells blocks.old) }
+    ensures keeps { KeepsOn B.kept blocks.old blocks.new }
     ensures later { S.faults source.old ≤ S.faults source.new }
     ensures later_sink { K.faults sink.old ≤ K.faults sink.new }
 {
@@ -92,6 +94,7 @@ fn serve_request<B: Blocks, S: Source, K: Sink>(
         (S.faults source.old) (S.faults source.new) (K.faults sink.old) (K.faults sink.new) e) }
     ensures size { B.block_count blocks.new ≡ B.block_count blocks.old }
     ensures told { IsTrue (B.tells blocks.new) → IsTrue (B.tells blocks.old) }
+    ensures keeps { KeepsOn B.kept blocks.old blocks.new }
     ensures later { S.faults source.old ≤ S.faults source.new }
     ensures later_sink { K.faults sink.old ≤ K.faults sink.new }
 {
@@ -201,10 +204,11 @@ fn perform<B: Blocks>(
     requires outcome { outcome ≡ outcome_of size request.now }
     requires stays { request.now.command ≢ Command.Disconnect }
     requires room { Fills request.now outcome content.old }
-    ensures performs { ForEachState (B.stands blocks.old) (B.halted blocks.old) (B.kept blocks.old)
-        (B.tells blocks.new) (λ s events. Performs size (B.stands blocks.new) (B.halted blocks.new) (B.kept blocks.new) s events request.now content.old content.new result) }
+    ensures performs { (first : B) → ForEachState (B.stands blocks.old) (B.halted blocks.old) (B.kept first blocks.old)
+        (B.tells blocks.new) (λ s events. Performs size (B.stands blocks.new) (B.halted blocks.new) (B.kept first blocks.new) s events request.now content.old content.new result) }
     ensures size { B.block_count blocks.new ≡ B.block_count blocks.old }
     ensures told { IsTrue (B.tells blocks.new) → IsTrue (B.tells blocks.old) }
+    ensures keeps { KeepsOn B.kept blocks.old blocks.new }
 {
     let Outcome::Done = outcome else {
         return outcome;
@@ -223,12 +227,13 @@ fn perform_read<B: Blocks>(blocks: &mut B, request: &Request, content: &mut [u8]
     requires command { request.now.command ≡ Command.Read }
     requires done { outcome_of (512 * B.block_count blocks.old) request.now ≡ Outcome.Done }
     requires room { length content.old ≡ request.now.length }
-    ensures performs { ForEachState (B.stands blocks.old) (B.halted blocks.old) (B.kept blocks.old)
+    ensures performs { (first : B) → ForEachState (B.stands blocks.old) (B.halted blocks.old) (B.kept first blocks.old)
         (B.tells blocks.new) (λ s events. Performs (512 * B.block_count blocks.old)
-        (B.stands blocks.new) (B.halted blocks.new) (B.kept blocks.new)
+        (B.stands blocks.new) (B.halted blocks.new) (B.kept first blocks.new)
         s events request.now content.old content.new result) }
     ensures size { B.block_count blocks.new ≡ B.block_count blocks.old }
     ensures told { IsTrue (B.tells blocks.new) → IsTrue (B.tells blocks.old) }
+    ensures keeps { KeepsOn B.kept blocks.old blocks.new }
 {
     match read_bytes(blocks, request.offset, content) {
         Ok(()) => Outcome::Done,
@@ -242,12 +247,13 @@ fn perform_write<B: Blocks>(blocks: &mut B, request: &Request, content: &mut [u8
     requires command { request.now.command ≡ Command.Write }
     requires done { outcome_of (512 * B.block_count blocks.old) request.now ≡ Outcome.Done }
     requires room { length content.old ≡ request.now.length }
-    ensures performs { ForEachState (B.stands blocks.old) (B.halted blocks.old) (B.kept blocks.old)
+    ensures performs { (first : B) → ForEachState (B.stands blocks.old) (B.halted blocks.old) (B.kept first blocks.old)
         (B.tells blocks.new) (λ s events. Performs (512 * B.block_count blocks.old)
-        (B.stands blocks.new) (B.halted blocks.new) (B.kept blocks.new)
+        (B.stands blocks.new) (B.halted blocks.new) (B.kept first blocks.new)
         s events request.now content.old content.new result) }
     ensures size { B.block_count blocks.new ≡ B.block_count blocks.old }
     ensures told { IsTrue (B.tells blocks.new) → IsTrue (B.tells blocks.old) }
+    ensures keeps { KeepsOn B.kept blocks.old blocks.new }
 {
     match write_bytes(blocks, request.offset, content) {
         Ok(()) => Outcome::Done,
@@ -261,12 +267,13 @@ fn perform_flush<B: Blocks>(blocks: &mut B, request: &Request, content: &mut [u8
     requires command { request.now.command ≡ Command.Flush }
     requires done { outcome_of (512 * B.block_count blocks.old) request.now ≡ Outcome.Done }
     requires room { length content.old ≡ 0 }
-    ensures performs { ForEachState (B.stands blocks.old) (B.halted blocks.old) (B.kept blocks.old)
+    ensures performs { (first : B) → ForEachState (B.stands blocks.old) (B.halted blocks.old) (B.kept first blocks.old)
         (B.tells blocks.new) (λ s events. Performs (512 * B.block_count blocks.old)
-        (B.stands blocks.new) (B.halted blocks.new) (B.kept blocks.new)
+        (B.stands blocks.new) (B.halted blocks.new) (B.kept first blocks.new)
         s events request.now content.old content.new result) }
     ensures size { B.block_count blocks.new ≡ B.block_count blocks.old }
     ensures told { IsTrue (B.tells blocks.new) → IsTrue (B.tells blocks.old) }
+    ensures keeps { KeepsOn B.kept blocks.old blocks.new }
 {
     match blocks.flush() {
         Ok(_writes) => Outcome::Done,

@@ -90,7 +90,7 @@ module _ {slots : ℕ} {before after : Option Trail} (h : HeldHistory slots befo
     abbrev Comes : Type 0
     Comes = Completes Whole (HasOnlyRead before after) Hindered status
 
-    sink_failed : status ≡ 4 → Comes
+    pub sink_failed : status ≡ 4 → Comes
     sink_failed four = hindered (hinder (sink four (sunk four)))
 
     module _ (calls : List Call) (split : h.last ≡ extend h.first calls) where
@@ -113,7 +113,7 @@ module _ {slots : ℕ} {before after : Option Trail} (h : HeldHistory slots befo
       ]
 
     -- A mount that is refused.
-    refused_comes : (fault : MountFault) → IsCauseOfRefusal slots old new before after fault → ((began : ℕ) → BeganAt before began → IsRefusedFromEach slots began after (refusal_by_fault fault))
+    pub refused_comes : (fault : MountFault) → IsCauseOfRefusal slots old new before after fault → ((began : ℕ) → BeganAt before began → IsRefusedFromEach slots began after (refusal_by_fault fault))
         → (n m : ℕ) → (status ≡ 4) ⊎ ((n ≡ m) × (status ≡ mount_fault_status fault)) → Comes
     refused_comes fault cause each n m (inl four) = sink_failed four
     refused_comes fault cause each n m (inr all) =
@@ -126,7 +126,7 @@ module _ {slots : ℕ} {before after : Option Trail} (h : HeldHistory slots befo
 
     module _ (array : ServedArray) (began : ℕ) (middle : Option Trail) (stood : IsServedBy slots old array.slot before middle array.meta array.dirty) (begins : BeginsAt before middle after began) (over : IsEndOver array.meta.setup old new wb w status) where
       -- A mount that is served: two disks were down as it ended, or a session began.
-      from_point : (P : Point → Type 0) → IsMountedFromEach slots array.meta.setup began middle P
+      pub from_point : (P : Point → Type 0) → IsMountedFromEach slots array.meta.setup began middle P
           → ((base : ℕ → ℕ) (t : Trail) (cs : List Call) (p : Point) → middle ≡ Some t → t ≡ extend h.first cs → IsBegun slots (now h.first) h.said h.history h.low h.down base cs p
           → h.said.meta.setup ≡ array.meta.setup → P p → Comes) → Comes
       from_point P each go =
@@ -163,7 +163,7 @@ module _ {slots : ℕ} {before after : Option Trail} (h : HeldHistory slots befo
             (record { base = base; mount = cs; begun = p; begins = starts; turns = m.before; from = m.from; went = m.went; turn = m.turn; to = m.to; here = l; rest = turn_calls m.rest; calls = calls })))
 
         -- A session that ends in a halt.
-        halted_comes : (events : List Event) (halt : Halt) → EndsStretch slots array.meta.setup middle after p events (Halted halt) → status ≡ status_of_halt halt → Comes
+        pub halted_comes : (events : List Event) (halt : Halt) → EndsStretch slots array.meta.setup middle after p events (Halted halt) → status ≡ status_of_halt halt → Comes
         halted_comes events halt e is =
             let m = subst (λ (u : Setup). MeetsHalt slots u p e.all.turns halt) (sym same) (ends_at_cause slots array.meta.setup middle after p events halt e starts.going) in
             at_cause e.all.turns halt m (session_calls events halt e m) is m.cause

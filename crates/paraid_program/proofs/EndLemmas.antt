@@ -16,6 +16,9 @@ use Rattle.paraid_program.specs.Generating.{GenHeadline, IsGenStatus}
 use Rattle.paraid_recover.specs.HeldMoments.{Extends}
 use Rattle.paraid_program.specs.MountFaults.{mount_fault_status}
 use Rattle.paraid_program.specs.Showing.{BeganAt}
+use Rattle.paraid_program.specs.Spares.{ServesSpares}
+use Rattle.paraid_sparing.specs.Output.{SparedHeadline}
+use Rattle.paraid_sparing.specs.Session.{fresh_stock}
 use Rattle.paraid_program.specs.Ends.{BeginsAt, IsEndOver, IsStatusOfGen, IsStatusOfRun, ServedArray, ServesGenerated, ServesLines, shown_served}
 
 -- the moment at which a record ends, or the first one where none is told
@@ -49,6 +52,13 @@ module _ (slots slots_now : ℕ) (setup : Setup) (array : ServedArray) (old slot
     last = ends;
     headline = subst (λ (y : Shown). Headline y seen slots array.meta.setup began middle after l m w x status) begins (subst (λ (z : Setup). Headline first seen slots z began middle after l m w x status) same
         (subst (λ (k : ℕ). Headline first seen k setup began middle after l m w x status) e (subst (λ (t : Option Trail). Headline first seen slots_now setup began middle t l m w x status) (sym f) h)));
+    end = subst (λ (z : Setup). IsEndOver z old slot w x status) same end;
+  }
+
+  pub spared_over : (l m : Option (List ℕ)) (stock wait : ℕ) → SparedHeadline slots_now setup wait (fresh_stock stock) began middle final l m w x status → ServesSpares slots old slot after l m w x stock wait status array began middle
+  spared_over l m stock wait h = record {
+    headline = subst (λ (z : Setup). SparedHeadline slots z wait (fresh_stock stock) began middle after l m w x status) same
+        (subst (λ (k : ℕ). SparedHeadline k setup wait (fresh_stock stock) began middle after l m w x status) e (subst (λ (t : Option Trail). SparedHeadline slots_now setup wait (fresh_stock stock) began middle t l m w x status) (sym f) h));
     end = subst (λ (z : Setup). IsEndOver z old slot w x status) same end;
   }
 

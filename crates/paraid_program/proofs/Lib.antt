@@ -13,3 +13,7 @@ pub mod CompleteLemmas
 pub mod AskedLemmas
 pub mod TakenLemmas
 pub mod FormatLemmas
+pub mod NbdLemmas
+pub mod NbdComesLemmas
+pub mod PlanLemmas
+pub mod SpareLemmas

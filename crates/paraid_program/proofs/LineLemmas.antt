@@ -37,7 +37,7 @@ take-first : (n : ℕ) (xs ys : List ℕ) → n ≤ length xs → take n (xs ++ 
 take-first n xs ys p = take-append-le n xs ys p
 
 -- one line, and then the last one
-ends_two : (a b c : Option (List ℕ)) (x y : List ℕ) (code status : ℕ) → GrowsByBytes a b x → EndsWithLine b c y code status → EndsWithLine a c (x ++ y) code status
+pub ends_two : (a b c : Option (List ℕ)) (x y : List ℕ) (code status : ℕ) → GrowsByBytes a b x → EndsWithLine b c y code status → EndsWithLine a c (x ++ y) code status
 ends_two a b c x y code status g e = record {
   count = length x + e.count;
   within = omega (arith, e.within, length-append x y);
@@ -48,7 +48,7 @@ ends_two a b c x y code status g e = record {
   ];
 }
 
-ends_part : (a b : Option (List ℕ)) (x y : List ℕ) (code : ℕ) → (n : ℕ) × (n ≤ length x) × GrowsByBytes a b (take n x) → EndsWithLine a b (x ++ y) code 4
+pub ends_part : (a b : Option (List ℕ)) (x y : List ℕ) (code : ℕ) → (n : ℕ) × (n ≤ length x) × GrowsByBytes a b (take n x) → EndsWithLine a b (x ++ y) code 4
 ends_part a b x y code part = record {
   count = part.0;
   within = omega (arith, part.1, length-append x y);

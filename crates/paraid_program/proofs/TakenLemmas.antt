@@ -7,6 +7,7 @@ use Rattle.paraid_recover.specs.declared.fault.MountFault.TheVariants.{NotFormat
 use Rattle.paraid_rack.specs.Slots.{Slot}
 use Rattle.paraid_rack.specs.Trail.{Trail}
 use Rattle.paraid_program.specs.MountFaults.{mount_fault_status}
+use Rattle.paraid_program.specs.Spares.{ServesSpares}
 use Rattle.paraid_program.specs.Ends.{IsStatusOfCheck, IsStatusOfGen, MountsAndThen, ServesLines}
 use Rattle.paraid_program.specs.Ends.MountsAndThen.{mounted, refused}
 
@@ -26,6 +27,12 @@ refused_so fault status n m (inr all) zero = not_done fault status all.1 zero
 
 refused_not : (fault : MountFault) (before after : Option (List ℕ)) (line : List ℕ) (status : ℕ) → EndsWithLine before after line (mount_fault_status fault) status → status ≡ 0 → ⊥
 refused_not fault before after line status end zero = refused_so fault status end.count (length line) end.whole zero
+
+-- a run with spares that ends well has taken all of the source
+pub spared_all : (slots : ℕ) (old new first now : ℕ → Slot) (before after final : Option Trail) (left_before left written_before written before_lines after_lines : Option (List ℕ)) (stock wait status : ℕ)
+    → MountsAndThen slots old new before after written_before written status (ServesSpares slots first now final left_before left before_lines after_lines stock wait status) → status ≡ 0 → AtEnd left
+spared_all slots old new first now before after final left_before left written_before written before_lines after_lines stock wait status (refused fault back end) zero = absurd (refused_not fault written_before written _ status end zero)
+spared_all slots old new first now before after final left_before left written_before written before_lines after_lines stock wait status (mounted array began middle stood begins served) zero = (served.headline.all (inl zero)).1
 
 -- a run that ends well has taken all of the source
 pub taken_all : (slots : ℕ) (old new first now : ℕ → Slot) (before after final : Option Trail) (left_before left written_before written before_lines after_lines : Option (List ℕ)) (status : ℕ)

@@ -14,9 +14,11 @@ use Rattle.paraid_rack.specs.Told.{Ran}
 use Rattle.paraid_rack.specs.Trail.{Trail}
 use Rattle.paraid_record.specs.declared.meta.Setup.{Setup}
 use Rattle.paraid_recover.specs.Mount.{HasOnlyRead}
+use Rattle.paraid_program.specs.Clients.{HindersNbd, IsNbdWhole}
 use Rattle.paraid_program.specs.Complete.{Completes, HeldHistory, Hinders, HindersRun, IsCheckWhole, IsGenWhole, IsRunWhole, IsStatusWhole, TellsLast}
+use Rattle.paraid_program.specs.PlanComes.{HindersPlan, IsPlanUnmade, IsPlanWhole}
 use Rattle.paraid_program.specs.declared.command.Command.{Command}
-use Rattle.paraid_program.specs.declared.command.Command.TheVariants.{Format, Run, Status, Check, Gen}
+use Rattle.paraid_program.specs.declared.command.Command.TheVariants.{Format, Run, Spare, Status, Check, Gen, Nbd, Plan}
 
 -- The array that the source describes was made, and its line was told.
 pub record IsFormatWhole (force : Bool) (slots : ℕ) (old new : ℕ → Slot) (before after : Option Trail) (left_before left written_before written : Option (List ℕ)) : Type 0 where
@@ -52,6 +54,9 @@ CompletesCommand slots old new before after left_before left faults_before fault
 CompletesCommand slots old new before after left_before left faults_before faults counted count written_before written status Run =
     (h : HeldHistory slots before after) → Completes (IsRunWhole left written_before written) (HasOnlyRead before after)
     (HindersRun h old new faults_before faults counted count left_before left written_before written status) status
+CompletesCommand slots old new before after left_before left faults_before faults counted count written_before written status (Spare stock wait) =
+    (h : HeldHistory slots before after) → Completes (IsRunWhole left written_before written) (HasOnlyRead before after)
+    (HindersRun h old new faults_before faults counted count left_before left written_before written status) status
 CompletesCommand slots old new before after left_before left faults_before faults counted count written_before written status Status =
     (h : HeldHistory slots before after) → Completes (IsStatusWhole written_before written) (HasOnlyRead before after)
     (Hinders h old new counted count written_before written status) status
@@ -61,3 +66,9 @@ CompletesCommand slots old new before after left_before left faults_before fault
 CompletesCommand slots old new before after left_before left faults_before faults counted count written_before written status (Gen number lines) =
     (h : HeldHistory slots before after) → Completes (IsGenWhole written_before written) (HasOnlyRead before after)
     (Hinders h old new counted count written_before written status) status
+CompletesCommand slots old new before after left_before left faults_before faults counted count written_before written status Nbd =
+    (h : HeldHistory slots before after) → Completes (IsNbdWhole left_before left faults_before faults written_before written counted count) (HasOnlyRead before after)
+    (HindersNbd h old new left_before left faults_before faults written_before written counted count status) status
+CompletesCommand slots old new before after left_before left faults_before faults counted count written_before written status (Plan ups) =
+    (h : HeldHistory slots before after) → Completes (IsPlanWhole left written_before written) (IsPlanUnmade slots old new before after)
+    (HindersPlan h old new faults_before faults counted count left_before left written_before written status) status

@@ -13,5 +13,9 @@ pub mod Showing
 pub mod Counts
 pub mod Ends
 pub mod Complete
+pub mod Planning
+pub mod Spares
+pub mod PlanComes
 pub mod CommandDoes
 pub mod CommandCompletes
+pub mod Clients

@@ -5,17 +5,26 @@ pub enum Command {
     Format { force: bool },
     /// Answers a trace.
     Run,
+    /// Answers a trace with so many spares, of which one is put in after so many ticks.
+    Spare { stock: u8, wait: u32 },
     /// Tells the state.
     Status,
     /// Counts what is false.
     Check,
     /// Answers so many lines of the trace that a number stands for.
     Gen { number: u32, lines: u32 },
+    /// Serves one client of the network block service.
+    Nbd,
+    /// Plans the gears of a demand, with at most so many steps up.
+    Plan { ups: u16 },
 }
 
-/// An option of `gen` and its value.
+/// An option and its value.
 #[derive(Clone, Copy)]
 pub enum Choice {
     Number { number: u32 },
     Lines { lines: u32 },
+    Ups { ups: u16 },
+    Spares { stock: u8 },
+    Wait { ticks: u32 },
 }

@@ -5,9 +5,11 @@ ghost use Rattle.paraid_recover.specs.HeldMoments.{Extends};
 ghost use Rattle.paraid_serve.specs.Calls.{IsNotDouble};
 ghost use Rattle.paraid_serve.specs.Lost.{NamesTwoLost, TellsWear};
 ghost use Rattle.paraid_session.specs.Mount.{IsMountedFromEach};
+ghost use Rattle.paraid_program.specs.Clients.{IsStatusOfNbd, ServesNbdOrNot};
+ghost use Rattle.paraid_program.specs.Spares.{ServesSpares};
 ghost use Rattle.paraid_program.specs.Ends.{ChecksArray, CountsArray, IsCheckedStatus, IsStatusOfCheck, IsStatusOfGen, IsStatusOfRun, MountsAndThen, ServesGenerated, ServesLines, TellsCounts};
 
-use crate::fault::tell_refusal;
+use crate::fault::{mount_fault_status, tell_refusal};
 use crate::generate::serve_generated_mounted;
 use crate::outside::{Ended, Outside};
 use crate::report::{check_status, check_text};
@@ -17,7 +19,10 @@ use paraid_recover::MountRefused;
 use paraid_serve::Serves;
 use paraid_serve::ending::{halt_status, last};
 use paraid_serve::top::serve_mounted;
+use paraid_service::{Served, serve_client};
+use paraid_sparing::serve_mounted as serve_spared;
 use paraid_trace::{Brief, Text, reply};
+use std::alloc::Global;
 
 /// Mounts and answers each line of the source.
 pub fn run<S: Source, K: Sink, R: Rack, A: Serves, O: Outside<R, A>>(
@@ -38,6 +43,39 @@ pub fn run<S: Source, K: Sink, R: Rack, A: Serves, O: Outside<R, A>>(
     match outside.mount(rack) {
         Ok(mut array) => {
             let status = serve_mounted(source, sink, &mut array);
+            Ended {
+                status,
+                rack: outside.unmount(array),
+            }
+        }
+        Err(MountRefused { fault, rack }) => Ended {
+            status: tell_refusal(sink, fault),
+            rack,
+        },
+    }
+}
+
+/// Mounts and answers each line of the source, with spares put in.
+pub fn run_with_spares<S: Source, K: Sink, R: Rack, A: Serves, O: Outside<R, A>>(
+    outside: &O,
+    source: &mut S,
+    sink: &mut K,
+    rack: R,
+    stock: u8,
+    wait: u32,
+) -> Ended<R>
+    ensures run { MountsAndThen (R.slot_count rack) (R.slot rack) (R.slot result.rack) (R.told rack)
+        (R.told result.rack) (K.written sink.old) (K.written sink.new) result.status
+        (ServesSpares (R.slot_count rack) (R.slot rack) (R.slot result.rack) (R.told result.rack)
+        (S.left source.old) (S.left source.new) (K.written sink.old) (K.written sink.new)
+        stock wait result.status) }
+    ensures status { IsStatusOfRun result.status }
+    ensures source { result.status ≡ 3 → HasRisen (S.faults source.old) (S.faults source.new) }
+    ensures sink { result.status ≡ 4 → HasRisen (K.faults sink.old) (K.faults sink.new) }
+{
+    match outside.mount(rack) {
+        Ok(mut array) => {
+            let status = serve_spared(source, sink, &mut array, stock, wait);
             Ended {
                 status,
                 rack: outside.unmount(array),
@@ -139,6 +177,37 @@ pub fn check<K: Sink, R: Rack, A: Serves, O: Outside<R, A>>(
         }
         Err(MountRefused { fault, rack }) => Ended {
             status: tell_refusal(sink, fault),
+            rack,
+        },
+    }
+}
+
+/// Mounts and serves one client of the network block service.
+pub fn nbd<S: Source, K: Sink, R: Rack, A: Serves, O: Outside<R, A>>(
+    alloc: Global,
+    outside: &O,
+    source: &mut S,
+    sink: &mut K,
+    rack: R,
+) -> Ended<R>
+    ensures nbd { ServesNbdOrNot (R.slot_count rack) (R.slot rack) (R.slot result.rack) (R.told rack)
+        (R.told result.rack) (S.left source.old) (S.left source.new) (S.faults source.old)
+        (S.faults source.new) (K.written sink.old) (K.written sink.new) (K.faults sink.old)
+        (K.faults sink.new) result.status }
+    ensures status { IsStatusOfNbd result.status }
+    ensures source { result.status ≡ 3 → HasRisen (S.faults source.old) (S.faults source.new) }
+    ensures sink { result.status ≡ 4 → HasRisen (K.faults sink.old) (K.faults sink.new) }
+{
+    match outside.mount(rack) {
+        Ok(array) => {
+            let Served { status, array } = serve_client(alloc, source, sink, array);
+            Ended {
+                status,
+                rack: outside.unmount(array),
+            }
+        }
+        Err(MountRefused { fault, rack }) => Ended {
+            status: mount_fault_status(fault),
             rack,
         },
     }

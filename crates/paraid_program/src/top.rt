@@ -1,11 +1,13 @@
 ghost use Rattle.std.specs.Prelude.{◌≡◌, ◌≤◌, map, string_bytes};
 ghost use Rattle.paraid_base.specs.Told.{AtEnd, HasRisen};
 ghost use Rattle.paraid_serve.specs.Ending.{EndsWithLine};
+ghost use Rattle.paraid_program.specs.Clients.{IsStatusOfNbd, ServesNbdOrNot};
 ghost use Rattle.paraid_program.specs.Outcome.{Formats, IsFormatStatus};
 ghost use Rattle.paraid_program.specs.Ends.{ChecksArray, IsStatusOfCheck, IsStatusOfGen, IsStatusOfRun, MountsAndThen, ServesGenerated, ServesLines};
+ghost use Rattle.paraid_program.specs.Spares.{ServesSpares};
 ghost use Rattle.paraid_program.specs.Words.{AskFor, usage_line};
 ghost use Rattle.paraid_program.specs.CommandCompletes.{CompletesCommand};
-ghost use Rattle.paraid_program.specs.CommandDoes.{DoesCommand, TakesSource};
+ghost use Rattle.paraid_program.specs.CommandDoes.{DoesCommand, ReadsSource, TakesSource};
 ghost use Rattle.paraid_program.specs.declared.command.Command.{Command as CommandType};
 
 use crate::arrays::Arrays;
@@ -13,6 +15,7 @@ use crate::command::Command;
 use crate::format::format_array;
 use crate::mounted;
 use crate::outside::Ended;
+use crate::plan::show_plan;
 use crate::status::show_state;
 use crate::words::read_words;
 use paraid_controller::Array;
@@ -64,6 +67,29 @@ fn run<S: Source, K: Sink, R: Rack>(
     mounted::run::<S, K, R, Array<R>, Arrays>(&arrays, source, sink, rack)
 }
 
+// Mounts one, and answers each line of the source with spares put in.
+fn run_with_spares<S: Source, K: Sink, R: Rack>(
+    alloc: Global,
+    source: &mut S,
+    sink: &mut K,
+    rack: R,
+    stock: u8,
+    wait: u32,
+) -> Ended<R>
+    ensures run { MountsAndThen (R.slot_count rack) (R.slot rack) (R.slot result.rack) (R.told rack)
+        (R.told result.rack) (K.written sink.old) (K.written sink.new) result.status
+        (ServesSpares (R.slot_count rack) (R.slot rack) (R.slot result.rack) (R.told result.rack)
+        (S.left source.old) (S.left source.new) (K.written sink.old) (K.written sink.new)
+        stock wait result.status) }
+    ensures status { IsStatusOfRun result.status }
+    ensures end { result.status ≡ 0 → AtEnd (S.left source.new) }
+    ensures source { result.status ≡ 3 → HasRisen (S.faults source.old) (S.faults source.new) }
+    ensures sink { result.status ≡ 4 → HasRisen (K.faults sink.old) (K.faults sink.new) }
+{
+    let arrays = Arrays::new(alloc);
+    mounted::run_with_spares::<S, K, R, Array<R>, Arrays>(&arrays, source, sink, rack, stock, wait)
+}
+
 // Mounts one, and answers generated lines.
 fn generate<K: Sink, R: Rack>(
     alloc: Global,
@@ -97,19 +123,41 @@ fn check<K: Sink, R: Rack>(alloc: Global, sink: &mut K, rack: R) -> Ended<R>
     mounted::check::<K, R, Array<R>, Arrays>(&arrays, sink, rack)
 }
 
+// Mounts one, and serves one client.
+fn nbd<S: Source, K: Sink, R: Rack>(
+    alloc: Global,
+    source: &mut S,
+    sink: &mut K,
+    rack: R,
+) -> Ended<R>
+    ensures nbd { ServesNbdOrNot (R.slot_count rack) (R.slot rack) (R.slot result.rack) (R.told rack)
+        (R.told result.rack) (S.left source.old) (S.left source.new) (S.faults source.old)
+        (S.faults source.new) (K.written sink.old) (K.written sink.new) (K.faults sink.old)
+        (K.faults sink.new) result.status }
+    ensures status { IsStatusOfNbd result.status }
+    ensures source { result.status ≡ 3 → HasRisen (S.faults source.old) (S.faults source.new) }
+    ensures sink { result.status ≡ 4 → HasRisen (K.faults sink.old) (K.faults sink.new) }
+{
+    let arrays = Arrays::new(alloc);
+    mounted::nbd::<S, K, R, Array<R>, Arrays>(alloc, &arrays, source, sink, rack)
+}
+
 /// The program: it takes the words of the command line, and does what they ask for.
 ///
 /// `format` and `format --force` read a configuration from the source and make an array of the
 /// disks of the rack. The others mount it: `status` tells its state, `run` answers each line of the
-/// source, `gen` answers generated lines, and `check` counts what is false on the disks. Memory is taken before a mount has ended, and in a
-/// format. On all other words it tells which there are, and does nothing else.
+/// source, also with spares put in, `gen` answers generated lines, `check` counts what is false on the
+/// disks, `nbd` serves one client of the network block service, and `plan` reads a demand and tells the
+/// schedule of gears that costs least for it. Memory is taken before a mount has ended, in a format,
+/// for a client and for a plan. On all other words it tells which there are, and does nothing else.
 ///
 /// The statuses are 0, all was done; 2, the words ask for nothing; 3, the source has failed; 4, the
 /// sink has failed; 5, two disks are lost, and both are named; 6, the disks are no array, for the
 /// cause that is named; 7, there was no memory; 8, the configuration is refused; 9, the disks belong
 /// to an array; 10, 2^40 bytes were taken and no whole line is left; 11, a disk failed in a format,
-/// or there is no slot for it; 12, 2^62 commits or writes were made; and 13, a check has counted
-/// something that is false, and all counts were told.
+/// or there is no slot for it; 12, 2^62 commits or writes were made; 13, a check has counted
+/// something that is false, and all counts were told; 14, a client has broken the protocol; and 15,
+/// a line is none of a demand.
 ///
 /// Where the rack tells its calls and held a history, `run` has the headline of a session: what is
 /// written is what the array answers to the lines, and the disks hold at each stop a first part of
@@ -125,7 +173,8 @@ pub fn paraid<S: Source, K: Sink, R: Rack>(
     ensures does { (c : CommandType) → AskFor c (map string_bytes words.now.items)
         → DoesCommand (R.slot_count rack) (R.slot rack) (R.slot result.rack) (R.told rack)
         (R.told result.rack) (S.left source.old) (S.left source.new) (S.faults source.old)
-        (S.faults source.new) (K.written sink.old) (K.written sink.new) result.status c }
+        (S.faults source.new) (K.faults sink.old) (K.faults sink.new) (K.written sink.old)
+        (K.written sink.new) result.status c }
     ensures complete { (c : CommandType) → AskFor c (map string_bytes words.now.items)
         → CompletesCommand (R.slot_count rack) (R.slot rack) (R.slot result.rack) (R.told rack)
         (R.told result.rack) (S.left source.old) (S.left source.new) (S.faults source.old)
@@ -134,7 +183,7 @@ pub fn paraid<S: Source, K: Sink, R: Rack>(
     ensures end { (c : CommandType) → TakesSource c
         → AskFor c (map string_bytes words.now.items)
         → result.status ≡ 0 → AtEnd (S.left source.new) }
-    ensures unread { (c : CommandType) → (TakesSource c → ⊥)
+    ensures unread { (c : CommandType) → (ReadsSource c → ⊥)
         → AskFor c (map string_bytes words.now.items) → source.new ≡ source.old }
 
     ensures words { ((c : CommandType) → AskFor c
@@ -152,13 +201,18 @@ pub fn paraid<S: Source, K: Sink, R: Rack>(
     match read_words(words) {
         Some(Command::Format { force }) => format(alloc, force, source, sink, rack),
         Some(Command::Run) => run(alloc, source, sink, rack),
+        Some(Command::Spare { stock, wait }) => {
+            run_with_spares(alloc, source, sink, rack, stock, wait)
+        }
         Some(Command::Status) => show_state(alloc, sink, rack),
         Some(Command::Check) => check(alloc, sink, rack),
         Some(Command::Gen { number, lines }) => generate(alloc, sink, rack, number, lines),
+        Some(Command::Nbd) => nbd(alloc, source, sink, rack),
+        Some(Command::Plan { ups }) => show_plan(alloc, source, sink, rack, ups),
         None => Ended {
             status: last(
                 sink,
-                b"usage: paraid format [--force] | run | status | check | gen --number N --lines L\n",
+                b"usage: paraid format [--force] | run | status | check | gen --number N --lines L | nbd | run --spares N [--wait W] | plan --ups U\n",
                 status::WORDS,
             ),
             rack,

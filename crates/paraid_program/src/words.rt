@@ -1,7 +1,7 @@
 ghost use Rattle.std.specs.Prelude.{◌≡◌, ◌↔◌, Some, map, string_bytes};
 ghost use Rattle.std.specs.List.{position};
 ghost use Rattle.paraid_program.specs.declared.command.Command.{Command as CommandType};
-ghost use Rattle.paraid_program.specs.Commands.{both as both_of, choice_of, command_of, five_words as five_words_of, four_words as four_words_of, is_equals, joined_of, lines_choice, number_choice, one_word as one_word_of, three_options as three_options_of, three_words as three_words_of, two_words as two_words_of};
+ghost use Rattle.paraid_program.specs.Commands.{both as both_of, choice_of, command_of, five_words as five_words_of, four_words as four_words_of, is_equals, joined_of, lines_choice, number_choice, one_word as one_word_of, plan_with as plan_of, both_spares, spares_choice, spares_with, three_spares as three_spares_of, two_spares as two_spares_of, wait_choice, three_options as three_options_of, three_words as three_words_of, two_words as two_words_of, ups_choice};
 ghost use Rattle.paraid_program.specs.Words.{AskFor};
 
 use crate::command::{Choice, Command};
@@ -25,6 +25,33 @@ fn lines_option(value: Option<u32>) -> Option<Choice>
     }
 }
 
+fn ups_option(value: Option<u32>) -> Option<Choice>
+    ensures { result ≡ ups_choice value }
+{
+    match value {
+        Some(ups) if ups <= 256 => Some(Choice::Ups { ups: ups as u16 }),
+        _ => None,
+    }
+}
+
+fn spares_option(value: Option<u32>) -> Option<Choice>
+    ensures { result ≡ spares_choice value }
+{
+    match value {
+        Some(stock) if 1 <= stock && stock <= 255 => Some(Choice::Spares { stock: stock as u8 }),
+        _ => None,
+    }
+}
+
+fn wait_option(value: Option<u32>) -> Option<Choice>
+    ensures { result ≡ wait_choice value }
+{
+    match value {
+        Some(ticks) if ticks <= 1_000_000 => Some(Choice::Wait { ticks }),
+        _ => None,
+    }
+}
+
 // The option of this name with this value.
 fn choice(name: &[u8], value: &[u8]) -> Option<Choice>
     ensures { result ≡ choice_of name.now value.now }
@@ -33,6 +60,12 @@ fn choice(name: &[u8], value: &[u8]) -> Option<Choice>
         number_option(number(value))
     } else if name == b"--lines".as_slice() {
         lines_option(number(value))
+    } else if name == b"--ups".as_slice() {
+        ups_option(number(value))
+    } else if name == b"--spares".as_slice() {
+        spares_option(number(value))
+    } else if name == b"--wait".as_slice() {
+        wait_option(number(value))
     } else {
         None
     }
@@ -69,6 +102,59 @@ fn both(first: Option<Choice>, second: Option<Choice>) -> Option<Command>
     }
 }
 
+// `plan` with its option.
+fn planned(option: Option<Choice>) -> Option<Command>
+    ensures { result ≡ plan_of option }
+{
+    match option {
+        Some(Choice::Ups { ups }) => Some(Command::Plan { ups }),
+        _ => None,
+    }
+}
+
+// `run` with the option of its spares.
+fn spared(option: Option<Choice>) -> Option<Command>
+    ensures { result ≡ spares_with option }
+{
+    match option {
+        Some(Choice::Spares { stock }) => Some(Command::Spare { stock, wait: 0 }),
+        _ => None,
+    }
+}
+
+// `run` with both options.
+fn spared_both(first: Option<Choice>, second: Option<Choice>) -> Option<Command>
+    ensures { result ≡ both_spares first second }
+{
+    match (first, second) {
+        (Some(Choice::Spares { stock }), Some(Choice::Wait { ticks })) => {
+            Some(Command::Spare { stock, wait: ticks })
+        }
+        (Some(Choice::Wait { ticks }), Some(Choice::Spares { stock })) => {
+            Some(Command::Spare { stock, wait: ticks })
+        }
+        _ => None,
+    }
+}
+
+fn two_spares(first: Option<Choice>, a: &[u8], b: &[u8]) -> Option<Command>
+    ensures { result ≡ two_spares_of first a.now b.now }
+{
+    match first {
+        Some(first) => spared_both(Some(first), joined(b)),
+        None => spared(choice(a, b)),
+    }
+}
+
+fn three_spares(first: Option<Choice>, a: &[u8], b: &[u8], c: &[u8]) -> Option<Command>
+    ensures { result ≡ three_spares_of first a.now b.now c.now }
+{
+    match first {
+        Some(first) => spared_both(Some(first), choice(b, c)),
+        None => spared_both(choice(a, b), joined(c)),
+    }
+}
+
 fn one_word(a: &[u8]) -> Option<Command>
     ensures { result ≡ one_word_of a.now }
 {
@@ -80,6 +166,8 @@ fn one_word(a: &[u8]) -> Option<Command>
         Some(Command::Status)
     } else if a == b"check".as_slice() {
         Some(Command::Check)
+    } else if a == b"nbd".as_slice() {
+        Some(Command::Nbd)
     } else {
         None
     }
@@ -90,6 +178,10 @@ fn two_words(a: &[u8], b: &[u8]) -> Option<Command>
 {
     if a == b"format".as_slice() && b == b"--force".as_slice() {
         Some(Command::Format { force: true })
+    } else if a == b"plan".as_slice() {
+        planned(joined(b))
+    } else if a == b"run".as_slice() {
+        spared(joined(b))
     } else {
         None
     }
@@ -100,6 +192,10 @@ fn three_words(a: &[u8], b: &[u8], c: &[u8]) -> Option<Command>
 {
     if a == b"gen".as_slice() {
         both(joined(b), joined(c))
+    } else if a == b"plan".as_slice() {
+        planned(choice(b, c))
+    } else if a == b"run".as_slice() {
+        two_spares(joined(b), b, c)
     } else {
         None
     }
@@ -119,6 +215,8 @@ fn four_words(a: &[u8], b: &[u8], c: &[u8], d: &[u8]) -> Option<Command>
 {
     if a == b"gen".as_slice() {
         three_options(joined(b), b, c, d)
+    } else if a == b"run".as_slice() {
+        three_spares(joined(b), b, c, d)
     } else {
         None
     }
@@ -129,6 +227,8 @@ fn five_words(a: &[u8], b: &[u8], c: &[u8], d: &[u8], e: &[u8]) -> Option<Comman
 {
     if a == b"gen".as_slice() {
         both(choice(b, c), choice(d, e))
+    } else if a == b"run".as_slice() {
+        spared_both(choice(b, c), choice(d, e))
     } else {
         None
     }

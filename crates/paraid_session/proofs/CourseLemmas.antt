@@ -288,6 +288,7 @@ module _ (slots : ℕ) (s : Disks) (m : Meta) (f : IsFormatted slots s m) (small
       machine = flush_step;
       moments = moments;
       once = omega arith;
+      ups = λ d low. omega arith;
       quiet = λ is none. absurd (false≢true is);
       serving = rw nobody_is tt;
       mark = calm_mark slots t (next_meta m) (entry ∷ []) 1 calm_next whole_next written_state next_calm;

@@ -129,6 +129,7 @@ module _ (slots : ℕ) (t : Disks) (m : Meta) (h : History) (lo : ℕ) (calm : I
     machine = write_step m h 0 s;
     moments = kept_first;
     once = omega arith;
+    ups = λ d low. omega arith;
     quiet = λ q none. refl;
     serving = rw nobody_is tt;
     mark = calm_mark slots t m (h ++ entry ∷ []) lo longer all (after_write m s) (write_calm m s c);
@@ -312,6 +313,7 @@ module _ (slots : ℕ) (t : Disks) (m : Meta) (h : History) (lo : ℕ) (calm : I
     machine = lossy_step m h 0 s c.out;
     moments = (kept_first, allowed, kept_then);
     once = omega arith;
+    ups = λ d low. omega arith;
     quiet = λ q none. absurd (false≢true q);
     serving = rw down_then tt;
     mark = mark_less (h ++ entry ∷ []) longer (after_write m (after_loss s 2)) _ _ gone_state;

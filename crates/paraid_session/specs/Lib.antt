@@ -4,3 +4,4 @@ pub mod Mount
 pub mod Course
 pub mod Resting
 pub mod Faults
+pub mod Ups

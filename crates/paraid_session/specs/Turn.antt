@@ -1,5 +1,5 @@
 -- One event of a session: what is answered, and what its calls leave.
-use Rattle.std.specs.Prelude.{◌≡◌, ◌≢◌, ℕ, ◌+◌, ◌^◌, ◌<◌, ◌≤◌, ◌==◌, min, max, Bool, true, false, List, [], ◌++◌, length, Option, Some, None, if◌then◌else◌}
+use Rattle.std.specs.Prelude.{◌≡◌, ◌≢◌, ℕ, ◌+◌, ◌-◌, ◌^◌, ◌<◌, ◌≤◌, ◌==◌, min, max, slice_index, Bool, true, false, List, [], ◌++◌, length, Option, Some, None, if◌then◌else◌}
 use Rattle.paraid_base.specs.declared.event.Answer.{Answer}
 use Rattle.paraid_base.specs.declared.event.Answer.TheVariants.{NoBlock, Flushed, Ticked, Top, Lowest, Shifting, Failed, NoDisk, Out as IsOut, NotOut, Ration as RationUsed, State as IsState, Energy as EnergyUsed, Bad as IsBad, Halted}
 use Rattle.paraid_base.specs.declared.event.Event.{Event}
@@ -24,6 +24,7 @@ use Rattle.paraid_image.specs.Shown.{IsShown, with_flush, accepted_write}
 use Rattle.paraid_machine.specs.Energy.{energy_after, tick_energy}
 use Rattle.paraid_machine.specs.Machine.{IsEventStep}
 use Rattle.paraid_machine.specs.Moves.{state_with_tick}
+use Rattle.paraid_session.specs.Ups.{up_count}
 use Rattle.paraid_session.specs.Watch.{Bounds, Down, Each, IsAllowed, HoldsWhileServing, IsServing, Watch, attach_count, before_loss, down_from_out, fails_on, first_lost, watch_all, with_down}
 
 -- A session between two events: the disks; the writes that were accepted, and how many of them no
@@ -149,6 +150,8 @@ pub record IsAnswered (slots : ℕ) (setup : Setup) (p : Point) (event : Event) 
   pub machine : IsEventStep setup p.history p.energy p.state event (first_lost calls) answer q.state
   pub moments : Each (HoldsWhileServing slots q.history p.low (bounds_of setup p event)) (IsAllowed setup (replaced_by event)) (watch_of p event answer) calls
   pub once : attach_count calls ≤ 1
+  -- no disk is spun up more often than the state has recorded of it since
+  pub ups : (d : ℕ) → d < setup.geometry.disks → up_count d calls ≤ slice_index q.state.spins d - slice_index p.state.spins d
   pub quiet : makes_no_call answer ≡ true → first_lost calls ≡ None → calls ≡ []
   -- one disk at most is down after it
   pub serving : IsServing (watch_all calls (watch_of p event answer)).down

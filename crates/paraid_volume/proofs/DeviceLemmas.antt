@@ -53,34 +53,34 @@ AreAll-weaker kind other into [] f = tt
 AreAll-weaker kind other into (e ∷ a) f = (into e.0 f.0, AreAll-weaker kind other into a f.1)
 
 -- no call was made
-pub KeepsMore-none : {S : Type 0} (kept : S → Answers → Type 0) (tells : S → Bool) (kind : Event → Type 0) (a : S) → KeepsMore kept tells kind a a
-KeepsMore-none kept tells kind a = record { grows = λ events k t. record { more = []; kept = subst (kept a) (sym (append-nil events)) k; all = tt } }
+pub KeepsMore-none : {S : Type 0} (kept : S → S → Answers → Type 0) (tells : S → Bool) (kind : Event → Type 0) (a : S) → KeepsMore kept tells kind a a
+KeepsMore-none kept tells kind a = record { grows = λ first events k. record { more = []; kept = subst (kept first a) (sym (append-nil events)) k; all = tt } }
 
 -- one call was made
-pub KeepsMore-one : {S : Type 0} (kept : S → Answers → Type 0) (tells : S → Bool) (kind : Event → Type 0) (a b : S) (e : Event) (answer : Answer)
-    → ((events : Answers) → kept a events → IsTrue (tells b) → kept b (events ++ (e, answer) ∷ [])) → kind e → KeepsMore kept tells kind a b
-KeepsMore-one kept tells kind a b e answer keeps is = record { grows = λ events k t. record { more = (e, answer) ∷ []; kept = keeps events k t; all = (is, tt) } }
+pub KeepsMore-one : {S : Type 0} (kept : S → S → Answers → Type 0) (tells : S → Bool) (kind : Event → Type 0) (a b : S) (e : Event) (answer : Answer)
+    → ((first : S) (events : Answers) → kept first a events → kept first b (events ++ (e, answer) ∷ [])) → kind e → KeepsMore kept tells kind a b
+KeepsMore-one kept tells kind a b e answer keeps is = record { grows = λ first events k. record { more = (e, answer) ∷ []; kept = keeps first events k; all = (is, tt) } }
 
 -- some calls were made, and then others
-pub KeepsMore-then : {S : Type 0} (kept : S → Answers → Type 0) (tells : S → Bool) (kind : Event → Type 0) (a b c : S) → (IsTrue (tells c) → IsTrue (tells b))
+pub KeepsMore-then : {S : Type 0} (kept : S → S → Answers → Type 0) (tells : S → Bool) (kind : Event → Type 0) (a b c : S) → (IsTrue (tells c) → IsTrue (tells b))
     → KeepsMore kept tells kind a b → KeepsMore kept tells kind b c → KeepsMore kept tells kind a c
 KeepsMore-then kept tells kind a b c told f g = record {
-  grows = λ events k t.
-      let first = f.grows events k (told t) in
-      let second = g.grows (events ++ first.more) first.kept t in
+  grows = λ first events k.
+      let one = f.grows first events k in
+      let second = g.grows first (events ++ one.more) one.kept in
       record {
-        more = first.more ++ second.more;
-        kept = subst (kept c) (append_assoc events first.more second.more) second.kept;
-        all = AreAll-append kind first.more second.more first.all second.all;
+        more = one.more ++ second.more;
+        kept = subst (kept first c) (append_assoc events one.more second.more) second.kept;
+        all = AreAll-append kind one.more second.more one.all second.all;
       };
 }
 
-pub KeepsMore-weaker : {S : Type 0} (kept : S → Answers → Type 0) (tells : S → Bool) (kind other : Event → Type 0) (a b : S) → ((e : Event) → kind e → other e)
+pub KeepsMore-weaker : {S : Type 0} (kept : S → S → Answers → Type 0) (tells : S → Bool) (kind other : Event → Type 0) (a b : S) → ((e : Event) → kind e → other e)
     → KeepsMore kept tells kind a b → KeepsMore kept tells other a b
 KeepsMore-weaker kept tells kind other a b into f = record {
-  grows = λ events k t.
-      let first = f.grows events k t in
-      record { more = first.more; kept = first.kept; all = AreAll-weaker kind other into first.more first.all };
+  grows = λ first events k.
+      let one = f.grows first events k in
+      record { more = one.more; kept = one.kept; all = AreAll-weaker kind other into one.more one.all };
 }
 
 pub read_either : (e : Event) → IsReadEvent e → IsReadOrWrite e
@@ -113,34 +113,34 @@ entries_in-append : (a b : Answers) → entries_in (a ++ b) ≡ entries_in a ++ 
 entries_in-append [] b = refl
 entries_in-append (e ∷ a) b = ap (λ (x : History). entry_in e.0 e.1 ++ x) (entries_in-append a b) ∙ sym (append_assoc (entry_in e.0 e.1) (entries_in a) (entries_in b))
 
-pub holds_stands : {S : Type 0} (stands : S → History → Type 0) (kept : S → Answers → Type 0) (from : SinceHistory) (a : S) (h : History) → DeviceHolds stands kept from a h → stands a h
+pub holds_stands : {S : Type 0} (stands : S → History → Type 0) (kept : S → S → Answers → Type 0) (from : SinceHistory S) (a : S) (h : History) → DeviceHolds stands kept from a h → stands a h
 holds_stands stands kept None a h holds = holds
 holds_stands stands kept (Some from) a h holds = holds.0
 
 -- a call that is no write was made
-pub holds_same : {S : Type 0} (stands : S → History → Type 0) (kept : S → Answers → Type 0) (from : SinceHistory) (a b : S) (h : History) (e : Event) (answer : Answer)
-    → (stands a h → stands b h) → ((events : Answers) → kept a events → kept b (events ++ (e, answer) ∷ [])) → entry_in e answer ≡ [] → DeviceHolds stands kept from a h → DeviceHolds stands kept from b h
+pub holds_same : {S : Type 0} (stands : S → History → Type 0) (kept : S → S → Answers → Type 0) (from : SinceHistory S) (a b : S) (h : History) (e : Event) (answer : Answer)
+    → (stands a h → stands b h) → ((first : S) (events : Answers) → kept first a events → kept first b (events ++ (e, answer) ∷ [])) → entry_in e answer ≡ [] → DeviceHolds stands kept from a h → DeviceHolds stands kept from b h
 holds_same stands kept None a b h e answer now keeps none holds = now holds
 holds_same stands kept (Some from) a b h e answer now keeps none holds = (
   now holds.0,
   holds.1 ++ (e, answer) ∷ [],
-  subst (kept b) (append_assoc from.1 holds.1 ((e, answer) ∷ [])) (keeps (from.1 ++ holds.1) holds.2),
-  holds.3 ∙ ap (λ (x : History). from.0 ++ x) (sym same),
+  subst (kept from.0 b) (append_assoc from.2 holds.1 ((e, answer) ∷ [])) (keeps from.0 (from.2 ++ holds.1) holds.2),
+  holds.3 ∙ ap (λ (x : History). from.1 ++ x) (sym same),
 )
   where
     same : entries_in (holds.1 ++ (e, answer) ∷ []) ≡ entries_in holds.1
     same = entries_in-append holds.1 ((e, answer) ∷ []) ∙ ap (λ (x : History). entries_in holds.1 ++ (x ++ [])) none ∙ append-nil (entries_in holds.1)
 
 -- a write was accepted
-pub holds_write : {S : Type 0} (stands : S → History → Type 0) (kept : S → Answers → Type 0) (from : SinceHistory) (a b : S) (h : History) (pairs : Pairs) (entry : Entry) (number : ℕ)
-    → (stands a h → stands b (h ++ entry ∷ [])) → ((events : Answers) → kept a events → kept b (events ++ (WriteEvent pairs, Wrote number) ∷ [])) → pairs_of pairs ≡ entry
+pub holds_write : {S : Type 0} (stands : S → History → Type 0) (kept : S → S → Answers → Type 0) (from : SinceHistory S) (a b : S) (h : History) (pairs : Pairs) (entry : Entry) (number : ℕ)
+    → (stands a h → stands b (h ++ entry ∷ [])) → ((first : S) (events : Answers) → kept first a events → kept first b (events ++ (WriteEvent pairs, Wrote number) ∷ [])) → pairs_of pairs ≡ entry
     → DeviceHolds stands kept from a h → DeviceHolds stands kept from b (h ++ entry ∷ [])
 holds_write stands kept None a b h pairs entry number now keeps is holds = now holds
 holds_write stands kept (Some from) a b h pairs entry number now keeps is holds = (
   now holds.0,
   holds.1 ++ (WriteEvent pairs, Wrote number) ∷ [],
-  subst (kept b) (append_assoc from.1 holds.1 ((WriteEvent pairs, Wrote number) ∷ [])) (keeps (from.1 ++ holds.1) holds.2),
-  ap (λ (x : History). x ++ entry ∷ []) holds.3 ∙ append_assoc from.0 (entries_in holds.1) (entry ∷ []) ∙ ap (λ (x : History). from.0 ++ x) (sym more),
+  subst (kept from.0 b) (append_assoc from.2 holds.1 ((WriteEvent pairs, Wrote number) ∷ [])) (keeps from.0 (from.2 ++ holds.1) holds.2),
+  ap (λ (x : History). x ++ entry ∷ []) holds.3 ∙ append_assoc from.1 (entries_in holds.1) (entry ∷ []) ∙ ap (λ (x : History). from.1 ++ x) (sym more),
 )
   where
     more : entries_in (holds.1 ++ (WriteEvent pairs, Wrote number) ∷ []) ≡ entries_in holds.1 ++ entry ∷ []

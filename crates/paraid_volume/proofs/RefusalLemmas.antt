@@ -42,10 +42,10 @@ module _ (count : ℕ) (a b : ℕ → Block) (s : VolumeState) (same : IsSameTab
     named = subst (λ (n : ℕ). 0 < n) (shows.name id 0 named.low named.high (omega arith) ∙ sym (same_name a b same id 0)) named.named;
   }
 
-  has_name : (id : ℕ) (text : Name) → HasName s id (letter_of text) → IsNameOf a id text
+  pub has_name : (id : ℕ) (text : Name) → HasName s id (letter_of text) → IsNameOf a id text
   has_name id text has = λ k l. has.1 k l ∙ shows.name id k has.0.low has.0.high l ∙ sym (same_name a b same id k)
 
-  name_has : (id : ℕ) (text : Name) → IsLiveId a id → IsNameOf a id text → HasName s id (letter_of text)
+  pub name_has : (id : ℕ) (text : Name) → IsLiveId a id → IsNameOf a id text → HasName s id (letter_of text)
   name_has id text live named = (live_named id live, λ k l. named k l ∙ same_name a b same id k ∙ sym (shows.name id k live.low live.high l))
 
   pub unused : (text : Name) → IsNew a text → IsUnused s (letter_of text)

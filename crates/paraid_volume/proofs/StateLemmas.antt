@@ -6,7 +6,7 @@ use Rattle.std.proofs.lemmas.Bool.Decides.{nat_tests}
 use Rattle.std.proofs.lemmas.List.{length-append}
 use Rattle.paraid_base.specs.declared.block.Block.{Block}
 use Rattle.paraid_base.specs.History.{History, after_all}
-use Rattle.paraid_volume.specs.Lives.{HasLived, begun}
+use Rattle.paraid_volume.specs.Lives.{BeginsLife, HasLived, begun}
 use Rattle.paraid_volume.specs.States.{AddsNoVolume, ShowsVolumes, VolumeState, no_volumes}
 use Rattle.paraid_volume.specs.Tables.{IsExtent, IsVolumeTable, extent_count, extent_size, name_in, extents_owned, owner_in}
 use Rattle.paraid_volume.proofs.ShowsLemmas.{extent_once}
@@ -69,10 +69,13 @@ lived_adopted holds count h stands table = record {
   life = begun h (state_of count (after_all h)) refl (shows_some count (after_all h) table);
 }
 
-pub lived_begun : (holds : History → Type 0) (count : ℕ) (h : History) → AddsNoVolume holds count h → HasLived holds count (length h + 1) []
+pub lived_begun : (holds : History → Type 0) (count : ℕ) (h : History) → AddsNoVolume holds count h → BeginsLife holds count (length h + 1)
 lived_begun holds count h begins = record {
-  writes = h ++ begins.entry ∷ [];
-  state = no_volumes count;
-  stands = begins.stands;
-  life = begun (h ++ begins.entry ∷ []) (no_volumes count) (length-append h (begins.entry ∷ [])) begins.shows;
+  lived = record {
+    writes = h ++ begins.entry ∷ [];
+    state = no_volumes count;
+    stands = begins.stands;
+    life = begun (h ++ begins.entry ∷ []) (no_volumes count) (length-append h (begins.entry ∷ [])) begins.shows;
+  };
+  none = refl;
 }

@@ -56,8 +56,8 @@ pub record More (holds : Answers → Type 0) (kind : Event → Type 0) (events :
   pub all : AreAll kind more
 
 -- The events that were kept are kept, and more of this kind, those that gave a halt included.
-pub record KeepsMore {S : Type 0} (kept : S → Answers → Type 0) (tells : S → Bool) (kind : Event → Type 0) (old new : S) : Type 0 where
-  pub grows : (events : Answers) → kept old events → IsTrue (tells new) → More (kept new) kind events
+pub record KeepsMore {S : Type 0} (kept : S → S → Answers → Type 0) (tells : S → Bool) (kind : Event → Type 0) (old new : S) : Type 0 where
+  pub grows : (first : S) (events : Answers) → kept first old events → More (kept first new) kind events
 
 -- the entry of a write that was accepted; no other event has one
 abbrev pub entry_in : Event → Answer → History
@@ -69,16 +69,16 @@ abbrev pub entries_in : Answers → History
 entries_in [] = []
 entries_in (e ∷ es) = entry_in e.0 e.1 ++ entries_in es
 
--- a history and the events that were kept with it, or neither
-abbrev pub SinceHistory : Type 0
-SinceHistory = Option (History × Answers)
+-- a device as it was, a history, and the events that were kept since then with it; or none of these
+abbrev pub SinceHistory : Type 0 → Type 0
+SinceHistory S = Option (S × History × Answers)
 
 -- The device stands for this history. If a history and events are given, it is that history with the
 -- writes of the events that were kept after these.
-abbrev pub DeviceHolds : {S : Type 0} → (S → History → Type 0) → (S → Answers → Type 0) → SinceHistory → S → History → Type 0
+abbrev pub DeviceHolds : {S : Type 0} → (S → History → Type 0) → (S → S → Answers → Type 0) → SinceHistory S → S → History → Type 0
 DeviceHolds stands kept None device h = stands device h
 DeviceHolds stands kept (Some from) device h =
-    stands device h × (made : Answers) × kept device (from.1 ++ made) × (h ≡ from.0 ++ entries_in made)
+    stands device h × (made : Answers) × kept from.0 device (from.2 ++ made) × (h ≡ from.1 ++ entries_in made)
 
 -- the halt in a result
 abbrev pub halt_in : {A : Type 0} → Result A Halt → Option Halt

@@ -5,7 +5,7 @@ use Rattle.paraid_base.specs.History.{History, after, after_all}
 use Rattle.paraid_volume.specs.declared.fault.VolFault.{VolFault}
 use Rattle.paraid_volume.specs.declared.fault.VolFault.TheVariants.{NoVolume, NoBlock, Exists, NoExtents, Names, Space}
 use Rattle.paraid_volume.specs.Names.{IsField}
-use Rattle.paraid_volume.specs.States.{ShowsVolumes, VolumeState, with_volume, without_volume, with_block}
+use Rattle.paraid_volume.specs.States.{ShowsVolumes, VolumeState, no_volumes, with_volume, without_volume, with_block}
 use Rattle.paraid_volume.specs.Tables.{extent_size}
 
 -- what a client of volumes asks
@@ -117,3 +117,13 @@ pub record HasLived (holds : History → Type 0) (count start : ℕ) (log : VolL
   pub state : VolumeState
   pub stands : holds writes
   pub life : Life count start writes state log
+
+-- One call more was answered, from the state of the life so far.
+pub record LivesMore (old new : History → Type 0) (count start : ℕ) (log : VolLog) (lived : HasLived old count start log) (call : VolCall) (answer : VolAnswer) : Type 0 where
+  pub all : HasLived new count start (log ++ (call, answer) ∷ [])
+  pub step : VolumeStep count lived.state call answer all.state
+
+-- A life begins with no volume.
+pub record BeginsLife (holds : History → Type 0) (count start : ℕ) : Type 0 where
+  pub lived : HasLived holds count start []
+  pub none : lived.state ≡ no_volumes count

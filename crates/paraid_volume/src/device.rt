@@ -9,7 +9,8 @@ ghost use Rattle.paraid_volume.specs.TableBlocks.{in_table};
 ghost use Rattle.paraid_volume.specs.Tables.{IsSameTable, owner_in};
 
 use crate::table::Table;
-use paraid_base::{Block, BlockFault, Blocks, Halt, Pairs};
+use paraid_base::{Block, BlockFault, Halt, Pairs};
+use paraid_blocks::Blocks;
 
 // Reads one block of a table.
 fn read_block<B: Blocks>(device: &mut B, table: &mut Table, at: u32) -> Result<(), Halt>
@@ -18,7 +19,7 @@ fn read_block<B: Blocks>(device: &mut B, table: &mut Table, at: u32) -> Result<(
     ensures went { DeviceGoesOn B.block_count B.halts B.halted B.tells device.old device.new }
     ensures grown { KeepsMore B.kept B.tells IsReadEvent device.old device.new }
     ensures halt { B.halted device.new ≡ halt_in result }
-    ensures keeps { OnOk result ((from : SinceHistory) → KeepsHistories (DeviceHolds B.stands B.kept from) B.tells
+    ensures keeps { OnOk result ((from : SinceHistory B) → KeepsHistories (DeviceHolds B.stands B.kept from) B.tells
         device.old device.new) }
     ensures read { OnOk result ((h : History) → B.stands device.old h
         → IsTrue (B.tells device.new) → in_table table.new at ≡ after_all h at) }
@@ -41,7 +42,7 @@ pub(crate) fn read_table<B: Blocks>(device: &mut B, table: &mut Table) -> Result
     ensures went { DeviceGoesOn B.block_count B.halts B.halted B.tells device.old device.new }
     ensures grown { KeepsMore B.kept B.tells IsReadEvent device.old device.new }
     ensures halt { B.halted device.new ≡ halt_in result }
-    ensures keeps { OnOk result ((from : SinceHistory) → KeepsHistories (DeviceHolds B.stands B.kept from) B.tells
+    ensures keeps { OnOk result ((from : SinceHistory B) → KeepsHistories (DeviceHolds B.stands B.kept from) B.tells
         device.old device.new) }
     ensures read { OnOk result ((h : History) → B.stands device.old h
         → IsTrue (B.tells device.new) → IsSameTable (in_table table.new) (after_all h)) }
@@ -59,7 +60,7 @@ pub(crate) fn write_table<B: Blocks>(device: &mut B, pairs: &Pairs) -> Result<()
     ensures went { DeviceGoesOn B.block_count B.halts B.halted B.tells device.old device.new }
     ensures grown { KeepsMore B.kept B.tells IsWriteEvent device.old device.new }
     ensures halt { B.halted device.new ≡ halt_in result }
-    ensures adds { OnOk result ((from : SinceHistory) (h : History)
+    ensures adds { OnOk result ((from : SinceHistory B) (h : History)
         → DeviceHolds B.stands B.kept from device.old h → IsTrue (B.tells device.new)
         → DeviceHolds B.stands B.kept from device.new (h ++ pairs_of pairs.now ∷ [])) }
 {
@@ -76,7 +77,7 @@ fn clear_block<B: Blocks>(device: &mut B, at: u32) -> Result<(), Halt>
     ensures went { DeviceGoesOn B.block_count B.halts B.halted B.tells device.old device.new }
     ensures grown { KeepsMore B.kept B.tells IsWriteEvent device.old device.new }
     ensures halt { B.halted device.new ≡ halt_in result }
-    ensures clears { OnOk result ((from : SinceHistory) → Clears (DeviceHolds B.stands B.kept from) B.tells device.old device.new (Between at (at + 1))) }
+    ensures clears { OnOk result ((from : SinceHistory B) → Clears (DeviceHolds B.stands B.kept from) B.tells device.old device.new (Between at (at + 1))) }
 {
     match device.write(at, &Block::zero()) {
         Ok(_) => Ok(()),
@@ -92,7 +93,7 @@ pub(crate) fn clear_blocks<B: Blocks>(device: &mut B, start: u32, end: u32) -> R
     ensures went { DeviceGoesOn B.block_count B.halts B.halted B.tells device.old device.new }
     ensures grown { KeepsMore B.kept B.tells IsWriteEvent device.old device.new }
     ensures halt { B.halted device.new ≡ halt_in result }
-    ensures clears { OnOk result ((from : SinceHistory) → Clears (DeviceHolds B.stands B.kept from) B.tells device.old device.new (Between start end)) }
+    ensures clears { OnOk result ((from : SinceHistory B) → Clears (DeviceHolds B.stands B.kept from) B.tells device.old device.new (Between start end)) }
 {
     for at in start..end {
         clear_block(device, at)?;
@@ -116,7 +117,7 @@ fn clear_extent<B: Blocks>(
     ensures went { DeviceGoesOn B.block_count B.halts B.halted B.tells device.old device.new }
     ensures grown { KeepsMore B.kept B.tells IsWriteEvent device.old device.new }
     ensures halt { B.halted device.new ≡ halt_in result }
-    ensures clears { OnOk result ((from : SinceHistory) → Clears (DeviceHolds B.stands B.kept from) B.tells device.old device.new
+    ensures clears { OnOk result ((from : SinceHistory B) → Clears (DeviceHolds B.stands B.kept from) B.tells device.old device.new
         (OfExtent (owner_in (in_table table.now)) id size extent)) }
 {
     if table.owner(extent) != id {
@@ -142,7 +143,7 @@ pub(crate) fn clear_extents<B: Blocks>(
     ensures went { DeviceGoesOn B.block_count B.halts B.halted B.tells device.old device.new }
     ensures grown { KeepsMore B.kept B.tells IsWriteEvent device.old device.new }
     ensures halt { B.halted device.new ≡ halt_in result }
-    ensures clears { OnOk result ((from : SinceHistory) → Clears (DeviceHolds B.stands B.kept from) B.tells device.old device.new
+    ensures clears { OnOk result ((from : SinceHistory B) → Clears (DeviceHolds B.stands B.kept from) B.tells device.old device.new
         (InExtent (owner_in (in_table table.now)) id size extents)) }
 {
     for extent in 0..extents {
@@ -170,7 +171,7 @@ pub(crate) fn make<B: Blocks>(
     ensures went { DeviceGoesOn B.block_count B.halts B.halted B.tells device.old device.new }
     ensures grown { KeepsMore B.kept B.tells IsWriteEvent device.old device.new }
     ensures halt { B.halted device.new ≡ halt_in result }
-    ensures makes { OnOk result ((from : SinceHistory) (h : History)
+    ensures makes { OnOk result ((from : SinceHistory B) (h : History)
         → DeviceHolds B.stands B.kept from device.old h → IsTrue (B.tells device.new)
         → MakesTable (DeviceHolds B.stands B.kept from device.new) h
         (InExtent (owner_in (in_table next.now)) id size extents) (in_table old.now)

@@ -8,7 +8,8 @@ use crate::fault::{VolFault, VolRefused};
 use crate::name::Name;
 use crate::size::{extent_count, extent_size};
 use crate::table::Table;
-use paraid_base::{Block, BlockFault, BlockNo, Blocks, Halt};
+use paraid_base::{Block, BlockFault, BlockNo, Halt};
+use paraid_blocks::Blocks;
 
 /// Named volumes on a device of at least seven blocks. It takes no memory.
 ///
@@ -38,7 +39,7 @@ impl<B: Blocks> Volumes<B> {
     ghost use Rattle.paraid_volume.specs.Faults.{IsPlaceFault, IsAdoptFault, IsInitFault, IsIdFault, IsCreateFault, IsLeastFree, IsHalt, IsNew, IsServedBlock, vol_halt_in};
     ghost use Rattle.paraid_volume.specs.States.{VolumeState, ShowsVolumes, Adds, AddsNoVolume, Makes, IsPlace, with_volume, without_volume, with_block};
     ghost use Rattle.paraid_volume.specs.Tables.{IsLiveId, extents_owned, owner_in};
-    ghost use Rattle.paraid_volume.specs.Lives.{HasLived, VolLog, create as CreateCall, delete as DeleteCall, read as ReadCall, write as WriteCall, flush as FlushCall, made as Made, removed as Removed, value as Gave, wrote as Wrote, flushed as Flushed, refused as Refused};
+    ghost use Rattle.paraid_volume.specs.Lives.{BeginsLife, HasLived, LivesMore, VolLog, create as CreateCall, delete as DeleteCall, read as ReadCall, write as WriteCall, flush as FlushCall, made as Made, removed as Removed, value as Gave, wrote as Wrote, flushed as Flushed, refused as Refused};
     ghost use Rattle.paraid_volume.specs.NameValues.{IsNameOf, letter_of};
     ghost use Rattle.paraid_volume.specs.Values.{device_of, halted_of, volume_table, VolumesStandFor, KeepsRead, KeepsWrite};
 
@@ -56,10 +57,13 @@ impl<B: Blocks> Volumes<B> {
             KeepsMore B.kept B.tells IsReadEvent blocks (device_of volumes)) }
         ensures grown_refused { IfErr result (λ refused.
             KeepsMore B.kept B.tells IsReadEvent blocks refused.blocks) }
+        ensures stands_refused { IfErr result (λ refused. B.halted refused.blocks ≡ None → (from : SinceHistory B) (h : History)
+            → DeviceHolds B.stands B.kept from blocks h → IsTrue (B.tells refused.blocks)
+            → DeviceHolds B.stands B.kept from refused.blocks h) }
         ensures ok { IfOk result (λ volumes. halted_of volumes ≡ None) }
-        ensures stands { IfOk result (λ volumes. (from : SinceHistory) (h : History) → DeviceHolds B.stands B.kept from blocks h
+        ensures stands { IfOk result (λ volumes. (from : SinceHistory B) (h : History) → DeviceHolds B.stands B.kept from blocks h
             → IsTrue (B.tells (device_of volumes)) → VolumesStandFor (DeviceHolds B.stands B.kept from) volumes h) }
-        ensures lived { IfOk result (λ volumes. (from : SinceHistory) (h : History) → DeviceHolds B.stands B.kept from blocks h
+        ensures lived { IfOk result (λ volumes. (from : SinceHistory B) (h : History) → DeviceHolds B.stands B.kept from blocks h
             → IsTrue (B.tells (device_of volumes))
             → HasLived (VolumesStandFor (DeviceHolds B.stands B.kept from) volumes) (B.block_count blocks) (length h) []) }
     {
@@ -103,13 +107,16 @@ impl<B: Blocks> Volumes<B> {
             KeepsMore B.kept B.tells IsReadOrWrite blocks (device_of volumes)) }
         ensures grown_refused { IfErr result (λ refused.
             KeepsMore B.kept B.tells IsReadOrWrite blocks refused.blocks) }
+        ensures stands_refused { IfErr result (λ refused. B.halted refused.blocks ≡ None → (from : SinceHistory B) (h : History)
+            → DeviceHolds B.stands B.kept from blocks h → IsTrue (B.tells refused.blocks)
+            → DeviceHolds B.stands B.kept from refused.blocks h) }
         ensures ok { IfOk result (λ volumes. halted_of volumes ≡ None) }
-        ensures stands { IfOk result (λ volumes. (from : SinceHistory) (h : History) → DeviceHolds B.stands B.kept from blocks h
+        ensures stands { IfOk result (λ volumes. (from : SinceHistory B) (h : History) → DeviceHolds B.stands B.kept from blocks h
             → IsTrue (B.tells (device_of volumes))
             → AddsNoVolume (VolumesStandFor (DeviceHolds B.stands B.kept from) volumes) (B.block_count blocks) h) }
-        ensures lived { IfOk result (λ volumes. (from : SinceHistory) (h : History) → DeviceHolds B.stands B.kept from blocks h
+        ensures lived { IfOk result (λ volumes. (from : SinceHistory B) (h : History) → DeviceHolds B.stands B.kept from blocks h
             → IsTrue (B.tells (device_of volumes))
-            → HasLived (VolumesStandFor (DeviceHolds B.stands B.kept from) volumes) (B.block_count blocks) (length h + 1) []) }
+            → BeginsLife (VolumesStandFor (DeviceHolds B.stands B.kept from) volumes) (B.block_count blocks) (length h + 1)) }
     {
         let mut blocks = blocks;
         let count = blocks.blocks();
@@ -187,26 +194,25 @@ impl<B: Blocks> Volumes<B> {
             (device_of self.new) }
         ensures grown { KeepsMore B.kept B.tells IsReadEvent (device_of self.old) (device_of self.new) }
         ensures table { volume_table self.new ≡ volume_table self.old }
-        ensures stands { halted_of self.new ≡ None → (from : SinceHistory) (h : History) → VolumesStandFor (DeviceHolds B.stands B.kept from) self.old h
+        ensures stands { halted_of self.new ≡ None → (from : SinceHistory B) (h : History) → VolumesStandFor (DeviceHolds B.stands B.kept from) self.old h
             → IsTrue (B.tells (device_of self.new)) → VolumesStandFor (DeviceHolds B.stands B.kept from) self.new h }
         ensures value { OnOk result ((h : History) (s : VolumeState) → VolumesStandFor B.stands self.old h
             → ShowsVolumes (B.block_count (device_of self.old)) (after_all h) s
             → IsTrue (B.tells (device_of self.new)) → into.new ≡ s.block id block) }
-        ensures event { OnOk result ((events : Answers) → B.kept (device_of self.old) events
-            → IsTrue (B.tells (device_of self.new))
-            → KeepsRead (B.kept (device_of self.new)) events (B.block_count (device_of self.old))
+        ensures event { OnOk result ((first : B) (events : Answers) → B.kept first (device_of self.old) events
+            → KeepsRead (B.kept first (device_of self.new)) events (B.block_count (device_of self.old))
             (volume_table self.old) id block into.new) }
-        ensures lived { OnOk result ((from : SinceHistory) (start : ℕ) (log : VolLog)
-            → HasLived (VolumesStandFor (DeviceHolds B.stands B.kept from) self.old) (B.block_count (device_of self.old)) start log
+        ensures lived { OnOk result ((from : SinceHistory B) (start : ℕ) (log : VolLog)
+            → (lived : HasLived (VolumesStandFor (DeviceHolds B.stands B.kept from) self.old) (B.block_count (device_of self.old)) start log)
             → IsTrue (B.tells (device_of self.new))
-            → HasLived (VolumesStandFor (DeviceHolds B.stands B.kept from) self.new) (B.block_count (device_of self.old)) start
-            (log ++ (ReadCall id block, Gave into.new) ∷ [])) }
-        ensures lived_refused { IfErr result (λ fault. halted_of self.new ≡ None → (from : SinceHistory) (start : ℕ)
+            → LivesMore (VolumesStandFor (DeviceHolds B.stands B.kept from) self.old) (VolumesStandFor (DeviceHolds B.stands B.kept from) self.new)
+            (B.block_count (device_of self.old)) start log lived (ReadCall id block) (Gave into.new)) }
+        ensures lived_refused { IfErr result (λ fault. halted_of self.new ≡ None → (from : SinceHistory B) (start : ℕ)
             (log : VolLog)
-            → HasLived (VolumesStandFor (DeviceHolds B.stands B.kept from) self.old) (B.block_count (device_of self.old)) start log
+            → (lived : HasLived (VolumesStandFor (DeviceHolds B.stands B.kept from) self.old) (B.block_count (device_of self.old)) start log)
             → IsTrue (B.tells (device_of self.new))
-            → HasLived (VolumesStandFor (DeviceHolds B.stands B.kept from) self.new) (B.block_count (device_of self.old)) start
-            (log ++ (ReadCall id block, Refused fault) ∷ [])) }
+            → LivesMore (VolumesStandFor (DeviceHolds B.stands B.kept from) self.old) (VolumesStandFor (DeviceHolds B.stands B.kept from) self.new)
+            (B.block_count (device_of self.old)) start log lived (ReadCall id block) (Refused fault)) }
     {
         let place = self.place(id, block)?;
         match self.blocks.read(place, into) {
@@ -230,29 +236,28 @@ impl<B: Blocks> Volumes<B> {
             (device_of self.new) }
         ensures grown { KeepsMore B.kept B.tells IsWriteEvent (device_of self.old) (device_of self.new) }
         ensures table { volume_table self.new ≡ volume_table self.old }
-        ensures adds { OnOk result ((from : SinceHistory) (h : History) (s : VolumeState) → VolumesStandFor (DeviceHolds B.stands B.kept from) self.old h
+        ensures adds { OnOk result ((from : SinceHistory B) (h : History) (s : VolumeState) → VolumesStandFor (DeviceHolds B.stands B.kept from) self.old h
             → ShowsVolumes (B.block_count (device_of self.old)) (after_all h) s
             → IsTrue (B.tells (device_of self.new))
             → Adds (VolumesStandFor (DeviceHolds B.stands B.kept from) self.new) (B.block_count (device_of self.old)) h
             (with_block s id block bytes.now)) }
-        ensures stands { OnErr result (halted_of self.new ≡ None → (from : SinceHistory) (h : History)
+        ensures stands { OnErr result (halted_of self.new ≡ None → (from : SinceHistory B) (h : History)
             → VolumesStandFor (DeviceHolds B.stands B.kept from) self.old h → IsTrue (B.tells (device_of self.new))
             → VolumesStandFor (DeviceHolds B.stands B.kept from) self.new h) }
-        ensures event { OnOk result ((events : Answers) → B.kept (device_of self.old) events
-            → IsTrue (B.tells (device_of self.new))
-            → KeepsWrite (B.kept (device_of self.new)) events (B.block_count (device_of self.old))
+        ensures event { OnOk result ((first : B) (events : Answers) → B.kept first (device_of self.old) events
+            → KeepsWrite (B.kept first (device_of self.new)) events (B.block_count (device_of self.old))
             (volume_table self.old) id block bytes.now) }
-        ensures lived { OnOk result ((from : SinceHistory) (start : ℕ) (log : VolLog)
-            → HasLived (VolumesStandFor (DeviceHolds B.stands B.kept from) self.old) (B.block_count (device_of self.old)) start log
+        ensures lived { OnOk result ((from : SinceHistory B) (start : ℕ) (log : VolLog)
+            → (lived : HasLived (VolumesStandFor (DeviceHolds B.stands B.kept from) self.old) (B.block_count (device_of self.old)) start log)
             → IsTrue (B.tells (device_of self.new))
-            → HasLived (VolumesStandFor (DeviceHolds B.stands B.kept from) self.new) (B.block_count (device_of self.old)) start
-            (log ++ (WriteCall id block bytes.now, Wrote) ∷ [])) }
-        ensures lived_refused { IfErr result (λ fault. halted_of self.new ≡ None → (from : SinceHistory) (start : ℕ)
+            → LivesMore (VolumesStandFor (DeviceHolds B.stands B.kept from) self.old) (VolumesStandFor (DeviceHolds B.stands B.kept from) self.new)
+            (B.block_count (device_of self.old)) start log lived (WriteCall id block bytes.now) Wrote) }
+        ensures lived_refused { IfErr result (λ fault. halted_of self.new ≡ None → (from : SinceHistory B) (start : ℕ)
             (log : VolLog)
-            → HasLived (VolumesStandFor (DeviceHolds B.stands B.kept from) self.old) (B.block_count (device_of self.old)) start log
+            → (lived : HasLived (VolumesStandFor (DeviceHolds B.stands B.kept from) self.old) (B.block_count (device_of self.old)) start log)
             → IsTrue (B.tells (device_of self.new))
-            → HasLived (VolumesStandFor (DeviceHolds B.stands B.kept from) self.new) (B.block_count (device_of self.old)) start
-            (log ++ (WriteCall id block bytes.now, Refused fault) ∷ [])) }
+            → LivesMore (VolumesStandFor (DeviceHolds B.stands B.kept from) self.old) (VolumesStandFor (DeviceHolds B.stands B.kept from) self.new)
+            (B.block_count (device_of self.old)) start log lived (WriteCall id block bytes.now) (Refused fault)) }
     {
         let place = self.place(id, block)?;
         match self.blocks.write(place, bytes) {
@@ -273,17 +278,17 @@ impl<B: Blocks> Volumes<B> {
             (device_of self.new) }
         ensures grown { KeepsMore B.kept B.tells IsFlushEvent (device_of self.old) (device_of self.new) }
         ensures table { volume_table self.new ≡ volume_table self.old }
-        ensures stands { IfOk result (λ number. (from : SinceHistory) (h : History) → VolumesStandFor (DeviceHolds B.stands B.kept from) self.old h
+        ensures stands { IfOk result (λ number. (from : SinceHistory B) (h : History) → VolumesStandFor (DeviceHolds B.stands B.kept from) self.old h
             → IsTrue (B.tells (device_of self.new))
             → (number ≡ length h) × VolumesStandFor (DeviceHolds B.stands B.kept from) self.new h) }
-        ensures event { IfOk result (λ number. (events : Answers)
-            → B.kept (device_of self.old) events → IsTrue (B.tells (device_of self.new))
-            → B.kept (device_of self.new) (events ++ (FlushEvent, FlushedAnswer number) ∷ [])) }
-        ensures lived { IfOk result (λ number. (from : SinceHistory) (start : ℕ) (log : VolLog)
-            → HasLived (VolumesStandFor (DeviceHolds B.stands B.kept from) self.old) (B.block_count (device_of self.old)) start log
+        ensures event { IfOk result (λ number. (first : B) (events : Answers)
+            → B.kept first (device_of self.old) events
+            → B.kept first (device_of self.new) (events ++ (FlushEvent, FlushedAnswer number) ∷ [])) }
+        ensures lived { IfOk result (λ number. (from : SinceHistory B) (start : ℕ) (log : VolLog)
+            → (lived : HasLived (VolumesStandFor (DeviceHolds B.stands B.kept from) self.old) (B.block_count (device_of self.old)) start log)
             → IsTrue (B.tells (device_of self.new))
-            → HasLived (VolumesStandFor (DeviceHolds B.stands B.kept from) self.new) (B.block_count (device_of self.old)) start
-            (log ++ (FlushCall, Flushed number) ∷ [])) }
+            → LivesMore (VolumesStandFor (DeviceHolds B.stands B.kept from) self.old) (VolumesStandFor (DeviceHolds B.stands B.kept from) self.new)
+            (B.block_count (device_of self.old)) start log lived FlushCall (Flushed number)) }
     {
         if let Some(halt) = self.halt {
             return Err(VolFault::Halt(halt));
@@ -341,25 +346,25 @@ impl<B: Blocks> Volumes<B> {
             (device_of self.new) }
         ensures grown { KeepsMore B.kept B.tells IsWriteEvent (device_of self.old) (device_of self.new) }
         ensures refused { OnErr result (volume_table self.new ≡ volume_table self.old) }
-        ensures adds { OnOk result ((from : SinceHistory) (h : History) (s : VolumeState) → VolumesStandFor (DeviceHolds B.stands B.kept from) self.old h
+        ensures adds { OnOk result ((from : SinceHistory B) (h : History) (s : VolumeState) → VolumesStandFor (DeviceHolds B.stands B.kept from) self.old h
             → ShowsVolumes (B.block_count (device_of self.old)) (after_all h) s
             → IsTrue (B.tells (device_of self.new))
             → Adds (VolumesStandFor (DeviceHolds B.stands B.kept from) self.new) (B.block_count (device_of self.old)) h
             (without_volume (size_of (B.block_count (device_of self.old))) s id)) }
-        ensures stands { OnErr result (halted_of self.new ≡ None → (from : SinceHistory) (h : History)
+        ensures stands { OnErr result (halted_of self.new ≡ None → (from : SinceHistory B) (h : History)
             → VolumesStandFor (DeviceHolds B.stands B.kept from) self.old h → IsTrue (B.tells (device_of self.new))
             → VolumesStandFor (DeviceHolds B.stands B.kept from) self.new h) }
-        ensures lived { OnOk result ((from : SinceHistory) (start : ℕ) (log : VolLog)
-            → HasLived (VolumesStandFor (DeviceHolds B.stands B.kept from) self.old) (B.block_count (device_of self.old)) start log
+        ensures lived { OnOk result ((from : SinceHistory B) (start : ℕ) (log : VolLog)
+            → (lived : HasLived (VolumesStandFor (DeviceHolds B.stands B.kept from) self.old) (B.block_count (device_of self.old)) start log)
             → IsTrue (B.tells (device_of self.new))
-            → HasLived (VolumesStandFor (DeviceHolds B.stands B.kept from) self.new) (B.block_count (device_of self.old)) start
-            (log ++ (DeleteCall id, Removed) ∷ [])) }
-        ensures lived_refused { IfErr result (λ fault. halted_of self.new ≡ None → (from : SinceHistory) (start : ℕ)
+            → LivesMore (VolumesStandFor (DeviceHolds B.stands B.kept from) self.old) (VolumesStandFor (DeviceHolds B.stands B.kept from) self.new)
+            (B.block_count (device_of self.old)) start log lived (DeleteCall id) Removed) }
+        ensures lived_refused { IfErr result (λ fault. halted_of self.new ≡ None → (from : SinceHistory B) (start : ℕ)
             (log : VolLog)
-            → HasLived (VolumesStandFor (DeviceHolds B.stands B.kept from) self.old) (B.block_count (device_of self.old)) start log
+            → (lived : HasLived (VolumesStandFor (DeviceHolds B.stands B.kept from) self.old) (B.block_count (device_of self.old)) start log)
             → IsTrue (B.tells (device_of self.new))
-            → HasLived (VolumesStandFor (DeviceHolds B.stands B.kept from) self.new) (B.block_count (device_of self.old)) start
-            (log ++ (DeleteCall id, Refused fault) ∷ [])) }
+            → LivesMore (VolumesStandFor (DeviceHolds B.stands B.kept from) self.old) (VolumesStandFor (DeviceHolds B.stands B.kept from) self.new)
+            (B.block_count (device_of self.old)) start log lived (DeleteCall id) (Refused fault)) }
     {
         if let Some(halt) = self.halt {
             return Err(VolFault::Halt(halt));
@@ -424,27 +429,27 @@ impl<B: Blocks> Volumes<B> {
         ensures grown { KeepsMore B.kept B.tells IsWriteEvent (device_of self.old) (device_of self.new) }
         ensures refused { OnErr result (volume_table self.new ≡ volume_table self.old) }
         ensures id { IfOk result (IsLeastFree (volume_table self.old)) }
-        ensures makes { IfOk result (λ id. (from : SinceHistory) (h : History) (s : VolumeState)
+        ensures makes { IfOk result (λ id. (from : SinceHistory B) (h : History) (s : VolumeState)
             → VolumesStandFor (DeviceHolds B.stands B.kept from) self.old h
             → ShowsVolumes (B.block_count (device_of self.old)) (after_all h) s
             → IsTrue (B.tells (device_of self.new))
             → Makes (VolumesStandFor (DeviceHolds B.stands B.kept from) self.new) (B.block_count (device_of self.old)) h s
             (with_volume (size_of (B.block_count (device_of self.old))) s id
             (letter_of name.now) extents)) }
-        ensures stands { OnErr result (halted_of self.new ≡ None → (from : SinceHistory) (h : History)
+        ensures stands { OnErr result (halted_of self.new ≡ None → (from : SinceHistory B) (h : History)
             → VolumesStandFor (DeviceHolds B.stands B.kept from) self.old h → IsTrue (B.tells (device_of self.new))
             → VolumesStandFor (DeviceHolds B.stands B.kept from) self.new h) }
-        ensures lived { IfOk result (λ id. (from : SinceHistory) (start : ℕ) (log : VolLog)
-            → HasLived (VolumesStandFor (DeviceHolds B.stands B.kept from) self.old) (B.block_count (device_of self.old)) start log
+        ensures lived { IfOk result (λ id. (from : SinceHistory B) (start : ℕ) (log : VolLog)
+            → (lived : HasLived (VolumesStandFor (DeviceHolds B.stands B.kept from) self.old) (B.block_count (device_of self.old)) start log)
             → IsTrue (B.tells (device_of self.new))
-            → HasLived (VolumesStandFor (DeviceHolds B.stands B.kept from) self.new) (B.block_count (device_of self.old)) start
-            (log ++ (CreateCall (letter_of name.now) extents, Made id) ∷ [])) }
-        ensures lived_refused { IfErr result (λ fault. halted_of self.new ≡ None → (from : SinceHistory) (start : ℕ)
+            → LivesMore (VolumesStandFor (DeviceHolds B.stands B.kept from) self.old) (VolumesStandFor (DeviceHolds B.stands B.kept from) self.new)
+            (B.block_count (device_of self.old)) start log lived (CreateCall (letter_of name.now) extents) (Made id)) }
+        ensures lived_refused { IfErr result (λ fault. halted_of self.new ≡ None → (from : SinceHistory B) (start : ℕ)
             (log : VolLog)
-            → HasLived (VolumesStandFor (DeviceHolds B.stands B.kept from) self.old) (B.block_count (device_of self.old)) start log
+            → (lived : HasLived (VolumesStandFor (DeviceHolds B.stands B.kept from) self.old) (B.block_count (device_of self.old)) start log)
             → IsTrue (B.tells (device_of self.new))
-            → HasLived (VolumesStandFor (DeviceHolds B.stands B.kept from) self.new) (B.block_count (device_of self.old)) start
-            (log ++ (CreateCall (letter_of name.now) extents, Refused fault) ∷ [])) }
+            → LivesMore (VolumesStandFor (DeviceHolds B.stands B.kept from) self.old) (VolumesStandFor (DeviceHolds B.stands B.kept from) self.new)
+            (B.block_count (device_of self.old)) start log lived (CreateCall (letter_of name.now) extents) (Refused fault)) }
     {
         let id = self.new_id(name, extents)?;
         let next = self.table.with(id, name, extents, self.extents);

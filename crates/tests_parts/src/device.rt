@@ -1,6 +1,7 @@
 ghost use Rattle.std.specs.Prelude.{⊤, ◌<◌, ◌^◌, is_some, false, if◌then◌else◌};
 
-use paraid_base::{Block, BlockFault, BlockNo, Blocks, Halt, Pairs};
+use paraid_base::{Block, BlockFault, BlockNo, Halt, Pairs};
+use paraid_blocks::Blocks;
 use std::alloc::Global;
 
 // A device that keeps its history, and shows what the first `seen` of its writes leave. It is worn
@@ -66,7 +67,9 @@ impl Blocks for Kept {
 
     ghost stands = { λ device h. ⊤ };
 
-    ghost kept = { λ device events. ⊤ };
+    ghost kept = { λ first device events. ⊤ };
+
+    ghost begins = { λ device. tt };
 
     ghost small = { λ device. device.few };
 

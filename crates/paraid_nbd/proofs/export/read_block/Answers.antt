@@ -1,14 +1,18 @@
 use Rattle.std.proofs.Common.{rules}
-use Rattle.paraid_nbd.proofs.DeviceLemmas.{halted_call}
+use Rattle.paraid_nbd.proofs.DeviceLemmas.{halted_call, keeps_call}
 use Rattle.paraid_nbd.proofs.export.read_block.Goals as goal
 
 pub returns-in-Err-Halt : goal.returns-in-Err-Halt
 returns-in-Err-Halt g c = record {
   size = search rules;
   told = search rules;
+  keeps = keeps_call _ _ _ _ c.read.ensures.events;
   read = search rules;
-  stops = λ tells s events is kept.
+  stops = λ first tells s events is kept.
       let halts = rw c.in-Err-Halt.field-0-is at c.in-Err-Halt.ensures.halt in
-      let keeps = rw c.in-Err-Halt.field-0-is at c.in-Err-Halt.ensures.events events kept tells in
+      let keeps = rw c.in-Err-Halt.field-0-is at c.in-Err-Halt.ensures.events first events kept in
       halted_call _ _ _ s events _ c.in-Err-Halt.halt halts keeps;
 }
+
+pub returns-in-Ok-clause-keeps : goal.returns-in-Ok-clause-keeps
+returns-in-Ok-clause-keeps g c = keeps_call _ _ _ _ c.read.ensures.events

@@ -5,7 +5,7 @@ use Rattle.std.proofs.lemmas.List.{length-take-le, take_all}
 use Rattle.std.proofs.lemmas.Slice.{take-put_mid}
 use Rattle.paraid_nbd.specs.Export.{HasBytes}
 use Rattle.paraid_nbd.proofs.TakingLemmas.{length-put_mid}
-use Rattle.paraid_nbd.proofs.DeviceLemmas.{bytes_none, bytes_more, halts_later}
+use Rattle.paraid_nbd.proofs.DeviceLemmas.{bytes_none, bytes_more, halts_later, keeps_none, keeps_then}
 use Rattle.paraid_nbd.proofs.export.read_bytes.Goals as goal
 
 pub loop-done-init : goal.loop-done-init
@@ -13,7 +13,8 @@ loop-done-init g c = record {
   within = omega arith;
   size = refl;
   told = λ t. t;
-  read = λ tells s events is kept. bytes_none c.args.offset is kept;
+  keeps = keeps_none _ _;
+  read = λ first tells s events is kept. bytes_none c.args.offset is kept;
 }
 
 on_err : {T E P : Type 0} (r : Result T E) → P → OnErr r P
@@ -28,10 +29,11 @@ returns-in_err-read_block g c =
     record {
       size = c.in_err-read_block.ensures.size ∙ c.loop-done.invariant.size;
       told = λ t. c.loop-done.invariant.told (c.in_err-read_block.ensures.told t);
+      keeps = keeps_then _ _ _ _ i.keeps e.keeps;
       read = rw p.1 tt;
-      stops = on_err c.from_residual.result (λ tells s events is kept.
-          let r = i.read (e.told tells) s events is kept in
-          halts_later r.new r.reads (λ none. r.quiet (r.serves none)) (e.stops tells s (events ++ r.new) r.now r.kept_is));
+      stops = on_err c.from_residual.result (λ first tells s events is kept.
+          let r = i.read first (e.told tells) s events is kept in
+          halts_later r.new r.reads (λ none. r.quiet (r.serves none)) (e.stops first tells s (events ++ r.new) r.now r.kept_is));
       some = on_err c.from_residual.result (omega (arith, c.loop-done-test.true, c.loop-done.auto.into));
     }
 
@@ -58,20 +60,22 @@ loop-done-preserved g c =
       within = rw (length-put_mid done k c.loop-done.into c.copy_from_slice.new.self (many ∙ sym k_is) (omega (arith, k_is, within))) within;
       size = e.size ∙ i.size;
       told = λ t. i.told (e.told t);
-      read = λ tells s events is kept.
-          let r = i.read (e.told tells) s events is kept in
-          rw all (bytes_more part.block part.start part.length c.read_block.new.into r (omega (arith, place.block, place.start, front)) inside (omega (arith, place.length, place.start, c.loop-done-test.true)) (e.read tells s (events ++ r.new) r.now r.kept_is));
+      keeps = keeps_then _ _ _ _ i.keeps e.keeps;
+      read = λ first tells s events is kept.
+          let r = i.read first (e.told tells) s events is kept in
+          rw all (bytes_more part.block part.start part.length c.read_block.new.into r (omega (arith, place.block, place.start, front)) inside (omega (arith, place.length, place.start, c.loop-done-test.true)) (e.read first tells s (events ++ r.new) r.now r.kept_is));
     }
 
 pub returns : goal.returns
 returns g c = record {
   size = c.loop-done.invariant.size;
   told = c.loop-done.invariant.told;
-  read = λ tells s events is kept.
+  keeps = c.loop-done.invariant.keeps;
+  read = λ first tells s events is kept.
       let b = g.B.Blocks in
-      subst (λ (x : List ℕ). HasBytes (b.stands c.loop-done.blocks) (b.halted c.loop-done.blocks) (b.kept c.loop-done.blocks) s events c.args.offset x)
+      subst (λ (x : List ℕ). HasBytes (b.stands c.loop-done.blocks) (b.halted c.loop-done.blocks) (b.kept first c.loop-done.blocks) s events c.args.offset x)
       (take_all c.loop-done.done c.loop-done.into (omega (arith, c.loop-done-test.false)))
-      (c.loop-done.invariant.read tells s events is kept);
+      (c.loop-done.invariant.read first tells s events is kept);
   stops = tt;
   some = tt;
 }

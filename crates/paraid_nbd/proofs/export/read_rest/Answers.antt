@@ -7,6 +7,7 @@ pub returns : goal.returns
 returns g c = record {
   size = search rules;
   told = search rules;
-  read = on_ok_weaker c.read_block.result (λ f tells s events is kept. rest_read c.args.part.length (f tells s events is kept)) c.read_block.ensures.read;
+  keeps = c.read_block.ensures.keeps;
+  read = on_ok_weaker c.read_block.result (λ f first tells s events is kept. rest_read c.args.part.length (f first tells s events is kept)) c.read_block.ensures.read;
   stops = search rules;
 }

@@ -3,6 +3,7 @@ use Rattle.std.proofs.lemmas.Bool.{cases_lt}
 use Rattle.std.proofs.lemmas.List.{take_all}
 use Rattle.std.proofs.lemmas.Result.{err_from_is_err_and}
 use Rattle.paraid_nbd.specs.Export.{HasWritten}
+use Rattle.paraid_nbd.proofs.DeviceLemmas.{keeps_none, keeps_then}
 use Rattle.paraid_nbd.proofs.WriteLemmas.{written_none, written_more, stops_after}
 use Rattle.paraid_nbd.proofs.export.write_bytes.Goals as goal
 
@@ -12,7 +13,8 @@ loop-done-init g c = record {
   whole = inl refl;
   size = refl;
   told = λ t. t;
-  written = λ tells s events is kept. written_none s c.args.offset is kept;
+  keeps = keeps_none _ _;
+  written = λ first tells s events is kept. written_none s c.args.offset is kept;
 }
 
 on_err : {T E P : Type 0} (r : Result T E) → P → OnErr r P
@@ -26,10 +28,11 @@ returns-in_err-write_part g c =
     record {
       size = c.in_err-write_part.ensures.size ∙ c.loop-done.invariant.size;
       told = λ t. c.loop-done.invariant.told (c.in_err-write_part.ensures.told t);
+      keeps = keeps_then _ _ _ _ i.keeps e.keeps;
       written = rw (err_from_is_err_and c.from_residual.result c.from_residual.ensures.1).1 tt;
-      stops = on_err c.from_residual.result (λ tells s events is kept.
-          let r = i.written (e.told tells) s events is kept in
-          stops_after c.loop-done.done c.args.from.now r i.within (e.stops tells r.t (events ++ r.new) r.now r.kept_is));
+      stops = on_err c.from_residual.result (λ first tells s events is kept.
+          let r = i.written first (e.told tells) s events is kept in
+          stops_after c.loop-done.done c.args.from.now r i.within (e.stops first tells r.t (events ++ r.new) r.now r.kept_is));
     }
 
 start_side : (offset done size start : ℕ) → start ≡ (offset + done) % 512 → done < size → (done ≡ 0) ⊎ (((offset + done) % 512 ≡ 0) ⊎ (done ≡ size)) → (done ≡ 0) ⊎ (start ≡ 0)
@@ -58,20 +61,22 @@ loop-done-preserved g c =
       whole = next_whole c.args.offset done (length c.args.from.now) part.length place.length c.loop-done-test.true;
       size = e.size ∙ i.size;
       told = λ t. i.told (e.told t);
-      written = λ tells s events is kept.
-          let r = i.written (e.told tells) s events is kept in
+      keeps = keeps_then _ _ _ _ i.keeps e.keeps;
+      written = λ first tells s events is kept.
+          let r = i.written first (e.told tells) s events is kept in
           written_more done c.args.from.now part.block part.start part.length _ r (omega (arith, place.block, place.start)) (omega (arith, place.start, place.length)) (omega (arith, place.length, place.start, c.loop-done-test.true)) within
-          (start_side c.args.offset done (length c.args.from.now) part.start place.start c.loop-done-test.true i.whole) piece (e.written tells r.t (events ++ r.new) r.now r.kept_is);
+          (start_side c.args.offset done (length c.args.from.now) part.start place.start c.loop-done-test.true i.whole) piece (e.written first tells r.t (events ++ r.new) r.now r.kept_is);
     }
 
 pub returns : goal.returns
 returns g c = record {
   size = c.loop-done.invariant.size;
   told = c.loop-done.invariant.told;
-  written = λ tells s events is kept.
+  keeps = c.loop-done.invariant.keeps;
+  written = λ first tells s events is kept.
       let b = g.B.Blocks in
-      subst (λ (x : List ℕ). HasWritten (b.stands c.loop-done.blocks) (b.halted c.loop-done.blocks) (b.kept c.loop-done.blocks) s events c.args.offset x)
+      subst (λ (x : List ℕ). HasWritten (b.stands c.loop-done.blocks) (b.halted c.loop-done.blocks) (b.kept first c.loop-done.blocks) s events c.args.offset x)
       (take_all c.loop-done.done c.args.from.now (omega (arith, c.loop-done-test.false)))
-      (c.loop-done.invariant.written tells s events is kept);
+      (c.loop-done.invariant.written first tells s events is kept);
   stops = tt;
 }

@@ -1,5 +1,5 @@
 use Rattle.std.proofs.Common.{◌≡◌, ◌≤◌, ◌-◌, ◌+◌, ◌%◌, ◌⊎◌, length, take, IsTrue}
-use Rattle.paraid_nbd.specs.Export.{ForEachState, HasWritten}
+use Rattle.paraid_nbd.specs.Export.{ForEachState, KeepsOn, HasWritten}
 use Rattle.paraid_nbd.proofs.export.write_bytes.Given as goal
 
 abbrev pub invariant-loop-done : goal.invariant-loop-done
@@ -10,8 +10,9 @@ invariant-loop-done g l =
       whole : (l.done ≡ 0) ⊎ (((l.offset + l.done) % 512 ≡ 0) ⊎ (l.done ≡ length l.from));
       size : b.block_count l.blocks ≡ b.block_count l.initial.blocks;
       told : IsTrue (b.tells l.blocks) → IsTrue (b.tells l.initial.blocks);
-      written : ForEachState (b.stands l.initial.blocks) (b.halted l.initial.blocks) (b.kept l.initial.blocks) (b.tells l.blocks)
-          (λ s events. HasWritten (b.stands l.blocks) (b.halted l.blocks) (b.kept l.blocks) s events l.offset (take l.done l.from));
+      keeps : KeepsOn b.kept l.initial.blocks l.blocks;
+      written : (first : _) → ForEachState (b.stands l.initial.blocks) (b.halted l.initial.blocks) (b.kept first l.initial.blocks) (b.tells l.blocks)
+          (λ s events. HasWritten (b.stands l.blocks) (b.halted l.blocks) (b.kept first l.blocks) s events l.offset (take l.done l.from));
     }
 
 abbrev pub decreases-loop-done : goal.decreases-loop-done

@@ -1,6 +1,6 @@
 use Rattle.std.proofs.lemmas.Result.{err_from_is_err_and, on_ok_weaker, on_err_weaker}
 use Rattle.std.proofs.Common.{ℕ, ◌+◌, ◌<◌, ◌≤◌, ◌++◌, ◌∙◌, subst, sym, rules}
-use Rattle.paraid_nbd.proofs.DeviceLemmas.{halts_later}
+use Rattle.paraid_nbd.proofs.DeviceLemmas.{halts_later, keeps_then}
 use Rattle.paraid_nbd.proofs.WriteLemmas.{part_written}
 use Rattle.paraid_nbd.proofs.export.write_part.Goals as goal
 
@@ -8,12 +8,13 @@ pub returns : goal.returns
 returns g c = record {
   size = c.write_block.ensures.size ∙ c.read_rest.ensures.size;
   told = λ tells. c.read_rest.ensures.told (c.write_block.ensures.told tells);
-  written = on_ok_weaker c.write_block.result (λ f tells s events is kept.
-      let r = c.in_ok-read_rest.ensures.read (c.write_block.ensures.told tells) s events is kept in
-      part_written c.args.part.start c.args.bytes.now c.replaced-new.result r c.requires.length c.requires.within c.replaced-new.ensures.inside c.replaced-new.ensures.outside (f tells s (events ++ r.new) r.now r.kept_is)) c.write_block.ensures.written;
-  stops = on_err_weaker c.write_block.result (λ f tells s events is kept.
-      let r = c.in_ok-read_rest.ensures.read (c.write_block.ensures.told tells) s events is kept in
-      halts_later r.new r.reads r.quiet (f tells s (events ++ r.new) r.now r.kept_is)) c.write_block.ensures.stops;
+  keeps = keeps_then _ _ _ _ c.read_rest.ensures.keeps c.write_block.ensures.keeps;
+  written = on_ok_weaker c.write_block.result (λ f first tells s events is kept.
+      let r = c.in_ok-read_rest.ensures.read first (c.write_block.ensures.told tells) s events is kept in
+      part_written c.args.part.start c.args.bytes.now c.replaced-new.result r c.requires.length c.requires.within c.replaced-new.ensures.inside c.replaced-new.ensures.outside (f first tells s (events ++ r.new) r.now r.kept_is)) c.write_block.ensures.written;
+  stops = on_err_weaker c.write_block.result (λ f first tells s events is kept.
+      let r = c.in_ok-read_rest.ensures.read first (c.write_block.ensures.told tells) s events is kept in
+      halts_later r.new r.reads r.quiet (f first tells s (events ++ r.new) r.now r.kept_is)) c.write_block.ensures.stops;
 }
 
 pub read_rest-requires : goal.read_rest-requires
@@ -29,6 +30,7 @@ pub returns-in_err-read_rest : goal.returns-in_err-read_rest
 returns-in_err-read_rest g c = record {
   size = c.read_rest.ensures.size;
   told = c.read_rest.ensures.told;
+  keeps = c.read_rest.ensures.keeps;
   written =
       let p = err_from_is_err_and c.from_residual.result c.from_residual.ensures.1 in
       rw p.1 tt;

@@ -1,4 +1,5 @@
 use Rattle.std.proofs.Common.{◌≡◌, ◌∙◌, ℕ, List, Option, refl, subst, sym}
+use Rattle.paraid_nbd.proofs.DeviceLemmas.{keeps_none}
 use Rattle.paraid_nbd.proofs.ServiceLemmas.{refused_performs, not_done}
 use Rattle.paraid_base.specs.BlockAnswers.{Answers}
 use Rattle.paraid_base.specs.History.{History}
@@ -27,18 +28,20 @@ at_size {stands} {halted} {kept} {s} {events} {r} {content} {found} {outcome} is
 
 pub returns-in_default : goal.returns-in_default
 returns-in_default g c = record {
-  performs = λ tells s events is kept.
+  performs = λ first tells s events is kept.
       refused_performs c.args.size s c.args.request.now c.args.content.now c.args.content.now c.args.outcome c.requires.outcome c.in_default.not-Done is kept;
   size = refl;
   told = λ t. t;
+  keeps = keeps_none _ _;
 }
 
 pub returns-in-Disconnect : goal.returns-in-Disconnect
 returns-in-Disconnect g c = record {
-  performs = λ tells s events is kept.
+  performs = λ first tells s events is kept.
       absurd (not_done c.args.size c.args.request.now c.in-Disconnect.is c.requires.stays (sym c.requires.outcome ∙ c.in-Done.is));
   size = refl;
   told = λ t. t;
+  keeps = keeps_none _ _;
 }
 
 pub perform_read-requires : goal.perform_read-requires
@@ -51,9 +54,10 @@ perform_read-requires g c = record {
 
 pub returns-in-Read : goal.returns-in-Read
 returns-in-Read g c = record {
-  performs = λ tells s events is kept. at_size c.requires.size (c.perform_read.ensures.performs tells s events is kept);
+  performs = λ first tells s events is kept. at_size c.requires.size (c.perform_read.ensures.performs first tells s events is kept);
   size = c.perform_read.ensures.size;
   told = c.perform_read.ensures.told;
+  keeps = c.perform_read.ensures.keeps;
 }
 
 pub perform_write-requires : goal.perform_write-requires
@@ -66,9 +70,10 @@ perform_write-requires g c = record {
 
 pub returns-in-Write : goal.returns-in-Write
 returns-in-Write g c = record {
-  performs = λ tells s events is kept. at_size c.requires.size (c.perform_write.ensures.performs tells s events is kept);
+  performs = λ first tells s events is kept. at_size c.requires.size (c.perform_write.ensures.performs first tells s events is kept);
   size = c.perform_write.ensures.size;
   told = c.perform_write.ensures.told;
+  keeps = c.perform_write.ensures.keeps;
 }
 
 pub perform_flush-requires : goal.perform_flush-requires
@@ -81,7 +86,8 @@ perform_flush-requires g c = record {
 
 pub returns-in-Flush : goal.returns-in-Flush
 returns-in-Flush g c = record {
-  performs = λ tells s events is kept. at_size c.requires.size (c.perform_flush.ensures.performs tells s events is kept);
+  performs = λ first tells s events is kept. at_size c.requires.size (c.perform_flush.ensures.performs first tells s events is kept);
   size = c.perform_flush.ensures.size;
   told = c.perform_flush.ensures.told;
+  keeps = c.perform_flush.ensures.keeps;
 }

@@ -3,14 +3,16 @@ use Rattle.paraid_nbd.proofs.serve.perform_write.Goals as goal
 
 pub returns-in-Ok : goal.returns-in-Ok
 returns-in-Ok g c = record {
-  performs = λ tells s events is kept. write_performs _ c.args.request.now c.args.content.now c.args.content.now c.requires.command c.requires.done c.requires.room (c.in-Ok.ensures.written tells s events is kept);
+  performs = λ first tells s events is kept. write_performs _ c.args.request.now c.args.content.now c.args.content.now c.requires.command c.requires.done c.requires.room (c.in-Ok.ensures.written first tells s events is kept);
   size = c.in-Ok.ensures.size;
   told = c.in-Ok.ensures.told;
+  keeps = c.in-Ok.ensures.keeps;
 }
 
 pub returns-in-Err : goal.returns-in-Err
 returns-in-Err g c = record {
-  performs = λ tells s events is kept. stops_performs _ s c.args.request.now c.args.content.now c.args.content.now c.requires.command c.requires.done (c.in-Err.ensures.stops tells s events is kept);
+  performs = λ first tells s events is kept. stops_performs _ s c.args.request.now c.args.content.now c.args.content.now c.requires.command c.requires.done (c.in-Err.ensures.stops first tells s events is kept);
   size = c.in-Err.ensures.size;
   told = c.in-Err.ensures.told;
+  keeps = c.in-Err.ensures.keeps;
 }

@@ -1,6 +1,7 @@
 use Rattle.std.proofs.Common.{◌*◌, ℕ, ap, refl, ◌∙◌}
 use Rattle.paraid_base.proofs.ToldLemmas.{GrowsByBytes-none}
 use Rattle.paraid_nbd.specs.Service.Service.{NoRoom}
+use Rattle.paraid_nbd.proofs.DeviceLemmas.{keeps_none}
 use Rattle.paraid_nbd.proofs.TakingLemmas.{Takes-none, later_none, later_then}
 use Rattle.paraid_nbd.proofs.ServiceLemmas.{early, late}
 use Rattle.paraid_nbd.proofs.serve.serve_nbd.Goals as goal
@@ -12,6 +13,7 @@ returns-in-Err g c =
       service = early b.stands b.halted b.kept b.tells (ap (λ (x : ℕ). 512 * x) (c.from-size.ensures ∙ c.blocks-2.ensures)) c.new-input.ensures c.in-Err.ensures.ends;
       size = refl;
       told = λ t. t;
+      keeps = keeps_none _ _;
       later = c.in-Err.ensures.later;
       later_sink = c.in-Err.ensures.later_sink;
     }
@@ -24,6 +26,7 @@ returns g c =
       service = late b.stands b.halted b.kept b.tells (ap (λ (x : ℕ). 512 * x) (c.from-size.ensures ∙ c.blocks-2.ensures)) c.new-input.ensures e.begins e.later e.later_sink c.transmit.ensures.transmits;
       size = c.transmit.ensures.size;
       told = c.transmit.ensures.told;
+      keeps = c.transmit.ensures.keeps;
       later = later_then _ _ _ e.later c.transmit.ensures.later;
       later_sink = later_then _ _ _ e.later_sink c.transmit.ensures.later_sink;
     }
@@ -33,6 +36,7 @@ returns-in_default g c = record {
   service = NoRoom refl refl (Takes-none _ _) (GrowsByBytes-none _);
   size = refl;
   told = λ t. t;
+  keeps = keeps_none _ _;
   later = later_none _;
   later_sink = later_none _;
 }

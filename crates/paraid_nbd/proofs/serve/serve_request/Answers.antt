@@ -1,3 +1,4 @@
+use Rattle.paraid_nbd.proofs.DeviceLemmas.{keeps_none}
 use Rattle.paraid_nbd.proofs.TakingLemmas.{later_then}
 use Rattle.std.proofs.Common.{arith, refl, sym, ◌∙◌, subst}
 use Rattle.std.proofs.lemmas.List.{length-take-le}
@@ -19,6 +20,7 @@ returns-in_err-request g c =
       ends = rw (p.1, p.2) (UnreadRequest c.in_err-request.ensures.stops (GrowsByBytes-none _) refl);
       size = refl;
       told = λ t. t;
+      keeps = keeps_none _ _;
       later = c.in_err-request.ensures.later;
       later_sink = omega arith;
     }
@@ -31,6 +33,7 @@ returns-in_err-content g c =
       ends = rw (p.1, p.2) (UnreadRequest (content_stops c.in_ok-request.ensures.takes c.in_ok-request.ensures.later c.in_err-content.ensures.lacks) (GrowsByBytes-none _) refl);
       size = refl;
       told = λ t. t;
+      keeps = keeps_none _ _;
       later = later_then _ _ _ c.in_ok-request.ensures.later c.in_err-content.ensures.later;
       later_sink = omega arith;
     }
@@ -44,8 +47,8 @@ returns g c =
         parts = record { magic = h.magic; head = h.head; content = t.content };
         is = request_taken t.content h t.whole;
         takes = Takes-last h.magic h.head t.content h.takes t.takes;
-        does = λ tells s events is kept.
-            let x = c.perform-outcome.ensures.performs tells s events is kept in
+        does = λ first tells s events is kept.
+            let x = c.perform-outcome.ensures.performs first tells s events is kept in
             record {
               out = said_with c.in_ok-request.request c.perform-outcome.result c.perform-outcome.new.content;
               new = x.new;
@@ -56,9 +59,9 @@ returns g c =
               grows = f;
             };
       }) c.reply.ensures.sends;
-      ends = MatchResult-weaker c.reply.result c.reply.ensures.unsent (λ x e. tt) (λ e f. UnsentAnswer (record { magic = h.magic; head = h.head; content = t.content }) (request_taken t.content h t.whole) (Takes-last h.magic h.head t.content h.takes t.takes)
-          (λ tells s events is kept.
-          let x = c.perform-outcome.ensures.performs tells s events is kept in
+      ends = MatchResult-weaker c.reply.result c.reply.ensures.unsent (λ x e. tt) (λ e f. UnsentAnswer (record { magic = h.magic; head = h.head; content = t.content }) (request_taken t.content h t.whole) (Takes-last h.magic h.head t.content h.takes t.takes) f.is f.cause
+          (λ first tells s events is kept.
+          let x = c.perform-outcome.ensures.performs first tells s events is kept in
           record {
             out = said_with c.in_ok-request.request c.perform-outcome.result c.perform-outcome.new.content;
             new = x.new;
@@ -70,6 +73,7 @@ returns g c =
           }));
       size = c.perform-outcome.ensures.size;
       told = c.perform-outcome.ensures.told;
+      keeps = c.perform-outcome.ensures.keeps;
       later = later_then _ _ _ c.in_ok-request.ensures.later c.in_ok-content.ensures.later;
       later_sink = c.reply.ensures.later_sink;
     }

@@ -1,4 +1,5 @@
 use Rattle.std.proofs.Common.{◌++◌, ◌∷◌, [], arith, refl, ◌∙◌}
+use Rattle.paraid_nbd.proofs.DeviceLemmas.{keeps_none, keeps_then}
 use Rattle.paraid_nbd.proofs.TakingLemmas.{later_then, room_falls}
 use Rattle.paraid_nbd.proofs.ServiceLemmas.{request_some, serves_none, serves_more}
 use Rattle.paraid_nbd.proofs.serve.transmit.Goals as goal
@@ -11,6 +12,7 @@ loop-end-init g c =
       size = refl;
       room = refl;
       told = λ t. t;
+      keeps = keeps_none _ _;
       later = omega arith;
       later_sink = omega arith;
     }
@@ -26,6 +28,7 @@ loop-end-preserved g c =
       size = e.size ∙ i.size;
       room = c.serve_request.auto.buffer ∙ i.room;
       told = λ t. i.told (e.told t);
+      keeps = keeps_then _ _ _ _ i.keeps e.keeps;
       later = omega (arith, i.later, e.later);
       later_sink = omega (arith, i.later_sink, e.later_sink);
     }
@@ -50,6 +53,7 @@ returns-in-Err g c =
       };
       size = c.serve_request.ensures.size ∙ c.loop-end.invariant.size;
       told = λ t. c.loop-end.invariant.told (c.serve_request.ensures.told t);
+      keeps = keeps_then _ _ _ _ i.keeps c.serve_request.ensures.keeps;
       later = later_then _ _ _ c.loop-end.invariant.later c.serve_request.ensures.later;
       later_sink = later_then _ _ _ c.loop-end.invariant.later_sink c.serve_request.ensures.later_sink;
     }

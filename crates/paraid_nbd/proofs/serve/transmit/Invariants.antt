@@ -1,5 +1,6 @@
 use Rattle.std.proofs.Common.{◌≡◌, ◌≤◌, ◌-◌, ◌^◌, List, length, IsTrue}
 use Rattle.paraid_nbd.specs.Requests.{RequestParts}
+use Rattle.paraid_nbd.specs.Export.{KeepsOn}
 use Rattle.paraid_nbd.specs.Service.{ServesAll}
 use Rattle.paraid_nbd.proofs.serve.transmit.Given as goal
 
@@ -12,6 +13,7 @@ invariant-loop-end g l =
       size : b.block_count l.blocks ≡ b.block_count l.initial.blocks;
       room : length l.buffer ≡ length l.initial.buffer;
       told : IsTrue (b.tells l.blocks) → IsTrue (b.tells l.initial.blocks);
+      keeps : KeepsOn b.kept l.initial.blocks l.blocks;
       later : g.S.Source.faults l.initial.source ≤ g.S.Source.faults l.source;
       later_sink : g.K.Sink.faults l.initial.sink ≤ g.K.Sink.faults l.sink;
     }

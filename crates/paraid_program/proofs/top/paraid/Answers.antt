@@ -1,14 +1,17 @@
 use Rattle.std.proofs.Common.{◌≡◌, ap, ◌∙◌, Some}
-use Rattle.paraid_program.specs.declared.command.Command.TheVariants.{Format, Run, Status, Check, Gen}
+use Rattle.paraid_program.specs.declared.command.Command.TheVariants.{Format, Run, Spare, Status, Check, Gen, Nbd, Plan}
 use Rattle.paraid_program.proofs.CompleteLemmas.{check_comes, gen_comes, run_comes, status_comes}
 use Rattle.paraid_program.proofs.FormatLemmas.{format_comes}
+use Rattle.paraid_program.proofs.PlanLemmas.{plan_comes}
+use Rattle.paraid_program.proofs.SpareLemmas.{spared_comes}
+use Rattle.paraid_program.proofs.NbdComesLemmas.{nbd_comes}
 use Rattle.paraid_program.proofs.TakenLemmas.{check_not_read, not_read}
 use Rattle.paraid_program.proofs.AskedLemmas.{asks, does_it, nothing_asked}
-use Rattle.paraid_program.specs.CommandDoes.{TakesSource}
+use Rattle.paraid_program.specs.CommandDoes.{ReadsSource, TakesSource}
 use Rattle.paraid_program.specs.declared.command.Command.{Command}
 use Rattle.paraid_program.proofs.top.paraid.Given.{Over}
 use Rattle.paraid_program.proofs.top.paraid.Goals as goal
-use Rattle.paraid_program.proofs.top.paraid.Goals.{In-Some-Check, In-Some-Format, In-Some-Gen, In-Some-Run, In-Some-Status}
+use Rattle.paraid_program.proofs.top.paraid.Goals.{In-Some-Check, In-Some-Format, In-Some-Gen, In-Some-Nbd, In-Some-Plan, In-Some-Run, In-Some-Spare, In-Some-Status}
 
 format_is : (g : Over) (c : In-Some-Format g) → c.read_words.result ≡ Some (Format c.in-Some-Format.force)
 format_is g c = c.in-Some-Format.is ∙ ap Some c.in-Some-Format.field-0-is
@@ -24,6 +27,34 @@ check_is g c = c.in-Some-Check.is ∙ ap Some c.in-Some-Check.field-0-is
 
 gen_is : (g : Over) (c : In-Some-Gen g) → c.read_words.result ≡ Some (Gen c.in-Some-Gen.number c.in-Some-Gen.lines)
 gen_is g c = c.in-Some-Gen.is ∙ ap Some c.in-Some-Gen.field-0-is
+
+nbd_is : (g : Over) (c : In-Some-Nbd g) → c.read_words.result ≡ Some Nbd
+nbd_is g c = c.in-Some-Nbd.is ∙ ap Some c.in-Some-Nbd.field-0-is
+
+pub returns-in-Some-Nbd-clause-does : goal.returns-in-Some-Nbd-clause-does
+returns-in-Some-Nbd-clause-does g c = does_it _ _ c.read_words.ensures.exact _ Nbd (nbd_is g (goal.at.returns-in-Some-Nbd-clause-does g c).In-Some-Nbd) (c.nbd.ensures.nbd, c.nbd.ensures.status)
+
+pub returns-in-Some-Nbd-clause-complete : goal.returns-in-Some-Nbd-clause-complete
+returns-in-Some-Nbd-clause-complete g c = does_it _ _ c.read_words.ensures.exact _ Nbd (nbd_is g (goal.at.returns-in-Some-Nbd-clause-complete g c).In-Some-Nbd)
+    (λ h. nbd_comes h _ _ _ _ _ c.nbd.ensures.sink _ _ _ _ _ _ c.nbd.ensures.source c.nbd.ensures.nbd)
+
+pub returns-in-Some-Nbd-clause-end : goal.returns-in-Some-Nbd-clause-end
+returns-in-Some-Nbd-clause-end g c t takes asked zero = absurd (does_it _ _ c.read_words.ensures.exact (λ (u : Command). TakesSource u → ⊥) Nbd (nbd_is g (goal.at.returns-in-Some-Nbd-clause-end g c).In-Some-Nbd) (λ x. x) t asked takes)
+
+pub returns-in-Some-Nbd-clause-unread : goal.returns-in-Some-Nbd-clause-unread
+returns-in-Some-Nbd-clause-unread g c t not asked = absurd (not (does_it _ _ c.read_words.ensures.exact ReadsSource Nbd (nbd_is g (goal.at.returns-in-Some-Nbd-clause-unread g c).In-Some-Nbd) tt t asked))
+
+pub returns-in-Some-Nbd-clause-words : goal.returns-in-Some-Nbd-clause-words
+returns-in-Some-Nbd-clause-words g c none = absurd (none Nbd (asks _ _ c.read_words.ensures.exact Nbd (nbd_is g (goal.at.returns-in-Some-Nbd-clause-words g c).In-Some-Nbd)))
+
+pub returns-in-Some-Nbd-clause-untouched : goal.returns-in-Some-Nbd-clause-untouched
+returns-in-Some-Nbd-clause-untouched g c none = absurd (none Nbd (asks _ _ c.read_words.ensures.exact Nbd (nbd_is g (goal.at.returns-in-Some-Nbd-clause-untouched g c).In-Some-Nbd)))
+
+spare_is : (g : Over) (c : In-Some-Spare g) → c.read_words.result ≡ Some (Spare c.in-Some-Spare.stock c.in-Some-Spare.wait)
+spare_is g c = c.in-Some-Spare.is ∙ ap Some c.in-Some-Spare.field-0-is
+
+plan_is : (g : Over) (c : In-Some-Plan g) → c.read_words.result ≡ Some (Plan c.in-Some-Plan.ups)
+plan_is g c = c.in-Some-Plan.is ∙ ap Some c.in-Some-Plan.field-0-is
 
 pub returns-in-Some-Format-clause-does : goal.returns-in-Some-Format-clause-does
 returns-in-Some-Format-clause-does g c = does_it _ _ c.read_words.ensures.exact _ (Format c.in-Some-Format.force) (format_is g (goal.at.returns-in-Some-Format-clause-does g c).In-Some-Format) c.format.ensures.formats
@@ -44,10 +75,10 @@ pub generate-requires : goal.generate-requires
 generate-requires g c = record { few = (asks _ _ c.read_words.ensures.exact (Gen c.in-Some-Gen.number c.in-Some-Gen.lines) (gen_is g (goal.at.generate-requires g c).In-Some-Gen)).lines_to }
 
 pub returns-in-Some-Format-clause-unread : goal.returns-in-Some-Format-clause-unread
-returns-in-Some-Format-clause-unread g c t not asked = absurd (not (does_it _ _ c.read_words.ensures.exact TakesSource (Format c.in-Some-Format.force) (format_is g (goal.at.returns-in-Some-Format-clause-unread g c).In-Some-Format) tt t asked))
+returns-in-Some-Format-clause-unread g c t not asked = absurd (not (does_it _ _ c.read_words.ensures.exact ReadsSource (Format c.in-Some-Format.force) (format_is g (goal.at.returns-in-Some-Format-clause-unread g c).In-Some-Format) tt t asked))
 
 pub returns-in-Some-Run-clause-unread : goal.returns-in-Some-Run-clause-unread
-returns-in-Some-Run-clause-unread g c t not asked = absurd (not (does_it _ _ c.read_words.ensures.exact TakesSource Run (run_is g (goal.at.returns-in-Some-Run-clause-unread g c).In-Some-Run) tt t asked))
+returns-in-Some-Run-clause-unread g c t not asked = absurd (not (does_it _ _ c.read_words.ensures.exact ReadsSource Run (run_is g (goal.at.returns-in-Some-Run-clause-unread g c).In-Some-Run) tt t asked))
 
 pub returns-in-Some-Status-clause-end : goal.returns-in-Some-Status-clause-end
 returns-in-Some-Status-clause-end g c t takes asked zero = absurd (does_it _ _ c.read_words.ensures.exact (λ (u : Command). TakesSource u → ⊥) Status (status_is g (goal.at.returns-in-Some-Status-clause-end g c).In-Some-Status) (λ x. x) t asked takes)
@@ -119,3 +150,38 @@ returns-in-Some-Gen-clause-complete g c = does_it _ _ c.read_words.ensures.exact
 
 pub returns-in-None-clause-complete : goal.returns-in-None-clause-complete
 returns-in-None-clause-complete g c t asked = absurd (nothing_asked _ _ c.read_words.ensures.exact c.in-None.is t asked)
+
+pub returns-in-Some-Plan-clause-does : goal.returns-in-Some-Plan-clause-does
+returns-in-Some-Plan-clause-does g c = does_it _ _ c.read_words.ensures.exact _ (Plan c.in-Some-Plan.ups) (plan_is g (goal.at.returns-in-Some-Plan-clause-does g c).In-Some-Plan) (c.show_plan.ensures.plans, c.show_plan.ensures.status)
+
+pub returns-in-Some-Plan-clause-unread : goal.returns-in-Some-Plan-clause-unread
+returns-in-Some-Plan-clause-unread g c t not asked = absurd (not (does_it _ _ c.read_words.ensures.exact ReadsSource (Plan c.in-Some-Plan.ups) (plan_is g (goal.at.returns-in-Some-Plan-clause-unread g c).In-Some-Plan) tt t asked))
+
+pub returns-in-Some-Plan-clause-words : goal.returns-in-Some-Plan-clause-words
+returns-in-Some-Plan-clause-words g c none = absurd (none (Plan c.in-Some-Plan.ups) (asks _ _ c.read_words.ensures.exact (Plan c.in-Some-Plan.ups) (plan_is g (goal.at.returns-in-Some-Plan-clause-words g c).In-Some-Plan)))
+
+pub returns-in-Some-Plan-clause-untouched : goal.returns-in-Some-Plan-clause-untouched
+returns-in-Some-Plan-clause-untouched g c none = absurd (none (Plan c.in-Some-Plan.ups) (asks _ _ c.read_words.ensures.exact (Plan c.in-Some-Plan.ups) (plan_is g (goal.at.returns-in-Some-Plan-clause-untouched g c).In-Some-Plan)))
+
+pub returns-in-Some-Plan-clause-complete : goal.returns-in-Some-Plan-clause-complete
+returns-in-Some-Plan-clause-complete g c = does_it _ _ c.read_words.ensures.exact _ (Plan c.in-Some-Plan.ups) (plan_is g (goal.at.returns-in-Some-Plan-clause-complete g c).In-Some-Plan)
+    (λ h. plan_comes h _ _ _ _ _ _ _ c.show_plan.ensures.sink _ _ _ _ _ c.show_plan.ensures.plans)
+
+pub show_plan-requires : goal.show_plan-requires
+show_plan-requires g c = record { few = (asks _ _ c.read_words.ensures.exact (Plan c.in-Some-Plan.ups) (plan_is g (goal.at.show_plan-requires g c).In-Some-Plan)).few }
+
+pub returns-in-Some-Spare-clause-does : goal.returns-in-Some-Spare-clause-does
+returns-in-Some-Spare-clause-does g c = does_it _ _ c.read_words.ensures.exact _ (Spare c.in-Some-Spare.stock c.in-Some-Spare.wait) (spare_is g (goal.at.returns-in-Some-Spare-clause-does g c).In-Some-Spare) (c.run_with_spares.ensures.run, c.run_with_spares.ensures.status)
+
+pub returns-in-Some-Spare-clause-unread : goal.returns-in-Some-Spare-clause-unread
+returns-in-Some-Spare-clause-unread g c t not asked = absurd (not (does_it _ _ c.read_words.ensures.exact ReadsSource (Spare c.in-Some-Spare.stock c.in-Some-Spare.wait) (spare_is g (goal.at.returns-in-Some-Spare-clause-unread g c).In-Some-Spare) tt t asked))
+
+pub returns-in-Some-Spare-clause-words : goal.returns-in-Some-Spare-clause-words
+returns-in-Some-Spare-clause-words g c none = absurd (none (Spare c.in-Some-Spare.stock c.in-Some-Spare.wait) (asks _ _ c.read_words.ensures.exact (Spare c.in-Some-Spare.stock c.in-Some-Spare.wait) (spare_is g (goal.at.returns-in-Some-Spare-clause-words g c).In-Some-Spare)))
+
+pub returns-in-Some-Spare-clause-untouched : goal.returns-in-Some-Spare-clause-untouched
+returns-in-Some-Spare-clause-untouched g c none = absurd (none (Spare c.in-Some-Spare.stock c.in-Some-Spare.wait) (asks _ _ c.read_words.ensures.exact (Spare c.in-Some-Spare.stock c.in-Some-Spare.wait) (spare_is g (goal.at.returns-in-Some-Spare-clause-untouched g c).In-Some-Spare)))
+
+pub returns-in-Some-Spare-clause-complete : goal.returns-in-Some-Spare-clause-complete
+returns-in-Some-Spare-clause-complete g c = does_it _ _ c.read_words.ensures.exact _ (Spare c.in-Some-Spare.stock c.in-Some-Spare.wait) (spare_is g (goal.at.returns-in-Some-Spare-clause-complete g c).In-Some-Spare)
+    (λ h. spared_comes h _ _ _ _ _ _ _ c.run_with_spares.ensures.sink _ _ _ _ c.run_with_spares.ensures.source c.in-Some-Spare.stock c.in-Some-Spare.wait c.run_with_spares.ensures.run)

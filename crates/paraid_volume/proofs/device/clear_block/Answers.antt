@@ -12,7 +12,7 @@ returns-in-Ok g c = record {
   halt = c.in-Ok.ensures.halt;
   clears = λ from h stands tells.
       cleared_one _ h c.args.at c.zero.result c.zero.ensures
-      (holds_write g.B.Blocks.stands g.B.Blocks.kept from c.args.device.now c.write.new.self h (single_pair c.args.at c.zero.result) ((c.args.at, c.zero.result) ∷ []) c.in-Ok.field-0 (λ s. (c.in-Ok.ensures.history h s tells).1) (λ events k. c.in-Ok.ensures.events events k tells) (pairs_of-one c.args.at c.zero.result) stands);
+      (holds_write g.B.Blocks.stands g.B.Blocks.kept from c.args.device.now c.write.new.self h (single_pair c.args.at c.zero.result) ((c.args.at, c.zero.result) ∷ []) c.in-Ok.field-0 (λ s. (c.in-Ok.ensures.history h s tells).1) (λ first events k. c.in-Ok.ensures.events first events k) (pairs_of-one c.args.at c.zero.result) stands);
 }
 
 pub returns-in-Err-Halt : goal.returns-in-Err-Halt

@@ -47,7 +47,7 @@ returns g c = record {
       let order = c.requires.order in
       let until = c.loop-at.auto.at-end (omega (arith, order)) in
       let same : c.loop-at.at ≡ c.args.end = omega (arith, past, until) in
-      subst (λ (n : ℕ). (from : SinceHistory) → Clears (DeviceHolds g.B.Blocks.stands g.B.Blocks.kept from) g.B.Blocks.tells c.args.device.now c.loop-at.device (Between c.args.start n)) same c.loop-at.invariant.clears;
+      subst (λ (n : ℕ). (from : SinceHistory _) → Clears (DeviceHolds g.B.Blocks.stands g.B.Blocks.kept from) g.B.Blocks.tells c.args.device.now c.loop-at.device (Between c.args.start n)) same c.loop-at.invariant.clears;
 }
 
 pub returns-in_err-clear_block : goal.returns-in_err-clear_block

@@ -7,5 +7,5 @@ invariant-loop-at g l = record {
   went : DeviceGoesOn g.B.Blocks.block_count g.B.Blocks.halts g.B.Blocks.halted g.B.Blocks.tells l.fn.device l.device;
   grown : KeepsMore g.B.Blocks.kept g.B.Blocks.tells IsWriteEvent l.fn.device l.device;
   none : l.start < l.at → g.B.Blocks.halted l.device ≡ None;
-  clears : (from : SinceHistory) → Clears (DeviceHolds g.B.Blocks.stands g.B.Blocks.kept from) g.B.Blocks.tells l.fn.device l.device (Between l.start l.at);
+  clears : (from : SinceHistory _) → Clears (DeviceHolds g.B.Blocks.stands g.B.Blocks.kept from) g.B.Blocks.tells l.fn.device l.device (Between l.start l.at);
 }

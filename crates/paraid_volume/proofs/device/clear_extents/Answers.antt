@@ -48,7 +48,7 @@ returns g c = record {
       let past = c.loop-extent-test.false in
       let until = c.loop-extent.auto.extent-end in
       let same : c.loop-extent.extent ≡ c.args.extents = omega (arith, past, until) in
-      subst (λ (n : ℕ). (from : SinceHistory) → Clears (DeviceHolds g.B.Blocks.stands g.B.Blocks.kept from) g.B.Blocks.tells c.args.device.now c.loop-extent.device (InExtent (owner_in (in_table c.args.table.now)) c.args.id c.args.size n)) same c.loop-extent.invariant.clears;
+      subst (λ (n : ℕ). (from : SinceHistory _) → Clears (DeviceHolds g.B.Blocks.stands g.B.Blocks.kept from) g.B.Blocks.tells c.args.device.now c.loop-extent.device (InExtent (owner_in (in_table c.args.table.now)) c.args.id c.args.size n)) same c.loop-extent.invariant.clears;
 }
 
 pub returns-in_err-clear_extent : goal.returns-in_err-clear_extent

@@ -9,5 +9,5 @@ invariant-loop-extent g l = record {
   went : DeviceGoesOn g.B.Blocks.block_count g.B.Blocks.halts g.B.Blocks.halted g.B.Blocks.tells l.fn.device l.device;
   grown : KeepsMore g.B.Blocks.kept g.B.Blocks.tells IsWriteEvent l.fn.device l.device;
   none : g.B.Blocks.halted l.device ≡ None;
-  clears : (from : SinceHistory) → Clears (DeviceHolds g.B.Blocks.stands g.B.Blocks.kept from) g.B.Blocks.tells l.fn.device l.device (InExtent (owner_in (in_table l.table)) l.id l.size l.extent);
+  clears : (from : SinceHistory _) → Clears (DeviceHolds g.B.Blocks.stands g.B.Blocks.kept from) g.B.Blocks.tells l.fn.device l.device (InExtent (owner_in (in_table l.table)) l.id l.size l.extent);
 }

@@ -21,7 +21,7 @@ returns-in-Ok g c = record {
   grown = KeepsMore-one _ _ _ _ _ _ _ c.read.ensures.events tt;
   halt = c.in-Ok.ensures.halt;
   keeps = λ from h stands tells.
-      holds_same g.B.Blocks.stands g.B.Blocks.kept from c.args.device.now c.read.new.self h (Read c.args.at) (Value c.args.at c.read.new.into) (λ s. c.in-Ok.ensures.history h s tells) (λ events k. c.in-Ok.ensures.events events k tells) refl stands;
+      holds_same g.B.Blocks.stands g.B.Blocks.kept from c.args.device.now c.read.new.self h (Read c.args.at) (Value c.args.at c.read.new.into) (λ s. c.in-Ok.ensures.history h s tells) (λ first events k. c.in-Ok.ensures.events first events k) refl stands;
   read = search rules;
   rest = search rules;
 }

@@ -10,6 +10,6 @@ invariant-loop-at g l = record {
   went : DeviceGoesOn g.B.Blocks.block_count g.B.Blocks.halts g.B.Blocks.halted g.B.Blocks.tells l.fn.device l.device;
   grown : KeepsMore g.B.Blocks.kept g.B.Blocks.tells IsReadEvent l.fn.device l.device;
   none : 0 < l.at → g.B.Blocks.halted l.device ≡ None;
-  keeps : (from : SinceHistory) → KeepsHistories (DeviceHolds g.B.Blocks.stands g.B.Blocks.kept from) g.B.Blocks.tells l.fn.device l.device;
+  keeps : (from : SinceHistory _) → KeepsHistories (DeviceHolds g.B.Blocks.stands g.B.Blocks.kept from) g.B.Blocks.tells l.fn.device l.device;
   read : (h : History) → g.B.Blocks.stands l.fn.device h → IsTrue (g.B.Blocks.tells l.device) → (k : ℕ) → k < l.at → in_table l.table k ≡ after_all h k;
 }

@@ -30,5 +30,5 @@ returns-in-Ok g c = record {
   grown = KeepsMore-one _ _ _ _ _ _ _ c.write_many.ensures.events tt;
   halt = c.in-Ok.ensures.halt;
   adds = λ from h stands tells.
-      holds_write g.B.Blocks.stands g.B.Blocks.kept from c.args.device.now c.write_many.new.self h c.args.pairs.now (pairs_of c.args.pairs.now) c.in-Ok.field-0 (λ s. (c.in-Ok.ensures.history h s tells).1) (λ events k. c.in-Ok.ensures.events events k tells) refl stands;
+      holds_write g.B.Blocks.stands g.B.Blocks.kept from c.args.device.now c.write_many.new.self h c.args.pairs.now (pairs_of c.args.pairs.now) c.in-Ok.field-0 (λ s. (c.in-Ok.ensures.history h s tells).1) (λ first events k. c.in-Ok.ensures.events first events k) refl stands;
 }

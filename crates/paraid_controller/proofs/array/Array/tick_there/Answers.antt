@@ -116,7 +116,7 @@ returns-in-Ok g c = record {
           energy =
               tick_sum a.setup a.energy s c.saturating_add-self.result _ (report c.meta-in-Ok.result.now.gear c.in-Ok.moved c.in-Ok.event)
               (c.saturating_add-self.ensures
-            ∙ ap (λ (n : ℕ). min (a.energy + n) 18446744073709551615) (c.energy_of_tick-used.ensures ∙ ap (λ (m : Meta). sum_before (used_by m) m.setup.geometry.disks) c.meta-2.ensures ∙ tick_uses a.core.meta s refl refl refl ∙ ap (λ (z : Setup). tick_energy z s) q.same_setup))
+              ∙ ap (λ (n : ℕ). min (a.energy + n) 18446744073709551615) (c.energy_of_tick-used.ensures ∙ ap (λ (m : Meta). sum_before (used_by m) m.setup.geometry.disks) c.meta-2.ensures ∙ tick_uses a.core.meta s refl refl refl ∙ ap (λ (z : Setup). tick_energy z s) q.same_setup))
               (c.saturating_add-self-in-Ok.ensures ∙ ap (λ (n : ℕ). min (c.saturating_add-self.result + n) 18446744073709551615) (c.begun_energy-begun.ensures ∙ ap (λ (m : Meta). begun_energy a.setup m.gear c.in-Ok.event) c.meta.ensures));
           by =
               ticks_by g.R.Rack.slot a new c.saturating_add-self-in-Ok.result q.same_setup c.in-Ok.moved c.in-Ok.event

@@ -1,3 +1,5 @@
+use Rattle.paraid_base.specs.declared.fault.Halt.{Halt}
+use Rattle.std.proofs.Common.{Option, Some, None}
 use Rattle.std.proofs.Common.{◌≡◌, ℕ, ◌<◌, ◌≤◌, ◌^◌, ◌∙◌, refl, sym, ap, subst}
 use Rattle.std.specs.Prelude.{true}
 use Rattle.std.proofs.lemmas.Bool.{false≢true}
@@ -9,6 +11,10 @@ use Rattle.paraid_volume.proofs.ExtentLemmas.{back, same_table}
 use Rattle.paraid_volume.proofs.StateLemmas.{lived_adopted}
 use Rattle.paraid_volume.proofs.DeviceLemmas.{DeviceGoesOn-none, KeepsMore-none, holds_stands}
 use Rattle.paraid_volume.proofs.volumes.Volumes.adopt.Goals as goal
+
+-- a halt is no want of one
+halts : (h : Halt) → ◌≡◌ {A = Option Halt} (Some h) None → ⊥
+halts h e = cc
 
 pub returns-then-not-is_table : goal.returns-then-not-is_table
 returns-then-not-is_table g c = record {
@@ -28,6 +34,7 @@ returns-then-not-is_table g c = record {
   went_refused = c.read_table.ensures.went;
   grown = tt;
   grown_refused = c.read_table.ensures.grown;
+  stands_refused = λ none from h stands tells. c.in_default.ensures.keeps from h stands tells;
   ok = tt;
   stands = tt;
   lived = tt;
@@ -54,6 +61,7 @@ returns g c = record {
   went_refused = tt;
   grown = c.read_table.ensures.grown;
   grown_refused = tt;
+  stands_refused = tt;
   ok = refl;
   stands = λ from h stands tells.
       let read = c.in_default.ensures in
@@ -76,6 +84,7 @@ returns-then-count-lt7 g c = record {
   went_refused = DeviceGoesOn-none _ _ _ _ _;
   grown = tt;
   grown_refused = KeepsMore-none _ _ _ _;
+  stands_refused = λ none from h stands tells. stands;
   ok = tt;
   stands = tt;
   lived = tt;
@@ -88,6 +97,7 @@ returns-in-Err g c = record {
   went_refused = c.read_table.ensures.went;
   grown = tt;
   grown_refused = c.read_table.ensures.grown;
+  stands_refused = λ none. absurd (halts _ (sym (c.read_table.ensures.halt ∙ ap halt_in c.in-Err.is) ∙ none));
   ok = tt;
   stands = tt;
   lived = tt;

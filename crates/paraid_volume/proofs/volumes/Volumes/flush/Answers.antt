@@ -12,7 +12,7 @@ pub returns-in-Ok-clause-stands : goal.returns-in-Ok-clause-stands
 returns-in-Ok-clause-stands g c = λ from h stands tells. (
   (c.in-Ok.ensures.history h (holds_stands g.B.Blocks.stands g.B.Blocks.kept from (device_of c.args.self.now) h stands.0) tells).0,
   (
-    holds_same g.B.Blocks.stands g.B.Blocks.kept from (device_of c.args.self.now) c.flush.new.self h Flush (Flushed c.in-Ok.number) (λ s. (c.in-Ok.ensures.history h s tells).1) (λ events k. c.in-Ok.ensures.events events k tells) refl stands.0,
+    holds_same g.B.Blocks.stands g.B.Blocks.kept from (device_of c.args.self.now) c.flush.new.self h Flush (Flushed c.in-Ok.number) (λ s. (c.in-Ok.ensures.history h s tells).1) (λ first events k. c.in-Ok.ensures.events first events k) refl stands.0,
     stands.1,
   ),
 )
@@ -86,4 +86,4 @@ pub returns-in-Ok-clause-went : goal.returns-in-Ok-clause-went
 returns-in-Ok-clause-went g c = record { size = c.flush.ensures.size; later = c.flush.ensures.later; cause = c.flush.ensures.cause; again = c.flush.ensures.again; told = c.flush.ensures.told }
 
 pub returns-in-Ok-clause-event : goal.returns-in-Ok-clause-event
-returns-in-Ok-clause-event g c = λ events kept tells. c.in-Ok.ensures.events events kept tells
+returns-in-Ok-clause-event g c = λ first events kept. c.in-Ok.ensures.events first events kept

@@ -1,3 +1,5 @@
+use Rattle.paraid_base.specs.declared.fault.Halt.{Halt}
+use Rattle.std.proofs.Common.{Option, Some, None}
 use Rattle.std.proofs.Common.{◌≡◌, ℕ, ◌<◌, ◌≤◌, ◌^◌, ◌∙◌, ◌++◌, ◌∷◌, [], refl, sym, ap, subst, arith}
 use Rattle.std.specs.Prelude.{true}
 use Rattle.paraid_base.specs.History.{after_all}
@@ -13,6 +15,10 @@ use Rattle.paraid_volume.proofs.StateLemmas.{lived_begun}
 use Rattle.std.proofs.lemmas.Bool.{false≢true}
 use Rattle.paraid_volume.proofs.DeviceLemmas.{DeviceGoesOn-none, DeviceGoesOn-then, KeepsMore-none, KeepsMore-then, KeepsMore-weaker, read_either, write_either}
 use Rattle.paraid_volume.proofs.volumes.Volumes.init.Goals as goal
+
+-- a halt is no want of one
+halts : (h : Halt) → ◌≡◌ {A = Option Halt} (Some h) None → ⊥
+halts h e = cc
 
 pub returns-then-is_table : goal.returns-then-is_table
 returns-then-is_table g c = record {
@@ -31,6 +37,7 @@ returns-then-is_table g c = record {
   went_refused = c.read_table.ensures.went;
   grown = tt;
   grown_refused = KeepsMore-weaker _ _ _ _ _ _ read_either c.read_table.ensures.grown;
+  stands_refused = λ none from h stands tells. c.in_default.ensures.keeps from h stands tells;
   ok = tt;
   stands = tt;
   lived = tt;
@@ -85,6 +92,7 @@ returns-in-Err g c = record {
   went_refused = c.read_table.ensures.went;
   grown = tt;
   grown_refused = KeepsMore-weaker _ _ _ _ _ _ read_either c.read_table.ensures.grown;
+  stands_refused = λ none. absurd (halts _ (sym (c.read_table.ensures.halt ∙ ap halt_in c.in-Err.is) ∙ none));
   ok = tt;
   stands = tt;
   lived = tt;
@@ -98,6 +106,7 @@ returns-in-Err-write_table g c = record {
   went_refused = DeviceGoesOn-then _ _ _ _ _ _ _ c.read_table.ensures.went c.write_table.ensures.went;
   grown = tt;
   grown_refused = KeepsMore-then _ _ _ _ _ _ c.write_table.ensures.went.told (KeepsMore-weaker _ _ _ _ _ _ read_either c.read_table.ensures.grown) (KeepsMore-weaker _ _ _ _ _ _ write_either c.write_table.ensures.grown);
+  stands_refused = λ none. absurd (halts _ (sym (c.write_table.ensures.halt ∙ ap halt_in c.in-Err-write_table.is) ∙ none));
   ok = tt;
   stands = tt;
   lived = tt;
@@ -124,6 +133,7 @@ returns-then-count-lt7 g c = record {
   went_refused = DeviceGoesOn-none _ _ _ _ _;
   grown = tt;
   grown_refused = KeepsMore-none _ _ _ _;
+  stands_refused = λ none from h stands tells. stands;
   ok = tt;
   stands = tt;
   lived = tt;
@@ -155,3 +165,6 @@ extent_size-requires g c = c.if-count-lt7.false
 
 pub extent_count-requires : goal.extent_count-requires
 extent_count-requires g c = c.if-count-lt7.false
+
+pub returns-clause-stands_refused : goal.returns-clause-stands_refused
+returns-clause-stands_refused g c = tt

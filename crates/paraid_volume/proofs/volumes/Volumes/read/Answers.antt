@@ -67,7 +67,7 @@ returns-in-Err-Halt g c = record {
 
 pub returns-in-Ok-clause-stands : goal.returns-in-Ok-clause-stands
 returns-in-Ok-clause-stands g c = λ none from h stands tells.
-    (holds_same g.B.Blocks.stands g.B.Blocks.kept from (device_of c.args.self.now) c.read.new.self h (Read c.in_ok-place.place) (Value c.in_ok-place.place c.read.new.into) (λ s. c.in-Ok.ensures.history h s tells) (λ events k. c.in-Ok.ensures.events events k tells) refl stands.0, stands.1)
+    (holds_same g.B.Blocks.stands g.B.Blocks.kept from (device_of c.args.self.now) c.read.new.self h (Read c.in_ok-place.place) (Value c.in_ok-place.place c.read.new.into) (λ s. c.in-Ok.ensures.history h s tells) (λ first events k. c.in-Ok.ensures.events first events k) refl stands.0, stands.1)
 
 pub returns-in-Ok-clause-lived : goal.returns-in-Ok-clause-lived
 returns-in-Ok-clause-lived g c = λ from start log lived tells.
@@ -134,7 +134,7 @@ pub returns-in-Ok-clause-went : goal.returns-in-Ok-clause-went
 returns-in-Ok-clause-went g c = record { size = c.read.ensures.size; later = c.read.ensures.later; cause = c.read.ensures.cause; again = c.read.ensures.again; told = c.read.ensures.told }
 
 pub returns-in-Ok-clause-event : goal.returns-in-Ok-clause-event
-returns-in-Ok-clause-event g c = λ events kept tells. record { place = c.in_ok-place.place; is = c.in_ok-place.ensures.ok; kept = c.in-Ok.ensures.events events kept tells }
+returns-in-Ok-clause-event g c = λ first events kept. record { place = c.in_ok-place.place; is = c.in_ok-place.ensures.ok; kept = c.in-Ok.ensures.events first events kept }
 
 pub unreachable-requires : goal.unreachable-requires
 unreachable-requires g c = let m = rw c.in-Err-NoBlock.field-0-is at c.in-Err-NoBlock.ensures.missing in below_not _ _ c.in_ok-place.ensures.below m.1

@@ -53,7 +53,7 @@ returns-in-Ok-clause-adds g c = λ from h s stands shows tells.
     let other = λ (k : ℕ) (not : place ≢ k). after_all-other h place k bytes not in record {
       entry = (place, bytes) ∷ [];
       stands = (
-        holds_write g.B.Blocks.stands g.B.Blocks.kept from v.blocks c.write.new.self h (single_pair place bytes) ((place, bytes) ∷ []) c.in-Ok.field-0 (λ x. (c.in-Ok.ensures.history h x tells).1) (λ events k. c.in-Ok.ensures.events events k tells) (pairs_of-one place bytes) stands.0,
+        holds_write g.B.Blocks.stands g.B.Blocks.kept from v.blocks c.write.new.self h (single_pair place bytes) ((place, bytes) ∷ []) c.in-Ok.field-0 (λ x. (c.in-Ok.ensures.history h x tells).1) (λ first events k. c.in-Ok.ensures.events first events k) (pairs_of-one place bytes) stands.0,
         λ k l. stands.1 k l ∙ same count (after_all h) (after_all new) id block place bytes v.large at here other k l,
       );
       shows = shows_written count (after_all h) (after_all new) id block place bytes v.large at here other s shows;
@@ -147,7 +147,7 @@ pub returns-in-Ok-clause-went : goal.returns-in-Ok-clause-went
 returns-in-Ok-clause-went g c = record { size = c.write.ensures.size; later = c.write.ensures.later; cause = c.write.ensures.cause; again = c.write.ensures.again; told = c.write.ensures.told }
 
 pub returns-in-Ok-clause-event : goal.returns-in-Ok-clause-event
-returns-in-Ok-clause-event g c = λ events kept tells. record { place = c.in_ok-place.place; is = c.in_ok-place.ensures.ok; number = c.in-Ok.field-0; kept = c.in-Ok.ensures.events events kept tells }
+returns-in-Ok-clause-event g c = λ first events kept. record { place = c.in_ok-place.place; is = c.in_ok-place.ensures.ok; number = c.in-Ok.field-0; kept = c.in-Ok.ensures.events first events kept }
 
 pub unreachable-requires : goal.unreachable-requires
 unreachable-requires g c = let m = rw c.in-Err-NoBlock.field-0-is at c.in-Err-NoBlock.ensures.missing in below_not _ _ c.in_ok-place.ensures.below m.1

@@ -1,0 +1,44 @@
+-- What a device kept, one event after the other.
+use Rattle.std.proofs.Common.{◌≡◌, ℕ, List, [], ◌∷◌, ◌++◌, IsSome, refl, ap, ◌∙◌, subst}
+use Rattle.paraid_base.specs.declared.event.Answer.{Answer}
+use Rattle.paraid_base.specs.declared.event.Event.{Event}
+use Rattle.paraid_base.specs.BlockAnswers.{Answers}
+use Rattle.paraid_rack.specs.declared.call.Call.{Call}
+use Rattle.paraid_rack.specs.Told.{Ran}
+use Rattle.paraid_record.specs.declared.meta.Setup.{Setup}
+use Rattle.paraid_session.specs.Turn.{GoesOn, Point}
+use Rattle.paraid_serve.specs.declared.serves.Serves.{Ghosts}
+use Rattle.paraid_serve.specs.Stretch.{Turn, turn_with}
+use Rattle.paraid_serve.proofs.GrowsLemmas.{grows_then, told_then}
+use Rattle.paraid_serve.proofs.StretchLemmas.{stretch_more}
+use Rattle.paraid_device.specs.Asking.{AsksArray}
+use Rattle.paraid_device.specs.Devices.{HasAnswered, answers_in}
+
+answers_in-push : (ts : List Turn) (e : Event) (a : Answer) (cs : List Call) → answers_in (ts ++ turn_with e a cs ∷ []) ≡ answers_in ts ++ (e, a) ∷ []
+answers_in-push [] e a cs = refl
+answers_in-push (t ∷ ts) e a cs = ap (λ (l : Answers). (t.event, t.answer) ∷ l) (answers_in-push ts e a cs)
+
+module _ {A : Type 0} (g : Ghosts A) where
+  -- One event more was answered. What is said of the answer need be the answer only where the record is told.
+  pub answered_more : (first old new : A) (events : Answers) (event : Event) (answer said : Answer) → HasAnswered g first old events → AsksArray g old new event answer
+      → (IsSome (g.told new) → (p : Point) → g.stands old p → answer ≡ said) → HasAnswered g first new (events ++ (event, said) ∷ [])
+  answered_more first old new events event answer said before asks same = record {
+    same_slots = asks.same_slots ∙ before.same_slots;
+    same_setup = asks.same_setup ∙ before.same_setup;
+    grows = grows_then (g.told first) (g.told old) (g.told new) before.grows asks.grows;
+    since = λ start s. asks.since start (before.since start s);
+    leads = λ is p at.
+        let a = before.leads (told_then (g.told old) (g.told new) asks.grows is) p at in
+        let goes : (q : Point) → g.stands old q → Ran (g.told old) (g.told new) (GoesOn (g.slots first) (g.setup first) q event answer (g.stands new)) =
+        λ q at_q.
+        subst (λ (n : ℕ). Ran (g.told old) (g.told new) (GoesOn n (g.setup first) q event answer (g.stands new))) before.same_slots
+        (subst (λ (z : Setup). Ran (g.told old) (g.told new) (GoesOn (g.slots old) z q event answer (g.stands new))) before.same_setup (asks.turn q at_q)) in
+        let more = stretch_more a.all (g.told new) event answer (g.stands old) (g.stands new) a.stands goes is in
+        record {
+          asked = a.asked ++ event ∷ [];
+          all = more.all;
+          answered = ap answers_in more.turns ∙ answers_in-push a.all.turns event answer more.calls ∙ ap (λ (l : Answers). l ++ (event, answer) ∷ []) a.answered
+              ∙ ap (λ (x : Answer). events ++ (event, x) ∷ []) (same is a.all.end a.stands);
+          stands = more.stands;
+        };
+  }

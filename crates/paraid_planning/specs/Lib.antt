@@ -1,0 +1,3 @@
+pub mod Demand
+pub mod Heard
+pub mod Planned

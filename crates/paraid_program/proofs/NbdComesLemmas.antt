@@ -1,0 +1,126 @@
+-- How `nbd` comes out on a rack that held a history.
+use Rattle.std.proofs.Common.{◌≡◌, ℕ, ◌*◌, ◌^◌, ◌⊎◌, List, [], ◌∷◌, ◌++◌, Option, Some, None, inl, inr, refl, sym, ap, ◌∙◌, subst, arith}
+use Rattle.paraid_base.specs.declared.event.Answer.{Answer}
+use Rattle.paraid_base.specs.declared.event.Answer.TheVariants.{Halted}
+use Rattle.paraid_base.specs.declared.event.Event.{Event}
+use Rattle.paraid_base.specs.declared.event.Event.TheVariants.{Flush}
+use Rattle.paraid_base.specs.declared.fault.Halt.{Halt}
+use Rattle.paraid_base.specs.BlockAnswers.{Answers}
+use Rattle.paraid_base.specs.Told.{HasRisen}
+use Rattle.paraid_device.specs.Devices.{answers_in}
+use Rattle.paraid_nbd.specs.declared.ending.NbdEnd.{NbdEnd}
+use Rattle.paraid_nbd.specs.declared.ending.NbdEnd.TheVariants.{Done, Aborted, Closed, Protocol, TooLong, Source, Sink, NoMemory}
+use Rattle.paraid_machine.specs.Machine.{block_count}
+use Rattle.paraid_rack.specs.declared.call.Call.{Call}
+use Rattle.paraid_rack.specs.Slots.{Slot}
+use Rattle.paraid_rack.specs.Trail.{Trail, extend, now}
+use Rattle.paraid_record.specs.declared.meta.Setup.{Setup}
+use Rattle.paraid_recover.specs.Mount.{HasOnlyRead}
+use Rattle.paraid_serve.specs.Calls.{IsNotDouble}
+use Rattle.paraid_serve.specs.Stretch.{EndsStretch, Turn}
+use Rattle.paraid_serve.proofs.StretchLemmas.{some_is}
+use Rattle.paraid_session.specs.Mount.{IsBegun}
+use Rattle.paraid_session.specs.Turn.{Point}
+use Rattle.paraid_service.specs.Clients.{EndsWithStatus, FollowsForClient, IsStatusOfEnd, Keeps, LosesTwo, TakesClient}
+use Rattle.paraid_service.specs.Clients.EndsWithStatus.{broken, halted, kept}
+use Rattle.paraid_service.specs.Clients.IsStatusOfEnd.{flushed, told}
+use Rattle.paraid_service.specs.Ends.{broken_status}
+use Rattle.paraid_program.specs.Clients.{HindersNbd, IsNbdWhole, ServesNbd, ServesNbdOrNot}
+use Rattle.paraid_program.specs.Clients.HindersNbd.{client, other, source}
+use Rattle.paraid_program.specs.Clients.ServesNbdOrNot.{mounted, refused}
+use Rattle.paraid_program.specs.Complete.{Completes, HeldHistory}
+use Rattle.paraid_program.specs.Complete.Hinders.{sink}
+use Rattle.paraid_program.specs.Complete.Completes.{hindered, whole}
+use Rattle.paraid_program.specs.Ends.{BeginsAt, IsEndOver, ServedArray}
+use Rattle.paraid_program.specs.Showing.{IsServedBy}
+use Rattle.paraid_program.proofs.CompleteLemmas.{from_point, halted_comes, refused_comes}
+
+none_some : (n : ℕ) → None ≡ Some n → ⊥
+none_some n e = cc
+
+status_is : (n status : ℕ) → Some n ≡ Some status → status ≡ n
+status_is n status e = cc
+
+no_pairs : (es : Answers) (e : Event × Answer) → [] ≡ es ++ e ∷ [] → ⊥
+no_pairs [] e is = cc
+no_pairs (x ∷ es) e is = cc
+
+first_is : (a b : Event × Answer) (xs ys : Answers) → a ∷ xs ≡ b ∷ ys → a ≡ b
+first_is a b xs ys e = cc
+
+rest_is : (a b : Event × Answer) (xs ys : Answers) → a ∷ xs ≡ b ∷ ys → xs ≡ ys
+rest_is a b xs ys e = cc
+
+-- turns of which these are the events and answers end with the turn of the last one
+pub record EndsTurns (ts : List Turn) (answer : Answer) : Type 0 where
+  pub before : List Turn
+  pub last : Turn
+  pub split : ts ≡ before ++ last ∷ []
+  pub is : last.answer ≡ answer
+
+alone : (t : Turn) (ts : List Turn) (e : Event × Answer) → (t.event, t.answer) ∷ answers_in ts ≡ e ∷ [] → EndsTurns (t ∷ ts) e.1
+alone t [] e is = record { before = []; last = t; split = refl; is = ap (λ (x : Event × Answer). x.1) (first_is _ _ _ _ is) }
+alone t (u ∷ ts) e is = absurd (let z = rest_is _ _ _ _ is in cc)
+
+ends_turns : (ts : List Turn) (es : Answers) (e : Event × Answer) → answers_in ts ≡ es ++ e ∷ [] → EndsTurns ts e.1
+ends_turns [] es e is = absurd (no_pairs es e is)
+ends_turns (t ∷ ts) [] e is = alone t ts e is
+ends_turns (t ∷ ts) (x ∷ es) e is =
+    let r = ends_turns ts es e (rest_is _ _ _ _ is) in
+    record { before = t ∷ r.before; last = r.last; split = ap (λ (l : List Turn). t ∷ l) r.split; is = r.is }
+
+keeps_ends : (slots : ℕ) (setup : Setup) (start final : Option Trail) (p : Point) (events : Answers) (event : Event) (answer : Answer) → (k : Keeps slots setup start final p (events ++ (event, answer) ∷ [])) → EndsStretch slots setup start final p k.asked answer
+keeps_ends slots setup start final p events event answer k =
+    let e = ends_turns k.all.turns events (event, answer) k.answered in
+    record { all = k.all; before = e.before; last = e.last; split = e.split; answered = e.is }
+
+-- with no line written, what is known over every rack
+over : (setup : Setup) (old new : ℕ → Slot) (status : ℕ) → (status ≡ 0 → IsNotDouble setup new) → (status ≡ 5 → LosesTwo old new) → IsEndOver setup old new None None status
+over setup old new status present two = record {
+  present = present;
+  two = λ five. let l = two five in record { two = l.two; lost = l.lost; text = []; line = record { before = λ s. s; bytes = λ s. cc } };
+  worn = λ twelve. record { count = 2 ^ 62; many = omega arith; text = []; line = record { before = λ s. s; bytes = λ s. cc } };
+}
+
+module _ {slots : ℕ} {before after : Option Trail} (h : HeldHistory slots before after) (old new : ℕ → Slot) (counted count : ℕ) (status : ℕ) (sunk : status ≡ 4 → HasRisen counted count) (lb l : Option (List ℕ)) (f z : ℕ) (wb w : Option (List ℕ)) (heard : status ≡ 3 → HasRisen f z) where
+  abbrev Whole : Type 0
+  Whole = IsNbdWhole lb l f z wb w counted count
+
+  abbrev Hindered : Type 0
+  Hindered = HindersNbd h old new lb l f z wb w counted count status
+
+  abbrev Comes : Type 0
+  Comes = Completes Whole (HasOnlyRead before after) Hindered status
+
+  -- a client that was broken off
+  by_client : (setup : Setup) (end : NbdEnd) → broken_status end ≡ Some status → TakesClient (512 * block_count setup) lb l wb w f z counted count end → Hindered
+  by_client setup Done e taken = absurd (none_some status e)
+  by_client setup Aborted e taken = absurd (none_some status e)
+  by_client setup Closed e taken = absurd (none_some status e)
+  by_client setup (Protocol at) e taken = client setup (Protocol at) e taken
+  by_client setup (TooLong bytes) e taken = client setup (TooLong bytes) e taken
+  by_client setup Source e taken = let three = status_is 3 status e in source three (heard three)
+  by_client setup Sink e taken = let four = status_is 4 status e in other (sink four (sunk four))
+  by_client setup NoMemory e taken = client setup NoMemory e taken
+
+  module _ (array : ServedArray) (began : ℕ) (middle : Option Trail) (stood : IsServedBy slots old array.slot before middle array.meta array.dirty) (begins : BeginsAt before middle after began) (s : ServesNbd slots old new after lb l f z wb w counted count status array began middle) where
+    at_end : IsEndOver array.meta.setup old new None None status
+    at_end = over array.meta.setup old new status s.present s.two
+
+    by_session : (base : ℕ → ℕ) (t : Trail) (cs : List Call) (p : Point) → middle ≡ Some t → t ≡ extend h.first cs → IsBegun slots (now h.first) h.said h.history h.low h.down base cs p → h.said.meta.setup ≡ array.meta.setup
+        → (events : Answers) → broken_status s.headline.end ≡ None → EndsWithStatus slots array.meta.setup middle after p events s.headline.end status → Comes
+    by_session base t cs p here split starts same events none (broken e k) = absurd (none_some status (sym none ∙ e))
+    by_session base t cs p here split starts same events none (kept writes e zero k) = whole zero (record { setup = array.meta.setup; end = s.headline.end; taken = s.headline.taken; whole = none })
+    by_session base t cs p here split starts same events none (halted halt e is k) =
+        halted_comes h old new counted count None None status Whole Hindered other sunk array began middle stood begins at_end base t cs p here split starts same k.asked halt (keeps_ends slots array.meta.setup middle after p events Flush (Halted halt) k) is
+
+    by_end : IsStatusOfEnd s.headline.end status → Comes
+    by_end (told e) = hindered (by_client array.meta.setup s.headline.end e s.headline.taken)
+    by_end (flushed none fits) =
+        from_point h old new counted count None None status Whole Hindered other sunk array began middle stood begins at_end
+        (FollowsForClient slots array.meta.setup middle after lb l wb w f z counted count status s.headline.end) (s.headline.said (some_is after h.last h.at_last))
+        (λ base t cs p here split starts same x. by_session base t cs p here split starts same x.events none x.session)
+
+  pub nbd_comes : ServesNbdOrNot slots old new before after lb l f z wb w counted count status → Comes
+  nbd_comes (refused fault back is given grows) = refused_comes h old new counted count None None status Whole Hindered other sunk fault back.cause back.refused 0 0 (inr (refl, is))
+  nbd_comes (mounted array began middle stood begins s) = by_end array began middle stood begins s s.headline.ended

@@ -1,0 +1,19 @@
+use Rattle.paraid_base.proofs.ToldLemmas.{Gives-none, GrowsByBytes-none}
+use Rattle.paraid_program.specs.Clients.ServesNbdOrNot.{mounted, refused}
+use Rattle.paraid_program.proofs.EndLemmas.{began_at_end, begins_at_end, end_moment}
+use Rattle.paraid_program.proofs.NbdLemmas.{nbd_over}
+use Rattle.paraid_program.proofs.mounted.nbd.Goals as goal
+
+pub returns-in-Err-clause-nbd : goal.returns-in-Err-clause-nbd
+returns-in-Err-clause-nbd g c = refused c.in-Err.field-0.fault c.in-Err.ensures.refused c.mount_fault_status.ensures (Gives-none _) (GrowsByBytes-none _)
+
+pub returns-in-Ok-clause-nbd : goal.returns-in-Ok-clause-nbd
+returns-in-Ok-clause-nbd g c =
+    let e = c.in-Ok.ensures in
+    let done = c.serve_client-status.ensures in
+    let array = c.in-Ok.array in
+    let before = g.R.Rack.told c.args.rack in
+    let began = end_moment before in
+    mounted (g.O.Outside.served array) began (g.A.Serves.told array) e.served (begins_at_end before (g.A.Serves.told array) _ _ e.grows c.unmount.ensures.told done.told)
+    (nbd_over _ _ (g.A.Serves.setup array) _ (g.R.Rack.slot c.args.rack) (g.A.Serves.slot array) _ _ began _ _ _ _ _ _ _ _ _ _ _ _ e.slots e.setup c.unmount.ensures.told c.unmount.ensures.slot e.later done.present done.two
+    (done.headline began (e.mounted began (began_at_end before))))

@@ -1,0 +1,27 @@
+use Rattle.std.proofs.Common.{rules}
+use Rattle.paraid_program.specs.Ends.MountsAndThen.{mounted, refused}
+use Rattle.paraid_program.proofs.EndLemmas.{began_at_end, begins_at_end, end_moment, end_over, spared_over, run_is_refused, run_status}
+use Rattle.paraid_program.proofs.mounted.run_with_spares.Goals as goal
+
+pub returns-in-Err : goal.returns-in-Err
+returns-in-Err g c = record {
+  run = refused c.in-Err.field-0.fault c.in-Err.ensures.refused c.tell_refusal.ensures.tells;
+  status = run_is_refused c.in-Err.field-0.fault _ _ _ _ c.tell_refusal.ensures.tells;
+  source = search rules;
+  sink = search rules;
+}
+
+pub returns-in-Ok : goal.returns-in-Ok
+returns-in-Ok g c = record {
+  run =
+      let e = c.in-Ok.ensures in
+      let done = c.serve_mounted-status.ensures in
+      let before = g.R.Rack.told c.args.rack in
+      mounted (g.O.Outside.served c.in-Ok.array) (end_moment before) (g.A.Serves.told c.in-Ok.array) e.served (begins_at_end before (g.A.Serves.told c.in-Ok.array) _ _ e.grows c.unmount.ensures.told c.serve_mounted-status.ensures.told)
+      (spared_over _ _ _ _ _ _ _ _ _ _ _ _ _ e.slots e.setup c.unmount.ensures.told
+      (end_over (g.A.Serves.setup c.in-Ok.array) (g.R.Rack.slot c.args.rack) (g.A.Serves.slot c.in-Ok.array) _ _ _ _ _ c.unmount.ensures.slot e.later done.present done.two done.worn)
+      _ _ c.args.stock c.args.wait (done.headline (end_moment before) (e.mounted (end_moment before) (began_at_end before))));
+  status = run_status _ c.serve_mounted-status.ensures.status;
+  source = search rules;
+  sink = search rules;
+}

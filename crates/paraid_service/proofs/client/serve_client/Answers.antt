@@ -1,0 +1,31 @@
+use Rattle.std.proofs.Common.{[], subst}
+use Rattle.paraid_record.specs.declared.meta.Setup.{Setup}
+use Rattle.paraid_device.specs.Devices.{array_of}
+use Rattle.paraid_device.specs.Laws.{answered_none}
+use Rattle.paraid_serve.specs.Calls.{IsNotDouble}
+use Rattle.paraid_service.proofs.CauseLemmas.{service_cause}
+use Rattle.paraid_service.proofs.EndLemmas.{ends_answered, ends_going, ends_sink, ends_source, ends_status, ends_two}
+use Rattle.paraid_service.proofs.HeadlineLemmas.{ends_at, headline_at}
+use Rattle.paraid_service.proofs.client.serve_client.Goals as goal
+
+pub returns : goal.returns
+returns g c =
+    let a = c.args.array in
+    let b = c.close.result in
+    let first = c.new-device.result in
+    let last = c.end_client-status.new.device in
+    let k = c.serve_nbd-end.ensures.keeps.grows first [] (answered_none g.A.Serves (array_of first)) in
+    let status = c.end_client-status.result in
+    let end = c.serve_nbd-end.result in
+    let e = ends_at g.A.Serves (array_of first) (array_of last) a b c.new-device.ensures.array c.close.ensures (c.end_client-status.ensures.ends first k.0 k.1) in
+    let all = ends_answered g.A.Serves a b k.0 end status e in
+    let cause = service_cause _ _ _ _ _ first c.serve_nbd-end.new.blocks c.serve_nbd-end.ensures.service in
+    record {
+      headline = headline_at g.A.Serves g.met.A.Serves.agrees first c.serve_nbd-end.new.blocks last status c.new-device.ensures.going c.serve_nbd-end.ensures.service c.end_client-status.ensures.ends a b c.new-device.ensures.array c.close.ensures;
+      told = all.1.grows;
+      status = ends_status g.A.Serves a b k.0 end status e;
+      present = λ zero. subst (λ (z : Setup). IsNotDouble z (g.A.Serves.slot b)) all.1.same_setup (g.met.A.Serves.serves b (ends_going g.A.Serves a b k.0 end status e zero));
+      two = λ five. ends_two g.A.Serves a b k.0 end status c.requires.going e five;
+      source = λ three. cause.source (ends_source g.A.Serves a b k.0 end status e three);
+      sink = λ four. cause.sink (ends_sink g.A.Serves a b k.0 end status e four);
+    }

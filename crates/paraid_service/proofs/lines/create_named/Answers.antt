@@ -1,0 +1,10 @@
+use Rattle.paraid_service.proofs.LineLemmas.{create_line, if_err_with, if_ok_with}
+use Rattle.paraid_service.proofs.lines.create_named.Goals as goal
+
+pub returns : goal.returns
+returns g c = record {
+  line = λ going from start log lived tells word spells.
+      let e = c.create.ensures in
+      create_line _ _ _ start log lived c.args.name.now word c.args.extents c.create.result spells (if_ok_with _ _ c.create.result (λ id x. x from start log lived tells) e.lived)
+      (if_err_with _ _ c.create.result (λ fault x. x going from start log lived tells) e.lived_refused);
+}

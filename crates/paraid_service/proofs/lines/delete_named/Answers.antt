@@ -1,0 +1,17 @@
+use Rattle.std.proofs.Common.{refl}
+use Rattle.paraid_service.specs.VolumeLines.{delete as DeleteLine}
+use Rattle.paraid_volume.specs.Values.{volume_table}
+use Rattle.paraid_service.proofs.LineLemmas.{deleted, not_there}
+use Rattle.paraid_service.proofs.lines.delete_named.Goals as goal
+
+pub returns-in_default : goal.returns-in_default
+returns-in_default g c = record {
+  line = λ from start log lived tells word spells. not_there _ _ _ start log lived (volume_table c.args.volumes.now) lived.stands.1 c.args.name.now word spells (DeleteLine word) refl (λ h stands. stands) c.in_default.ensures.none;
+}
+
+pub returns-in-Ok : goal.returns-in-Ok
+returns-in-Ok g c = record {
+  line = λ from start log lived tells word spells.
+      let there = c.in-Some.ensures.some in
+      deleted _ _ _ start log lived (volume_table c.args.volumes.now) lived.stands.1 c.args.name.now word spells c.in-Some.id there.0 there.1 (c.in-Ok.ensures.lived from start log lived tells);
+}

@@ -1,0 +1,9 @@
+use Rattle.paraid_volume.specs.Values.{halted_of}
+use Rattle.paraid_service.proofs.LineLemmas.{flush_line, if_ok_with}
+use Rattle.paraid_service.proofs.lines.flush_volumes.Goals as goal
+
+pub returns : goal.returns
+returns g c = record {
+  line = λ going from start log lived tells.
+      flush_line _ _ _ start log lived (halted_of c.flush.new.self) c.flush.result (if_ok_with _ _ c.flush.result (λ number x. x from start log lived tells) c.flush.ensures.lived) c.flush.ensures.fault going;
+}

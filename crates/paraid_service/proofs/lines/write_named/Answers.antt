@@ -1,0 +1,18 @@
+use Rattle.std.proofs.Common.{refl}
+use Rattle.paraid_volume.specs.Values.{volume_table}
+use Rattle.paraid_service.specs.VolumeLines.{write as TheLine}
+use Rattle.paraid_service.proofs.LineLemmas.{if_err_with, not_there, on_ok_with, write_line}
+use Rattle.paraid_service.proofs.lines.write_named.Goals as goal
+
+pub returns-in_default : goal.returns-in_default
+returns-in_default g c = record {
+  line = λ going from start log lived tells word spells. not_there _ _ _ start log lived (volume_table c.args.volumes.now) lived.stands.1 c.args.name.now word spells (TheLine word c.args.block c.args.bytes.now) refl (λ h stands. stands) c.in_default.ensures.none;
+}
+
+pub returns : goal.returns
+returns g c = record {
+  line = λ going from start log lived tells word spells.
+      let there = c.in-Some.ensures.some in
+      let e = c.write.ensures in
+      write_line _ _ _ start log lived (volume_table c.args.volumes.now) lived.stands.1 c.args.name.now word spells c.in-Some.id c.args.block c.args.bytes.now c.write.result there.0 there.1 (on_ok_with _ _ c.write.result (λ x. x from start log lived tells) e.lived) (if_err_with _ _ c.write.result (λ fault x. x going from start log lived tells) e.lived_refused);
+}

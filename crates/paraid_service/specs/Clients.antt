@@ -1,0 +1,129 @@
+-- What a client of the block service was answered by a mounted array, as a session of it.
+use Rattle.std.specs.Prelude.{◌≡◌, ℕ, ◌*◌, ◌≤◌, ◌⊎◌, List, [], ◌∷◌, ◌++◌, Option, Some, None, IsSome}
+use Rattle.std.specs.List.{flat_map, AllByRecursion}
+use Rattle.paraid_base.specs.declared.event.Answer.TheVariants.{Flushed, Halted}
+use Rattle.paraid_base.specs.declared.event.Event.{Event}
+use Rattle.paraid_base.specs.declared.event.Event.TheVariants.{Flush}
+use Rattle.paraid_base.specs.declared.fault.Halt.{Halt}
+use Rattle.paraid_base.specs.declared.fault.Two.{Two}
+use Rattle.paraid_base.specs.BlockAnswers.{Answers}
+use Rattle.paraid_base.specs.History.{History}
+use Rattle.paraid_base.specs.Told.{GrowsByBytes, HasRisen}
+use Rattle.paraid_device.specs.Devices.{answers_in}
+use Rattle.paraid_image.specs.Rest.{AreSynced}
+use Rattle.paraid_machine.specs.Machine.{block_count}
+use Rattle.paraid_nbd.specs.declared.ending.NbdEnd.{NbdEnd}
+use Rattle.paraid_nbd.specs.declared.ending.NbdEnd.TheVariants.{NoMemory, Sink}
+use Rattle.paraid_nbd.specs.Export.{RequestStep, RequestSteps}
+use Rattle.paraid_nbd.specs.Handshake.{BeginsTransmission, EndsEarly, IsUnsent}
+use Rattle.paraid_nbd.specs.Requests.{IsRequest, RequestParts, request_bytes, request_in}
+use Rattle.paraid_nbd.specs.Service.{StopsRequest}
+use Rattle.paraid_nbd.specs.Taking.{Takes}
+use Rattle.paraid_rack.specs.Slots.{Slot}
+use Rattle.paraid_rack.specs.Trail.{Trail, now}
+use Rattle.paraid_record.specs.declared.meta.Setup.{Setup}
+use Rattle.paraid_serve.specs.Ending.{status_of_halt}
+use Rattle.paraid_serve.specs.Lost.{IsSecondLost}
+use Rattle.paraid_serve.specs.Output.{IsLeftByStretch}
+use Rattle.paraid_serve.specs.Stretch.{Stretch}
+use Rattle.paraid_session.specs.Mount.{IsMountedFromEach}
+use Rattle.paraid_session.specs.Turn.{Point}
+use Rattle.paraid_service.specs.Ends.{broken_status}
+
+-- The service ends at a request, by these events: none; or those of a request whose answer could not be written whole.
+pub data EndsAtRequest (size : ℕ) (m : Option History) (before after : Option (List ℕ)) (old new : ℕ) (written now_written : Option (List ℕ)) (faults now_faults sink_faults sink_now : ℕ) (end : NbdEnd) (events : Answers) (t : Option History) : Type 0 where
+  unread : StopsRequest before after old new faults now_faults end → GrowsByBytes written now_written [] → events ≡ [] → t ≡ m
+      → EndsAtRequest size m before after old new written now_written faults now_faults sink_faults sink_now end events t
+  unsent : (p : RequestParts) (out : List ℕ) → IsRequest p → Takes before after old new (request_bytes p) → RequestStep size m (request_in p.head) p.content out events t
+      → IsUnsent written now_written out sink_faults sink_now end → EndsAtRequest size m before after old new written now_written faults now_faults sink_faults sink_now end events t
+
+-- Requests were answered, one after the other, up to the end. These are all their events.
+pub record AnswersRequests (size : ℕ) (s : Option History) (before after : Option (List ℕ)) (old new : ℕ) (written now_written : Option (List ℕ)) (faults now_faults sink_faults sink_now : ℕ) (end : NbdEnd) (events : Answers) (t : Option History) : Type 0 where
+  pub left : Option (List ℕ)
+  pub at : ℕ
+  pub said : Option (List ℕ)
+  pub low : ℕ
+  pub sink_low : ℕ
+  pub requests : List RequestParts
+  pub each : AllByRecursion IsRequest requests
+  pub takes : Takes before left old at (flat_map request_bytes requests)
+  pub out : List ℕ
+  pub made : Answers
+  pub m : Option History
+  pub steps : RequestSteps size s requests out made m
+  pub grows : GrowsByBytes written said out
+  pub later : faults ≤ low
+  pub later_sink : sink_faults ≤ sink_low
+  pub last : Answers
+  pub all : events ≡ made ++ last
+  pub ends : EndsAtRequest size m left after at new said now_written low now_faults sink_low sink_now end last t
+
+-- A client was answered on a device that served this history: what was taken is cut into flags, options, requests and a rest,
+-- and what was written is the reply of each. Of these events and replies the requests say which they are, and t is the history
+-- after them, or none after a halt.
+pub data AnswersClient (size : ℕ) (h : History) (before after : Option (List ℕ)) (written now_written : Option (List ℕ)) (faults now_faults sink_faults sink_now : ℕ) (end : NbdEnd) (events : Answers) (t : Option History) : Type 0 where
+  no_room : end ≡ NoMemory → Takes before after 0 0 [] → GrowsByBytes written now_written [] → events ≡ [] → t ≡ Some h
+      → AnswersClient size h before after written now_written faults now_faults sink_faults sink_now end events t
+  early : (taken : ℕ) → EndsEarly size before after 0 taken written now_written faults now_faults sink_faults sink_now end → events ≡ [] → t ≡ Some h
+      → AnswersClient size h before after written now_written faults now_faults sink_faults sink_now end events t
+  late : (left : Option (List ℕ)) (at taken : ℕ) (said : Option (List ℕ)) (low sink_low : ℕ) → BeginsTransmission size before left 0 at written said → faults ≤ low → sink_faults ≤ sink_low
+      → AnswersRequests size (Some h) left after at taken said now_written low now_faults sink_low sink_now end events t
+      → AnswersClient size h before after written now_written faults now_faults sink_faults sink_now end events t
+
+-- The array answered these events from point p on, and no others.
+pub record Keeps (slots : ℕ) (setup : Setup) (start final : Option Trail) (p : Point) (events : Answers) : Type 0 where
+  pub asked : List Event
+  pub all : Stretch slots setup start final p asked
+  pub answered : answers_in all.turns ≡ events
+
+-- The events of a client are those that the array answered, with a flush after them unless the service was broken off; and the
+-- status tells the end, or the answer to that flush.
+pub data EndsWithStatus (slots : ℕ) (setup : Setup) (start final : Option Trail) (p : Point) (events : Answers) (end : NbdEnd) (status : ℕ) : Type 0 where
+  broken : broken_status end ≡ Some status → Keeps slots setup start final p events → EndsWithStatus slots setup start final p events end status
+  kept : (writes : ℕ) → broken_status end ≡ None → status ≡ 0 → Keeps slots setup start final p (events ++ (Flush, Flushed writes) ∷ []) → EndsWithStatus slots setup start final p events end status
+  halted : (halt : Halt) → broken_status end ≡ None → status ≡ status_of_halt halt → Keeps slots setup start final p (events ++ (Flush, Halted halt) ∷ []) → EndsWithStatus slots setup start final p events end status
+
+-- What follows from the first point of a session.
+pub record FollowsForClient (slots : ℕ) (setup : Setup) (start final : Option Trail) (before after : Option (List ℕ)) (written now_written : Option (List ℕ)) (faults now_faults sink_faults sink_now : ℕ) (status : ℕ) (end : NbdEnd) (p : Point) : Type 0 where
+  pub events : Answers
+  pub t : Option History
+  pub client : AnswersClient (512 * block_count setup) p.history before after written now_written faults now_faults sink_faults sink_now end events t
+  pub session : EndsWithStatus slots setup start final p events end status
+  -- each stop leaves what was flushed: so it is of each stretch of the session
+  pub left : (asked : List Event) (c : Stretch slots setup start final p asked) → IsLeftByStretch slots c
+  pub synced : status ≡ 0 → (u : Trail) → final ≡ Some u → AreSynced (now u)
+
+-- The service ends at a request.
+pub data StopsAtRequest (before after : Option (List ℕ)) (old new : ℕ) (faults now_faults sink_faults sink_now : ℕ) (end : NbdEnd) : Type 0 where
+  stopped : StopsRequest before after old new faults now_faults end → StopsAtRequest before after old new faults now_faults sink_faults sink_now end
+  cut_short : (p : RequestParts) → IsRequest p → Takes before after old new (request_bytes p) → end ≡ Sink → HasRisen sink_faults sink_now → StopsAtRequest before after old new faults now_faults sink_faults sink_now end
+
+-- Which bytes were taken, and how the service ended for it, over every rack.
+pub data TakesClient (size : ℕ) (before after : Option (List ℕ)) (written now_written : Option (List ℕ)) (faults now_faults sink_faults sink_now : ℕ) (end : NbdEnd) : Type 0 where
+  no_room : end ≡ NoMemory → Takes before after 0 0 [] → GrowsByBytes written now_written [] → TakesClient size before after written now_written faults now_faults sink_faults sink_now end
+  early : (taken : ℕ) → EndsEarly size before after 0 taken written now_written faults now_faults sink_faults sink_now end → TakesClient size before after written now_written faults now_faults sink_faults sink_now end
+  late : (middle left : Option (List ℕ)) (at place taken : ℕ) (said : Option (List ℕ)) (low sink_low : ℕ) (requests : List RequestParts) → BeginsTransmission size before middle 0 at written said
+      → AllByRecursion IsRequest requests → Takes middle left at place (flat_map request_bytes requests) → faults ≤ low → sink_faults ≤ sink_low
+      → StopsAtRequest left after place taken low now_faults sink_low sink_now end → TakesClient size before after written now_written faults now_faults sink_faults sink_now end
+
+-- a status tells the end at which a client was broken off, or how the flush came out
+pub data IsStatusOfEnd (end : NbdEnd) (status : ℕ) : Type 0 where
+  told : broken_status end ≡ Some status → IsStatusOfEnd end status
+  flushed : broken_status end ≡ None → (status ≡ 0) ⊎ (status ≡ 5) ⊎ (status ≡ 12) → IsStatusOfEnd end status
+
+-- The headline of a client. Over every rack: which bytes were taken, how the service ended for it, and that the status tells
+-- this. Where all is told, on a rack that held a history: what was answered, and that it is a session.
+pub record ClientHeadline (slots : ℕ) (setup : Setup) (began : ℕ) (start final : Option Trail) (before after : Option (List ℕ)) (written now_written : Option (List ℕ)) (faults now_faults sink_faults sink_now : ℕ) (status : ℕ) : Type 0 where
+  pub end : NbdEnd
+  pub taken : TakesClient (512 * block_count setup) before after written now_written faults now_faults sink_faults sink_now end
+  pub ended : IsStatusOfEnd end status
+  pub said : IsSome final → IsMountedFromEach slots setup began start (FollowsForClient slots setup start final before after written now_written faults now_faults sink_faults sink_now status end)
+
+-- the statuses of a client of a mounted array
+abbrev pub IsClientStatus : ℕ → Type 0
+IsClientStatus status = (status ≡ 0) ⊎ (status ≡ 3) ⊎ (status ≡ 4) ⊎ (status ≡ 5) ⊎ (status ≡ 7) ⊎ (status ≡ 10) ⊎ (status ≡ 12) ⊎ (status ≡ 14)
+
+-- Two disks are down: of two different ones the second has failed between these slots.
+pub record LosesTwo (old new : ℕ → Slot) : Type 0 where
+  pub two : Two
+  pub lost : IsSecondLost old new two

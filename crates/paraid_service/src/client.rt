@@ -1,0 +1,86 @@
+ghost use Rattle.std.specs.Prelude.{◌≡◌, ℕ, ◌*◌, None, IsSome};
+ghost use Rattle.paraid_base.specs.BlockAnswers.{Answers};
+ghost use Rattle.paraid_base.specs.Told.{HasRisen};
+ghost use Rattle.paraid_device.specs.declared.device.Device.{Device as DeviceType};
+ghost use Rattle.paraid_device.specs.Devices.{HasAnswered, array_of};
+ghost use Rattle.paraid_session.specs.Mount.{IsMountedFromEach};
+ghost use Rattle.paraid_serve.specs.Calls.{Grows, IsNotDouble};
+ghost use Rattle.paraid_service.specs.Clients.{ClientHeadline, IsClientStatus, LosesTwo};
+ghost use Rattle.paraid_service.specs.Ends.{EndsService, Flushes};
+
+use paraid_blocks::Blocks;
+use paraid_device::Device;
+use paraid_io::{Sink, Source};
+use paraid_nbd::{NbdEnd, serve_nbd};
+use paraid_serve::ending::halt_status;
+use paraid_serve::{Serves, status};
+use std::alloc::Global;
+
+/// The status of a client that kept not to the protocol.
+pub const PROTOCOL: u8 = 14;
+
+/// How the service of a client ended, and the array.
+pub struct Served<A> {
+    pub status: u8,
+    pub array: A,
+}
+
+// Keeps what was written, and gives the status.
+pub(crate) fn keep<A: Serves>(device: &mut Device<A>) -> u8
+    ensures flushes { (first : DeviceType A A.Serves) (events : Answers)
+        → HasAnswered A.Serves (array_of first) (array_of device.old) events
+        → Flushes A.Serves (array_of first) (array_of device.new) events result }
+{
+    match device.flush() {
+        Ok(_) => status::DONE,
+        Err(halt) => halt_status(halt),
+    }
+}
+
+// Ends the service: what was written is kept, unless the client was broken off.
+fn end_client<A: Serves>(device: &mut Device<A>, end: NbdEnd) -> u8
+    ensures ends { (first : DeviceType A A.Serves) (events : Answers)
+        → HasAnswered A.Serves (array_of first) (array_of device.old) events
+        → EndsService A.Serves (array_of first) (array_of device.new) events end result }
+{
+    match end {
+        NbdEnd::Done => keep(device),
+        NbdEnd::Aborted => keep(device),
+        NbdEnd::Closed => keep(device),
+        NbdEnd::Protocol { .. } => PROTOCOL,
+        NbdEnd::TooLong { .. } => status::TOO_LONG,
+        NbdEnd::Source => status::SOURCE,
+        NbdEnd::Sink => status::SINK,
+        NbdEnd::NoMemory => status::NO_MEMORY,
+    }
+}
+
+/// Serves one client with an array that was just mounted, by a mount that began at some moment.
+pub fn serve_client<S: Source, K: Sink, A: Serves>(
+    alloc: Global,
+    source: &mut S,
+    sink: &mut K,
+    array: A,
+) -> Served<A>
+    requires going { A.halted array ≡ None }
+    ensures headline { (began : ℕ) → IsMountedFromEach (A.slots array) (A.setup array) began
+        (A.told array) (A.stands array)
+        → ClientHeadline (A.slots array) (A.setup array) began (A.told array) (A.told result.array)
+        (S.left source.old) (S.left source.new) (K.written sink.old) (K.written sink.new)
+        (S.faults source.old) (S.faults source.new) (K.faults sink.old) (K.faults sink.new)
+        result.status }
+    ensures told { Grows (A.told array) (A.told result.array) }
+    ensures status { IsClientStatus result.status }
+    ensures present { result.status ≡ 0 → IsNotDouble (A.setup array) (A.slot result.array) }
+    ensures two { result.status ≡ 5 → LosesTwo (A.slot array) (A.slot result.array) }
+    ensures source { result.status ≡ 3 → HasRisen (S.faults source.old) (S.faults source.new) }
+    ensures sink { result.status ≡ 4 → HasRisen (K.faults sink.old) (K.faults sink.new) }
+{
+    let mut device = Device::new(array);
+    let end = serve_nbd(alloc, &mut device, source, sink);
+    let status = end_client(&mut device, end);
+    Served {
+        status,
+        array: device.close(),
+    }
+}

@@ -1,0 +1,98 @@
+//! A line about a volume, as a step of volumes.
+ghost use Rattle.std.specs.Prelude.{◌≡◌, ℕ, ◌<◌, List, IfOk, IsTrue, None, slice_index_or};
+ghost use Rattle.paraid_service.specs.LineSteps.{AnswersLine, created_text, deleted_text, flushed_text, read_text, written_text};
+ghost use Rattle.paraid_service.specs.VolumeLines.{create as CreateLine, delete as DeleteLine, flush as FlushLine, read as ReadLine, write as WriteLine};
+ghost use Rattle.paraid_volume.specs.Device.{DeviceHolds, SinceHistory};
+ghost use Rattle.paraid_volume.specs.Lives.{HasLived, VolLog};
+ghost use Rattle.paraid_volume.specs.NameValues.{letter_of};
+ghost use Rattle.paraid_volume.specs.Values.{VolumesStandFor, device_of, halted_of};
+
+use paraid_base::{Block, BlockNo, Halt};
+use paraid_blocks::Blocks;
+use paraid_volume::{Name, VolFault, Volumes};
+
+/// Removes the volume of this name, and says whether there was one.
+pub fn delete_named<B: Blocks>(volumes: &mut Volumes<B>, name: &Name) -> Result<bool, Halt>
+    ensures line { IfOk result (λ there. (from : SinceHistory B) (start : ℕ) (log : VolLog)
+        → (lived : HasLived (VolumesStandFor (DeviceHolds B.stands B.kept from) volumes.old) (B.block_count (device_of volumes.old)) start log)
+        → IsTrue (B.tells (device_of volumes.new))
+        → (word : List ℕ) → ((k : ℕ) → k < 16 → slice_index_or word k 0 ≡ letter_of name.now k)
+        → AnswersLine (VolumesStandFor (DeviceHolds B.stands B.kept from) volumes.old) (VolumesStandFor (DeviceHolds B.stands B.kept from) volumes.new)
+        (B.block_count (device_of volumes.old)) start log lived (DeleteLine word) (deleted_text word there)) }
+{
+    let Some(id) = volumes.find(name) else {
+        return Ok(false);
+    };
+    match volumes.delete(id) {
+        Ok(()) => Ok(true),
+        Err(VolFault::Halt(halt)) => Err(halt),
+        Err(_) => unreachable!(),
+    }
+}
+
+/// Reads a block of the volume of this name. Without such a volume it is refused.
+pub fn read_named<B: Blocks>(
+    volumes: &mut Volumes<B>,
+    name: &Name,
+    block: BlockNo,
+    into: &mut Block,
+) -> Result<(), VolFault>
+    ensures line { halted_of volumes.new ≡ None → (from : SinceHistory B) (start : ℕ) (log : VolLog)
+        → (lived : HasLived (VolumesStandFor (DeviceHolds B.stands B.kept from) volumes.old) (B.block_count (device_of volumes.old)) start log)
+        → IsTrue (B.tells (device_of volumes.new))
+        → (word : List ℕ) → ((k : ℕ) → k < 16 → slice_index_or word k 0 ≡ letter_of name.now k)
+        → AnswersLine (VolumesStandFor (DeviceHolds B.stands B.kept from) volumes.old) (VolumesStandFor (DeviceHolds B.stands B.kept from) volumes.new)
+        (B.block_count (device_of volumes.old)) start log lived (ReadLine word block) (read_text word block result into.new) }
+{
+    let Some(id) = volumes.find(name) else {
+        return Err(VolFault::NoVolume { id: 0 });
+    };
+    volumes.read(id, block, into)
+}
+
+/// Writes a block of the volume of this name. Without such a volume it is refused.
+pub fn write_named<B: Blocks>(
+    volumes: &mut Volumes<B>,
+    name: &Name,
+    block: BlockNo,
+    bytes: &Block,
+) -> Result<(), VolFault>
+    ensures line { halted_of volumes.new ≡ None → (from : SinceHistory B) (start : ℕ) (log : VolLog)
+        → (lived : HasLived (VolumesStandFor (DeviceHolds B.stands B.kept from) volumes.old) (B.block_count (device_of volumes.old)) start log)
+        → IsTrue (B.tells (device_of volumes.new))
+        → (word : List ℕ) → ((k : ℕ) → k < 16 → slice_index_or word k 0 ≡ letter_of name.now k)
+        → AnswersLine (VolumesStandFor (DeviceHolds B.stands B.kept from) volumes.old) (VolumesStandFor (DeviceHolds B.stands B.kept from) volumes.new)
+        (B.block_count (device_of volumes.old)) start log lived (WriteLine word block bytes.now) (written_text result) }
+{
+    let Some(id) = volumes.find(name) else {
+        return Err(VolFault::NoVolume { id: 0 });
+    };
+    volumes.write(id, block, bytes)
+}
+
+/// Makes a volume of this name.
+pub fn create_named<B: Blocks>(
+    volumes: &mut Volumes<B>,
+    name: &Name,
+    extents: u32,
+) -> Result<u8, VolFault>
+    ensures line { halted_of volumes.new ≡ None → (from : SinceHistory B) (start : ℕ) (log : VolLog)
+        → (lived : HasLived (VolumesStandFor (DeviceHolds B.stands B.kept from) volumes.old) (B.block_count (device_of volumes.old)) start log)
+        → IsTrue (B.tells (device_of volumes.new))
+        → (word : List ℕ) → ((k : ℕ) → k < 16 → slice_index_or word k 0 ≡ letter_of name.now k)
+        → AnswersLine (VolumesStandFor (DeviceHolds B.stands B.kept from) volumes.old) (VolumesStandFor (DeviceHolds B.stands B.kept from) volumes.new)
+        (B.block_count (device_of volumes.old)) start log lived (CreateLine word extents) (created_text word result) }
+{
+    volumes.create(name, extents)
+}
+
+/// Keeps all that was written.
+pub fn flush_volumes<B: Blocks>(volumes: &mut Volumes<B>) -> Result<u64, VolFault>
+    ensures line { halted_of volumes.new ≡ None → (from : SinceHistory B) (start : ℕ) (log : VolLog)
+        → (lived : HasLived (VolumesStandFor (DeviceHolds B.stands B.kept from) volumes.old) (B.block_count (device_of volumes.old)) start log)
+        → IsTrue (B.tells (device_of volumes.new))
+        → AnswersLine (VolumesStandFor (DeviceHolds B.stands B.kept from) volumes.old) (VolumesStandFor (DeviceHolds B.stands B.kept from) volumes.new)
+        (B.block_count (device_of volumes.old)) start log lived FlushLine (flushed_text result) }
+{
+    volumes.flush()
+}

@@ -1,0 +1,237 @@
+-- The whole text of a run with spares.
+use Rattle.std.proofs.Common.{◌≡◌, ◌≢◌, ℕ, ◌^◌, ◌<◌, ◌≤◌, ◌⊎◌, List, [], ◌∷◌, ◌++◌, length, take, drop, codes, Option, Some, None, IsSome, Result, Ok, Err, refl, sym, ap, ◌∙◌, inl, inr, arith, subst, take-append-drop}
+use Rattle.std.proofs.lemmas.List.{append_assoc, append-nil, take_all}
+use Rattle.paraid_base.specs.declared.event.Answer.{Answer}
+use Rattle.paraid_base.specs.declared.event.Answer.TheVariants.{Bad as IsBad, Flushed, Halted}
+use Rattle.paraid_base.specs.declared.event.Event.{Event}
+use Rattle.paraid_base.specs.declared.event.Event.TheVariants.{Flush}
+use Rattle.paraid_rack.specs.declared.call.Call.{Call}
+use Rattle.paraid_base.specs.declared.fault.Halt.{Halt}
+use Rattle.paraid_base.specs.declared.fault.Halt.TheVariants.{Two as HaltTwo, Worn}
+use Rattle.paraid_base.specs.Told.{AtEnd, GrowsByBytes}
+use Rattle.paraid_base.proofs.ToldLemmas.{Gives-none, GrowsByBytes-then}
+use Rattle.paraid_image.specs.Rest.{AreSynced}
+use Rattle.paraid_rack.specs.Trail.{Trail, now}
+use Rattle.paraid_record.specs.declared.meta.Setup.{Setup}
+use Rattle.paraid_serve.specs.declared.stop.Stop.{Stop}
+use Rattle.paraid_serve.specs.declared.stop.Stop.TheVariants.{Source, TooLong, Sink, Halt as Halts}
+use Rattle.paraid_serve.specs.Ending.{EndsWithLine, end_line, halt_line, mount_line, status_of_halt}
+use Rattle.paraid_serve.specs.Output.{IsWholeStatus, begins_with}
+use Rattle.paraid_serve.specs.Output.IsLeftByStretch.{rests as left_rests, two_down as left_two}
+use Rattle.paraid_serve.specs.Stretch.{Turn, TurnsLead, turn_with}
+use Rattle.paraid_serve.proofs.ExitLemmas.{stretch_leaves}
+use Rattle.paraid_serve.proofs.StretchLemmas.{stretch_none}
+use Rattle.paraid_session.specs.Mount.{IsMountedFromEach}
+use Rattle.paraid_session.specs.Turn.{IsMark, IsTurn, Point}
+use Rattle.paraid_session.specs.Turn.IsTurn.{again as turn_again, answered as turn_answered, bad as turn_bad, two as turn_two, worn as turn_worn}
+use Rattle.paraid_session.proofs.MountLemmas.{IsMountedFromEach-follows}
+use Rattle.paraid_spare.specs.Pools.{left_of, spins_of}
+use Rattle.paraid_spare.specs.declared.pool.Pool.{Pool}
+use Rattle.paraid_sparing.specs.Output.{FollowsSpared, SparedHeadline, SparedRun, SparedText, WritesSpared, stock_line}
+use Rattle.paraid_sparing.specs.Texts.{spares_line}
+use Rattle.paraid_sparing.specs.Form.{HasSparedForm, SparedForm}
+use Rattle.paraid_sparing.specs.Form.HasSparedForm.{answers as form_answers, last_line as form_last_line, whole as form_whole}
+use Rattle.paraid_sparing.specs.Form.SparedForm.{done as form_done, halted as form_halted, source as form_source, too_long as form_too_long}
+use Rattle.paraid_sparing.specs.Form.TellsLines.{none as no_lines}
+use Rattle.paraid_sparing.specs.Output.SparedText.{done, halted, source, too_long}
+use Rattle.paraid_sparing.specs.Output.WritesSpared.{answers, last_line, whole}
+use Rattle.paraid_sparing.specs.Serving.{Keeps}
+use Rattle.paraid_sparing.specs.Session.{EndsSpared, ServesSpared}
+use Rattle.paraid_sparing.specs.Sparing.{Stock}
+use Rattle.paraid_sparing.specs.Sparing.AnswersTrace.{none as no_line}
+use Rattle.paraid_sparing.proofs.RecordedLemmas.{trace_counts}
+use Rattle.paraid_sparing.proofs.TextLemmas.{line_alike}
+
+-- what was written of the last lines
+wrote_last : (slots : ℕ) (setup : Setup) (wait : ℕ) (start now : Option Trail) (p : Point) (k : Stock) (bytes text line : List ℕ) (before after : Option (List ℕ)) (code status : ℕ) → SparedText slots setup wait start now p k bytes code (text ++ line)
+    → (e : EndsWithLine before after line code status) → WritesSpared slots setup wait start now p k bytes status (text ++ take e.count line)
+wrote_last slots setup wait start now p k bytes text line before after code status out e = elim e.whole [
+  | inl four ↦ last_line four code (text ++ line) (drop e.count line) out
+      (ap (λ x. text ++ x) (sym (take-append-drop e.count line)) ∙ sym (append_assoc text (take e.count line) (drop e.count line)))
+  | inr all ↦ whole (subst (λ (n : ℕ). SparedText slots setup wait start now p k bytes n (text ++ take e.count line)) (sym all.1)
+      (subst (λ (x : List ℕ). SparedText slots setup wait start now p k bytes code (text ++ x)) (sym (taken e.count line all.0)) out))
+]
+  where
+    taken : (n : ℕ) (line : List ℕ) → n ≡ length line → take n line ≡ line
+    taken n line is = take_all n line (omega (arith, is))
+
+-- and its form
+form_last : (stock : ℕ) (bytes text line : List ℕ) (before after : Option (List ℕ)) (code status : ℕ) → SparedForm stock bytes code (text ++ line) → (e : EndsWithLine before after line code status) → HasSparedForm stock bytes status (text ++ take e.count line)
+form_last stock bytes text line before after code status out e = elim e.whole [
+  | inl four ↦ form_last_line four code (text ++ line) (drop e.count line) out
+      (ap (λ x. text ++ x) (sym (take-append-drop e.count line)) ∙ sym (append_assoc text (take e.count line) (drop e.count line)))
+  | inr all ↦ form_whole (subst (λ (n : ℕ). SparedForm stock bytes n (text ++ take e.count line)) (sym all.1)
+      (subst (λ (x : List ℕ). SparedForm stock bytes code (text ++ x)) (sym (taken e.count line all.0)) out))
+]
+  where
+    taken : (n : ℕ) (line : List ℕ) → n ≡ length line → take n line ≡ line
+    taken n line is = take_all n line (omega (arith, is))
+
+the_code : (status code k n other : ℕ) → (status ≡ 4) ⊎ ((n ≡ k) × (status ≡ code)) → status ≡ other → other ≢ 4 → code ≡ other
+the_code status code k n other e z apart = elim e [ inl four ↦ absurd (apart (sym z ∙ four)) | inr all ↦ sym all.1 ∙ z ]
+
+partly : (status : ℕ) → status ≢ 0 → status ≢ 5 → status ≢ 12 → IsWholeStatus status → ⊥
+partly status a b c (inl e) = a e
+partly status a b c (inr (inl e)) = b e
+partly status a b c (inr (inr e)) = c e
+
+not_four : (status : ℕ) → status ≡ 4 → IsWholeStatus status → ⊥
+not_four status four (inl e) = omega (arith, four, e)
+not_four status four (inr (inl e)) = omega (arith, four, e)
+not_four status four (inr (inr e)) = omega (arith, four, e)
+
+whole_code : (status code k n : ℕ) → (status ≡ 4) ⊎ ((n ≡ k) × (status ≡ code)) → IsWholeStatus status → IsWholeStatus code
+whole_code status code k n (inl four) is = absurd (not_four status four is)
+whole_code status code k n (inr all) is = subst IsWholeStatus all.1 is
+
+-- the line of a pool is that of the stock that it keeps
+pool_line : (pool : Pool) (wait : ℕ) (k : Stock) (setup : Setup) (disks : ℕ) → Keeps pool wait k → disks ≡ setup.geometry.disks → spares_line (left_of pool) (spins_of pool) disks ≡ stock_line k setup
+pool_line pool wait k setup disks keeps same = line_alike (left_of pool) k.left (spins_of pool) k.spins disks setup.geometry.disks keeps.left same (let high = setup.geometry.disks_high in omega (arith, same, high)) keeps.spins
+
+module _ (slots : ℕ) (setup : Setup) (wait : ℕ) (k : Stock) (stood : Point → Type 0) (start now : Option Trail) (left_before left first second third last_text : Option (List ℕ)) (pool : Pool) (writes gear : ℕ) (counts : (p : Point) → stood p → writes ≡ length p.history) (in_gear : (p : Point) → stood p → gear ≡ p.state.gear) where
+  head_is : (p : Point) → stood p → mount_line writes gear ≡ begins_with p
+  head_is p s = ap (λ (w : ℕ). mount_line w gear) (counts p s) ∙ ap (λ (g : ℕ). mount_line (length p.history) g) (in_gear p s)
+
+  -- A session after the first line, and the last lines after it.
+  finish : (result : Result ℕ Stop) (line : List ℕ) (code status : ℕ)
+      → GrowsByBytes first second (mount_line writes gear) → (s : ServesSpared slots setup wait k stood start now left_before left second third pool result) → EndsWithLine third last_text line code status
+      → (IsSome now → (p : Point) → stood p → SparedText slots setup wait start now p k s.bytes code ((begins_with p ++ s.text) ++ line))
+      → (code ≡ 10 → length s.bytes ≡ 2 ^ 40) → (IsWholeStatus code → (length s.bytes < 2 ^ 40) × AtEnd left)
+      → SparedForm k.left s.bytes code ((mount_line writes gear ++ s.text) ++ line)
+      → SparedRun slots setup wait k stood start now left_before left first last_text status
+  finish result line code status head s end out full all form = record {
+    bytes = s.bytes;
+    text = (mount_line writes gear ++ s.text) ++ take end.count line;
+    given = s.given;
+    grows = GrowsByBytes-then first third last_text (mount_line writes gear ++ s.text) (take end.count line) (GrowsByBytes-then first second third (mount_line writes gear) s.text head s.grows) end.grows;
+    full = λ ten. full (the_code status code (length line) end.count 10 end.whole ten (λ e. absurd (omega (arith, e))));
+    all = λ is. all (whole_code status code (length line) end.count end.whole is);
+    form = form_last k.left s.bytes (mount_line writes gear ++ s.text) line third last_text code status form end;
+    wrote = λ t p at_p. subst (λ (x : List ℕ). WritesSpared slots setup wait start now p k s.bytes status ((x ++ s.text) ++ take end.count line)) (sym (head_is p at_p))
+        (wrote_last slots setup wait start now p k s.bytes (begins_with p ++ s.text) line third last_text code status (out t p at_p) end);
+  }
+
+  module _ (status : ℕ) (head : GrowsByBytes first second (mount_line writes gear)) (disks : ℕ) (same : disks ≡ setup.geometry.disks) where
+    pub done_run : (count : ℕ) → ServesSpared slots setup wait k stood start now left_before left second third pool (Ok count) → EndsWithLine third last_text (spares_line (left_of pool) (spins_of pool) disks ++ end_line count) 0 status
+        → SparedRun slots setup wait k stood start now left_before left first last_text status
+    done_run count s end = finish (Ok count) (spares_line (left_of pool) (spins_of pool) disks ++ end_line count) 0 status head s end
+        (λ t p at_p. let a = s.answered t p at_p in
+        subst (λ (x : List ℕ). SparedText slots setup wait start now p k s.bytes 0 ((begins_with p ++ s.text) ++ (x ++ end_line count))) (sym (pool_line pool wait a.0.lines.stock setup disks a.1 same)) (done count s.text a.0))
+        (λ e. absurd (omega (arith, e))) (λ is. s.full) (form_done writes gear count (left_of pool) disks (spins_of pool) s.text s.form)
+
+    pub halted_run : (halt : Halt) → ServesSpared slots setup wait k stood start now left_before left second third pool (Err (Halts halt)) → EndsWithLine third last_text (spares_line (left_of pool) (spins_of pool) disks ++ halt_line halt) (status_of_halt halt) status
+        → SparedRun slots setup wait k stood start now left_before left first last_text status
+    halted_run halt s end = finish (Err (Halts halt)) (spares_line (left_of pool) (spins_of pool) disks ++ halt_line halt) (status_of_halt halt) status head s end
+        (λ t p at_p. let a = s.answered t p at_p in
+        subst (λ (x : List ℕ). SparedText slots setup wait start now p k s.bytes (status_of_halt halt) ((begins_with p ++ s.text) ++ (x ++ halt_line halt))) (sym (pool_line pool wait a.0.lines.stock setup disks a.1 same)) (halted halt s.text a.0))
+        (λ e. absurd (not_ten halt e)) (λ is. s.full) (form_halted writes gear halt (left_of pool) disks (spins_of pool) s.text s.form)
+      where
+        not_ten : (h : Halt) → status_of_halt h ≢ 10
+        not_ten (HaltTwo two) e = omega (arith, e)
+        not_ten (Worn count) e = omega (arith, e)
+
+  module _ (status : ℕ) (head : GrowsByBytes first second (mount_line writes gear)) where
+    pub source_run : ServesSpared slots setup wait k stood start now left_before left second third pool (Err Source) → EndsWithLine third last_text (codes "source\n") 3 status
+        → SparedRun slots setup wait k stood start now left_before left first last_text status
+    source_run s end = finish (Err Source) (codes "source\n") 3 status head s end (λ t p at_p. source s.text (s.answered t p at_p))
+        (λ e. absurd (omega (arith, e))) (λ is. absurd (partly 3 (λ e. omega (arith, e)) (λ e. omega (arith, e)) (λ e. omega (arith, e)) is)) (form_source writes gear (left_of pool) s.text s.form)
+
+    pub too_long_run : ServesSpared slots setup wait k stood start now left_before left second third pool (Err TooLong) → EndsWithLine third last_text (codes "toolong\n") 10 status
+        → SparedRun slots setup wait k stood start now left_before left first last_text status
+    too_long_run s end = finish (Err TooLong) (codes "toolong\n") 10 status head s end (λ t p at_p. too_long s.full s.text (s.answered t p at_p))
+        (λ e. s.full) (λ is. absurd (partly 10 (λ e. omega (arith, e)) (λ e. omega (arith, e)) (λ e. omega (arith, e)) is)) (form_too_long writes gear (left_of pool) s.text s.form)
+
+  -- the sink failed within an answer
+  pub sink_run : GrowsByBytes first second (mount_line writes gear) → ServesSpared slots setup wait k stood start now left_before left second third pool (Err Sink) → SparedRun slots setup wait k stood start now left_before left first third 4
+  sink_run head s = record {
+    bytes = s.bytes;
+    text = mount_line writes gear ++ s.text;
+    given = s.given;
+    grows = GrowsByBytes-then first second third (mount_line writes gear) s.text head s.grows;
+    full = λ e. absurd (omega (arith, e));
+    all = λ is. absurd (partly 4 (λ e. omega (arith, e)) (λ e. omega (arith, e)) (λ e. omega (arith, e)) is);
+    form = form_answers refl writes gear (left_of pool) s.form.0 s.form.1 (s.text ++ s.form.2) s.form.2 s.form.3 s.form.4 (sym (append_assoc (mount_line writes gear) s.text s.form.2));
+    wrote = λ t p at_p.
+        let a = s.answered t p at_p in
+        answers refl a.0 a.1 (s.text ++ a.2) a.2 a.3 a.4 (sym (append_assoc (begins_with p) s.text a.2) ∙ ap (λ x. (x ++ s.text) ++ a.2) (sym (head_is p at_p)));
+  }
+
+-- the sink failed at the first line
+pub no_mount_run : (slots : ℕ) (setup : Setup) (wait : ℕ) (k : Stock) (stood : Point → Type 0) (told : Option Trail) (left first second : Option (List ℕ)) (writes gear : ℕ) → ((p : Point) → stood p → writes ≡ length p.history) → ((p : Point) → stood p → gear ≡ p.state.gear)
+    → (n : ℕ) × (n ≤ length (mount_line writes gear)) × GrowsByBytes first second (take n (mount_line writes gear)) → SparedRun slots setup wait k stood told told left left first second 4
+no_mount_run slots setup wait k stood told left first second writes gear counts in_gear part = record {
+  bytes = [];
+  text = take part.0 (mount_line writes gear);
+  given = Gives-none left;
+  grows = part.2;
+  full = λ e. absurd (omega (arith, e));
+  all = λ is. absurd (partly 4 (λ e. omega (arith, e)) (λ e. omega (arith, e)) (λ e. omega (arith, e)) is);
+  form = form_answers refl writes gear k.left [] [] [] (drop part.0 (mount_line writes gear)) refl no_lines (append-nil (mount_line writes gear) ∙ sym (take-append-drop part.0 (mount_line writes gear)));
+  wrote = λ t p at_p. answers refl [] [] [] (drop part.0 (mount_line writes gear)) refl (record { put_in = []; all = stretch_none slots setup told p t; stock = k; answers = no_line; counts = λ one d low fresh. trace_counts slots setup wait p k [] [] [] p k no_line one d low fresh })
+      (append-nil (begins_with p) ∙ sym (ap (λ (w : ℕ). mount_line w gear) (counts p at_p) ∙ ap (λ (g : ℕ). mount_line (length p.history) g) (in_gear p at_p)) ∙ sym (take-append-drop part.0 (mount_line writes gear)));
+}
+
+-- ---- after a run that ends well nothing is loose
+
+-- the last turn of a session
+last_turn : (slots : ℕ) (setup : Setup) (p q : Point) (ts : List Turn) (t : Turn) → TurnsLead slots setup p (ts ++ t ∷ []) q → (mid : Point) × IsTurn slots setup mid t.event t.answer t.calls q
+last_turn slots setup p q [] t went = (p, subst (λ (x : Point). IsTurn slots setup p t.event t.answer t.calls x) (sym went.2) went.1)
+last_turn slots setup p q (x ∷ ts) t went = last_turn slots setup went.0 q ts t went.2
+
+-- after a flush that is answered there is no halt
+flushed_going : (slots : ℕ) (setup : Setup) (p q : Point) (e : Event) (a : Answer) (cs : List Call) (writes : ℕ) → IsTurn slots setup p e a cs q → a ≡ Flushed writes → q.halt ≡ None
+flushed_going slots setup p q e a cs writes (turn_answered going apart it) is = it.going
+flushed_going slots setup p q e a cs writes (turn_two pair going apart by it) is = absurd (let z : Halted (HaltTwo pair) ≡ Flushed writes = sym by ∙ is in cc)
+flushed_going slots setup p q e a cs writes (turn_worn count going apart by it none same) is = absurd (let z : Halted (Worn count) ≡ Flushed writes = sym by ∙ is in cc)
+flushed_going slots setup p q e a cs writes (turn_again halt was apart by none same) is = absurd (let z : Halted halt ≡ Flushed writes = sym by ∙ is in cc)
+flushed_going slots setup p q e a cs writes (turn_bad was by none same) is = absurd (let z : IsBad ≡ Flushed writes = sym by ∙ is in cc)
+
+same_trail : (o : Option Trail) (a b : Trail) → o ≡ Some a → o ≡ Some b → a ≡ b
+same_trail o a b e f = some_same a b (sym e ∙ f)
+  where
+    some_same : (a b : Trail) → Some a ≡ Some b → a ≡ b
+    some_same a b e = cc
+
+none_some : (o : Option Halt) (h : Halt) → o ≡ None → o ≡ Some h → ⊥
+none_some o h e f = cc
+
+module _ (slots : ℕ) (setup : Setup) (wait : ℕ) (k : Stock) (start final : Option Trail) (p : Point) (mark : IsMark slots setup p) (here : (t : Trail) → start ≡ Some t → p.disks ≡ now t) where
+  ends_synced : (events : List Event) (text : List ℕ) (writes : ℕ) (e : EndsSpared slots setup wait start final p k events text (Flushed writes)) → AreSynced (now e.all.to)
+  ends_synced events text writes e =
+      let last = last_turn slots setup p e.all.end e.lines.all.turns (turn_with Flush (Flushed writes) e.calls) (subst (λ (ts : List Turn). TurnsLead slots setup p ts e.all.end) e.turns e.all.went) in
+      let going = flushed_going slots setup last.0 e.all.end Flush (Flushed writes) e.calls writes last.1 refl in
+      elim (stretch_leaves slots setup start final p (e.lines.put_in ++ Flush ∷ []) e.all mark (here e.all.from e.all.was)) [
+        | left_two pair came ↦ absurd (none_some e.all.end.halt (HaltTwo pair) going came)
+        | left_rests r ↦ r.synced
+      ]
+
+  text_synced : (bytes : List ℕ) (code : ℕ) (text : List ℕ) → SparedText slots setup wait start final p k bytes code text → code ≡ 0 → (t : Trail) → final ≡ Some t → AreSynced (now t)
+  text_synced bytes code text (done writes told e) zero t tells = subst (λ (u : Trail). AreSynced (now u)) (same_trail final e.all.to t e.all.is tells) (ends_synced _ told writes e)
+  text_synced bytes code text (halted (HaltTwo pair) told e) zero t tells = absurd (omega (arith, zero))
+  text_synced bytes code text (halted (Worn count) told e) zero t tells = absurd (omega (arith, zero))
+  text_synced bytes code text (source told c) zero t tells = absurd (omega (arith, zero))
+  text_synced bytes code text (too_long ten told c) zero t tells = absurd (omega (arith, zero))
+
+  output_synced : (bytes : List ℕ) (status : ℕ) (text : List ℕ) → WritesSpared slots setup wait start final p k bytes status text → status ≡ 0 → (t : Trail) → final ≡ Some t → AreSynced (now t)
+  output_synced bytes status text (whole out) zero = text_synced bytes status text out zero
+  output_synced bytes status text (last_line four code full rest out front) zero = absurd (omega (arith, four, zero))
+  output_synced bytes status text (answers four lines more told rest lines_are c front) zero = absurd (omega (arith, four, zero))
+
+pub headline : (slots : ℕ) (setup : Setup) (wait : ℕ) (k : Stock) (began : ℕ) (stood : Point → Type 0) (start final : Option Trail) (left_before left written_before written : Option (List ℕ)) (status : ℕ)
+    → IsMountedFromEach slots setup began start stood → SparedRun slots setup wait k stood start final left_before left written_before written status
+    → SparedHeadline slots setup wait k began start final left_before left written_before written status
+headline slots setup wait k began stood start final left_before left written_before written status mounted r = record {
+  bytes = r.bytes;
+  text = r.text;
+  given = r.given;
+  grows = r.grows;
+  full = r.full;
+  all = r.all;
+  form = r.form;
+  said = λ t. IsMountedFromEach-follows slots setup began start stood (FollowsSpared slots setup wait k start final r.bytes status r.text)
+      (λ p mark here at_p. record {
+        wrote = r.wrote t p at_p;
+        left = λ events c. stretch_leaves slots setup start final p events c mark (here c.from c.was);
+        synced = output_synced slots setup wait k start final p mark here r.bytes status r.text (r.wrote t p at_p);
+      }) mounted;
+}

@@ -1,0 +1,30 @@
+use Rattle.std.proofs.Common.{◌∙◌, sym}
+use Rattle.paraid_serve.proofs.GrowsLemmas.{grows_then}
+use Rattle.paraid_sparing.specs.Sparing.{used}
+use Rattle.paraid_sparing.proofs.ServedLemmas.{served_alone, served_spared, told_alone, told_spared}
+use Rattle.paraid_sparing.proofs.line.answer_line.Goals as goal
+
+pub returns-in-Some-clause-serves : goal.returns-in-Some-clause-serves
+returns-in-Some-clause-serves g c p wait k stands keeps =
+    let put = c.put_in.ensures in
+    let then = c.answer_alone.ensures in
+    served_spared _ _ wait p k _ _ _ _ _ _ then.text _ _ _ c.in-Some.disk _ _ _ _ _ put.slots put.setup keeps.left put.line
+    (sym (c.due.ensures.due p wait k c.args.pairs.now stands keeps) ∙ c.in-Some.is) (put.turn p stands) then.told then.turn (λ q at. then.keeps q wait (used k) at (put.keeps wait k keeps))
+
+pub returns-in-Some-clause-told : goal.returns-in-Some-clause-told
+returns-in-Some-clause-told g c = grows_then _ _ _ c.put_in.ensures.told c.answer_alone.ensures.told
+
+pub returns-in-Some-clause-since : goal.returns-in-Some-clause-since
+returns-in-Some-clause-since g c start s = c.answer_alone.ensures.since start (c.put_in.ensures.since start s)
+
+pub returns-in-None-clause-serves : goal.returns-in-None-clause-serves
+returns-in-None-clause-serves g c p wait k stands keeps =
+    let then = c.answer_alone-in-None.ensures in
+    served_alone _ _ wait p k _ _ _ _ _ _ then.text _ _ c.clear.ensures.empty
+    (sym (c.due.ensures.due p wait k c.args.pairs.now stands keeps) ∙ c.in-None.is) (then.turn p stands) (λ q at. then.keeps q wait k at keeps)
+
+pub returns-in-Some-clause-form : goal.returns-in-Some-clause-form
+returns-in-Some-clause-form g c = told_spared _ _ _ _ c.in-Some.disk _ _ _ (c.in-Some.ensures.tick c.args.pairs.now) c.in-Some.ensures.left c.put_in.ensures.kind c.answer_alone.ensures.kind c.put_in.ensures.line c.answer_alone.ensures.text (c.answer_alone.ensures.left ∙ c.put_in.ensures.left)
+
+pub returns-in-None-clause-form : goal.returns-in-None-clause-form
+returns-in-None-clause-form g c = told_alone _ _ _ _ _ _ c.answer_alone-in-None.ensures.kind c.clear.ensures.empty c.answer_alone-in-None.ensures.text c.answer_alone-in-None.ensures.left

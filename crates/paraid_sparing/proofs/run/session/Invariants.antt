@@ -1,0 +1,22 @@
+use Rattle.std.proofs.Common.{◌≡◌, ◌≤◌, ◌+◌, ◌-◌, ◌^◌, length}
+use Rattle.paraid_serve.specs.Calls.{Grows}
+use Rattle.paraid_serve.specs.Lost.{HasServedSince}
+use Rattle.paraid_spare.specs.Pools.{left_of, wait_of}
+use Rattle.paraid_sparing.specs.Session.{fresh_stock}
+use Rattle.paraid_sparing.proofs.Sofar.{Sofar}
+use Rattle.paraid_sparing.proofs.run.session.Given as goal
+
+abbrev pub invariant-lines : goal.invariant-lines
+invariant-lines g l = record {
+  sofar : Sofar (g.A.Serves.slots l.initial.array) (g.A.Serves.setup l.initial.array) (wait_of l.initial.pool) (fresh_stock (left_of l.initial.pool)) (g.A.Serves.stands l.initial.array) (g.S.Source.left l.initial.source) (g.S.Source.left l.source) (g.K.Sink.written l.initial.sink) (g.K.Sink.written l.sink) (g.A.Serves.told l.initial.array) (g.A.Serves.told l.array) (g.A.Serves.stands l.array) l.pool l.reader;
+  told : Grows (g.A.Serves.told l.initial.array) (g.A.Serves.told l.array);
+  slots : g.A.Serves.slots l.array ≡ g.A.Serves.slots l.initial.array;
+  setup : g.A.Serves.setup l.array ≡ g.A.Serves.setup l.initial.array;
+  halt : l.halt ≡ g.A.Serves.halted l.array;
+  since : HasServedSince (g.A.Serves.slot l.initial.array) (g.A.Serves.slot l.array) (g.A.Serves.halted l.array);
+  source : g.S.Source.faults l.initial.source ≤ g.S.Source.faults l.source;
+  sink : g.K.Sink.faults l.initial.sink ≤ g.K.Sink.faults l.sink;
+}
+
+abbrev pub decreases-lines : goal.decreases-lines
+decreases-lines g l = (2 ^ 40 - l.reader.taken) + length l.reader.rest

@@ -1,0 +1,48 @@
+use Rattle.paraid_base.proofs.ToldLemmas.{GrowsByBytes-then}
+use Rattle.paraid_spare.specs.Pools.{left_of, spins_of}
+use Rattle.paraid_sparing.specs.Texts.{spares_line}
+use Rattle.paraid_sparing.proofs.TextLemmas.{names_two_after, tells_wear_after}
+use Rattle.paraid_sparing.proofs.TopLemmas.{done_run, halted_run, no_mount_run, sink_run, source_run, too_long_run}
+use Rattle.paraid_sparing.proofs.top.serve.Goals as goal
+
+pub returns-in_default-clause-run : goal.returns-in_default-clause-run
+returns-in_default-clause-run g c = no_mount_run _ _ _ _ _ _ _ _ _ c.writes.result c.gear.result (c.writes.ensures.point c.requires.going) c.gear.ensures.point (rw (c.as_slice.ensures.value, c.mount_text.ensures) at c.in_default.ensures.part)
+
+pub returns-in-Ok-session-clause-run : goal.returns-in-Ok-session-clause-run
+returns-in-Ok-session-clause-run g c = done_run _ _ _ _ _ _ _ _ _ _ _ _ _ c.session.new.pool c.writes.result c.gear.result (c.writes.ensures.point c.requires.going) c.gear.ensures.point c.tell_end.result
+    (rw (c.as_slice.ensures.value, c.mount_text.ensures) at c.in-Ok.ensures.grows) c.disks-disks.result c.disks-disks.ensures c.in-Ok-session.writes
+    (rw (c.new-pool.ensures.left, c.new-pool.ensures.wait) at c.in-Ok-session.ensures.session) (rw (c.as_slice-in-Ok-session.ensures.value, c.end_text.ensures) at c.tell_end.ensures.ends)
+
+pub returns-in-Err-Source-clause-run : goal.returns-in-Err-Source-clause-run
+returns-in-Err-Source-clause-run g c = source_run _ _ _ _ _ _ _ _ _ _ _ _ _ c.session.new.pool c.writes.result c.gear.result (c.writes.ensures.point c.requires.going) c.gear.ensures.point c.last.result
+    (rw (c.as_slice.ensures.value, c.mount_text.ensures) at c.in-Ok.ensures.grows)
+    (rw (c.new-pool.ensures.left, c.new-pool.ensures.wait, c.in-Err-Source.field-0-is) at c.in-Err-Source.ensures.session) c.last.ensures.ends
+
+pub returns-in-Err-TooLong-clause-run : goal.returns-in-Err-TooLong-clause-run
+returns-in-Err-TooLong-clause-run g c = too_long_run _ _ _ _ _ _ _ _ _ _ _ _ _ c.session.new.pool c.writes.result c.gear.result (c.writes.ensures.point c.requires.going) c.gear.ensures.point c.last-in-Err-TooLong.result
+    (rw (c.as_slice.ensures.value, c.mount_text.ensures) at c.in-Ok.ensures.grows)
+    (rw (c.new-pool.ensures.left, c.new-pool.ensures.wait, c.in-Err-TooLong.field-0-is) at c.in-Err-TooLong.ensures.session) c.last-in-Err-TooLong.ensures.ends
+
+pub returns-in-Err-Sink-clause-run : goal.returns-in-Err-Sink-clause-run
+returns-in-Err-Sink-clause-run g c = sink_run _ _ _ _ _ _ _ _ _ _ _ _ (g.K.Sink.written c.args.sink.now) c.session.new.pool c.writes.result c.gear.result (c.writes.ensures.point c.requires.going) c.gear.ensures.point
+    (rw (c.as_slice.ensures.value, c.mount_text.ensures) at c.in-Ok.ensures.grows)
+    (rw (c.new-pool.ensures.left, c.new-pool.ensures.wait, c.in-Err-Sink.field-0-is) at c.in-Err-Sink.ensures.session)
+
+pub returns-in-Err-Halt-clause-run : goal.returns-in-Err-Halt-clause-run
+returns-in-Err-Halt-clause-run g c = halted_run _ _ _ _ _ _ _ _ _ _ _ _ _ c.session.new.pool c.writes.result c.gear.result (c.writes.ensures.point c.requires.going) c.gear.ensures.point c.tell_end-in-Err-Halt.result
+    (rw (c.as_slice.ensures.value, c.mount_text.ensures) at c.in-Ok.ensures.grows) c.disks-disks.result c.disks-disks.ensures c.in-Err-Halt.halt
+    (rw (c.new-pool.ensures.left, c.new-pool.ensures.wait, c.in-Err-Halt.field-0-is) at c.in-Err-Halt.ensures.session) (rw (c.as_slice-in-Err-Halt.ensures.value, c.reply.ensures.value, c.halt_status.ensures) at c.tell_end-in-Err-Halt.ensures.ends)
+
+pub returns-in-Err-Halt-clause-two : goal.returns-in-Err-Halt-clause-two
+returns-in-Err-Halt-clause-two g c five =
+    let session = rw c.in-Err-Halt.field-0-is at c.in-Err-Halt.ensures.session in
+    names_two_after _ _ _ _ _ _ (spares_line (left_of c.session.new.pool) (spins_of c.session.new.pool) c.disks-disks.result) c.in-Err-Halt.halt _ (rw c.in-Err-Halt.field-0-is at c.in-Err-Halt.ensures.failed)
+    (GrowsByBytes-then _ _ _ _ _ (rw (c.as_slice.ensures.value, c.mount_text.ensures) at c.in-Ok.ensures.grows) session.grows)
+    (rw (c.as_slice-in-Err-Halt.ensures.value, c.reply.ensures.value, c.halt_status.ensures) at c.tell_end-in-Err-Halt.ensures.ends) five
+
+pub returns-in-Err-Halt-clause-worn : goal.returns-in-Err-Halt-clause-worn
+returns-in-Err-Halt-clause-worn g c twelve =
+    let session = rw c.in-Err-Halt.field-0-is at c.in-Err-Halt.ensures.session in
+    tells_wear_after _ _ _ _ (spares_line (left_of c.session.new.pool) (spins_of c.session.new.pool) c.disks-disks.result) c.in-Err-Halt.halt _ (rw c.in-Err-Halt.field-0-is at c.in-Err-Halt.ensures.worn)
+    (GrowsByBytes-then _ _ _ _ _ (rw (c.as_slice.ensures.value, c.mount_text.ensures) at c.in-Ok.ensures.grows) session.grows)
+    (rw (c.as_slice-in-Err-Halt.ensures.value, c.reply.ensures.value, c.halt_status.ensures) at c.tell_end-in-Err-Halt.ensures.ends) twelve

@@ -1,0 +1,7 @@
+pub mod Sparing
+pub mod Serving
+pub mod Texts
+pub mod Form
+pub mod Session
+pub mod Output
+pub mod Spinning

@@ -1,0 +1,133 @@
+//! One line of a trace: the spare that is due before it, and its own event.
+ghost use Rattle.std.specs.Prelude.{◌≡◌, ◌<◌, ◌-◌, ◌++◌, ℕ, true};
+ghost use Rattle.paraid_base.specs.declared.event.Event.TheVariants.{Replace as ReplaceEvent};
+ghost use Rattle.paraid_rack.specs.Slots.{Slot};
+ghost use Rattle.paraid_rack.specs.Told.{Ran};
+ghost use Rattle.paraid_serve.specs.Calls.{Grows};
+ghost use Rattle.paraid_serve.specs.Form.{is_answer_to};
+ghost use Rattle.paraid_serve.specs.Lost.{HasServedSince};
+ghost use Rattle.paraid_session.specs.Turn.{GoesOn, Point};
+ghost use Rattle.paraid_spare.specs.Pools.{left_of};
+ghost use Rattle.paraid_sparing.specs.Form.{TellsLine};
+ghost use Rattle.paraid_sparing.specs.Sparing.{Stock, spare_line, stock_after, used};
+ghost use Rattle.paraid_sparing.specs.Serving.{Keeps, ServesLine};
+ghost use Rattle.paraid_trace.specs.Answered.{answer_with};
+ghost use Rattle.paraid_trace.specs.Asked.{event_with};
+ghost use Rattle.paraid_trace.specs.Replies.{reply_of};
+
+use crate::pool::{due, follow};
+use crate::text::spare_text;
+use paraid_base::{DiskNo, Halt, Pairs};
+use paraid_serve::Serves;
+use paraid_serve::answer::answer;
+use paraid_spare::Pool;
+use paraid_trace::{Answered, Asked, Beside, Text, reply_with};
+
+// Puts a spare in for this disk, and tells it.
+fn put_in<A: Serves>(
+    array: &mut A,
+    halt: &mut Option<Halt>,
+    pool: &mut Pool,
+    disk: DiskNo,
+    pairs: &Pairs,
+    beside: &mut Beside,
+    line: &mut Text,
+) -> Answered
+    requires halt { halt.old ≡ A.halted array.old }
+    requires left { 0 < left_of pool.old }
+    ensures turn { (p : Point) → A.stands array.old p → Ran (A.told array.old) (A.told array.new)
+        (GoesOn (A.slots array.old) (A.setup array.old) p (ReplaceEvent disk)
+        (answer_with result beside.new) (A.stands array.new)) }
+    ensures told { Grows (A.told array.old) (A.told array.new) }
+    ensures slots { A.slots array.new ≡ A.slots array.old }
+    ensures setup { A.setup array.new ≡ A.setup array.old }
+    ensures halt { halt.new ≡ A.halted array.new }
+    ensures since { (start : ℕ → Slot) → HasServedSince start (A.slot array.old) (A.halted array.old)
+        → HasServedSince start (A.slot array.new) (A.halted array.new) }
+    ensures keeps { (wait : ℕ) (k : Stock) → Keeps pool.old wait k → Keeps pool.new wait (used k) }
+    ensures line { line.new ≡ spare_line (answer_with result beside.new) (left_of pool.old - 1) }
+    ensures left { left_of pool.new ≡ left_of pool.old - 1 }
+    ensures kind { is_answer_to (ReplaceEvent disk) (answer_with result beside.new) ≡ true }
+{
+    let answered = answer(
+        array,
+        halt,
+        Asked::Replace {
+            disk: u32::from(disk),
+        },
+        pairs,
+        beside,
+    );
+    pool.taken();
+    pool.settled();
+    spare_text(line, &answered, beside, pool.left());
+    answered
+}
+
+// Answers what a line asks for, and tells it.
+fn answer_alone<A: Serves>(
+    array: &mut A,
+    halt: &mut Option<Halt>,
+    pool: &mut Pool,
+    asked: Asked,
+    pairs: &Pairs,
+    beside: &mut Beside,
+    text: &mut Text,
+) -> Answered
+    requires halt { halt.old ≡ A.halted array.old }
+    ensures turn { (p : Point) → A.stands array.old p → Ran (A.told array.old) (A.told array.new)
+        (GoesOn (A.slots array.old) (A.setup array.old) p (event_with asked pairs.now)
+        (answer_with result beside.new) (A.stands array.new)) }
+    ensures told { Grows (A.told array.old) (A.told array.new) }
+    ensures slots { A.slots array.new ≡ A.slots array.old }
+    ensures setup { A.setup array.new ≡ A.setup array.old }
+    ensures halt { halt.new ≡ A.halted array.new }
+    ensures since { (start : ℕ → Slot) → HasServedSince start (A.slot array.old) (A.halted array.old)
+        → HasServedSince start (A.slot array.new) (A.halted array.new) }
+    ensures keeps { (q : Point) (wait : ℕ) (k : Stock) → A.stands array.new q → Keeps pool.old wait k
+        → Keeps pool.new wait (stock_after k (answer_with result beside.new) q) }
+    ensures text { text.new ≡ reply_of (answer_with result beside.new) }
+    ensures left { left_of pool.new ≡ left_of pool.old }
+    ensures kind { is_answer_to (event_with asked pairs.now) (answer_with result beside.new) ≡ true }
+{
+    let answered = answer(array, halt, asked, pairs, beside);
+    follow(array, *halt, pool, &answered);
+    reply_with(&answered, beside, text);
+    answered
+}
+
+/// Answers what a line asks for, after the spare that is due before it. `line` tells the spare, and `text` the answer.
+pub fn answer_line<A: Serves>(
+    array: &mut A,
+    halt: &mut Option<Halt>,
+    pool: &mut Pool,
+    asked: Asked,
+    pairs: &Pairs,
+    beside: &mut Beside,
+    line: &mut Text,
+    text: &mut Text,
+)
+    requires halt { halt.old ≡ A.halted array.old }
+    ensures serves { (p : Point) (wait : ℕ) (k : Stock) → A.stands array.old p → Keeps pool.old wait k
+        → Ran (A.told array.old) (A.told array.new) (ServesLine (A.slots array.old) (A.setup array.old)
+        wait p k (event_with asked pairs.now) (line.new ++ text.new) (A.stands array.new) pool.new) }
+    ensures form { TellsLine (event_with asked pairs.now) (left_of pool.old) (line.new ++ text.new)
+        (left_of pool.new) }
+    ensures told { Grows (A.told array.old) (A.told array.new) }
+    ensures slots { A.slots array.new ≡ A.slots array.old }
+    ensures setup { A.setup array.new ≡ A.setup array.old }
+    ensures halt { halt.new ≡ A.halted array.new }
+    ensures since { (start : ℕ → Slot) → HasServedSince start (A.slot array.old) (A.halted array.old)
+        → HasServedSince start (A.slot array.new) (A.halted array.new) }
+{
+    match due(array, *halt, pool, asked) {
+        Some(disk) => {
+            put_in(array, halt, pool, disk, pairs, beside, line);
+            answer_alone(array, halt, pool, asked, pairs, beside, text);
+        }
+        None => {
+            line.clear();
+            answer_alone(array, halt, pool, asked, pairs, beside, text);
+        }
+    }
+}
