@@ -1,0 +1,4 @@
+pub mod CountLemmas
+pub mod UnitLemmas
+pub mod MildLemmas
+pub mod EndLemmas
