@@ -108,7 +108,7 @@ module _ {slots : ℕ} {before after : Option Trail} (h : HeldHistory slots befo
       by_fault : (fault : MountFault) → IsCauseOfRefusal slots old new before after fault → status ≡ mount_fault_status fault
           → IsMountRefused slots (now h.first) h.side h.said h.history h.low h.down calls (refusal_by_fault fault) → Comes
       by_fault fault cause is m = elim m.ends [
-        | inl both ↦ hindered (hinder (two_in_mount calls split (sym (down_is (start_watch (now h.first) h.down m.mounting.base) calls) ∙ both)))
+        | inl both ↦ hindered (hinder (two_in_mount fault is cause calls split (sym (down_is (start_watch (now h.first) h.down m.mounting.base) calls) ∙ both)))
         | inr kept ↦ by_kind fault cause is m.worn_out kept.2
       ]
 
@@ -192,8 +192,8 @@ module _ {slots : ℕ} {before after : Option Trail} (h : HeldHistory slots befo
       run_wrote base t cs p here split starts same (wrote_last four code full rest out front) = hindered (other (sink four (sunk four)))
       run_wrote base t cs p here split starts same (wrote_answers four lines more rest lines_are c front) = hindered (other (sink four (sunk four)))
 
-    pub run_comes : MountsAndThen slots old new before after wb w status (ServesLines slots old new after lb l wb w status) → RunComes
-    run_comes (refused fault back end) =
+    pub run_comes : {U : Type 0} → MountsAndThen slots old new before after wb w status U (ServesLines slots old new after lb l wb w status) → RunComes
+    run_comes (refused fault back end unheard) =
         refused_comes h old new counted count wb w status (IsRunWhole l wb w) (HindersRun h old new heard_faults faults counted count lb l wb w status) other sunk fault back.cause back.refused end.count _ end.whole
     run_comes (mounted array began middle stood begins served) =
         from_point h old new counted count wb w status (IsRunWhole l wb w) (HindersRun h old new heard_faults faults counted count lb l wb w status) other sunk array began middle stood begins served.end
@@ -222,8 +222,8 @@ module _ {slots : ℕ} {before after : Option Trail} (h : HeldHistory slots befo
       gen_wrote base t cs p here split starts same (gen_before four c rest front) = hindered (sink four (sunk four))
       gen_wrote base t cs p here split starts same (gen_first four same_told rest front) = hindered (sink four (sunk four))
 
-    pub gen_comes : MountsAndThen slots old new before after wb w status (ServesGenerated slots old new after wb w number lines status) → GenComes
-    gen_comes (refused fault back end) =
+    pub gen_comes : {U : Type 0} → MountsAndThen slots old new before after wb w status U (ServesGenerated slots old new after wb w number lines status) → GenComes
+    gen_comes (refused fault back end unheard) =
         refused_comes h old new counted count wb w status (IsGenWhole wb w) (Hinders h old new counted count wb w status) (λ z. z) sunk fault back.cause back.refused end.count _ end.whole
     gen_comes (mounted array began middle stood begins served) =
         from_point h old new counted count wb w status (IsGenWhole wb w) (Hinders h old new counted count wb w status) (λ z. z) sunk array began middle stood begins served.end
@@ -258,8 +258,8 @@ module _ {slots : ℕ} {before after : Option Trail} (h : HeldHistory slots befo
     check_told (told_counts report e counts each) = counted_by report e e.whole (each (some_is after h.last h.at_last))
     check_told (told_halt halt e each) = halted_so halt e e.whole (each (some_is after h.last h.at_last))
 
-  pub check_comes : MountsAndThen slots old new before after wb w status (ChecksArray slots old new after wb w status) → CheckComes
-  check_comes (refused fault back end) =
+  pub check_comes : {U : Type 0} → MountsAndThen slots old new before after wb w status U (ChecksArray slots old new after wb w status) → CheckComes
+  check_comes (refused fault back end unheard) =
       refused_comes h old new counted count wb w status (IsCheckWhole wb w) (Hinders h old new counted count wb w status) (λ z. z) sunk fault back.cause back.refused end.count _ end.whole
   check_comes (mounted array began middle stood begins checked) = check_told array began middle stood begins checked.end checked.told
 

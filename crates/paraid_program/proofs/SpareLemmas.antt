@@ -59,8 +59,8 @@ module _ {slots : ℕ} {before after : Option Trail} (h : HeldHistory slots befo
     by_output base t cs p here split starts same (wrote_last four code full rest out front) = hindered (other (sink four (sunk four)))
     by_output base t cs p here split starts same (wrote_answers four lines more told rest lines_are c front) = hindered (other (sink four (sunk four)))
 
-  pub spared_comes : MountsAndThen slots old new before after wb w status (ServesSpares slots old new after lb l wb w stock wait status) → SparedComes
-  spared_comes (refused fault back end) =
+  pub spared_comes : {U : Type 0} → MountsAndThen slots old new before after wb w status U (ServesSpares slots old new after lb l wb w stock wait status) → SparedComes
+  spared_comes (refused fault back end unheard) =
       refused_comes h old new counted count wb w status (IsRunWhole l wb w) Hindered other sunk fault back.cause back.refused end.count _ end.whole
   spared_comes (mounted array began middle stood begins served) =
       from_point h old new counted count wb w status (IsRunWhole l wb w) Hindered other sunk array began middle stood begins served.end

@@ -30,14 +30,14 @@ refused_not fault before after line status end zero = refused_so fault status en
 
 -- a run with spares that ends well has taken all of the source
 pub spared_all : (slots : ℕ) (old new first now : ℕ → Slot) (before after final : Option Trail) (left_before left written_before written before_lines after_lines : Option (List ℕ)) (stock wait status : ℕ)
-    → MountsAndThen slots old new before after written_before written status (ServesSpares slots first now final left_before left before_lines after_lines stock wait status) → status ≡ 0 → AtEnd left
-spared_all slots old new first now before after final left_before left written_before written before_lines after_lines stock wait status (refused fault back end) zero = absurd (refused_not fault written_before written _ status end zero)
+    → {U : Type 0} → MountsAndThen slots old new before after written_before written status U (ServesSpares slots first now final left_before left before_lines after_lines stock wait status) → status ≡ 0 → AtEnd left
+spared_all slots old new first now before after final left_before left written_before written before_lines after_lines stock wait status (refused fault back end unheard) zero = absurd (refused_not fault written_before written _ status end zero)
 spared_all slots old new first now before after final left_before left written_before written before_lines after_lines stock wait status (mounted array began middle stood begins served) zero = (served.headline.all (inl zero)).1
 
 -- a run that ends well has taken all of the source
 pub taken_all : (slots : ℕ) (old new first now : ℕ → Slot) (before after final : Option Trail) (left_before left written_before written before_lines after_lines : Option (List ℕ)) (status : ℕ)
-    → MountsAndThen slots old new before after written_before written status (ServesLines slots first now final left_before left before_lines after_lines status) → status ≡ 0 → AtEnd left
-taken_all slots old new first now before after final left_before left written_before written before_lines after_lines status (refused fault back end) zero = absurd (refused_not fault written_before written _ status end zero)
+    → {U : Type 0} → MountsAndThen slots old new before after written_before written status U (ServesLines slots first now final left_before left before_lines after_lines status) → status ≡ 0 → AtEnd left
+taken_all slots old new first now before after final left_before left written_before written before_lines after_lines status (refused fault back end unheard) zero = absurd (refused_not fault written_before written _ status end zero)
 taken_all slots old new first now before after final left_before left written_before written before_lines after_lines status (mounted array began middle stood begins served) zero = (served.headline.all (inl zero)).1
 
 pub not_read : (status : ℕ) → IsStatusOfGen status → status ≡ 3 → ⊥

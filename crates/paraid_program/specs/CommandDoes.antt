@@ -7,7 +7,7 @@ use Rattle.paraid_program.specs.Showing.{Shows}
 use Rattle.paraid_program.specs.Clients.{IsStatusOfNbd, ServesNbdOrNot}
 use Rattle.paraid_program.specs.Planning.{IsPlanStatus, PlanOutcome}
 use Rattle.paraid_program.specs.Spares.{ServesSpares}
-use Rattle.paraid_program.specs.Ends.{ChecksArray, IsStatusOfCheck, IsStatusOfGen, IsStatusOfRun, MountsAndThen, ServesGenerated, ServesLines}
+use Rattle.paraid_program.specs.Ends.{ChecksArray, IsStatusOfCheck, IsStatusOfGen, IsStatusOfRun, IsUnheard, MountsAndThen, ServesGenerated, ServesLines}
 use Rattle.paraid_program.specs.declared.command.Command.{Command}
 use Rattle.paraid_program.specs.declared.command.Command.TheVariants.{Format, Run, Spare, Status, Check, Gen, Nbd, Plan}
 
@@ -17,15 +17,15 @@ abbrev pub DoesCommand : ℕ → (ℕ → Slot) → (ℕ → Slot) → Option Tr
 DoesCommand slots old new before after left_before left faults_before faults counted count written_before written status (Format force) =
     Formats force slots old new before after left_before left faults_before faults written_before written status
 DoesCommand slots old new before after left_before left faults_before faults counted count written_before written status Run =
-    MountsAndThen slots old new before after written_before written status (ServesLines slots old new after left_before left written_before written status) × IsStatusOfRun status
+    MountsAndThen slots old new before after written_before written status (IsUnheard left_before left faults_before faults) (ServesLines slots old new after left_before left written_before written status) × IsStatusOfRun status
 DoesCommand slots old new before after left_before left faults_before faults counted count written_before written status (Spare stock wait) =
-    MountsAndThen slots old new before after written_before written status (ServesSpares slots old new after left_before left written_before written stock wait status) × IsStatusOfRun status
+    MountsAndThen slots old new before after written_before written status (IsUnheard left_before left faults_before faults) (ServesSpares slots old new after left_before left written_before written stock wait status) × IsStatusOfRun status
 DoesCommand slots old new before after left_before left faults_before faults counted count written_before written status Status =
     Shows slots old new before after written_before written status
 DoesCommand slots old new before after left_before left faults_before faults counted count written_before written status Check =
-    MountsAndThen slots old new before after written_before written status (ChecksArray slots old new after written_before written status) × IsStatusOfCheck status
+    MountsAndThen slots old new before after written_before written status (Unit {0}) (ChecksArray slots old new after written_before written status) × IsStatusOfCheck status
 DoesCommand slots old new before after left_before left faults_before faults counted count written_before written status (Gen number lines) =
-    MountsAndThen slots old new before after written_before written status (ServesGenerated slots old new after written_before written number lines status) × IsStatusOfGen status
+    MountsAndThen slots old new before after written_before written status (Unit {0}) (ServesGenerated slots old new after written_before written number lines status) × IsStatusOfGen status
 DoesCommand slots old new before after left_before left faults_before faults counted count written_before written status Nbd =
     ServesNbdOrNot slots old new before after left_before left faults_before faults written_before written counted count status × IsStatusOfNbd status
 DoesCommand slots old new before after left_before left faults_before faults counted count written_before written status (Plan ups) =

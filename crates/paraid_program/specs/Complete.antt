@@ -8,6 +8,8 @@ use Rattle.paraid_image.specs.RunStart.{IsRunStart}
 use Rattle.paraid_image.specs.Sides.{LogState}
 use Rattle.paraid_image.specs.Standing.{Stands}
 use Rattle.paraid_rack.specs.declared.call.Call.{Call}
+use Rattle.paraid_recover.specs.declared.fault.MountFault.{MountFault}
+use Rattle.paraid_recover.specs.Mount.{IsCauseOfRefusal}
 use Rattle.paraid_rack.specs.Slots.{Slot}
 use Rattle.paraid_rack.specs.Trail.{Trail, extend, now}
 use Rattle.paraid_record.specs.declared.meta.Meta.{Meta}
@@ -16,6 +18,7 @@ use Rattle.paraid_serve.specs.Stretch.{Turn, TurnsLead, turn_calls}
 use Rattle.paraid_session.specs.Mount.{IsBegun, IsWornOut}
 use Rattle.paraid_session.specs.Turn.{IsWorn, LosesSecondDisk, Point}
 use Rattle.paraid_session.specs.Watch.{Down, down_after, down_from_out, several}
+use Rattle.paraid_program.specs.MountFaults.{mount_fault_status}
 use Rattle.paraid_program.specs.Showing.{IsServedBy}
 use Rattle.paraid_program.specs.States.{status_lines}
 use Rattle.paraid_program.specs.Counts.{check_line}
@@ -60,8 +63,8 @@ pub record ComesTo {slots : ℕ} {before after : Option Trail} (h : HeldHistory 
 pub data Hinders {slots : ℕ} {before after : Option Trail} (h : HeldHistory slots before after) (old new : ℕ → Slot) (counted count : ℕ) (written_before written : Option (List ℕ)) (status : ℕ) : Type 0 where
   -- the sink has failed
   sink : status ≡ 4 → HasRisen counted count → Hinders h old new counted count written_before written status
-  -- a second disk failed in the mount while one was down, and the mount was refused
-  two_in_mount : (calls : List Call) → h.last ≡ extend h.first calls → down_after_calls (down_from_out h.down) calls ≡ several
+  -- a second disk failed in the mount while one was down, and the mount was refused for this cause; the calls are its own
+  two_in_mount : (fault : MountFault) → status ≡ mount_fault_status fault → IsCauseOfRefusal slots old new before after fault → (calls : List Call) → h.last ≡ extend h.first calls → down_after_calls (down_from_out h.down) calls ≡ several
       → Hinders h old new counted count written_before written status
   -- 2^62 commits or writes had been made before the command
   worn_before : status ≡ 12 → (calls : List Call) → h.last ≡ extend h.first calls → (many : ℕ) → IsWornOut (now h.first) calls many

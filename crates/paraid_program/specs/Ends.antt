@@ -54,12 +54,17 @@ pub record ServedArray : Type 0 where
 abbrev pub shown_served : ServedArray → Shown
 shown_served array = record { setup = array.meta.setup; meta = array.meta; dirty = array.dirty; slot = array.slot; energy = 0; halt = None }
 
--- A rack was not mounted, and the fault was told; or it was, and this array is what stood on its disks, and then this holds of it.
-pub data MountsAndThen (slots : ℕ) (old new : ℕ → Slot) (before after : Option Trail) (written_before written : Option (List ℕ)) (status : ℕ) (P : ServedArray → ℕ → Option Trail → Type 0) : Type 0 where
-  refused : (fault : MountFault) → HandsBack slots old new before after fault → EndsWithLine written_before written (mount_fault_line fault) (mount_fault_status fault) status
-      → MountsAndThen slots old new before after written_before written status P
+-- the source is as it was: nothing was read of it
+abbrev pub IsUnheard : Option (List ℕ) → Option (List ℕ) → ℕ → ℕ → Type 0
+IsUnheard left_before left faults_before faults = (left ≡ left_before) × (faults ≡ faults_before)
+
+-- A rack was not mounted, the fault was told, and the source was not heard; or it was, and this array is what stood on its disks,
+-- and then this holds of it.
+pub data MountsAndThen (slots : ℕ) (old new : ℕ → Slot) (before after : Option Trail) (written_before written : Option (List ℕ)) (status : ℕ) (Unheard : Type 0) (P : ServedArray → ℕ → Option Trail → Type 0) : Type 0 where
+  refused : (fault : MountFault) → HandsBack slots old new before after fault → EndsWithLine written_before written (mount_fault_line fault) (mount_fault_status fault) status → Unheard
+      → MountsAndThen slots old new before after written_before written status Unheard P
   mounted : (array : ServedArray) (began : ℕ) (middle : Option Trail) → IsServedBy slots old array.slot before middle array.meta array.dirty → BeginsAt before middle after began → P array began middle
-      → MountsAndThen slots old new before after written_before written status P
+      → MountsAndThen slots old new before after written_before written status Unheard P
 
 -- the statuses of a run
 abbrev pub IsStatusOfRun : ℕ → Type 0

@@ -7,7 +7,7 @@ ghost use Rattle.paraid_serve.specs.Lost.{NamesTwoLost, TellsWear};
 ghost use Rattle.paraid_session.specs.Mount.{IsMountedFromEach};
 ghost use Rattle.paraid_program.specs.Clients.{IsStatusOfNbd, ServesNbdOrNot};
 ghost use Rattle.paraid_program.specs.Spares.{ServesSpares};
-ghost use Rattle.paraid_program.specs.Ends.{ChecksArray, CountsArray, IsCheckedStatus, IsStatusOfCheck, IsStatusOfGen, IsStatusOfRun, MountsAndThen, ServesGenerated, ServesLines, TellsCounts};
+ghost use Rattle.paraid_program.specs.Ends.{ChecksArray, CountsArray, IsCheckedStatus, IsStatusOfCheck, IsStatusOfGen, IsStatusOfRun, IsUnheard, MountsAndThen, ServesGenerated, ServesLines, TellsCounts};
 
 use crate::fault::{mount_fault_status, tell_refusal};
 use crate::generate::serve_generated_mounted;
@@ -33,6 +33,7 @@ pub fn run<S: Source, K: Sink, R: Rack, A: Serves, O: Outside<R, A>>(
 ) -> Ended<R>
     ensures run { MountsAndThen (R.slot_count rack) (R.slot rack) (R.slot result.rack) (R.told rack)
         (R.told result.rack) (K.written sink.old) (K.written sink.new) result.status
+        (IsUnheard (S.left source.old) (S.left source.new) (S.faults source.old) (S.faults source.new))
         (ServesLines (R.slot_count rack) (R.slot rack) (R.slot result.rack) (R.told result.rack)
         (S.left source.old) (S.left source.new) (K.written sink.old) (K.written sink.new)
         result.status) }
@@ -66,6 +67,7 @@ pub fn run_with_spares<S: Source, K: Sink, R: Rack, A: Serves, O: Outside<R, A>>
 ) -> Ended<R>
     ensures run { MountsAndThen (R.slot_count rack) (R.slot rack) (R.slot result.rack) (R.told rack)
         (R.told result.rack) (K.written sink.old) (K.written sink.new) result.status
+        (IsUnheard (S.left source.old) (S.left source.new) (S.faults source.old) (S.faults source.new))
         (ServesSpares (R.slot_count rack) (R.slot rack) (R.slot result.rack) (R.told result.rack)
         (S.left source.old) (S.left source.new) (K.written sink.old) (K.written sink.new)
         stock wait result.status) }
@@ -98,7 +100,7 @@ pub fn generate<K: Sink, R: Rack, A: Serves, O: Outside<R, A>>(
 ) -> Ended<R>
     requires few { lines ≤ 1000000 }
     ensures run { MountsAndThen (R.slot_count rack) (R.slot rack) (R.slot result.rack) (R.told rack)
-        (R.told result.rack) (K.written sink.old) (K.written sink.new) result.status
+        (R.told result.rack) (K.written sink.old) (K.written sink.new) result.status (Unit {0})
         (ServesGenerated (R.slot_count rack) (R.slot rack) (R.slot result.rack) (R.told result.rack)
         (K.written sink.old) (K.written sink.new) number lines result.status) }
     ensures status { IsStatusOfGen result.status }
@@ -161,7 +163,7 @@ pub fn check<K: Sink, R: Rack, A: Serves, O: Outside<R, A>>(
     rack: R,
 ) -> Ended<R>
     ensures run { MountsAndThen (R.slot_count rack) (R.slot rack) (R.slot result.rack) (R.told rack)
-        (R.told result.rack) (K.written sink.old) (K.written sink.new) result.status
+        (R.told result.rack) (K.written sink.old) (K.written sink.new) result.status (Unit {0})
         (ChecksArray (R.slot_count rack) (R.slot rack) (R.slot result.rack) (R.told result.rack)
         (K.written sink.old) (K.written sink.new) result.status) }
     ensures status { IsStatusOfCheck result.status }

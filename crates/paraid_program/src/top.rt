@@ -3,7 +3,7 @@ ghost use Rattle.paraid_base.specs.Told.{AtEnd, HasRisen};
 ghost use Rattle.paraid_serve.specs.Ending.{EndsWithLine};
 ghost use Rattle.paraid_program.specs.Clients.{IsStatusOfNbd, ServesNbdOrNot};
 ghost use Rattle.paraid_program.specs.Outcome.{Formats, IsFormatStatus};
-ghost use Rattle.paraid_program.specs.Ends.{ChecksArray, IsStatusOfCheck, IsStatusOfGen, IsStatusOfRun, MountsAndThen, ServesGenerated, ServesLines};
+ghost use Rattle.paraid_program.specs.Ends.{ChecksArray, IsStatusOfCheck, IsStatusOfGen, IsStatusOfRun, IsUnheard, MountsAndThen, ServesGenerated, ServesLines};
 ghost use Rattle.paraid_program.specs.Spares.{ServesSpares};
 ghost use Rattle.paraid_program.specs.Words.{AskFor, usage_line};
 ghost use Rattle.paraid_program.specs.CommandCompletes.{CompletesCommand};
@@ -55,6 +55,7 @@ fn run<S: Source, K: Sink, R: Rack>(
 ) -> Ended<R>
     ensures run { MountsAndThen (R.slot_count rack) (R.slot rack) (R.slot result.rack) (R.told rack)
         (R.told result.rack) (K.written sink.old) (K.written sink.new) result.status
+        (IsUnheard (S.left source.old) (S.left source.new) (S.faults source.old) (S.faults source.new))
         (ServesLines (R.slot_count rack) (R.slot rack) (R.slot result.rack) (R.told result.rack)
         (S.left source.old) (S.left source.new) (K.written sink.old) (K.written sink.new)
         result.status) }
@@ -78,6 +79,7 @@ fn run_with_spares<S: Source, K: Sink, R: Rack>(
 ) -> Ended<R>
     ensures run { MountsAndThen (R.slot_count rack) (R.slot rack) (R.slot result.rack) (R.told rack)
         (R.told result.rack) (K.written sink.old) (K.written sink.new) result.status
+        (IsUnheard (S.left source.old) (S.left source.new) (S.faults source.old) (S.faults source.new))
         (ServesSpares (R.slot_count rack) (R.slot rack) (R.slot result.rack) (R.told result.rack)
         (S.left source.old) (S.left source.new) (K.written sink.old) (K.written sink.new)
         stock wait result.status) }
@@ -100,7 +102,7 @@ fn generate<K: Sink, R: Rack>(
 ) -> Ended<R>
     requires few { lines ≤ 1000000 }
     ensures run { MountsAndThen (R.slot_count rack) (R.slot rack) (R.slot result.rack) (R.told rack)
-        (R.told result.rack) (K.written sink.old) (K.written sink.new) result.status
+        (R.told result.rack) (K.written sink.old) (K.written sink.new) result.status (Unit {0})
         (ServesGenerated (R.slot_count rack) (R.slot rack) (R.slot result.rack) (R.told result.rack)
         (K.written sink.old) (K.written sink.new) number lines result.status) }
     ensures status { IsStatusOfGen result.status }
@@ -113,7 +115,7 @@ fn generate<K: Sink, R: Rack>(
 // Mounts one, and counts what is false.
 fn check<K: Sink, R: Rack>(alloc: Global, sink: &mut K, rack: R) -> Ended<R>
     ensures run { MountsAndThen (R.slot_count rack) (R.slot rack) (R.slot result.rack) (R.told rack)
-        (R.told result.rack) (K.written sink.old) (K.written sink.new) result.status
+        (R.told result.rack) (K.written sink.old) (K.written sink.new) result.status (Unit {0})
         (ChecksArray (R.slot_count rack) (R.slot rack) (R.slot result.rack) (R.told result.rack)
         (K.written sink.old) (K.written sink.new) result.status) }
     ensures status { IsStatusOfCheck result.status }

@@ -6,7 +6,7 @@ use Rattle.paraid_program.proofs.mounted.check.Goals as goal
 
 pub returns-in-Err : goal.returns-in-Err
 returns-in-Err g c = record {
-  run = refused c.in-Err.field-0.fault c.in-Err.ensures.refused c.tell_refusal.ensures.tells;
+  run = refused c.in-Err.field-0.fault c.in-Err.ensures.refused c.tell_refusal.ensures.tells tt;
   status = check_is_refused c.in-Err.field-0.fault _ _ _ _ c.tell_refusal.ensures.tells;
   sink = search rules;
 }

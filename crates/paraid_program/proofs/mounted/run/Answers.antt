@@ -1,11 +1,11 @@
-use Rattle.std.proofs.Common.{◌∙◌, rules, sym}
+use Rattle.std.proofs.Common.{◌∙◌, rules, sym, refl}
 use Rattle.paraid_program.specs.Ends.MountsAndThen.{mounted, refused}
 use Rattle.paraid_program.proofs.EndLemmas.{began_at_end, begins_at_end, end_moment, end_over, headline_over, run_is_refused, run_status}
 use Rattle.paraid_program.proofs.mounted.run.Goals as goal
 
 pub returns-in-Err : goal.returns-in-Err
 returns-in-Err g c = record {
-  run = refused c.in-Err.field-0.fault c.in-Err.ensures.refused c.tell_refusal.ensures.tells;
+  run = refused c.in-Err.field-0.fault c.in-Err.ensures.refused c.tell_refusal.ensures.tells (refl, refl);
   status = run_is_refused c.in-Err.field-0.fault _ _ _ _ c.tell_refusal.ensures.tells;
   source = search rules;
   sink = search rules;
