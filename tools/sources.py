@@ -1,6 +1,10 @@
 """What the tools beside it read: the definitions of specs/ and the functions of src/."""
 import os
 import re
+import signal
+
+# a reader of what a tool prints may end early
+signal.signal(signal.SIGPIPE, signal.SIG_DFL)
 
 TOP = os.path.dirname(os.path.dirname(os.path.abspath(__file__)))
 
