@@ -1,0 +1,349 @@
+"""The images of an array, only read: where each thing lies on them, and what its log disks say.
+
+tools/state and tools/locate stand on this. Places and forms are those of docs/ARCHITECTURE.md and of
+crates/paraid_record. As in the program, a block is a meta only if it is the one spelling of a meta in
+range: there is no sum to test. A missing image, one that is no file, and a sidecar whose word is
+neither `spinning` nor `parked` are absent disks; a link counts as its file. The size of a disk is its
+image's length divided by 512, rounded down: a label may follow the last block."""
+import os
+import stat
+import struct
+from dataclasses import dataclass
+from typing import List, Optional, Tuple
+
+BLOCK = 512
+LOG = 100
+ZERO = bytes(BLOCK)
+MOST_DISKS = 8
+WORN = 2**62
+
+
+class Geometry:
+    """Disks, rows and gears, and the place of each row, copy and map block."""
+
+    def __init__(self, disks, rows, gears):
+        self.disks, self.rows, self.gears = disks, rows, list(gears)
+        self.blocks = rows * (disks - 1)
+        self.map_blocks = -(-rows // 512)
+        self.regions = {}
+        self.size = LOG + self.map_blocks + rows
+        for gear in self.gears[:-1]:
+            self.regions[gear] = self.size
+            self.size += self.stripes(gear)
+
+    def stripes(self, gear):
+        return -(-self.rows * (self.disks - gear) // (gear - 1)) if gear < self.disks else 0
+
+    def hard_place(self, row):
+        return LOG + self.map_blocks + row
+
+    def soft_place(self, gear, stripe):
+        return self.regions[gear] + stripe
+
+    def parity_disk(self, row):
+        return self.disks - 1 - row % self.disks
+
+    def block_at(self, row, disk):
+        """The block of this row on this disk, None for its parity."""
+        parity = self.parity_disk(row)
+        return None if disk == parity else row * (self.disks - 1) + disk - (disk > parity)
+
+    def soft_of(self, gear, row, disk):
+        """The stripe of a cell's copy, and the disk where it lies."""
+        number = row * (self.disks - gear) + disk - gear
+        stripe, index = divmod(number, gear - 1)
+        return stripe, index + (index >= self.soft_parity(gear, stripe))
+
+    def soft_parity(self, gear, stripe):
+        return gear - 1 - stripe % gear
+
+    def cell_at(self, gear, stripe, disk):
+        """The row and disk of the cell whose copy this disk has in a stripe; None for parity and pads."""
+        parity = self.soft_parity(gear, stripe)
+        if disk == parity:
+            return None
+        number = stripe * (gear - 1) + disk - (disk > parity)
+        row, parked = divmod(number, self.disks - gear)
+        return (row, gear + parked) if row < self.rows else None
+
+    def rebuild_units(self, gear, disk):
+        return self.rows + (self.stripes(gear) if disk < gear else 0) + (self.map_blocks if disk < 2 else 0)
+
+
+def geometry_fault(disks, rows, gears):
+    """The first cause for which there is no such array, as (`disks`, value), (`rows`, value) or
+    (`gears`, index); None where there is one."""
+    if not 3 <= disks <= 8:
+        return "disks", disks
+    if not 1 <= rows <= 65536:
+        return "rows", rows
+    for at, gear in enumerate(gears):
+        if gear < 3 or gear > disks or (at > 0 and gear <= gears[at - 1]):
+            return "gears", at
+    return ("gears", len(gears)) if not gears or gears[-1] != disks else None
+
+
+@dataclass
+class Meta:
+    """The setup and the state of an array, as a log disk keeps them."""
+
+    version: int
+    geometry: Geometry
+    rate: int
+    service: int
+    up: int
+    down: int
+    mode: int
+    windows: List[int]
+    ration: int
+    epoch: int
+    writes: int
+    ticks: int
+    gear: int
+    phase: int
+    to: int
+    out: Optional[int]
+    fresh: bool
+    fill: int
+    rebuilt: int
+    spins: List[int]
+    spinning_mj: int
+    parked_mj: int
+    spinup_mj: int
+    burst: int
+    period: int
+
+    def allowance(self):
+        """The spin-ups that a disk may have by now."""
+        return min(self.ration, self.burst + self.ticks // self.period)
+
+    def first_parked(self):
+        """The first disk that the gear, or a shift under way, leaves parked."""
+        return self.to if self.phase else self.gear
+
+    def rising_to(self):
+        return self.to if self.phase == UP else 0
+
+
+STEADY, DOWN, UP = 0, 1, 2
+NO_DISK = 255
+FORM = struct.Struct(">8sHBB8sIIIBBBB3HHQQQBBBBB3xII8HIIIHI")
+
+
+def read_meta(block):
+    """The meta that a block spells, None where it spells none."""
+    (magic, version, disks, count, list_of_gears, rows, rate, service, up, down, mode, _used, first, second, third,
+     ration, epoch, writes, ticks, gear, phase, to, out, fresh, fill, rebuilt, *rest) = FORM.unpack_from(block)
+    spins, (spinning, parked, spinup, burst, period) = rest[:8], rest[8:]
+    gears = list(list_of_gears[:count])
+    if not 1 <= version <= 2 or count > 8 or geometry_fault(disks, rows, gears):
+        return None
+    if version == 1:
+        burst, period = ration, 1
+    meta = Meta(version, Geometry(disks, rows, gears), rate, service, up, down, mode, [first, second, third],
+                ration, epoch, writes, ticks, gear, phase, to, None if out == NO_DISK else out, fresh == 1,
+                fill, rebuilt, spins, spinning, parked, spinup, burst, period)
+    return meta if is_in_range(meta) and spelling(meta) == bytes(block) else None
+
+
+def spelling(meta):
+    """The one block that spells a meta."""
+    it = meta.geometry
+    data = FORM.pack(
+        b"PARAIDAR", meta.version, it.disks, len(it.gears), bytes(it.gears), it.rows, meta.rate, meta.service,
+        meta.up, meta.down, meta.mode, sum(length > 0 for length in meta.windows), *meta.windows, meta.ration,
+        meta.epoch, meta.writes, meta.ticks, meta.gear, meta.phase, meta.to,
+        NO_DISK if meta.out is None else meta.out, meta.fresh, meta.fill, meta.rebuilt, *meta.spins,
+        meta.spinning_mj, meta.parked_mj, meta.spinup_mj,
+        *((meta.burst, meta.period) if meta.version > 1 else (0, 0)))
+    return data.ljust(BLOCK, b"\0")
+
+
+def is_in_range(meta):
+    return is_setup_in_range(meta) and is_state_in_range(meta) and are_spins_in_range(meta)
+
+
+def is_setup_in_range(meta):
+    first, second, third = meta.windows
+    return (1 <= meta.rate <= 65536 and 1 <= meta.service <= 1048576 and 1 <= meta.up <= 100
+            and 1 <= meta.down <= 100 and meta.mode <= 1 and 1 <= first <= 1024 and second <= 1024
+            and third <= 1024 and (second > 0 or third == 0) and 1 <= meta.burst <= meta.ration
+            and meta.period >= 1 and max(meta.spinning_mj, meta.parked_mj, meta.spinup_mj) <= 1048576)
+
+
+def is_state_in_range(meta):
+    it, gears = meta.geometry, meta.geometry.gears
+    if meta.epoch < 1 or meta.gear not in gears or meta.phase > UP:
+        return False
+    at = gears.index(meta.gear)
+    lower, higher = gears[at - 1] if at else None, gears[at + 1] if at + 1 < len(gears) else None
+    if meta.to != (0, lower, higher)[meta.phase]:
+        return False
+    if meta.fill > (it.stripes(meta.to) if meta.phase else 0):
+        return False
+    if meta.out is None:
+        return not meta.fresh and meta.rebuilt == 0
+    most = it.rebuild_units(meta.gear, meta.out) if meta.fresh else 0
+    return meta.out < it.disks and meta.rebuilt <= most and meta.fill == 0 and meta.phase != DOWN
+
+
+def are_spins_in_range(meta):
+    disks, allowed, parked = meta.geometry.disks, meta.allowance(), meta.first_parked()
+    return all(count <= allowed - (disk >= parked) if disk < disks else count == 0
+               for disk, count in enumerate(meta.spins))
+
+
+def read_targets(block, geometry):
+    """The disks and places that a list of targets spells, None where it spells none."""
+    count = int.from_bytes(block[:2], "big")
+    end = 2 + 5 * count
+    if count > 96 or any(block[end:]):
+        return None
+    targets = [struct.unpack_from(">BI", block, 2 + 5 * at) for at in range(count)]
+    fit = all(disk < geometry.disks and LOG <= place < geometry.size
+              and (disk < 2 or place >= LOG + geometry.map_blocks) for disk, place in targets)
+    return targets if fit and len(set(targets)) == count else None
+
+
+class Folder:
+    """The image files of a folder. What cannot be read is zeros, or raises OSError where it must be read."""
+
+    def __init__(self, path):
+        self.path, self.files = path, {}
+
+    def close(self):
+        for file in self.files.values():
+            os.close(file)
+        self.files = {}
+
+    def image(self, disk):
+        return os.path.join(self.path, f"disk-{disk}.img")
+
+    def power(self, disk):
+        """`spinning`, `parked` or `absent`."""
+        try:
+            if not stat.S_ISREG(os.stat(self.image(disk)).st_mode):
+                return "absent"
+        except OSError:
+            return "absent"
+        name = os.path.join(self.path, f"disk-{disk}.power")
+        try:
+            if not stat.S_ISREG(os.stat(name).st_mode):
+                return "absent"
+            with open(name, "rb") as file:
+                text = file.read(65)
+        except FileNotFoundError:
+            return "spinning"
+        except OSError:
+            return "absent"
+        word = text.rstrip(b" \t\n\f\r") if len(text) <= 64 else b""
+        return word.decode() if word in (b"spinning", b"parked") else "absent"
+
+    def size(self, disk):
+        """The blocks of a disk, 0 where there is none."""
+        try:
+            return min(os.stat(self.image(disk)).st_size // BLOCK, 2**32 - 1)
+        except OSError:
+            return 0
+
+    def read(self, disk, place, count=1):
+        """So many blocks; those past the end are zeros."""
+        data = os.pread(self.opened(disk), BLOCK * count, BLOCK * place)
+        whole = len(data) - len(data) % BLOCK
+        return data[:whole].ljust(BLOCK * count, b"\0")
+
+    def opened(self, disk):
+        if disk not in self.files:
+            flags = os.O_RDONLY | os.O_CLOEXEC | os.O_NONBLOCK
+            try:
+                # reading an image is not to write to its file system
+                self.files[disk] = os.open(self.image(disk), flags | getattr(os, "O_NOATIME", 0))
+            except PermissionError:
+                self.files[disk] = os.open(self.image(disk), flags)
+        return self.files[disk]
+
+
+@dataclass
+class Side:
+    """What a log disk says: `absent`, `blank`, `bad`, or `formed` with its gate, meta and batch."""
+
+    kind: str
+    opened: bool = False
+    meta: Optional[Meta] = None
+    batch: Tuple = ()
+
+
+def side_of(log):
+    """What the first 100 blocks of a log disk say; None is no disk."""
+    if log is None:
+        return Side("absent")
+    block = [log[BLOCK * at : BLOCK * (at + 1)] for at in range(LOG)]
+    opened = block[0][0] != 0
+    if not opened:
+        meta = read_meta(block[1])
+        if meta is None:
+            return Side("blank" if block[1] == ZERO else "bad")
+        return Side("formed", False, meta)
+    meta = read_meta(block[2])
+    targets = meta and read_targets(block[3], meta.geometry)
+    if targets is None:
+        return Side("bad", True)
+    return Side("formed", True, meta, tuple((d, p, block[4 + at]) for at, (d, p) in enumerate(targets)))
+
+
+def standing(sides):
+    """The number of the log disk that counts: the greater epoch; of equal ones a closed one, then disk 0."""
+    formed = [x for x in (0, 1) if sides[x].kind == "formed"]
+    return min(formed, key=lambda x: (-sides[x].meta.epoch, sides[x].opened, x), default=None)
+
+
+def refusal(folder, sides):
+    """The line by which the program would refuse to mount these disks, None where it would not."""
+    powers = [folder.power(disk) for disk in range(MOST_DISKS)]
+    for x in (0, 1):
+        if powers[x] == "parked":
+            return f"power {x}"
+    if all(side.kind in ("absent", "blank") for side in sides):
+        return "notformatted"
+    x = standing(sides)
+    named = None if x is None else sides[x].meta.out
+    for line, opened in (("badlog", True), ("badmeta", False)):
+        for y in (0, 1):
+            if sides[y].kind in ("bad", "blank") and sides[y].opened == opened and y != named:
+                return f"{line} {y}"
+    meta, batch = sides[x].meta, sides[x].batch
+    if named == x:
+        return f"badmeta {x}"
+    other = sides[1 - x]
+    if sides[x].opened and other.opened and other.kind == "formed" and named not in (0, 1):
+        if spelling(other.meta) != spelling(meta) or other.batch != batch:
+            return f"badlog {1 - x}"
+    return refusal_by_standing(folder, powers, meta, batch)
+
+
+def refusal_by_standing(folder, powers, meta, batch):
+    disks, needed = range(meta.geometry.disks), meta.geometry.size
+    for disk in disks:
+        found = folder.size(disk)
+        if powers[disk] != "absent" and not (disk == meta.out and not meta.fresh) and found < needed:
+            return f"size {disk} {found} {needed}"
+    for disk in disks:
+        live = disk < meta.gear or any(target[0] == disk for target in batch)
+        if powers[disk] == "parked" and (meta.fresh if disk == meta.out else live):
+            return f"power {disk}"
+    lacking = [disk for disk in disks if powers[disk] == "absent" and disk != meta.out]
+    down = lacking if meta.out is None else [meta.out] + lacking
+    if len(down) > 1:
+        return f"two {down[0]} {down[1]}"
+    count = max(meta.epoch, meta.writes)
+    return f"worn {count}" if count >= WORN else None
+
+
+def dirty_bytes(folder, meta, batch, power):
+    """The dirty map, a byte for each row, of the lower log disk that is not out, with the batch laid over."""
+    map_disk = 1 if meta.out == 0 or power(0) == "absent" else 0
+    data = bytearray(folder.read(map_disk, LOG, meta.geometry.map_blocks))
+    for disk, place, block in batch:
+        if disk == map_disk and place < LOG + meta.geometry.map_blocks:
+            data[BLOCK * (place - LOG) : BLOCK * (place - LOG + 1)] = block
+    return bytes(data[: meta.geometry.rows])
