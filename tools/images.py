@@ -16,6 +16,7 @@ LOG = 100
 ZERO = bytes(BLOCK)
 MOST_DISKS = 8
 WORN = 2**62
+LONGEST_WORD = 64
 
 
 class Geometry:
@@ -220,23 +221,22 @@ class Folder:
         return os.path.join(self.path, f"disk-{disk}.img")
 
     def power(self, disk):
-        """`spinning`, `parked` or `absent`."""
+        """`spinning`, `parked` or `absent`; PermissionError where this user may not know."""
+        name = os.path.join(self.path, f"disk-{disk}.power")
         try:
             if not stat.S_ISREG(os.stat(self.image(disk)).st_mode):
                 return "absent"
-        except OSError:
-            return "absent"
-        name = os.path.join(self.path, f"disk-{disk}.power")
-        try:
+            if not os.path.lexists(name):
+                return "spinning"
             if not stat.S_ISREG(os.stat(name).st_mode):
                 return "absent"
             with open(name, "rb") as file:
-                text = file.read(65)
-        except FileNotFoundError:
-            return "spinning"
+                text = file.read(LONGEST_WORD + 1)
+        except PermissionError:
+            raise
         except OSError:
             return "absent"
-        word = text.rstrip(b" \t\n\f\r") if len(text) <= 64 else b""
+        word = text.rstrip(b" \t\n\f\r") if len(text) <= LONGEST_WORD else b""
         return word.decode() if word in (b"spinning", b"parked") else "absent"
 
     def size(self, disk):

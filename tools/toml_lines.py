@@ -272,7 +272,8 @@ class Reader:
             number = number_of(word)
             if number is not None:
                 return Value("integer" if isinstance(number, int) else "float", number, line)
-        raise NotToml(line, f"`{word}` is no value: a text needs quotes")
+        why = "no number as TOML writes them, or too large for 64 bits" if word[0] in "+-0123456789" else "no value: a text needs quotes"
+        raise NotToml(line, f"`{word}` is {why}")
 
     def word(self):
         end = self.word_end(self.at)
