@@ -3,8 +3,10 @@
 tools/state and tools/locate stand on this. Places and forms are those of docs/ARCHITECTURE.md and of
 crates/paraid_record. As in the program, a block is a meta only if it is the one spelling of a meta in
 range: there is no sum to test. A missing image, one that is no file, and a sidecar whose word is
-neither `spinning` nor `parked` are absent disks; a link counts as its file. The size of a disk is its
-image's length divided by 512, rounded down: a label may follow the last block."""
+neither `spinning` nor `parked` are absent disks; a link counts as its file, and one that leads nowhere
+is a disk that is shut. The size of a disk is its image's length divided by 512, rounded down: a label
+may follow the last block, and is not looked at."""
+import errno
 import os
 import stat
 import struct
@@ -17,6 +19,8 @@ ZERO = bytes(BLOCK)
 MOST_DISKS = 8
 WORN = 2**62
 LONGEST_WORD = 64
+AWAY = ("absent", "shut")
+OF_DEVICE = (errno.EIO, errno.ENXIO, errno.ENODEV, errno.EBADMSG, errno.EUCLEAN, errno.EREMOTEIO, errno.ENOMEDIUM)
 
 
 class Geometry:
@@ -206,6 +210,19 @@ def read_targets(block, geometry):
     return targets if fit and len(set(targets)) == count else None
 
 
+def found(name):
+    """What stands under a name: a `file`; `nothing`; `none`, where it is no file or its device fails; or
+    `shut`, where it is there and cannot be opened. What this user may not know raises PermissionError."""
+    try:
+        return "file" if stat.S_ISREG(os.stat(name).st_mode) else "none"
+    except PermissionError:
+        raise
+    except OSError as fault:
+        if not os.path.lexists(name):
+            return "nothing"
+        return "none" if fault.errno in OF_DEVICE else "shut"
+
+
 class Folder:
     """The image files of a folder. What cannot be read is zeros, or raises OSError where it must be read."""
 
@@ -221,21 +238,20 @@ class Folder:
         return os.path.join(self.path, f"disk-{disk}.img")
 
     def power(self, disk):
-        """`spinning`, `parked` or `absent`; PermissionError where this user may not know."""
-        name = os.path.join(self.path, f"disk-{disk}.power")
-        try:
-            if not stat.S_ISREG(os.stat(self.image(disk)).st_mode):
-                return "absent"
-            if not os.path.lexists(name):
-                return "spinning"
-            if not stat.S_ISREG(os.stat(name).st_mode):
-                return "absent"
-            with open(name, "rb") as file:
-                text = file.read(LONGEST_WORD + 1)
-        except PermissionError:
-            raise
-        except OSError:
-            return "absent"
+        """`spinning`, `parked`, `absent`, or `shut` where a file is there and cannot be opened, as a link
+        to a drive that is not mounted."""
+        word = self.word(os.path.join(self.path, f"disk-{disk}.power"))
+        if word in ("absent", "shut"):
+            return word
+        return {"file": word, "shut": "shut"}.get(found(self.image(disk)), "absent")
+
+    @staticmethod
+    def word(sidecar):
+        there = found(sidecar)
+        if there != "file":
+            return {"nothing": "spinning", "shut": "shut"}.get(there, "absent")
+        with open(sidecar, "rb") as file:
+            text = file.read(LONGEST_WORD + 1)
         word = text.rstrip(b" \t\n\f\r") if len(text) <= LONGEST_WORD else b""
         return word.decode() if word in (b"spinning", b"parked") else "absent"
 
@@ -300,6 +316,8 @@ def standing(sides):
 def refusal(folder, sides):
     """The line by which the program would refuse to mount these disks, None where it would not."""
     powers = [folder.power(disk) for disk in range(MOST_DISKS)]
+    if "shut" in powers:
+        return f"image {powers.index('shut')}"
     for x in (0, 1):
         if powers[x] == "parked":
             return f"power {x}"
@@ -341,7 +359,7 @@ def refusal_by_standing(folder, powers, meta, batch):
 
 def dirty_bytes(folder, meta, batch, power):
     """The dirty map, a byte for each row, of the lower log disk that is not out, with the batch laid over."""
-    map_disk = 1 if meta.out == 0 or power(0) == "absent" else 0
+    map_disk = 1 if meta.out == 0 or power(0) in AWAY else 0
     data = bytearray(folder.read(map_disk, LOG, meta.geometry.map_blocks))
     for disk, place, block in batch:
         if disk == map_disk and place < LOG + meta.geometry.map_blocks:
