@@ -1,0 +1,485 @@
+"""Serves an array as a block device of the network, with gears: a plugin of nbdkit.
+
+    nbdkit --filter=blocksize python tools/nbd.py array=FOLDER [tick=SECONDS] [control=SOCKET]
+        [program=PROGRAM] [limit=BYTES]
+
+Each request becomes lines of one `paraid run`, in the order in which they come, and a clock sends the
+ticks by which the array shifts. So a write is answered when the run has accepted it, and a flush when
+the disks hold all writes that were answered before it. docs/paraid-nbd.8 tells the rest."""
+import binascii, collections, errno, os, re, shutil, socket, subprocess, sys, syslog, threading, time
+import nbdkit
+
+API_VERSION = 2
+SIZE = 512
+PAIRS, LINE = 8, 1100  # of one write: its blocks at most, and the bytes of its line
+MANY = 128  # lines that are sent as one, so that no request keeps the others waiting for long
+ASKED = re.compile(rb"s|e|up|down|(fail|replace) (0|[1-9][0-9]{0,9})")
+HALTS = (b"two ", b"worn ")
+HERE = os.path.dirname(os.path.realpath(__file__))
+
+
+def log(text):
+    """Says this where nbdkit says its errors: in the background that is the log of the system."""
+    if os.fstat(2).st_rdev == os.stat(os.devnull).st_rdev:
+        syslog.syslog(syslog.LOG_NOTICE, f"paraid: {text}")
+    else:
+        print(f"paraid: {text}", file=sys.stderr, flush=True)
+
+
+class Refused(Exception):
+    """What the program answered in place of what was asked for, or why it does not answer."""
+
+
+class Batch:
+    """Lines that were sent as one, and their answers as they come."""
+
+    def __init__(self, count):
+        self.left, self.answers, self.fault = count, [], None
+        self.done = threading.Lock()
+        self.done.acquire()
+
+    def end(self, fault=None):
+        self.fault = fault
+        try:
+            self.done.release()
+        except RuntimeError:
+            pass  # both who sent it and who listens saw the end of the program
+
+    def wait(self):
+        with self.done:
+            pass
+        if self.fault:
+            raise Refused(self.fault)
+        return self.answers
+
+
+class Run:
+    """One `paraid run`. Lines may be sent before earlier ones are answered: answers come in the same
+    order. A thread of its own takes them at once, so neither pipe stays full while the other is waited
+    for."""
+
+    def __init__(self, program, folder):
+        # In a session of its own: an interrupt from the keyboard is for nbdkit, which then ends the input.
+        self.process = subprocess.Popen([program, "run"], cwd=folder, stdin=subprocess.PIPE, bufsize=0,
+                                        stdout=subprocess.PIPE, stderr=subprocess.STDOUT,
+                                        start_new_session=True)
+        self.waiting, self.sent, self.ended, self.last, self.rest = collections.deque(), 0, None, b"", b""
+        self.mounted = self.first_line()
+
+    def first_line(self):
+        """Passes on what comes before the line of the mount: a launcher tells of a build."""
+        last = "it said nothing"
+        while True:
+            line = self.take_line()
+            if not line:
+                raise RuntimeError(f"paraid serves no array: {last}")
+            last = line.decode(errors="replace")
+            if last.startswith("mounted "):
+                return last
+            log(last)
+
+    def take_line(self):
+        """Takes one line while no thread does: before nbdkit goes to the background."""
+        while b"\n" not in self.rest:
+            piece = os.read(self.process.stdout.fileno(), 1 << 16)
+            if not piece:
+                return b""
+            self.rest += piece
+        line, self.rest = self.rest.split(b"\n", 1)
+        return line
+
+    def ask_alone(self, line):
+        self.write(line + b"\n")
+        return self.take_line()
+
+    def start(self):
+        self.listener = threading.Thread(target=self.listen, daemon=True)
+        self.listener.start()
+
+    def listen(self):
+        rest = self.rest
+        while piece := os.read(self.process.stdout.fileno(), 1 << 18):
+            lines = (rest + piece).split(b"\n")
+            rest = lines.pop()
+            if lines:
+                self.last = lines[-1]
+                self.give(lines)
+        self.last = rest or self.last
+        status = self.process.wait()
+        said = self.last.decode(errors="replace")
+        # (from the background the status is not to be had)
+        self.ended = f"the program ended{f' with {status}' if status else ''}; its last line: {said}"
+        while self.waiting:
+            self.waiting.popleft().end(self.ended)
+
+    def give(self, lines):
+        at = 0
+        while at < len(lines) and self.waiting:
+            batch = self.waiting[0]
+            part = lines[at : at + batch.left]
+            batch.answers += part
+            batch.left -= len(part)
+            at += len(part)
+            if not batch.left:
+                self.waiting.popleft()
+                batch.end()
+
+    def send(self, lines):
+        """Sends these lines; one thread at a time may."""
+        batch = Batch(len(lines))
+        self.waiting.append(batch)
+        self.write(b"\n".join(lines) + b"\n")
+        if self.ended:
+            batch.end(self.ended)
+        return batch
+
+    def write(self, text):
+        self.sent += len(text)
+        text = memoryview(text)
+        try:
+            while text:
+                text = text[self.process.stdin.write(text) :]
+        except (BrokenPipeError, ValueError):
+            pass  # it has ended or its input was closed, which who listens will see
+
+    def close(self):
+        """Ends the input, so the run flushes, and waits for its end. Tells the last line."""
+        self.process.stdin.close()
+        self.listener.join()
+        return self.last.decode(errors="replace")
+
+
+class Array:
+    """The array as a list of blocks for many threads, over one run after the other."""
+
+    def __init__(self, program, folder, limit):
+        self.program, self.folder, self.limit = program, folder, limit
+        self.order = threading.Lock()
+        self.run = Run(program, folder)
+        self.blocks = self.count_blocks()
+
+    def count_blocks(self):
+        """No line tells the number of blocks, but each read past them is refused."""
+        low, high = 0, 2**32 - 1
+        while low < high:
+            half = (low + high) // 2
+            said = self.run.ask_alone(b"r %d" % half)
+            if said == b"noblock %d" % half:
+                high = half
+            elif said.startswith(b"%d=" % half):
+                low = half + 1
+            else:
+                raise RuntimeError(f"paraid answers no read: {said.decode(errors='replace')}")
+        return low
+
+    def renew(self):
+        """Ends the run, which flushes, and begins the next: one takes 2^40 bytes at most."""
+        if self.run.ended:
+            return
+        said = self.run.close()
+        try:
+            if not said.startswith("end "):
+                raise RuntimeError(said)
+            run = Run(self.program, self.folder)
+            run.start()
+        except (OSError, RuntimeError) as fault:
+            self.run.ended = f"the next run did not begin: {fault}"
+            log(self.run.ended)
+            return
+        self.run = run
+        log(f"{run.mounted} (a new run, after {self.limit} bytes)")
+
+    def send(self, lines):
+        with self.order:
+            if self.run.sent >= self.limit:
+                self.renew()
+            return self.run.send(lines)
+
+    def ask(self, lines):
+        """Sends all these lines and gives their answers."""
+        sent = [self.send(lines[at : at + MANY]) for at in range(0, len(lines), MANY)]
+        return [answer for batch in sent for answer in batch.wait()]
+
+    def ask_one(self, line):
+        return self.ask([line])[0]
+
+    def read(self, first, into):
+        count = len(into) // SIZE
+        for n, said in enumerate(self.ask([b"r %d" % (first + n) for n in range(count)])):
+            number, equals, digits = said.partition(b"=")
+            if not equals or number != b"%d" % (first + n):
+                raise Refused(said.decode(errors="replace"))
+            some = binascii.unhexlify(digits)
+            if len(some) < SIZE:  # the shortest list of bytes that the block repeats
+                some = (some * (SIZE // len(some) + 1))[:SIZE]
+            into[n * SIZE : (n + 1) * SIZE] = some
+
+    def write(self, lines, fua):
+        answers = self.ask(lines + [b"f"] * fua)
+        for said in answers[: len(lines)]:
+            if not said.startswith(b"wrote "):
+                raise Refused(said.decode(errors="replace"))
+        if fua and not answers[-1].startswith(b"flushed "):
+            raise Refused(answers[-1].decode(errors="replace"))
+
+    def flush(self):
+        self.write([], True)
+
+    def close(self):
+        with self.order:
+            return self.run.close()
+
+
+def write_lines(first, pieces):
+    """Gives the lines that write these digits to the blocks from `first` on, up to eight a line."""
+    lines, line, pairs = [], b"w", 0
+    for number, digits in enumerate(pieces, first):
+        pair = b" %d %b" % (number, digits)
+        if pairs == PAIRS or (pairs and len(line) + len(pair) > LINE):
+            lines.append(line)
+            line, pairs = b"w", 0
+        line, pairs = line + pair, pairs + 1
+    return lines + [line] * (pairs > 0)
+
+
+def digits_of(block):
+    """Gives the digits of a block; one that repeats its first byte, as zeros do, has two."""
+    return binascii.hexlify(block[:1] if block == block[:1] * SIZE else block)
+
+
+class Clock:
+    """Sends the ticks, and says what the array does of itself: shifts, lost disks and rebuilds."""
+
+    def __init__(self, array, tick):
+        self.array, self.tick, self.stop, self.last = array, tick, threading.Event(), None
+        self.thread = threading.Thread(target=self.run, daemon=True)
+        self.thread.start()
+
+    def run(self):
+        due = time.monotonic() + self.tick
+        while not self.stop.wait(max(0, due - time.monotonic())):
+            try:
+                said = self.array.ask_one(b"t").decode(errors="replace")
+            except Refused as fault:
+                log(fault)
+                return
+            if not said.startswith("tick "):
+                log(f"each request is answered by an error from now on: {said}")
+                return
+            self.tell(said)
+            # A tick that took longer than its time is followed by the next in its time: no others are
+            # made up for, as they would be ticks without load.
+            while due <= time.monotonic():
+                due += self.tick
+
+    def tell(self, said):
+        words = said.split()
+        event = words[4]
+        if event in ("begun", "flipped", "rebuilt", "gone", "lost") or (
+                event in ("waiting", "ration") and words[4:] != self.last):
+            log(said)
+            if event in ("waiting", "lost", "gone"):
+                log(self.array.ask_one(b"s").decode(errors="replace"))
+        self.last = words[4:]
+
+    def close(self):
+        self.stop.set()
+        self.thread.join()
+
+
+class Control:
+    """A socket on which an administrator asks for what no request of a client can: the state and the
+    energy, shifts, and disks that are taken out and replaced. No other line is passed on."""
+
+    def __init__(self, path):
+        self.path = path
+        self.socket = socket.socket(socket.AF_UNIX, socket.SOCK_STREAM)
+        try:
+            self.socket.connect(path)
+        except OSError:
+            pass
+        else:
+            raise RuntimeError(f"{path}: another service answers there")
+        if os.path.exists(path):
+            os.unlink(path)  # one that a kill has left
+        self.socket = socket.socket(socket.AF_UNIX, socket.SOCK_STREAM)
+        old = os.umask(0o177)
+        try:
+            self.socket.bind(path)
+        finally:
+            os.umask(old)
+        self.socket.listen()
+
+    def start(self, array):
+        self.array = array
+        threading.Thread(target=self.accept, daemon=True).start()
+
+    def accept(self):
+        while True:
+            try:
+                client, _ = self.socket.accept()
+            except OSError:
+                return
+            threading.Thread(target=self.serve, args=(client,), daemon=True).start()
+
+    def serve(self, client):
+        client.settimeout(60)
+        try:
+            with client, client.makefile("rwb", buffering=0) as stream:
+                while line := stream.readline(64):
+                    stream.write(self.answer(line.rstrip(b"\n")) + b"\n")
+        except OSError:
+            pass
+
+    def answer(self, line):
+        if not ASKED.fullmatch(line):
+            return b"bad"
+        try:
+            said = self.array.ask_one(line)
+        except Refused as fault:
+            return f"ended: {fault}".encode()
+        if line not in (b"s", b"e"):
+            log(f"asked {line.decode()}: {said.decode(errors='replace')}")
+        return said
+
+    def close(self):
+        self.socket.close()
+        try:
+            os.unlink(self.path)
+        except OSError:
+            pass
+
+
+given = {"array": None, "program": None, "tick": "1", "control": None, "limit": str(2**39)}
+array = clock = control = None
+
+
+def config(key, value):
+    if key not in given:
+        raise RuntimeError(f"unknown parameter {key}: array, program, tick, control and limit are known")
+    # nbdkit goes to the root folder before it serves
+    if key in ("array", "control") or (key == "program" and "/" in value):
+        value = os.path.abspath(value)
+    given[key] = value
+
+
+def config_complete():
+    if given["array"] is None or not os.path.isdir(given["array"]):
+        raise RuntimeError(f"array=FOLDER names no folder: {given['array']}")
+    try:
+        given["tick"], given["limit"] = float(given["tick"]), int(given["limit"])
+    except ValueError:
+        raise RuntimeError("tick=SECONDS and limit=BYTES are numbers")
+    if not 0 <= given["tick"] <= 86400 or not 1 <= given["limit"] <= 2**39:
+        raise RuntimeError("tick is 0 (no clock) to 86400, limit 1 to 2^39")
+    near = os.path.join(HERE, "..", "paraid")
+    program = given["program"] or (near if os.access(near, os.X_OK) else "paraid")
+    given["program"] = shutil.which(program)
+    if given["program"] is None:
+        raise RuntimeError(f"there is no program {program}")
+
+
+def thread_model():
+    return nbdkit.THREAD_MODEL_PARALLEL
+
+
+def get_ready():
+    """Mounts the array while nbdkit can still tell a refusal to who started it."""
+    global array, control
+    if given["control"] is not None:
+        control = Control(given["control"])
+    array = Array(given["program"], given["array"], given["limit"])
+    log(f"{array.run.mounted}, {array.blocks} blocks of {SIZE} bytes")
+
+
+def after_fork():
+    global clock
+    array.run.start()
+    if given["tick"]:
+        clock = Clock(array, given["tick"])
+    if control is not None:
+        control.start(array)
+
+
+def cleanup():
+    """The clients have gone: ends the run, which flushes."""
+    if control is not None:
+        control.close()
+    if clock is not None:
+        clock.close()
+    if array is not None:
+        log(array.close())
+
+
+def open(readonly):
+    return True
+
+
+def get_size(h):
+    return array.blocks * SIZE
+
+
+def block_size(h):
+    return (SIZE, 4096, 1 << 25)
+
+
+def can_multi_conn(h):
+    # All clients share one run, so a flush of one covers what was answered to any.
+    return True
+
+
+def can_flush(h):
+    return True
+
+
+def can_fua(h):
+    return nbdkit.FUA_NATIVE
+
+
+def can_trim(h):
+    return False  # there is nothing that a trimmed block would save
+
+
+def serves(what):
+    """Makes the answers of the program other than the asked for one an error of input and output."""
+
+    def serve(*words):
+        try:
+            return what(*words)
+        except Refused as fault:
+            nbdkit.set_error(errno.EIO)
+            raise OSError(errno.EIO, f"paraid: {fault}") from None
+
+    return serve
+
+
+def blocks_of(count, offset):
+    if count % SIZE or offset % SIZE:
+        nbdkit.set_error(errno.EINVAL)
+        raise OSError(errno.EINVAL, "a part of a block: start nbdkit with --filter=blocksize")
+    return offset // SIZE, count // SIZE
+
+
+@serves
+def pread(h, buf, offset, flags):
+    first, _ = blocks_of(len(buf), offset)
+    array.read(first, buf)
+
+
+@serves
+def pwrite(h, buf, offset, flags):
+    first, count = blocks_of(len(buf), offset)
+    data = bytes(buf)
+    pieces = [digits_of(data[n * SIZE : (n + 1) * SIZE]) for n in range(count)]
+    array.write(write_lines(first, pieces), bool(flags & nbdkit.FLAG_FUA))
+
+
+@serves
+def zero(h, count, offset, flags):
+    first, count = blocks_of(count, offset)
+    array.write(write_lines(first, [b"00"] * count), bool(flags & nbdkit.FLAG_FUA))
+
+
+@serves
+def flush(h, flags):
+    array.flush()
