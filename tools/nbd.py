@@ -10,20 +10,29 @@ import binascii, collections, errno, os, re, shutil, socket, subprocess, sys, sy
 import nbdkit
 
 API_VERSION = 2
+sys.tracebacklimit = 0  # nbdkit tells an error by its line alone
 SIZE = 512
 PAIRS, LINE = 8, 1100  # of one write: its blocks at most, and the bytes of its line
 MANY = 128  # lines that are sent as one, so that no request keeps the others waiting for long
-ASKED = re.compile(rb"s|e|up|down|(fail|replace) (0|[1-9][0-9]{0,9})")
+ASKED = re.compile(rb"(s|e|up|down|(fail|replace) (0|[1-9][0-9]{0,9}))\n")
 HALTS = (b"two ", b"worn ")
 HERE = os.path.dirname(os.path.realpath(__file__))
 
 
 def log(text):
     """Says this where nbdkit says its errors: in the background that is the log of the system."""
-    if os.fstat(2).st_rdev == os.stat(os.devnull).st_rdev:
+    try:
+        hidden = os.fstat(2).st_rdev == os.stat(os.devnull).st_rdev
+    except OSError:
+        hidden = True
+    if hidden:
         syslog.syslog(syslog.LOG_NOTICE, f"paraid: {text}")
     else:
         print(f"paraid: {text}", file=sys.stderr, flush=True)
+
+
+def text(line):
+    return line.decode(errors="replace")
 
 
 class Refused(Exception):
@@ -39,11 +48,13 @@ class Batch:
         self.done.acquire()
 
     def end(self, fault=None):
+        if fault and not self.left:
+            return  # all was answered before the program ended
         self.fault = fault
         try:
             self.done.release()
         except RuntimeError:
-            pass  # both who sent it and who listens saw the end of the program
+            pass  # both who sent it and who listens saw the end
 
     def wait(self):
         with self.done:
@@ -72,11 +83,12 @@ class Run:
         while True:
             line = self.take_line()
             if not line:
-                raise RuntimeError(f"paraid serves no array: {last}")
-            last = line.decode(errors="replace")
+                raise RuntimeError(f"paraid serves no array: {last} (status {self.process.wait()})")
+            last = text(line)
             if last.startswith("mounted "):
                 return last
-            log(last)
+            if last.startswith("paraid: "):
+                log(last[8:])
 
     def take_line(self):
         """Takes one line while no thread does: before nbdkit goes to the background."""
@@ -106,9 +118,8 @@ class Run:
                 self.give(lines)
         self.last = rest or self.last
         status = self.process.wait()
-        said = self.last.decode(errors="replace")
-        # (from the background the status is not to be had)
-        self.ended = f"the program ended{f' with {status}' if status else ''}; its last line: {said}"
+        # (in the background nbdkit is not its parent, and the status is not to be had)
+        self.ended = f"the program ended{f' with {status}' if status else ''}; its last line: {text(self.last)}"
         while self.waiting:
             self.waiting.popleft().end(self.ended)
 
@@ -133,12 +144,12 @@ class Run:
             batch.end(self.ended)
         return batch
 
-    def write(self, text):
-        self.sent += len(text)
-        text = memoryview(text)
+    def write(self, bytes):
+        self.sent += len(bytes)
+        left = memoryview(bytes)
         try:
-            while text:
-                text = text[self.process.stdin.write(text) :]
+            while left:
+                left = left[self.process.stdin.write(left) :]
         except (BrokenPipeError, ValueError):
             pass  # it has ended or its input was closed, which who listens will see
 
@@ -146,7 +157,7 @@ class Run:
         """Ends the input, so the run flushes, and waits for its end. Tells the last line."""
         self.process.stdin.close()
         self.listener.join()
-        return self.last.decode(errors="replace")
+        return text(self.last)
 
 
 class Array:
@@ -169,7 +180,7 @@ class Array:
             elif said.startswith(b"%d=" % half):
                 low = half + 1
             else:
-                raise RuntimeError(f"paraid answers no read: {said.decode(errors='replace')}")
+                raise RuntimeError(f"paraid answers no read: {text(said)}")
         return low
 
     def renew(self):
@@ -208,7 +219,7 @@ class Array:
         for n, said in enumerate(self.ask([b"r %d" % (first + n) for n in range(count)])):
             number, equals, digits = said.partition(b"=")
             if not equals or number != b"%d" % (first + n):
-                raise Refused(said.decode(errors="replace"))
+                self.refuse(said)
             some = binascii.unhexlify(digits)
             if len(some) < SIZE:  # the shortest list of bytes that the block repeats
                 some = (some * (SIZE // len(some) + 1))[:SIZE]
@@ -218,12 +229,18 @@ class Array:
         answers = self.ask(lines + [b"f"] * fua)
         for said in answers[: len(lines)]:
             if not said.startswith(b"wrote "):
-                raise Refused(said.decode(errors="replace"))
+                self.refuse(said)
         if fua and not answers[-1].startswith(b"flushed "):
-            raise Refused(answers[-1].decode(errors="replace"))
+            self.refuse(answers[-1])
 
     def flush(self):
         self.write([], True)
+
+    def refuse(self, said):
+        """Two disks are lost, or this is no `paraid run`, and then no later answer is to be trusted."""
+        if not said.startswith(HALTS):
+            self.run.ended = f"the program answered {text(said)}"
+        raise Refused(text(said))
 
     def close(self):
         with self.order:
@@ -259,14 +276,13 @@ class Clock:
         due = time.monotonic() + self.tick
         while not self.stop.wait(max(0, due - time.monotonic())):
             try:
-                said = self.array.ask_one(b"t").decode(errors="replace")
+                said = text(self.array.ask_one(b"t"))
+                if not said.startswith("tick "):
+                    raise Refused(said)
+                self.tell(said)
             except Refused as fault:
-                log(fault)
+                log(f"each request is answered by an error from now on: {fault}")
                 return
-            if not said.startswith("tick "):
-                log(f"each request is answered by an error from now on: {said}")
-                return
-            self.tell(said)
             # A tick that took longer than its time is followed by the next in its time: no others are
             # made up for, as they would be ticks without load.
             while due <= time.monotonic():
@@ -279,7 +295,7 @@ class Clock:
                 event in ("waiting", "ration") and words[4:] != self.last):
             log(said)
             if event in ("waiting", "lost", "gone"):
-                log(self.array.ask_one(b"s").decode(errors="replace"))
+                log(text(self.array.ask_one(b"s")))
         self.last = words[4:]
 
     def close(self):
@@ -327,19 +343,22 @@ class Control:
         try:
             with client, client.makefile("rwb", buffering=0) as stream:
                 while line := stream.readline(64):
-                    stream.write(self.answer(line.rstrip(b"\n")) + b"\n")
+                    stream.write(self.answer(line) + b"\n")
+                    if not line.endswith(b"\n"):
+                        return  # too long, or a part of what was to be asked
         except OSError:
             pass
 
     def answer(self, line):
         if not ASKED.fullmatch(line):
             return b"bad"
+        line = line[:-1]
         try:
             said = self.array.ask_one(line)
         except Refused as fault:
             return f"ended: {fault}".encode()
         if line not in (b"s", b"e"):
-            log(f"asked {line.decode()}: {said.decode(errors='replace')}")
+            log(f"asked {text(line)}: {text(said)}")
         return said
 
     def close(self):
@@ -351,7 +370,7 @@ class Control:
 
 
 given = {"array": None, "program": None, "tick": "1", "control": None, "limit": str(2**39)}
-array = clock = control = None
+array = clock = control = rights = None
 
 
 def config(key, value):
@@ -373,7 +392,7 @@ def config_complete():
     if not 0 <= given["tick"] <= 86400 or not 1 <= given["limit"] <= 2**39:
         raise RuntimeError("tick is 0 (no clock) to 86400, limit 1 to 2^39")
     near = os.path.join(HERE, "..", "paraid")
-    program = given["program"] or (near if os.access(near, os.X_OK) else "paraid")
+    program = given["program"] or (near if os.path.isfile(near) else "paraid")
     given["program"] = shutil.which(program)
     if given["program"] is None:
         raise RuntimeError(f"there is no program {program}")
@@ -385,15 +404,20 @@ def thread_model():
 
 def get_ready():
     """Mounts the array while nbdkit can still tell a refusal to who started it."""
-    global array, control
+    global array, control, rights
+    rights = os.geteuid(), os.getegid()
+    array = Array(given["program"], given["array"], given["limit"])
     if given["control"] is not None:
         control = Control(given["control"])
-    array = Array(given["program"], given["array"], given["limit"])
     log(f"{array.run.mounted}, {array.blocks} blocks of {SIZE} bytes")
 
 
 def after_fork():
     global clock
+    if rights != (os.geteuid(), os.getegid()):
+        if control is not None:
+            control.close()
+        raise RuntimeError("not with the options -u and -g of nbdkit: start it as the owner of the images")
     array.run.start()
     if given["tick"]:
         clock = Clock(array, given["tick"])
@@ -420,7 +444,7 @@ def get_size(h):
 
 
 def block_size(h):
-    return (SIZE, 4096, 1 << 25)
+    return (SIZE, 4096, 1 << 20)  # the filter cuts what is longer, so few lines are held at a time
 
 
 def can_multi_conn(h):
