@@ -6,7 +6,8 @@
 Each request becomes lines of one `paraid run`, in the order in which they come, and a clock sends the
 ticks by which the array shifts. So a write is answered when the run has accepted it, and a flush when
 the disks hold all writes that were answered before it. docs/paraid-nbd.8 tells the rest."""
-import binascii, collections, errno, os, re, shutil, socket, subprocess, sys, syslog, threading, time
+import binascii, collections, errno, os, re, shutil, socket, stat, subprocess, sys, syslog
+import threading, time
 import nbdkit
 
 API_VERSION = 2
@@ -22,13 +23,12 @@ HERE = os.path.dirname(os.path.realpath(__file__))
 def log(text):
     """Says this where nbdkit says its errors: in the background that is the log of the system."""
     try:
-        hidden = os.fstat(2).st_rdev == os.stat(os.devnull).st_rdev
+        if os.fstat(2).st_rdev != os.stat(os.devnull).st_rdev:
+            os.write(2, f"paraid: {text}\n".encode())
+            return
     except OSError:
-        hidden = True
-    if hidden:
-        syslog.syslog(syslog.LOG_NOTICE, f"paraid: {text}")
-    else:
-        print(f"paraid: {text}", file=sys.stderr, flush=True)
+        pass
+    syslog.syslog(syslog.LOG_NOTICE, f"paraid: {text}")
 
 
 def text(line):
@@ -277,9 +277,9 @@ class Clock:
         while not self.stop.wait(max(0, due - time.monotonic())):
             try:
                 said = text(self.array.ask_one(b"t"))
-                if not said.startswith("tick "):
+                if not said.startswith("tick ") or len(said.split()) < 5:
                     raise Refused(said)
-                self.tell(said)
+                self.tell(said.split()[4:], said)
             except Refused as fault:
                 log(f"each request is answered by an error from now on: {fault}")
                 return
@@ -288,15 +288,13 @@ class Clock:
             while due <= time.monotonic():
                 due += self.tick
 
-    def tell(self, said):
-        words = said.split()
-        event = words[4]
-        if event in ("begun", "flipped", "rebuilt", "gone", "lost") or (
-                event in ("waiting", "ration") and words[4:] != self.last):
+    def tell(self, event, said):
+        lasts = event[0] in ("waiting", "ration")  # so it is told once
+        if event[0] in ("begun", "flipped", "rebuilt", "gone", "lost") or (lasts and event != self.last):
             log(said)
-            if event in ("waiting", "lost", "gone"):
+            if event[0] in ("waiting", "lost", "gone"):
                 log(text(self.array.ask_one(b"s")))
-        self.last = words[4:]
+        self.last = event
 
     def close(self):
         self.stop.set()
@@ -309,22 +307,27 @@ class Control:
 
     def __init__(self, path):
         self.path = path
+        self.take_away()
         self.socket = socket.socket(socket.AF_UNIX, socket.SOCK_STREAM)
-        try:
-            self.socket.connect(path)
-        except OSError:
-            pass
-        else:
-            raise RuntimeError(f"{path}: another service answers there")
-        if os.path.exists(path):
-            os.unlink(path)  # one that a kill has left
-        self.socket = socket.socket(socket.AF_UNIX, socket.SOCK_STREAM)
-        old = os.umask(0o177)
+        old = os.umask(0o177)  # the user who started nbdkit, and nobody else
         try:
             self.socket.bind(path)
         finally:
             os.umask(old)
         self.socket.listen()
+
+    def take_away(self):
+        """Takes away a socket that a kill has left, and nothing else."""
+        with socket.socket(socket.AF_UNIX, socket.SOCK_STREAM) as other:
+            try:
+                other.connect(self.path)
+            except FileNotFoundError:
+                return
+            except ConnectionRefusedError:
+                if stat.S_ISSOCK(os.stat(self.path).st_mode):
+                    os.unlink(self.path)
+                    return
+        raise RuntimeError(f"control={self.path} is there, and is no socket that was left behind")
 
     def start(self, array):
         self.array = array
@@ -388,14 +391,14 @@ def config_complete():
     try:
         given["tick"], given["limit"] = float(given["tick"]), int(given["limit"])
     except ValueError:
-        raise RuntimeError("tick=SECONDS and limit=BYTES are numbers")
+        raise RuntimeError("tick=SECONDS and limit=BYTES are numbers") from None
     if not 0 <= given["tick"] <= 86400 or not 1 <= given["limit"] <= 2**39:
         raise RuntimeError("tick is 0 (no clock) to 86400, limit 1 to 2^39")
     near = os.path.join(HERE, "..", "paraid")
     program = given["program"] or (near if os.path.isfile(near) else "paraid")
-    given["program"] = shutil.which(program)
-    if given["program"] is None:
+    if shutil.which(program) is None:
         raise RuntimeError(f"there is no program {program}")
+    given["program"] = os.path.abspath(shutil.which(program))
 
 
 def thread_model():
