@@ -22,8 +22,8 @@ COMMANDS = $(notdir $(wildcard $(addprefix tools/,ctl power state lint locate da
 MODULES = $(notdir $(wildcard tools/nbd.py tools/images.py))
 PAGES = $(wildcard docs/*.[1-8])
 UNITS = paraid-nbd@.service paraid-check@.service paraid-check@.timer
-SAMPLES = $(wildcard examples/*.toml) etc/stop-for-check.conf
-TEXTS = $(wildcard README.md LICENSE CHANGELOG.md)
+SAMPLES = $(wildcard examples/*.toml) examples/day.txt etc/stop-for-check.conf
+TEXTS = $(wildcard README.md docs/INSTALL.md LICENSE CHANGELOG.md)
 
 # What goes where: MODE=FILE=PLACE.
 FILES = 755=$(PROGRAM)=$(SBINDIR)/paraid \
