@@ -19,11 +19,11 @@ PROGRAM = dist/paraid
 
 # Of the tools those that serve a running array. Each is also a command, paraid-NAME.
 COMMANDS = $(notdir $(wildcard $(addprefix tools/,ctl power state lint locate day)))
-MODULES = $(notdir $(wildcard tools/nbd.py tools/images.py))
+MODULES = $(notdir $(wildcard tools/*.py))
 PAGES = $(wildcard docs/*.[1-8])
 UNITS = paraid-nbd@.service paraid-check@.service paraid-check@.timer
 SAMPLES = $(wildcard examples/*.toml) examples/day.txt etc/stop-for-check.conf
-TEXTS = $(wildcard README.md docs/INSTALL.md LICENSE CHANGELOG.md)
+TEXTS = $(wildcard README.md docs/INSTALL.md docs/DRIVES.md LICENSE CHANGELOG.md)
 
 # What goes where: MODE=FILE=PLACE.
 FILES = 755=$(PROGRAM)=$(SBINDIR)/paraid \
