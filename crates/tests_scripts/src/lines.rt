@@ -44,6 +44,53 @@ pub fn bytes_of(alloc: Global, text: &str) -> Option<Vec<u8>> {
     Some(bytes)
 }
 
+// The value of a hexadecimal digit.
+fn digit(byte: u8) -> Option<u8> {
+    match byte {
+        b'0'..=b'9' => Some(byte - b'0'),
+        b'a'..=b'f' => Some(byte - b'a' + 10),
+        _ => None,
+    }
+}
+
+// Adds the bytes of a word of hexadecimal digits.
+fn add_bytes(bytes: &mut Vec<u8>, word: &str) -> Option<()> {
+    let mut high = None;
+    for byte in word.as_bytes().iter() {
+        let value = digit(*byte)?;
+        match high {
+            Some(first) => {
+                bytes.push(first << 4 | value).ok()?;
+                high = None;
+            }
+            None => high = Some(value),
+        }
+    }
+    Some(())
+}
+
+/// Bytes by words of their hexadecimal digits, two for each byte.
+pub fn bytes_by_digits(alloc: Global, text: &str) -> Option<Vec<u8>> {
+    let mut bytes = Vec::new(alloc);
+    for word in text.split_whitespace() {
+        add_bytes(&mut bytes, word)?;
+    }
+    Some(bytes)
+}
+
+/// A line of the hexadecimal digits of bytes, or no line where there is none.
+pub fn digits_of(alloc: Global, bytes: &[u8]) -> Option<String> {
+    let mut digits = String::new(alloc);
+    for byte in bytes.iter() {
+        let two = format!(in alloc; "{byte:02x}").ok()?;
+        digits.push_str(two.as_str()).ok()?;
+    }
+    if !digits.as_str().is_empty() {
+        digits.push('\n').ok()?;
+    }
+    Some(digits)
+}
+
 /// Adds a line to a text.
 pub fn add_line(text: &mut String, line: &str) -> Option<()> {
     text.push_str(line).ok()?;

@@ -1,8 +1,10 @@
 //! Runs of the program over a source, a sink and disks in memory.
 
-use crate::lines::{trace_before, trace_of};
-use paraid_base::DiskNo;
-use paraid_io::{MemSink, MemSource};
+ghost use Rattle.std.specs.Prelude.{None};
+
+use crate::lines::{digits_of, trace_before, trace_of};
+use paraid_base::{DiskNo, Failed};
+use paraid_io::{MemSink, MemSource, Source};
 use paraid_memrack::{MemRack, Pick, Planned};
 use paraid_program::{Ended, paraid};
 use std::alloc::Global;
@@ -10,12 +12,13 @@ use std::alloc::Global;
 /// The number of a call that no run here has. So many calls of a run are listed.
 pub const NEVER: u32 = 4000;
 
-/// Which calls fail.
+/// Which calls fail, and how many bytes one call of the source gives at most.
 #[derive(Drop)]
 pub struct Faults {
     pub disks: Vec<Planned>,
     pub source: u32,
     pub sink: u32,
+    pub most: usize,
 }
 
 impl Faults {
@@ -25,6 +28,7 @@ impl Faults {
             disks: Vec::new(alloc),
             source: NEVER,
             sink: NEVER,
+            most: usize::MAX,
         }
     }
 
@@ -35,6 +39,7 @@ impl Faults {
             disks,
             source: NEVER,
             sink: NEVER,
+            most: usize::MAX,
         })
     }
 }
@@ -81,11 +86,32 @@ fn list_of(alloc: Global, words: &str) -> Option<Vec<String>> {
     Some(list)
 }
 
-// A source of this input whose call of this number fails.
-fn source_of(alloc: Global, input: &[u8], fails: u32) -> Option<MemSource> {
+// A source that gives at most so many bytes at a time.
+#[derive(Drop)]
+struct Pieces {
+    source: MemSource,
+    most: usize,
+}
+
+impl Source for Pieces {
+    ghost faults = { λ s. ⟦<MemSource as Source>⟧.faults s.source };
+
+    ghost left = { λ s. None };
+
+    fn read_some(&mut self, into: &mut [u8]) -> Result<usize, Failed> {
+        let most = self.most.max(1).min(into.len());
+        self.source.read_some(&mut into[..most])
+    }
+}
+
+// A source of this input.
+fn source_of(alloc: Global, input: &[u8], faults: &Faults) -> Option<Pieces> {
     let bytes = input.to_vec(alloc).ok()?;
-    let fails = vec![in alloc; fails].ok()?;
-    Some(MemSource::new(bytes, fails))
+    let fails = vec![in alloc; faults.source].ok()?;
+    Some(Pieces {
+        source: MemSource::new(bytes, fails),
+        most: faults.most,
+    })
 }
 
 // A sink whose call of this number fails.
@@ -94,28 +120,13 @@ fn sink_of(alloc: Global, fails: u32) -> Option<MemSink> {
     MemSink::new(alloc, 65_536, fails).ok()
 }
 
-fn written(alloc: Global, sink: &MemSink) -> Option<String> {
+// What was written: the digits of the bytes that a client gets, and else the text.
+fn written(alloc: Global, words: &str, sink: &MemSink) -> Option<String> {
+    if words == "nbd" {
+        return digits_of(alloc, sink.bytes());
+    }
     let text = str::from_utf8(sink.bytes()).ok()?;
     String::from_str(alloc, text).ok()
-}
-
-fn left_of(
-    alloc: Global,
-    words: &Vec<String>,
-    source: &mut MemSource,
-    sink: &mut MemSink,
-    disks: MemRack,
-) -> Option<Left> {
-    let Ended {
-        status,
-        rack: disks,
-    } = paraid(alloc, words, source, sink, disks);
-    let text = written(alloc, sink)?;
-    Some(Left {
-        status,
-        text,
-        disks,
-    })
 }
 
 // What the program does with these words over this input and these disks. These calls of the source and of the sink
@@ -124,20 +135,28 @@ fn ran_on(
     alloc: Global,
     words: &str,
     input: &[u8],
-    source: u32,
-    sink: u32,
+    faults: &Faults,
     disks: MemRack,
 ) -> Option<Left> {
     let list = list_of(alloc, words)?;
-    let mut source = source_of(alloc, input, source)?;
-    let mut sink = sink_of(alloc, sink)?;
-    left_of(alloc, &list, &mut source, &mut sink, disks)
+    let mut source = source_of(alloc, input, faults)?;
+    let mut sink = sink_of(alloc, faults.sink)?;
+    let Ended {
+        status,
+        rack: disks,
+    } = paraid(alloc, &list, &mut source, &mut sink, disks);
+    let text = written(alloc, words, &sink)?;
+    Some(Left {
+        status,
+        text,
+        disks,
+    })
 }
 
 /// A run over the lines of this text to their end, in which no call fails.
 pub fn played(alloc: Global, text: &str, disks: MemRack) -> Option<Left> {
     let trace = trace_of(alloc, text)?;
-    ran_on(alloc, "run", trace.as_bytes(), NEVER, NEVER, disks)
+    ran_on(alloc, "run", trace.as_bytes(), &Faults::none(alloc), disks)
 }
 
 /// What the program does with these words over this input and these disks, which stay as they are.
@@ -149,27 +168,21 @@ pub fn ran(
     disks: &MemRack,
 ) -> Option<Left> {
     let disks = restarted(alloc, disks, &faults.disks)?;
-    ran_on(alloc, words, input, faults.source, faults.sink, disks)
+    ran_on(alloc, words, input, faults, disks)
 }
 
 /// A check of these disks, in which no call fails.
 pub fn checked(alloc: Global, disks: MemRack) -> Option<Left> {
-    ran_on(alloc, "check", b"", NEVER, NEVER, disks)
+    ran_on(alloc, "check", b"", &Faults::none(alloc), disks)
 }
 
 /// What these words and then a check tell, on a new array of eight disks of up to 17516 blocks, none of whose calls is
 /// listed, with the greater status.
 pub fn unlisted(alloc: Global, words: &str, configuration: &str) -> Option<Left> {
     let bare = MemRack::new(alloc, 8, 17_516, 0, Vec::new(alloc)).ok()?;
-    let made = ran_on(
-        alloc,
-        "format",
-        configuration.as_bytes(),
-        NEVER,
-        NEVER,
-        bare,
-    )?;
-    let left = ran_on(alloc, words, b"", NEVER, NEVER, made.disks)?;
+    let faults = Faults::none(alloc);
+    let made = ran_on(alloc, "format", configuration.as_bytes(), &faults, bare)?;
+    let left = ran_on(alloc, words, b"", &faults, made.disks)?;
     let mut text = left.text;
     let found = checked(alloc, left.disks)?;
     text.push_str(found.text.as_str()).ok()?;
@@ -196,7 +209,10 @@ pub fn unended(alloc: Global, text: &str, faults: &Faults, disks: &MemRack) -> O
 // A run that is cut off after this trace, with no flush at its end: the source fails there.
 fn cut(alloc: Global, trace: &String, faults: &Faults, disks: &MemRack) -> Option<Left> {
     let disks = restarted(alloc, disks, &faults.disks)?;
-    ran_on(alloc, "run", trace.as_bytes(), 1, faults.sink, disks)
+    let mut streams = Faults::none(alloc);
+    streams.source = 1;
+    streams.sink = faults.sink;
+    ran_on(alloc, "run", trace.as_bytes(), &streams, disks)
 }
 
 /// A run that is cut off after the lines of this text.

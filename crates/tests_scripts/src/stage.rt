@@ -1,7 +1,9 @@
 //! The disks, the configuration and the faults to come, and what each line of the script makes of them.
 
 use crate::changes::{byte_at, changed, without};
-use crate::lines::{bytes_of, configured, first_byte, first_number, first_word, is_any};
+use crate::lines::{
+    bytes_by_digits, bytes_of, configured, first_byte, first_number, first_word, is_any, trace_of,
+};
 use crate::moments::{Sights, ended, stops, stops_twice};
 use crate::runs::{
     Faults, Left, bare, cut_before, cut_off, ran, restarted, stopped, unended, unlisted, whole,
@@ -39,7 +41,7 @@ fn kind_of(word: &str) -> Kind {
         Kind::Make
     } else if is_any(word, "park fresh fill byte") {
         Kind::Change
-    } else if is_any(word, "fail failcall source sink") {
+    } else if is_any(word, "fail failcall source sink pieces") {
         Kind::Plan
     } else {
         Kind::Run
@@ -191,6 +193,7 @@ impl Stage {
         match word {
             "source" => self.faults.source = nth,
             "sink" => self.faults.sink = nth,
+            "pieces" => self.faults.most = nth as usize,
             "failcall" => self.faults.disks.push(Planned::AtCall(nth)).ok()?,
             _ => {
                 let (disk, rest) = first_byte(rest);
@@ -203,7 +206,7 @@ impl Stage {
 
     // Plays a command that runs the program.
     fn play_run(&mut self, alloc: Global, word: &str, rest: &str) -> Option<String> {
-        let told = if is_any(word, "run part bytes ends paraid") {
+        let told = if is_any(word, "run part bytes ends client paraid") {
             self.run(alloc, word, rest)
         } else if word == "stop" {
             self.stop(alloc, rest)
@@ -215,19 +218,38 @@ impl Stage {
     }
 
     fn left_by(&self, alloc: Global, word: &str, rest: &str, faults: &Faults) -> Option<Left> {
-        let input = self.configuration.as_bytes();
         match word {
             "run" => whole(alloc, rest, faults, &self.disks),
             "part" => unended(alloc, rest, faults, &self.disks),
             "ends" => ended(alloc, rest, faults, &self.disks),
-            "bytes" => self.left_by_bytes(alloc, rest, faults),
-            _ => ran(alloc, rest, input, faults, &self.disks),
+            "bytes" => self.left_by_bytes(alloc, "run", bytes_of(alloc, rest)?, faults),
+            "client" => self.left_by_bytes(alloc, "nbd", bytes_by_digits(alloc, rest)?, faults),
+            _ => self.left_by_words(alloc, rest, faults),
         }
     }
 
-    fn left_by_bytes(&self, alloc: Global, rest: &str, faults: &Faults) -> Option<Left> {
-        let bytes = bytes_of(alloc, rest)?;
-        ran(alloc, "run", bytes.as_slice(), faults, &self.disks)
+    fn left_by_bytes(
+        &self,
+        alloc: Global,
+        words: &str,
+        bytes: Vec<u8>,
+        faults: &Faults,
+    ) -> Option<Left> {
+        ran(alloc, words, bytes.as_slice(), faults, &self.disks)
+    }
+
+    // What the program does with these words over the lines after a `<`, or over the configuration.
+    fn left_by_words(&self, alloc: Global, text: &str, faults: &Faults) -> Option<Left> {
+        match text.split_once(" <") {
+            Some((words, lines)) => {
+                let trace = trace_of(alloc, lines.trim_start())?;
+                ran(alloc, words, trace.as_bytes(), faults, &self.disks)
+            }
+            None => {
+                let input = self.configuration.as_bytes();
+                ran(alloc, text, input, faults, &self.disks)
+            }
+        }
     }
 
     // Notes what a command that runs the program tells where these calls fail.
