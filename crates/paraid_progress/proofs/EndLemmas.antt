@@ -22,7 +22,7 @@ use Rattle.paraid_record.specs.declared.meta.Mode.{Mode}
 use Rattle.paraid_record.specs.declared.meta.Mode.TheVariants.{Whole, Access}
 use Rattle.paraid_record.specs.Range.{rebuild_units}
 use Rattle.paraid_record.specs.declared.meta.Setup.{Setup}
-use Rattle.paraid_progress.specs.Progress.{AnswersEach, AnswersTell, AreMild, IsToldBy, is_mild, is_tick, ticks_in}
+use Rattle.paraid_progress.specs.Progress.{AnswersEach, AnswersTell, AreMild, IsToldBy, is_mild, counts_as_tick, ticks_in}
 use Rattle.paraid_progress.proofs.MildLemmas.{event_calm, only}
 use Rattle.paraid_progress.proofs.UnitLemmas.{KeepsShift, units_keep, units_moved}
 
@@ -72,7 +72,7 @@ rate_moved Whole (Down to) rate left apart = lesser_moved rate left apart
 rate_moved Whole Steady rate left apart = lesser_moved rate left apart
 rate_moved Access phase rate left apart = lesser_moved rate left apart
 
-tick_is : (event : Event) → is_tick event ≡ true → event ≡ Tick
+tick_is : (event : Event) → counts_as_tick event ≡ true → event ≡ Tick
 tick_is (Read b) is = absurd (false≢true is)
 tick_is (Write pairs) is = absurd (false≢true is)
 tick_is Flush is = absurd (false≢true is)
@@ -105,7 +105,7 @@ after_tick setup step steps s new whole some room later (moves told keeps left a
     (omega (arith, left, moved, room, split)))
 
 step_ends : (setup : Setup) (step : Event × Answer) (steps : List (Event × Answer)) (s new : PowerState) (h : History) (used : ℕ) → s.out ≡ No → 0 < phase_to s.phase → is_mild step.0 ≡ true
-    → IsEventStep setup h used s step.0 None step.1 new → Later setup steps new → (b : Bool) → is_tick step.0 ≡ b
+    → IsEventStep setup h used s step.0 None step.1 new → Later setup steps new → (b : Bool) → counts_as_tick step.0 ≡ b
     → 0 < (if b then 1 else 0) + ticks_in steps → units_left setup s ≤ setup.rate * ((if b then 1 else 0) + ticks_in steps) → AnswersTell Flipped (step ∷ steps)
 step_ends setup step steps s new h used whole some mild came later true is ticks enough =
     after_tick setup step steps s new whole some enough later
@@ -119,7 +119,7 @@ pub shift_ends : (setup : Setup) (steps : List (Event × Answer)) (s : PowerStat
     → 0 < ticks_in steps → units_left setup s ≤ setup.rate * ticks_in steps → AnswersTell Flipped steps
 shift_ends setup [] s whole some each mild ticks enough = absurd (omega arith)
 shift_ends setup (step ∷ steps) s whole some (h, used, new, came, each) mild ticks enough =
-    step_ends setup step steps s new h used whole some mild.0 came (λ out phase. shift_ends setup steps new out phase each mild.1) (is_tick step.0) refl ticks enough
+    step_ends setup step steps s new h used whole some mild.0 came (λ out phase. shift_ends setup steps new out phase each mild.1) (counts_as_tick step.0) refl ticks enough
 
 -- a tick of a rebuild ends it, or moves as many units as the rate
 pub data RebuildOutcome (setup : Setup) (s : PowerState) (d rebuilt : ℕ) (answer : Answer) (new : PowerState) : Type 0 where
@@ -175,7 +175,7 @@ after_rebuild_tick setup step steps s new d rebuilt room later (moves gear out l
     inr (later (rebuilt + setup.rate) out (more_ticks (ticks_in steps) (units_to_rebuild setup s d rebuilt) setup.rate room less) (omega (arith, left, room, split)))
 
 step_rebuilds : (setup : Setup) (step : Event × Answer) (steps : List (Event × Answer)) (s new : PowerState) (d rebuilt : ℕ) (h : History) (used : ℕ) → s.out ≡ Fresh d rebuilt → is_mild step.0 ≡ true
-    → IsEventStep setup h used s step.0 None step.1 new → LaterRebuilt setup steps new d → (b : Bool) → is_tick step.0 ≡ b
+    → IsEventStep setup h used s step.0 None step.1 new → LaterRebuilt setup steps new d → (b : Bool) → counts_as_tick step.0 ≡ b
     → 0 < (if b then 1 else 0) + ticks_in steps → units_to_rebuild setup s d rebuilt ≤ setup.rate * ((if b then 1 else 0) + ticks_in steps) → AnswersTell (Rebuilt d) (step ∷ steps)
 step_rebuilds setup step steps s new d rebuilt h used fresh mild came later true is ticks enough =
     after_rebuild_tick setup step steps s new d rebuilt enough later
@@ -189,7 +189,7 @@ pub rebuild_ends : (setup : Setup) (steps : List (Event × Answer)) (s : PowerSt
     → 0 < ticks_in steps → units_to_rebuild setup s d rebuilt ≤ setup.rate * ticks_in steps → AnswersTell (Rebuilt d) steps
 rebuild_ends setup [] s d rebuilt fresh each mild ticks enough = absurd (omega arith)
 rebuild_ends setup (step ∷ steps) s d rebuilt fresh (h, used, new, came, each) mild ticks enough =
-    step_rebuilds setup step steps s new d rebuilt h used fresh mild.0 came (λ more out. rebuild_ends setup steps new d more out each mild.1) (is_tick step.0) refl ticks enough
+    step_rebuilds setup step steps s new d rebuilt h used fresh mild.0 came (λ more out. rebuild_ends setup steps new d more out each mild.1) (counts_as_tick step.0) refl ticks enough
 
 -- a tick that tells that it moves leaves at least so many fewer
 pub tick_leaves_fewer : (setup : Setup) (s : PowerState) (answer : Answer) (new : PowerState) → TickOutcome setup s answer new → IsToldBy Moving answer

@@ -19,7 +19,7 @@ use Rattle.paraid_machine.specs.Machine.{IsEventStep, block_count, blocks_named,
 use Rattle.paraid_machine.specs.Moves.{all_written, bit_written, block_read, block_written, cell_written, state_with_bit, units_left, with_one_served}
 use Rattle.paraid_record.specs.Modes.{is_access}
 use Rattle.paraid_record.specs.declared.meta.Setup.{Setup}
-use Rattle.paraid_progress.specs.Progress.{is_mild, is_tick}
+use Rattle.paraid_progress.specs.Progress.{is_mild, counts_as_tick}
 use Rattle.paraid_progress.proofs.CountLemmas.{count_no_more}
 use Rattle.paraid_progress.proofs.UnitLemmas.{KeepsShift, keeps_none, keeps_then}
 
@@ -111,7 +111,7 @@ serve_calm setup s None f it calm among = quiet_calm setup s it (f s) calm among
 serve_calm setup s (Some b) f it calm among = quiet_calm setup s it (NoBlock b, s) (calm_none setup s) among
 
 -- events between ticks that ask for no shift and change whole disk
-pub event_calm : (setup : Setup) (h : History) (used : ℕ) (s : PowerState) (event : Event) (answer : Answer) (new : PowerState) → is_mild event ≡ true → is_tick event ≡ false
+pub event_calm : (setup : Setup) (h : History) (used : ℕ) (s : PowerState) (event : Event) (answer : Answer) (new : PowerState) → is_mild event ≡ true → counts_as_tick event ≡ false
     → IsEventStep setup h used s event None answer new → IsCalm setup s new
 unfolding outcomes
 event_calm setup h used s (Read b) answer new mild calm is =

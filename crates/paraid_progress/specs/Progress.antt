@@ -18,6 +18,7 @@ is_mild (Fail d) = false
 is_mild (Replace d) = false
 is_mild event = true
 
+-- all of them are so
 abbrev pub AreMild : List (Event × Answer) → Type 0
 AreMild [] = Unit {0}
 AreMild (step ∷ steps) = (is_mild step.0 ≡ true) × AreMild steps
@@ -28,14 +29,15 @@ AnswersEach setup s [] = Unit {0}
 AnswersEach setup s (step ∷ steps) =
     (h : History) × (used : ℕ) × (new : PowerState) × IsEventStep setup h used s step.0 None step.1 new × AnswersEach setup new steps
 
-abbrev pub is_tick : Event → Bool
-is_tick Tick = true
-is_tick event = false
+-- an event that is a tick
+abbrev pub counts_as_tick : Event → Bool
+counts_as_tick Tick = true
+counts_as_tick event = false
 
 -- how many of the events are ticks
 abbrev pub ticks_in : List (Event × Answer) → ℕ
 ticks_in [] = 0
-ticks_in (step ∷ steps) = (if is_tick step.0 then 1 else 0) + ticks_in steps
+ticks_in (step ∷ steps) = (if counts_as_tick step.0 then 1 else 0) + ticks_in steps
 
 -- the answer of a tick, in which this came
 abbrev pub IsToldBy : TickEvent → Answer → Type 0
