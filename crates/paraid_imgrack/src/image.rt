@@ -2,13 +2,24 @@
 ghost use Rattle.std.specs.Prelude.{◌≡◌, ◌*◌, ◌/◌, min, false};
 ghost use Rattle.paraid_rack.specs.declared.call.Power.TheVariants.{Spinning, Parked, Absent};
 
+use crate::found::{Found, find, is_locked};
 use crate::power::Names;
 use paraid_base::{BLOCK_SIZE, Block, DiskNo, Failed, NoMemory, Place};
 use paraid_rack::Power;
 use std::alloc::Global;
-use std::fs::{self, File, Files, OpenOptions};
+use std::fs::{File, Files, OpenOptions};
 use std::io;
 use std::os::unix::fs::FileExt;
+
+/// Why a disk that is there can be neither served nor called lost.
+#[derive(Clone, Copy, PartialEq, Eq)]
+pub enum Hindrance {
+    /// Its image or sidecar is there and cannot be opened: this process has no right to it or no
+    /// descriptor left, or it is a link that leads nowhere, as to a drive that is not mounted.
+    Shut,
+    /// Another process works with its image, or it is the image of a second disk too.
+    Busy,
+}
 
 /// The disk of a slot, or that there is none.
 #[derive(Drop)]
@@ -21,6 +32,8 @@ pub(crate) struct Image {
     pub(crate) size: u32,
     pub(crate) unsynced: bool,
     faults: u64,
+    /// What hinders all work on the disk, where its files were looked at.
+    pub(crate) hindrance: Option<Hindrance>,
     // What a read is given, before it is a block.
     buffer: [u8; BLOCK_SIZE],
     pub ghost empty: { power ≡ Absent → size ≡ 0 },
@@ -42,26 +55,30 @@ impl Image {
         ensures { IfOk result (λ image. IsLoaded (image_slot image)) }
     {
         let names = Names::new(alloc, disk)?;
-        let power = names.load(files);
+        let Some(power) = names.load(files) else {
+            return Ok(Image::absent(names, Some(Hindrance::Shut)));
+        };
         if power == Power::Absent {
-            return Ok(Image::absent(names));
+            return Ok(Image::absent(names, None));
         }
         match open_image(files, names.image.as_str()) {
-            Ok((file, size)) => Ok(Image {
+            Ok(Some((file, size))) => Ok(Image {
                 names,
                 file: Some(file),
                 power,
                 size,
                 unsynced: power == Power::Spinning,
                 faults: 0,
+                hindrance: None,
                 buffer: [0; BLOCK_SIZE],
             }),
-            Err(_) => Ok(Image::absent(names)),
+            Ok(None) => Ok(Image::absent(names, None)),
+            Err(hindrance) => Ok(Image::absent(names, Some(hindrance))),
         }
     }
 
     /// No disk.
-    fn absent(names: Names) -> Image
+    fn absent(names: Names, hindrance: Option<Hindrance>) -> Image
         ensures { IsLoaded (image_slot result) }
     {
         Image {
@@ -71,8 +88,17 @@ impl Image {
             size: 0,
             unsynced: false,
             faults: 0,
+            hindrance,
             buffer: [0; BLOCK_SIZE],
         }
+    }
+
+    /// What hinders that the disk is attached anew, also where it has failed.
+    pub(crate) fn hinders_attach<F: Files<File = File>>(&self, files: &F) -> Option<Hindrance> {
+        if self.hindrance.is_some() || self.file.is_some() {
+            return self.hindrance;
+        }
+        open_image(files, self.names.image.as_str()).err()
     }
 
     pub(crate) fn read<F: Files<File = File>>(
@@ -159,6 +185,7 @@ impl Image {
             (record (image_slot self.old) { power = Spinning; size = size; unsynced = false })
             (image_slot self.old).unsynced (is_ok result) }
     {
+        self.file = None; // and its lock
         match make_image(files, &self.names, size) {
             Ok(file) => {
                 self.file = Some(file);
@@ -196,14 +223,23 @@ fn not_open() -> io::Error {
     io::Error::from(io::ErrorKind::NotFound)
 }
 
-/// The image, and how many blocks it has. What is no file, as a pipe, is refused unopened.
-fn open_image<F: Files<File = File>>(files: &F, name: &str) -> io::Result<(File, u32)> {
-    if !fs::metadata(files, name)?.is_file() {
-        return Err(not_open());
+/// The image with its lock, and how many blocks it has, or None where there is no disk.
+fn open_image<F: Files<File = File>>(
+    files: &F,
+    name: &str,
+) -> Result<Option<(File, u32)>, Hindrance> {
+    let file = match find(files, name) {
+        Found::Open(file) => file,
+        Found::Nothing | Found::Lost => return Ok(None),
+        Found::Shut => return Err(Hindrance::Shut),
+    };
+    if is_locked(&file) {
+        return Err(Hindrance::Busy);
     }
-    let file = OpenOptions::new().read(true).write(true).open(files, name)?;
-    let size = whole_blocks(file.metadata()?.len());
-    Ok((file, size))
+    match file.metadata() {
+        Ok(found) => Ok(Some((file, whole_blocks(found.len())))),
+        Err(_) => Ok(None),
+    }
 }
 
 /// How many whole blocks a file of this many bytes has, at most `u32::MAX`.
@@ -221,17 +257,38 @@ fn make_image<F: Files<File = File>>(files: &F, names: &Names, size: u32) -> io:
     Ok(file)
 }
 
-/// A file of so many blocks of zeros, which the disk has when it returns.
+/// A file of so many blocks of zeros, which the disk has when it returns. Where there is no room for
+/// it, it is left empty, and the room is given back.
 fn create_image<F: Files<File = File>>(files: &F, name: &str, size: u32) -> io::Result<File> {
     let file = OpenOptions::new()
         .read(true)
         .write(true)
         .create(true)
-        .truncate(true)
         .open(files, name)?;
-    file.set_len(offset(size))?;
-    file.sync_all()?;
+    if is_locked(&file) {
+        return Err(io::Error::from(io::ErrorKind::WouldBlock));
+    }
+    file.set_len(0)?;
+    if let Err(error) = fill_image(&file, size) {
+        let _ = file.set_len(0);
+        return Err(error);
+    }
     Ok(file)
+}
+
+/// How many blocks of zeros are written at once.
+const PIECE: u32 = 128;
+
+static ZEROS: [u8; PIECE as usize * BLOCK_SIZE] = [0; PIECE as usize * BLOCK_SIZE];
+
+/// Writes each block, so that no later write of one needs room that a full file system does not have.
+fn fill_image(file: &File, size: u32) -> io::Result<()> {
+    for piece in 0..size / PIECE {
+        file.write_all_at(&ZEROS, offset(piece * PIECE))?;
+    }
+    let rest = size % PIECE;
+    file.write_all_at(&ZEROS[..rest as usize * BLOCK_SIZE], offset(size - rest))?;
+    file.sync_all()
 }
 
 // The bytes come by way of a buffer, since a block that is borrowed for them would be no block on

@@ -5,8 +5,10 @@
 //! What the files hold is told by no clause: that a file keeps what was written to it is a premise.
 #![tactic(auto)]
 
+mod found;
 mod image;
 mod power;
 mod rack;
 
+pub use image::Hindrance;
 pub use rack::ImageRack;

@@ -2,6 +2,7 @@
 ghost use Rattle.std.specs.Prelude.{◌≡◌, ◌↔◌};
 ghost use Rattle.paraid_imgrack.specs.Sidecar.{power_word, trim_end};
 
+use crate::found::{Found, find, is_want_of_room};
 use paraid_base::{DiskNo, NoMemory};
 use paraid_rack::Power;
 use std::alloc::Global;
@@ -41,30 +42,42 @@ impl Names {
         })
     }
 
-    /// The power that the sidecar tells. A missing one tells `Spinning`, and one that is unknown or
-    /// cannot be read tells `Absent`.
-    pub(crate) fn load<F: Files<File = File>>(&self, files: &F) -> Power {
-        match read_power(files, self.sidecar.as_str()) {
-            Ok(power) => power,
-            Err(error) if error.kind() == io::ErrorKind::NotFound => Power::Spinning,
-            Err(_) => Power::Absent,
+    /// The power that the sidecar tells, or None where it is shut. A missing one tells `Spinning`,
+    /// and one that is unknown or cannot be read tells `Absent`.
+    pub(crate) fn load<F: Files<File = File>>(&self, files: &F) -> Option<Power> {
+        match find(files, self.sidecar.as_str()) {
+            Found::Open(file) => Some(power_in(&file).unwrap_or(Power::Absent)),
+            Found::Nothing => Some(Power::Spinning),
+            Found::Lost => Some(Power::Absent),
+            Found::Shut => None,
         }
     }
 
-    /// Replaces the sidecar by one of this power. When it returns, the disk has the new one.
+    /// Makes the sidecar tell this power. When it returns, the disk has it.
+    ///
+    /// A full file system may have no room for a new sidecar. Then the text is written over the old
+    /// one, in one block of the disk. If a stop comes in the middle all the same, the text may be
+    /// unknown, which tells that there is no disk.
     pub(crate) fn store<F: Files<File = File>>(&self, files: &F, power: Power) -> io::Result<()> {
+        match self.replace(files, power) {
+            Err(error) if is_want_of_room(&error) => {
+                overwrite(files, self.sidecar.as_str(), wide_text(power))
+            }
+            done => done,
+        }
+    }
+
+    /// Replaces the sidecar by one of this power.
+    fn replace<F: Files<File = File>>(&self, files: &F, power: Power) -> io::Result<()> {
         write_new(files, self.next.as_str(), text(power))?;
         fs::rename(files, self.next.as_str(), self.sidecar.as_str())?;
         sync_folder(files)
     }
 
     /// Makes the sidecar tell that the disk has failed, as far as that can be done.
-    ///
-    /// A full file system may have no room for a new sidecar. Then the text is written over the old
-    /// one. If a stop comes in the middle, the text is unknown, which tells the same.
     pub(crate) fn store_failed<F: Files<File = File>>(&self, files: &F) {
-        if self.store(files, Power::Absent).is_err() {
-            let _ = overwrite(files, self.sidecar.as_str(), "failed   \n");
+        if self.replace(files, Power::Absent).is_err() {
+            let _ = overwrite(files, self.sidecar.as_str(), wide_text(Power::Absent));
         }
     }
 }
@@ -87,6 +100,17 @@ fn text(power: Power) -> &'static str
     }
 }
 
+/// The text as it is written over another one, of which nothing is to be left.
+fn wide_text(power: Power) -> &'static str
+    ensures { trim_end result.now ≡ power_word power }
+{
+    match power {
+        Power::Spinning => "spinning \n",
+        Power::Parked => "parked   \n",
+        Power::Absent => "failed   \n",
+    }
+}
+
 /// The power that a text tells, which is `Absent` where no word is known. White space at the end
 /// does not count.
 fn power_of(text: &[u8]) -> Power
@@ -101,15 +125,6 @@ fn power_of(text: &[u8]) -> Power
     } else {
         Power::Absent
     }
-}
-
-/// The power that a sidecar tells. Opening a pipe would wait for its other end, so what is no file
-/// is not opened.
-fn read_power<F: Files<File = File>>(files: &F, name: &str) -> io::Result<Power> {
-    if !fs::metadata(files, name)?.is_file() {
-        return Ok(Power::Absent);
-    }
-    power_in(&fs::open(files, name)?)
 }
 
 /// The power that an open sidecar tells.

@@ -1,7 +1,7 @@
 //! Each call of the rack is a call on one image.
 ghost use Rattle.std.specs.Prelude.{◌≡◌, ℕ, ◌≤◌, length};
 
-use crate::image::Image;
+use crate::image::{Hindrance, Image};
 use paraid_base::{Block, DiskNo, Failed, NoMemory, Place};
 use paraid_rack::{Power, Rack};
 use std::alloc::Global;
@@ -11,7 +11,7 @@ use std::fs::{File, Files};
 ///
 /// A missing image, and a sidecar whose text is neither `spinning` nor `parked`, is an absent disk.
 /// An image with no sidecar is a spinning disk. After a failed call the sidecar says `failed`.
-/// One process has the folder at a time.
+/// Each image that is open is locked.
 #[derive(Drop)]
 pub struct ImageRack<F> {
     files: F,
@@ -41,6 +41,27 @@ impl<F: Files<File = File> + Drop> ImageRack<F> {
             images.push_reserved(Image::load(&files, alloc, disk)?);
         }
         Ok(ImageRack { files, images })
+    }
+
+    /// The first disk that is there and can be neither served nor called lost, and why. The slot is
+    /// absent; what is done to the others then would take the disk out of the array.
+    pub fn hindrance(&self) -> Option<(DiskNo, Hindrance)> {
+        for disk in 0..self.images.len() {
+            if let Some(hindrance) = self.images[disk].hindrance {
+                return Some((disk as u8, hindrance));
+            }
+        }
+        None
+    }
+
+    /// The same before disks are attached anew, so also of the image of a disk that has failed.
+    pub fn hinders_attach(&self) -> Option<(DiskNo, Hindrance)> {
+        for disk in 0..self.images.len() {
+            if let Some(hindrance) = self.images[disk].hinders_attach(&self.files) {
+                return Some((disk as u8, hindrance));
+            }
+        }
+        None
     }
 }
 
