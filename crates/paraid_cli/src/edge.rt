@@ -1,24 +1,31 @@
 //! What stands between the program and the system: no stream may become an image, one command works
-//! in a folder, and images that are there and cannot be served are not taken for lost ones.
+//! in a folder, and images that are there and do not belong or cannot be opened are not taken for
+//! lost ones.
 
-use paraid_imgrack::{Hindrance, ImageRack};
+use crate::logs::hold_array;
+use paraid_imgrack::{Claim, Hindrance, ImageRack};
 use paraid_io::{StdSink, StdSource};
 use paraid_program::{Command, Ended, paraid};
 use paraid_serve::status;
-use std::fs::{self, File};
-use std::io;
+use std::fs::{self, File, Files};
+use std::io::{self, Eprint, Input, Print};
 use std::os::fd::AsRawFd;
 
 /// The number of image files at most.
 const SLOTS: u8 = 8;
 
-/// The status where another command works in the folder, or the folder cannot be opened.
+/// The status where another command works here, or the folder cannot be opened.
 const BUSY: u8 = 16;
+
+/// What the program takes of the system.
+pub(crate) trait Host: Files<File = File> + AllocGlobal + Input + Print + Eprint {}
+
+impl<R: Files<File = File> + AllocGlobal + Input + Print + Eprint> Host for R {}
 
 /// The folder, open three times.
 ///
 /// The number of a closed stream goes to the next file that is opened. That is to be no image, so it
-/// is the folder, which can be neither read nor written: such a stream fails.
+/// is the folder, which can be neither read nor written.
 #[derive(Drop)]
 struct Folder {
     first: File,
@@ -27,7 +34,7 @@ struct Folder {
 }
 
 impl Folder {
-    fn open(rt: &HostRuntime) -> io::Result<Folder> {
+    fn open<H: Host>(rt: &H) -> io::Result<Folder> {
         Ok(Folder {
             first: fs::open(rt, ".")?,
             second: fs::open(rt, ".")?,
@@ -43,28 +50,8 @@ impl Folder {
     }
 }
 
-/// Whether a command reads the standard input.
-fn reads_input(command: &Command) -> bool {
-    match command {
-        Command::Format { .. } | Command::Run | Command::Spare { .. } => true,
-        Command::Nbd | Command::Plan { .. } => true,
-        Command::Status | Command::Check | Command::Gen { .. } => false,
-    }
-}
-
-/// Prints a last line, unless the output speaks the protocol of a client, and gives the status.
-fn end(rt: &HostRuntime, command: &Command, line: &str, status: u8) -> u8 {
-    if let Command::Nbd = command {
-        return status;
-    }
-    match println!(rt; "{line}") {
-        Ok(()) => status,
-        Err(_) => status::SINK,
-    }
-}
-
 /// Does what the words ask for with the images of the current folder, and gives the status.
-pub(crate) fn work(rt: &HostRuntime, words: &Vec<String>, command: &Command) -> u8 {
+pub(crate) fn work<H: Host>(rt: &H, words: &Vec<String>, command: &Command) -> u8 {
     let Ok(folder) = Folder::open(rt) else {
         return work_nowhere(rt, command);
     };
@@ -81,8 +68,40 @@ pub(crate) fn work(rt: &HostRuntime, words: &Vec<String>, command: &Command) -> 
     work_there(rt, words, command)
 }
 
-/// Without the folder no image is served. Where it is for want of descriptors, one is shut.
-fn work_nowhere(rt: &HostRuntime, command: &Command) -> u8 {
+/// Answers words that are no command. The program tells which there are, and touches no image.
+pub(crate) fn tell_words<H: Host>(rt: &H, words: &Vec<String>) -> u8 {
+    let Ok(rack) = ImageRack::load(rt, rt.alloc(), 0) else {
+        return status::NO_MEMORY;
+    };
+    let Ended {
+        status,
+        rack: _rack,
+    } = serve(rt, words, rack);
+    status
+}
+
+/// Whether a command reads the standard input.
+fn reads_input(command: &Command) -> bool {
+    match command {
+        Command::Format { .. } | Command::Run | Command::Spare { .. } => true,
+        Command::Nbd | Command::Plan { .. } => true,
+        Command::Status | Command::Check | Command::Gen { .. } => false,
+    }
+}
+
+/// Writes the last line, unless a client reads the output, and gives the status.
+fn end<H: Host>(rt: &H, command: &Command, line: &str, status: u8) -> u8 {
+    if let Command::Nbd = command {
+        return status;
+    }
+    match println!(rt; "{line}") {
+        Ok(()) => status,
+        Err(_) => status::SINK,
+    }
+}
+
+/// Without the folder no image is served. Where descriptors are wanting, one is shut.
+fn work_nowhere<H: Host>(rt: &H, command: &Command) -> u8 {
     let hindrance = match ImageRack::load(rt, rt.alloc(), SLOTS) {
         Ok(rack) => rack.hindrance(),
         Err(_) => return status::NO_MEMORY,
@@ -96,40 +115,96 @@ fn work_nowhere(rt: &HostRuntime, command: &Command) -> u8 {
     }
 }
 
-fn work_there(rt: &HostRuntime, words: &Vec<String>, command: &Command) -> u8 {
-    let Ok(rack) = ImageRack::load(rt, rt.alloc(), SLOTS) else {
+fn work_there<H: Host>(rt: &H, words: &Vec<String>, command: &Command) -> u8 {
+    let Ok(mut rack) = ImageRack::load(rt, rt.alloc(), SLOTS) else {
         return status::NO_MEMORY;
     };
     if let Some((disk, hindrance)) = hindrance_of(&rack, command) {
         return tell_hindrance(rt, command, disk, hindrance);
     }
-    serve(rt, words, rack)
+    if let Some(disk) = refused(rt, &mut rack, command) {
+        return refuse(rt, command, disk);
+    }
+    let Ended { status, mut rack } = serve(rt, words, rack);
+    match command {
+        Command::Format { .. } if status == status::DONE => rack.label_array(),
+        Command::Format { .. } => (),
+        _ => rack.end_load(),
+    }
+    let _ = tell_misfits(rt, &rack);
+    status
 }
 
-fn hindrance_of(rack: &ImageRack<&HostRuntime>, command: &Command) -> Option<(u8, Hindrance)> {
+fn hindrance_of<H: Host>(rack: &ImageRack<&H>, command: &Command) -> Option<(u8, Hindrance)> {
     match command {
         Command::Format { .. } => rack.hinders_attach(),
         _ => rack.hindrance(),
     }
 }
 
-fn tell_hindrance(rt: &HostRuntime, command: &Command, disk: u8, hindrance: Hindrance) -> u8 {
+fn tell_hindrance<H: Host>(rt: &H, command: &Command, disk: u8, hindrance: Hindrance) -> u8 {
     match hindrance {
         Hindrance::Busy => {
-            let _ = eprintln!(rt; "paraid: another command works with disk-{disk}.img");
+            let _ = eprintln!(rt;
+                "paraid: disk-{disk}.img is in use: by another command, or as another disk"
+            );
             BUSY
+        }
+        Hindrance::Crowded => {
+            let _ = eprintln!(rt; "paraid: too few files more may be open: see `ulimit -n`");
+            refuse(rt, command, disk)
         }
         Hindrance::Shut => {
             let _ = eprintln!(rt;
-                "paraid: disk-{disk}.img or disk-{disk}.power is there and cannot be opened"
+                "paraid: disk-{disk}.img or its sidecar is there and cannot be opened"
             );
             refuse(rt, command, disk)
         }
     }
 }
 
+/// The first image for which the command is refused. Why is told.
+fn refused<H: Host>(rt: &H, rack: &mut ImageRack<&H>, command: &Command) -> Option<u8> {
+    match command {
+        Command::Format { force: true } => None,
+        Command::Format { force: false } => claimed(rt, rack),
+        _ if rack.has_fitting_images() => None,
+        _ => tell_misfits(rt, rack),
+    }
+}
+
+/// The first image that a new array would write over. An array whose log can be read is told by the
+/// program itself.
+fn claimed<H: Host>(rt: &H, rack: &mut ImageRack<&H>) -> Option<u8> {
+    let (disk, claim) = rack.claim()?;
+    if hold_array(rack) {
+        return None;
+    }
+    let _ = match claim {
+        Claim::Image => eprintln!(rt;
+            "paraid: disk-{disk}.img is of an array; --force writes over it"
+        ),
+        Claim::Sidecar => eprintln!(rt;
+            "paraid: disk-{disk}.power stands without its image; --force writes over it"
+        ),
+    };
+    Some(disk)
+}
+
+/// Tells which images do not belong into their slots, and gives the first.
+fn tell_misfits<H: Host>(rt: &H, rack: &ImageRack<&H>) -> Option<u8> {
+    let mut first = None;
+    for disk in 0..SLOTS {
+        if let Some(misfit) = rack.misfit(disk) {
+            let _ = eprintln!(rt; "paraid: disk-{disk}.img {misfit}");
+            first = first.or(Some(disk));
+        }
+    }
+    first
+}
+
 /// The last line of a command that is refused for an image.
-fn refuse(rt: &HostRuntime, command: &Command, disk: u8) -> u8 {
+fn refuse<H: Host>(rt: &H, command: &Command, disk: u8) -> u8 {
     if let Command::Nbd = command {
         return status::NOT_AN_ARRAY;
     }
@@ -140,12 +215,12 @@ fn refuse(rt: &HostRuntime, command: &Command, disk: u8) -> u8 {
 }
 
 /// Hands the program the standard streams and this rack.
-pub(crate) fn serve(rt: &HostRuntime, words: &Vec<String>, rack: ImageRack<&HostRuntime>) -> u8 {
+fn serve<'a, H: Host>(
+    rt: &'a H,
+    words: &Vec<String>,
+    rack: ImageRack<&'a H>,
+) -> Ended<ImageRack<&'a H>> {
     let mut source = StdSource::new(rt.reader());
     let mut sink = StdSink::new(io::writer(rt));
-    let Ended {
-        status,
-        rack: _rack,
-    } = paraid(rt.alloc(), words, &mut source, &mut sink, rack);
-    status
+    paraid(rt.alloc(), words, &mut source, &mut sink, rack)
 }

@@ -2,8 +2,8 @@
 #![tactic(auto)]
 
 mod edge;
+mod logs;
 
-use paraid_imgrack::ImageRack;
 use paraid_program::read_words;
 use paraid_serve::status;
 use std::process::ExitCode;
@@ -26,9 +26,5 @@ fn main(rt: HostRuntime) -> ExitCode {
     if let Some(command) = read_words(&words) {
         return ExitCode::from(edge::work(&rt, &words, &command));
     }
-    // The program tells which words there are, and touches no image.
-    match ImageRack::load(&rt, rt.alloc(), 0) {
-        Ok(rack) => ExitCode::from(edge::serve(&rt, &words, rack)),
-        Err(_) => ExitCode::from(status::NO_MEMORY),
-    }
+    ExitCode::from(edge::tell_words(&rt, &words))
 }

@@ -44,6 +44,19 @@ touched_at images d y x leaves dirt ok within is call =
     touched_by images d x within (image_slot_at images d) (leaves (image_slot_at images d)) (dirt (image_slot_at images d)) ok refl
     (subst (λ (s : Slot). Becomes s (image_slot x) (leaves s) (dirt s) ok) (sym was) call)
 
+-- images whose slots are as before are as many
+pub length_kept : (before images : List Image) → map image_slot images ≡ map image_slot before → length images ≡ length before
+length_kept before images same = sym (length-map images image_slot) ∙ ap (λ (l : List Slot). length l) same ∙ length-map before image_slot
+
+-- a call on the image in its place, after the images have changed in what no slot tells
+pub touched_after : (before images : List Image) (d : ℕ) (y x : Image) (leaves : Slot → Slot) (dirt : Slot → Bool) (ok : Bool)
+    → map image_slot images ≡ map image_slot before → d < length before → y ≡ get_or images d y
+    → Becomes (image_slot y) (image_slot x) (leaves (image_slot y)) (dirt (image_slot y)) ok
+    → ChangesOneSlot (image_slot_at before) (image_slot_at (set images d x)) d (leaves (image_slot_at before d)) (dirt (image_slot_at before d)) ok
+touched_after before images d y x leaves dirt ok same within is call =
+    subst (λ (l : List Slot). ChangesOneSlot (λ (e : ℕ). get_or l e vacant_slot) (image_slot_at (set images d x)) d (leaves (get_or l d vacant_slot)) (dirt (get_or l d vacant_slot)) ok) same
+    (touched_at images d y x leaves dirt ok (omega (arith, within, length_kept before images same)) is call)
+
 -- the first disks, as their files tell them
 pub record AreLoaded (images : List Image) (n : ℕ) : Type 0 where
   pub number : length images ≡ n

@@ -67,6 +67,17 @@ fn is_of_device(error: &io::Error) -> bool {
     OF_DEVICE.contains(&error.raw_os_error())
 }
 
+/// Whether so many files more can be open at once.
+pub(crate) fn has_descriptors<F: Files<File = File>>(files: &F, count: u8) -> bool {
+    if count == 0 {
+        return true;
+    }
+    match fs::open(files, ".") {
+        Ok(_held) => has_descriptors(files, count - 1),
+        Err(_) => false,
+    }
+}
+
 /// Whether another open file has the lock. Where a file system has no locks, none has.
 pub(crate) fn is_locked(file: &File) -> bool {
     matches!(file.try_lock(), Err(TryLockError::WouldBlock))

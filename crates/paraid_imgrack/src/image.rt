@@ -1,9 +1,13 @@
 //! One disk of the rack: a call on it is done, or it leaves the disk absent and counted as failed.
-ghost use Rattle.std.specs.Prelude.{◌≡◌, ◌*◌, ◌/◌, min, false};
+ghost use Rattle.std.specs.Prelude.{◌≡◌, ◌≢◌, ◌*◌, ◌/◌, min, true, false, IfOk};
+ghost use Rattle.paraid_imgrack.specs.declared.tail.Tail.TheVariants.{Other};
 ghost use Rattle.paraid_rack.specs.declared.call.Power.TheVariants.{Spinning, Parked, Absent};
 
-use crate::found::{Found, find, is_locked};
+use crate::found::{Found, find, is_locked, is_want_of_room};
+use crate::identity::{Identity, Misfit};
+use crate::label::Label;
 use crate::power::Names;
+use crate::tail::{Tail, keep_room, read_tail, write_label};
 use paraid_base::{BLOCK_SIZE, Block, DiskNo, Failed, NoMemory, Place};
 use paraid_rack::Power;
 use std::alloc::Global;
@@ -19,6 +23,17 @@ pub enum Hindrance {
     Shut,
     /// Another process works with its image, or it is the image of a second disk too.
     Busy,
+    /// This process may open too few files more.
+    Crowded,
+}
+
+/// What would be lost by a new array.
+#[derive(Clone, Copy, PartialEq, Eq)]
+pub enum Claim {
+    /// An image that has the label or the log of an array.
+    Image,
+    /// A sidecar whose image is not there.
+    Sidecar,
 }
 
 /// The disk of a slot, or that there is none.
@@ -34,6 +49,11 @@ pub(crate) struct Image {
     faults: u64,
     /// What hinders all work on the disk, where its files were looked at.
     pub(crate) hindrance: Option<Hindrance>,
+    tail: Tail,
+    /// Why the disk was not spun up.
+    pub(crate) misfit: Option<Misfit>,
+    /// The disk was attached since the load.
+    pub(crate) attached: bool,
     // What a read is given, before it is a block.
     buffer: [u8; BLOCK_SIZE],
     pub ghost empty: { power ≡ Absent → size ≡ 0 },
@@ -41,7 +61,7 @@ pub(crate) struct Image {
 }
 
 impl Image {
-    ghost use Rattle.std.specs.Prelude.{◌≢◌, true, is_ok, IfOk};
+    ghost use Rattle.std.specs.Prelude.{is_ok};
     ghost use Rattle.paraid_imgrack.specs.Images.{image_slot, IsLoaded, IsFailedSlot, Becomes};
 
     /// The disk as its files tell it.
@@ -70,6 +90,9 @@ impl Image {
                 unsynced: power == Power::Spinning,
                 faults: 0,
                 hindrance: None,
+                tail: Tail::Other,
+                misfit: None,
+                attached: false,
                 buffer: [0; BLOCK_SIZE],
             }),
             Ok(None) => Ok(Image::absent(names, None)),
@@ -89,7 +112,62 @@ impl Image {
             unsynced: false,
             faults: 0,
             hindrance,
+            tail: Tail::Other,
+            misfit: None,
+            attached: false,
             buffer: [0; BLOCK_SIZE],
+        }
+    }
+
+    /// Reads the label of an image that spins. A parked one is left alone.
+    pub(crate) fn read_label(&mut self) -> Option<Label>
+        ensures { image_slot self.new ≡ image_slot self.old }
+    {
+        if self.power != Power::Spinning {
+            return None;
+        }
+        self.tail = tail_of(&self.file, self.size);
+        label_in(&self.tail)
+    }
+
+    /// Gives a disk that spins this label, and says whether it has it now. There may be no room for
+    /// one, or other bytes in its place. After an error of the device the next call fails.
+    pub(crate) fn give_label(&mut self, label: &Label) -> bool
+        ensures { image_slot self.new ≡ image_slot self.old }
+    {
+        if self.power != Power::Spinning {
+            return false;
+        }
+        match put_label(&self.file, self.size, &self.tail, label) {
+            Ok(given) => given,
+            Err(_) => {
+                self.file = None;
+                false
+            }
+        }
+    }
+
+    /// The number of disks of the array whose log this disk has, if it spins and has one.
+    pub(crate) fn disks_by_log(&mut self) -> Option<u8>
+        ensures { image_slot self.new ≡ image_slot self.old }
+    {
+        if self.power != Power::Spinning {
+            return None;
+        }
+        log_disks(&self.file, 1, &mut self.buffer)
+    }
+
+    /// What a new array would write over.
+    pub(crate) fn claim<F: Files<File = File>>(&mut self, files: &F) -> Option<Claim>
+        ensures { image_slot self.new ≡ image_slot self.old }
+    {
+        if self.file.is_some() {
+            return claim_of(&self.file, &mut self.buffer);
+        }
+        match find(files, self.names.image.as_str()) {
+            Found::Open(file) => claim_of(&Some(file), &mut self.buffer),
+            Found::Nothing if self.names.has_sidecar(files) => Some(Claim::Sidecar),
+            Found::Nothing | Found::Lost | Found::Shut => None,
         }
     }
 
@@ -154,11 +232,27 @@ impl Image {
         self.switch(files, Power::Parked)
     }
 
-    pub(crate) fn spin_up<F: Files<File = File>>(&mut self, files: &F) -> Result<(), Failed>
+    /// The image is looked at first, where its array is known. One that does not belong here is
+    /// left as it is, and the disk has failed.
+    pub(crate) fn spin_up<F: Files<File = File>>(
+        &mut self,
+        files: &F,
+        identity: &mut Option<Identity>,
+        disk: DiskNo,
+    ) -> Result<(), Failed>
         requires { (image_slot self.old).power ≡ Parked }
         ensures { Becomes (image_slot self.old) (image_slot self.new)
             (record (image_slot self.old) { power = Spinning }) false (is_ok result) }
     {
+        if let Some(identity) = identity {
+            self.tail = tail_of(&self.file, self.size);
+            self.misfit = identity.late_misfit_of(&label_in(&self.tail), disk);
+            if self.misfit.is_some()
+                || !mark_image(&self.file, self.size, &self.tail, identity, disk)
+            {
+                return Err(self.fail(files));
+            }
+        }
         self.switch(files, Power::Spinning)
     }
 
@@ -179,6 +273,8 @@ impl Image {
     pub(crate) fn attach<F: Files<File = File>>(
         &mut self,
         files: &F,
+        identity: &mut Option<Identity>,
+        disk: DiskNo,
         size: u32,
     ) -> Result<(), Failed>
         ensures { Becomes (image_slot self.old) (image_slot self.new)
@@ -187,15 +283,20 @@ impl Image {
     {
         self.file = None; // and its lock
         match make_image(files, &self.names, size) {
-            Ok(file) => {
-                self.file = Some(file);
-                self.power = Power::Spinning;
-                self.size = size;
-                self.unsynced = false;
-                Ok(())
-            }
-            Err(_) => Err(self.fail(files)),
+            Ok(file) => self.file = Some(file),
+            Err(_) => return Err(self.fail(files)),
         }
+        self.tail = Tail::Room;
+        if let Some(identity) = identity
+            && !mark_image(&self.file, size, &Tail::Room, identity, disk)
+        {
+            return Err(self.fail(files));
+        }
+        self.power = Power::Spinning;
+        self.size = size;
+        self.unsynced = false;
+        self.attached = true;
+        Ok(())
     }
 
     /// There is no disk from now on, and one more fault.
@@ -288,6 +389,7 @@ fn fill_image(file: &File, size: u32) -> io::Result<()> {
     }
     let rest = size % PIECE;
     file.write_all_at(&ZEROS[..rest as usize * BLOCK_SIZE], offset(size - rest))?;
+    keep_room(file, size)?;
     file.sync_all()
 }
 
@@ -319,4 +421,84 @@ fn sync_blocks(file: &Option<File>) -> io::Result<()> {
         Some(file) => file.sync_data(),
         None => Err(not_open()),
     }
+}
+
+fn tail_of(file: &Option<File>, size: u32) -> Tail {
+    match file {
+        Some(file) => read_tail(file, size),
+        None => Tail::Other,
+    }
+}
+
+fn label_in(tail: &Tail) -> Option<Label> {
+    match tail {
+        Tail::Label(label) => Some(*label),
+        Tail::Room | Tail::Other => None,
+    }
+}
+
+/// Writes a label where one can stand. Where there is no room for it, it is left out.
+fn put_label(file: &Option<File>, size: u32, tail: &Tail, label: &Label) -> io::Result<bool>
+    ensures { IfOk result (λ given. given ≡ true → tail.now ≢ Other) }
+{
+    let Some(file) = file else {
+        return Err(not_open());
+    };
+    if let Tail::Other = tail {
+        return Ok(false);
+    }
+    match write_label(file, size, label) {
+        Ok(()) => Ok(true),
+        Err(error) if is_want_of_room(&error) => Ok(false),
+        Err(error) => Err(error),
+    }
+}
+
+/// Gives an image the label of this load, where it can have one; false if its device failed.
+fn mark_image(
+    file: &Option<File>,
+    size: u32,
+    tail: &Tail,
+    identity: &mut Identity,
+    disk: DiskNo,
+) -> bool {
+    if disk >= identity.disks {
+        return true;
+    }
+    match put_label(file, size, tail, &identity.label(disk)) {
+        Ok(true) => identity.mark(disk as usize),
+        Ok(false) => (),
+        Err(_) => return false,
+    }
+    true
+}
+
+/// With this a meta begins.
+const MAGIC: &[u8; 8] = b"PARAIDAR";
+
+/// The number of disks that a meta at this place says, if one is there.
+fn log_disks(file: &Option<File>, place: Place, buffer: &mut [u8; BLOCK_SIZE]) -> Option<u8> {
+    let file = file.as_ref()?;
+    if file.read_exact_at(buffer, offset(place)).is_err() {
+        return None;
+    }
+    if buffer[..8] == MAGIC[..] && 3 <= buffer[10] && buffer[10] <= 8 {
+        return Some(buffer[10]);
+    }
+    None
+}
+
+/// Whether an image has the label of an array, or a log.
+fn claim_of(file: &Option<File>, buffer: &mut [u8; BLOCK_SIZE]) -> Option<Claim> {
+    let size = match file {
+        Some(file) => whole_blocks(file.metadata().ok()?.len()),
+        None => return None,
+    };
+    if let Tail::Label(_) = tail_of(file, size) {
+        return Some(Claim::Image);
+    }
+    if log_disks(file, 1, buffer).is_some() || log_disks(file, 2, buffer).is_some() {
+        return Some(Claim::Image);
+    }
+    None
 }

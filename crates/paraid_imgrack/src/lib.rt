@@ -6,9 +6,15 @@
 #![tactic(auto)]
 
 mod found;
+mod identity;
 mod image;
+mod label;
+mod labelling;
 mod power;
 mod rack;
+mod tail;
 
-pub use image::Hindrance;
+pub use identity::Misfit;
+pub use image::{Claim, Hindrance};
+pub use label::{LABEL_SIZE, Label};
 pub use rack::ImageRack;

@@ -53,6 +53,11 @@ impl Names {
         }
     }
 
+    /// Whether there is a sidecar, of whatever text.
+    pub(crate) fn has_sidecar<F: Files<File = File>>(&self, files: &F) -> bool {
+        fs::symlink_metadata(files, self.sidecar.as_str()).is_ok()
+    }
+
     /// Makes the sidecar tell this power. When it returns, the disk has it.
     ///
     /// A full file system may have no room for a new sidecar. Then the text is written over the old

@@ -1,11 +1,16 @@
 //! Each call of the rack is a call on one image.
 ghost use Rattle.std.specs.Prelude.{◌≡◌, ℕ, ◌≤◌, length};
 
+use crate::found::has_descriptors;
+use crate::identity::Identity;
 use crate::image::{Hindrance, Image};
 use paraid_base::{Block, DiskNo, Failed, NoMemory, Place};
 use paraid_rack::{Power, Rack};
 use std::alloc::Global;
 use std::fs::{File, Files};
+
+/// How many files more are open at once at most, while a sidecar is stored or a disk attached.
+const SPARE: u8 = 2;
 
 /// The slots of the disks of the current folder.
 ///
@@ -14,8 +19,12 @@ use std::fs::{File, Files};
 /// Each image that is open is locked.
 #[derive(Drop)]
 pub struct ImageRack<F> {
-    files: F,
-    images: Vec<Image>,
+    pub(crate) files: F,
+    pub(crate) images: Vec<Image>,
+    /// What the labels say, once they were read.
+    pub(crate) identity: Option<Identity>,
+    /// The labels do not have the number of this load yet.
+    pub(crate) is_new: bool,
     ghost few: { length images.items ≤ 8 },
 }
 
@@ -40,7 +49,12 @@ impl<F: Files<File = File> + Drop> ImageRack<F> {
         for disk in 0..slots {
             images.push_reserved(Image::load(&files, alloc, disk)?);
         }
-        Ok(ImageRack { files, images })
+        Ok(ImageRack {
+            files,
+            images,
+            identity: None,
+            is_new: false,
+        })
     }
 
     /// The first disk that is there and can be neither served nor called lost, and why. The slot is
@@ -51,17 +65,30 @@ impl<F: Files<File = File> + Drop> ImageRack<F> {
                 return Some((disk as u8, hindrance));
             }
         }
-        None
+        self.crowd(SPARE)
     }
 
     /// The same before disks are attached anew, so also of the image of a disk that has failed.
     pub fn hinders_attach(&self) -> Option<(DiskNo, Hindrance)> {
+        let mut absent: u8 = 0;
         for disk in 0..self.images.len() {
             if let Some(hindrance) = self.images[disk].hinders_attach(&self.files) {
                 return Some((disk as u8, hindrance));
             }
+            if self.images[disk].power == Power::Absent {
+                absent = absent.saturating_add(1);
+            }
         }
-        None
+        self.crowd(absent.saturating_add(SPARE))
+    }
+
+    /// Too few files more may be open: a sidecar could not be stored, and its disk would be lost.
+    fn crowd(&self, count: u8) -> Option<(DiskNo, Hindrance)> {
+        if has_descriptors(&self.files, count) {
+            None
+        } else {
+            Some((0, Hindrance::Crowded))
+        }
     }
 }
 
@@ -105,6 +132,7 @@ impl<F: Files<File = File> + Drop> Rack for ImageRack<F> {
     }
 
     fn sync(&mut self, disk: DiskNo) -> Result<(), Failed> {
+        self.begin_load();
         self.images[disk as usize].sync(&self.files)
     }
 
@@ -113,10 +141,10 @@ impl<F: Files<File = File> + Drop> Rack for ImageRack<F> {
     }
 
     fn spin_up(&mut self, disk: DiskNo) -> Result<(), Failed> {
-        self.images[disk as usize].spin_up(&self.files)
+        self.images[disk as usize].spin_up(&self.files, &mut self.identity, disk)
     }
 
     fn attach(&mut self, disk: DiskNo, size: u32) -> Result<(), Failed> {
-        self.images[disk as usize].attach(&self.files, size)
+        self.images[disk as usize].attach(&self.files, &mut self.identity, disk, size)
     }
 }

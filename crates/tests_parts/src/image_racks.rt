@@ -1,5 +1,6 @@
 //! A rack over real files: what calls leave in them, and what a rack that is loaded finds.
 
+use crate::image_labels;
 use crate::racks::{DONE, Step, make, told};
 use Step::{Attach, Park, Read, SpinUp, Sync, Write};
 use paraid_base::DiskNo;
@@ -269,6 +270,7 @@ fn clean<H: Files>(host: &H) {
         let _ = fs::remove_file(host, sidecar(disk));
         let _ = fs::remove_dir(host, next(disk));
     }
+    let _ = fs::remove_file(host, "disk-1.copy");
 }
 
 #[test]
@@ -277,5 +279,7 @@ fn a_folder_keeps_its_disks(rt: HostRuntime) {
     walk(&rt, &CALLS);
     walk(&rt, &LATER);
     walk_anew(&rt, &FILES);
+    clean(&rt);
+    image_labels::walk(&rt);
     clean(&rt);
 }

@@ -10,6 +10,8 @@ mod device;
 #[cfg(test)]
 mod dirty;
 #[cfg(test)]
+mod image_labels;
+#[cfg(test)]
 mod image_racks;
 #[cfg(test)]
 mod images;

@@ -1,14 +1,14 @@
-use Rattle.std.proofs.Common.{false}
+use Rattle.std.proofs.Common.{false, ◌∙◌}
 use Rattle.paraid_rack.specs.Slots.{Slot}
 use Rattle.std.proofs.lemmas.List.{length-set}
 use Rattle.paraid_imgrack.specs.Laws.{nothing_told}
-use Rattle.paraid_imgrack.proofs.ImagesLemmas.{touched_at}
+use Rattle.paraid_imgrack.proofs.ImagesLemmas.{length_kept, touched_after}
 use Rattle.paraid_imgrack.proofs.rack.ImageRackRack.sync.Goals as goal
 
 pub returns : goal.returns
 returns g c = record {
-  slots = length-set _ _ _;
-  slot = touched_at c.args.self.now.images.items c.args.disk c.index_mut.result.now _
-      (λ (s : Slot). record s { unsynced = false }) (λ (s : Slot). s.unsynced) _ c.requires.exists c.index_mut.ensures.value c.sync.ensures;
+  slots = length-set _ _ _ ∙ length_kept c.args.self.now.images.items c.begin_load.new.self.images.items c.begin_load.ensures;
+  slot = touched_after c.args.self.now.images.items c.begin_load.new.self.images.items c.args.disk c.index_mut.result.now _
+      (λ (s : Slot). record s { unsynced = false }) (λ (s : Slot). s.unsynced) _ c.begin_load.ensures c.requires.exists c.index_mut.ensures.value c.sync.ensures;
   told = λ t e. nothing_told t e;
 }

@@ -1,0 +1,43 @@
+//! Whether the log disks of a rack hold an array, as a format will find it.
+ghost use Rattle.std.specs.Prelude.{◌≡◌, ◌<◌};
+
+use paraid_base::{Block, DiskNo, Failed};
+use paraid_rack::{Power, Rack};
+use paraid_record::{read_meta, read_targets};
+
+/// Whether a log disk can be read and says that it belongs to an array.
+pub(crate) fn hold_array<R: Rack>(rack: &mut R) -> bool {
+    says_array(rack, 0) || says_array(rack, 1)
+}
+
+fn says_array<R: Rack>(rack: &mut R, disk: DiskNo) -> bool {
+    if disk >= rack.slots() || rack.power(disk) != Power::Spinning || rack.size(disk) < 4 {
+        return false;
+    }
+    match has_meta(rack, disk) {
+        Ok(has) => has,
+        Err(_) => false,
+    }
+}
+
+/// By a closed gate the meta stands at place 1; by an open one at place 2, with its targets.
+fn has_meta<R: Rack>(rack: &mut R, disk: DiskNo) -> Result<bool, Failed>
+    requires exists { disk < R.slot_count rack.old }
+    requires spinning { (R.slot rack.old disk).power ≡ Power.Spinning }
+    requires room { 3 < (R.slot rack.old disk).size }
+{
+    let mut gate = Block::zero();
+    let mut meta = Block::zero();
+    let mut list = Block::zero();
+    rack.read(disk, 0, &mut gate)?;
+    if gate.as_slice()[0] == 0 {
+        rack.read(disk, 1, &mut meta)?;
+        return Ok(read_meta(&meta).is_some());
+    }
+    rack.read(disk, 2, &mut meta)?;
+    rack.read(disk, 3, &mut list)?;
+    match read_meta(&meta) {
+        Some(meta) => Ok(read_targets(&list, &meta.setup.geometry).is_some()),
+        None => Ok(false),
+    }
+}

@@ -1,0 +1,250 @@
+//! Which array the labels of some images name, and which images do not belong into their slots.
+ghost use Rattle.std.specs.Prelude.{◌≡◌, ◌≤◌, ◌<◌, true, slice_index, None};
+
+use crate::label::Label;
+use paraid_base::DiskNo;
+use std::fmt::{self, Display, Formatter};
+
+/// The label of each slot, where its image has one.
+pub(crate) type Labels = [Option<Label>; 8];
+
+/// Why an image does not belong into its slot.
+#[derive(Clone, Copy, PartialEq, Eq)]
+pub enum Misfit {
+    /// It is the image of another disk of the array.
+    Moved { disk: DiskNo },
+    /// It is of another array.
+    Foreign,
+    /// It is an old copy: the other images know a newer one.
+    Old { generation: u64, known: u64 },
+    /// The other images are older than those that it knows.
+    New { generation: u64 },
+}
+
+impl Display for Misfit {
+    fn fmt<W: fmt::Write>(&self, f: &mut Formatter<W>) -> fmt::Result {
+        match self {
+            Misfit::Moved { disk } => write!(f, "is the image of disk {disk}"),
+            Misfit::Foreign => write!(f, "is of another array"),
+            Misfit::Old { generation, known } => write!(
+                f,
+                "is an old copy: its label has generation {generation}, where the others know {known}"
+            ),
+            Misfit::New { generation } => write!(
+                f,
+                "is newer than the others: its label has generation {generation}, and knows newer ones of them"
+            ),
+        }
+    }
+}
+
+/// What is known of an array: what its labels are to say.
+#[derive(Clone, Copy)]
+pub(crate) struct Identity {
+    pub(crate) array: [u8; 16],
+    pub(crate) disks: u8,
+    /// The number of this load.
+    pub(crate) generation: u64,
+    /// The generation that each disk's image has at least.
+    pub(crate) known: [u64; 8],
+    /// The generation that the label of each image has now, 0 where none was read or written.
+    pub(crate) seen: [u64; 8],
+    /// Images were marked of which the others do not know it yet.
+    pub(crate) has_news: bool,
+}
+
+impl Identity {
+    /// That of an array of which nothing is known.
+    pub(crate) fn new(array: [u8; 16], disks: u8) -> Identity {
+        Identity {
+            array,
+            disks,
+            generation: 1,
+            known: [0; 8],
+            seen: [0; 8],
+            has_news: false,
+        }
+    }
+
+    /// That of the array which these labels name, if there are any, for the next load.
+    pub(crate) fn of(labels: &Labels) -> Option<Identity> {
+        let named = named(labels)?;
+        let mut identity = Identity::new(named.array, named.disks);
+        for slot in 0..8 {
+            if let Some(label) = labels[slot]
+                && identity.is_right(&label, slot as u8)
+            {
+                identity.learn(&label, slot);
+            }
+        }
+        Some(identity)
+    }
+
+    /// Takes over what a label of the array says.
+    fn learn(&mut self, label: &Label, slot: usize) {
+        if slot < 8 {
+            self.seen[slot] = label.generation;
+        }
+        self.generation = self.generation.max(label.generation.saturating_add(1));
+        for disk in 0..8 {
+            self.known[disk] = self.known[disk].max(label.known[disk]);
+        }
+    }
+
+    /// Whether a label is of this slot and of this array.
+    fn is_right(&self, label: &Label, slot: DiskNo) -> bool
+        ensures { result ≡ true → label.now.disk ≡ slot }
+    {
+        slot < self.disks && label.disk == slot && label.array == self.array
+    }
+
+    /// The label that the image of a slot is to have.
+    pub(crate) fn label(&self, disk: DiskNo) -> Label {
+        Label {
+            array: self.array,
+            disk,
+            disks: self.disks,
+            generation: self.generation,
+            known: self.known,
+        }
+    }
+
+    /// Why an image with this label does not belong into a slot of the array.
+    pub(crate) fn misfit_of(&self, label: &Option<Label>, slot: DiskNo) -> Option<Misfit> {
+        match label {
+            Some(label) if slot < self.disks => self.misfit(label, slot),
+            _ => None,
+        }
+    }
+
+    fn misfit(&self, label: &Label, slot: DiskNo) -> Option<Misfit>
+        ensures disk { result ≡ None → label.now.disk ≡ slot }
+        ensures age { result ≡ None → slot < 8
+            → slice_index self.now.known slot ≤ label.now.generation }
+    {
+        if label.array != self.array {
+            return Some(Misfit::Foreign);
+        }
+        if label.disk != slot {
+            return Some(Misfit::Moved { disk: label.disk });
+        }
+        if label.generation < self.known_of(slot) {
+            return Some(Misfit::Old {
+                generation: label.generation,
+                known: self.known_of(slot),
+            });
+        }
+        None
+    }
+
+    fn known_of(&self, slot: DiskNo) -> u64
+        ensures { slot < 8 → result ≡ slice_index self.now.known slot }
+    {
+        if slot < 8 {
+            self.known[slot as usize]
+        } else {
+            0
+        }
+    }
+
+    /// The same of an image that was parked until now: it may also be the newest one.
+    pub(crate) fn late_misfit_of(&self, label: &Option<Label>, slot: DiskNo) -> Option<Misfit> {
+        if let Some(misfit) = self.misfit_of(label, slot) {
+            return Some(misfit);
+        }
+        match label {
+            Some(label) if slot < self.disks && self.is_behind(label) => Some(Misfit::New {
+                generation: label.generation,
+            }),
+            _ => None,
+        }
+    }
+
+    /// Whether a label knows newer images than those that were seen.
+    pub(crate) fn is_behind(&self, label: &Label) -> bool {
+        for disk in 0..8 {
+            if 0 < self.seen[disk] && self.seen[disk] < label.known[disk] {
+                return true;
+            }
+        }
+        false
+    }
+
+    /// Whether the image of a slot has the label of this load.
+    pub(crate) fn is_marked(&self, disk: usize) -> bool {
+        disk < 8 && self.seen[disk] == self.generation
+    }
+
+    /// The image of a slot has the label of this load, and its disk keeps it.
+    pub(crate) fn mark(&mut self, disk: usize) {
+        if disk < 8 {
+            self.known[disk] = self.generation;
+            self.seen[disk] = self.generation;
+            self.has_news = true;
+        }
+    }
+}
+
+/// A label of the array that the images are of: the first one, where no image of its array's slots is
+/// of another array; else the first of the array that most are of.
+///
+/// So a new array is told from images of an older, wider one, which stand in slots past its own. A
+/// label in a slot past those of its array names none.
+fn named(labels: &Labels) -> Option<Label> {
+    let first = first(labels)?;
+    if is_whole(labels, &first) {
+        return Some(first);
+    }
+    let mut most = first;
+    for slot in 0..8 {
+        if let Some(label) = labels[slot]
+            && count(labels, &most) < count(labels, &label)
+        {
+            most = label;
+        }
+    }
+    Some(most)
+}
+
+/// Whether a slot is one of the array that a label names.
+fn is_within(slot: usize, label: &Label) -> bool {
+    slot < label.disks as usize
+}
+
+fn first(labels: &Labels) -> Option<Label> {
+    for slot in 0..8 {
+        if let Some(label) = labels[slot]
+            && is_within(slot, &label)
+        {
+            return Some(label);
+        }
+    }
+    None
+}
+
+/// Whether the images in the slots of a label's array are all of that one.
+fn is_whole(labels: &Labels, named: &Label) -> bool {
+    for slot in 0..8 {
+        if let Some(label) = labels[slot]
+            && is_within(slot, named)
+            && label.array != named.array
+        {
+            return false;
+        }
+    }
+    true
+}
+
+/// How many images in the slots of a label's array are of it.
+fn count(labels: &Labels, named: &Label) -> u8 {
+    let mut count: u8 = 0;
+    for slot in 0..8 {
+        if let Some(label) = labels[slot]
+            && is_within(slot, named)
+            && label.array == named.array
+        {
+            count = count.saturating_add(1);
+        }
+    }
+    count
+}

@@ -1,0 +1,198 @@
+//! The labels of all images: they are read before the first call, and each load gets a new number.
+ghost use Rattle.std.specs.Prelude.{◌≡◌, map};
+ghost use Rattle.paraid_imgrack.specs.Images.{image_slot};
+
+use crate::identity::{Identity, Labels, Misfit};
+use crate::image::Claim;
+use crate::rack::ImageRack;
+use paraid_base::DiskNo;
+use paraid_rack::Power;
+use std::fs::{self, File, Files};
+use std::io::Read;
+
+/// Sixteen bytes that nobody has drawn before.
+fn draw<F: Files<File = File>>(files: &F) -> Option<[u8; 16]> {
+    let mut number = [0; 16];
+    let Ok(mut file) = fs::open(files, "/dev/urandom") else {
+        return None;
+    };
+    match file.read_exact(&mut number) {
+        Ok(()) => Some(number),
+        Err(_) => None,
+    }
+}
+
+impl<F: Files<File = File> + Drop> ImageRack<F> {
+    /// What a new array would write over, in the first slot where it would.
+    pub fn claim(&mut self) -> Option<(DiskNo, Claim)> {
+        for disk in 0..self.images.len() {
+            if let Some(claim) = self.images[disk].claim(&self.files) {
+                return Some((disk as u8, claim));
+            }
+        }
+        None
+    }
+
+    /// Reads the labels of the images that spin, and says whether each belongs into its slot. Nothing
+    /// is written before the first sync. A rack whose images do not fit is to be used no more.
+    pub fn has_fitting_images(&mut self) -> bool {
+        let labels = self.read_labels();
+        let Some(identity) = self.identify(&labels) else {
+            return true;
+        };
+        self.identity = Some(identity);
+        self.is_new = true;
+        self.fits(&identity, &labels)
+    }
+
+    /// Why the image in a slot does not belong there, where one was read.
+    pub fn misfit(&self, disk: DiskNo) -> Option<Misfit> {
+        if (disk as usize) < self.images.len() {
+            self.images[disk as usize].misfit
+        } else {
+            None
+        }
+    }
+
+    /// Gives the images that were attached since the load the labels of a new array.
+    pub fn label_array(&mut self) {
+        if let Some(array) = draw(&self.files) {
+            self.identity = Some(Identity::new(array, self.count_attached()));
+            self.is_new = true;
+            self.begin_load();
+        }
+    }
+
+    /// Each image that spins gets the number of this load, and once all have it, what is known of
+    /// the others. It is done once.
+    ///
+    /// So no label knows more than what the disks keep, and a stop between two leaves none refused.
+    pub(crate) fn begin_load(&mut self)
+        ensures { map image_slot self.new.images.items ≡ map image_slot self.old.images.items }
+    {
+        if self.is_new {
+            self.is_new = false;
+            self.mark_images();
+            self.end_load();
+        }
+    }
+
+    fn mark_images(&mut self)
+        ensures { map image_slot self.new.images.items ≡ map image_slot self.old.images.items }
+    {
+        let Some(identity) = self.identity else {
+            return;
+        };
+        let mut next = identity;
+        for disk in 0..self.images.len() {
+            if self.mark_image(disk, &identity) {
+                next.mark(disk);
+            }
+        }
+        self.identity = Some(next);
+    }
+
+    /// Whether the image in a slot of the array has the label of this load from now on.
+    fn mark_image(&mut self, disk: usize, identity: &Identity) -> bool
+        ensures { map image_slot self.new.images.items ≡ map image_slot self.old.images.items }
+    {
+        if disk >= self.images.len() || disk >= identity.disks as usize {
+            return false;
+        }
+        self.images[disk].give_label(&identity.label(disk as u8))
+    }
+
+    /// At the end, too: what was spun up or attached since the load is made known to the others.
+    pub fn end_load(&mut self)
+        ensures { map image_slot self.new.images.items ≡ map image_slot self.old.images.items }
+    {
+        let Some(mut identity) = self.identity else {
+            return;
+        };
+        if !identity.has_news {
+            return;
+        }
+        for disk in 0..self.images.len() {
+            self.mark_again(disk, &identity);
+        }
+        identity.has_news = false;
+        self.identity = Some(identity);
+    }
+
+    fn mark_again(&mut self, disk: usize, identity: &Identity)
+        ensures { map image_slot self.new.images.items ≡ map image_slot self.old.images.items }
+    {
+        if identity.is_marked(disk) {
+            let _is_marked = self.mark_image(disk, identity);
+        }
+    }
+
+    fn read_labels(&mut self) -> Labels {
+        let mut labels = [None; 8];
+        for disk in 0..self.images.len() {
+            if disk < 8 {
+                labels[disk] = self.images[disk].read_label();
+            }
+        }
+        labels
+    }
+
+    /// The array that the images are of, by their labels. One without labels gets a number, where
+    /// all of its disks that are there spin, so that none of them has a label that was not read.
+    fn identify(&mut self, labels: &Labels) -> Option<Identity> {
+        if let Some(identity) = Identity::of(labels) {
+            return Some(identity);
+        }
+        let disks = self.disks_by_log()?;
+        if self.parks_below(disks) {
+            return None;
+        }
+        Some(Identity::new(draw(&self.files)?, disks))
+    }
+
+    /// Whether one of the first disks is parked.
+    fn parks_below(&self, disks: u8) -> bool {
+        for disk in 0..self.images.len() {
+            if disk < disks as usize && self.images[disk].power == Power::Parked {
+                return true;
+            }
+        }
+        false
+    }
+
+    /// The number of disks that the first log disk with a log says.
+    fn disks_by_log(&mut self) -> Option<u8> {
+        for disk in 0..self.images.len() {
+            if disk < 2
+                && let Some(disks) = self.images[disk].disks_by_log()
+            {
+                return Some(disks);
+            }
+        }
+        None
+    }
+
+    /// Whether each label is one of its slot. Why one is not is kept with its image.
+    fn fits(&mut self, identity: &Identity, labels: &Labels) -> bool {
+        let mut fits = true;
+        for disk in 0..self.images.len() {
+            if disk < 8
+                && let Some(misfit) = identity.misfit_of(&labels[disk], disk as u8)
+            {
+                self.images[disk].misfit = Some(misfit);
+                fits = false;
+            }
+        }
+        fits
+    }
+
+    fn count_attached(&self) -> u8 {
+        let mut count: u8 = 0;
+        for disk in 0..self.images.len() {
+            if self.images[disk].attached {
+                count = count.saturating_add(1);
+            }
+        }
+        count
+    }
+}
