@@ -7,7 +7,8 @@ use std::fs::{self, File, Files};
 use std::process::Abort;
 
 /// A label by the description of its form. The sum is that of another program.
-const TEXT: &[u8; LABEL_SIZE] = b"paraid label 1, kept by paraid after the blocks\narray 00017f80ff0f1e2d3c4b5a6978879605\ndisk 2 of 5\ngeneration 00000000000000000012\nknown 0 00000000000000000012\nknown 1 00000000000000000011\nknown 2 18446744073709551615\nknown 3 00000000000000000009\nknown 4 00000000000000000008\nknown 5 00000000000000000000\nknown 6 00000000000000000000\nknown 7 00000000000000000007\nsum 33a60b4524cbefa6\n";
+const TEXT: &[u8; LABEL_SIZE] =
+    b"paraid label 1, kept by paraid after the blocks\narray 00017f80ff0f1e2d3c4b5a6978879605\ndisk 2 of 5\ngeneration 00000000000000000012\nknown 0 00000000000000000012\nknown 1 00000000000000000011\nknown 2 18446744073709551615\nknown 3 00000000000000000009\nknown 4 00000000000000000008\nknown 5 00000000000000000000\nknown 6 00000000000000000000\nknown 7 00000000000000000007\nsum 33a60b4524cbefa6\n";
 
 const LABEL: Label = Label {
     array: [
@@ -190,8 +191,7 @@ fn finds<H: Files<File = File> + AllocGlobal + Abort>(
 ) -> bool {
     let mut rack = loaded(host);
     let fits = rack.has_fitting_images();
-    fits == (*misfits == FIT)
-        && [rack.misfit(0), rack.misfit(1), rack.misfit(2)] == *misfits
+    fits == (*misfits == FIT) && [rack.misfit(0), rack.misfit(1), rack.misfit(2)] == *misfits
 }
 
 /// Whether disk 2 is not spun up, since it is of another array.
