@@ -110,7 +110,7 @@ class Run:
 
     def listen(self):
         rest = self.rest
-        while piece := os.read(self.process.stdout.fileno(), 1 << 18):
+        while piece := os.read(self.process.stdout.fileno(), 1 << 16):
             lines = (rest + piece).split(b"\n")
             rest = lines.pop()
             if lines:
