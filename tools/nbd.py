@@ -6,7 +6,7 @@
 Each request becomes lines of one `paraid run`, in the order in which they come, and a clock sends the
 ticks by which the array shifts. So a write is answered when the run has accepted it, and a flush when
 the disks hold all writes that were answered before it. docs/paraid-nbd.8 tells the rest."""
-import binascii, collections, errno, os, re, shutil, socket, stat, subprocess, sys, syslog
+import binascii, collections, errno, os, re, select, shutil, socket, stat, subprocess, sys, syslog
 import threading, time
 import nbdkit
 
@@ -40,132 +40,109 @@ class Refused(Exception):
 
 
 class Batch:
-    """Lines that were sent as one, and their answers as they come."""
+    """The lines of one request, and what becomes of them."""
 
-    def __init__(self, count):
-        self.left, self.answers, self.fault = count, [], None
-        self.done = threading.Lock()
-        self.done.acquire()
-
-    def end(self, fault=None):
-        if fault and not self.left:
-            return  # all was answered before the program ended
-        self.fault = fault
-        try:
-            self.done.release()
-        except RuntimeError:
-            pass  # both who sent it and who listens saw the end
-
-    def wait(self):
-        with self.done:
-            pass
-        if self.fault:
-            raise Refused(self.fault)
-        return self.answers
+    def __init__(self, lines):
+        self.lines, self.answers, self.fault = lines, None, None
+        self.wake = threading.Lock()
+        self.wake.acquire()
 
 
 class Run:
-    """One `paraid run`. Lines may be sent before earlier ones are answered: answers come in the same
-    order. A thread of its own takes them at once, so neither pipe stays full while the other is waited
-    for."""
+    """One `paraid run`, for one thread at a time."""
 
     def __init__(self, program, folder):
         # In a session of its own: an interrupt from the keyboard is for nbdkit, which then ends the input.
         self.process = subprocess.Popen([program, "run"], cwd=folder, stdin=subprocess.PIPE, bufsize=0,
                                         stdout=subprocess.PIPE, stderr=subprocess.STDOUT,
                                         start_new_session=True)
-        self.waiting, self.sent, self.ended, self.last, self.rest = collections.deque(), 0, None, b"", b""
+        self.input, self.output = self.process.stdin.fileno(), self.process.stdout.fileno()
+        os.set_blocking(self.input, False)
+        self.both = select.poll()
+        self.both.register(self.input, select.POLLOUT)
+        self.both.register(self.output, select.POLLIN)
+        self.sent, self.ended, self.last, self.rest = 0, None, b"it said nothing", b""
         self.mounted = self.first_line()
 
     def first_line(self):
         """Passes on what comes before the line of the mount: a launcher tells of a build."""
-        last = "it said nothing"
         while True:
-            line = self.take_line()
-            if not line:
-                raise RuntimeError(f"paraid serves no array: {last} (status {self.process.wait()})")
-            last = text(line)
-            if last.startswith("mounted "):
-                return last
-            if last.startswith("paraid: "):
-                log(last[8:])
+            lines = self.take_lines()
+            if not lines:
+                raise RuntimeError(f"paraid serves no array: {self.ended}")
+            for line in lines:
+                if line.startswith(b"mounted "):
+                    return text(line)
+                if line.startswith(b"paraid: "):
+                    log(text(line[8:]))
 
-    def take_line(self):
-        """Takes one line while no thread does: before nbdkit goes to the background."""
-        while b"\n" not in self.rest:
-            piece = os.read(self.process.stdout.fileno(), 1 << 16)
+    def take_lines(self):
+        """Waits for lines, and gives none at the end of the program."""
+        while True:
+            piece = os.read(self.output, 1 << 16)
             if not piece:
-                return b""
-            self.rest += piece
-        line, self.rest = self.rest.split(b"\n", 1)
-        return line
-
-    def ask_alone(self, line):
-        self.write(line + b"\n")
-        return self.take_line()
-
-    def start(self):
-        self.listener = threading.Thread(target=self.listen, daemon=True)
-        self.listener.start()
-
-    def listen(self):
-        rest = self.rest
-        while piece := os.read(self.process.stdout.fileno(), 1 << 16):
-            lines = (rest + piece).split(b"\n")
-            rest = lines.pop()
+                self.last = self.rest or self.last
+                status = self.process.wait()
+                # (in the background nbdkit is not its parent, and the status is not to be had)
+                self.ended = f"the program ended{f' with {status}' if status else ''}: {text(self.last)}"
+                return []
+            lines = (self.rest + piece).split(b"\n")
+            self.rest = lines.pop()
             if lines:
                 self.last = lines[-1]
-                self.give(lines)
-        self.last = rest or self.last
-        status = self.process.wait()
-        # (in the background nbdkit is not its parent, and the status is not to be had)
-        self.ended = f"the program ended{f' with {status}' if status else ''}; its last line: {text(self.last)}"
-        while self.waiting:
-            self.waiting.popleft().end(self.ended)
+                return lines
 
-    def give(self, lines):
-        at = 0
-        while at < len(lines) and self.waiting:
-            batch = self.waiting[0]
-            part = lines[at : at + batch.left]
-            batch.answers += part
-            batch.left -= len(part)
-            at += len(part)
-            if not batch.left:
-                self.waiting.popleft()
-                batch.end()
-
-    def send(self, lines):
-        """Sends these lines; one thread at a time may."""
-        batch = Batch(len(lines))
-        self.waiting.append(batch)
-        self.write(b"\n".join(lines) + b"\n")
-        if self.ended:
-            batch.end(self.ended)
-        return batch
-
-    def write(self, bytes):
-        self.sent += len(bytes)
-        left = memoryview(bytes)
+    def give(self, left):
+        """Gives the program what it takes of this now; the rest is answered."""
         try:
-            while left:
-                left = left[self.process.stdin.write(left) :]
-        except (BrokenPipeError, ValueError):
-            pass  # it has ended or its input was closed, which who listens will see
+            return left[os.write(self.input, left) :]
+        except BlockingIOError:
+            return left
+        except OSError:
+            return left[:0]  # it has ended, which its output tells
+
+    def ask(self, lines):
+        """Sends these lines and gives their answers, which are taken as they come: so neither pipe stays full
+        while the other is waited for."""
+        if self.ended:
+            raise Refused(self.ended)
+        bytes = b"\n".join(lines) + b"\n"
+        self.sent += len(bytes)
+        left, answers = self.give(memoryview(bytes)), []
+        while len(answers) < len(lines):
+            if left:
+                ready = dict(self.both.poll())
+                if self.input in ready:
+                    left = self.give(left)
+                if self.output not in ready:
+                    continue
+            said = self.take_lines()
+            if not said:
+                raise Refused(self.ended)
+            answers += said
+        if left or len(answers) > len(lines):
+            self.ended = f"the program said what it was not asked for: {text(self.last)}"
+            raise Refused(self.ended)
+        return answers
 
     def close(self):
         """Ends the input, so the run flushes, and waits for its end. Tells the last line."""
         self.process.stdin.close()
-        self.listener.join()
+        while not self.ended and self.take_lines():
+            pass
         return text(self.last)
 
 
 class Array:
-    """The array as a list of blocks for many threads, over one run after the other."""
+    """The array as a list of blocks for many threads, over one run after the other.
+
+    A thread that finds nobody at work takes what all threads ask for by then, as one: so requests that
+    come at once cost one turn of both pipes, and their flushes one commit. Then it passes the work on to
+    the first one who waits."""
 
     def __init__(self, program, folder, limit):
         self.program, self.folder, self.limit = program, folder, limit
-        self.order = threading.Lock()
+        self.queue, self.work = collections.deque(), threading.Lock()
         self.run = Run(program, folder)
         self.blocks = self.count_blocks()
 
@@ -174,7 +151,7 @@ class Array:
         low, high = 0, 2**32 - 1
         while low < high:
             half = (low + high) // 2
-            said = self.run.ask_alone(b"r %d" % half)
+            said = self.run.ask([b"r %d" % half])[0]
             if said == b"noblock %d" % half:
                 high = half
             elif said.startswith(b"%d=" % half):
@@ -192,7 +169,6 @@ class Array:
             if not said.startswith("end "):
                 raise RuntimeError(said)
             run = Run(self.program, self.folder)
-            run.start()
         except (OSError, RuntimeError) as fault:
             self.run.ended = f"the next run did not begin: {fault}"
             log(self.run.ended)
@@ -200,16 +176,59 @@ class Array:
         self.run = run
         log(f"{run.mounted} (a new run, after {self.limit} bytes)")
 
-    def send(self, lines):
-        with self.order:
+    def turn(self):
+        """Asks for what was queued first, up to some lines, and tells each thread its answers."""
+        batches = [self.queue.popleft()]
+        count = len(batches[0].lines)
+        while self.queue and count + len(self.queue[0].lines) <= MANY:
+            batches.append(self.queue.popleft())
+            count += len(batches[-1].lines)
+        try:
             if self.run.sent >= self.limit:
                 self.renew()
-            return self.run.send(lines)
+            answers = self.run.ask([line for batch in batches for line in batch.lines])
+            at = 0
+            for batch in batches:
+                batch.answers = answers[at : at + len(batch.lines)]
+                at += len(batch.lines)
+        except Exception as fault:  # those who wait are told of any
+            self.run.ended = self.run.ended or str(fault)
+            for batch in batches:
+                batch.fault = self.run.ended
+        return batches
+
+    def ask_some(self, lines):
+        """Asks for at most MANY lines, which no other line of the program comes between."""
+        mine = Batch(lines)
+        self.queue.append(mine)
+        is_mine = self.work.acquire(blocking=False)
+        if not is_mine:
+            mine.wake.acquire()  # until it is answered, or the work is passed on to this thread
+        while mine.answers is None and mine.fault is None:
+            for batch in self.turn():
+                if batch is not mine:
+                    batch.wake.release()
+            is_mine = True
+        if is_mine:
+            self.pass_on()
+        if mine.fault:
+            raise Refused(mine.fault)
+        return mine.answers
+
+    def pass_on(self):
+        """Passes the work on to the thread that waits first, or leaves it where none does."""
+        while True:
+            if self.queue:
+                self.queue[0].wake.release()
+                return
+            self.work.release()
+            # one who came in between has found the work taken, and waits
+            if not self.queue or not self.work.acquire(blocking=False):
+                return
 
     def ask(self, lines):
-        """Sends all these lines and gives their answers."""
-        sent = [self.send(lines[at : at + MANY]) for at in range(0, len(lines), MANY)]
-        return [answer for batch in sent for answer in batch.wait()]
+        """Asks for all these lines and gives their answers."""
+        return [said for at in range(0, len(lines), MANY) for said in self.ask_some(lines[at : at + MANY])]
 
     def ask_one(self, line):
         return self.ask([line])[0]
@@ -243,7 +262,7 @@ class Array:
         raise Refused(text(said))
 
     def close(self):
-        with self.order:
+        with self.work:
             return self.run.close()
 
 
@@ -421,7 +440,6 @@ def after_fork():
         if control is not None:
             control.close()
         raise RuntimeError("not with the options -u and -g of nbdkit: start it as the owner of the images")
-    array.run.start()
     if given["tick"]:
         clock = Clock(array, given["tick"])
     if control is not None:
