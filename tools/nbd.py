@@ -421,7 +421,9 @@ def config_complete():
 
 
 def thread_model():
-    return nbdkit.THREAD_MODEL_PARALLEL
+    # Requests of several connections come at once, those of one in turn. More is not worth it: with threads for
+    # one connection nbdkit (1.32) may end by an assertion when a client goes before its requests are answered.
+    return nbdkit.THREAD_MODEL_SERIALIZE_REQUESTS
 
 
 def get_ready():
