@@ -2,7 +2,7 @@
 use Rattle.std.proofs.Common.{◌≡◌, ℕ, Bool, true, false, List, Option, Some, None, refl, sym, ◌∙◌, ap, subst}
 use Rattle.std.specs.Prelude.{◌*◌, if◌then◌else◌}
 use Rattle.paraid_base.specs.declared.state.TickEvent.{TickEvent}
-use Rattle.paraid_base.specs.declared.state.TickEvent.TheVariants.{Begun, Ration as RationTick, Steady as TickSteady}
+use Rattle.paraid_base.specs.declared.state.TickEvent.TheVariants.{Begun, Flipped, Gone as GoneInTick, Lost, Moving, Ration as RationTick, Rebuilt, Steady as TickSteady, Waiting}
 use Rattle.paraid_base.specs.Gears.{next_higher, next_lower}
 use Rattle.paraid_base.specs.States.{named_out}
 use Rattle.paraid_gear.specs.declared.decision.Decision.{Decision}
@@ -12,8 +12,9 @@ use Rattle.paraid_gear.specs.Window.{is_busy, is_full, is_low_and_even}
 use Rattle.paraid_record.specs.declared.meta.Setup.{Setup}
 use Rattle.paraid_image.specs.Power.{PowerState}
 use Rattle.paraid_machine.specs.Moves.{first_worn}
-use Rattle.paraid_array.specs.Refusals.{IsAtEase, IsDownRefused, IsUpRefused, MayGoDown, MayGoUp}
-use Rattle.paraid_array.specs.TickAnswers.{TellsDecision, TellsWorn}
+use Rattle.paraid_record.specs.declared.meta.Meta.{Meta}
+use Rattle.paraid_array.specs.Refusals.{IsAtEase, IsDownRefused, IsShiftStateOf, IsUpRefused, MayGoDown, MayGoUp}
+use Rattle.paraid_array.specs.TickAnswers.{IsIdleTick, TellsDecision, TellsRest, TellsWorn}
 use Rattle.paraid_array.specs.declared.fault.ShiftFault.{ShiftFault}
 use Rattle.paraid_array.specs.declared.fault.ShiftFault.TheVariants.{Lowest, Out, Ration, Shifting, Top}
 
@@ -100,3 +101,15 @@ module _ (setup : Setup) (s : PowerState) (made : Decision) (to : ℕ) where
   tells_down samples fault event by is ease why told =
       let worn = down_worn_only samples fault by is ease why in
       subst (TellsDecision setup s made) (sym (told worn.0 worn.1)) (tells_worn samples worn.0 by is (subst (IsDownRefused setup s) worn.1 why))
+
+-- what a tick tells that begins nothing, whatever the samples are
+pub idle_rests : (m : Meta) (event : TickEvent) → IsIdleTick event → ((d : ℕ) → event ≡ RationTick d → (s : PowerState) → IsShiftStateOf m s → IsDownRefused m.setup s (Ration d)) → TellsRest m m event
+idle_rests m TickSteady is worn = tt
+idle_rests m Waiting is worn = is
+idle_rests m Moving is worn = is
+idle_rests m Flipped is worn = is
+idle_rests m (Begun to) is worn = absurd is
+idle_rests m (Rebuilt d) is worn = is
+idle_rests m (GoneInTick d) is worn = is
+idle_rests m (Lost d) is worn = is
+idle_rests m (RationTick d) is worn = worn d refl

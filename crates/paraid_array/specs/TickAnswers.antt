@@ -1,7 +1,7 @@
 -- What a tick answers that has counted itself.
-use Rattle.std.specs.Prelude.{◌≡◌, ℕ, ◌+◌, ◌-◌, ◌<◌, ◌≤◌, Option, Some, None}
+use Rattle.std.specs.Prelude.{◌≡◌, ℕ, ◌+◌, ◌-◌, ◌<◌, ◌≤◌, ◌⊎◌, Option, Some, None}
 use Rattle.paraid_base.specs.declared.state.Out.TheVariants.{Fresh, Gone as OutGone, No}
-use Rattle.paraid_base.specs.declared.state.Phase.TheVariants.{Steady as PhaseSteady}
+use Rattle.paraid_base.specs.declared.state.Phase.TheVariants.{Down as PhaseDown, Steady as PhaseSteady}
 use Rattle.paraid_base.specs.declared.state.TickEvent.{TickEvent}
 use Rattle.paraid_base.specs.declared.state.TickEvent.TheVariants.{Begun, Flipped, Gone, Lost, Moving, Ration, Rebuilt, Steady, Waiting}
 use Rattle.paraid_gear.specs.declared.decision.Decision.{Decision}
@@ -12,6 +12,11 @@ use Rattle.paraid_record.specs.Range.{rebuild_units}
 use Rattle.paraid_image.specs.Out.{named_out}
 use Rattle.paraid_image.specs.Power.{PowerState}
 use Rattle.paraid_machine.specs.Moves.{first_worn}
+use Rattle.paraid_moves.specs.MoveMetas.{meta_after_begin}
+use Rattle.paraid_core.specs.Steps.{IsMarkedFrom}
+use Rattle.paraid_shift.specs.Serving.{HasBegunUp}
+use Rattle.paraid_array.specs.Refusals.{IsDownRefused, IsShiftStateOf, MayGoDown, MayGoUp}
+use Rattle.paraid_array.specs.declared.fault.ShiftFault.TheVariants.{Ration as Worn}
 
 -- so many units of disk `d` are left, of which `u` are rebuilt
 abbrev pub units_unbuilt : Meta → ℕ → ℕ → ℕ
@@ -52,6 +57,29 @@ IsIdleTick (Rebuilt d) = ⊥
 IsIdleTick (Gone d) = ⊥
 IsIdleTick (Lost d) = ⊥
 IsIdleTick (Ration d) = Unit {0}
+
+-- a shift up to this gear might begin by the first meta, and has begun by the second
+pub record HasTickedUp (m m_then : Meta) (to : ℕ) : Type 0 where
+  pub could : (s : PowerState) → IsShiftStateOf m s → MayGoUp m.setup s to
+  pub begun : HasBegunUp m m_then to
+
+-- the same of one down
+pub record HasTickedDown (m m_then : Meta) (to : ℕ) : Type 0 where
+  pub could : (s : PowerState) → IsShiftStateOf m s → MayGoDown m.setup s to
+  pub begun : IsMarkedFrom (record (meta_after_begin m (PhaseDown to) m.spins) { epoch = m.epoch + 1 }) m_then
+
+-- What a tick at rest may tell, whatever the samples are: nothing, that a shift has begun which might, or the worn disk for which
+-- one down is refused.
+abbrev pub TellsRest : Meta → Meta → TickEvent → Type 0
+TellsRest m m_then Steady = Unit {0}
+TellsRest m m_then Waiting = ⊥
+TellsRest m m_then Moving = ⊥
+TellsRest m m_then Flipped = ⊥
+TellsRest m m_then (Begun to) = HasTickedUp m m_then to ⊎ HasTickedDown m m_then to
+TellsRest m m_then (Rebuilt d) = ⊥
+TellsRest m m_then (Gone d) = ⊥
+TellsRest m m_then (Lost d) = ⊥
+TellsRest m m_then (Ration d) = (s : PowerState) → IsShiftStateOf m s → IsDownRefused m.setup s (Worn d)
 
 -- a tick of a shift moves units, ends the shift, or loses a disk
 abbrev pub TellsMove : Meta → TickEvent → Type 0

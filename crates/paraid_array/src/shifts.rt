@@ -8,7 +8,7 @@ ghost use Rattle.paraid_core.specs.Cores.{core_down, core_rack, meta_of, store_o
 ghost use Rattle.paraid_array.specs.declared.fault.ShiftFault.TheVariants.{Ration as Worn};
 ghost use Rattle.paraid_array.specs.Refusals.{IsDownRefused, IsHinderedBy, IsShiftStateOf, IsUpRefused, MayGoDown, MayGoUp};
 ghost use Rattle.paraid_array.specs.Service.{IsOutKnown, LeavesInService, MakesCalls};
-ghost use Rattle.paraid_array.specs.TickAnswers.{IsIdleTick, TellsDecision, TellsMove, TellsRebuild};
+ghost use Rattle.paraid_array.specs.TickAnswers.{IsIdleTick, TellsDecision, TellsMove, TellsRebuild, TellsRest};
 ghost use Rattle.paraid_array.specs.TickTurns.{AreUnitsOfTick};
 ghost use Rattle.paraid_array.specs.Turns.{CoreTickHalts, CoreTicks};
 ghost use Rattle.paraid_gear.specs.Decision.{decision};
@@ -146,6 +146,7 @@ fn move_on<R: Rack>(core: &mut Core<R>) -> Result<(u32, TickEvent), Two>
 // What a tick tells where the shift down that is due does not begin.
 fn event_of(fault: ShiftFault) -> TickEvent
     ensures worn { (d : ℕ) → fault ≡ Worn d → result ≡ WornInTick d }
+    ensures by_wear { (d : ℕ) → result ≡ WornInTick d → fault ≡ Worn d }
     ensures idle { IsIdleTick result }
 {
     if let ShiftFault::Ration { disk } = fault {
@@ -167,6 +168,8 @@ fn decide<R: Rack>(core: &mut Core<R>, windows: &Windows) -> Result<TickEvent, T
         → (s : PowerState) → IsShiftStateOf (meta_of core.old) s
         → TellsDecision (meta_of core.old).setup s (decision (meta_of core.old).setup s.gear samples) event) }
     ensures idle { IfOk result (λ event. IsIdleTick event → core.new ≡ core.old) }
+    // What it tells whatever the samples are.
+    ensures rests { IfOk result (λ event. TellsRest (meta_of core.old) (meta_of core.new) event) }
     // It is a tick of a session.
     ensures turn { IfOk result (λ event. CoreTicks R.slot_count R.told windows.now core.old core.new
         (record { gear = (meta_of core.new).gear; moved = 0; event = event })) }
@@ -219,6 +222,9 @@ pub fn advance<R: Rack>(core: &mut Core<R>, windows: &Windows) -> Result<(u32, T
         → (done.0 ≡ 0) × TellsDecision (meta_of core.old).setup s (decision (meta_of core.old).setup s.gear samples) done.1) }
     ensures idle { IfOk result (λ done. (meta_of core.old).out ≡ No → (meta_of core.old).phase ≡ Steady
         → IsIdleTick done.1 → core.new ≡ core.old) }
+    // What it tells whatever the samples are.
+    ensures rests { IfOk result (λ done. (meta_of core.old).out ≡ No → (meta_of core.old).phase ≡ Steady
+        → (done.0 ≡ 0) × TellsRest (meta_of core.old) (meta_of core.new) done.1) }
     ensures moves { IfOk result (λ done. (meta_of core.old).out ≡ No → (meta_of core.old).phase ≢ Steady
         → TellsMove (meta_of core.new) done.1) }
     // Of a disk that is out: one that is told as rebuilt is back, and one that is told as gone has failed in the tick and is

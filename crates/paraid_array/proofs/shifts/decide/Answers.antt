@@ -1,5 +1,5 @@
 use Rattle.paraid_base.specs.Regions.{IsGear}
-use Rattle.std.proofs.Common.{ℕ, ◌<◌, ◌≤◌, refl, sym, ◌∙◌, ap, arith, subst, []}
+use Rattle.std.proofs.Common.{ℕ, ◌<◌, ◌≤◌, inl, inr, refl, sym, ◌∙◌, ap, arith, subst, []}
 use Rattle.std.specs.Prelude.{slice_index}
 use Rattle.paraid_base.specs.declared.state.TickEvent.TheVariants.{Begun, Steady as SteadyTick}
 use Rattle.paraid_gear.specs.Decision.{decision}
@@ -10,7 +10,9 @@ use Rattle.paraid_array.proofs.ResultLemmas.{none_done, none_done_if}
 use Rattle.paraid_machine.specs.Moves.{state_with_tick}
 use Rattle.paraid_array.specs.Refusals.{IsDownRefused, IsShiftStateOf, MayGoDown, MayGoUp}
 use Rattle.paraid_array.specs.TickAnswers.{TellsDecision}
-use Rattle.paraid_array.proofs.DecisionLemmas.{goes_down, goes_up, stays, tells_down, up_free}
+use Rattle.paraid_image.specs.Power.{PowerState}
+use Rattle.paraid_array.specs.declared.fault.ShiftFault.{ShiftFault}
+use Rattle.paraid_array.proofs.DecisionLemmas.{goes_down, goes_up, idle_rests, stays, tells_down, up_free}
 use Rattle.paraid_array.proofs.RefusalLemmas.{ease_of}
 use Rattle.paraid_array.proofs.OutLemmas.{known_whole}
 use Rattle.paraid_array.proofs.ServiceLemmas.{in_service_none}
@@ -41,6 +43,7 @@ returns-in-Stay g c =
           subst (λ (z : Meta). TellsDecision z.setup s (decision z.setup s.gear samples) SteadyTick) c.meta.ensures
           (stays m.setup s (decision m.setup s.gear samples) 0 (ap (λ (z : ℕ). decision m.setup z samples) is.gear ∙ sym (c.in-Stay.ensures samples held)));
       idle = λ is. refl;
+      rests = tt;
       turn = λ k setup p samples served energy held at fit counts.
           stays_told g.R.Rack.slot_count g.R.Rack.told a k setup p samples served energy at fit counts c.requires.whole c.requires.steady
           (c.in-Stay.ensures samples held ∙ ap (λ (z : Meta). decision z.setup z.gear samples) c.meta.ensures);
@@ -75,6 +78,7 @@ returns-in_err-begin_up-in-Ok g c =
       serves = none_done _ c.from_residual.result _ c.from_residual.ensures.1;
       tells = none_done_if _ c.from_residual.result _ c.from_residual.ensures.1;
       idle = none_done_if _ c.from_residual.result _ c.from_residual.ensures.1;
+      rests = none_done_if _ c.from_residual.result _ c.from_residual.ensures.1;
       turn = none_done_if _ c.from_residual.result _ c.from_residual.ensures.1;
       halts =
           handed _ c.from_residual.result _ c.from_residual.ensures.1
@@ -101,6 +105,7 @@ returns-in_ok-begin_up-in-Ok g c =
           (goes_up m.setup s (decision m.setup s.gear samples) c.in-Up.to samples c.in-Ok.to refl
           (ap (λ (z : ℕ). decision m.setup z samples) is.gear ∙ sym (c.in-Up.ensures samples held)) (c.in-Ok.ensures.may s is));
       idle = λ is. absurd is;
+      rests = inl (record { could = subst (λ (z : Meta). (s : PowerState) → IsShiftStateOf z s → MayGoUp z.setup s c.in-Ok.to) c.meta.ensures c.in-Ok.ensures.may; begun = begun.meta });
       turn = λ k setup p samples served energy held at fit counts.
           let s = state_with_tick p.state in
           let shown = subst (λ (z : Meta). IsShiftStateOf z s) (sym c.meta.ensures) (shift_shown g.R.Rack.slot_count g.R.Rack.told a k setup p samples served energy at fit counts) in
@@ -124,6 +129,7 @@ returns-in-Err g c =
           absurd (up_free m.setup s (decision m.setup s.gear samples) c.in-Up.to samples c.in-Err.field-0 refl
           (ap (λ (z : ℕ). decision m.setup z samples) is.gear ∙ sym (c.in-Up.ensures samples held)) (ease_of a.meta s of c.requires.steady c.requires.whole) (c.in-Err.ensures.refused s is));
       idle = λ is. refl;
+      rests = tt;
       turn = λ k setup p samples served energy held at fit counts.
           let s = state_with_tick p.state in
           let shown = shift_shown g.R.Rack.slot_count g.R.Rack.told a k setup p samples served energy at fit counts in
@@ -142,6 +148,7 @@ returns-in_err-begin_down-in-Ok-gear_below g c =
       serves = none_done _ c.from_residual-in_err-begin_down-in-Ok-gear_below.result _ c.from_residual-in_err-begin_down-in-Ok-gear_below.ensures.1;
       tells = none_done_if _ c.from_residual-in_err-begin_down-in-Ok-gear_below.result _ c.from_residual-in_err-begin_down-in-Ok-gear_below.ensures.1;
       idle = none_done_if _ c.from_residual-in_err-begin_down-in-Ok-gear_below.result _ c.from_residual-in_err-begin_down-in-Ok-gear_below.ensures.1;
+      rests = none_done_if _ c.from_residual-in_err-begin_down-in-Ok-gear_below.result _ c.from_residual-in_err-begin_down-in-Ok-gear_below.ensures.1;
       turn = none_done_if _ c.from_residual-in_err-begin_down-in-Ok-gear_below.result _ c.from_residual-in_err-begin_down-in-Ok-gear_below.ensures.1;
       halts =
           handed _ c.from_residual-in_err-begin_down-in-Ok-gear_below.result _ c.from_residual-in_err-begin_down-in-Ok-gear_below.ensures.1
@@ -168,6 +175,7 @@ returns-in_ok-begin_down-in-Ok-gear_below g c =
           (goes_down m.setup s (decision m.setup s.gear samples) c.in-Down.to samples c.in-Ok-gear_below.to refl
           (ap (λ (z : ℕ). decision m.setup z samples) is.gear ∙ sym (c.in-Down.ensures samples held)) (c.in-Ok-gear_below.ensures.may s is));
       idle = λ is. absurd is;
+      rests = inr (record { could = subst (λ (z : Meta). (s : PowerState) → IsShiftStateOf z s → MayGoDown z.setup s c.in-Ok-gear_below.to) c.meta.ensures c.in-Ok-gear_below.ensures.may; begun = begun.meta });
       turn = λ k setup p samples served energy held at fit counts.
           let s = state_with_tick p.state in
           let shown = subst (λ (z : Meta). IsShiftStateOf z s) (sym c.meta.ensures) (shift_shown g.R.Rack.slot_count g.R.Rack.told a k setup p samples served energy at fit counts) in
@@ -192,6 +200,9 @@ returns-in-Err-gear_below g c =
           (tells_down m.setup s (decision m.setup s.gear samples) c.in-Down.to samples _ c.event_of.result refl
           (ap (λ (z : ℕ). decision m.setup z samples) is.gear ∙ sym (c.in-Down.ensures samples held)) (ease_of a.meta s of c.requires.steady c.requires.whole) (c.in-Err-gear_below.ensures.refused s is) c.event_of.ensures.worn);
       idle = λ is. refl;
+      rests = idle_rests a.meta c.event_of.result c.event_of.ensures.idle
+          (λ d is. subst (λ (f : ShiftFault). (s : PowerState) → IsShiftStateOf a.meta s → IsDownRefused a.meta.setup s f) (c.event_of.ensures.by_wear d is)
+          (subst (λ (z : Meta). (s : PowerState) → IsShiftStateOf z s → IsDownRefused z.setup s c.in-Err-gear_below.fault) c.meta.ensures c.in-Err-gear_below.ensures.refused));
       turn = λ k setup p samples served energy held at fit counts.
           let s = state_with_tick p.state in
           let shown = subst (λ (z : Meta). IsShiftStateOf z s) (sym c.meta.ensures) (shift_shown g.R.Rack.slot_count g.R.Rack.told a k setup p samples served energy at fit counts) in
