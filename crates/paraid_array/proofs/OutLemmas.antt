@@ -121,6 +121,22 @@ steady_marked m n steady marked = by marked.lost refl
     by None e = ap (λ (z : Meta). z.phase) (marked.is ∙ ap (λ (o : Option ℕ). meta_with_lost o m) e) ∙ steady
     by (Some d) e = ap (λ (z : Meta). z.phase) (marked.is ∙ ap (λ (o : Option ℕ). meta_with_lost o m) e) ∙ ap (phase_beside true) steady
 
+-- nor does it change the gear
+pub gear_marked : (m n : Meta) → IsMarkedFrom m n → n.gear ≡ m.gear
+gear_marked m n marked = by marked.lost refl
+  where
+    by : (o : Option ℕ) → marked.lost ≡ o → n.gear ≡ m.gear
+    by None e = ap (λ (z : Meta). z.gear) (marked.is ∙ ap (λ (o : Option ℕ). meta_with_lost o m) e)
+    by (Some d) e = ap (λ (z : Meta). z.gear) (marked.is ∙ ap (λ (o : Option ℕ). meta_with_lost o m) e)
+
+-- and what is not filled stays so
+pub fill_marked : (m n : Meta) → m.fill ≡ 0 → IsMarkedFrom m n → n.fill ≡ 0
+fill_marked m n none marked = by marked.lost refl
+  where
+    by : (o : Option ℕ) → marked.lost ≡ o → n.fill ≡ 0
+    by None e = ap (λ (z : Meta). z.fill) (marked.is ∙ ap (λ (o : Option ℕ). meta_with_lost o m) e) ∙ none
+    by (Some d) e = ap (λ (z : Meta). z.fill) (marked.is ∙ ap (λ (o : Option ℕ). meta_with_lost o m) e)
+
 -- the first of two disks may be the one that was taken out
 pub two_taken : {R : Type 0} {g : _} (slot : R → ℕ → Slot) (a m new : Core R g) (disk : ℕ) (two : Two) → m.store ≡ a.store → named_out m.meta.out ≡ Some disk → AreTwoDown (core_down m) (slot (store_rack m.store)) (slot (store_rack new.store)) two
     → AreTwoDownBeside (λ d. (core_down a ≡ Some d) ⊎ (d ≡ disk)) (slot (store_rack a.store)) (slot (store_rack new.store)) two

@@ -4,6 +4,7 @@ use Rattle.paraid_base.specs.declared.state.Out.TheVariants.{Fresh, Gone as OutG
 use Rattle.paraid_base.specs.declared.state.Phase.TheVariants.{Down as PhaseDown, Steady as PhaseSteady}
 use Rattle.paraid_base.specs.declared.state.TickEvent.{TickEvent}
 use Rattle.paraid_base.specs.declared.state.TickEvent.TheVariants.{Begun, Flipped, Gone, Lost, Moving, Ration, Rebuilt, Steady, Waiting}
+use Rattle.paraid_base.specs.States.{phase_to}
 use Rattle.paraid_gear.specs.declared.decision.Decision.{Decision}
 use Rattle.paraid_gear.specs.declared.decision.Decision.TheVariants.{Down, Stay, Up}
 use Rattle.paraid_record.specs.declared.meta.Meta.{Meta}
@@ -92,3 +93,16 @@ TellsMove m_then (Rebuilt d) = ⊥
 TellsMove m_then (Gone d) = ⊥
 TellsMove m_then (Lost d) = named_out m_then.out ≡ Some d
 TellsMove m_then (Ration d) = ⊥
+
+-- What it leaves of the shift: one that is under way stays so, with no less filled; one that has ended is at the gear to which it
+-- went, with nothing filled.
+abbrev pub MarksMove : Meta → Meta → TickEvent → Type 0
+MarksMove m m_then Steady = Unit {0}
+MarksMove m m_then Waiting = Unit {0}
+MarksMove m m_then Moving = (m_then.phase ≡ m.phase) × (m_then.gear ≡ m.gear) × (m.fill ≤ m_then.fill)
+MarksMove m m_then Flipped = (m_then.gear ≡ phase_to m.phase) × (m_then.fill ≡ 0)
+MarksMove m m_then (Begun to) = Unit {0}
+MarksMove m m_then (Rebuilt d) = Unit {0}
+MarksMove m m_then (Gone d) = Unit {0}
+MarksMove m m_then (Lost d) = Unit {0}
+MarksMove m m_then (Ration d) = Unit {0}

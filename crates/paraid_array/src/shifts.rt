@@ -8,7 +8,7 @@ ghost use Rattle.paraid_core.specs.Cores.{core_down, core_rack, meta_of, store_o
 ghost use Rattle.paraid_array.specs.declared.fault.ShiftFault.TheVariants.{Ration as Worn};
 ghost use Rattle.paraid_array.specs.Refusals.{IsDownRefused, IsHinderedBy, IsShiftStateOf, IsUpRefused, MayGoDown, MayGoUp};
 ghost use Rattle.paraid_array.specs.Service.{IsOutKnown, LeavesInService, MakesCalls};
-ghost use Rattle.paraid_array.specs.TickAnswers.{IsIdleTick, TellsDecision, TellsMove, TellsRebuild, TellsRest};
+ghost use Rattle.paraid_array.specs.TickAnswers.{IsIdleTick, MarksMove, TellsDecision, TellsMove, TellsRebuild, TellsRest};
 ghost use Rattle.paraid_array.specs.TickTurns.{AreUnitsOfTick};
 ghost use Rattle.paraid_array.specs.Turns.{CoreTickHalts, CoreTicks};
 ghost use Rattle.paraid_gear.specs.Decision.{decision};
@@ -122,6 +122,7 @@ fn move_on<R: Rack>(core: &mut Core<R>) -> Result<(u32, TickEvent), Two>
     requires shifts { (meta_of core.old).phase ≢ Steady }
     ensures serves { OnOk result (LeavesInService R.slot_count R.slot core.old core.new) }
     ensures tells { IfOk result (λ done. TellsMove (meta_of core.new) done.1) }
+    ensures marks { IfOk result (λ done. MarksMove (meta_of core.old) (meta_of core.new) done.1) }
     // It is a tick of a session.
     ensures turn { IfOk result (λ done. (windows : WindowsType) → CoreTicks R.slot_count R.told windows core.old core.new
         (record { gear = (meta_of core.new).gear; moved = done.0; event = done.1 })) }
@@ -227,6 +228,8 @@ pub fn advance<R: Rack>(core: &mut Core<R>, windows: &Windows) -> Result<(u32, T
         → (done.0 ≡ 0) × TellsRest (meta_of core.old) (meta_of core.new) done.1) }
     ensures moves { IfOk result (λ done. (meta_of core.old).out ≡ No → (meta_of core.old).phase ≢ Steady
         → TellsMove (meta_of core.new) done.1) }
+    ensures marks { IfOk result (λ done. (meta_of core.old).out ≡ No → (meta_of core.old).phase ≢ Steady
+        → MarksMove (meta_of core.old) (meta_of core.new) done.1) }
     // Of a disk that is out: one that is told as rebuilt is back, and one that is told as gone has failed in the tick and is
     // named out by its last commit.
     ensures back { IfOk result (λ done. (d u : ℕ) → (meta_of core.old).out ≡ Fresh d u → done.1 ≡ Rebuilt d

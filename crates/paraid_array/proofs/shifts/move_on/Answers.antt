@@ -1,4 +1,4 @@
-use Rattle.std.proofs.Common.{◌+◌, refl, sym, ◌∙◌, subst, [], arith}
+use Rattle.std.proofs.Common.{◌+◌, ap, refl, sym, ◌∙◌, subst, [], arith}
 use Rattle.paraid_base.specs.States.{phase_to}
 use Rattle.paraid_moves.specs.MoveMetas.{meta_flipped_to}
 use Rattle.paraid_core.proofs.AfterLemmas.{handed}
@@ -7,8 +7,8 @@ use Rattle.paraid_event.specs.Service.{service_of}
 use Rattle.paraid_event.proofs.TickStepLemmas.{no_name}
 use Rattle.paraid_shift.specs.Units.{TellsDone}
 use Rattle.paraid_shift.proofs.ServingLemmas.{leaves_array_then, none_away, two_array}
-use Rattle.paraid_array.proofs.OutLemmas.{known_gone, known_whole, steady_marked}
-use Rattle.paraid_array.proofs.TickTurnLemmas.{flip_halts, flipped_told, known_marked, lost_told, moved_gone, moved_shifts, moving_told, step_halts}
+use Rattle.paraid_array.proofs.OutLemmas.{fill_marked, gear_marked, known_gone, known_whole, steady_marked}
+use Rattle.paraid_array.proofs.TickTurnLemmas.{flip_halts, flipped_told, known_marked, lost_told, moved_fill, moved_gear, moved_gone, moved_phase, moved_shifts, moving_told, step_halts}
 use Rattle.paraid_array.proofs.ToldLemmas.{calls_then, calls_told, extends_steps}
 use Rattle.paraid_array.proofs.shifts.move_on.Goals as goal
 
@@ -51,6 +51,7 @@ returns-in_err-moved g c =
     record {
       serves = none_done _ c.from_residual.result _ c.from_residual.ensures.1;
       tells = none_done_if _ c.from_residual.result _ c.from_residual.ensures.1;
+      marks = none_done_if _ c.from_residual.result _ c.from_residual.ensures.1;
       turn = none_done_if _ c.from_residual.result _ c.from_residual.ensures.1;
       halts =
           handed _ c.from_residual.result _ c.from_residual.ensures.1
@@ -75,6 +76,7 @@ returns-in-Some g c =
         known = known_gone g.R.Rack.slot b c.in-Some.disk (moved_gone g.R.Rack.slot_count a b c.in_ok-moved.moved.units (moved.moves c.requires.whole).moves c.in-Some.disk named) (moved.absent (none_away g.R.Rack.slot a c.requires.whole));
       };
       tells = named;
+      marks = tt;
       turn = λ windows k setup p samples served energy held at fit counts.
           lost_told g.R.Rack.slot_count g.R.Rack.told a k setup p samples served energy at fit counts c.requires.whole c.requires.shifts c.requires.serving.ready.in_range c.units_of_tick-units.result c.units_of_tick-units.ensures.units
           b c.in_ok-moved.moved.units (moved.moves c.requires.whole) moved.serving.copies_synced steps c.in-Some.disk moved.few named;
@@ -93,6 +95,7 @@ returns-then-not-is_done g c =
     record {
       serves = record { serving = moved.serving; leaves = moved.leaves; known = known_whole g.R.Rack.slot b whole };
       tells = whole;
+      marks = (moved_phase g.R.Rack.slot_count a b c.in_ok-moved.moved.units (moved.moves c.requires.whole).moves whole, moved_gear g.R.Rack.slot_count a b c.in_ok-moved.moved.units (moved.moves c.requires.whole).moves whole, moved_fill g.R.Rack.slot_count a b c.in_ok-moved.moved.units (moved.moves c.requires.whole).moves whole);
       turn = λ windows k setup p samples served energy held at fit counts.
           moving_told g.R.Rack.slot_count g.R.Rack.told a k setup p samples served energy at fit counts c.requires.whole c.requires.shifts c.requires.serving.ready.in_range c.units_of_tick-units.result c.units_of_tick-units.ensures.units
           b c.in_ok-moved.moved.units (moved.moves c.requires.whole) moved.serving.copies_synced steps whole moved.leaves.setup
@@ -113,6 +116,7 @@ returns-in_err-flip g c =
     record {
       serves = none_done _ c.from_residual-in_err-flip.result _ c.from_residual-in_err-flip.ensures.1;
       tells = none_done_if _ c.from_residual-in_err-flip.result _ c.from_residual-in_err-flip.ensures.1;
+      marks = none_done_if _ c.from_residual-in_err-flip.result _ c.from_residual-in_err-flip.ensures.1;
       turn = none_done_if _ c.from_residual-in_err-flip.result _ c.from_residual-in_err-flip.ensures.1;
       halts =
           handed _ c.from_residual-in_err-flip.result _ c.from_residual-in_err-flip.ensures.1
@@ -142,6 +146,8 @@ returns g c =
         known = known_marked g.R.Rack.slot (record (meta_flipped_to b.meta (phase_to b.meta.phase)) { epoch = b.meta.epoch + 1 }) new ended.meta whole ended.absent;
       };
       tells = steady_marked (record (meta_flipped_to b.meta (phase_to b.meta.phase)) { epoch = b.meta.epoch + 1 }) new.meta refl ended.meta;
+      marks = (gear_marked (record (meta_flipped_to b.meta (phase_to b.meta.phase)) { epoch = b.meta.epoch + 1 }) new.meta ended.meta ∙ ap phase_to (moved_phase g.R.Rack.slot_count a b c.in_ok-moved.moved.units (moved.moves c.requires.whole).moves whole),
+      fill_marked (record (meta_flipped_to b.meta (phase_to b.meta.phase)) { epoch = b.meta.epoch + 1 }) new.meta refl ended.meta);
       turn = λ windows k setup p samples served energy held at fit counts.
           flipped_told g.R.Rack.slot_count g.R.Rack.told a k setup p samples served energy at fit counts c.requires.whole c.requires.shifts c.requires.serving.ready.in_range c.units_of_tick-units.result c.units_of_tick-units.ensures.units
           b c.in_ok-moved.moved.units (moved.moves c.requires.whole) moved.serving.copies_synced steps whole moved.leaves.setup
