@@ -64,7 +64,7 @@ pub record HasTickedUp (m m_then : Meta) (to : ℕ) : Type 0 where
   pub could : (s : PowerState) → IsShiftStateOf m s → MayGoUp m.setup s to
   pub begun : HasBegunUp m m_then to
 
--- the same of one down
+-- a shift down to this gear might begin by the first meta, and has begun by the second
 pub record HasTickedDown (m m_then : Meta) (to : ℕ) : Type 0 where
   pub could : (s : PowerState) → IsShiftStateOf m s → MayGoDown m.setup s to
   pub begun : IsMarkedFrom (record (meta_after_begin m (PhaseDown to) m.spins) { epoch = m.epoch + 1 }) m_then

@@ -21,7 +21,7 @@ use Rattle.paraid_base.specs.Told.{HasRisen}
 use Rattle.paraid_base.specs.declared.state.GearReport.{GearReport}
 use Rattle.paraid_base.specs.declared.state.TickEvent.{TickEvent}
 use Rattle.paraid_base.specs.declared.state.TickEvent.TheVariants.{Begun as TickBegun, Flipped, Gone as GoneAgain, Lost, Moving, Ration as TickRation, Rebuilt, Steady as TickSteady, Waiting}
-use Rattle.paraid_array.specs.TickAnswers.{TellsMove, TellsRebuild, units_unbuilt}
+use Rattle.paraid_array.specs.TickAnswers.{HasTickedDown, HasTickedUp, IsIdleTick, MarksMove, TellsMove, TellsRebuild, TellsRest, units_unbuilt}
 use Rattle.paraid_controller.proofs.CountedLemmas.{with_tick}
 use Rattle.paraid_machine.specs.Energy.{begun_energy, energy_after, tick_energy}
 use Rattle.paraid_image.specs.Out.{is_out, named_out, or_else}
@@ -39,7 +39,7 @@ use Rattle.paraid_image.specs.Mark.{meta_after_loss}
 use Rattle.paraid_moves.specs.MoveMetas.{meta_after_begin}
 use Rattle.paraid_rebuild.specs.Replacing.{IsReplacedFrom}
 use Rattle.paraid_core.specs.declared.staged.Core.{Core}
-use Rattle.paraid_serve.specs.Causes.{Accepts, Begins, Does, DoesShift, HasCause, HasFailed, IsUnchanged, KeepsEnergy, MovesBy, MovesOn, Rebuilds, Replaces, Shown, Takes, TicksBy, down_refusal, meta_marked, missing_answer, quiet_answer, spins_up, state_shown, up_refusal, wear_shown}
+use Rattle.paraid_serve.specs.Causes.{Accepts, Begins, Decides, Does, DoesShift, HasCause, HasFailed, IsAsBefore, IsUnchanged, KeepsEnergy, MovesBy, MovesOn, Rebuilds, Replaces, Shown, Takes, TicksBy, down_refusal, meta_marked, missing_answer, quiet_answer, shown_ticked, spins_up, state_shown, up_refusal, wear_shown}
 use Rattle.paraid_serve.specs.Causes.HasReason.{done as reason_done, quiet as reason_quiet, two as reason_two, worn as reason_worn}
 use Rattle.paraid_serve.specs.Lost.{HaltsByTwoLost}
 use Rattle.paraid_array.specs.DiskRefusals.{HasMarkedTaken, IsFailRefused, IsReplaceRefused}
@@ -333,6 +333,10 @@ begun_spins : (o : Option ℕ) (m n : Meta) → n ≡ meta_with_lost o m → n.s
 begun_spins None m n is = ap (λ (z : Meta). z.spins) is
 begun_spins (Some d) m n is = ap (λ (z : Meta). z.spins) is
 
+-- a disk that was lost is named out then
+named_lost : (m n : Meta) (o : Option ℕ) → n ≡ meta_with_lost o m → (d : ℕ) → o ≡ Some d → named_out n.out ≡ Some d
+named_lost m n o is d some = ap (λ (z : Meta). named_out z.out) (is ∙ ap (λ (x : Option ℕ). meta_with_lost x m) some)
+
 -- the spin-ups of the disks that come up
 raised_by : (gear to d now was : ℕ) → (gear ≤ d → d < to → now ≡ was + 1) → ((d < gear) ⊎ (to ≤ d) → now ≡ was) → now ≡ was + spins_up gear to d
 raised_by gear to d now was raised others = by (nat_le gear d) (nat_lt d to) refl refl
@@ -373,9 +377,6 @@ module _ {R : Type 0} {g : _} (slot : R → ℕ → Slot) (a : Array R g) (new :
   refused_cause event takes f is same quiet =
       subst (λ (z : Answer). HasCause (shown_of_array slot a) event z (shown_with slot a.setup new sum (halt_of_end a.ended))) (sym (ap (asked_answer a.core.meta.gear) is))
       (still_cause (shown_of_array slot a) (shown_with slot a.setup new sum (halt_of_end a.ended)) event (fault_answer f) takes quiet (unchanged_core slot a new sum same (uses_nothing (ap (asked_energy a.setup a.core.meta.gear) is))) refl (going ∙ sym (fault_going f)) later)
-
-  named_lost : (m n : Meta) (o : Option ℕ) → n ≡ meta_with_lost o m → (d : ℕ) → o ≡ Some d → named_out n.out ≡ Some d
-  named_lost m n o is d some = ap (λ (z : Meta). named_out z.out) (is ∙ ap (λ (x : Option ℕ). meta_with_lost x m) some)
 
   -- what has begun by the meta
   begins_by : (m : Meta) (phase : Phase) (spins : List ℕ) (epoch : ℕ) (raised : ℕ → ℕ) → IsMarkedFrom (record (meta_after_begin m phase spins) { epoch = epoch }) new.meta → named_out a.core.meta.out ≡ None
@@ -509,6 +510,16 @@ module _ {R : Type 0} {g : _} (slot : R → ℕ → Slot) (a : Array R g) (same_
 pub state_answer : (n disks : ℕ) (status shown : Status) → shown ≡ status → disks ≡ n → Some (IsState status n) ≡ Some (IsState shown disks)
 state_answer n disks status shown same few = rw (same, few) refl
 
+-- what has begun by the meta
+begins_from : (x y : Shown) (phase : Phase) (spins : List ℕ) (epoch : ℕ) (raised : ℕ → ℕ) → IsMarkedFrom (record (meta_after_begin x.meta phase spins) { epoch = epoch }) y.meta
+    → ((d : ℕ) → named_out y.meta.out ≡ Some d → HasFailed x y d) → ((d : ℕ) → slice_index spins d ≡ slice_index x.meta.spins d + raised d) → Begins x y phase raised
+begins_from x y phase spins epoch raised marked failed counts = record {
+  lost = marked.lost;
+  is = begun_meta marked.lost x.meta y.meta phase spins epoch marked.is;
+  failed = λ d some. failed d (named_lost (record (meta_after_begin x.meta phase spins) { epoch = epoch }) y.meta marked.lost marked.is d some);
+  spins = λ d. ap (λ (l : List ℕ). slice_index l d) (begun_spins marked.lost (record (meta_after_begin x.meta phase spins) { epoch = epoch }) y.meta marked.is) ∙ counts d;
+}
+
 -- what a tick uses, with its begin
 two_sums : (used own begun most : ℕ) → min (min (used + own) most + begun) most ≡ min (used + (own + begun)) most
 two_sums used own begun most = grind (arith)
@@ -545,31 +556,80 @@ module _ {R : Type 0} {g : _} (slot : R → ℕ → Slot) (a : Array R g) (new :
   rebuild_by d u (Lost e) is w gone = w
   rebuild_by d u (TickRation e) is w gone = w
 
-  pub moves_by : (e : TickEvent) → named_out a.core.meta.out ≡ None → TellsMove new.meta e → MovesOn (shown_of_array slot a) (shown_with slot a.setup new sum (halt_of_end a.ended)) e
-  moves_by TickSteady none w = w
-  moves_by Waiting none w = w
-  moves_by Moving none w = w
-  moves_by Flipped none w = w
-  moves_by (TickBegun to) none w = w
-  moves_by (Rebuilt e) none w = w
-  moves_by (GoneAgain e) none w = w
-  moves_by (Lost d) none w = (w, failed none d w)
-  moves_by (TickRation e) none w = w
+  pub moves_by : (e : TickEvent) → named_out a.core.meta.out ≡ None → TellsMove new.meta e → MarksMove (with_tick a.core.meta) new.meta e → MovesOn (shown_of_array slot a) (shown_with slot a.setup new sum (halt_of_end a.ended)) e
+  moves_by TickSteady none w marks = w
+  moves_by Waiting none w marks = w
+  moves_by Moving none w marks = (w, marks.0, marks.1, marks.2)
+  moves_by Flipped none w marks = (w, marks.0, marks.1)
+  moves_by (TickBegun to) none w marks = w
+  moves_by (Rebuilt e) none w marks = w
+  moves_by (GoneAgain e) none w marks = w
+  moves_by (Lost d) none w marks = (w, failed none d w)
+  moves_by (TickRation e) none w marks = w
 
-  shifts_by : (phase : Phase) → a.core.meta.phase ≡ phase → named_out a.core.meta.out ≡ None → (a.core.meta.phase ≢ Steady → TellsMove new.meta event) → MovesBy phase (shown_of_array slot a) (shown_with slot a.setup new sum (halt_of_end a.ended)) count event
-  shifts_by Steady is none moves = tt
-  shifts_by (DownPhase to) is none moves = moves_by event none (moves (λ z. let y : Steady ≡ DownPhase to = sym z ∙ is in cc))
-  shifts_by (UpPhase to) is none moves = moves_by event none (moves (λ z. let y : Steady ≡ UpPhase to = sym z ∙ is in cc))
+  -- what a shift sees of it as it has counted itself
+  ticked_state : IsShiftStateOf (with_tick a.core.meta) (state_shown (shown_ticked (shown_of_array slot a)))
+  ticked_state = record { gear = refl; phase = refl; out = refl; spins = refl; ticks = refl }
+
+  begins_up : (to : ℕ) → named_out a.core.meta.out ≡ None → HasTickedUp (with_tick a.core.meta) new.meta to
+      → (next_higher a.setup.geometry a.core.meta.gear ≡ Some to) × Begins (shown_ticked (shown_of_array slot a)) (shown_with slot a.setup new sum (halt_of_end a.ended)) (UpPhase to) (spins_up a.core.meta.gear to)
+  begins_up to none w =
+      let may = subst (λ (z : Setup). MayGoUp z (state_shown (shown_ticked (shown_of_array slot a))) to) same_setup (w.could (state_shown (shown_ticked (shown_of_array slot a))) ticked_state) in
+      (may.next,
+      begins_from (shown_ticked (shown_of_array slot a)) (shown_with slot a.setup new sum (halt_of_end a.ended)) (UpPhase to) w.begun.spins (a.core.meta.epoch + 1) (spins_up a.core.meta.gear to) w.begun.is (failed none)
+      (λ d. raised_by a.core.meta.gear to d (slice_index w.begun.spins d) (slice_index a.core.meta.spins d) (w.begun.raised d) (w.begun.others d)))
+
+  begins_down : (to : ℕ) → named_out a.core.meta.out ≡ None → HasTickedDown (with_tick a.core.meta) new.meta to
+      → (next_lower a.setup.geometry a.core.meta.gear ≡ Some to) × (first_worn a.setup (state_shown (shown_ticked (shown_of_array slot a))) to ≡ None) × Begins (shown_ticked (shown_of_array slot a)) (shown_with slot a.setup new sum (halt_of_end a.ended)) (DownPhase to) (λ d. 0)
+  begins_down to none w =
+      let may = subst (λ (z : Setup). MayGoDown z (state_shown (shown_ticked (shown_of_array slot a))) to) same_setup (w.could (state_shown (shown_ticked (shown_of_array slot a))) ticked_state) in
+      (may.next, may.unworn,
+      begins_from (shown_ticked (shown_of_array slot a)) (shown_with slot a.setup new sum (halt_of_end a.ended)) (DownPhase to) a.core.meta.spins (a.core.meta.epoch + 1) (λ d. 0) w.begun (failed none)
+      (λ d. plus_none (slice_index a.core.meta.spins d)))
+
+  tells_worn : (d : ℕ) → ((s : PowerState) → IsShiftStateOf (with_tick a.core.meta) s → IsDownRefused a.core.meta.setup s (Ration d)) → IsAsBefore (shown_ticked (shown_of_array slot a)) (shown_with slot a.setup new sum (halt_of_end a.ended))
+      → (to : ℕ) × (next_lower a.setup.geometry a.core.meta.gear ≡ Some to) × (first_worn a.setup (state_shown (shown_ticked (shown_of_array slot a))) to ≡ Some d) × IsAsBefore (shown_ticked (shown_of_array slot a)) (shown_with slot a.setup new sum (halt_of_end a.ended))
+  tells_worn d w same =
+      let why = subst (λ (z : Setup). IsDownRefused z (state_shown (shown_ticked (shown_of_array slot a))) (Ration d)) same_setup (w (state_shown (shown_ticked (shown_of_array slot a))) ticked_state) in
+      (why.0, why.1, why.3, same)
+
+  -- one of an array at rest
+  decides_by : (e : TickEvent) → named_out a.core.meta.out ≡ None → TellsRest (with_tick a.core.meta) new.meta e → (IsIdleTick e → IsAsBefore (shown_ticked (shown_of_array slot a)) (shown_with slot a.setup new sum (halt_of_end a.ended)))
+      → Decides (shown_ticked (shown_of_array slot a)) (shown_with slot a.setup new sum (halt_of_end a.ended)) e
+  decides_by TickSteady none w idle = idle tt
+  decides_by Waiting none w idle = w
+  decides_by Moving none w idle = w
+  decides_by Flipped none w idle = w
+  decides_by (TickBegun to) none w idle = elim w [ inl up ↦ inl (begins_up to none up) | inr down ↦ inr (begins_down to none down) ]
+  decides_by (Rebuilt e) none w idle = w
+  decides_by (GoneAgain e) none w idle = w
+  decides_by (Lost d) none w idle = w
+  decides_by (TickRation d) none w idle = tells_worn d w (idle tt)
+
+  abbrev IsIdleCore : Type 0
+  IsIdleCore = (new.meta ≡ with_tick a.core.meta) × (new.dirty ≡ a.core.dirty) × (slot (core_rack new) ≡ slot (core_rack a.core))
+
+  idle_is : IsIdleCore → IsAsBefore (shown_ticked (shown_of_array slot a)) (shown_with slot a.setup new sum (halt_of_end a.ended))
+  idle_is same = record { meta = same.0; dirty = ap is_dirty same.1; slot = same.2 }
+
+  shifts_by : (phase : Phase) → a.core.meta.phase ≡ phase → named_out a.core.meta.out ≡ None → (a.core.meta.phase ≢ Steady → TellsMove new.meta event × MarksMove (with_tick a.core.meta) new.meta event)
+      → (a.core.meta.phase ≡ Steady → (count ≡ 0) × TellsRest (with_tick a.core.meta) new.meta event) → (a.core.meta.phase ≡ Steady → IsIdleTick event → IsIdleCore)
+      → MovesBy phase (shown_of_array slot a) (shown_with slot a.setup new sum (halt_of_end a.ended)) count event
+  shifts_by Steady is none moves rests idle = let w = rests is in (w.0, decides_by event none w.1 (λ e. idle_is (idle is e)))
+  shifts_by (DownPhase to) is none moves rests idle = let w = moves (λ z. let y : Steady ≡ DownPhase to = sym z ∙ is in cc) in moves_by event none w.0 w.1
+  shifts_by (UpPhase to) is none moves rests idle = let w = moves (λ z. let y : Steady ≡ UpPhase to = sym z ∙ is in cc) in moves_by event none w.0 w.1
 
   pub ticks_by : (out : Out) → a.core.meta.out ≡ out
       → ((d : ℕ) → a.core.meta.out ≡ Gone d → (count ≡ 0) × (event ≡ Waiting) × (new.meta.out ≡ Gone d) × (slot (core_rack new) ≡ slot (core_rack a.core)))
       → ((d u : ℕ) → a.core.meta.out ≡ Fresh d u → TellsRebuild (with_tick a.core.meta) new.meta d u count event)
       → ((d u : ℕ) → a.core.meta.out ≡ Fresh d u → event ≡ GoneAgain d → HasRisen (slot (core_rack a.core) d).faults (slot (core_rack new) d).faults)
-      → (a.core.meta.out ≡ No → a.core.meta.phase ≢ Steady → TellsMove new.meta event)
+      → (a.core.meta.out ≡ No → a.core.meta.phase ≢ Steady → TellsMove new.meta event × MarksMove (with_tick a.core.meta) new.meta event)
+      → (a.core.meta.out ≡ No → a.core.meta.phase ≡ Steady → (count ≡ 0) × TellsRest (with_tick a.core.meta) new.meta event)
+      → (a.core.meta.out ≡ No → a.core.meta.phase ≡ Steady → IsIdleTick event → (new.meta ≡ with_tick a.core.meta) × (new.dirty ≡ a.core.dirty) × (slot (core_rack new) ≡ slot (core_rack a.core)))
       → TicksBy out (shown_of_array slot a) (shown_with slot a.setup new sum (halt_of_end a.ended)) count event
-  ticks_by No is waits rebuilds gone moves = shifts_by a.core.meta.phase refl (ap named_out is) (moves is)
-  ticks_by (Gone d) is waits rebuilds gone moves = waits d is
-  ticks_by (Fresh d u) is waits rebuilds gone moves = rebuild_by d u event refl (rebuilds d u is) (gone d u is)
+  ticks_by No is waits rebuilds gone moves rests idle = shifts_by a.core.meta.phase refl (ap named_out is) (moves is) (rests is) (idle is)
+  ticks_by (Gone d) is waits rebuilds gone moves rests idle = waits d is
+  ticks_by (Fresh d u) is waits rebuilds gone moves rests idle = rebuild_by d u event refl (rebuilds d u is) (gone d u is)
 
 -- what it uses
 pub tick_sum : (setup : Setup) (used : ℕ) (s : PowerState) (own sum : ℕ) (report : GearReport) → own ≡ min (used + tick_energy setup s) 18446744073709551615

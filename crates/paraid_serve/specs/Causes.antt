@@ -1,5 +1,5 @@
 -- Why an array answers an event so, whatever its rack holds: by its meta before and after, and by the counts of its slots.
-use Rattle.std.specs.Prelude.{◌≡◌, ◌≢◌, ℕ, ◌+◌, ◌<◌, ◌≤◌, ◌^◌, ◌⊎◌, ◌&&◌, nat_le, nat_lt, max, Bool, true, List, [], ◌∷◌, Option, Some, None, slice_index, if◌then◌else◌}
+use Rattle.std.specs.Prelude.{◌≡◌, ◌≢◌, ℕ, ◌+◌, ◌<◌, ◌≤◌, ◌^◌, ◌⊎◌, ◌&&◌, nat_le, nat_lt, max, min, Bool, true, List, [], ◌∷◌, Option, Some, None, slice_index, if◌then◌else◌}
 use Rattle.paraid_base.specs.declared.event.Answer.{Answer}
 use Rattle.paraid_base.specs.declared.event.Answer.TheVariants.{Value, NoBlock, Wrote, Flushed, Ticked, Shift, Top, Lowest, Failed, Replaced, NoDisk, Out as IsOut, NotOut, NoFresh, State as IsState, Energy as EnergyUsed, Bad as IsBad, Halted}
 use Rattle.paraid_base.specs.declared.event.Event.{Event}
@@ -16,6 +16,7 @@ use Rattle.paraid_base.specs.declared.state.TickEvent.{TickEvent}
 use Rattle.paraid_base.specs.declared.state.TickEvent.TheVariants.{Steady, Waiting, Moving, Flipped, Begun, Rebuilt, Gone as GoneAgain, Lost, Ration}
 use Rattle.paraid_base.specs.Gears.{next_higher, next_lower}
 use Rattle.paraid_base.specs.Pairs.{pairs_of}
+use Rattle.paraid_base.specs.States.{phase_to}
 use Rattle.paraid_base.specs.Told.{HasRisen}
 use Rattle.paraid_image.specs.Mark.{meta_after_loss}
 use Rattle.paraid_image.specs.Out.{is_out, named_out}
@@ -196,16 +197,35 @@ Rebuilds left d rebuilt old new count (Rebuilt e) = (e ≡ d) × (count ≡ left
 Rebuilds left d rebuilt old new count (GoneAgain e) = (e ≡ d) × (count ≡ 0) × (new.meta.out ≡ Gone d) × HasFailed old new d
 Rebuilds left d rebuilt old new count event = ⊥
 
--- one of a shift moves on, ends it, or loses a disk
+-- one of a shift moves on, with no less filled; or ends it at the gear to which it went; or loses a disk
 abbrev pub MovesOn : Shown → Shown → TickEvent → Type 0
-MovesOn old new Moving = new.meta.out ≡ No
-MovesOn old new Flipped = new.meta.phase ≡ IsSteady
+MovesOn old new Moving = (new.meta.out ≡ No) × (new.meta.phase ≡ old.meta.phase) × (new.meta.gear ≡ old.meta.gear) × (old.meta.fill ≤ new.meta.fill)
+MovesOn old new Flipped = (new.meta.phase ≡ IsSteady) × (new.meta.gear ≡ phase_to old.meta.phase) × (new.meta.fill ≡ 0)
 MovesOn old new (Lost d) = (named_out new.meta.out ≡ Some d) × HasFailed old new d
 MovesOn old new event = ⊥
 
+-- it has counted one tick more
+abbrev pub shown_ticked : Shown → Shown
+shown_ticked x = record x { meta = record x.meta { ticks = min (x.meta.ticks + 1) 18446744073709551615 } }
+
+-- nothing has changed but the energy
+pub record IsAsBefore (old new : Shown) : Type 0 where
+  pub meta : new.meta ≡ old.meta
+  pub dirty : new.dirty ≡ old.dirty
+  pub slot : new.slot ≡ old.slot
+
+-- A tick at rest, as it has counted itself, begins a shift to the next gear, or nothing; it tells the first worn disk of those
+-- that a shift down would park. Which of these it does the samples decide.
+abbrev pub Decides : Shown → Shown → TickEvent → Type 0
+Decides old new Steady = IsAsBefore old new
+Decides old new (Begun to) =
+    ((next_higher old.setup.geometry old.meta.gear ≡ Some to) × Begins old new (IsUp to) (spins_up old.meta.gear to))
+    ⊎ ((next_lower old.setup.geometry old.meta.gear ≡ Some to) × (first_worn old.setup (state_shown old) to ≡ None) × Begins old new (IsDown to) (λ d. 0))
+Decides old new (Ration d) = (to : ℕ) × (next_lower old.setup.geometry old.meta.gear ≡ Some to) × (first_worn old.setup (state_shown old) to ≡ Some d) × IsAsBefore old new
+Decides old new event = ⊥
+
 abbrev pub MovesBy : Phase → Shown → Shown → ℕ → TickEvent → Type 0
--- the samples decide
-MovesBy IsSteady old new count event = Unit {0}
+MovesBy IsSteady old new count event = (count ≡ 0) × Decides (shown_ticked old) new event
 MovesBy (IsDown to) old new count event = MovesOn old new event
 MovesBy (IsUp to) old new count event = MovesOn old new event
 
