@@ -1,6 +1,7 @@
-// A plain Rust program that does what bench/run asks of the proved one, as one would write it without proofs: it
-// mounts an array of image files in its top gear, answers reads, writes and flushes, and commits, with the same
-// calls on the same files. It is the peer that bench/run compares with.
+// A plain Rust program that does what bench/run asks of the proved one, as one would write it for speed without
+// proofs: it mounts an array of image files in its top gear, answers reads, writes and flushes, and commits, with the
+// same calls on the same files. A line is parsed where it was read, a block is copied once into the batch, digits
+// come from tables, and each answer is one call. It is the peer that bench/run compares with.
 //
 //     plain run < TRACE     over the images of the current folder
 //
@@ -8,6 +9,7 @@
 // no array in a low gear, with a disk out or with a commit that a stop cut short, and a call that fails ends it.
 use std::fs::{self, File, OpenOptions};
 use std::io::{self, BufRead, Read, Write};
+use std::os::fd::AsFd;
 use std::os::unix::fs::FileExt;
 
 const BLOCK_SIZE: usize = 512;
@@ -60,10 +62,8 @@ impl Disk {
         Ok(Some(Disk { file, blocks }))
     }
 
-    fn read(&self, place: u32) -> io::Result<Block> {
-        let mut block = [0; BLOCK_SIZE];
-        self.file.read_exact_at(&mut block, u64::from(place) * BLOCK_SIZE as u64)?;
-        Ok(block)
+    fn read(&self, place: u32, block: &mut Block) -> io::Result<()> {
+        self.file.read_exact_at(block, u64::from(place) * BLOCK_SIZE as u64)
     }
 
     fn write(&self, place: u32, block: &Block) -> io::Result<()> {
@@ -142,11 +142,45 @@ impl Meta {
     }
 }
 
-// A block that the next commit brings to its place.
-struct Staged {
+// Where a block goes.
+#[derive(Clone, Copy, PartialEq)]
+struct Target {
     disk: usize,
     place: u32,
-    block: Block,
+}
+
+// What the next commit brings to its place, in the order in which the targets were first staged. No target stands
+// in it twice.
+struct Batch {
+    targets: Vec<Target>,
+    blocks: Vec<Block>,
+}
+
+impl Batch {
+    fn find(&self, target: Target) -> Option<usize> {
+        self.targets.iter().position(|&staged| staged == target)
+    }
+
+    fn get(&self, target: Target) -> Option<&Block> {
+        self.find(target).map(|at| &self.blocks[at])
+    }
+
+    fn put(&mut self, target: Target, block: &Block) {
+        match self.find(target) {
+            Some(at) => self.blocks[at] = *block,
+            None => {
+                self.targets.push(target);
+                self.blocks.push(*block);
+            }
+        }
+    }
+}
+
+// A block of a write and its new bytes.
+#[derive(Clone, Copy)]
+struct Pair {
+    block: u32,
+    bytes: Block,
 }
 
 struct Array {
@@ -154,16 +188,18 @@ struct Array {
     meta: Meta,
     // The place of the first row.
     first: u32,
-    // In the order in which the targets were first staged; no target stands in it twice.
-    batch: Vec<Staged>,
+    batch: Batch,
 }
 
 // What a log disk says under a closed gate.
 fn hear(disk: &Disk) -> io::Result<Block> {
-    if disk.read(GATE)?[0] != 0 {
+    let mut block = [0; BLOCK_SIZE];
+    disk.read(GATE, &mut block)?;
+    if block[0] != 0 {
         return Err(refused("a commit was cut short"));
     }
-    disk.read(META)
+    disk.read(META, &mut block)?;
+    Ok(block)
 }
 
 impl Array {
@@ -182,20 +218,23 @@ impl Array {
         if disks.iter().any(|disk| disk.blocks < meta.size) {
             return Err(refused("a disk is too small"));
         }
+        let mut block = [0; BLOCK_SIZE];
         // The proved program looks at this gate once more as it ends what a stop cut short.
-        if disks[1].read(GATE)?[0] != 0 {
+        disks[1].read(GATE, &mut block)?;
+        if block[0] != 0 {
             return Err(refused("a commit was cut short"));
         }
         let first = MAP + meta.rows.div_ceil(512);
         for place in MAP..first {
-            if disks[0].read(place)? != [0; BLOCK_SIZE] {
+            disks[0].read(place, &mut block)?;
+            if block != [0; BLOCK_SIZE] {
                 return Err(refused("a cell is dirty in the top gear"));
             }
         }
         for disk in &disks {
             disk.sync()?;
         }
-        let batch = Vec::with_capacity(MAX_TARGETS);
+        let batch = Batch { targets: Vec::with_capacity(MAX_TARGETS), blocks: Vec::with_capacity(MAX_TARGETS) };
         Ok(Array { disks, meta, first, batch })
     }
 
@@ -215,37 +254,24 @@ impl Array {
         (row, if index < self.parity_disk(row) { index } else { index + 1 })
     }
 
-    fn staged(&self, disk: usize, place: u32) -> Option<&Block> {
-        self.batch.iter().find(|s| s.disk == disk && s.place == place).map(|s| &s.block)
-    }
-
-    fn stage(&mut self, disk: usize, place: u32, block: &Block) {
-        match self.batch.iter_mut().find(|s| s.disk == disk && s.place == place) {
-            Some(staged) => staged.block = *block,
-            None => self.batch.push(Staged { disk, place, block: *block }),
-        }
-    }
-
-    // The bytes of a place with all that is staged laid over.
-    fn read_laid(&self, disk: usize, place: u32) -> io::Result<Block> {
-        match self.staged(disk, place) {
-            Some(block) => Ok(*block),
-            None => self.disks[disk].read(place),
-        }
-    }
-
-    fn read(&self, block: u32) -> io::Result<Block> {
+    // The bytes of a block, which are staged or read into the room given.
+    fn read<'a>(&'a self, block: u32, room: &'a mut Block) -> io::Result<&'a Block> {
         let (row, disk) = self.home(block);
-        self.read_laid(disk, self.first + row)
+        let place = self.first + row;
+        if let Some(staged) = self.batch.get(Target { disk, place }) {
+            return Ok(staged);
+        }
+        self.disks[disk].read(place, room)?;
+        Ok(room)
     }
 
-    fn write(&mut self, pairs: &[(u32, Block)]) -> io::Result<()> {
-        if self.batch.len() + TARGETS_PER_BLOCK * pairs.len() > MAX_TARGETS {
+    fn write(&mut self, pairs: &[Pair]) -> io::Result<()> {
+        if self.batch.targets.len() + TARGETS_PER_BLOCK * pairs.len() > MAX_TARGETS {
             self.commit()?;
         }
-        for (at, &(block, _)) in pairs.iter().enumerate() {
-            let (row, _) = self.home(block);
-            if pairs[..at].iter().all(|&(before, _)| self.home(before).0 != row) {
+        for (at, pair) in pairs.iter().enumerate() {
+            let (row, _) = self.home(pair.block);
+            if pairs[..at].iter().all(|before| self.home(before.block).0 != row) {
                 self.write_row(row, pairs)?;
             }
         }
@@ -255,18 +281,24 @@ impl Array {
 
     // Stages what the pairs write in a row, and its parity, which is made of the old bytes or of those that
     // stay, whichever need fewer reads.
-    fn write_row(&mut self, row: u32, pairs: &[(u32, Block)]) -> io::Result<()> {
+    fn write_row(&mut self, row: u32, pairs: &[Pair]) -> io::Result<()> {
         let (place, parity) = (self.first + row, self.parity_disk(row));
         let mut new = [None; SLOTS];
-        for (block, bytes) in pairs {
-            let (r, disk) = self.home(*block);
+        for pair in pairs {
+            let (r, disk) = self.home(pair.block);
             if r == row {
-                new[disk] = Some(bytes);
+                new[disk] = Some(&pair.bytes);
+            }
+        }
+        let mut staged = [None; SLOTS];
+        for (target, bytes) in self.batch.targets.iter().zip(&self.batch.blocks) {
+            if target.place == place {
+                staged[target.disk] = Some(bytes);
             }
         }
         let (mut old, mut rest) = (0, 0);
         for disk in 0..self.meta.disks {
-            let reads = if self.staged(disk, place).is_some() { 0 } else { 1 };
+            let reads = u32::from(staged[disk].is_none());
             if disk == parity || new[disk].is_some() {
                 old += reads;
             } else {
@@ -275,29 +307,34 @@ impl Array {
         }
         let anew = rest < old;
         let mut sum = [0; BLOCK_SIZE];
+        let mut room = [0; BLOCK_SIZE];
+        let mut add = |disk: usize, sum: &mut Block| match staged[disk] {
+            Some(bytes) => Ok(xor(sum, bytes)),
+            None => self.disks[disk].read(place, &mut room).map(|()| xor(sum, &room)),
+        };
         for disk in (0..self.meta.disks).filter(|&disk| disk != parity) {
             if new[disk].is_some() != anew {
-                xor(&mut sum, &self.read_laid(disk, place)?);
+                add(disk, &mut sum)?;
             }
             if let Some(bytes) = new[disk] {
                 xor(&mut sum, bytes);
             }
         }
         if !anew {
-            xor(&mut sum, &self.read_laid(parity, place)?);
+            add(parity, &mut sum)?;
         }
-        for (block, bytes) in pairs {
-            let (r, disk) = self.home(*block);
+        for pair in pairs {
+            let (r, disk) = self.home(pair.block);
             if r == row {
-                self.stage(disk, place, bytes);
+                self.batch.put(Target { disk, place }, &pair.bytes);
             }
         }
-        self.stage(parity, place, &sum);
+        self.batch.put(Target { disk: parity, place }, &sum);
         Ok(())
     }
 
     fn flush(&mut self) -> io::Result<()> {
-        if self.batch.is_empty() {
+        if self.batch.targets.is_empty() {
             return Ok(());
         }
         self.commit()
@@ -314,10 +351,10 @@ impl Array {
 
     fn spell_targets(&self) -> Block {
         let mut list = [0; BLOCK_SIZE];
-        list[..2].copy_from_slice(&(self.batch.len() as u16).to_be_bytes());
-        for (staged, target) in self.batch.iter().zip(list[2..].chunks_exact_mut(5)) {
-            target[0] = staged.disk as u8;
-            target[1..].copy_from_slice(&staged.place.to_be_bytes());
+        list[..2].copy_from_slice(&(self.batch.targets.len() as u16).to_be_bytes());
+        for (target, bytes) in self.batch.targets.iter().zip(list[2..].chunks_exact_mut(5)) {
+            bytes[0] = target.disk as u8;
+            bytes[1..].copy_from_slice(&target.place.to_be_bytes());
         }
         list
     }
@@ -330,101 +367,178 @@ impl Array {
         for log in &self.disks[..2] {
             log.write(NEXT_META, &meta)?;
             log.write(TARGETS, &targets)?;
-            for (place, staged) in (BODY..).zip(&self.batch) {
-                log.write(place, &staged.block)?;
+            for (place, block) in (BODY..).zip(&self.batch.blocks) {
+                log.write(place, block)?;
             }
             log.sync()?;
         }
         let mut gate = [0; BLOCK_SIZE];
         gate[0] = 1;
         self.put_synced(GATE, &gate)?;
-        for staged in &self.batch {
-            self.disks[staged.disk].write(staged.place, &staged.block)?;
+        for (target, block) in self.batch.targets.iter().zip(&self.batch.blocks) {
+            self.disks[target.disk].write(target.place, block)?;
         }
         for (at, disk) in self.disks.iter().enumerate() {
-            if self.batch.iter().any(|staged| staged.disk == at) {
+            if self.batch.targets.iter().any(|target| target.disk == at) {
                 disk.sync()?;
             }
         }
         self.put_synced(META, &meta)?;
         gate[0] = 0;
         self.put_synced(GATE, &gate)?;
-        self.batch.clear();
+        self.batch.targets.clear();
+        self.batch.blocks.clear();
         Ok(())
     }
 }
 
 enum Request {
     Read(u32),
-    // Its pairs stand beside it.
-    Write,
+    // The first so many pairs stand beside it.
+    Write(usize),
     Flush,
+}
+
+// Where a byte stands first. Whether it stands in a piece is found for many bytes at once.
+fn find(text: &[u8], wanted: u8) -> Option<usize> {
+    const PIECE: usize = 32;
+    let has = |piece: &[u8]| piece.iter().fold(false, |found, &byte| found | (byte == wanted));
+    let start = PIECE * text.chunks(PIECE).position(has)?;
+    text[start..].iter().position(|&byte| byte == wanted).map(|at| start + at)
+}
+
+// The first word of a text, and what follows the blank after it.
+fn cut(text: &[u8]) -> (&[u8], Option<&[u8]>) {
+    match find(text, b' ') {
+        Some(at) => (&text[..at], Some(&text[at + 1..])),
+        None => (text, None),
+    }
 }
 
 // A number below 2^32 in decimal digits, with no zero before another digit.
 fn number(digits: &[u8]) -> Option<u32> {
-    if digits.is_empty() || (digits.len() > 1 && digits[0] == b'0') {
+    if !(1..=10).contains(&digits.len()) || (digits.len() > 1 && digits[0] == b'0') {
         return None;
     }
-    digits.iter().try_fold(0u32, |n, &digit| {
-        let digit = (digit as char).to_digit(10)?;
-        n.checked_mul(10)?.checked_add(digit)
-    })
+    let mut n = 0;
+    for &digit in digits {
+        if !digit.is_ascii_digit() {
+            return None;
+        }
+        n = 10 * n + u64::from(digit - b'0');
+    }
+    n.try_into().ok()
 }
 
-// The block that repeats the bytes of 2 to 1,024 hexadecimal digits.
-fn block_of(digits: &[u8]) -> Option<Block> {
-    if digits.len() < 2 || digits.len() > 2 * BLOCK_SIZE || digits.len() % 2 == 1 {
+// What a hexadecimal digit stands for, and more than 15 for another byte.
+const VALUES: [u8; 256] = {
+    let mut values = [255; 256];
+    let mut n = 0;
+    while n < 16 {
+        values[DIGITS[n] as usize] = n as u8;
+        values[DIGITS[n].to_ascii_uppercase() as usize] = n as u8;
+        n += 1;
+    }
+    values
+};
+
+// Makes the block that repeats the bytes of 2 to 1,024 hexadecimal digits.
+fn spread(digits: &[u8], block: &mut Block) -> Option<()> {
+    if digits.len() % 2 == 1 || !(2..=2 * BLOCK_SIZE).contains(&digits.len()) {
         return None;
     }
-    let mut block = [0; BLOCK_SIZE];
+    let mut all = 0;
     for (byte, pair) in block.iter_mut().zip(digits.chunks_exact(2)) {
-        let digit = |at: usize| (pair[at] as char).to_digit(16);
-        *byte = (16 * digit(0)? + digit(1)?) as u8;
+        let (high, low) = (VALUES[pair[0] as usize], VALUES[pair[1] as usize]);
+        *byte = high << 4 | low;
+        all |= high | low;
+    }
+    if all > 15 {
+        return None;
     }
     let mut done = digits.len() / 2;
+    if done == 1 {
+        *block = [block[0]; BLOCK_SIZE];
+        return Some(());
+    }
     while done < BLOCK_SIZE {
         let more = done.min(BLOCK_SIZE - done);
         block.copy_within(..more, done);
         done += more;
     }
-    Some(block)
-}
-
-// The one to eight pairs of a write.
-fn pairs_of(text: &[u8], pairs: &mut Vec<(u32, Block)>) -> Option<()> {
-    pairs.clear();
-    let mut words = text.split(|&c| c == b' ');
-    while let Some(block) = words.next() {
-        if pairs.len() == MAX_PAIRS {
-            return None;
-        }
-        pairs.push((number(block)?, block_of(words.next()?)?));
-    }
     Some(())
 }
 
+// Takes the one to eight pairs of a write, and gives their number.
+fn pairs_of(text: &[u8], pairs: &mut [Pair; MAX_PAIRS]) -> Option<usize> {
+    let mut rest = Some(text);
+    let mut count = 0;
+    while let Some(text) = rest {
+        let (block, bytes) = cut(text);
+        let (digits, more) = cut(bytes?);
+        let pair = pairs.get_mut(count)?;
+        pair.block = number(block)?;
+        spread(digits, &mut pair.bytes)?;
+        count += 1;
+        rest = more;
+    }
+    Some(count)
+}
+
 // What a line asks for, unless it is no request.
-fn parse(line: &[u8], pairs: &mut Vec<(u32, Block)>) -> Option<Request> {
+fn parse(line: &[u8], pairs: &mut [Pair; MAX_PAIRS]) -> Option<Request> {
     if line.len() > MAX_LINE {
         return None;
     }
     match line {
         b"f" => Some(Request::Flush),
         [b'r', b' ', block @ ..] => number(block).map(Request::Read),
-        [b'w', b' ', text @ ..] => pairs_of(text, pairs).map(|()| Request::Write),
+        [b'w', b' ', text @ ..] => pairs_of(text, pairs).map(Request::Write),
         _ => None,
     }
 }
 
+fn push_number(mut n: u64, text: &mut Vec<u8>) {
+    let mut digits = [0; 20];
+    let mut at = digits.len();
+    loop {
+        at -= 1;
+        digits[at] = b'0' + (n % 10) as u8;
+        n /= 10;
+        if n == 0 {
+            break;
+        }
+    }
+    text.extend_from_slice(&digits[at..]);
+}
+
+fn push_line(word: &[u8], n: u64, text: &mut Vec<u8>) {
+    text.extend_from_slice(word);
+    push_number(n, text);
+    text.push(b'\n');
+}
+
+const DIGITS: &[u8; 16] = b"0123456789abcdef";
+
+// The two digits of each byte.
+const TWO_DIGITS: [[u8; 2]; 256] = {
+    let mut all = [[0; 2]; 256];
+    let mut n = 0;
+    while n < 256 {
+        all[n] = [DIGITS[n / 16], DIGITS[n % 16]];
+        n += 1;
+    }
+    all
+};
+
 // The text of a block: the shortest list of bytes whose repetition it is.
 fn push_block(block: &Block, text: &mut Vec<u8>) {
-    const DIGITS: &[u8; 16] = b"0123456789abcdef";
-    let is_period = |&p: &usize| block[p..] == block[..BLOCK_SIZE - p];
+    let is_period = |&p: &usize| block[p] == block[0] && block[p..] == block[..BLOCK_SIZE - p];
     let period = (1..BLOCK_SIZE).find(is_period).unwrap_or(BLOCK_SIZE);
-    for byte in &block[..period] {
-        text.push(DIGITS[(byte >> 4) as usize]);
-        text.push(DIGITS[(byte & 15) as usize]);
+    let start = text.len();
+    text.resize(start + 2 * period, 0);
+    for (digits, &byte) in text[start..].chunks_exact_mut(2).zip(block) {
+        digits.copy_from_slice(&TWO_DIGITS[byte as usize]);
     }
 }
 
@@ -442,45 +556,67 @@ fn next_line(source: &mut impl BufRead, line: &mut Vec<u8>) -> io::Result<bool> 
     Ok(true)
 }
 
-// Serves a line, and makes its answer.
-fn answer(array: &mut Array, line: &[u8], pairs: &mut Vec<(u32, Block)>, text: &mut Vec<u8>) -> io::Result<()> {
-    text.clear();
-    match parse(line, pairs) {
-        Some(Request::Read(block)) if !array.has(block) => writeln!(text, "noblock {block}"),
-        Some(Request::Read(block)) => {
-            let bytes = array.read(block)?;
-            write!(text, "{block}=")?;
-            push_block(&bytes, text);
-            text.push(b'\n');
-            Ok(())
-        }
-        Some(Request::Write) => {
-            if let Some((block, _)) = pairs.iter().find(|(block, _)| !array.has(*block)) {
-                return writeln!(text, "noblock {block}");
+struct Server {
+    array: Array,
+    // The pairs of a line.
+    pairs: Box<[Pair; MAX_PAIRS]>,
+    // What a read is given.
+    room: Block,
+    // An answer.
+    text: Vec<u8>,
+}
+
+impl Server {
+    // Serves a line, and gives its answer.
+    fn answer(&mut self, line: &[u8]) -> io::Result<&[u8]> {
+        let Server { array, pairs, room, text } = self;
+        text.clear();
+        match parse(line, pairs) {
+            Some(Request::Read(block)) if !array.has(block) => push_line(b"noblock ", block.into(), text),
+            Some(Request::Read(block)) => {
+                push_number(block.into(), text);
+                text.push(b'=');
+                push_block(array.read(block, room)?, text);
+                text.push(b'\n');
             }
-            array.write(pairs)?;
-            writeln!(text, "wrote {}", array.meta.writes)
+            Some(Request::Write(count)) => match pairs[..count].iter().find(|pair| !array.has(pair.block)) {
+                Some(pair) => push_line(b"noblock ", pair.block.into(), text),
+                None => {
+                    array.write(&pairs[..count])?;
+                    push_line(b"wrote ", array.meta.writes, text);
+                }
+            },
+            Some(Request::Flush) => {
+                array.flush()?;
+                push_line(b"flushed ", array.meta.writes, text);
+            }
+            None => text.extend_from_slice(b"bad\n"),
         }
-        Some(Request::Flush) => {
-            array.flush()?;
-            writeln!(text, "flushed {}", array.meta.writes)
-        }
-        None => text.write_all(b"bad\n"),
+        Ok(text)
     }
 }
 
 fn main() -> io::Result<()> {
-    let mut array = Array::mount()?;
+    let array = Array::mount()?;
     let mut source = io::stdin().lock();
-    let mut sink = io::stdout().lock();
-    writeln!(sink, "mounted {} gear {}", array.meta.writes, array.meta.disks)?;
+    // Each write is one call.
+    let mut sink = File::from(io::stdout().as_fd().try_clone_to_owned()?);
+    sink.write_all(format!("mounted {} gear {}\n", array.meta.writes, array.meta.disks).as_bytes())?;
+    let pairs = Box::new([Pair { block: 0, bytes: [0; BLOCK_SIZE] }; MAX_PAIRS]);
+    let mut server = Server { array, pairs, room: [0; BLOCK_SIZE], text: Vec::with_capacity(MAX_LINE) };
     let mut line = Vec::with_capacity(MAX_LINE + 1);
-    let mut pairs = Vec::with_capacity(MAX_PAIRS);
-    let mut text = Vec::new();
-    while next_line(&mut source, &mut line)? {
-        answer(&mut array, &line, &mut pairs, &mut text)?;
-        sink.write_all(&text)?;
+    loop {
+        // A line that stands whole in the buffer is served there.
+        let held = source.fill_buf()?;
+        if let Some(at) = find(held, b'\n') {
+            sink.write_all(server.answer(&held[..at])?)?;
+            source.consume(at + 1);
+        } else if next_line(&mut source, &mut line)? {
+            sink.write_all(server.answer(&line)?)?;
+        } else {
+            break;
+        }
     }
-    array.flush()?;
-    writeln!(sink, "end {}", array.meta.writes)
+    server.array.flush()?;
+    sink.write_all(format!("end {}\n", server.array.meta.writes).as_bytes())
 }

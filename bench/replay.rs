@@ -6,7 +6,7 @@
 //     replay read LIST                only reads the list, which is a part of what `run` costs
 use std::fs::{self, File, OpenOptions};
 use std::io::{self, BufRead, BufReader, BufWriter, Read, Write};
-use std::os::fd::FromRawFd;
+use std::os::fd::AsFd;
 use std::os::unix::fs::FileExt;
 use std::{env, str};
 
@@ -107,12 +107,15 @@ fn list() -> io::Result<()> {
 fn run(name: &str, is_made: bool) -> io::Result<()> {
     let mut list = BufReader::with_capacity(1 << 16, File::open(name)?);
     let mut files: Vec<Option<File>> = (0..256).map(|_| None).collect();
-    files[0] = Some(unsafe { File::from_raw_fd(0) });
-    files[1] = Some(unsafe { File::from_raw_fd(1) });
-    let mut data = vec![0; 1 << 16];
+    files[0] = Some(File::from(io::stdin().as_fd().try_clone_to_owned()?));
+    files[1] = Some(File::from(io::stdout().as_fd().try_clone_to_owned()?));
+    let mut data = Vec::new();
     let mut head = [0; HEAD];
     while list.read_exact(&mut head).is_ok() {
         let call = Call::of(&head);
+        if data.len() < call.length as usize {
+            data.resize(call.length as usize, 0);
+        }
         let room = &mut data[..call.length as usize];
         if b"onWw".contains(&call.kind) {
             list.read_exact(room)?;
