@@ -1,3 +1,4 @@
 pub mod Waiting
 pub mod Bulk
 pub mod Above
+pub mod Does

@@ -1,5 +1,5 @@
 -- Which blocks of a disk wait to be written.
-use Rattle.std.specs.Prelude.{◌≡◌, ◌≤◌, ◌<◌, ◌+◌, ◌-◌, ◌⊎◌, ℕ, Bool, false, if◌then◌else◌, nat_lt, List, [], length, map, get_or, Option, None}
+use Rattle.std.specs.Prelude.{◌≡◌, ◌≤◌, ◌<◌, ◌+◌, ◌-◌, ◌⊎◌, ℕ, Bool, true, false, if◌then◌else◌, nat_lt, List, [], length, map, get_or, Option, None}
 use Rattle.std.specs.List.{slice_get}
 use Rattle.paraid_rack.specs.declared.call.Power.TheVariants.{Spinning, Parked}
 use Rattle.paraid_rack.specs.Slots.{Slot}
@@ -33,9 +33,13 @@ waiting_at runs d = get_or (map run_of runs) d none_waits
 abbrev pub Joins : Waiting → ℕ → Type 0
 Joins w p = (length w.blocks ≡ 0) ⊎ ((w.first ≤ p) × ((p < w.first + length w.blocks) ⊎ ((p ≡ w.first + length w.blocks) × (length w.blocks < 128))))
 
+-- what waits, waits for places below n
+abbrev pub IsWithin : Waiting → ℕ → Type 0
+IsWithin w n = waits w ≡ true → w.first + length w.blocks ≤ n
+
 -- what waits for a disk that spins is within it, and for a parked one nothing waits
 pub record Fits (slot : Slot) (w : Waiting) : Type 0 where
-  pub within : slot.power ≡ Spinning → w.first + length w.blocks ≤ slot.size
+  pub within : slot.power ≡ Spinning → IsWithin w slot.size
   pub still : slot.power ≡ Parked → waits w ≡ false
 
 -- each slot with what waits for its disk

@@ -6,6 +6,7 @@
 #![tactic(auto)]
 
 mod bulk;
+mod calls;
 mod gathered;
 
 mod run;

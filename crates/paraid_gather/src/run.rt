@@ -17,8 +17,8 @@ pub(crate) struct Run {
 }
 
 impl Run {
-    ghost use Rattle.std.specs.Prelude.{ℕ, if◌then◌else◌, ◌==◌, Some, true, not, option_copied, IfOk};
-    ghost use Rattle.paraid_gather.specs.Waiting.{Joins, waiting, waits, run_of, none_waits};
+    ghost use Rattle.std.specs.Prelude.{ℕ, ◌<◌, if◌then◌else◌, ◌==◌, Some, true, not, option_copied, IfOk};
+    ghost use Rattle.paraid_gather.specs.Waiting.{IsWithin, Joins, waiting, waits, run_of, none_waits};
 
     /// No blocks, with room for as many as it may ever hold.
     pub(crate) fn new(alloc: Global) -> Result<Run, NoMemory>
@@ -55,8 +55,12 @@ impl Run {
     #[tactic(auto, unfolding(crate::specs::Waiting::waiting))]
     pub(crate) fn put(&mut self, place: Place, block: &Block)
         requires { Joins (run_of self.old) place }
-        ensures { (p : ℕ) → waiting (run_of self.new) p
+        ensures waiting { (p : ℕ) → waiting (run_of self.new) p
             ≡ (if p == place then Some block.now.bytes else waiting (run_of self.old) p) }
+        ensures any { waits (run_of self.new) ≡ true }
+        // It stays within what it was within, if the place is.
+        ensures within { (n : ℕ) → place < n → IsWithin (run_of self.old) n
+            → IsWithin (run_of self.new) n }
     {
         if self.blocks.is_empty() {
             self.first = place;

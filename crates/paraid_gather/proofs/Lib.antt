@@ -1,0 +1,5 @@
+pub mod AboveLemmas
+pub mod OutLemmas
+pub mod FollowsLemmas
+pub mod SlotsLemmas
+pub mod DoesLemmas
