@@ -1,5 +1,5 @@
 -- What a call does to one disk, and one part of it after another.
-use Rattle.std.proofs.Common.{◌≡◌, ◌≢◌, inl, inr, ℕ, ◌+◌, ◌<◌, ◌≤◌, Bool, true, false, ◌||◌, not, if◌then◌else◌, ◌-◌, List, [], ◌∷◌, length, Option, Some, None, refl, sym, ◌∙◌, ap, subst, arith, nat_lt}
+use Rattle.std.proofs.Common.{◌≡◌, ◌≢◌, inl, inr, ℕ, ◌+◌, ◌<◌, ◌≤◌, Bool, true, false, ◌||◌, not, if◌then◌else◌, ◌-◌, ◌==◌, List, [], ◌∷◌, length, Option, Some, None, refl, sym, ◌∙◌, ap, subst, arith, nat_lt}
 use Rattle.std.proofs.lemmas.Bool.{cases_eq, false≢true, true≢false}
 use Rattle.std.proofs.lemmas.Bool.Decides.{nat_tests}
 use Rattle.std.specs.List.{slice_get}
@@ -18,6 +18,7 @@ use Rattle.paraid_gather.specs.Waiting.{Waiting, Fits, IsWithin, none_waits, wai
 use Rattle.paraid_gather.specs.Bulk.{WritesBlocks, left_by}
 use Rattle.paraid_gather.specs.Above.{IsAbove, slot_above, slots_above}
 use Rattle.paraid_gather.specs.Does.{DoesAbove}
+use Rattle.paraid_gather.proofs.AboveLemmas.{present_above, write_above}
 use Rattle.paraid_gather.proofs.OutLemmas.{lost_sync_image, lost_sync, lost_write_image, lost_write}
 use Rattle.paraid_gather.proofs.FollowsLemmas.{follows_call, follows_onto, follows_out, follows_none, follows_then}
 use Rattle.paraid_gather.proofs.SlotsLemmas.{changes_above, changes_none, changes_then}
@@ -68,7 +69,7 @@ not_parked x spins stands = absurd (apart (sym spins ∙ stands))
     apart : ◌≡◌ {A = Power} Spinning Parked → ⊥
     apart e = cc
 
-same_elsewhere : (w : ℕ → Waiting) (d : ℕ) (run run' : Waiting) (e : ℕ) → e ≢ d → with_at w d run' e ≡ with_at w d run e
+pub same_elsewhere : (w : ℕ → Waiting) (d : ℕ) (run run' : Waiting) (e : ℕ) → e ≢ d → with_at w d run' e ≡ with_at w d run e
 same_elsewhere w d run run' e not = with_at_other w d run' e not ∙ sym (with_at_other w d run e not)
 
 module _ {R : Type 0} (g : Ghosts R) (old new : R) (d : ℕ) where
@@ -146,23 +147,30 @@ does_none g r d run run' leaves dirt after fits is above = record {
   told = λ w s. follows_none (g.told r) (with_at w d run) (with_at w d run') s (after s) (above w s);
 }
 
+-- a block waits from now on
+pub does_write : {R : Type 0} (g : Ghosts R) (r : R) (d : ℕ) (run run' : Waiting) (q : ℕ) (x : Block) → Fits (g.slot r d) run' → waits run' ≡ true → ((t : Trail) → g.told r ≡ Some t → IsPresent (now t) d)
+    → ((p : ℕ) → waiting run' p ≡ (if p == q then Some x.bytes else waiting run p)) → DoesAbove g d run run' r r (record (slot_above (g.slot r d) run) { unsynced = true }) true true (step (Write d q x true))
+does_write g r d run run' q x fits any there put = does_none g r d run run' (record (slot_above (g.slot r d) run) { unsynced = true }) true (step (Write d q x true)) fits
+    (ap (λ (u : Bool). record (g.slot r d) { unsynced = u }) (or_true (g.slot r d).unsynced (waits run') any))
+    (λ w s t is a. write_above (now t) (with_at w d run) (with_at w d run') s d (same_elsewhere w d run run') q x a (present_above (now t) (with_at w d run) s a d (there t is))
+        (λ p. ap (λ (v : Waiting). waiting v p) (with_at_same w d run' d refl) ∙ put p ∙ ap (λ (v : Waiting). if p == q then Some x.bytes else waiting v p) (sym (with_at_same w d run d refl))))
+
+-- a part that leaves the slot above as it is
+pub does_same : {R : Type 0} (g : Ghosts R) (old mid : R) (d : ℕ) (run between : Waiting) (dirt : Bool) (after : Disks → Disks)
+    → DoesAbove g d run between old mid (slot_above (g.slot old d) run) dirt true after → slot_above (g.slot mid d) between ≡ slot_above (g.slot old d) run
+does_same g old mid d run between dirt after first = ap (slot_above (g.slot mid d)) (sym (with_at_same (λ _. none_waits) d between d refl)) ∙ (first.slot (λ _. none_waits)).done refl
+
 module _ {R : Type 0} (g : Ghosts R) (old mid new : R) (d : ℕ) (run between run' : Waiting) (dirt : Bool)
     (first : DoesAbove g d run between old mid (slot_above (g.slot old d) run) dirt true (left_by true d)) where
-  -- a part that leaves the slot above as it is
-  pub does_same : slot_above (g.slot mid d) between ≡ slot_above (g.slot old d) run
-  unfolding slots_above
-  does_same = ap (slot_above (g.slot mid d)) (sym (with_at_same (λ _. none_waits) d between d refl)) ∙ (first.slot (λ _. none_waits)).done refl
-
   -- and then another part
   pub does_then : (leaves : Slot → Slot) (dirt' : Slot → Bool) (ok : Bool) (after : Disks → Disks) → DoesAbove g d between run' mid new (leaves (slot_above (g.slot mid d) between)) (dirt' (slot_above (g.slot mid d) between)) ok after
       → DoesAbove g d run run' old new (leaves (slot_above (g.slot old d) run)) (dirt' (slot_above (g.slot old d) run)) ok after
-  unfolding slots_above
   does_then leaves dirt' ok after second = record {
     slots = second.slots ∙ first.slots;
     others = λ e not. second.others e not ∙ first.others e not;
     fits = second.fits;
     slot = λ w.
-        subst (λ (x : Slot). ChangesOneSlot (slots_above (g.slot old) (with_at w d run)) (slots_above (g.slot new) (with_at w d run')) d (leaves x) (dirt' x) ok) does_same
+        subst (λ (x : Slot). ChangesOneSlot (slots_above (g.slot old) (with_at w d run)) (slots_above (g.slot new) (with_at w d run')) d (leaves x) (dirt' x) ok) (does_same g old mid d run between dirt (left_by true d) first)
         (changes_then (slots_above (g.slot old) (with_at w d run)) (slots_above (g.slot mid) (with_at w d between)) (slots_above (g.slot new) (with_at w d run')) d
         (slot_above (g.slot old d) run) (ap (slot_above (g.slot old d)) (sym (with_at_same w d run d refl))) (leaves (slot_above (g.slot mid d) between)) dirt (dirt' (slot_above (g.slot mid d) between)) ok (first.slot w) (second.slot w));
     told = λ w s. follows_then (g.told old) (g.told mid) (g.told new) (with_at w d run) (with_at w d between) (with_at w d run') s (after s) (first.told w s) (second.told w s);

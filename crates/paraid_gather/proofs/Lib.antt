@@ -3,3 +3,4 @@ pub mod OutLemmas
 pub mod FollowsLemmas
 pub mod SlotsLemmas
 pub mod DoesLemmas
+pub mod WholeLemmas

@@ -10,7 +10,6 @@ module _ (slot slot' : ℕ → Slot) (w w' : ℕ → Waiting) (d : ℕ) where
   -- a call of the rack below, where what waits for other disks stays
   pub changes_above : (below leaves : Slot) (dirt dirt' ok : Bool) → ((e : ℕ) → e ≢ d → w' e ≡ w e) → (ok ≡ true → slot_above below (w' d) ≡ leaves)
       → (ok ≡ false → (dirt || waits (w' d)) ≡ dirt') → ChangesOneSlot slot slot' d below dirt ok → ChangesOneSlot (slots_above slot w) (slots_above slot' w') d leaves dirt' ok
-  unfolding slots_above
   changes_above below leaves dirt dirt' ok others done failed call = record {
     others = λ e not. ap (λ (x : Slot). slot_above x (w' e)) (call.others e not) ∙ ap (λ (v : Waiting). slot_above (slot e) v) (others e not);
     done = λ is. ap (λ (x : Slot). slot_above x (w' d)) (call.done is) ∙ done is;
@@ -23,7 +22,6 @@ module _ (slot slot' : ℕ → Slot) (w w' : ℕ → Waiting) (d : ℕ) where
 
   -- no call of the rack below
   pub changes_none : (leaves : Slot) (dirt : Bool) → ((e : ℕ) → e ≢ d → w' e ≡ w e) → slot_above (slot d) (w' d) ≡ leaves → ChangesOneSlot (slots_above slot w) (slots_above slot w') d leaves dirt true
-  unfolding slots_above
   changes_none leaves dirt others is = record {
     others = λ e not. ap (λ (v : Waiting). slot_above (slot e) v) (others e not);
     done = λ _. is;

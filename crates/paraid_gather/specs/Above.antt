@@ -32,5 +32,5 @@ Follows old new w w' s s' = Ran old new (CrashTriple (LeavesImageOf s s') (λ be
 abbrev pub slot_above : Slot → Waiting → Slot
 slot_above slot w = record slot { unsynced = slot.unsynced || waits w }
 
-unfoldable pub slots_above : (ℕ → Slot) → (ℕ → Waiting) → ℕ → Slot
-slots_above slot w d = slot_above (slot d) (w d)
+abbrev pub slots_above : (ℕ → Slot) → (ℕ → Waiting) → ℕ → Slot
+slots_above slot w = λ d. slot_above (slot d) (w d)
