@@ -39,6 +39,10 @@ pub not_false : (x : Bool) → not x ≡ false → x ≡ true
 not_false true is = refl
 not_false false is = absurd (true≢false is)
 
+pub not_not : (x : Bool) → not (not x) ≡ x
+not_not true = refl
+not_not false = refl
+
 empty_get : (bs : List (List ℕ)) → nat_lt 0 (length bs) ≡ false → (k : ℕ) → slice_get bs k ≡ None
 empty_get [] is k = refl
 empty_get (b ∷ bs) is k = let n : ℕ = length bs in grind (arith, nat_tests, is)

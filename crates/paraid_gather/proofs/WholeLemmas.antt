@@ -1,5 +1,6 @@
 -- A call on one disk, said of the whole rack.
-use Rattle.std.proofs.Common.{◌≡◌, ◌≢◌, inl, inr, ℕ, ◌<◌, ◌≤◌, Bool, List, length, map, get_or, set, refl, sym, ◌∙◌, ap, subst, arith}
+use Rattle.std.proofs.Common.{◌≡◌, ◌≢◌, zero, suc, [], ◌∷◌, ◌++◌, Result, Ok, Err, inl, inr, ℕ, ◌<◌, ◌≤◌, Bool, List, length, map, get_or, set, refl, sym, ◌∙◌, ap, subst, arith}
+use Rattle.std.specs.Prelude.{OnOk}
 use Rattle.std.proofs.lemmas.Bool.{cases_eq}
 use Rattle.std.proofs.lemmas.List.{map-set, get_or-set_same, get_or-set_other, length-map, get_or-map}
 use Rattle.paraid_rack.specs.declared.rack.Rack.{Ghosts}
@@ -46,6 +47,22 @@ module _ (runs : List Run) (d : ℕ) (y : Run) (within : d < length runs) where
         | inl at ↦ with_at_same (waiting_at runs) d (run_of y) e at ∙ sym set_same ∙ ap (waiting_at (set runs d y)) (sym at)
         | inr not ↦ with_at_other (waiting_at runs) d (run_of y) e not ∙ sym (set_other e not)
       ]
+
+-- one run more, in which no block waits
+pub none_push : (runs : List Run) (x : Run) → ((d : ℕ) → waiting_at runs d ≡ none_waits) → run_of x ≡ none_waits → (d : ℕ) → waiting_at (runs ++ x ∷ []) d ≡ none_waits
+unfolding waiting_at
+none_push [] x none is zero = is
+none_push [] x none is (suc d) = refl
+none_push (r ∷ runs) x none is zero = none zero
+none_push (r ∷ runs) x none is (suc d) = none_push runs x (λ e. none (suc e)) is d
+
+pub none_start : (runs : List Run) → runs ≡ [] → (d : ℕ) → waiting_at runs d ≡ none_waits
+unfolding waiting_at
+none_start runs is d = ap (λ (l : List Run). get_or (map run_of l) d none_waits) is
+
+pub any_ok : {A E : Type 0} {P : Type 0} (r : Result A E) → P → OnOk r P
+any_ok (Ok a) h = h
+any_ok (Err e) h = tt
 
 pub with_own : (w : ℕ → Waiting) (d : ℕ) → with_at w d (w d) ≡ w
 with_own w d = λ i e. same_at w d e i

@@ -19,6 +19,7 @@ pub trait BulkRack: Rack {
     ) -> Result<(), Failed>
         requires exists { disk < Self.slot_count self.old }
         requires spinning { (Self.slot self.old disk).power ≡ Spinning }
+        requires some { 0 < length blocks.now }
         requires within { first + length blocks.now ≤ (Self.slot self.old disk).size }
         ensures slots { Self.slot_count self.new ≡ Self.slot_count self.old }
         ensures slot { ChangesOneSlot (Self.slot self.old) (Self.slot self.new) disk

@@ -27,6 +27,11 @@ pub struct Gathered<R: BulkRack> {
 }
 
 impl<R: BulkRack + Drop> Gathered<R> {
+    ghost use Rattle.std.specs.Prelude.{◌<◌, is_ok};
+    ghost use Rattle.paraid_rack.specs.Slots.{ChangesOneSlot};
+    ghost use Rattle.paraid_rack.specs.Disks.{Disks};
+    ghost use Rattle.paraid_gather.specs.Above.{Follows, slots_above};
+    ghost use Rattle.paraid_gather.specs.Bulk.{left_by};
     ghost use Rattle.paraid_gather.specs.Gathers.{rack_below, waiting_in};
 
     /// Takes over a rack, for whose disks nothing waits. It takes the memory for what may wait.
@@ -36,6 +41,21 @@ impl<R: BulkRack + Drop> Gathered<R> {
     {
         let runs = no_runs(alloc)?;
         Ok(Gathered { rack, runs })
+    }
+
+    /// Writes what waits for a disk. The disks stay as the caller sees them, or this one is lost.
+    pub fn write_out(&mut self, disk: DiskNo) -> Result<(), Failed>
+        requires exists { disk < R.slot_count (rack_below self.old) }
+        requires spinning { (R.slot (rack_below self.old) disk).power ≡ Power.Spinning }
+        ensures slots { R.slot_count (rack_below self.new) ≡ R.slot_count (rack_below self.old) }
+        ensures slot { ChangesOneSlot (slots_above (R.slot (rack_below self.old)) (waiting_in self.old))
+            (slots_above (R.slot (rack_below self.new)) (waiting_in self.new)) disk
+            (slots_above (R.slot (rack_below self.old)) (waiting_in self.old) disk)
+            (slots_above (R.slot (rack_below self.old)) (waiting_in self.old) disk).unsynced (is_ok result) }
+        ensures above { (s : Disks) → Follows (R.told (rack_below self.old)) (R.told (rack_below self.new))
+            (waiting_in self.old) (waiting_in self.new) s (left_by (is_ok result) disk s) }
+    {
+        calls::write_out(&mut self.rack, &mut self.runs[disk as usize], disk)
     }
 }
 

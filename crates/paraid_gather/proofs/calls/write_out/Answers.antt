@@ -20,3 +20,6 @@ pub returns-clause-does : goal.returns-clause-does
 returns-clause-does g c = does_out g.R.Rack c.args.rack.now c.write_blocks.new.self c.args.disk (run_of c.args.run.now) (run_of c.clear.new.self) _ true
     (run_is _ _ _ _ c.first.ensures c.blocks-2.ensures) (not_false _ (sym c.if-is_empty.ensures)) (λ t is. ap is_present ((g.met.R.Rack.agrees c.args.rack.now t is).power c.args.disk ∙ c.requires.spinning)) (λ is. ap waits c.clear.ensures)
     c.in-Ok.ensures.slots c.in-Ok.ensures.slot c.in-Ok.ensures.told
+
+pub write_blocks-requires-clause-some : goal.write_blocks-requires-clause-some
+write_blocks-requires-clause-some g c = ?

@@ -7,12 +7,12 @@ use Rattle.paraid_rack.specs.declared.call.Power.TheVariants.{Spinning, Parked, 
 use Rattle.paraid_rack.specs.Slots.{Slot}
 use Rattle.paraid_rack.specs.Disks.{Disks, is_present, step, with_at}
 use Rattle.paraid_rack.specs.Trail.{Trail, now}
-use Rattle.paraid_gather.specs.Above.{IsAbove}
+use Rattle.paraid_gather.specs.Above.{IsAbove, slot_above}
 use Rattle.paraid_gather.specs.Waiting.{Waiting, Fits, run_of, waiting_at, waits}
 use Rattle.paraid_gather.specs.Laws.{nothing_told}
 use Rattle.paraid_gather.specs.Does.{DoesWhole}
 use Rattle.paraid_gather.proofs.AboveLemmas.{park_above, spin_up_above, present_above}
-use Rattle.paraid_gather.proofs.DoesLemmas.{does_call, or_right, or_left, not_parked}
+use Rattle.paraid_gather.proofs.DoesLemmas.{does_call, fits_none, or_right, or_left, not_parked}
 use Rattle.paraid_gather.proofs.WholeLemmas.{does_whole, disk_within, waiting_here, with_this, with_new, with_own}
 use Rattle.paraid_gather.proofs.gathered.GatheredRack.attach.Goals as goal
 
