@@ -39,6 +39,9 @@ pub not_false : (x : Bool) → not x ≡ false → x ≡ true
 not_false true is = refl
 not_false false is = absurd (true≢false is)
 
+pub some_waits : (w : Waiting) → waits w ≡ true → 0 < length w.blocks
+some_waits w any = grind (arith, nat_tests, any)
+
 pub not_not : (x : Bool) → not (not x) ≡ x
 not_not true = refl
 not_not false = refl

@@ -12,7 +12,7 @@ use Rattle.paraid_gather.specs.Above.{IsAbove, LeavesImageOf, Follows}
 use Rattle.paraid_gather.proofs.AboveLemmas.{above_image, present_above}
 use Rattle.paraid_gather.proofs.OutLemmas.{out_moment, out_done, out_failed}
 
-through_map : (P P' : Disks → Type 0) → ((s : Disks) → P s → P' s) → (s : Disks) (cs : List Call) → Through P s cs → Through P' s cs
+pub through_map : (P P' : Disks → Type 0) → ((s : Disks) → P s → P' s) → (s : Disks) (cs : List Call) → Through P s cs → Through P' s cs
 through_map P P' f s [] t = f s t
 through_map P P' f s (c ∷ cs) t = (f s t.0, through_map P P' f (step c s) cs t.1)
 

@@ -4,3 +4,4 @@ pub mod FollowsLemmas
 pub mod SlotsLemmas
 pub mod DoesLemmas
 pub mod WholeLemmas
+pub mod BulkLemmas

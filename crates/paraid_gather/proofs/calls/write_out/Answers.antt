@@ -1,8 +1,8 @@
-use Rattle.std.proofs.Common.{◌≡◌, refl, sym, ◌∙◌, ap, true, false, ℕ, List}
+use Rattle.std.proofs.Common.{◌≡◌, ◌<◌, length, subst, refl, sym, ◌∙◌, ap, true, false, ℕ, List}
 use Rattle.std.proofs.lemmas.Bool.{false≢true}
 use Rattle.paraid_rack.specs.Disks.{is_present}
 use Rattle.paraid_gather.specs.Waiting.{Waiting, run_of, waits}
-use Rattle.paraid_gather.proofs.DoesLemmas.{does_none, does_out, not_false}
+use Rattle.paraid_gather.proofs.DoesLemmas.{does_none, does_out, not_false, some_waits}
 use Rattle.paraid_gather.proofs.calls.write_out.Goals as goal
 
 run_is : (f f' : ℕ) (bs bs' : List (List ℕ)) → f ≡ f' → bs ≡ bs' → ◌≡◌ {A = Waiting} (record { first = f; blocks = bs }) (record { first = f'; blocks = bs' })
@@ -22,4 +22,4 @@ returns-clause-does g c = does_out g.R.Rack c.args.rack.now c.write_blocks.new.s
     c.in-Ok.ensures.slots c.in-Ok.ensures.slot c.in-Ok.ensures.told
 
 pub write_blocks-requires-clause-some : goal.write_blocks-requires-clause-some
-write_blocks-requires-clause-some g c = ?
+write_blocks-requires-clause-some g c = subst (λ (l : List (List ℕ)). 0 < length l) (sym c.blocks-2.ensures) (some_waits (run_of c.args.run.now) (not_false _ (sym c.if-is_empty.ensures)))
