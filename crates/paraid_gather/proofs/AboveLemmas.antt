@@ -5,13 +5,12 @@ use Rattle.std.proofs.lemmas.Bool.Decides.{nat_tests}
 use Rattle.paraid_base.specs.declared.block.Block.{Block}
 use Rattle.paraid_base.specs.Xor.{zero_block}
 use Rattle.paraid_rack.specs.declared.call.Power.{Power}
-use Rattle.paraid_rack.specs.declared.call.Power.TheVariants.{Spinning, Parked, Absent}
+use Rattle.paraid_rack.specs.declared.call.Power.TheVariants.{Spinning, Absent}
 use Rattle.paraid_rack.specs.declared.call.Call.TheVariants.{Read, Write, Sync, Park, SpinUp, Attach}
-use Rattle.paraid_rack.specs.Disks.{Disks, IsPresent, IsImage, is_present, with_at, power_after, size_after, loose_after_sync, after_attach, step, lose}
+use Rattle.paraid_rack.specs.Disks.{Disks, IsPresent, IsImage, is_present, with_at, power_after, size_after, step}
 use Rattle.paraid_rack.proofs.AtomsLemmas.{with_at_same, with_at_other, at_case, at_use}
 use Rattle.paraid_gather.specs.Waiting.{Waiting, waiting}
-use Rattle.paraid_gather.specs.Bulk.{HasPowersOf, IsBetween, left_by}
-use Rattle.paraid_gather.specs.Above.{IsAbove, LeavesImageOf}
+use Rattle.paraid_gather.specs.Above.{IsAbove}
 
 -- what a stop leaves of the disks below is an image of the rack above
 pub above_image : (b : Disks) (w : ℕ → Waiting) (s i : Disks) → IsAbove b w s → IsImage b i → IsImage s i
@@ -126,7 +125,7 @@ module _ (b : Disks) (w w' : ℕ → Waiting) (s : Disks) (d : ℕ) (others : (e
       | inl at ↦ elim (cases_eq p q) [
         | inl same ↦ ap (λ (f : ℕ → Block). (f p).bytes) (with_at_same s.block d _ e at) ∙ ap (λ (k : Block). k.bytes) (with_at_same (s.block d) q x p same) ∙ new_bytes e p y at same is
         | inr other ↦ ap (λ (f : ℕ → Block). (f p).bytes) (with_at_same s.block d _ e at) ∙ ap (λ (k : Block). k.bytes) (with_at_other (s.block d) q x p other)
-          ∙ above.bytes d p y there (old_bytes e p (Some y) at other is)
+            ∙ above.bytes d p y there (old_bytes e p (Some y) at other is)
       ]
       | inr not ↦ ap (λ (f : ℕ → Block). (f p).bytes) (with_at_other s.block d _ e not) ∙ above.bytes e p y (was_there s d (s.power d) e there here) (was_waiting e p (Some y) not is)
     ];
@@ -134,7 +133,7 @@ module _ (b : Disks) (w w' : ℕ → Waiting) (s : Disks) (d : ℕ) (others : (e
       | inl at ↦ elim (cases_eq p q) [
         | inl same ↦ ap (λ (f : ℕ → Bool). f p) (with_at_same s.loose d _ e at) ∙ with_at_same (s.loose d) q true p same
         | inr other ↦ ap (λ (f : ℕ → Bool). f p) (with_at_same s.loose d _ e at) ∙ with_at_other (s.loose d) q true p other
-          ∙ above.loose d p y there (old_bytes e p (Some y) at other is)
+            ∙ above.loose d p y there (old_bytes e p (Some y) at other is)
       ]
       | inr not ↦ ap (λ (f : ℕ → Bool). f p) (with_at_other s.loose d _ e not) ∙ above.loose e p y (was_there s d (s.power d) e there here) (was_waiting e p (Some y) not is)
     ];
@@ -142,7 +141,7 @@ module _ (b : Disks) (w w' : ℕ → Waiting) (s : Disks) (d : ℕ) (others : (e
       | inl at ↦ elim (cases_eq p q) [
         | inl same ↦ absurd (some_none (here_put e p at same) is)
         | inr other ↦ ap (λ (f : ℕ → Block). f p) (with_at_same s.block d _ e at) ∙ with_at_other (s.block d) q x p other
-          ∙ above.rests d p there (old_bytes e p None at other is) ∙ ap (λ (k : ℕ). b.block k p) (sym at)
+            ∙ above.rests d p there (old_bytes e p None at other is) ∙ ap (λ (k : ℕ). b.block k p) (sym at)
       ]
       | inr not ↦ ap (λ (f : ℕ → Block). f p) (with_at_other s.block d _ e not) ∙ above.rests e p (was_there s d (s.power d) e there here) (was_waiting e p None not is)
     ];
@@ -186,7 +185,7 @@ module _ (b : Disks) (w w' : ℕ → Waiting) (s : Disks) (d : ℕ) (others : (e
     kept = λ e p is. elim (cases_eq e d) [
       | inl at ↦ ap (λ (f : ℕ → Block). f p) (with_at_same s.block d (λ _. zero_block) e at) ∙ sym (ap (λ (f : ℕ → Block). f p) (with_at_same b.block d (λ _. zero_block) e at))
       | inr not ↦ ap (λ (f : ℕ → Block). f p) (with_at_other s.block d (λ _. zero_block) e not) ∙ above.kept e p (sym (ap (λ (f : ℕ → Bool). f p) (with_at_other s.loose d (λ _. false) e not)) ∙ is)
-        ∙ sym (ap (λ (f : ℕ → Block). f p) (with_at_other b.block d (λ _. zero_block) e not))
+          ∙ sym (ap (λ (f : ℕ → Block). f p) (with_at_other b.block d (λ _. zero_block) e not))
     ];
     bytes = λ e p y here is. elim (cases_eq e d) [
       | inl at ↦ absurd (some_none is (ap (λ (k : ℕ). waiting (w' k) p) at ∙ none refl p))
@@ -199,7 +198,7 @@ module _ (b : Disks) (w w' : ℕ → Waiting) (s : Disks) (d : ℕ) (others : (e
     rests = λ e p here is. elim (cases_eq e d) [
       | inl at ↦ ap (λ (f : ℕ → Block). f p) (with_at_same s.block d (λ _. zero_block) e at) ∙ sym (ap (λ (f : ℕ → Block). f p) (with_at_same b.block d (λ _. zero_block) e at))
       | inr not ↦ ap (λ (f : ℕ → Block). f p) (with_at_other s.block d (λ _. zero_block) e not) ∙ above.rests e p (stayed e not here) (was_waiting e p None not is)
-        ∙ sym (ap (λ (f : ℕ → Block). f p) (with_at_other b.block d (λ _. zero_block) e not))
+          ∙ sym (ap (λ (f : ℕ → Block). f p) (with_at_other b.block d (λ _. zero_block) e not))
     ];
   }
     where

@@ -12,7 +12,7 @@ use Rattle.paraid_rack.specs.declared.call.Power.TheVariants.{Spinning, Absent}
 use Rattle.paraid_rack.specs.declared.call.Call.{Call}
 use Rattle.paraid_rack.specs.declared.call.Call.TheVariants.{Write}
 use Rattle.paraid_rack.specs.Slots.{Slot, ChangesOneSlot}
-use Rattle.paraid_rack.specs.Disks.{Disks, with_at, step, lose}
+use Rattle.paraid_rack.specs.Disks.{Disks, step, lose}
 use Rattle.paraid_rack.specs.Told.{GrowsByCall, Through, Ran}
 use Rattle.paraid_rack.specs.Trail.{Trail, run, now, extend}
 use Rattle.paraid_rack.proofs.AtomsLemmas.{with_at_same, with_at_other}
@@ -58,7 +58,7 @@ module _ (d : ℕ) (w : Waiting) where
   milder s t between = record {
     block = between.block;
     loose = between.loose;
-    powers = elim between.powers [ | inl same ↦ inl same | inr same ↦ inl same ];
+    powers = elim between.powers [ inl same ↦ inl same | inr same ↦ inl same ];
   }
 
   module _ (s t : Disks) (k : ℕ) (x : Block) (here : waiting w k ≡ Some x.bytes) (between : IsBetween s d w true t) (same : HasPowersOf s t) where
@@ -94,9 +94,9 @@ module _ (d : ℕ) (w : Waiting) where
     unfolding step
     step_bytes before p b below is = elim (cases_eq p k) [
       | inl at ↦ ap (λ (f : ℕ → Block). (f p).bytes) (with_at_same t.block d _ d refl) ∙ ap (λ (y : Block). y.bytes) (with_at_same (t.block d) k x p at)
-        ∙ (let e : Some x.bytes ≡ Some b = sym here ∙ ap (waiting w) (sym at) ∙ is in cc)
+          ∙ (let e : Some x.bytes ≡ Some b = sym here ∙ ap (waiting w) (sym at) ∙ is in cc)
       | inr other ↦ ap (λ (f : ℕ → Block). (f p).bytes) (with_at_same t.block d _ d refl) ∙ ap (λ (y : Block). y.bytes) (with_at_other (t.block d) k x p other)
-        ∙ before p b (omega (arith, below, other)) is
+          ∙ before p b (omega (arith, below, other)) is
     ]
 
   module _ (s : Disks) (cs : List Call) (k : ℕ) (x : Block) (here : waiting w k ≡ Some x.bytes) (below : WritesBelow d w k s cs) where
@@ -127,10 +127,10 @@ module _ (d : ℕ) (w : Waiting) where
       pub told : Ran (g.told old) (g.told new) (WritesBelow d w k)
 
     pub is_spinning : (old now : R) (k : ℕ) (it : IsWritten old now k) → (g.slot old d).power ≡ Spinning → (g.slot now d).power ≡ Spinning
-    is_spinning old now k it spins = elim it.here [ | inl same ↦ ap (λ (x : Slot). x.power) same.1 ∙ spins | inr dirty ↦ ap (λ (x : Slot). x.power) dirty ∙ spins ]
+    is_spinning old now k it spins = elim it.here [ inl same ↦ ap (λ (x : Slot). x.power) same.1 ∙ spins | inr dirty ↦ ap (λ (x : Slot). x.power) dirty ∙ spins ]
 
     pub is_sized : (old now : R) (k : ℕ) (it : IsWritten old now k) → (g.slot now d).size ≡ (g.slot old d).size
-    is_sized old now k it = elim it.here [ | inl same ↦ ap (λ (x : Slot). x.size) same.1 | inr dirty ↦ ap (λ (x : Slot). x.size) dirty ]
+    is_sized old now k it = elim it.here [ inl same ↦ ap (λ (x : Slot). x.size) same.1 | inr dirty ↦ ap (λ (x : Slot). x.size) dirty ]
 
     -- nothing is written yet
     pub written_none : (old : R) → ((p : ℕ) → p < w.first → waiting w p ≡ None) → IsWritten old old w.first
@@ -153,10 +153,10 @@ module _ (d : ℕ) (w : Waiting) where
 
     module _ (old now next : R) (k : ℕ) (x : Block) (it : IsWritten old now k) (here : waiting w k ≡ Some x.bytes) (slots : g.slot_count next ≡ g.slot_count now) where
       dirty_now : record (g.slot now d) { unsynced = true } ≡ record (g.slot old d) { unsynced = true }
-      dirty_now = elim it.here [ | inl same ↦ ap (λ (y : Slot). record y { unsynced = true }) same.1 | inr dirty ↦ ap (λ (y : Slot). record y { unsynced = true }) dirty ]
+      dirty_now = elim it.here [ inl same ↦ ap (λ (y : Slot). record y { unsynced = true }) same.1 | inr dirty ↦ ap (λ (y : Slot). record y { unsynced = true }) dirty ]
 
       same_faults : (g.slot now d).faults ≡ (g.slot old d).faults
-      same_faults = elim it.here [ | inl same ↦ ap (λ (y : Slot). y.faults) same.1 | inr dirty ↦ ap (λ (y : Slot). y.faults) dirty ]
+      same_faults = elim it.here [ inl same ↦ ap (λ (y : Slot). y.faults) same.1 | inr dirty ↦ ap (λ (y : Slot). y.faults) dirty ]
 
       pub written_more : ChangesOneSlot (g.slot now) (g.slot next) d (record (g.slot now d) { unsynced = true }) true true → GrowsByCall (g.told now) (g.told next) (Write d k x true) → IsWritten old next (k + 1)
       written_more call grows = record {
@@ -185,7 +185,7 @@ module _ (d : ℕ) (w : Waiting) where
       pub written_slot : (k ≡ w.first → ⊥) → ChangesOneSlot (g.slot old) (g.slot now) d (record (g.slot old d) { unsynced = true }) true true
       written_slot some = record {
         others = it.others;
-        done = λ _. elim it.here [ | inl same ↦ absurd (some same.0) | inr dirty ↦ dirty ];
+        done = λ _. elim it.here [ inl same ↦ absurd (some same.0) | inr dirty ↦ dirty ];
         absent = λ is. absurd (true≢false is);
         empty = λ is. absurd (true≢false is);
         unsynced = λ is. absurd (true≢false is);
@@ -219,5 +219,5 @@ module _ (first : ℕ) (blocks : List (List ℕ)) where
   waiting_within p b is = elim (cases_lt p first) [
     | inl before ↦ absurd (some_none is (waiting_before p before))
     | inr past ↦ (let got : slice_get blocks (p - first) ≡ Some b = grind (arith, nat_tests, past, is) in
-      let below = slice_get_within blocks (p - first) b got in omega (arith, below, past))
+        let below = slice_get_within blocks (p - first) b got in omega (arith, below, past))
   ]

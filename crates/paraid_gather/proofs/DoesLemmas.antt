@@ -1,6 +1,6 @@
 -- What a call does to one disk, and one part of it after another.
-use Rattle.std.proofs.Common.{◌≡◌, ◌≢◌, inl, inr, ℕ, ◌+◌, ◌<◌, ◌≤◌, Bool, true, false, ◌||◌, not, if◌then◌else◌, ◌-◌, ◌==◌, List, [], ◌∷◌, length, Option, Some, None, refl, sym, ◌∙◌, ap, subst, arith, nat_lt}
-use Rattle.std.proofs.lemmas.Bool.{cases_eq, false≢true, true≢false}
+use Rattle.std.proofs.Common.{◌≡◌, ◌≢◌, ℕ, ◌<◌, Bool, true, false, ◌||◌, not, if◌then◌else◌, ◌-◌, ◌==◌, List, [], ◌∷◌, length, Some, None, refl, sym, ◌∙◌, ap, subst, arith, nat_lt}
+use Rattle.std.proofs.lemmas.Bool.{false≢true, true≢false}
 use Rattle.std.proofs.lemmas.Bool.Decides.{nat_tests}
 use Rattle.std.specs.List.{slice_get}
 use Rattle.paraid_base.specs.declared.block.Block.{Block}
@@ -10,11 +10,11 @@ use Rattle.paraid_rack.specs.declared.call.Power.TheVariants.{Spinning, Parked, 
 use Rattle.paraid_rack.specs.declared.call.Call.{Call}
 use Rattle.paraid_rack.specs.declared.call.Call.TheVariants.{Write, Sync}
 use Rattle.paraid_rack.specs.Slots.{Slot, ChangesOneSlot}
-use Rattle.paraid_rack.specs.Disks.{Disks, IsPresent, is_present, with_at, step, lose}
+use Rattle.paraid_rack.specs.Disks.{Disks, IsPresent, with_at, step, lose}
 use Rattle.paraid_rack.specs.Trail.{Trail, now}
 use Rattle.paraid_rack.specs.Told.{GrowsByCall, Ran}
 use Rattle.paraid_rack.proofs.AtomsLemmas.{with_at_same, with_at_other}
-use Rattle.paraid_gather.specs.Waiting.{Waiting, Fits, IsWithin, none_waits, waiting, waits}
+use Rattle.paraid_gather.specs.Waiting.{Waiting, Fits, none_waits, waiting, waits}
 use Rattle.paraid_gather.specs.Bulk.{WritesBlocks, left_by}
 use Rattle.paraid_gather.specs.Above.{IsAbove, slot_above, slots_above}
 use Rattle.paraid_gather.specs.Does.{DoesAbove}
@@ -160,7 +160,7 @@ pub does_write : {R : Type 0} (g : Ghosts R) (r : R) (d : ℕ) (run run' : Waiti
 does_write g r d run run' q x fits any there put = does_none g r d run run' (record (slot_above (g.slot r d) run) { unsynced = true }) true (step (Write d q x true)) fits
     (ap (λ (u : Bool). record (g.slot r d) { unsynced = u }) (or_true (g.slot r d).unsynced (waits run') any))
     (λ w s t is a. write_above (now t) (with_at w d run) (with_at w d run') s d (same_elsewhere w d run run') q x a (present_above (now t) (with_at w d run) s a d (there t is))
-        (λ p. ap (λ (v : Waiting). waiting v p) (with_at_same w d run' d refl) ∙ put p ∙ ap (λ (v : Waiting). if p == q then Some x.bytes else waiting v p) (sym (with_at_same w d run d refl))))
+    (λ p. ap (λ (v : Waiting). waiting v p) (with_at_same w d run' d refl) ∙ put p ∙ ap (λ (v : Waiting). if p == q then Some x.bytes else waiting v p) (sym (with_at_same w d run d refl))))
 
 -- a part that leaves the slot above as it is
 pub does_same : {R : Type 0} (g : Ghosts R) (old mid : R) (d : ℕ) (run between : Waiting) (dirt : Bool) (after : Disks → Disks)

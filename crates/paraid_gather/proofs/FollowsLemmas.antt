@@ -1,5 +1,5 @@
 -- Parts of a call of the rack above, one after the other.
-use Rattle.std.proofs.Common.{◌≡◌, ◌≢◌, inl, inr, ℕ, Bool, true, false, List, [], ◌∷◌, Option, Some, None, refl, sym, ◌∙◌, ap, subst}
+use Rattle.std.proofs.Common.{◌≡◌, ◌≢◌, inl, inr, ℕ, Bool, true, false, List, [], ◌∷◌, Option, Some, None, refl, sym, ap, subst}
 use Rattle.std.proofs.lemmas.List.{append-nil}
 use Rattle.paraid_rack.specs.declared.call.Call.{Call}
 use Rattle.paraid_rack.specs.Disks.{Disks, IsPresent, IsImage, step}
@@ -39,7 +39,7 @@ module _ (old new : Option Trail) (w w' : ℕ → Waiting) (s s' : Disks) where
       (λ t is cs it. record {
         goes = λ a.
             let z = it.goes a in (
-              through_map (LeavesImageOf s s') (LeavesImageOf s s'') (λ b f i image. elim (f i image) [ | inl x ↦ inl x | inr y ↦ inr (leaves i y) ]) (now t) cs z.0,
+              through_map (LeavesImageOf s s') (LeavesImageOf s s'') (λ b f i image. elim (f i image) [ inl x ↦ inl x | inr y ↦ inr (leaves i y) ]) (now t) cs z.0,
               becomes (run (now t) cs) z.1,
             );
       })
@@ -84,5 +84,5 @@ follows_then old mid new w w' w'' s s' first second =
     (λ t is cs it. record {
       goes = λ a.
           let z = it.goes a in
-          (through_map (LeavesImageOf s s) (LeavesImageOf s s') (λ b f i image. elim (f i image) [ | inl x ↦ inl x | inr y ↦ inl y ]) (now t) cs z.0, z.1);
+          (through_map (LeavesImageOf s s) (LeavesImageOf s s') (λ b f i image. elim (f i image) [ inl x ↦ inl x | inr y ↦ inl y ]) (now t) cs z.0, z.1);
     }) first) second

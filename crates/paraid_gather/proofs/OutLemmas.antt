@@ -9,9 +9,9 @@ use Rattle.paraid_rack.specs.declared.call.Call.TheVariants.{Write, Sync}
 use Rattle.paraid_rack.specs.Disks.{Disks, IsPresent, IsImage, is_present, with_at, step, lose}
 use Rattle.paraid_rack.specs.Told.{Through}
 use Rattle.paraid_rack.specs.Trail.{run}
-use Rattle.paraid_rack.proofs.AtomsLemmas.{with_at_same, with_at_other, at_case}
+use Rattle.paraid_rack.proofs.AtomsLemmas.{with_at_same, with_at_other}
 use Rattle.paraid_gather.specs.Waiting.{Waiting, waiting}
-use Rattle.paraid_gather.specs.Bulk.{HasPowersOf, IsBetween, WritesBlocks, left_by}
+use Rattle.paraid_gather.specs.Bulk.{IsBetween, WritesBlocks, left_by}
 use Rattle.paraid_gather.specs.Above.{IsAbove, LeavesImageOf}
 use Rattle.paraid_gather.proofs.AboveLemmas.{both_at, same_at, some_none}
 
@@ -60,9 +60,9 @@ module _ (b : Disks) (w : ℕ → Waiting) (s : Disks) (above : IsAbove b w s) (
         loose = image.loose;
       })
       | inr lost ↦ inr (left_image ok d s i
-        (λ e. image.power e ∙ lost.power e ∙ sym (left_power ok d s b above.power e))
-        (λ e. image.size e ∙ lost.size e ∙ sym (left_size ok d s b above.size e))
-        (λ e p is. image.block e p (out_sure e p is) ∙ sym (out_kept e p is)) image.loose)
+          (λ e. image.power e ∙ lost.power e ∙ sym (left_power ok d s b above.power e))
+          (λ e. image.size e ∙ lost.size e ∙ sym (left_size ok d s b above.size e))
+          (λ e p is. image.block e p (out_sure e p is) ∙ sym (out_kept e p is)) image.loose)
     ]
 
   module _ (w' : ℕ → Waiting) (others : (e : ℕ) → e ≢ d → w' e ≡ w e) (cs : List Call) where

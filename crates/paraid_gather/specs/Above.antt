@@ -1,6 +1,5 @@
 -- The rack above a rack, for whose disks blocks wait: what it holds, and what a stop may leave of it.
-use Rattle.std.specs.Prelude.{◌≡◌, ◌⊎◌, ◌||◌, ℕ, Bool, true, false, List, Option, Some, None}
-use Rattle.paraid_base.specs.declared.block.Block.{Block}
+use Rattle.std.specs.Prelude.{◌≡◌, ◌⊎◌, ◌||◌, ℕ, true, false, List, Option, Some, None}
 use Rattle.paraid_rack.specs.Slots.{Slot}
 use Rattle.paraid_rack.specs.Disks.{Disks, IsPresent, IsImage}
 use Rattle.paraid_rack.specs.Trail.{Trail}

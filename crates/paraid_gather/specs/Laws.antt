@@ -1,6 +1,5 @@
 -- The laws of the slots above.
-use Rattle.std.specs.Prelude.{◌≡◌, ◌||◌, ◌≤◌, ℕ, Bool, true, false, refl, Option, Some, None}
-use Rattle.paraid_rack.specs.declared.call.Power.TheVariants.{Parked, Absent}
+use Rattle.std.specs.Prelude.{◌≡◌, ◌||◌, ℕ, Bool, true, false, Option, Some, None}
 use Rattle.paraid_rack.specs.Slots.{Slot, AreSlots}
 use Rattle.paraid_rack.specs.Trail.{Trail}
 use Rattle.paraid_gather.specs.Waiting.{Waiting, waits, AllFit}

@@ -28,6 +28,7 @@ pub(crate) fn write_out<R: BulkRack>(
         (slot_above (R.slot rack.old disk) (run_of run.old)).unsynced
         (is_ok result) (left_by (is_ok result) disk) }
     ensures empty { is_ok result ≡ true → waits (run_of run.new) ≡ false }
+    ensures spins { is_ok result ≡ true → (R.slot rack.new disk).power ≡ Turning }
     ensures waited { is_ok result ≡ false → waits (run_of run.old) ≡ true }
 {
     if run.is_empty() {
@@ -114,11 +115,7 @@ pub(crate) fn read<R: BulkRack>(
 }
 
 /// Writes what waits, and makes the disk keep it.
-pub(crate) fn sync<R: BulkRack>(
-    rack: &mut R,
-    run: &mut Run,
-    disk: DiskNo,
-) -> Result<(), Failed>
+pub(crate) fn sync<R: BulkRack>(rack: &mut R, run: &mut Run, disk: DiskNo) -> Result<(), Failed>
     requires exists { disk < R.slot_count rack.old }
     requires spinning { (R.slot rack.old disk).power ≡ Turning }
     requires fits { Fits (R.slot rack.old disk) (run_of run.old) }

@@ -144,7 +144,13 @@ impl<R: BulkRack> Rack for Gathered<R> {
             (waiting_in self.old) (waiting_in self.new) s
             (step (Call.Write disk place block.now (is_ok result)) s) }
     {
-        calls::write(&mut self.rack, &mut self.runs[disk as usize], disk, place, block)
+        calls::write(
+            &mut self.rack,
+            &mut self.runs[disk as usize],
+            disk,
+            place,
+            block,
+        )
     }
 
     fn sync(&mut self, disk: DiskNo) -> Result<(), Failed>

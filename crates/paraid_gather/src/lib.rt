@@ -8,9 +8,6 @@
 mod bulk;
 mod calls;
 mod gathered;
-
 mod run;
 
-
 pub use bulk::BulkRack;
-

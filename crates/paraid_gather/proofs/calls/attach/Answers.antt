@@ -1,4 +1,4 @@
-use Rattle.std.proofs.Common.{◌≡◌, ◌||◌, refl, sym, ◌∙◌, ap, true, false, Bool, ℕ}
+use Rattle.std.proofs.Common.{◌||◌, refl, ◌∙◌, ap, true, false, Bool}
 use Rattle.std.proofs.lemmas.Bool.{false≢true, true≢false}
 use Rattle.paraid_rack.specs.Disks.{step, with_at}
 use Rattle.paraid_rack.specs.Trail.{now}
@@ -30,4 +30,4 @@ returns g c =
     does_call g.R.Rack c.args.rack.now c.attach.new.self d run run' below _ slot.unsynced _ true (Attach d c.args.size true) (step (Attach d c.args.size true)) c.in-Ok.ensures.slots
     (λ _. fits_none below run' empty) (λ _. ap (λ (u : Bool). record below { unsynced = u }) empty) (λ is. absurd (true≢false is))
     (λ w s t is a. attach_above (now t) (with_at w d run) (with_at w d run') s d (same_elsewhere w d run run') c.args.size true a
-        (λ _ p. ap (λ (v : Waiting). waiting v p) (with_at_same w d run' d refl) ∙ none_waiting run' empty p)) c.in-Ok.ensures.slot c.in-Ok.ensures.told
+    (λ _ p. ap (λ (v : Waiting). waiting v p) (with_at_same w d run' d refl) ∙ none_waiting run' empty p)) c.in-Ok.ensures.slot c.in-Ok.ensures.told

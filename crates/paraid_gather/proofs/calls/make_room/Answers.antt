@@ -1,5 +1,4 @@
-use Rattle.std.proofs.Common.{◌≡◌, refl, ◌<◌, ◌≤◌, inl, arith, false, ℕ, List, length, nat_lt}
-use Rattle.std.proofs.lemmas.Bool.Decides.{nat_tests}
+use Rattle.std.proofs.Common.{refl}
 use Rattle.paraid_gather.specs.Waiting.{run_of}
 use Rattle.paraid_gather.proofs.DoesLemmas.{does_none}
 use Rattle.paraid_gather.proofs.calls.make_room.Goals as goal

@@ -1,4 +1,4 @@
-use Rattle.std.proofs.Common.{◌≡◌, ◌||◌, refl, sym, ◌∙◌, ap, true, false, Bool, ℕ, is_ok}
+use Rattle.std.proofs.Common.{◌||◌, refl, ◌∙◌, ap, true, false, Bool, is_ok}
 use Rattle.paraid_rack.specs.Disks.{is_present, step, with_at}
 use Rattle.paraid_rack.specs.Trail.{now}
 use Rattle.paraid_rack.specs.declared.call.Call.TheVariants.{Sync}
@@ -9,10 +9,6 @@ use Rattle.paraid_gather.specs.Bulk.{left_by}
 use Rattle.paraid_gather.proofs.AboveLemmas.{present_above, sync_above}
 use Rattle.paraid_gather.proofs.DoesLemmas.{does_call, does_lost_sync, does_same, does_then, fits_none, none_waiting}
 use Rattle.paraid_gather.proofs.calls.sync.Goals as goal
-
-pub sync-requires-clause-spinning : goal.sync-requires-clause-spinning
-sync-requires-clause-spinning g c =
-    ap (λ (x : Slot). x.power) (does_same g.R.Rack c.args.rack.now c.write_out.new.rack c.args.disk (run_of c.args.run.now) (run_of c.write_out.new.run) _ (left_by true c.args.disk) c.in-Ok.ensures.does) ∙ c.requires.spinning
 
 pub returns-in_default : goal.returns-in_default
 returns-in_default g c = does_lost_sync g.R.Rack c.args.rack.now c.write_out.new.rack c.args.disk (run_of c.args.run.now) (run_of c.write_out.new.run) _ _ _ c.in_default.ensures.does
@@ -25,10 +21,10 @@ returns g c =
     let slot = g.R.Rack.slot c.write_out.new.rack d in
     let ok = is_ok c.sync.result in
     let empty = c.in-Ok.ensures.empty refl in
-    let spins = ap (λ (x : Slot). x.power) (does_same g.R.Rack c.args.rack.now c.write_out.new.rack d run between _ (left_by true d) c.in-Ok.ensures.does) ∙ c.requires.spinning in
+    let spins = c.in-Ok.ensures.spins refl in
     does_then g.R.Rack c.args.rack.now c.write_out.new.rack c.sync.new.self d run between between _ c.in-Ok.ensures.does (λ (x : Slot). record x { unsynced = false }) (λ (x : Slot). x.unsynced) ok (step (Sync d ok))
     (does_call g.R.Rack c.write_out.new.rack c.sync.new.self d between between (record slot { unsynced = false }) _ slot.unsynced (slot.unsynced || waits between) ok (Sync d ok) (step (Sync d ok)) c.sync.ensures.slots
     (λ _. fits_none _ between empty) (λ _. ap (λ (u : Bool). record slot { unsynced = u }) empty) (λ _. refl)
     (λ w s t is a. sync_above (now t) (with_at w d between) s a d (present_above (now t) (with_at w d between) s a d (ap is_present ((g.met.R.Rack.agrees c.write_out.new.rack t is).power d ∙ spins))) ok
-        (λ p. ap (λ (v : Waiting). waiting v p) (with_at_same w d between d refl) ∙ none_waiting between empty p))
+    (λ p. ap (λ (v : Waiting). waiting v p) (with_at_same w d between d refl) ∙ none_waiting between empty p))
     c.sync.ensures.slot c.sync.ensures.told)

@@ -1,4 +1,4 @@
-use Rattle.std.proofs.Common.{◌≡◌, ◌<◌, ◌||◌, refl, sym, ◌∙◌, ap, subst, true, ℕ}
+use Rattle.std.proofs.Common.{◌<◌, ◌||◌, refl, sym, ◌∙◌, ap, subst, true, ℕ}
 use Rattle.paraid_rack.specs.Disks.{is_present, step}
 use Rattle.paraid_rack.specs.declared.call.Call.TheVariants.{Write}
 use Rattle.paraid_rack.specs.Slots.{Slot}

@@ -1,4 +1,4 @@
-use Rattle.std.proofs.Common.{◌≡◌, ◌∙◌, ◌+◌, ℕ, List, length, length-append, ap, arith, sym, subst, [], ◌∷◌, ◌++◌}
+use Rattle.std.proofs.Common.{◌≡◌, ◌∙◌, ◌+◌, ℕ, List, length, length-append, ap, sym, subst}
 use Rattle.paraid_gather.specs.declared.run.Run.{Run}
 use Rattle.paraid_gather.specs.Waiting.{none_waits, waiting_at}
 use Rattle.paraid_gather.proofs.WholeLemmas.{none_push, none_start}

@@ -1,6 +1,5 @@
-use Rattle.std.proofs.Common.{◌≡◌, ◌+◌, ◌-◌, ◌<◌, ◌≤◌, ℕ, List, [], length, Some, refl, sym, ◌∙◌, ap, arith}
+use Rattle.std.proofs.Common.{◌-◌, [], Some, sym, ◌∙◌, ap, arith}
 use Rattle.std.proofs.lemmas.Option.{slice_get-get_or}
-use Rattle.paraid_gather.specs.Waiting.{Waiting}
 use Rattle.paraid_gather.proofs.BulkLemmas.{waiting_before, waiting_listed, waiting_within, written_calls, written_failed_calls, written_more, written_none}
 use Rattle.paraid_gather.proofs.bulk.BulkRack.write_blocks.Goals as goal
 

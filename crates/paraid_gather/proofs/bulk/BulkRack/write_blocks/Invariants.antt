@@ -1,4 +1,4 @@
-use Rattle.std.proofs.Common.{◌≡◌, ◌<◌, ◌≤◌, ◌+◌, ℕ, length}
+use Rattle.std.proofs.Common.{◌≤◌, ◌+◌, length}
 use Rattle.paraid_gather.proofs.BulkLemmas.{IsWritten}
 use Rattle.paraid_gather.proofs.bulk.BulkRack.write_blocks.Given as goal
 

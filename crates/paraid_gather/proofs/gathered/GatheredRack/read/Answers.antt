@@ -1,19 +1,12 @@
-use Rattle.std.proofs.Common.{◌≡◌, ◌||◌, ℕ, Bool, true, false, List, length, set, get_or, refl, sym, ◌∙◌, ap, subst, is_ok}
-use Rattle.std.proofs.lemmas.List.{length-set}
-use Rattle.std.proofs.lemmas.Bool.{false≢true, true≢false}
-use Rattle.paraid_rack.specs.declared.call.Call.TheVariants.{Read, Write, Sync, Park, SpinUp, Attach}
-use Rattle.paraid_rack.specs.declared.call.Power.{Power}
-use Rattle.paraid_rack.specs.declared.call.Power.TheVariants.{Spinning, Parked, Absent}
+use Rattle.std.proofs.Common.{ℕ, length, sym, subst, is_ok}
+use Rattle.paraid_rack.specs.declared.call.Call.TheVariants.{Read}
 use Rattle.paraid_rack.specs.Slots.{Slot}
-use Rattle.paraid_rack.specs.Disks.{Disks, is_present, step, with_at}
-use Rattle.paraid_rack.specs.Trail.{Trail, now}
-use Rattle.paraid_gather.specs.Above.{IsAbove, slot_above}
-use Rattle.paraid_gather.specs.Waiting.{Waiting, Fits, run_of, waiting_at, waits}
+use Rattle.paraid_rack.specs.Disks.{step}
+use Rattle.paraid_rack.specs.Trail.{now}
+use Rattle.paraid_gather.specs.Above.{IsAbove}
+use Rattle.paraid_gather.specs.Waiting.{Waiting, Fits, run_of, waiting_at}
 use Rattle.paraid_gather.specs.Laws.{nothing_told}
-use Rattle.paraid_gather.specs.Does.{DoesWhole}
-use Rattle.paraid_gather.proofs.AboveLemmas.{park_above, spin_up_above, present_above}
-use Rattle.paraid_gather.proofs.DoesLemmas.{does_call, fits_none, or_right, or_left, not_parked}
-use Rattle.paraid_gather.proofs.WholeLemmas.{does_whole, disk_within, waiting_here, with_this, with_new, with_own, any_ok}
+use Rattle.paraid_gather.proofs.WholeLemmas.{does_whole, disk_within, waiting_here, with_this, any_ok}
 use Rattle.paraid_gather.proofs.gathered.GatheredRack.read.Goals as goal
 
 pub read-requires-clause-fits : goal.read-requires-clause-fits
@@ -30,7 +23,7 @@ invariant_of-self g c =
     let y = c.index.result.now in
     let within = disk_within _ d (length runs) c.requires.exists (g.met.R.Rack.slots_hold gathered.rack).few gathered.eight in
     let whole = does_whole g.R.Rack gathered.rack c.read.new.rack d (run_of y) (run_of y) (waiting_at runs) (waiting_at runs) (λ (z : Slot). z) (λ (z : Slot). z.unsynced) (is_ok c.read.result) (step (Read d c.args.place (is_ok c.read.result)))
-        (with_this runs d y within c.index.ensures) (with_this runs d y within c.index.ensures) (waiting_here runs d y within c.index.ensures) gathered.fits c.read.ensures.does in
+    (with_this runs d y within c.index.ensures) (with_this runs d y within c.index.ensures) (waiting_here runs d y within c.index.ensures) gathered.fits c.read.ensures.does in
     record { eight = gathered.eight; fits = whole.fits }
 
 pub returns : goal.returns
@@ -41,7 +34,7 @@ returns g c =
     let y = c.index.result.now in
     let within = disk_within _ d (length runs) c.requires.exists (g.met.R.Rack.slots_hold gathered.rack).few gathered.eight in
     let whole = does_whole g.R.Rack gathered.rack c.read.new.rack d (run_of y) (run_of y) (waiting_at runs) (waiting_at runs) (λ (z : Slot). z) (λ (z : Slot). z.unsynced) (is_ok c.read.result) (step (Read d c.args.place (is_ok c.read.result)))
-        (with_this runs d y within c.index.ensures) (with_this runs d y within c.index.ensures) (waiting_here runs d y within c.index.ensures) gathered.fits c.read.ensures.does in
+    (with_this runs d y within c.index.ensures) (with_this runs d y within c.index.ensures) (waiting_here runs d y within c.index.ensures) gathered.fits c.read.ensures.does in
     record {
       slots = whole.slots;
       slot = whole.slot;

@@ -1,19 +1,15 @@
-use Rattle.std.proofs.Common.{◌≡◌, ◌||◌, ℕ, Bool, true, false, List, length, set, get_or, refl, sym, ◌∙◌, ap, subst, is_ok}
-use Rattle.std.proofs.lemmas.List.{length-set}
-use Rattle.std.proofs.lemmas.Bool.{false≢true, true≢false}
-use Rattle.paraid_rack.specs.declared.call.Call.TheVariants.{Read, Write, Sync, Park, SpinUp, Attach}
-use Rattle.paraid_rack.specs.declared.call.Power.{Power}
-use Rattle.paraid_rack.specs.declared.call.Power.TheVariants.{Spinning, Parked, Absent}
+use Rattle.std.proofs.Common.{false, refl, ◌∙◌, ap, is_ok}
+use Rattle.paraid_rack.specs.declared.call.Call.TheVariants.{SpinUp}
+use Rattle.paraid_rack.specs.declared.call.Power.TheVariants.{Spinning}
 use Rattle.paraid_rack.specs.Slots.{Slot}
-use Rattle.paraid_rack.specs.Disks.{Disks, is_present, step, with_at}
-use Rattle.paraid_rack.specs.Trail.{Trail, now}
-use Rattle.paraid_gather.specs.Above.{IsAbove, slot_above}
-use Rattle.paraid_gather.specs.Waiting.{Waiting, Fits, run_of, waiting_at, waits}
+use Rattle.paraid_rack.specs.Disks.{is_present, step, with_at}
+use Rattle.paraid_rack.specs.Trail.{now}
+use Rattle.paraid_gather.specs.Above.{slot_above}
+use Rattle.paraid_gather.specs.Waiting.{waiting_at}
 use Rattle.paraid_gather.specs.Laws.{nothing_told}
-use Rattle.paraid_gather.specs.Does.{DoesWhole}
-use Rattle.paraid_gather.proofs.AboveLemmas.{park_above, spin_up_above, present_above}
-use Rattle.paraid_gather.proofs.DoesLemmas.{does_call, fits_none, or_right, or_left, not_parked}
-use Rattle.paraid_gather.proofs.WholeLemmas.{does_whole, disk_within, waiting_here, with_this, with_new, with_own}
+use Rattle.paraid_gather.proofs.AboveLemmas.{spin_up_above, present_above}
+use Rattle.paraid_gather.proofs.DoesLemmas.{does_call, fits_none}
+use Rattle.paraid_gather.proofs.WholeLemmas.{does_whole, with_own}
 use Rattle.paraid_gather.proofs.gathered.GatheredRack.spin_up.Goals as goal
 
 pub invariant_of-self : goal.invariant_of-self
@@ -24,10 +20,10 @@ invariant_of-self g c =
     let slot = g.R.Rack.slot gathered.rack d in
     let ok = is_ok c.spin_up.result in
     let whole = does_whole g.R.Rack gathered.rack c.spin_up.new.self d (w d) (w d) w w (λ (z : Slot). record z { power = Spinning }) (λ (z : Slot). false) ok (step (SpinUp d ok)) (with_own w d) (with_own w d) refl gathered.fits
-        (does_call g.R.Rack gathered.rack c.spin_up.new.self d (w d) (w d) (record slot { power = Spinning }) (record (slot_above slot (w d)) { power = Spinning }) false false ok (SpinUp d ok) (step (SpinUp d ok)) c.spin_up.ensures.slots
-        (λ _. fits_none _ (w d) ((gathered.fits d).still c.requires.parked)) (λ _. refl) (λ _. (gathered.fits d).still c.requires.parked)
-        (λ v s t is a. spin_up_above (now t) (with_at v d (w d)) s a d (present_above (now t) (with_at v d (w d)) s a d (ap is_present ((g.met.R.Rack.agrees gathered.rack t is).power d ∙ c.requires.parked))) ok)
-        c.spin_up.ensures.slot c.spin_up.ensures.told) in
+    (does_call g.R.Rack gathered.rack c.spin_up.new.self d (w d) (w d) (record slot { power = Spinning }) (record (slot_above slot (w d)) { power = Spinning }) false false ok (SpinUp d ok) (step (SpinUp d ok)) c.spin_up.ensures.slots
+    (λ _. fits_none _ (w d) ((gathered.fits d).still c.requires.parked)) (λ _. refl) (λ _. (gathered.fits d).still c.requires.parked)
+    (λ v s t is a. spin_up_above (now t) (with_at v d (w d)) s a d (present_above (now t) (with_at v d (w d)) s a d (ap is_present ((g.met.R.Rack.agrees gathered.rack t is).power d ∙ c.requires.parked))) ok)
+    c.spin_up.ensures.slot c.spin_up.ensures.told) in
     record { eight = gathered.eight; fits = whole.fits }
 
 pub returns : goal.returns
@@ -38,8 +34,8 @@ returns g c =
     let slot = g.R.Rack.slot gathered.rack d in
     let ok = is_ok c.spin_up.result in
     let whole = does_whole g.R.Rack gathered.rack c.spin_up.new.self d (w d) (w d) w w (λ (z : Slot). record z { power = Spinning }) (λ (z : Slot). false) ok (step (SpinUp d ok)) (with_own w d) (with_own w d) refl gathered.fits
-        (does_call g.R.Rack gathered.rack c.spin_up.new.self d (w d) (w d) (record slot { power = Spinning }) (record (slot_above slot (w d)) { power = Spinning }) false false ok (SpinUp d ok) (step (SpinUp d ok)) c.spin_up.ensures.slots
-        (λ _. fits_none _ (w d) ((gathered.fits d).still c.requires.parked)) (λ _. refl) (λ _. (gathered.fits d).still c.requires.parked)
-        (λ v s t is a. spin_up_above (now t) (with_at v d (w d)) s a d (present_above (now t) (with_at v d (w d)) s a d (ap is_present ((g.met.R.Rack.agrees gathered.rack t is).power d ∙ c.requires.parked))) ok)
-        c.spin_up.ensures.slot c.spin_up.ensures.told) in
+    (does_call g.R.Rack gathered.rack c.spin_up.new.self d (w d) (w d) (record slot { power = Spinning }) (record (slot_above slot (w d)) { power = Spinning }) false false ok (SpinUp d ok) (step (SpinUp d ok)) c.spin_up.ensures.slots
+    (λ _. fits_none _ (w d) ((gathered.fits d).still c.requires.parked)) (λ _. refl) (λ _. (gathered.fits d).still c.requires.parked)
+    (λ v s t is a. spin_up_above (now t) (with_at v d (w d)) s a d (present_above (now t) (with_at v d (w d)) s a d (ap is_present ((g.met.R.Rack.agrees gathered.rack t is).power d ∙ c.requires.parked))) ok)
+    c.spin_up.ensures.slot c.spin_up.ensures.told) in
     record { slots = whole.slots; slot = whole.slot; told = λ t e. nothing_told t e; above = whole.told }

@@ -1,19 +1,11 @@
-use Rattle.std.proofs.Common.{◌≡◌, ◌||◌, ℕ, Bool, true, false, List, length, set, get_or, refl, sym, ◌∙◌, ap, subst, is_ok}
+use Rattle.std.proofs.Common.{false, length, set, ◌∙◌, subst, is_ok}
 use Rattle.std.proofs.lemmas.List.{length-set}
-use Rattle.std.proofs.lemmas.Bool.{false≢true, true≢false}
-use Rattle.paraid_rack.specs.declared.call.Call.TheVariants.{Read, Write, Sync, Park, SpinUp, Attach}
-use Rattle.paraid_rack.specs.declared.call.Power.{Power}
-use Rattle.paraid_rack.specs.declared.call.Power.TheVariants.{Spinning, Parked, Absent}
+use Rattle.paraid_rack.specs.declared.call.Call.TheVariants.{Sync}
 use Rattle.paraid_rack.specs.Slots.{Slot}
-use Rattle.paraid_rack.specs.Disks.{Disks, is_present, step, with_at}
-use Rattle.paraid_rack.specs.Trail.{Trail, now}
-use Rattle.paraid_gather.specs.Above.{IsAbove, slot_above}
-use Rattle.paraid_gather.specs.Waiting.{Waiting, Fits, run_of, waiting_at, waits}
+use Rattle.paraid_rack.specs.Disks.{step}
+use Rattle.paraid_gather.specs.Waiting.{Waiting, Fits, run_of, waiting_at}
 use Rattle.paraid_gather.specs.Laws.{nothing_told}
-use Rattle.paraid_gather.specs.Does.{DoesWhole}
-use Rattle.paraid_gather.proofs.AboveLemmas.{park_above, spin_up_above, present_above}
-use Rattle.paraid_gather.proofs.DoesLemmas.{does_call, fits_none, or_right, or_left, not_parked}
-use Rattle.paraid_gather.proofs.WholeLemmas.{does_whole, disk_within, waiting_here, with_this, with_new, with_own}
+use Rattle.paraid_gather.proofs.WholeLemmas.{does_whole, disk_within, waiting_here, with_this, with_new}
 use Rattle.paraid_gather.proofs.gathered.GatheredRack.sync.Goals as goal
 
 pub sync-requires-clause-fits : goal.sync-requires-clause-fits
@@ -31,7 +23,7 @@ invariant_of-self g c =
     let x = c.sync.new.run in
     let within = disk_within _ d (length runs) c.requires.exists (g.met.R.Rack.slots_hold gathered.rack).few gathered.eight in
     let whole = does_whole g.R.Rack gathered.rack c.sync.new.rack d (run_of y) (run_of x) (waiting_at runs) (waiting_at (set runs d x)) (λ (z : Slot). record z { unsynced = false }) (λ (z : Slot). z.unsynced) (is_ok c.sync.result) (step (Sync d (is_ok c.sync.result)))
-        (with_this runs d y within c.index_mut.ensures.value) (with_new runs d x within) (waiting_here runs d y within c.index_mut.ensures.value) gathered.fits c.sync.ensures in
+    (with_this runs d y within c.index_mut.ensures.value) (with_new runs d x within) (waiting_here runs d y within c.index_mut.ensures.value) gathered.fits c.sync.ensures in
     record { eight = length-set _ _ _ ∙ gathered.eight; fits = whole.fits }
 
 pub returns : goal.returns
@@ -43,5 +35,5 @@ returns g c =
     let x = c.sync.new.run in
     let within = disk_within _ d (length runs) c.requires.exists (g.met.R.Rack.slots_hold gathered.rack).few gathered.eight in
     let whole = does_whole g.R.Rack gathered.rack c.sync.new.rack d (run_of y) (run_of x) (waiting_at runs) (waiting_at (set runs d x)) (λ (z : Slot). record z { unsynced = false }) (λ (z : Slot). z.unsynced) (is_ok c.sync.result) (step (Sync d (is_ok c.sync.result)))
-        (with_this runs d y within c.index_mut.ensures.value) (with_new runs d x within) (waiting_here runs d y within c.index_mut.ensures.value) gathered.fits c.sync.ensures in
+    (with_this runs d y within c.index_mut.ensures.value) (with_new runs d x within) (waiting_here runs d y within c.index_mut.ensures.value) gathered.fits c.sync.ensures in
     record { slots = whole.slots; slot = whole.slot; told = λ t e. nothing_told t e; above = whole.told }

@@ -1,19 +1,7 @@
-use Rattle.std.proofs.Common.{◌≡◌, ◌||◌, not, ℕ, Bool, true, false, List, length, set, get_or, refl, sym, ◌∙◌, ap, subst, is_ok}
-use Rattle.std.proofs.lemmas.List.{length-set}
-use Rattle.std.proofs.lemmas.Bool.{false≢true, true≢false}
-use Rattle.paraid_rack.specs.declared.call.Call.TheVariants.{Read, Write, Sync, Park, SpinUp, Attach}
-use Rattle.paraid_rack.specs.declared.call.Power.{Power}
-use Rattle.paraid_rack.specs.declared.call.Power.TheVariants.{Spinning, Parked, Absent}
-use Rattle.paraid_rack.specs.Slots.{Slot}
-use Rattle.paraid_rack.specs.Disks.{Disks, is_present, step, with_at}
-use Rattle.paraid_rack.specs.Trail.{Trail, now}
-use Rattle.paraid_gather.specs.Above.{IsAbove, slot_above}
-use Rattle.paraid_gather.specs.Waiting.{Waiting, Fits, run_of, waiting_at, waits}
-use Rattle.paraid_gather.specs.Laws.{nothing_told}
-use Rattle.paraid_gather.specs.Does.{DoesWhole}
-use Rattle.paraid_gather.proofs.AboveLemmas.{park_above, spin_up_above, present_above}
-use Rattle.paraid_gather.proofs.DoesLemmas.{does_call, fits_none, or_right, or_left, not_parked, not_not}
-use Rattle.paraid_gather.proofs.WholeLemmas.{does_whole, disk_within, waiting_here, with_this, with_new, with_own}
+use Rattle.std.proofs.Common.{◌||◌, not, Bool, length, sym, ◌∙◌, ap}
+use Rattle.paraid_gather.specs.Waiting.{run_of, waiting_at, waits}
+use Rattle.paraid_gather.proofs.DoesLemmas.{not_not}
+use Rattle.paraid_gather.proofs.WholeLemmas.{disk_within, waiting_here}
 use Rattle.paraid_gather.proofs.gathered.GatheredRack.unsynced.Goals as goal
 
 pub returns-then-unsynced : goal.returns-then-unsynced
