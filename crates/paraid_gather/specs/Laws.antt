@@ -18,8 +18,8 @@ slots_above_hold count slot w hold fits = record {
 }
 
 -- what tells nothing agrees with anything
-pub nothing_told : {A : Type 0} (t : Trail) → ◌≡◌ {A = Option Trail} None (Some t) → A
-nothing_told t is = absurd (none_some is)
+pub none_told : {A : Type 0} (t : Trail) → ◌≡◌ {A = Option Trail} None (Some t) → A
+none_told t is = absurd (none_some is)
   where
     none_some : ◌≡◌ {A = Option Trail} None (Some t) → ⊥
     none_some e = cc

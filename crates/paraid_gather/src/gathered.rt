@@ -81,7 +81,7 @@ impl<R: BulkRack> Rack for Gathered<R> {
     ghost use Rattle.paraid_rack.specs.Disks.{Disks, step};
     ghost use Rattle.paraid_gather.specs.Above.{Follows, IsAbove, slots_above};
     ghost use Rattle.paraid_gather.specs.Gathers.{rack_below, waiting_in};
-    ghost use Rattle.paraid_gather.specs.Laws.{nothing_told, slots_above_hold};
+    ghost use Rattle.paraid_gather.specs.Laws.{none_told, slots_above_hold};
 
     ghost slot_count = { λ gathered. R.slot_count gathered.rack };
 
@@ -91,7 +91,7 @@ impl<R: BulkRack> Rack for Gathered<R> {
 
     ghost slots_hold = { λ gathered. slots_above_hold (R.slot_count gathered.rack) (R.slot gathered.rack) (waiting_at gathered.runs.items) (R.slots_hold gathered.rack) gathered.fits };
 
-    ghost agrees = { λ gathered trail told. nothing_told trail told };
+    ghost agrees = { λ gathered trail told. none_told trail told };
 
     fn slots(&self) -> u8 {
         self.rack.slots()

@@ -5,7 +5,7 @@ use Rattle.paraid_rack.specs.declared.call.Power.TheVariants.{Spinning}
 use Rattle.paraid_rack.specs.Slots.{Slot}
 use Rattle.paraid_rack.specs.Disks.{step}
 use Rattle.paraid_gather.specs.Waiting.{Waiting, Fits, run_of, waiting_at}
-use Rattle.paraid_gather.specs.Laws.{nothing_told}
+use Rattle.paraid_gather.specs.Laws.{none_told}
 use Rattle.paraid_gather.proofs.WholeLemmas.{does_whole, disk_within, waiting_here, with_this, with_new}
 use Rattle.paraid_gather.proofs.gathered.GatheredRack.attach.Goals as goal
 
@@ -37,4 +37,4 @@ returns g c =
     let within = disk_within _ d (length runs) c.requires.exists (g.met.R.Rack.slots_hold gathered.rack).few gathered.eight in
     let whole = does_whole g.R.Rack gathered.rack c.attach.new.rack d (run_of y) (run_of x) (waiting_at runs) (waiting_at (set runs d x)) (λ (z : Slot). record z { power = Spinning; size = c.args.size; unsynced = false }) (λ (z : Slot). z.unsynced) (is_ok c.attach.result) (step (Attach d c.args.size (is_ok c.attach.result)))
     (with_this runs d y within c.index_mut.ensures.value) (with_new runs d x within) (waiting_here runs d y within c.index_mut.ensures.value) gathered.fits c.attach.ensures in
-    record { slots = whole.slots; slot = whole.slot; told = λ t e. nothing_told t e; above = whole.told }
+    record { slots = whole.slots; slot = whole.slot; told = λ t e. none_told t e; above = whole.told }

@@ -6,7 +6,7 @@ use Rattle.paraid_rack.specs.Disks.{is_present, step, with_at}
 use Rattle.paraid_rack.specs.Trail.{now}
 use Rattle.paraid_gather.specs.Above.{slot_above}
 use Rattle.paraid_gather.specs.Waiting.{waiting_at, waits}
-use Rattle.paraid_gather.specs.Laws.{nothing_told}
+use Rattle.paraid_gather.specs.Laws.{none_told}
 use Rattle.paraid_gather.proofs.AboveLemmas.{park_above, present_above}
 use Rattle.paraid_gather.proofs.DoesLemmas.{does_call, or_right, or_left, not_parked}
 use Rattle.paraid_gather.proofs.WholeLemmas.{does_whole, with_own}
@@ -41,4 +41,4 @@ returns g c =
     (λ _. record { within = λ spins. not_parked Parked spins refl; still = λ _. or_right slot.unsynced (waits (w d)) c.requires.synced }) (λ _. refl) (λ _. or_right slot.unsynced (waits (w d)) c.requires.synced)
     (λ v s t is a. park_above (now t) (with_at v d (w d)) s a d (present_above (now t) (with_at v d (w d)) s a d (ap is_present ((g.met.R.Rack.agrees gathered.rack t is).power d ∙ c.requires.spinning))) ok)
     c.park.ensures.slot c.park.ensures.told) in
-    record { slots = whole.slots; slot = whole.slot; told = λ t e. nothing_told t e; above = whole.told }
+    record { slots = whole.slots; slot = whole.slot; told = λ t e. none_told t e; above = whole.told }

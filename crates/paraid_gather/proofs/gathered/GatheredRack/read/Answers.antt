@@ -5,7 +5,7 @@ use Rattle.paraid_rack.specs.Disks.{step}
 use Rattle.paraid_rack.specs.Trail.{now}
 use Rattle.paraid_gather.specs.Above.{IsAbove}
 use Rattle.paraid_gather.specs.Waiting.{Waiting, Fits, run_of, waiting_at}
-use Rattle.paraid_gather.specs.Laws.{nothing_told}
+use Rattle.paraid_gather.specs.Laws.{none_told}
 use Rattle.paraid_gather.proofs.WholeLemmas.{does_whole, disk_within, waiting_here, with_this, any_ok}
 use Rattle.paraid_gather.proofs.gathered.GatheredRack.read.Goals as goal
 
@@ -38,8 +38,8 @@ returns g c =
     record {
       slots = whole.slots;
       slot = whole.slot;
-      told = λ t e. nothing_told t e;
-      bytes = any_ok c.read.result (λ t e. nothing_told t e);
+      told = λ t e. none_told t e;
+      bytes = any_ok c.read.result (λ t e. none_told t e);
       above = whole.told;
       bytes_above = λ is t s told a. c.read.ensures.bytes is t (waiting_at runs) s told (subst (λ (f : ℕ → Waiting). IsAbove (now t) f s) (sym (with_this runs d y within c.index.ensures)) a);
     }

@@ -6,7 +6,7 @@ use Rattle.paraid_rack.specs.Disks.{is_present, step, with_at}
 use Rattle.paraid_rack.specs.Trail.{now}
 use Rattle.paraid_gather.specs.Above.{slot_above}
 use Rattle.paraid_gather.specs.Waiting.{waiting_at}
-use Rattle.paraid_gather.specs.Laws.{nothing_told}
+use Rattle.paraid_gather.specs.Laws.{none_told}
 use Rattle.paraid_gather.proofs.AboveLemmas.{spin_up_above, present_above}
 use Rattle.paraid_gather.proofs.DoesLemmas.{does_call, fits_none}
 use Rattle.paraid_gather.proofs.WholeLemmas.{does_whole, with_own}
@@ -38,4 +38,4 @@ returns g c =
     (λ _. fits_none _ (w d) ((gathered.fits d).still c.requires.parked)) (λ _. refl) (λ _. (gathered.fits d).still c.requires.parked)
     (λ v s t is a. spin_up_above (now t) (with_at v d (w d)) s a d (present_above (now t) (with_at v d (w d)) s a d (ap is_present ((g.met.R.Rack.agrees gathered.rack t is).power d ∙ c.requires.parked))) ok)
     c.spin_up.ensures.slot c.spin_up.ensures.told) in
-    record { slots = whole.slots; slot = whole.slot; told = λ t e. nothing_told t e; above = whole.told }
+    record { slots = whole.slots; slot = whole.slot; told = λ t e. none_told t e; above = whole.told }
