@@ -35,6 +35,18 @@ was_there s d q e there h = at_use (λ (p : Power). is_present p ≡ true) (IsPr
 pub some_none : {A : Type 0} {x : A} {o : Option A} → o ≡ Some x → o ≡ None → ⊥
 some_none {A} {x} a b = (let e : Some x ≡ None = sym a ∙ b in cc)
 
+-- where nothing waits, the rack above is the one below
+pub above_start : (b : Disks) (w : ℕ → Waiting) → ((d p : ℕ) → waiting (w d) p ≡ None) → IsAbove b w b
+above_start b w none = record {
+  power = λ d. refl;
+  size = λ d. refl;
+  sure = λ d p is. is;
+  kept = λ d p is. refl;
+  bytes = λ d p x here is. absurd (some_none is (none d p));
+  loose = λ d p x here is. absurd (some_none is (none d p));
+  rests = λ d p here is. refl;
+}
+
 module _ (b : Disks) (w : ℕ → Waiting) (s : Disks) (above : IsAbove b w s) (d : ℕ) where
   pub present_above : IsPresent b d → IsPresent s d
   present_above here = ap is_present (above.power d) ∙ here

@@ -27,10 +27,11 @@ pub struct Gathered<R: BulkRack> {
 }
 
 impl<R: BulkRack + Drop> Gathered<R> {
-    ghost use Rattle.std.specs.Prelude.{◌<◌, is_ok};
+    ghost use Rattle.std.specs.Prelude.{◌<◌, Some, is_ok};
     ghost use Rattle.paraid_rack.specs.Slots.{ChangesOneSlot};
     ghost use Rattle.paraid_rack.specs.Disks.{Disks};
-    ghost use Rattle.paraid_gather.specs.Above.{Follows, slots_above};
+    ghost use Rattle.paraid_rack.specs.Trail.{Trail, now};
+    ghost use Rattle.paraid_gather.specs.Above.{Follows, IsAbove, slots_above};
     ghost use Rattle.paraid_gather.specs.Bulk.{left_by};
     ghost use Rattle.paraid_gather.specs.Gathers.{rack_below, waiting_in};
 
@@ -38,6 +39,9 @@ impl<R: BulkRack + Drop> Gathered<R> {
     pub fn new(alloc: Global, rack: R) -> Result<Gathered<R>, NoMemory>
         ensures rack { IfOk result (λ gathered. rack_below gathered ≡ rack) }
         ensures none { IfOk result (λ gathered. (d : ℕ) → waiting_in gathered d ≡ none_waits) }
+        // The disks are as the rack has them.
+        ensures above { IfOk result (λ gathered. (t : Trail) → R.told rack ≡ Some t
+            → IsAbove (now t) (waiting_in gathered) (now t)) }
     {
         let runs = no_runs(alloc)?;
         Ok(Gathered { rack, runs })
@@ -56,6 +60,13 @@ impl<R: BulkRack + Drop> Gathered<R> {
             (waiting_in self.old) (waiting_in self.new) s (left_by (is_ok result) disk s) }
     {
         calls::write_out(&mut self.rack, &mut self.runs[disk as usize], disk)
+    }
+
+    /// Gives the rack back. What still waits is dropped.
+    pub fn into_rack(self) -> R
+        ensures { result ≡ rack_below self }
+    {
+        self.rack
     }
 }
 

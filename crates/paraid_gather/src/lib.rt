@@ -8,6 +8,9 @@
 mod bulk;
 mod calls;
 mod gathered;
+mod laws;
 mod run;
 
 pub use bulk::BulkRack;
+pub use gathered::Gathered;
+pub use laws::a_stop_leaves_an_image;

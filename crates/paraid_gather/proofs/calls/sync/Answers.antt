@@ -1,13 +1,12 @@
-use Rattle.std.proofs.Common.{◌||◌, refl, ◌∙◌, ap, true, false, Bool, is_ok}
+use Rattle.std.proofs.Common.{◌||◌, refl, ◌∙◌, ap, false, Bool, is_ok}
 use Rattle.paraid_rack.specs.Disks.{is_present, step, with_at}
 use Rattle.paraid_rack.specs.Trail.{now}
 use Rattle.paraid_rack.specs.declared.call.Call.TheVariants.{Sync}
 use Rattle.paraid_rack.specs.Slots.{Slot}
 use Rattle.paraid_rack.proofs.AtomsLemmas.{with_at_same}
 use Rattle.paraid_gather.specs.Waiting.{Waiting, run_of, waiting, waits}
-use Rattle.paraid_gather.specs.Bulk.{left_by}
 use Rattle.paraid_gather.proofs.AboveLemmas.{present_above, sync_above}
-use Rattle.paraid_gather.proofs.DoesLemmas.{does_call, does_lost_sync, does_same, does_then, fits_none, none_waiting}
+use Rattle.paraid_gather.proofs.DoesLemmas.{does_call, does_lost_sync, does_then, fits_none, none_waiting}
 use Rattle.paraid_gather.proofs.calls.sync.Goals as goal
 
 pub returns-in_default : goal.returns-in_default

@@ -1,0 +1,9 @@
+use Rattle.std.proofs.Common.{ap}
+use Rattle.paraid_rack.specs.Trail.{now}
+use Rattle.paraid_gather.specs.Waiting.{waits}
+use Rattle.paraid_gather.proofs.AboveLemmas.{above_start}
+use Rattle.paraid_gather.proofs.DoesLemmas.{none_waiting}
+use Rattle.paraid_gather.proofs.gathered.Gathered.new.Goals as goal
+
+pub returns-clause-above : goal.returns-clause-above
+returns-clause-above g c = λ t is. above_start (now t) _ (λ d p. none_waiting _ (ap waits (c.in_ok-runs.ensures.none d)) p)
