@@ -3,9 +3,12 @@
 //! lost ones.
 
 use crate::logs::hold_array;
+use paraid_base::NoMemory;
+use paraid_gather::Gathered;
 use paraid_imgrack::{Claim, Hindrance, ImageRack};
 use paraid_io::{StdSink, StdSource};
 use paraid_program::{Command, Ended, paraid};
+use paraid_rack::{Power, Rack};
 use paraid_serve::status;
 use std::fs::{self, File, Files};
 use std::io::{self, Eprint, Input, Print};
@@ -73,11 +76,10 @@ pub(crate) fn tell_words<H: Host>(rt: &H, words: &Vec<String>) -> u8 {
     let Ok(rack) = ImageRack::load(rt, rt.alloc(), 0) else {
         return status::NO_MEMORY;
     };
-    let Ended {
-        status,
-        rack: _rack,
-    } = serve(rt, words, rack);
-    status
+    match serve(rt, words, rack) {
+        Ok(ended) => ended.status,
+        Err(NoMemory) => status::NO_MEMORY,
+    }
 }
 
 /// Whether a command reads the standard input.
@@ -125,7 +127,9 @@ fn work_there<H: Host>(rt: &H, words: &Vec<String>, command: &Command) -> u8 {
     if let Some(disk) = refused(rt, &mut rack, command) {
         return refuse(rt, command, disk);
     }
-    let Ended { status, mut rack } = serve(rt, words, rack);
+    let Ok(Ended { status, mut rack }) = serve(rt, words, rack) else {
+        return status::NO_MEMORY;
+    };
     match command {
         Command::Format { .. } if status == status::DONE => rack.label_array(),
         Command::Format { .. } => (),
@@ -214,13 +218,32 @@ fn refuse<H: Host>(rt: &H, command: &Command, disk: u8) -> u8 {
     }
 }
 
-/// Hands the program the standard streams and this rack.
+/// Hands the program the standard streams and this rack, whose writes are gathered. All that it wrote
+/// is in the files when it returns.
 fn serve<'a, H: Host>(
     rt: &'a H,
     words: &Vec<String>,
     rack: ImageRack<&'a H>,
-) -> Ended<ImageRack<&'a H>> {
+) -> Result<Ended<ImageRack<&'a H>>, NoMemory> {
     let mut source = StdSource::new(rt.reader());
     let mut sink = StdSink::new(io::writer(rt));
-    paraid(rt.alloc(), words, &mut source, &mut sink, rack)
+    let gathered = Gathered::new(rt.alloc(), rack)?;
+    let Ended { status, mut rack } = paraid(rt.alloc(), words, &mut source, &mut sink, gathered);
+    for disk in 0..SLOTS {
+        write_out(&mut rack, disk);
+    }
+    Ok(Ended {
+        status,
+        rack: rack.into_rack(),
+    })
+}
+
+/// Writes into its file what waits for a disk, if that spins.
+fn write_out<H: Host>(rack: &mut Gathered<ImageRack<&H>>, disk: u8) {
+    if disk >= rack.slots() {
+        return;
+    }
+    if let Power::Spinning = rack.power(disk) {
+        let _ = rack.write_out(disk);
+    }
 }

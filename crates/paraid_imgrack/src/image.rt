@@ -205,7 +205,25 @@ impl Image {
             (record (image_slot self.old) { unsynced = true }) true (is_ok result) }
     {
         self.unsynced = true;
-        match write_block(&self.file, place, block) {
+        match write_bytes(&self.file, place, block.as_slice()) {
+            Ok(()) => Ok(()),
+            Err(_) => Err(self.fail(files)),
+        }
+    }
+
+    /// Writes blocks that follow one another, by one call.
+    pub(crate) fn write_blocks<F: Files<File = File>>(
+        &mut self,
+        files: &F,
+        first: Place,
+        blocks: &[[u8; BLOCK_SIZE]],
+    ) -> Result<(), Failed>
+        requires { (image_slot self.old).power ≡ Spinning }
+        ensures { Becomes (image_slot self.old) (image_slot self.new)
+            (record (image_slot self.old) { unsynced = true }) true (is_ok result) }
+    {
+        self.unsynced = true;
+        match write_bytes(&self.file, first, blocks.as_flattened()) {
             Ok(()) => Ok(()),
             Err(_) => Err(self.fail(files)),
         }
@@ -409,11 +427,11 @@ fn read_block(
     Ok(())
 }
 
-fn write_block(file: &Option<File>, place: Place, block: &Block) -> io::Result<()> {
+fn write_bytes(file: &Option<File>, place: Place, bytes: &[u8]) -> io::Result<()> {
     let Some(file) = file else {
         return Err(not_open());
     };
-    file.write_all_at(block.as_slice(), offset(place))
+    file.write_all_at(bytes, offset(place))
 }
 
 fn sync_blocks(file: &Option<File>) -> io::Result<()> {

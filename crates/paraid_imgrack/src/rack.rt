@@ -4,7 +4,8 @@ ghost use Rattle.std.specs.Prelude.{◌≡◌, ℕ, ◌≤◌, length};
 use crate::found::has_descriptors;
 use crate::identity::Identity;
 use crate::image::{Hindrance, Image};
-use paraid_base::{Block, DiskNo, Failed, NoMemory, Place};
+use paraid_base::{BLOCK_SIZE, Block, DiskNo, Failed, NoMemory, Place};
+use paraid_gather::BulkRack;
 use paraid_rack::{Power, Rack};
 use std::alloc::Global;
 use std::fs::{File, Files};
@@ -146,5 +147,16 @@ impl<F: Files<File = File> + Drop> Rack for ImageRack<F> {
 
     fn attach(&mut self, disk: DiskNo, size: u32) -> Result<(), Failed> {
         self.images[disk as usize].attach(&self.files, &mut self.identity, disk, size)
+    }
+}
+
+impl<F: Files<File = File> + Drop> BulkRack for ImageRack<F> {
+    fn write_blocks(
+        &mut self,
+        disk: DiskNo,
+        first: Place,
+        blocks: &[[u8; BLOCK_SIZE]],
+    ) -> Result<(), Failed> {
+        self.images[disk as usize].write_blocks(&self.files, first, blocks)
     }
 }
