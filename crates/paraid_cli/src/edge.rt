@@ -77,7 +77,12 @@ pub(crate) fn tell_words<H: Host>(rt: &H, words: &Vec<String>) -> u8 {
         return status::NO_MEMORY;
     };
     match serve(rt, words, rack) {
-        Ok(ended) => ended.status,
+        Ok(
+            Ended {
+                status,
+                rack: _rack,
+            },
+        ) => status,
         Err(NoMemory) => status::NO_MEMORY,
     }
 }

@@ -194,36 +194,19 @@ impl Image {
         }
     }
 
+    /// Writes the bytes of one block, or of several that follow one another.
     pub(crate) fn write<F: Files<File = File>>(
         &mut self,
         files: &F,
-        place: Place,
-        block: &Block,
-    ) -> Result<(), Failed>
-        requires { (image_slot self.old).power ≡ Spinning }
-        ensures { Becomes (image_slot self.old) (image_slot self.new)
-            (record (image_slot self.old) { unsynced = true }) true (is_ok result) }
-    {
-        self.unsynced = true;
-        match write_bytes(&self.file, place, block.as_slice()) {
-            Ok(()) => Ok(()),
-            Err(_) => Err(self.fail(files)),
-        }
-    }
-
-    /// Writes blocks that follow one another, by one call.
-    pub(crate) fn write_blocks<F: Files<File = File>>(
-        &mut self,
-        files: &F,
         first: Place,
-        blocks: &[[u8; BLOCK_SIZE]],
+        bytes: &[u8],
     ) -> Result<(), Failed>
         requires { (image_slot self.old).power ≡ Spinning }
         ensures { Becomes (image_slot self.old) (image_slot self.new)
             (record (image_slot self.old) { unsynced = true }) true (is_ok result) }
     {
         self.unsynced = true;
-        match write_bytes(&self.file, first, blocks.as_flattened()) {
+        match write_bytes(&self.file, first, bytes) {
             Ok(()) => Ok(()),
             Err(_) => Err(self.fail(files)),
         }
@@ -427,11 +410,11 @@ fn read_block(
     Ok(())
 }
 
-fn write_bytes(file: &Option<File>, place: Place, bytes: &[u8]) -> io::Result<()> {
+fn write_bytes(file: &Option<File>, first: Place, bytes: &[u8]) -> io::Result<()> {
     let Some(file) = file else {
         return Err(not_open());
     };
-    file.write_all_at(bytes, offset(place))
+    file.write_all_at(bytes, offset(first))
 }
 
 fn sync_blocks(file: &Option<File>) -> io::Result<()> {

@@ -129,7 +129,7 @@ impl<F: Files<File = File> + Drop> Rack for ImageRack<F> {
     }
 
     fn write(&mut self, disk: DiskNo, place: Place, block: &Block) -> Result<(), Failed> {
-        self.images[disk as usize].write(&self.files, place, block)
+        self.images[disk as usize].write(&self.files, place, block.as_slice())
     }
 
     fn sync(&mut self, disk: DiskNo) -> Result<(), Failed> {
@@ -157,6 +157,6 @@ impl<F: Files<File = File> + Drop> BulkRack for ImageRack<F> {
         first: Place,
         blocks: &[[u8; BLOCK_SIZE]],
     ) -> Result<(), Failed> {
-        self.images[disk as usize].write_blocks(&self.files, first, blocks)
+        self.images[disk as usize].write(&self.files, first, blocks.as_flattened())
     }
 }

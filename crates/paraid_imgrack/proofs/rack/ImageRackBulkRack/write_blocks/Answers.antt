@@ -5,4 +5,4 @@ use Rattle.paraid_imgrack.proofs.rack.ImageRackBulkRack.write_blocks.Goals as go
 
 pub returns-clause-slot : goal.returns-clause-slot
 returns-clause-slot g c = touched_at c.args.self.now.images.items c.args.disk c.index_mut.result.now _
-    (λ (s : Slot). record s { unsynced = true }) (λ (s : Slot). true) _ c.requires.exists c.index_mut.ensures.value c.write_blocks.ensures
+    (λ (s : Slot). record s { unsynced = true }) (λ (s : Slot). true) _ c.requires.exists c.index_mut.ensures.value c.write.ensures
