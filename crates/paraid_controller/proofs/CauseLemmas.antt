@@ -574,18 +574,21 @@ module _ {R : Type 0} {g : _} (slot : R → ℕ → Slot) (a : Array R g) (new :
   begins_up : (to : ℕ) → named_out a.core.meta.out ≡ None → HasTickedUp (with_tick a.core.meta) new.meta to
       → (next_higher a.setup.geometry a.core.meta.gear ≡ Some to) × Begins (shown_ticked (shown_of_array slot a)) (shown_with slot a.setup new sum (halt_of_end a.ended)) (UpPhase to) (spins_up a.core.meta.gear to)
   begins_up to none w =
-      let may = subst (λ (z : Setup). MayGoUp z (state_shown (shown_ticked (shown_of_array slot a))) to) same_setup (w.could (state_shown (shown_ticked (shown_of_array slot a))) ticked_state) in
-      (may.next,
-      begins_from (shown_ticked (shown_of_array slot a)) (shown_with slot a.setup new sum (halt_of_end a.ended)) (UpPhase to) w.begun.spins (a.core.meta.epoch + 1) (spins_up a.core.meta.gear to) w.begun.is (failed none)
-      (λ d. raised_by a.core.meta.gear to d (slice_index w.begun.spins d) (slice_index a.core.meta.spins d) (w.begun.raised d) (w.begun.others d)))
+      let may = subst (λ (z : Setup). MayGoUp z (state_shown (shown_ticked (shown_of_array slot a))) to) same_setup (w.could (state_shown (shown_ticked (shown_of_array slot a))) ticked_state) in (
+        may.next,
+        begins_from (shown_ticked (shown_of_array slot a)) (shown_with slot a.setup new sum (halt_of_end a.ended)) (UpPhase to) w.begun.spins (a.core.meta.epoch + 1) (spins_up a.core.meta.gear to) w.begun.is (failed none)
+            (λ d. raised_by a.core.meta.gear to d (slice_index w.begun.spins d) (slice_index a.core.meta.spins d) (w.begun.raised d) (w.begun.others d)),
+      )
 
   begins_down : (to : ℕ) → named_out a.core.meta.out ≡ None → HasTickedDown (with_tick a.core.meta) new.meta to
       → (next_lower a.setup.geometry a.core.meta.gear ≡ Some to) × (first_worn a.setup (state_shown (shown_ticked (shown_of_array slot a))) to ≡ None) × Begins (shown_ticked (shown_of_array slot a)) (shown_with slot a.setup new sum (halt_of_end a.ended)) (DownPhase to) (λ d. 0)
   begins_down to none w =
-      let may = subst (λ (z : Setup). MayGoDown z (state_shown (shown_ticked (shown_of_array slot a))) to) same_setup (w.could (state_shown (shown_ticked (shown_of_array slot a))) ticked_state) in
-      (may.next, may.unworn,
-      begins_from (shown_ticked (shown_of_array slot a)) (shown_with slot a.setup new sum (halt_of_end a.ended)) (DownPhase to) a.core.meta.spins (a.core.meta.epoch + 1) (λ d. 0) w.begun (failed none)
-      (λ d. plus_none (slice_index a.core.meta.spins d)))
+      let may = subst (λ (z : Setup). MayGoDown z (state_shown (shown_ticked (shown_of_array slot a))) to) same_setup (w.could (state_shown (shown_ticked (shown_of_array slot a))) ticked_state) in (
+        may.next,
+        may.unworn,
+        begins_from (shown_ticked (shown_of_array slot a)) (shown_with slot a.setup new sum (halt_of_end a.ended)) (DownPhase to) a.core.meta.spins (a.core.meta.epoch + 1) (λ d. 0) w.begun (failed none)
+            (λ d. plus_none (slice_index a.core.meta.spins d)),
+      )
 
   tells_worn : (d : ℕ) → ((s : PowerState) → IsShiftStateOf (with_tick a.core.meta) s → IsDownRefused a.core.meta.setup s (Ration d)) → IsAsBefore (shown_ticked (shown_of_array slot a)) (shown_with slot a.setup new sum (halt_of_end a.ended))
       → (to : ℕ) × (next_lower a.setup.geometry a.core.meta.gear ≡ Some to) × (first_worn a.setup (state_shown (shown_ticked (shown_of_array slot a))) to ≡ Some d) × IsAsBefore (shown_ticked (shown_of_array slot a)) (shown_with slot a.setup new sum (halt_of_end a.ended))

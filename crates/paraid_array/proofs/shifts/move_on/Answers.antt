@@ -146,8 +146,10 @@ returns g c =
         known = known_marked g.R.Rack.slot (record (meta_flipped_to b.meta (phase_to b.meta.phase)) { epoch = b.meta.epoch + 1 }) new ended.meta whole ended.absent;
       };
       tells = steady_marked (record (meta_flipped_to b.meta (phase_to b.meta.phase)) { epoch = b.meta.epoch + 1 }) new.meta refl ended.meta;
-      marks = (gear_marked (record (meta_flipped_to b.meta (phase_to b.meta.phase)) { epoch = b.meta.epoch + 1 }) new.meta ended.meta ∙ ap phase_to (moved_phase g.R.Rack.slot_count a b c.in_ok-moved.moved.units (moved.moves c.requires.whole).moves whole),
-      fill_marked (record (meta_flipped_to b.meta (phase_to b.meta.phase)) { epoch = b.meta.epoch + 1 }) new.meta refl ended.meta);
+      marks = (
+        gear_marked (record (meta_flipped_to b.meta (phase_to b.meta.phase)) { epoch = b.meta.epoch + 1 }) new.meta ended.meta ∙ ap phase_to (moved_phase g.R.Rack.slot_count a b c.in_ok-moved.moved.units (moved.moves c.requires.whole).moves whole),
+        fill_marked (record (meta_flipped_to b.meta (phase_to b.meta.phase)) { epoch = b.meta.epoch + 1 }) new.meta refl ended.meta,
+      );
       turn = λ windows k setup p samples served energy held at fit counts.
           flipped_told g.R.Rack.slot_count g.R.Rack.told a k setup p samples served energy at fit counts c.requires.whole c.requires.shifts c.requires.serving.ready.in_range c.units_of_tick-units.result c.units_of_tick-units.ensures.units
           b c.in_ok-moved.moved.units (moved.moves c.requires.whole) moved.serving.copies_synced steps whole moved.leaves.setup

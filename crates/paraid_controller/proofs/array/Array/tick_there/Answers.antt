@@ -126,14 +126,17 @@ returns-in-Ok g c = record {
               (λ d is. let w = done.waits d (out ∙ is) in (ok_moved c.in-Ok.moved c.in-Ok.event w.0, ok_event c.in-Ok.moved c.in-Ok.event w.0, ap (λ (z : Core _ _). z.meta.out) w.1 ∙ out ∙ is, ap (λ (z : Core _ _). g.R.Rack.slot (store_rack z.store)) w.1 ∙ ap (λ (y : Store _ _). g.R.Rack.slot (store_rack y)) t.store))
               (λ d u is. subst (λ (m : Meta). TellsRebuild m new.meta d u c.in-Ok.moved c.in-Ok.event) t.meta (done.rebuilds d u (out ∙ is)))
               (λ d u is gone. subst (λ (y : Store _ _). HasRisen (g.R.Rack.slot (store_rack y) d).faults (g.R.Rack.slot (store_rack new.store) d).faults) t.store (done.failed d u (out ∙ is) gone))
-              (λ whole shifts.
-              (done.moves (out ∙ whole) (λ steady. shifts (sym phase ∙ steady)),
-              subst (λ (m : Meta). MarksMove m new.meta c.in-Ok.event) t.meta (done.marks (out ∙ whole) (λ steady. shifts (sym phase ∙ steady)))))
+              (λ whole shifts. (
+                done.moves (out ∙ whole) (λ steady. shifts (sym phase ∙ steady)),
+                subst (λ (m : Meta). MarksMove m new.meta c.in-Ok.event) t.meta (done.marks (out ∙ whole) (λ steady. shifts (sym phase ∙ steady))),
+              ))
               (λ whole steady. subst (λ (m : Meta). (c.in-Ok.moved ≡ 0) × TellsRest m new.meta c.in-Ok.event) t.meta (done.rests (out ∙ whole) (phase ∙ steady)))
               (λ whole steady is.
-              let same = done.idle (out ∙ whole) (phase ∙ steady) is in
-              (ap (λ (z : Core _ _). z.meta) same ∙ t.meta, ap (λ (z : Core _ _). z.dirty) same ∙ t.table,
-              ap (λ (z : Core _ _). g.R.Rack.slot (store_rack z.store)) same ∙ ap (λ (y : Store _ _). g.R.Rack.slot (store_rack y)) t.store));
+              let same = done.idle (out ∙ whole) (phase ∙ steady) is in (
+                ap (λ (z : Core _ _). z.meta) same ∙ t.meta,
+                ap (λ (z : Core _ _). z.dirty) same ∙ t.table,
+                ap (λ (z : Core _ _). g.R.Rack.slot (store_rack z.store)) same ∙ ap (λ (y : Store _ _). g.R.Rack.slot (store_rack y)) t.store,
+              ));
         });
   };
 }
