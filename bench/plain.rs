@@ -15,6 +15,7 @@ use std::os::unix::fs::FileExt;
 const BLOCK_SIZE: usize = 512;
 const SLOTS: usize = 8;
 const MAX_LINE: usize = 1100;
+const MOST_WAITING: usize = 128 * BLOCK_SIZE;
 const MAX_PAIRS: usize = 8;
 const MAX_SIDECAR: u64 = 64;
 // The most targets of a batch, and how many of them one block of a write may need in any gear.
@@ -44,6 +45,10 @@ fn xor(to: &mut Block, from: &Block) {
 struct Disk {
     file: File,
     blocks: u64,
+    // What is to be written by one call from place `first` on: blocks that follow one another. Nothing waits
+    // once the disk is synced, and so in no read.
+    first: u32,
+    waiting: Vec<u8>,
 }
 
 impl Disk {
@@ -59,18 +64,35 @@ impl Disk {
         }
         let file = OpenOptions::new().read(true).write(true).open(name)?;
         let blocks = file.metadata()?.len() / BLOCK_SIZE as u64;
-        Ok(Some(Disk { file, blocks }))
+        Ok(Some(Disk { file, blocks, first: 0, waiting: Vec::with_capacity(MOST_WAITING) }))
     }
 
     fn read(&self, place: u32, block: &mut Block) -> io::Result<()> {
         self.file.read_exact_at(block, u64::from(place) * BLOCK_SIZE as u64)
     }
 
-    fn write(&self, place: u32, block: &Block) -> io::Result<()> {
-        self.file.write_all_at(block, u64::from(place) * BLOCK_SIZE as u64)
+    fn write(&mut self, place: u32, block: &Block) -> io::Result<()> {
+        let next = self.first as usize + self.waiting.len() / BLOCK_SIZE;
+        if place as usize != next || self.waiting.len() == MOST_WAITING {
+            self.write_out()?;
+        }
+        if self.waiting.is_empty() {
+            self.first = place;
+        }
+        self.waiting.extend_from_slice(block);
+        Ok(())
     }
 
-    fn sync(&self) -> io::Result<()> {
+    fn write_out(&mut self) -> io::Result<()> {
+        if !self.waiting.is_empty() {
+            self.file.write_all_at(&self.waiting, u64::from(self.first) * BLOCK_SIZE as u64)?;
+            self.waiting.clear();
+        }
+        Ok(())
+    }
+
+    fn sync(&mut self) -> io::Result<()> {
+        self.write_out()?;
         self.file.sync_data()
     }
 }
@@ -214,7 +236,7 @@ impl Array {
         }
         let meta = Meta::read(said).ok_or_else(|| refused("no array in its top gear with all disks"))?;
         let disks: Option<Vec<Disk>> = slots.into_iter().take(meta.disks).collect();
-        let disks = disks.ok_or_else(|| refused("a disk is missing or does not spin"))?;
+        let mut disks = disks.ok_or_else(|| refused("a disk is missing or does not spin"))?;
         if disks.iter().any(|disk| disk.blocks < meta.size) {
             return Err(refused("a disk is too small"));
         }
@@ -231,7 +253,7 @@ impl Array {
                 return Err(refused("a cell is dirty in the top gear"));
             }
         }
-        for disk in &disks {
+        for disk in &mut disks {
             disk.sync()?;
         }
         let batch = Batch { targets: Vec::with_capacity(MAX_TARGETS), blocks: Vec::with_capacity(MAX_TARGETS) };
@@ -341,8 +363,8 @@ impl Array {
     }
 
     // Writes a block on each log disk, which keeps it before the next step.
-    fn put_synced(&self, place: u32, block: &Block) -> io::Result<()> {
-        for log in &self.disks[..2] {
+    fn put_synced(&mut self, place: u32, block: &Block) -> io::Result<()> {
+        for log in &mut self.disks[..2] {
             log.write(place, block)?;
             log.sync()?;
         }
@@ -364,7 +386,7 @@ impl Array {
         self.meta.epoch += 1;
         let meta = self.meta.spell();
         let targets = self.spell_targets();
-        for log in &self.disks[..2] {
+        for log in &mut self.disks[..2] {
             log.write(NEXT_META, &meta)?;
             log.write(TARGETS, &targets)?;
             for (place, block) in (BODY..).zip(&self.batch.blocks) {
@@ -378,7 +400,7 @@ impl Array {
         for (target, block) in self.batch.targets.iter().zip(&self.batch.blocks) {
             self.disks[target.disk].write(target.place, block)?;
         }
-        for (at, disk) in self.disks.iter().enumerate() {
+        for (at, disk) in self.disks.iter_mut().enumerate() {
             if self.batch.targets.iter().any(|target| target.disk == at) {
                 disk.sync()?;
             }
