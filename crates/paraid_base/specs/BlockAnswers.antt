@@ -19,11 +19,13 @@ answer_to_read block bytes (Ok done) = Value block bytes
 answer_to_read block bytes (Err (BlockMissing missing)) = NoBlock missing
 answer_to_read block bytes (Err (BlockHalt halt)) = Halted halt
 
+-- the answer in the result of a write
 abbrev pub answer_to_write : Result ℕ BlockFault → Answer
 answer_to_write (Ok number) = Wrote number
 answer_to_write (Err (BlockMissing missing)) = NoBlock missing
 answer_to_write (Err (BlockHalt halt)) = Halted halt
 
+-- the answer in the result of a flush
 abbrev pub answer_to_flush : Result ℕ Halt → Answer
 answer_to_flush (Ok writes) = Flushed writes
 answer_to_flush (Err halt) = Halted halt

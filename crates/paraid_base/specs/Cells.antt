@@ -6,9 +6,11 @@ use Rattle.paraid_base.specs.Skips.{place_among, skip}
 abbrev pub parity_disk : ℕ → ℕ → ℕ
 parity_disk n r = n - 1 - r % n
 
+-- the row of block `b`
 abbrev pub home_row : ℕ → ℕ → ℕ
 home_row n b = b / (n - 1)
 
+-- the disk of block `b`: its index in its row, past the parity disk
 abbrev pub home_disk : ℕ → ℕ → ℕ
 home_disk n b = skip (parity_disk n (home_row n b)) (b % (n - 1))
 

@@ -16,11 +16,13 @@ pub record IsGearsFault (n : ℕ) (gears : List ℕ) (at : ℕ) : Type 0 where
   pub member : at < length gears → is_bad_gear n gears at ≡ true
   pub whole : at ≡ length gears → 0 < length gears → slice_index gears (length gears - 1) ≢ n
 
+-- the list of gears is accepted: no member is bad, and the last is the number of disks
 pub record IsGearList (n : ℕ) (gears : List ℕ) : Type 0 where
   pub members : (k : ℕ) → k < length gears → is_bad_gear n gears k ≡ false
   pub some : 0 < length gears
   pub last : slice_index gears (length gears - 1) ≡ n
 
+-- which fault a geometry has: of its disks, else of its rows, else of its gears
 abbrev pub IsGeoFault : ℕ → ℕ → List ℕ → GeoFault → Type 0
 IsGeoFault n rows gears (Disks value) = (value ≡ n) × (3 ≤ n → n ≤ 8 → ⊥)
 IsGeoFault n rows gears (Rows value) = (3 ≤ n) × (n ≤ 8) × (value ≡ rows) × (1 ≤ rows → rows ≤ 65536 → ⊥)
@@ -41,6 +43,7 @@ unfoldable pub last_below : (ℕ → Bool) → ℕ → Option ℕ
 last_below p zero = None
 last_below p (suc n) = if p n then Some n else last_below p n
 
+-- whether a number is one of the gears
 abbrev pub is_gear : Geometry → ℕ → Bool
 is_gear g e = slice_index_or g.gears e false
 

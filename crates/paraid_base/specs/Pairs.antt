@@ -24,6 +24,7 @@ get_or-rest zero k x d = refl
 get_or-rest (suc n) zero x d = refl
 get_or-rest (suc n) (suc k) x d = get_or-rest n k x d
 
+-- the members past the first of one pair are the filler (a fact)
 pub rest_of_one : {X : Type 0} (n k : ℕ) (x d : X) → 1 ≤ k → get_or (x ∷ replicate n d) k d ≡ d
 rest_of_one n zero x d l = let no : ⊥ = omega (arith, l) in absurd no
 rest_of_one n (suc k) x d l = get_or-rest n k x d
@@ -48,11 +49,13 @@ pad_to d zero xs = []
 pad_to d (suc n) [] = d ∷ pad_to d n []
 pad_to d (suc n) (x ∷ xs) = x ∷ pad_to d n xs
 
+-- a list that is filled up to `n` has length `n` (a fact)
 pub length-padded : {X : Type 0} (d : X) (n : ℕ) (xs : List X) → length (pad_to d n xs) ≡ n
 length-padded d zero xs = refl
 length-padded d (suc n) [] = ap suc (length-padded d n [])
 length-padded d (suc n) (x ∷ xs) = ap suc (length-padded d n xs)
 
+-- past the list stands what it was filled up with (a fact)
 pub get_or-padded : {X : Type 0} (d : X) (n : ℕ) (xs : List X) (k : ℕ) → length xs ≤ k → get_or (pad_to d n xs) k d ≡ d
 get_or-padded d zero xs k l = refl
 get_or-padded d (suc n) [] zero l = refl
@@ -60,6 +63,7 @@ get_or-padded d (suc n) [] (suc k) l = get_or-padded d n [] k (omega arith)
 get_or-padded d (suc n) (x ∷ xs) zero l = let no : ⊥ = omega (arith, l) in absurd no
 get_or-padded d (suc n) (x ∷ xs) (suc k) l = get_or-padded d n xs k (omega (arith, l))
 
+-- the members past a list that is filled up to eight are the filler (a fact)
 pub eight_rest : {X : Type 0} (d : X) (xs : List X) (k : ℕ) → min 8 (length xs) ≤ k → get_or (pad_to d 8 xs) k d ≡ d
 eight_rest d xs k l = elim (cases_lt k (length xs)) [
   | inl below ↦ let long = length-padded d 8 xs in get_or_past (pad_to d 8 xs) k d (omega (arith, below, l, long))

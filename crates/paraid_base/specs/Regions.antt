@@ -4,6 +4,7 @@ use Rattle.paraid_base.specs.declared.geometry.Geometry.{Geometry}
 use Rattle.paraid_base.specs.Places.{sum_before}
 use Rattle.paraid_base.specs.Soft.{stripe_count}
 
+-- a number is one of the gears
 abbrev pub IsGear : Geometry → ℕ → Type 0
 IsGear g a = slice_index_or g.gears a false ≡ true
 
@@ -11,20 +12,26 @@ IsGear g a = slice_index_or g.gears a false ≡ true
 abbrev pub region_size : Geometry → ℕ → ℕ
 region_size g a = if slice_index_or g.gears a false then stripe_count g.disks g.rows a else 0
 
+-- how many blocks the dirty map has: one byte for each row
 abbrev pub map_count : Geometry → ℕ
 map_count g = (g.rows + 511) / 512
 
+-- the place of the map block of a row
 abbrev pub map_place_of : Geometry → ℕ → ℕ
 map_place_of g r = 100 + r / 512
 
+-- the hard place of a row, the same on each disk
 abbrev pub hard_place_of : Geometry → ℕ → ℕ
 hard_place_of g r = 100 + map_count g + r
 
+-- where the region of a gear begins, after those of lower gears
 abbrev pub soft_start : Geometry → ℕ → ℕ
 soft_start g a = 100 + map_count g + g.rows + sum_before (region_size g) a
 
+-- the place of a stripe
 abbrev pub soft_place_of : Geometry → ℕ → ℕ → ℕ
 soft_place_of g a s = soft_start g a + s
 
+-- how many blocks a disk needs
 abbrev pub disk_size : Geometry → ℕ
 disk_size g = soft_start g (g.disks + 1)

@@ -6,24 +6,31 @@ use Rattle.paraid_base.specs.Skips.{skip}
 abbrev pub cell_number : ℕ → ℕ → ℕ → ℕ → ℕ
 cell_number n a r d = r * (n - a) + (d - a)
 
+-- the row of a cell number
 abbrev pub row_of_number : ℕ → ℕ → ℕ → ℕ
 row_of_number n a c = c / (n - a)
 
+-- the disk of a cell number
 abbrev pub disk_of_number : ℕ → ℕ → ℕ → ℕ
 disk_of_number n a c = a + c % (n - a)
 
+-- the stripe with the copy of a cell
 abbrev pub soft_stripe : ℕ → ℕ → ℕ → ℕ → ℕ
 soft_stripe n a r d = cell_number n a r d / (a - 1)
 
+-- the index of the copy in its stripe
 abbrev pub soft_index : ℕ → ℕ → ℕ → ℕ → ℕ
 soft_index n a r d = cell_number n a r d % (a - 1)
 
+-- the parity disk of a stripe, which goes down by one from stripe to stripe
 abbrev pub soft_parity_disk : ℕ → ℕ → ℕ
 soft_parity_disk a s = a - 1 - s % a
 
+-- the disk with the copy of a cell
 abbrev pub soft_disk : ℕ → ℕ → ℕ → ℕ → ℕ
 soft_disk n a r d = skip (soft_parity_disk a (soft_stripe n a r d)) (soft_index n a r d)
 
+-- the cell number at an index of a stripe
 abbrev pub number_at : ℕ → ℕ → ℕ → ℕ
 number_at a s i = s * (a - 1) + i
 

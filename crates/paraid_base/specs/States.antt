@@ -5,6 +5,7 @@ use Rattle.paraid_base.specs.declared.state.Phase.TheVariants.{Steady, Down, Up}
 use Rattle.paraid_base.specs.declared.state.Out.{Out}
 use Rattle.paraid_base.specs.declared.state.Out.TheVariants.{No, Gone, Fresh}
 
+-- whether a shift down is under way
 abbrev pub is_down : Phase → Bool
 is_down Steady = false
 is_down (Down to) = true
@@ -57,11 +58,13 @@ abbrev pub is_out : Option ℕ → ℕ → Bool
 is_out None d = false
 is_out (Some out) d = d == out
 
+-- whether a disk is gone by the meta
 abbrev pub is_gone : Out → ℕ → Bool
 is_gone No d = false
 is_gone (Gone out) d = d == out
 is_gone (Fresh out rebuilt) d = false
 
+-- whether a disk is being rebuilt by the meta
 abbrev pub is_fresh : Out → ℕ → Bool
 is_fresh No d = false
 is_fresh (Gone out) d = false

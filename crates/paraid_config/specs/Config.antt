@@ -101,6 +101,7 @@ pub record IsConfigurationOf (text : List ℕ) (s : Setup) : Type 0 where
   pub accepted : document_fault document ≡ None
   pub setup : IsSetupOf document s
 
+-- a text of at most 65,536 bytes has a document that is refused so
 pub record IsTextFault (text : List ℕ) (fault : ConfigFault) : Type 0 where
   pub document : Members
   pub is : IsDocumentOf text document

@@ -5,6 +5,7 @@ use Rattle.std.specs.Str.{bytes_eq}
 use Rattle.paraid_config.specs.declared.key.Key.{Key}
 use Rattle.paraid_config.specs.declared.key.Key.TheVariants.{Disks, Rows, Gears, Mode, Rate, Service, Up, Down, Windows, Ration, Burst, Period, SpinningMj, ParkedMj, SpinupMj}
 
+-- the name of a key
 abbrev pub key_name : Key → List ℕ
 key_name Disks = codes "disks"
 key_name Rows = codes "rows"

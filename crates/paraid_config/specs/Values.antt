@@ -14,6 +14,7 @@ use Rattle.paraid_config.specs.Keys.{key_name, low_of, high_of}
 abbrev pub value_at : Members → Key → Option Data
 value_at document k = get_member (key_name k) document
 
+-- a number of a document is in a range
 abbrev pub is_between : ℕ → ℕ → ℤ → Bool
 is_between low high (pos n) = nat_le low n && nat_le n high
 is_between low high (negsuc n) = false
@@ -22,6 +23,7 @@ is_between low high (negsuc n) = false
 abbrev pub bounds_fault : Key → ℕ → ℕ → ℤ → Option ConfigFault
 bounds_fault k low high z = if is_between low high z then None else Some (Range k z)
 
+-- why a number out of its range is refused, if it is
 abbrev pub range_fault : Key → ℤ → Option ConfigFault
 range_fault k z = bounds_fault k (low_of k) (high_of k) z
 
@@ -31,6 +33,7 @@ number_fault_in k None = Some (Missing k)
 number_fault_in k (Some (integer z)) = range_fault k z
 number_fault_in k (Some _) = Some (Kind k)
 
+-- why the number at a key is refused, if it is
 abbrev pub number_fault : Members → Key → Option ConfigFault
 number_fault document k = number_fault_in k (value_at document k)
 
@@ -49,6 +52,7 @@ number_in _ = 0
 abbrev pub burst_fault : Members → Option ConfigFault
 burst_fault document = optional_fault_in key.Burst (number_in (value_at document key.Ration)) (value_at document key.Burst)
 
+-- why the period is refused, if it is
 abbrev pub period_fault : Members → Option ConfigFault
 period_fault document = optional_fault_in key.Period (high_of key.Period) (value_at document key.Period)
 
@@ -58,6 +62,7 @@ integers_of no_items = Some []
 integers_of (item (integer z) ds) = option_map (λ zs. z ∷ zs) (integers_of ds)
 integers_of (item _ ds) = None
 
+-- the first fault of a list of tests
 abbrev pub first_fault : List (Option ConfigFault) → Option ConfigFault
 first_fault [] = None
 first_fault (None ∷ faults) = first_fault faults
@@ -79,9 +84,12 @@ list_fault_in k few many None = Some (Missing k)
 list_fault_in k few many (Some (array ds)) = members_fault k few many (integers_of ds)
 list_fault_in k few many (Some _) = Some (Kind k)
 
+-- why the list at a key is refused, if it is: the number of its members, then the first member out of
+-- range
 abbrev pub list_fault : Members → Key → ℕ → ℕ → Option ConfigFault
 list_fault document k few many = list_fault_in k few many (value_at document k)
 
+-- the text of a mode
 abbrev pub mode_name : Mode → List ℕ
 mode_name Whole = codes "whole"
 mode_name Access = codes "access"
@@ -93,6 +101,7 @@ mode_fault_in (Some (string s)) =
     if bytes_eq s (mode_name Whole) || bytes_eq s (mode_name Access) then None else Some (Kind key.Mode)
 mode_fault_in (Some _) = Some (Kind key.Mode)
 
+-- why the mode is refused, if it is
 abbrev pub mode_fault : Members → Option ConfigFault
 mode_fault document = mode_fault_in (value_at document key.Mode)
 

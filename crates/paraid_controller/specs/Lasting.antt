@@ -25,6 +25,7 @@ pub record IsArrayServing {R : Type 0} {g : _} (count : R → ℕ) (slot : R →
   pub same_setup : core.meta.setup ≡ setup
   pub same_slots : count (store_rack core.store) ≡ slots
 
+-- the halt by which the service has ended, or none
 abbrev pub halt_of_end : Option Ended → Option Halt
 halt_of_end None = None
 halt_of_end (Some ended) = Some ended.halt

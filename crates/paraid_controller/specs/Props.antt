@@ -24,6 +24,7 @@ out_once g gear No = hlevel props
 out_once g gear (Gone disk) = hlevel props
 out_once g gear (Fresh disk rebuilt) = hlevel props
 
+-- that an array serves has one proof (a fact)
 pub IsArrayServing-prop : {R : Type 0} {g : _} (count : R → ℕ) (slot : R → ℕ → Slot) (core : Core R g) (lengths : List ℕ) (setup : Setup) (slots : ℕ) → IsProp (IsArrayServing count slot core lengths setup slots)
 IsArrayServing-prop count slot core lengths setup slots = hlevel (props, phase_once, out_once)
 
@@ -31,5 +32,6 @@ IsArrayServing-prop count slot core lengths setup slots = hlevel (props, phase_o
 pub while_prop : {A : Type 0} {B : Type 0} → IsProp B → IsProp (A → B)
 while_prop once = hlevel once
 
+-- that a halt by wear has its number has one proof (a fact)
 pub TellsItsWear-prop : (m : Meta) (halt : Option Halt) → IsProp (TellsItsWear m halt)
 TellsItsWear-prop m halt = hlevel props

@@ -38,6 +38,7 @@ pub record IsCopyingCell (slots : ℕ) (named : Option ℕ) (m : Meta) (table : 
 abbrev pub CellsCopied : {R : Type 0} {g : _} → (R → ℕ) → Core R g → History → ℕ → (ℕ → ℕ → Bool) → Disks → Type 0
 CellsCopied count core h lo cells = KeepsCellCopies (count (store_rack core.store)) (named_of core.store) core.meta core.dirty core.batch core.copied h lo cells
 
+-- the second, of a core
 abbrev pub CopyingCell : {R : Type 0} {g : _} → (R → ℕ) → Core R g → History → ℕ → (ℕ → ℕ → Bool) → ℕ → ℕ → Block → Disks → Type 0
 CopyingCell count core h lo cells r d block = IsCopyingCell (count (store_rack core.store)) (named_of core.store) core.meta core.dirty core.batch core.copied h lo cells r d block
 

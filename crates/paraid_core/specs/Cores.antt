@@ -12,15 +12,19 @@ use Rattle.paraid_core.specs.declared.changes.Change.{Change}
 use Rattle.paraid_core.specs.declared.staged.Core.{Core}
 use Rattle.paraid_core.specs.CoreInvariant.{CanServe, IsHeldWithOneMissing, AreSlotsReady, HoldsBetweenCalls}
 
+-- the rack that it owns
 abbrev pub core_rack : {R : Type 0} {g : _} → Core R g → R
 core_rack core = store_rack core.store
 
+-- its store
 abbrev pub store_of : {R : Type 0} {g : _} → Core R g → Store R g
 store_of core = core.store
 
+-- its meta
 abbrev pub meta_of : {R : Type 0} {g : _} → Core R g → Meta
 meta_of core = core.meta
 
+-- what is staged
 abbrev pub batch_of : {R : Type 0} {g : _} → Core R g → Batch
 batch_of core = core.batch
 
@@ -36,6 +40,7 @@ changes_of core = core.changes
 abbrev pub failed_of : {R : Type 0} {g : _} → Core R g → Option ℕ
 failed_of core = core.failed
 
+-- its dirty table
 abbrev pub core_table : {R : Type 0} {g : _} → Core R g → List (List Bool)
 core_table core = core.dirty
 
@@ -56,6 +61,7 @@ abbrev pub IsCoreReady : {R : Type 0} {g : _} → (R → ℕ) → (R → ℕ →
 IsCoreReady count slot core =
     AreSlotsReady (count (store_rack core.store)) (slot (store_rack core.store)) (epoch_of core.store) (disks_of core.store) (named_of core.store) core.meta (length core.dirty) core.batch
 
+-- its slots can serve: the disks that the gear powers spin and are large enough
 abbrev pub CanCoreServe : {R : Type 0} {g : _} → (R → ℕ → Slot) → Core R g → Type 0
 CanCoreServe slot core = CanServe (slot (store_rack core.store)) (named_of core.store) core.meta
 

@@ -49,6 +49,7 @@ pub record IsFilling (slots : ℕ) (named : Option ℕ) (m : Meta) (table : List
 abbrev pub Filled : {R : Type 0} {g : _} → (R → ℕ) → Core R g → History → ℕ → ℕ → Disks → Type 0
 Filled count core h lo end = KeepsFilled (count (store_rack core.store)) (named_of core.store) core.meta core.dirty core.copied h lo end
 
+-- it is so of a core
 abbrev pub Filling : {R : Type 0} {g : _} → (R → ℕ) → Core R g → History → ℕ → ℕ → List Block → ℕ → Disks → Type 0
 Filling count core h lo at blocks done = IsFilling (count (store_rack core.store)) (named_of core.store) core.meta core.dirty core.copied h lo at blocks done
 

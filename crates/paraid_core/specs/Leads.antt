@@ -16,6 +16,7 @@ use Rattle.paraid_core.specs.declared.staged.Core.{Core}
 use Rattle.paraid_core.specs.Plans.{LeadsTo}
 
 module _ {R : Type 0} {g : _} (count : R → ℕ) (slot : R → ℕ → Slot) (told : R → Option Trail) where
+  -- a core leads to itself (a fact)
   pub leads_stays : (a : Core R g) → LeadsTo count slot told a a
   leads_stays a = record {
     slots = refl;
@@ -84,5 +85,6 @@ module _ {R : Type 0} {g : _} (count : R → ℕ) (slot : R → ℕ → Slot) (t
       below = below_by b.failed refl;
     }
 
+  -- where a core tells its record, one that leads to it told it too (a fact)
   pub leads_told : (a b : Core R g) → LeadsTo count slot told a b → IsSome (told (store_rack b.store)) → IsSome (told (store_rack a.store))
   leads_told a b p some = told_before (told (store_rack a.store)) (told (store_rack b.store)) (AreArrayReads (disks_of a.store)) p.calls some

@@ -65,6 +65,7 @@ pub record IsCopyingUnit (slots : ℕ) (named : Option ℕ) (m : Meta) (table : 
 abbrev pub UnitsRebuilt : {R : Type 0} {g : _} → (R → ℕ) → Core R g → History → ℕ → ℕ → Disks → Type 0
 UnitsRebuilt count core h lo end = KeepsRebuilt (count (store_rack core.store)) (named_of core.store) core.meta core.dirty core.copied h lo end
 
+-- the block is what one more unit of the disk stores, of a core
 abbrev pub CopyingUnit : {R : Type 0} {g : _} → (R → ℕ) → Core R g → History → ℕ → ℕ → ℕ → RebuildUnit → Block → Disks → Type 0
 CopyingUnit count core h lo number d unit block = IsCopyingUnit (count (store_rack core.store)) (named_of core.store) core.meta core.dirty core.copied h lo number d unit block
 

@@ -9,6 +9,7 @@ pub record Account : Type 0 where
   pub spinup_mj : ℕ
   pub total : ℕ
 
+-- the account of a setup, with nothing used
 abbrev pub new_account : Setup → Account
 new_account s = record { spinning_mj = s.spinning_mj; parked_mj = s.parked_mj; spinup_mj = s.spinup_mj; total = 0 }
 
@@ -16,8 +17,10 @@ new_account s = record { spinning_mj = s.spinning_mj; parked_mj = s.parked_mj; s
 abbrev pub with_used : Account → ℕ → Account
 with_used a used = record a { total = min (a.total + used) (2 ^ 64 - 1) }
 
+-- the account after a tick
 abbrev pub after_tick : Account → ℕ → ℕ → Account
 after_tick a spinning parked = with_used a (a.spinning_mj * spinning + a.parked_mj * parked)
 
+-- the account after spin-ups of so many disks
 abbrev pub after_spin_ups : Account → ℕ → Account
 after_spin_ups a disks = with_used a (a.spinup_mj * disks)

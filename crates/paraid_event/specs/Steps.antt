@@ -134,5 +134,6 @@ PowersFrom powers k k_then h lo s cs = (z : ServiceStandsFor k h lo s) → Shows
 abbrev pub LosesShown : Service → History → ℕ → Disks → List Call → Type 0
 LosesShown k h lo s cs = (z : ServiceStandsFor k h lo s) → ShowsMeta s.power z.base k.meta → AreEventCalls k h lo z.base s cs
 
+-- the same of calls by which disks are spun up or parked
 abbrev pub LosesPowered : Service → History → ℕ → Disks → List Call → Type 0
 LosesPowered k h lo s cs = (z : ServiceStandsFor k h lo s) → ShowsMeta s.power z.base k.meta → AreDisksPowered k h lo s cs

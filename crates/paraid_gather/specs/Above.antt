@@ -31,5 +31,6 @@ Follows old new w w' s s' = Ran old new (CrashTriple (LeavesImageOf s s') (λ be
 abbrev pub slot_above : Slot → Waiting → Slot
 slot_above slot w = record slot { unsynced = slot.unsynced || waits w }
 
+-- the slots of the rack above: unsynced also where blocks wait
 abbrev pub slots_above : (ℕ → Slot) → (ℕ → Waiting) → ℕ → Slot
 slots_above slot w = λ d. slot_above (slot d) (w d)

@@ -9,6 +9,7 @@ none_of_two : (x y : Bool) → x ≡ false → y ≡ false → (x || y) ≡ fals
 none_of_two true y x_is y_is = x_is
 none_of_two false y x_is y_is = y_is
 
+-- the slots above keep the laws of slots (a fact)
 pub slots_above_hold : (count : ℕ) (slot : ℕ → Slot) (w : ℕ → Waiting) → AreSlots count slot → AllFit slot w → AreSlots count (slots_above slot w)
 slots_above_hold count slot w hold fits = record {
   few = hold.few;

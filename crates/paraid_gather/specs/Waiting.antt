@@ -10,6 +10,7 @@ pub record Waiting : Type 0 where
   pub first : ℕ
   pub blocks : List (List ℕ)
 
+-- nothing waits
 abbrev pub none_waits : Waiting
 none_waits = record { first = 0; blocks = [] }
 
@@ -21,6 +22,7 @@ waits w = nat_lt 0 (length w.blocks)
 unfoldable pub waiting : Waiting → ℕ → Option (List ℕ)
 waiting w p = if nat_lt p w.first then None else slice_get w.blocks (p - w.first)
 
+-- what waits in a run
 abbrev pub run_of : Run → Waiting
 run_of r = record { first = r.first; blocks = r.blocks.items }
 

@@ -3,6 +3,7 @@ use Rattle.std.specs.Prelude.{ℕ, List, [], ◌∷◌, min}
 use Rattle.paraid_gear.specs.declared.windows.Windows.{Windows}
 use Rattle.paraid_gear.specs.Window.{HoldsLast}
 
+-- the lengths of the three windows
 abbrev pub lengths_of : Windows → List ℕ
 lengths_of windows = windows.first.span ∷ windows.second.span ∷ windows.third.span ∷ []
 

@@ -7,6 +7,7 @@ pub record SampleWindow : Type 0 where
   pub span : ℕ
   pub samples : List ℕ
 
+-- a window of this length and these samples
 abbrev pub sample_window : ℕ → List ℕ → SampleWindow
 sample_window span samples = record { span = span; samples = samples }
 

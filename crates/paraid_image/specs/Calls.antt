@@ -4,6 +4,7 @@ use Rattle.paraid_rack.specs.declared.call.Call.{Call}
 use Rattle.paraid_rack.specs.declared.call.Call.TheVariants.{Read, Write, Sync, Park, SpinUp, Attach}
 pub use Rattle.paraid_rack.specs.Calls.{disk_of, is_done}
 
+-- whether a call is an attach
 abbrev pub is_attach : Call → Bool
 is_attach (Read d p done) = false
 is_attach (Write d p b done) = false

@@ -14,6 +14,8 @@ use Rattle.paraid_image.specs.Out.{first_absent}
 use Rattle.paraid_image.specs.Sides.{LogState}
 use Rattle.paraid_image.specs.Spot.{rising_to}
 
+-- the state of the power machine: gear, phase, fill mark, dirty cells, out disk, spins, ticks,
+-- samples, and the reads and writes since the last tick
 pub record PowerState : Type 0 where
   pub gear : ℕ
   pub phase : Phase
@@ -29,6 +31,7 @@ pub record PowerState : Type 0 where
   -- reads and writes that succeeded since the last tick
   pub served : ℕ
 
+-- a disk that is out, as one that is gone
 abbrev pub gone_of : Option ℕ → Out
 gone_of None = No
 gone_of (Some d) = Gone d
@@ -40,6 +43,7 @@ out_after No power lost = gone_of lost
 out_after (Gone d) power lost = Gone d
 out_after (Fresh d rebuilt) power lost = if is_present (power d) then Fresh d rebuilt else Gone d
 
+-- the out disk of the state, by powers and a meta
 abbrev pub out_state : (ℕ → Power) → Meta → Out
 out_state power m = out_after m.out power (first_absent power m.setup.geometry.disks)
 
@@ -65,6 +69,7 @@ initial_state i said = state_by i.power said.meta (view_of i said).dirty
 abbrev pub power_by_gear : ℕ → Phase → ℕ → Power
 power_by_gear gear phase d = if nat_lt d gear || nat_lt d (rising_to phase) then Spinning else Parked
 
+-- how a disk is powered, unless it is the one that is gone
 abbrev pub power_beside : Out → ℕ → Power → Option Power
 power_beside No d power = Some power
 power_beside (Gone out) d power = if d == out then None else Some power

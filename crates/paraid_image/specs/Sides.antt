@@ -35,6 +35,7 @@ pub record Spells (b : Block) (m : Meta) : Type 0 where
 abbrev pub Batch : Type 0
 Batch = List (Target × Block)
 
+-- the targets of a batch, without their blocks
 abbrev pub targets : Batch → List Target
 targets [] = []
 targets (w ∷ batch) = w.0 ∷ targets batch
@@ -63,6 +64,7 @@ pub record SaysOpen (log : ℕ → Block) (m : Meta) (batch : Batch) : Type 0 wh
   pub list : (log 3).bytes ≡ targets_bytes (targets batch)
   pub blocks : AreBlocksLogged log 4 batch
 
+-- what a log says under an open or a closed gate
 abbrev pub SaysBy : Bool → (ℕ → Block) → Meta → Batch → Type 0
 SaysBy false log m batch = SaysClosed log m batch
 SaysBy true log m batch = SaysOpen log m batch

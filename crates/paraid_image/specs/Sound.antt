@@ -79,6 +79,7 @@ IsStripeZero v a s = xor_upto (stripe v.meta.setup.geometry v.block a s) a ≡ z
 abbrev pub IsOffStripes : Option ℕ → ℕ → Type 0
 IsOffStripes out a = (d : ℕ) → out ≡ Some d → a ≤ d
 
+-- each stripe of the region of the gear sums to zero, unless one of its blocks is on the out disk
 abbrev pub AreStripesZero : View → Type 0
 AreStripesZero v = IsOffStripes v.out v.meta.gear → (s : ℕ)
     → s < stripe_count v.meta.setup.geometry.disks v.meta.setup.geometry.rows v.meta.gear → IsStripeZero v v.meta.gear s

@@ -9,5 +9,7 @@ use Rattle.paraid_image.specs.Spot.{rising_to}
 abbrev pub pending_spin_ups : Meta → (ℕ → Power) → ℕ → ℕ
 pending_spin_ups m power d = if nat_le m.gear d && nat_lt d (rising_to m.phase) && is_parked (power d) then 1 else 0
 
+-- the spin-ups that a meta has recorded and that were made: its spins, one less where one is still to
+-- be made
 abbrev pub first_used : Meta → (ℕ → Power) → ℕ → ℕ
 first_used m power d = slice_index m.spins d - pending_spin_ups m power d

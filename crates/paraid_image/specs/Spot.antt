@@ -35,6 +35,7 @@ pub record Spot : Type 0 where
   pub disk : ℕ
   pub place : ℕ
 
+-- the hard place of a cell as a spot
 abbrev pub hard_spot : Geometry → ℕ → ℕ → Spot
 hard_spot g r d = record { disk = d; place = hard_place_of g r }
 

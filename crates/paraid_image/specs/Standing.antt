@@ -19,6 +19,7 @@ standing (formed a) b = Some 0
 standing a (formed b) = Some 1
 standing a b = None
 
+-- the other log disk
 abbrev pub other_log : ℕ → ℕ
 other_log x = 1 - x
 

@@ -9,9 +9,11 @@ use Rattle.paraid_imgrack.specs.declared.image.Image.{Image}
 abbrev pub vacant_slot : Slot
 vacant_slot = record { power = Absent; size = 0; unsynced = false; faults = 0 }
 
+-- what is told of an image
 abbrev pub image_slot : Image → Slot
 image_slot i = record { power = i.power; size = i.size; unsynced = i.unsynced; faults = i.faults }
 
+-- what is told of the slot of this number
 abbrev pub image_slot_at : List Image → ℕ → Slot
 image_slot_at images d = get_or (map image_slot images) d vacant_slot
 

@@ -22,6 +22,7 @@ still [] d is = refl
 still (i ∷ images) zero is = i.still is
 still (i ∷ images) (suc d) is = still images d is
 
+-- what holds of the slots of every rack holds of these
 pub are_slots : (images : List Image) → length images ≤ 8 → AreSlots (length images) (image_slot_at images)
 are_slots images few = record {
   few = few;

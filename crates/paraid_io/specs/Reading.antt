@@ -7,6 +7,8 @@ use Rattle.paraid_io.specs.declared.line.LineFault.TheVariants.{Source, TooLong}
 use Rattle.paraid_base.specs.Told.{Gives, AtEnd, HasRisen}
 use Rattle.paraid_io.specs.Lines.{NoNewline, whole_lines}
 
+-- what is seen of a reader: the bytes in no line yet, the last line, the bytes taken, whether the end
+-- was given, and the fault that is kept
 pub record Reading : Type 0 where
   -- bytes that were taken and are in no line yet
   pub rest : List ℕ

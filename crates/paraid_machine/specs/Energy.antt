@@ -17,6 +17,7 @@ energy_at setup (Some Parked) = setup.parked_mj
 energy_at setup (Some Absent) = 0
 energy_at setup None = 0
 
+-- the energy that a tick adds
 abbrev pub tick_energy : Setup → PowerState → ℕ
 tick_energy setup s = sum_before (λ d. energy_at setup (power_of s d)) setup.geometry.disks
 
@@ -24,6 +25,7 @@ tick_energy setup s = sum_before (λ d. energy_at setup (power_of s d)) setup.ge
 abbrev pub spin_up_energy : Setup → ℕ → ℕ → ℕ
 spin_up_energy setup gear to = setup.spinup_mj * (to - gear)
 
+-- the energy that the beginning of a shift adds
 abbrev pub begun_energy : Setup → ℕ → TickEvent → ℕ
 begun_energy setup gear (Begun to) = spin_up_energy setup gear to
 begun_energy setup gear event = 0

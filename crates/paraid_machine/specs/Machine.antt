@@ -27,6 +27,7 @@ use Rattle.paraid_record.specs.declared.meta.Setup.{Setup}
 use Rattle.paraid_image.specs.Power.{PowerState}
 use Rattle.paraid_machine.specs.Moves.{all_written, begun_down, begun_up, block_read, with_one_served, first_worn, after_flip, after_loss, after_units, units_left, units_of_tick, units_to_rebuild, state_with_tick, without_spin_ups}
 
+-- answers, each with the state after it
 abbrev pub Outcomes : Type 0
 Outcomes = List (Answer × PowerState)
 
@@ -45,10 +46,12 @@ if_alone No d outcomes = outcomes
 if_alone (Gone e) d outcomes = if d == e then outcomes else []
 if_alone (Fresh e rebuilt) d outcomes = if d == e then outcomes else []
 
+-- an outcome with no loss, or a loss before and after it
 abbrev pub around : Option ℕ → PowerState → (PowerState → Answer × PowerState) → Outcomes
 around None s f = f s ∷ []
 around (Some d) s f = if_alone s.out d (around_loss d s f)
 
+-- how many blocks an array of a setup has
 abbrev pub block_count : Setup → ℕ
 block_count setup = setup.geometry.rows * (setup.geometry.disks - 1)
 
@@ -73,11 +76,13 @@ out_refusal No = None
 out_refusal (Gone d) = Some (IsOut d)
 out_refusal (Fresh d rebuilt) = Some (IsOut d)
 
+-- the answer to a shift that is refused, by the phase and the out disk
 abbrev pub shift_refusal : Phase → Out → Option Answer
 shift_refusal Steady out = out_refusal out
 shift_refusal (Down to) out = Some (Shifting to)
 shift_refusal (Up to) out = Some (Shifting to)
 
+-- the answer to a shift down that a disk's spins forbid
 abbrev pub ration_refusal : Option ℕ → Option Answer
 ration_refusal None = None
 ration_refusal (Some d) = Some (RationUsed d)
@@ -94,10 +99,12 @@ begin (Some refusal) loss s to begun = quietly loss refusal s
 begin None None s to begun = (Shift s.gear to, begun) ∷ []
 begin None (Some d) s to begun = (IsOut d, after_loss s d) ∷ (Shift s.gear to, after_loss begun d) ∷ []
 
+-- the outcomes of `up`
 abbrev pub go_up : Setup → Option ℕ → PowerState → Option ℕ → Outcomes
 go_up setup loss s None = quietly loss Top s
 go_up setup loss s (Some to) = begin (shift_refusal s.phase s.out) loss s to (begun_up to s)
 
+-- the outcomes of `down`
 abbrev pub go_down : Setup → Option ℕ → PowerState → Option ℕ → Outcomes
 go_down setup loss s None = quietly loss Lowest s
 go_down setup loss s (Some to) =
@@ -118,6 +125,7 @@ with_fresh_disk s d = record s { out = Fresh d 0; spins = without_spin_ups d s.s
 abbrev pub without_fresh_disk : PowerState → ℕ → PowerState
 without_fresh_disk s d = record s { out = Gone d; spins = without_spin_ups d s.spins }
 
+-- the outcomes of a replacement
 abbrev pub refresh : Option ℕ → PowerState → ℕ → Outcomes
 refresh None s d = (Replaced d, with_fresh_disk s d) ∷ []
 refresh (Some e) s d = if e == d then (NoFresh d, without_fresh_disk s d) ∷ [] else []
@@ -130,6 +138,7 @@ put_in loss s d (Gone e) = if d == e then refresh loss s d else quietly loss (No
 put_in None s d (Fresh e rebuilt) = if d == e then refresh None s d else quietly None (NotOut d) s
 put_in (Some f) s d (Fresh e rebuilt) = if d == e then refresh (Some f) s d ++ (if f == d then refresh None s d else []) else []
 
+-- the answer to a tick
 abbrev pub report : PowerState → ℕ → TickEvent → Answer × PowerState
 report s count event = (Ticked (record { gear = s.gear; moved = count; event = event }), s)
 
@@ -159,18 +168,22 @@ abbrev pub begin_by_tick : Option ℕ → PowerState → ℕ → Outcomes
 begin_by_tick None begun to = report begun 0 (Begun to) ∷ []
 begin_by_tick (Some d) begun to = report (after_loss begun d) 0 (Begun to) ∷ []
 
+-- a tick that moves nothing
 abbrev pub report_quietly : Option ℕ → PowerState → TickEvent → Outcomes
 report_quietly loss s event = quietly loss (report s 0 event).0 s
 
+-- a tick that decides to shift down, unless a disk's spins forbid it
 abbrev pub shift_down : Setup → Option ℕ → PowerState → ℕ → Option ℕ → Outcomes
 shift_down setup loss s to None = begin_by_tick loss (begun_down to s) to
 shift_down setup loss s to (Some worn) = report_quietly loss s (Ration worn)
 
+-- a tick by its decision
 abbrev pub decide : Setup → Option ℕ → PowerState → Decision → Outcomes
 decide setup loss s Stay = report_quietly loss s TickSteady
 decide setup loss s (DecideUp to) = begin_by_tick loss (begun_up to s) to
 decide setup loss s (DecideDown to) = shift_down setup loss s to (first_worn setup s to)
 
+-- a tick with no disk out
 abbrev pub tick_by_phase : Setup → Option ℕ → PowerState → Phase → Outcomes
 tick_by_phase setup loss s Steady = decide setup loss s (decision setup s.gear s.samples)
 tick_by_phase setup loss s (Down to) = let count = units_of_tick setup s in move setup loss s count (count == units_left setup s)
@@ -182,6 +195,7 @@ tick_by_out setup loss s No = tick_by_phase setup loss s s.phase
 tick_by_out setup loss s (Gone d) = report_quietly loss s Waiting
 tick_by_out setup loss s (Fresh d rebuilt) = rebuild setup loss s d rebuilt
 
+-- the state as it is told
 abbrev pub state_status : Setup → ℕ → PowerState → Status
 state_status setup writes s = record {
   writes = writes;

@@ -84,6 +84,7 @@ units_by Whole (Down to) rate left = min rate left
 units_by Whole Steady rate left = min rate left
 units_by Access phase rate left = min rate left
 
+-- how many units a tick moves
 abbrev pub units_of_tick : Setup → PowerState → ℕ
 units_of_tick setup s = units_by setup.mode s.phase setup.rate (units_left setup s)
 
@@ -93,6 +94,7 @@ abbrev pub bit_written : PowerState → ℕ → Bool → Bool
 bit_written s d bit =
     if nat_lt d s.gear then false else (if nat_lt d (rising_to s.phase) then is_out (named_out s.out) d && bit else true)
 
+-- the state after a write of one cell
 abbrev pub cell_written : ℕ → ℕ → PowerState → PowerState
 cell_written r d s = state_with_bit s r d (bit_written s d (s.dirty r d))
 

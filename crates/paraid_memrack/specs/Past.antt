@@ -19,6 +19,7 @@ pub record Past : Type 0 where
   pub power : Power
   pub versions : List Versions
 
+-- a replayed slot as a value
 abbrev pub past_of : PastSlot → Past
 past_of s = record { power = s.power; versions = s.versions.items }
 
@@ -26,6 +27,7 @@ past_of s = record { power = s.power; versions = s.versions.items }
 abbrev pub no_past : Past
 no_past = record { power = Absent; versions = [] }
 
+-- the replayed slot of this number
 unfoldable pub past_at : List PastSlot → ℕ → Past
 past_at slots d = get_or (map past_of slots) d no_past
 
@@ -57,6 +59,7 @@ pub record InBytes : Type 0 where
   pub power : Power
   pub blocks : List (List ℕ)
 
+-- a beginning with its blocks as bytes
 abbrev pub in_bytes : Beginning → InBytes
 in_bytes b = record { power = b.power; blocks = map (λ (x : Block). x.bytes) b.blocks }
 

@@ -16,6 +16,7 @@ pub record Rules : Type 0 where
   pub most : ℕ
   pub room : ℕ
 
+-- the plan, the most calls and the room of a rack
 abbrev pub rules_of : MemRack → Rules
 rules_of m = record { plan = m.log.plan.items; most = m.log.most; room = m.room }
 
@@ -23,12 +24,15 @@ rules_of m = record { plan = m.log.plan.items; most = m.log.most; room = m.room 
 abbrev pub listed_calls : MemRack → List Call
 listed_calls m = m.log.calls.items
 
+-- its number of slots
 abbrev pub rack_slot_count : MemRack → ℕ
 rack_slot_count m = length m.slots.items
 
+-- what is told of its slots
 abbrev pub slots_of : MemRack → ℕ → Slot
 slots_of m = told_slot_at m.slots.items
 
+-- what it tells
 abbrev pub told_of : MemRack → Option Trail
 told_of m = told_by m.log.tells m.log.start.items m.log.calls.items
 

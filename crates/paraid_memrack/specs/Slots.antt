@@ -14,6 +14,7 @@ pub record FullSlot : Type 0 where
   pub unsynced : Bool
   pub faults : ℕ
 
+-- a slot with its blocks, as a value
 abbrev pub full_slot : MemSlot → FullSlot
 full_slot s = record { power = s.power; blocks = s.blocks.items; unsynced = s.unsynced; faults = s.faults }
 
@@ -21,6 +22,7 @@ full_slot s = record { power = s.power; blocks = s.blocks.items; unsynced = s.un
 abbrev pub no_slot : FullSlot
 no_slot = record { power = Absent; blocks = []; unsynced = false; faults = 0 }
 
+-- the slot of this number, with its blocks
 unfoldable pub full_slot_at : List MemSlot → ℕ → FullSlot
 full_slot_at slots d = get_or (map full_slot slots) d no_slot
 
@@ -28,6 +30,7 @@ full_slot_at slots d = get_or (map full_slot slots) d no_slot
 abbrev pub told_slot : FullSlot → Slot
 told_slot v = record { power = v.power; size = length v.blocks; unsynced = v.unsynced; faults = v.faults }
 
+-- what is told of the slot of this number
 abbrev pub told_slot_at : List MemSlot → ℕ → Slot
 told_slot_at slots d = told_slot (full_slot_at slots d)
 

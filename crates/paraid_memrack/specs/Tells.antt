@@ -8,6 +8,7 @@ use Rattle.paraid_rack.specs.Trail.{Trail, Beginning, now, extend}
 use Rattle.paraid_memrack.specs.declared.log.Start.{Start}
 use Rattle.paraid_memrack.specs.Slots.{FullSlot}
 
+-- a start as a beginning of the record
 abbrev pub beginning_of : Start → Beginning
 beginning_of s = record { power = s.power; blocks = s.blocks.items }
 

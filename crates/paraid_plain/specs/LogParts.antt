@@ -30,6 +30,7 @@ IsFreshShut i m = (d rebuilt : ℕ) → IsFresh i.power m d rebuilt → d < 2 �
 abbrev pub IsTargetSpinning : (ℕ → Power) → Option ℕ → Target → Type 0
 IsTargetSpinning power out t = out ≢ Some t.disk → power t.disk ≡ Spinning
 
+-- each target that is not on the out disk is on a disk that spins
 abbrev pub AreTargetsSpinning : (ℕ → Power) → LogState → Option ℕ → Type 0
 AreTargetsSpinning power said out = (t : Target) → Contains (targets said.batch) t → IsTargetSpinning power out t
 
@@ -37,6 +38,7 @@ AreTargetsSpinning power said out = (t : Target) → Contains (targets said.batc
 abbrev pub IsLogFormed : Disks → Option ℕ → ℕ → Type 0
 IsLogFormed i out y = IsPresent i y → out ≢ Some y → (other : LogState) × Says i y other
 
+-- each log disk that is there and not out is well formed
 abbrev pub AreLogsFormed : Disks → Option ℕ → Type 0
 AreLogsFormed i out = (y : ℕ) → y < 2 → IsLogFormed i out y
 

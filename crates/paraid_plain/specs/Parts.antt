@@ -29,6 +29,7 @@ abbrev pub IsPadZero : View → ℕ → ℕ → ℕ → Type 0
 IsPadZero v a s at = IsPad v.meta.setup.geometry.disks v.meta.setup.geometry.rows a s at
     → stripe v.meta.setup.geometry v.block a s (skip (soft_parity_disk a s) at) ≡ zero_block
 
+-- the pads of a stripe hold zeros
 abbrev pub ArePadsZero : View → ℕ → ℕ → Type 0
 ArePadsZero v a s = (at : ℕ) → at < a - 1 → IsPadZero v a s at
 
@@ -68,6 +69,7 @@ IsBitOfCell v r d = v.dirty r d ≡ true → (r < v.meta.setup.geometry.rows) ×
 abbrev pub IsLarge : Disks → Meta → Option ℕ → ℕ → Type 0
 IsLarge i m out d = is_present (i.power d) ≡ true → out ≢ Some d → disk_size m.setup.geometry ≤ i.size d
 
+-- each disk is large enough
 abbrev pub AreDisksLarge : Disks → Meta → Option ℕ → Type 0
 AreDisksLarge i m out = (d : ℕ) → d < m.setup.geometry.disks → IsLarge i m out d
 
@@ -75,6 +77,7 @@ AreDisksLarge i m out = (d : ℕ) → d < m.setup.geometry.disks → IsLarge i m
 abbrev pub IsSpinning : (ℕ → Power) → Option ℕ → ℕ → Type 0
 IsSpinning power out d = out ≢ Some d → power d ≡ Spinning
 
+-- each disk below the gear spins
 abbrev pub AreSpinning : (ℕ → Power) → Meta → Option ℕ → Type 0
 AreSpinning power m out = (d : ℕ) → d < m.gear → IsSpinning power out d
 
@@ -86,5 +89,6 @@ IsFreshReady i m = (d rebuilt : ℕ) → IsFresh i.power m d rebuilt → (disk_s
 abbrev pub IsRecorded : (ℕ → Power) → Meta → Option ℕ → ℕ → Type 0
 IsRecorded power m out d = power d ≡ Parked → out ≢ Some d → 1 ≤ slice_index m.spins d
 
+-- each disk that a shift up has still to spin up has that recorded
 abbrev pub AreRecorded : (ℕ → Power) → Meta → Option ℕ → Type 0
 AreRecorded power m out = (to d : ℕ) → m.phase ≡ Up to → m.gear ≤ d → d < to → IsRecorded power m out d

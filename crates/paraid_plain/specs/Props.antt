@@ -19,5 +19,6 @@ IsOutInRange-prop g gear No = hlevel props
 IsOutInRange-prop g gear (Gone disk) = hlevel props
 IsOutInRange-prop g gear (Fresh disk rebuilt) = hlevel props
 
+-- that a meta is in range has one proof (a fact)
 pub IsInRange-prop : (m : Meta) → IsProp (IsInRange m)
 IsInRange-prop m = hlevel (props, IsPhaseInRange-prop, IsOutInRange-prop)

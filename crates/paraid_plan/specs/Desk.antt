@@ -21,12 +21,15 @@ pub record Desk : Type 0 where
   pub dirty : ℕ → ℕ → Bool
   pub staged : Batch
 
+-- a desk with these blocks staged
 unfoldable pub with_targets : Desk → Batch → Desk
 with_targets s batch = record { block = overlaid_blocks batch s.block; dirty = s.dirty; staged = s.staged ++ batch }
 
+-- a desk with this dirty bit
 unfoldable pub desk_with_bit : Desk → ℕ → ℕ → Bool → Desk
 desk_with_bit s r d bit = record { block = s.block; dirty = table_with_bit s.dirty r d bit; staged = s.staged }
 
+-- the view of a desk under a meta
 abbrev pub sees : Meta → Desk → View
 sees m s = record { meta = m; dirty = s.dirty; out = named_out m.out; block = s.block }
 

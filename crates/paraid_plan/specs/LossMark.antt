@@ -18,6 +18,7 @@ pub record IsLostDisk (m : Meta) (power power_now : ℕ → Power) (size size_no
   pub blocks : (e p : ℕ) → e ≢ d → block_now e p ≡ block e p
   pub log_disk : d < 2 → power_now d ≢ Parked
 
+-- the law that the mark of a lost disk keeps the disks well
 abbrev pub LostKeeps : Type 0
 LostKeeps = (slots : ℕ) (power power_now : ℕ → Power) (size size_now : ℕ → ℕ) (m : Meta) (block block_now : Contents) (d : ℕ)
     → IsInRange m → IsInRange (meta_after_loss m d) → out_disk power m ≡ named_out m.out → IsWellKept slots power size (view_by m power block)

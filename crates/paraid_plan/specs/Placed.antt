@@ -14,5 +14,6 @@ pub record IsPlaced (m : Meta) (t : Target) : Type 0 where
   pub powered : (t.disk < m.gear) ⊎ (t.disk < rising_to m.phase)
   pub not_gone : gone_out m.out ≢ Some t.disk
 
+-- each target of a batch is at a place of the array
 abbrev pub ArePlaced : Meta → Batch → Type 0
 ArePlaced m batch = AllByRecursion (IsPlaced m) (targets batch)

@@ -43,6 +43,7 @@ pub record AreStripes (n rows b count : ℕ) (here : ℕ → ℕ → Bool) (valu
       → stripe (soft_stripe n b r d) (soft_disk n b r d) ≡ value r d
   pub sums : (s : ℕ) → s < count → xor_upto (stripe s) b ≡ zero_block
 
+-- the pads of stripes hold zeros
 pub record ArePads (n rows b count : ℕ) (stripe : ℕ → ℕ → Block) : Type 0 where
   pub zeros : (s at : ℕ) → s < count → at < b - 1 → IsPad n rows b s at → stripe s (skip (soft_parity_disk b s) at) ≡ zero_block
 

@@ -24,6 +24,7 @@ pub record IsSameHeld (slots : ℕ) (power : ℕ → Power) (size : ℕ → ℕ)
 abbrev pub sync_targets : View → ℕ → ℕ → Block → Batch
 sync_targets v r d map = hard_targets v r d (value v r d) ++ map_targets v.meta (r / 512) map
 
+-- the law that a cell brought up to date keeps the disks well
 abbrev pub SyncKeeps : Type 0
 SyncKeeps = (slots : ℕ) (power : ℕ → Power) (size : ℕ → ℕ) (m : Meta) (block : Contents) (r d : ℕ) (map : Block)
     → IsInRange m → out_disk power m ≡ named_out m.out → IsWellKept slots power size (view_by m power block)

@@ -44,6 +44,7 @@ stripe_block_now v s e =
     if is_out v.out e then stripe_rest v.meta.setup.geometry v.block v.meta.gear s e
     else v.block e (soft_place_of v.meta.setup.geometry v.meta.gear s)
 
+-- the block of a cell for its hard place, unless its unit is not rebuilt
 abbrev pub hard_targets : View → ℕ → ℕ → Block → Batch
 hard_targets v r d new = target_if (is_written v.meta.out d r) d (hard_place_of v.meta.setup.geometry r) new
 

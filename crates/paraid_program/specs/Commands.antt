@@ -8,25 +8,31 @@ use Rattle.paraid_program.specs.declared.command.Command.TheVariants.{Format, Ru
 use Rattle.paraid_program.specs.declared.command.Choice.{Choice}
 use Rattle.paraid_program.specs.declared.command.Choice.TheVariants.{Number, Lines, Ups, Spares, Wait}
 
+-- whether a byte is `=`
 abbrev pub is_equals : ℕ → Bool
 is_equals c = c == 61
 
+-- an option `--number`
 abbrev pub number_choice : Option ℕ → Option Choice
 number_choice (Some n) = Some (Number n)
 number_choice None = None
 
+-- an option `--lines`, from 1 to 1,000,000
 abbrev pub lines_choice : Option ℕ → Option Choice
 lines_choice (Some n) = if nat_le 1 n && nat_le n 1000000 then Some (Lines n) else None
 lines_choice None = None
 
+-- the option `--ups` with this number, 0 to 256
 abbrev pub ups_choice : Option ℕ → Option Choice
 ups_choice (Some n) = if nat_le n 256 then Some (Ups n) else None
 ups_choice None = None
 
+-- the option `--spares` with this number, 1 to 255
 abbrev pub spares_choice : Option ℕ → Option Choice
 spares_choice (Some n) = if nat_le 1 n && nat_le n 255 then Some (Spares n) else None
 spares_choice None = None
 
+-- the option `--wait` with this number, 0 to 1,000,000
 abbrev pub wait_choice : Option ℕ → Option Choice
 wait_choice (Some n) = if nat_le n 1000000 then Some (Wait n) else None
 wait_choice None = None
@@ -41,6 +47,7 @@ choice_of name value =
     else if bytes_eq name (codes "--wait") then wait_choice (number_of value)
     else None
 
+-- an option whose `=` is here
 abbrev pub joined_at : Option ℕ → List ℕ → Option Choice
 joined_at (Some at) word = choice_of (take at word) (drop (at + 1) word)
 joined_at None word = None
@@ -49,14 +56,17 @@ joined_at None word = None
 abbrev pub joined_of : List ℕ → Option Choice
 joined_of word = joined_at (position is_equals word) word
 
+-- a command of a number and this option
 abbrev pub lines_with : ℕ → Choice → Option Command
 lines_with n (Lines l) = Some (Gen n l)
 lines_with n choice = None
 
+-- a command of lines and this option
 abbrev pub number_with : ℕ → Choice → Option Command
 number_with l (Number n) = Some (Gen n l)
 number_with l choice = None
 
+-- a command of two options
 abbrev pub with_choice : Choice → Choice → Option Command
 with_choice (Number n) second = lines_with n second
 with_choice (Lines l) second = number_with l second
@@ -83,19 +93,23 @@ abbrev pub spares_with : Option Choice → Option Command
 spares_with (Some (Spares n)) = Some (Spare n 0)
 spares_with option = None
 
+-- so many spares with this option, where it says how long to wait
 abbrev pub wait_for : ℕ → Choice → Option Command
 wait_for n (Wait w) = Some (Spare n w)
 wait_for n choice = None
 
+-- so long a wait with this option, where it says how many spares
 abbrev pub spares_for : ℕ → Choice → Option Command
 spares_for w (Spares n) = Some (Spare n w)
 spares_for w choice = None
 
+-- `run` with two options: spares and wait, in either order
 abbrev pub spare_choice : Choice → Choice → Option Command
 spare_choice (Spares n) second = wait_for n second
 spare_choice (Wait w) second = spares_for w second
 spare_choice first second = None
 
+-- the same of two options that may be missing
 abbrev pub both_spares : Option Choice → Option Choice → Option Command
 both_spares (Some first) (Some second) = spare_choice first second
 both_spares (Some first) None = None
@@ -106,10 +120,12 @@ abbrev pub two_spares : Option Choice → List ℕ → List ℕ → Option Comma
 two_spares (Some first) a b = both_spares (Some first) (joined_of b)
 two_spares None a b = spares_with (choice_of a b)
 
+-- the options of `run` in three words, of which the first is this option or none
 abbrev pub three_spares : Option Choice → List ℕ → List ℕ → List ℕ → Option Command
 three_spares (Some first) a b c = both_spares (Some first) (choice_of b c)
 three_spares None a b c = both_spares (choice_of a b) (joined_of c)
 
+-- the commands of one word
 abbrev pub one_word : List ℕ → Option Command
 one_word a =
     if bytes_eq a (codes "format") then Some (Format false)
@@ -119,6 +135,7 @@ one_word a =
     else if bytes_eq a (codes "nbd") then Some Nbd
     else None
 
+-- the commands of two words
 abbrev pub two_words : List ℕ → List ℕ → Option Command
 two_words a b =
     if bytes_eq a (codes "format") && bytes_eq b (codes "--force") then Some (Format true)
@@ -126,6 +143,7 @@ two_words a b =
     else if bytes_eq a (codes "run") then spares_with (joined_of b)
     else None
 
+-- the commands of three words
 abbrev pub three_words : List ℕ → List ℕ → List ℕ → Option Command
 three_words a b c =
     if bytes_eq a (codes "gen") then both (joined_of b) (joined_of c)
@@ -133,12 +151,14 @@ three_words a b c =
     else if bytes_eq a (codes "run") then two_spares (joined_of b) b c
     else None
 
+-- the commands of four words
 abbrev pub four_words : List ℕ → List ℕ → List ℕ → List ℕ → Option Command
 four_words a b c d =
     if bytes_eq a (codes "gen") then three_options (joined_of b) b c d
     else if bytes_eq a (codes "run") then three_spares (joined_of b) b c d
     else None
 
+-- the commands of five words
 abbrev pub five_words : List ℕ → List ℕ → List ℕ → List ℕ → List ℕ → Option Command
 five_words a b c d e =
     if bytes_eq a (codes "gen") then both (choice_of b c) (choice_of d e)

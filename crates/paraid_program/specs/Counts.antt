@@ -2,6 +2,7 @@
 use Rattle.std.specs.Prelude.{ℕ, ◌+◌, ◌==◌, List, ◌++◌, codes, decimal, if◌then◌else◌}
 use Rattle.paraid_scrub.specs.declared.kind.CheckReport.{CheckReport}
 
+-- the line of a check
 abbrev pub check_line : CheckReport → List ℕ
 check_line r =
     codes "check rows " ++ decimal r.rows ++ codes " stripes " ++ decimal r.stripes ++ codes " fill " ++ decimal r.fill

@@ -3,6 +3,7 @@ use Rattle.std.specs.Prelude.{ℕ, List, ◌++◌, codes, decimal}
 use Rattle.paraid_recover.specs.declared.fault.MountFault.{MountFault}
 use Rattle.paraid_recover.specs.declared.fault.MountFault.TheVariants.{NotFormatted, BadLog, BadMeta, Size, Power, Two as TwoDown, Worn, NoMemory}
 
+-- why it was not
 abbrev pub mount_fault_line : MountFault → List ℕ
 mount_fault_line NotFormatted = codes "notformatted\n"
 mount_fault_line (BadLog disk) = codes "badlog " ++ decimal disk ++ codes "\n"
@@ -13,6 +14,7 @@ mount_fault_line (TwoDown two) = codes "two " ++ decimal two.first ++ codes " " 
 mount_fault_line (Worn count) = codes "worn " ++ decimal count ++ codes "\n"
 mount_fault_line NoMemory = codes "nomemory\n"
 
+-- its status
 abbrev pub mount_fault_status : MountFault → ℕ
 mount_fault_status NotFormatted = 6
 mount_fault_status (BadLog disk) = 6

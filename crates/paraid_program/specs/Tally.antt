@@ -10,6 +10,7 @@ use Rattle.paraid_base.specs.declared.state.TickEvent.TheVariants.{Flipped}
 use Rattle.paraid_program.specs.declared.tally.Tally.{Tally}
 use Rattle.paraid_serve.specs.Stretch.{Turn}
 
+-- the tally before any line
 abbrev pub empty_tally : Tally
 empty_tally = record { reads = 0; writes = 0; flushes = 0; ticks = 0; shifts = 0; sum = 0 }
 
@@ -25,6 +26,7 @@ tally_with_event t Flush = record t { flushes = t.flushes + 1 }
 tally_with_event t Tick = record t { ticks = t.ticks + 1 }
 tally_with_event t event = t
 
+-- the tally after a tick
 abbrev pub tally_with_tick : Tally → TickEvent → Tally
 tally_with_tick t Flipped = record t { shifts = t.shifts + 1 }
 tally_with_tick t event = t

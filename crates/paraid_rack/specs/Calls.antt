@@ -12,6 +12,7 @@ disk_of (Park d done) = d
 disk_of (SpinUp d done) = d
 disk_of (Attach d size done) = d
 
+-- whether a call was done
 abbrev pub is_done : Call → Bool
 is_done (Read d p done) = done
 is_done (Write d p b done) = done

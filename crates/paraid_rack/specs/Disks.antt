@@ -18,16 +18,19 @@ pub record Disks : Type 0 where
 unfoldable pub with_at : {A : Type 0} → (ℕ → A) → ℕ → A → ℕ → A
 with_at f k v j = if j == k then v else f j
 
+-- whether a power is of a disk that is there
 abbrev pub is_present : Power → Bool
 is_present Absent = false
 is_present Parked = true
 is_present Spinning = true
 
+-- whether a power is `Parked`
 abbrev pub is_parked : Power → Bool
 is_parked Absent = false
 is_parked Parked = true
 is_parked Spinning = false
 
+-- a disk is there
 abbrev pub IsPresent : Disks → ℕ → Type 0
 IsPresent s d = is_present (s.power d) ≡ true
 

@@ -12,6 +12,7 @@ pub record Beginning : Type 0 where
   pub power : Power
   pub blocks : List Block
 
+-- the record of a rack: how its disks were at the start, and the calls since then
 pub record Trail : Type 0 where
   pub start : List Beginning
   pub calls : List Call

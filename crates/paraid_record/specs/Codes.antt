@@ -11,10 +11,12 @@ use Rattle.paraid_record.specs.declared.meta.Setup.{Setup}
 use Rattle.paraid_record.specs.declared.meta.Mode.{Mode}
 use Rattle.paraid_record.specs.declared.meta.Mode.TheVariants.{Whole, Access}
 
+-- the number of a mode
 abbrev pub mode_code : Mode → ℕ
 mode_code Whole = 0
 mode_code Access = 1
 
+-- the number of a phase
 abbrev pub phase_code : Phase → ℕ
 phase_code Steady = 0
 phase_code (Down to) = 1
@@ -26,6 +28,7 @@ out_code No = 255
 out_code (Gone disk) = disk
 out_code (Fresh disk rebuilt) = disk
 
+-- 1 where the out disk is being rebuilt
 abbrev pub fresh_code : Out → ℕ
 fresh_code No = 0
 fresh_code (Gone disk) = 0
@@ -35,6 +38,7 @@ fresh_code (Fresh disk rebuilt) = 1
 abbrev pub burst_code : ℕ → Setup → ℕ
 burst_code version s = if nat_lt 1 version then s.burst else 0
 
+-- the period as a version spells it
 abbrev pub period_code : ℕ → Setup → ℕ
 period_code version s = if nat_lt 1 version then s.period else 0
 

@@ -10,6 +10,7 @@ use Rattle.paraid_record.specs.Spelling.{big_endian, joined_parts, shorts, zero_
 unfoldable pub heading_bytes : ℕ → List ℕ
 heading_bytes version = joined_parts (codes "PARAIDAR" ∷ big_endian 2 version ∷ [])
 
+-- the part with disks, gears and rows
 unfoldable pub geometry_bytes : Geometry → List ℕ
 geometry_bytes g = joined_parts
     (big_endian 1 g.disks
@@ -18,6 +19,7 @@ geometry_bytes g = joined_parts
     ∷ big_endian 4 g.rows
     ∷ [])
 
+-- the part with rate, service, bounds, mode, windows and ration
 unfoldable pub policy_bytes : Setup → List ℕ
 policy_bytes s = joined_parts
     (big_endian 4 s.rate
@@ -30,6 +32,7 @@ policy_bytes s = joined_parts
     ∷ big_endian 2 s.ration
     ∷ [])
 
+-- the part with epoch, writes and ticks
 unfoldable pub clock_bytes : Meta → List ℕ
 clock_bytes m = joined_parts
     (big_endian 8 m.epoch
@@ -37,6 +40,7 @@ clock_bytes m = joined_parts
     ∷ big_endian 8 m.ticks
     ∷ [])
 
+-- the part with gear, phase and out disk
 unfoldable pub state_bytes : Meta → List ℕ
 state_bytes m = joined_parts
     (big_endian 1 m.gear
@@ -47,6 +51,7 @@ state_bytes m = joined_parts
     ∷ replicate 3 0
     ∷ [])
 
+-- the part with fill mark, rebuilt units and spins
 unfoldable pub count_bytes : Meta → List ℕ
 count_bytes m = joined_parts
     (big_endian 4 m.fill
@@ -54,6 +59,7 @@ count_bytes m = joined_parts
     ∷ shorts m.spins
     ∷ [])
 
+-- the part with the figures of energy
 unfoldable pub energy_bytes : Setup → List ℕ
 energy_bytes s = joined_parts
     (big_endian 4 s.spinning_mj

@@ -12,6 +12,7 @@ use Rattle.paraid_ration.specs.Ration.{allowance}
 use Rattle.paraid_record.specs.declared.meta.Setup.{Setup}
 use Rattle.paraid_record.specs.declared.meta.Meta.{Meta}
 
+-- a number is from one bound to another
 abbrev pub Within : ℕ → ℕ → ℕ → Type 0
 Within low high x = (low ≤ x) × (x ≤ high)
 
@@ -23,6 +24,7 @@ pub record AreWindows (windows : List ℕ) : Type 0 where
   pub third : slice_index windows 2 ≤ 1024
   pub in_order : slice_index windows 1 ≡ 0 → slice_index windows 2 ≡ 0
 
+-- each value of a setup is in its range
 pub record IsSetupInRange (s : Setup) : Type 0 where
   pub rate : Within 1 65536 s.rate
   pub service : Within 1 1048576 s.service
@@ -61,6 +63,7 @@ abbrev pub rebuild_units : Geometry → ℕ → ℕ → ℕ
 rebuild_units g gear disk =
     g.rows + (if nat_lt disk gear then stripe_count g.disks g.rows gear else 0) + (if nat_lt disk 2 then map_count g else 0)
 
+-- the out disk is one of the array, with at most its units rebuilt
 abbrev pub IsOutInRange : Geometry → ℕ → Out → Type 0
 IsOutInRange g gear No = Unit {0}
 IsOutInRange g gear (Gone disk) = disk < g.disks
@@ -105,6 +108,7 @@ pub record AreCountersInRange (epoch writes ticks : ℕ) : Type 0 where
   pub writes_fit : writes < 2 ^ 64
   pub ticks_fit : ticks < 2 ^ 64
 
+-- each value of a meta is in its range, and they fit one another
 pub record IsInRange (m : Meta) : Type 0 where
   pub setup : IsSetupInRange m.setup
   pub version : IsVersionInRange m.version m.setup

@@ -32,6 +32,7 @@ pub record AreTargets (g : Geometry) (ts : List Target) : Type 0 where
   pub each : All (IsTargetInRange g) ts
   pub distinct : AllPairs (λ a b. a ≢ b) ts
 
+-- what stands in a list past its targets
 abbrev pub no_target : Target
 no_target = record { disk = 0; place = 0 }
 

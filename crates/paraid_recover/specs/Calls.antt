@@ -10,6 +10,7 @@ use Rattle.paraid_rack.specs.Calls.{AreReads}
 abbrev pub OnlyReads : Option Trail → Option Trail → Type 0
 OnlyReads old new = Ran old new (λ start calls. AreReads calls)
 
+-- only reads were made, and the disks are as they were
 abbrev pub OnlyReadsAndKeeps : Option Trail → Option Trail → Type 0
 OnlyReadsAndKeeps old new = Ran old new (λ start calls. AreReads calls × (run start calls ≡ start))
 
@@ -32,6 +33,7 @@ IsMetaCall (Park d done) = ⊥
 IsMetaCall (SpinUp d done) = ⊥
 IsMetaCall (Attach d size done) = ⊥
 
+-- each of these calls writes the meta of a log disk or syncs it
 abbrev pub AreMetaCalls : List Call → Type 0
 AreMetaCalls [] = Unit {0}
 AreMetaCalls (c ∷ cs) = IsMetaCall c × AreMetaCalls cs

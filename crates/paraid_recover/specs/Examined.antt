@@ -22,9 +22,11 @@ pub record Logs : Type 0 where
   pub first : Batch
   pub second : Batch
 
+-- so it is, of these sides and batches
 abbrev pub logs_of : Sides → Batch → Batch → Logs
 logs_of sides first second = record { sides = sides; first = first; second = second }
 
+-- the batch of log disk 0 or 1
 abbrev pub batch_at : Logs → ℕ → Batch
 batch_at logs zero = logs.first
 batch_at logs (suc x) = logs.second
@@ -77,6 +79,7 @@ pub record IsAgreed (logs : Logs) (x : ℕ) (said : LogState) : Type 0 where
   pub live : named_out said.meta.out ≢ Some x
   pub paired : AreAtOdds logs → ⊥
 
+-- whether this log disk is parked
 abbrev pub is_log_parked : (ℕ → Slot) → ℕ → Bool
 is_log_parked slot x = is_parked (slot x).power
 

@@ -51,6 +51,7 @@ IsLosing d old new =
 abbrev pub AmongOne : Disks → Disks → Type 0
 AmongOne start s = (s ≡ start) ⊎ (s ≡ lose 0 start) ⊎ (s ≡ lose 1 start)
 
+-- the disks as they were, or with one or both log disks lost
 abbrev pub AmongTwo : Disks → Disks → Type 0
 AmongTwo start s = AmongOne start s ⊎ (s ≡ lose 1 (lose 0 start))
 

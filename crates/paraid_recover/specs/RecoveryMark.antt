@@ -8,6 +8,7 @@ use Rattle.paraid_record.specs.declared.meta.Meta.{Meta}
 use Rattle.paraid_image.specs.Mark.{marked_gone}
 use Rattle.paraid_image.specs.Out.{first_absent}
 
+-- the disk that a mount has to mark, if there is one
 abbrev pub to_mark_by : Out → (ℕ → Power) → ℕ → Option ℕ
 to_mark_by No power n = first_absent power n
 to_mark_by (Gone d) power n = None
@@ -21,6 +22,7 @@ to_mark power m = to_mark_by m.out power m.setup.geometry.disks
 abbrev pub of_version_two : Meta → Meta
 of_version_two m = record m { version = 2 }
 
+-- the same meta, or with version 2 and the next epoch, by whether it is brought up
 abbrev pub renewed_by : Bool → Meta → Meta
 renewed_by false m = m
 renewed_by true m = record m { version = 2; epoch = m.epoch + 1 }

@@ -17,6 +17,7 @@ pub record IsLeastDisk (is : ℕ → Bool) (n d : ℕ) : Type 0 where
   pub holds : is d ≡ true
   pub least : (e : ℕ) → e < d → is e ≡ false
 
+-- none of the first so many disks is so
 abbrev pub IsNone : (ℕ → Bool) → ℕ → Type 0
 IsNone is n = (d : ℕ) → d < n → is d ≡ false
 

@@ -24,6 +24,7 @@ use Rattle.paraid_scrub.specs.declared.ending.Ending.{Ending}
 use Rattle.paraid_scrub.specs.declared.ending.Ending.TheVariants.{Lost, Two as LostTwo}
 
 module _ {R : Type 0} {g : _} (count : R → ℕ) (slot : R → ℕ → Slot) (told : R → Option Trail) where
+  -- no read
   pub looks_none : (a : Core R g) → CanBeChecked count slot a → LooksOn count slot told a a
   looks_none a can = record {
     began = can.ready;
@@ -91,12 +92,15 @@ module _ {R : Type 0} {g : _} (count : R → ℕ) (slot : R → ℕ → Slot) (t
       looks_till_then Lost q = looks_till_lost q
       looks_till_then (LostTwo two) q = looks_till_two two q
 
+  -- what is told after reads was told before them
   pub looks_told : (a b : Core R g) → LooksOn count slot told a b → IsSome (told (store_rack b.store)) → IsSome (told (store_rack a.store))
   looks_told a b p some = told_before (told (store_rack a.store)) (told (store_rack b.store)) (AreArrayReads a.meta.setup.geometry.disks) p.looked.reads some
 
+  -- the same, however they end
   pub looks_till_told : (a b : Core R g) (ending : Ending) → LooksTill count slot told a b ending → IsSome (told (store_rack b.store)) → IsSome (told (store_rack a.store))
   looks_till_told a b Lost p some = told_before (told (store_rack a.store)) (told (store_rack b.store)) (AreArrayReads a.meta.setup.geometry.disks) p.looked.reads some
   looks_till_told a b (LostTwo two) p some = told_before (told (store_rack a.store)) (told (store_rack b.store)) (AreArrayReads a.meta.setup.geometry.disks) p.reads some
 
+-- a view that is shown is by the core's meta
 pub view_agrees : {R : Type 0} {g : _} (told : R → Option Trail) (core : Core R g) (v : View) → ShowsView told core v → (v.meta ≡ core.meta) × (v.out ≡ named_out core.meta.out)
 view_agrees told core v shows = (shows.meta, shows.out)

@@ -54,6 +54,7 @@ IsOff v Fill s = IsFillRight v (phase_to v.meta.phase) s → ⊥
 IsOff v RebuiltUnit u = ((d : ℕ) → v.out ≡ Some d → IsUnitRight v d u) → ⊥
 IsOff v Mirror j = v.block 0 (100 + j) ≢ v.block 1 (100 + j)
 
+-- a count, 0 while a disk is out
 abbrev pub when_whole : Option ℕ → ℕ → ℕ
 when_whole None n = n
 when_whole (Some d) n = 0

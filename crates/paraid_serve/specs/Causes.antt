@@ -160,14 +160,17 @@ pub record Replaces (old new : Shown) (d : ℕ) (state : Out) : Type 0 where
   pub cleared : slice_index new.meta.spins d ≡ 0
   pub others : (e : ℕ) → e ≢ d → slice_index new.meta.spins e ≡ slice_index old.meta.spins e
 
+-- a read gives the bytes of the block that was asked for, and accepts no write
 abbrev pub DoesRead : ℕ → Shown → Shown → Answer → Type 0
 DoesRead block old new (Value b bytes) = (b ≡ block) × Accepts old new 0
 DoesRead block old new answer = ⊥
 
+-- a write gives its number, the next one, and is accepted
 abbrev pub DoesWrite : Shown → Shown → Answer → Type 0
 DoesWrite old new (Wrote number) = (number ≡ old.meta.writes + 1) × Accepts old new 1
 DoesWrite old new answer = ⊥
 
+-- a flush gives the number of writes, and accepts none
 abbrev pub DoesFlush : Shown → Shown → Answer → Type 0
 DoesFlush old new (Flushed writes) = (writes ≡ old.meta.writes) × Accepts old new 0
 DoesFlush old new answer = ⊥
@@ -180,11 +183,13 @@ DoesShift next begins old new (Shift gear to) =
 DoesShift next begins old new (IsOut d) = LosesFirst old new d
 DoesShift next begins old new answer = ⊥
 
+-- a disk is taken out; or another one was lost with what was staged
 abbrev pub DoesFail : ℕ → Shown → Shown → Answer → Type 0
 DoesFail disk old new (Failed d) = (d ≡ disk) × TakesOut old new disk
 DoesFail disk old new (IsOut d) = (d ≢ disk) × LosesFirst old new d
 DoesFail disk old new answer = ⊥
 
+-- a disk is replaced, with no unit rebuilt; or its slot failed, and it is gone
 abbrev pub DoesReplace : ℕ → Shown → Shown → Answer → Type 0
 DoesReplace disk old new (Replaced d) = (d ≡ disk) × Replaces old new disk (Fresh disk 0)
 DoesReplace disk old new (NoFresh d) = (d ≡ disk) × HasFailed old new disk × Replaces old new disk (Gone disk)
@@ -224,11 +229,15 @@ Decides old new (Begun to) =
 Decides old new (Ration d) = (to : ℕ) × (next_lower old.setup.geometry old.meta.gear ≡ Some to) × (first_worn old.setup (state_shown old) to ≡ Some d) × IsAsBefore old new
 Decides old new event = ⊥
 
+-- a tick with no disk out: at rest it moves nothing, and may begin a shift; and a shift under way
+-- moves on
 abbrev pub MovesBy : Phase → Shown → Shown → ℕ → TickEvent → Type 0
 MovesBy IsSteady old new count event = (count ≡ 0) × Decides (shown_ticked old) new event
 MovesBy (IsDown to) old new count event = MovesOn old new event
 MovesBy (IsUp to) old new count event = MovesOn old new event
 
+-- a tick by the disk that is out: it waits for one that is gone, rebuilds one that is fresh, and else
+-- goes by the phase
 abbrev pub TicksBy : Out → Shown → Shown → ℕ → TickEvent → Type 0
 TicksBy No old new count event = MovesBy old.meta.phase old new count event
 TicksBy (Gone d) old new count event = (count ≡ 0) × (event ≡ Waiting) × (new.meta.out ≡ Gone d) × (new.slot ≡ old.slot)
@@ -242,6 +251,7 @@ pub record Advances (old new : Shown) (report : GearReport) : Type 0 where
   pub energy : new.energy ≡ energy_after old.setup old.energy (state_shown old) (Ticked report)
   pub by : TicksBy old.meta.out old new report.moved report.event
 
+-- a tick tells what it moved and what it did
 abbrev pub DoesTick : Shown → Shown → Answer → Type 0
 DoesTick old new (Ticked report) = Advances old new report
 DoesTick old new answer = ⊥

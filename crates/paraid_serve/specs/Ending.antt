@@ -6,12 +6,15 @@ use Rattle.paraid_base.specs.declared.fault.Halt.TheVariants.{Two, Worn}
 use Rattle.paraid_base.specs.Told.{GrowsByBytes}
 use Rattle.paraid_trace.specs.Replies.{reply_of}
 
+-- the line of a mount
 abbrev pub mount_line : ℕ → ℕ → List ℕ
 mount_line writes gear = codes "mounted " ++ decimal writes ++ codes " gear " ++ decimal gear ++ codes "\n"
 
+-- the line of an end at which all was kept
 abbrev pub end_line : ℕ → List ℕ
 end_line writes = codes "end " ++ decimal writes ++ codes "\n"
 
+-- the line of a halt
 abbrev pub halt_line : Halt → List ℕ
 halt_line halt = reply_of (Halted halt)
 

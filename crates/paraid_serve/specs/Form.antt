@@ -9,10 +9,12 @@ use Rattle.paraid_trace.specs.Replies.{reply_of}
 use Rattle.paraid_serve.specs.Causes.{HaveCauses, Shown}
 use Rattle.paraid_serve.specs.Stretch.{events_in}
 
+-- whether an answer has the form of one to a line that is no event
 abbrev pub is_bad_answer : Answer → Bool
 is_bad_answer IsBad = true
 is_bad_answer answer = false
 
+-- whether an answer has the form of one to a shift up
 abbrev pub is_up_answer : Answer → Bool
 is_up_answer (Shift gear to) = true
 is_up_answer Top = true
@@ -21,6 +23,7 @@ is_up_answer (IsOut disk) = true
 is_up_answer (Halted halt) = true
 is_up_answer answer = false
 
+-- whether an answer has the form of one to a shift down
 abbrev pub is_down_answer : Answer → Bool
 is_down_answer (Shift gear to) = true
 is_down_answer Lowest = true
@@ -30,28 +33,33 @@ is_down_answer (RationUsed disk) = true
 is_down_answer (Halted halt) = true
 is_down_answer answer = false
 
+-- whether an answer has the form of one to a read
 abbrev pub is_read_answer : ℕ → Answer → Bool
 is_read_answer block (Value b bytes) = b == block
 is_read_answer block (NoBlock b) = b == block
 is_read_answer block (Halted halt) = true
 is_read_answer block answer = false
 
+-- whether an answer has the form of one to a write
 abbrev pub is_write_answer : Answer → Bool
 is_write_answer (Wrote number) = true
 is_write_answer (NoBlock block) = true
 is_write_answer (Halted halt) = true
 is_write_answer answer = false
 
+-- whether an answer has the form of one to a flush
 abbrev pub is_flush_answer : Answer → Bool
 is_flush_answer (Flushed writes) = true
 is_flush_answer (Halted halt) = true
 is_flush_answer answer = false
 
+-- whether an answer has the form of one to a tick
 abbrev pub is_tick_answer : Answer → Bool
 is_tick_answer (Ticked report) = true
 is_tick_answer (Halted halt) = true
 is_tick_answer answer = false
 
+-- whether an answer has the form of one to a failure by command
 abbrev pub is_fail_answer : ℕ → Answer → Bool
 is_fail_answer disk (Failed d) = d == disk
 is_fail_answer disk (NoDisk d) = d == disk
@@ -59,6 +67,7 @@ is_fail_answer disk (IsOut d) = true
 is_fail_answer disk (Halted halt) = true
 is_fail_answer disk answer = false
 
+-- whether an answer has the form of one to a replacement
 abbrev pub is_replace_answer : ℕ → Answer → Bool
 is_replace_answer disk (Replaced d) = d == disk
 is_replace_answer disk (NoDisk d) = d == disk
@@ -67,11 +76,13 @@ is_replace_answer disk (NoFresh d) = d == disk
 is_replace_answer disk (Halted halt) = true
 is_replace_answer disk answer = false
 
+-- whether an answer has the form of one to the state
 abbrev pub is_state_answer : Answer → Bool
 is_state_answer (IsState status disks) = true
 is_state_answer (Halted halt) = true
 is_state_answer answer = false
 
+-- whether an answer has the form of one to the energy
 abbrev pub is_energy_answer : Answer → Bool
 is_energy_answer (EnergyUsed total) = true
 is_energy_answer (Halted halt) = true

@@ -15,6 +15,7 @@ pub record Turn : Type 0 where
   pub answer : Answer
   pub calls : List Call
 
+-- one event with its answer and calls
 abbrev pub turn_with : Event → Answer → List Call → Turn
 turn_with event answer calls = record { event = event; answer = answer; calls = calls }
 
@@ -23,10 +24,12 @@ abbrev pub TurnsLead : ℕ → Setup → Point → List Turn → Point → Type 
 TurnsLead slots setup p [] q = q ≡ p
 TurnsLead slots setup p (t ∷ turns) q = (mid : Point) × IsTurn slots setup p t.event t.answer t.calls mid × TurnsLead slots setup mid turns q
 
+-- the events of some turns
 abbrev pub turn_events : List Turn → List Event
 turn_events [] = []
 turn_events (t ∷ turns) = t.event ∷ turn_events turns
 
+-- the calls of some turns
 abbrev pub turn_calls : List Turn → List Call
 turn_calls [] = []
 turn_calls (t ∷ turns) = t.calls ++ turn_calls turns

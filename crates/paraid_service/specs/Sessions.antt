@@ -22,9 +22,11 @@ use Rattle.paraid_volume.specs.Tables.{IsVolumeTable}
 use Rattle.paraid_volume.specs.Values.{VolumesStandFor}
 use Rattle.paraid_service.specs.Clients.{Keeps}
 
+-- the history that a device stands for is one of its array
 abbrev pub device_stands : {A : Type 0} (g : Ghosts A) → Device A g → History → Type 0
 device_stands g device = StandsFor (g.stands (array_of device))
 
+-- the events that a device kept are those that its array answered
 abbrev pub device_kept : {A : Type 0} (g : Ghosts A) → Device A g → Device A g → Answers → Type 0
 device_kept g first now = HasAnswered g (array_of first) (array_of now)
 

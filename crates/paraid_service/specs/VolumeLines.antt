@@ -28,11 +28,13 @@ pub record IsNamedLine (word line name rest : List ℕ) : Type 0 where
   pub is_name : IsName name
   pub printed : line ≡ word ++ codes " " ++ name ++ rest
 
+-- a word, a name and a number
 pub record IsNumberedLine (word line name : List ℕ) (n : ℕ) : Type 0 where
   pub digits : List ℕ
   pub number : IsNumber digits n
   pub named : IsNamedLine word line name (codes " " ++ digits)
 
+-- a `w` with a name, a number and the digits of a block
 pub record IsWriteLine (line name : List ℕ) (n : ℕ) (bytes : Block) : Type 0 where
   pub digits : List ℕ
   pub hex : List ℕ
@@ -51,6 +53,7 @@ IsVolLine line flush = line ≡ codes "f"
 IsVolLine line list = line ≡ codes "list"
 IsVolLine line bad = ⊥
 
+-- what a line about volumes asks for: what it is printed for, or `bad` where it is printed for nothing
 pub data AsksVolumes (line : List ℕ) : VolLine → Type 0 where
   asks : (asked : VolLine) → IsVolLine line asked → AsksVolumes line asked
   no_task : ((asked : VolLine) → IsVolLine line asked → ⊥) → AsksVolumes line bad
@@ -74,6 +77,7 @@ named_in (read name block) = Some name
 named_in (write name block bytes) = Some name
 named_in line = None
 
+-- the line of a refusal
 abbrev pub fault_text : VolFault → List ℕ
 fault_text (VolHalt halt) = halt_text halt
 fault_text (Small blocks) = codes "small"
@@ -86,6 +90,7 @@ fault_text NoExtents = codes "noextents"
 fault_text Names = codes "names"
 fault_text (Space free) = codes "space " ++ decimal free
 
+-- the line of an answer to a line about volumes
 abbrev pub answer_text : VolLine → VolAnswer → List ℕ
 answer_text (create name extents) (made id) = codes "created " ++ name ++ codes " " ++ decimal id
 answer_text (delete name) removed = codes "deleted " ++ name

@@ -30,6 +30,7 @@ pub data IsBase (s : Disks) (x : ℕ) (said : LogState) (base : ℕ → ℕ) (ti
       → ((d : ℕ) → base d ≡ min (first_used said.meta s.power d) (first_used other.meta s.power d))
       → ticks ≡ max said.meta.ticks other.meta.ticks → IsBase s x said base ticks
 
+-- what is watched from where a run begins
 abbrev pub start_watch : Disks → Option ℕ → (ℕ → ℕ) → Watch
 start_watch s down base = record { disks = s; down = down_from_out down; spun = base; awaited = None }
 

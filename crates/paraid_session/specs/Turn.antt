@@ -61,6 +61,7 @@ pub record IsMark (slots : ℕ) (setup : Setup) (p : Point) : Type 0 where
 abbrev pub AreDirtyShown : Setup → Point → Type 0
 AreDirtyShown setup p = (r d : ℕ) → r < setup.geometry.rows → (state_at p).dirty r d ≡ p.state.dirty r d
 
+-- whether an answer is that of a flush
 abbrev pub is_flush : Answer → Bool
 is_flush (Flushed writes) = true
 is_flush answer = false
@@ -116,6 +117,7 @@ taken_in_halt None halt down = down
 taken_in_halt (Some d) (HaltTwo two) down = if two.first == d then with_down d down else down
 taken_in_halt (Some d) (Worn count) down = down
 
+-- who is down after an event took a disk out
 abbrev pub taken_out : Event → Answer → Down → Down
 taken_out event (Failed d) down = with_down d down
 taken_out event (Halted halt) down = taken_in_halt (failed_by event) halt down
@@ -215,6 +217,7 @@ pub record IsWorn (p : Point) (event : Event) (count : ℕ) : Type 0 where
   pub many : 2 ^ 62 ≤ count
   pub is : count ≡ point_wear p
 
+-- a point with this halt
 abbrev pub with_halt : Point → Halt → Point
 with_halt p halt = record p { halt = Some halt }
 

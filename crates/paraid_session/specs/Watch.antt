@@ -29,6 +29,7 @@ with_down d nobody = only d
 with_down d (only e) = if d == e then only e else several
 with_down d several = several
 
+-- who is down, of a disk that is out or none
 abbrev pub down_from_out : Option ℕ → Down
 down_from_out None = nobody
 down_from_out (Some d) = only d
@@ -56,6 +57,7 @@ abbrev pub awaited_after : Option ℕ → Call → Option ℕ
 awaited_after None call = None
 awaited_after (Some d) call = if is_attach call && disk_of call == d then None else Some d
 
+-- what is watched, after one call more
 abbrev pub watch : Call → Watch → Watch
 watch call w = record {
   disks = step call w.disks;
@@ -64,6 +66,7 @@ watch call w = record {
   awaited = awaited_after w.awaited call;
 }
 
+-- the same after some calls
 abbrev pub watch_all : List Call → Watch → Watch
 watch_all [] w = w
 watch_all (call ∷ calls) w = watch_all calls (watch call w)

@@ -30,6 +30,7 @@ pub record CountsMoved (k k_then : Service) (units : ℕ) : Type 0 where
 abbrev pub AreCoreUnitsLeft : {R : Type 0} {g : _} → (R → ℕ) → Core R g → ℕ → Type 0
 AreCoreUnitsLeft count core units = (samples : List ℕ) (served energy : ℕ) → AreUnitsLeft (service_of count core samples served energy) units
 
+-- so many units were moved by a call of a core, of those that were left
 abbrev pub CoreCountsMoved : {R : Type 0} {g : _} → (R → ℕ) → Core R g → Core R g → ℕ → Type 0
 CoreCountsMoved count old new units = (samples : List ℕ) (served energy : ℕ)
     → CountsMoved (service_of count old samples served energy) (service_of count new samples served energy) units

@@ -18,6 +18,7 @@ use Rattle.paraid_sparing.specs.Form.{HasSparedForm}
 use Rattle.paraid_sparing.specs.Sparing.{Stock}
 use Rattle.paraid_sparing.specs.Texts.{spares_line}
 
+-- the line that tells the spares left and the spin-ups of each slot
 abbrev pub stock_line : Stock → Setup → List ℕ
 stock_line k setup = spares_line k.left k.spins setup.geometry.disks
 

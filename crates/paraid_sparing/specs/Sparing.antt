@@ -21,6 +21,7 @@ pub record Stock : Type 0 where
   pub waits : ℕ → ℕ
   pub spins : ℕ → ℕ
 
+-- whether an event is a tick
 abbrev pub is_tick : Event → Bool
 is_tick Tick = true
 is_tick event = false
@@ -30,6 +31,7 @@ abbrev pub due_of : ℕ → Stock → Option ℕ → Option ℕ
 due_of wait k None = None
 due_of wait k (Some d) = if nat_lt 0 k.left && nat_le wait (k.waits d) then Some d else None
 
+-- the disk that is due where there is no halt, and none after one
 abbrev pub unless_halted : Option Halt → Option ℕ → Option ℕ
 unless_halted None due = due
 unless_halted (Some halt) due = None
@@ -46,6 +48,7 @@ used k = record { left = k.left - 1; waits = λ d. 0; spins = k.spins }
 abbrev pub rise_to : ℕ → ℕ → Option (ℕ × ℕ)
 rise_to gear to = if nat_le gear to && nat_le to 8 then Some (gear, to) else None
 
+-- the disks that come up where a tick has begun a shift up
 abbrev pub begun_to : ℕ → TickEvent → Option (ℕ × ℕ)
 begun_to gear (Begun to) = rise_to gear to
 begun_to gear event = None
@@ -56,10 +59,13 @@ spun_by (Shift gear to) = rise_to gear to
 spun_by (Ticked report) = begun_to report.gear report.event
 spun_by answer = None
 
+-- the spin-ups of a slot, with one more for each disk of this range; a count stays at its greatest
+-- value
 abbrev pub spins_after : Option (ℕ × ℕ) → (ℕ → ℕ) → ℕ → ℕ
 spins_after None spins d = spins d
 spins_after (Some range) spins d = if nat_le range.0 d && nat_lt d range.1 then saturating_next 64 (spins d) else spins d
 
+-- whether a tick waits for a disk
 abbrev pub is_wait : TickEvent → Bool
 is_wait Waiting = true
 is_wait event = false
@@ -75,6 +81,7 @@ waits_after None waiting waits d = 0
 waits_after (Some gone) true waits d = if d == gone then saturating_next 32 (waits d) else 0
 waits_after (Some gone) false waits d = waits d
 
+-- the ticks that were waited after an event, which a halt leaves as they are
 abbrev pub waits_then : Option Halt → Option ℕ → Bool → (ℕ → ℕ) → ℕ → ℕ
 waits_then None disk waiting waits d = waits_after disk waiting waits d
 waits_then (Some halt) disk waiting waits d = waits d

@@ -10,6 +10,7 @@ use Rattle.paraid_serve.specs.Stretch.{Turn}
 use Rattle.paraid_spare.specs.Pools.{is_among, slot_spin_ups}
 use Rattle.paraid_sparing.specs.Sparing.{spun_by}
 
+-- one for each disk of this range, and none for the others
 abbrev pub spun_count : Option (ℕ × ℕ) → ℕ → ℕ
 spun_count None d = 0
 spun_count (Some range) d = is_among range.0 range.1 d
@@ -24,6 +25,7 @@ abbrev pub AreSpunByAnswers : List Turn → Type 0
 AreSpunByAnswers [] = Unit {0}
 AreSpunByAnswers (t ∷ turns) = ((d : ℕ) → slot_spin_ups t.calls d ≤ may_spin t.event t.answer d) × AreSpunByAnswers turns
 
+-- whether a halt is that of two lost disks
 abbrev pub is_two : Halt → Bool
 is_two (Two two) = true
 is_two (Worn count) = false

@@ -19,6 +19,7 @@ number_of digits =
     if nat_lt (digits_value 10 digits) (2 ^ 32) && bytes_eq digits (decimal (digits_value 10 digits))
     then Some (digits_value 10 digits) else None
 
+-- a block from digits that are hexadecimal
 abbrev pub repeated_if_ok : Result (List ℕ) FromHexError → Option Block
 repeated_if_ok (Ok pattern) = Some (repeating_block pattern)
 repeated_if_ok (Err e) = None
@@ -40,18 +41,22 @@ word_event word =
     else if bytes_eq word (codes "e") then Energy
     else Bad
 
+-- a read of a number, if it is one
 abbrev pub read_of : Option ℕ → Event
 read_of (Some block) = Read block
 read_of None = Bad
 
+-- a failure of a number, if it is one
 abbrev pub fail_of : Option ℕ → Event
 fail_of (Some disk) = Fail disk
 fail_of None = Bad
 
+-- a replacement of a number, if it is one
 abbrev pub replace_of : Option ℕ → Event
 replace_of (Some disk) = Replace disk
 replace_of None = Bad
 
+-- whether a byte is a space
 abbrev pub is_space : ℕ → Bool
 is_space c = c == 32
 
@@ -61,6 +66,7 @@ pub record Group : Type 0 where
   pub bytes : Block
   pub end : ℕ
 
+-- a group of a block, its bytes and its end, if all are there
 abbrev pub group_with : Option ℕ → Option Block → ℕ → Option Group
 group_with (Some block) (Some bytes) end = Some (record { block = block; bytes = bytes; end = end })
 group_with (Some block) None end = None
@@ -74,6 +80,7 @@ group_at (Some at) text =
     (at + 1 + position_or_len is_space (drop (at + 1) text))
 group_at None text = None
 
+-- the first group of a text, if it begins with one
 unfoldable pub group_of : List ℕ → Option Group
 group_of text = group_at (position is_space text) text
 
@@ -86,6 +93,7 @@ onto pair None = None
 abbrev pub rest_at : (List ℕ → Option Entry) → List ℕ → ℕ → Option Entry
 rest_at others text end = if nat_lt end (length text) then others (drop (end + 1) text) else Some []
 
+-- the groups of a text as an entry, from its first group on
 abbrev pub entry_from : (List ℕ → Option Entry) → List ℕ → Option Group → Option Entry
 entry_from others text (Some group) = onto (group.block, group.bytes) (rest_at others text group.end)
 entry_from others text None = None
@@ -95,10 +103,12 @@ unfoldable pub entry_of : ℕ → List ℕ → Option Entry
 entry_of zero text = None
 entry_of (suc room) text = entry_from (entry_of room) text (group_of text)
 
+-- a write of a number and a block, if they are
 abbrev pub write_of : Option Entry → Event
 write_of (Some entry) = Write (pairs_with entry)
 write_of None = Bad
 
+-- a line that begins with `replace`
 abbrev pub replace_event : List ℕ → List ℕ → Event
 replace_event word rest = if bytes_eq word (codes "replace") then replace_of (number_of rest) else Bad
 
@@ -110,6 +120,7 @@ named_event word rest =
     else if bytes_eq word (codes "fail") then fail_of (number_of rest)
     else replace_event word rest
 
+-- the event of a line whose first space is here
 abbrev pub event_at : Option ℕ → List ℕ → Event
 event_at (Some at) line = named_event (take at line) (drop (at + 1) line)
 event_at None line = word_event line

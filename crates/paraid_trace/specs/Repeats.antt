@@ -16,15 +16,18 @@ list_upto f (suc n) = f 0 ∷ list_upto (λ k. f (suc k)) n
 abbrev pub byte_of : List ℕ → ℕ → ℕ
 byte_of pattern k = slice_index pattern (k % length pattern) % 256
 
+-- the list of `f 0`, .., `f (n - 1)` has length `n` (a fact)
 pub length-listed : (f : ℕ → ℕ) (n : ℕ) → length (list_upto f n) ≡ n
 length-listed f zero = refl
 length-listed f (suc n) = ap suc (length-listed (λ k. f (suc k)) n)
 
+-- a list of bytes has bytes (a fact)
 pub list_upto_small : (f : ℕ → ℕ) → ((k : ℕ) → f k < 256) → (n k : ℕ) → slice_index (list_upto f n) k < 256
 list_upto_small f h zero k = omega arith
 list_upto_small f h (suc n) zero = h 0
 list_upto_small f h (suc n) (suc k) = list_upto_small (λ i. f (suc i)) (λ i. h (suc i)) n k
 
+-- a byte of a pattern is a byte (a fact)
 pub byte_small : (pattern : List ℕ) (k : ℕ) → byte_of pattern k < 256
 byte_small pattern k = omega arith
 

@@ -8,6 +8,7 @@ use Rattle.paraid_trace.specs.BlockTexts.{block_text}
 use Rattle.paraid_trace.specs.StateTexts.{state_text}
 use Rattle.paraid_trace.specs.TickTexts.{tick_text}
 
+-- the text of a halt
 abbrev pub halt_text : Halt → List ℕ
 halt_text (Two two) = codes "two " ++ decimal two.first ++ codes " " ++ decimal two.second
 halt_text (Worn count) = codes "worn " ++ decimal count

@@ -7,11 +7,13 @@ use Rattle.paraid_base.specs.declared.state.Out.{Out}
 use Rattle.paraid_base.specs.declared.state.Out.TheVariants.{No, Gone, Fresh}
 use Rattle.paraid_base.specs.declared.state.Status.{Status}
 
+-- the text of a phase
 abbrev pub phase_text : Phase → List ℕ
 phase_text Steady = codes "steady"
 phase_text (Down to) = codes "down " ++ decimal to
 phase_text (Up to) = codes "up " ++ decimal to
 
+-- the text of the out disk
 abbrev pub out_text : Out → List ℕ
 out_text No = codes "none"
 out_text (Gone disk) = decimal disk ++ codes " gone"

@@ -27,6 +27,7 @@ pub record Job : Type 0 where
   pub left : Option ℕ
   pub first : ℕ
 
+-- the job of a commit
 abbrev pub job : Disks → Meta → Batch → Block → Block → ℕ → Job
 job start meta batch spelled list first = record {
   start = start;
@@ -43,6 +44,7 @@ abbrev pub nth_log : ℕ → ℕ → ℕ
 nth_log first zero = first
 nth_log first (suc n) = other_log first
 
+-- which log disk opens first, and which second
 abbrev pub job_log : Job → ℕ → ℕ
 job_log j n = nth_log j.first n
 
@@ -57,6 +59,7 @@ pub record IsSpelled (j : Job) : Type 0 where
 abbrev pub job_named : Job → Option ℕ
 job_named j = j.left
 
+-- the disk that the new meta names out and gone
 abbrev pub job_gone : Job → Option ℕ
 job_gone j = gone_out j.meta.out
 
@@ -76,9 +79,11 @@ target_block j k = get_or (batch_blocks j.batch) k zero_block
 abbrev pub block_before : Job → ℕ → ℕ → Block
 block_before j d p = j.start.block d p
 
+-- what a place holds once the batch is laid
 abbrev pub block_with_batch : Job → ℕ → ℕ → Block
 block_with_batch j d p = overlaid_block j.batch d p (block_before j d p)
 
+-- a block is this one
 abbrev pub IsBlock : Block → Block → Type 0
 IsBlock value b = b ≡ value
 
@@ -103,9 +108,11 @@ pub record HoldsThroughout (j : Job) (s : Disks) : Type 0 where
   pub kept : KeepsSlotsAndLogs j s
   pub aside : IsAside j s
 
+-- a gate is surely closed
 abbrev pub IsGateClosed : Disks → ℕ → Type 0
 IsGateClosed s x = IsSure s x 0 (λ b. is_open b ≡ false)
 
+-- a gate is surely open
 abbrev pub IsGateOpen : Disks → ℕ → Type 0
 IsGateOpen s x = IsSure s x 0 (λ b. is_open b ≡ true)
 
@@ -119,6 +126,7 @@ pub record IsBatchLogged (j : Job) (s : Disks) (x : ℕ) : Type 0 where
 abbrev pub IsSyncedPlace : Disks → ℕ → ℕ → Type 0
 IsSyncedPlace s d p = IsSure s d p (λ b. Unit {0})
 
+-- nothing is loose
 pub record AllSynced (s : Disks) : Type 0 where
   pub synced : (d p : ℕ) → IsSyncedPlace s d p
 
@@ -175,6 +183,7 @@ pub record OpenCore (j : Job) (k : ℕ) (s : Disks) : Type 0 where
   pub waiting : (n : ℕ) → k < n → n < 2 → IsLiveLog j (job_log j n) → IsGateClosed s (job_log j n)
   pub held : ContentsAreOld j s
 
+-- so many gates are open
 pub record OpenStage (j : Job) (k : ℕ) (s : Disks) : Type 0 where
   pub core : OpenCore j k s
   pub synced : AllSynced s
@@ -212,6 +221,7 @@ pub record MarkCore (j : Job) (k : ℕ) (s : Disks) : Type 0 where
   pub meta : (x : ℕ) → x < k → IsLiveLog j x → IsSure s x 1 (IsBlock j.spelled)
   pub held : ContentsAreNew j s
 
+-- so many log disks have the new meta
 pub record MarkStage (j : Job) (k : ℕ) (s : Disks) : Type 0 where
   pub core : MarkCore j k s
   pub synced : AllSynced s
@@ -230,6 +240,7 @@ pub record CloseCore (j : Job) (k : ℕ) (s : Disks) : Type 0 where
   pub shut : (x : ℕ) → x < k → IsLiveLog j x → IsGateClosed s x
   pub held : ContentsAreNew j s
 
+-- so many gates are closed again
 pub record CloseStage (j : Job) (k : ℕ) (s : Disks) : Type 0 where
   pub core : CloseCore j k s
   pub synced : AllSynced s

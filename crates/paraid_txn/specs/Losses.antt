@@ -60,6 +60,7 @@ abbrev pub StaySyncedBut : (ℕ → Type 0) → (ℕ → Slot) → (ℕ → Slot
 StaySyncedBut may old new = (d : ℕ) → is_present (new d).power ≡ true → (new d).unsynced ≡ true
     → ((old d).unsynced ≡ true) ⊎ may d
 
+-- what was synced before is synced after, on each disk
 abbrev pub StaySynced : (ℕ → Slot) → (ℕ → Slot) → Type 0
 StaySynced old new = StaySyncedBut (λ d. ⊥) old new
 

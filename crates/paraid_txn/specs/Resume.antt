@@ -53,6 +53,7 @@ pub record EndsResume (end : Disks) (m : Meta) : Type 0 where
   pub shut : AreLogGatesClosed end m
   pub rest : IsOneMissing end.power m m → IsAtRest end m
 
+-- a broken start is resumed: the calls end in the state that a commit of this meta leaves
 abbrev pub EndsAsCommitted : Option Trail → Option Trail → ℕ → LogState → Type 0
 EndsAsCommitted old new x said = Ran old new (λ start calls. IsBroken start x said → EndsResume (run start calls) said.meta)
 
@@ -170,5 +171,6 @@ pub record IsShutImage (j : Job) (y : ℕ) (i : Disks) : Type 0 where
   pub log : IsPresent i y → ((is_open (i.block y 0) ≡ is_open (j.start.block y 0)) × (is_open (i.block y 0) ≡ false → i.block y 1 ≡ j.start.block y 1))
       ⊎ ((job_named j ≢ Some y) × (is_open (i.block y 0) ≡ false) × (i.block y 1 ≡ j.spelled))
 
+-- each image with any slots lost is one that the end of a resume leaves
 pub record HoldsThroughShut (j : Job) (y : ℕ) (s : Disks) : Type 0 where
   pub each : (i : Disks) → IsLeftByStop s i → IsShutImage j y i
