@@ -1,12 +1,11 @@
 //! What every crate of the array speaks of: blocks and their XOR, the geometry of an array, its
-//! states, events and answers, faults, and the block device `Blocks` that an array is.
+//! states, events and answers, and faults.
 //!
 //! Its definitions stand in `specs/`: the history of writes, the home of a block, the soft copy
 //! of a cell, and what an object of the outside tells.
 #![tactic(auto)]
 
 mod block;
-mod blocks;
 mod event;
 mod fault;
 mod geometry;
@@ -15,7 +14,6 @@ mod pairs;
 mod state;
 
 pub use block::{BLOCK_SIZE, Block};
-pub use blocks::Blocks;
 pub use event::{Answer, Event};
 pub use fault::{BlockFault, Failed, Halt, NoMemory, Two};
 pub use geometry::{GeoFault, Geometry};
