@@ -10,6 +10,7 @@ use Rattle.paraid_base.specs.declared.state.Out.TheVariants.{Gone, No}
 use Rattle.paraid_base.specs.declared.state.Phase.TheVariants.{Down, Steady, Up}
 use Rattle.paraid_base.specs.Gears.{next_higher, next_lower}
 use Rattle.paraid_base.specs.History.{History}
+use Rattle.paraid_base.specs.Log.{worn_at}
 use Rattle.paraid_base.specs.States.{named_out, phase_beside}
 use Rattle.paraid_rack.specs.Slots.{Slot}
 use Rattle.paraid_rack.specs.Told.{Ran}
@@ -65,7 +66,7 @@ no_spin_ups mj to gear l = let e : to - gear ≡ 0 = omega (arith, l) in rw e (z
     zero_times a = grind (arith)
 
 -- A refused shift makes no call.
-module _ (told : Option Trail) (k : Service) (setup : Setup) (p : Point) (at : StandsAt told k setup p) (fit : point_wear p < 2 ^ 62) where
+module _ (told : Option Trail) (k : Service) (setup : Setup) (p : Point) (at : StandsAt told k setup p) (fit : point_wear p < worn_at) where
   down_refused : (fault : ShiftFault) → IsDownRefused setup p.state fault → Ran told told (GoesOn k.slots setup p AskDown (fault_answer fault) (StandsAt told k setup))
   down_refused Top why = absurd why
   down_refused Lowest why = down_lowest told k setup p at fit why

@@ -7,6 +7,7 @@ use Rattle.paraid_base.specs.declared.fault.Two.{Two}
 use Rattle.paraid_base.specs.declared.state.Out.TheVariants.{Fresh, Gone, No}
 use Rattle.paraid_base.specs.declared.state.TickEvent.TheVariants.{Gone as GoneAgain, Moving, Rebuilt}
 use Rattle.paraid_base.specs.History.{History}
+use Rattle.paraid_base.specs.Log.{worn_at}
 use Rattle.paraid_base.specs.States.{named_out}
 use Rattle.paraid_rack.specs.declared.call.Call.TheVariants.{Park}
 use Rattle.paraid_rack.specs.declared.call.Power.TheVariants.{Absent, Parked}
@@ -94,7 +95,7 @@ left_is m m1 m2 d u count first second is =
 
 -- A tick is counted of a service that stood at a point, and disk `d` is being rebuilt.
 module _ {R : Type 0} {g : _} (count : R → ℕ) (told : R → Option Trail) (a : Core R g) (k : Service) (setup : Setup) (p : Point) (samples : List ℕ) (served energy : ℕ)
-    (at : StandsAt (told (store_rack a.store)) k setup p) (fit : point_wear p < 2 ^ 62) (counts : CountsTick k (service_of count a samples served energy)) (b : Core R g) (d rebuilt : ℕ) (fresh : a.meta.out ≡ Fresh d rebuilt) where
+    (at : StandsAt (told (store_rack a.store)) k setup p) (fit : point_wear p < worn_at) (counts : CountsTick k (service_of count a samples served energy)) (b : Core R g) (d rebuilt : ℕ) (fresh : a.meta.out ≡ Fresh d rebuilt) where
   abbrev counted : Service
   counted = service_of count a samples served energy
 
@@ -222,7 +223,7 @@ rejoined_mid count a b back samples served energy = record { is = recounted (met
 
 -- The last tick of a rebuild: what was staged is committed, the rebuild ends, and the disk is parked.
 module _ {R : Type 0} {g : _} (count : R → ℕ) (told : R → Option Trail) (a : Core R g) (k : Service) (setup : Setup) (p : Point) (samples : List ℕ) (served energy : ℕ)
-    (at : StandsAt (told (store_rack a.store)) k setup p) (fit : point_wear p < 2 ^ 62) (counts : CountsTick k (service_of count a samples served energy)) (m b : Core R g) (d rebuilt : ℕ) (fresh : a.meta.out ≡ Fresh d rebuilt)
+    (at : StandsAt (told (store_rack a.store)) k setup p) (fit : point_wear p < worn_at) (counts : CountsTick k (service_of count a samples served energy)) (m b : Core R g) (d rebuilt : ℕ) (fresh : a.meta.out ≡ Fresh d rebuilt)
     (same : m.meta ≡ record a.meta { epoch = m.meta.epoch }) (steps : Ran (told (store_rack a.store)) (told (store_rack m.store)) (StepsInEvent (service_of count a samples served energy) (service_of count m samples served energy) p.history p.low 1)) where
   abbrev start : Service
   start = service_of count a samples served energy

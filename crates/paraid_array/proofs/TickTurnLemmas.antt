@@ -16,6 +16,7 @@ use Rattle.paraid_base.specs.declared.state.TickEvent.{TickEvent}
 use Rattle.paraid_base.specs.declared.state.TickEvent.TheVariants.{Begun, Flipped, Lost, Moving, Ration as RationTick, Steady as TickSteady, Waiting}
 use Rattle.paraid_base.specs.Gears.{next_higher, next_lower}
 use Rattle.paraid_base.specs.History.{History}
+use Rattle.paraid_base.specs.Log.{worn_at}
 use Rattle.paraid_base.specs.States.{named_out, phase_to}
 use Rattle.paraid_gear.specs.declared.decision.Decision.{Decision}
 use Rattle.paraid_gear.specs.declared.decision.Decision.TheVariants.{Down as DecideDown, Stay, Up as DecideUp}
@@ -302,7 +303,7 @@ module _ {R : Type 0} {g : _} (count : R → ℕ) (a b : Core R g) (units : ℕ)
 
 -- A tick is counted of a service that stood at a point.
 module _ {R : Type 0} {g : _} (count : R → ℕ) (told : R → Option Trail) (a : Core R g) (k : Service) (setup : Setup) (p : Point) (samples : List ℕ) (served energy : ℕ)
-    (at : StandsAt (told (store_rack a.store)) k setup p) (fit : point_wear p < 2 ^ 62) (counts : CountsTick k (service_of count a samples served energy)) where
+    (at : StandsAt (told (store_rack a.store)) k setup p) (fit : point_wear p < worn_at) (counts : CountsTick k (service_of count a samples served energy)) where
   abbrev counted : Service
   counted = service_of count a samples served energy
 

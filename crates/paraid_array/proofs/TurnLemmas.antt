@@ -1,5 +1,5 @@
 -- Disks that are taken out and replaced, and what is refused, as events of a session.
-use Rattle.std.proofs.Common.{◌≡◌, ◌≢◌, ℕ, ◌+◌, ◌^◌, ◌<◌, ◌≤◌, ◌⊎◌, true, false, List, [], length, Option, Some, None, refl, sym, ap, ◌∙◌, inl, inr, subst, arith, min}
+use Rattle.std.proofs.Common.{◌≡◌, ◌≢◌, ℕ, ◌+◌, ◌<◌, ◌≤◌, ◌⊎◌, true, false, List, [], length, Option, Some, None, refl, sym, ap, ◌∙◌, inl, inr, subst, arith, min}
 use Rattle.std.proofs.lemmas.List.{append-nil}
 use Rattle.paraid_base.specs.declared.event.Answer.{Answer}
 use Rattle.paraid_base.specs.declared.event.Answer.TheVariants.{Failed, NoDisk, NoFresh, NotOut, Out as IsOut, Replaced}
@@ -8,6 +8,7 @@ use Rattle.paraid_base.specs.declared.event.Event.TheVariants.{Fail, Replace}
 use Rattle.paraid_base.specs.declared.fault.Two.{Two}
 use Rattle.paraid_base.specs.declared.state.Out.TheVariants.{Fresh, Gone, No}
 use Rattle.paraid_base.specs.History.{History}
+use Rattle.paraid_base.specs.Log.{worn_at}
 use Rattle.paraid_rack.specs.declared.call.Call.{Call}
 use Rattle.paraid_rack.proofs.TrailsLemmas.{Ran-none}
 use Rattle.paraid_rack.specs.Slots.{Agrees, Slot}
@@ -53,7 +54,7 @@ capped u z none fits = grind (arith)
 -- An event that uses no energy goes on by a law that leaves it.
 module _ {R : Type 0} {g : _} (count : R → ℕ) (told : R → Option Trail) (a b : Core R g) (event : Event) (answer : Answer) where
   pub goes_same : ((setup : Setup) (s : PowerState) → energy_of setup s answer ≡ 0)
-      → ((setup : Setup) (p : Point) (samples : List ℕ) (served energy : ℕ) → StandsAt (told (core_rack a)) (service_of count a samples served energy) setup p → point_wear p < 2 ^ 62
+      → ((setup : Setup) (p : Point) (samples : List ℕ) (served energy : ℕ) → StandsAt (told (core_rack a)) (service_of count a samples served energy) setup p → point_wear p < worn_at
       → Ran (told (core_rack a)) (told (core_rack b)) (GoesOn (count (core_rack a)) setup p event answer (StandsAt (told (core_rack b)) (service_of count b samples served energy) setup)))
       → CoreGoesOn count told a b event answer
   goes_same none law setup p samples served energy at fit =

@@ -1,6 +1,7 @@
 -- The events of an array over a core as turns of a session.
-use Rattle.std.specs.Prelude.{◌≡◌, ℕ, ◌^◌, ◌<◌, ◌+◌, min, length, List, Option, Some, None}
+use Rattle.std.specs.Prelude.{◌≡◌, ℕ, ◌<◌, ◌+◌, min, length, List, Option, Some, None}
 use Rattle.paraid_base.specs.History.{History}
+use Rattle.paraid_base.specs.Log.{worn_at}
 use Rattle.paraid_base.specs.declared.event.Answer.{Answer}
 use Rattle.paraid_base.specs.declared.event.Answer.TheVariants.{Failed, Halted, NoDisk, NoFresh, NotOut, Out as IsOut, Replaced, Shift, Ticked}
 use Rattle.paraid_base.specs.declared.event.Event.{Event}
@@ -35,7 +36,7 @@ use Rattle.paraid_array.specs.declared.fault.ReplaceFault.TheVariants.{NoDisk as
 -- has used.
 abbrev pub CoreGoesOn : {R : Type 0} {g : _} → (R → ℕ) → (R → Option Trail) → Core R g → Core R g → Event → Answer → Type 0
 CoreGoesOn count told old new event answer = (setup : Setup) (p : Point) (samples : List ℕ) (served energy : ℕ)
-    → StandsAt (told (core_rack old)) (service_of count old samples served energy) setup p → point_wear p < 2 ^ 62
+    → StandsAt (told (core_rack old)) (service_of count old samples served energy) setup p → point_wear p < worn_at
     → Ran (told (core_rack old)) (told (core_rack new))
     (GoesOn (count (core_rack old)) setup p event answer
     (StandsAt (told (core_rack new)) (service_of count new samples served (energy_after setup energy p.state answer)) setup))
@@ -43,7 +44,7 @@ CoreGoesOn count told old new event answer = (setup : Setup) (p : Point) (sample
 -- A second disk is lost in the event, and ends the service.
 abbrev pub CoreHalts : {R : Type 0} {g : _} → (R → ℕ) → (R → Option Trail) → Core R g → Core R g → Event → Two → Type 0
 CoreHalts count told old new event two = (setup : Setup) (p : Point) (samples : List ℕ) (served energy : ℕ)
-    → StandsAt (told (core_rack old)) (service_of count old samples served energy) setup p → point_wear p < 2 ^ 62
+    → StandsAt (told (core_rack old)) (service_of count old samples served energy) setup p → point_wear p < worn_at
     → Ran (told (core_rack old)) (told (core_rack new))
     (GoesOn (count (core_rack old)) setup p event (Halted (HaltTwo two)) (IsHaltedFrom p (HaltTwo two)))
 
@@ -51,7 +52,7 @@ CoreHalts count told old new event two = (setup : Setup) (p : Point) (samples : 
 -- stood before it to one at which it stands then; a shift up that it begins uses the energy of its spin-ups.
 abbrev pub CoreTicks : {R : Type 0} {g : _} → (R → ℕ) → (R → Option Trail) → Windows → Core R g → Core R g → GearReport → Type 0
 CoreTicks count told windows old new report = (k : Service) (setup : Setup) (p : Point) (samples : List ℕ) (served energy : ℕ)
-    → HoldLastSamples windows samples → StandsAt (told (core_rack old)) k setup p → point_wear p < 2 ^ 62
+    → HoldLastSamples windows samples → StandsAt (told (core_rack old)) k setup p → point_wear p < worn_at
     → CountsTick k (service_of count old samples served energy)
     → Ran (told (core_rack old)) (told (core_rack new))
     (GoesOn (count (core_rack old)) setup p Tick (Ticked report)
@@ -60,7 +61,7 @@ CoreTicks count told windows old new report = (k : Service) (setup : Setup) (p :
 -- A second disk is lost in it, and ends the service with the energy of the tick used.
 abbrev pub CoreTickHalts : {R : Type 0} {g : _} → (R → ℕ) → (R → Option Trail) → Windows → Core R g → Core R g → Two → Type 0
 CoreTickHalts count told windows old new two = (k : Service) (setup : Setup) (p : Point) (samples : List ℕ) (served energy : ℕ)
-    → HoldLastSamples windows samples → StandsAt (told (core_rack old)) k setup p → point_wear p < 2 ^ 62
+    → HoldLastSamples windows samples → StandsAt (told (core_rack old)) k setup p → point_wear p < worn_at
     → CountsTick k (service_of count old samples served energy)
     → Ran (told (core_rack old)) (told (core_rack new))
     (GoesOn (count (core_rack old)) setup p Tick (Halted (HaltTwo two)) (IsHaltedWith p (HaltTwo two) energy))

@@ -1,7 +1,8 @@
 //! Shifts that are asked for.
-ghost use Rattle.std.specs.Prelude.{◌≡◌, ◌≢◌, ℕ, ◌+◌, ◌^◌, ◌<◌, ◌≤◌, Ok, OnOk, IfErr, IfOk};
+ghost use Rattle.std.specs.Prelude.{◌≡◌, ◌≢◌, ℕ, ◌+◌, ◌<◌, ◌≤◌, Ok, OnOk, IfErr, IfOk};
 ghost use Rattle.paraid_base.specs.declared.event.Event.TheVariants.{Down as AskDown, Up as AskUp};
 ghost use Rattle.paraid_base.specs.declared.state.Out.TheVariants.{No};
+ghost use Rattle.paraid_base.specs.Log.{worn_at};
 ghost use Rattle.paraid_core.specs.Cores.{core_down, core_rack, meta_of};
 ghost use Rattle.paraid_array.specs.declared.fault.ShiftFault.{ShiftFault as ShiftFaultType};
 ghost use Rattle.paraid_array.specs.declared.asked.Asked.TheVariants.{Refused};
@@ -33,7 +34,7 @@ pub enum Asked {
 /// that refuses it too.
 pub fn down<R: Rack>(core: &mut Core<R>) -> Result<Asked, Two>
     requires serving { IsCoreServing R.slot_count R.slot core.old }
-    requires epoch { (meta_of core.old).epoch < 2 ^ 62 }
+    requires epoch { (meta_of core.old).epoch < worn_at }
     ensures serving { OnOk result (IsCoreServing R.slot_count R.slot core.new) }
     ensures leaves { OnOk result (LeavesArray R.slot_count R.slot core.old core.new) }
     // Where the machine refuses it, this is its refusal, and nothing changes.
@@ -72,7 +73,7 @@ pub fn down<R: Rack>(core: &mut Core<R>) -> Result<Asked, Two>
 /// Begins a shift to the next higher gear, likewise.
 pub fn up<R: Rack>(core: &mut Core<R>) -> Result<Asked, Two>
     requires serving { IsCoreServing R.slot_count R.slot core.old }
-    requires epoch { (meta_of core.old).epoch < 2 ^ 62 }
+    requires epoch { (meta_of core.old).epoch < worn_at }
     ensures serving { OnOk result (IsCoreServing R.slot_count R.slot core.new) }
     ensures leaves { OnOk result (LeavesArray R.slot_count R.slot core.old core.new) }
     // Where the machine refuses it, this is its refusal, and nothing changes.

@@ -2,6 +2,7 @@
 ghost use Rattle.std.specs.Prelude.{◌≡◌, ℕ, ◌+◌, ◌^◌, ◌<◌, ◌≤◌, ◌⊎◌, [], None, Ok, Some, OnOk, IfErr, IfOk, IfSome};
 ghost use Rattle.paraid_base.specs.declared.event.Event.TheVariants.{Fail as FailEvent};
 ghost use Rattle.paraid_base.specs.declared.state.Out.TheVariants.{Gone};
+ghost use Rattle.paraid_base.specs.Log.{worn_at};
 ghost use Rattle.paraid_base.specs.Told.{HasRisen};
 ghost use Rattle.paraid_core.specs.Cores.{batch_of, core_down, core_rack, core_table, meta_of};
 ghost use Rattle.paraid_core.specs.Down.{IsDownAfter};
@@ -24,7 +25,7 @@ use paraid_rack::Rack;
 // marked.
 fn commit_writes<R: Rack>(core: &mut Core<R>) -> Result<(), Two>
     requires service { IsInService R.slot_count R.slot core.old }
-    requires epoch { (meta_of core.old).epoch < 2 ^ 62 }
+    requires epoch { (meta_of core.old).epoch < worn_at }
     ensures service { OnOk result (IsInService R.slot_count R.slot core.new) }
     ensures known { OnOk result (IsOutKnown R.slot core.old → IsOutKnown R.slot core.new) }
     ensures unsynced { OnOk result (AreUnsyncedCopied R.slot core.old → AreUnsyncedCopied R.slot core.new) }
@@ -88,7 +89,7 @@ fn mark_gone<R: Rack>(core: &mut Core<R>, disk: DiskNo) -> Result<(), Two>
 /// first, if anything is; another disk that is lost in that refuses it too. It gives the refusal.
 pub fn take_out<R: Rack>(core: &mut Core<R>, disk: DiskNo) -> Result<Option<FailFault>, Two>
     requires service { IsInService R.slot_count R.slot core.old }
-    requires epoch { (meta_of core.old).epoch < 2 ^ 62 }
+    requires epoch { (meta_of core.old).epoch < worn_at }
     ensures service { OnOk result (IsInService R.slot_count R.slot core.new) }
     ensures setup { OnOk result ((meta_of core.new).setup ≡ (meta_of core.old).setup) }
     ensures marks { IfOk result (HasMarkedTaken (meta_of core.old) (meta_of core.new) disk) }

@@ -3,6 +3,7 @@ ghost use Rattle.std.specs.Prelude.{◌≡◌, ℕ, ◌+◌, ◌^◌, ◌<◌, �
 ghost use Rattle.paraid_base.specs.declared.state.Out.TheVariants.{Fresh, Gone, No};
 ghost use Rattle.paraid_base.specs.declared.state.TickEvent.TheVariants.{Gone as GoneInTick, Moving, Rebuilt};
 ghost use Rattle.paraid_base.specs.History.{History};
+ghost use Rattle.paraid_base.specs.Log.{worn_at};
 ghost use Rattle.paraid_base.specs.States.{rebuilt_count};
 ghost use Rattle.paraid_base.specs.Told.{HasRisen};
 ghost use Rattle.paraid_core.specs.Cores.{batch_of, core_down, core_rack, core_table, meta_of, store_of};
@@ -209,7 +210,7 @@ pub(crate) fn rebuild<R: Rack>(
     requires serving { IsCoreServing R.slot_count R.slot core.old }
     requires fresh { (meta_of core.old).out ≡ Fresh disk first }
     requires known { IsOutKnown R.slot core.old }
-    requires epoch { (meta_of core.old).epoch < 2 ^ 62 }
+    requires epoch { (meta_of core.old).epoch < worn_at }
     ensures serves { OnOk result (LeavesInService R.slot_count R.slot core.old core.new) }
     ensures tells { IfOk result (λ done. TellsRebuild (meta_of core.old) (meta_of core.new) disk first done.0 done.1) }
     // A disk that is told as gone has failed in the tick, and is named out by its last commit.

@@ -1,7 +1,8 @@
 //! A disk that is out is replaced by a fresh one.
-ghost use Rattle.std.specs.Prelude.{◌≡◌, ◌≢◌, ℕ, ◌^◌, ◌<◌, ◌≤◌, ◌⊎◌, None, Ok, Some, OnOk, IfErr, IfOk, IfSome};
+ghost use Rattle.std.specs.Prelude.{◌≡◌, ◌≢◌, ℕ, ◌<◌, ◌≤◌, ◌⊎◌, None, Ok, Some, OnOk, IfErr, IfOk, IfSome};
 ghost use Rattle.paraid_base.specs.declared.event.Event.TheVariants.{Replace as ReplaceEvent};
 ghost use Rattle.paraid_base.specs.declared.state.Out.TheVariants.{Fresh, Gone};
+ghost use Rattle.paraid_base.specs.Log.{worn_at};
 ghost use Rattle.paraid_base.specs.Told.{HasRisen};
 ghost use Rattle.paraid_core.specs.Cores.{core_down, core_rack, meta_of};
 ghost use Rattle.paraid_array.specs.declared.fault.ReplaceFault.TheVariants.{NoDisk, NoFresh, NotOut};
@@ -27,7 +28,7 @@ fn bring<R: Rack>(core: &mut Core<R>, disk: DiskNo) -> Result<Option<ReplaceFaul
     requires known { IsOutKnown R.slot core.old }
     requires out { named_out (meta_of core.old).out ≡ Some disk }
     requires disk { disk < (meta_of core.old).setup.geometry.disks }
-    requires epoch { (meta_of core.old).epoch < 2 ^ 62 }
+    requires epoch { (meta_of core.old).epoch < worn_at }
     ensures serving { OnOk result (IsCoreServing R.slot_count R.slot core.new) }
     ensures known { OnOk result (IsOutKnown R.slot core.new) }
     ensures leaves { OnOk result (LeavesArrayBut R.slot_count R.slot core.old core.new disk) }
@@ -61,7 +62,7 @@ fn bring<R: Rack>(core: &mut Core<R>, disk: DiskNo) -> Result<Option<ReplaceFaul
 pub fn replace<R: Rack>(core: &mut Core<R>, disk: DiskNo) -> Result<Option<ReplaceFault>, Two>
     requires serving { IsCoreServing R.slot_count R.slot core.old }
     requires known { IsOutKnown R.slot core.old }
-    requires epoch { (meta_of core.old).epoch < 2 ^ 62 }
+    requires epoch { (meta_of core.old).epoch < worn_at }
     ensures serving { OnOk result (IsCoreServing R.slot_count R.slot core.new) }
     ensures known { OnOk result (IsOutKnown R.slot core.new) }
     ensures setup { OnOk result ((meta_of core.new).setup ≡ (meta_of core.old).setup) }

@@ -1,7 +1,8 @@
 //! When a shift may begin, and those that a tick begins or moves.
-ghost use Rattle.std.specs.Prelude.{◌≡◌, ◌≢◌, ℕ, ◌+◌, ◌^◌, ◌<◌, ◌≤◌, [], List, Ok, Some, OnOk, IfOk, IfErr, slice_index};
+ghost use Rattle.std.specs.Prelude.{◌≡◌, ◌≢◌, ℕ, ◌<◌, ◌≤◌, [], List, Ok, Some, OnOk, IfOk, IfErr, slice_index};
 ghost use Rattle.paraid_base.specs.declared.state.Out.TheVariants.{Fresh, Gone, No};
 ghost use Rattle.paraid_base.specs.declared.state.TickEvent.TheVariants.{Gone as GoneInTick, Ration as WornInTick, Rebuilt, Waiting};
+ghost use Rattle.paraid_base.specs.Log.{worn_at};
 ghost use Rattle.paraid_base.specs.Told.{HasRisen};
 ghost use Rattle.paraid_base.specs.declared.state.Phase.TheVariants.{Steady};
 ghost use Rattle.paraid_core.specs.Cores.{core_down, core_rack, meta_of, store_of};
@@ -117,7 +118,7 @@ fn units_of_tick<R: Rack>(core: &Core<R>) -> u32
 // The tick of a shift under way: it moves units, and ends the shift with the last of them.
 fn move_on<R: Rack>(core: &mut Core<R>) -> Result<(u32, TickEvent), Two>
     requires serving { IsCoreServing R.slot_count R.slot core.old }
-    requires epoch { (meta_of core.old).epoch < 2 ^ 62 }
+    requires epoch { (meta_of core.old).epoch < worn_at }
     requires whole { (meta_of core.old).out ≡ No }
     requires shifts { (meta_of core.old).phase ≢ Steady }
     ensures serves { OnOk result (LeavesInService R.slot_count R.slot core.old core.new) }
@@ -159,7 +160,7 @@ fn event_of(fault: ShiftFault) -> TickEvent
 // The tick of an array at rest: it begins the shift that the samples ask for.
 fn decide<R: Rack>(core: &mut Core<R>, windows: &Windows) -> Result<TickEvent, Two>
     requires serving { IsCoreServing R.slot_count R.slot core.old }
-    requires epoch { (meta_of core.old).epoch < 2 ^ 62 }
+    requires epoch { (meta_of core.old).epoch < worn_at }
     requires lengths { lengths_of windows.now ≡ (meta_of core.old).setup.windows }
     requires steady { (meta_of core.old).phase ≡ Steady }
     requires whole { (meta_of core.old).out ≡ No }
@@ -202,7 +203,7 @@ fn decide<R: Rack>(core: &mut Core<R>, windows: &Windows) -> Result<TickEvent, T
 /// What a tick does that has counted itself. With a disk out it waits, or rebuilds it.
 pub fn advance<R: Rack>(core: &mut Core<R>, windows: &Windows) -> Result<(u32, TickEvent), Two>
     requires serving { IsCoreServing R.slot_count R.slot core.old }
-    requires epoch { (meta_of core.old).epoch < 2 ^ 62 }
+    requires epoch { (meta_of core.old).epoch < worn_at }
     requires known { IsOutKnown R.slot core.old }
     requires lengths { lengths_of windows.now ≡ (meta_of core.old).setup.windows }
     ensures serving { OnOk result (IsCoreServing R.slot_count R.slot core.new) }

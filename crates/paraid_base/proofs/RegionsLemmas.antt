@@ -5,6 +5,7 @@ use Rattle.std.proofs.lemmas.Nat.{mul-le}
 use Rattle.std.proofs.Math.Nat.{div-le_self}
 use Rattle.paraid_base.specs.declared.geometry.Geometry.{Geometry}
 use Rattle.paraid_base.proofs.PlacesLemmas.{regions_apart, sum_before_step}
+use Rattle.paraid_base.specs.Log.{map_start}
 use Rattle.paraid_base.specs.Regions.{IsGear, disk_size, hard_place_of, map_place_of, region_size, soft_place_of}
 use Rattle.paraid_base.specs.Soft.{stripe_count}
 
@@ -24,7 +25,7 @@ soft_places_apart g a b s t ga gb l k e =
 pub hard_below_soft : (g : Geometry) (r a s : ℕ) → r < g.rows → hard_place_of g r < soft_place_of g a s
 hard_below_soft g r a s l = omega arith
 
-pub map_below_hard : (g : Geometry) (q r : ℕ) → q < g.rows → (100 ≤ map_place_of g q) × (map_place_of g q < hard_place_of g r)
+pub map_below_hard : (g : Geometry) (q r : ℕ) → q < g.rows → (map_start g ≤ map_place_of g q) × (map_place_of g q < hard_place_of g r)
 map_below_hard g q r l = (omega arith, omega arith)
 
 pub hard_places_apart : (g : Geometry) (q r : ℕ) → hard_place_of g q ≡ hard_place_of g r → q ≡ r

@@ -9,6 +9,7 @@ pub mod Skips
 pub mod Cells
 pub mod Soft
 pub mod Places
+pub mod Log
 pub mod Regions
 pub mod Gears
 pub mod States

@@ -1,6 +1,7 @@
 -- Where the parts of a disk of one geometry begin
 use Rattle.std.specs.Prelude.{◌≡◌, ℕ, ◌+◌, ◌/◌, if◌then◌else◌, slice_index_or, true, false}
 use Rattle.paraid_base.specs.declared.geometry.Geometry.{Geometry}
+use Rattle.paraid_base.specs.Log.{map_start}
 use Rattle.paraid_base.specs.Places.{sum_before}
 use Rattle.paraid_base.specs.Soft.{stripe_count}
 
@@ -18,15 +19,15 @@ map_count g = (g.rows + 511) / 512
 
 -- the place of the map block of a row
 abbrev pub map_place_of : Geometry → ℕ → ℕ
-map_place_of g r = 100 + r / 512
+map_place_of g r = map_start g + r / 512
 
 -- the hard place of a row, the same on each disk
 abbrev pub hard_place_of : Geometry → ℕ → ℕ
-hard_place_of g r = 100 + map_count g + r
+hard_place_of g r = map_start g + map_count g + r
 
 -- where the region of a gear begins, after those of lower gears
 abbrev pub soft_start : Geometry → ℕ → ℕ
-soft_start g a = 100 + map_count g + g.rows + sum_before (region_size g) a
+soft_start g a = map_start g + map_count g + g.rows + sum_before (region_size g) a
 
 -- the place of a stripe
 abbrev pub soft_place_of : Geometry → ℕ → ℕ → ℕ

@@ -1,5 +1,7 @@
 ghost use Rattle.std.specs.Prelude.{◌≡◌, ℕ, ◌+◌, ◌-◌, ◌*◌, ◌/◌, ◌%◌, ◌<◌, ◌≤◌, ◌↔◌, length, slice_index_or, true, false, IsTrue};
 
+use crate::{MAP_START, Place};
+
 /// The shape of an array: how many disks and rows it has, and its gears.
 ///
 /// A gear is a number of powered disks. The gears are kept as flags, one for each number from
@@ -37,6 +39,7 @@ pub enum GeoFault {
 impl Geometry {
     ghost use Rattle.std.specs.Prelude.{IfOk, IfErr, MatchOption};
     ghost use Rattle.paraid_base.specs.Gears.{IsGeoFault, IsGearList, AreFlagsOf};
+    ghost use Rattle.paraid_base.specs.Log.{map_start as map_start_of};
     ghost use Rattle.paraid_base.specs.Soft.{stripe_count};
     ghost use Rattle.paraid_base.specs.Regions.{IsGear, map_count, disk_size, soft_start as soft_start_of};
 
@@ -96,6 +99,13 @@ impl Geometry {
         self.rows * (self.disks as u32 - 1)
     }
 
+    /// The first place past the log, where the dirty map starts.
+    pub fn map_start(&self) -> Place
+        ensures { result ≡ map_start_of self.now }
+    {
+        MAP_START
+    }
+
     /// The number of blocks of the dirty map, which has one byte for each row.
     pub fn map_blocks(&self) -> u32
         ensures { result ≡ map_count self.now }
@@ -143,7 +153,7 @@ impl Geometry {
         ensures start { result ≡ soft_start_of self.now a }
         ensures small { result < 5000000 }
     {
-        let mut start = 100 + self.map_blocks() + self.rows;
+        let mut start = self.map_start() + self.map_blocks() + self.rows;
         for e in 0..a {
             if self.is_gear(e) {
                 start += self.stripes(e);

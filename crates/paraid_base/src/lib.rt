@@ -10,6 +10,7 @@ mod event;
 mod fault;
 mod geometry;
 mod laws;
+mod log;
 mod pairs;
 mod state;
 
@@ -17,7 +18,8 @@ pub use block::{BLOCK_SIZE, Block};
 pub use event::{Answer, Event};
 pub use fault::{BlockFault, Failed, Halt, NoMemory, Two};
 pub use geometry::{GeoFault, Geometry};
-pub use laws::pairs_decide_a_value;
+pub use laws::{log_lies_before_map, pairs_decide_a_value};
+pub use log::{BATCH_ROOM, FIRST_BODY, FIRST_LIST, MAP_START, WORN_AT};
 pub use pairs::Pairs;
 pub use state::{GearReport, Out, Phase, Status, TickEvent};
 

@@ -1,5 +1,5 @@
 -- Why an array answers an event so, by the clauses of its core.
-use Rattle.std.proofs.Common.{◌≡◌, ◌≢◌, ℕ, ◌+◌, ◌^◌, ◌<◌, ◌≤◌, ◌⊎◌, true, false, Bool, List, [], ◌∷◌, Option, Some, None, Result, Err, Ok, refl, sym, ap, ◌∙◌, subst, inl, inr, arith, min, if◌then◌else◌}
+use Rattle.std.proofs.Common.{◌≡◌, ◌≢◌, ℕ, ◌+◌, ◌<◌, ◌≤◌, ◌⊎◌, true, false, Bool, List, [], ◌∷◌, Option, Some, None, Result, Err, Ok, refl, sym, ap, ◌∙◌, subst, inl, inr, arith, min, if◌then◌else◌}
 use Rattle.std.specs.Prelude.{All, IfSome, max, nat_le, nat_lt, slice_index, ◌==◌}
 use Rattle.std.proofs.lemmas.Bool.Decides.{nat_tests}
 use Rattle.std.proofs.lemmas.List.Elements.{All-head, All-tail}
@@ -17,6 +17,7 @@ use Rattle.paraid_base.specs.declared.state.Out.TheVariants.{Fresh, Gone, No}
 use Rattle.paraid_base.specs.declared.state.Phase.{Phase}
 use Rattle.paraid_base.specs.declared.state.Status.{Status}
 use Rattle.paraid_base.specs.declared.state.Phase.TheVariants.{Down as DownPhase, Steady, Up as UpPhase}
+use Rattle.paraid_base.specs.Log.{worn_at}
 use Rattle.paraid_base.specs.Told.{HasRisen}
 use Rattle.paraid_base.specs.declared.state.GearReport.{GearReport}
 use Rattle.paraid_base.specs.declared.state.TickEvent.{TickEvent}
@@ -65,11 +66,11 @@ use Rattle.paraid_controller.specs.declared.array.Array.{Array}
 use Rattle.paraid_controller.specs.Arrays.{shown_of_array}
 use Rattle.paraid_controller.specs.Lasting.{halt_of_end}
 
-below_max : (a b : ℕ) → a < 2 ^ 62 → b < 2 ^ 62 → max a b < 2 ^ 62
+below_max : (a b : ℕ) → a < worn_at → b < worn_at → max a b < worn_at
 below_max a b x y = grind (arith)
 
 -- what serves and is not worn takes each event
-pub takes : (x : Shown) (event : Event) → x.halt ≡ None → x.meta.epoch < 2 ^ 62 → x.meta.writes < 2 ^ 62 → Takes x event
+pub takes : (x : Shown) (event : Event) → x.halt ≡ None → x.meta.epoch < worn_at → x.meta.writes < worn_at → Takes x event
 takes x event going epoch writes = record { going = going; fit = λ asked. below_max x.meta.epoch x.meta.writes epoch writes }
 
 -- and a question is always taken
@@ -114,7 +115,7 @@ module _ (x y : Shown) (event : Event) (takes : Takes x event) (busy : quiet_ans
   two_cause pair halt lost = record { reason = reason_two pair takes busy refl (lost pair refl); setup = setup; halt = λ not. halt; later = later }
 
 -- it is worn
-pub worn_cause : (x y : Shown) (event : Event) (count : ℕ) → x.halt ≡ None → may_halt event ≡ true → 2 ^ 62 ≤ count → count ≡ wear_shown x → IsUnchanged x y → y.setup ≡ x.setup → y.halt ≡ Some (Worn count)
+pub worn_cause : (x y : Shown) (event : Event) (count : ℕ) → x.halt ≡ None → may_halt event ≡ true → worn_at ≤ count → count ≡ wear_shown x → IsUnchanged x y → y.setup ≡ x.setup → y.halt ≡ Some (Worn count)
     → HaveNotFallen x.slot y.slot → HasCause x event (Halted (Worn count)) y
 worn_cause x y event count going asked many is same setup halt later = record { reason = reason_worn count going asked many is refl same; setup = setup; halt = λ not. halt; later = later }
 

@@ -1,5 +1,5 @@
 -- A check of an array: a flush, and reads after it.
-use Rattle.std.proofs.Common.{◌≡◌, ℕ, ◌^◌, ◌<◌, ◌⊎◌, Bool, true, false, [], length, Option, Some, None, Result, Ok, Err, inl, inr, refl, sym, ap, ◌∙◌, subst, arith}
+use Rattle.std.proofs.Common.{◌≡◌, ℕ, ◌<◌, ◌⊎◌, Bool, true, false, [], length, Option, Some, None, Result, Ok, Err, inl, inr, refl, sym, ap, ◌∙◌, subst, arith}
 use Rattle.std.specs.Prelude.{IfOk, IsSome, IsTrue}
 use Rattle.std.proofs.lemmas.Bool.{false≢true}
 use Rattle.paraid_base.specs.declared.event.Answer.TheVariants.{Flushed, Halted}
@@ -7,6 +7,7 @@ use Rattle.paraid_base.specs.declared.event.Event.TheVariants.{Bad, Flush}
 use Rattle.paraid_base.specs.declared.fault.Halt.TheVariants.{Two as HaltTwo}
 use Rattle.paraid_base.specs.declared.fault.Two.{Two}
 use Rattle.paraid_base.specs.History.{History}
+use Rattle.paraid_base.specs.Log.{worn_at}
 use Rattle.paraid_base.specs.States.{gone_out}
 use Rattle.paraid_gear.specs.declared.windows.Windows.{Windows}
 use Rattle.paraid_gear.specs.ThreeWindows.{HoldLastSamples}
@@ -61,7 +62,7 @@ full_stands count told a nothing p s t tells =
     (subst (CoreStandsFor count a.core p.history p.low) (sym (s.stands.disks t tells)) s.stands.stands.keeps)).0
 
 module _ {R : Type 0} {g : _} (count : R → ℕ) (slot : R → ℕ → Slot) (told : R → Option Trail) (agrees : (x : R) (t : Trail) → told x ≡ Some t → Agrees (now t) (slot x)) (a b : Array R g) (going : a.ended ≡ None)
-    (epoch : a.core.meta.epoch < 2 ^ 62) (writes : a.core.meta.writes < 2 ^ 62) (reads : MakesDataCalls told a.core b.core) where
+    (epoch : a.core.meta.epoch < worn_at) (writes : a.core.meta.writes < worn_at) (reads : MakesDataCalls told a.core b.core) where
   transfers : MakesTransferCalls told a.core b.core
   transfers = calls_milder _ _ (data_transfer a.core.meta.setup.geometry.disks (gone_out a.core.meta.out)) _ _ reads
 

@@ -1,11 +1,12 @@
 -- A flush of an array.
-use Rattle.std.proofs.Common.{◌≡◌, ℕ, ◌^◌, ◌<◌, true, List, [], length, Option, Some, None, refl, sym, ap, ◌∙◌, subst, arith}
+use Rattle.std.proofs.Common.{◌≡◌, ℕ, ◌<◌, true, List, [], length, Option, Some, None, refl, sym, ap, ◌∙◌, subst, arith}
 use Rattle.std.proofs.lemmas.Bool.{false≢true}
 use Rattle.paraid_base.specs.declared.event.Answer.TheVariants.{Flushed, Halted}
 use Rattle.paraid_base.specs.declared.event.Event.TheVariants.{Bad, Flush}
 use Rattle.paraid_base.specs.declared.fault.Halt.TheVariants.{Two as HaltTwo}
 use Rattle.paraid_base.specs.declared.fault.Two.{Two}
 use Rattle.paraid_base.specs.History.{History}
+use Rattle.paraid_base.specs.Log.{worn_at}
 use Rattle.paraid_gear.specs.declared.windows.Windows.{Windows}
 use Rattle.paraid_gear.specs.ThreeWindows.{HoldLastSamples}
 use Rattle.paraid_rack.specs.Slots.{Agrees, Slot}
@@ -37,7 +38,7 @@ tells_alike count told a b samples requests x ran t is =
     record { from = r.from; was = r.was; calls = r.calls; is = r.is; holds = record { second = r.holds.second; apart = r.holds.apart; first = r.holds.first } }
 
 module _ {R : Type 0} {g : _} (count : R → ℕ) (slot : R → ℕ → Slot) (told : R → Option Trail) (agrees : (x : R) (t : Trail) → told x ≡ Some t → Agrees (now t) (slot x)) (a b : Array R g) (going : a.ended ≡ None)
-    (epoch : a.core.meta.epoch < 2 ^ 62) (writes : a.core.meta.writes < 2 ^ 62) (calls : MakesTransferCalls told a.core b.core) (whole : CommitsWhole count told a.core b.core) where
+    (epoch : a.core.meta.epoch < worn_at) (writes : a.core.meta.writes < worn_at) (calls : MakesTransferCalls told a.core b.core) (whole : CommitsWhole count told a.core b.core) where
   -- all that is staged was committed
   pub flush_on : (n : ℕ) → n ≡ a.core.meta.writes → b.ended ≡ None → b.setup ≡ a.setup → b.windows ≡ a.windows → b.served ≡ a.served → b.energy ≡ a.energy
       → ((h : History) (lo : ℕ) → Ran (told_of_array told a) (told_of_array told b) (CrashTriple (IsCoreHeld count a.core h lo) (CoreStandsFor count a.core h lo) (CoreStandsFor count b.core h (length h))))
@@ -76,7 +77,7 @@ module _ {R : Type 0} {g : _} (count : R → ℕ) (slot : R → ℕ → Slot) (t
       (flush_loses (told_of_array told a) (told_of_array told b) k a.setup p s.stands two fit loses)
 
 module _ {R : Type 0} {g : _} (count : R → ℕ) (slot : R → ℕ → Slot) (told : R → Option Trail) (agrees : (x : R) (t : Trail) → told x ≡ Some t → Agrees (now t) (slot x)) (a : Array R g) (going : a.ended ≡ None)
-    (epoch : a.core.meta.epoch < 2 ^ 62) (writes : a.core.meta.writes < 2 ^ 62) (ready : IsCoreReady count slot a.core) (copies : AreCopiesSynced a.core.meta.setup.geometry.disks a.core.copied) (nothing : a.core.batch ≡ []) where
+    (epoch : a.core.meta.epoch < worn_at) (writes : a.core.meta.writes < worn_at) (ready : IsCoreReady count slot a.core) (copies : AreCopiesSynced a.core.meta.setup.geometry.disks a.core.copied) (nothing : a.core.batch ≡ []) where
   -- where nothing is staged, the last commit has brought all writes to the disks
   pub flush_kept : (n : ℕ) → n ≡ a.core.meta.writes → GoesOnByEvent count told a a Flush (Flushed n)
   flush_kept n number p at =

@@ -1,4 +1,4 @@
-use Rattle.std.specs.Prelude.{◌≤◌, ◌^◌, max}
+use Rattle.std.specs.Prelude.{◌≤◌, max}
 -- Two disks that are lost in an event, and what tells no wear.
 use Rattle.std.proofs.Common.{◌≡◌, ℕ, ◌⊎◌, inl, inr, Option, Some, None, sym, subst, ◌∙◌}
 use Rattle.paraid_base.specs.declared.event.Event.{Event}
@@ -7,6 +7,7 @@ use Rattle.paraid_base.specs.declared.fault.Halt.{Halt}
 use Rattle.paraid_base.specs.declared.fault.Halt.TheVariants.{Two as HaltTwo, Worn}
 use Rattle.paraid_base.specs.declared.fault.Two.{Two}
 use Rattle.paraid_base.specs.declared.pairs.Pairs.{Pairs}
+use Rattle.paraid_base.specs.Log.{worn_at}
 use Rattle.paraid_record.specs.declared.meta.Meta.{Meta}
 use Rattle.paraid_image.specs.Out.{or_else}
 use Rattle.paraid_rack.specs.Slots.{Slot}
@@ -45,11 +46,11 @@ pub two_wear : (m : Meta) (x : Two) → TellsItsWear m (Some (HaltTwo x))
 two_wear m x count is = let z : Some (HaltTwo x) ≡ Some (Worn count) = is in absurd cc
 
 -- what is worn tells its wear
-pub worn_wear : (m : Meta) (count : ℕ) → 2 ^ 62 ≤ count → count ≡ max m.epoch m.writes → TellsItsWear m (Some (Worn count))
+pub worn_wear : (m : Meta) (count : ℕ) → worn_at ≤ count → count ≡ max m.epoch m.writes → TellsItsWear m (Some (Worn count))
 worn_wear m count many made n is =
     let z : Some (Worn count) ≡ Some (Worn n) = is in
     let same : count ≡ n = cc in
-    (subst (λ (x : ℕ). 2 ^ 62 ≤ x) same many, sym same ∙ made)
+    (subst (λ (x : ℕ). worn_at ≤ x) same many, sym same ∙ made)
 
 -- what has ended does not go on
 pub ended_not_none : {A : Type 0} (ended : Ended) → Some ended ≡ None → A

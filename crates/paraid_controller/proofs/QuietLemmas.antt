@@ -3,13 +3,14 @@ use Rattle.paraid_base.specs.History.{Entry}
 use Rattle.std.specs.Prelude.{All, nat_lt}
 use Rattle.std.proofs.lemmas.Bool.Decides.{nat_tests}
 use Rattle.std.proofs.lemmas.List.Elements.{All-head, All-tail}
-use Rattle.std.proofs.Common.{◌≡◌, ◌≢◌, ℕ, ◌^◌, ◌<◌, ◌≤◌, List, [], ◌∷◌, ◌++◌, Bool, true, false, length, Option, Some, None, refl, sym, ap, ◌∙◌, subst, arith}
+use Rattle.std.proofs.Common.{◌≡◌, ◌≢◌, ℕ, ◌<◌, ◌≤◌, List, [], ◌∷◌, ◌++◌, Bool, true, false, length, Option, Some, None, refl, sym, ap, ◌∙◌, subst, arith}
 use Rattle.paraid_base.specs.declared.event.Answer.TheVariants.{Energy as EnergyUsed, NoBlock, NoDisk, NotOut, Out as IsOut, State as IsState}
 use Rattle.paraid_base.specs.declared.event.Event.TheVariants.{Bad, Energy as AskEnergy, Fail, Read, Replace, State as AskState, Write}
 use Rattle.paraid_base.specs.declared.pairs.Pairs.{Pairs}
 use Rattle.paraid_base.specs.declared.state.Status.{Status}
 use Rattle.paraid_base.specs.BlockAnswers.{IsFirstMissing}
 use Rattle.paraid_base.specs.declared.block.Block.{Block}
+use Rattle.paraid_base.specs.Log.{worn_at}
 use Rattle.paraid_base.specs.Pairs.{pairs_of}
 use Rattle.paraid_base.specs.States.{named_out}
 use Rattle.paraid_dirty.specs.Table.{cell_count, dirty_count, is_dirty, row_count}
@@ -56,7 +57,7 @@ module _ {R : Type 0} {g : _} (count : R → ℕ) (told : R → Option Trail) (a
   pub state_told : (status : Status) (disks : ℕ) → disks ≡ a.setup.geometry.disks → ((p : Point) → ArrayStandsAt count told a p → status ≡ state_status a.setup (length p.history) p.state) → GoesOnByEvent count told a a AskState (IsState status disks)
   state_told status disks few is = subst (λ (n : ℕ). GoesOnByEvent count told a a AskState (IsState status n)) (sym few) (state_asked status is)
 
-  module _ (epoch : a.core.meta.epoch < 2 ^ 62) (writes : a.core.meta.writes < 2 ^ 62) where
+  module _ (epoch : a.core.meta.epoch < worn_at) (writes : a.core.meta.writes < worn_at) where
     -- blocks that there are not
     pub read_refused : (block : ℕ) → block_count a.setup ≤ block → GoesOnByEvent count told a a (Read block) (NoBlock block)
     read_refused block past = refuses count told a (Read block) (NoBlock block) going refl (λ e. let z : Read block ≡ Bad = e in cc) refl epoch writes

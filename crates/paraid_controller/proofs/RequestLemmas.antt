@@ -1,5 +1,5 @@
 -- Reads and writes of an array.
-use Rattle.std.proofs.Common.{◌≡◌, ℕ, ◌+◌, ◌^◌, ◌<◌, ◌≤◌, Bool, true, false, [], ◌∷◌, ◌++◌, length, Option, Some, None, refl, sym, ap, ◌∙◌, subst, arith, if◌then◌else◌}
+use Rattle.std.proofs.Common.{◌≡◌, ℕ, ◌+◌, ◌<◌, ◌≤◌, Bool, true, false, [], ◌∷◌, ◌++◌, length, Option, Some, None, refl, sym, ap, ◌∙◌, subst, arith, if◌then◌else◌}
 use Rattle.std.specs.Prelude.{All, IsSome}
 use Rattle.paraid_base.specs.declared.block.Block.{Block}
 use Rattle.paraid_base.specs.declared.event.Answer.TheVariants.{Halted, Value, Wrote}
@@ -9,6 +9,7 @@ use Rattle.paraid_base.specs.declared.fault.Halt.TheVariants.{Two as HaltTwo}
 use Rattle.paraid_base.specs.declared.fault.Two.{Two}
 use Rattle.paraid_base.specs.declared.pairs.Pairs.{Pairs}
 use Rattle.paraid_base.specs.History.{History, after_all}
+use Rattle.paraid_base.specs.Log.{worn_at}
 use Rattle.paraid_base.specs.Pairs.{pairs_of}
 use Rattle.paraid_gear.specs.declared.windows.Windows.{Windows}
 use Rattle.paraid_gear.specs.ThreeWindows.{HoldLastSamples, sample_of}
@@ -58,7 +59,7 @@ module _ {R : Type 0} {g : _} (count : R → ℕ) (a b : Array R g) (same : b.co
       ∙ writes_agree b.core.meta.setup.geometry.rows b.core.meta (pairs_of pairs) (is_dirty a.core.dirty) s (record { gear = of.gear; phase = of.phase; out = of.out }) (λ q e l. sym (of.dirty q e l)) r d low)
 
 module _ {R : Type 0} {g : _} (count : R → ℕ) (slot : R → ℕ → Slot) (told : R → Option Trail) (agrees : (x : R) (t : Trail) → told x ≡ Some t → Agrees (now t) (slot x)) (a b : Array R g) (going : a.ended ≡ None)
-    (epoch : a.core.meta.epoch < 2 ^ 62) (writes : a.core.meta.writes < 2 ^ 62) (flag : Bool) (calls : MakesTransferCalls told a.core b.core) (past : flag ≡ false → MakesDataCalls told a.core b.core)
+    (epoch : a.core.meta.epoch < worn_at) (writes : a.core.meta.writes < worn_at) (flag : Bool) (calls : MakesTransferCalls told a.core b.core) (past : flag ≡ false → MakesDataCalls told a.core b.core)
     (whole : flag ≡ true → CommitsWhole count told a.core b.core) where
   low_by : (f : Bool) (low long : ℕ) → low ≤ long → low ≤ (if f then long else low)
   low_by true low long l = l

@@ -1,5 +1,5 @@
 -- Where an array stands, from one event to the next.
-use Rattle.std.proofs.Common.{◌≡◌, ◌≢◌, ℕ, ◌^◌, ◌<◌, ◌≤◌, true, false, List, [], length, Option, Some, None, refl, sym, ap, ◌∙◌, subst, arith}
+use Rattle.std.proofs.Common.{◌≡◌, ◌≢◌, ℕ, ◌<◌, ◌≤◌, true, false, List, [], length, Option, Some, None, refl, sym, ap, ◌∙◌, subst, arith}
 use Rattle.std.specs.Prelude.{max, IsSome}
 use Rattle.paraid_base.specs.declared.event.Answer.{Answer}
 use Rattle.paraid_base.specs.declared.event.Answer.TheVariants.{Halted}
@@ -7,6 +7,7 @@ use Rattle.paraid_base.specs.declared.event.Event.{Event}
 use Rattle.paraid_base.specs.declared.event.Event.TheVariants.{Bad}
 use Rattle.paraid_base.specs.declared.fault.Halt.{Halt}
 use Rattle.paraid_base.specs.declared.fault.Halt.TheVariants.{Worn}
+use Rattle.paraid_base.specs.Log.{worn_at}
 use Rattle.paraid_gear.specs.ThreeWindows.{HoldLastSamples, sample_of}
 use Rattle.paraid_rack.specs.declared.call.Call.{Call}
 use Rattle.paraid_rack.specs.Disks.{Disks}
@@ -40,10 +41,10 @@ wear_is told k setup p at =
     let writes : length p.history ≡ k.meta.writes = sym at.stands.keeps.writes in
     rw (epoch, writes) refl
 
-pub wear_fits : (told : Option Trail) (k : Service) (setup : Setup) (p : Point) → StandsAt told k setup p → k.meta.epoch < 2 ^ 62 → k.meta.writes < 2 ^ 62 → point_wear p < 2 ^ 62
+pub wear_fits : (told : Option Trail) (k : Service) (setup : Setup) (p : Point) → StandsAt told k setup p → k.meta.epoch < worn_at → k.meta.writes < worn_at → point_wear p < worn_at
 wear_fits told k setup p at epoch writes = let is = wear_is told k setup p at in rw is (below (k.meta.epoch) (k.meta.writes) epoch writes)
   where
-    below : (a b : ℕ) → a < 2 ^ 62 → b < 2 ^ 62 → max a b < 2 ^ 62
+    below : (a b : ℕ) → a < worn_at → b < worn_at → max a b < worn_at
     below a b x y = grind (arith)
 
 module _ {R : Type 0} {g : _} (count : R → ℕ) (told : R → Option Trail) where
@@ -89,8 +90,8 @@ module _ {R : Type 0} {g : _} (count : R → ℕ) (told : R → Option Trail) wh
 
   -- So it is of one that an array takes which has made fewer commits and writes.
   pub refuses : (a : Array R g) (event : Event) (answer : Answer) → halt_of_end a.ended ≡ None → halt_told answer ≡ None → event ≢ Bad → accepted_write event answer ≡ []
-      → a.core.meta.epoch < 2 ^ 62 → a.core.meta.writes < 2 ^ 62
-      → ((p : Point) (samples : List ℕ) (requests : ℕ) → StandsAt (told_of_array told a) (service_of count a.core samples requests a.energy) a.setup p → point_wear p < 2 ^ 62
+      → a.core.meta.epoch < worn_at → a.core.meta.writes < worn_at
+      → ((p : Point) (samples : List ℕ) (requests : ℕ) → StandsAt (told_of_array told a) (service_of count a.core samples requests a.energy) a.setup p → point_wear p < worn_at
       → Ran (told_of_array told a) (told_of_array told a) (GoesOn (count (core_rack a.core)) a.setup p event answer (StandsAt (told_of_array told a) (service_of count a.core samples requests a.energy) a.setup)))
       → GoesOnByEvent count told a a event answer
   refuses a event answer going no_halt not_bad none epoch writes law = stays_on a event answer going no_halt not_bad none
@@ -122,13 +123,13 @@ abbrev pub end_by : Halt → ℕ → Ended
 end_by halt gear = record { halt = halt; gear = gear }
 
 -- An array that takes no more ends its service.
-module _ {R : Type 0} {g : _} (count : R → ℕ) (told : R → Option Trail) (a b : Array R g) (event : Event) (n : ℕ) (going : halt_of_end a.ended ≡ None) (not_bad : event ≢ Bad) (asked : may_halt event ≡ true) (many : 2 ^ 62 ≤ n)
+module _ {R : Type 0} {g : _} (count : R → ℕ) (told : R → Option Trail) (a b : Array R g) (event : Event) (n : ℕ) (going : halt_of_end a.ended ≡ None) (not_bad : event ≢ Bad) (asked : may_halt event ≡ true) (many : worn_at ≤ n)
     (is : n ≡ max a.core.meta.epoch a.core.meta.writes) (core : b.core ≡ a.core) (energy : b.energy ≡ a.energy) (ended : b.ended ≡ Some (end_by (Worn n) a.core.meta.gear)) where
   pub worn_on : GoesOnByEvent count told a b event (Halted (Worn n))
   worn_on p at =
       let s = at.serves (none_ended a.ended going) in
       let wear : point_wear p ≡ n = wear_is (told_of_array told a) (service_of count a.core s.samples s.requests a.energy) a.setup p s.stands ∙ sym is in
-      let ran = worn_turn (told_of_array told a) (service_of count a.core s.samples s.requests a.energy) a.setup p s.stands event not_bad asked (subst (λ (x : ℕ). 2 ^ 62 ≤ x) (sym wear) many) in
+      let ran = worn_turn (told_of_array told a) (service_of count a.core s.samples s.requests a.energy) a.setup p s.stands event not_bad asked (subst (λ (x : ℕ). worn_at ≤ x) (sym wear) many) in
       let named = subst (λ (x : ℕ). Ran (told_of_array told a) (told_of_array told a) (GoesOn (count (core_rack a.core)) a.setup p event (Halted (Worn x)) (λ q. q ≡ with_halt p (Worn x)))) wear ran in
       let moved = subst (λ (c : Core R g). Ran (told_of_array told a) (told (core_rack c)) (GoesOn (count (core_rack a.core)) a.setup p event (Halted (Worn n)) (λ q. q ≡ with_halt p (Worn n)))) (sym core) named in
       ended_on count told a b p event (Halted (Worn n)) (end_by (Worn n) a.core.meta.gear) (λ q. q ≡ with_halt p (Worn n)) ended

@@ -1,10 +1,11 @@
 -- A tick of an array.
-use Rattle.std.proofs.Common.{◌≡◌, ℕ, ◌+◌, ◌^◌, ◌<◌, Bool, List, [], ◌∷◌, ◌++◌, Option, Some, None, refl, sym, ap, ◌∙◌, subst, arith, min}
+use Rattle.std.proofs.Common.{◌≡◌, ℕ, ◌+◌, ◌<◌, Bool, List, [], ◌∷◌, ◌++◌, Option, Some, None, refl, sym, ap, ◌∙◌, subst, arith, min}
 use Rattle.paraid_base.specs.declared.event.Answer.TheVariants.{Halted, Ticked}
 use Rattle.paraid_base.specs.declared.event.Event.TheVariants.{Bad, Tick}
 use Rattle.paraid_base.specs.declared.fault.Halt.TheVariants.{Two as HaltTwo}
 use Rattle.paraid_base.specs.declared.fault.Two.{Two}
 use Rattle.paraid_base.specs.declared.state.GearReport.{GearReport}
+use Rattle.paraid_base.specs.Log.{worn_at}
 use Rattle.paraid_gear.specs.ThreeWindows.{HoldLastSamples, sample_of}
 use Rattle.paraid_rack.specs.Told.{Ran}
 use Rattle.paraid_rack.specs.Trail.{Trail}
@@ -40,7 +41,7 @@ same_service : (slots slots' : ℕ) (named named' : Option ℕ) (meta meta' : Me
 same_service slots slots' named named' meta meta' table table' batch batch' copied copied' samples served energy e1 e2 e3 e4 e5 e6 = rw (e1, e2, e3, e4, e5, e6) refl
 
 -- `c` is the core of `a` that has counted the tick, with so much energy used; `b` is the array after it.
-module _ {R : Type 0} {g : _} (count : R → ℕ) (told : R → Option Trail) (a b : Array R g) (c : Core R g) (going : a.ended ≡ None) (epoch : a.core.meta.epoch < 2 ^ 62) (writes : a.core.meta.writes < 2 ^ 62)
+module _ {R : Type 0} {g : _} (count : R → ℕ) (told : R → Option Trail) (a b : Array R g) (c : Core R g) (going : a.ended ≡ None) (epoch : a.core.meta.epoch < worn_at) (writes : a.core.meta.writes < worn_at)
     (store : c.store ≡ a.core.store) (meta : c.meta ≡ with_tick a.core.meta) (table : c.dirty ≡ a.core.dirty) (batch : c.batch ≡ a.core.batch) (copied : c.copied ≡ a.core.copied) (used : ℕ)
     (own : (s : PowerState) → s.gear ≡ a.core.meta.gear → s.phase ≡ a.core.meta.phase → s.out ≡ a.core.meta.out → used ≡ min (a.energy + tick_energy a.core.meta.setup s) 18446744073709551615) where
   counts : (samples : List ℕ) (requests : ℕ) → CountsTick (service_of count a.core samples requests a.energy) (service_of count c (samples ++ sample_of requests ∷ []) 0 used)
@@ -62,7 +63,7 @@ module _ {R : Type 0} {g : _} (count : R → ℕ) (told : R → Option Trail) (a
     ticks_on report turn ended setup served energy p at =
         let s : ServesAt count told a p = at.serves going in
         let k : Service = service_of count a.core s.samples s.requests a.energy in
-        let fit : point_wear p < 2 ^ 62 = wear_fits (told_of_array told a) k a.setup p s.stands epoch writes in
+        let fit : point_wear p < worn_at = wear_fits (told_of_array told a) k a.setup p s.stands epoch writes in
         let samples : List ℕ = s.samples ++ sample_of s.requests ∷ [] in
         let held : HoldLastSamples b.windows samples = windows_then s.samples s.requests s.windows s.served in
         let all : ℕ = min (used + begun_energy a.setup p.state.gear report.event) 18446744073709551615 in
@@ -78,7 +79,7 @@ module _ {R : Type 0} {g : _} (count : R → ℕ) (told : R → Option Trail) (a
     tick_halts x halts energy ended p at =
         let s : ServesAt count told a p = at.serves going in
         let k : Service = service_of count a.core s.samples s.requests a.energy in
-        let fit : point_wear p < 2 ^ 62 = wear_fits (told_of_array told a) k a.setup p s.stands epoch writes in
+        let fit : point_wear p < worn_at = wear_fits (told_of_array told a) k a.setup p s.stands epoch writes in
         let samples : List ℕ = s.samples ++ sample_of s.requests ∷ [] in
         ended_on count told a b p Tick (Halted (HaltTwo x)) (end_by (HaltTwo x) a.core.meta.gear) (IsHaltedWith p (HaltTwo x) used) ended
         (λ q is. record {

@@ -1,11 +1,12 @@
 -- The events over a core as events of an array.
-use Rattle.std.proofs.Common.{◌≡◌, ◌≢◌, ℕ, ◌^◌, ◌<◌, ◌≤◌, Option, Some, None, sym, ap, ◌∙◌, subst}
+use Rattle.std.proofs.Common.{◌≡◌, ◌≢◌, ℕ, ◌<◌, ◌≤◌, Option, Some, None, sym, ap, ◌∙◌, subst}
 use Rattle.paraid_base.specs.declared.event.Answer.{Answer}
 use Rattle.paraid_base.specs.declared.event.Answer.TheVariants.{Halted}
 use Rattle.paraid_base.specs.declared.event.Event.{Event}
 use Rattle.paraid_base.specs.declared.event.Event.TheVariants.{Bad}
 use Rattle.paraid_base.specs.declared.fault.Halt.TheVariants.{Two as HaltTwo}
 use Rattle.paraid_base.specs.declared.fault.Two.{Two}
+use Rattle.paraid_base.specs.Log.{worn_at}
 use Rattle.paraid_gear.specs.declared.windows.Windows.{Windows}
 use Rattle.paraid_gear.specs.ThreeWindows.{HoldLastSamples}
 use Rattle.paraid_rack.specs.Told.{Ran}
@@ -23,7 +24,7 @@ use Rattle.paraid_controller.specs.Arrays.{GoesOnByEvent, ServesAt, told_of_arra
 use Rattle.paraid_controller.proofs.StandLemmas.{end_by, ended_on, served_on, wear_fits}
 
 -- An event over the core takes no sample, and accepts no write.
-module _ {R : Type 0} {g : _} (count : R → ℕ) (told : R → Option Trail) (a b : Array R g) (going : a.ended ≡ None) (epoch : a.core.meta.epoch < 2 ^ 62) (writes : a.core.meta.writes < 2 ^ 62) where
+module _ {R : Type 0} {g : _} (count : R → ℕ) (told : R → Option Trail) (a b : Array R g) (going : a.ended ≡ None) (epoch : a.core.meta.epoch < worn_at) (writes : a.core.meta.writes < worn_at) where
   -- it was answered
   pub core_on : (event : Event) (answer : Answer) → CoreGoesOn count told a.core b.core event answer → halt_told answer ≡ None → event ≢ Bad
       → b.ended ≡ None → b.setup ≡ a.setup → b.windows ≡ a.windows → b.served ≡ a.served
@@ -31,7 +32,7 @@ module _ {R : Type 0} {g : _} (count : R → ℕ) (told : R → Option Trail) (a
   core_on event answer turn no_halt not_bad ended setup windows served energy p at =
       let s : ServesAt count told a p = at.serves going in
       let k : Service = service_of count a.core s.samples s.requests a.energy in
-      let fit : point_wear p < 2 ^ 62 = wear_fits (told_of_array told a) k a.setup p s.stands epoch writes in
+      let fit : point_wear p < worn_at = wear_fits (told_of_array told a) k a.setup p s.stands epoch writes in
       let used : b.energy ≡ energy_after a.setup a.energy p.state answer = energy p.state s.stands.fits in
       served_on count told a b p event answer s.samples s.requests no_halt not_bad ended setup
       (subst (λ (w : Windows). HoldLastSamples w s.samples) (sym windows) s.windows) (served ∙ s.served)
@@ -43,7 +44,7 @@ module _ {R : Type 0} {g : _} (count : R → ℕ) (told : R → Option Trail) (a
   core_halts event x halts energy ended p at =
       let s : ServesAt count told a p = at.serves going in
       let k : Service = service_of count a.core s.samples s.requests a.energy in
-      let fit : point_wear p < 2 ^ 62 = wear_fits (told_of_array told a) k a.setup p s.stands epoch writes in
+      let fit : point_wear p < worn_at = wear_fits (told_of_array told a) k a.setup p s.stands epoch writes in
       ended_on count told a b p event (Halted (HaltTwo x)) (end_by (HaltTwo x) a.core.meta.gear) (IsHaltedFrom p (HaltTwo x)) ended
       (λ q is. record {
         halt = ap (λ (z : Point). z.halt) is;

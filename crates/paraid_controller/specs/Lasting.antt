@@ -1,7 +1,8 @@
 -- What an array keeps between two events, over every rack: while there is no halt, and after one.
-use Rattle.std.specs.Prelude.{◌≡◌, ◌≢◌, ℕ, ◌≤◌, ◌^◌, max, false, List, Option, Some, None}
+use Rattle.std.specs.Prelude.{◌≡◌, ◌≢◌, ℕ, ◌≤◌, max, false, List, Option, Some, None}
 use Rattle.paraid_base.specs.declared.fault.Halt.{Halt}
 use Rattle.paraid_base.specs.declared.fault.Halt.TheVariants.{Worn}
+use Rattle.paraid_base.specs.Log.{worn_at}
 use Rattle.paraid_rack.specs.declared.call.Power.TheVariants.{Spinning}
 use Rattle.paraid_rack.specs.Disks.{is_present}
 use Rattle.paraid_rack.specs.Slots.{Slot}
@@ -32,4 +33,4 @@ halt_of_end (Some ended) = Some ended.halt
 
 -- A halt that tells wear tells the greater of the commits and the writes that this meta counts, and that is 2^62 or more.
 abbrev pub TellsItsWear : Meta → Option Halt → Type 0
-TellsItsWear m halt = (count : ℕ) → halt ≡ Some (Worn count) → (2 ^ 62 ≤ count) × (count ≡ max m.epoch m.writes)
+TellsItsWear m halt = (count : ℕ) → halt ≡ Some (Worn count) → (worn_at ≤ count) × (count ≡ max m.epoch m.writes)

@@ -1,7 +1,8 @@
 //! A check of an array: all writes are kept, and then what is false is counted.
-ghost use Rattle.std.specs.Prelude.{◌≡◌, ◌≢◌, ℕ, ◌<◌, ◌^◌, [], length, None, Option, Some, OnOk, IfErr, IfOk, IsSome};
+ghost use Rattle.std.specs.Prelude.{◌≡◌, ◌≢◌, ℕ, ◌<◌, [], length, None, Option, Some, OnOk, IfErr, IfOk, IsSome};
 ghost use Rattle.paraid_base.specs.declared.event.Answer.TheVariants.{Flushed, Halted};
 ghost use Rattle.paraid_base.specs.declared.event.Event.TheVariants.{Flush as FlushEvent};
+ghost use Rattle.paraid_base.specs.Log.{worn_at};
 ghost use Rattle.paraid_core.specs.Cores.{batch_of, meta_of};
 ghost use Rattle.paraid_rack.specs.Told.{Ran};
 ghost use Rattle.paraid_recover.specs.HeldMoments.{Extends};
@@ -24,8 +25,8 @@ impl<R: Rack> Array<R> {
     // Commits all that is staged, and counts what is false.
     fn commit_and_check(&mut self) -> Result<CheckReport, Halt>
         requires going { end_of_array self.old ≡ None }
-        requires epoch { (meta_of (core_of_array self.old)).epoch < 2 ^ 62 }
-        requires writes { (meta_of (core_of_array self.old)).writes < 2 ^ 62 }
+        requires epoch { (meta_of (core_of_array self.old)).epoch < worn_at }
+        requires writes { (meta_of (core_of_array self.old)).writes < worn_at }
         ensures answers { AnswersEvent R.slot_count R.slot R.told self.old self.new FlushEvent
             (answer_to_check (meta_of (core_of_array self.old)).writes result) }
         ensures sound { IfOk result (λ report. IsSome (told_of_array R.told self.new) → (p : Point)
@@ -46,8 +47,8 @@ impl<R: Rack> Array<R> {
     // Counts what is false where nothing is staged.
     fn check_kept(&mut self) -> Result<CheckReport, Halt>
         requires going { end_of_array self.old ≡ None }
-        requires epoch { (meta_of (core_of_array self.old)).epoch < 2 ^ 62 }
-        requires writes { (meta_of (core_of_array self.old)).writes < 2 ^ 62 }
+        requires epoch { (meta_of (core_of_array self.old)).epoch < worn_at }
+        requires writes { (meta_of (core_of_array self.old)).writes < worn_at }
         requires nothing { batch_of (core_of_array self.old) ≡ [] }
         ensures answers { AnswersEvent R.slot_count R.slot R.told self.old self.new FlushEvent
             (answer_to_check (meta_of (core_of_array self.old)).writes result) }
@@ -69,8 +70,8 @@ impl<R: Rack> Array<R> {
     // Checks an array that takes more commits.
     fn check_there(&mut self) -> Result<CheckReport, Halt>
         requires going { end_of_array self.old ≡ None }
-        requires epoch { (meta_of (core_of_array self.old)).epoch < 2 ^ 62 }
-        requires writes { (meta_of (core_of_array self.old)).writes < 2 ^ 62 }
+        requires epoch { (meta_of (core_of_array self.old)).epoch < worn_at }
+        requires writes { (meta_of (core_of_array self.old)).writes < worn_at }
         ensures answers { AnswersEvent R.slot_count R.slot R.told self.old self.new FlushEvent
             (answer_to_check (meta_of (core_of_array self.old)).writes result) }
         ensures sound { IfOk result (λ report. IsSome (told_of_array R.told self.new) → (p : Point)

@@ -1,7 +1,8 @@
 //! Disks of an array that are taken out and replaced.
-ghost use Rattle.std.specs.Prelude.{◌≡◌, ◌<◌, ◌^◌, true, None, IfSome};
+ghost use Rattle.std.specs.Prelude.{◌≡◌, ◌<◌, true, None, IfSome};
 ghost use Rattle.paraid_array.specs.Turns.{fail_answer, replace_answer};
 ghost use Rattle.paraid_base.specs.declared.event.Event.TheVariants.{Fail as FailEvent, Replace as ReplaceEvent};
+ghost use Rattle.paraid_base.specs.Log.{worn_at};
 ghost use Rattle.paraid_core.specs.Cores.{meta_of};
 ghost use Rattle.paraid_trace.specs.Answered.{answer_of};
 
@@ -41,8 +42,8 @@ impl<R: Rack> Array<R> {
     // Takes out a disk of the array.
     fn fail_there(&mut self, disk: DiskNo) -> Brief
         requires going { end_of_array self.old ≡ None }
-        requires epoch { (meta_of (core_of_array self.old)).epoch < 2 ^ 62 }
-        requires writes { (meta_of (core_of_array self.old)).writes < 2 ^ 62 }
+        requires epoch { (meta_of (core_of_array self.old)).epoch < worn_at }
+        requires writes { (meta_of (core_of_array self.old)).writes < worn_at }
         ensures answers { AnswersEvent R.slot_count R.slot R.told self.old self.new (FailEvent disk) (answer_of result) }
     {
         let gear = self.core.meta().gear;
@@ -59,8 +60,8 @@ impl<R: Rack> Array<R> {
     // Replaces a disk of the array.
     fn replace_there(&mut self, disk: DiskNo) -> Brief
         requires going { end_of_array self.old ≡ None }
-        requires epoch { (meta_of (core_of_array self.old)).epoch < 2 ^ 62 }
-        requires writes { (meta_of (core_of_array self.old)).writes < 2 ^ 62 }
+        requires epoch { (meta_of (core_of_array self.old)).epoch < worn_at }
+        requires writes { (meta_of (core_of_array self.old)).writes < worn_at }
         ensures answers { AnswersEvent R.slot_count R.slot R.told self.old self.new (ReplaceEvent disk) (answer_of result) }
     {
         let gear = self.core.meta().gear;

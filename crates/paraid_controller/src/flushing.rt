@@ -1,6 +1,7 @@
 //! A flush of an array.
-ghost use Rattle.std.specs.Prelude.{◌≡◌, ℕ, ◌<◌, ◌^◌, true, [], None, Option, Some};
+ghost use Rattle.std.specs.Prelude.{◌≡◌, ℕ, ◌<◌, true, [], None, Option, Some};
 ghost use Rattle.paraid_base.specs.BlockAnswers.{answer_to_flush};
+ghost use Rattle.paraid_base.specs.Log.{worn_at};
 ghost use Rattle.paraid_base.specs.declared.event.Event.TheVariants.{Flush as FlushEvent};
 ghost use Rattle.paraid_core.specs.Cores.{batch_of, meta_of};
 
@@ -23,8 +24,8 @@ impl<R: Rack> Array<R> {
     // Commits all that is staged.
     fn commit_all(&mut self) -> Result<u64, Halt>
         requires going { end_of_array self.old ≡ None }
-        requires epoch { (meta_of (core_of_array self.old)).epoch < 2 ^ 62 }
-        requires writes { (meta_of (core_of_array self.old)).writes < 2 ^ 62 }
+        requires epoch { (meta_of (core_of_array self.old)).epoch < worn_at }
+        requires writes { (meta_of (core_of_array self.old)).writes < worn_at }
         ensures answers { AnswersEvent R.slot_count R.slot R.told self.old self.new FlushEvent (answer_to_flush result) }
     {
         let gear = self.core.meta().gear;

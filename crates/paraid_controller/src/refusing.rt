@@ -1,9 +1,10 @@
 //! Questions, and events that are refused with no call of the rack.
-ghost use Rattle.std.specs.Prelude.{◌≡◌, ◌≢◌, ◌*◌, ◌-◌, ◌<◌, ◌≤◌, ◌^◌, max, true, length, None, Some, IfNone, IfSome};
+ghost use Rattle.std.specs.Prelude.{◌≡◌, ◌≢◌, ◌*◌, ◌-◌, ◌<◌, ◌≤◌, max, true, length, None, Some, IfNone, IfSome};
 ghost use Rattle.paraid_base.specs.declared.event.Answer.TheVariants.{Halted};
 ghost use Rattle.paraid_base.specs.declared.event.Event.{Event as EventType};
 ghost use Rattle.paraid_base.specs.declared.event.Event.TheVariants.{Energy as AskEnergy, State as AskState};
 ghost use Rattle.paraid_base.specs.declared.fault.Halt.TheVariants.{Worn};
+ghost use Rattle.paraid_base.specs.Log.{worn_at};
 ghost use Rattle.paraid_image.specs.Out.{named_out};
 ghost use Rattle.paraid_machine.specs.Machine.{block_count, state_status};
 ghost use Rattle.paraid_session.specs.Turn.{Point, may_halt};
@@ -12,12 +13,9 @@ ghost use Rattle.paraid_core.specs.Cores.{meta_of};
 
 use crate::Array;
 use crate::ended::Ended;
-use paraid_base::{Halt, Status};
+use paraid_base::{Halt, Status, WORN_AT};
 use paraid_rack::Rack;
 use paraid_trace::{Answered, Beside, Brief};
-
-/// An array that has made so many commits or writes takes no more.
-const WORN: u64 = 1 << 62;
 
 impl<R: Rack> Array<R> {
     ghost use Rattle.paraid_controller.specs.Lasting.{TellsItsWear};
@@ -110,20 +108,20 @@ impl<R: Rack> Array<R> {
 
     // How many commits or writes were made, the greater of the two, where it takes no more.
     pub(crate) fn worn(&self) -> Option<u64>
-        ensures worn { IfSome result (λ count. (2 ^ 62 ≤ count)
+        ensures worn { IfSome result (λ count. (worn_at ≤ count)
             × (count ≡ max (meta_of (core_of_array self.now)).epoch (meta_of (core_of_array self.now)).writes)) }
-        ensures fit { IfNone result (((meta_of (core_of_array self.now)).epoch < 2 ^ 62)
-            × ((meta_of (core_of_array self.now)).writes < 2 ^ 62)) }
+        ensures fit { IfNone result (((meta_of (core_of_array self.now)).epoch < worn_at)
+            × ((meta_of (core_of_array self.now)).writes < worn_at)) }
     {
         let meta = self.core.meta();
         let count = meta.epoch.max(meta.writes);
-        if count >= WORN { Some(count) } else { None }
+        if count >= WORN_AT { Some(count) } else { None }
     }
 
     // Ends the service of an array that takes no more.
     pub(crate) fn wear_out(&mut self, count: u64) -> Halt
         requires going { halt_of_array self.old ≡ None }
-        requires many { 2 ^ 62 ≤ count }
+        requires many { worn_at ≤ count }
         requires is { count ≡ max (meta_of (core_of_array self.old)).epoch (meta_of (core_of_array self.old)).writes }
         ensures core { core_of_array self.new ≡ core_of_array self.old }
         ensures answers { (event : EventType) → may_halt event ≡ true

@@ -1,7 +1,8 @@
 //! Reads and writes of an array.
-ghost use Rattle.std.specs.Prelude.{◌≡◌, ◌≢◌, ℕ, ◌+◌, ◌<◌, ◌≤◌, ◌^◌, [], All, None, Option, Some, true};
+ghost use Rattle.std.specs.Prelude.{◌≡◌, ◌≢◌, ℕ, ◌+◌, ◌<◌, ◌≤◌, [], All, None, Option, Some, true};
 ghost use Rattle.paraid_base.specs.declared.block.Block.{Block as BlockType};
 ghost use Rattle.paraid_base.specs.declared.event.Event.TheVariants.{Read as ReadEvent, Write as WriteEvent};
+ghost use Rattle.paraid_base.specs.Log.{worn_at};
 ghost use Rattle.paraid_base.specs.Pairs.{pairs_of};
 ghost use Rattle.paraid_core.specs.Cores.{meta_of};
 ghost use Rattle.paraid_gear.specs.ThreeWindows.{sample_of};
@@ -30,8 +31,8 @@ impl<R: Rack> Array<R> {
     // Reads a block that there is.
     fn read_there(&mut self, block: BlockNo, beside: &mut Beside) -> Answered
         requires going { end_of_array self.old ≡ None }
-        requires epoch { (meta_of (core_of_array self.old)).epoch < 2 ^ 62 }
-        requires writes { (meta_of (core_of_array self.old)).writes < 2 ^ 62 }
+        requires epoch { (meta_of (core_of_array self.old)).epoch < worn_at }
+        requires writes { (meta_of (core_of_array self.old)).writes < worn_at }
         requires block { block < block_count (setup_of_array self.old) }
         ensures answers { AnswersEvent R.slot_count R.slot R.told self.old self.new (ReadEvent block) (answer_with result beside.new) }
     {
@@ -52,8 +53,8 @@ impl<R: Rack> Array<R> {
     // Writes blocks that there are.
     fn write_there(&mut self, pairs: &Pairs) -> Brief
         requires going { end_of_array self.old ≡ None }
-        requires epoch { (meta_of (core_of_array self.old)).epoch < 2 ^ 62 }
-        requires writes { (meta_of (core_of_array self.old)).writes < 2 ^ 62 }
+        requires epoch { (meta_of (core_of_array self.old)).epoch < worn_at }
+        requires writes { (meta_of (core_of_array self.old)).writes < worn_at }
         requires blocks { All (λ (pair : ℕ × BlockType). pair.0 < block_count (setup_of_array self.old)) (pairs_of pairs.now) }
         ensures answers { AnswersEvent R.slot_count R.slot R.told self.old self.new (WriteEvent pairs.now) (answer_of result) }
     {

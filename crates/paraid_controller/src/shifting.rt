@@ -1,7 +1,8 @@
 //! Shifts of an array that are asked for.
-ghost use Rattle.std.specs.Prelude.{◌≡◌, ◌<◌, ◌^◌, true, None};
+ghost use Rattle.std.specs.Prelude.{◌≡◌, ◌<◌, true, None};
 ghost use Rattle.paraid_array.specs.Turns.{asked_answer};
 ghost use Rattle.paraid_base.specs.declared.event.Event.TheVariants.{Down as DownEvent, Up as UpEvent};
+ghost use Rattle.paraid_base.specs.Log.{worn_at};
 ghost use Rattle.paraid_core.specs.Cores.{meta_of};
 ghost use Rattle.paraid_controller.specs.Used.{asked_energy as energy_asked};
 ghost use Rattle.paraid_trace.specs.Answered.{answer_of};
@@ -45,8 +46,8 @@ impl<R: Rack> Array<R> {
     // Asks for a shift up.
     fn up_there(&mut self) -> Brief
         requires going { end_of_array self.old ≡ None }
-        requires epoch { (meta_of (core_of_array self.old)).epoch < 2 ^ 62 }
-        requires writes { (meta_of (core_of_array self.old)).writes < 2 ^ 62 }
+        requires epoch { (meta_of (core_of_array self.old)).epoch < worn_at }
+        requires writes { (meta_of (core_of_array self.old)).writes < worn_at }
         ensures answers { AnswersEvent R.slot_count R.slot R.told self.old self.new UpEvent (answer_of result) }
     {
         let gear = self.core.meta().gear;
@@ -67,8 +68,8 @@ impl<R: Rack> Array<R> {
     // Asks for a shift down.
     fn down_there(&mut self) -> Brief
         requires going { end_of_array self.old ≡ None }
-        requires epoch { (meta_of (core_of_array self.old)).epoch < 2 ^ 62 }
-        requires writes { (meta_of (core_of_array self.old)).writes < 2 ^ 62 }
+        requires epoch { (meta_of (core_of_array self.old)).epoch < worn_at }
+        requires writes { (meta_of (core_of_array self.old)).writes < worn_at }
         ensures answers { AnswersEvent R.slot_count R.slot R.told self.old self.new DownEvent (answer_of result) }
     {
         let gear = self.core.meta().gear;

@@ -1,6 +1,7 @@
 //! Ticks of an array.
-ghost use Rattle.std.specs.Prelude.{◌≡◌, ◌<◌, ◌^◌, true, None};
+ghost use Rattle.std.specs.Prelude.{◌≡◌, ◌<◌, true, None};
 ghost use Rattle.paraid_base.specs.declared.event.Event.TheVariants.{Tick as TickEvent};
+ghost use Rattle.paraid_base.specs.Log.{worn_at};
 ghost use Rattle.paraid_core.specs.Cores.{meta_of};
 ghost use Rattle.paraid_trace.specs.Answered.{answer_of};
 
@@ -18,8 +19,8 @@ impl<R: Rack> Array<R> {
     // Counts a tick, with its sample and what the disks used since the last one, and does what is due.
     fn tick_there(&mut self) -> Brief
         requires going { end_of_array self.old ≡ None }
-        requires epoch { (meta_of (core_of_array self.old)).epoch < 2 ^ 62 }
-        requires writes { (meta_of (core_of_array self.old)).writes < 2 ^ 62 }
+        requires epoch { (meta_of (core_of_array self.old)).epoch < worn_at }
+        requires writes { (meta_of (core_of_array self.old)).writes < worn_at }
         ensures answers { AnswersEvent R.slot_count R.slot R.told self.old self.new TickEvent (answer_of result) }
     {
         let gear = self.core.meta().gear;

@@ -6,6 +6,7 @@ use Rattle.std.proofs.lemmas.List.Elements.{All-nil}
 use Rattle.paraid_base.specs.declared.block.Block.{Block}
 use Rattle.paraid_base.specs.declared.state.Out.TheVariants.{Fresh, Gone}
 use Rattle.paraid_base.specs.History.{History}
+use Rattle.paraid_base.specs.Log.{log_least}
 use Rattle.paraid_base.specs.Regions.{disk_size, map_count, map_place_of}
 use Rattle.paraid_base.specs.States.{has_out}
 use Rattle.paraid_base.specs.Xor.{zero_block}
@@ -98,8 +99,8 @@ module _ (slots : ℕ) (named : Option ℕ) (m : Meta) (table : List (List Bool)
   contents_other : (x q : ℕ) → x ≢ d → contents t [] x q ≡ contents s [] x q
   unfolding contents
   contents_other x q apart =
-      ap (λ (b : Bool). if nat_lt q 100 then zero_block else (if b then t.block x q else zero_block)) (place_other x q apart)
-      ∙ ap (λ (b : Block). if nat_lt q 100 then zero_block else (if has_place s x q then b else zero_block)) (at.block x q apart)
+      ap (λ (b : Bool). if nat_lt q log_least then zero_block else (if b then t.block x q else zero_block)) (place_other x q apart)
+      ∙ ap (λ (b : Block). if nat_lt q log_least then zero_block else (if has_place s x q then b else zero_block)) (at.block x q apart)
 
   gate_shut : is_open (stored_block t d 0) ≡ false
   unfolding stored_block

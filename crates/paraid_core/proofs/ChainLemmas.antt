@@ -5,6 +5,7 @@ use Rattle.std.proofs.lemmas.Bool.Decides.{nat_tests}
 use Rattle.std.proofs.lemmas.List.{append-nil}
 use Rattle.paraid_base.specs.declared.fault.Two.{Two}
 use Rattle.paraid_base.specs.History.{History}
+use Rattle.paraid_base.specs.Log.{batch_room}
 use Rattle.paraid_base.specs.Told.{HasRisen}
 use Rattle.paraid_base.proofs.ToldLemmas.{HasRisen-later, HasRisen-sooner}
 use Rattle.paraid_image.specs.Out.{named_out, or_else}
@@ -151,7 +152,7 @@ after_raised slots slots' n n' o p named m table batch copied first h lo B C old
     (subst (λ (z : ℕ). Ran mid new (CrashTriple (IsHeldWithOneMissing slots' z p h (if first then length h else lo)) B C)) en two))
 
 -- the room
-pub first_false : (batch : Batch) (room : ℕ) → length batch ≤ 96 - room → commits_first batch room ≡ false
+pub first_false : (batch : Batch) (room : ℕ) → length batch ≤ batch_room - room → commits_first batch room ≡ false
 first_false batch room l = grind (arith, nat_tests)
 
 -- what is down

@@ -6,12 +6,13 @@ use Rattle.std.proofs.lemmas.Bool.{cases_Bool, false≢true}
 use Rattle.std.proofs.lemmas.Bool.Decides.{nat_tests}
 use Rattle.paraid_base.specs.declared.block.Block.{Block}
 use Rattle.paraid_base.specs.declared.geometry.Geometry.{Geometry}
+use Rattle.paraid_base.specs.Log.{log_least}
 use Rattle.paraid_base.specs.States.{has_out, phase_beside}
 use Rattle.paraid_base.specs.declared.state.Out.{Out}
 use Rattle.paraid_base.specs.declared.state.Out.TheVariants.{Fresh, Gone, No}
 use Rattle.paraid_base.specs.Cells.{home_disk, home_row}
 use Rattle.paraid_base.specs.History.{History, after_all}
-use Rattle.paraid_base.specs.Regions.{disk_size, hard_place_of, map_count}
+use Rattle.paraid_base.specs.Regions.{disk_size, hard_place_of, map_count, map_place_of}
 use Rattle.paraid_dirty.specs.Table.{ShowsBits, table_with_bit, is_dirty}
 use Rattle.paraid_image.specs.Content.{view_by}
 use Rattle.paraid_image.specs.Out.{named_out, out_disk}
@@ -54,18 +55,18 @@ abbrev pub target : ℕ → ℕ → Target
 target d p = record { disk = d; place = p }
 
 -- three blocks are drafted
-pub drafted : (a b c e : Batch) (r d p : ℕ) (x map : Block) (g : Geometry) → a ≡ [] → p ≡ hard_place_of g r → b ≡ a ++ (target d p, x) ∷ [] → c ≡ b ++ (target 0 (100 + r / 512), map) ∷ [] → e ≡ c ++ (target 1 (100 + r / 512), map) ∷ []
-    → e ≡ (target d (hard_place_of g r), x) ∷ (target 0 (100 + r / 512), map) ∷ (target 1 (100 + r / 512), map) ∷ []
+pub drafted : (a b c e : Batch) (r d p : ℕ) (x map : Block) (g : Geometry) → a ≡ [] → p ≡ hard_place_of g r → b ≡ a ++ (target d p, x) ∷ [] → c ≡ b ++ (target 0 (map_place_of g r), map) ∷ [] → e ≡ c ++ (target 1 (map_place_of g r), map) ∷ []
+    → e ≡ (target d (hard_place_of g r), x) ∷ (target 0 (map_place_of g r), map) ∷ (target 1 (map_place_of g r), map) ∷ []
 drafted a b c e r d p x map g none at first second third = rw (third, second, first, none, at) refl
 
 -- what is drafted, where no disk is out
 pub sync_drafted : (v : View) (r d : ℕ) (x map : Block) → named_out v.meta.out ≡ None → x ≡ value v r d
-    → (target d (hard_place_of v.meta.setup.geometry r), x) ∷ (target 0 (100 + r / 512), map) ∷ (target 1 (100 + r / 512), map) ∷ [] ≡ sync_targets v r d map
+    → (target d (hard_place_of v.meta.setup.geometry r), x) ∷ (target 0 (map_place_of v.meta.setup.geometry r), map) ∷ (target 1 (map_place_of v.meta.setup.geometry r), map) ∷ [] ≡ sync_targets v r d map
 sync_drafted v r d x map none is =
     let g = v.meta.setup.geometry in
     let unit : ℕ = g.rows + soft_count v.meta + r / 512 in
-    ap (λ (y : Block). (target d (hard_place_of g r), y) ∷ (target 0 (100 + r / 512), map) ∷ (target 1 (100 + r / 512), map) ∷ []) is
-    ∙ ap (λ (o : Out). target_if (is_written o d r) d (hard_place_of g r) (value v r d) ++ (target_if (is_written o 0 unit) 0 (100 + r / 512) map ++ target_if (is_written o 1 unit) 1 (100 + r / 512) map))
+    ap (λ (y : Block). (target d (hard_place_of g r), y) ∷ (target 0 (map_place_of g r), map) ∷ (target 1 (map_place_of g r), map) ∷ []) is
+    ∙ ap (λ (o : Out). target_if (is_written o d r) d (hard_place_of g r) (value v r d) ++ (target_if (is_written o 0 unit) 0 (map_place_of g r) map ++ target_if (is_written o 1 unit) 1 (map_place_of g r) map))
     (sym (none_no v.meta.out none))
 
 module _ (slots : ℕ) (named : Option ℕ) (m : Meta) (table table_then : List (List Bool)) (batch batch_then draft : Batch) (copied : List Bool) (h : History) (lo : ℕ) (s : Disks)
@@ -104,7 +105,7 @@ module _ (slots : ℕ) (named : Option ℕ) (m : Meta) (table table_then : List 
       let large = k.staged.kept.disks.fresh_large e count fresh in
       rw fresh.present (let l : p < s.size e = omega arith in grind (arith, nat_tests))
 
-  agree : (e u p : ℕ) → e < m.setup.geometry.disks → IsUnitKept s.power m (out_disk s.power m) e u → 100 ≤ p → p < disk_size m.setup.geometry → g e p ≡ overlaid_blocks (sync_targets v r d map) f e p
+  agree : (e u p : ℕ) → e < m.setup.geometry.disks → IsUnitKept s.power m (out_disk s.power m) e u → log_least ≤ p → p < disk_size m.setup.geometry → g e p ≡ overlaid_blocks (sync_targets v r d map) f e p
   agree e u p le at far near =
       ap (λ (z : Contents). z e p) (contents_laid s batch_then (batch ++ draft) laid_same)
       ∙ laid_there s batch draft e p (kept_place e u p le at near) far

@@ -8,6 +8,7 @@ use Rattle.paraid_base.specs.declared.state.Out.{Out}
 use Rattle.paraid_base.specs.declared.state.Out.TheVariants.{Fresh, Gone, No}
 use Rattle.paraid_base.specs.History.{History}
 use Rattle.paraid_base.proofs.StatesLemmas.{rising_to-beside}
+use Rattle.paraid_base.specs.Log.{log_least}
 use Rattle.paraid_base.specs.Regions.{map_count, map_place_of}
 use Rattle.paraid_dirty.specs.Table.{is_dirty}
 use Rattle.paraid_rack.specs.declared.call.Call.{Call}
@@ -288,10 +289,10 @@ module _ (slots : ℕ) (named : Option ℕ) (m : Meta) (table : List (List Bool)
     place_then x q lx not =
         ap (λ (w : Power). is_present w && nat_lt q (t.size x)) (power x lx not) ∙ ap (λ (z : ℕ). is_present (s.power x) && nat_lt q z) (size x lx not)
 
-    contents_by : (batch_then : Batch) → batch_then ≡ [] → ((d p : ℕ) → gone_out m.out ≢ Some d → has_place i d p ≡ true → 100 ≤ p → contents i batch_then d p ≡ contents s batch d p)
+    contents_by : (batch_then : Batch) → batch_then ≡ [] → ((d p : ℕ) → gone_out m.out ≢ Some d → has_place i d p ≡ true → log_least ≤ p → contents i batch_then d p ≡ contents s batch d p)
         → (x q : ℕ) → x < m.setup.geometry.disks → lost ≢ Some x → gone_out m.out ≢ Some x → contents t [] x q ≡ contents s batch x q
     unfolding contents
-    contents_by batch_then none blocks x q lx not not_gone = elim (cases_Bool (nat_lt q 100)) [
+    contents_by batch_then none blocks x q lx not not_gone = elim (cases_Bool (nat_lt q log_least)) [
       | inl near ↦ rw near refl
       | inr far ↦ elim (cases_Bool (has_place t x q)) [
         | inl there ↦ rw none at (blocks x q not_gone there (grind (arith, nat_tests)))

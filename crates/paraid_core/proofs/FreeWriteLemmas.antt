@@ -6,6 +6,7 @@ use Rattle.paraid_base.specs.declared.block.Block.{Block}
 use Rattle.paraid_base.specs.declared.geometry.Geometry.{Geometry}
 use Rattle.paraid_base.specs.declared.state.Out.TheVariants.{Fresh, No}
 use Rattle.paraid_base.specs.History.{History}
+use Rattle.paraid_base.specs.Log.{map_start}
 use Rattle.paraid_base.specs.Regions.{hard_place_of, map_count, map_place_of}
 use Rattle.paraid_dirty.specs.Table.{is_dirty}
 use Rattle.paraid_rack.specs.declared.call.Call.TheVariants.{Write}
@@ -104,7 +105,7 @@ module _ (slots : ℕ) (named : Option ℕ) (m : Meta) (table : List (List Bool)
   free_cell r e lr low dirty =
       dirty_cell r lr low (ap (λ (o : Option ℕ). map_bit m.setup.geometry (f (map_disk o)) r e) (sym none) ∙ sym (k.dirty r e (omega arith)) ∙ dirty) refl
 
-  module _ (e p : ℕ) (b : Block) (copied_then : List Bool) (below : e < m.setup.geometry.disks) (past_map : 100 + map_count m.setup.geometry ≤ p) (marks : IsMarkedAt copied copied_then e)
+  module _ (e p : ℕ) (b : Block) (copied_then : List Bool) (below : e < m.setup.geometry.disks) (past_map : map_start m.setup.geometry + map_count m.setup.geometry ≤ p) (marks : IsMarkedAt copied copied_then e)
       (free : IsFree (view_with_out m None (contents s [])) e p) (free_base : IsFree (view_by k.base s.power k.held) e p) where
     abbrev u : Disks
     u = record s { block = with_at s.block e (with_at (s.block e) p b); loose = with_at s.loose e (with_at (s.loose e) p true) }

@@ -6,6 +6,7 @@ use Rattle.std.proofs.lemmas.Bool.{cases_Bool, cases_lt, false≢true}
 use Rattle.paraid_base.specs.declared.block.Block.{Block}
 use Rattle.paraid_base.specs.declared.state.Out.{Out}
 use Rattle.paraid_base.specs.declared.state.Out.TheVariants.{Fresh, Gone, No}
+use Rattle.paraid_base.specs.Log.{batch_room, log_least}
 use Rattle.paraid_rack.specs.declared.call.Call.{Call}
 use Rattle.paraid_rack.specs.declared.call.Call.TheVariants.{Read, Write, Sync, Park, SpinUp, Attach}
 use Rattle.paraid_rack.specs.declared.call.Power.TheVariants.{Spinning}
@@ -142,7 +143,7 @@ calls_off n k away off same is old new reads apart =
     (both_of (AreArrayReads k) (AreOffDisk off) old new reads apart)
 
 -- one write past the log
-pub written_calls : (n : ℕ) (away : Option ℕ) (d p : ℕ) (b : Block) (done : Bool) (old new : Option Trail) → GrowsByCall old new (Write d p b done) → d < n → away ≢ Some d → 100 ≤ p
+pub written_calls : (n : ℕ) (away : Option ℕ) (d p : ℕ) (b : Block) (done : Bool) (old new : Option Trail) → GrowsByCall old new (Write d p b done) → d < n → away ≢ Some d → log_least ≤ p
     → ((t : Trail) → old ≡ Some t → (now t).power d ≡ Spinning) → Ran old new (EachCall (IsDataCall n away))
 written_calls n away d p b done old new grows low not far spins = Ran-call (EachCall (IsDataCall n away)) old new (Write d p b done) grows (λ t is. (spins t is, (low, not, far), tt))
 
@@ -213,8 +214,8 @@ reads_of n k is old new ran = subst (λ (z : ℕ). Ran old new (AreArrayReads z)
 pub reads_then : (n k : ℕ) → k ≡ n → (old mid new : Option Trail) → Ran old mid (AreArrayReads n) → Ran mid new (AreArrayReads k) → Ran old new (AreArrayReads n)
 reads_then n k is old mid new first second = ran_then old mid new n first (reads_of n k is mid new second)
 
-pub first_true : (batch : Batch) (targets : ℕ) → 96 - targets < length batch → commits_first batch targets ≡ true
-first_true batch targets low = by (96 - targets) (length batch) low
+pub first_true : (batch : Batch) (targets : ℕ) → batch_room - targets < length batch → commits_first batch targets ≡ true
+first_true batch targets low = by (batch_room - targets) (length batch) low
   where
     by : (a b : ℕ) → a < b → nat_lt a b ≡ true
     by a b l = grind (arith, nat_tests)

@@ -6,6 +6,7 @@ use Rattle.std.proofs.lemmas.Bool.{cases_eq, false≢true}
 use Rattle.paraid_base.specs.declared.block.Block.{Block}
 use Rattle.paraid_base.specs.declared.state.Out.TheVariants.{Fresh, Gone}
 use Rattle.paraid_base.specs.History.{History}
+use Rattle.paraid_base.specs.Log.{log_least}
 use Rattle.paraid_base.specs.Regions.{map_count}
 use Rattle.paraid_base.specs.Xor.{zero_block}
 use Rattle.paraid_dirty.specs.Table.{is_dirty}
@@ -91,9 +92,9 @@ module _ (slots : ℕ) (named : Option ℕ) (m : Meta) (table : List (List Bool)
   contents_other : (x q : ℕ) → x ≢ d → contents t batch x q ≡ contents s batch x q
   unfolding contents
   contents_other x q apart =
-      ap (λ (w : Power). if nat_lt q 100 then zero_block else (if is_present w && nat_lt q (t.size x) then overlaid_block batch x q (t.block x q) else zero_block)) (power_other x apart)
-      ∙ ap (λ (z : ℕ). if nat_lt q 100 then zero_block else (if is_present (s.power x) && nat_lt q z then overlaid_block batch x q (t.block x q) else zero_block)) (size_other x apart)
-      ∙ ap (λ (b : Block). if nat_lt q 100 then zero_block else (if is_present (s.power x) && nat_lt q (s.size x) then overlaid_block batch x q b else zero_block)) (lost.block x q apart)
+      ap (λ (w : Power). if nat_lt q log_least then zero_block else (if is_present w && nat_lt q (t.size x) then overlaid_block batch x q (t.block x q) else zero_block)) (power_other x apart)
+      ∙ ap (λ (z : ℕ). if nat_lt q log_least then zero_block else (if is_present (s.power x) && nat_lt q z then overlaid_block batch x q (t.block x q) else zero_block)) (size_other x apart)
+      ∙ ap (λ (b : Block). if nat_lt q log_least then zero_block else (if is_present (s.power x) && nat_lt q (s.size x) then overlaid_block batch x q b else zero_block)) (lost.block x q apart)
 
   shape : m.setup ≡ k.base.setup
   shape = k.next.setup

@@ -7,7 +7,8 @@ use Rattle.paraid_base.specs.declared.block.Block.{Block}
 use Rattle.paraid_base.specs.declared.state.Out.{Out}
 use Rattle.paraid_base.specs.declared.state.Out.TheVariants.{No}
 use Rattle.paraid_base.specs.History.{History}
-use Rattle.paraid_base.specs.Regions.{disk_size, hard_place_of, map_count, soft_place_of}
+use Rattle.paraid_base.specs.Log.{log_least, map_start}
+use Rattle.paraid_base.specs.Regions.{disk_size, hard_place_of, map_count, map_place_of, soft_place_of}
 use Rattle.paraid_base.specs.Soft.{soft_disk, soft_stripe}
 use Rattle.paraid_dirty.specs.Table.{ShowsBits, is_dirty, table_with_bit}
 use Rattle.paraid_image.specs.Content.{view_by}
@@ -35,12 +36,12 @@ use Rattle.paraid_core.proofs.LostDiskLemmas.{out_all}
 use Rattle.paraid_core.proofs.WriteLemmas.{contents_laid, laid_there}
 
 -- two blocks are drafted
-pub map_drafted : (m : Meta) (a b c : Batch) (r : ℕ) (map : Block) → m.out ≡ No → a ≡ [] → b ≡ a ++ (target 0 (100 + r / 512), map) ∷ [] → c ≡ b ++ (target 1 (100 + r / 512), map) ∷ []
+pub map_drafted : (m : Meta) (a b c : Batch) (r : ℕ) (map : Block) → m.out ≡ No → a ≡ [] → b ≡ a ++ (target 0 (map_place_of m.setup.geometry r), map) ∷ [] → c ≡ b ++ (target 1 (map_place_of m.setup.geometry r), map) ∷ []
     → c ≡ map_targets m (r / 512) map
 map_drafted m a b c r map no_out none first second =
     let unit : ℕ = m.setup.geometry.rows + soft_count m + r / 512 in
-    let all : c ≡ (target 0 (100 + r / 512), map) ∷ (target 1 (100 + r / 512), map) ∷ [] = rw (second, first, none) refl in
-    all ∙ ap (λ (o : Out). target_if (is_written o 0 unit) 0 (100 + r / 512) map ++ target_if (is_written o 1 unit) 1 (100 + r / 512) map) (sym no_out)
+    let all : c ≡ (target 0 (map_place_of m.setup.geometry r), map) ∷ (target 1 (map_place_of m.setup.geometry r), map) ∷ [] = rw (second, first, none) refl in
+    all ∙ ap (λ (o : Out). target_if (is_written o 0 unit) 0 (map_place_of m.setup.geometry r) map ++ target_if (is_written o 1 unit) 1 (map_place_of m.setup.geometry r) map) (sym no_out)
 
 -- where there is no place nothing is seen
 no_place : (s : Disks) (a b : Batch) (x q : ℕ) → has_place s x q ≡ false → contents s a x q ≡ contents s b x q
@@ -112,7 +113,7 @@ module _ (slots : ℕ) (named : Option ℕ) (m : Meta) (table table_then : List 
         | inr off ↦ lay_off (is_written m.out d r) d (hard_place_of m.setup.geometry r) (value v r d) f x q off
       ]
 
-  agree : (e u p : ℕ) → e < m.setup.geometry.disks → IsUnitKept s.power m (out_disk s.power m) e u → 100 ≤ p → p < disk_size m.setup.geometry → after e p ≡ overlaid_blocks (sync_targets v r d map) f e p
+  agree : (e u p : ℕ) → e < m.setup.geometry.disks → IsUnitKept s.power m (out_disk s.power m) e u → log_least ≤ p → p < disk_size m.setup.geometry → after e p ≡ overlaid_blocks (sync_targets v r d map) f e p
   agree e u p le at far near =
       ap (λ (z : Contents). z e p) (contents_laid s batch_then (batch ++ draft) laid_same)
       ∙ laid_there s batch draft e p (kept_place e u p le at near) far
@@ -142,16 +143,16 @@ module _ (slots : ℕ) (named : Option ℕ) (m : Meta) (table table_then : List 
   }
 
   -- past the map nothing changes
-  map_off : (x q : ℕ) → q ≢ 100 + r / 512 → overlaid_blocks (map_targets m (r / 512) map) f x q ≡ f x q
+  map_off : (x q : ℕ) → q ≢ map_place_of m.setup.geometry r → overlaid_blocks (map_targets m (r / 512) map) f x q ≡ f x q
   map_off x q off =
       let unit : ℕ = m.setup.geometry.rows + soft_count m + r / 512 in
-      let first : Batch = target_if (is_written m.out 0 unit) 0 (100 + r / 512) map in
-      let second : Batch = target_if (is_written m.out 1 unit) 1 (100 + r / 512) map in
+      let first : Batch = target_if (is_written m.out 0 unit) 0 (map_place_of m.setup.geometry r) map in
+      let second : Batch = target_if (is_written m.out 1 unit) 1 (map_place_of m.setup.geometry r) map in
       ap (λ (z : Contents). z x q) (overlaid_blocks-append first second f)
-      ∙ lay_off (is_written m.out 1 unit) 1 (100 + r / 512) map (overlaid_blocks first f) x q (λ is. off)
-      ∙ lay_off (is_written m.out 0 unit) 0 (100 + r / 512) map f x q (λ is. off)
+      ∙ lay_off (is_written m.out 1 unit) 1 (map_place_of m.setup.geometry r) map (overlaid_blocks first f) x q (λ is. off)
+      ∙ lay_off (is_written m.out 0 unit) 0 (map_place_of m.setup.geometry r) map f x q (λ is. off)
 
-  past : (x q : ℕ) → 100 + map_count m.setup.geometry ≤ q → after x q ≡ f x q
+  past : (x q : ℕ) → map_start m.setup.geometry + map_count m.setup.geometry ≤ q → after x q ≡ f x q
   past x q far = ap (λ (z : Contents). z x q) (contents_laid s batch_then (batch ++ draft) laid_same) ∙ elim (cases_Bool (has_place s x q)) [
     | inl here ↦ laid_there s batch draft x q here (omega arith) ∙ ap (λ (z : Batch). overlaid_blocks z f x q) draft_is ∙ map_off x q (λ is. absurd (omega arith))
     | inr gone ↦ no_place s (batch ++ draft) batch x q gone

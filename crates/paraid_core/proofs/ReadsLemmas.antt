@@ -7,6 +7,7 @@ use Rattle.std.proofs.lemmas.Bool.Decides.{nat_tests}
 use Rattle.paraid_base.specs.declared.block.Block.{Block}
 use Rattle.paraid_base.specs.Cells.{home_disk, home_row}
 use Rattle.paraid_base.specs.History.{History, after_all}
+use Rattle.paraid_base.specs.Log.{log_least}
 use Rattle.paraid_base.specs.Regions.{map_count}
 use Rattle.paraid_base.specs.Xor.{zero_block}
 use Rattle.paraid_base.proofs.SumsLemmas.{xor_upto_same}
@@ -164,8 +165,8 @@ unfolding contents
 shows_contents told batch t tells u tells_too d p there far =
     let z : Some u ≡ Some t = sym tells_too ∙ tells in
     let same : u ≡ t = cc in
-    let past : nat_lt p 100 ≡ false = grind (arith, nat_tests) in
-    subst (λ (w : Trail). overlaid_block batch d p ((now w).block d p) ≡ (if nat_lt p 100 then zero_block else (if has_place (now t) d p then overlaid_block batch d p ((now t).block d p) else zero_block))) (sym same)
+    let past : nat_lt p log_least ≡ false = grind (arith, nat_tests) in
+    subst (λ (w : Trail). overlaid_block batch d p ((now w).block d p) ≡ (if nat_lt p log_least then zero_block else (if has_place (now t) d p then overlaid_block batch d p ((now t).block d p) else zero_block))) (sym same)
     (rw (past, subst (λ (w : Trail). has_place (now w) d p ≡ true) same there) refl)
 
 -- what is read is the last write

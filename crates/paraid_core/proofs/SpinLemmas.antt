@@ -5,6 +5,7 @@ use Rattle.std.proofs.lemmas.Bool.{cases_Bool, cases_eq, false≢true}
 use Rattle.std.proofs.lemmas.List.Elements.{All-nil}
 use Rattle.paraid_base.specs.declared.state.Out.TheVariants.{Fresh}
 use Rattle.paraid_base.specs.History.{History}
+use Rattle.paraid_base.specs.Log.{log_least}
 use Rattle.paraid_base.specs.Regions.{disk_size, map_count}
 use Rattle.paraid_base.specs.Xor.{zero_block}
 use Rattle.paraid_dirty.specs.Table.{is_dirty}
@@ -61,7 +62,7 @@ module _ (slots : ℕ) (named : Option ℕ) (m : Meta) (table : List (List Bool)
 
   contents_spun : contents u [] ≡ contents s []
   unfolding contents
-  contents_spun = λ i. λ x q. (ap (λ (b : Bool). if nat_lt q 100 then zero_block else (if b && nat_lt q (s.size x) then s.block x q else zero_block)) (there x)) i
+  contents_spun = λ i. λ x q. (ap (λ (b : Bool). if nat_lt q log_least then zero_block else (if b && nat_lt q (s.size x) then s.block x q else zero_block)) (there x)) i
 
   stored_spun : (x q : ℕ) → stored_block u x q ≡ stored_block s x q
   unfolding stored_block

@@ -4,6 +4,7 @@ use Rattle.std.proofs.Common.{refl, sym, ◌∙◌, ap, subst, inl}
 use Rattle.std.proofs.lemmas.Bool.{false≢true}
 use Rattle.paraid_base.specs.declared.block.Block.{Block}
 use Rattle.paraid_base.specs.History.{History}
+use Rattle.paraid_base.specs.Log.{log_least}
 use Rattle.paraid_rack.specs.declared.call.Call.{Call}
 use Rattle.paraid_rack.specs.declared.call.Call.TheVariants.{Read, Write, Sync, Park, SpinUp, Attach}
 use Rattle.paraid_rack.specs.declared.call.Power.{Power}
@@ -47,10 +48,10 @@ stood_fewer s t turned fewer j x said looked stands = record {
 }
 
 -- a place past the log is in no log
-past_kept : (i : Disks) (d p : ℕ) (b : Block) → 100 ≤ p → KeepsLog i (written i d p b)
+past_kept : (i : Disks) (d p : ℕ) (b : Block) → log_least ≤ p → KeepsLog i (written i d p b)
 past_kept i d p b far = keeps_log_by i (written i d p b) (λ x l. log_kept_past i d p b far x)
 
-stood_write : (s : Disks) (d p : ℕ) (b : Block) → 100 ≤ p → (turned : ℕ → Type 0) → (j : Disks) (x : ℕ) (said : LogState) → IsLooked (step (Write d p b true) s) j → Stands j x said → StoodIn s turned j x said
+stood_write : (s : Disks) (d p : ℕ) (b : Block) → log_least ≤ p → (turned : ℕ → Type 0) → (j : Disks) (x : ℕ) (said : LogState) → IsLooked (step (Write d p b true) s) j → Stands j x said → StoodIn s turned j x said
 stood_write s d p b far turned j x said (whole image) stands = record {
   image = overwrite j d p (s.block d p);
   looked = whole (write_image s d p b j image);

@@ -10,6 +10,7 @@ use Rattle.paraid_base.specs.declared.state.Out.TheVariants.{Fresh, No}
 use Rattle.paraid_base.specs.declared.state.Phase.{Phase}
 use Rattle.paraid_base.specs.declared.state.Phase.TheVariants.{Steady, Down, Up}
 use Rattle.paraid_base.specs.History.{History}
+use Rattle.paraid_base.specs.Log.{log_least}
 use Rattle.paraid_base.specs.Regions.{map_count, map_place_of, soft_place_of}
 use Rattle.paraid_base.specs.Skips.{place_among}
 use Rattle.paraid_base.specs.Soft.{disk_of_number, number_at, row_of_number, soft_parity_disk, stripe_count}
@@ -72,9 +73,9 @@ limit_is g Steady low = absurd (omega arith)
 limit_is g (Down to) low = refl
 limit_is g (Up to) low = refl
 
-written_here : (u : Disks) (e p : ℕ) (b : Block) → has_place u e p ≡ true → 100 ≤ p → u.block e p ≡ b → contents u [] e p ≡ b
+written_here : (u : Disks) (e p : ℕ) (b : Block) → has_place u e p ≡ true → log_least ≤ p → u.block e p ≡ b → contents u [] e p ≡ b
 unfolding contents
-written_here u e p b there far is = let past : nat_lt p 100 ≡ false = grind (arith, nat_tests) in rw (past, there) is
+written_here u e p b there far is = let past : nat_lt p log_least ≡ false = grind (arith, nat_tests) in rw (past, there) is
 
 -- With no disk out, one more block of the next stripe is written.
 module _ (slots : ℕ) (named : Option ℕ) (m : Meta) (table : List (List Bool)) (copied copied_then : List Bool) (h : History) (lo : ℕ) (at : ℕ) (s : Disks) (e : ℕ) (b : Block)
@@ -201,7 +202,7 @@ module _ (slots : ℕ) (named : Option ℕ) (m : Meta) (table : List (List Bool)
       rw (others, copied_same (place_among parity x) region) refl
 
   -- and one more block of it is in place
-  pub filling_then : (blocks : List Block) (done : ℕ) → to < g.disks → e ≡ done → b ≡ member blocks e → has_place s e p ≡ true → 100 ≤ p
+  pub filling_then : (blocks : List Block) (done : ℕ) → to < g.disks → e ≡ done → b ≡ member blocks e → has_place s e p ≡ true → log_least ≤ p
       → IsFilling slots named m table copied h lo at blocks done s → IsFilling slots named m table copied_then h lo at blocks (done + 1) (step (Write e p b true) s)
   filling_then blocks done region is block there far was = subst (IsFilling slots named m table copied_then h lo at blocks (done + 1)) (sym step_is) (record {
     before = filled_then;
@@ -301,7 +302,7 @@ module _ {R : Type 0} {g : _} (count : R → ℕ) (slot : R → ℕ → Slot) (t
       let r = grows t tells in
       let s = now r.0 in
       let a = agrees r.0 r.1 in
-      let far : 100 ≤ soft_place_of was.setup.geometry (phase_to was.phase) at = omega arith in
+      let far : log_least ≤ soft_place_of was.setup.geometry (phase_to was.phase) at = omega arith in
       let here : is_present (s.power e) ≡ true = ap is_present (a.power e ∙ spins) in
       let size = a.size e in
       let there : has_place s e (soft_place_of was.setup.geometry (phase_to was.phase) at) ≡ true = rw here (grind (arith, nat_tests)) in

@@ -7,6 +7,7 @@ use Rattle.std.proofs.lemmas.List.Kept.{AllPairs-cons}
 use Rattle.std.proofs.lemmas.Bool.Decides.{nat_tests}
 use Rattle.std.proofs.lemmas.List.Elements.{All-cons, All-nil, All-tail}
 use Rattle.paraid_base.specs.declared.block.Block.{Block}
+use Rattle.paraid_base.specs.Log.{batch_room}
 use Rattle.paraid_base.specs.Xor.{zero_block}
 use Rattle.paraid_image.specs.Sides.{Batch, targets}
 use Rattle.paraid_image.specs.Standing.{overlaid_block}
@@ -140,8 +141,8 @@ take_more draft at l = let e : at + 1 ≡ suc at = omega arith in ap (λ (n : �
 
 -- there is room for one target more
 pub added : (m : Meta) (old new : Batch) (t : Target) (b : Block) (r : Result (Unit {0}) Full) → OnOk r (new ≡ with_target old t b)
-    → IfErr r (λ (full : Full). (full.count ≡ 96) × (length old ≡ 96) × (names_place old t.disk t.place ≡ false) × (new ≡ old))
-    → length old < 96 → AreApart old → IsPlaced m t → IsTakenIn m old ((t, b) ∷ []) new
+    → IfErr r (λ (full : Full). (full.count ≡ batch_room) × (length old ≡ batch_room) × (names_place old t.disk t.place ≡ false) × (new ≡ old))
+    → length old < batch_room → AreApart old → IsPlaced m t → IsTakenIn m old ((t, b) ∷ []) new
 added m old new t b (Ok it) is full low apart placed = subst (IsTakenIn m old ((t, b) ∷ [])) (sym is) (one_taken m old t b apart placed)
 added m old new t b (Err e) is full low apart placed = let long = full.1 in absurd (omega arith)
 

@@ -9,6 +9,7 @@ use Rattle.paraid_base.specs.declared.geometry.Geometry.{Geometry}
 use Rattle.paraid_base.specs.declared.state.Out.{Out}
 use Rattle.paraid_base.specs.declared.state.Out.TheVariants.{Fresh}
 use Rattle.paraid_base.specs.History.{History}
+use Rattle.paraid_base.specs.Log.{log_least}
 use Rattle.paraid_base.specs.Regions.{hard_place_of, map_count, map_place_of, soft_place_of}
 use Rattle.paraid_base.specs.Soft.{stripe_count}
 use Rattle.paraid_base.specs.States.{rebuilt_count}
@@ -102,7 +103,7 @@ rebuilding_one m d e units fresh is = let z : Fresh d (rebuilt_count m.out) ≡ 
 
 module _ (slots : ℕ) (named : Option ℕ) (m : Meta) (table : List (List Bool)) (copied copied_then : List Bool) (h : History) (lo : ℕ) (number d : ℕ) (unit : RebuildUnit) (b : Block) (s : Disks)
     (in_range : IsInRange m) (fresh : IsRebuilding m d) (low : d < m.setup.geometry.disks) (is_unit : IsUnitNumber m d number unit) (from : rebuilt_count m.out ≤ number)
-    (marks : IsMarkedAt copied copied_then d) (past_log : 100 ≤ rebuilt_place m unit) (kr : KeepsRebuilt slots named m table copied h lo number s) where
+    (marks : IsMarkedAt copied copied_then d) (past_log : log_least ≤ rebuilt_place m unit) (kr : KeepsRebuilt slots named m table copied h lo number s) where
   abbrev g : Geometry
   g = m.setup.geometry
 

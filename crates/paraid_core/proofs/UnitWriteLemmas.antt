@@ -5,6 +5,7 @@ use Rattle.std.proofs.lemmas.Bool.{cases_Bool}
 use Rattle.std.proofs.lemmas.Bool.Decides.{nat_tests}
 use Rattle.paraid_base.specs.declared.block.Block.{Block}
 use Rattle.paraid_base.specs.History.{History}
+use Rattle.paraid_base.specs.Log.{log_least}
 use Rattle.paraid_base.specs.States.{rebuilt_count}
 use Rattle.paraid_rack.specs.declared.call.Call.TheVariants.{Write}
 use Rattle.paraid_rack.specs.declared.call.Power.TheVariants.{Absent, Spinning}
@@ -63,10 +64,10 @@ module _ {R : Type 0} {g : _} (count : R → ℕ) (slot : R → ℕ → Slot) (t
   rebuilding_below = named_below m.setup.geometry m.gear m.out d ready.in_range.out (rebuilding_named m d fresh)
 
   -- its write
-  module _ (told_then : Option Trail) (b : Block) (place : ℕ) (place_is : place ≡ rebuilt_place m unit) (past : 100 ≤ place) (ok : Bool) (grows : GrowsByCall (told (store_rack old.store)) told_then (Write d place b ok))
+  module _ (told_then : Option Trail) (b : Block) (place : ℕ) (place_is : place ≡ rebuilt_place m unit) (past : log_least ≤ place) (ok : Bool) (grows : GrowsByCall (told (store_rack old.store)) told_then (Write d place b ok))
       (from : rebuilt_count m.out ≤ number) (copied_then : List Bool) (marks : IsMarkedAt old.copied copied_then d) (h : History) (lo : ℕ) where
-    past_log : 100 ≤ rebuilt_place m unit
-    past_log = subst (λ (z : ℕ). 100 ≤ z) place_is past
+    past_log : log_least ≤ rebuilt_place m unit
+    past_log = subst (λ (z : ℕ). log_least ≤ z) place_is past
 
     kept : (s : Disks) → ok ≡ true → KeepsRebuilt slots_was name m old.dirty old.copied h lo number s → HoldsBetweenCalls slots_was name m old.dirty [] copied_then h lo (step (Write d place b ok) s)
     kept s done kr =

@@ -5,6 +5,7 @@ use Rattle.std.proofs.lemmas.Bool.{cases_Bool}
 use Rattle.std.proofs.lemmas.Bool.Decides.{nat_tests}
 use Rattle.paraid_base.specs.declared.block.Block.{Block}
 use Rattle.paraid_base.specs.History.{Entry, History, after_all, last_of}
+use Rattle.paraid_base.specs.Log.{log_least}
 use Rattle.paraid_base.specs.Regions.{disk_size, map_count, map_place_of}
 use Rattle.paraid_base.specs.Xor.{zero_block}
 use Rattle.paraid_base.proofs.HistoryLemmas.{after-append, after_all-append}
@@ -54,12 +55,12 @@ copies_more slots base held_in h entry lo s c =
 
 pub contents_laid : (s : Disks) (a b : Batch) → ((d p : ℕ) (x : Block) → overlaid_block a d p x ≡ overlaid_block b d p x) → contents s a ≡ contents s b
 unfolding contents
-contents_laid s a b same = λ t. λ d p. (ap (λ (x : Block). if nat_lt p 100 then zero_block else (if has_place s d p then x else zero_block)) (same d p (s.block d p))) t
+contents_laid s a b same = λ t. λ d p. (ap (λ (x : Block). if nat_lt p log_least then zero_block else (if has_place s d p then x else zero_block)) (same d p (s.block d p))) t
 
-pub laid_there : (s : Disks) (batch more : Batch) (d p : ℕ) → has_place s d p ≡ true → 100 ≤ p → contents s (batch ++ more) d p ≡ overlaid_blocks more (contents s batch) d p
+pub laid_there : (s : Disks) (batch more : Batch) (d p : ℕ) → has_place s d p ≡ true → log_least ≤ p → contents s (batch ++ more) d p ≡ overlaid_blocks more (contents s batch) d p
 unfolding contents overlaid_blocks
 laid_there s batch more d p here far =
-    let past : nat_lt p 100 ≡ false = grind (arith, nat_tests) in
+    let past : nat_lt p log_least ≡ false = grind (arith, nat_tests) in
     rw (past, here) (laid_append batch more d p (s.block d p))
 
 module _ (slots : ℕ) (named : Option ℕ) (m : Meta) (table table_then : List (List Bool)) (batch batch_then : Batch) (copied : List Bool) (h : History) (lo : ℕ) (s : Disks) (before later : Desk) (entry : Entry)
@@ -136,7 +137,7 @@ module _ (slots : ℕ) (named : Option ℕ) (m : Meta) (table table_then : List 
       let large = k.staged.kept.disks.fresh_large d count fresh in
       rw fresh.present (let l : p < s.size d = omega arith in grind (arith, nat_tests))
 
-  agree : (d u p : ℕ) → d < m.setup.geometry.disks → IsUnitKept s.power m out d u → 100 ≤ p → p < disk_size m.setup.geometry → g d p ≡ later.block d p
+  agree : (d u p : ℕ) → d < m.setup.geometry.disks → IsUnitKept s.power m out d u → log_least ≤ p → p < disk_size m.setup.geometry → g d p ≡ later.block d p
   agree d u p ld at far near =
       ap (λ (z : Contents). z d p) (contents_laid s batch_then (batch ++ later.staged) taken.laid_same)
       ∙ ap (λ (z : Batch). contents s (batch ++ z) d p) staged_is

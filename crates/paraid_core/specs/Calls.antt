@@ -8,6 +8,7 @@ use Rattle.paraid_rack.specs.Lawful.{IsLawful}
 use Rattle.paraid_rack.specs.Told.{Ran, Through}
 use Rattle.paraid_rack.specs.Trail.{Trail, run}
 use Rattle.paraid_base.specs.History.{History}
+use Rattle.paraid_base.specs.Log.{log_least}
 use Rattle.paraid_image.specs.Rest.{IsAtRest}
 use Rattle.paraid_txn.specs.Commit.{IsOldOrNew, gone_out}
 use Rattle.paraid_txn.specs.Stores.{store_rack}
@@ -28,7 +29,7 @@ IsTransfer (Attach d size done) = ⊥
 -- the call reads, syncs, or writes past the log
 abbrev pub IsPastLog : Call → Type 0
 IsPastLog (Read d p done) = Unit {0}
-IsPastLog (Write d p b done) = 100 ≤ p
+IsPastLog (Write d p b done) = log_least ≤ p
 IsPastLog (Sync d done) = Unit {0}
 IsPastLog (Park d done) = ⊥
 IsPastLog (SpinUp d done) = ⊥

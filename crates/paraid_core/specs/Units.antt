@@ -3,6 +3,7 @@ use Rattle.std.specs.Prelude.{◌≡◌, ℕ, ◌+◌, ◌<◌, Bool, List, [], 
 use Rattle.paraid_base.specs.declared.block.Block.{Block}
 use Rattle.paraid_base.specs.declared.state.Out.TheVariants.{Fresh}
 use Rattle.paraid_base.specs.History.{History}
+use Rattle.paraid_base.specs.Log.{map_block_place}
 use Rattle.paraid_base.specs.Regions.{hard_place_of, map_count, soft_place_of}
 use Rattle.paraid_base.specs.Soft.{stripe_count}
 use Rattle.paraid_base.specs.States.{rebuilt_count}
@@ -40,14 +41,14 @@ IsUnitNumber m d number (MapBlock j) = (d < 2) × ((j < map_count m.setup.geomet
 abbrev pub rebuilt_place : Meta → RebuildUnit → ℕ
 rebuilt_place m (Row r) = hard_place_of m.setup.geometry r
 rebuilt_place m (Stripe s) = soft_place_of m.setup.geometry m.gear s
-rebuilt_place m (MapBlock j) = 100 + j
+rebuilt_place m (MapBlock j) = map_block_place m.setup.geometry j
 
 -- what a unit of disk `d` stores: the value of its cell, the XOR of the stripe's other blocks, or what
 -- the other log disk stores
 abbrev pub rebuilt_block : View → ℕ → RebuildUnit → Block
 rebuilt_block v d (Row r) = value v r d
 rebuilt_block v d (Stripe s) = stripe_rest v.meta.setup.geometry v.block v.meta.gear s d
-rebuilt_block v d (MapBlock j) = v.block (other_log d) (100 + j)
+rebuilt_block v d (MapBlock j) = v.block (other_log d) (map_block_place v.meta.setup.geometry j)
 
 -- What the disks hold while units are copied: nothing is staged over the last commit, and the first
 -- `end` units of the disk that is rebuilt store what they should.

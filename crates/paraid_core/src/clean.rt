@@ -3,6 +3,7 @@ ghost use Rattle.paraid_record.specs.Modes.{is_access as is_access_in};
 ghost use Rattle.std.specs.Prelude.{◌≡◌, ℕ, ◌+◌, ◌^◌, ◌<◌, ◌≤◌, [], length, None, OnOk, IfErr, IsSome, Some, true, false, if◌then◌else◌};
 ghost use Rattle.paraid_base.specs.Cells.{home_disk, home_row};
 ghost use Rattle.paraid_base.specs.History.{History, after_all as held_by};
+ghost use Rattle.paraid_base.specs.Log.{batch_room};
 ghost use Rattle.paraid_dirty.specs.Table.{is_dirty, table_with_bit};
 ghost use Rattle.paraid_image.specs.Content.{view_by};
 ghost use Rattle.paraid_image.specs.Out.{named_out as named_out_of};
@@ -20,7 +21,7 @@ ghost use Rattle.paraid_txn.specs.Stores.{named_of};
 
 use crate::staged::Core;
 use crate::take::take;
-use paraid_base::{Block, BlockNo, DiskNo, Row, Two};
+use paraid_base::{Block, BlockNo, DiskNo, MAP_START, Row, Two};
 use paraid_layout::{hard_place, home};
 use paraid_rack::Rack;
 use paraid_record::Mode;
@@ -60,7 +61,7 @@ impl<R: Rack> Core<R> {
         requires disk { d < (meta_of self.old).setup.geometry.disks }
         requires rises { d < rising_to_of (meta_of self.old).phase }
         requires whole { named_out_of (meta_of self.old).out ≡ None }
-        requires room { length (batch_of self.old) + 3 ≤ 96 }
+        requires room { length (batch_of self.old) + 3 ≤ batch_room }
         ensures store { store_of self.new ≡ store_of self.old }
         ensures meta { meta_of self.new ≡ meta_of self.old }
         ensures copied { copied_of self.new ≡ copied_of self.old }
@@ -84,8 +85,8 @@ impl<R: Rack> Core<R> {
         self.dirty.map_block(j, &mut map);
         self.draft.clear();
         self.draft.push(d, hard_place(&m.setup.geometry, r), value);
-        self.draft.push(0, 100 + j, &map);
-        self.draft.push(1, 100 + j, &map);
+        self.draft.push(0, MAP_START + j, &map);
+        self.draft.push(1, MAP_START + j, &map);
         take(&mut self.batch, &m, &self.draft);
         self.draft.clear();
     }
@@ -108,7 +109,7 @@ impl<R: Rack> Core<R> {
         requires no_draft { draft_of self.old ≡ [] }
         requires row { r < (meta_of self.old).setup.geometry.rows }
         requires disk { d < (meta_of self.old).setup.geometry.disks }
-        requires room { length (batch_of self.old) + room ≤ 96 }
+        requires room { length (batch_of self.old) + room ≤ batch_room }
         requires kept { room < 3 → is_cleaned (meta_of self.old) (core_table self.old) r d ≡ false }
         ensures cleaned { is_cleaned (meta_of self.new) (core_table self.new) r d ≡ false }
         ensures bits { CleansCell (meta_of self.new) (core_table self.old) (core_table self.new) r d }

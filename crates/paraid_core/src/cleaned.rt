@@ -3,6 +3,7 @@
 ghost use Rattle.std.specs.Prelude.{◌≡◌, ℕ, ◌+◌, ◌<◌, ◌≤◌, Bool, true, false, [], length};
 ghost use Rattle.paraid_base.specs.declared.state.Out.TheVariants.{No};
 ghost use Rattle.paraid_base.specs.History.{History};
+ghost use Rattle.paraid_base.specs.Log.{batch_room};
 ghost use Rattle.paraid_base.specs.States.{rising_to};
 ghost use Rattle.paraid_core.specs.CellCopies.{CellsCopied};
 ghost use Rattle.paraid_dirty.specs.Table.{is_dirty, table_with_bit};
@@ -10,7 +11,7 @@ ghost use Rattle.paraid_rack.specs.Told.{CrashTriple, Ran};
 
 use crate::staged::Core;
 use crate::take::take;
-use paraid_base::{Block, DiskNo, Row};
+use paraid_base::{Block, DiskNo, MAP_START, Row};
 use paraid_rack::Rack;
 
 impl<R: Rack> Core<R> {
@@ -26,7 +27,7 @@ impl<R: Rack> Core<R> {
         requires row { r < (meta_of self.old).setup.geometry.rows }
         requires rises { d < rising_to (meta_of self.old).phase }
         requires dirty { is_dirty (core_table self.old) r d ≡ true }
-        requires room { length (batch_of self.old) + 2 ≤ 96 }
+        requires room { length (batch_of self.old) + 2 ≤ batch_room }
         ensures store { store_of self.new ≡ store_of self.old }
         ensures meta { meta_of self.new ≡ meta_of self.old }
         ensures copied { copied_of self.new ≡ copied_of self.old }
@@ -47,8 +48,8 @@ impl<R: Rack> Core<R> {
         self.dirty.clear(r, d);
         self.dirty.map_block(j, &mut map);
         self.draft.clear();
-        self.draft.push(0, 100 + j, &map);
-        self.draft.push(1, 100 + j, &map);
+        self.draft.push(0, MAP_START + j, &map);
+        self.draft.push(1, MAP_START + j, &map);
         take(&mut self.batch, &m, &self.draft);
         self.draft.clear();
     }

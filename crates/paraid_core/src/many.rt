@@ -2,6 +2,7 @@
 ghost use Rattle.std.specs.Prelude.{◌≡◌, ℕ, ◌+◌, ◌*◌, ◌^◌, ◌<◌, ◌≤◌, ◌∷◌, ◌++◌, [], length, Some, All, OnOk, IfErr, if◌then◌else◌, false, true};
 ghost use Rattle.paraid_base.specs.declared.block.Block.{Block as BlockType};
 ghost use Rattle.paraid_base.specs.History.{History};
+ghost use Rattle.paraid_base.specs.Log.{batch_room};
 ghost use Rattle.paraid_base.specs.Pairs.{pairs_of};
 ghost use Rattle.paraid_dirty.specs.Table.{is_dirty};
 ghost use Rattle.paraid_plan.specs.WrittenBits.{bits_after_block, bits_after_writes};
@@ -13,8 +14,11 @@ ghost use Rattle.paraid_core.specs.Lost.{CoreMarksLost, CoreTellsLosses, MakesRe
 ghost use Rattle.paraid_image.specs.Out.{named_out as named_out_of};
 
 use crate::staged::Core;
-use paraid_base::{Block, BlockNo, Pairs, Two};
+use paraid_base::{BATCH_ROOM, Block, BlockNo, Pairs, Two};
 use paraid_rack::Rack;
+
+// The most targets of a batch.
+const ROOM: u8 = BATCH_ROOM as u8;
 
 impl<R: Rack> Core<R> {
     ghost use Rattle.paraid_core.specs.Cores.{IsCoreHeld, IsCoreHeldSinceCommit, IsCoreReady, CanCoreServe, CoreStandsFor, batch_of, copied_of, core_block_count, core_down, draft_of, meta_of, core_rack, core_table, store_of};
@@ -39,7 +43,7 @@ impl<R: Rack> Core<R> {
         ensures slots { R.slot_count (core_rack self.new) ≡ R.slot_count (core_rack self.old) }
         ensures ready { OnOk result (IsCoreReady R.slot_count R.slot self.new) }
         ensures serves { OnOk result (CanCoreServe R.slot self.new) }
-        ensures room { OnOk result (length (batch_of self.new) + targets ≤ 96) }
+        ensures room { OnOk result (length (batch_of self.new) + targets ≤ batch_room) }
         ensures staged { OnOk result (length (batch_of self.new)
             ≤ (if commits_first (batch_of self.old) targets then 0 else length (batch_of self.old))) }
         ensures cleans_less { OnOk result ((r d : ℕ)
@@ -79,7 +83,7 @@ impl<R: Rack> Core<R> {
             (CoreStandsFor R.slot_count self.new h
             (if commits_first (batch_of self.old) targets then length h else lo)))) }
     {
-        if self.batch.count() <= 96 - targets {
+        if self.batch.count() <= ROOM - targets {
             return Ok(());
         }
         self.commit()
@@ -90,7 +94,7 @@ impl<R: Rack> Core<R> {
         requires ready { IsCoreReady R.slot_count R.slot self.old }
         requires serves { CanCoreServe R.slot self.old }
         requires blocks { All (λ (pair : ℕ × BlockType). pair.0 < core_block_count self.old) (pairs_of pairs.now) }
-        requires room { length (batch_of self.old) + 10 * pairs.now.count ≤ 96 }
+        requires room { length (batch_of self.old) + 10 * pairs.now.count ≤ batch_room }
         requires fits { (meta_of self.old).writes + 1 < 2 ^ 64 }
 
         ensures draft { draft_of self.new ≡ [] }

@@ -1,11 +1,12 @@
 //! What a plan has drafted is added to the batch.
 ghost use Rattle.std.specs.Prelude.{◌≡◌, ℕ, ◌+◌, ◌<◌, ◌≤◌, ◌∷◌, [], length, IsTrue};
+ghost use Rattle.paraid_base.specs.Log.{batch_room};
 ghost use Rattle.paraid_base.specs.Regions.{disk_size};
 ghost use Rattle.paraid_core.specs.Taken.{AreApart, IsTakenIn};
 ghost use Rattle.paraid_plan.specs.Placed.{IsPlaced};
 ghost use Rattle.paraid_record.specs.Targets.{IsTargetInRange};
 
-use paraid_base::{Block, DiskNo, Geometry};
+use paraid_base::{Block, DiskNo, Geometry, MAP_START};
 use paraid_record::{Meta, Target};
 use paraid_txn::Batch;
 use paraid_view::Draft;
@@ -17,9 +18,9 @@ fn is_in_range(g: &Geometry, size: u32, target: Target) -> bool
     ensures of { IsTargetInRange g.now target → IsTrue result }
 {
     target.disk < g.disks
-        && target.place >= 100
+        && target.place >= MAP_START
         && target.place < size
-        && (target.disk < 2 || target.place >= 100 + g.map_blocks())
+        && (target.disk < 2 || target.place >= MAP_START + g.map_blocks())
 }
 
 // Whether a commit can take a target.
@@ -36,7 +37,7 @@ fn is_placed(m: &Meta, size: u32, target: Target) -> bool
 // Adds a block, unless a commit could not take its target.
 fn take_one(batch: &mut Batch, m: &Meta, size: u32, target: Target, block: &Block)
     requires size { size ≡ disk_size m.now.setup.geometry }
-    requires room { length batch.old < 96 }
+    requires room { length batch.old < batch_room }
     requires apart { AreApart batch.old }
     ensures { IsTakenIn m.now batch.old ((target, block.now) ∷ []) batch.new }
 {
@@ -49,7 +50,7 @@ fn take_one(batch: &mut Batch, m: &Meta, size: u32, target: Target, block: &Bloc
 /// Adds all that is drafted. What a plan has drafted can be committed; a target that could not be
 /// is left out.
 pub(crate) fn take(batch: &mut Batch, m: &Meta, draft: &Draft)
-    requires room { length batch.old + length draft.now ≤ 96 }
+    requires room { length batch.old + length draft.now ≤ batch_room }
     requires apart { AreApart batch.old }
     ensures { IsTakenIn m.now batch.old draft.now batch.new }
 {

@@ -2,6 +2,7 @@
 ghost use Rattle.std.specs.Prelude.{◌≡◌, ◌≢◌, ℕ, ◌+◌, ◌<◌, ◌≤◌, ◌++◌, List, Bool, Option, true, false, [], length, None, Some, OnOk, IfErr, IsSome, Ok};
 ghost use Rattle.paraid_base.specs.declared.state.Out.TheVariants.{Fresh};
 ghost use Rattle.paraid_base.specs.History.{History};
+ghost use Rattle.paraid_base.specs.Log.{log_least};
 ghost use Rattle.paraid_base.specs.Regions.{disk_size, map_count};
 ghost use Rattle.paraid_base.specs.States.{gone_out, has_out, rebuilt_count};
 ghost use Rattle.paraid_core.specs.CoreInvariant.{AreCopiesSynced};
@@ -27,7 +28,7 @@ ghost use Rattle.paraid_core.specs.Lost.{CoreMarksLost, CoreTellsLosses};
 
 use crate::fill::mark;
 use crate::staged::{Core, put_out};
-use paraid_base::{Block, DiskNo, Out, Place, Two};
+use paraid_base::{Block, DiskNo, MAP_START, Out, Place, Two};
 use paraid_dirty::DirtyTable;
 use paraid_layout::{hard_place, soft_place};
 use paraid_rack::Rack;
@@ -83,14 +84,14 @@ fn place_of_unit(meta: &Meta, disk: DiskNo, number: u32, unit: RebuildUnit) -> P
     requires in_range { IsInRange meta.now }
     requires unit { IsUnitNumber meta.now disk number unit }
     ensures value { result ≡ rebuilt_place meta.now unit }
-    ensures past_log { 100 ≤ result }
+    ensures past_log { log_least ≤ result }
     ensures within { result < disk_size meta.now.setup.geometry }
 {
     let g = &meta.setup.geometry;
     match unit {
         RebuildUnit::Row { row } => hard_place(g, row),
         RebuildUnit::Stripe { stripe } => soft_place(g, meta.gear, stripe),
-        RebuildUnit::MapBlock { block } => 100 + block,
+        RebuildUnit::MapBlock { block } => MAP_START + block,
     }
 }
 
@@ -153,7 +154,7 @@ fn read_unit<R: Rack>(
         ),
         RebuildUnit::Stripe { stripe } => read_rest(store, batch, draft, meta, stripe, disk, into),
         RebuildUnit::MapBlock { block } => {
-            read_laid(store, batch, draft, 1 - disk, 100 + block, into)
+            read_laid(store, batch, draft, 1 - disk, MAP_START + block, into)
         }
     }
 }

@@ -2,6 +2,7 @@
 ghost use Rattle.std.specs.Prelude.{◌≡◌, ℕ, ◌+◌, ◌*◌, ◌^◌, ◌<◌, ◌≤◌, ◌∷◌, ◌++◌, [], length, All, OnOk, IfOk, IfErr, IsSome, false, if◌then◌else◌};
 ghost use Rattle.paraid_base.specs.declared.block.Block.{Block as BlockType};
 ghost use Rattle.paraid_base.specs.History.{History};
+ghost use Rattle.paraid_base.specs.Log.{batch_room};
 ghost use Rattle.paraid_base.specs.Pairs.{pairs_of};
 ghost use Rattle.paraid_dirty.specs.Table.{is_dirty};
 ghost use Rattle.paraid_plan.specs.RowWrites.{StageAll};
@@ -55,7 +56,7 @@ impl<R: Rack> Core<R> {
         requires ready { IsCoreReady R.slot_count R.slot self.old }
         requires serves { CanCoreServe R.slot self.old }
         requires blocks { All (λ (pair : ℕ × BlockType). pair.0 < core_block_count self.old) (pairs_of pairs.now) }
-        requires room { length (batch_of self.old) + 10 * pairs.now.count ≤ 96 }
+        requires room { length (batch_of self.old) + 10 * pairs.now.count ≤ batch_room }
         requires fits { (meta_of self.old).writes + 1 < 2 ^ 64 }
 
         ensures draft { draft_of self.new ≡ [] }

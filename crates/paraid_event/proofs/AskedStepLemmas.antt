@@ -10,6 +10,7 @@ use Rattle.paraid_base.specs.declared.fault.Two.{Two}
 use Rattle.paraid_base.specs.declared.state.Out.TheVariants.{No}
 use Rattle.paraid_base.specs.declared.state.Phase.TheVariants.{Steady}
 use Rattle.paraid_base.specs.Gears.{next_higher, next_lower}
+use Rattle.paraid_base.specs.Log.{worn_at}
 use Rattle.paraid_base.specs.States.{named_out}
 use Rattle.paraid_rack.specs.declared.call.Call.{Call}
 use Rattle.paraid_rack.specs.Disks.{Disks}
@@ -64,7 +65,7 @@ shift_among s to start = first_outcome (Shift s.gear to, start) []
 lost_among : (d : ℕ) (s : PowerState) (to : ℕ) (start : PowerState) → Contains {X = Answer × PowerState} (begin None (Some d) s to start) (Shift s.gear to, after_loss start d)
 lost_among d s to start = later_outcome (IsOut d, after_loss s d) ((Shift s.gear to, after_loss start d) ∷ []) (Shift s.gear to, after_loss start d) (first_outcome (Shift s.gear to, after_loss start d) [])
 
-module _ (told : Option Trail) (k : Service) (setup : Setup) (p : Point) (at : StandsAt told k setup p) (fit : point_wear p < 2 ^ 62) (steady : p.state.phase ≡ Steady) (no_out : p.state.out ≡ No) (to : ℕ) where
+module _ (told : Option Trail) (k : Service) (setup : Setup) (p : Point) (at : StandsAt told k setup p) (fit : point_wear p < worn_at) (steady : p.state.phase ≡ Steady) (no_out : p.state.out ≡ No) (to : ℕ) where
   abbrev w0 : Watch
   w0 = watch_at p
 

@@ -1,5 +1,5 @@
 -- A shift down that begins: a commit, its mark, and a commit of that.
-use Rattle.std.proofs.Common.{◌≡◌, ℕ, ◌+◌, ◌-◌, ◌*◌, ◌^◌, ◌<◌, ◌≤◌, ◌⊎◌, Bool, true, false, List, [], ◌∷◌, ◌++◌, Option, Some, None, refl, sym, ap, ◌∙◌, inl, inr, subst, arith, min, if◌then◌else◌}
+use Rattle.std.proofs.Common.{◌≡◌, ℕ, ◌+◌, ◌-◌, ◌*◌, ◌<◌, ◌≤◌, ◌⊎◌, Bool, true, false, List, [], ◌∷◌, ◌++◌, Option, Some, None, refl, sym, ap, ◌∙◌, inl, inr, subst, arith, min, if◌then◌else◌}
 use Rattle.std.specs.Prelude.{Contains}
 use Rattle.std.proofs.lemmas.Bool.{false≢true}
 use Rattle.std.proofs.lemmas.List.{append-nil}
@@ -13,6 +13,7 @@ use Rattle.paraid_base.specs.declared.state.Out.TheVariants.{No}
 use Rattle.paraid_base.specs.declared.state.Phase.{Phase}
 use Rattle.paraid_base.specs.declared.state.Phase.TheVariants.{Steady, Down, Up}
 use Rattle.paraid_base.specs.Gears.{next_higher, next_lower}
+use Rattle.paraid_base.specs.Log.{worn_at}
 use Rattle.paraid_base.specs.States.{has_out, named_out, phase_beside, rising_to}
 use Rattle.paraid_dirty.specs.Table.{is_dirty}
 use Rattle.paraid_rack.specs.declared.call.Call.{Call}
@@ -325,7 +326,7 @@ module _ (told : Option Trail) (k k1 k2 : Service) (setup : Setup) (p : Point) (
         watched : watch_all (cs ++ ds) (watch_of p AskDown (Shift p.state.gear to)) ≡ v3
         watched = watch_append cs ds w0
 
-        begun_turn : point_wear p < 2 ^ 62 → (told_then : Option Trail) → ((t : Trail) → told_then ≡ Some t → now t ≡ v3.disks) → GoesOn k.slots setup p AskDown (Shift p.state.gear to) (StandsAt told_then k3 setup) p.disks (cs ++ ds)
+        begun_turn : point_wear p < worn_at → (told_then : Option Trail) → ((t : Trail) → told_then ≡ Some t → now t ≡ v3.disks) → GoesOn k.slots setup p AskDown (Shift p.state.gear to) (StandsAt told_then k3 setup) p.disks (cs ++ ds)
         begun_turn fit told_then tells = let there = begun_stands told_then tells in (
           begun_point,
           answered at.going (λ e. down_not_bad e) (record {
@@ -353,7 +354,7 @@ module _ (told : Option Trail) (k k1 k2 : Service) (setup : Setup) (p : Point) (
           there,
         )
 
-  pub begun_told : (k3 : Service) → BeginsDown k k1 k2 k3 to → to < p.state.gear → (lo3 : ℕ) → p.low ≤ lo3 → point_wear p < 2 ^ 62 → (mid told_then : Option Trail) → Ran told mid (ServesEvent k k1 p.history p.low p.history lo1) → ((t : Trail) → mid ≡ Some t → ServiceStandsFor k1 p.history p.low (now t) → ServiceStandsFor k2 p.history p.low (now t))
+  pub begun_told : (k3 : Service) → BeginsDown k k1 k2 k3 to → to < p.state.gear → (lo3 : ℕ) → p.low ≤ lo3 → point_wear p < worn_at → (mid told_then : Option Trail) → Ran told mid (ServesEvent k k1 p.history p.low p.history lo1) → ((t : Trail) → mid ≡ Some t → ServiceStandsFor k1 p.history p.low (now t) → ServiceStandsFor k2 p.history p.low (now t))
       → Ran mid told_then (ServesEvent k2 k3 p.history p.low p.history lo3) → Ran told told_then (GoesOn k.slots setup p AskDown (Shift p.state.gear to) (StandsAt told_then k3 setup))
   begun_told k3 begins lower lo3 le3 fit mid told_then first marks second t tells =
       let r2 = second t tells in
@@ -401,7 +402,7 @@ module _ (told : Option Trail) (k : Service) (setup : Setup) (p : Point) (at : S
       let two = subst (λ (o : Option Answer). Contains {X = Answer × PowerState} (begin o None p.state to (begun_up to p.state)) (answer, new)) free one in
       ap makes_no_call (sym (one_outcome (Shift p.state.gear to, begun_up to p.state) answer new two))
 
-  module _ (told_then : Option Trail) (two : Two) (fit : point_wear p < 2 ^ 62) (ran : Ran told told_then (λ s cs. LosesInEvent k p.history p.low s cs × TellsTwo k two s cs)) where
+  module _ (told_then : Option Trail) (two : Two) (fit : point_wear p < worn_at) (ran : Ran told told_then (λ s cs. LosesInEvent k p.history p.low s cs × TellsTwo k two s cs)) where
     pub down_loses : next_lower setup.geometry p.state.gear ≡ Some to → first_worn setup p.state to ≡ None → Ran told told_then (GoesOn k.slots setup p AskDown (Halted (HaltTwo two)) (IsHaltedFrom p (HaltTwo two)))
     down_loses some unworn = loses_told told told_then k setup p at two AskDown refl refl refl (λ e. down_not_bad e) (down_busy some unworn) fit ran
 
@@ -409,7 +410,7 @@ module _ (told : Option Trail) (k : Service) (setup : Setup) (p : Point) (at : S
     up_loses some = loses_told told told_then k setup p at two AskUp refl refl refl (λ e. up_not_bad e) (up_busy some) fit ran
 
 module _ (told : Option Trail) (k k1 k2 : Service) (setup : Setup) (p : Point) (at : StandsAt told k setup p) (to : ℕ) (shift : MarksShiftDown k k1 k2 to) (some : next_lower setup.geometry p.state.gear ≡ Some to)
-    (steady : p.state.phase ≡ Steady) (no_out : p.state.out ≡ No) (unworn : first_worn setup p.state to ≡ None) (lo1 : ℕ) (le1 : p.low ≤ lo1) (two : Two) (fit : point_wear p < 2 ^ 62) where
+    (steady : p.state.phase ≡ Steady) (no_out : p.state.out ≡ No) (unworn : first_worn setup p.state to ≡ None) (lo1 : ℕ) (le1 : p.low ≤ lo1) (two : Two) (fit : point_wear p < worn_at) where
   abbrev w_first : Watch
   w_first = watch_at p
 

@@ -1,5 +1,5 @@
 -- The events of a session that call the core once.
-use Rattle.std.proofs.Common.{◌≡◌, ◌≢◌, ℕ, ◌+◌, ◌^◌, ◌<◌, ◌≤◌, Bool, true, false, List, [], ◌∷◌, ◌++◌, length, Option, Some, None, refl, sym, ap, ◌∙◌, subst, arith, min, if◌then◌else◌}
+use Rattle.std.proofs.Common.{◌≡◌, ◌≢◌, ℕ, ◌+◌, ◌<◌, ◌≤◌, Bool, true, false, List, [], ◌∷◌, ◌++◌, length, Option, Some, None, refl, sym, ap, ◌∙◌, subst, arith, min, if◌then◌else◌}
 use Rattle.std.specs.Prelude.{◌&&◌, nat_le, nat_lt, Contains, All}
 use Rattle.std.proofs.lemmas.Bool.{false≢true}
 use Rattle.std.proofs.lemmas.Bool.Decides.{nat_tests}
@@ -13,6 +13,7 @@ use Rattle.paraid_base.specs.declared.event.Event.{Event}
 use Rattle.paraid_base.specs.declared.event.Event.TheVariants.{Read, Write, Flush, State as AskState, Energy as AskEnergy, Bad}
 use Rattle.paraid_base.specs.declared.pairs.Pairs.{Pairs}
 use Rattle.paraid_base.specs.History.{Entry, History, after_all}
+use Rattle.paraid_base.specs.Log.{worn_at}
 use Rattle.paraid_base.specs.Pairs.{pairs_of}
 use Rattle.paraid_base.specs.States.{has_out, named_out}
 use Rattle.paraid_dirty.specs.Table.{is_dirty}
@@ -162,7 +163,7 @@ module _ (told told_then : Option Trail) (k k_then : Service) (setup : Setup) (p
     among f = lost_among p.state (first_lost cs) f same_disk
 
   -- a read of one block
-  module _ (block : ℕ) (bytes : Block) (fit : point_wear p < 2 ^ 62) (there : block < block_count setup) (is : bytes ≡ after_all p.history block) (counts : CountsServed k k_then (block_read setup block)) (same_history : h_then ≡ p.history) (low : p.low ≤ lo_then) where
+  module _ (block : ℕ) (bytes : Block) (fit : point_wear p < worn_at) (there : block < block_count setup) (is : bytes ≡ after_all p.history block) (counts : CountsServed k k_then (block_read setup block)) (same_history : h_then ≡ p.history) (low : p.low ≤ lo_then) where
     read_step : (cs : List Call) (part : AreEventCalls k p.history p.low p.meta p.disks cs) (ends : EndsEvent k k_then h_then lo_then p.disks cs)
         → IsEventStep setup p.history p.energy p.state (Read block) (first_lost cs) (Value block bytes) (with_one_served (block_read setup block (state_after p.state (first_lost cs))))
     unfolding outcomes
@@ -179,7 +180,7 @@ module _ (told told_then : Option Trail) (k k_then : Service) (setup : Setup) (p
         (same_history ∙ sym (append-nil p.history)) low refl (λ f. absurd (false≢true f)) tells counts.slots counts.copies_synced (capped k_then.energy p.energy k.energy at.energy counts.energy at.fits)
 
   -- a write of one to eight blocks
-  module _ (pairs : Pairs) (fit : point_wear p < 2 ^ 62) (there : All (λ (pair : ℕ × Block). pair.0 < block_count setup) (pairs_of pairs)) (counts : CountsServed k k_then (all_written setup.geometry.disks (blocks_named (pairs_of pairs))))
+  module _ (pairs : Pairs) (fit : point_wear p < worn_at) (there : All (λ (pair : ℕ × Block). pair.0 < block_count setup) (pairs_of pairs)) (counts : CountsServed k k_then (all_written setup.geometry.disks (blocks_named (pairs_of pairs))))
       (longer : h_then ≡ p.history ++ pairs_of pairs ∷ []) (low : p.low ≤ lo_then) where
     write_step : (cs : List Call) (part : AreEventCalls k p.history p.low p.meta p.disks cs) (ends : EndsEvent k k_then h_then lo_then p.disks cs)
         → IsEventStep setup p.history p.energy p.state (Write pairs) (first_lost cs) (Wrote (length p.history + 1))
@@ -198,7 +199,7 @@ module _ (told told_then : Option Trail) (k k_then : Service) (setup : Setup) (p
         longer low refl (λ f. absurd (false≢true f)) tells counts.slots counts.copies_synced (capped k_then.energy p.energy k.energy at.energy counts.energy at.fits)
 
   -- a flush, which keeps all writes
-  module _ (fit : point_wear p < 2 ^ 62) (counts : CountsFlushed k k_then) (same_history : h_then ≡ p.history) (low : length p.history ≤ lo_then) where
+  module _ (fit : point_wear p < worn_at) (counts : CountsFlushed k k_then) (same_history : h_then ≡ p.history) (low : length p.history ≤ lo_then) where
     flush_step : (cs : List Call) (part : AreEventCalls k p.history p.low p.meta p.disks cs) (ends : EndsEvent k k_then h_then lo_then p.disks cs)
         → IsEventStep setup p.history p.energy p.state Flush (first_lost cs) (Flushed (length p.history)) (state_after p.state (first_lost cs))
     unfolding outcomes
@@ -229,7 +230,7 @@ module _ (told : Option Trail) (k : Service) (setup : Setup) (p : Point) (at : S
   energy_same : (u k : ℕ) → u ≡ k → k ≤ 18446744073709551615 → u ≡ min (u + 0) 18446744073709551615
   energy_same u k same fits = grind (arith)
 
-  pub asked_turn : (event : Event) (answer : Answer) → watch_of p event answer ≡ watch_at p → bounds_of setup p event ≡ bounds_at setup p p.state → ((a : Option ℕ) → awaited_by answer a ≡ a) → event ≢ Bad → (may_halt event ≡ true → point_wear p < 2 ^ 62)
+  pub asked_turn : (event : Event) (answer : Answer) → watch_of p event answer ≡ watch_at p → bounds_of setup p event ≡ bounds_at setup p p.state → ((a : Option ℕ) → awaited_by answer a ≡ a) → event ≢ Bad → (may_halt event ≡ true → point_wear p < worn_at)
       → IsEventStep setup p.history p.energy p.state event None answer p.state → accepted_write event answer ≡ [] → with_flush p.low answer ≡ p.low → is_flush answer ≡ false → energy_of setup p.state answer ≡ 0
       → GoesOn k.slots setup p event answer (StandsAt told k setup) p.disks []
   asked_turn event answer starts bounds awaits not_bad fit machine none low not_flush no_energy =

@@ -1,5 +1,5 @@
 -- A disk that is taken out: a commit, its mark, and a commit of that.
-use Rattle.std.proofs.Common.{◌≡◌, ℕ, ◌+◌, ◌^◌, ◌<◌, ◌≤◌, ◌⊎◌, Bool, true, false, List, [], ◌∷◌, ◌++◌, Option, Some, None, refl, sym, ap, ◌∙◌, inl, inr, subst, arith, min, if◌then◌else◌}
+use Rattle.std.proofs.Common.{◌≡◌, ℕ, ◌+◌, ◌<◌, ◌≤◌, ◌⊎◌, Bool, true, false, List, [], ◌∷◌, ◌++◌, Option, Some, None, refl, sym, ap, ◌∙◌, inl, inr, subst, arith, min, if◌then◌else◌}
 use Rattle.std.specs.Prelude.{◌==◌, nat_lt, Contains}
 use Rattle.std.proofs.lemmas.Bool.{false≢true}
 use Rattle.std.proofs.lemmas.Bool.Decides.{nat_tests}
@@ -12,6 +12,7 @@ use Rattle.paraid_base.specs.declared.state.Out.TheVariants.{No, Gone}
 use Rattle.paraid_base.specs.declared.state.Phase.{Phase}
 use Rattle.paraid_base.specs.declared.state.Phase.TheVariants.{Steady, Down as PhaseDown, Up}
 use Rattle.paraid_base.specs.History.{History}
+use Rattle.paraid_base.specs.Log.{worn_at}
 use Rattle.paraid_base.specs.States.{gone_out, named_out, phase_beside, rising_to}
 use Rattle.paraid_dirty.specs.Table.{is_dirty}
 use Rattle.paraid_rack.specs.declared.call.Call.{Call}
@@ -372,7 +373,7 @@ module _ (told : Option Trail) (k k1 k2 k3 : Service) (setup : Setup) (p : Point
         watched : watch_all (cs ++ ds) (watch_of p (Fail d) (Failed d)) ≡ v3
         watched = ap (watch_all (cs ++ ds)) starts ∙ watch_append cs ds w0
 
-        pub failed_turn : point_wear p < 2 ^ 62 → (told_then : Option Trail) → ((t : Trail) → told_then ≡ Some t → now t ≡ v3.disks) → GoesOn k.slots setup p (Fail d) (Failed d) (StandsAt told_then k3 setup) p.disks (cs ++ ds)
+        pub failed_turn : point_wear p < worn_at → (told_then : Option Trail) → ((t : Trail) → told_then ≡ Some t → now t ≡ v3.disks) → GoesOn k.slots setup p (Fail d) (Failed d) (StandsAt told_then k3 setup) p.disks (cs ++ ds)
         failed_turn fit told_then tells = let there = failed_stands told_then tells in (
           failed_point,
           answered at.going (λ e. fail_not_bad e) (record {
@@ -402,7 +403,7 @@ module _ (told : Option Trail) (k k1 k2 k3 : Service) (setup : Setup) (p : Point
         )
 
   -- what is told from one record to the next, to the one after it
-  pub failed_told : point_wear p < 2 ^ 62 → (mid told_then : Option Trail) → Ran told mid (ServesEvent k k1 p.history p.low p.history lo1) → ((t : Trail) → mid ≡ Some t → ServiceStandsFor k1 p.history p.low (now t) → ServiceStandsFor k2 p.history p.low (now t))
+  pub failed_told : point_wear p < worn_at → (mid told_then : Option Trail) → Ran told mid (ServesEvent k k1 p.history p.low p.history lo1) → ((t : Trail) → mid ≡ Some t → ServiceStandsFor k1 p.history p.low (now t) → ServiceStandsFor k2 p.history p.low (now t))
       → Ran mid told_then (ServesEvent k2 k3 p.history p.low p.history lo3) → Ran told told_then (GoesOn k.slots setup p (Fail d) (Failed d) (StandsAt told_then k3 setup))
   failed_told fit mid told_then first marks second t tells =
       let r2 = second t tells in

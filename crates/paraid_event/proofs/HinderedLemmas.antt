@@ -1,5 +1,5 @@
 -- Events that a disk stands in the way of that is lost with what was staged.
-use Rattle.std.proofs.Common.{◌≡◌, ◌≢◌, ℕ, ◌+◌, ◌^◌, ◌<◌, ◌≤◌, Bool, true, false, List, [], ◌++◌, Option, Some, None, refl, sym, ap, ◌∙◌, inl, inr, subst, arith, min}
+use Rattle.std.proofs.Common.{◌≡◌, ◌≢◌, ℕ, ◌+◌, ◌<◌, ◌≤◌, Bool, true, false, List, [], ◌++◌, Option, Some, None, refl, sym, ap, ◌∙◌, inl, inr, subst, arith, min}
 use Rattle.std.specs.Prelude.{◌==◌, nat_lt}
 use Rattle.std.proofs.lemmas.Bool.{false≢true}
 use Rattle.std.proofs.lemmas.Bool.Decides.{nat_tests}
@@ -10,6 +10,7 @@ use Rattle.paraid_base.specs.declared.event.Event.TheVariants.{Bad, Down as AskD
 use Rattle.paraid_base.specs.declared.state.Out.TheVariants.{No}
 use Rattle.paraid_base.specs.declared.state.Phase.TheVariants.{Steady}
 use Rattle.paraid_base.specs.Gears.{next_higher, next_lower}
+use Rattle.paraid_base.specs.Log.{worn_at}
 use Rattle.paraid_base.specs.States.{named_out}
 use Rattle.paraid_dirty.specs.Table.{is_dirty}
 use Rattle.paraid_rack.specs.declared.call.Call.{Call}
@@ -57,7 +58,7 @@ below_test a b l = grind (arith, nat_tests)
 apart_test : (a b : ℕ) → a ≢ b → (a == b) ≡ false
 apart_test a b l = grind (arith, nat_tests)
 
-module _ (told told_then : Option Trail) (k k_then : Service) (setup : Setup) (p : Point) (at : StandsAt told k setup p) (e lo_then : ℕ) (fit : point_wear p < 2 ^ 62) (no_out : p.state.out ≡ No) (named : named_out k_then.meta.out ≡ Some e) (counts : CountsFlushed k k_then)
+module _ (told told_then : Option Trail) (k k_then : Service) (setup : Setup) (p : Point) (at : StandsAt told k setup p) (e lo_then : ℕ) (fit : point_wear p < worn_at) (no_out : p.state.out ≡ No) (named : named_out k_then.meta.out ≡ Some e) (counts : CountsFlushed k k_then)
     (low : p.low ≤ lo_then) where
   none_named : (d : ℕ) → named_out k.meta.out ≡ Some d → ⊥
   none_named d was = absurd (no_one (sym (ap named_out (sym at.state.out ∙ no_out)) ∙ was))

@@ -11,6 +11,7 @@ use Rattle.paraid_base.specs.declared.state.Out.TheVariants.{Gone, No}
 use Rattle.paraid_base.specs.declared.state.Phase.TheVariants.{Steady as PhaseSteady}
 use Rattle.paraid_base.specs.declared.state.TickEvent.{TickEvent}
 use Rattle.paraid_base.specs.declared.state.TickEvent.TheVariants.{Ration, Steady, Waiting}
+use Rattle.paraid_base.specs.Log.{worn_at}
 use Rattle.paraid_base.specs.States.{named_out}
 use Rattle.paraid_gear.specs.declared.decision.Decision.TheVariants.{Down as DecideDown, Stay}
 use Rattle.paraid_gear.specs.Decision.{decision}
@@ -50,7 +51,7 @@ capped_sum a b t z x same none is = grind (arith)
 under_cap : (x a : ℕ) → x ≡ min a 18446744073709551615 → x ≤ 18446744073709551615
 under_cap x a is = grind (arith)
 
-module _ (told : Option Trail) (k k_then : Service) (setup : Setup) (p : Point) (at : StandsAt told k setup p) (counts : CountsTick k k_then) (fit : point_wear p < 2 ^ 62) where
+module _ (told : Option Trail) (k k_then : Service) (setup : Setup) (p : Point) (at : StandsAt told k setup p) (counts : CountsTick k k_then) (fit : point_wear p < worn_at) where
   abbrev j : Service
   j = ticked k k_then.energy
 

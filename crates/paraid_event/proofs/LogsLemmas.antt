@@ -3,6 +3,7 @@ use Rattle.std.proofs.Common.{◌≡◌, ◌≢◌, ℕ, ◌<◌, ◌≤◌, ◌
 use Rattle.std.specs.Prelude.{◌&&◌, nat_lt}
 use Rattle.std.proofs.lemmas.Bool.{cases_eq, false≢true}
 use Rattle.std.proofs.lemmas.Bool.Decides.{nat_tests}
+use Rattle.paraid_base.specs.Log.{batch_room, log_least}
 use Rattle.paraid_rack.specs.declared.call.Call.{Call}
 use Rattle.paraid_rack.specs.declared.call.Call.TheVariants.{Read, Write, Sync, Park, SpinUp, Attach}
 use Rattle.paraid_rack.specs.declared.call.Power.{Power}
@@ -36,7 +37,7 @@ pub record IsLogHeld (s t : Disks) (x : ℕ) : Type 0 where
   pub present : IsPresent t x → IsPresent s x
   pub power : IsPresent t x → t.power x ≡ s.power x
   pub size : IsPresent t x → t.size x ≡ s.size x
-  pub block : IsPresent t x → (q : ℕ) → q < 100 → s.loose x q ≡ false → (t.loose x q ≡ false) × (t.block x q ≡ s.block x q)
+  pub block : IsPresent t x → (q : ℕ) → q < log_least → s.loose x q ≡ false → (t.loose x q ≡ false) × (t.block x q ≡ s.block x q)
 
 touched : (p : ℕ → Power) (e x : ℕ) (done : Bool) → is_present (with_at p e (power_after done (p e)) x) ≡ true → (done ≡ true) ⊎ (x ≢ e)
 touched p e x true here = inl refl
@@ -132,7 +133,7 @@ before : Disks → Disks → Disks
 before s i = record {
   power = s.power;
   size = s.size;
-  block = λ x q. if nat_lt q 100 && is_present (i.power x) then i.block x q else s.block x q;
+  block = λ x q. if nat_lt q log_least && is_present (i.power x) then i.block x q else s.block x q;
   loose = λ x q. false;
 }
 
@@ -173,23 +174,23 @@ module _ (s t i : Disks) (image : IsImage t i) (held : (x : ℕ) → IsLogHeld s
   before_image = record {
     power = λ x. refl;
     size = λ x. refl;
-    block = λ x q dry. by (nat_lt q 100 && is_present (i.power x)) refl x q refl dry;
+    block = λ x q dry. by (nat_lt q log_least && is_present (i.power x)) refl x q refl dry;
     loose = λ x q. refl;
   }
     where
-      by : (b : Bool) → b ≡ b → (x q : ℕ) → (nat_lt q 100 && is_present (i.power x)) ≡ b → s.loose x q ≡ false → (if b then i.block x q else s.block x q) ≡ s.block x q
+      by : (b : Bool) → b ≡ b → (x q : ℕ) → (nat_lt q log_least && is_present (i.power x)) ≡ b → s.loose x q ≡ false → (if b then i.block x q else s.block x q) ≡ s.block x q
       by true e x q is dry =
-          let two = both_true (nat_lt q 100) (is_present (i.power x)) is in
-          let at = (held x).block (there x two.1) q (below_of q 100 two.0) dry in
+          let two = both_true (nat_lt q log_least) (is_present (i.power x)) is in
+          let at = (held x).block (there x two.1) q (below_of q log_least two.0) dry in
           image.block x q at.0 ∙ at.1
       by false e x q is dry = refl
 
-  log_of : (x q : ℕ) → IsPresent i x → q < 100 → stored_block (before s i) x q ≡ stored_block i x q
+  log_of : (x q : ℕ) → IsPresent i x → q < log_least → stored_block (before s i) x q ≡ stored_block i x q
   unfolding stored_block before
   log_of x q here low =
       let power = (held x).power (there x here) in
       let size = (held x).size (there x here) in
-      rw (image.power x, image.size x, power, size, low_test q 100 low, sym (ap is_present (image.power x ∙ power)) ∙ here) refl
+      rw (image.power x, image.size x, power, size, low_test q log_least low, sym (ap is_present (image.power x ∙ power)) ∙ here) refl
 
   kept_log : (x : ℕ) → IsPresent i x → IsLogKept i (before s i) x
   unfolding before
@@ -198,7 +199,7 @@ module _ (s t i : Disks) (image : IsImage t i) (held : (x : ℕ) → IsLogHeld s
     gate = ap is_open (log_of x 0 here (omega arith));
     meta = λ shut. log_of x 1 here (omega arith);
     rest = λ opened said says q low high. log_of x q here (
-        let few : length said.batch ≤ 96 = elim says [
+        let few : length said.batch ≤ batch_room = elim says [
           | inl a ↦ few_logged said.opened _ said.meta said.batch a.log
           | inr b ↦ few_logged said.opened _ said.meta said.batch b.log
         ] in

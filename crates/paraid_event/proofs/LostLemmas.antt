@@ -1,5 +1,5 @@
 -- Events in which a second disk is lost, and events that make no call.
-use Rattle.std.proofs.Common.{◌≡◌, ◌≢◌, ℕ, ◌+◌, ◌^◌, ◌<◌, ◌≤◌, false, List, [], ◌∷◌, length, Option, Some, None, refl, sym, ap, ◌∙◌, inl, inr, subst, arith, min, zero, suc}
+use Rattle.std.proofs.Common.{◌≡◌, ◌≢◌, ℕ, ◌+◌, ◌<◌, ◌≤◌, false, List, [], ◌∷◌, length, Option, Some, None, refl, sym, ap, ◌∙◌, inl, inr, subst, arith, min, zero, suc}
 use Rattle.std.specs.Prelude.{slice_index_or, Contains, All}
 use Rattle.paraid_base.specs.declared.block.Block.{Block}
 use Rattle.paraid_base.specs.declared.event.Answer.{Answer}
@@ -10,6 +10,7 @@ use Rattle.paraid_base.specs.declared.fault.Halt.TheVariants.{Two as HaltTwo}
 use Rattle.paraid_base.specs.declared.fault.Two.{Two}
 use Rattle.paraid_base.specs.declared.pairs.Pairs.{Pairs}
 use Rattle.paraid_base.specs.History.{after_all}
+use Rattle.paraid_base.specs.Log.{worn_at}
 use Rattle.paraid_base.specs.Pairs.{pairs_of}
 use Rattle.paraid_base.specs.States.{named_out}
 use Rattle.paraid_rack.specs.declared.call.Call.{Call}
@@ -55,7 +56,7 @@ module _ (told told_then : Option Trail) (k : Service) (setup : Setup) (p : Poin
   ]
 
   module _ (event : Event) (starts : watch_of p event (Halted (HaltTwo two)) ≡ watch_at p) (bounds : bounds_of setup p event ≡ bounds_at setup p p.state) (no_own : own_energy setup p.state event ≡ 0) (not_bad : event ≢ Bad)
-      (busy : (answer : Answer) (new : PowerState) → IsUnhurt setup p event answer new → makes_no_call answer ≡ false) (fit : point_wear p < 2 ^ 62) where
+      (busy : (answer : Answer) (new : PowerState) → IsUnhurt setup p event answer new → makes_no_call answer ≡ false) (fit : point_wear p < worn_at) where
     loses : (cs : List Call) → AreEventCalls k p.history p.low p.meta p.disks cs → TellsTwo k two p.disks cs → LosesSecondDisk k.slots setup p event two cs (record p { disks = run p.disks cs; halt = Some (HaltTwo two) })
     loses cs part tells = record {
       fit = fit;
@@ -112,11 +113,11 @@ module _ (told told_then : Option Trail) (k : Service) (setup : Setup) (p : Poin
   abbrev Loses : Type 0
   Loses = Ran told told_then (λ s cs. LosesInEvent k p.history p.low s cs × TellsTwo k two s cs)
 
-  pub read_loses : (block : ℕ) → block < block_count setup → point_wear p < 2 ^ 62 → Loses → Ran told told_then (GoesOn k.slots setup p (Read block) (Halted (HaltTwo two)) (IsHaltedFrom p (HaltTwo two)))
+  pub read_loses : (block : ℕ) → block < block_count setup → point_wear p < worn_at → Loses → Ran told told_then (GoesOn k.slots setup p (Read block) (Halted (HaltTwo two)) (IsHaltedFrom p (HaltTwo two)))
   read_loses block there fit ran = loses_told (Read block) refl refl refl (λ e. read_not_bad e) (read_busy block there) fit ran
 
-  pub write_loses : (pairs : Pairs) → All (λ (pair : ℕ × Block). pair.0 < block_count setup) (pairs_of pairs) → point_wear p < 2 ^ 62 → Loses → Ran told told_then (GoesOn k.slots setup p (Write pairs) (Halted (HaltTwo two)) (IsHaltedFrom p (HaltTwo two)))
+  pub write_loses : (pairs : Pairs) → All (λ (pair : ℕ × Block). pair.0 < block_count setup) (pairs_of pairs) → point_wear p < worn_at → Loses → Ran told told_then (GoesOn k.slots setup p (Write pairs) (Halted (HaltTwo two)) (IsHaltedFrom p (HaltTwo two)))
   write_loses pairs there fit ran = loses_told (Write pairs) refl refl refl (λ e. write_not_bad e) (write_busy pairs there) fit ran
 
-  pub flush_loses : point_wear p < 2 ^ 62 → Loses → Ran told told_then (GoesOn k.slots setup p Flush (Halted (HaltTwo two)) (IsHaltedFrom p (HaltTwo two)))
+  pub flush_loses : point_wear p < worn_at → Loses → Ran told told_then (GoesOn k.slots setup p Flush (Halted (HaltTwo two)) (IsHaltedFrom p (HaltTwo two)))
   flush_loses fit ran = loses_told Flush refl refl refl (λ e. flush_not_bad e) flush_busy fit ran

@@ -1,5 +1,5 @@
 -- Events that make no call.
-use Rattle.std.proofs.Common.{◌≡◌, ◌≢◌, ℕ, ◌^◌, ◌<◌, ◌≤◌, true, false, [], ◌∷◌, Option, Some, None, refl, sym, ap, ◌∙◌, subst, arith}
+use Rattle.std.proofs.Common.{◌≡◌, ◌≢◌, ℕ, ◌<◌, ◌≤◌, true, false, [], ◌∷◌, Option, Some, None, refl, sym, ap, ◌∙◌, subst, arith}
 use Rattle.std.specs.Prelude.{◌==◌, nat_lt, Contains}
 use Rattle.std.proofs.lemmas.Bool.Decides.{nat_tests}
 use Rattle.paraid_base.specs.declared.event.Answer.{Answer}
@@ -13,6 +13,7 @@ use Rattle.paraid_base.specs.declared.state.Out.TheVariants.{No, Gone, Fresh}
 use Rattle.paraid_base.specs.declared.state.Phase.{Phase}
 use Rattle.paraid_base.specs.declared.state.Phase.TheVariants.{Steady, Down, Up}
 use Rattle.paraid_base.specs.Gears.{next_higher, next_lower}
+use Rattle.paraid_base.specs.Log.{worn_at}
 use Rattle.paraid_base.specs.Pairs.{pairs_of}
 use Rattle.paraid_base.specs.States.{named_out}
 use Rattle.paraid_rack.specs.Told.{Ran}
@@ -46,7 +47,7 @@ below_test a b l = grind (arith, nat_tests)
 past_test : (a b : ℕ) → b ≤ a → nat_lt a b ≡ false
 past_test a b l = grind (arith, nat_tests)
 
-module _ (told : Option Trail) (k : Service) (setup : Setup) (p : Point) (at : StandsAt told k setup p) (fit : point_wear p < 2 ^ 62) where
+module _ (told : Option Trail) (k : Service) (setup : Setup) (p : Point) (at : StandsAt told k setup p) (fit : point_wear p < worn_at) where
   abbrev Stays : Event → Answer → Type 0
   Stays event answer = Ran told told (GoesOn k.slots setup p event answer (StandsAt told k setup))
 
@@ -175,7 +176,7 @@ module _ (told : Option Trail) (k : Service) (setup : Setup) (p : Point) (at : S
       step = record { among = rw (below_test d setup.geometry.disks low) (not_put p.state.out d not) }
 
 -- an array that takes no more
-pub worn_turn : (told : Option Trail) (k : Service) (setup : Setup) (p : Point) → StandsAt told k setup p → (event : Event) → event ≢ Bad → may_halt event ≡ true → 2 ^ 62 ≤ point_wear p
+pub worn_turn : (told : Option Trail) (k : Service) (setup : Setup) (p : Point) → StandsAt told k setup p → (event : Event) → event ≢ Bad → may_halt event ≡ true → worn_at ≤ point_wear p
     → Ran told told (GoesOn k.slots setup p event (Halted (Worn (point_wear p))) (λ q. q ≡ with_halt p (Worn (point_wear p))))
 worn_turn told k setup p at event not_bad asked many =
     Ran-none (GoesOn k.slots setup p event (Halted (Worn (point_wear p))) (λ q. q ≡ with_halt p (Worn (point_wear p))))

@@ -8,6 +8,7 @@ use Rattle.paraid_base.specs.declared.event.Event.TheVariants.{Tick}
 use Rattle.paraid_base.specs.declared.state.Out.{Out}
 use Rattle.paraid_base.specs.declared.state.Out.TheVariants.{No, Fresh}
 use Rattle.paraid_base.specs.declared.state.TickEvent.TheVariants.{Moving, Rebuilt}
+use Rattle.paraid_base.specs.Log.{worn_at}
 use Rattle.paraid_base.specs.States.{named_out}
 use Rattle.paraid_dirty.specs.Table.{is_dirty}
 use Rattle.paraid_rack.specs.declared.call.Call.{Call}
@@ -51,7 +52,7 @@ failed_low P setup asked w (c ∷ cs) e each is = elim (fails_split c cs e is) [
   | inr later ↦ failed_low P setup asked (watch c w) cs e each.2 later
 ]
 
-module _ (told : Option Trail) (k k1 : Service) (setup : Setup) (p : Point) (at : StandsAt told k setup p) (d rebuilt : ℕ) (is_fresh : p.state.out ≡ Fresh d rebuilt) (counts : CountsTick k k1) (fit : point_wear p < 2 ^ 62) (bound : ℕ) (few : bound ≤ 2 ^ 20) where
+module _ (told : Option Trail) (k k1 : Service) (setup : Setup) (p : Point) (at : StandsAt told k setup p) (d rebuilt : ℕ) (is_fresh : p.state.out ≡ Fresh d rebuilt) (counts : CountsTick k k1) (fit : point_wear p < worn_at) (bound : ℕ) (few : bound ≤ 2 ^ 20) where
   abbrev w0 : Watch
   w0 = watch_at p
 

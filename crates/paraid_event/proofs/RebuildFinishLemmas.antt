@@ -7,6 +7,7 @@ use Rattle.paraid_base.specs.declared.fault.Two.{Two}
 use Rattle.paraid_base.specs.declared.state.Out.TheVariants.{No, Gone, Fresh}
 use Rattle.paraid_base.specs.declared.state.TickEvent.TheVariants.{Rebuilt}
 use Rattle.paraid_base.specs.History.{History}
+use Rattle.paraid_base.specs.Log.{worn_at}
 use Rattle.paraid_base.specs.States.{gone_out, named_out, rising_to}
 use Rattle.paraid_rack.specs.declared.call.Call.{Call}
 use Rattle.paraid_rack.specs.declared.call.Call.TheVariants.{Park}
@@ -333,7 +334,7 @@ one_call_loses_one mid told_then d two calls loses = by told_then refl
         let r = both_of (IsOneCall (λ done. Park d done)) (λ s cs. TellsLosses None two cs) mid told_then calls loses t is in
         absurd (never r.holds.0.0 r.calls r.holds.0.1 r.holds.1)
 
-module _ (told : Option Trail) (k k1 : Service) (setup : Setup) (p : Point) (at : StandsAt told k setup p) (d rebuilt : ℕ) (is_fresh : p.state.out ≡ Fresh d rebuilt) (counts : CountsTick k k1) (fit : point_wear p < 2 ^ 62) where
+module _ (told : Option Trail) (k k1 : Service) (setup : Setup) (p : Point) (at : StandsAt told k setup p) (d rebuilt : ℕ) (is_fresh : p.state.out ≡ Fresh d rebuilt) (counts : CountsTick k k1) (fit : point_wear p < worn_at) where
   abbrev h : History
   h = p.history
 

@@ -13,6 +13,7 @@ use Rattle.paraid_base.specs.declared.state.Out.{Out}
 use Rattle.paraid_base.specs.declared.state.Out.TheVariants.{No, Gone, Fresh}
 use Rattle.paraid_base.specs.declared.state.TickEvent.{TickEvent}
 use Rattle.paraid_base.specs.declared.state.TickEvent.TheVariants.{Gone as GoneAgain, Moving, Rebuilt}
+use Rattle.paraid_base.specs.Log.{worn_at}
 use Rattle.paraid_base.specs.States.{named_out, phase_beside}
 use Rattle.paraid_dirty.specs.Table.{is_dirty}
 use Rattle.paraid_rack.specs.declared.call.Call.{Call}
@@ -130,7 +131,7 @@ abbrev loss_by : ℕ → Bool → Option ℕ
 loss_by d true = None
 loss_by d false = Some d
 
-module _ (told : Option Trail) (k k1 : Service) (setup : Setup) (p : Point) (at : StandsAt told k setup p) (d rebuilt : ℕ) (is_fresh : p.state.out ≡ Fresh d rebuilt) (counts : CountsTick k k1) (fit : point_wear p < 2 ^ 62) (most : ℕ) (few : most ≤ 2 ^ 20) where
+module _ (told : Option Trail) (k k1 : Service) (setup : Setup) (p : Point) (at : StandsAt told k setup p) (d rebuilt : ℕ) (is_fresh : p.state.out ≡ Fresh d rebuilt) (counts : CountsTick k k1) (fit : point_wear p < worn_at) (most : ℕ) (few : most ≤ 2 ^ 20) where
   abbrev w0 : Watch
   w0 = watch_at p
 

@@ -1,5 +1,5 @@
 -- A disk that is replaced: its mark, a commit of that, the attach of a fresh one, and a commit that it is there.
-use Rattle.std.proofs.Common.{◌≡◌, ◌≢◌, ℕ, ◌+◌, ◌^◌, ◌<◌, ◌≤◌, Bool, true, false, List, [], ◌∷◌, ◌++◌, length, Option, Some, None, refl, sym, ap, ◌∙◌, inl, inr, subst, arith, min, if◌then◌else◌}
+use Rattle.std.proofs.Common.{◌≡◌, ◌≢◌, ℕ, ◌+◌, ◌<◌, ◌≤◌, Bool, true, false, List, [], ◌∷◌, ◌++◌, length, Option, Some, None, refl, sym, ap, ◌∙◌, inl, inr, subst, arith, min, if◌then◌else◌}
 use Rattle.std.specs.Prelude.{◌==◌, nat_lt, Contains, slice_index}
 use Rattle.std.proofs.lemmas.Bool.{false≢true}
 use Rattle.std.proofs.lemmas.Bool.Decides.{nat_tests}
@@ -14,6 +14,7 @@ use Rattle.paraid_base.specs.declared.state.Out.TheVariants.{No, Gone, Fresh}
 use Rattle.paraid_base.specs.declared.state.Phase.{Phase}
 use Rattle.paraid_base.specs.declared.state.Phase.TheVariants.{Steady, Down as PhaseDown, Up}
 use Rattle.paraid_base.specs.History.{History}
+use Rattle.paraid_base.specs.Log.{worn_at}
 use Rattle.paraid_base.specs.Regions.{disk_size}
 use Rattle.paraid_base.specs.States.{gone_out, has_out, named_out, phase_beside, rising_to}
 use Rattle.paraid_dirty.specs.Table.{is_dirty}
@@ -163,7 +164,7 @@ committed_shift base m d gone m_gone gear phase fill = record {
   rebuilt = λ e u is. absurd (gone_not_fresh (sym m_gone ∙ is));
 }
 
-module _ (told : Option Trail) (k : Service) (setup : Setup) (p : Point) (at : StandsAt told k setup p) (d : ℕ) (below : d < setup.geometry.disks) (is_out : named_out p.state.out ≡ Some d) (fit : point_wear p < 2 ^ 62) where
+module _ (told : Option Trail) (k : Service) (setup : Setup) (p : Point) (at : StandsAt told k setup p) (d : ℕ) (below : d < setup.geometry.disks) (is_out : named_out p.state.out ≡ Some d) (fit : point_wear p < worn_at) where
   abbrev b : Bounds
   b = bounds_at setup p p.state
 

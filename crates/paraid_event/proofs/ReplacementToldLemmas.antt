@@ -1,9 +1,10 @@
 -- What is told of the calls in which a disk is replaced.
-use Rattle.std.proofs.Common.{◌≡◌, ℕ, ◌^◌, ◌<◌, Bool, true, false, List, [], ◌∷◌, ◌++◌, length, Option, Some, refl, sym, ap, ◌∙◌, subst}
+use Rattle.std.proofs.Common.{◌≡◌, ℕ, ◌<◌, Bool, true, false, List, [], ◌∷◌, ◌++◌, length, Option, Some, refl, sym, ap, ◌∙◌, subst}
 use Rattle.paraid_base.specs.declared.event.Answer.TheVariants.{Halted, NoFresh}
 use Rattle.paraid_base.specs.declared.event.Event.TheVariants.{Replace}
 use Rattle.paraid_base.specs.declared.fault.Halt.TheVariants.{Two as HaltTwo}
 use Rattle.paraid_base.specs.declared.fault.Two.{Two}
+use Rattle.paraid_base.specs.Log.{worn_at}
 use Rattle.paraid_base.specs.Regions.{disk_size}
 use Rattle.paraid_base.specs.States.{named_out}
 use Rattle.paraid_rack.specs.declared.call.Call.{Call}
@@ -33,7 +34,7 @@ use Rattle.paraid_event.proofs.ReplacementLemmas.{answer_of, failed_turn as none
 some_trail : (a b : Trail) → Some a ≡ Some b → a ≡ b
 some_trail a b e = cc
 
-module _ (told : Option Trail) (k : Service) (setup : Setup) (p : Point) (at : StandsAt told k setup p) (d : ℕ) (below : d < setup.geometry.disks) (is_out : named_out p.state.out ≡ Some d) (fit : point_wear p < 2 ^ 62) where
+module _ (told : Option Trail) (k : Service) (setup : Setup) (p : Point) (at : StandsAt told k setup p) (d : ℕ) (below : d < setup.geometry.disks) (is_out : named_out p.state.out ≡ Some d) (fit : point_wear p < worn_at) where
   abbrev w0 : Watch
   w0 = record { disks = p.disks; down = only d; spun = p.spun; awaited = p.awaited }
 

@@ -10,6 +10,7 @@ use Rattle.paraid_base.specs.declared.fault.Halt.TheVariants.{Two as HaltTwo}
 use Rattle.paraid_base.specs.declared.fault.Two.{Two}
 use Rattle.paraid_base.specs.declared.state.Out.{Out}
 use Rattle.paraid_base.specs.History.{History}
+use Rattle.paraid_base.specs.Log.{worn_at}
 use Rattle.paraid_base.specs.States.{named_out}
 use Rattle.paraid_rack.specs.declared.call.Call.{Call}
 use Rattle.paraid_rack.specs.Trail.{Trail, now, run}
@@ -39,7 +40,7 @@ use Rattle.paraid_event.proofs.PointLemmas.{stands_mark}
 use Rattle.paraid_event.proofs.TurnLemmas.{absent_named, fresh_there, out_low}
 
 -- From a point on, of which the array counts `k1` before its parts.
-module _ (told_then : Option Trail) (k k1 : Service) (setup : Setup) (p : Point) (event : Event) (bounded : PowerState) (going : p.halt ≡ None) (not_bad : event ≢ Bad) (fit : point_wear p < 2 ^ 62)
+module _ (told_then : Option Trail) (k k1 : Service) (setup : Setup) (p : Point) (event : Event) (bounded : PowerState) (going : p.halt ≡ None) (not_bad : event ≢ Bad) (fit : point_wear p < worn_at)
     (bounds : bounds_of setup p event ≡ bounds_at setup p bounded) (ticks : k1.meta.ticks ≤ bounded.ticks) (setup1 : k1.meta.setup ≡ setup) (slots1 : k1.slots ≡ k.slots) (most : ℕ) (few : most ≤ 2 ^ 20) (cs : List Call) where
   abbrev w0 : Watch
   w0 = watch_at p

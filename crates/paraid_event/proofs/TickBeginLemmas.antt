@@ -1,5 +1,5 @@
 -- A tick in which a shift down begins.
-use Rattle.std.proofs.Common.{inl, inr, zero, suc, false, [], ◌∷◌, ◌≡◌, ℕ, ◌+◌, ◌-◌, ◌*◌, ◌^◌, ◌<◌, ◌≤◌, Bool, List, Option, Some, None, refl, sym, ap, ◌∙◌, subst, arith, min, if◌then◌else◌}
+use Rattle.std.proofs.Common.{inl, inr, zero, suc, false, [], ◌∷◌, ◌≡◌, ℕ, ◌+◌, ◌-◌, ◌*◌, ◌<◌, ◌≤◌, Bool, List, Option, Some, None, refl, sym, ap, ◌∙◌, subst, arith, min, if◌then◌else◌}
 use Rattle.std.specs.Prelude.{Contains, slice_index_or}
 use Rattle.std.proofs.lemmas.Bool.{false≢true}
 use Rattle.std.proofs.lemmas.List.{append-nil}
@@ -13,6 +13,7 @@ use Rattle.paraid_base.specs.declared.state.Out.TheVariants.{No}
 use Rattle.paraid_base.specs.declared.state.Phase.{Phase}
 use Rattle.paraid_base.specs.declared.state.Phase.TheVariants.{Steady, Down}
 use Rattle.paraid_base.specs.declared.state.TickEvent.TheVariants.{Begun}
+use Rattle.paraid_base.specs.Log.{worn_at}
 use Rattle.paraid_base.specs.States.{has_out, named_out, phase_beside, rising_to}
 use Rattle.paraid_dirty.specs.Table.{is_dirty}
 use Rattle.paraid_gear.specs.declared.decision.Decision.{Decision}
@@ -89,7 +90,7 @@ one_outcome outcome answer new is = by is.0 is.1 is.2
 some_trail : (a b : Trail) → Some a ≡ Some b → a ≡ b
 some_trail a b e = cc
 
-module _ (told : Option Trail) (k k1 k2 : Service) (setup : Setup) (p : Point) (at : StandsAt told k setup p) (to : ℕ) (counts : CountsTick k k1) (mark : k2 ≡ record k1 { meta = meta_after_begin k1.meta (Down to) k1.meta.spins }) (fit : point_wear p < 2 ^ 62) (lower : to < p.state.gear)
+module _ (told : Option Trail) (k k1 k2 : Service) (setup : Setup) (p : Point) (at : StandsAt told k setup p) (to : ℕ) (counts : CountsTick k k1) (mark : k2 ≡ record k1 { meta = meta_after_begin k1.meta (Down to) k1.meta.spins }) (fit : point_wear p < worn_at) (lower : to < p.state.gear)
     (steady : p.state.phase ≡ Steady) (no_out : p.state.out ≡ No) (down : decision setup p.state.gear (state_with_tick p.state).samples ≡ DecideDown to) (unworn : first_worn setup (state_with_tick p.state) to ≡ None) where
   abbrev w0 : Watch
   w0 = watch_at p

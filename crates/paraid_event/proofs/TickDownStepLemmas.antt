@@ -11,6 +11,7 @@ use Rattle.paraid_base.specs.declared.state.Out.TheVariants.{No}
 use Rattle.paraid_base.specs.declared.state.Phase.{Phase}
 use Rattle.paraid_base.specs.declared.state.Phase.TheVariants.{Steady}
 use Rattle.paraid_base.specs.declared.state.TickEvent.TheVariants.{Begun}
+use Rattle.paraid_base.specs.Log.{worn_at}
 use Rattle.paraid_base.specs.States.{named_out}
 use Rattle.paraid_gear.specs.declared.decision.Decision.{Decision}
 use Rattle.paraid_gear.specs.declared.decision.Decision.TheVariants.{Down as DecideDown}
@@ -43,7 +44,7 @@ no_spin_ups mj to gear l = let e : to - gear ≡ 0 = omega (arith, l) in rw e (z
     zero_times : (a : ℕ) → a * 0 ≡ 0
     zero_times a = grind (arith)
 
-module _ (told : Option Trail) (k k1 : Service) (setup : Setup) (p : Point) (at : StandsAt told k setup p) (counts : CountsTick k k1) (fit : point_wear p < 2 ^ 62) (no_out : p.state.out ≡ No) (steady : p.state.phase ≡ Steady) (to : ℕ)
+module _ (told : Option Trail) (k k1 : Service) (setup : Setup) (p : Point) (at : StandsAt told k setup p) (counts : CountsTick k k1) (fit : point_wear p < worn_at) (no_out : p.state.out ≡ No) (steady : p.state.phase ≡ Steady) (to : ℕ)
     (down : decision setup p.state.gear (state_with_tick p.state).samples ≡ DecideDown to) (unworn : first_worn setup (state_with_tick p.state) to ≡ None) where
   abbrev w0 : Watch
   w0 = watch_at p

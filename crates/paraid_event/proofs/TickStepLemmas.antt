@@ -12,6 +12,7 @@ use Rattle.paraid_base.specs.declared.state.Phase.{Phase}
 use Rattle.paraid_base.specs.declared.state.Phase.TheVariants.{Steady, Down, Up}
 use Rattle.paraid_base.specs.declared.state.TickEvent.{TickEvent}
 use Rattle.paraid_base.specs.declared.state.TickEvent.TheVariants.{Begun, Flipped, Lost, Moving}
+use Rattle.paraid_base.specs.Log.{worn_at}
 use Rattle.paraid_base.specs.States.{named_out}
 use Rattle.paraid_gear.specs.declared.decision.Decision.{Decision}
 use Rattle.paraid_gear.specs.declared.decision.Decision.TheVariants.{Up as DecideUp}
@@ -98,7 +99,7 @@ no_name No none = refl
 no_name (Gone d) none = let z : Some d ≡ None = none in cc
 no_name (Fresh d u) none = let z : Some d ≡ None = none in cc
 
-module _ (told : Option Trail) (k k1 : Service) (setup : Setup) (p : Point) (at : StandsAt told k setup p) (counts : CountsTick k k1) (fit : point_wear p < 2 ^ 62) where
+module _ (told : Option Trail) (k k1 : Service) (setup : Setup) (p : Point) (at : StandsAt told k setup p) (counts : CountsTick k k1) (fit : point_wear p < worn_at) where
   abbrev w0 : Watch
   w0 = watch_at p
 

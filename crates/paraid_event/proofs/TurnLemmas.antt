@@ -1,5 +1,5 @@
 -- From the calls of a core in an event to the turn of a session.
-use Rattle.std.proofs.Common.{◌≡◌, ◌≢◌, ℕ, ◌+◌, ◌^◌, ◌*◌, ◌/◌, ◌<◌, ◌≤◌, ◌⊎◌, Bool, true, false, List, [], ◌∷◌, ◌++◌, Option, Some, None, refl, sym, ap, ◌∙◌, inl, inr, subst, arith, min, if◌then◌else◌}
+use Rattle.std.proofs.Common.{◌≡◌, ◌≢◌, ℕ, ◌+◌, ◌*◌, ◌/◌, ◌<◌, ◌≤◌, ◌⊎◌, Bool, true, false, List, [], ◌∷◌, ◌++◌, Option, Some, None, refl, sym, ap, ◌∙◌, inl, inr, subst, arith, min, if◌then◌else◌}
 use Rattle.std.specs.Prelude.{◌==◌, Contains}
 use Rattle.std.proofs.lemmas.Bool.{false≢true}
 use Rattle.std.proofs.lemmas.Bool.Decides.{nat_tests}
@@ -9,6 +9,7 @@ use Rattle.paraid_base.specs.declared.event.Event.TheVariants.{Bad}
 use Rattle.paraid_base.specs.declared.state.Out.{Out}
 use Rattle.paraid_base.specs.declared.state.Out.TheVariants.{No, Gone, Fresh}
 use Rattle.paraid_base.specs.History.{History}
+use Rattle.paraid_base.specs.Log.{worn_at}
 use Rattle.paraid_base.specs.States.{gone_out, has_out, named_out, phase_beside}
 use Rattle.paraid_dirty.specs.Table.{is_dirty}
 use Rattle.paraid_rack.specs.declared.call.Call.{Call}
@@ -343,7 +344,7 @@ module _ (told : Option Trail) (k : Service) (setup : Setup) (p : Point) (at : S
 
       -- The event is answered.
       pub turn_by : (event : Event) (answer : Answer) (told_then : Option Trail) (s : PowerState) → watch_of p event answer ≡ w → bounds_of setup p event ≡ b → ((a : Option ℕ) → awaited_by answer a ≡ a)
-          → event ≢ Bad → point_wear p < 2 ^ 62 → IsEventStep setup p.history p.energy p.state event (first_lost cs) answer s → IsStateOf k_then s → h_then ≡ p.history ++ accepted_write event answer → with_flush p.low answer ≤ lo_then
+          → event ≢ Bad → point_wear p < worn_at → IsEventStep setup p.history p.energy p.state event (first_lost cs) answer s → IsStateOf k_then s → h_then ≡ p.history ++ accepted_write event answer → with_flush p.low answer ≤ lo_then
           → (makes_no_call answer ≡ true → first_lost cs ≡ None → cs ≡ []) → (is_flush answer ≡ true → AreDirtyShown setup (point_then answer event s))
           → ((t : Trail) → told_then ≡ Some t → now t ≡ run p.disks cs) → k_then.slots ≡ k.slots → AreCopiesSynced k_then.meta.setup.geometry.disks k_then.copied → k_then.energy ≡ energy_after setup p.energy p.state answer
           → GoesOn k.slots setup p event answer (StandsAt told_then k_then setup) p.disks cs
@@ -375,7 +376,7 @@ module _ (told : Option Trail) (k : Service) (setup : Setup) (p : Point) (at : S
 
       -- by an answer for which calls are made
       pub turn : (event : Event) (answer : Answer) (told_then : Option Trail) (s : PowerState) → watch_of p event answer ≡ w → bounds_of setup p event ≡ b → ((a : Option ℕ) → awaited_by answer a ≡ a)
-          → event ≢ Bad → point_wear p < 2 ^ 62 → IsEventStep setup p.history p.energy p.state event (first_lost cs) answer s → IsStateOf k_then s → h_then ≡ p.history ++ accepted_write event answer → with_flush p.low answer ≤ lo_then
+          → event ≢ Bad → point_wear p < worn_at → IsEventStep setup p.history p.energy p.state event (first_lost cs) answer s → IsStateOf k_then s → h_then ≡ p.history ++ accepted_write event answer → with_flush p.low answer ≤ lo_then
           → (makes_no_call answer ≡ false) → (is_flush answer ≡ true → AreDirtyShown setup (point_then answer event s))
           → ((t : Trail) → told_then ≡ Some t → now t ≡ run p.disks cs) → k_then.slots ≡ k.slots → AreCopiesSynced k_then.meta.setup.geometry.disks k_then.copied → k_then.energy ≡ energy_after setup p.energy p.state answer
           → GoesOn k.slots setup p event answer (StandsAt told_then k_then setup) p.disks cs

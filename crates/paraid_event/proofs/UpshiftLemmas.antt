@@ -1,5 +1,5 @@
 -- A shift up that begins: a commit, its mark, a commit of that, and the spin-ups.
-use Rattle.std.proofs.Common.{◌≡◌, ◌≢◌, zero, suc, ℕ, ◌+◌, ◌-◌, ◌^◌, ◌<◌, ◌≤◌, ◌⊎◌, Bool, true, false, List, [], ◌∷◌, ◌++◌, Option, Some, None, refl, sym, ap, ◌∙◌, inl, inr, subst, arith, min, if◌then◌else◌}
+use Rattle.std.proofs.Common.{◌≡◌, ◌≢◌, zero, suc, ℕ, ◌+◌, ◌-◌, ◌<◌, ◌≤◌, ◌⊎◌, Bool, true, false, List, [], ◌∷◌, ◌++◌, Option, Some, None, refl, sym, ap, ◌∙◌, inl, inr, subst, arith, min, if◌then◌else◌}
 use Rattle.std.specs.Prelude.{◌&&◌, nat_le, nat_lt, Contains, slice_index, slice_index_or}
 use Rattle.std.proofs.lemmas.Bool.{false≢true}
 use Rattle.std.proofs.lemmas.Bool.Decides.{nat_tests}
@@ -14,6 +14,7 @@ use Rattle.paraid_base.specs.declared.state.Out.TheVariants.{No}
 use Rattle.paraid_base.specs.declared.state.Phase.{Phase}
 use Rattle.paraid_base.specs.declared.state.Phase.TheVariants.{Steady, Down, Up}
 use Rattle.paraid_base.specs.Gears.{next_higher}
+use Rattle.paraid_base.specs.Log.{worn_at}
 use Rattle.paraid_base.specs.States.{gone_out, has_out, named_out, phase_beside, rising_to}
 use Rattle.paraid_dirty.specs.Table.{is_dirty}
 use Rattle.paraid_rack.specs.declared.call.Call.{Call}
@@ -122,7 +123,7 @@ some_trail : (a b : Trail) → Some a ≡ Some b → a ≡ b
 some_trail a b e = cc
 
 module _ (told : Option Trail) (k k1 k2 : Service) (setup : Setup) (p : Point) (at : StandsAt told k setup p) (to : ℕ) (up : MarksShiftUp k k1 k2 to) (some : next_higher setup.geometry p.state.gear ≡ Some to)
-    (steady : p.state.phase ≡ Steady) (no_out : p.state.out ≡ No) (lo1 : ℕ) (le1 : p.low ≤ lo1) (fit : point_wear p < 2 ^ 62) where
+    (steady : p.state.phase ≡ Steady) (no_out : p.state.out ≡ No) (lo1 : ℕ) (le1 : p.low ≤ lo1) (fit : point_wear p < worn_at) where
   abbrev w0 : Watch
   w0 = watch_at p
 

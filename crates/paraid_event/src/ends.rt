@@ -7,6 +7,7 @@ ghost use Rattle.paraid_base.specs.declared.fault.Two.{Two as TwoType};
 ghost use Rattle.paraid_base.specs.declared.state.Out.TheVariants.{Fresh, Gone, No};
 ghost use Rattle.paraid_base.specs.declared.state.TickEvent.TheVariants.{Rebuilt};
 ghost use Rattle.paraid_base.specs.History.{History};
+ghost use Rattle.paraid_base.specs.Log.{worn_at};
 ghost use Rattle.paraid_base.specs.States.{named_out};
 ghost use Rattle.paraid_rack.specs.declared.call.Call.TheVariants.{Park};
 ghost use Rattle.paraid_rack.specs.Told.{Ran};
@@ -28,7 +29,7 @@ ghost use Rattle.paraid_event.specs.Ticks.{CountsTick, IsHaltedWith};
 /// What is staged is committed first.
 pub fn a_tick_ends_a_rebuild()
     ensures back { (told before mid told_then : Option Trail) (k counted j back k_then : Service) (setup : SetupType)
-        (p : Point) (disk rebuilt most : ℕ) → StandsAt told k setup p → point_wear p < 2 ^ 62
+        (p : Point) (disk rebuilt most : ℕ) → StandsAt told k setup p → point_wear p < worn_at
         → p.state.out ≡ Fresh disk rebuilt → CountsRebuild k counted k_then → MarksRejoined counted k_then
         → units_to_rebuild setup (state_with_tick p.state) disk rebuilt ≤ setup.rate → most + 1 ≤ 2 ^ 20
         → Ran told before (StepsInEvent counted j p.history p.low most)
@@ -57,7 +58,7 @@ pub fn a_disk_is_lost_as_its_rebuild_ends()
 /// second one can be lost.
 pub fn a_second_loss_ends_the_last_tick_of_a_rebuild()
     ensures finish { (told before told_then : Option Trail) (k counted j : Service) (setup : SetupType) (p : Point)
-        (disk rebuilt most : ℕ) (two : TwoType) → StandsAt told k setup p → point_wear p < 2 ^ 62
+        (disk rebuilt most : ℕ) (two : TwoType) → StandsAt told k setup p → point_wear p < worn_at
         → p.state.out ≡ Fresh disk rebuilt → CountsTick k counted → most + 1 ≤ 2 ^ 20
         → Ran told before (StepsInEvent counted j p.history p.low most)
         → LosesFinishing before told_then j p.history p.low disk two

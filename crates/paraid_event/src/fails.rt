@@ -1,8 +1,9 @@
 //! That a disk that is taken out is an event of a session.
-ghost use Rattle.std.specs.Prelude.{◌≡◌, ℕ, ◌^◌, ◌<◌, ◌≤◌, Option, Some};
+ghost use Rattle.std.specs.Prelude.{◌≡◌, ℕ, ◌<◌, ◌≤◌, Option, Some};
 ghost use Rattle.paraid_base.specs.declared.event.Answer.TheVariants.{Failed};
 ghost use Rattle.paraid_base.specs.declared.event.Event.TheVariants.{Fail as FailEvent};
 ghost use Rattle.paraid_base.specs.declared.state.Out.TheVariants.{No};
+ghost use Rattle.paraid_base.specs.Log.{worn_at};
 ghost use Rattle.paraid_rack.specs.Told.{Ran};
 ghost use Rattle.paraid_rack.specs.Trail.{Trail, now};
 ghost use Rattle.paraid_record.specs.declared.meta.Setup.{Setup as SetupType};
@@ -17,7 +18,7 @@ ghost use Rattle.paraid_event.specs.Stands.{ServiceStandsFor, StandsAt};
 pub fn a_disk_is_taken_out()
     ensures { (told mid told_then : Option Trail) (k committed marked k_then : Service)
         (setup : SetupType) (p : Point) (disk lo lo_then : ℕ) → StandsAt told k setup p
-        → point_wear p < 2 ^ 62 → TakesOut k committed marked k_then disk
+        → point_wear p < worn_at → TakesOut k committed marked k_then disk
         → disk < setup.geometry.disks → p.state.out ≡ No → p.low ≤ lo → p.low ≤ lo_then
         → Ran told mid (ServesEvent k committed p.history p.low p.history lo)
         → ((t : Trail) → mid ≡ Some t → ServiceStandsFor committed p.history p.low (now t)

@@ -1,10 +1,11 @@
 //! That a disk that is lost with what was staged stands in the way of an event.
-ghost use Rattle.std.specs.Prelude.{◌≡◌, ◌≢◌, ℕ, ◌^◌, ◌<◌, ◌≤◌, None, Option, Some};
+ghost use Rattle.std.specs.Prelude.{◌≡◌, ◌≢◌, ℕ, ◌<◌, ◌≤◌, None, Option, Some};
 ghost use Rattle.paraid_base.specs.declared.event.Answer.TheVariants.{Out as IsOut};
 ghost use Rattle.paraid_base.specs.declared.event.Event.TheVariants.{Down as AskDown, Fail as FailEvent, Up as AskUp};
 ghost use Rattle.paraid_base.specs.declared.state.Out.TheVariants.{No};
 ghost use Rattle.paraid_base.specs.declared.state.Phase.TheVariants.{Steady};
 ghost use Rattle.paraid_base.specs.Gears.{next_higher, next_lower};
+ghost use Rattle.paraid_base.specs.Log.{worn_at};
 ghost use Rattle.paraid_base.specs.States.{named_out};
 ghost use Rattle.paraid_rack.specs.Told.{Ran};
 ghost use Rattle.paraid_rack.specs.Trail.{Trail};
@@ -20,7 +21,7 @@ ghost use Rattle.paraid_event.specs.Stands.{StandsAt};
 /// and no shift begins.
 pub fn a_lost_disk_hinders_an_event()
     ensures fail { (told told_then : Option Trail) (k k_then : Service) (setup : SetupType) (p : Point)
-        (disk other lo_then : ℕ) → StandsAt told k setup p → point_wear p < 2 ^ 62
+        (disk other lo_then : ℕ) → StandsAt told k setup p → point_wear p < worn_at
         → disk < setup.geometry.disks → p.state.out ≡ No
         → named_out k_then.meta.out ≡ Some other → disk ≢ other
         → CountsFlushed k k_then → p.low ≤ lo_then
@@ -28,7 +29,7 @@ pub fn a_lost_disk_hinders_an_event()
         → Ran told told_then (GoesOn k.slots setup p (FailEvent disk) (IsOut other)
         (StandsAt told_then k_then setup)) }
     ensures up { (told told_then : Option Trail) (k k_then : Service) (setup : SetupType) (p : Point)
-        (to other lo_then : ℕ) → StandsAt told k setup p → point_wear p < 2 ^ 62
+        (to other lo_then : ℕ) → StandsAt told k setup p → point_wear p < worn_at
         → next_higher setup.geometry p.state.gear ≡ Some to → p.state.phase ≡ Steady → p.state.out ≡ No
         → named_out k_then.meta.out ≡ Some other
         → CountsFlushed k k_then → p.low ≤ lo_then
@@ -36,7 +37,7 @@ pub fn a_lost_disk_hinders_an_event()
         → Ran told told_then (GoesOn k.slots setup p AskUp (IsOut other)
         (StandsAt told_then k_then setup)) }
     ensures down { (told told_then : Option Trail) (k k_then : Service) (setup : SetupType) (p : Point)
-        (to other lo_then : ℕ) → StandsAt told k setup p → point_wear p < 2 ^ 62
+        (to other lo_then : ℕ) → StandsAt told k setup p → point_wear p < worn_at
         → next_lower setup.geometry p.state.gear ≡ Some to → p.state.phase ≡ Steady → p.state.out ≡ No
         → first_worn setup p.state to ≡ None → named_out k_then.meta.out ≡ Some other
         → CountsFlushed k k_then → p.low ≤ lo_then

@@ -1,5 +1,5 @@
 //! That a tick with nothing to do makes no call, and that after a halt there are no other answers.
-ghost use Rattle.std.specs.Prelude.{◌≡◌, ◌≢◌, ℕ, ◌^◌, ◌<◌, Option, Some};
+ghost use Rattle.std.specs.Prelude.{◌≡◌, ◌≢◌, ℕ, ◌<◌, Option, Some};
 ghost use Rattle.paraid_base.specs.declared.event.Answer.TheVariants.{Bad as IsBad, Halted};
 ghost use Rattle.paraid_base.specs.declared.event.Event.{Event as EventType};
 ghost use Rattle.paraid_base.specs.declared.event.Event.TheVariants.{Bad as BadEvent, Tick as TickEvent};
@@ -7,6 +7,7 @@ ghost use Rattle.paraid_base.specs.declared.fault.Halt.{Halt as HaltType};
 ghost use Rattle.paraid_base.specs.declared.state.Out.TheVariants.{Gone, No};
 ghost use Rattle.paraid_base.specs.declared.state.Phase.TheVariants.{Steady as PhaseSteady};
 ghost use Rattle.paraid_base.specs.declared.state.TickEvent.TheVariants.{Ration, Steady, Waiting};
+ghost use Rattle.paraid_base.specs.Log.{worn_at};
 ghost use Rattle.paraid_gear.specs.declared.decision.Decision.TheVariants.{Down as DecideDown, Stay};
 ghost use Rattle.paraid_gear.specs.Decision.{decision};
 ghost use Rattle.paraid_rack.specs.Told.{Ran};
@@ -23,18 +24,18 @@ ghost use Rattle.paraid_event.specs.Ticks.{CountsTick};
 /// gone, and where a shift down is asked for and the spin-ups of a disk are used up.
 pub fn a_tick_has_nothing_to_do()
     ensures steady { (told : Option Trail) (k k_then : Service) (setup : SetupType) (p : Point)
-        → StandsAt told k setup p → point_wear p < 2 ^ 62 → CountsTick k k_then
+        → StandsAt told k setup p → point_wear p < worn_at → CountsTick k k_then
         → p.state.out ≡ No → p.state.phase ≡ PhaseSteady
         → decision setup p.state.gear (state_with_tick p.state).samples ≡ Stay
         → Ran told told (GoesOn k.slots setup p TickEvent (report p.state 0 Steady).0
         (StandsAt told k_then setup)) }
     ensures waiting { (told : Option Trail) (k k_then : Service) (setup : SetupType) (p : Point)
-        (disk : ℕ) → StandsAt told k setup p → point_wear p < 2 ^ 62 → CountsTick k k_then
+        (disk : ℕ) → StandsAt told k setup p → point_wear p < worn_at → CountsTick k k_then
         → p.state.out ≡ Gone disk
         → Ran told told (GoesOn k.slots setup p TickEvent (report p.state 0 Waiting).0
         (StandsAt told k_then setup)) }
     ensures ration { (told : Option Trail) (k k_then : Service) (setup : SetupType) (p : Point)
-        (to disk : ℕ) → StandsAt told k setup p → point_wear p < 2 ^ 62 → CountsTick k k_then
+        (to disk : ℕ) → StandsAt told k setup p → point_wear p < worn_at → CountsTick k k_then
         → p.state.out ≡ No → p.state.phase ≡ PhaseSteady
         → decision setup p.state.gear (state_with_tick p.state).samples ≡ DecideDown to
         → first_worn setup (state_with_tick p.state) to ≡ Some disk

@@ -1,11 +1,12 @@
 //! That a second loss ends a session.
-ghost use Rattle.std.specs.Prelude.{◌≡◌, ℕ, ◌^◌, ◌<◌, All, Option};
+ghost use Rattle.std.specs.Prelude.{◌≡◌, ℕ, ◌<◌, All, Option};
 ghost use Rattle.paraid_base.specs.declared.block.Block.{Block as BlockType};
 ghost use Rattle.paraid_base.specs.declared.event.Answer.TheVariants.{Halted};
 ghost use Rattle.paraid_base.specs.declared.event.Event.TheVariants.{Flush as FlushEvent, Read as ReadEvent, Write as WriteEvent};
 ghost use Rattle.paraid_base.specs.declared.fault.Halt.TheVariants.{Two as HaltTwo};
 ghost use Rattle.paraid_base.specs.declared.fault.Two.{Two as TwoType};
 ghost use Rattle.paraid_base.specs.declared.pairs.Pairs.{Pairs as PairsType};
+ghost use Rattle.paraid_base.specs.Log.{worn_at};
 ghost use Rattle.paraid_base.specs.Pairs.{pairs_of};
 ghost use Rattle.paraid_rack.specs.Told.{Ran};
 ghost use Rattle.paraid_rack.specs.Trail.{Trail};
@@ -21,19 +22,19 @@ ghost use Rattle.paraid_event.specs.Stands.{StandsAt};
 pub fn a_second_loss_ends_the_service()
     ensures read { (told told_then : Option Trail) (k : Service) (setup : SetupType) (p : Point)
         (two : TwoType) (block : ℕ) → StandsAt told k setup p → block < block_count setup
-        → point_wear p < 2 ^ 62
+        → point_wear p < worn_at
         → Ran told told_then (λ s cs. LosesInEvent k p.history p.low s cs × TellsTwo k two s cs)
         → Ran told told_then (GoesOn k.slots setup p (ReadEvent block) (Halted (HaltTwo two))
         (IsHaltedFrom p (HaltTwo two))) }
     ensures write { (told told_then : Option Trail) (k : Service) (setup : SetupType) (p : Point)
         (two : TwoType) (pairs : PairsType) → StandsAt told k setup p
         → All (λ (pair : ℕ × BlockType). pair.0 < block_count setup) (pairs_of pairs)
-        → point_wear p < 2 ^ 62
+        → point_wear p < worn_at
         → Ran told told_then (λ s cs. LosesInEvent k p.history p.low s cs × TellsTwo k two s cs)
         → Ran told told_then (GoesOn k.slots setup p (WriteEvent pairs) (Halted (HaltTwo two))
         (IsHaltedFrom p (HaltTwo two))) }
     ensures flush { (told told_then : Option Trail) (k : Service) (setup : SetupType) (p : Point)
-        (two : TwoType) → StandsAt told k setup p → point_wear p < 2 ^ 62
+        (two : TwoType) → StandsAt told k setup p → point_wear p < worn_at
         → Ran told told_then (λ s cs. LosesInEvent k p.history p.low s cs × TellsTwo k two s cs)
         → Ran told told_then (GoesOn k.slots setup p FlushEvent (Halted (HaltTwo two))
         (IsHaltedFrom p (HaltTwo two))) }

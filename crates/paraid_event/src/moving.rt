@@ -8,6 +8,7 @@ ghost use Rattle.paraid_base.specs.declared.fault.Two.{Two as TwoType};
 ghost use Rattle.paraid_base.specs.declared.state.Out.TheVariants.{No};
 ghost use Rattle.paraid_base.specs.declared.state.Phase.TheVariants.{Steady};
 ghost use Rattle.paraid_base.specs.declared.state.TickEvent.TheVariants.{Begun, Flipped, Lost, Moving};
+ghost use Rattle.paraid_base.specs.Log.{worn_at};
 ghost use Rattle.paraid_base.specs.States.{named_out};
 ghost use Rattle.paraid_gear.specs.declared.decision.Decision.TheVariants.{Down as DecideDown, Up as DecideUp};
 ghost use Rattle.paraid_gear.specs.Decision.{decision};
@@ -28,7 +29,7 @@ ghost use Rattle.paraid_event.specs.Ticks.{CountsTick, IsHaltedWith};
 /// lost after some of them, and one with which the shift ends, whether a disk is lost then or not.
 pub fn a_tick_moves_a_shift()
     ensures moving { (told told_then : Option Trail) (k counted k_then : Service) (setup : SetupType)
-        (p : Point) (most : ℕ) → StandsAt told k setup p → point_wear p < 2 ^ 62 → CountsTick k counted
+        (p : Point) (most : ℕ) → StandsAt told k setup p → point_wear p < worn_at → CountsTick k counted
         → p.state.out ≡ No → (p.state.phase ≡ Steady → ⊥) → k_then.energy ≡ counted.energy
         → AreCopiesSynced k_then.meta.setup.geometry.disks k_then.copied → most ≤ 2 ^ 20
         → MovesUnits counted k_then (units_of_tick setup (state_with_tick p.state)) → k_then.meta.out ≡ No
@@ -40,7 +41,7 @@ pub fn a_tick_moves_a_shift()
           event = Moving;
         })) (StandsAt told_then k_then setup)) }
     ensures lost { (told told_then : Option Trail) (k counted k_then : Service) (setup : SetupType)
-        (p : Point) (most moved disk : ℕ) → StandsAt told k setup p → point_wear p < 2 ^ 62 → CountsTick k counted
+        (p : Point) (most moved disk : ℕ) → StandsAt told k setup p → point_wear p < worn_at → CountsTick k counted
         → p.state.out ≡ No → (p.state.phase ≡ Steady → ⊥) → k_then.energy ≡ counted.energy
         → AreCopiesSynced k_then.meta.setup.geometry.disks k_then.copied → most ≤ 2 ^ 20
         → MovesUnits counted k_then moved → moved ≤ units_of_tick setup (state_with_tick p.state)
@@ -52,7 +53,7 @@ pub fn a_tick_moves_a_shift()
           event = Lost disk;
         })) (StandsAt told_then k_then setup)) }
     ensures ended { (told told_then : Option Trail) (k counted k_then : Service) (setup : SetupType)
-        (p : Point) (most : ℕ) → StandsAt told k setup p → point_wear p < 2 ^ 62 → CountsTick k counted
+        (p : Point) (most : ℕ) → StandsAt told k setup p → point_wear p < worn_at → CountsTick k counted
         → p.state.out ≡ No → (p.state.phase ≡ Steady → ⊥) → k_then.energy ≡ counted.energy
         → AreCopiesSynced k_then.meta.setup.geometry.disks k_then.copied → most ≤ 2 ^ 20
         → EndsShift counted k_then (units_of_tick setup (state_with_tick p.state))
@@ -64,7 +65,7 @@ pub fn a_tick_moves_a_shift()
           event = Flipped;
         })) (StandsAt told_then k_then setup)) }
     ensures loses { (told told_then : Option Trail) (k counted : Service) (setup : SetupType)
-        (p : Point) (most : ℕ) (two : TwoType) → StandsAt told k setup p → point_wear p < 2 ^ 62
+        (p : Point) (most : ℕ) (two : TwoType) → StandsAt told k setup p → point_wear p < worn_at
         → CountsTick k counted → p.state.out ≡ No → (p.state.phase ≡ Steady → ⊥) → most ≤ 2 ^ 20
         → Ran told told_then (LosesInSteps counted p.history p.low most two)
         → Ran told told_then (GoesOn k.slots setup p TickEvent (Halted (HaltTwo two))
@@ -75,7 +76,7 @@ pub fn a_tick_moves_a_shift()
 /// service, before the spin-ups have used their energy or after it.
 pub fn a_tick_begins_a_shift_up()
     ensures begun { (told told_then : Option Trail) (k counted k_then : Service) (setup : SetupType)
-        (p : Point) (most to : ℕ) → StandsAt told k setup p → point_wear p < 2 ^ 62 → CountsTick k counted
+        (p : Point) (most to : ℕ) → StandsAt told k setup p → point_wear p < worn_at → CountsTick k counted
         → p.state.out ≡ No → p.state.phase ≡ Steady
         → decision setup p.state.gear (state_with_tick p.state).samples ≡ DecideUp to
         → AreCopiesSynced k_then.meta.setup.geometry.disks k_then.copied → StartsShiftUp counted k_then to
@@ -87,7 +88,7 @@ pub fn a_tick_begins_a_shift_up()
           event = Begun to;
         })) (StandsAt told_then k_then setup)) }
     ensures loses { (told told_then : Option Trail) (k counted : Service) (setup : SetupType)
-        (p : Point) (most to used : ℕ) (two : TwoType) → StandsAt told k setup p → point_wear p < 2 ^ 62
+        (p : Point) (most to used : ℕ) (two : TwoType) → StandsAt told k setup p → point_wear p < worn_at
         → CountsTick k counted → p.state.out ≡ No → p.state.phase ≡ Steady
         → decision setup p.state.gear (state_with_tick p.state).samples ≡ DecideUp to
         → (used ≡ counted.energy) ⊎ (used ≡ min (counted.energy + spin_up_energy setup p.state.gear to)
@@ -99,7 +100,7 @@ pub fn a_tick_begins_a_shift_up()
 /// So is a tick that begins a shift down, by the parts of its event.
 pub fn a_tick_begins_a_shift_down_in_steps()
     ensures begun { (told told_then : Option Trail) (k counted k_then : Service) (setup : SetupType)
-        (p : Point) (most to : ℕ) → StandsAt told k setup p → point_wear p < 2 ^ 62 → CountsTick k counted
+        (p : Point) (most to : ℕ) → StandsAt told k setup p → point_wear p < worn_at → CountsTick k counted
         → p.state.out ≡ No → p.state.phase ≡ Steady → to < p.state.gear
         → decision setup p.state.gear (state_with_tick p.state).samples ≡ DecideDown to
         → first_worn setup (state_with_tick p.state) to ≡ None
@@ -112,7 +113,7 @@ pub fn a_tick_begins_a_shift_down_in_steps()
           event = Begun to;
         })) (StandsAt told_then k_then setup)) }
     ensures loses { (told told_then : Option Trail) (k counted : Service) (setup : SetupType)
-        (p : Point) (most to : ℕ) (two : TwoType) → StandsAt told k setup p → point_wear p < 2 ^ 62
+        (p : Point) (most to : ℕ) (two : TwoType) → StandsAt told k setup p → point_wear p < worn_at
         → CountsTick k counted → p.state.out ≡ No → p.state.phase ≡ Steady
         → decision setup p.state.gear (state_with_tick p.state).samples ≡ DecideDown to
         → first_worn setup (state_with_tick p.state) to ≡ None → most ≤ 2 ^ 20

@@ -6,6 +6,7 @@ ghost use Rattle.paraid_base.specs.declared.fault.Halt.TheVariants.{Two as HaltT
 ghost use Rattle.paraid_base.specs.declared.fault.Two.{Two as TwoType};
 ghost use Rattle.paraid_base.specs.declared.state.Out.TheVariants.{Fresh};
 ghost use Rattle.paraid_base.specs.declared.state.TickEvent.TheVariants.{Gone as GoneAgain, Moving};
+ghost use Rattle.paraid_base.specs.Log.{worn_at};
 ghost use Rattle.paraid_rack.specs.Disks.{is_present};
 ghost use Rattle.paraid_rack.specs.Told.{Ran};
 ghost use Rattle.paraid_rack.specs.Trail.{Trail, now};
@@ -23,7 +24,7 @@ ghost use Rattle.paraid_event.specs.Ticks.{CountsTick, IsHaltedWith};
 /// again. What is staged is committed first.
 pub fn a_tick_moves_units_of_a_rebuild()
     ensures moving { (told told_then : Option Trail) (k counted k_then : Service) (setup : SetupType)
-        (p : Point) (disk rebuilt most : ℕ) → StandsAt told k setup p → point_wear p < 2 ^ 62
+        (p : Point) (disk rebuilt most : ℕ) → StandsAt told k setup p → point_wear p < worn_at
         → p.state.out ≡ Fresh disk rebuilt → CountsRebuild k counted k_then
         → MarksRebuilt counted k_then disk (rebuilt + setup.rate)
         → setup.rate < units_to_rebuild setup (state_with_tick p.state) disk rebuilt → most ≤ 2 ^ 20
@@ -31,7 +32,7 @@ pub fn a_tick_moves_units_of_a_rebuild()
         → Ran told told_then (GoesOn k.slots setup p TickEvent (report p.state setup.rate Moving).0
         (StandsAt told_then k_then setup)) }
     ensures gone { (told told_then : Option Trail) (k counted k_then : Service) (setup : SetupType)
-        (p : Point) (disk rebuilt most : ℕ) → StandsAt told k setup p → point_wear p < 2 ^ 62
+        (p : Point) (disk rebuilt most : ℕ) → StandsAt told k setup p → point_wear p < worn_at
         → p.state.out ≡ Fresh disk rebuilt → CountsRebuild k counted k_then
         → MarksGoneAgain counted k_then disk → most ≤ 2 ^ 20
         → ((t : Trail) → told_then ≡ Some t → is_present ((now t).power disk) ≡ false)
@@ -43,7 +44,7 @@ pub fn a_tick_moves_units_of_a_rebuild()
 /// A second disk that is lost in it ends the service; the tick's own energy is counted.
 pub fn a_second_loss_ends_a_tick_that_rebuilds()
     ensures { (told told_then : Option Trail) (k counted : Service) (setup : SetupType) (p : Point)
-        (disk rebuilt most : ℕ) (two : TwoType) → StandsAt told k setup p → point_wear p < 2 ^ 62
+        (disk rebuilt most : ℕ) (two : TwoType) → StandsAt told k setup p → point_wear p < worn_at
         → p.state.out ≡ Fresh disk rebuilt → CountsTick k counted → most ≤ 2 ^ 20
         → Ran told told_then (LosesInSteps counted p.history p.low most two)
         → Ran told told_then (GoesOn k.slots setup p TickEvent (Halted (HaltTwo two))

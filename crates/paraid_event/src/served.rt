@@ -1,10 +1,11 @@
 //! That requests and flushes are events of a session, also where a disk is lost in them.
-ghost use Rattle.std.specs.Prelude.{◌≡◌, ℕ, ◌+◌, ◌^◌, ◌<◌, ◌≤◌, ◌∷◌, ◌++◌, [], length, All, Option};
+ghost use Rattle.std.specs.Prelude.{◌≡◌, ℕ, ◌+◌, ◌<◌, ◌≤◌, ◌∷◌, ◌++◌, [], length, All, Option};
 ghost use Rattle.paraid_base.specs.declared.block.Block.{Block as BlockType};
 ghost use Rattle.paraid_base.specs.declared.event.Answer.TheVariants.{Energy as EnergyUsed, Flushed, State as IsState, Value, Wrote};
 ghost use Rattle.paraid_base.specs.declared.event.Event.TheVariants.{Energy as AskEnergy, Flush as FlushEvent, Read as ReadEvent, State as AskState, Write as WriteEvent};
 ghost use Rattle.paraid_base.specs.declared.pairs.Pairs.{Pairs as PairsType};
 ghost use Rattle.paraid_base.specs.History.{after_all as held_by};
+ghost use Rattle.paraid_base.specs.Log.{worn_at};
 ghost use Rattle.paraid_base.specs.Pairs.{pairs_of};
 ghost use Rattle.paraid_rack.specs.Told.{Ran};
 ghost use Rattle.paraid_rack.specs.Trail.{Trail};
@@ -32,7 +33,7 @@ pub fn a_question_leaves_an_array_as_it_is()
 /// is lost in it or not.
 pub fn a_read_is_answered()
     ensures { (told told_then : Option Trail) (k k_then : Service) (setup : SetupType) (p : Point)
-        (block lo_then : ℕ) (bytes : BlockType) → StandsAt told k setup p → point_wear p < 2 ^ 62
+        (block lo_then : ℕ) (bytes : BlockType) → StandsAt told k setup p → point_wear p < worn_at
         → block < block_count setup → bytes ≡ held_by p.history block
         → CountsServed k k_then (block_read setup block) → p.low ≤ lo_then
         → Ran told told_then (ServesEvent k k_then p.history p.low p.history lo_then)
@@ -43,7 +44,7 @@ pub fn a_read_is_answered()
 /// So is a write of several blocks with its number.
 pub fn a_write_is_answered()
     ensures { (told told_then : Option Trail) (k k_then : Service) (setup : SetupType) (p : Point)
-        (pairs : PairsType) (lo_then : ℕ) → StandsAt told k setup p → point_wear p < 2 ^ 62
+        (pairs : PairsType) (lo_then : ℕ) → StandsAt told k setup p → point_wear p < worn_at
         → All (λ (pair : ℕ × BlockType). pair.0 < block_count setup) (pairs_of pairs)
         → CountsServed k k_then (all_written setup.geometry.disks (blocks_named (pairs_of pairs)))
         → p.low ≤ lo_then
@@ -56,7 +57,7 @@ pub fn a_write_is_answered()
 /// dirty cells.
 pub fn a_flush_is_answered()
     ensures { (told told_then : Option Trail) (k k_then : Service) (setup : SetupType) (p : Point)
-        (lo_then : ℕ) → StandsAt told k setup p → point_wear p < 2 ^ 62 → CountsFlushed k k_then
+        (lo_then : ℕ) → StandsAt told k setup p → point_wear p < worn_at → CountsFlushed k k_then
         → length p.history ≤ lo_then
         → Ran told told_then (ServesEvent k k_then p.history p.low p.history lo_then)
         → Ran told told_then (GoesOn k.slots setup p FlushEvent (Flushed (length p.history))

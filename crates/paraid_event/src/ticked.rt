@@ -1,5 +1,5 @@
 //! That a tick in which a shift down begins is an event of a session.
-ghost use Rattle.std.specs.Prelude.{◌≡◌, ℕ, ◌^◌, ◌<◌, ◌≤◌, None, Option, Some};
+ghost use Rattle.std.specs.Prelude.{◌≡◌, ℕ, ◌<◌, ◌≤◌, None, Option, Some};
 ghost use Rattle.paraid_base.specs.declared.event.Answer.TheVariants.{Halted};
 ghost use Rattle.paraid_base.specs.declared.event.Event.TheVariants.{Tick as TickEvent};
 ghost use Rattle.paraid_base.specs.declared.fault.Halt.TheVariants.{Two as HaltTwo};
@@ -7,6 +7,7 @@ ghost use Rattle.paraid_base.specs.declared.fault.Two.{Two as TwoType};
 ghost use Rattle.paraid_base.specs.declared.state.Out.TheVariants.{No};
 ghost use Rattle.paraid_base.specs.declared.state.Phase.TheVariants.{Down, Steady};
 ghost use Rattle.paraid_base.specs.declared.state.TickEvent.TheVariants.{Begun};
+ghost use Rattle.paraid_base.specs.Log.{worn_at};
 ghost use Rattle.paraid_gear.specs.declared.decision.Decision.TheVariants.{Down as DecideDown};
 ghost use Rattle.paraid_gear.specs.Decision.{decision};
 ghost use Rattle.paraid_rack.specs.Told.{Ran};
@@ -27,7 +28,7 @@ ghost use Rattle.paraid_event.specs.Ticks.{BeginsDownByTick, CountsTick, IsHalte
 pub fn a_tick_begins_a_shift_down()
     ensures { (told told_then : Option Trail) (k counted begun k_then : Service)
         (setup : SetupType) (p : Point) (to lo_then : ℕ) → StandsAt told k setup p
-        → point_wear p < 2 ^ 62 → BeginsDownByTick k counted begun k_then to
+        → point_wear p < worn_at → BeginsDownByTick k counted begun k_then to
         → to < p.state.gear → p.state.phase ≡ Steady → p.state.out ≡ No
         → decision setup p.state.gear (state_with_tick p.state).samples ≡ DecideDown to
         → first_worn setup (state_with_tick p.state) to ≡ None → p.low ≤ lo_then
@@ -42,7 +43,7 @@ pub fn a_tick_begins_a_shift_down()
 pub fn a_second_loss_ends_a_tick_that_begins()
     ensures { (told told_then : Option Trail) (k counted begun : Service) (setup : SetupType)
         (p : Point) (to : ℕ) (two : TwoType) → StandsAt told k setup p
-        → point_wear p < 2 ^ 62 → CountsTick k counted
+        → point_wear p < worn_at → CountsTick k counted
         → begun ≡ record counted { meta = meta_after_begin counted.meta (Down to) counted.meta.spins }
         → to < p.state.gear → p.state.phase ≡ Steady → p.state.out ≡ No
         → decision setup p.state.gear (state_with_tick p.state).samples ≡ DecideDown to

@@ -1,5 +1,5 @@
 //! That a shift up which begins is an event of a session.
-ghost use Rattle.std.specs.Prelude.{◌≡◌, ℕ, ◌^◌, ◌<◌, ◌≤◌, Option, Some};
+ghost use Rattle.std.specs.Prelude.{◌≡◌, ℕ, ◌<◌, ◌≤◌, Option, Some};
 ghost use Rattle.paraid_base.specs.declared.event.Answer.TheVariants.{Halted, Shift};
 ghost use Rattle.paraid_base.specs.declared.event.Event.TheVariants.{Up as AskUp};
 ghost use Rattle.paraid_base.specs.declared.fault.Halt.TheVariants.{Two as HaltTwo};
@@ -7,6 +7,7 @@ ghost use Rattle.paraid_base.specs.declared.fault.Two.{Two as TwoType};
 ghost use Rattle.paraid_base.specs.declared.state.Out.TheVariants.{No};
 ghost use Rattle.paraid_base.specs.declared.state.Phase.TheVariants.{Steady};
 ghost use Rattle.paraid_base.specs.Gears.{next_higher};
+ghost use Rattle.paraid_base.specs.Log.{worn_at};
 ghost use Rattle.paraid_rack.specs.Told.{Ran};
 ghost use Rattle.paraid_rack.specs.Trail.{Trail, now};
 ghost use Rattle.paraid_record.specs.declared.meta.Setup.{Setup as SetupType};
@@ -23,7 +24,7 @@ ghost use Rattle.paraid_event.specs.Upshift.{BeginsUp, MarksShiftUp, OpensShiftU
 pub fn a_shift_up_begins()
     ensures { (told mid opened_told told_then : Option Trail)
         (k committed begun opened k_then : Service) (setup : SetupType) (p : Point)
-        (to lo lo_opened : ℕ) → StandsAt told k setup p → point_wear p < 2 ^ 62
+        (to lo lo_opened : ℕ) → StandsAt told k setup p → point_wear p < worn_at
         → BeginsUp k committed begun opened k_then to
         → next_higher setup.geometry p.state.gear ≡ Some to
         → p.state.phase ≡ Steady → p.state.out ≡ No → p.low ≤ lo → p.low ≤ lo_opened
@@ -41,7 +42,7 @@ pub fn a_shift_up_begins()
 pub fn a_second_loss_ends_a_shift_up()
     ensures marked { (told mid told_then : Option Trail) (k committed begun : Service)
         (setup : SetupType) (p : Point) (to lo : ℕ) (two : TwoType) → StandsAt told k setup p
-        → point_wear p < 2 ^ 62 → MarksShiftUp k committed begun to
+        → point_wear p < worn_at → MarksShiftUp k committed begun to
         → next_higher setup.geometry p.state.gear ≡ Some to
         → p.state.phase ≡ Steady → p.state.out ≡ No → p.low ≤ lo
         → Ran told mid (ServesEvent k committed p.history p.low p.history lo)
@@ -53,7 +54,7 @@ pub fn a_second_loss_ends_a_shift_up()
     ensures raised { (told mid opened_told told_then : Option Trail)
         (k committed begun opened : Service) (setup : SetupType) (p : Point)
         (to lo lo_opened : ℕ) (two : TwoType) → StandsAt told k setup p
-        → point_wear p < 2 ^ 62 → MarksShiftUp k committed begun to → OpensShiftUp k begun opened
+        → point_wear p < worn_at → MarksShiftUp k committed begun to → OpensShiftUp k begun opened
         → next_higher setup.geometry p.state.gear ≡ Some to
         → p.state.phase ≡ Steady → p.state.out ≡ No → p.low ≤ lo → p.low ≤ lo_opened
         → Ran told mid (ServesEvent k committed p.history p.low p.history lo)

@@ -10,6 +10,7 @@ use Rattle.paraid_base.specs.declared.state.Phase.{Phase}
 use Rattle.paraid_base.specs.declared.state.Phase.TheVariants.{Steady, Down, Up}
 use Rattle.paraid_base.specs.History.{History}
 use Rattle.paraid_base.specs.Cells.{home_disk, home_row}
+use Rattle.paraid_base.specs.Log.{map_block_place}
 use Rattle.paraid_base.specs.Regions.{hard_place_of, map_count, soft_place_of}
 use Rattle.paraid_base.specs.Skips.{skip}
 use Rattle.paraid_base.specs.Soft.{soft_disk, soft_parity_disk, soft_stripe, stripe_count}
@@ -31,7 +32,7 @@ use Rattle.paraid_image.proofs.ViewLemmas.{map_bit_same, map_disk_other, not_bel
 
 -- the places that are looked at hold the same
 pub record AgreeSeen (v : View) (power : ℕ → Power) (after : Contents) : Type 0 where
-  pub map_blocks : (x j : ℕ) → x < 2 → j < map_count v.meta.setup.geometry → v.out ≢ Some x → after x (100 + j) ≡ v.block x (100 + j)
+  pub map_blocks : (x j : ℕ) → x < 2 → j < map_count v.meta.setup.geometry → v.out ≢ Some x → after x (map_block_place v.meta.setup.geometry j) ≡ v.block x (map_block_place v.meta.setup.geometry j)
   pub hard : (r e : ℕ) → r < v.meta.setup.geometry.rows → e < v.meta.setup.geometry.disks → v.out ≢ Some e → (v.meta.gear ≤ e → v.dirty r e ≡ false)
       → after e (hard_place_of v.meta.setup.geometry r) ≡ v.block e (hard_place_of v.meta.setup.geometry r)
   pub soft : (s e : ℕ) → s < stripe_count v.meta.setup.geometry.disks v.meta.setup.geometry.rows v.meta.gear → e < v.meta.gear → v.out ≢ Some e
@@ -43,7 +44,7 @@ pub record AgreeSeen (v : View) (power : ℕ → Power) (after : Contents) : Typ
   pub fresh_stripes : (e rebuilt s : ℕ) → IsFresh power v.meta e rebuilt → s < stripes_on v e → v.meta.setup.geometry.rows + s < rebuilt
       → after e (soft_place_of v.meta.setup.geometry v.meta.gear s) ≡ v.block e (soft_place_of v.meta.setup.geometry v.meta.gear s)
   pub fresh_map : (e rebuilt j : ℕ) → IsFresh power v.meta e rebuilt → e < 2 → j < map_count v.meta.setup.geometry
-      → v.meta.setup.geometry.rows + stripes_on v e + j < rebuilt → after e (100 + j) ≡ v.block e (100 + j)
+      → v.meta.setup.geometry.rows + stripes_on v e + j < rebuilt → after e (map_block_place v.meta.setup.geometry j) ≡ v.block e (map_block_place v.meta.setup.geometry j)
 
 hard_clean : (e a to : ℕ) (dirty : Bool) → (nat_lt e a || (nat_lt e to && not dirty)) ≡ true → a ≤ e → dirty ≡ false
 hard_clean e a to true h l = grind (arith, nat_tests)

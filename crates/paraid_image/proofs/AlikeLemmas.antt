@@ -5,6 +5,7 @@ use Rattle.std.proofs.lemmas.Bool.{false≢true}
 use Rattle.std.proofs.lemmas.Bool.Decides.{nat_tests}
 use Rattle.paraid_base.specs.declared.block.Block.{Block}
 use Rattle.paraid_base.specs.History.{History}
+use Rattle.paraid_base.specs.Log.{log_least}
 use Rattle.paraid_rack.specs.Alike.{IsAlike}
 use Rattle.paraid_rack.specs.Disks.{Disks, IsImage, IsPresent, is_present, lose}
 use Rattle.paraid_rack.specs.Trail.{Trail, disks, initial}
@@ -34,7 +35,7 @@ module _ (j : Disks) (f : ℕ → ℕ → Block) (l : ℕ → ℕ → Bool) (sam
 
   contents_now : (batch : Batch) → contents j batch ≡ contents before batch
   unfolding contents
-  contents_now batch = λ t d p. past_log (nat_lt p 100) (has_place j d p) (overlaid_block batch d p (j.block d p)) (overlaid_block batch d p (f d p)) (λ high there. ap (overlaid_block batch d p) (same d p there)) t
+  contents_now batch = λ t d p. past_log (nat_lt p log_least) (has_place j d p) (overlaid_block batch d p (j.block d p)) (overlaid_block batch d p (f d p)) (λ high there. ap (overlaid_block batch d p) (same d p there)) t
 
   log_kept : (x : ℕ) → IsLogKept before j x
   log_kept x = record {

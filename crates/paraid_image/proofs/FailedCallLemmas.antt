@@ -4,6 +4,7 @@ use Rattle.std.proofs.Common.{refl, sym, ◌∙◌, ap, subst, inl}
 use Rattle.std.proofs.lemmas.Bool.{false≢true, true≢false}
 use Rattle.paraid_base.specs.declared.block.Block.{Block}
 use Rattle.paraid_base.specs.History.{History}
+use Rattle.paraid_base.specs.Log.{log_least}
 use Rattle.paraid_rack.specs.declared.call.Call.{Call}
 use Rattle.paraid_rack.specs.declared.call.Call.TheVariants.{Read, Write, Sync, Park, SpinUp, Attach}
 use Rattle.paraid_rack.specs.declared.call.Power.TheVariants.{Absent}
@@ -61,7 +62,7 @@ stored_same i d f same x q = where_there (has_place (lose d i) x q) (f x q) (i.b
 contents_same : (i : Disks) (d : ℕ) (f : ℕ → ℕ → Block) (said : LogState) → ((x q : ℕ) → x ≢ d → f x q ≡ i.block x q)
     → contents (with_blocks (lose d i) f) said.batch ≡ contents (lose d i) said.batch
 unfolding contents
-contents_same i d f said same = λ t. λ x q. (past_log (nat_lt q 100) (has_place (lose d i) x q)
+contents_same i d f said same = λ t. λ x q. (past_log (nat_lt q log_least) (has_place (lose d i) x q)
     (overlaid_block said.batch x q (f x q)) (overlaid_block said.batch x q (i.block x q))
     (λ low there. ap (overlaid_block said.batch x q) (same x q (λ is. false≢true (sym (place_lost i d x q is) ∙ there))))) t
 

@@ -1,5 +1,5 @@
 -- A formatted array holds the history without a write.
-use Rattle.std.specs.Prelude.{◌≡◌, ◌≢◌, ℕ, ◌+◌, ◌*◌, ◌%◌, ◌<◌, ◌≤◌, ◌==◌, ◌&&◌, ◌||◌, nat_lt, Bool, true, false, not, [], Option, Some, None, replicate, slice_index, if◌then◌else◌}
+use Rattle.std.specs.Prelude.{◌≡◌, ◌≢◌, ℕ, ◌*◌, ◌%◌, ◌<◌, ◌≤◌, ◌==◌, ◌&&◌, ◌||◌, nat_lt, Bool, true, false, not, [], Option, Some, None, replicate, slice_index, if◌then◌else◌}
 use Rattle.std.specs.Int.{bit_at}
 use Rattle.std.proofs.Common.{refl, sym, ◌∙◌, ap, subst, arith, inl, inr, zero, suc}
 use Rattle.std.proofs.lemmas.Bool.{and_from, false≢true}
@@ -11,6 +11,7 @@ use Rattle.paraid_base.specs.declared.state.Out.TheVariants.{No, Fresh}
 use Rattle.paraid_base.specs.declared.state.Phase.TheVariants.{Steady, Up}
 use Rattle.paraid_base.specs.Cells.{home_disk, home_row}
 use Rattle.paraid_base.specs.History.{after}
+use Rattle.paraid_base.specs.Log.{log_least, map_block_place}
 use Rattle.paraid_base.specs.Regions.{disk_size, hard_place_of, map_count, map_place_of, soft_place_of}
 use Rattle.paraid_base.specs.Sums.{xor_upto}
 use Rattle.paraid_base.specs.Xor.{xor, zero_block}
@@ -73,7 +74,7 @@ zero_past_log true there x h = refl
 zero_past_log false true x h = h refl refl
 zero_past_log false false x h = refl
 
-above : (q : ℕ) → nat_lt q 100 ≡ false → 100 ≤ q
+above : (q : ℕ) → nat_lt q log_least ≡ false → log_least ≤ q
 above q h = grind (arith, nat_tests)
 
 below : (q n : ℕ) → q < n → nat_lt q n ≡ true
@@ -159,7 +160,7 @@ module _ (slots : ℕ) (s : Disks) (m : Meta) (f : IsFormatted slots s m) where
 
   zero_at : (d p : ℕ) → d < g.disks → p < disk_size g → block d p ≡ zero_block
   unfolding contents
-  zero_at d p ld lp = zero_past_log (nat_lt p 100) (has_place s d p) (s.block d p) (λ low there. f.zeros d p ld (above p low) lp)
+  zero_at d p ld lp = zero_past_log (nat_lt p log_least) (has_place s d p) (s.block d p) (λ low there. f.zeros d p ld (above p low) lp)
 
   abbrev v : View
   v = record { meta = m; dirty = map_bit g (block (map_disk None)); out = None; block = block }
@@ -205,7 +206,7 @@ module _ (slots : ℕ) (s : Disks) (m : Meta) (f : IsFormatted slots s m) where
     map = record {
       mirrored = λ j l first second.
           let low = g.disks_low in
-          zero_at 0 (100 + j) (omega arith) (omega arith) ∙ sym (zero_at 1 (100 + j) (omega arith) (omega arith));
+          zero_at 0 (map_block_place g j) (omega arith) (omega arith) ∙ sym (zero_at 1 (map_block_place g j) (omega arith) (omega arith));
       rows = λ r e l bit. absurd (false≢true (sym (clean r e l) ∙ bit));
       parked = λ r e l bit. absurd (false≢true (sym (clean r e l) ∙ bit));
       disks = λ r e l bit. absurd (false≢true (sym (clean r e l) ∙ bit));

@@ -8,6 +8,7 @@ use Rattle.paraid_base.specs.declared.state.Out.TheVariants.{Gone, Fresh}
 use Rattle.paraid_base.specs.declared.state.Phase.{Phase}
 use Rattle.paraid_base.specs.declared.state.Phase.TheVariants.{Steady, Down, Up}
 use Rattle.paraid_base.specs.History.{History}
+use Rattle.paraid_base.specs.Log.{log_least, map_block_place}
 use Rattle.paraid_base.specs.Regions.{IsGear, hard_place_of, map_count, soft_place_of}
 use Rattle.paraid_base.specs.Soft.{stripe_count}
 use Rattle.paraid_base.proofs.RegionsLemmas.{hard_below_soft, soft_places_apart}
@@ -65,13 +66,13 @@ module _ (v : View) (power : ℕ → Power) (after : Contents) (d p : ℕ)
 
   agrees_dirty : (q : ℕ) → q < g.rows → v.meta.gear ≤ d → v.dirty q d ≡ true → p ≡ hard_place_of g q → AgreeSeen v power after
   agrees_dirty q lq low bit at = record {
-    map_blocks = λ x j lx lj not. same x (100 + j) (λ is here. absurd (omega arith));
+    map_blocks = λ x j lx lj not. same x (map_block_place g j) (λ is here. absurd (omega arith));
     hard = λ r e lr le not clean. same e (hard_place_of g r) (λ is here. dirty_not_clean r q e bit (omega arith) is (clean (omega arith)));
     soft = λ s e ls le not. same e (soft_place_of g v.meta.gear s) (λ is here. let b = hard_below_soft g q v.meta.gear s lq in absurd (omega arith));
     filled = λ s e none ls le. same e (soft_place_of g (phase_to v.meta.phase) s) (λ is here. let b = hard_below_soft g q (phase_to v.meta.phase) s lq in absurd (omega arith));
     fresh_rows = λ e u r fresh lr lu clean. same e (hard_place_of g r) (λ is here. dirty_not_clean r q e bit (omega arith) is (clean (omega arith)));
     fresh_stripes = λ e u s fresh ls lu. same e (soft_place_of g v.meta.gear s) (λ is here. let b = hard_below_soft g q v.meta.gear s lq in absurd (omega arith));
-    fresh_map = λ e u j fresh le lj lu. same e (100 + j) (λ is here. absurd (omega arith));
+    fresh_map = λ e u j fresh le lj lu. same e (map_block_place g j) (λ is here. absurd (omega arith));
   }
 
   agrees_unfilled : (to t : ℕ) → IsShiftTo v.meta.phase to → v.meta.fill ≤ t → t < stripe_count g.disks g.rows to → p ≡ soft_place_of g to t → AgreeSeen v power after
@@ -80,7 +81,7 @@ module _ (v : View) (power : ℕ → Power) (after : Contents) (d p : ℕ)
       let apart : (s : ℕ) → s < stripe_count g.disks g.rows v.meta.gear → soft_place_of g v.meta.gear s ≢ p =
       λ s ls here. gears.other ((soft_places_apart g v.meta.gear to s t in_range.gear gears.is_gear ls lt (here ∙ at)).0) in
       record {
-        map_blocks = λ x j lx lj not. same x (100 + j) (λ is here. absurd (omega arith));
+        map_blocks = λ x j lx lj not. same x (map_block_place g j) (λ is here. absurd (omega arith));
         hard = λ r e lr le not clean. same e (hard_place_of g r) (λ is here. let b = hard_below_soft g r to t lr in absurd (omega arith));
         soft = λ s e ls le not. same e (soft_place_of g v.meta.gear s) (λ is. apart s ls);
         filled = λ s e none ls le. same e (soft_place_of g (phase_to v.meta.phase) s) (λ is here.
@@ -88,7 +89,7 @@ module _ (v : View) (power : ℕ → Power) (after : Contents) (d p : ℕ)
             absurd (omega arith));
         fresh_rows = λ e u r fresh lr lu clean. same e (hard_place_of g r) (λ is here. let b = hard_below_soft g r to t lr in absurd (omega arith));
         fresh_stripes = λ e u s fresh ls lu. same e (soft_place_of g v.meta.gear s) (λ is. apart s (in_stripes e s ls));
-        fresh_map = λ e u j fresh le lj lu. same e (100 + j) (λ is here. absurd (omega arith));
+        fresh_map = λ e u j fresh le lj lu. same e (map_block_place g j) (λ is here. absurd (omega arith));
       }
 
   -- what is not on the out disk is not at the place
@@ -103,7 +104,7 @@ module _ (v : View) (power : ℕ → Power) (after : Contents) (d p : ℕ)
       let o = named d (ap named_out is_gone) in
       let no_fresh : (e u : ℕ) → IsFresh power v.meta e u → ⊥ = (λ e u fresh. let k : Fresh e u ≡ Gone d = sym fresh.is ∙ is_gone in cc) in
       record {
-        map_blocks = λ x j lx lj not. off_out x (100 + j) o not;
+        map_blocks = λ x j lx lj not. off_out x (map_block_place g j) o not;
         hard = λ r e lr le not clean. off_out e (hard_place_of g r) o not;
         soft = λ s e ls le not. off_out e (soft_place_of g v.meta.gear s) o not;
         filled = λ s e none ls le. absurd (some_none o none);
@@ -119,39 +120,39 @@ module _ (v : View) (power : ℕ → Power) (after : Contents) (d p : ℕ)
   agrees_row u₀ q is_fresh past lq at =
       let o = named d (ap named_out is_fresh) in
       record {
-        map_blocks = λ x j lx lj not. off_out x (100 + j) o not;
+        map_blocks = λ x j lx lj not. off_out x (map_block_place g j) o not;
         hard = λ r e lr le not clean. off_out e (hard_place_of g r) o not;
         soft = λ s e ls le not. off_out e (soft_place_of g v.meta.gear s) o not;
         filled = λ s e none ls le. absurd (some_none o none);
         fresh_rows = λ e u r fresh lr lu clean. same e (hard_place_of g r) (λ is here. let k = same_rebuilt e u u₀ is_fresh fresh in absurd (omega arith));
         fresh_stripes = λ e u s fresh ls lu. same e (soft_place_of g v.meta.gear s) (λ is here. let b = hard_below_soft g q v.meta.gear s lq in absurd (omega arith));
-        fresh_map = λ e u j fresh le lj lu. same e (100 + j) (λ is here. absurd (omega arith));
+        fresh_map = λ e u j fresh le lj lu. same e (map_block_place g j) (λ is here. absurd (omega arith));
       }
 
   agrees_stripe : (u₀ t : ℕ) → v.meta.out ≡ Fresh d u₀ → u₀ ≤ g.rows + t → t < stripes_on v d → p ≡ soft_place_of g v.meta.gear t → AgreeSeen v power after
   agrees_stripe u₀ t is_fresh past lt at =
       let o = named d (ap named_out is_fresh) in
       record {
-        map_blocks = λ x j lx lj not. off_out x (100 + j) o not;
+        map_blocks = λ x j lx lj not. off_out x (map_block_place g j) o not;
         hard = λ r e lr le not clean. off_out e (hard_place_of g r) o not;
         soft = λ s e ls le not. off_out e (soft_place_of g v.meta.gear s) o not;
         filled = λ s e none ls le. absurd (some_none o none);
         fresh_rows = λ e u r fresh lr lu clean. same e (hard_place_of g r) (λ is here. let b = hard_below_soft g r v.meta.gear t lr in absurd (omega arith));
         fresh_stripes = λ e u s fresh ls lu. same e (soft_place_of g v.meta.gear s) (λ is here. let k = same_rebuilt e u u₀ is_fresh fresh in absurd (omega arith));
-        fresh_map = λ e u j fresh le lj lu. same e (100 + j) (λ is here. absurd (omega arith));
+        fresh_map = λ e u j fresh le lj lu. same e (map_block_place g j) (λ is here. absurd (omega arith));
       }
 
-  agrees_map : (u₀ t : ℕ) → v.meta.out ≡ Fresh d u₀ → t < map_count g → u₀ ≤ g.rows + stripes_on v d + t → p ≡ 100 + t → AgreeSeen v power after
+  agrees_map : (u₀ t : ℕ) → v.meta.out ≡ Fresh d u₀ → t < map_count g → u₀ ≤ g.rows + stripes_on v d + t → p ≡ map_block_place g t → AgreeSeen v power after
   agrees_map u₀ t is_fresh lt past at =
       let o = named d (ap named_out is_fresh) in
       record {
-        map_blocks = λ x j lx lj not. off_out x (100 + j) o not;
+        map_blocks = λ x j lx lj not. off_out x (map_block_place g j) o not;
         hard = λ r e lr le not clean. off_out e (hard_place_of g r) o not;
         soft = λ s e ls le not. off_out e (soft_place_of g v.meta.gear s) o not;
         filled = λ s e none ls le. absurd (some_none o none);
         fresh_rows = λ e u r fresh lr lu clean. same e (hard_place_of g r) (λ is here. absurd (omega arith));
         fresh_stripes = λ e u s fresh ls lu. same e (soft_place_of g v.meta.gear s) (λ is here. absurd (omega arith));
-        fresh_map = λ e u j fresh le lj lu. same e (100 + j) (λ is here.
+        fresh_map = λ e u j fresh le lj lu. same e (map_block_place g j) (λ is here.
             let k = same_rebuilt e u u₀ is_fresh fresh in
             let m : stripes_on v e ≡ stripes_on v d = ap (stripes_on v) is in
             absurd (omega arith));
@@ -165,7 +166,7 @@ module _ (v : View) (power : ℕ → Power) (after : Contents) (d p : ℕ)
   free_agrees (stripe u₀ t is past lt at) = agrees_stripe u₀ t is past lt at
   free_agrees (map_block u₀ t is lt past at) = agrees_map u₀ t is lt past at
 
-pub free_past : (v : View) (d p : ℕ) → IsFree v d p → 100 ≤ p
+pub free_past : (v : View) (d p : ℕ) → IsFree v d p → log_least ≤ p
 free_past v d p (dirty_cell q lq low bit at) = omega arith
 free_past v d p (unfilled to t shift past lt at) = omega arith
 free_past v d p (gone is far) = far
@@ -173,7 +174,7 @@ free_past v d p (row u₀ q is past lq at) = omega arith
 free_past v d p (stripe u₀ t is past lt at) = omega arith
 free_past v d p (map_block u₀ t is lt past at) = omega arith
 
-pub free_log : (i : Disks) (d p : ℕ) (b : Block) → 100 ≤ p → KeepsLog i (written i d p b)
+pub free_log : (i : Disks) (d p : ℕ) (b : Block) → log_least ≤ p → KeepsLog i (written i d p b)
 free_log i d p b far = keeps_log_by i (written i d p b) (λ x l. log_kept_past i d p b far x)
 
 -- an image holds what it held, whatever a free place holds

@@ -6,6 +6,7 @@ use Rattle.std.proofs.lemmas.Bool.Decides.{nat_tests}
 use Rattle.paraid_base.specs.declared.block.Block.{Block}
 use Rattle.paraid_base.specs.declared.geometry.Geometry.{Geometry}
 use Rattle.paraid_base.specs.History.{History}
+use Rattle.paraid_base.specs.Log.{batch_room, body_place, log_least}
 use Rattle.paraid_base.specs.Xor.{zero_block}
 use Rattle.paraid_rack.specs.Disks.{Disks, with_at}
 use Rattle.paraid_rack.proofs.AtomsLemmas.{at_case, with_at_other, with_at_same}
@@ -54,14 +55,14 @@ unfolding stored_block
 stored_written i d b there =
     ap (λ (t : Bool). if t then (overwrite i d 0 b).block d 0 else zero_block) there ∙ overwritten_here i d 0 b d 0 refl refl
 
-above : (q : ℕ) → nat_lt q 100 ≡ false → 100 ≤ q
+above : (q : ℕ) → nat_lt q log_least ≡ false → log_least ≤ q
 above q h = grind (arith, nat_tests)
 
 pub contents_over : (i : Disks) (d p : ℕ) (b : Block) (batch : Batch)
-    → ((x q : ℕ) → x ≡ d → q ≡ p → 100 ≤ q → has_place i x q ≡ true → overlaid_block batch x q b ≡ overlaid_block batch x q (i.block x q))
+    → ((x q : ℕ) → x ≡ d → q ≡ p → log_least ≤ q → has_place i x q ≡ true → overlaid_block batch x q b ≡ overlaid_block batch x q (i.block x q))
     → contents (overwrite i d p b) batch ≡ contents i batch
 unfolding contents
-contents_over i d p b batch h = λ t. λ x q. (past_log (nat_lt q 100) (has_place i x q)
+contents_over i d p b batch h = λ t. λ x q. (past_log (nat_lt q log_least) (has_place i x q)
     (overlaid_block batch x q ((overwrite i d p b).block x q)) (overlaid_block batch x q (i.block x q)) (λ low there.
     elim (cases_eq x d) [
       | inl is ↦ elim (cases_eq q p) [
@@ -73,7 +74,7 @@ contents_over i d p b batch h = λ t. λ x q. (past_log (nat_lt q 100) (has_plac
 
 pub contents_else : (i : Disks) (d p : ℕ) (b : Block) (batch : Batch) (x q : ℕ) → (x ≡ d → q ≢ p) → contents (overwrite i d p b) batch x q ≡ contents i batch x q
 unfolding contents
-contents_else i d p b batch x q apart = past_log (nat_lt q 100) (has_place i x q)
+contents_else i d p b batch x q apart = past_log (nat_lt q log_least) (has_place i x q)
     (overlaid_block batch x q ((overwrite i d p b).block x q)) (overlaid_block batch x q (i.block x q))
     (λ low there. ap (overlaid_block batch x q) (overwritten_else i d p b x q apart))
 
@@ -85,7 +86,7 @@ AreBlocksLogged-kept f g p (w ∷ batch) h logged =
     (h p (omega arith) (omega arith) ∙ logged.0, AreBlocksLogged-kept f g (suc p) batch (λ q low high. h q (omega arith) (omega arith)) logged.1)
 
 pub SaysBy-kept : (opened : Bool) (f g : ℕ → Block) (m : Meta) (batch : Batch) → (opened ≡ false → g 1 ≡ f 1)
-    → (opened ≡ true → (q : ℕ) → 2 ≤ q → q < 4 + length batch → g q ≡ f q) → SaysBy opened f m batch → SaysBy opened g m batch
+    → (opened ≡ true → (q : ℕ) → 2 ≤ q → q < body_place (length batch) → g q ≡ f q) → SaysBy opened f m batch → SaysBy opened g m batch
 SaysBy-kept false f g m batch one rest s = record {
   meta = subst (λ (b : Block). Spells b m) (sym (one refl)) s.meta;
   empty = s.empty;
@@ -101,7 +102,7 @@ pub length-targets : (batch : Batch) → length (targets batch) ≡ length batch
 length-targets [] = refl
 length-targets (w ∷ batch) = ap suc (length-targets batch)
 
-pub few_logged : (opened : Bool) (log : ℕ → Block) (m : Meta) (batch : Batch) → SaysBy opened log m batch → length batch ≤ 96
+pub few_logged : (opened : Bool) (log : ℕ → Block) (m : Meta) (batch : Batch) → SaysBy opened log m batch → length batch ≤ batch_room
 few_logged false log m batch s = rw s.empty (omega arith)
 few_logged true log m batch s = let few = s.in_range.few in let same = length-targets batch in omega arith
 
@@ -110,7 +111,7 @@ pub record IsLogKept (i j : Disks) (x : ℕ) : Type 0 where
   pub power : j.power x ≡ i.power x
   pub gate : is_open (stored_block j x 0) ≡ is_open (stored_block i x 0)
   pub meta : is_open (stored_block i x 0) ≡ false → stored_block j x 1 ≡ stored_block i x 1
-  pub rest : is_open (stored_block i x 0) ≡ true → (said : LogState) → (Says i x said ⊎ Says j x said) → (q : ℕ) → 2 ≤ q → q < 4 + length said.batch → stored_block j x q ≡ stored_block i x q
+  pub rest : is_open (stored_block i x 0) ≡ true → (said : LogState) → (Says i x said ⊎ Says j x said) → (q : ℕ) → 2 ≤ q → q < body_place (length said.batch) → stored_block j x q ≡ stored_block i x q
 
 pub says_forth : (i j : Disks) (x : ℕ) (said : LogState) → IsLogKept i j x → Says i x said → Says j x said
 says_forth i j x said kept s = record {
@@ -212,7 +213,7 @@ pub keeps_by : (i : Disks) (f : ℕ → ℕ → Block) → ((x : ℕ) → x < 2 
 keeps_by i f kept same = record { log = keeps_log_by i f kept; contents = same }
 
 -- a write of the log leaves the contents
-pub contents_log : (i : Disks) (d p : ℕ) (b : Block) → p < 100 → (x : ℕ) (said : LogState) → Stands i x said → contents (overwrite i d p b) said.batch ≡ contents i said.batch
+pub contents_log : (i : Disks) (d p : ℕ) (b : Block) → p < log_least → (x : ℕ) (said : LogState) → Stands i x said → contents (overwrite i d p b) said.batch ≡ contents i said.batch
 contents_log i d p b l x said s = contents_over i d p b said.batch (λ y q is at past there. absurd (omega arith))
 
 pub keeps_nowhere : (i : Disks) (d p : ℕ) (b : Block) → has_place i d p ≡ false → Keeps i (written i d p b)
@@ -226,7 +227,7 @@ keeps_nowhere i d p b none = keeps_by i (written i d p b)
     (λ x said s. contents_over i d p b said.batch (λ y q is at past there.
     let not_there : has_place i y q ≡ false = rw (is, at) none in absurd (false≢true (sym not_there ∙ there))))
 
-pub keeps_no_log : (i : Disks) (d p : ℕ) (b : Block) → 2 ≤ d → p < 100 → Keeps i (written i d p b)
+pub keeps_no_log : (i : Disks) (d p : ℕ) (b : Block) → 2 ≤ d → p < log_least → Keeps i (written i d p b)
 keeps_no_log i d p b far l = keeps_by i (written i d p b)
     (λ x low. record {
       power = refl;
@@ -236,7 +237,7 @@ keeps_no_log i d p b far l = keeps_by i (written i d p b)
     })
     (contents_log i d p b l)
 
-pub keeps_shut : (i : Disks) (d p : ℕ) (b : Block) → is_open (stored_block i d 0) ≡ false → 2 ≤ p → p < 100 → Keeps i (written i d p b)
+pub keeps_shut : (i : Disks) (d p : ℕ) (b : Block) → is_open (stored_block i d 0) ≡ false → 2 ≤ p → p < log_least → Keeps i (written i d p b)
 keeps_shut i d p b closed far l = keeps_by i (written i d p b)
     (λ x low. record {
       power = refl;
@@ -259,7 +260,7 @@ keeps_meta_under_open_gate i d p b opened one = keeps_by i (written i d p b)
     (contents_log i d p b (omega arith))
 
 -- the disk that is written says the same before and after
-unused_forth : (i : Disks) (d p : ℕ) (b : Block) (said : LogState) → Says i d said → said.opened ≡ true → 4 + length said.batch ≤ p → Says (overwrite i d p b) d said
+unused_forth : (i : Disks) (d p : ℕ) (b : Block) (said : LogState) → Says i d said → said.opened ≡ true → body_place (length said.batch) ≤ p → Says (overwrite i d p b) d said
 unused_forth i d p b said s opened past = record {
   present = s.present;
   gate = ap is_open (stored_else i d p b d 0 (λ is at. absurd (omega arith))) ∙ s.gate;
@@ -273,7 +274,7 @@ same_said : (i : Disks) (d p : ℕ) (b : Block) (said other : LogState) → Says
 same_said i d p b said other s t (inl u) = ap (λ (z : LogState). length z.batch) (Says-same i d other said u s)
 same_said i d p b said other s t (inr u) = ap (λ (z : LogState). length z.batch) (Says-same (overwrite i d p b) d other said u t)
 
-pub keeps_unused : (i : Disks) (d p : ℕ) (b : Block) (said : LogState) → Says i d said → said.opened ≡ true → 4 + length said.batch ≤ p → p < 100 → Keeps i (written i d p b)
+pub keeps_unused : (i : Disks) (d p : ℕ) (b : Block) (said : LogState) → Says i d said → said.opened ≡ true → body_place (length said.batch) ≤ p → p < log_least → Keeps i (written i d p b)
 keeps_unused i d p b said s opened past l =
     let t = unused_forth i d p b said s opened past in
     keeps_by i (written i d p b)
@@ -320,7 +321,7 @@ overlaid_block-named (w ∷ batch) d p b c h = elim (cases_Bool (w.0.disk == d &
 named_place : (d e p q : ℕ) → (d == e && p == q) ≡ true → p ≡ q
 named_place d e p q h = grind (arith, nat_tests)
 
-named_past : (g : Geometry) (batch : Batch) (d p : ℕ) → All (IsTargetInRange g) (targets batch) → names_place batch d p ≡ true → 100 ≤ p
+named_past : (g : Geometry) (batch : Batch) (d p : ℕ) → All (IsTargetInRange g) (targets batch) → names_place batch d p ≡ true → log_least ≤ p
 named_past g [] d p all h = absurd (false≢true h)
 named_past g (w ∷ batch) d p all h = elim (cases_Bool (w.0.disk == d && w.0.place == p)) [
   | inl is ↦ let at = named_place w.0.disk d w.0.place p is in let low = (all 0 no_target (omega arith)).past_log in omega arith
@@ -328,19 +329,19 @@ named_past g (w ∷ batch) d p all h = elim (cases_Bool (w.0.disk == d && w.0.pl
       named_past g batch d p (λ k e l. all (suc k) e (omega arith)) later
 ]
 
-pub target_past : (opened : Bool) (log : ℕ → Block) (m : Meta) (batch : Batch) (d p : ℕ) → SaysBy opened log m batch → names_place batch d p ≡ true → 100 ≤ p
+pub target_past : (opened : Bool) (log : ℕ → Block) (m : Meta) (batch : Batch) (d p : ℕ) → SaysBy opened log m batch → names_place batch d p ≡ true → log_least ≤ p
 target_past false log m batch d p s h =
     absurd (false≢true (ap (λ (ws : Batch). names_place ws d p) (sym s.empty) ∙ h))
 target_past true log m batch d p s h = named_past m.setup.geometry batch d p s.in_range.each h
 
 -- a place past the log is in no log
-pub log_kept_past : (i : Disks) (d p : ℕ) (b : Block) → 100 ≤ p → (x : ℕ) → IsLogKept i (overwrite i d p b) x
+pub log_kept_past : (i : Disks) (d p : ℕ) (b : Block) → log_least ≤ p → (x : ℕ) → IsLogKept i (overwrite i d p b) x
 log_kept_past i d p b far x = record {
   power = refl;
   gate = ap is_open (stored_else i d p b x 0 (λ is at. absurd (omega arith)));
   meta = λ closed. stored_else i d p b x 1 (λ is at. absurd (omega arith));
   rest = λ opened said says q low high. stored_else i d p b x q (λ is at.
-      let few : length said.batch ≤ 96 = elim says [
+      let few : length said.batch ≤ batch_room = elim says [
         | inl s ↦ few_logged said.opened (stored_block i x) said.meta said.batch s.log
         | inr s ↦ few_logged said.opened (stored_block (overwrite i d p b) x) said.meta said.batch s.log
       ] in
@@ -348,7 +349,7 @@ log_kept_past i d p b far x = record {
 }
 
 -- every standing batch names the place
-pub keeps_target : (i : Disks) (d p : ℕ) (b : Block) → 100 ≤ p
+pub keeps_target : (i : Disks) (d p : ℕ) (b : Block) → log_least ≤ p
     → ((x : ℕ) (said : LogState) → Stands i x said → names_place said.batch d p ≡ true) → Keeps i (written i d p b)
 keeps_target i d p b far all = keeps_by i (written i d p b) (λ x low. log_kept_past i d p b far x)
     (λ x said s. contents_over i d p b said.batch (λ y q is at past there.

@@ -1,8 +1,9 @@
 -- An image holds what it held with one disk lost.
-use Rattle.std.specs.Prelude.{◌≡◌, ◌≢◌, ℕ, ◌+◌, ◌*◌, ◌<◌, ◌⊎◌, nat_lt, Bool, false, Option, Some, None, if◌then◌else◌}
+use Rattle.std.specs.Prelude.{◌≡◌, ◌≢◌, ℕ, ◌*◌, ◌<◌, ◌⊎◌, nat_lt, Bool, false, Option, Some, None, if◌then◌else◌}
 use Rattle.std.proofs.Common.{refl, sym, ◌∙◌, ap, subst, arith, inl, inr}
 use Rattle.std.proofs.lemmas.Bool.{cases_eq, false≢true, true≢false}
 use Rattle.paraid_base.specs.History.{History}
+use Rattle.paraid_base.specs.Log.{log_least, map_block_place}
 use Rattle.paraid_base.specs.Regions.{map_count}
 use Rattle.paraid_base.specs.Xor.{zero_block}
 use Rattle.paraid_rack.specs.declared.call.Power.TheVariants.{Absent, Parked}
@@ -27,7 +28,7 @@ use Rattle.paraid_image.proofs.ViewLemmas.{content_without, dirty_without}
 pub contents_kept : (i : Disks) (d : ℕ) (batch : Batch) (x q : ℕ) → x ≢ d → contents (lose d i) batch x q ≡ contents i batch x q
 unfolding contents
 contents_kept i d batch x q not =
-    ap (λ (t : Bool). if nat_lt q 100 then zero_block else (if t then overlaid_block batch x q (i.block x q) else zero_block)) (place_kept i d x q not)
+    ap (λ (t : Bool). if nat_lt q log_least then zero_block else (if t then overlaid_block batch x q (i.block x q) else zero_block)) (place_kept i d x q not)
 
 -- the log disk that stands is not the one that is lost
 pub stands_spared : (i : Disks) (d x : ℕ) (said : LogState) → Stands i x said → d ≢ x → (y : ℕ) × Stands (lose d i) y said
@@ -141,7 +142,7 @@ module _ (slots : ℕ) (i : Disks) (h : History) (k d : ℕ) (m : Meta) (batch :
   dirty_by o f = map_bit m.setup.geometry (f (map_disk o))
 
   mirrored : (j : ℕ) → j < map_count m.setup.geometry → out_was ≡ None
-      → contents i batch 0 (100 + j) ≡ contents i batch 1 (100 + j)
+      → contents i batch 0 (map_block_place m.setup.geometry j) ≡ contents i batch 1 (map_block_place m.setup.geometry j)
   mirrored j l none = content.kept.map.mirrored j l (λ e. let z : None ≡ Some 0 = sym none ∙ e in cc) (λ e. let z : None ≡ Some 1 = sym none ∙ e in cc)
 
   pub dirty_lost : (r e : ℕ) → r < 512 * map_count m.setup.geometry → (view_by m lost.power (contents lost batch)).dirty r e ≡ (view_by m i.power (contents i batch)).dirty r e

@@ -5,6 +5,7 @@ use Rattle.std.proofs.lemmas.Bool.{cases_eq}
 use Rattle.paraid_base.specs.declared.block.Block.{Block}
 use Rattle.paraid_base.specs.declared.state.Out.TheVariants.{Fresh}
 use Rattle.paraid_base.specs.History.{History}
+use Rattle.paraid_base.specs.Log.{log_least}
 use Rattle.paraid_base.specs.Xor.{zero_block}
 use Rattle.paraid_rack.specs.declared.call.Call.TheVariants.{Park, SpinUp}
 use Rattle.paraid_rack.specs.declared.call.Power.{Power}
@@ -56,7 +57,7 @@ module _ (i : Disks) (q : ℕ → Power) (same : (x : ℕ) → is_present (q x) 
   contents_same : (batch : Batch) → contents new batch ≡ contents i batch
   unfolding contents
   contents_same batch = λ t. λ x p.
-      (ap (λ (there : Bool). if nat_lt p 100 then zero_block else (if there then overlaid_block batch x p (i.block x p) else zero_block)) (place_same x p)) t
+      (ap (λ (there : Bool). if nat_lt p log_least then zero_block else (if there then overlaid_block batch x p (i.block x p) else zero_block)) (place_same x p)) t
 
   says_now : (x : ℕ) (said : LogState) → Says i x said → Says new x said
   says_now x said s = record {

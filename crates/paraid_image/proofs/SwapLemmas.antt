@@ -5,6 +5,7 @@ use Rattle.std.proofs.lemmas.Bool.{cases_Bool, cases_eq}
 use Rattle.paraid_base.specs.declared.block.Block.{Block}
 use Rattle.paraid_base.specs.declared.state.Out.TheVariants.{Gone, Fresh}
 use Rattle.paraid_base.specs.History.{History}
+use Rattle.paraid_base.specs.Log.{log_least}
 use Rattle.paraid_base.specs.Xor.{zero_block}
 use Rattle.paraid_rack.specs.declared.call.Call.TheVariants.{Attach}
 use Rattle.paraid_rack.specs.declared.call.Power.{Power}
@@ -51,8 +52,8 @@ module _ (slots : ℕ) (i j : Disks) (h : History) (k d : ℕ) (power : (x : ℕ
   contents_same : (batch : Batch) (x p : ℕ) → x ≢ d → contents j batch x p ≡ contents i batch x p
   unfolding contents
   contents_same batch x p not =
-      ap (λ (t : Bool). if nat_lt p 100 then zero_block else (if t then overlaid_block batch x p (j.block x p) else zero_block)) (place_same x p not)
-      ∙ ap (λ (b : Block). if nat_lt p 100 then zero_block else (if has_place i x p then overlaid_block batch x p b else zero_block)) (block x p not)
+      ap (λ (t : Bool). if nat_lt p log_least then zero_block else (if t then overlaid_block batch x p (j.block x p) else zero_block)) (place_same x p not)
+      ∙ ap (λ (b : Block). if nat_lt p log_least then zero_block else (if has_place i x p then overlaid_block batch x p b else zero_block)) (block x p not)
 
   kept : (x : ℕ) → x ≢ d → IsLogKept i j x
   kept x not = record {

@@ -1,5 +1,5 @@
 -- What blocks stand for does not change with the disk that goes out.
-use Rattle.std.specs.Prelude.{◌≡◌, ◌≢◌, ℕ, ◌+◌, ◌*◌, ◌/◌, ◌%◌, ◌<◌, ◌≤◌, ◌⊎◌, ◌==◌, ◌&&◌, ◌||◌, nat_lt, Bool, true, false, not, Option, Some, None, slice_index, if◌then◌else◌}
+use Rattle.std.specs.Prelude.{◌≡◌, ◌≢◌, ℕ, ◌*◌, ◌/◌, ◌%◌, ◌<◌, ◌≤◌, ◌⊎◌, ◌==◌, ◌&&◌, ◌||◌, nat_lt, Bool, true, false, not, Option, Some, None, slice_index, if◌then◌else◌}
 use Rattle.std.proofs.Common.{refl, sym, ◌∙◌, ap, arith, inl, inr}
 use Rattle.std.specs.Int.{bit_at}
 use Rattle.std.proofs.lemmas.Bool.{cases_eq, false≢true}
@@ -8,6 +8,7 @@ use Rattle.paraid_base.specs.declared.block.Block.{Block}
 use Rattle.paraid_base.specs.declared.geometry.Geometry.{Geometry}
 use Rattle.paraid_base.specs.History.{History}
 use Rattle.paraid_base.specs.Cells.{home_disk, home_row}
+use Rattle.paraid_base.specs.Log.{map_block_place}
 use Rattle.paraid_base.specs.Regions.{hard_place_of, map_count, map_place_of, soft_place_of}
 use Rattle.paraid_base.specs.Soft.{soft_disk, soft_stripe, stripe_count}
 use Rattle.paraid_base.specs.Sums.{without, xor_upto}
@@ -175,7 +176,7 @@ module _ (m : Meta) (dirty dirty_after : ℕ → ℕ → Bool) (out_before : Opt
       mirrored = λ j l first second.
           let zero_apart : 0 ≢ d = λ is. first (ap Some (sym is)) in
           let one_apart : 1 ≢ d = λ is. second (ap Some (sym is)) in
-          same 0 (100 + j) zero_apart ∙ c.map.mirrored j l (was_not 0 zero_apart) (was_not 1 one_apart) ∙ sym (same 1 (100 + j) one_apart);
+          same 0 (map_block_place g j) zero_apart ∙ c.map.mirrored j l (was_not 0 zero_apart) (was_not 1 one_apart) ∙ sym (same 1 (map_block_place g j) one_apart);
       rows = λ r e l bit. c.map.rows r e l (sym (same_dirty r e l) ∙ bit);
       parked = λ r e l bit. c.map.parked r e l (sym (same_dirty r e l) ∙ bit);
       disks = λ r e l bit. c.map.disks r e l (sym (same_dirty r e l) ∙ bit);
@@ -214,7 +215,7 @@ map_disk_other d e = elim (cases_eq d 0) [
 -- the dirty bits are those that they were
 pub dirty_without : (shape : Geometry) (out_before : Option ℕ) (block block_after : Contents) (d : ℕ) → (out_before ≡ None) ⊎ (out_before ≡ Some d)
     → ((x q : ℕ) → x ≢ d → block_after x q ≡ block x q)
-    → ((j : ℕ) → j < map_count shape → out_before ≡ None → block 0 (100 + j) ≡ block 1 (100 + j))
+    → ((j : ℕ) → j < map_count shape → out_before ≡ None → block 0 (map_block_place shape j) ≡ block 1 (map_block_place shape j))
     → (r e : ℕ) → r < 512 * map_count shape → map_bit shape (block_after (map_disk (Some d))) r e ≡ map_bit shape (block (map_disk out_before)) r e
 dirty_without shape out_before block block_after d (inr some) same mirrored r e l =
     map_bit_same shape (block_after (map_disk (Some d))) (block (map_disk out_before)) r e

@@ -1,5 +1,6 @@
 -- What a call of a record counts for.
 use Rattle.std.specs.Prelude.{ℕ, ◌+◌, ◌==◌, nat_lt, Bool, true, false, if◌then◌else◌}
+use Rattle.paraid_base.specs.Log.{log_least}
 use Rattle.paraid_rack.specs.declared.call.Call.{Call}
 use Rattle.paraid_rack.specs.declared.call.Call.TheVariants.{Read, Write, Sync, Park, SpinUp, Attach}
 pub use Rattle.paraid_rack.specs.Calls.{disk_of, is_done}
@@ -15,7 +16,7 @@ is_attach (Attach d size done) = true
 
 -- the call reads a place of the log
 abbrev pub reads_log : Call → Bool
-reads_log (Read d p done) = nat_lt p 100
+reads_log (Read d p done) = nat_lt p log_least
 reads_log (Write d p b done) = false
 reads_log (Sync d done) = false
 reads_log (Park d done) = false

@@ -2,6 +2,7 @@
 use Rattle.std.specs.Prelude.{◌≡◌, ℕ, ◌<◌, ◌≤◌, false}
 use Rattle.paraid_base.specs.declared.state.Out.TheVariants.{No}
 use Rattle.paraid_base.specs.declared.state.Phase.TheVariants.{Steady}
+use Rattle.paraid_base.specs.Log.{log_least}
 use Rattle.paraid_base.specs.Regions.{disk_size}
 use Rattle.paraid_base.specs.Xor.{zero_block}
 use Rattle.paraid_rack.specs.declared.call.Power.TheVariants.{Spinning}
@@ -24,5 +25,5 @@ pub record IsFormatted (slots : ℕ) (s : Disks) (m : Meta) : Type 0 where
   pub large : (d : ℕ) → d < m.setup.geometry.disks → disk_size m.setup.geometry ≤ s.size d
   pub closed : (x : ℕ) → x < 2 → is_open (s.block x 0) ≡ false
   pub meta : (x : ℕ) → x < 2 → (s.block x 1).bytes ≡ meta_bytes m
-  pub zeros : (d p : ℕ) → d < m.setup.geometry.disks → 100 ≤ p → p < disk_size m.setup.geometry → s.block d p ≡ zero_block
+  pub zeros : (d p : ℕ) → d < m.setup.geometry.disks → log_least ≤ p → p < disk_size m.setup.geometry → s.block d p ≡ zero_block
   pub synced : (d p : ℕ) → s.loose d p ≡ false

@@ -3,6 +3,7 @@ use Rattle.std.specs.Prelude.{◌≡◌, ◌≢◌, ℕ, ◌+◌, ◌<◌, ◌�
 use Rattle.paraid_base.specs.declared.state.Out.TheVariants.{Gone, Fresh}
 use Rattle.paraid_base.specs.declared.state.Phase.{Phase}
 use Rattle.paraid_base.specs.declared.state.Phase.TheVariants.{Down, Up}
+use Rattle.paraid_base.specs.Log.{map_block_place, map_start}
 use Rattle.paraid_base.specs.Regions.{hard_place_of, map_count, soft_place_of}
 use Rattle.paraid_base.specs.Soft.{stripe_count}
 use Rattle.paraid_rack.specs.Disks.{Disks}
@@ -28,14 +29,14 @@ pub data IsFree (v : View) (d p : ℕ) : Type 0 where
       → s < stripe_count v.meta.setup.geometry.disks v.meta.setup.geometry.rows to
       → p ≡ soft_place_of v.meta.setup.geometry to s → IsFree v d p
   -- a disk that is out
-  gone : v.meta.out ≡ Gone d → 100 ≤ p → IsFree v d p
+  gone : v.meta.out ≡ Gone d → map_start v.meta.setup.geometry ≤ p → IsFree v d p
   -- a unit of the disk that is being rebuilt, which is not rebuilt yet
   row : (rebuilt r : ℕ) → v.meta.out ≡ Fresh d rebuilt → rebuilt ≤ r → r < v.meta.setup.geometry.rows
       → p ≡ hard_place_of v.meta.setup.geometry r → IsFree v d p
   stripe : (rebuilt s : ℕ) → v.meta.out ≡ Fresh d rebuilt → rebuilt ≤ v.meta.setup.geometry.rows + s
       → s < stripes_on v d → p ≡ soft_place_of v.meta.setup.geometry v.meta.gear s → IsFree v d p
   map_block : (rebuilt j : ℕ) → v.meta.out ≡ Fresh d rebuilt → j < map_count v.meta.setup.geometry
-      → rebuilt ≤ v.meta.setup.geometry.rows + stripes_on v d + j → p ≡ 100 + j → IsFree v d p
+      → rebuilt ≤ v.meta.setup.geometry.rows + stripes_on v d + j → p ≡ map_block_place v.meta.setup.geometry j → IsFree v d p
 
 -- the gates of the log disks that are not out are closed
 pub record AreSidesClosed (i : Disks) (said : LogState) : Type 0 where

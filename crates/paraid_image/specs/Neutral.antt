@@ -1,6 +1,7 @@
 -- Places in which any bytes leave what an image stands for as it is.
-use Rattle.std.specs.Prelude.{◌≡◌, ◌≢◌, ℕ, ◌+◌, ◌<◌, ◌≤◌, ◌==◌, ◌&&◌, ◌||◌, Bool, true, false, [], ◌∷◌, Some, length}
+use Rattle.std.specs.Prelude.{◌≡◌, ◌≢◌, ℕ, ◌<◌, ◌≤◌, ◌==◌, ◌&&◌, ◌||◌, Bool, true, false, [], ◌∷◌, Some, length}
 use Rattle.paraid_base.specs.declared.block.Block.{Block}
+use Rattle.paraid_base.specs.Log.{body_place, log_least}
 use Rattle.paraid_rack.specs.Disks.{Disks, with_at}
 use Rattle.paraid_image.specs.Out.{named_out}
 use Rattle.paraid_image.specs.Sides.{Batch, LogState, Says, has_place, is_open, stored_block}
@@ -20,13 +21,13 @@ pub data IsNeutral (i : Disks) (d p : ℕ) : Type 0 where
   -- there is no such place
   nowhere : has_place i d p ≡ false → IsNeutral i d p
   -- the log of a disk that is no log disk
-  no_log : 2 ≤ d → p < 100 → IsNeutral i d p
+  no_log : 2 ≤ d → p < log_least → IsNeutral i d p
   -- the places of the batch under a closed gate
-  shut : is_open (stored_block i d 0) ≡ false → 2 ≤ p → p < 100 → IsNeutral i d p
+  shut : is_open (stored_block i d 0) ≡ false → 2 ≤ p → p < log_least → IsNeutral i d p
   -- the meta beside that of the batch under an open gate
   meta_under_open_gate : is_open (stored_block i d 0) ≡ true → p ≡ 1 → IsNeutral i d p
   -- a place of the batch that has no target
-  unused : (said : LogState) → Says i d said → said.opened ≡ true → 4 + length said.batch ≤ p → p < 100
+  unused : (said : LogState) → Says i d said → said.opened ≡ true → body_place (length said.batch) ≤ p → p < log_least
       → IsNeutral i d p
   -- a target of the standing batch, which the other log disk has too if it is not out
   target : (x : ℕ) (said : LogState) → Stands i x said → names_place said.batch d p ≡ true

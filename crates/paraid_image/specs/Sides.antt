@@ -6,6 +6,7 @@
 use Rattle.std.specs.Prelude.{◌≡◌, ◌≢◌, ℕ, ◌==◌, ◌&&◌, nat_lt, Bool, true, false, not, List, [], ◌∷◌, slice_index, if◌then◌else◌}
 use Rattle.std.proofs.Common.{suc}
 use Rattle.paraid_base.specs.declared.block.Block.{Block}
+use Rattle.paraid_base.specs.Log.{body_place, list_place}
 use Rattle.paraid_base.specs.Xor.{zero_block}
 use Rattle.paraid_rack.specs.Disks.{Disks, IsPresent, is_present}
 use Rattle.paraid_record.specs.declared.meta.Meta.{Meta}
@@ -61,8 +62,8 @@ pub record SaysClosed (log : ℕ → Block) (m : Meta) (batch : Batch) : Type 0 
 pub record SaysOpen (log : ℕ → Block) (m : Meta) (batch : Batch) : Type 0 where
   pub meta : Spells (log 2) m
   pub in_range : AreTargets m.setup.geometry (targets batch)
-  pub list : (log 3).bytes ≡ targets_bytes (targets batch)
-  pub blocks : AreBlocksLogged log 4 batch
+  pub list : (log (list_place 0)).bytes ≡ targets_bytes (targets batch)
+  pub blocks : AreBlocksLogged log (body_place 0) batch
 
 -- what a log says under an open or a closed gate
 abbrev pub SaysBy : Bool → (ℕ → Block) → Meta → Batch → Type 0

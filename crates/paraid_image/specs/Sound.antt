@@ -4,6 +4,7 @@ use Rattle.paraid_base.specs.declared.block.Block.{Block}
 use Rattle.paraid_base.specs.declared.state.Out.TheVariants.{Fresh}
 use Rattle.paraid_base.specs.declared.state.Phase.TheVariants.{Up}
 use Rattle.paraid_base.specs.History.{History, after}
+use Rattle.paraid_base.specs.Log.{map_block_place}
 use Rattle.paraid_base.specs.Regions.{disk_size, hard_place_of, map_count}
 use Rattle.paraid_base.specs.Skips.{skip}
 use Rattle.paraid_base.specs.Soft.{soft_disk, soft_parity_disk, soft_stripe, stripe_count}
@@ -117,12 +118,13 @@ pub record AreRebuilt (v : View) (d rebuilt : ℕ) : Type 0 where
       → stripe v.meta.setup.geometry v.block v.meta.gear s d ≡ stripe_rest v.meta.setup.geometry v.block v.meta.gear s d
   pub map_blocks : (j : ℕ) → d < 2 → j < map_count v.meta.setup.geometry
       → v.meta.setup.geometry.rows + stripes_on v d + j < rebuilt
-      → v.block d (100 + j) ≡ v.block (other_log d) (100 + j)
+      → v.block d (map_block_place v.meta.setup.geometry j)
+      ≡ v.block (other_log d) (map_block_place v.meta.setup.geometry j)
 
 -- the two maps agree, and a dirty cell is a cell of a disk from the gear on
 pub record IsMap (v : View) (bit : ℕ → ℕ → Bool) : Type 0 where
   pub mirrored : (j : ℕ) → j < map_count v.meta.setup.geometry → v.out ≢ Some 0 → v.out ≢ Some 1
-      → v.block 0 (100 + j) ≡ v.block 1 (100 + j)
+      → v.block 0 (map_block_place v.meta.setup.geometry j) ≡ v.block 1 (map_block_place v.meta.setup.geometry j)
   pub rows : (r d : ℕ) → r < 512 * map_count v.meta.setup.geometry → bit r d ≡ true → r < v.meta.setup.geometry.rows
   pub parked : (r d : ℕ) → r < 512 * map_count v.meta.setup.geometry → bit r d ≡ true → v.meta.gear ≤ d
   pub disks : (r d : ℕ) → r < 512 * map_count v.meta.setup.geometry → bit r d ≡ true → d < v.meta.setup.geometry.disks

@@ -2,6 +2,7 @@
 use Rattle.std.specs.Prelude.{◌≡◌, ℕ, ◌-◌, ◌<◌, ◌==◌, ◌&&◌, ◌||◌, nat_lt, Bool, true, not, [], ◌∷◌, Option, Some, None, if◌then◌else◌}
 use Rattle.std.proofs.Common.{zero, suc}
 use Rattle.paraid_base.specs.declared.block.Block.{Block}
+use Rattle.paraid_base.specs.Log.{log_least}
 use Rattle.paraid_base.specs.Xor.{zero_block}
 use Rattle.paraid_rack.specs.Disks.{Disks}
 use Rattle.paraid_image.specs.Sides.{Batch, LogState, Says, Side, has_place}
@@ -45,4 +46,4 @@ Contents = ℕ → ℕ → Block
 
 -- the blocks past the log, with the batch laid over them; zeros where there is no block
 unfoldable pub contents : Disks → Batch → Contents
-contents i batch d p = if nat_lt p 100 then zero_block else (if has_place i d p then overlaid_block batch d p (i.block d p) else zero_block)
+contents i batch d p = if nat_lt p log_least then zero_block else (if has_place i d p then overlaid_block batch d p (i.block d p) else zero_block)

@@ -4,6 +4,7 @@
 //! numbers, so each bound that it needs is one of its premises: `n` disks, `rows` rows, gear `a`.
 ghost use Rattle.std.specs.Prelude.{◌≡◌, ◌≢◌, ℕ, ◌+◌, ◌-◌, ◌*◌, ◌%◌, ◌<◌, ◌≤◌};
 ghost use Rattle.paraid_base.specs.Cells.{parity_disk, home_row, home_disk, cell_block};
+ghost use Rattle.paraid_base.specs.Log.{map_start};
 ghost use Rattle.paraid_base.specs.Regions.{IsGear, disk_size, hard_place_of, map_count, map_place_of, soft_place_of};
 ghost use Rattle.paraid_base.specs.Skips.{skip};
 ghost use Rattle.paraid_base.specs.Soft.{number_at, row_of_number, disk_of_number, soft_stripe, soft_index, soft_disk, soft_parity_disk, stripe_count};
@@ -79,14 +80,14 @@ pub fn pads_are_last()
 /// A disk is the log at places 0 to 99, the map, the hard blocks and the regions of the gears, in
 /// this order, and nothing of it reaches past the disk's size.
 pub fn parts_lie_apart(g: &Geometry)
-    ensures map { (r : ℕ) → r < g.now.rows → (100 ≤ map_place_of g.now r)
-        × (map_place_of g.now r < 100 + map_count g.now) }
-    ensures hard { (r : ℕ) → r < g.now.rows → (100 + map_count g.now ≤ hard_place_of g.now r)
-        × (hard_place_of g.now r < 100 + map_count g.now + g.now.rows) }
+    ensures map { (r : ℕ) → r < g.now.rows → (map_start g.now ≤ map_place_of g.now r)
+        × (map_place_of g.now r < map_start g.now + map_count g.now) }
+    ensures hard { (r : ℕ) → r < g.now.rows → (map_start g.now + map_count g.now ≤ hard_place_of g.now r)
+        × (hard_place_of g.now r < map_start g.now + map_count g.now + g.now.rows) }
     ensures soft { (a s : ℕ) → IsGear g.now a → s < stripe_count g.now.disks g.now.rows a
-        → (100 + map_count g.now + g.now.rows ≤ soft_place_of g.now a s)
+        → (map_start g.now + map_count g.now + g.now.rows ≤ soft_place_of g.now a s)
         × (soft_place_of g.now a s < disk_size g.now) }
-    ensures size { 100 + map_count g.now + g.now.rows ≤ disk_size g.now }
+    ensures size { map_start g.now + map_count g.now + g.now.rows ≤ disk_size g.now }
 
     // Two rows with one byte of the map, or with one hard place, are one row.
     ensures map_bytes { (q r : ℕ) → map_place_of g.now q ≡ map_place_of g.now r

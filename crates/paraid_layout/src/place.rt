@@ -3,6 +3,7 @@
 //! A disk begins with the gate, the metas and the log at places 0 to 99. Then come the dirty
 //! map, the hard blocks and the soft regions of the gears in ascending order.
 ghost use Rattle.std.specs.Prelude.{◌≡◌, ◌+◌, ◌<◌, ◌≤◌};
+ghost use Rattle.paraid_base.specs.Log.{map_start};
 ghost use Rattle.paraid_base.specs.Regions.{IsGear, disk_size, hard_place_of, map_count, map_place_of, soft_place_of};
 ghost use Rattle.paraid_base.specs.Soft.{stripe_count};
 
@@ -12,20 +13,20 @@ use paraid_base::{Geometry, Place, Row};
 pub fn map_place(g: &Geometry, r: Row) -> Place
     requires { r < g.now.rows }
     ensures value { result ≡ map_place_of g.now r }
-    ensures after_log { 100 ≤ result }
-    ensures in_map { result < 100 + map_count g.now }
+    ensures after_log { map_start g.now ≤ result }
+    ensures in_map { result < map_start g.now + map_count g.now }
 {
-    100 + r / 512
+    g.map_start() + r / 512
 }
 
 /// The place of row `r`'s cell on each disk.
 pub fn hard_place(g: &Geometry, r: Row) -> Place
     requires { r < g.now.rows }
     ensures value { result ≡ hard_place_of g.now r }
-    ensures after_map { 100 + map_count g.now ≤ result }
-    ensures before_regions { result < 100 + map_count g.now + g.now.rows }
+    ensures after_map { map_start g.now + map_count g.now ≤ result }
+    ensures before_regions { result < map_start g.now + map_count g.now + g.now.rows }
 {
-    100 + g.map_blocks() + r
+    g.map_start() + g.map_blocks() + r
 }
 
 /// The place of soft stripe `s` of gear `a` on each disk below `a`.
@@ -34,7 +35,7 @@ pub fn soft_place(g: &Geometry, a: u8, s: u32) -> Place
     requires region { a < g.now.disks }
     requires stripe_in { s < stripe_count g.now.disks g.now.rows a }
     ensures value { result ≡ soft_place_of g.now a s }
-    ensures after_hard { 100 + map_count g.now + g.now.rows ≤ result }
+    ensures after_hard { map_start g.now + map_count g.now + g.now.rows ≤ result }
     ensures in_size { result < disk_size g.now }
 {
     g.soft_start(a) + s

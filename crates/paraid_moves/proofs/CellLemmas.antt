@@ -4,6 +4,7 @@ use Rattle.std.proofs.Common.{refl, sym, ◌∙◌, ap, subst, arith, inl, inr}
 use Rattle.std.proofs.lemmas.Bool.{cases_eq}
 use Rattle.paraid_base.specs.declared.block.Block.{Block}
 use Rattle.paraid_base.specs.declared.state.Out.TheVariants.{No}
+use Rattle.paraid_base.specs.Log.{log_least}
 use Rattle.paraid_base.specs.Regions.{hard_place_of}
 use Rattle.paraid_base.specs.Xor.{zero_block}
 use Rattle.paraid_rack.specs.declared.call.Call.TheVariants.{Write}
@@ -55,14 +56,14 @@ module _ (s t : Disks) (d p : ℕ) (b : Block) (w : IsWritten s t d p b) where
   place_kept x q =
       ap (λ (f : ℕ → Power). is_present (f x) && nat_lt q (t.size x)) w.power ∙ ap (λ (f : ℕ → ℕ). is_present (s.power x) && nat_lt q (f x)) w.size
 
-  pub contents_written : has_place s d p ≡ true → 100 ≤ p → contents t [] d p ≡ b
+  pub contents_written : has_place s d p ≡ true → log_least ≤ p → contents t [] d p ≡ b
   contents_written there far = contents_here t [] d p far (place_kept d p ∙ there) ∙ w.here
 
   pub contents_kept : (x q : ℕ) → (x ≡ d → q ≢ p) → contents t [] x q ≡ contents s [] x q
   unfolding contents
   contents_kept x q apart =
-      ap (λ (there : Bool). if nat_lt q 100 then zero_block else (if there then t.block x q else zero_block)) (place_kept x q)
-      ∙ ap (λ (y : Block). if nat_lt q 100 then zero_block else (if has_place s x q then y else zero_block)) (w.elsewhere x q apart)
+      ap (λ (there : Bool). if nat_lt q log_least then zero_block else (if there then t.block x q else zero_block)) (place_kept x q)
+      ∙ ap (λ (y : Block). if nat_lt q log_least then zero_block else (if has_place s x q then y else zero_block)) (w.elsewhere x q apart)
 
   -- The value of a dirty cell is copied to its hard place.
   pub copies_cell : (m : Meta) (cells cells_after : ℕ → ℕ → Bool) (q : ℕ) → IsInRange m → out_disk s.power m ≡ None → q < m.setup.geometry.rows → m.gear ≤ d

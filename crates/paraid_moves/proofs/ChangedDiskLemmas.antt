@@ -1,11 +1,12 @@
 -- Between two commits a disk is lost, or attached in the place of one that is gone.
-use Rattle.std.specs.Prelude.{◌≡◌, ◌≢◌, ℕ, ◌+◌, ◌<◌, ◌⊎◌, ◌==◌, ◌&&◌, nat_lt, Bool, true, false, [], Contains, Option, Some, None, if◌then◌else◌}
+use Rattle.std.specs.Prelude.{◌≡◌, ◌≢◌, ℕ, ◌<◌, ◌⊎◌, ◌==◌, ◌&&◌, nat_lt, Bool, true, false, [], Contains, Option, Some, None, if◌then◌else◌}
 use Rattle.std.proofs.Common.{refl, sym, ◌∙◌, ap, subst, arith, inl, inr}
 use Rattle.std.proofs.lemmas.Bool.{cases_Bool, cases_eq, false≢true}
 use Rattle.std.proofs.lemmas.Bool.Decides.{nat_tests}
 use Rattle.paraid_base.specs.declared.block.Block.{Block}
 use Rattle.paraid_base.specs.declared.state.Out.TheVariants.{Gone, Fresh}
 use Rattle.paraid_base.specs.History.{History}
+use Rattle.paraid_base.specs.Log.{log_least, map_block_place}
 use Rattle.paraid_base.specs.Regions.{map_count}
 use Rattle.paraid_base.specs.Xor.{zero_block}
 use Rattle.paraid_rack.specs.declared.call.Call.TheVariants.{Attach}
@@ -50,7 +51,7 @@ module _ (i j : Disks) (m : Meta) (f : Contents) (d : ℕ) (c : IsCopyImage i m 
     (silent : (o : LogState) → Says j d o → ⊥) (empty : (q : ℕ) → contents j [] d q ≡ zero_block)
     (was_missing : (e : ℕ) → IsMissing i.power m e → e ≡ d) (missing : (e : ℕ) → IsMissing j.power m e → e ≡ d) (out_now : out_disk j.power m ≡ Some d)
     (no_fresh : (e u : ℕ) → IsFresh j.power m e u → ⊥)
-    (mirrored : (x : ℕ) → x < map_count m.setup.geometry → out_disk i.power m ≡ None → f 0 (100 + x) ≡ f 1 (100 + x)) where
+    (mirrored : (x : ℕ) → x < map_count m.setup.geometry → out_disk i.power m ≡ None → f 0 (map_block_place m.setup.geometry x) ≡ f 1 (map_block_place m.setup.geometry x)) where
   abbrev said : LogState
   said = closed_over m
 
@@ -69,8 +70,8 @@ module _ (i j : Disks) (m : Meta) (f : Contents) (d : ℕ) (c : IsCopyImage i m 
   contents_same : (x p : ℕ) → x ≢ d → contents j [] x p ≡ contents i [] x p
   unfolding contents
   contents_same x p not =
-      ap (λ (t : Bool). if nat_lt p 100 then zero_block else (if t then j.block x p else zero_block)) (place_same x p not)
-      ∙ ap (λ (b : Block). if nat_lt p 100 then zero_block else (if has_place i x p then b else zero_block)) (block x p not)
+      ap (λ (t : Bool). if nat_lt p log_least then zero_block else (if t then j.block x p else zero_block)) (place_same x p not)
+      ∙ ap (λ (b : Block). if nat_lt p log_least then zero_block else (if has_place i x p then b else zero_block)) (block x p not)
 
   kept : (x : ℕ) → x ≢ d → IsLogKept i j x
   kept x not = record {
@@ -182,7 +183,7 @@ absent_missing power m d range ld none missing =
 -- A disk is lost in a failed call, and no other one was missing.
 module _ (s t : Disks) (m : Meta) (f : Contents) (d : ℕ) (loss : IsLoss s t d) (ld : d < m.setup.geometry.disks)
     (others_there : (e : ℕ) → IsMissing s.power m e → e ≡ d) (copying : IsCopying s m f)
-    (mirrored : (x : ℕ) → x < map_count m.setup.geometry → out_disk s.power m ≡ None → f 0 (100 + x) ≡ f 1 (100 + x)) where
+    (mirrored : (x : ℕ) → x < map_count m.setup.geometry → out_disk s.power m ≡ None → f 0 (map_block_place m.setup.geometry x) ≡ f 1 (map_block_place m.setup.geometry x)) where
   missing_lost : (p : ℕ → Power) → ((x : ℕ) → p x ≡ t.power x) → (e : ℕ) → IsMissing p m e → e ≡ d
   missing_lost p powers e missing = elim (cases_eq e d) [
     | inl is ↦ is
@@ -288,7 +289,7 @@ stored_zero j d p is = elim (cases_Bool (has_place j d p)) [ inl there ↦ rw th
 
 contents_zero : (j : Disks) (d p : ℕ) → j.block d p ≡ zero_block → contents j [] d p ≡ zero_block
 unfolding contents
-contents_zero j d p is = rw is (pick (nat_lt p 100) (has_place j d p))
+contents_zero j d p is = rw is (pick (nat_lt p log_least) (has_place j d p))
   where
     pick : (b c : Bool) → (if b then zero_block else (if c then zero_block else zero_block)) ≡ zero_block
     pick true c = refl

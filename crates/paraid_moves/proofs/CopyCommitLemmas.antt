@@ -4,6 +4,7 @@ use Rattle.std.proofs.Common.{refl, sym, ◌∙◌, ap, subst, arith, inl, inr}
 use Rattle.std.proofs.lemmas.Bool.{cases_Bool, cases_eq, false≢true}
 use Rattle.paraid_base.specs.declared.block.Block.{Block}
 use Rattle.paraid_base.specs.History.{History}
+use Rattle.paraid_base.specs.Log.{log_least}
 use Rattle.paraid_base.specs.Xor.{zero_block}
 use Rattle.paraid_rack.specs.declared.call.Call.TheVariants.{Read, Sync, Write}
 use Rattle.paraid_rack.specs.declared.call.Power.{Power}
@@ -211,8 +212,8 @@ module _ (s i : Disks) (synced : AreSynced s) (e : IsImage s i) where
   contents_same : (x p : ℕ) → contents i [] x p ≡ contents s [] x p
   unfolding contents
   contents_same x p =
-      ap (λ (t : Bool). if nat_lt p 100 then zero_block else (if t then i.block x p else zero_block)) (place_same x p)
-      ∙ past_log (nat_lt p 100) (has_place s x p) (i.block x p) (s.block x p) (λ far there. e.block x p (synced x p (there_present x p there)))
+      ap (λ (t : Bool). if nat_lt p log_least then zero_block else (if t then i.block x p else zero_block)) (place_same x p)
+      ∙ past_log (nat_lt p log_least) (has_place s x p) (i.block x p) (s.block x p) (λ far there. e.block x p (synced x p (there_present x p there)))
 
   log_kept : (x : ℕ) → IsLogKept s i x
   log_kept x = record {

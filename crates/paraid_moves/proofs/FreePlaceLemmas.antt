@@ -7,6 +7,7 @@ use Rattle.paraid_base.specs.declared.block.Block.{Block}
 use Rattle.paraid_base.specs.declared.geometry.Geometry.{Geometry}
 use Rattle.paraid_base.specs.declared.state.Out.TheVariants.{No, Fresh}
 use Rattle.paraid_base.specs.History.{History}
+use Rattle.paraid_base.specs.Log.{map_block_place}
 use Rattle.paraid_base.specs.Regions.{hard_place_of, soft_place_of}
 use Rattle.paraid_base.specs.Skips.{place_among, skip}
 use Rattle.paraid_base.specs.Soft.{cell_number, disk_of_number, number_at, row_of_number, soft_disk, soft_parity_disk, soft_stripe}
@@ -59,13 +60,13 @@ module _ (v : View) (power : ℕ → Power) (after : Contents) (in_range : IsInR
 
   pub free_places_agree : AgreeSeen v power after
   free_places_agree = record {
-    map_blocks = λ x j lx lj there. at x (100 + j) (λ a s. s.map_blocks x j lx lj there);
+    map_blocks = λ x j lx lj there. at x (map_block_place v.meta.setup.geometry j) (λ a s. s.map_blocks x j lx lj there);
     hard = λ r e lr le there clean. at e (hard_place_of v.meta.setup.geometry r) (λ a s. s.hard r e lr le there clean);
     soft = λ s e ls le there. at e (soft_place_of v.meta.setup.geometry v.meta.gear s) (λ a t. t.soft s e ls le there);
     filled = λ s e none ls le. at e (soft_place_of v.meta.setup.geometry (phase_to v.meta.phase) s) (λ a t. t.filled s e none ls le);
     fresh_rows = λ e u r fresh lr lu clean. at e (hard_place_of v.meta.setup.geometry r) (λ a s. s.fresh_rows e u r fresh lr lu clean);
     fresh_stripes = λ e u s fresh ls lu. at e (soft_place_of v.meta.setup.geometry v.meta.gear s) (λ a t. t.fresh_stripes e u s fresh ls lu);
-    fresh_map = λ e u j fresh le lj lu. at e (100 + j) (λ a s. s.fresh_map e u j fresh le lj lu);
+    fresh_map = λ e u j fresh le lj lu. at e (map_block_place v.meta.setup.geometry j) (λ a s. s.fresh_map e u j fresh le lj lu);
   }
 
 -- The stripe that is computed is the one that is asked for.

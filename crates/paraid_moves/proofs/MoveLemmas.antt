@@ -8,6 +8,7 @@ use Rattle.paraid_base.specs.declared.state.Out.{Out}
 use Rattle.paraid_base.specs.declared.state.Out.TheVariants.{No, Gone, Fresh}
 use Rattle.paraid_base.specs.declared.state.Phase.TheVariants.{Steady, Down, Up}
 use Rattle.paraid_base.specs.History.{History}
+use Rattle.paraid_base.specs.Log.{map_block_place, map_start}
 use Rattle.paraid_base.specs.Regions.{hard_place_of, map_count, map_place_of}
 use Rattle.paraid_base.specs.Soft.{stripe_count}
 use Rattle.paraid_rack.specs.declared.call.Power.{Power}
@@ -165,8 +166,8 @@ module _ (slots : ℕ) (power : ℕ → Power) (size : ℕ → ℕ) (h : History
 
     -- The map blocks of copied cells are written.
     pub marks_cells : (cells : ℕ → ℕ → Bool) (after : Contents) → AreCellsCopied v cells
-        → ((x q : ℕ) → 100 + map_count m.setup.geometry ≤ q → after x q ≡ f x q)
-        → ((j : ℕ) → j < map_count m.setup.geometry → after 0 (100 + j) ≡ after 1 (100 + j))
+        → ((x q : ℕ) → map_start m.setup.geometry + map_count m.setup.geometry ≤ q → after x q ≡ f x q)
+        → ((j : ℕ) → j < map_count m.setup.geometry → after 0 (map_block_place m.setup.geometry j) ≡ after 1 (map_block_place m.setup.geometry j))
         → ((r d : ℕ) → r < 512 * map_count m.setup.geometry → map_bit m.setup.geometry (after 0) r d ≡ true → v.dirty r d ≡ true)
         → ((r d : ℕ) → r < m.setup.geometry.rows → d < m.setup.geometry.disks → v.dirty r d ≡ true → map_bit m.setup.geometry (after 0) r d ≡ false → cells r d ≡ true)
         → HoldUnder m after
@@ -179,8 +180,8 @@ module _ (slots : ℕ) (power : ℕ → Power) (size : ℕ → ℕ) (h : History
     -- One cell is cleaned, its hard place and the map in one.
     module _ (in_range : IsInRange m) (q x : ℕ) (lq : q < m.setup.geometry.rows) (low : m.gear ≤ x) (after : Contents)
         (bit : v.dirty q x ≡ true) (stored : after x (hard_place_of m.setup.geometry q) ≡ value v q x)
-        (elsewhere : (y z : ℕ) → 100 + map_count m.setup.geometry ≤ z → (y ≡ x → z ≢ hard_place_of m.setup.geometry q) → after y z ≡ f y z)
-        (mirrored : (j : ℕ) → j < map_count m.setup.geometry → after 0 (100 + j) ≡ after 1 (100 + j))
+        (elsewhere : (y z : ℕ) → map_start m.setup.geometry + map_count m.setup.geometry ≤ z → (y ≡ x → z ≢ hard_place_of m.setup.geometry q) → after y z ≡ f y z)
+        (mirrored : (j : ℕ) → j < map_count m.setup.geometry → after 0 (map_block_place m.setup.geometry j) ≡ after 1 (map_block_place m.setup.geometry j))
         (fewer : (r d : ℕ) → r < 512 * map_count m.setup.geometry → map_bit m.setup.geometry (after 0) r d ≡ true → v.dirty r d ≡ true)
         (one : (r d : ℕ) → r < m.setup.geometry.rows → d < m.setup.geometry.disks → v.dirty r d ≡ true → map_bit m.setup.geometry (after 0) r d ≡ false → (r ≡ q) × (d ≡ x)) where
       place : ℕ
@@ -226,7 +227,7 @@ module _ (slots : ℕ) (power : ℕ → Power) (size : ℕ → ℕ) (h : History
           ∙ middle_is ∙ stored ∙ value_is q x ∙ ap (λ (e : ℕ). value (view_with_out m None f) e x) (sym at.0) ∙ ap (value (view_with_out m None f) r) (sym at.1)
           ∙ sym (value_agrees m power f middle in_range no_out agree r d lr ld)))
         where
-          past : (y z : ℕ) → 100 + map_count m.setup.geometry ≤ z → after y z ≡ middle y z
+          past : (y z : ℕ) → map_start m.setup.geometry + map_count m.setup.geometry ≤ z → after y z ≡ middle y z
           past y z l = elim (cases_eq y x) [
             | inr not ↦ let apart : y ≡ x → z ≢ hard_place_of m.setup.geometry q = (λ is. absurd (not is)) in elsewhere y z l apart ∙ sym (middle_else y z apart)
             | inl is ↦ elim (cases_eq z (hard_place_of m.setup.geometry q)) [

@@ -5,6 +5,7 @@ use Rattle.std.proofs.lemmas.Bool.{cases_eq}
 use Rattle.paraid_base.specs.declared.block.Block.{Block}
 use Rattle.paraid_base.specs.declared.state.Out.TheVariants.{Fresh}
 use Rattle.paraid_base.specs.History.{History}
+use Rattle.paraid_base.specs.Log.{log_least}
 use Rattle.paraid_base.specs.Xor.{zero_block}
 use Rattle.paraid_rack.specs.declared.call.Call.TheVariants.{Park, SpinUp}
 use Rattle.paraid_rack.specs.declared.call.Power.{Power}
@@ -73,7 +74,7 @@ module _ (i : Disks) (q : ℕ → Power) (same : AreTurned i.power q) where
 
   contents_turned : (x p : ℕ) → contents new [] x p ≡ contents i [] x p
   unfolding contents
-  contents_turned x p = ap (λ (there : Bool). if nat_lt p 100 then zero_block else (if there then i.block x p else zero_block)) (place_turned x p)
+  contents_turned x p = ap (λ (there : Bool). if nat_lt p log_least then zero_block else (if there then i.block x p else zero_block)) (place_turned x p)
 
   log_turned : (x : ℕ) → stored_block new x ≡ stored_block i x
   log_turned x = λ t. λ p. stored_turned x p t

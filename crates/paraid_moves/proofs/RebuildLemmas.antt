@@ -1,6 +1,6 @@
 -- What the marks of a rebuild leave.
 use Rattle.paraid_image.specs.Mark.{meta_after_loss}
-use Rattle.std.specs.Prelude.{◌≡◌, ◌≢◌, ℕ, ◌+◌, ◌*◌, ◌<◌, ◌≤◌, ◌==◌, nat_lt, Bool, true, false, List, Some, None, slice_index, if◌then◌else◌}
+use Rattle.std.specs.Prelude.{◌≡◌, ◌≢◌, ℕ, ◌*◌, ◌<◌, ◌≤◌, ◌==◌, nat_lt, Bool, true, false, List, Some, None, slice_index, if◌then◌else◌}
 use Rattle.std.proofs.Common.{refl, sym, ◌∙◌, ap, subst, arith, inl, inr}
 use Rattle.std.proofs.lemmas.Bool.{cases_Bool, cases_eq, cases_lt}
 use Rattle.std.proofs.lemmas.Bool.Decides.{nat_tests}
@@ -8,6 +8,7 @@ use Rattle.paraid_base.specs.declared.block.Block.{Block}
 use Rattle.paraid_base.specs.declared.geometry.Geometry.{Geometry}
 use Rattle.paraid_base.specs.declared.state.Out.TheVariants.{No, Gone, Fresh}
 use Rattle.paraid_base.specs.History.{History}
+use Rattle.paraid_base.specs.Log.{map_block_place}
 use Rattle.paraid_base.specs.Regions.{disk_size, hard_place_of, map_count}
 use Rattle.paraid_base.specs.Soft.{soft_disk, soft_stripe, stripe_count}
 use Rattle.paraid_base.specs.Sums.{without, xor_upto}
@@ -222,15 +223,15 @@ module _ (slots : ℕ) (power : ℕ → Power) (size : ℕ → ℕ) (m : Meta) (
         | inr above ↦ ok.kept.stripes (λ e is. let same : d ≡ e = cc in omega arith) s l
       ]
 
-      map_stored : (x : ℕ) → d < 2 → x < map_count g → block d (100 + x) ≡ block (other_log d) (100 + x)
+      map_stored : (x : ℕ) → d < 2 → x < map_count g → block d (map_block_place g x) ≡ block (other_log d) (map_block_place g x)
       map_stored x low l = rebuilt.map_blocks x low l (rw (count_below d 2 (map_count g) low) (omega arith))
 
-      join_mirrored : (x : ℕ) → x < map_count g → block 0 (100 + x) ≡ block 1 (100 + x)
+      join_mirrored : (x : ℕ) → x < map_count g → block 0 (map_block_place g x) ≡ block 1 (map_block_place g x)
       join_mirrored x l = elim (cases_eq d 0) [
         | inl first ↦
-            ap (λ (y : ℕ). block y (100 + x)) (sym first) ∙ map_stored x (omega arith) l ∙ ap (λ (y : ℕ). block (other_log y) (100 + x)) first
+            ap (λ (y : ℕ). block y (map_block_place g x)) (sym first) ∙ map_stored x (omega arith) l ∙ ap (λ (y : ℕ). block (other_log y) (map_block_place g x)) first
         | inr not_first ↦ elim (cases_eq d 1) [
-          | inl second ↦ sym (ap (λ (y : ℕ). block y (100 + x)) (sym second) ∙ map_stored x (omega arith) l ∙ ap (λ (y : ℕ). block (other_log y) (100 + x)) second)
+          | inl second ↦ sym (ap (λ (y : ℕ). block y (map_block_place g x)) (sym second) ∙ map_stored x (omega arith) l ∙ ap (λ (y : ℕ). block (other_log y) (map_block_place g x)) second)
           | inr not_second ↦ ok.kept.map.mirrored x l (other_some d 0 (λ e. not_first (sym e))) (other_some d 1 (λ e. not_second (sym e)))
         ]
       ]

@@ -1,9 +1,10 @@
 -- The calls that make copies, with the history held at each moment.
-use Rattle.std.specs.Prelude.{◌≡◌, ℕ, ◌+◌, ◌<◌, Bool, true, false, [], Option, Some, None}
+use Rattle.std.specs.Prelude.{◌≡◌, ℕ, ◌<◌, Bool, true, false, [], Option, Some, None}
 use Rattle.std.proofs.Common.{refl, sym, ◌∙◌, ap, subst, inl, inr}
 use Rattle.std.proofs.lemmas.Bool.{cases_eq}
 use Rattle.paraid_base.specs.declared.block.Block.{Block}
 use Rattle.paraid_base.specs.History.{History}
+use Rattle.paraid_base.specs.Log.{map_block_place}
 use Rattle.paraid_base.specs.Regions.{map_count}
 use Rattle.paraid_rack.specs.declared.call.Call.{Call}
 use Rattle.paraid_rack.specs.declared.call.Call.TheVariants.{Read, Sync, Write}
@@ -68,7 +69,7 @@ module _ (slots : ℕ) (m : Meta) (f : Contents) (h : History) (lo : ℕ) where
       → HoldsWithCopies slots m (without_disk f (disk_of c)) h lo (step c s)
   copies_lost s c failed range can =
       let loss = failed_is_loss s c failed in
-      let mirrored : (x : ℕ) → x < map_count m.setup.geometry → out_disk s.power m ≡ None → f 0 (100 + x) ≡ f 1 (100 + x) =
+      let mirrored : (x : ℕ) → x < map_count m.setup.geometry → out_disk s.power m ≡ None → f 0 (map_block_place m.setup.geometry x) ≡ f 1 (map_block_place m.setup.geometry x) =
       (λ x l none. can.copies.content.kept.map.mirrored x l
       (λ o. let z : None ≡ Some 0 = sym none ∙ o in cc) (λ o. let z : None ≡ Some 1 = sym none ∙ o in cc)) in
       record {

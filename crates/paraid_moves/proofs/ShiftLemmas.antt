@@ -6,6 +6,7 @@ use Rattle.paraid_base.specs.declared.geometry.Geometry.{Geometry}
 use Rattle.paraid_base.specs.declared.state.Out.TheVariants.{No, Fresh}
 use Rattle.paraid_base.specs.declared.state.Phase.TheVariants.{Steady, Down, Up}
 use Rattle.paraid_base.specs.History.{History}
+use Rattle.paraid_base.specs.Log.{map_block_place, map_start}
 use Rattle.paraid_base.specs.Regions.{hard_place_of, map_count, soft_place_of}
 use Rattle.paraid_base.specs.Skips.{skip}
 use Rattle.paraid_base.specs.Soft.{soft_disk, soft_parity_disk, soft_stripe, stripe_count}
@@ -240,8 +241,8 @@ module _ (slots : ℕ) (power : ℕ → Power) (size : ℕ → ℕ) (m : Meta) (
 
     -- Cells are marked clean, whose hard places store their values.
     module _ (dirty_after : ℕ → ℕ → Bool) (block_after : Contents)
-        (past_map : (x q : ℕ) → 100 + map_count g ≤ q → block_after x q ≡ block x q)
-        (mirrored : (j : ℕ) → j < map_count g → block_after 0 (100 + j) ≡ block_after 1 (100 + j))
+        (past_map : (x q : ℕ) → map_start g + map_count g ≤ q → block_after x q ≡ block x q)
+        (mirrored : (j : ℕ) → j < map_count g → block_after 0 (map_block_place g j) ≡ block_after 1 (map_block_place g j))
         (fewer : (r d : ℕ) → r < 512 * map_count g → dirty_after r d ≡ true → dirty r d ≡ true)
         (stored : (r d : ℕ) → r < g.rows → d < g.disks → dirty r d ≡ true → dirty_after r d ≡ false
         → block d (hard_place_of g r) ≡ value v r d) where

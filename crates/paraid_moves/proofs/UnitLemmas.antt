@@ -3,6 +3,7 @@ use Rattle.std.specs.Prelude.{◌≡◌, ◌≢◌, ℕ, ◌+◌, ◌<◌, ◌�
 use Rattle.std.proofs.Common.{refl, sym, ◌∙◌, ap, arith, inl, inr}
 use Rattle.std.proofs.lemmas.Bool.{cases_lt, false≢true}
 use Rattle.paraid_base.specs.declared.geometry.Geometry.{Geometry}
+use Rattle.paraid_base.specs.Log.{map_block_place}
 use Rattle.paraid_base.specs.Regions.{hard_place_of, map_count, map_place_of, soft_place_of}
 use Rattle.paraid_base.proofs.RegionsLemmas.{hard_below_soft}
 use Rattle.paraid_base.proofs.SumsLemmas.{others_same}
@@ -96,7 +97,7 @@ module _ (m : Meta) (d p : ℕ) (block after : Contents) (in_range : IsInRange m
     }
 
     -- the map block is that of the other log disk
-    pub map_rebuilt : (i : ℕ) → d < 2 → i < map_count g → p ≡ 100 + i → after d p ≡ block (other_log d) (100 + i)
+    pub map_rebuilt : (i : ℕ) → d < 2 → i < map_count g → p ≡ map_block_place g i → after d p ≡ block (other_log d) (map_block_place g i)
         → AreRebuilt before d (g.rows + stripes_on before d + i) → AreRebuilt laid d (g.rows + stripes_on before d + i + 1)
     map_rebuilt i low_disk li at stored was = record {
       rows = λ r lr l clean.
@@ -106,11 +107,11 @@ module _ (m : Meta) (d p : ℕ) (block after : Contents) (in_range : IsInRange m
           elsewhere (soft_place_of g m.gear s) (λ is. absurd (omega arith)) ∙ was.stripes s ls (omega arith) ∙ sym (rest_kept s);
       map_blocks = λ j low lj l. elim (cases_lt j i) [
         | inl below ↦
-            elsewhere (100 + j) (λ is. absurd (omega arith)) ∙ was.map_blocks j low lj (omega arith)
-            ∙ sym (away (other_log d) (100 + j) (other_apart low))
+            elsewhere (map_block_place g j) (λ is. absurd (omega arith)) ∙ was.map_blocks j low lj (omega arith)
+            ∙ sym (away (other_log d) (map_block_place g j) (other_apart low))
         | inr above ↦
             let is : j ≡ i = omega arith in
-            ap (λ (x : ℕ). after d (100 + x)) is ∙ ap (after d) (sym at) ∙ stored
-            ∙ ap (λ (x : ℕ). block (other_log d) (100 + x)) (sym is) ∙ sym (away (other_log d) (100 + j) (other_apart low))
+            ap (λ (x : ℕ). after d (map_block_place g x)) is ∙ ap (after d) (sym at) ∙ stored
+            ∙ ap (λ (x : ℕ). block (other_log d) (map_block_place g x)) (sym is) ∙ sym (away (other_log d) (map_block_place g j) (other_apart low))
       ];
     }

@@ -6,6 +6,7 @@ ghost use Rattle.std.specs.Prelude.{◌≡◌, ◌≢◌, ℕ, ◌+◌, ◌<◌,
 ghost use Rattle.paraid_base.specs.declared.block.Block.{Block as BlockType};
 ghost use Rattle.paraid_base.specs.declared.state.Out.TheVariants.{Gone, Fresh};
 ghost use Rattle.paraid_base.specs.History.{History};
+ghost use Rattle.paraid_base.specs.Log.{map_block_place};
 ghost use Rattle.paraid_base.specs.Regions.{disk_size, hard_place_of, map_count, soft_place_of};
 ghost use Rattle.paraid_rack.specs.declared.call.Call.{Call as CallType};
 ghost use Rattle.paraid_rack.specs.declared.call.Call.TheVariants.{Attach, Park, Read, SpinUp, Sync, Write};
@@ -107,7 +108,8 @@ pub fn a_unit_is_rebuilt()
     ensures map_block { (m : MetaType) (d p j : ℕ) (f after : Contents) → IsInRange m
         → d < m.setup.geometry.disks → ((x q : ℕ) → (x ≡ d → q ≢ p) → after x q ≡ f x q)
         → AreRowsZero (view_with_out m (Some d) f) → AreStripesZero (view_with_out m (Some d) f) → d < 2
-        → j < map_count m.setup.geometry → p ≡ 100 + j → after d p ≡ f (other_log d) (100 + j)
+        → j < map_count m.setup.geometry → p ≡ map_block_place m.setup.geometry j
+        → after d p ≡ f (other_log d) (map_block_place m.setup.geometry j)
         → AreRebuilt (view_with_out m (Some d) f) d (m.setup.geometry.rows
         + stripes_on (view_with_out m (Some d) f) d + j)
         → AreRebuilt (view_with_out m (Some d) after) d (m.setup.geometry.rows

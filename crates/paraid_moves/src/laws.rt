@@ -7,6 +7,7 @@ ghost use Rattle.std.specs.Prelude.{◌≡◌, ◌≢◌, ℕ, ◌+◌, ◌*◌,
 ghost use Rattle.paraid_base.specs.History.{History};
 ghost use Rattle.paraid_base.specs.declared.state.Out.TheVariants.{No, Gone, Fresh};
 ghost use Rattle.paraid_base.specs.declared.state.Phase.TheVariants.{Steady, Down, Up};
+ghost use Rattle.paraid_base.specs.Log.{map_block_place, map_start};
 ghost use Rattle.paraid_base.specs.Regions.{disk_size, map_count};
 ghost use Rattle.paraid_base.specs.Soft.{stripe_count};
 ghost use Rattle.paraid_rack.specs.declared.call.Power.{Power as PowerType};
@@ -60,8 +61,9 @@ pub fn copied_cells_can_be_marked()
     ensures { (slots : ℕ) (power : ℕ → PowerType) (size : ℕ → ℕ) (h : History) (k : ℕ)
         (m : MetaType) (f : Contents) → out_disk power m ≡ None → HoldUnder slots power size h k m f
         → (cells : ℕ → ℕ → Bool) (after : Contents) → AreCellsCopied (view_by m power f) cells
-        → ((x q : ℕ) → 100 + map_count m.setup.geometry ≤ q → after x q ≡ f x q)
-        → ((j : ℕ) → j < map_count m.setup.geometry → after 0 (100 + j) ≡ after 1 (100 + j))
+        → ((x q : ℕ) → map_start m.setup.geometry + map_count m.setup.geometry ≤ q → after x q ≡ f x q)
+        → ((j : ℕ) → j < map_count m.setup.geometry
+        → after 0 (map_block_place m.setup.geometry j) ≡ after 1 (map_block_place m.setup.geometry j))
         → ((r d : ℕ) → r < 512 * map_count m.setup.geometry
         → map_bit m.setup.geometry (after 0) r d ≡ true → (view_by m power f).dirty r d ≡ true)
         → ((r d : ℕ) → r < m.setup.geometry.rows → d < m.setup.geometry.disks

@@ -9,6 +9,7 @@ use Rattle.paraid_record.specs.declared.targets.Target.{Target}
 use Rattle.paraid_rack.specs.Disks.{Disks}
 use Rattle.paraid_image.specs.Sides.{Batch, has_place, stored_block}
 use Rattle.paraid_image.specs.Standing.{contents, overlaid_block}
+use Rattle.paraid_base.specs.Log.{batch_room, body_place, log_least}
 use Rattle.paraid_base.specs.Regions.{map_place_of}
 use Rattle.paraid_image.specs.Spot.{map_bit, map_disk}
 use Rattle.std.proofs.lemmas.Nat.Bits.{bit_at_above}
@@ -19,28 +20,28 @@ use Rattle.paraid_plain.specs.Views.{block_at, dirty_at, out_at}
 
 -- the batch from its target `at` on, laid over a block
 abbrev pub laid_from : (ℕ → Block) → List Target → ℕ → ℕ → ℕ → Block → Block
-laid_from log ts d p at b = overlaid_block (batch_from log (4 + at) (drop at ts)) d p b
+laid_from log ts d p at b = overlaid_block (batch_from log (body_place at) (drop at ts)) d p b
 
 laid_from-more : (log : ℕ → Block) (ts : List Target) (d p at : ℕ) (t : Target) (b : Block) → at < length ts → t ≡ get_or ts at t
-    → laid_from log ts d p at b ≡ laid_from log ts d p (at + 1) (if t.disk == d && t.place == p then log (4 + at) else b)
+    → laid_from log ts d p at b ≡ laid_from log ts d p (at + 1) (if t.disk == d && t.place == p then log (body_place at) else b)
 laid_from-more log ts d p at t b within is =
     let cut : drop at ts ≡ t ∷ drop (suc at) ts = drop-cons ts at t within ∙ ap (λ (x : Target). x ∷ drop (suc at) ts) (sym is) in
     let next : at + 1 ≡ suc at = add-one at in
-    let place : 4 + (at + 1) ≡ suc (4 + at) = omega arith in
-    ap (λ (l : List Target). overlaid_block (batch_from log (4 + at) l) d p b) cut
-    ∙ ap (λ (q : ℕ). overlaid_block (batch_from log q (drop (suc at) ts)) d p (if t.disk == d && t.place == p then log (4 + at) else b)) (sym place)
-    ∙ ap (λ (n : ℕ). overlaid_block (batch_from log (4 + (at + 1)) (drop n ts)) d p (if t.disk == d && t.place == p then log (4 + at) else b)) (sym next)
+    let place : body_place (at + 1) ≡ suc (body_place at) = omega arith in
+    ap (λ (l : List Target). overlaid_block (batch_from log (body_place at) l) d p b) cut
+    ∙ ap (λ (q : ℕ). overlaid_block (batch_from log q (drop (suc at) ts)) d p (if t.disk == d && t.place == p then log (body_place at) else b)) (sym place)
+    ∙ ap (λ (n : ℕ). overlaid_block (batch_from log (body_place (at + 1)) (drop n ts)) d p (if t.disk == d && t.place == p then log (body_place at) else b)) (sym next)
 
 laid_from-all : (log : ℕ → Block) (ts : List Target) (d p at : ℕ) (b : Block) → length ts ≤ at → laid_from log ts d p at b ≡ b
-laid_from-all log ts d p at b past = ap (λ (l : List Target). overlaid_block (batch_from log (4 + at) l) d p b) (drop_all at ts past)
+laid_from-all log ts d p at b past = ap (λ (l : List Target). overlaid_block (batch_from log (body_place at) l) d p b) (drop_all at ts past)
 
 -- a loop over the first `count` targets of a list
-module _ (log : ℕ → Block) (list : List Target) (count d p : ℕ) (long : length list ≡ 96) (few : count ≤ 96) where
+module _ (log : ℕ → Block) (list : List Target) (count d p : ℕ) (long : length list ≡ batch_room) (few : count ≤ batch_room) where
   module _ (at : ℕ) (b new : Block) (l : at < count) where
     abbrev t : Target
     t = get_or list at no_target
 
-    laid_next : (test : Bool) → (t.disk == d && t.place == p) ≡ test → new ≡ (if test then log (4 + at) else b)
+    laid_next : (test : Bool) → (t.disk == d && t.place == p) ≡ test → new ≡ (if test then log (body_place at) else b)
         → laid_from log (take count list) d p at b ≡ laid_from log (take count list) d p (at + 1) new
     laid_next test is becomes =
         let whole = length-take-le count list (omega arith) in
@@ -48,7 +49,7 @@ module _ (log : ℕ → Block) (list : List Target) (count d p : ℕ) (long : le
         laid_from-more log (take count list) d p at t b (omega arith) found
         ∙ ap (laid_from log (take count list) d p (at + 1)) (rw is (sym becomes))
 
-    pub laid_hit : (test : Bool) → test ≡ (t.disk == d && t.place == p) → test ≡ true → new ≡ log (4 + at)
+    pub laid_hit : (test : Bool) → test ≡ (t.disk == d && t.place == p) → test ≡ true → new ≡ log (body_place at)
         → laid_from log (take count list) d p at b ≡ laid_from log (take count list) d p (at + 1) new
     laid_hit test is hit becomes = laid_next true (sym is ∙ hit) becomes
 
@@ -62,9 +63,9 @@ laid_end log list count d p at b past =
     laid_from-all log (take count list) d p at b (omega arith)
 
 -- a place past the log that is there
-pub contents-there : (i : Disks) (batch : Batch) (d p : ℕ) → 100 ≤ p → has_place i d p ≡ true → contents i batch d p ≡ overlaid_block batch d p (stored_block i d p)
+pub contents-there : (i : Disks) (batch : Batch) (d p : ℕ) → log_least ≤ p → has_place i d p ≡ true → contents i batch d p ≡ overlaid_block batch d p (stored_block i d p)
 unfolding contents stored_block
-contents-there i batch d p past has = let not : nat_lt p 100 ≡ false = grind (arith, nat_tests) in rw (not, has) refl
+contents-there i batch d p past has = let not : nat_lt p log_least ≡ false = grind (arith, nat_tests) in rw (not, has) refl
 
 -- a byte has eight bits
 pub dirty_at-above : (image : Image) (says : Statement) (r d : ℕ) → 8 ≤ d → dirty_at image says r d ≡ false

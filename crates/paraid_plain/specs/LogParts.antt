@@ -1,6 +1,7 @@
 -- The parts of what is asked of the log disks.
-use Rattle.std.specs.Prelude.{◌≡◌, ◌≢◌, ℕ, ◌+◌, ◌<◌, false, Option, Some, Contains, get_or}
+use Rattle.std.specs.Prelude.{◌≡◌, ◌≢◌, ℕ, ◌<◌, false, Option, Some, Contains, get_or}
 use Rattle.paraid_base.specs.declared.state.Out.{Out}
+use Rattle.paraid_base.specs.Log.{body_place}
 use Rattle.paraid_rack.specs.declared.call.Power.{Power}
 use Rattle.paraid_rack.specs.declared.call.Power.TheVariants.{Spinning}
 use Rattle.paraid_rack.specs.Disks.{Disks, IsPresent}
@@ -53,4 +54,4 @@ AreOutAlike a b = (d e : ℕ) → named_out a ≡ Some d → named_out b ≡ Som
 -- target `k` and its block are the same in two statements
 abbrev pub IsSameTarget : Image → Statement → Statement → ℕ → Type 0
 IsSameTarget image a b k = (get_or a.targets.list k no_target ≡ get_or b.targets.list k no_target)
-    × (stored_block (disks_in image) a.disk (4 + k) ≡ stored_block (disks_in image) b.disk (4 + k))
+    × (stored_block (disks_in image) a.disk (body_place k) ≡ stored_block (disks_in image) b.disk (body_place k))

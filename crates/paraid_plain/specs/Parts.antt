@@ -1,6 +1,7 @@
 -- The parts of what is asked of an image, at one row, stripe, unit or disk.
 use Rattle.std.specs.Prelude.{◌≡◌, ◌≢◌, ℕ, ◌+◌, ◌-◌, ◌<◌, ◌≤◌, true, false, Option, Some, slice_index}
 use Rattle.paraid_base.specs.declared.state.Phase.TheVariants.{Up}
+use Rattle.paraid_base.specs.Log.{map_block_place}
 use Rattle.paraid_base.specs.Regions.{disk_size, hard_place_of}
 use Rattle.paraid_base.specs.Skips.{skip}
 use Rattle.paraid_base.specs.Soft.{soft_disk, soft_parity_disk, soft_stripe}
@@ -55,7 +56,8 @@ IsStripeRebuilt v d rebuilt s = v.meta.setup.geometry.rows + s < rebuilt
 -- block `j` of the dirty map of such a disk, if it is rebuilt
 abbrev pub IsMapRebuilt : View → ℕ → ℕ → ℕ → Type 0
 IsMapRebuilt v d rebuilt j = v.meta.setup.geometry.rows + stripes_on v d + j < rebuilt
-    → v.block d (100 + j) ≡ v.block (other_log d) (100 + j)
+    → v.block d (map_block_place v.meta.setup.geometry j)
+    ≡ v.block (other_log d) (map_block_place v.meta.setup.geometry j)
 
 -- all of what a disk that is being rebuilt stores
 abbrev pub IsFreshRebuilt : (ℕ → Power) → View → Type 0

@@ -2,6 +2,7 @@
 use Rattle.std.specs.Prelude.{ℕ, List, [], ◌∷◌}
 use Rattle.std.proofs.Common.{suc}
 use Rattle.paraid_base.specs.declared.block.Block.{Block}
+use Rattle.paraid_base.specs.Log.{body_place}
 use Rattle.paraid_record.specs.declared.targets.Target.{Target}
 use Rattle.paraid_record.specs.Targets.{targets_of}
 use Rattle.paraid_image.specs.Sides.{Batch, LogState, stored_block}
@@ -20,7 +21,7 @@ batch_from log p (t ∷ ts) = (t, log p) ∷ batch_from log (suc p) ts
 
 -- the batch that a statement stands for
 unfoldable pub batch_in : Image → Statement → Batch
-batch_in image s = batch_from (stored_block (disks_in image) s.disk) 4 (targets_of s.targets)
+batch_in image s = batch_from (stored_block (disks_in image) s.disk) (body_place 0) (targets_of s.targets)
 
 -- what a statement stands for
 abbrev pub said_of : Image → Statement → LogState

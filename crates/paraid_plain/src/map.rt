@@ -1,5 +1,6 @@
 //! The two dirty maps agree, and each dirty bit is of a cell of a disk from the gear on.
 ghost use Rattle.std.specs.Prelude.{◌≡◌, ◌≢◌, ℕ, ◌+◌, ◌*◌, ◌<◌, ◌↔◌, Some, true, IsTrue};
+ghost use Rattle.paraid_base.specs.Log.{map_block_place};
 ghost use Rattle.paraid_base.specs.Regions.{map_count};
 ghost use Rattle.paraid_image.specs.Sound.{IsMap};
 ghost use Rattle.paraid_plain.specs.Parts.{IsBitOfCell};
@@ -9,7 +10,7 @@ use crate::image::Image;
 use crate::same::is_same_block;
 use crate::statement::Statement;
 use crate::view::{content, is_dirty, is_out_disk};
-use paraid_base::{DiskNo, Row};
+use paraid_base::{DiskNo, MAP_START, Row};
 
 pub(crate) fn is_map(image: &Image, says: &Statement) -> bool
     ensures { IsTrue result ↔ IsMap (view_at image.now says.now) (dirty_at image.now says.now) }
@@ -20,7 +21,8 @@ pub(crate) fn is_map(image: &Image, says: &Statement) -> bool
 fn is_mirrored(image: &Image, says: &Statement) -> bool
     ensures { IsTrue result ↔ ((j : ℕ) → j < map_count says.now.meta.setup.geometry
         → out_at image.now says.now ≢ Some 0 → out_at image.now says.now ≢ Some 1
-        → block_at image.now says.now 0 (100 + j) ≡ block_at image.now says.now 1 (100 + j)) }
+        → block_at image.now says.now 0 (map_block_place says.now.meta.setup.geometry j)
+        ≡ block_at image.now says.now 1 (map_block_place says.now.meta.setup.geometry j)) }
 {
     if is_out_disk(image, says, 0) || is_out_disk(image, says, 1) {
         return true;
@@ -30,12 +32,13 @@ fn is_mirrored(image: &Image, says: &Statement) -> bool
 
 fn are_mirrors(image: &Image, says: &Statement) -> bool
     ensures { IsTrue result ↔ ((j : ℕ) → j < map_count says.now.meta.setup.geometry
-        → block_at image.now says.now 0 (100 + j) ≡ block_at image.now says.now 1 (100 + j)) }
+        → block_at image.now says.now 0 (map_block_place says.now.meta.setup.geometry j)
+        ≡ block_at image.now says.now 1 (map_block_place says.now.meta.setup.geometry j)) }
 {
     for at in 0..says.meta.setup.geometry.map_blocks() {
         if !is_same_block(
-            &content(image, says, 0, 100 + at),
-            &content(image, says, 1, 100 + at),
+            &content(image, says, 0, MAP_START + at),
+            &content(image, says, 1, MAP_START + at),
         ) {
             return false;
         }

@@ -1,5 +1,6 @@
 //! Whether what two log disks say fits together: it is the same, or one is a step ahead.
 ghost use Rattle.std.specs.Prelude.{◌≡◌, ◌+◌, ◌<◌, ◌↔◌, Some, true, false, IsTrue};
+ghost use Rattle.paraid_base.specs.Log.{batch_room};
 ghost use Rattle.paraid_image.specs.Sides.{stored_block};
 ghost use Rattle.paraid_image.specs.Sound.{IsAhead, IsBatchInPlace, Pairing};
 ghost use Rattle.paraid_plain.specs.LogParts.{AreOutAlike, IsSameTarget};
@@ -8,7 +9,7 @@ ghost use Rattle.paraid_plain.specs.Statements.{batch_in, said_of};
 use crate::image::Image;
 use crate::same::{is_same_block, is_same_meta, is_same_setup};
 use crate::statement::Statement;
-use paraid_base::{Out, Place};
+use paraid_base::{FIRST_BODY, Out, Place};
 
 pub(crate) fn is_pairing(image: &Image, a: &Statement, b: &Statement) -> bool
     ensures { IsTrue result ↔ Pairing (said_of image.now a.now) (said_of image.now b.now) }
@@ -40,13 +41,13 @@ fn is_same_batch(image: &Image, a: &Statement, b: &Statement) -> bool
 }
 
 fn is_same_target(image: &Image, a: &Statement, b: &Statement, at: u8) -> bool
-    requires { at < 96 }
+    requires { at < batch_room }
     ensures { IsTrue result ↔ IsSameTarget image.now a.now b.now at }
 {
     if a.targets.list[at as usize] != b.targets.list[at as usize] {
         return false;
     }
-    let place = 4 + at as Place;
+    let place = FIRST_BODY + at as Place;
     is_same_block(&image.stored(a.disk, place), &image.stored(b.disk, place))
 }
 

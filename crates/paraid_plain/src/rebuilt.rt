@@ -13,7 +13,7 @@ use crate::same::is_same_block;
 use crate::statement::Statement;
 use crate::value::{cell_value, hard_block, stripe_block, stripe_rest};
 use crate::view::{content, is_dirty};
-use paraid_base::{DiskNo, Out, Row};
+use paraid_base::{DiskNo, MAP_START, Out, Row};
 
 pub(crate) fn is_fresh_rebuilt(image: &Image, says: &Statement) -> bool
     ensures { IsTrue result ↔ IsFreshRebuilt (disks_in image.now).power
@@ -136,7 +136,7 @@ fn is_map_block_rebuilt(
         return true;
     }
     is_same_block(
-        &content(image, says, disk, 100 + at),
-        &content(image, says, 1 - disk, 100 + at),
+        &content(image, says, disk, MAP_START + at),
+        &content(image, says, 1 - disk, MAP_START + at),
     )
 }

@@ -9,7 +9,7 @@ ghost use Rattle.paraid_plain.specs.Statements.{batch_in, said_of, side_in};
 
 use crate::image::Image;
 use crate::statement::{Side, Statement};
-use paraid_base::DiskNo;
+use paraid_base::{BATCH_ROOM, DiskNo, FIRST_LIST};
 use paraid_parity::is_zero;
 use paraid_record::{Meta, Target, Targets, read_meta, read_targets};
 
@@ -87,7 +87,7 @@ fn open_statement(image: &Image, disk: DiskNo) -> Option<Statement>
         → SaysOpen (stored_block (disks_in image.now) disk) m batch → ⊥) }
 {
     let meta = read_meta(&image.stored(disk, 2))?;
-    let targets = read_targets(&image.stored(disk, 3), &meta.setup.geometry)?;
+    let targets = read_targets(&image.stored(disk, FIRST_LIST), &meta.setup.geometry)?;
     Some(Statement {
         disk,
         opened: true,
@@ -101,6 +101,6 @@ fn no_targets() -> Targets
 {
     Targets {
         count: 0,
-        list: [Target { disk: 0, place: 0 }; 96],
+        list: [Target { disk: 0, place: 0 }; BATCH_ROOM],
     }
 }

@@ -1,5 +1,6 @@
 //! What a log disk says, as a value.
 ghost use Rattle.std.specs.Prelude.{◌≡◌, ◌<◌, ◌≤◌, length};
+ghost use Rattle.paraid_base.specs.Log.{batch_room};
 ghost use Rattle.paraid_record.specs.Range.{IsInRange};
 ghost use Rattle.paraid_plain.specs.Props.{IsInRange-prop};
 
@@ -16,8 +17,8 @@ pub struct Statement {
     pub targets: Targets,
     pub ghost log_disk: { disk < 2 },
     pub ghost in_range: { IsInRange meta } by { IsInRange-prop meta },
-    pub ghost few: { targets.count ≤ 96 },
-    pub ghost long: { length targets.list ≡ 96 },
+    pub ghost few: { targets.count ≤ batch_room },
+    pub ghost long: { length targets.list ≡ batch_room },
 }
 
 /// The side of a log disk in short.

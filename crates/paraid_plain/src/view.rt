@@ -10,7 +10,7 @@ ghost use Rattle.paraid_plain.specs.Views.{block_at, dirty_at, out_at};
 
 use crate::image::Image;
 use crate::statement::Statement;
-use paraid_base::{Block, DiskNo, Place, Row};
+use paraid_base::{Block, DiskNo, FIRST_BODY, MAP_START, Place, Row};
 use paraid_record::Target;
 
 /// The out disk: the one that the meta names out, or else the least absent slot.
@@ -65,7 +65,7 @@ pub(crate) fn is_out_disk(image: &Image, says: &Statement, disk: DiskNo) -> bool
 pub fn content(image: &Image, says: &Statement, disk: DiskNo, place: Place) -> Block
     ensures { result ≡ block_at image.now says.now disk place }
 {
-    if place < 100 || !image.has_place(disk, place) {
+    if place < MAP_START || !image.has_place(disk, place) {
         return Block::zero();
     }
     laid(image, says, disk, place)
@@ -79,7 +79,7 @@ fn laid(image: &Image, says: &Statement, disk: DiskNo, place: Place) -> Block
     let mut block = image.stored(disk, place);
     for at in 0..says.targets.count {
         if is_target(says.targets.list[at as usize], disk, place) {
-            block = image.stored(says.disk, 4 + at as Place);
+            block = image.stored(says.disk, FIRST_BODY + at as Place);
         }
     }
     block
@@ -98,6 +98,6 @@ pub fn is_dirty(image: &Image, says: &Statement, row: Row, disk: DiskNo) -> bool
     ensures { result ≡ dirty_at image.now says.now row disk }
 {
     let mirror = if is_out_disk(image, says, 0) { 1 } else { 0 };
-    let map = content(image, says, mirror, 100 + row / 512);
+    let map = content(image, says, mirror, MAP_START + row / 512);
     (map.bytes[(row % 512) as usize] >> disk) % 2 == 1
 }

@@ -9,6 +9,7 @@ use Rattle.paraid_base.specs.declared.state.Out.{Out}
 use Rattle.paraid_base.specs.declared.state.Out.TheVariants.{No, Gone, Fresh}
 use Rattle.paraid_base.specs.declared.state.Phase.{Phase}
 use Rattle.paraid_base.specs.declared.state.Phase.TheVariants.{Steady, Down, Up}
+use Rattle.paraid_base.specs.Log.{map_block_place}
 use Rattle.paraid_base.specs.Regions.{hard_place_of, map_count, soft_place_of}
 use Rattle.paraid_base.specs.Soft.{soft_disk, soft_parity_disk, soft_stripe}
 use Rattle.paraid_base.proofs.RegionsLemmas.{hard_place_below, soft_place_below}
@@ -95,7 +96,7 @@ module _ (v : View) (in_range : IsInRange v.meta) where
         not_gone = none_not_gone m.out e (alone_by m.out m.fill s in_range.shift.still ls);
       }
 
-  map_target : (j x : ℕ) → j < map_count g → x < 2 → is_written m.out x (g.rows + soft_count m + j) ≡ true → IsPlaced m (record { disk = x; place = 100 + j })
+  map_target : (j x : ℕ) → j < map_count g → x < 2 → is_written m.out x (g.rows + soft_count m + j) ≡ true → IsPlaced m (record { disk = x; place = map_block_place g j })
   map_target j x lj lx w =
       let low = g.disks_low in
       let rows = g.rows_low in
@@ -109,7 +110,7 @@ module _ (v : View) (in_range : IsInRange v.meta) where
 
   pub map_placed : (j : ℕ) (b : Block) → j < map_count g → ArePlaced m (map_targets m j b)
   map_placed j b lj =
-      placed_append m _ _ (placed_if m _ 0 (100 + j) b (λ w. map_target j 0 lj (omega arith) w)) (placed_if m _ 1 (100 + j) b (λ w. map_target j 1 lj (omega arith) w))
+      placed_append m _ _ (placed_if m _ 0 (map_block_place g j) b (λ w. map_target j 0 lj (omega arith) w)) (placed_if m _ 1 (map_block_place g j) b (λ w. map_target j 1 lj (omega arith) w))
 
   filled_low : (to d z fill : ℕ) → (nat_le to d && nat_lt z fill) ≡ true → to ≤ d
   filled_low to d z fill h = grind (arith, nat_tests)

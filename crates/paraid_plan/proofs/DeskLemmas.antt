@@ -5,6 +5,7 @@ use Rattle.std.proofs.lemmas.Bool.{cases_Bool, true≢false}
 use Rattle.std.proofs.lemmas.Bool.Decides.{nat_tests}
 use Rattle.std.proofs.lemmas.List.{append_assoc, append-nil, length-append}
 use Rattle.paraid_base.specs.declared.block.Block.{Block}
+use Rattle.paraid_base.specs.Log.{map_block_place}
 use Rattle.paraid_base.specs.Regions.{hard_place_of, soft_place_of}
 use Rattle.paraid_base.specs.Soft.{soft_disk, soft_parity_disk, soft_stripe}
 use Rattle.paraid_base.specs.Xor.{xor}
@@ -150,11 +151,11 @@ map_none m s j staged b h = record {
 
 pub map_both : (m : Meta) (s s1 s2 s3 : Desk) (j : ℕ) (staged w1 w2 : Bool) (b : Block) → staged ≡ true → ShowsBits b j s.dirty → s1 ≡ s
     → w1 ≡ is_written m.out 0 (m.setup.geometry.rows + soft_count m + j) → w2 ≡ is_written m.out 1 (m.setup.geometry.rows + soft_count m + j)
-    → s2 ≡ with_targets s1 (target_if w1 0 (100 + j) b) → s3 ≡ with_targets s2 (target_if w2 1 (100 + j) b) → StagesMap m s s3 j staged
+    → s2 ≡ with_targets s1 (target_if w1 0 (map_block_place m.setup.geometry j) b) → s3 ≡ with_targets s2 (target_if w2 1 (map_block_place m.setup.geometry j) b) → StagesMap m s s3 j staged
 map_both m s s1 s2 s3 j staged w1 w2 b h shows e1 ew1 ew2 e2 e3 = record {
   map = b;
   shows = λ is. shows;
-  is = two_steps s1 s2 s3 (target_if w1 0 (100 + j) b) (target_if w2 1 (100 + j) b) e2 e3 ∙ rw (e1, ew1, ew2, h) refl;
+  is = two_steps s1 s2 s3 (target_if w1 0 (map_block_place m.setup.geometry j) b) (target_if w2 1 (map_block_place m.setup.geometry j) b) e2 e3 ∙ rw (e1, ew1, ew2, h) refl;
 }
 
 -- what a block does not show does not matter

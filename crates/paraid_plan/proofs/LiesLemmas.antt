@@ -9,6 +9,7 @@ use Rattle.paraid_base.specs.declared.state.Out.{Out}
 use Rattle.paraid_base.specs.declared.state.Out.TheVariants.{No, Gone, Fresh}
 use Rattle.paraid_base.specs.declared.state.Phase.{Phase}
 use Rattle.paraid_base.specs.declared.state.Phase.TheVariants.{Steady, Down, Up}
+use Rattle.paraid_base.specs.Log.{map_block_place}
 use Rattle.paraid_base.specs.Regions.{IsGear, hard_place_of, map_count, soft_place_of}
 use Rattle.paraid_base.specs.Soft.{stripe_count}
 use Rattle.paraid_base.proofs.RegionsLemmas.{hard_below_soft, hard_places_apart, soft_places_apart}
@@ -78,7 +79,7 @@ module _ (power : ℕ → Power) (m : Meta) (out : Option ℕ) (in_range : IsInR
           filled_blocks = λ s e ls le.
               lay_off written d₀ place x block e (soft_place_of g (phase_to m.phase) s) (λ i at. let b = hard_below_soft g r₀ (phase_to m.phase) s l₀ in absurd (omega arith))
               ∙ l.filled_blocks s e ls le;
-          map_blocks = λ j y lj ly kept. lay_off written d₀ place x block y (100 + j) (λ i at. absurd (omega arith)) ∙ l.map_blocks j y lj ly kept;
+          map_blocks = λ j y lj ly kept. lay_off written d₀ place x block y (map_block_place g j) (λ i at. absurd (omega arith)) ∙ l.map_blocks j y lj ly kept;
         }
 
     pub lies_soft : (s₀ e₀ : ℕ) (x : Block) → s₀ < soft_count m
@@ -102,7 +103,7 @@ module _ (power : ℕ → Power) (m : Meta) (out : Option ℕ) (in_range : IsInR
               lay_off written e₀ place x block e (soft_place_of g (phase_to m.phase) s)
               (λ i at. to.other (sym (soft_places_apart g (phase_to m.phase) m.gear s s₀ to.is_gear in_range.gear (omega arith) l₀ at).0))
               ∙ l.filled_blocks s e ls le;
-          map_blocks = λ j y lj ly kept. lay_off written e₀ place x block y (100 + j) (λ i at. absurd (omega arith)) ∙ l.map_blocks j y lj ly kept;
+          map_blocks = λ j y lj ly kept. lay_off written e₀ place x block y (map_block_place g j) (λ i at. absurd (omega arith)) ∙ l.map_blocks j y lj ly kept;
         }
 
     pub lies_filled : (written : Bool) (s₀ e₀ : ℕ) (x : Block) → written ≡ true → s₀ < m.fill
@@ -125,7 +126,7 @@ module _ (power : ℕ → Power) (m : Meta) (out : Option ℕ) (in_range : IsInR
             | inr apart ↦ lay_off written e₀ place x block e (soft_place_of g (phase_to m.phase) s) (λ i at. apart (omega arith) i)
                 ∙ l.filled_blocks s e ls le ∙ sym (put_off filled s₀ e₀ x s e apart)
           ];
-          map_blocks = λ j y lj ly kept. lay_off written e₀ place x block y (100 + j) (λ i at. absurd (omega arith)) ∙ l.map_blocks j y lj ly kept;
+          map_blocks = λ j y lj ly kept. lay_off written e₀ place x block y (map_block_place g j) (λ i at. absurd (omega arith)) ∙ l.map_blocks j y lj ly kept;
         }
 
     -- both mirrors of a block of the map
@@ -133,24 +134,24 @@ module _ (power : ℕ → Power) (m : Meta) (out : Option ℕ) (in_range : IsInR
     map_twice : (j₀ : ℕ) (b : Block) → Contents
     map_twice j₀ b =
         let u = g.rows + soft_count m + j₀ in
-        overlaid_blocks (target_if (is_written m.out 1 u) 1 (100 + j₀) b) (overlaid_blocks (target_if (is_written m.out 0 u) 0 (100 + j₀) b) block)
+        overlaid_blocks (target_if (is_written m.out 1 u) 1 (map_block_place g j₀) b) (overlaid_blocks (target_if (is_written m.out 0 u) 0 (map_block_place g j₀) b) block)
 
-    map_off : (j₀ : ℕ) (b : Block) (d p : ℕ) → p ≢ 100 + j₀ → map_twice j₀ b d p ≡ block d p
+    map_off : (j₀ : ℕ) (b : Block) (d p : ℕ) → p ≢ map_block_place g j₀ → map_twice j₀ b d p ≡ block d p
     unfolding map_twice
     map_off j₀ b d p apart =
         let u = g.rows + soft_count m + j₀ in
-        lay_off (is_written m.out 1 u) 1 (100 + j₀) b (overlaid_blocks (target_if (is_written m.out 0 u) 0 (100 + j₀) b) block) d p (λ i at. apart at)
-        ∙ lay_off (is_written m.out 0 u) 0 (100 + j₀) b block d p (λ i at. apart at)
+        lay_off (is_written m.out 1 u) 1 (map_block_place g j₀) b (overlaid_blocks (target_if (is_written m.out 0 u) 0 (map_block_place g j₀) b) block) d p (λ i at. apart at)
+        ∙ lay_off (is_written m.out 0 u) 0 (map_block_place g j₀) b block d p (λ i at. apart at)
 
-    map_at : (j₀ : ℕ) (b : Block) (x p : ℕ) → x < 2 → p ≡ 100 + j₀ → IsUnitKept power m out x (g.rows + soft_count m + j₀) → map_twice j₀ b x p ≡ b
+    map_at : (j₀ : ℕ) (b : Block) (x p : ℕ) → x < 2 → p ≡ map_block_place g j₀ → IsUnitKept power m out x (g.rows + soft_count m + j₀) → map_twice j₀ b x p ≡ b
     unfolding map_twice
     map_at j₀ b x p lx at kept =
         let u = g.rows + soft_count m + j₀ in
-        let first : Contents = overlaid_blocks (target_if (is_written m.out 0 u) 0 (100 + j₀) b) block in
+        let first : Contents = overlaid_blocks (target_if (is_written m.out 0 u) 0 (map_block_place g j₀) b) block in
         elim (cases_eq x 0) [
-          | inl is ↦ lay_off (is_written m.out 1 u) 1 (100 + j₀) b first x p (λ i _. absurd (omega arith))
-              ∙ lay_at (is_written m.out 0 u) 0 (100 + j₀) b block x p (written_as x 0 u u kept is refl) is at
-          | inr not ↦ let is : x ≡ 1 = omega arith in lay_at (is_written m.out 1 u) 1 (100 + j₀) b first x p (written_as x 1 u u kept is refl) is at
+          | inl is ↦ lay_off (is_written m.out 1 u) 1 (map_block_place g j₀) b first x p (λ i _. absurd (omega arith))
+              ∙ lay_at (is_written m.out 0 u) 0 (map_block_place g j₀) b block x p (written_as x 0 u u kept is refl) is at
+          | inr not ↦ let is : x ≡ 1 = omega arith in lay_at (is_written m.out 1 u) 1 (map_block_place g j₀) b first x p (written_as x 1 u u kept is refl) is at
         ]
 
     lies_map_twice : (j₀ : ℕ) (b : Block) → j₀ < map_count g → Lies power m out (map_twice j₀ b) hard soft filled (with_at map j₀ b)
@@ -159,8 +160,8 @@ module _ (power : ℕ → Power) (m : Meta) (out : Option ℕ) (in_range : IsInR
       soft_blocks = λ s e ls le kept. map_off j₀ b e (soft_place_of g m.gear s) (λ at. absurd (omega arith)) ∙ l.soft_blocks s e ls le kept;
       filled_blocks = λ s e ls le. map_off j₀ b e (soft_place_of g (phase_to m.phase) s) (λ at. absurd (omega arith)) ∙ l.filled_blocks s e ls le;
       map_blocks = λ j x lj lx kept. elim (cases_eq j j₀) [
-        | inl is ↦ map_at j₀ b x (100 + j) lx (omega arith) (subst (λ (z : ℕ). IsUnitKept power m out x (g.rows + soft_count m + z)) is kept) ∙ sym (with_at_same map j₀ b j is)
-        | inr not ↦ map_off j₀ b x (100 + j) (λ at. absurd (not (omega arith))) ∙ l.map_blocks j x lj lx kept ∙ sym (with_at_other map j₀ b j not)
+        | inl is ↦ map_at j₀ b x (map_block_place g j) lx (omega arith) (subst (λ (z : ℕ). IsUnitKept power m out x (g.rows + soft_count m + z)) is kept) ∙ sym (with_at_same map j₀ b j is)
+        | inr not ↦ map_off j₀ b x (map_block_place g j) (λ at. absurd (not (omega arith))) ∙ l.map_blocks j x lj lx kept ∙ sym (with_at_other map j₀ b j not)
       ];
     }
 
@@ -169,5 +170,5 @@ module _ (power : ℕ → Power) (m : Meta) (out : Option ℕ) (in_range : IsInR
     lies_map j₀ b l₀ =
         let u = g.rows + soft_count m + j₀ in
         subst (λ (f : Contents). Lies power m out f hard soft filled (with_at map j₀ b))
-        (sym (overlaid_blocks-append (target_if (is_written m.out 0 u) 0 (100 + j₀) b) (target_if (is_written m.out 1 u) 1 (100 + j₀) b) block))
+        (sym (overlaid_blocks-append (target_if (is_written m.out 0 u) 0 (map_block_place g j₀) b) (target_if (is_written m.out 1 u) 1 (map_block_place g j₀) b) block))
         (lies_map_twice j₀ b l₀)

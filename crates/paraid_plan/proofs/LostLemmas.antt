@@ -8,6 +8,7 @@ use Rattle.paraid_base.specs.declared.geometry.Geometry.{Geometry}
 use Rattle.paraid_base.specs.declared.state.Out.{Out}
 use Rattle.paraid_base.specs.declared.state.Out.TheVariants.{Gone, Fresh}
 use Rattle.paraid_base.specs.Cells.{home_disk, home_row}
+use Rattle.paraid_base.specs.Log.{map_block_place}
 use Rattle.paraid_base.specs.Regions.{hard_place_of, map_count, soft_place_of}
 use Rattle.paraid_base.proofs.CellsLemmas.{home_disk_below, home_row_below}
 use Rattle.paraid_image.specs.Sound.{IsWellKept}
@@ -48,7 +49,7 @@ module _ (slots : ℕ) (power power_now : ℕ → Power) (size size_now : ℕ �
   w = view_by now power_now block_now
 
   abbrev map0 : ℕ → Block
-  map0 j = block (map_disk v.out) (100 + j)
+  map0 j = block (map_disk v.out) (map_block_place g j)
 
   stored : StoresCells power m v.out v.block v.dirty (value v) map0
   stored = stored_of slots power size v in_range named kept
@@ -70,7 +71,7 @@ module _ (slots : ℕ) (power power_now : ℕ → Power) (size size_now : ℕ �
     soft_blocks = λ s e ls le k. loss.blocks e (soft_place_of g m.gear s) (not_lost e (g.rows + s) k) ∙ stored.lies.soft_blocks s e ls le (was_kept e (g.rows + s) k);
     filled_blocks = λ s e ls le. absurd (omega arith);
     map_blocks = λ j x lj lx k.
-        loss.blocks x (100 + j) (not_lost x (g.rows + soft_count m + j) k) ∙ stored.lies.map_blocks j x lj lx (was_kept x (g.rows + soft_count m + j) k);
+        loss.blocks x (map_block_place g j) (not_lost x (g.rows + soft_count m + j) k) ∙ stored.lies.map_blocks j x lj lx (was_kept x (g.rows + soft_count m + j) k);
   }
 
   dirty_is : (q e : ℕ) → q < 512 * map_count g → w.dirty q e ≡ v.dirty q e

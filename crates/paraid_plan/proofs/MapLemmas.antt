@@ -6,6 +6,7 @@ use Rattle.std.proofs.lemmas.Bool.{cases_eq}
 use Rattle.std.proofs.lemmas.Nat.{div-add-mod', mod_below}
 use Rattle.paraid_base.specs.declared.block.Block.{Block}
 use Rattle.paraid_base.specs.declared.geometry.Geometry.{Geometry}
+use Rattle.paraid_base.specs.Log.{log_least, map_block_place}
 use Rattle.paraid_base.specs.Regions.{disk_size, hard_place_of, map_count, soft_place_of}
 use Rattle.paraid_base.specs.Sums.{xor_upto}
 use Rattle.paraid_base.specs.Xor.{zero_block}
@@ -77,7 +78,7 @@ stored_map power m out block dirty val map j b in_range named l st = record {
 -- and on the blocks of places that are kept alone
 pub lies_same : (power : ℕ → Power) (m : Meta) (out : Option ℕ) (block after : Contents) (hard soft filled : ℕ → ℕ → Block) (map : ℕ → Block)
     → IsInRange m → out ≡ named_out m.out
-    → ((d u p : ℕ) → d < m.setup.geometry.disks → IsUnitKept power m out d u → 100 ≤ p → p < disk_size m.setup.geometry → after d p ≡ block d p)
+    → ((d u p : ℕ) → d < m.setup.geometry.disks → IsUnitKept power m out d u → log_least ≤ p → p < disk_size m.setup.geometry → after d p ≡ block d p)
     → Lies power m out block hard soft filled map → Lies power m out after hard soft filled map
 lies_same power m out block after hard soft filled map in_range named same l =
     let g = m.setup.geometry in
@@ -94,7 +95,7 @@ lies_same power m out block after hard soft filled map in_range named same l =
           same e s (soft_place_of g (phase_to m.phase) s) (omega arith) (there (λ is. none_out e s ls is)) (omega arith)
           (soft_place_below g (phase_to m.phase) s gear.is_gear (omega arith)) ∙ l.filled_blocks s e ls le;
       map_blocks = λ j x lj lx kept.
-          same x (g.rows + soft_count m + j) (100 + j) (omega arith) kept (omega arith) (let rows = g.rows_low in let k = hard_place_below g 0 (omega arith) in omega arith) ∙ l.map_blocks j x lj lx kept;
+          same x (g.rows + soft_count m + j) (map_block_place g j) (omega arith) kept (omega arith) (let rows = g.rows_low in let k = hard_place_below g 0 (omega arith) in omega arith) ∙ l.map_blocks j x lj lx kept;
     }
   where
     none_out : (e s : ℕ) → s < m.fill → out ≡ Some e → ⊥
@@ -110,13 +111,13 @@ module _ (slots : ℕ) (power : ℕ → Power) (size : ℕ → ℕ) (m : Meta) (
     (dirty_shown : (q e : ℕ) → q < 512 * map_count m.setup.geometry → dirty q e ≡ map_bit m.setup.geometry (block (map_disk out)) q e)
     (disks : AreDisks slots power size m out)
     (r : ℕ) (lr : r < m.setup.geometry.rows) (between : Contents) (bits : ℕ → ℕ → Bool) (val : ℕ → ℕ → Block)
-    (stored : StoresCells power m out between bits val (λ j. block (map_disk out) (100 + j)))
+    (stored : StoresCells power m out between bits val (λ j. block (map_disk out) (map_block_place m.setup.geometry j)))
     (rows_zero : (q : ℕ) → q < m.setup.geometry.rows → xor_upto (val q) m.setup.geometry.disks ≡ zero_block) (are_bits : AreBits m bits)
     (other_row : (q e : ℕ) → q ≢ r → bits q e ≡ dirty q e)
     (staged : Bool) (shows : Block) (shows_bits : staged ≡ true → ShowsBits shows (r / 512) bits)
     (same_bits : staged ≡ false → (e : ℕ) → bits r e ≡ dirty r e)
     (final : Contents)
-    (is_final : (d u p : ℕ) → d < m.setup.geometry.disks → IsUnitKept power m out d u → 100 ≤ p → p < disk_size m.setup.geometry
+    (is_final : (d u p : ℕ) → d < m.setup.geometry.disks → IsUnitKept power m out d u → log_least ≤ p → p < disk_size m.setup.geometry
     → final d p ≡ overlaid_blocks (if staged then map_targets m (r / 512) shows else []) between d p) where
   abbrev v : View
   v = record { meta = m; dirty = dirty; out = out; block = block }
@@ -128,7 +129,7 @@ module _ (slots : ℕ) (power : ℕ → Power) (size : ℕ → ℕ) (m : Meta) (
   n = m.setup.geometry.disks
 
   abbrev map0 : ℕ → Block
-  map0 j = block (map_disk v.out) (100 + j)
+  map0 j = block (map_disk v.out) (map_block_place g j)
 
   -- the map
   abbrev Shows : (ℕ → Block) → Type 0

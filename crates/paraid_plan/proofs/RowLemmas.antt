@@ -1,5 +1,5 @@
 -- The cells of a row are written step by step, then its parity and the map.
-use Rattle.std.specs.Prelude.{◌≡◌, ◌≢◌, ℕ, ◌+◌, ◌*◌, ◌-◌, ◌/◌, ◌==◌, ◌<◌, ◌≤◌, ◌&&◌, ◌||◌, nat_lt, Bool, true, false, not, List, Option, [], ◌++◌, get_or, if◌then◌else◌}
+use Rattle.std.specs.Prelude.{◌≡◌, ◌≢◌, ℕ, ◌*◌, ◌-◌, ◌/◌, ◌==◌, ◌<◌, ◌≤◌, ◌&&◌, ◌||◌, nat_lt, Bool, true, false, not, List, Option, [], ◌++◌, get_or, if◌then◌else◌}
 use Rattle.std.proofs.Common.{refl, sym, ◌∙◌, ap, subst, arith, inl, inr}
 use Rattle.std.proofs.lemmas.Bool.{cases_Bool, cases_eq, cases_lt}
 use Rattle.std.proofs.lemmas.Bool.Decides.{nat_tests}
@@ -7,6 +7,7 @@ use Rattle.std.proofs.lemmas.List.{append_assoc, append-nil}
 use Rattle.paraid_base.specs.declared.block.Block.{Block}
 use Rattle.paraid_base.specs.Cells.{cell_block, home_disk, home_row, parity_disk}
 use Rattle.paraid_base.specs.History.{Entry, last_of}
+use Rattle.paraid_base.specs.Log.{log_least, map_block_place}
 use Rattle.paraid_base.specs.Regions.{disk_size, map_count}
 use Rattle.paraid_base.specs.Sums.{without, xor_upto}
 use Rattle.paraid_base.specs.Xor.{xor, zero_block}
@@ -274,7 +275,7 @@ module _ (m : Meta) (s t u : Desk) (r : ℕ) (ws : Entry) (staged : Bool) (in_ra
     after = with_row (value (sees m s)) r ended
 
     abbrev map0 : ℕ → Block
-    map0 j = s.block (map_disk out) (100 + j)
+    map0 j = s.block (map_disk out) (map_block_place m.setup.geometry j)
 
     turned : TurnsRow m r s t row ended
     turned = turns (desk.kept.rows r lr)
@@ -300,7 +301,7 @@ module _ (m : Meta) (s t u : Desk) (r : ℕ) (ws : Entry) (staged : Bool) (in_ra
       | inr past ↦ turned.others r e (λ _ le. absurd (omega arith))
     ]
 
-    final_is : (x k q : ℕ) → x < n → IsUnitKept power m out x k → 100 ≤ q → q < disk_size m.setup.geometry
+    final_is : (x k q : ℕ) → x < n → IsUnitKept power m out x k → log_least ≤ q → q < disk_size m.setup.geometry
         → u.block x q ≡ overlaid_blocks (if staged then map_targets m (r / 512) map.map else []) t.block x q
     final_is x k q lx kept far near = ap (λ (f : Contents). f x q) is_last
 

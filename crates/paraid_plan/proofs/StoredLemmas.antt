@@ -5,6 +5,7 @@ use Rattle.std.proofs.lemmas.Bool.{cases_Bool, cases_eq, cases_lt, false≢true}
 use Rattle.std.proofs.lemmas.Bool.Decides.{nat_tests}
 use Rattle.paraid_base.specs.declared.block.Block.{Block}
 use Rattle.paraid_base.specs.declared.geometry.Geometry.{Geometry}
+use Rattle.paraid_base.specs.Log.{map_block_place}
 use Rattle.paraid_base.specs.Regions.{hard_place_of, map_count, soft_place_of}
 use Rattle.paraid_base.specs.Soft.{soft_disk, soft_stripe}
 use Rattle.paraid_base.specs.Sums.{xor_upto}
@@ -75,7 +76,7 @@ module _ (slots : ℕ) (power : ℕ → Power) (size : ℕ → ℕ) (v : View) (
   filled_blocks s e = v.block e (soft_place_of g to s)
 
   abbrev map_blocks : ℕ → Block
-  map_blocks j = v.block (map_disk v.out) (100 + j)
+  map_blocks j = v.block (map_disk v.out) (map_block_place g j)
 
   sums_off : (s : ℕ) → s < soft_count v.meta → ((e : ℕ) → v.out ≡ Some e → v.meta.gear ≤ e) → xor_upto (stripe_block_now v s) v.meta.gear ≡ zero_block
   sums_off s ls off =
@@ -114,18 +115,18 @@ module _ (slots : ℕ) (power : ℕ → Power) (size : ℕ → ℕ) (v : View) (
       (kept.rebuilt e count fresh).stripes s (below_stripes v s e le ls) l ∙ sym (stripe_gone v s e (named ∙ ap named_out fresh.is))
 
   map_kept : (j x : ℕ) → j < map_count g → x < 2 → IsUnitKept power v.meta v.out x (g.rows + soft_count v.meta + j)
-      → v.block x (100 + j) ≡ v.block (map_disk v.out) (100 + j)
+      → v.block x (map_block_place g j) ≡ v.block (map_disk v.out) (map_block_place g j)
   map_kept j x lj lx (there apart) = elim (map_disk_cases v.out) [
     | inl at ↦ elim (cases_eq x 0) [
-      | inl first ↦ ap (λ (y : ℕ). v.block y (100 + j)) (first ∙ sym at.0)
+      | inl first ↦ ap (λ (y : ℕ). v.block y (map_block_place g j)) (first ∙ sym at.0)
       | inr second ↦
           let one : x ≡ 1 = omega arith in
-          ap (λ (y : ℕ). v.block y (100 + j)) one
-          ∙ sym (kept.map.mirrored j lj at.1 (λ is. apart (is ∙ ap Some (sym one)))) ∙ ap (λ (y : ℕ). v.block y (100 + j)) (sym at.0)
+          ap (λ (y : ℕ). v.block y (map_block_place g j)) one
+          ∙ sym (kept.map.mirrored j lj at.1 (λ is. apart (is ∙ ap Some (sym one)))) ∙ ap (λ (y : ℕ). v.block y (map_block_place g j)) (sym at.0)
     ]
     | inr at ↦
         let one : x ≡ 1 = elim (cases_eq x 0) [ inl first ↦ absurd (apart (at.1 ∙ ap Some (sym first))) | inr second ↦ omega arith ] in
-        ap (λ (y : ℕ). v.block y (100 + j)) (one ∙ sym at.0)
+        ap (λ (y : ℕ). v.block y (map_block_place g j)) (one ∙ sym at.0)
   ]
   map_kept j x lj lx (rebuilt count fresh l) =
       let low = g.gears_low v.meta.gear in_range.gear in
@@ -135,9 +136,9 @@ module _ (slots : ℕ) (power : ℕ → Power) (size : ℕ → ℕ) (v : View) (
         | inl at ↦ elim (cases_eq x 0) [ inl first ↦ absurd (at.1 (o ∙ ap Some first)) | inr second ↦ let z = at.0 in omega arith ]
         | inr at ↦ let z : Some x ≡ Some 0 = sym o ∙ at.1 in let first : x ≡ 0 = cc in let one = at.0 in omega arith
       ] in
-      (kept.rebuilt x count fresh).map_blocks j lx lj (omega arith) ∙ ap (λ (y : ℕ). v.block y (100 + j)) other
+      (kept.rebuilt x count fresh).map_blocks j lx lj (omega arith) ∙ ap (λ (y : ℕ). v.block y (map_block_place g j)) other
 
-  pub stored_of : StoresCells power v.meta v.out v.block v.dirty (value v) (λ j. v.block (map_disk v.out) (100 + j))
+  pub stored_of : StoresCells power v.meta v.out v.block v.dirty (value v) (λ j. v.block (map_disk v.out) (map_block_place g j))
   stored_of = record {
     hard = hard_blocks;
     soft = stripe_block_now v;

@@ -1,5 +1,5 @@
 -- A cell that goes back to its hard place keeps the disks well.
-use Rattle.std.specs.Prelude.{◌≡◌, ◌≢◌, ℕ, ◌+◌, ◌*◌, ◌/◌, ◌<◌, ◌≤◌, ◌&&◌, ◌||◌, nat_lt, nat_le, Bool, true, false, not, Some, [], ◌++◌}
+use Rattle.std.specs.Prelude.{◌≡◌, ◌≢◌, ℕ, ◌*◌, ◌/◌, ◌<◌, ◌≤◌, ◌&&◌, ◌||◌, nat_lt, nat_le, Bool, true, false, not, Some, [], ◌++◌}
 use Rattle.std.proofs.Common.{refl, sym, ◌∙◌, ap, subst, arith, inl, inr}
 use Rattle.std.proofs.lemmas.Bool.Decides.{nat_tests}
 use Rattle.paraid_base.specs.declared.block.Block.{Block}
@@ -7,6 +7,7 @@ use Rattle.paraid_base.specs.declared.geometry.Geometry.{Geometry}
 use Rattle.paraid_base.specs.declared.state.Phase.{Phase}
 use Rattle.paraid_base.specs.declared.state.Phase.TheVariants.{Steady, Down, Up}
 use Rattle.paraid_base.specs.Cells.{home_disk, home_row}
+use Rattle.paraid_base.specs.Log.{log_least, map_block_place}
 use Rattle.paraid_base.specs.Regions.{disk_size, map_count}
 use Rattle.paraid_base.specs.Sums.{xor_upto}
 use Rattle.paraid_base.specs.Xor.{zero_block}
@@ -76,7 +77,7 @@ module _ (slots : ℕ) (power : ℕ → Power) (size : ℕ → ℕ) (m : Meta) (
   v1 = view_with_cell v r d x x
 
   abbrev map0 : ℕ → Block
-  map0 j = block (map_disk v.out) (100 + j)
+  map0 j = block (map_disk v.out) (map_block_place g j)
 
   stored1 : StoresCells power m v.out v1.block v1.dirty (put (value v) r d x) map0
   stored1 = cell_stored power v (value v) map0 in_range named (stored_of slots power size v in_range named kept) r d x x lr ld refl
@@ -103,9 +104,9 @@ module _ (slots : ℕ) (power : ℕ → Power) (size : ℕ → ℕ) (m : Meta) (
   first_is =
       ap (λ (b : Batch). overlaid_blocks b block) (only_hard v r d x rises (λ is. apart (sym named ∙ is))) ∙ overlaid_blocks-append (hard_targets v r d x) [] block ∙ lay_nil _
 
-  module _ (final : Contents) (final_is : (e u p : ℕ) → e < m.setup.geometry.disks → IsUnitKept power m (out_disk power m) e u → 100 ≤ p → p < disk_size m.setup.geometry
+  module _ (final : Contents) (final_is : (e u p : ℕ) → e < m.setup.geometry.disks → IsUnitKept power m (out_disk power m) e u → log_least ≤ p → p < disk_size m.setup.geometry
       → final e p ≡ overlaid_blocks (sync_targets (view_by m power block) r d map) block e p) where
-    agree : (e u p : ℕ) → e < g.disks → IsUnitKept power m v.out e u → 100 ≤ p → p < disk_size g → final e p ≡ overlaid_blocks (map_targets m (r / 512) map) v1.block e p
+    agree : (e u p : ℕ) → e < g.disks → IsUnitKept power m v.out e u → log_least ≤ p → p < disk_size g → final e p ≡ overlaid_blocks (map_targets m (r / 512) map) v1.block e p
     agree e u p le k far near =
         final_is e u p le k far near
         ∙ ap (λ (f : Contents). f e p) (overlaid_blocks-append (hard_targets v r d x) (map_targets m (r / 512) map) block ∙ ap (λ (f : Contents). overlaid_blocks (map_targets m (r / 512) map) f) (sym first_is))

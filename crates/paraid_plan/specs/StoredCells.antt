@@ -1,6 +1,7 @@
 -- What the disks store, with the blocks of the out disk as they ought to be.
 use Rattle.std.specs.Prelude.{◌≡◌, ◌≢◌, ℕ, ◌+◌, ◌-◌, ◌*◌, ◌<◌, ◌≤◌, ◌&&◌, ◌||◌, nat_lt, Bool, true, false, not, Option, Some}
 use Rattle.paraid_base.specs.declared.block.Block.{Block}
+use Rattle.paraid_base.specs.Log.{log_least, map_block_place}
 use Rattle.paraid_base.specs.Regions.{disk_size, hard_place_of, map_count, soft_place_of}
 use Rattle.paraid_base.specs.Skips.{skip}
 use Rattle.paraid_base.specs.Soft.{soft_disk, soft_parity_disk, soft_stripe}
@@ -35,7 +36,7 @@ pub record Lies (power : ℕ → Power) (m : Meta) (out : Option ℕ) (block : C
       → block e (soft_place_of m.setup.geometry m.gear s) ≡ soft s e
   pub filled_blocks : (s e : ℕ) → s < m.fill → e < phase_to m.phase → block e (soft_place_of m.setup.geometry (phase_to m.phase) s) ≡ filled s e
   pub map_blocks : (j x : ℕ) → j < map_count m.setup.geometry → x < 2 → IsUnitKept power m out x (m.setup.geometry.rows + soft_count m + j)
-      → block x (100 + j) ≡ map j
+      → block x (map_block_place m.setup.geometry j) ≡ map j
 
 -- the first stripes of region `b` store the values of the cells that are here, and sum to zero
 pub record AreStripes (n rows b count : ℕ) (here : ℕ → ℕ → Bool) (value stripe : ℕ → ℕ → Block) : Type 0 where
@@ -66,7 +67,7 @@ pub record AreBits (m : Meta) (dirty : ℕ → ℕ → Bool) : Type 0 where
 
 -- the map that is looked at
 abbrev pub map_of : View → ℕ → Block
-map_of v j = v.block (map_disk v.out) (100 + j)
+map_of v j = v.block (map_disk v.out) (map_block_place v.meta.setup.geometry j)
 
 -- Disks that are kept well store the values of their cells.
 abbrev pub KeptIsStored : Type 0
@@ -85,7 +86,7 @@ StoredIsKept = (slots : ℕ) (power : ℕ → Power) (size : ℕ → ℕ) (v : V
 
 -- these blocks are the same at each place that is kept
 abbrev pub AgreeWhereKept : (ℕ → Power) → Meta → Option ℕ → Contents → Contents → Type 0
-AgreeWhereKept power m out block after = (d u p : ℕ) → d < m.setup.geometry.disks → IsUnitKept power m out d u → 100 ≤ p → p < disk_size m.setup.geometry → after d p ≡ block d p
+AgreeWhereKept power m out block after = (d u p : ℕ) → d < m.setup.geometry.disks → IsUnitKept power m out d u → log_least ≤ p → p < disk_size m.setup.geometry → after d p ≡ block d p
 
 -- Whether disks are kept well, and which values they hold, is told by the places that are kept alone.
 abbrev pub KeptPlacesTell : Type 0

@@ -3,6 +3,7 @@ use Rattle.std.specs.Prelude.{ℕ, ◌+◌, ◌==◌, ◌&&◌, ◌||◌, nat_lt
 use Rattle.paraid_base.specs.declared.block.Block.{Block}
 use Rattle.paraid_base.specs.declared.state.Out.{Out}
 use Rattle.paraid_base.specs.declared.state.Out.TheVariants.{No, Gone, Fresh}
+use Rattle.paraid_base.specs.Log.{map_block_place}
 use Rattle.paraid_base.specs.Regions.{hard_place_of, soft_place_of}
 use Rattle.paraid_base.specs.Soft.{soft_disk, soft_parity_disk, soft_stripe, stripe_count}
 use Rattle.paraid_base.specs.Xor.{xor}
@@ -102,5 +103,5 @@ view_with_cell v r d old new = record v {
 -- block `j` of the map of dirty cells, on each disk on which it is written
 abbrev pub map_targets : Meta → ℕ → Block → Batch
 map_targets m j b =
-    target_if (is_written m.out 0 (m.setup.geometry.rows + soft_count m + j)) 0 (100 + j) b
-    ++ target_if (is_written m.out 1 (m.setup.geometry.rows + soft_count m + j)) 1 (100 + j) b
+    target_if (is_written m.out 0 (m.setup.geometry.rows + soft_count m + j)) 0 (map_block_place m.setup.geometry j) b
+    ++ target_if (is_written m.out 1 (m.setup.geometry.rows + soft_count m + j)) 1 (map_block_place m.setup.geometry j) b

@@ -1,5 +1,6 @@
 //! What a plan reads and stages.
 ghost use Rattle.std.specs.Prelude.{◌≡◌, ◌≢◌, ℕ, ◌+◌, ◌<◌, ◌≤◌, ◌⊎◌, true, length, OnOk, IfErr, Some};
+ghost use Rattle.paraid_base.specs.Log.{log_least};
 ghost use Rattle.paraid_base.specs.Regions.{map_count, disk_size};
 ghost use Rattle.paraid_plan.specs.Desk.{Desk, with_targets, desk_with_bit, sees};
 ghost use Rattle.paraid_plan.specs.WriteTargets.{soft_count, stripe_block_now, target_if};
@@ -77,7 +78,7 @@ pub trait Plan {
         requires place { place < disk_size m.now.setup.geometry }
         requires powered { (disk < m.now.gear) ⊎ (disk < rising_to_of m.now.phase) }
         requires not_out { named_out_of m.now.out ≢ Some disk }
-        requires past_log { 100 ≤ place }
+        requires past_log { log_least ≤ place }
         ensures ok { OnOk result (tells self.new → into.new ≡ (desk self.old).block disk place) }
         ensures same { OnOk result (tells self.new → desk self.new ≡ desk self.old) }
         ensures bits { OnOk result ((desk self.new).dirty ≡ (desk self.old).dirty) }

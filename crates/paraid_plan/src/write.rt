@@ -20,7 +20,7 @@ use crate::desk::{Lost, Plan};
 use crate::given::{given_cells, is_row_before};
 use crate::marks::is_written;
 use crate::read::read_row;
-use paraid_base::{Block, DiskNo, Pairs, Row};
+use paraid_base::{Block, DiskNo, MAP_START, Pairs, Row};
 use paraid_layout::{home, parity_disk};
 use paraid_record::Meta;
 
@@ -42,8 +42,8 @@ fn stage_map<P: Plan>(plan: &mut P, m: &Meta, r: Row, staged: bool)
     let mut block = Block::zero();
     plan.map_block(j, &mut block);
     let unit = m.setup.geometry.rows + m.setup.geometry.stripes(m.gear) + j;
-    stage_if(plan, is_written(m.out, 0, unit), 0, 100 + j, &block);
-    stage_if(plan, is_written(m.out, 1, unit), 1, 100 + j, &block);
+    stage_if(plan, is_written(m.out, 0, unit), 0, MAP_START + j, &block);
+    stage_if(plan, is_written(m.out, 1, unit), 1, MAP_START + j, &block);
 }
 
 // Sets one of the bits.

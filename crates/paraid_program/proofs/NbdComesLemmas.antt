@@ -1,11 +1,12 @@
 -- How `nbd` comes out on a rack that held a history.
-use Rattle.std.proofs.Common.{◌≡◌, ℕ, ◌*◌, ◌^◌, ◌⊎◌, List, [], ◌∷◌, ◌++◌, Option, Some, None, inl, inr, refl, sym, ap, ◌∙◌, subst, arith}
+use Rattle.std.proofs.Common.{◌≡◌, ℕ, ◌*◌, ◌⊎◌, List, [], ◌∷◌, ◌++◌, Option, Some, None, inl, inr, refl, sym, ap, ◌∙◌, subst, arith}
 use Rattle.paraid_base.specs.declared.event.Answer.{Answer}
 use Rattle.paraid_base.specs.declared.event.Answer.TheVariants.{Halted}
 use Rattle.paraid_base.specs.declared.event.Event.{Event}
 use Rattle.paraid_base.specs.declared.event.Event.TheVariants.{Flush}
 use Rattle.paraid_base.specs.declared.fault.Halt.{Halt}
 use Rattle.paraid_base.specs.BlockAnswers.{Answers}
+use Rattle.paraid_base.specs.Log.{worn_at}
 use Rattle.paraid_base.specs.Told.{HasRisen}
 use Rattle.paraid_device.specs.Devices.{answers_in}
 use Rattle.paraid_nbd.specs.declared.ending.NbdEnd.{NbdEnd}
@@ -79,7 +80,7 @@ over : (setup : Setup) (old new : ℕ → Slot) (status : ℕ) → (status ≡ 0
 over setup old new status present two = record {
   present = present;
   two = λ five. let l = two five in record { two = l.two; lost = l.lost; text = []; line = record { before = λ s. s; bytes = λ s. cc } };
-  worn = λ twelve. record { count = 2 ^ 62; many = omega arith; text = []; line = record { before = λ s. s; bytes = λ s. cc } };
+  worn = λ twelve. record { count = worn_at; many = omega arith; text = []; line = record { before = λ s. s; bytes = λ s. cc } };
 }
 
 module _ {slots : ℕ} {before after : Option Trail} (h : HeldHistory slots before after) (old new : ℕ → Slot) (counted count : ℕ) (status : ℕ) (sunk : status ≡ 4 → HasRisen counted count) (lb l : Option (List ℕ)) (f z : ℕ) (wb w : Option (List ℕ)) (heard : status ≡ 3 → HasRisen f z) where

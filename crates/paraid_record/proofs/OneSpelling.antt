@@ -9,6 +9,7 @@ use Rattle.paraid_base.specs.declared.state.Phase.TheVariants.{Steady, Down, Up}
 use Rattle.paraid_base.specs.declared.state.Out.{Out}
 use Rattle.paraid_base.specs.declared.state.Out.TheVariants.{No, Gone, Fresh}
 use Rattle.paraid_base.specs.Gears.{AreFlagsOf}
+use Rattle.paraid_base.specs.Log.{batch_room}
 use Rattle.paraid_record.specs.declared.meta.Mode.{Mode}
 use Rattle.paraid_record.specs.declared.meta.Mode.TheVariants.{Whole, Access}
 use Rattle.paraid_record.specs.declared.meta.Setup.{Setup}
@@ -256,7 +257,7 @@ places-cancel (x ∷ a) (y ∷ b) r s l f g e =
     let tail = places-cancel a b r s (omega arith) (λ k d h. f (suc k) d (omega arith)) (λ k d h. g (suc k) d (omega arith)) place.1 in
     λ i. record { disk = disk.0 i; place = place.0 i } ∷ tail i
 
-pub targets_bytes-cancel : (a b : List Target) → length a ≤ 96 → length b ≤ 96 → All FitsBytes a → All FitsBytes b → targets_bytes a ≡ targets_bytes b → a ≡ b
+pub targets_bytes-cancel : (a b : List Target) → length a ≤ batch_room → length b ≤ batch_room → All FitsBytes a → All FitsBytes b → targets_bytes a ≡ targets_bytes b → a ≡ b
 targets_bytes-cancel a b la lb f g e =
     let count = big_endian-cancel 2 (length a) (length b) _ _ (omega arith) (omega arith) (sym (targets-parts a) ∙ e ∙ targets-parts b) in
     places-cancel a b _ _ count.0 f g count.1

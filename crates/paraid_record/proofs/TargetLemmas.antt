@@ -3,6 +3,7 @@ use Rattle.std.specs.Prelude.{◌≡◌, ℕ, ◌+◌, ◌-◌, ◌^◌, ◌<◌
 use Rattle.std.proofs.Common.{arith, ap, sym, ◌∙◌, zero, suc, add-one}
 use Rattle.std.proofs.lemmas.List.{append_assoc, append-nil, get_or_default, length-take-le, take_more, take_more_set}
 use Rattle.paraid_base.specs.declared.geometry.Geometry.{Geometry}
+use Rattle.paraid_base.specs.Log.{batch_room}
 use Rattle.paraid_base.specs.Regions.{disk_size}
 use Rattle.paraid_record.specs.declared.targets.Target.{Target}
 use Rattle.paraid_record.specs.Spelling.{big_endian, zero_filled, ReadsNumber}
@@ -60,10 +61,10 @@ drop-more (x ∷ list) zero = refl
 drop-more (x ∷ list) (suc i) = drop-more list i
 
 -- what is past the targets that were read stays as it was
-pub rest_step : (list : List Target) (i : ℕ) (t : Target) → i < 96 → drop i list ≡ replicate (96 - i) no_target
-    → drop (i + 1) (set list i t) ≡ replicate (96 - (i + 1)) no_target
+pub rest_step : (list : List Target) (i : ℕ) (t : Target) → i < batch_room → drop i list ≡ replicate (batch_room - i) no_target
+    → drop (i + 1) (set list i t) ≡ replicate (batch_room - (i + 1)) no_target
 rest_step list i t l e =
-    let n : 96 - i ≡ suc (96 - (i + 1)) = omega arith in
+    let n : batch_room - i ≡ suc (batch_room - (i + 1)) = omega arith in
     ap (λ (k : ℕ). drop k (set list i t)) (add-one i)
     ∙ drop-set_front list i t
     ∙ drop-more list i

@@ -3,6 +3,7 @@ use Rattle.std.specs.Prelude.{◌≡◌, ◌≢◌, ℕ, ◌+◌, ◌-◌, ◌<�
 use Rattle.paraid_base.specs.declared.geometry.Geometry.{Geometry}
 use Rattle.paraid_record.specs.declared.targets.Target.{Target}
 use Rattle.paraid_record.specs.declared.targets.Targets.{Targets}
+use Rattle.paraid_base.specs.Log.{batch_room, map_start}
 use Rattle.paraid_base.specs.Regions.{disk_size, map_count}
 use Rattle.paraid_record.specs.Spelling.{big_endian, zero_filled}
 
@@ -22,13 +23,13 @@ targets_bytes ts = zero_filled 512 (big_endian 2 (length ts) ++ places_bytes ts)
 -- a place past the log, on a disk of the array, and only on disk 0 or 1 where it is of the dirty map
 pub record IsTargetInRange (g : Geometry) (t : Target) : Type 0 where
   pub disk : t.disk < g.disks
-  pub past_log : 100 ≤ t.place
+  pub past_log : map_start g ≤ t.place
   pub within : t.place < disk_size g
-  pub map : t.place < 100 + map_count g → t.disk < 2
+  pub map : t.place < map_start g + map_count g → t.disk < 2
 
 -- at most 96 targets in range, none of them twice
 pub record AreTargets (g : Geometry) (ts : List Target) : Type 0 where
-  pub few : length ts ≤ 96
+  pub few : length ts ≤ batch_room
   pub each : All (IsTargetInRange g) ts
   pub distinct : AllPairs (λ a b. a ≢ b) ts
 
@@ -38,8 +39,8 @@ no_target = record { disk = 0; place = 0 }
 
 -- the list has room for 96 targets, and those past the count are disk 0, place 0
 pub record AreRestUnused (t : Targets) : Type 0 where
-  pub count : t.count ≤ 96
-  pub list : t.list ≡ targets_of t ++ replicate (96 - t.count) no_target
+  pub count : t.count ≤ batch_room
+  pub list : t.list ≡ targets_of t ++ replicate (batch_room - t.count) no_target
 
 -- the disk fits one byte, and the place four
 abbrev pub FitsBytes : Target → Type 0

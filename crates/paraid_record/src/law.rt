@@ -1,6 +1,7 @@
 //! The law of the spellings: no two values in range share one.
 
 ghost use Rattle.std.specs.Prelude.{◌≡◌, ◌≤◌, List, All, length};
+ghost use Rattle.paraid_base.specs.Log.{batch_room};
 ghost use Rattle.paraid_record.specs.declared.meta.Meta.{Meta as MetaType};
 ghost use Rattle.paraid_record.specs.declared.targets.Target.{Target as TargetType};
 ghost use Rattle.paraid_record.specs.Meta.{meta_bytes};
@@ -12,6 +13,6 @@ ghost use Rattle.paraid_record.specs.Targets.{FitsBytes, targets_bytes};
 pub fn spellings_differ()
     ensures metas { (a b : MetaType) → IsInRange a → IsInRange b
         → meta_bytes a ≡ meta_bytes b → a ≡ b }
-    ensures targets { (a b : List TargetType) → length a ≤ 96 → length b ≤ 96
+    ensures targets { (a b : List TargetType) → length a ≤ batch_room → length b ≤ batch_room
         → All FitsBytes a → All FitsBytes b → targets_bytes a ≡ targets_bytes b → a ≡ b }
 {}

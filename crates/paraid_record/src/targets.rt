@@ -1,6 +1,7 @@
 //! The list of targets of a batch: which blocks it writes, on which disks and places.
 
-ghost use Rattle.std.specs.Prelude.{◌≡◌, ◌≢◌, ℕ, ◌+◌, ◌*◌, ◌<◌, ◌≤◌, ◌↔◌, ◌++◌, ◌^◌, List, [], length, All, AllPairs, Contains, IfSome, IfNone, IsSomeAnd, IsTrue};
+ghost use Rattle.std.specs.Prelude.{◌≡◌, ◌≢◌, ℕ, ◌+◌, ◌*◌, ◌<◌, ◌≤◌, ◌↔◌, ◌++◌, List, [], length, All, AllPairs, Contains, IfSome, IfNone, IsSomeAnd, IsTrue};
+ghost use Rattle.paraid_base.specs.Log.{batch_room};
 ghost use Rattle.paraid_base.specs.Regions.{disk_size};
 ghost use Rattle.paraid_record.specs.declared.targets.Target.{Target as TargetType};
 ghost use Rattle.paraid_record.specs.Spelling.{big_endian};
@@ -8,7 +9,7 @@ ghost use Rattle.paraid_record.specs.Targets.{AreRestUnused, AreTargets, IsTarge
 
 use crate::pen::Pen;
 use crate::reader::Reader;
-use paraid_base::{Block, DiskNo, Geometry, Place};
+use paraid_base::{BATCH_ROOM, Block, DiskNo, Geometry, MAP_START, Place};
 
 /// A block of a disk that a batch writes.
 #[derive(Clone, Copy, PartialEq, Eq)]
@@ -32,19 +33,19 @@ impl Target {
 pub struct Targets {
     /// How many targets there are, at most 96.
     pub count: u8,
-    pub list: [Target; 96],
+    pub list: [Target; BATCH_ROOM],
 }
 
 /// Writes the one spelling of a list of targets, 512 bytes. It needs no geometry.
 pub fn write_targets(targets: &Targets, into: &mut Block)
-    requires { targets.now.count ≤ 96 }
+    requires { targets.now.count ≤ batch_room }
     ensures { into.new.bytes ≡ targets_bytes (targets_of targets.now) }
 {
     put_targets(&targets.list[..targets.count as usize], into);
 }
 
 fn put_targets(targets: &[Target], into: &mut Block)
-    requires { length targets.now ≤ 96 }
+    requires { length targets.now ≤ batch_room }
     ensures { into.new.bytes ≡ targets_bytes targets.now }
 {
     let mut pen = Pen::new();
@@ -85,7 +86,7 @@ pub fn read_targets(block: &Block, geometry: &Geometry) -> Option<Targets>
 }
 
 fn is_spelling(targets: &[Target], block: &Block) -> bool
-    requires { length targets.now ≤ 96 }
+    requires { length targets.now ≤ batch_room }
     ensures { IsTrue result ↔ (block.now.bytes ≡ targets_bytes targets.now) }
 {
     let mut spelling = Block::zero();
@@ -96,12 +97,12 @@ fn is_spelling(targets: &[Target], block: &Block) -> bool
 fn take_targets(reader: &mut Reader) -> Option<Targets>
     requires { 482 ≤ length reader.old }
     ensures rest { IfSome result AreRestUnused }
-    ensures value { (ts : List TargetType) (rest : List ℕ) → length ts ≤ 96 → All FitsBytes ts
+    ensures value { (ts : List TargetType) (rest : List ℕ) → length ts ≤ batch_room → All FitsBytes ts
         → reader.old ≡ big_endian 2 (length ts) ++ (places_bytes ts ++ rest)
         → IsSomeAnd result (λ t. targets_of t ≡ ts) }
 {
     let count = reader.take_u16();
-    if count > 96 {
+    if count as usize > BATCH_ROOM {
         return None;
     }
     let list = take_places(reader, count as usize);
@@ -111,15 +112,15 @@ fn take_targets(reader: &mut Reader) -> Option<Targets>
     })
 }
 
-fn take_places(reader: &mut Reader, count: usize) -> [Target; 96]
-    requires few { count ≤ 96 }
+fn take_places(reader: &mut Reader, count: usize) -> [Target; BATCH_ROOM]
+    requires few { count ≤ batch_room }
     requires room { 5 * count ≤ length reader.old }
     ensures rest { AreRestUnused (record { count = count; list = result }) }
     ensures value { (ts : List TargetType) (rest : List ℕ) → length ts ≡ count → All FitsBytes ts
         → reader.old ≡ places_bytes ts ++ rest
         → targets_of (record { count = count; list = result }) ≡ ts }
 {
-    let mut list = [Target { disk: 0, place: 0 }; 96];
+    let mut list = [Target { disk: 0, place: 0 }; BATCH_ROOM];
     for at in 0..count {
         let disk = reader.take_u8();
         let place = reader.take_u32();
@@ -129,7 +130,7 @@ fn take_places(reader: &mut Reader, count: usize) -> [Target; 96]
 }
 
 fn are_in_range(targets: &[Target], geometry: &Geometry, size: Place) -> bool
-    requires few { length targets.now ≤ 96 }
+    requires few { length targets.now ≤ batch_room }
     requires size { size ≡ disk_size geometry.now }
     ensures { IsTrue result ↔ AreTargets geometry.now targets.now }
 {
@@ -153,9 +154,9 @@ fn is_in_range(target: Target, geometry: &Geometry, size: Place) -> bool
     ensures { IsTrue result ↔ IsTargetInRange geometry.now target }
 {
     target.disk < geometry.disks
-        && target.place >= 100
+        && target.place >= MAP_START
         && target.place < size
-        && (target.disk < 2 || target.place >= 100 + geometry.map_blocks())
+        && (target.disk < 2 || target.place >= MAP_START + geometry.map_blocks())
 }
 
 fn are_distinct(targets: &[Target]) -> bool

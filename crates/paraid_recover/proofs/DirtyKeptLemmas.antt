@@ -1,10 +1,11 @@
 -- A mount keeps the cells that are dirty.
-use Rattle.std.specs.Prelude.{◌≡◌, ◌≢◌, ℕ, ◌+◌, ◌*◌, ◌/◌, ◌<◌, ◌≤◌, Bool, true, [], Option, Some, None}
+use Rattle.std.specs.Prelude.{◌≡◌, ◌≢◌, ℕ, ◌*◌, ◌/◌, ◌<◌, ◌≤◌, Bool, true, [], Option, Some, None}
 use Rattle.std.proofs.Common.{refl, sym, ◌∙◌, ap, subst, arith, inl, inr}
 use Rattle.std.proofs.lemmas.Bool.{cases_eq}
 use Rattle.paraid_base.specs.declared.geometry.Geometry.{Geometry}
 use Rattle.paraid_base.specs.History.{History}
-use Rattle.paraid_base.specs.Regions.{map_count}
+use Rattle.paraid_base.specs.Log.{log_least}
+use Rattle.paraid_base.specs.Regions.{map_count, map_place_of}
 use Rattle.paraid_base.specs.States.{gone_out}
 use Rattle.paraid_rack.specs.Disks.{Disks, is_present}
 use Rattle.paraid_record.specs.declared.meta.Meta.{Meta}
@@ -29,34 +30,34 @@ shown_dirty i said = refl
 
 -- with no disk out both log disks have the same map
 module _ (slots : ℕ) (s : Disks) (m : Meta) (batch : Batch) (h : History) (k : ℕ) (content : ContentOk slots s.power s.size (view_by m s.power (contents s batch)) h k) where
-  both_maps : (a b r : ℕ) → a < 2 → b < 2 → out_disk s.power m ≡ None → r < 512 * map_count m.setup.geometry → contents s batch a (100 + r / 512) ≡ contents s batch b (100 + r / 512)
+  both_maps : (a b r : ℕ) → a < 2 → b < 2 → out_disk s.power m ≡ None → r < 512 * map_count m.setup.geometry → contents s batch a (map_place_of m.setup.geometry r) ≡ contents s batch b (map_place_of m.setup.geometry r)
   both_maps a b r low_a low_b none below = to_first a low_a ∙ sym (to_first b low_b)
     where
-      to_first : (c : ℕ) → c < 2 → contents s batch c (100 + r / 512) ≡ contents s batch 0 (100 + r / 512)
+      to_first : (c : ℕ) → c < 2 → contents s batch c (map_place_of m.setup.geometry r) ≡ contents s batch 0 (map_place_of m.setup.geometry r)
       to_first c low = elim (cases_eq c 0) [
-        | inl is ↦ ap (λ (x : ℕ). contents s batch x (100 + r / 512)) is
+        | inl is ↦ ap (λ (x : ℕ). contents s batch x (map_place_of m.setup.geometry r)) is
         | inr apart ↦
             let one : c ≡ 1 = omega arith in
-            ap (λ (x : ℕ). contents s batch x (100 + r / 512)) one
+            ap (λ (x : ℕ). contents s batch x (map_place_of m.setup.geometry r)) one
             ∙ sym (content.kept.map.mirrored (r / 512) (omega arith) (λ is. let y : None ≡ Some 0 = sym none ∙ is in cc) (λ is. let y : None ≡ Some 1 = sym none ∙ is in cc))
       ]
 
   -- the map of the lower log disk that is not out, and that of one that is so later
   pub map_by : (out : Option ℕ) (r : ℕ) → ((d : ℕ) → out_disk s.power m ≡ Some d → out ≡ Some d) → r < 512 * map_count m.setup.geometry
-      → contents s batch (map_disk out) (100 + r / 512) ≡ contents s batch (map_disk (out_disk s.power m)) (100 + r / 512)
+      → contents s batch (map_disk out) (map_place_of m.setup.geometry r) ≡ contents s batch (map_disk (out_disk s.power m)) (map_place_of m.setup.geometry r)
   map_by out r stays below = split (out_disk s.power m) refl
     where
-      split : (o : Option ℕ) → out_disk s.power m ≡ o → contents s batch (map_disk out) (100 + r / 512) ≡ contents s batch (map_disk (out_disk s.power m)) (100 + r / 512)
+      split : (o : Option ℕ) → out_disk s.power m ≡ o → contents s batch (map_disk out) (map_place_of m.setup.geometry r) ≡ contents s batch (map_disk (out_disk s.power m)) (map_place_of m.setup.geometry r)
       split None none = both_maps (map_disk out) (map_disk (out_disk s.power m)) r (map_disk_in out).0 (map_disk_in (out_disk s.power m)).0 none below
-      split (Some d) some = ap (λ (o : Option ℕ). contents s batch (map_disk o) (100 + r / 512)) (stays d some ∙ sym some)
+      split (Some d) some = ap (λ (o : Option ℕ). contents s batch (map_disk o) (map_place_of m.setup.geometry r)) (stays d some ∙ sym some)
 
 module _ (slots : ℕ) (said : LogState) (m : Meta) (h_s h_u h_e : History) (k_s k_u k_e : ℕ) (s u e : Disks) (setup : m.setup ≡ said.meta.setup) (range_s : IsInRange said.meta) (range : IsInRange m)
     (single_u : (a b : ℕ) → IsMissing u.power said.meta a → IsMissing u.power said.meta b → a ≡ b) (single : (a b : ℕ) → IsMissing e.power m a → IsMissing e.power m b → a ≡ b)
     (content_s : ContentOk slots s.power s.size (view_of s said) h_s k_s)
     (content_u : ContentOk slots u.power u.size (view_by said.meta u.power (contents u [])) h_u k_u)
     (content : ContentOk slots e.power e.size (view_by m e.power (contents e [])) h_e k_e)
-    (laid : (d p : ℕ) → gone_out said.meta.out ≢ Some d → has_place u d p ≡ true → 100 ≤ p → contents u [] d p ≡ contents s said.batch d p)
-    (far : (d p : ℕ) → 100 ≤ p → e.block d p ≡ u.block d p)
+    (laid : (d p : ℕ) → gone_out said.meta.out ≢ Some d → has_place u d p ≡ true → log_least ≤ p → contents u [] d p ≡ contents s said.batch d p)
+    (far : (d p : ℕ) → log_least ≤ p → e.block d p ≡ u.block d p)
     (first : (d : ℕ) → IsMissing s.power said.meta d → IsMissing u.power said.meta d) (then : (d : ℕ) → IsMissing u.power said.meta d → IsMissing e.power m d) where
   abbrev g : Geometry
   g = said.meta.setup.geometry
@@ -87,7 +88,7 @@ module _ (slots : ℕ) (said : LogState) (m : Meta) (h_s h_u h_e : History) (k_s
 
   module _ (r : ℕ) (below : r < 512 * map_count g) where
     abbrev p : ℕ
-    p = 100 + r / 512
+    p = map_place_of g r
 
     place_u : has_place u z p ≡ true
     place_u =

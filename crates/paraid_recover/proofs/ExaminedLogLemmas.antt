@@ -1,7 +1,8 @@
 -- What stands by what was heard, and what refuses a mount by it.
-use Rattle.std.specs.Prelude.{◌≡◌, ◌≢◌, ℕ, ◌^◌, ◌<◌, ◌≤◌, Bool, true, false, not, Option, Some, None, Result, Ok, Err, IfErr, if◌then◌else◌}
+use Rattle.std.specs.Prelude.{◌≡◌, ◌≢◌, ℕ, ◌<◌, ◌≤◌, Bool, true, false, not, Option, Some, None, Result, Ok, Err, IfErr, if◌then◌else◌}
 use Rattle.std.proofs.Common.{refl, sym, ◌∙◌, ap, subst, arith, inl, inr, zero, suc}
 use Rattle.std.proofs.lemmas.Bool.{cases_eq}
+use Rattle.paraid_base.specs.Log.{worn_at}
 use Rattle.paraid_rack.specs.Disks.{Disks}
 use Rattle.paraid_rack.specs.Slots.{Slot}
 use Rattle.paraid_rack.specs.Trail.{Trail, now}
@@ -171,7 +172,7 @@ worn_logs logs c (by_itself all x said stands named is) = cc
 worn_logs logs c (at_odds all x said stands live odds is) = cc
 
 pub worn_stands : (count : ℕ) (old new : ℕ → Slot) (told : Option Trail) (c : ℕ) → IsRefused count old new told (Worn c)
-    → (t : Trail) → told ≡ Some t → (x : ℕ) (said : LogState) → Stands (now t) x said → (c ≡ meta_wear said.meta) × (2 ^ 62 ≤ c)
+    → (t : Trail) → told ≡ Some t → (x : ℕ) (said : LogState) → Stands (now t) x said → (c ≡ meta_wear said.meta) × (worn_at ≤ c)
 worn_stands count old new told c (by_slots slots same) t tells x said stands = absurd (worn_slots count old c slots)
 worn_stands count old new told c (by_loss readable two both is) t tells x said stands = cc
 worn_stands count old new told c (as_heard readable lost logs are (by_logs logs_refuse)) t tells x said stands = absurd (worn_logs logs c logs_refuse)

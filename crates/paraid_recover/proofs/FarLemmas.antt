@@ -1,9 +1,11 @@
 -- The calls of a mount after an interrupted commit was ended leave all blocks past the log.
-use Rattle.std.specs.Prelude.{◌≡◌, ℕ, ◌+◌, ◌/◌, ◌≤◌, ◌⊎◌, Bool, List, [], ◌∷◌, ◌++◌, Option, Some, None, IsSome}
+use Rattle.std.specs.Prelude.{◌≡◌, ℕ, ◌≤◌, ◌⊎◌, Bool, List, [], ◌∷◌, ◌++◌, Option, Some, None, IsSome}
 use Rattle.std.proofs.Common.{refl, sym, ◌∙◌, ap, subst, arith, inl, inr}
 use Rattle.std.proofs.lemmas.Bool.{cases_eq}
 use Rattle.paraid_base.specs.declared.block.Block.{Block}
 use Rattle.paraid_base.specs.declared.geometry.Geometry.{Geometry}
+use Rattle.paraid_base.specs.Log.{log_least}
+use Rattle.paraid_base.specs.Regions.{map_place_of}
 use Rattle.paraid_rack.specs.declared.call.Call.{Call}
 use Rattle.paraid_rack.specs.declared.call.Call.TheVariants.{Read, Write, Sync, Park, SpinUp, Attach}
 use Rattle.paraid_rack.specs.declared.call.Power.TheVariants.{Absent}
@@ -26,7 +28,7 @@ use Rattle.paraid_recover.specs.Quiet.{IsInLog, IsReadOrSync}
 use Rattle.paraid_recover.proofs.MapEndLemmas.{bit_same, map_disk_zero}
 
 abbrev pub IsFar : (Call → Type 0) → Type 0
-IsFar uses = (c : Call) (s : Disks) → uses c → (d p : ℕ) → 100 ≤ p → (step c s).block d p ≡ s.block d p
+IsFar uses = (c : Call) (s : Disks) → uses c → (d p : ℕ) → log_least ≤ p → (step c s).block d p ≡ s.block d p
 
 pub log_far : (n : ℕ) → IsFar (IsInLog n)
 unfolding step
@@ -56,7 +58,7 @@ turn_far m (SpinUp e done) s uses d p far = refl
 turn_far m (Attach e size done) s uses d p far = absurd uses
 
 abbrev far_by : Disks → List Call → Type 0
-far_by start calls = (d p : ℕ) → 100 ≤ p → (run start calls).block d p ≡ start.block d p
+far_by start calls = (d p : ℕ) → log_least ≤ p → (run start calls).block d p ≡ start.block d p
 
 each_far : (uses : Call → Type 0) → IsFar uses → (s : Disks) (cs : List Call) → EachCall uses s cs → far_by s cs
 each_far uses is s [] each d p far = refl
@@ -74,13 +76,13 @@ far_then old mid new first second =
     Ran-then far_by (λ s cs ds a b d p far. ap (λ (u : Disks). u.block d p) (run_append s cs ds) ∙ b d p far ∙ a d p far) old mid new first second
 
 -- the record before, and its blocks
-pub far_now : (old new : Option Trail) → KeepsFar old new → (t : Trail) → new ≡ Some t → (s : Trail) × (old ≡ Some s) × ((d p : ℕ) → 100 ≤ p → (now t).block d p ≡ (now s).block d p)
+pub far_now : (old new : Option Trail) → KeepsFar old new → (t : Trail) → new ≡ Some t → (s : Trail) × (old ≡ Some s) × ((d p : ℕ) → log_least ≤ p → (now t).block d p ≡ (now s).block d p)
 far_now old new ran t tells =
     let r = ran t tells in
     (r.from, r.was, λ d p far. ap (λ (u : Disks). u.block d p) (ap now r.is ∙ now-extend r.from r.calls) ∙ r.holds d p far)
 
-shows_by : (g : Geometry) (a b : ℕ → Block) (dirty : ℕ → ℕ → Bool) → ((p : ℕ) → 100 ≤ p → b p ≡ a p) → ShowsMap g a dirty → ShowsMap g b dirty
-shows_by g a b dirty same shows r d low = shows r d low ∙ bit_same g a b r d (sym (same (100 + r / 512) (omega arith)))
+shows_by : (g : Geometry) (a b : ℕ → Block) (dirty : ℕ → ℕ → Bool) → ((p : ℕ) → log_least ≤ p → b p ≡ a p) → ShowsMap g a dirty → ShowsMap g b dirty
+shows_by g a b dirty same shows r d low = shows r d low ∙ bit_same g a b r d (sym (same (map_place_of g r) (omega arith)))
 
 pub map_on : (g : Geometry) (out : Option ℕ) (a b : ℕ → Slot) (dirty : ℕ → ℕ → Bool) (old mid new : Option Trail) → ((a 0).power ≡ Absent → (b 0).power ≡ Absent)
     → KeepsFar mid new → HasMap g out a dirty old mid → HasMap g out b dirty old new

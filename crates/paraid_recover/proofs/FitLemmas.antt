@@ -1,10 +1,11 @@
 -- Slots that fit a meta, and what each step of a mount asks of them.
-use Rattle.std.specs.Prelude.{◌≡◌, ◌≢◌, ℕ, ◌+◌, ◌^◌, ◌<◌, ◌≤◌, ◌⊎◌, ◌==◌, not, Bool, true, false, List, [], ◌∷◌, Option, Some, None, if◌then◌else◌}
+use Rattle.std.specs.Prelude.{◌≡◌, ◌≢◌, ℕ, ◌+◌, ◌<◌, ◌≤◌, ◌⊎◌, ◌==◌, not, Bool, true, false, List, [], ◌∷◌, Option, Some, None, if◌then◌else◌}
 use Rattle.std.proofs.Common.{refl, sym, ◌∙◌, ap, subst, arith, inl, inr}
 use Rattle.std.proofs.lemmas.Bool.{false≢true}
 use Rattle.paraid_base.specs.declared.fault.Two.{Two}
 use Rattle.paraid_base.specs.declared.state.Out.{Out}
 use Rattle.paraid_base.specs.declared.state.Out.TheVariants.{No, Gone, Fresh}
+use Rattle.paraid_base.specs.Log.{worn_at}
 use Rattle.paraid_base.specs.Regions.{disk_size, map_count}
 use Rattle.paraid_base.specs.States.{gone_out}
 use Rattle.paraid_base.specs.Told.{HasRisen}
@@ -267,7 +268,7 @@ two_unmarked n named mark a b two marks it = record { first = elim it.first [ in
     is (is_named name) = let m = marks two.first name in is_absent m.0 (absent_power (a two.first).power m.1)
 
 -- the slots fit a meta that is brought to version 2
-fit_renewed : (count : ℕ) (slot : ℕ → Slot) (m : Meta) (b : Bool) → m.epoch < 2 ^ 62 → IsFit count slot m → IsFit count slot (renewed_by b m)
+fit_renewed : (count : ℕ) (slot : ℕ → Slot) (m : Meta) (b : Bool) → m.epoch < worn_at → IsFit count slot m → IsFit count slot (renewed_by b m)
 fit_renewed count slot m false few fit = fit
 fit_renewed count slot m true few fit = record {
   in_range = in_version_two m (m.epoch + 1) fit.in_range (omega arith) (omega arith);
@@ -280,7 +281,7 @@ fit_renewed count slot m true few fit = record {
 }
 
 -- which disk is marked, and that the slots fit then
-pub fit_with_mark : (count : ℕ) (a b : ℕ → Slot) (m : Meta) (o : Option ℕ) → o ≡ to_mark (λ d. (a d).power) m → IsFit count a m → OnlyLosesSlots a b → m.epoch < 2 ^ 62
+pub fit_with_mark : (count : ℕ) (a b : ℕ → Slot) (m : Meta) (o : Option ℕ) → o ≡ to_mark (λ d. (a d).power) m → IsFit count a m → OnlyLosesSlots a b → m.epoch < worn_at
     → IsOneOut m.setup.geometry.disks (named_out (with_mark m o).out) b → IsFit count b (with_mark m o)
 fit_with_mark count a b m None is fit spared few one =
     fit_renewed count b m (m.version == 1) few (fit_stays count a b m spared (subst (λ (o : Out). IsOneOut m.setup.geometry.disks (named_out o) b) (renewed_out m) one) fit)

@@ -3,6 +3,7 @@ use Rattle.std.specs.Prelude.{◌≡◌, ℕ, ◌<◌, ◌≤◌, false, Option,
 use Rattle.std.proofs.Common.{refl, sym, ◌∙◌, ap, subst, arith, inl, inr, length-append}
 use Rattle.std.proofs.lemmas.Bool.{cases_Bool, false≢true}
 use Rattle.paraid_base.specs.History.{History}
+use Rattle.paraid_base.specs.Log.{log_least}
 use Rattle.paraid_rack.specs.Alike.{IsAlike}
 use Rattle.paraid_rack.specs.Disks.{Disks, IsImage, is_present}
 use Rattle.paraid_rack.specs.Trail.{Trail, disks, moments, now}
@@ -69,7 +70,7 @@ module _ (slots x : ℕ) (said : LogState) (m : Meta) (old mid new : Option Trai
     longer : moments u ≤ moments t
     longer = let long = ap moments (far t tells).is ∙ length-append u.calls (far t tells).calls in omega arith
 
-    far_u : (d p : ℕ) → 100 ≤ p → (now t).block d p ≡ (now u).block d p
+    far_u : (d p : ℕ) → log_least ≤ p → (now t).block d p ≡ (now u).block d p
     far_u d p past = ap (λ (v : Disks). v.block d p) (ap now (far t tells).is ∙ now-extend u (far t tells).calls) ∙ (far t tells).holds d p past
 
     module _ (h : History) (lo : ℕ) (was down : Option ℕ) (broken : IsBroken (now s) x said) (held : IsHeld slots (now s) h lo was)

@@ -3,6 +3,7 @@ use Rattle.std.specs.Prelude.{◌≡◌, ◌≢◌, ℕ, ◌+◌, ◌<◌, ◌�
 use Rattle.std.proofs.Common.{refl, sym, ◌∙◌, ap, subst, arith, inl, inr}
 use Rattle.std.proofs.lemmas.Bool.{cases_eq, true≢false}
 use Rattle.paraid_base.specs.declared.geometry.Geometry.{Geometry}
+use Rattle.paraid_base.specs.Log.{log_least}
 use Rattle.paraid_rack.specs.Calls.{AreReads}
 use Rattle.paraid_rack.specs.declared.call.Call.{Call}
 use Rattle.paraid_rack.specs.declared.call.Call.TheVariants.{Read, Write, Sync, Park, SpinUp, Attach}
@@ -35,7 +36,7 @@ module _ {R : Type 0} (g : Ghosts R) (x : ℕ) where
     few = most_none n (g.told rack);
   }
 
-  pub log_read : (p : ℕ) (old new : R) (ok : Bool) → p < 100 → g.slot_count new ≡ g.slot_count old
+  pub log_read : (p : ℕ) (old new : R) (ok : Bool) → p < log_least → g.slot_count new ≡ g.slot_count old
       → ChangesOneSlot (g.slot old) (g.slot new) x (g.slot old x) (g.slot old x).unsynced ok → GrowsByCall (g.told old) (g.told new) (Read x p ok)
       → ((s : Trail) → g.told old ≡ Some s → (now s).power x ≡ Spinning) → HasReadLog g x 1 old new ok
   log_read p old new ok low slots slot grows spins = record {

@@ -1,5 +1,5 @@
 -- The table shows the map of the disks with which the array is served.
-use Rattle.std.specs.Prelude.{◌≡◌, ◌≢◌, ℕ, ◌+◌, ◌*◌, ◌/◌, ◌%◌, ◌<◌, ◌≤◌, ◌⊎◌, ◌==◌, ◌&&◌, nat_lt, Bool, true, false, [], Option, Some, None, slice_index, if◌then◌else◌}
+use Rattle.std.specs.Prelude.{◌≡◌, ◌≢◌, ℕ, ◌*◌, ◌/◌, ◌%◌, ◌<◌, ◌≤◌, ◌⊎◌, ◌==◌, ◌&&◌, nat_lt, Bool, true, false, [], Option, Some, None, slice_index, if◌then◌else◌}
 use Rattle.std.specs.Int.{bit_at}
 use Rattle.std.proofs.Common.{refl, sym, ◌∙◌, ap, subst, arith, inl, inr}
 use Rattle.std.proofs.lemmas.Bool.{cases_eq, cases_lt, false≢true}
@@ -7,7 +7,8 @@ use Rattle.std.proofs.lemmas.Bool.Decides.{nat_tests}
 use Rattle.paraid_base.specs.declared.block.Block.{Block}
 use Rattle.paraid_base.specs.declared.geometry.Geometry.{Geometry}
 use Rattle.paraid_base.specs.History.{History}
-use Rattle.paraid_base.specs.Regions.{disk_size, map_count}
+use Rattle.paraid_base.specs.Log.{log_least}
+use Rattle.paraid_base.specs.Regions.{disk_size, map_count, map_place_of}
 use Rattle.paraid_base.specs.Xor.{zero_block}
 use Rattle.paraid_rack.specs.Disks.{Disks, is_present}
 use Rattle.paraid_record.specs.declared.meta.Meta.{Meta}
@@ -23,22 +24,22 @@ use Rattle.paraid_image.proofs.OutLemmas.{missing_is_out, out_missing}
 use Rattle.paraid_recover.specs.Map.{ShowsMap}
 
 -- a bit of the map depends on one block
-pub bit_same : (g : Geometry) (a b : ℕ → Block) (r d : ℕ) → a (100 + r / 512) ≡ b (100 + r / 512) → map_bit g a r d ≡ map_bit g b r d
+pub bit_same : (g : Geometry) (a b : ℕ → Block) (r d : ℕ) → a (map_place_of g r) ≡ b (map_place_of g r) → map_bit g a r d ≡ map_bit g b r d
 unfolding map_bit
 bit_same g a b r d same = ap (λ (x : Block). bit_at (slice_index x.bytes (r % 512)) d == 1) same
 
 -- a block past the log of a disk that has it
-pub contents_there : (s : Disks) (d p : ℕ) → has_place s d p ≡ true → 100 ≤ p → contents s [] d p ≡ s.block d p
+pub contents_there : (s : Disks) (d p : ℕ) → has_place s d p ≡ true → log_least ≤ p → contents s [] d p ≡ s.block d p
 unfolding contents
 contents_there s d p there far =
-    let low : nat_lt p 100 ≡ false = grind (arith, nat_tests) in
+    let low : nat_lt p log_least ≡ false = grind (arith, nat_tests) in
     ap (λ (x : Bool). if x then zero_block else (if has_place s d p then s.block d p else zero_block)) low
     ∙ ap (λ (x : Bool). if x then s.block d p else zero_block) there
 
 pub place_there : (s : Disks) (d p : ℕ) → is_present (s.power d) ≡ true → p < s.size d → has_place s d p ≡ true
 place_there s d p here low = ap (λ (x : Bool). x && nat_lt p (s.size d)) here ∙ (grind (arith, nat_tests))
 
-pub map_place_low : (m : Meta) (r : ℕ) → r < 512 * map_count m.setup.geometry → 100 + r / 512 < disk_size m.setup.geometry
+pub map_place_low : (m : Meta) (r : ℕ) → r < 512 * map_count m.setup.geometry → map_place_of m.setup.geometry r < disk_size m.setup.geometry
 map_place_low m r low = let rows = m.setup.geometry.rows_low in omega arith
 
 -- the lower log disk that is not out is not out
@@ -84,7 +85,7 @@ there_by t n d in_range one low not = split (is_present (t.power d)) refl
 module _ (slots : ℕ) (meta m : Meta) (h k_h : History) (k n_k : ℕ) (s e : Disks) (setup : m.setup ≡ meta.setup) (range_s : IsInRange meta) (range : IsInRange m)
     (single_s : (a b : ℕ) → IsMissing s.power meta a → IsMissing s.power meta b → a ≡ b) (single : (a b : ℕ) → IsMissing e.power m a → IsMissing e.power m b → a ≡ b)
     (content_s : ContentOk slots s.power s.size (view_by meta s.power (contents s [])) h k) (content : ContentOk slots e.power e.size (view_by m e.power (contents e [])) k_h n_k)
-    (far : (d p : ℕ) → 100 ≤ p → e.block d p ≡ s.block d p) (stays : (d : ℕ) → IsMissing s.power meta d → IsMissing e.power m d) where
+    (far : (d p : ℕ) → log_least ≤ p → e.block d p ≡ s.block d p) (stays : (d : ℕ) → IsMissing s.power meta d → IsMissing e.power m d) where
   abbrev g : Geometry
   g = m.setup.geometry
 
@@ -97,60 +98,60 @@ module _ (slots : ℕ) (meta m : Meta) (h k_h : History) (k n_k : ℕ) (s e : Di
   z_low : z < m.setup.geometry.disks
   z_low = let l = (map_disk_in (out_disk e.power m)).0 in let t = m.setup.geometry.disks_low in omega arith
 
-  z_shown : (r : ℕ) → r < 512 * map_count g → contents e [] z (100 + r / 512) ≡ e.block z (100 + r / 512)
+  z_shown : (r : ℕ) → r < 512 * map_count g → contents e [] z (map_place_of g r) ≡ e.block z (map_place_of g r)
   z_shown r low =
       let here = there_by e m z range single z_low (map_disk_in (out_disk e.power m)).1 in
       let large = content.kept.disks.large z z_low here (map_disk_in (out_disk e.power m)).1 in
       let place = map_place_low m r low in
-      contents_there e z (100 + r / 512) (place_there e z (100 + r / 512) here (omega arith)) (omega arith)
+      contents_there e z (map_place_of g r) (place_there e z (map_place_of g r) here (omega arith)) (omega arith)
 
   -- with no disk out as the map was read both log disks have the same map
-  log_there : (d r : ℕ) → d < 2 → out_disk s.power meta ≡ None → r < 512 * map_count g → contents s [] d (100 + r / 512) ≡ s.block d (100 + r / 512)
+  log_there : (d r : ℕ) → d < 2 → out_disk s.power meta ≡ None → r < 512 * map_count g → contents s [] d (map_place_of g r) ≡ s.block d (map_place_of g r)
   log_there d r low none below =
       let t = meta.setup.geometry.disks_low in
       let not : out_disk s.power meta ≢ Some d = (λ is. let y : None ≡ Some d = sym none ∙ is in cc) in
       let here = there_by s meta d range_s single_s (omega arith) not in
       let large = content_s.kept.disks.large d (omega arith) here not in
       let place = map_place_low meta r (subst (λ (x : Geometry). r < 512 * map_count x) geometry_is below) in
-      contents_there s d (100 + r / 512) (place_there s d (100 + r / 512) here (omega arith)) (omega arith)
+      contents_there s d (map_place_of g r) (place_there s d (map_place_of g r) here (omega arith)) (omega arith)
 
-  mirrored : (r : ℕ) → out_disk s.power meta ≡ None → r < 512 * map_count g → e.block 0 (100 + r / 512) ≡ e.block 1 (100 + r / 512)
+  mirrored : (r : ℕ) → out_disk s.power meta ≡ None → r < 512 * map_count g → e.block 0 (map_place_of g r) ≡ e.block 1 (map_place_of g r)
   mirrored r none below =
       let low = subst (λ (x : Geometry). r < 512 * map_count x) geometry_is below in
-      far 0 (100 + r / 512) (omega arith) ∙ sym (log_there 0 r (omega arith) none below)
+      far 0 (map_place_of g r) (omega arith) ∙ sym (log_there 0 r (omega arith) none below)
       ∙ content_s.kept.map.mirrored (r / 512) (omega arith) (λ is. let y : None ≡ Some 0 = sym none ∙ is in cc) (λ is. let y : None ≡ Some 1 = sym none ∙ is in cc)
-      ∙ log_there 1 r (omega arith) none below ∙ sym (far 1 (100 + r / 512) (omega arith))
+      ∙ log_there 1 r (omega arith) none below ∙ sym (far 1 (map_place_of g r) (omega arith))
 
   module _ (y : ℕ) (dirty : ℕ → ℕ → Bool) (which : ((out_disk s.power meta ≡ None) × (y < 2)) ⊎ (y ≡ map_disk (out_disk s.power meta)))
       (shows : ShowsMap g (e.block y) dirty) (past : (r d : ℕ) → g.rows ≤ r → dirty r d ≡ false) where
-    both : (r : ℕ) → out_disk s.power meta ≡ None → y < 2 → r < 512 * map_count g → e.block y (100 + r / 512) ≡ e.block z (100 + r / 512)
+    both : (r : ℕ) → out_disk s.power meta ≡ None → y < 2 → r < 512 * map_count g → e.block y (map_place_of g r) ≡ e.block z (map_place_of g r)
     both r none low below =
         let l = (map_disk_in (out_disk e.power m)).0 in
         let same = mirrored r none below in
         elim (cases_eq y z) [
-          | inl is ↦ ap (λ (x : ℕ). e.block x (100 + r / 512)) is
+          | inl is ↦ ap (λ (x : ℕ). e.block x (map_place_of g r)) is
           | inr apart ↦ elim (cases_eq y 0) [
             | inl first ↦
                 let second : z ≡ 1 = omega arith in
-                ap (λ (x : ℕ). e.block x (100 + r / 512)) first ∙ same ∙ ap (λ (x : ℕ). e.block x (100 + r / 512)) (sym second)
+                ap (λ (x : ℕ). e.block x (map_place_of g r)) first ∙ same ∙ ap (λ (x : ℕ). e.block x (map_place_of g r)) (sym second)
             | inr not ↦
                 let one : y ≡ 1 = omega arith in
                 let first : z ≡ 0 = omega arith in
-                ap (λ (x : ℕ). e.block x (100 + r / 512)) one ∙ sym same ∙ ap (λ (x : ℕ). e.block x (100 + r / 512)) (sym first)
+                ap (λ (x : ℕ). e.block x (map_place_of g r)) one ∙ sym same ∙ ap (λ (x : ℕ). e.block x (map_place_of g r)) (sym first)
           ]
         ]
 
-    block_is : (r : ℕ) → r < 512 * map_count g → e.block y (100 + r / 512) ≡ e.block z (100 + r / 512)
+    block_is : (r : ℕ) → r < 512 * map_count g → e.block y (map_place_of g r) ≡ e.block z (map_place_of g r)
     block_is r below = elim which [
       | inl none ↦ both r none.0 none.1 below
       | inr is ↦ split (out_disk s.power meta) refl is
     ]
       where
-        split : (o : Option ℕ) → out_disk s.power meta ≡ o → y ≡ map_disk (out_disk s.power meta) → e.block y (100 + r / 512) ≡ e.block z (100 + r / 512)
+        split : (o : Option ℕ) → out_disk s.power meta ≡ o → y ≡ map_disk (out_disk s.power meta) → e.block y (map_place_of g r) ≡ e.block z (map_place_of g r)
         split None none is = both r none (let a = is ∙ ap map_disk none in omega arith) below
         split (Some d) some is =
             let end : out_disk e.power m ≡ Some d = missing_out e.power m d range single (stays d (out_missing s.power meta d range_s some)) in
-            ap (λ (x : ℕ). e.block x (100 + r / 512)) (is ∙ ap map_disk some ∙ sym (ap map_disk end))
+            ap (λ (x : ℕ). e.block x (map_place_of g r)) (is ∙ ap map_disk some ∙ sym (ap map_disk end))
 
     pub map_shown : (r d : ℕ) → r < 512 * map_count g → dirty r d ≡ (view_by m e.power (contents e [])).dirty r d
     map_shown r d below = elim (cases_lt r g.rows) [

@@ -1,9 +1,9 @@
 -- With which bits of the map the array is served, whether or not a history is held.
-use Rattle.std.specs.Prelude.{◌≡◌, ◌≢◌, ℕ, ◌+◌, ◌/◌, ◌<◌, ◌≤◌, ◌⊎◌, Bool, true, false, [], Option, Some, None}
+use Rattle.std.specs.Prelude.{◌≡◌, ◌≢◌, ℕ, ◌<◌, ◌≤◌, ◌⊎◌, Bool, true, false, [], Option, Some, None}
 use Rattle.std.proofs.Common.{refl, sym, ◌∙◌, ap, subst, arith, inl, inr}
 use Rattle.std.proofs.lemmas.Bool.{false≢true}
 use Rattle.paraid_base.specs.declared.geometry.Geometry.{Geometry}
-use Rattle.paraid_base.specs.Regions.{disk_size}
+use Rattle.paraid_base.specs.Regions.{disk_size, map_place_of}
 use Rattle.paraid_base.specs.Told.{HasRisen}
 use Rattle.paraid_base.proofs.ToldLemmas.{HasRisen-sooner}
 use Rattle.paraid_rack.specs.declared.call.Power.{Power}
@@ -127,18 +127,18 @@ module _ (count last array rows : ℕ) (named : Option ℕ) (b c : ℕ → Slot)
   y_large : disk_size g ≤ (c y).size
   y_large = servable.fit.large y (log_low y (map_disk_in (named_out m.out)).0) y_there (λ gone. (map_disk_in (named_out m.out)).1 (gone_named m.out y gone))
 
-  y_shown : (t : Trail) → told ≡ Some t → (r : ℕ) → r < g.rows → contents (now t) [] y (100 + r / 512) ≡ (now t).block y (100 + r / 512)
+  y_shown : (t : Trail) → told ≡ Some t → (r : ℕ) → r < g.rows → contents (now t) [] y (map_place_of g r) ≡ (now t).block y (map_place_of g r)
   y_shown t tells r low =
       let a = agrees t tells in
       let size = a.size y in
       let large = y_large in
       let place = map_place_low m r (omega arith) in
-      contents_there (now t) y (100 + r / 512) (place_there (now t) y (100 + r / 512) (ap is_present (a.power y) ∙ y_there) (omega arith)) (omega arith)
+      contents_there (now t) y (map_place_of g r) (place_there (now t) y (map_place_of g r) (ap is_present (a.power y) ∙ y_there) (omega arith)) (omega arith)
 
   bits : has.disk ≡ y → (t : Trail) → told ≡ Some t → HasBitsOf m dirty (now t)
   bits at t tells r d low =
       let s : Disks = now t in
-      let p = 100 + r / 512 in
+      let p = map_place_of g r in
       shows t tells r d low
       ∙ bit_same g (s.block has.disk) (contents s [] (map_disk (out_disk s.power m))) r d
       (ap (λ (x : ℕ). s.block x p) at ∙ sym (y_shown t tells r low) ∙ ap (λ (o : Option ℕ). contents s [] (map_disk o) p) (sym (out_same s.power (agrees t tells).power)))

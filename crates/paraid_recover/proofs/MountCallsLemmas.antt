@@ -4,6 +4,7 @@ use Rattle.std.proofs.Common.{refl, sym, ◌∙◌, ap, subst, arith, inl, inr}
 use Rattle.std.proofs.lemmas.Bool.Decides.{nat_tests}
 use Rattle.paraid_base.specs.declared.geometry.Geometry.{Geometry}
 use Rattle.paraid_base.specs.declared.state.Out.{Out}
+use Rattle.paraid_base.specs.Log.{log_least}
 use Rattle.paraid_base.specs.States.{gone_out, named_out}
 use Rattle.paraid_rack.specs.declared.call.Call.{Call}
 use Rattle.paraid_rack.specs.declared.call.Call.TheVariants.{Read, Write, Sync, Park, SpinUp, Attach}
@@ -25,7 +26,7 @@ use Rattle.paraid_recover.specs.Powers.{IsPowerCall}
 use Rattle.paraid_recover.specs.RecoveryMark.{of_version_two, renewed_by, with_mark}
 use Rattle.paraid_recover.proofs.FitLemmas.{gone_named}
 
-low_place : (p : ℕ) → p < 100 → nat_lt p 100 ≡ true
+low_place : (p : ℕ) → p < log_least → nat_lt p log_least ≡ true
 low_place p l = grind (arith, nat_tests)
 
 pub reads_mount : (n : ℕ) (gone : Option ℕ) (c : Call) → 2 ≤ n → ReadsLogs c → IsMountCall n gone c

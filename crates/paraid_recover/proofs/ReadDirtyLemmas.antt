@@ -1,9 +1,9 @@
 -- The reads of the log disks keep the cells that are shown as dirty.
-use Rattle.std.proofs.Common.{◌≡◌, ℕ, ◌+◌, ◌*◌, ◌/◌, ◌<◌, Bool, true, List, Option, Some, refl, sym, ap, ◌∙◌, inl, inr, subst, arith}
+use Rattle.std.proofs.Common.{◌≡◌, ℕ, ◌*◌, ◌<◌, Bool, true, List, Option, Some, refl, sym, ap, ◌∙◌, inl, inr, subst, arith}
 use Rattle.std.proofs.lemmas.Bool.{cases_Bool, false≢true}
 use Rattle.paraid_base.specs.declared.geometry.Geometry.{Geometry}
 use Rattle.paraid_base.specs.History.{History}
-use Rattle.paraid_base.specs.Regions.{map_count}
+use Rattle.paraid_base.specs.Regions.{map_count, map_place_of}
 use Rattle.paraid_rack.specs.declared.call.Call.{Call}
 use Rattle.paraid_rack.specs.Disks.{Disks, is_present}
 use Rattle.paraid_rack.specs.Trail.{run}
@@ -77,6 +77,6 @@ module _ (slots : ℕ) (s : Disks) (h : History) (lo : ℕ) (down : Option ℕ) 
       let below : r < 512 * map_count g = omega arith in
       ap (λ (f : ℕ → ℕ → Bool). f r d) (shown_dirty u said)
       ∙ bit_same g (contents u said.batch z) (contents s said.batch (map_disk (out_disk s.power said.meta))) r d
-      (contents_kept s u said.batch z (100 + r / 512) (kept_by_reads s rs z each there)
+      (contents_kept s u said.batch z (map_place_of g r) (kept_by_reads s rs z each there)
       ∙ map_by slots s said.meta said.batch h content.0 content.1 (out_disk u.power said.meta) r stays below)
       ∙ sym (ap (λ (f : ℕ → ℕ → Bool). f r d) (shown_dirty s said))

@@ -1,8 +1,9 @@
 -- The end of a mount that is refused.
-use Rattle.std.proofs.Common.{◌≡◌, ◌≢◌, ℕ, ◌^◌, ◌<◌, ◌≤◌, ◌⊎◌, true, false, List, [], ◌∷◌, ◌++◌, Option, Some, None, sym, ap, ◌∙◌, inl, inr, subst, arith, zero, suc}
+use Rattle.std.proofs.Common.{◌≡◌, ◌≢◌, ℕ, ◌<◌, ◌≤◌, ◌⊎◌, true, false, List, [], ◌∷◌, ◌++◌, Option, Some, None, sym, ap, ◌∙◌, inl, inr, subst, arith, zero, suc}
 use Rattle.std.proofs.lemmas.Bool.{cases_eq, false≢true}
 use Rattle.paraid_base.specs.declared.fault.Two.{Two}
 use Rattle.paraid_base.specs.History.{History}
+use Rattle.paraid_base.specs.Log.{worn_at}
 use Rattle.paraid_rack.specs.Calls.{AreReads}
 use Rattle.paraid_rack.specs.declared.call.Call.{Call}
 use Rattle.paraid_rack.specs.declared.call.Call.TheVariants.{Read, Write, Sync, Park, SpinUp, Attach}
@@ -74,7 +75,7 @@ logs_worn logs c (by_sides never) = never
 logs_worn logs c (by_itself all x said stands name is) = cc
 logs_worn logs c (at_odds all x said stands live odds is) = cc
 
-worn_many : (count : ℕ) (old new : ℕ → Slot) (told : Option Trail) (c : ℕ) → IsRefused count old new told (Worn c) → 2 ^ 62 ≤ c
+worn_many : (count : ℕ) (old new : ℕ → Slot) (told : Option Trail) (c : ℕ) → IsRefused count old new told (Worn c) → worn_at ≤ c
 worn_many count old new told c (by_slots refused same) = absurd (slots_worn count old c refused)
 worn_many count old new told c (by_loss readable two both is) = absurd (let z : Worn c ≡ BothMissing two = is in cc)
 worn_many count old new told c (as_heard readable lost logs are (by_logs refused)) = absurd (logs_worn logs c refused)

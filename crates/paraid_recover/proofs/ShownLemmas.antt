@@ -3,6 +3,7 @@ use Rattle.std.specs.Prelude.{◌≡◌, ℕ, ◌<◌, ◌≤◌, ◌⊎◌, Boo
 use Rattle.std.proofs.Common.{sym, ◌∙◌, ap, subst, arith, inl, inr, length-append}
 use Rattle.std.proofs.lemmas.List.{get_or_past}
 use Rattle.paraid_base.specs.declared.geometry.Geometry.{Geometry}
+use Rattle.paraid_base.specs.Log.{log_least}
 use Rattle.paraid_dirty.specs.Table.{is_dirty}
 use Rattle.paraid_rack.specs.Disks.{Disks, is_present}
 use Rattle.paraid_rack.specs.Slots.{Slot}
@@ -63,7 +64,7 @@ module _ (slots x : ℕ) (said : LogState) (m : Meta) (table : List (List Bool))
       told : mid ≡ Some u
       told = (has.far t tells).was
 
-      far_u : (d p : ℕ) → 100 ≤ p → (now t).block d p ≡ (now u).block d p
+      far_u : (d p : ℕ) → log_least ≤ p → (now t).block d p ≡ (now u).block d p
       far_u d p far = ap (λ (v : Disks). v.block d p) (ap now (has.far t tells).is ∙ now-extend (has.far t tells).from (has.far t tells).calls) ∙ (has.far t tells).holds d p far
 
       which : out ≡ out_disk (now u).power said.meta → ((out_disk (now u).power said.meta ≡ None) × (has.disk < 2)) ⊎ (has.disk ≡ map_disk (out_disk (now u).power said.meta))

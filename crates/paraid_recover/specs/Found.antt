@@ -1,6 +1,7 @@
 -- Whether a log disk says that it belongs to an array.
 use Rattle.std.specs.Prelude.{◌≡◌, ℕ, ◌<◌, ◌≤◌, max, Bool, true, false, List, Option, Some, None}
 use Rattle.paraid_base.specs.declared.block.Block.{Block}
+use Rattle.paraid_base.specs.Log.{list_place}
 use Rattle.paraid_rack.specs.declared.call.Power.TheVariants.{Spinning}
 use Rattle.paraid_rack.specs.Disks.{Disks}
 use Rattle.paraid_record.specs.declared.meta.Meta.{Meta}
@@ -11,7 +12,7 @@ use Rattle.paraid_image.specs.Sides.{Spells, is_open, stored_block}
 -- by a closed gate the meta at place 1, by an open one the meta at place 2 with a list of targets
 abbrev pub IsMetaUnder : Bool → (ℕ → Block) → Meta → Type 0
 IsMetaUnder false log m = Spells (log 1) m
-IsMetaUnder true log m = Spells (log 2) m × (ts : List Target) × AreTargets m.setup.geometry ts × ((log 3).bytes ≡ targets_bytes ts)
+IsMetaUnder true log m = Spells (log 2) m × (ts : List Target) × AreTargets m.setup.geometry ts × ((log (list_place 0)).bytes ≡ targets_bytes ts)
 
 -- the log disk is well formed, and this is its meta
 abbrev pub IsFormedMeta : Disks → ℕ → Meta → Type 0

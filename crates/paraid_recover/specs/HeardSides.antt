@@ -1,6 +1,7 @@
 -- What was read of a log disk, and what its reads leave.
 use Rattle.std.specs.Prelude.{Bool, true, false, ◌≡◌, ◌≢◌, ◌⊎◌, ◌<◌, ◌≤◌, ℕ, List, [], length, Option, Some, None}
 use Rattle.paraid_base.specs.declared.fault.Two.{Two}
+use Rattle.paraid_base.specs.Log.{log_most}
 use Rattle.paraid_base.specs.Told.{HasRisen}
 use Rattle.paraid_rack.specs.declared.call.Call.{Call}
 use Rattle.paraid_rack.specs.declared.call.Call.TheVariants.{Read, Write, Sync, Park, SpinUp, Attach}
@@ -72,7 +73,7 @@ gone_pair Spinning = record { first = 0; second = 1 }
 
 -- a read of the log of log disk `x`
 abbrev pub ReadsLog : ℕ → Call → Type 0
-ReadsLog x (Read d p done) = (d ≡ x) × (p < 100)
+ReadsLog x (Read d p done) = (d ≡ x) × (p < log_most)
 ReadsLog x (Write d p b done) = ⊥
 ReadsLog x (Sync d done) = ⊥
 ReadsLog x (Park d done) = ⊥
@@ -100,7 +101,7 @@ IsHeardBy (Some heard) power = power ≡ Spinning
 
 -- a read of the log of a log disk
 abbrev pub ReadsLogs : Call → Type 0
-ReadsLogs (Read d p done) = (d < 2) × (p < 100)
+ReadsLogs (Read d p done) = (d < 2) × (p < log_most)
 ReadsLogs (Write d p b done) = ⊥
 ReadsLogs (Sync d done) = ⊥
 ReadsLogs (Park d done) = ⊥

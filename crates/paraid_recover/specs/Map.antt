@@ -2,6 +2,7 @@
 use Rattle.std.specs.Prelude.{◌≡◌, ◌≢◌, ℕ, ◌+◌, ◌<◌, ◌≤◌, ◌⊎◌, false, Bool, [], Option, Some, None}
 use Rattle.paraid_base.specs.declared.block.Block.{Block}
 use Rattle.paraid_base.specs.declared.geometry.Geometry.{Geometry}
+use Rattle.paraid_base.specs.Log.{log_least, map_start}
 use Rattle.paraid_base.specs.Regions.{map_count}
 use Rattle.paraid_base.specs.Told.{HasRisen}
 use Rattle.paraid_rack.specs.declared.call.Call.{Call}
@@ -31,7 +32,7 @@ IsMapReady g slot out = (x : ℕ) → x < 2 → out ≢ Some x → ((slot x).pow
 
 -- a read of the map of disk `x`
 abbrev pub ReadsMapOf : Geometry → ℕ → Call → Type 0
-ReadsMapOf g x (Read d p done) = (d ≡ x) × (100 ≤ p) × (p < 100 + map_count g)
+ReadsMapOf g x (Read d p done) = (d ≡ x) × (map_start g ≤ p) × (p < map_start g + map_count g)
 ReadsMapOf g x (Write d p b done) = ⊥
 ReadsMapOf g x (Sync d done) = ⊥
 ReadsMapOf g x (Park d done) = ⊥
@@ -40,7 +41,7 @@ ReadsMapOf g x (Attach d size done) = ⊥
 
 -- a read of the map of a log disk that is not out
 abbrev pub ReadsMap : Geometry → Option ℕ → Call → Type 0
-ReadsMap g out (Read d p done) = (d < 2) × (out ≢ Some d) × (100 ≤ p) × (p < 100 + map_count g)
+ReadsMap g out (Read d p done) = (d < 2) × (out ≢ Some d) × (map_start g ≤ p) × (p < map_start g + map_count g)
 ReadsMap g out (Write d p b done) = ⊥
 ReadsMap g out (Sync d done) = ⊥
 ReadsMap g out (Park d done) = ⊥
@@ -49,7 +50,7 @@ ReadsMap g out (Attach d size done) = ⊥
 
 -- No block past the log has changed.
 abbrev pub KeepsFar : Option Trail → Option Trail → Type 0
-KeepsFar old new = Ran old new (λ start calls. (d p : ℕ) → 100 ≤ p → (run start calls).block d p ≡ start.block d p)
+KeepsFar old new = Ran old new (λ start calls. (d p : ℕ) → log_least ≤ p → (run start calls).block d p ≡ start.block d p)
 
 -- The table shows the map of this log disk, which was the lower one that was not out as the map was
 -- read; or it is the second one, where none was out and the first one failed in the reads.

@@ -1,5 +1,6 @@
 -- In which order a mount is refused by the meta that stands.
-use Rattle.std.specs.Prelude.{◌≡◌, ℕ, ◌^◌, ◌<◌, ◌≤◌, nat_lt, if◌then◌else◌}
+use Rattle.std.specs.Prelude.{◌≡◌, ℕ, ◌<◌, ◌≤◌, nat_lt, if◌then◌else◌}
+use Rattle.paraid_base.specs.Log.{worn_at}
 use Rattle.paraid_base.specs.Regions.{disk_size}
 use Rattle.paraid_rack.specs.Slots.{Slot}
 use Rattle.paraid_record.specs.declared.meta.Meta.{Meta}
@@ -35,9 +36,9 @@ IsRefusedBy slots slot m batch (Size disk found needed) =
     IsLeastDisk (is_small slots slot m) m.setup.geometry.disks disk × (found ≡ size_found slots slot disk) × (needed ≡ disk_size m.setup.geometry)
 IsRefusedBy slots slot m batch (Power disk) = AreSlotsLarge slots slot m × IsLeastDisk (is_asleep slot m batch) m.setup.geometry.disks disk
 IsRefusedBy slots slot m batch (BothMissing two) = AreAwake slots slot m batch × AreMissing slot m two
-IsRefusedBy slots slot m batch (Worn count) = AreEnough slots slot m batch × (count ≡ meta_wear m) × (2 ^ 62 ≤ count)
+IsRefusedBy slots slot m batch (Worn count) = AreEnough slots slot m batch × (count ≡ meta_wear m) × (worn_at ≤ count)
 IsRefusedBy slots slot m batch NoMemory = ⊥
 
 -- there is no cause
 abbrev pub IsNotRefused : ℕ → (ℕ → Slot) → Meta → Batch → Type 0
-IsNotRefused slots slot m batch = AreEnough slots slot m batch × (meta_wear m < 2 ^ 62)
+IsNotRefused slots slot m batch = AreEnough slots slot m batch × (meta_wear m < worn_at)

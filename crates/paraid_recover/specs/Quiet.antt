@@ -1,5 +1,6 @@
 -- The calls of a mount by their kinds.
 use Rattle.std.specs.Prelude.{ℕ, ◌<◌}
+use Rattle.paraid_base.specs.Log.{log_least}
 use Rattle.paraid_rack.specs.declared.call.Call.{Call}
 use Rattle.paraid_rack.specs.declared.call.Call.TheVariants.{Read, Write, Sync, Park, SpinUp, Attach}
 
@@ -15,7 +16,7 @@ IsReadOrSync n (Attach d size done) = ⊥
 -- a read or a sync of one of the first `n` disks, or a write of its log
 abbrev pub IsInLog : ℕ → Call → Type 0
 IsInLog n (Read d p done) = d < n
-IsInLog n (Write d p b done) = (d < n) × (p < 100)
+IsInLog n (Write d p b done) = (d < n) × (p < log_least)
 IsInLog n (Sync d done) = d < n
 IsInLog n (Park d done) = ⊥
 IsInLog n (SpinUp d done) = ⊥

@@ -2,7 +2,8 @@
 //!
 //! Only reads of the log disks are made, so that a mount that is refused here leaves every image as
 //! it was. The causes are tested in the order of `IsRefused`.
-ghost use Rattle.std.specs.Prelude.{◌≡◌, ℕ, ◌<◌, ◌≤◌, ◌^◌, Some, Err, IfErr, IfOk, OnOk, MatchOption};
+ghost use Rattle.std.specs.Prelude.{◌≡◌, ℕ, ◌<◌, ◌≤◌, Some, Err, IfErr, IfOk, OnOk, MatchOption};
+ghost use Rattle.paraid_base.specs.Log.{worn_at};
 ghost use Rattle.paraid_rack.specs.Told.{Ran};
 ghost use Rattle.paraid_rack.specs.Trail.{Trail, now};
 ghost use Rattle.paraid_image.specs.Sides.{LogState};
@@ -98,7 +99,7 @@ pub fn examine<R: Rack>(
     ensures worn { (count : ℕ) → result ≡ Err (Worn count)
         → (t : Trail) → R.told rack.new ≡ Some t
         → (x : ℕ) (said : LogState) → Stands (now t) x said
-        → (count ≡ meta_wear said.meta) × (2 ^ 62 ≤ count) }
+        → (count ≡ meta_wear said.meta) × (worn_at ≤ count) }
 {
     if let Some(fault) = refusal_by_slots(rack) {
         return Err(fault);

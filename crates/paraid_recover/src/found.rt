@@ -10,7 +10,7 @@ ghost use Rattle.paraid_recover.specs.Found.{IsEpochOf, IsGreatestOf, IsMetaOf, 
 ghost use Rattle.paraid_recover.specs.HeardSides.{HasReadLog};
 
 use crate::reads::{opens, read_place};
-use paraid_base::{Block, DiskNo, Failed};
+use paraid_base::{Block, DiskNo, FIRST_LIST, Failed};
 use paraid_rack::{Power, Rack};
 use paraid_record::{Meta, read_meta, read_targets};
 
@@ -40,7 +40,7 @@ fn hear_open<R: Rack>(rack: &mut R, disk: DiskNo) -> Result<Option<Meta>, Failed
     let mut block = Block::zero();
     let mut list = Block::zero();
     read_place(rack, disk, 2, &mut block)?;
-    read_place(rack, disk, 3, &mut list)?;
+    read_place(rack, disk, FIRST_LIST, &mut list)?;
     let Some(meta) = read_meta(&block) else {
         return Ok(None);
     };

@@ -1,5 +1,6 @@
 //! What one log disk says: its gate, its meta, and the batch that is on its way.
 ghost use Rattle.std.specs.Prelude.{◌≡◌, ◌≢◌, ℕ, ◌<◌, ◌≤◌, true, false, [], length, Some, OnOk, IfOk, AllPairs, get_or, is_ok};
+ghost use Rattle.paraid_base.specs.Log.{batch_room, body_place};
 ghost use Rattle.paraid_base.specs.Xor.{zero_block};
 ghost use Rattle.paraid_rack.specs.declared.call.Power.TheVariants.{Spinning};
 ghost use Rattle.paraid_rack.specs.Trail.{Trail, now};
@@ -8,7 +9,7 @@ ghost use Rattle.paraid_recover.specs.HeardSides.{HasReadLog, IsHeard, IsInForm}
 ghost use Rattle.paraid_image.specs.Sides.{AreBlocksLogged, is_open, stored_block, targets};
 
 use crate::reads::{opens, read_place};
-use paraid_base::{Block, DiskNo, Failed};
+use paraid_base::{Block, DiskNo, FIRST_BODY, FIRST_LIST, Failed};
 use paraid_rack::Rack;
 use paraid_record::{Meta, Target, Targets, read_meta, read_targets};
 use paraid_txn::Batch;
@@ -58,7 +59,7 @@ fn hear_closed<R: Rack>(rack: &mut R, disk: DiskNo) -> Result<Heard, Failed>
 // The target that stands there in the order.
 fn target_at(places: &Targets, at: u8) -> Target
     requires low { at < places.now.count }
-    requires few { places.now.count ≤ 96 }
+    requires few { places.now.count ≤ batch_room }
     ensures value { result ≡ get_or (targets_of places.now) at no_target }
     ensures list { places.now.count ≤ length places.now.list }
 {
@@ -75,16 +76,16 @@ fn hear_body<R: Rack>(
     requires exists { disk < R.slot_count rack.old }
     requires spinning { (R.slot rack.old disk).power ≡ Spinning }
     requires empty { batch.old ≡ [] }
-    requires few { places.now.count ≤ 96 }
+    requires few { places.now.count ≤ batch_room }
     requires distinct { AllPairs (λ a b. a ≢ b) (targets_of places.now) }
-    ensures reads { HasReadLog R.Rack disk 96 rack.old rack.new (is_ok result) }
+    ensures reads { HasReadLog R.Rack disk batch_room rack.old rack.new (is_ok result) }
     ensures named { OnOk result (targets batch.new ≡ targets_of places.now) }
     ensures logged { OnOk result ((t : Trail) → R.told rack.new ≡ Some t
-        → AreBlocksLogged (stored_block (now t) disk) 4 batch.new) }
+        → AreBlocksLogged (stored_block (now t) disk) (body_place 0) batch.new) }
 {
     let mut block = Block::zero();
     for at in 0..places.count {
-        read_place(rack, disk, 4 + u32::from(at), &mut block)?;
+        read_place(rack, disk, FIRST_BODY + u32::from(at), &mut block)?;
         let target = target_at(places, at);
         if let Err(_full) = batch.add(target.disk, target.place, &block) {
             return Err(Failed); // never, as there is room
@@ -107,7 +108,7 @@ fn hear_open<R: Rack>(rack: &mut R, disk: DiskNo, batch: &mut Batch) -> Result<H
     let mut block = Block::zero();
     let mut list = Block::zero();
     read_place(rack, disk, 2, &mut block)?;
-    read_place(rack, disk, 3, &mut list)?;
+    read_place(rack, disk, FIRST_LIST, &mut list)?;
     let Some(meta) = read_meta(&block) else {
         return Ok(Heard::Bad { gate_open: true });
     };

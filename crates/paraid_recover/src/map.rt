@@ -1,5 +1,6 @@
 //! The dirty map is read into the table.
 ghost use Rattle.std.specs.Prelude.{◌≡◌, ◌≢◌, ℕ, ◌+◌, ◌*◌, ◌<◌, ◌≤◌, [], length, slice_index, Option, Some, None, OnOk, IfOk, IfErr, IsSome, is_ok};
+ghost use Rattle.paraid_base.specs.Log.{log_least};
 ghost use Rattle.paraid_base.specs.Regions.{map_count};
 ghost use Rattle.paraid_dirty.specs.Bits.{bit_of};
 ghost use Rattle.paraid_dirty.specs.Table.{table_with_bit, is_dirty};
@@ -15,7 +16,7 @@ ghost use Rattle.paraid_txn.specs.Stores.{disks_of, store_out, store_rack};
 ghost use Rattle.paraid_txn.specs.Uses.{EachCall};
 ghost use Rattle.paraid_view.specs.Reads.{HaveLostTwo, HaveRead, ShowsContents, lost_by};
 
-use paraid_base::{Block, DiskNo, Geometry, Place, Row, Two};
+use paraid_base::{Block, DiskNo, Geometry, MAP_START, Place, Row, Two};
 use paraid_dirty::DirtyTable;
 use paraid_rack::Rack;
 use paraid_record::Meta;
@@ -89,7 +90,7 @@ fn read_block<R: Rack>(
     requires below { disk < disks_of store.old }
     requires spinning { (R.slot (store_rack store.old) disk).power ≡ Spinning }
     requires within { place < (R.slot (store_rack store.old) disk).size }
-    requires past_log { 100 ≤ place }
+    requires past_log { log_least ≤ place }
     ensures read { HaveRead R.slot_count R.slot R.told (disks_of store.old) (lost_by result)
         store.old store.new }
     ensures failed { IfErr result (λ e. e ≡ disk) }
@@ -130,7 +131,7 @@ fn read_map_of<R: Rack>(
 {
     let mut block = Block::zero();
     for j in 0..geometry.map_blocks() {
-        read_block(store, disk, 100 + j, &mut block)?;
+        read_block(store, disk, MAP_START + j, &mut block)?;
         take_block(table, j, &block);
     }
     Ok(())

@@ -1,7 +1,8 @@
 //! A mount: an array of the disks that a rack brings, or why there is none.
-ghost use Rattle.std.specs.Prelude.{◌≡◌, ◌≢◌, ℕ, ◌+◌, ◌^◌, ◌<◌, ◌≤◌, ◌⊎◌, [], false, length, Option, Some, None, OnOk, IfErr, IfOk};
+ghost use Rattle.std.specs.Prelude.{◌≡◌, ◌≢◌, ℕ, ◌<◌, ◌≤◌, ◌⊎◌, [], false, length, Option, Some, None, OnOk, IfErr, IfOk};
 ghost use Rattle.paraid_dirty.specs.Table.{is_dirty};
 ghost use Rattle.paraid_base.specs.declared.fault.Two.{Two as TwoType};
+ghost use Rattle.paraid_base.specs.Log.{worn_at};
 ghost use Rattle.paraid_base.specs.Told.{HasRisen};
 ghost use Rattle.paraid_recover.specs.Examined.{IsExamined};
 ghost use Rattle.paraid_rack.specs.Slots.{Slot};
@@ -54,7 +55,7 @@ fn settle<R: Rack>(
 ) -> Result<Meta, Two>
     requires empty { nothing.now ≡ [] }
     requires fit { IsFit (R.slot_count (store_rack store.old)) (R.slot (store_rack store.old)) meta.now }
-    requires few { meta.now.epoch < 2 ^ 62 }
+    requires few { meta.now.epoch < worn_at }
     requires disks { disks_of store.old ≡ meta.now.setup.geometry.disks }
     requires named { named_by store.old ≡ named_of meta.now.out }
     requires epoch { epoch_of store.old ≡ meta.now.epoch }
@@ -138,7 +139,7 @@ fn raise<R: Rack>(
 ) -> Result<Meta, Two>
     requires empty { nothing.now ≡ [] }
     requires fit { IsFit (R.slot_count (store_rack store.old)) (R.slot (store_rack store.old)) meta.now }
-    requires few { meta.now.epoch < 2 ^ 62 }
+    requires few { meta.now.epoch < worn_at }
     requires disks { disks_of store.old ≡ meta.now.setup.geometry.disks }
     requires named { named_by store.old ≡ named_of meta.now.out }
     requires epoch { epoch_of store.old ≡ meta.now.epoch }
@@ -233,7 +234,7 @@ fn bring_up<R: Rack>(
     requires can { CanResume (R.slot_count rack) (R.slot rack) standing.now.side
         standing.now.gate_open batch standing.now.meta }
     requires fit { IsFit (R.slot_count rack) (R.slot rack) standing.now.meta }
-    requires few { standing.now.meta.epoch < 2 ^ 62 }
+    requires few { standing.now.meta.epoch < worn_at }
     requires rows { length dirty ≡ standing.now.meta.setup.geometry.rows }
     requires narrow { IsNarrow (is_dirty dirty) }
     ensures slots { IfOk result (λ it. R.slot_count (store_rack it.store) ≡ R.slot_count rack) }

@@ -1,5 +1,6 @@
 //! Reads of the log of a disk.
 ghost use Rattle.std.specs.Prelude.{◌≡◌, ℕ, ◌<◌, Some, OnOk, is_ok};
+ghost use Rattle.paraid_base.specs.Log.{log_most};
 ghost use Rattle.paraid_rack.specs.declared.call.Power.TheVariants.{Spinning};
 ghost use Rattle.paraid_rack.specs.Trail.{Trail, now};
 ghost use Rattle.paraid_recover.specs.HeardSides.{HasReadLog};
@@ -24,7 +25,7 @@ pub fn read_place<R: Rack>(
 ) -> Result<(), Failed>
     requires exists { disk < R.slot_count rack.old }
     requires spinning { (R.slot rack.old disk).power ≡ Spinning }
-    requires low { place < 100 }
+    requires low { place < log_most }
     ensures reads { HasReadLog R.Rack disk 1 rack.old rack.new (is_ok result) }
     ensures block { OnOk result ((t : Trail) → R.told rack.new ≡ Some t
         → into.new ≡ stored_block (now t) disk place) }

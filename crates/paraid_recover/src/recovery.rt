@@ -1,6 +1,7 @@
 //! Before the array is served a disk that is absent is marked gone, and a meta of version 1 is
 //! brought to version 2.
-ghost use Rattle.std.specs.Prelude.{◌≡◌, ◌≢◌, ℕ, ◌+◌, ◌-◌, ◌^◌, ◌<◌, ◌≤◌, [], true, false, Option, Some, None, OnOk, IfErr, IfOk};
+ghost use Rattle.std.specs.Prelude.{◌≡◌, ◌≢◌, ℕ, ◌-◌, ◌<◌, ◌≤◌, [], true, false, Option, Some, None, OnOk, IfErr, IfOk};
+ghost use Rattle.paraid_base.specs.Log.{worn_at};
 ghost use Rattle.paraid_rack.specs.declared.call.Power.TheVariants.{Absent};
 ghost use Rattle.paraid_rack.specs.Told.{Ran};
 ghost use Rattle.paraid_rack.specs.Trail.{Trail};
@@ -49,7 +50,7 @@ pub(crate) fn unmarked<R: Rack>(store: &Store<R>, meta: &Meta) -> Option<DiskNo>
 // marked. It gives the meta that stands then.
 fn renew<R: Rack>(store: &mut Store<R>, nothing: &Batch, meta: &Meta) -> Result<Meta, Two>
     requires empty { nothing.now ≡ [] }
-    requires fresh { meta.now.epoch < 2 ^ 62 }
+    requires fresh { meta.now.epoch < worn_at }
     requires in_range { IsInRange meta.now }
     requires exists { meta.now.setup.geometry.disks ≤ R.slot_count (store_rack store.old) }
     requires disks { disks_of store.old ≡ meta.now.setup.geometry.disks }
@@ -108,7 +109,7 @@ fn renew<R: Rack>(store: &mut Store<R>, nothing: &Batch, meta: &Meta) -> Result<
 /// syncs were made since.
 pub fn mark_out<R: Rack>(store: &mut Store<R>, nothing: &Batch, meta: &Meta) -> Result<Meta, Two>
     requires empty { nothing.now ≡ [] }
-    requires fresh { meta.now.epoch < 2 ^ 62 }
+    requires fresh { meta.now.epoch < worn_at }
     requires in_range { IsInRange meta.now }
     requires exists { meta.now.setup.geometry.disks ≤ R.slot_count (store_rack store.old) }
     requires disks { disks_of store.old ≡ meta.now.setup.geometry.disks }

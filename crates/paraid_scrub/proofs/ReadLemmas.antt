@@ -5,6 +5,7 @@ use Rattle.std.proofs.lemmas.Bool.{false≢true}
 use Rattle.std.proofs.lemmas.Bool.Decides.{nat_tests}
 use Rattle.paraid_base.specs.declared.block.Block.{Block}
 use Rattle.paraid_base.specs.declared.state.Out.TheVariants.{Fresh, Gone}
+use Rattle.paraid_base.specs.Log.{log_least}
 use Rattle.paraid_base.specs.Regions.{disk_size}
 use Rattle.paraid_base.specs.States.{gone_out, rebuilt_count}
 use Rattle.paraid_dirty.specs.Table.{is_dirty}
@@ -90,7 +91,7 @@ some_same : {A : Type 0} (x y : A) (o : Option A) → o ≡ Some x → o ≡ Som
 some_same x y o p q = let z : Some x ≡ Some y = sym p ∙ q in cc
 
 -- what a disk of this size stores past the log
-stored_is : (told : Option Trail) (t : Trail) → told ≡ Some t → (d p : ℕ) → has_place (now t) d p ≡ true → 100 ≤ p → (now t).block d p ≡ contents (now t) [] d p
+stored_is : (told : Option Trail) (t : Trail) → told ≡ Some t → (d p : ℕ) → has_place (now t) d p ≡ true → log_least ≤ p → (now t).block d p ≡ contents (now t) [] d p
 stored_is told t tells d p there far = shows_contents told [] t tells t tells d p there far
 
 place_there : (s : Disks) (slot : ℕ → Slot) → Agrees s slot → (d p : ℕ) → (slot d).power ≡ Spinning → p < (slot d).size → has_place s d p ≡ true
@@ -162,7 +163,7 @@ module _ {R : Type 0} {g : _} (count : R → ℕ) (slot : R → ℕ → Slot) (t
             by (Some t) is some = shows_at v t is shows
             by None is some = absurd (false≢true some)
 
-        pub read_block : (into : Block) → 100 ≤ p → p < disk_size a.meta.setup.geometry → ((t : Trail) → told (store_rack a.store) ≡ Some t → into ≡ (now t).block d p) → (v : View) → ShowsView told a v → into ≡ v.block d p
+        pub read_block : (into : Block) → log_least ≤ p → p < disk_size a.meta.setup.geometry → ((t : Trail) → told (store_rack a.store) ≡ Some t → into ≡ (now t).block d p) → (v : View) → ShowsView told a v → into ≡ v.block d p
         read_block into far low value v shows =
             let t = shows.trail in
             let large = readable_large count slot a can d readable in

@@ -1,10 +1,11 @@
 -- Which unit of a rebuild is false.
-use Rattle.std.specs.Prelude.{◌≡◌, ◌≢◌, ℕ, ◌+◌, ◌-◌, ◌<◌, ◌≤◌, nat_lt, Bool, true, false, IsTrue, Some, if◌then◌else◌}
+use Rattle.std.specs.Prelude.{◌≡◌, ◌≢◌, ℕ, ◌-◌, ◌<◌, ◌≤◌, nat_lt, Bool, true, false, IsTrue, Some, if◌then◌else◌}
 use Rattle.std.proofs.Common.{refl, sym, ◌∙◌, ap, subst, arith, inl, inr}
 use Rattle.std.proofs.lemmas.Bool.{cases_eq, cases_lt, false≢true}
 use Rattle.std.proofs.lemmas.Bool.Decides.{nat_tests}
 use Rattle.paraid_base.specs.declared.block.Block.{Block}
 use Rattle.paraid_base.specs.declared.state.Out.TheVariants.{Fresh}
+use Rattle.paraid_base.specs.Log.{map_block_place}
 use Rattle.paraid_base.specs.Regions.{hard_place_of, map_count}
 use Rattle.paraid_base.specs.Soft.{stripe_count}
 use Rattle.paraid_base.specs.States.{rebuilt_count}
@@ -107,16 +108,16 @@ module _ (v : View) (m : Meta) (e : v.meta ≡ m) (d u : ℕ) where
       is
 
   pub map_unit : (j : ℕ) → m.setup.geometry.rows ≤ u → stripes_back m d ≤ u - m.setup.geometry.rows → j ≡ u - m.setup.geometry.rows - stripes_back m d → d < 2 → j < map_count m.setup.geometry → (off : Bool)
-      → (IsTrue off → v.block d (100 + j) ≢ v.block (other_log d) (100 + j)) × (v.block d (100 + j) ≢ v.block (other_log d) (100 + j) → IsTrue off)
+      → (IsTrue off → v.block d (map_block_place v.meta.setup.geometry j) ≢ v.block (other_log d) (map_block_place v.meta.setup.geometry j)) × (v.block d (map_block_place v.meta.setup.geometry j) ≢ v.block (other_log d) (map_block_place v.meta.setup.geometry j) → IsTrue off)
       → (IsTrue off → IsUnitRight v d u → ⊥) × ((IsUnitRight v d u → ⊥) → IsTrue off)
   map_unit j past beyond at log low off is =
-      off_as {P = v.block d (100 + j) ≡ v.block (other_log d) (100 + j)} {Q = IsUnitRight v d u} off
+      off_as {P = v.block d (map_block_place v.meta.setup.geometry j) ≡ v.block (other_log d) (map_block_place v.meta.setup.geometry j)} {Q = IsUnitRight v d u} off
       (λ p. record {
         row = λ l clean. absurd (omega (arith, past, l, rows_is));
         stripe_of = λ t l here. absurd (omega (arith, past, beyond, l, here, rows_is, back_is));
         map_block = λ i low_disk l here.
             let same : j ≡ i = omega (arith, past, beyond, at, here, rows_is, back_is) in
-            subst (λ (x : ℕ). v.block d (100 + x) ≡ v.block (other_log d) (100 + x)) same p;
+            subst (λ (x : ℕ). v.block d (map_block_place v.meta.setup.geometry x) ≡ v.block (other_log d) (map_block_place v.meta.setup.geometry x)) same p;
       })
       (λ q. q.map_block j log (subst (λ (z : Meta). j < map_count z.setup.geometry) (sym e) low) (omega (arith, past, beyond, at, rows_is, back_is)))
       is

@@ -1,5 +1,6 @@
 -- What a check counts of an image.
 use Rattle.std.specs.Prelude.{◌≡◌, ◌≢◌, ℕ, ◌+◌, ◌-◌, ◌<◌, ◌≤◌, ◌⊎◌, min, nat_le, Bool, true, false, if◌then◌else◌, Option, Some, None}
+use Rattle.paraid_base.specs.Log.{map_block_place}
 use Rattle.paraid_base.specs.Regions.{hard_place_of, map_count}
 use Rattle.paraid_base.specs.Soft.{soft_disk, soft_stripe, stripe_count}
 use Rattle.paraid_base.specs.Sums.{xor_upto}
@@ -44,7 +45,8 @@ pub record IsUnitRight (v : View) (d u : ℕ) : Type 0 where
   pub stripe_of : (s : ℕ) → s < stripes_on v d → u ≡ v.meta.setup.geometry.rows + s
       → stripe v.meta.setup.geometry v.block v.meta.gear s d ≡ stripe_rest v.meta.setup.geometry v.block v.meta.gear s d
   pub map_block : (j : ℕ) → d < 2 → j < map_count v.meta.setup.geometry → u ≡ v.meta.setup.geometry.rows + stripes_on v d + j
-      → v.block d (100 + j) ≡ v.block (other_log d) (100 + j)
+      → v.block d (map_block_place v.meta.setup.geometry j)
+      ≡ v.block (other_log d) (map_block_place v.meta.setup.geometry j)
 
 -- the member `at` of a kind is false
 abbrev pub IsOff : View → Kind → ℕ → Type 0
@@ -52,7 +54,7 @@ IsOff v Row r = xor_upto (value v r) v.meta.setup.geometry.disks ≢ zero_block
 IsOff v Stripe s = IsStripeZero v v.meta.gear s → ⊥
 IsOff v Fill s = IsFillRight v (phase_to v.meta.phase) s → ⊥
 IsOff v RebuiltUnit u = ((d : ℕ) → v.out ≡ Some d → IsUnitRight v d u) → ⊥
-IsOff v Mirror j = v.block 0 (100 + j) ≢ v.block 1 (100 + j)
+IsOff v Mirror j = v.block 0 (map_block_place v.meta.setup.geometry j) ≢ v.block 1 (map_block_place v.meta.setup.geometry j)
 
 -- a count, 0 while a disk is out
 abbrev pub when_whole : Option ℕ → ℕ → ℕ

@@ -1,5 +1,6 @@
 //! Whether a row, a stripe or a block of the map is false.
 ghost use Rattle.std.specs.Prelude.{◌≡◌, ◌≢◌, ◌<◌, ◌↔◌, ◌+◌, ◌-◌, ℕ, IfOk, IfErr, OnOk, IsTrue, not};
+ghost use Rattle.paraid_base.specs.Log.{map_block_place};
 ghost use Rattle.paraid_base.specs.Regions.{IsGear, map_count};
 ghost use Rattle.paraid_base.specs.Soft.{stripe_count};
 ghost use Rattle.paraid_base.specs.Sums.{xor_upto};
@@ -11,7 +12,7 @@ ghost use Rattle.paraid_scrub.specs.Looks.{IsReadable, KeepsView};
 use crate::ending::Ending;
 use crate::stored::Stored;
 use crate::value::{read_value, sum_stripe};
-use paraid_base::{Block, DiskNo, Row};
+use paraid_base::{Block, DiskNo, MAP_START, Row};
 use paraid_parity::{is_zero, xor_into};
 
 // Whether two blocks differ.
@@ -80,12 +81,13 @@ pub(crate) fn is_map_off<C: Stored>(core: &mut C, disk: DiskNo, at: u32) -> Resu
     requires other { IsReadable (C.meta core.old) (1 - disk) }
     requires at { at < map_count (C.meta core.old).setup.geometry }
     ensures shown { IfOk result (λ off. KeepsView C.meta C.usable C.tells C.shows C.leads core.old core.new
-        (λ v. IsTrue off ↔ (v.block disk (100 + at) ≢ v.block (other_log disk) (100 + at)))) }
+        (λ v. IsTrue off ↔ (v.block disk (map_block_place v.meta.setup.geometry at)
+        ≢ v.block (other_log disk) (map_block_place v.meta.setup.geometry at)))) }
     ensures lost { IfErr result (C.loses core.old core.new) }
 {
     let mut first = Block::zero();
     let mut second = Block::zero();
-    core.read_stored(disk, 100 + at, &mut first)?;
-    core.read_stored(1 - disk, 100 + at, &mut second)?;
+    core.read_stored(disk, MAP_START + at, &mut first)?;
+    core.read_stored(1 - disk, MAP_START + at, &mut second)?;
     Ok(differs(&mut first, &second))
 }

@@ -1,4 +1,5 @@
 ghost use Rattle.std.specs.Prelude.{◌≡◌, ◌<◌, ◌≤◌, ℕ, OnOk, IfErr};
+ghost use Rattle.paraid_base.specs.Log.{log_least};
 ghost use Rattle.paraid_base.specs.Regions.{disk_size};
 ghost use Rattle.paraid_record.specs.declared.meta.Meta.{Meta as MetaType};
 ghost use Rattle.paraid_record.specs.Range.{IsInRange};
@@ -47,7 +48,7 @@ pub trait Stored {
     fn read_stored(&mut self, disk: DiskNo, place: Place, into: &mut Block) -> Result<(), Ending>
         requires usable { usable self.old }
         requires readable { IsReadable (meta self.old) disk }
-        requires past_log { 100 ≤ place }
+        requires past_log { log_least ≤ place }
         requires within { place < disk_size (meta self.old).setup.geometry }
         ensures shown { OnOk result (KeepsView meta usable tells shows leads self.old self.new
             (λ v. into.new ≡ v.block disk place)) }

@@ -1,5 +1,5 @@
 -- Why an array answers an event so, whatever its rack holds: by its meta before and after, and by the counts of its slots.
-use Rattle.std.specs.Prelude.{◌≡◌, ◌≢◌, ℕ, ◌+◌, ◌<◌, ◌≤◌, ◌^◌, ◌⊎◌, ◌&&◌, nat_le, nat_lt, max, min, Bool, true, List, [], ◌∷◌, Option, Some, None, slice_index, if◌then◌else◌}
+use Rattle.std.specs.Prelude.{◌≡◌, ◌≢◌, ℕ, ◌+◌, ◌<◌, ◌≤◌, ◌⊎◌, ◌&&◌, nat_le, nat_lt, max, min, Bool, true, List, [], ◌∷◌, Option, Some, None, slice_index, if◌then◌else◌}
 use Rattle.paraid_base.specs.declared.event.Answer.{Answer}
 use Rattle.paraid_base.specs.declared.event.Answer.TheVariants.{Value, NoBlock, Wrote, Flushed, Ticked, Shift, Top, Lowest, Failed, Replaced, NoDisk, Out as IsOut, NotOut, NoFresh, State as IsState, Energy as EnergyUsed, Bad as IsBad, Halted}
 use Rattle.paraid_base.specs.declared.event.Event.{Event}
@@ -15,6 +15,7 @@ use Rattle.paraid_base.specs.declared.state.Phase.TheVariants.{Steady as IsStead
 use Rattle.paraid_base.specs.declared.state.TickEvent.{TickEvent}
 use Rattle.paraid_base.specs.declared.state.TickEvent.TheVariants.{Steady, Waiting, Moving, Flipped, Begun, Rebuilt, Gone as GoneAgain, Lost, Ration}
 use Rattle.paraid_base.specs.Gears.{next_higher, next_lower}
+use Rattle.paraid_base.specs.Log.{worn_at}
 use Rattle.paraid_base.specs.Pairs.{pairs_of}
 use Rattle.paraid_base.specs.States.{phase_to}
 use Rattle.paraid_base.specs.Told.{HasRisen}
@@ -98,7 +99,7 @@ wear_shown x = max x.meta.epoch x.meta.writes
 -- it serves, and takes the event
 pub record Takes (x : Shown) (event : Event) : Type 0 where
   pub going : x.halt ≡ None
-  pub fit : may_halt event ≡ true → wear_shown x < 2 ^ 62
+  pub fit : may_halt event ≡ true → wear_shown x < worn_at
 
 -- no energy was used; a sum is one of 64 bits
 abbrev pub KeepsEnergy : Shown → Shown → Type 0
@@ -275,7 +276,7 @@ pub data HasReason (old : Shown) (event : Event) (answer : Answer) (new : Shown)
   -- a halt had come before, and nothing is done
   again : (halt : Halt) → old.halt ≡ Some halt → event ≢ Bad → answer ≡ Halted halt → new ≡ old → HasReason old event answer new
   -- so many commits or writes were made that no more are taken
-  worn : (count : ℕ) → old.halt ≡ None → may_halt event ≡ true → 2 ^ 62 ≤ count → count ≡ wear_shown old → answer ≡ Halted (Worn count)
+  worn : (count : ℕ) → old.halt ≡ None → may_halt event ≡ true → worn_at ≤ count → count ≡ wear_shown old → answer ≡ Halted (Worn count)
       → IsUnchanged old new → HasReason old event answer new
   -- nothing is done
   quiet : Takes old event → quiet_answer old event ≡ Some answer → IsUnchanged old new → HasReason old event answer new

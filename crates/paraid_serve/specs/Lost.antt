@@ -1,10 +1,11 @@
 -- Why an array has halted, over every rack: which two disks are down, or how worn it is.
-use Rattle.std.specs.Prelude.{◌≡◌, ◌≢◌, ℕ, ◌≤◌, ◌^◌, List, ◌++◌, Option, Some}
+use Rattle.std.specs.Prelude.{◌≡◌, ◌≢◌, ℕ, ◌≤◌, List, ◌++◌, Option, Some}
 use Rattle.paraid_base.specs.declared.event.Event.{Event}
 use Rattle.paraid_base.specs.declared.event.Event.TheVariants.{Fail}
 use Rattle.paraid_base.specs.declared.fault.Halt.{Halt}
 use Rattle.paraid_base.specs.declared.fault.Halt.TheVariants.{Two as HaltTwo, Worn}
 use Rattle.paraid_base.specs.declared.fault.Two.{Two}
+use Rattle.paraid_base.specs.Log.{worn_at}
 use Rattle.paraid_base.specs.Told.{GrowsByBytes, HasRisen}
 use Rattle.paraid_serve.specs.Ending.{halt_line}
 use Rattle.paraid_rack.specs.Slots.{Slot}
@@ -51,11 +52,11 @@ pub record NamesTwoLost (old new : ℕ → Slot) (written_before written : Optio
 
 -- a halt that tells wear tells 2^62 commits or writes, or more
 abbrev pub HaltsByWear : Option Halt → Type 0
-HaltsByWear halt = (count : ℕ) → halt ≡ Some (Worn count) → 2 ^ 62 ≤ count
+HaltsByWear halt = (count : ℕ) → halt ≡ Some (Worn count) → worn_at ≤ count
 
 -- The last line of what was written tells 2^62 commits or writes, or more.
 pub record TellsWear (written_before written : Option (List ℕ)) : Type 0 where
   pub count : ℕ
-  pub many : 2 ^ 62 ≤ count
+  pub many : worn_at ≤ count
   pub text : List ℕ
   pub line : GrowsByBytes written_before written (text ++ halt_line (Worn count))

@@ -1,6 +1,6 @@
 -- A course of a session on a formatted array: a write, its flush, a write in which a disk is lost, a
 -- stop, and the next mount.
-use Rattle.std.proofs.Common.{◌≡◌, ◌≢◌, ℕ, ◌+◌, ◌*◌, ◌/◌, ◌^◌, ◌<◌, ◌≤◌, Bool, true, false, [], ◌∷◌, None, refl, sym, ap, ◌∙◌, inl, inr, subst, arith, if◌then◌else◌, max}
+use Rattle.std.proofs.Common.{◌≡◌, ◌≢◌, ℕ, ◌+◌, ◌*◌, ◌/◌, ◌<◌, ◌≤◌, Bool, true, false, [], ◌∷◌, None, refl, sym, ap, ◌∙◌, inl, inr, subst, arith, if◌then◌else◌, max}
 use Rattle.std.specs.Prelude.{◌==◌, ◌&&◌, nat_lt, slice_index}
 use Rattle.std.proofs.lemmas.Bool.{cases_eq, false≢true}
 use Rattle.std.proofs.lemmas.Bool.Decides.{nat_tests}
@@ -10,6 +10,7 @@ use Rattle.paraid_base.specs.declared.event.Event.TheVariants.{Bad, Flush}
 use Rattle.paraid_base.specs.declared.state.Out.{Out}
 use Rattle.paraid_base.specs.Cells.{home_disk, home_row, parity_disk}
 use Rattle.paraid_base.specs.History.{History, after}
+use Rattle.paraid_base.specs.Log.{worn_at}
 use Rattle.paraid_base.specs.Pairs.{single_pair, pairs_of}
 use Rattle.paraid_base.specs.Xor.{zero_block}
 use Rattle.paraid_rack.specs.Disks.{Disks, IsImage, lose}
@@ -46,7 +47,7 @@ use Rattle.paraid_session.proofs.StageLemmas.{IsLogged, IsNew, all_synced, commi
 use Rattle.paraid_session.proofs.WriteLemmas.{after_write, entry, lossy_entry, lossy_point, lossy_turn, next_mount, next_point, write_turn}
 
 -- the meta of the commit is in range too
-next_range : (m : Meta) → m.epoch + 1 < 2 ^ 62 → m.writes ≡ 0 → IsInRange m → IsInRange (next_meta m)
+next_range : (m : Meta) → m.epoch + 1 < worn_at → m.writes ≡ 0 → IsInRange m → IsInRange (next_meta m)
 next_range m small none r = record {
   setup = r.setup;
   version = r.version;
@@ -97,13 +98,13 @@ next_blocks : (s : Disks) (m : Meta) (b : ℕ) → blocks_of (view_by (next_meta
 unfolding value near far soft_value is_hard
 next_blocks s m b = refl
 
-within_max : (a : ℕ) → a + 1 < 2 ^ 62 → max a 1 < 2 ^ 62
+within_max : (a : ℕ) → a + 1 < worn_at → max a 1 < worn_at
 within_max a small = grind (arith)
 
-none_max : (a : ℕ) → a + 1 < 2 ^ 62 → max a 0 < 2 ^ 62
+none_max : (a : ℕ) → a + 1 < worn_at → max a 0 < worn_at
 none_max a small = grind (arith)
 
-more_max : (a : ℕ) → a + 1 < 2 ^ 62 → max (a + 1) 1 < 2 ^ 62
+more_max : (a : ℕ) → a + 1 < worn_at → max (a + 1) 1 < worn_at
 more_max a small = grind (arith)
 
 calm_is_calm : (s : Disks) (m : Meta) → IsCalmState m (calm_state s m)
@@ -138,7 +139,7 @@ calm_clean slots t m h lo calm all r d low =
     let gear = all.gear in
     clean_bit ((view_of t (closed_over m)).dirty r d) (λ bit. let high = map.parked r d row bit in let below = map.disks r d row bit in omega (arith, gear, high, below))
 
-module _ (slots : ℕ) (s : Disks) (m : Meta) (f : IsFormatted slots s m) (small : m.epoch + 1 < 2 ^ 62) where
+module _ (slots : ℕ) (s : Disks) (m : Meta) (f : IsFormatted slots s m) (small : m.epoch + 1 < worn_at) where
   -- a formatted array is calm
   pub calm_start : IsCalm slots s m [] 0 None
   calm_start = record { held = IsHeld-formatted slots s m f; rest = IsAtRest-formatted slots s m f; synced = f.synced; no_out = f.out; steady = f.phase }
@@ -305,10 +306,10 @@ module _ (slots : ℕ) (s : Disks) (m : Meta) (f : IsFormatted slots s m) (small
     one_first : (next_meta m).writes ≡ 1
     one_first = ap (λ (n : ℕ). n + 1) f.writes
 
-    no_wear : max m.epoch 0 < 2 ^ 62
+    no_wear : max m.epoch 0 < worn_at
     no_wear = none_max m.epoch small
 
-    little_wear : max (m.epoch + 1) 1 < 2 ^ 62
+    little_wear : max (m.epoch + 1) 1 < worn_at
     little_wear = more_max m.epoch small
 
     pub course : IsCourse slots s m
@@ -329,5 +330,5 @@ module _ (slots : ℕ) (s : Disks) (m : Meta) (f : IsFormatted slots s m) (small
       holds = refl;
     }
 
-pub course_by : (slots : ℕ) (s : Disks) (m : Meta) (b1 b3 go gc : Block) → IsFormatted slots s m → m.epoch + 1 < 2 ^ 62 → AreCommitBlocks m b1 b3 go gc → IsCourse slots s m
+pub course_by : (slots : ℕ) (s : Disks) (m : Meta) (b1 b3 go gc : Block) → IsFormatted slots s m → m.epoch + 1 < worn_at → AreCommitBlocks m b1 b3 go gc → IsCourse slots s m
 course_by slots s m b1 b3 go gc f small blocks = course slots s m f small b1 b3 go gc blocks.meta_is blocks.list_is blocks.opens blocks.closes

@@ -7,6 +7,7 @@ use Rattle.std.proofs.lemmas.Bool.Decides.{nat_tests}
 use Rattle.paraid_base.specs.declared.block.Block.{Block}
 use Rattle.paraid_base.specs.declared.state.Out.TheVariants.{No, Fresh}
 use Rattle.paraid_base.specs.History.{History}
+use Rattle.paraid_base.specs.Log.{log_least}
 use Rattle.paraid_base.specs.Xor.{zero_block}
 use Rattle.paraid_rack.specs.declared.call.Power.{Power}
 use Rattle.paraid_rack.specs.declared.call.Power.TheVariants.{Spinning, Absent}
@@ -42,7 +43,7 @@ open_next m = record { opened = true; meta = next_meta m; batch = [] }
 pub record IsLike (s i : Disks) : Type 0 where
   pub power : (d : ℕ) → i.power d ≡ s.power d
   pub size : (d : ℕ) → i.size d ≡ s.size d
-  pub block : (d p : ℕ) → 100 ≤ p → i.block d p ≡ s.block d p
+  pub block : (d p : ℕ) → log_least ≤ p → i.block d p ≡ s.block d p
 
 -- what the two log disks may say at once
 pub data Fits (m : Meta) (a b : LogState) : Type 0 where
@@ -55,7 +56,7 @@ pub data Fits (m : Meta) (a b : LogState) : Type 0 where
 nothing : (t : Target) → Contains [] t → ⊥
 nothing t inside = let none = inside.1 in omega arith
 
-above : (q : ℕ) → nat_lt q 100 ≡ false → 100 ≤ q
+above : (q : ℕ) → nat_lt q log_least ≡ false → log_least ≤ q
 above q h = grind (arith, nat_tests)
 
 below : (q n : ℕ) → q < n → nat_lt q n ≡ true
@@ -75,14 +76,14 @@ past_log false false x y h = refl
 -- the blocks past the log are the same
 like_contents : (s i : Disks) → IsLike s i → contents i [] ≡ contents s []
 unfolding contents
-like_contents s i like = λ t. λ d p. (past_log (nat_lt p 100) (has_place i d p) (i.block d p) (s.block d p) (λ low. like.block d p (above p low))
-    ∙ ap (λ (there : Bool). if nat_lt p 100 then zero_block else (if there then s.block d p else zero_block)) (ap (λ (w : Power). is_present w && nat_lt p (i.size d)) (like.power d) ∙ ap (λ (n : ℕ). is_present (s.power d) && nat_lt p n) (like.size d))) t
+like_contents s i like = λ t. λ d p. (past_log (nat_lt p log_least) (has_place i d p) (i.block d p) (s.block d p) (λ low. like.block d p (above p low))
+    ∙ ap (λ (there : Bool). if nat_lt p log_least then zero_block else (if there then s.block d p else zero_block)) (ap (λ (w : Power). is_present w && nat_lt p (i.size d)) (like.power d) ∙ ap (λ (n : ℕ). is_present (s.power d) && nat_lt p n) (like.size d))) t
 
 -- The array: all disks spin, nothing is out, and what it holds is kept well, with zeros in each block.
 pub record IsInOrder (slots : ℕ) (s : Disks) (m : Meta) (h : History) : Type 0 where
   pub no_out : m.out ≡ No
   pub spinning : (d : ℕ) → d < m.setup.geometry.disks → s.power d ≡ Spinning
-  pub large : (d : ℕ) → d < m.setup.geometry.disks → 100 ≤ s.size d
+  pub large : (d : ℕ) → d < m.setup.geometry.disks → log_least ≤ s.size d
   pub writes : m.writes ≡ 0
   pub some : 1 ≤ length h
   pub old_content : ContentOk slots s.power s.size (view_by m s.power (contents s [])) h 0
@@ -120,7 +121,7 @@ module _ (slots : ℕ) (s : Disks) (m : Meta) (h : History) (order : IsInOrder s
     no_fresh : (d rebuilt : ℕ) → IsFresh i.power m d rebuilt → ⊥
     no_fresh d rebuilt fresh = let k : Fresh d rebuilt ≡ No = sym fresh.is ∙ order.no_out in cc
 
-    stored_is : (x q : ℕ) → x < 2 → q < 100 → stored_block i x q ≡ i.block x q
+    stored_is : (x q : ℕ) → x < 2 → q < log_least → stored_block i x q ≡ i.block x q
     unfolding stored_block
     stored_is x q low lq =
         let n = many in
@@ -263,15 +264,15 @@ module _ (slots : ℕ) (s : Disks) (m : Meta) (h : History) (order : IsInOrder s
       lost_by : (d k : ℕ) (sound : IsSoundAt slots i h k) → MayLose i d → (d ≢ 0) ⊎ Says i 1 sound.said → sound.disk ≡ 0 → IsSoundAt slots (lose d i) h k
       lost_by d k sound may spare at = IsSoundAt-lost slots i h k d 0 sound.said sound (subst (λ (x : ℕ). Stands i x sound.said) at sound.log.stands) spare may
 
-    if_high : (e p : ℕ) (x y : Block) → 100 ≤ p → (if e == 0 && nat_lt p 100 then x else y) ≡ y
+    if_high : (e p : ℕ) (x y : Block) → log_least ≤ p → (if e == 0 && nat_lt p log_least then x else y) ≡ y
     if_high e p x y high = grind (arith, nat_tests)
 
-    if_apart : (e p : ℕ) (x y : Block) → e ≢ 0 → (if e == 0 && nat_lt p 100 then x else y) ≡ y
+    if_apart : (e p : ℕ) (x y : Block) → e ≢ 0 → (if e == 0 && nat_lt p log_least then x else y) ≡ y
     if_apart e p x y apart = grind (arith, nat_tests)
 
     -- the image with the log of disk 0 as that of disk 1
     abbrev pub copied : Disks
-    copied = record i { block = λ e p. if e == 0 && nat_lt p 100 then i.block 1 p else i.block e p }
+    copied = record i { block = λ e p. if e == 0 && nat_lt p log_least then i.block 1 p else i.block e p }
 
     pub copied_like : IsLike s copied
     copied_like = record { power = like.power; size = like.size; block = λ d p high. if_high d p (i.block 1 p) (i.block d p) high ∙ like.block d p high }

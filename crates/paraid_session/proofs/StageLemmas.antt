@@ -5,6 +5,7 @@ use Rattle.std.proofs.lemmas.Bool.{cases_eq}
 use Rattle.paraid_base.specs.declared.block.Block.{Block}
 use Rattle.paraid_base.specs.declared.state.Phase.TheVariants.{Steady}
 use Rattle.paraid_base.specs.History.{History}
+use Rattle.paraid_base.specs.Log.{log_least}
 use Rattle.paraid_rack.specs.declared.call.Call.{Call}
 use Rattle.paraid_rack.specs.declared.call.Call.TheVariants.{Write, Sync, SpinUp, Attach}
 use Rattle.paraid_rack.specs.declared.call.Power.{Power}
@@ -30,11 +31,11 @@ use Rattle.paraid_session.proofs.SidesLemmas.Fits.{old as fits_old, ahead, both,
 -- disks like these, with nothing loose past the log
 pub record IsLogged (s t : Disks) : Type 0 where
   pub like : IsLike s t
-  pub synced : (d p : ℕ) → 100 ≤ p → t.loose d p ≡ false
+  pub synced : (d p : ℕ) → log_least ≤ p → t.loose d p ≡ false
   pub others : (d p : ℕ) → 2 ≤ d → t.loose d p ≡ false
 
 -- a place of the log is written
-logged_write : (s t : Disks) (d p : ℕ) (b : Block) → d < 2 → p < 100 → IsLogged s t → IsLogged s (step (Write d p b true) t)
+logged_write : (s t : Disks) (d p : ℕ) (b : Block) → d < 2 → p < log_least → IsLogged s t → IsLogged s (step (Write d p b true) t)
 unfolding step
 logged_write s t d p b log_disk low l = record {
   like = record {

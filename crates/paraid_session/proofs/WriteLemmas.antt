@@ -1,5 +1,5 @@
 -- A write of zeros at a point at which an array is calm, and one in which a disk is lost.
-use Rattle.std.proofs.Common.{◌≡◌, ◌≢◌, ℕ, ◌+◌, ◌-◌, ◌*◌, ◌^◌, ◌<◌, ◌≤◌, true, false, [], ◌∷◌, ◌++◌, length, take, Option, Some, None, refl, sym, ap, length-append, ◌∙◌, inl, inr, subst, arith, if◌then◌else◌, max, zero, suc}
+use Rattle.std.proofs.Common.{◌≡◌, ◌≢◌, ℕ, ◌+◌, ◌-◌, ◌*◌, ◌<◌, ◌≤◌, true, false, [], ◌∷◌, ◌++◌, length, take, Option, Some, None, refl, sym, ap, length-append, ◌∙◌, inl, inr, subst, arith, if◌then◌else◌, max, zero, suc}
 use Rattle.std.specs.Prelude.{◌==◌, ◌||◌, nat_lt, slice_index, Contains}
 use Rattle.std.proofs.lemmas.Bool.{cases_eq, false≢true}
 use Rattle.std.proofs.lemmas.Bool.Decides.{nat_tests}
@@ -12,6 +12,7 @@ use Rattle.paraid_base.specs.declared.state.Out.{Out}
 use Rattle.paraid_base.specs.declared.state.Out.TheVariants.{No, Gone}
 use Rattle.paraid_base.specs.declared.state.Phase.TheVariants.{Steady}
 use Rattle.paraid_base.specs.History.{Entry, History}
+use Rattle.paraid_base.specs.Log.{worn_at}
 use Rattle.paraid_base.specs.Pairs.{single_pair, pairs_of}
 use Rattle.paraid_base.specs.Xor.{zero_block}
 use Rattle.paraid_rack.specs.declared.call.Call.{Call}
@@ -109,7 +110,7 @@ pub record IsGoneState (m : Meta) (s : PowerState) : Type 0 where
   pub ticks : s.ticks ≡ m.ticks
 
 module _ (slots : ℕ) (t : Disks) (m : Meta) (h : History) (lo : ℕ) (calm : IsCalm slots t m h lo None) (all : IsWhole t m) (s : PowerState) (c : IsCalmState m s)
-    (small : max m.epoch (length h) < 2 ^ 62) where
+    (small : max m.epoch (length h) < worn_at) where
   abbrev longer : IsCalm slots t m (h ++ entry ∷ []) lo None
   longer = calm_more slots t m h (entry ∷ []) lo None calm
 

@@ -1,7 +1,8 @@
 -- What a mount leaves: from a rack that held a history to the first point of a session.
-use Rattle.std.specs.Prelude.{◌≡◌, ℕ, ◌+◌, ◌^◌, ◌<◌, ◌≤◌, ◌⊎◌, min, max, true, false, List, length, take, drop, Option, Some, None}
+use Rattle.std.specs.Prelude.{◌≡◌, ℕ, ◌+◌, ◌<◌, ◌≤◌, ◌⊎◌, min, max, true, false, List, length, take, drop, Option, Some, None}
 use Rattle.paraid_base.specs.declared.state.Out.TheVariants.{Gone}
 use Rattle.paraid_base.specs.History.{History}
+use Rattle.paraid_base.specs.Log.{worn_at}
 use Rattle.paraid_base.specs.States.{gone_out}
 use Rattle.paraid_rack.specs.declared.call.Call.{Call}
 use Rattle.paraid_rack.specs.Disks.{Disks, lose}
@@ -110,7 +111,7 @@ IsCauseOutsideDisks lacking = ⊥
 -- the array takes no more by the meta that stands, after reads alone
 pub record IsWornOut (s : Disks) (calls : List Call) (count : ℕ) : Type 0 where
   pub reads : AreReads calls
-  pub many : 2 ^ 62 ≤ count
+  pub many : worn_at ≤ count
   pub is : (x : ℕ) (said : LogState) → Stands (run s calls) x said → count ≡ max said.meta.epoch said.meta.writes
 
 -- A mount that is refused: two disks are down at its end, or the rack still holds the history, and

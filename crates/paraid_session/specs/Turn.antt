@@ -10,6 +10,7 @@ use Rattle.paraid_base.specs.declared.fault.Two.{Two}
 use Rattle.paraid_base.specs.declared.state.TickEvent.{TickEvent}
 use Rattle.paraid_base.specs.declared.state.TickEvent.TheVariants.{Steady, Waiting, Ration}
 use Rattle.paraid_base.specs.History.{History}
+use Rattle.paraid_base.specs.Log.{worn_at}
 use Rattle.paraid_rack.specs.declared.call.Call.{Call}
 use Rattle.paraid_rack.specs.declared.call.Power.{Power}
 use Rattle.paraid_rack.specs.Disks.{Disks}
@@ -148,7 +149,7 @@ bounds_of setup p event = bounds_at setup p p.state
 
 -- An event that is answered with no halt. In its calls each stop leaves the writes after it.
 pub record IsAnswered (slots : ℕ) (setup : Setup) (p : Point) (event : Event) (answer : Answer) (calls : List Call) (q : Point) : Type 0 where
-  pub fit : may_halt event ≡ true → point_wear p < 2 ^ 62
+  pub fit : may_halt event ≡ true → point_wear p < worn_at
   pub machine : IsEventStep setup p.history p.energy p.state event (first_lost calls) answer q.state
   pub moments : Each (HoldsWhileServing slots q.history p.low (bounds_of setup p event)) (IsAllowed setup (replaced_by event)) (watch_of p event answer) calls
   pub once : attach_count calls ≤ 1
@@ -198,7 +199,7 @@ pub data IsSecondLossGear (setup : Setup) (p : Point) (event : Event) (gear : �
 
 -- A second disk is lost, in an event that makes calls. Its write is not accepted.
 pub record LosesSecondDisk (slots : ℕ) (setup : Setup) (p : Point) (event : Event) (two : Two) (calls : List Call) (q : Point) : Type 0 where
-  pub fit : point_wear p < 2 ^ 62
+  pub fit : point_wear p < worn_at
   pub first : IsFirstDown slots setup p event calls two.first
   pub second : fails_on two.second calls ≡ true
   pub apart : two.first ≢ two.second
@@ -214,7 +215,7 @@ pub record LosesSecondDisk (slots : ℕ) (setup : Setup) (p : Point) (event : Ev
 -- the array takes no more: so many commits or writes were made, the greater of the two
 pub record IsWorn (p : Point) (event : Event) (count : ℕ) : Type 0 where
   pub asked : may_halt event ≡ true
-  pub many : 2 ^ 62 ≤ count
+  pub many : worn_at ≤ count
   pub is : count ≡ point_wear p
 
 -- a point with this halt

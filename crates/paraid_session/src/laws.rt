@@ -1,5 +1,5 @@
 //! That the definitions fit together. Each law is the contract of a function that does nothing.
-ghost use Rattle.std.specs.Prelude.{◌≡◌, ◌≢◌, ℕ, ◌+◌, ◌^◌, ◌<◌, ◌≤◌, ◌++◌, List, Option, Some};
+ghost use Rattle.std.specs.Prelude.{◌≡◌, ◌≢◌, ℕ, ◌+◌, ◌<◌, ◌≤◌, ◌++◌, List, Option, Some};
 ghost use Rattle.paraid_base.specs.declared.block.Block.{Block as BlockType};
 ghost use Rattle.paraid_base.specs.declared.event.Answer.{Answer as AnswerType};
 ghost use Rattle.paraid_base.specs.declared.event.Answer.TheVariants.{Halted};
@@ -7,6 +7,7 @@ ghost use Rattle.paraid_base.specs.declared.event.Event.{Event as EventType};
 ghost use Rattle.paraid_base.specs.declared.fault.Halt.TheVariants.{Two as HaltTwo};
 ghost use Rattle.paraid_base.specs.declared.fault.Two.{Two as TwoType};
 ghost use Rattle.paraid_base.specs.History.{History};
+ghost use Rattle.paraid_base.specs.Log.{worn_at};
 ghost use Rattle.paraid_rack.specs.declared.call.Call.{Call as CallType};
 ghost use Rattle.paraid_rack.specs.Disks.{Disks, IsPresent};
 ghost use Rattle.paraid_rack.specs.Trail.{run};
@@ -67,6 +68,6 @@ pub fn the_next_run_counts_no_fewer_spin_ups()
 /// is lost, a stop and the next mount meet what is asked of them.
 pub fn a_course_meets_what_is_asked()
     ensures { (slots : ℕ) (s : Disks) (m : MetaType) (meta list opening closing : BlockType)
-        → IsFormatted slots s m → m.epoch + 1 < 2 ^ 62
+        → IsFormatted slots s m → m.epoch + 1 < worn_at
         → AreCommitBlocks m meta list opening closing → IsCourse slots s m }
 {}

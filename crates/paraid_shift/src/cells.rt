@@ -13,12 +13,12 @@ ghost use Rattle.paraid_shift.specs.Units.{AreCellsDone, CoreCountsMoved, HasDir
 ghost use Rattle.paraid_txn.specs.Losses.{AreTwoDown, OnlyLosesSlots};
 
 use crate::units::{first_cell, next_cell};
-use paraid_base::{DiskNo, Out, Row, Two};
+use paraid_base::{BATCH_ROOM, DiskNo, Out, Row, Two};
 use paraid_core::Core;
 use paraid_rack::Rack;
 
 /// The most blocks of the map in which the cells of one group lie.
-const MOST_MAP_BLOCKS: u32 = 48;
+const MOST_MAP_BLOCKS: u32 = BATCH_ROOM as u32 / 2;
 
 // Some cells: so many, in so many blocks of the map, the last of them just before this one.
 #[derive(Clone, Copy)]

@@ -3,6 +3,7 @@ use Rattle.std.specs.Prelude.{◌≡◌, ◌≢◌, ◌⊎◌, ℕ, ◌<◌, ◌
 use Rattle.std.proofs.Common.{refl, sym, ◌∙◌, ap, subst, arith, inl, inr}
 use Rattle.std.proofs.lemmas.Bool.{cases_Bool, cases_eq, false≢true}
 use Rattle.paraid_base.specs.declared.block.Block.{Block}
+use Rattle.paraid_base.specs.Log.{batch_room, log_least}
 use Rattle.paraid_base.specs.Xor.{zero_block}
 use Rattle.paraid_rack.specs.declared.call.Power.TheVariants.{Absent, Spinning}
 use Rattle.paraid_rack.specs.Disks.{Disks, IsPresent, is_present, lose}
@@ -42,7 +43,7 @@ unfolding stored_block
 stored_shut i z shut = gate_shut (has_place i z 0) (i.block z 0) shut
 
 module _ (j : Job) (good : IsSpelled j) (names : job_named j ≡ named_out j.meta.out) (x : ℕ) (live_x : IsLiveLog j x)
-    (large : (z : ℕ) → IsLiveLog j z → IsPresent j.start z → 100 ≤ j.start.size z) (log : LogOk j.start x (closed_over j.meta) j.meta.writes) where
+    (large : (z : ℕ) → IsLiveLog j z → IsPresent j.start z → log_least ≤ j.start.size z) (log : LogOk j.start x (closed_over j.meta) j.meta.writes) where
   abbrev other : ℕ
   other = other_log x
 
@@ -62,7 +63,7 @@ module _ (j : Job) (good : IsSpelled j) (names : job_named j ≡ named_out j.met
   back = other_other x live_x.0
 
   module _ (i : Disks) (c : IsShutImage j other i) where
-    far_same : (d p : ℕ) → IsPresent i d → 100 ≤ p → i.block d p ≡ j.start.block d p
+    far_same : (d p : ℕ) → IsPresent i d → log_least ≤ p → i.block d p ≡ j.start.block d p
     far_same d p here far = c.rest d p here (λ _. omega arith)
 
     -- what the log disk that stood says
@@ -74,10 +75,10 @@ module _ (j : Job) (good : IsSpelled j) (names : job_named j ≡ named_out j.met
       there : IsPresent j.start other
       there = c.kept.present other here
 
-      at_start : (p : ℕ) → p < 100 → stored_block j.start other p ≡ j.start.block other p
+      at_start : (p : ℕ) → p < log_least → stored_block j.start other p ≡ j.start.block other p
       at_start p lt = let l = large other (other_low, live) there in stored_here j.start other p there (omega arith)
 
-      at_now : (p : ℕ) → p < 100 → stored_block i other p ≡ i.block other p
+      at_now : (p : ℕ) → p < log_least → stored_block i other p ≡ i.block other p
       at_now p lt = let l = c.kept.large other (other_low, live) here in stored_here i other p here (omega arith)
 
       was : (o : LogState) × Says j.start other o × ((o ≡ shut) ⊎ IsBatchInPlace o shut)
@@ -92,7 +93,7 @@ module _ (j : Job) (good : IsSpelled j) (names : job_named j ≡ named_out j.met
         gate = ap is_open (at_now 0 (omega arith)) ∙ gate ∙ ap is_open (sym (at_start 0 (omega arith)));
         meta = λ closed. at_now 1 (omega arith) ∙ meta (gate ∙ ap is_open (sym (at_start 0 (omega arith))) ∙ closed) ∙ sym (at_start 1 (omega arith));
         rest = λ opened said says q lo hi.
-            let few : length said.batch ≤ 96 = elim says [
+            let few : length said.batch ≤ batch_room = elim says [
               | inl s ↦ few_logged said.opened (stored_block j.start other) said.meta said.batch s.log
               | inr s ↦ few_logged said.opened (stored_block i other) said.meta said.batch s.log
             ] in

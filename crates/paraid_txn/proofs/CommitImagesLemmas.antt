@@ -4,6 +4,7 @@ use Rattle.std.proofs.Common.{refl, sym, ◌∙◌, ap, subst, arith, inl, inr, 
 use Rattle.std.proofs.lemmas.Bool.{cases_Bool, false≢true}
 use Rattle.paraid_base.specs.declared.state.Out.{Out}
 use Rattle.paraid_base.specs.declared.state.Out.TheVariants.{No, Gone, Fresh}
+use Rattle.paraid_base.specs.Log.{log_least}
 use Rattle.paraid_rack.specs.declared.call.Power.TheVariants.{Spinning}
 use Rattle.paraid_rack.specs.Disks.{Disks, IsPresent, is_present}
 use Rattle.paraid_record.specs.declared.meta.Meta.{Meta}
@@ -130,7 +131,7 @@ module _ (j : Job) (b : IsBrought j) where
   late_first x a o (inl is) before = ap (λ (s : LogState). stands_before x s o) is ∙ before
   late_first x a o (inr is) before = ap (λ (s : LogState). stands_before x s o) is ∙ shut_before x j.meta j.batch o before
 
-  module _ (i : Disks) (kept : KeepsSlotsAndLogs j i) (aside : (y p : ℕ) → y < 2 → job_named j ≡ Some y → p < 100 → IsPresent i y → i.block y p ≡ j.start.block y p) where
+  module _ (i : Disks) (kept : KeepsSlotsAndLogs j i) (aside : (y p : ℕ) → y < 2 → job_named j ≡ Some y → p < log_least → IsPresent i y → i.block y p ≡ j.start.block y p) where
     pub new_fresh : (d rebuilt : ℕ) → IsFresh i.power j.meta d rebuilt → d < 2 → is_open (stored_block i d 0) ≡ false
     new_fresh d rebuilt f low =
         let is : job_named j ≡ Some d = b.names ∙ ap named_out f.is in
@@ -212,7 +213,7 @@ module _ (j : Job) (b : IsBrought j) where
           late_meta_of u (inl same) = ap (λ (v : LogState). v.meta) same
           late_meta_of u (inr same) = ap (λ (v : LogState). v.meta) same
 
-      late_blocks : (z : ℕ) (said : LogState) → Says i z said → IsLate said → IsLiveLog j z → (d p : ℕ) → job_gone j ≢ Some d → has_place i d p ≡ true → 100 ≤ p
+      late_blocks : (z : ℕ) (said : LogState) → Says i z said → IsLate said → IsLiveLog j z → (d p : ℕ) → job_gone j ≢ Some d → has_place i d p ≡ true → log_least ≤ p
           → contents i said.batch d p ≡ contents j.start j.batch d p
       late_blocks z said says (inl is) live d p out there far =
           let here = present_place i d p there in
@@ -265,7 +266,7 @@ module _ (j : Job) (before : Meta) (begun : IsBegun j before) where
   early_pair a b (inr p) (inl q) = first_ahead (subst (λ (v : LogState). IsAhead a v) (sym q) (subst (λ (v : LogState). IsAhead v old) (sym p) ahead))
   early_pair a b (inr p) (inr q) = alike (p ∙ sym q)
 
-  module _ (i : Disks) (kept : KeepsSlotsAndLogs j i) (aside : (y p : ℕ) → y < 2 → job_named j ≡ Some y → p < 100 → IsPresent i y → i.block y p ≡ j.start.block y p) where
+  module _ (i : Disks) (kept : KeepsSlotsAndLogs j i) (aside : (y p : ℕ) → y < 2 → job_named j ≡ Some y → p < log_least → IsPresent i y → i.block y p ≡ j.start.block y p) where
     -- a side that is left alone by an array that it was in says the old meta
     pub aside_old : (y : ℕ) → y < 2 → job_named j ≡ Some y → IsPresent i y → named_out before.out ≢ Some y → Says i y old
     aside_old y low is here not =

@@ -2,6 +2,7 @@
 use Rattle.std.specs.Prelude.{◌≡◌, ◌≢◌, ◌⊎◌, ℕ, ◌<◌, ◌≤◌, Bool, false, Option, Some, None}
 use Rattle.std.proofs.Common.{refl, sym, ◌∙◌, ap, subst, arith, inl, inr}
 use Rattle.std.proofs.lemmas.Bool.{cases_Bool, cases_eq, false≢true}
+use Rattle.paraid_base.specs.Log.{log_least}
 use Rattle.paraid_rack.specs.declared.call.Power.{Power}
 use Rattle.paraid_rack.specs.declared.call.Power.TheVariants.{Absent}
 use Rattle.paraid_rack.specs.Atoms.{IsLeftByStop}
@@ -194,7 +195,7 @@ module _ (j : Job) (before : Meta) (begun : IsBegun j before) where
   ]
 
   abbrev LeftAside : Disks → Type 0
-  LeftAside i = (y p : ℕ) → y < 2 → job_named j ≡ Some y → p < 100 → IsPresent i y → i.block y p ≡ j.start.block y p
+  LeftAside i = (y p : ℕ) → y < 2 → job_named j ≡ Some y → p < log_least → IsPresent i y → i.block y p ≡ j.start.block y p
 
   abbrev Either : Disks → Type 0
   Either = ImageStandsForEither j.start before j.meta j.batch
@@ -370,7 +371,7 @@ module _ (j : Job) (before : Meta) (begun : IsBegun j before) where
   ]
 
   -- the first stage holds at the start
-  pub start_log : ((x : ℕ) → IsLiveLog j x → IsPresent j.start x → 100 ≤ j.start.size x) → LogStage j 0 j.start
+  pub start_log : ((x : ℕ) → IsLiveLog j x → IsPresent j.start x → log_least ≤ j.start.size x) → LogStage j 0 j.start
   start_log large = record {
     core = record {
       beside = record {

@@ -4,6 +4,7 @@ use Rattle.std.specs.Prelude.{◌≢◌, ◌⊎◌, All, IfOk, IsErrAnd, OnOk}
 use Rattle.std.proofs.lemmas.Bool.{cases_Bool, cases_eq, true≢false}
 use Rattle.paraid_base.specs.declared.block.Block.{Block}
 use Rattle.paraid_base.specs.declared.fault.Two.{Two}
+use Rattle.paraid_base.specs.Log.{log_least}
 use Rattle.paraid_base.specs.Told.{HasRisen}
 use Rattle.paraid_rack.specs.declared.call.Call.{Call}
 use Rattle.paraid_rack.specs.declared.call.Call.TheVariants.{Read, Write, Sync, Park, SpinUp, Attach}
@@ -267,10 +268,10 @@ CommitPart_milder {u = u} {v = v} more part = record {
 -- Of which kind they are
 
 module _ {R A : Type 0} {g : Ghosts R} {skip : Option ℕ} {disk : ℕ} {a b : Losses} {r s : R} {result : Result A Two} where
-  pub logs_read : (p : ℕ) → disk < 2 → p < 100 → CommitPart g (IsThisCall skip disk (λ done. Read disk p done)) a b r s result → CommitPart g (UsesLog skip) a b r s result
+  pub logs_read : (p : ℕ) → disk < 2 → p < log_least → CommitPart g (IsThisCall skip disk (λ done. Read disk p done)) a b r s result → CommitPart g (UsesLog skip) a b r s result
   logs_read p low within part = CommitPart_milder (λ c is. subst (UsesLog skip) (sym is.2) ((low, is.0), within)) part
 
-  pub logs_write : (p : ℕ) {block : Block} → disk < 2 → p < 100 → CommitPart g (IsThisCall skip disk (λ done. Write disk p block done)) a b r s result
+  pub logs_write : (p : ℕ) {block : Block} → disk < 2 → p < log_least → CommitPart g (IsThisCall skip disk (λ done. Write disk p block done)) a b r s result
       → CommitPart g (UsesLog skip) a b r s result
   logs_write p low within part = CommitPart_milder (λ c is. subst (UsesLog skip) (sym is.2) ((low, is.0), within)) part
 

@@ -4,6 +4,7 @@ use Rattle.std.proofs.Common.{refl, sym, ◌∙◌, ap, subst, arith, inl, inr}
 use Rattle.std.proofs.lemmas.Bool.{cases_Bool, cases_eq, cases_lt, false≢true}
 use Rattle.std.proofs.lemmas.Bool.Decides.{nat_tests}
 use Rattle.paraid_base.specs.History.{History}
+use Rattle.paraid_base.specs.Log.{log_least}
 use Rattle.paraid_base.specs.Xor.{zero_block}
 use Rattle.paraid_rack.specs.declared.call.Power.{Power}
 use Rattle.paraid_rack.specs.declared.call.Power.TheVariants.{Absent}
@@ -36,16 +37,16 @@ use Rattle.paraid_image.proofs.CallLemmas.{lose_kept, out_named}
 use Rattle.paraid_image.proofs.ContentsLemmas.{contents_none}
 
 -- where there is no such place there are zeros
-contents_low : (i : Disks) (batch : Batch) (e r : ℕ) → r < 100 → contents i batch e r ≡ zero_block
+contents_low : (i : Disks) (batch : Batch) (e r : ℕ) → r < log_least → contents i batch e r ≡ zero_block
 unfolding contents
 contents_low i batch e r low =
-    let is : nat_lt r 100 ≡ true = grind (arith, nat_tests) in
+    let is : nat_lt r log_least ≡ true = grind (arith, nat_tests) in
     ap (λ (t : Bool). if t then zero_block else (if has_place i e r then overlaid_block batch e r (i.block e r) else zero_block)) is
 
 -- disks that have the same places and the same blocks there
 contents_agree : (a i : Disks) (from to : Batch) (e r : ℕ) → i.power e ≡ a.power e → (IsPresent i e → i.size e ≡ a.size e)
-    → (has_place i e r ≡ true → 100 ≤ r → contents i to e r ≡ contents a from e r) → contents i to e r ≡ contents a from e r
-contents_agree a i from to e r power size there = elim (cases_lt r 100) [
+    → (has_place i e r ≡ true → log_least ≤ r → contents i to e r ≡ contents a from e r) → contents i to e r ≡ contents a from e r
+contents_agree a i from to e r power size there = elim (cases_lt r log_least) [
   | inl low ↦ contents_low i to e r low ∙ sym (contents_low a from e r low)
   | inr far ↦ elim (cases_Bool (has_place i e r)) [
     | inl is ↦ there is far

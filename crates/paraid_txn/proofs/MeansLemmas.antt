@@ -1,8 +1,9 @@
 -- What the blocks stand for depends on the disks of the array alone.
-use Rattle.std.specs.Prelude.{◌≡◌, ◌≢◌, ℕ, ◌+◌, ◌<◌, ◌≤◌, true, false, Option, Some, None, if◌then◌else◌}
+use Rattle.std.specs.Prelude.{◌≡◌, ◌≢◌, ℕ, ◌<◌, ◌≤◌, true, false, Option, Some, None, if◌then◌else◌}
 use Rattle.std.proofs.Common.{refl, sym, ◌∙◌, ap, subst, arith, zero, suc}
 use Rattle.std.proofs.lemmas.Bool.{false≢true}
 use Rattle.paraid_base.specs.History.{History}
+use Rattle.paraid_base.specs.Log.{map_block_place}
 use Rattle.paraid_base.specs.Regions.{disk_size, hard_place_of, soft_place_of}
 use Rattle.paraid_base.specs.declared.state.Out.{Out}
 use Rattle.paraid_base.specs.declared.state.Out.TheVariants.{No, Gone, Fresh}
@@ -61,13 +62,13 @@ module _ (slots : ℕ) (m : Meta) (range : IsInRange m) (p q : ℕ → Power) (s
 
   agree : AgreeSeen (view_by m p f) p t
   agree = record {
-    map_blocks = λ x j lx lj not. let n = m.setup.geometry.disks_low in same x (100 + j) (omega arith) (not_gone x not);
+    map_blocks = λ x j lx lj not. let n = m.setup.geometry.disks_low in same x (map_block_place m.setup.geometry j) (omega arith) (not_gone x not);
     hard = λ r e lr le not clean. same e (hard_place_of m.setup.geometry r) le (not_gone e not);
     soft = λ s e ls le not. let l = gear_low in same e (soft_place_of m.setup.geometry m.gear s) (omega arith) (not_gone e not);
     filled = λ s e none ls le. same e _ (to_low s ls e le) (not_gone e (λ is. let z : None ≡ Some e = sym none ∙ is in cc));
     fresh_rows = λ e u r fresh lr lu clean. same e (hard_place_of m.setup.geometry r) (fresh_in e u fresh) (gone_not_fresh m.out e e u fresh.is);
     fresh_stripes = λ e u s fresh ls lu. same e (soft_place_of m.setup.geometry m.gear s) (fresh_in e u fresh) (gone_not_fresh m.out e e u fresh.is);
-    fresh_map = λ e u j fresh le lj lu. same e (100 + j) (fresh_in e u fresh) (gone_not_fresh m.out e e u fresh.is);
+    fresh_map = λ e u j fresh le lj lu. same e (map_block_place m.setup.geometry j) (fresh_in e u fresh) (gone_not_fresh m.out e e u fresh.is);
   }
     where
       to_low : (s : ℕ) → s < m.fill → (e : ℕ) → e < phase_to m.phase → e < m.setup.geometry.disks

@@ -1,6 +1,7 @@
 -- What can be written before some calls of a commit can be written after them.
 use Rattle.std.specs.Prelude.{◌≡◌, ◌≢◌, ℕ, ◌<◌, true, List, Option, Some}
 use Rattle.std.proofs.Common.{arith}
+use Rattle.paraid_base.specs.Log.{log_least}
 use Rattle.paraid_rack.specs.Slots.{Slot}
 use Rattle.paraid_record.specs.declared.targets.Target.{Target}
 use Rattle.paraid_txn.specs.declared.losses.Losses.{Losses}
@@ -21,7 +22,7 @@ targets_stay_ready skip count now ts lasts same ready k t lt =
     (omega arith, λ not. CanWrite-later _ _ _ _ _ _ lasts (was.1 not))
 
 -- each place of the log can be written
-pub log_can : {slot : ℕ → Slot} {skip : Option ℕ} {d : ℕ} (p : ℕ) → IsLogReady skip slot → d < 2 → p < 100 → skip ≢ Some d → CanWrite slot d p
+pub log_can : {slot : ℕ → Slot} {skip : Option ℕ} {d : ℕ} (p : ℕ) → IsLogReady skip slot → d < 2 → p < log_least → skip ≢ Some d → CanWrite slot d p
 log_can p ready log_disk low not = CanWrite-lower _ _ p 99 (omega arith) (ready.can _ log_disk not)
 
 -- a disk that has targets can be synced

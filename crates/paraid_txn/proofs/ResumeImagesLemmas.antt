@@ -3,6 +3,7 @@ use Rattle.std.specs.Prelude.{◌≡◌, ◌≢◌, ◌⊎◌, ℕ, ◌<◌, ◌
 use Rattle.std.proofs.Common.{refl, sym, ◌∙◌, ap, subst, arith, inl, inr, zero, suc}
 use Rattle.std.proofs.lemmas.Bool.{cases_Bool, cases_eq, false≢true, true≢false}
 use Rattle.std.proofs.lemmas.Bool.Decides.{nat_tests}
+use Rattle.paraid_base.specs.Log.{log_least}
 use Rattle.paraid_rack.specs.declared.call.Power.{Power}
 use Rattle.paraid_rack.specs.declared.call.Power.TheVariants.{Absent, Spinning}
 use Rattle.paraid_rack.specs.Atoms.{IsLeftByStop}
@@ -173,7 +174,7 @@ module _ (j : Job) (good : IsSpelled j) (names : job_named j ≡ named_out j.met
     spins = spins;
   }
 
-  module _ (i : Disks) (kept : KeepsSlotsAndLogs j i) (aside : (z p : ℕ) → z < 2 → job_named j ≡ Some z → p < 100 → IsPresent i z → i.block z p ≡ j.start.block z p) (single : IsSingle i j.meta) where
+  module _ (i : Disks) (kept : KeepsSlotsAndLogs j i) (aside : (z p : ℕ) → z < 2 → job_named j ≡ Some z → p < log_least → IsPresent i z → i.block z p ≡ j.start.block z p) (single : IsSingle i j.meta) where
     x_missing : is_present (i.power x) ≡ false → IsMissing i.power j.meta x
     x_missing gone = record { disk = (let n = enough in let l = leads.live.0 in omega arith); is = inl gone }
 
@@ -195,7 +196,7 @@ module _ (j : Job) (good : IsSpelled j) (names : job_named j ≡ named_out j.met
 
     -- where a live log disk stands that is open with the batch, and no target has been touched
     for_new : (P : LogState → Type 0) → ((a b : LogState) → P a → P b → Pairing a b) → ((z : ℕ) → IsLiveLog j z → IsPresent i z → (o : LogState) × Says i z o × P o)
-        → ((d p : ℕ) → IsPresent i d → 100 ≤ p → i.block d p ≡ j.start.block d p)
+        → ((d p : ℕ) → IsPresent i d → log_least ≤ p → i.block d p ≡ j.start.block d p)
         → (z : ℕ) (said : LogState) → Stands i z said → said ≡ new → IsLiveLog j z → ImageStandsFor j.start i j.meta j.batch
     for_new P pairs voices held z said s is live = record {
       kept = record { present = kept.present; power = kept.power; size = kept.size };
@@ -301,7 +302,7 @@ module _ (j : Job) (good : IsSpelled j) (names : job_named j ≡ named_out j.met
     early_pair a b (inr p) (inr q) = alike (p ∙ sym q)
 
     -- without the log disk that stood it stands for what it stood for without it
-    module _ (i : Disks) (kept : KeepsSlotsAndLogs j i) (single : IsSingle i j.meta) (held : (d p : ℕ) → IsPresent i d → 100 ≤ p → i.block d p ≡ j.start.block d p)
+    module _ (i : Disks) (kept : KeepsSlotsAndLogs j i) (single : IsSingle i j.meta) (held : (d p : ℕ) → IsPresent i d → log_least ≤ p → i.block d p ≡ j.start.block d p)
         (gone : is_present (i.power x) ≡ false) (says : Says i y old) where
       x_gone : is_present ((lose x j.start).power x) ≡ false
       x_gone = ap is_present (with_at_same j.start.power x Absent x refl)
@@ -372,7 +373,7 @@ module _ (j : Job) (good : IsSpelled j) (names : job_named j ≡ named_out j.met
       }
 
   -- before the targets are touched
-  caught_stands : (i : Disks) → (caught : IsCatchUpImage j x i) → ((z p : ℕ) → z < 2 → job_named j ≡ Some z → p < 100 → IsPresent i z → i.block z p ≡ j.start.block z p)
+  caught_stands : (i : Disks) → (caught : IsCatchUpImage j x i) → ((z p : ℕ) → z < 2 → job_named j ≡ Some z → p < log_least → IsPresent i z → i.block z p ≡ j.start.block z p)
       → IsSingle i j.meta → ImageStandsFor j.start i j.meta j.batch ⊎ IsFallback j.start x i
   caught_stands i caught aside single = elim (cases_Bool (is_present (i.power x))) [
     | inl here ↦ inl (elim (cases_Bool (is_present (i.power y))) [
@@ -411,7 +412,7 @@ module _ (j : Job) (good : IsSpelled j) (names : job_named j ≡ named_out j.met
       new_pair a b p q = alike (p ∙ sym q)
 
   -- and from then on
-  late_stands_for : (i : Disks) → IsLateImage j i → ((z p : ℕ) → z < 2 → job_named j ≡ Some z → p < 100 → IsPresent i z → i.block z p ≡ j.start.block z p)
+  late_stands_for : (i : Disks) → IsLateImage j i → ((z p : ℕ) → z < 2 → job_named j ≡ Some z → p < log_least → IsPresent i z → i.block z p ≡ j.start.block z p)
       → IsSingle i j.meta → ImageStandsFor j.start i j.meta j.batch
   late_stands_for i late aside single = elim (cases_Bool (is_present (i.power x))) [
     | inl here ↦ by x leads.live here
@@ -427,7 +428,7 @@ module _ (j : Job) (good : IsSpelled j) (names : job_named j ≡ named_out j.met
   abbrev HasMeta : Meta → Type 0
   HasMeta m = (z : ℕ) × (p : LogState) × (z < 2) × Says j.start z p × (m ≡ p.meta)
 
-  metas_by : (i : Disks) → KeepsSlotsAndLogs j i → ((z p : ℕ) → z < 2 → job_named j ≡ Some z → p < 100 → IsPresent i z → i.block z p ≡ j.start.block z p)
+  metas_by : (i : Disks) → KeepsSlotsAndLogs j i → ((z p : ℕ) → z < 2 → job_named j ≡ Some z → p < log_least → IsPresent i z → i.block z p ≡ j.start.block z p)
       → ((z : ℕ) (o : LogState) → IsLiveLog j z → Says i z o → HasMeta o.meta) → (z : ℕ) (o : LogState) → z < 2 → Says i z o → HasMeta o.meta
   metas_by i kept aside lives z o lz says = elim (decide_some (job_named j) z) [
     | inl is ↦ (z, o, lz, aside_said j i kept z says.present (λ p lt. aside z p lz is lt says.present) o says, refl)

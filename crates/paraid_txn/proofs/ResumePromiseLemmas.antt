@@ -3,6 +3,7 @@ use Rattle.std.specs.Prelude.{◌≡◌, ◌≢◌, ℕ, ◌<◌, ◌≤◌, tru
 use Rattle.std.proofs.Common.{refl, sym, ◌∙◌, ap, subst, arith, inl, inr}
 use Rattle.std.proofs.lemmas.Bool.{cases_Bool, false≢true}
 use Rattle.paraid_base.specs.declared.block.Block.{Block}
+use Rattle.paraid_base.specs.Log.{log_least}
 use Rattle.paraid_base.specs.Xor.{zero_block}
 use Rattle.paraid_rack.specs.declared.call.Power.TheVariants.{Absent}
 use Rattle.paraid_rack.specs.Atoms.{IsLeftByStop}
@@ -41,7 +42,7 @@ module _ (m : Meta) (batch : Batch) (spelled list : Block) (x : ℕ) (good : (st
   live : (start : Disks) → IsLiveLog (it start) x
   live start = (low, in_array)
 
-  large : (s : Trail) → old ≡ Some s → (z : ℕ) → IsLiveLog (it (now s)) z → IsPresent (now s) z → 100 ≤ (now s).size z
+  large : (s : Trail) → old ≡ Some s → (z : ℕ) → IsLiveLog (it (now s)) z → IsPresent (now s) z → log_least ≤ (now s).size z
   large s is z l here = (ready s is).large z l.0 l.1 here
 
   same : (s : Trail) → old ≡ Some s → ((d p : ℕ) → IsPresent (now s) d → (now s).loose d p ≡ false) → AreDisksSame (it (now s)) (now s)

@@ -3,6 +3,7 @@ use Rattle.std.specs.Prelude.{◌≡◌, ◌≢◌, ◌⊎◌, ℕ, ◌+◌, ◌
 use Rattle.std.proofs.Common.{refl, sym, ◌∙◌, ap, subst, inl, inr, arith, zero, suc}
 use Rattle.std.proofs.lemmas.Bool.{cases_Bool, cases_eq, false≢true}
 use Rattle.paraid_base.specs.declared.block.Block.{Block}
+use Rattle.paraid_base.specs.Log.{body_place, log_least}
 use Rattle.paraid_base.specs.Xor.{zero_block}
 use Rattle.paraid_base.proofs.XorLemmas.{same_block}
 use Rattle.paraid_rack.specs.declared.call.Call.TheVariants.{Read}
@@ -83,9 +84,9 @@ same_synced j s c = record { synced = λ d p. record { holds = λ here. (((c.sam
 
 module _ (j : Job) (good : IsSpelled j) where
   -- a log disk that says the batch by its open gate has it in its log, as long as its log is as it was
-  module _ (s : Disks) (x : ℕ) (present : IsPresent s x → IsPresent j.start x) (large : IsPresent j.start x → 100 ≤ j.start.size x)
-      (same : (p : ℕ) → p < 100 → IsSure s x p (IsBlock (j.start.block x p))) (says : IsPresent j.start x → Says j.start x (open_with j)) where
-    sure_at : (p : ℕ) (Q : Block → Type 0) → p < 100 → (IsPresent j.start x → Q (stored_block j.start x p)) → IsSure s x p Q
+  module _ (s : Disks) (x : ℕ) (present : IsPresent s x → IsPresent j.start x) (large : IsPresent j.start x → log_least ≤ j.start.size x)
+      (same : (p : ℕ) → p < log_least → IsSure s x p (IsBlock (j.start.block x p))) (says : IsPresent j.start x → Says j.start x (open_with j)) where
+    sure_at : (p : ℕ) (Q : Block → Type 0) → p < log_least → (IsPresent j.start x → Q (stored_block j.start x p)) → IsSure s x p Q
     sure_at p Q lt holds = record {
       holds = λ here.
           let was = (same p lt).holds here in
@@ -101,7 +102,7 @@ module _ (j : Job) (good : IsSpelled j) where
       blocks = λ k lt.
           let few = good.in_range.few in
           let long = length-targets j.batch in
-          sure_at (4 + k) (IsBlock (target_block j k)) (omega arith) (λ there. logged_each (stored_block j.start x) 4 j.batch (says there).log.blocks k lt);
+          sure_at (body_place k) (IsBlock (target_block j k)) (omega arith) (λ there. logged_each (stored_block j.start x) 4 j.batch (says there).log.blocks k lt);
     }
 
     pub opened_same : IsGateOpen s x
@@ -222,7 +223,7 @@ module _ (j : Job) (good : IsSpelled j) where
               present = c.core.beside.kept.present;
               power = c.core.beside.kept.power;
               size = c.core.beside.kept.size;
-              large = λ z l here. subst (λ (n : ℕ). 100 ≤ n) (sym (c.core.beside.kept.size z here)) (leads.large z l (c.core.beside.kept.present z here));
+              large = λ z l here. subst (λ (n : ℕ). log_least ≤ n) (sym (c.core.beside.kept.size z here)) (leads.large z l (c.core.beside.kept.present z here));
             };
             aside = record { log = λ z p low is lt. absurd (no_aside z low is) };
           };
@@ -246,7 +247,7 @@ module _ (j : Job) (good : IsSpelled j) where
           each : (z : ℕ) → IsLiveLog j z → IsBatchLogged j s z × IsGateOpen s z
           each z l = elim (cases_eq z x) [
             | inl is ↦
-                let same : (p : ℕ) → p < 100 → IsSure s z p (IsBlock (j.start.block z p)) = λ p lt. c.core.beside.aside.log z p l.0 (ap (λ (w : ℕ). Some w) (sym is)) lt in
+                let same : (p : ℕ) → p < log_least → IsSure s z p (IsBlock (j.start.block z p)) = λ p lt. c.core.beside.aside.log z p l.0 (ap (λ (w : ℕ). Some w) (sym is)) lt in
                 let says : IsPresent j.start z → Says j.start z (open_with j) = λ here. subst (λ (w : ℕ). Says j.start w (open_with j)) (sym is) (leads.says (subst (IsPresent j.start) is here)) in
                 (logged_same s z (c.core.beside.kept.present z) (leads.large z l) same says, opened_same s z (c.core.beside.kept.present z) (leads.large z l) same says)
             | inr apart ↦
@@ -264,7 +265,7 @@ module _ (j : Job) (good : IsSpelled j) where
               present = early.kept.present;
               power = early.kept.power;
               size = early.kept.size;
-              large = λ z l here. subst (λ (n : ℕ). 100 ≤ n) (sym (early.kept.size z here)) (leads.large z l (early.kept.present z here));
+              large = λ z l here. subst (λ (n : ℕ). log_least ≤ n) (sym (early.kept.size z here)) (leads.large z l (early.kept.present z here));
             } in
             record {
               kept = kept;

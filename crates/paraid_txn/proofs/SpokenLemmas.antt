@@ -4,6 +4,7 @@ use Rattle.std.proofs.Common.{refl, sym, ◌∙◌, ap, subst, arith, inl, inr, 
 use Rattle.std.proofs.lemmas.Bool.{cases_Bool, cases_eq, false≢true}
 use Rattle.std.proofs.lemmas.Bool.Decides.{nat_tests}
 use Rattle.paraid_base.specs.declared.block.Block.{Block}
+use Rattle.paraid_base.specs.Log.{log_least}
 use Rattle.paraid_base.specs.Xor.{zero_block}
 use Rattle.paraid_rack.specs.declared.call.Power.{Power}
 use Rattle.paraid_rack.specs.declared.call.Power.TheVariants.{Spinning}
@@ -81,8 +82,8 @@ module _ (j : Job) (i : Disks) (kept : KeepsSlotsAndLogs j i) where
       ∙ ap (λ (n : ℕ). is_present (i.power d) && nat_lt p n) (sym (kept.size d here)) ∙ there
 
   -- a log disk that is left alone says what it said
-  module _ (y : ℕ) (here : IsPresent i y) (same : (p : ℕ) → p < 100 → i.block y p ≡ j.start.block y p) where
-    at : (p : ℕ) → p < 100 → stored_block i y p ≡ stored_block j.start y p
+  module _ (y : ℕ) (here : IsPresent i y) (same : (p : ℕ) → p < log_least → i.block y p ≡ j.start.block y p) where
+    at : (p : ℕ) → p < log_least → stored_block i y p ≡ stored_block j.start y p
     at p lt = stored_start y p here (same p lt)
 
     pub aside_said : (o : LogState) → Says i y o → Says j.start y o

@@ -2,6 +2,7 @@
 use Rattle.std.specs.Prelude.{◌≡◌, ℕ, ◌+◌, ◌<◌, ◌≤◌, Bool, false, length, Option, Some}
 use Rattle.std.proofs.Common.{refl, sym, ap, subst}
 use Rattle.paraid_base.specs.declared.block.Block.{Block}
+use Rattle.paraid_base.specs.Log.{body_place, log_least}
 use Rattle.paraid_rack.specs.declared.call.Call.{Call}
 use Rattle.paraid_rack.specs.declared.call.Call.TheVariants.{Sync, Write}
 use Rattle.paraid_rack.specs.Disks.{Disks}
@@ -105,7 +106,7 @@ module _ (j : Job) (good : IsSpelled j) {old new : Option Trail} {slot : ℕ →
     pub log_list_ran : {b : Block} → j.list ≡ b → MayDo old new slot skip k (λ done. Write k 3 b done) → Ran old new (CrashTriple (HoldsEarly j) (LogMeta j k) (LogIn j k 0))
     log_list_ran same may = put_ran agrees (of refl refl same (by is may)) (log_meta_whole j good k) (log_in_whole j good k 0) (log_list j good k)
 
-    pub log_block_ran : (n : ℕ) {p : ℕ} {b : Block} → n < length j.batch → 4 + n ≡ p → target_block j n ≡ b → MayDo old new slot skip k (λ done. Write k p b done)
+    pub log_block_ran : (n : ℕ) {p : ℕ} {b : Block} → n < length j.batch → body_place n ≡ p → target_block j n ≡ b → MayDo old new slot skip k (λ done. Write k p b done)
         → Ran old new (CrashTriple (HoldsEarly j) (LogIn j k n) (LogIn j k (n + 1)))
     log_block_ran n lt at same may = put_ran agrees (of refl at same (by is may)) (log_in_whole j good k n) (log_in_whole j good k (n + 1)) (λ s s' w a. log_block j good k n s s' lt w a)
 
@@ -113,10 +114,10 @@ module _ (j : Job) (good : IsSpelled j) {old new : Option Trail} {slot : ℕ →
     log_sync_ran may = sync_slot_ran agrees (by is may) (log_in_whole j good k (length j.batch)) (log_whole j good (k + 1)) (log_sync j good k)
 
   module _ (is : job_gone j ≡ skip) (n : ℕ) where
-    pub lay_ran : (t : Target) {b : Block} → n < length j.batch → target_at j.batch n ≡ t → 100 ≤ t.place → target_block j n ≡ b
+    pub lay_ran : (t : Target) {b : Block} → n < length j.batch → target_at j.batch n ≡ t → log_least ≤ t.place → target_block j n ≡ b
         → MayDo old new slot skip t.disk (λ done. Write t.disk t.place b done) → Ran old new (CrashTriple (HoldsLate j) (LayIn j n) (LayIn j (n + 1)))
     lay_ran t lt at far same may = put_ran agrees (of (ap (λ (u : Target). u.disk) at) (ap (λ (u : Target). u.place) at) same (by is may))
-        (lay_whole j good n) (lay_whole j good (n + 1)) (λ s s' w a. lay_one j good n s s' lt (subst (λ (u : Target). 100 ≤ u.place) (sym at) far) w a)
+        (lay_whole j good n) (lay_whole j good (n + 1)) (λ s s' w a. lay_one j good n s s' lt (subst (λ (u : Target). log_least ≤ u.place) (sym at) far) w a)
 
     pub sync_in_one_ran : MayDo old new slot skip n (λ done. Sync n done) → Ran old new (CrashTriple (HoldsLate j) (SyncIn j n) (SyncIn j (n + 1)))
     sync_in_one_ran may = sync_slot_ran agrees (by is may) (sync_in_whole j good n) (sync_in_whole j good (n + 1)) (sync_target_slot j good n)

@@ -4,6 +4,7 @@ use Rattle.std.proofs.Common.{refl, sym, ap, subst, ◌∙◌, inl, inr, ⊎_eli
 use Rattle.std.proofs.lemmas.Bool.{cases_eq, cases_lt, false≢true}
 use Rattle.std.proofs.lemmas.List.{take_all}
 use Rattle.paraid_base.specs.declared.block.Block.{Block}
+use Rattle.paraid_base.specs.Log.{batch_room, body_place, log_least}
 use Rattle.paraid_rack.specs.Atoms.{IsSeen, IsSure}
 use Rattle.paraid_rack.specs.Disks.{Disks}
 use Rattle.paraid_rack.proofs.AtomsLemmas.{seen_sure}
@@ -25,7 +26,7 @@ same_or_apart d p d0 p0 = elim (cases_eq d d0) [
 ]
 
 -- a place of the batch in the log is apart from the gate, the meta and what is past the log
-elsewhere : (p q : ℕ) → (p < 2) ⊎ (100 ≤ p) → 2 ≤ q → q < 100 → q ≢ p
+elsewhere : (p q : ℕ) → (p < 2) ⊎ (log_least ≤ p) → 2 ≤ q → q < log_least → q ≢ p
 elsewhere p q (inl low) from to = λ is. omega arith
 elsewhere p q (inr far) from to = λ is. omega arith
 
@@ -37,7 +38,7 @@ module _ (j : Job) where
     present = λ d here. k.present d (w.present d here);
     power = λ d here. w.power d here ∙ k.power d (w.present d here);
     size = λ d here. w.size d here ∙ k.size d (w.present d here);
-    large = λ x live here. subst (λ (n : ℕ). 100 ≤ n) (sym (w.size x here)) (k.large x live (w.present x here));
+    large = λ x live here. subst (λ (n : ℕ). log_least ≤ n) (sym (w.size x here)) (k.large x live (w.present x here));
   }
 
   -- a write of a log place leaves the disk that is named out alone
@@ -50,7 +51,7 @@ module _ (j : Job) where
   }
 
   -- and so does a write past the log
-  beside_past : (skip : Option ℕ) (s s' : Disks) (d0 p0 : ℕ) (b : Block) → 100 ≤ p0 → Puts skip s s' d0 p0 b → HoldsThroughout j s → HoldsThroughout j s'
+  beside_past : (skip : Option ℕ) (s s' : Disks) (d0 p0 : ℕ) (b : Block) → log_least ≤ p0 → Puts skip s s' d0 p0 b → HoldsThroughout j s → HoldsThroughout j s'
   beside_past skip s s' d0 p0 b far w c = record {
     kept = kept_on s s' w.keeps c.kept;
     aside = record { log = λ y p log_disk is low. w.sure y p _ (λ not at there. omega arith) (c.aside.log y p log_disk is low) };
@@ -62,13 +63,13 @@ module _ (j : Job) where
     aside = record { log = λ y p log_disk is low. w.sure y p _ (c.aside.log y p log_disk is low) };
   }
 
-  untouched_logged : (skip : Option ℕ) (s s' : Disks) (d0 p0 : ℕ) (b : Block) → p0 < 100 → Puts skip s s' d0 p0 b → ContentsAreOld j s → ContentsAreOld j s'
+  untouched_logged : (skip : Option ℕ) (s s' : Disks) (d0 p0 : ℕ) (b : Block) → p0 < log_least → Puts skip s s' d0 p0 b → ContentsAreOld j s → ContentsAreOld j s'
   untouched_logged skip s s' d0 p0 b low w held d p far = w.sure d p _ (λ not at there. omega arith) (held d p far)
 
   untouched_synced : (skip : Option ℕ) (s s' : Disks) (d0 : ℕ) → Settles skip s s' d0 → ContentsAreOld j s → ContentsAreOld j s'
   untouched_synced skip s s' d0 w held d p far = w.sure d p _ (held d p far)
 
-  laid_logged : (skip : Option ℕ) (s s' : Disks) (d0 p0 : ℕ) (b : Block) → p0 < 100 → Puts skip s s' d0 p0 b → ContentsAreNew j s → ContentsAreNew j s'
+  laid_logged : (skip : Option ℕ) (s s' : Disks) (d0 p0 : ℕ) (b : Block) → p0 < log_least → Puts skip s s' d0 p0 b → ContentsAreNew j s → ContentsAreNew j s'
   laid_logged skip s s' d0 p0 b low w held d p is far = w.sure d p _ (λ not at there. omega arith) (held d p is far)
 
   laid_synced : (skip : Option ℕ) (s s' : Disks) (d0 : ℕ) → Settles skip s s' d0 → ContentsAreNew j s → ContentsAreNew j s'
@@ -95,25 +96,25 @@ module _ (skip : Option ℕ) (s s' : Disks) (k : ℕ) where
   }
 
 module _ (j : Job) (good : IsSpelled j) where
-  fits : length j.batch ≤ 96
+  fits : length j.batch ≤ batch_room
   fits = let few = good.in_range.few in let same = length-targets j.batch in omega arith
 
   logged_wrote : (skip : Option ℕ) (s s' : Disks) (d0 p0 : ℕ) (b : Block) (x : ℕ) → Puts skip s s' d0 p0 b
-      → (skip ≢ Some d0 → x ≡ d0 → (p0 < 2) ⊎ (100 ≤ p0)) → IsBatchLogged j s x → IsBatchLogged j s' x
+      → (skip ≢ Some d0 → x ≡ d0 → (p0 < 2) ⊎ (log_least ≤ p0)) → IsBatchLogged j s x → IsBatchLogged j s' x
   logged_wrote skip s s' d0 p0 b x w apart l =
       let few = fits in
       record {
         meta = w.sure x 2 _ (λ not at. elsewhere p0 2 (apart not at) (omega arith) (omega arith)) l.meta;
         list = w.sure x 3 _ (λ not at. elsewhere p0 3 (apart not at) (omega arith) (omega arith)) l.list;
-        blocks = λ k lt. w.sure x (4 + k) _ (λ not at. elsewhere p0 (4 + k) (apart not at) (omega arith) (omega arith)) (l.blocks k lt);
+        blocks = λ k lt. w.sure x (body_place k) _ (λ not at. elsewhere p0 (body_place k) (apart not at) (omega arith) (omega arith)) (l.blocks k lt);
       }
 
   logged_synced : (skip : Option ℕ) (s s' : Disks) (d0 x : ℕ) → Settles skip s s' d0 → IsBatchLogged j s x → IsBatchLogged j s' x
-  logged_synced skip s s' d0 x w l = record { meta = w.sure x 2 _ l.meta; list = w.sure x 3 _ l.list; blocks = λ k lt. w.sure x (4 + k) _ (l.blocks k lt) }
+  logged_synced skip s s' d0 x w l = record { meta = w.sure x 2 _ l.meta; list = w.sure x 3 _ l.list; blocks = λ k lt. w.sure x (body_place k) _ (l.blocks k lt) }
 
   -- Step 1
 
-  logging_wrote : (k p0 : ℕ) (b : Block) (s s' : Disks) → Puts (job_named j) s s' k p0 b → 2 ≤ p0 → p0 < 100 → LogCore j k s → LogCore j k s'
+  logging_wrote : (k p0 : ℕ) (b : Block) (s s' : Disks) → Puts (job_named j) s s' k p0 b → 2 ≤ p0 → p0 < log_least → LogCore j k s → LogCore j k s'
   logging_wrote k p0 b s s' w from to c = record {
     beside = beside_logged j s s' k p0 b w c.beside;
     meta = λ x live. w.sure x 1 _ (λ not at there. omega arith) (c.meta x live);
@@ -138,16 +139,16 @@ module _ (j : Job) (good : IsSpelled j) where
     blocks = λ m lt not. absurd (omega arith);
   }
 
-  pub log_block : (k n : ℕ) (s s' : Disks) → n < length j.batch → Puts (job_named j) s s' k (4 + n) (target_block j n) → LogIn j k n s → LogIn j k (n + 1) s'
+  pub log_block : (k n : ℕ) (s s' : Disks) → n < length j.batch → Puts (job_named j) s s' k (body_place n) (target_block j n) → LogIn j k n s → LogIn j k (n + 1) s'
   log_block k n s s' lt w c =
       let few = fits in
       record {
-        core = logging_wrote k (4 + n) (target_block j n) s s' w (omega arith) (omega arith) c.core;
-        synced = synced_wrote (job_named j) s s' k (4 + n) (target_block j n) w c.synced;
+        core = logging_wrote k (body_place n) (target_block j n) s s' w (omega arith) (omega arith) c.core;
+        synced = synced_wrote (job_named j) s s' k (body_place n) (target_block j n) w c.synced;
         meta = λ not. w.seen k 2 _ (λ _ at there. omega arith) (c.meta not);
         list = λ not. w.seen k 3 _ (λ _ at there. omega arith) (c.list not);
-        blocks = below_more (λ m. job_named j ≢ Some k → IsSeen s' k (4 + m) (IsBlock (target_block j m))) n
-            (λ m below not. w.seen k (4 + m) _ (λ _ at there. omega arith) (c.blocks m below not)) (λ not. w.here _ not refl);
+        blocks = below_more (λ m. job_named j ≢ Some k → IsSeen s' k (body_place m) (IsBlock (target_block j m))) n
+            (λ m below not. w.seen k (body_place m) _ (λ _ at there. omega arith) (c.blocks m below not)) (λ not. w.here _ not refl);
       }
 
   pub log_sync : (k : ℕ) (s s' : Disks) → Settles (job_named j) s s' k → LogIn j k (length j.batch) s → LogStage j (k + 1) s'
@@ -161,7 +162,7 @@ module _ (j : Job) (good : IsSpelled j) where
           (λ live. record {
             meta = w.here 2 _ live.1 (c.meta live.1);
             list = w.here 3 _ live.1 (c.list live.1);
-            blocks = λ m lt. w.here (4 + m) _ live.1 (c.blocks m lt live.1);
+            blocks = λ m lt. w.here (body_place m) _ live.1 (c.blocks m lt live.1);
           });
       held = untouched_synced j (job_named j) s s' k w c.core.held;
     };
@@ -245,7 +246,7 @@ module _ (j : Job) (good : IsSpelled j) where
 
   -- Step 3
 
-  laying_wrote : (d0 p0 : ℕ) (b : Block) (s s' : Disks) → names_place j.batch d0 p0 ≡ true → 100 ≤ p0
+  laying_wrote : (d0 p0 : ℕ) (b : Block) (s s' : Disks) → names_place j.batch d0 p0 ≡ true → log_least ≤ p0
       → Puts (job_gone j) s s' d0 p0 b → LayCore j s → LayCore j s'
   laying_wrote d0 p0 b s s' on far w c = record {
     beside = beside_past j (job_gone j) s s' d0 p0 b far w c.beside;
@@ -267,7 +268,7 @@ module _ (j : Job) (good : IsSpelled j) where
       target : (d p : ℕ) → d ≡ d0 → p ≡ p0 → names_place j.batch d p ≡ true
       target d p at there = rw (at, there) on
 
-  pub lay_one : (n : ℕ) (s s' : Disks) → n < length j.batch → 100 ≤ (target_at j.batch n).place
+  pub lay_one : (n : ℕ) (s s' : Disks) → n < length j.batch → log_least ≤ (target_at j.batch n).place
       → Puts (job_gone j) s s' (target_at j.batch n).disk (target_at j.batch n).place (target_block j n) → LayIn j n s → LayIn j (n + 1) s'
   lay_one n s s' lt far w c =
       let t = target_at j.batch n in

@@ -2,6 +2,7 @@
 use Rattle.std.specs.Prelude.{◌≡◌, ◌≢◌, ℕ, ◌+◌, ◌-◌, ◌^◌, ◌<◌, ◌≤◌, Option, Some, Contains}
 use Rattle.std.proofs.Common.{refl, sym, ◌∙◌, ap, arith}
 use Rattle.paraid_base.specs.declared.block.Block.{Block}
+use Rattle.paraid_base.specs.Log.{log_least}
 use Rattle.paraid_rack.specs.declared.call.Power.TheVariants.{Spinning}
 use Rattle.paraid_rack.specs.Disks.{Disks, IsPresent, is_present}
 use Rattle.paraid_rack.specs.Slots.{Agrees, Slot}
@@ -38,7 +39,7 @@ next_in_range m e range low = record {
 
 -- the disks with which a commit begins have what it asks of the slots
 pub record IsStartReady (meta : Meta) (batch : Batch) (start : Disks) : Type 0 where
-  pub large : (x : ℕ) → x < 2 → named_out meta.out ≢ Some x → IsPresent start x → 100 ≤ start.size x
+  pub large : (x : ℕ) → x < 2 → named_out meta.out ≢ Some x → IsPresent start x → log_least ≤ start.size x
   pub spins : (t : Target) → Contains (targets batch) t → gone_out meta.out ≢ Some t.disk → IsPresent start t.disk → start.power t.disk ≡ Spinning
 
 pub start_ready : (meta : Meta) (batch : Batch) (start : Disks) (slot : ℕ → Slot) (count : ℕ) → Agrees start slot → IsLogReady (named_out meta.out) slot

@@ -3,6 +3,7 @@ use Rattle.std.specs.Prelude.{◌≡◌, ℕ, ◌+◌, ◌<◌, ◌≤◌, ◌==
 use Rattle.std.proofs.Common.{refl, sym, ◌∙◌, ap, subst, arith, inl, inr, suc}
 use Rattle.std.proofs.lemmas.Bool.{cases_Bool, cases_eq, cases_lt, false≢true, and_from, lt-ltb, or_parts}
 use Rattle.paraid_base.specs.declared.block.Block.{Block}
+use Rattle.paraid_base.specs.Log.{batch_room, body_place, log_least}
 use Rattle.paraid_base.specs.Xor.{zero_block}
 use Rattle.paraid_rack.specs.Atoms.{IsLeftByStop, IsSure}
 use Rattle.paraid_rack.specs.Disks.{Disks, IsPresent, is_present}
@@ -51,7 +52,7 @@ left_kept j s i k left = record {
   large = λ x live here. let a = k.large x live (left.present x here) in let b = left.size x here in omega arith;
 }
 
-left_aside : (j : Job) (s : Disks) → HoldsThroughout j s → (i : Disks) → IsLeftByStop s i → (y p : ℕ) → y < 2 → job_named j ≡ Some y → p < 100 → IsPresent i y → i.block y p ≡ j.start.block y p
+left_aside : (j : Job) (s : Disks) → HoldsThroughout j s → (i : Disks) → IsLeftByStop s i → (y p : ℕ) → y < 2 → job_named j ≡ Some y → p < log_least → IsPresent i y → i.block y p ≡ j.start.block y p
 left_aside j s beside i left y p log_disk is lt here = left_sure (beside.aside.log y p log_disk is lt) left here
 
 module _ (j : Job) (good : IsSpelled j) (s i : Disks) (left : IsLeftByStop s i) where
@@ -66,14 +67,14 @@ module _ (j : Job) (good : IsSpelled j) (s i : Disks) (left : IsLeftByStop s i) 
       list = ap (λ (b : Block). b.bytes) (at 3 (omega arith) ∙ left_sure logged.list left here) ∙ good.list;
       blocks = logged_from (stored_block i x) 4 j.batch (λ k lt.
           let few = few_targets in
-          at (4 + k) (omega arith) ∙ left_sure (logged.blocks k lt) left here);
+          at (body_place k) (omega arith) ∙ left_sure (logged.blocks k lt) left here);
     };
   }
     where
-      at : (p : ℕ) → p < 100 → stored_block i x p ≡ i.block x p
+      at : (p : ℕ) → p < log_least → stored_block i x p ≡ i.block x p
       at p lt = let large = (left_kept j s i kept left).large x live here in stored_here i x p here (omega arith)
 
-      few_targets : length j.batch ≤ 96
+      few_targets : length j.batch ≤ batch_room
       few_targets = let n = length-targets j.batch in let few = good.in_range.few in omega arith
 
   -- a live log disk that is closed over the new meta
@@ -84,7 +85,7 @@ module _ (j : Job) (good : IsSpelled j) (s i : Disks) (left : IsLeftByStop s i) 
     log = record { meta = subst (λ (b : Block). Spells b j.meta) (sym (at 1 (omega arith) ∙ left_sure meta left here)) good.meta; empty = refl };
   }
     where
-      at : (p : ℕ) → p < 100 → stored_block i x p ≡ i.block x p
+      at : (p : ℕ) → p < log_least → stored_block i x p ≡ i.block x p
       at p lt = let large = (left_kept j s i kept left).large x live here in stored_here i x p here (omega arith)
 
   -- an open gate is not closed over the new meta

@@ -2,6 +2,7 @@
 -- the batch and the next meta laid over.
 use Rattle.std.specs.Prelude.{◌≡◌, ◌≢◌, ℕ, ◌+◌, ◌<◌, ◌≤◌, ◌⊎◌, true, false, [], Option, Some}
 use Rattle.paraid_base.specs.declared.state.Out.TheVariants.{Fresh}
+use Rattle.paraid_base.specs.Log.{map_start}
 pub use Rattle.paraid_base.specs.States.{gone_out}
 use Rattle.paraid_rack.specs.declared.call.Power.{Power}
 use Rattle.paraid_rack.specs.Disks.{Disks, IsImage, IsPresent, lose}
@@ -29,7 +30,7 @@ pub record ImageStandsFor (start i : Disks) (m : Meta) (batch : Batch) : Type 0 
   pub log : LogOk i disk said m.writes
   pub meta : said.meta ≡ m
   pub kept : KeepsSlots start i
-  pub blocks : (d p : ℕ) → gone_out m.out ≢ Some d → has_place i d p ≡ true → 100 ≤ p
+  pub blocks : (d p : ℕ) → gone_out m.out ≢ Some d → has_place i d p ≡ true → map_start m.setup.geometry ≤ p
       → contents i said.batch d p ≡ contents start batch d p
 
 -- for what `start` held, or for that with batch and meta laid over

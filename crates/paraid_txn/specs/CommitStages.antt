@@ -1,7 +1,8 @@
 -- The stages of a commit, each as a fact about the disks at a moment.
-use Rattle.std.specs.Prelude.{◌≡◌, ◌≢◌, ◌⊎◌, ◌<◌, ◌≤◌, ◌+◌, ℕ, true, false, length, take, get_or, Option, Some}
+use Rattle.std.specs.Prelude.{◌≡◌, ◌≢◌, ◌⊎◌, ◌<◌, ◌≤◌, ℕ, true, false, length, take, get_or, Option, Some}
 use Rattle.std.proofs.Common.{zero, suc}
 use Rattle.paraid_base.specs.declared.block.Block.{Block}
+use Rattle.paraid_base.specs.Log.{body_place, list_place, map_start}
 use Rattle.paraid_base.specs.Xor.{zero_block}
 use Rattle.paraid_rack.specs.Atoms.{IsLeftByStop, IsSeen, IsSure}
 use Rattle.paraid_rack.specs.Disks.{Disks, IsPresent}
@@ -38,6 +39,10 @@ job start meta batch spelled list first = record {
   left = named_out meta.out;
   first = first;
 }
+
+-- the first place past the logs of the commit's array
+abbrev pub job_map_start : Job → ℕ
+job_map_start j = map_start j.meta.setup.geometry
 
 -- the log disk whose gate is opened first, and the other one
 abbrev pub nth_log : ℕ → ℕ → ℕ
@@ -97,11 +102,11 @@ pub record KeepsSlotsAndLogs (j : Job) (s : Disks) : Type 0 where
   pub present : (d : ℕ) → IsPresent s d → IsPresent j.start d
   pub power : (d : ℕ) → IsPresent s d → s.power d ≡ j.start.power d
   pub size : (d : ℕ) → IsPresent s d → s.size d ≡ j.start.size d
-  pub large : (x : ℕ) → IsLiveLog j x → IsPresent s x → 100 ≤ s.size x
+  pub large : (x : ℕ) → IsLiveLog j x → IsPresent s x → job_map_start j ≤ s.size x
 
 -- the log of a log disk that is left alone is as it was
 pub record IsAside (j : Job) (s : Disks) : Type 0 where
-  pub log : (y p : ℕ) → y < 2 → job_named j ≡ Some y → p < 100 → IsSure s y p (IsBlock (j.start.block y p))
+  pub log : (y p : ℕ) → y < 2 → job_named j ≡ Some y → p < job_map_start j → IsSure s y p (IsBlock (j.start.block y p))
 
 -- what holds at every moment of a commit, whatever the step
 pub record HoldsThroughout (j : Job) (s : Disks) : Type 0 where
@@ -119,8 +124,8 @@ IsGateOpen s x = IsSure s x 0 (λ b. is_open b ≡ true)
 -- the places of the batch hold it
 pub record IsBatchLogged (j : Job) (s : Disks) (x : ℕ) : Type 0 where
   pub meta : IsSure s x 2 (IsBlock j.spelled)
-  pub list : IsSure s x 3 (IsBlock j.list)
-  pub blocks : (k : ℕ) → k < length j.batch → IsSure s x (4 + k) (IsBlock (target_block j k))
+  pub list : IsSure s x (list_place 0) (IsBlock j.list)
+  pub blocks : (k : ℕ) → k < length j.batch → IsSure s x (body_place k) (IsBlock (target_block j k))
 
 -- not loose
 abbrev pub IsSyncedPlace : Disks → ℕ → ℕ → Type 0
@@ -140,11 +145,11 @@ OldMetas j s = (x : ℕ) → IsLiveLog j x → IsSure s x 1 (IsBlock (j.start.bl
 
 -- past the log all is as it was
 abbrev pub ContentsAreOld : Job → Disks → Type 0
-ContentsAreOld j s = (d p : ℕ) → 100 ≤ p → IsSure s d p (IsBlock (block_before j d p))
+ContentsAreOld j s = (d p : ℕ) → job_map_start j ≤ p → IsSure s d p (IsBlock (block_before j d p))
 
 -- past the log the batch is laid
 abbrev pub ContentsAreNew : Job → Disks → Type 0
-ContentsAreNew j s = (d p : ℕ) → GetsTargets j d → 100 ≤ p → IsSure s d p (IsBlock (block_with_batch j d p))
+ContentsAreNew j s = (d p : ℕ) → GetsTargets j d → job_map_start j ≤ p → IsSure s d p (IsBlock (block_with_batch j d p))
 
 -- Step 1: the gates are closed, and the log disks below `k` are logged.
 pub record LogCore (j : Job) (k : ℕ) (s : Disks) : Type 0 where
@@ -170,8 +175,8 @@ pub record LogIn (j : Job) (k n : ℕ) (s : Disks) : Type 0 where
   pub core : LogCore j k s
   pub synced : SyncedBut (job_named j) k s
   pub meta : job_named j ≢ Some k → IsSeen s k 2 (IsBlock j.spelled)
-  pub list : job_named j ≢ Some k → IsSeen s k 3 (IsBlock j.list)
-  pub blocks : (m : ℕ) → m < n → job_named j ≢ Some k → IsSeen s k (4 + m) (IsBlock (target_block j m))
+  pub list : job_named j ≢ Some k → IsSeen s k (list_place 0) (IsBlock j.list)
+  pub blocks : (m : ℕ) → m < n → job_named j ≢ Some k → IsSeen s k (body_place m) (IsBlock (target_block j m))
 
 -- Step 2: all live log disks are logged, and the gates of the first `k` are open; those after the
 -- next one are closed.
@@ -199,18 +204,18 @@ pub record LayCore (j : Job) (s : Disks) : Type 0 where
   pub beside : HoldsThroughout j s
   pub logged : (x : ℕ) → IsLiveLog j x → IsBatchLogged j s x
   pub opened : (x : ℕ) → IsLiveLog j x → IsGateOpen s x
-  pub others : (d p : ℕ) → 100 ≤ p → (names_place j.batch d p ≡ true) ⊎ IsSure s d p (IsBlock (block_before j d p))
+  pub others : (d p : ℕ) → job_map_start j ≤ p → (names_place j.batch d p ≡ true) ⊎ IsSure s d p (IsBlock (block_before j d p))
   pub synced : (d p : ℕ) → ((names_place j.batch d p ≡ true) × GetsTargets j d) ⊎ IsSyncedPlace s d p
 
 -- with the first `n` targets written
 pub record LayIn (j : Job) (n : ℕ) (s : Disks) : Type 0 where
   pub core : LayCore j s
-  pub held : (d p : ℕ) → GetsTargets j d → 100 ≤ p → IsSeen s d p (IsBlock (overlaid_block (take n j.batch) d p (block_before j d p)))
+  pub held : (d p : ℕ) → GetsTargets j d → job_map_start j ≤ p → IsSeen s d p (IsBlock (overlaid_block (take n j.batch) d p (block_before j d p)))
 
 -- with all targets written, and the disks below `n` synced
 pub record SyncIn (j : Job) (n : ℕ) (s : Disks) : Type 0 where
   pub core : LayCore j s
-  pub held : (d p : ℕ) → GetsTargets j d → 100 ≤ p → IsSeen s d p (IsBlock (block_with_batch j d p))
+  pub held : (d p : ℕ) → GetsTargets j d → job_map_start j ≤ p → IsSeen s d p (IsBlock (block_with_batch j d p))
   pub synced : (d p : ℕ) → d < n → IsSyncedPlace s d p
 
 -- Step 4: the batch is laid, and the meta stands at place 1 of the log disks below `k`.
@@ -259,7 +264,7 @@ pub record IsEarlyImage (j : Job) (i : Disks) : Type 0 where
       → ((is_open (i.block x 0) ≡ false) × (i.block x 1 ≡ j.start.block x 1)) ⊎ Says i x (open_with j)
   pub in_order : IsLiveLog j j.first → IsPresent i j.first → is_open (i.block j.first 0) ≡ false
       → (y : ℕ) → IsLiveLog j y → IsPresent i y → is_open (i.block y 0) ≡ false
-  pub held : (d p : ℕ) → IsPresent i d → 100 ≤ p → i.block d p ≡ block_before j d p
+  pub held : (d p : ℕ) → IsPresent i d → job_map_start j ≤ p → i.block d p ≡ block_before j d p
 
 -- And from then on: each live log disk is open with the batch, or closed over the new meta with
 -- the batch laid.
@@ -267,25 +272,25 @@ pub record IsLateImage (j : Job) (i : Disks) : Type 0 where
   pub kept : KeepsSlotsAndLogs j i
   pub sides : (x : ℕ) → IsLiveLog j x → IsPresent i x
       → Says i x (open_with j) ⊎ Says i x (closed_over j.meta)
-  pub held : (d p : ℕ) → GetsTargets j d → IsPresent i d → 100 ≤ p
+  pub held : (d p : ℕ) → GetsTargets j d → IsPresent i d → job_map_start j ≤ p
       → overlaid_block j.batch d p (i.block d p) ≡ block_with_batch j d p
   pub done : (x d p : ℕ) → IsLiveLog j x → IsPresent i x → Says i x (closed_over j.meta) → GetsTargets j d
-      → IsPresent i d → 100 ≤ p → i.block d p ≡ block_with_batch j d p
+      → IsPresent i d → job_map_start j ≤ p → i.block d p ≡ block_with_batch j d p
 
 -- what holds at every moment before the targets are touched, of all that a stop may leave there
 pub record HoldsEarly (j : Job) (s : Disks) : Type 0 where
   pub early : (i : Disks) → IsLeftByStop s i → IsEarlyImage j i
-  pub aside : (i : Disks) → IsLeftByStop s i → (y p : ℕ) → y < 2 → job_named j ≡ Some y → p < 100 → IsPresent i y
+  pub aside : (i : Disks) → IsLeftByStop s i → (y p : ℕ) → y < 2 → job_named j ≡ Some y → p < job_map_start j → IsPresent i y
       → i.block y p ≡ j.start.block y p
 
 -- and from then on
 pub record HoldsLate (j : Job) (s : Disks) : Type 0 where
   pub late : (i : Disks) → IsLeftByStop s i → IsLateImage j i
-  pub aside : (i : Disks) → IsLeftByStop s i → (y p : ℕ) → y < 2 → job_named j ≡ Some y → p < 100 → IsPresent i y
+  pub aside : (i : Disks) → IsLeftByStop s i → (y p : ℕ) → y < 2 → job_named j ≡ Some y → p < job_map_start j → IsPresent i y
       → i.block y p ≡ j.start.block y p
 
 -- what holds at every moment of a commit, of all that a stop may leave there, with any slots lost
 pub record HoldsWhole (j : Job) (s : Disks) : Type 0 where
   pub either : ((i : Disks) → IsLeftByStop s i → IsEarlyImage j i) ⊎ ((i : Disks) → IsLeftByStop s i → IsLateImage j i)
-  pub aside : (i : Disks) → IsLeftByStop s i → (y p : ℕ) → y < 2 → job_named j ≡ Some y → p < 100 → IsPresent i y
+  pub aside : (i : Disks) → IsLeftByStop s i → (y p : ℕ) → y < 2 → job_named j ≡ Some y → p < job_map_start j → IsPresent i y
       → i.block y p ≡ j.start.block y p

@@ -15,7 +15,7 @@ use Rattle.paraid_txn.specs.Commit.{KeepsSlots, IsEachImage, IsOneMissing, Image
 use Rattle.paraid_image.specs.Out.{named_out}
 use Rattle.paraid_image.specs.Sides.{Batch, LogState, Says, is_open, targets}
 use Rattle.paraid_image.specs.Sound.{LogOk}
-use Rattle.paraid_txn.specs.CommitStages.{AllSynced, SyncedBut, IsBlock, KeepsSlotsAndLogs, IsLiveLog, Job, IsLateImage, job_named, open_with, block_before}
+use Rattle.paraid_txn.specs.CommitStages.{AllSynced, IsBlock, IsLateImage, IsLiveLog, Job, KeepsSlotsAndLogs, SyncedBut, block_before, job_map_start, job_named, open_with}
 use Rattle.paraid_image.specs.Standing.{Stands, other_log}
 
 -- what a log disk says by its gate, its meta and its batch
@@ -100,7 +100,7 @@ job_on_other_log j x = record {
 -- closed.
 pub record LeadsResume (j : Job) (x : ℕ) : Type 0 where
   pub live : IsLiveLog j x
-  pub large : (z : ℕ) → IsLiveLog j z → IsPresent j.start z → 100 ≤ j.start.size z
+  pub large : (z : ℕ) → IsLiveLog j z → IsPresent j.start z → job_map_start j ≤ j.start.size z
   pub says : IsPresent j.start x → Says j.start x (open_with j)
   pub other : IsLiveLog j (other_log x) → IsPresent j.start (other_log x)
       → (is_open (j.start.block (other_log x) 0) ≡ false) ⊎ Says j.start (other_log x) (open_with j)
@@ -113,12 +113,12 @@ pub record IsCatchUpImage (j : Job) (x : ℕ) (i : Disks) : Type 0 where
   pub other : IsLiveLog j (other_log x) → IsPresent i (other_log x)
       → ((is_open (i.block (other_log x) 0) ≡ false) × (is_open (j.start.block (other_log x) 0) ≡ false)
       × (i.block (other_log x) 1 ≡ j.start.block (other_log x) 1)) ⊎ Says i (other_log x) (open_with j)
-  pub held : (d p : ℕ) → IsPresent i d → 100 ≤ p → i.block d p ≡ block_before j d p
+  pub held : (d p : ℕ) → IsPresent i d → job_map_start j ≤ p → i.block d p ≡ block_before j d p
 
 -- What holds at every moment, of all that a stop may leave there, with any slots lost.
 pub record HoldsThroughResume (j : Job) (x : ℕ) (s : Disks) : Type 0 where
   pub either : ((i : Disks) → IsLeftByStop s i → IsCatchUpImage j x i) ⊎ ((i : Disks) → IsLeftByStop s i → IsLateImage j i)
-  pub aside : (i : Disks) → IsLeftByStop s i → (y p : ℕ) → y < 2 → job_named j ≡ Some y → p < 100 → IsPresent i y
+  pub aside : (i : Disks) → IsLeftByStop s i → (y p : ℕ) → y < 2 → job_named j ≡ Some y → p < job_map_start j → IsPresent i y
       → i.block y p ≡ j.start.block y p
 
 -- All but the gate and the meta of log disk `y` is as it was.

@@ -1,6 +1,7 @@
 -- Which calls are made: those of a commit are on the log of each log disk that it does not leave
 -- alone, and on the targets of its batch.
 use Rattle.std.specs.Prelude.{◌≡◌, ◌≢◌, ℕ, ◌<◌, ◌⊎◌, Bool, true, List, [], ◌∷◌, Option, Some}
+use Rattle.paraid_base.specs.Log.{log_most}
 use Rattle.paraid_rack.specs.declared.call.Call.{Call}
 use Rattle.paraid_rack.specs.declared.call.Call.TheVariants.{Read, Write, Sync, Park, SpinUp, Attach}
 use Rattle.paraid_rack.specs.Disks.{Disks, step}
@@ -21,8 +22,8 @@ IsUnskippedLog skip d = (d < 2) × (skip ≢ Some d)
 
 -- a read or a write in its log, or a sync of it
 abbrev pub UsesLog : Option ℕ → Call → Type 0
-UsesLog skip (Read d p done) = IsUnskippedLog skip d × (p < 100)
-UsesLog skip (Write d p b done) = IsUnskippedLog skip d × (p < 100)
+UsesLog skip (Read d p done) = IsUnskippedLog skip d × (p < log_most)
+UsesLog skip (Write d p b done) = IsUnskippedLog skip d × (p < log_most)
 UsesLog skip (Sync d done) = IsUnskippedLog skip d
 UsesLog skip (Park d done) = ⊥
 UsesLog skip (SpinUp d done) = ⊥

@@ -2,6 +2,7 @@
 ghost use Rattle.std.specs.Prelude.{◌≡◌, ◌≢◌, ℕ, ◌<◌, ◌≤◌, ◌⊎◌, true, false, [], length, slice_index, get_or, vec_capacity, map, AllPairs, IfOk, IfErr, OnOk, MatchOption, is_ok, ◌||◌, nat_lt, ◌==◌};
 ghost use Rattle.std.specs.List.{list_any};
 ghost use Rattle.paraid_base.specs.declared.block.Block.{Block as BlockType};
+ghost use Rattle.paraid_base.specs.Log.{batch_room};
 ghost use Rattle.paraid_base.specs.Xor.{zero_block};
 ghost use Rattle.paraid_record.specs.Targets.{no_target, targets_of};
 ghost use Rattle.paraid_image.specs.Neutral.{names_place};
@@ -9,13 +10,13 @@ ghost use Rattle.paraid_image.specs.Sides.{targets};
 ghost use Rattle.paraid_txn.specs.Batches.{batch_blocks, names_disk, with_target};
 ghost use Rattle.paraid_image.specs.Standing.{overlaid_block};
 
-use paraid_base::{Block, DiskNo, NoMemory, Place};
+use paraid_base::{BATCH_ROOM, Block, DiskNo, NoMemory, Place};
 use paraid_record::{Target, Targets};
 use std::alloc::Global;
 use std::marker::Model;
 
 /// The most targets of a batch.
-pub const MOST: usize = 96;
+pub const MOST: usize = BATCH_ROOM;
 
 /// A batch holds its 96 targets, and this one is new.
 #[derive(Clone, Copy)]
@@ -42,13 +43,14 @@ impl Model for Batch {
     ghost use Rattle.std.specs.Prelude.{List, map, length, ◌≤◌, ◌≢◌, AllPairs, vec_capacity};
     ghost use Rattle.paraid_base.specs.declared.block.Block.{Block as BlockType};
     ghost use Rattle.paraid_record.specs.declared.targets.Target.{Target as TargetType};
+    ghost use Rattle.paraid_base.specs.Log.{batch_room};
     ghost use Rattle.paraid_image.specs.Sides.{targets};
 
     ghost Value = { List (TargetType × BlockType) };
 
     ghost view = { λ b. map (λ s. (s.target, s.block)) b.staged.items };
 
-    ghost invariant = { λ b. (length b.staged.items ≤ 96) × (96 ≤ vec_capacity b.staged)
+    ghost invariant = { λ b. (length b.staged.items ≤ batch_room) × (batch_room ≤ vec_capacity b.staged)
         × AllPairs (λ s t. s.target ≢ t.target) b.staged.items };
 }
 
@@ -66,7 +68,7 @@ impl Batch {
     /// The number of targets, at most 96.
     pub fn count(&self) -> u8
         ensures value { result ≡ length self.now }
-        ensures few { result ≤ 96 }
+        ensures few { result ≤ batch_room }
     {
         self.staged.len() as u8
     }
@@ -77,10 +79,10 @@ impl Batch {
     pub fn add(&mut self, disk: DiskNo, place: Place, block: &Block) -> Result<(), Full>
         ensures ok { OnOk result (self.new
             ≡ with_target self.old (record { disk = disk; place = place }) block.now) }
-        ensures full { IfErr result (λ full. (full.count ≡ 96) × (length self.old ≡ 96)
+        ensures full { IfErr result (λ full. (full.count ≡ batch_room) × (length self.old ≡ batch_room)
             × (names_place self.old disk place ≡ false) × (self.new ≡ self.old)) }
         ensures room { OnOk result
-            ((names_place self.old disk place ≡ true) ⊎ (length self.old < 96)) }
+            ((names_place self.old disk place ≡ true) ⊎ (length self.old < batch_room)) }
     {
         let target = Target { disk, place };
         if let Some(at) = self.find(target) {
@@ -146,7 +148,7 @@ impl Batch {
     /// The list of its targets.
     pub fn targets(&self) -> Targets
         ensures value { targets_of result ≡ targets self.now }
-        ensures few { result.count ≤ 96 }
+        ensures few { result.count ≤ batch_room }
         ensures count { result.count ≡ length self.now }
         ensures distinct { AllPairs (λ s t. s ≢ t) (targets self.now) }
     {

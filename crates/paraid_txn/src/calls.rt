@@ -1,6 +1,7 @@
 //! The calls that a commit makes of the rack: a disk that is skipped or absent gets none, the
 //! first loss is borne, and the second is too many.
 ghost use Rattle.std.specs.Prelude.{◌≡◌, ◌≢◌, ◌<◌, true, false, Some, Ok, is_ok};
+ghost use Rattle.paraid_base.specs.Log.{log_most};
 ghost use Rattle.paraid_rack.specs.Trail.{Trail, now};
 ghost use Rattle.paraid_rack.specs.declared.call.Call.TheVariants.{Read, Sync, Write};
 ghost use Rattle.paraid_rack.specs.declared.call.Power.TheVariants.{Absent};
@@ -104,7 +105,7 @@ pub fn put_synced<R: Rack>(
 ) -> Result<(), Two>
     requires exists { disk < R.slot_count rack.old }
     requires log_disk { disk < 2 }
-    requires in_log { place < 100 }
+    requires in_log { place < log_most }
     requires log { IsLogReady skip (R.slot rack.old) }
     ensures does { MayPutSynced R.Rack skip disk place block.now rack.old rack.new result }
     ensures leaves { SyncedPart R.Rack (UsesLog skip) losses.old losses.new rack.old rack.new

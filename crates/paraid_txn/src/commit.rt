@@ -25,6 +25,7 @@
 //! A disk that fails is left out of the rest.
 ghost use Rattle.std.specs.Prelude.{◌≡◌, ◌≢◌, ℕ, ◌+◌, ◌<◌, ◌≤◌, true, false, length, Some, None, OnOk, OnErr, IfErr, IfOk, All, AllPairs, ◌-◌};
 ghost use Rattle.paraid_base.specs.declared.fault.Two.{Two as TwoType};
+ghost use Rattle.paraid_base.specs.Log.{batch_room, log_least};
 ghost use Rattle.paraid_record.specs.declared.targets.Target.{Target as TargetType};
 ghost use Rattle.paraid_rack.specs.Disks.{Disks};
 ghost use Rattle.paraid_rack.specs.Told.{Ran};
@@ -48,7 +49,7 @@ use crate::batch::Batch;
 use crate::calls::{put, put_synced, sync_slot};
 use crate::losses::Losses;
 use crate::store::{Store, find_absent, out_first};
-use paraid_base::{Block, DiskNo, Two};
+use paraid_base::{Block, DiskNo, FIRST_BODY, FIRST_LIST, Two};
 use paraid_rack::Rack;
 use paraid_record::{Meta, write_meta, write_targets};
 
@@ -74,7 +75,7 @@ fn put_blocks<R: Rack>(
     requires exists { disk < R.slot_count rack.old }
     requires log_disk { disk < 2 }
     requires log { IsLogReady skip (R.slot rack.old) }
-    requires few { length batch.now ≤ 96 }
+    requires few { length batch.now ≤ batch_room }
     ensures slots { R.slot_count rack.new ≡ R.slot_count rack.old }
     ensures part { CommitPart R.Rack (UsesLog skip) losses.old losses.new rack.old rack.new
         result }
@@ -90,7 +91,7 @@ fn put_blocks<R: Rack>(
             losses,
             skip,
             disk,
-            4 + u32::from(at),
+            FIRST_BODY + u32::from(at),
             batch.block(at as usize),
         )?;
     }
@@ -110,7 +111,7 @@ pub fn write_log<R: Rack>(
     requires exists { disk < R.slot_count rack.old }
     requires log_disk { disk < 2 }
     requires log { IsLogReady skip (R.slot rack.old) }
-    requires few { length batch.now ≤ 96 }
+    requires few { length batch.now ≤ batch_room }
     ensures leaves { SyncedPart R.Rack (UsesLog skip) losses.old losses.new rack.old rack.new
         result }
     ensures crash { (j : Job) → IsSpelled j → job_named j ≡ skip → j.batch ≡ batch.now
@@ -119,7 +120,7 @@ pub fn write_log<R: Rack>(
         (R.told rack.old) (R.told rack.new) result }
 {
     put(rack, losses, skip, disk, 2, meta)?;
-    put(rack, losses, skip, disk, 3, list)?;
+    put(rack, losses, skip, disk, FIRST_LIST, list)?;
     put_blocks(rack, losses, skip, disk, batch)?;
     sync_slot(rack, losses, skip, disk) // before its gate opens
 }
@@ -133,8 +134,8 @@ fn lay<R: Rack>(
 ) -> Result<(), Two>
     requires ready { AreTargetsReady skip (R.slot_count rack.old) (R.slot rack.old)
         (targets batch.now) }
-    requires past_log { All (λ (t : TargetType). 100 ≤ t.place) (targets batch.now) }
-    requires few { length batch.now ≤ 96 }
+    requires past_log { All (λ (t : TargetType). log_least ≤ t.place) (targets batch.now) }
+    requires few { length batch.now ≤ batch_room }
     ensures slots { R.slot_count rack.new ≡ R.slot_count rack.old }
     ensures part { CommitPart R.Rack (UsesTarget skip batch.now) losses.old losses.new rack.old rack.new
         result }
@@ -224,7 +225,7 @@ fn write_logs<R: Rack>(
 ) -> Result<(), Two>
     requires exists { 2 ≤ R.slot_count rack.old }
     requires log { IsLogReady skip (R.slot rack.old) }
-    requires few { length batch.now ≤ 96 }
+    requires few { length batch.now ≤ batch_room }
     ensures leaves { SyncedPart R.Rack (UsesLog skip) losses.old losses.new rack.old rack.new
         result }
     ensures crash { (j : Job) → IsSpelled j → job_named j ≡ skip → j.batch ≡ batch.now
@@ -268,9 +269,9 @@ pub fn lay_all<R: Rack>(
     requires exists { disks ≤ R.slot_count rack.old }
     requires ready { AreTargetsReady skip (R.slot_count rack.old) (R.slot rack.old)
         (targets batch.now) }
-    requires past_log { All (λ (t : TargetType). 100 ≤ t.place) (targets batch.now) }
+    requires past_log { All (λ (t : TargetType). log_least ≤ t.place) (targets batch.now) }
     requires below { All (λ (t : TargetType). t.disk < disks) (targets batch.now) }
-    requires few { length batch.now ≤ 96 }
+    requires few { length batch.now ≤ batch_room }
     ensures leaves { SyncedPart R.Rack (UsesTarget skip batch.now) losses.old losses.new rack.old rack.new
         result }
     ensures crash { (j : Job) → IsSpelled j → job_gone j ≡ skip → j.batch ≡ batch.now
@@ -364,7 +365,7 @@ fn find_second(lost: Option<DiskNo>, named: Option<DiskNo>) -> Option<Two>
 // The block that spells the targets of a batch.
 pub fn spell_targets(batch: &Batch) -> Block
     ensures value { result.bytes ≡ targets_bytes (targets batch.now) }
-    ensures few { length (targets batch.now) ≤ 96 }
+    ensures few { length (targets batch.now) ≤ batch_room }
     ensures distinct { AllPairs (λ s t. s ≢ t) (targets batch.now) }
 {
     let mut list = Block::zero();

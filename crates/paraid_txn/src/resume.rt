@@ -10,6 +10,7 @@
 //!
 //! A log disk that the meta names out is left alone.
 ghost use Rattle.std.specs.Prelude.{◌≡◌, ◌≢◌, ◌-◌, ◌<◌, ◌≤◌, true, false, length, Some, OnOk, IfErr, IfOk};
+ghost use Rattle.paraid_base.specs.Log.{batch_room};
 ghost use Rattle.paraid_rack.specs.Told.{Ran};
 ghost use Rattle.paraid_record.specs.Targets.{AreTargets};
 ghost use Rattle.paraid_txn.specs.Commit.{gone_out as gone_of};
@@ -53,7 +54,7 @@ fn catch_up<R: Rack>(
     requires exists { 2 ≤ R.slot_count rack.old }
     requires log_disk { side < 2 }
     requires log { IsLogReady skip (R.slot rack.old) }
-    requires few { length batch.now ≤ 96 }
+    requires few { length batch.now ≤ batch_room }
     ensures leaves { SyncedPart R.Rack (UsesLog skip) losses.old losses.new rack.old rack.new
         result }
     ensures crash { (j : Job) → IsSpelled j → job_named j ≡ skip → j.batch ≡ batch.now

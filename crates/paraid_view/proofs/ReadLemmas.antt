@@ -5,6 +5,7 @@ use Rattle.std.proofs.lemmas.Bool.{cases_eq, false≢true}
 use Rattle.std.proofs.lemmas.Bool.Decides.{nat_tests}
 use Rattle.std.proofs.lemmas.List.{append-nil}
 use Rattle.paraid_base.specs.declared.block.Block.{Block}
+use Rattle.paraid_base.specs.Log.{log_least}
 use Rattle.paraid_rack.specs.declared.call.Call.{Call}
 use Rattle.paraid_rack.specs.declared.call.Call.TheVariants.{Read, Write, Sync, Park, SpinUp, Attach}
 use Rattle.paraid_rack.specs.declared.call.Power.{Power}
@@ -181,8 +182,8 @@ module _ (s : Disks) (e q : ℕ) where
       by false is there = absurd (false≢true (sym (ap (λ (w : Power). is_present w && nat_lt p ((step (Read e q false) s).size d)) (same d is s.power Absent)) ∙ there))
 
 reads_show : (n : ℕ) (batch : Batch) (f : Contents) (s : Disks) (cs : List Call) → AreArrayReads n s cs
-    → ((d p : ℕ) → has_place s d p ≡ true → 100 ≤ p → overlaid_block batch d p (s.block d p) ≡ f d p)
-    → (d p : ℕ) → has_place (run s cs) d p ≡ true → 100 ≤ p → overlaid_block batch d p ((run s cs).block d p) ≡ f d p
+    → ((d p : ℕ) → has_place s d p ≡ true → log_least ≤ p → overlaid_block batch d p (s.block d p) ≡ f d p)
+    → (d p : ℕ) → has_place (run s cs) d p ≡ true → log_least ≤ p → overlaid_block batch d p ((run s cs).block d p) ≡ f d p
 reads_show n batch f s [] are shows = shows
 reads_show n batch f s (Read e q done ∷ cs) are shows =
     reads_show n batch f (step (Read e q done) s) cs are.1
@@ -197,7 +198,7 @@ pub shows_after : (n : ℕ) (old new : Option Trail) (batch : Batch) (f : Conten
 shows_after n old new batch f ran shows t tells =
     let r = ran t tells in
     let here : now t ≡ run (now r.from) r.calls = ap now r.is ∙ now-extend r.from r.calls in
-    subst (λ (s : Disks). (d p : ℕ) → has_place s d p ≡ true → 100 ≤ p → overlaid_block batch d p (s.block d p) ≡ f d p) (sym here)
+    subst (λ (s : Disks). (d p : ℕ) → has_place s d p ≡ true → log_least ≤ p → overlaid_block batch d p (s.block d p) ≡ f d p) (sym here)
     (reads_show n batch f (now r.from) r.calls r.holds (shows r.from r.was))
 
 -- the disk of one read that fails
@@ -229,7 +230,7 @@ there s slot d p agrees spins within =
 
 -- What is read is what is shown.
 pub value_laid : (batch : Batch) (f : Contents) (old new : Option Trail) (Q : Disks → List Call → Type 0) (slot : ℕ → Slot) (d p : ℕ) (b : Block)
-    → ((t : Trail) → old ≡ Some t → Agrees (now t) slot) → (slot d).power ≡ Spinning → p < (slot d).size → 100 ≤ p → Ran old new Q
+    → ((t : Trail) → old ≡ Some t → Agrees (now t) slot) → (slot d).power ≡ Spinning → p < (slot d).size → log_least ≤ p → Ran old new Q
     → ShowsContents old batch f → IsSome new → ((t : Trail) → old ≡ Some t → b ≡ overlaid_block batch d p ((now t).block d p)) → b ≡ f d p
 value_laid batch f (Some t) new Q slot d p b agrees spins within far ran shows some is = is t refl ∙ shows t refl d p (there (now t) slot d p (agrees t refl) spins within) far
 value_laid batch f None new Q slot d p b agrees spins within far ran shows some is = let z : IsSome {T = Trail} None = told_before None new Q ran some in absurd (false≢true z)

@@ -1,5 +1,6 @@
 -- Reads of the disks of an array, and what they show.
 use Rattle.std.specs.Prelude.{◌≡◌, ◌≢◌, ℕ, ◌<◌, ◌≤◌, ◌⊎◌, Bool, true, List, [], ◌∷◌, Option, Some, None, Result, Ok, Err}
+use Rattle.paraid_base.specs.Log.{log_least}
 use Rattle.paraid_base.specs.Regions.{disk_size}
 use Rattle.paraid_dirty.specs.Table.{is_dirty}
 use Rattle.paraid_rack.specs.declared.call.Call.{Call}
@@ -67,7 +68,7 @@ pub record HaveRead {R : Type 0} {g : _} (count : R → ℕ) (slot : R → ℕ �
 
 -- with the batch laid over, the disks hold these blocks past the log
 abbrev pub ShowsContents : Option Trail → Batch → Contents → Type 0
-ShowsContents told batch f = (t : Trail) → told ≡ Some t → (d p : ℕ) → has_place (now t) d p ≡ true → 100 ≤ p
+ShowsContents told batch f = (t : Trail) → told ≡ Some t → (d p : ℕ) → has_place (now t) d p ≡ true → log_least ≤ p
     → overlaid_block batch d p ((now t).block d p) ≡ f d p
 
 -- what is seen of these blocks

@@ -1,5 +1,6 @@
 //! Reads of one place, and of one stripe, with all that is staged laid over.
 ghost use Rattle.std.specs.Prelude.{◌++◌, ◌≡◌, ◌≢◌, ℕ, ◌+◌, ◌<◌, ◌≤◌, Option, Some, None, MatchOption, OnOk, IfErr, IsSome};
+ghost use Rattle.paraid_base.specs.Log.{log_least};
 ghost use Rattle.paraid_base.specs.Regions.{disk_size, soft_place_of};
 ghost use Rattle.paraid_base.specs.Soft.{stripe_count};
 ghost use Rattle.paraid_base.specs.Sums.{without, xor_upto};
@@ -49,7 +50,7 @@ pub fn read_laid<R: Rack>(
     requires below { disk < disks_of store.old }
     requires spinning { (R.slot (store_rack store.old) disk).power ≡ Spinning }
     requires within { place < (R.slot (store_rack store.old) disk).size }
-    requires past_log { 100 ≤ place }
+    requires past_log { log_least ≤ place }
     ensures read { HaveRead R.slot_count R.slot R.told (disks_of store.old) (lost_by result)
         store.old store.new }
     ensures below { IfErr result (λ e. e < disks_of store.old) }
@@ -83,7 +84,7 @@ fn add_block<R: Rack>(
     requires below { disk < disks_of store.old }
     requires spinning { disk ≢ skipped → (R.slot (store_rack store.old) disk).power ≡ Spinning }
     requires within { disk ≢ skipped → place < (R.slot (store_rack store.old) disk).size }
-    requires past_log { 100 ≤ place }
+    requires past_log { log_least ≤ place }
     ensures read { HaveRead R.slot_count R.slot R.told (disks_of store.old) (lost_by result)
         store.old store.new }
     ensures below { IfErr result (λ e. e < disks_of store.old) }

@@ -10,4 +10,4 @@ unfolding block_at
 returns c =
     let image = c.args.image.now in
     let has = sym c.has_place.ensures ∙ c.if-not-has_place.false in
-    c.laid.ensures ∙ sym (contents-there (disks_in image) (batch_in image c.args.says.now) c.args.disk c.args.place c.if-place-lt100.false has)
+    c.laid.ensures ∙ sym (contents-there (disks_in image) (batch_in image c.args.says.now) c.args.disk c.args.place c.if-place-lt-MAP_START.false has)

@@ -1,4 +1,5 @@
 use Rattle.std.proofs.Common.{◌≡◌, List, arith, length, sym, ◌∙◌}
+use Rattle.paraid_base.specs.Log.{batch_room}
 use Rattle.paraid_record.specs.declared.targets.Target.{Target}
 use Rattle.paraid_image.specs.Sides.{stored_block}
 use Rattle.paraid_plain.specs.Images.{disks_in}
@@ -12,7 +13,7 @@ loop-at-preserved c =
     let says = c.args.says.now in
     let log = stored_block (disks_in c.args.image.now) says.disk in
     let list : List Target = says.targets.list in
-    let long : length list ≡ 96 = search arith in
+    let long : length list ≡ batch_room = search arith in
     let at = c.loop-at.at in
     let test = c.is_target.result in
     c.loop-at.invariant ∙ elim c.if-is_target.branch [

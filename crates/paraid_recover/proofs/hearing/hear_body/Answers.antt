@@ -1,6 +1,7 @@
 use Rattle.std.specs.Prelude.{false}
 use Rattle.std.specs.Prelude.{true, is_ok}
 use Rattle.std.proofs.Common.{refl, sym, ◌∙◌, ap, subst, arith, ◌≡◌, ◌+◌, length}
+use Rattle.paraid_base.specs.Log.{batch_room, body_place}
 use Rattle.paraid_rack.specs.Disks.{Disks}
 use Rattle.paraid_rack.specs.Slots.{Slot}
 use Rattle.paraid_rack.specs.Trail.{now}
@@ -40,7 +41,7 @@ loop-at-preserved g c =
           let from = c.from.ensures in
           subst (AreBlocksLogged (stored_block (now t) c.args.disk) 4) (sym more)
           (logged_more (stored_block (now t) c.args.disk) 4 c.loop-at.batch (target, c.read_place.new.into) was
-          (at_place (stored_block (now t) c.args.disk) (4 + length c.loop-at.batch) _ c.read_place.new.into (c.in_ok-read_place.ensures.block t tells) (omega arith)));
+          (at_place (stored_block (now t) c.args.disk) (body_place (length c.loop-at.batch)) _ c.read_place.new.into (c.in_ok-read_place.ensures.block t tells) (omega arith)));
     }
 
 pub returns-in_err-read_place : goal.returns-in_err-read_place
@@ -51,7 +52,7 @@ returns-in_err-read_place g c =
       reads =
           let few = c.requires.few in
           let below = c.loop-at-test.true in
-          log_fits g.R.Rack c.args.disk (c.loop-at.at + 1) 96 (omega arith) c.args.rack.now c.read_place.new.rack (is_ok r)
+          log_fits g.R.Rack c.args.disk (c.loop-at.at + 1) batch_room (omega arith) c.args.rack.now c.read_place.new.rack (is_ok r)
           (log_raised g.R.Rack c.args.disk (c.loop-at.at + 1) c.args.rack.now c.read_place.new.rack r _ raised
           (log_then g.R.Rack c.args.disk c.loop-at.at 1 (c.loop-at.at + 1) (omega arith) c.args.rack.now c.loop-at.rack c.read_place.new.rack false c.loop-at.invariant.reads c.in_err-read_place.ensures.reads));
       named = none_done _ r _ raised;
@@ -62,7 +63,7 @@ returns-in_err-read_place g c =
 pub returns-in-Err : goal.returns-in-Err
 returns-in-Err g c =
     let size = read_so_far c.loop-at.batch (targets_of c.args.places.now) c.loop-at.at (below_all c.args.places.now.count c.loop-at.at c.args.places.now.list c.target_at-target.ensures.list c.loop-at-test.true) c.loop-at.invariant.named in
-    let full : length c.loop-at.batch ≡ 96 = c.in-Err.ensures.full.1 in
+    let full : length c.loop-at.batch ≡ batch_room = c.in-Err.ensures.full.1 in
     let few = c.requires.few in
     let at = c.loop-at-test.true in
     absurd (omega arith)
@@ -73,7 +74,7 @@ returns g c =
     let few = c.requires.few in
     let end = c.loop-at.auto.at-end in
     record {
-      reads = log_fits g.R.Rack c.args.disk c.loop-at.at 96 (omega arith) c.args.rack.now c.loop-at.rack true c.loop-at.invariant.reads;
+      reads = log_fits g.R.Rack c.args.disk c.loop-at.at batch_room (omega arith) c.args.rack.now c.loop-at.rack true c.loop-at.invariant.reads;
       named = named_all c.loop-at.batch count c.loop-at.at c.args.places.now.list c.loop-at.invariant.named (omega arith);
       logged = c.loop-at.invariant.logged;
     }

@@ -8,6 +8,7 @@ use Rattle.paraid_rack.specs.Trail.{Trail, now}
 use Rattle.paraid_record.specs.Targets.{AreTargets, targets_of}
 use Rattle.paraid_record.specs.declared.targets.Target.{Target}
 use Rattle.std.specs.Prelude.{List}
+use Rattle.paraid_base.specs.Log.{batch_room}
 use Rattle.paraid_recover.specs.HeardSides.{HasReadLog}
 use Rattle.paraid_image.specs.Sides.{is_open, stored_block}
 use Rattle.paraid_recover.proofs.HeardLemmas.{open_bad_list, open_bad_meta, open_formed}
@@ -108,7 +109,7 @@ returns-in_err-hear_body g c =
     let raised = c.from_residual-in_err-hear_body.ensures.1 in
     record {
       reads = log_raised g.R.Rack c.args.disk 98 c.args.rack.now c.hear_body.new.rack r _ raised
-          (log_then g.R.Rack c.args.disk 2 96 98 (omega arith) c.args.rack.now c.read_place-2.new.rack c.hear_body.new.rack false (both g at) c.in_err-hear_body.ensures.reads);
+          (log_then g.R.Rack c.args.disk 2 batch_room 98 (omega arith) c.args.rack.now c.read_place-2.new.rack c.hear_body.new.rack false (both g at) c.in_err-hear_body.ensures.reads);
       heard = none_done_if _ r _ raised;
       form = none_done_if _ r _ raised;
     }
@@ -117,7 +118,7 @@ pub returns : goal.returns
 returns g c =
     let at = (goal.at.returns g c).In_ok-read_place-2 in
     record {
-      reads = log_then g.R.Rack c.args.disk 2 96 98 (omega arith) c.args.rack.now c.read_place-2.new.rack c.hear_body.new.rack true (both g at) c.in_ok-hear_body.ensures.reads;
+      reads = log_then g.R.Rack c.args.disk 2 batch_room 98 (omega arith) c.args.rack.now c.read_place-2.new.rack c.hear_body.new.rack true (both g at) c.in_ok-hear_body.ensures.reads;
       heard = λ t tells.
           let u = unchanged_now (c.in_ok-hear_body.ensures.reads.unchanged (refl {a = true})) t tells in
           let present = ap (λ (s : Disks). is_present (s.power c.args.disk)) u.2 ∙ here g at u.0 u.1 in

@@ -9,7 +9,8 @@ use Rattle.paraid_rack.specs.Slots.{Slot}
 use Rattle.paraid_rack.specs.Told.{Ran}
 use Rattle.paraid_rack.proofs.TrailsLemmas.{Ran-call, Ran-none}
 use Rattle.paraid_txn.specs.Uses.{EachCall}
-use Rattle.paraid_base.specs.Regions.{map_count}
+use Rattle.paraid_base.specs.Log.{map_block_place}
+use Rattle.paraid_base.specs.Regions.{map_count, map_place_of}
 use Rattle.paraid_recover.specs.Map.{ReadsMapOf}
 use Rattle.paraid_recover.proofs.RaisedLemmas.{handed, none_done}
 use Rattle.paraid_recover.proofs.MountCallsLemmas.{calls_then}
@@ -49,7 +50,7 @@ more_calls g c low =
     let reads = ReadsMapOf c.args.geometry.now c.args.disk in
     let spins = ap (λ (s : ℕ → Slot). (s c.args.disk).power) (left_same _ _ c.loop-j.invariant.read.left) ∙ c.requires.spinning in
     calls_then reads told_0 told_1 told_2 c.loop-j.invariant.calls
-    (Ran-call (EachCall reads) told_1 told_2 (Read c.args.disk (100 + c.loop-j.j) (is_ok c.read_block.result)) c.read_block.ensures.called
+    (Ran-call (EachCall reads) told_1 told_2 (Read c.args.disk (map_block_place c.args.geometry.now c.loop-j.j) (is_ok c.read_block.result)) c.read_block.ensures.called
     (λ s tells. ((g.met.R.Rack.agrees (store_rack c.loop-j.store) s tells).power c.args.disk ∙ spins, (refl, omega arith, omega arith), tt)))
 
 pub loop-j-preserved : goal.loop-j-preserved
@@ -73,8 +74,8 @@ loop-j-preserved g c =
             ap (λ (k : ℕ). is_dirty c.take_block.new.table k d) is
             ∙ take.here i d (omega arith) (omega arith) disk
             ∙ ap (λ (b : Block). bit_of (slice_index b.bytes i) d) (call.value f (shows_after (disks_of c.args.store.now) _ _ [] f before.read.calls shows) some)
-            ∙ ap (λ (k : ℕ). bit_of (slice_index (f c.args.disk (100 + k)).bytes i) d) (sym at)
-            ∙ ap (λ (k : ℕ). bit_of (slice_index (f c.args.disk (100 + q / 512)).bytes k) d) (sym rest)
+            ∙ ap (λ (k : ℕ). bit_of (slice_index (f c.args.disk (map_block_place c.args.geometry.now k)).bytes i) d) (sym at)
+            ∙ ap (λ (k : ℕ). bit_of (slice_index (f c.args.disk (map_place_of c.args.geometry.now q)).bytes k) d) (sym rest)
       ];
     }
 

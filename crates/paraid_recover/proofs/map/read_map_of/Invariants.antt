@@ -1,4 +1,5 @@
-use Rattle.std.specs.Prelude.{◌≡◌, ℕ, ◌+◌, ◌*◌, ◌/◌, ◌%◌, ◌<◌, [], length, slice_index, None, IsSome}
+use Rattle.std.specs.Prelude.{◌≡◌, ℕ, ◌*◌, ◌%◌, ◌<◌, [], length, slice_index, None, IsSome}
+use Rattle.paraid_base.specs.Regions.{map_place_of}
 use Rattle.paraid_dirty.specs.Bits.{bit_of}
 use Rattle.paraid_dirty.specs.Table.{is_dirty}
 use Rattle.paraid_rack.specs.Told.{Ran}
@@ -17,5 +18,5 @@ invariant-loop-j g l = record {
   calls : Ran (g.R.Rack.told (store_rack l.fn.store)) (g.R.Rack.told (store_rack l.store)) (EachCall (ReadsMapOf l.geometry l.disk));
   shows : (f : Contents) → ShowsContents (g.R.Rack.told (store_rack l.fn.store)) [] f → IsSome (g.R.Rack.told (store_rack l.store))
       → (q d : ℕ) → q < 512 * l.j → q < length l.fn.table → d < 8
-      → is_dirty l.table q d ≡ bit_of (slice_index (f l.disk (100 + q / 512)).bytes (q % 512)) d;
+      → is_dirty l.table q d ≡ bit_of (slice_index (f l.disk (map_place_of l.geometry q)).bytes (q % 512)) d;
 }

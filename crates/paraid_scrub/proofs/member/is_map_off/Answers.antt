@@ -1,7 +1,8 @@
 use Rattle.paraid_core.proofs.AfterLemmas.{handed}
 use Rattle.paraid_core.proofs.ErrLemmas.{none_done_if}
-use Rattle.std.proofs.Common.{◌≢◌, ◌-◌, ◌+◌, IsTrue, sym, subst}
+use Rattle.std.proofs.Common.{◌≢◌, ◌-◌, IsTrue, sym, subst}
 use Rattle.std.specs.Prelude.{◌↔◌}
+use Rattle.paraid_base.specs.Log.{map_block_place}
 use Rattle.paraid_record.specs.declared.meta.Meta.{Meta}
 use Rattle.paraid_image.specs.Standing.{other_log}
 use Rattle.paraid_scrub.specs.Looks.{IsReadable}
@@ -14,7 +15,7 @@ read_stored-requires-2-clause-readable g c = subst (λ (z : Meta). IsReadable z 
 pub returns : goal.returns
 returns g c = record {
   shown =
-      keeps_then (λ v. IsTrue c.differs.result ↔ (v.block c.args.disk (100 + c.args.at) ≢ v.block (other_log c.args.disk) (100 + c.args.at))) g.met.C.Stored.then g.met.C.Stored.told c.in_ok-read_stored.ensures.shown c.in_ok-read_stored-2.ensures.shown
+      keeps_then (λ v. IsTrue c.differs.result ↔ (v.block c.args.disk (map_block_place v.meta.setup.geometry c.args.at) ≢ v.block (other_log c.args.disk) (map_block_place v.meta.setup.geometry c.args.at))) g.met.C.Stored.then g.met.C.Stored.told c.in_ok-read_stored.ensures.shown c.in_ok-read_stored-2.ensures.shown
       (λ v s first second. differ_as c.differs.result _ _ _ _ c.differs.ensures first second);
   lost = tt;
 }

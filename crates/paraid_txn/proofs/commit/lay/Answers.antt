@@ -1,5 +1,6 @@
 use Rattle.std.specs.Prelude.{◌≡◌, ◌≢◌, ℕ, ◌+◌, ◌<◌, ◌≤◌, true, get_or, length, Some}
 use Rattle.std.proofs.Common.{inl, ap, arith, refl, subst, sym, ◌∙◌, rules}
+use Rattle.paraid_base.specs.Log.{log_least}
 use Rattle.paraid_base.specs.Xor.{zero_block}
 use Rattle.paraid_rack.specs.Told.{Ran, CrashTriple}
 use Rattle.paraid_record.specs.Targets.{no_target}
@@ -28,7 +29,7 @@ ready g c =
     rw c.target-target.ensures (c.loop-at.invariant.ready c.loop-at.at no_target (omega arith))
 
 -- and past the log
-past_log : (g : Over) (c : After-put g) → 100 ≤ c.target-target.result.place
+past_log : (g : Over) (c : After-put g) → log_least ≤ c.target-target.result.place
 past_log g c =
     let long = length-targets c.args.batch.now in
     rw c.target-target.ensures (c.requires.past_log c.loop-at.at no_target (omega arith))

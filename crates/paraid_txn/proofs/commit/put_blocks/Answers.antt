@@ -1,4 +1,5 @@
 use Rattle.std.specs.Prelude.{◌≡◌, ℕ, ◌+◌, ◌<◌, get_or, length}
+use Rattle.paraid_base.specs.Log.{body_place}
 use Rattle.paraid_base.specs.Xor.{zero_block}
 use Rattle.std.proofs.Common.{inl, ap, subst, sym, ◌∙◌, refl, arith, rules}
 use Rattle.paraid_rack.specs.Told.{Ran, CrashTriple}
@@ -40,7 +41,7 @@ pub loop-at-preserved : goal.loop-at-preserved
 loop-at-preserved g c = record {
   slots = c.put.ensures.slots ∙ c.loop-at.invariant.slots;
   log = log_stays_ready c.put.ensures.part.lasts c.loop-at.invariant.log;
-  part = CommitPart_answer tt (CommitPart_then c.loop-at.invariant.part (logs_write (4 + c.from.result) c.requires.log_disk (omega arith) c.in_ok-put.ensures.part));
+  part = CommitPart_answer tt (CommitPart_then c.loop-at.invariant.part (logs_write (body_place c.from.result) c.requires.log_disk (omega arith) c.in_ok-put.ensures.part));
   still_synced = StaySyncedBut-both _ _ _ _ (g.R.Rack.slot c.args.rack.now) (g.R.Rack.slot c.loop-at.rack) (g.R.Rack.slot c.put.new.rack) c.loop-at.invariant.part.lasts c.put.ensures.part.lasts c.loop-at.invariant.still_synced c.put.ensures.still_synced;
   ran = next g (goal.at.loop-at-preserved g c).After-put;
 }
@@ -48,7 +49,7 @@ loop-at-preserved g c = record {
 pub put-requires : goal.put-requires
 put-requires g c = record {
   exists = subst (λ (n : ℕ). c.args.disk < n) (sym c.loop-at.invariant.slots) c.requires.exists;
-  can = λ not. log_can (4 + c.from.result) c.loop-at.invariant.log c.requires.log_disk (omega arith) not;
+  can = λ not. log_can (body_place c.from.result) c.loop-at.invariant.log c.requires.log_disk (omega arith) not;
 }
 
 pub returns-in_err-put : goal.returns-in_err-put
@@ -56,7 +57,7 @@ returns-in_err-put g c = record {
   slots = search rules;
   part =
       CommitPart_raised _ c.from_residual.ensures.1
-      (CommitPart_then c.loop-at.invariant.part (logs_write (4 + c.from.result) c.requires.log_disk (omega arith) c.in_err-put.ensures.part));
+      (CommitPart_then c.loop-at.invariant.part (logs_write (body_place c.from.result) c.requires.log_disk (omega arith) c.in_err-put.ensures.part));
   still_synced = search rules;
   crash = λ j good is same.
       crash_failed _ _ c.from_residual.ensures.1

@@ -4,6 +4,7 @@ use Rattle.paraid_array.proofs.OutLemmas.{fails_newly}
 use Rattle.paraid_array.specs.TickAnswers.{MarksMove, TellsRebuild, TellsRest}
 use Rattle.paraid_base.specs.declared.event.Answer.TheVariants.{Ticked}
 use Rattle.paraid_base.specs.declared.event.Event.TheVariants.{Tick}
+use Rattle.paraid_base.specs.Log.{worn_at}
 use Rattle.paraid_base.specs.Told.{HasRisen}
 use Rattle.paraid_core.specs.declared.staged.Core.{Core}
 use Rattle.paraid_image.specs.Power.{PowerState}
@@ -12,7 +13,7 @@ use Rattle.paraid_serve.specs.Causes.{state_shown}
 use Rattle.paraid_controller.specs.Arrays.{shown_of_array}
 use Rattle.paraid_controller.proofs.CauseLemmas.{out_then, done_cause, ok_event, ok_moved, takes, tick_sum, ticks_by, two_cause}
 use Rattle.paraid_controller.specs.Lasting.{halt_of_end}
-use Rattle.std.proofs.Common.{refl, sym, ap, ◌∙◌, ◌+◌, ◌^◌, ◌<◌, ◌≤◌, Some, ℕ, min, subst}
+use Rattle.std.proofs.Common.{refl, sym, ap, ◌∙◌, ◌+◌, ◌<◌, ◌≤◌, Some, ℕ, min, subst}
 use Rattle.paraid_base.specs.declared.fault.Halt.TheVariants.{Two as HaltTwo}
 use Rattle.paraid_gear.specs.ThreeWindows.{lengths_of}
 use Rattle.paraid_record.specs.declared.meta.Meta.{Meta}
@@ -51,7 +52,7 @@ advance-requires g c =
     let t = c.count_tick.ensures in
     record {
       serving = serving_counted g.R.Rack.slot_count g.R.Rack.slot a.core c.count_tick.new.self t.store t.meta q.serving t.ready (t.serves q.serving.serves) t.draft t.copied;
-      epoch = subst (λ (m : Meta). m.epoch < 2 ^ 62) (sym t.meta) c.requires.epoch;
+      epoch = subst (λ (m : Meta). m.epoch < worn_at) (sym t.meta) c.requires.epoch;
       known = known_counted g.R.Rack.slot_count g.R.Rack.slot a.core c.count_tick.new.self t.store t.meta (known_of g.R.Rack.slot_count g.R.Rack.slot a.core (lengths_of a.windows) a.setup a.slots q);
       lengths = c.push.ensures.lengths ∙ q.windows ∙ ap (λ (z : Setup). z.windows) (sym q.same_setup) ∙ ap (λ (m : Meta). m.setup.windows) (sym t.meta);
     }

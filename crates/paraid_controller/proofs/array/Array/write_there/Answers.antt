@@ -4,11 +4,12 @@ use Rattle.paraid_controller.specs.Arrays.{shown_of_array}
 use Rattle.paraid_controller.proofs.CauseLemmas.{accepted, all_there, done_cause, takes, two_cause}
 use Rattle.paraid_record.specs.declared.meta.Setup.{Setup}
 use Rattle.paraid_machine.specs.Machine.{block_count}
+use Rattle.paraid_base.specs.Log.{worn_at}
 use Rattle.paraid_base.specs.Pairs.{pairs_of}
 use Rattle.paraid_base.specs.declared.block.Block.{Block}
 use Rattle.std.specs.Prelude.{All}
 use Rattle.paraid_controller.specs.Lasting.{halt_of_end}
-use Rattle.std.proofs.Common.{refl, ap, ◌+◌, ◌*◌, Some, ℕ, ◌<◌, ◌^◌, arith, subst, sym}
+use Rattle.std.proofs.Common.{refl, ap, ◌+◌, ◌*◌, Some, ℕ, ◌<◌, arith, subst, sym}
 use Rattle.paraid_base.specs.declared.fault.Halt.TheVariants.{Two as HaltTwo}
 use Rattle.paraid_record.specs.declared.meta.Meta.{Meta}
 use Rattle.paraid_gear.specs.ThreeWindows.{lengths_of}
@@ -97,4 +98,4 @@ pub invariant_of-self-in-Err : goal.invariant_of-self-in-Err
 invariant_of-self-in-Err g c = record { serving = λ e. ended_not_none _ e; worn = two_wear c.write_many.new.self.meta c.in-Err.two }
 
 pub overflow_add-result : goal.overflow_add-result
-overflow_add-result g c = let w = subst (λ (m : Meta). m.writes < 2 ^ 62) (sym c.meta-2.ensures) c.requires.writes in omega (arith, w)
+overflow_add-result g c = let w = subst (λ (m : Meta). m.writes < worn_at) (sym c.meta-2.ensures) c.requires.writes in omega (arith, w)

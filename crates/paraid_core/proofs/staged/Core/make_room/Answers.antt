@@ -15,6 +15,7 @@ use Rattle.paraid_core.proofs.OrderLemmas.{down_is_named}
 use Rattle.paraid_image.specs.Lost.{TellsLosses}
 use Rattle.paraid_core.proofs.AfterLemmas.{down_named}
 use Rattle.std.proofs.Common.{◌≤◌, inl}
+use Rattle.paraid_base.specs.Log.{batch_room}
 use Rattle.paraid_image.specs.Sides.{Batch}
 use Rattle.paraid_core.specs.Room.{commits_first}
 use Rattle.paraid_core.proofs.staged.Core.make_room.Goals as goal
@@ -79,7 +80,7 @@ returns g c = record {
   slots = c.commit.ensures.slots;
   ready = c.commit.ensures.ready;
   serves = on_ok_weaker c.commit.result (λ was_so. was_so c.requires.serves) c.commit.ensures.serves;
-  room = on_ok_weaker c.commit.result (λ was_so. subst (λ (b : Batch). length b + c.args.targets ≤ 96) (sym was_so) (let few = c.requires.few in omega (arith, few))) c.commit.ensures.nothing;
+  room = on_ok_weaker c.commit.result (λ was_so. subst (λ (b : Batch). length b + c.args.targets ≤ batch_room) (sym was_so) (let few = c.requires.few in omega (arith, few))) c.commit.ensures.nothing;
   staged = on_ok_weaker c.commit.result (λ was_so. let old = c.args.self.now in
       subst (λ (b : Batch). length b ≤ (if commits_first old.batch c.args.targets then 0 else length old.batch)) (sym was_so) (omega arith)) c.commit.ensures.nothing;
   cleans_less = c.commit.ensures.cleans_less;

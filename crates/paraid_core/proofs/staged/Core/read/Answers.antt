@@ -3,6 +3,7 @@ use Rattle.std.specs.Prelude.{◌≤◌, Bool, IsSome, if◌then◌else◌, true
 use Rattle.paraid_base.specs.declared.block.Block.{Block}
 use Rattle.paraid_base.specs.Cells.{home_row}
 use Rattle.paraid_base.specs.History.{History, after_all}
+use Rattle.paraid_base.specs.Log.{batch_room}
 use Rattle.paraid_image.specs.Sides.{Batch}
 use Rattle.paraid_image.specs.Out.{named_out, or_else}
 use Rattle.paraid_rack.specs.Told.{Ran, CrashTriple, Through}
@@ -303,7 +304,7 @@ clean_in_room-requires g c = record {
   no_draft = c.read_only.ensures.draft ∙ c.make_room.ensures.draft ∙ c.requires.no_draft;
   row = subst (λ (z : Setup). c.home-r.result.0 < z.geometry.rows) (sym (c.in_ok-read_only.ensures.setup ∙ c.in_ok-make_room.ensures.setup)) c.home-r.ensures.row_in;
   disk = subst (λ (z : Setup). c.home-r.result.1 < z.geometry.disks) (sym (c.in_ok-read_only.ensures.setup ∙ c.in_ok-make_room.ensures.setup)) c.home-r.ensures.disk_in;
-  room = subst (λ (b : Batch). length b + c.cleaning-room.result ≤ 96) (sym c.read_only.ensures.batch) c.in_ok-make_room.ensures.room;
+  room = subst (λ (b : Batch). length b + c.cleaning-room.result ≤ batch_room) (sym c.read_only.ensures.batch) c.in_ok-make_room.ensures.room;
   kept = λ low.
       let old = c.args.self.now in
       c.in_ok-read_only.ensures.cleans_less c.home-r.result.0 c.home-r.result.1 (c.in_ok-make_room.ensures.cleans_less c.home-r.result.0 c.home-r.result.1

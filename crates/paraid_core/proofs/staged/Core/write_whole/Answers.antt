@@ -1,6 +1,7 @@
 use Rattle.std.proofs.Common.{◌≡◌, ℕ, ap, subst, ◌∙◌}
 use Rattle.std.specs.Prelude.{Bool, false, true, ◌∷◌, ◌++◌, [], if◌then◌else◌}
 use Rattle.paraid_base.specs.History.{Entry, History}
+use Rattle.paraid_base.specs.Log.{batch_room}
 use Rattle.paraid_base.specs.Pairs.{pairs_of}
 use Rattle.paraid_dirty.specs.Table.{is_dirty}
 use Rattle.paraid_plan.specs.WrittenBits.{bits_after_writes}
@@ -116,7 +117,7 @@ try_write-requires-2 g c = record {
   ready = c.in_ok-done.ensures.ready;
   serves = c.in_ok-done.ensures.serves;
   blocks = subst (λ (z : Setup). All (λ (pair : ℕ × BlockType). pair.0 < z.geometry.rows * (z.geometry.disks - 1)) (pairs_of c.args.pairs.now)) (sym c.in_ok-done.ensures.setup) c.requires.blocks;
-  room = subst (λ (n : ℕ). n + 10 * c.args.pairs.now.count ≤ 96) (ap length (sym (c.in_ok-done.ensures.dropped c.if-done.false))) c.requires.room;
+  room = subst (λ (n : ℕ). n + 10 * c.args.pairs.now.count ≤ batch_room) (ap length (sym (c.in_ok-done.ensures.dropped c.if-done.false))) c.requires.room;
   fits =
       let old = c.args.self.now in
       let first : c.try_write.new.self.meta.writes ≡ old.meta.writes + 0 = c.in_ok-done.ensures.writes ∙ ap (λ (b : Bool). old.meta.writes + (if b then 1 else 0)) c.if-done.false in

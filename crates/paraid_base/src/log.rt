@@ -1,0 +1,17 @@
+//! The numbers of `specs/Log.antt`, for code.
+use crate::Place;
+
+/// The place of the first list of a batch's targets.
+pub const FIRST_LIST: Place = 3;
+
+/// The place of the block for the first target of a batch.
+pub const FIRST_BODY: Place = 4;
+
+/// The most targets of a batch.
+pub const BATCH_ROOM: usize = 96;
+
+/// The first place past the log, where the dirty map starts.
+pub const MAP_START: Place = 100;
+
+/// So many commits or writes, the greater of the two, and an array takes no more.
+pub const WORN_AT: u64 = 1 << 62;
