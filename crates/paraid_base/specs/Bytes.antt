@@ -14,7 +14,7 @@ length-xor_bytes [] b e = refl
 length-xor_bytes (x ∷ a) [] e = cc
 length-xor_bytes (x ∷ a) (y ∷ b) e = ap suc (length-xor_bytes a b (omega arith))
 
--- zeros are bytes (a fact that `zeroed` needs)
+-- zeros are bytes (a fact)
 pub zeros_small : (n k : ℕ) → slice_index (replicate n 0) k < 256
 zeros_small zero k = omega arith
 zeros_small (suc n) zero = omega arith

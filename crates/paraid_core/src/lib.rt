@@ -13,7 +13,6 @@ mod many;
 mod marks;
 mod park;
 mod plan;
-mod ready;
 mod replace;
 mod settle;
 mod staged;
@@ -28,6 +27,5 @@ pub use laws::{
     a_powered_array_can_begin, a_rest_is_stood_for, a_taken_write_is_accepted,
     an_attach_brings_no_meta, an_empty_batch_keeps_all, what_stands_stood_before,
 };
-pub use ready::can_begin;
 pub use staged::Core;
 pub use units::{RebuildUnit, units_are_copied_beside_stripes};
