@@ -18,7 +18,7 @@ slots_above_hold count slot w hold fits = record {
   parked = λ d is. none_of_two (slot d).unsynced (waits (w d)) (hold.parked d is) ((fits d).still is);
 }
 
--- what tells nothing agrees with anything
+-- of what tells nothing all is true
 pub none_told : {A : Type 0} (t : Trail) → ◌≡◌ {A = Option Trail} None (Some t) → A
 none_told t is = absurd (none_some is)
   where

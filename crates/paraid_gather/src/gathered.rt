@@ -104,6 +104,8 @@ impl<R: BulkRack> Rack for Gathered<R> {
 
     ghost agrees = { λ gathered trail told. none_told trail told };
 
+    ghost lawful = { λ gathered trail told. none_told trail told };
+
     fn slots(&self) -> u8 {
         self.rack.slots()
     }

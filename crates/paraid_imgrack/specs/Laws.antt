@@ -31,7 +31,7 @@ are_slots images few = record {
   parked = still images;
 }
 
--- what tells nothing agrees with anything
+-- of what tells nothing all is true
 pub nothing_told : {A : Type 0} (t : Trail) → ◌≡◌ {A = Option Trail} None (Some t) → A
 nothing_told t is = absurd (none_some is)
   where

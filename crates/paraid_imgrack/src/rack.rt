@@ -108,6 +108,8 @@ impl<F: Files<File = File> + Drop> Rack for ImageRack<F> {
 
     ghost agrees = { λ rack trail told. nothing_told trail told };
 
+    ghost lawful = { λ rack trail told. nothing_told trail told };
+
     fn slots(&self) -> u8 {
         self.images.len() as u8
     }

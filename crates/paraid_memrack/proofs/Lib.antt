@@ -8,3 +8,4 @@ pub mod NoteLemmas
 pub mod PlanLemmas
 pub mod RackLemmas
 pub mod FirstLemmas
+pub mod LawfulLemmas

@@ -2,6 +2,7 @@ pub mod CallPlan
 pub mod Counted
 pub mod Slots
 pub mod Tells
+pub mod ToldLawful
 pub mod Stop
 pub mod Versions
 pub mod Past

@@ -4,6 +4,7 @@ ghost use Rattle.paraid_rack.specs.declared.call.Power.TheVariants.{Absent};
 ghost use Rattle.paraid_rack.specs.Trail.{Trail, now};
 ghost use Rattle.paraid_rack.specs.Told.{GrowsByCall};
 ghost use Rattle.paraid_memrack.specs.Slots.{told_slot_at, full_slot_at};
+ghost use Rattle.paraid_memrack.specs.ToldLawful.{AreToldLawful, AreToldLawful-prop};
 ghost use Rattle.paraid_memrack.specs.Tells.{told_by, beginning_of, AreSlotsOf};
 
 use crate::log::{Log, Start};
@@ -30,12 +31,14 @@ pub struct MemRack {
     ghost keeps: { AreSlotsOf (told_by log.tells log.start.items log.calls.items)
         (full_slot_at slots.items) },
     ghost same: { length log.start.items ≡ length slots.items },
+    ghost lawful: { AreToldLawful (told_by log.tells log.start.items log.calls.items) } by { AreToldLawful-prop (told_by log.tells log.start.items log.calls.items) },
 }
 
 impl MemRack {
     ghost use Rattle.paraid_base.specs.Xor.{zero_block};
     ghost use Rattle.paraid_memrack.specs.CallPlan.{dirt_after};
     ghost use Rattle.paraid_rack.specs.Calls.{disk_of, is_done};
+    ghost use Rattle.paraid_rack.specs.Lawful.{IsLawful};
     ghost use Rattle.paraid_rack.specs.Alike.{IsAlike};
     ghost use Rattle.paraid_rack.specs.Disks.{Disks, IsImage, lose};
     ghost use Rattle.paraid_rack.specs.Trail.{disks, initial};
@@ -164,6 +167,7 @@ impl MemRack {
         requires on { disk_of call ≡ disk }
         requires failed { is_done call ≡ false }
         requires dirt { dirt ≡ dirt_after call (slots_of self.old disk).unsynced }
+        requires lawful { (t : Trail) → told_of self.old ≡ Some t → IsLawful (now t) call }
         ensures slots { rack_slot_count self.new ≡ rack_slot_count self.old }
         ensures slot { (leaves : Slot)
             → ChangesOneSlot (slots_of self.old) (slots_of self.new) disk leaves dirt false }
@@ -221,6 +225,8 @@ impl Rack for MemRack {
     ghost slots_hold = { λ rack. rack.sound };
 
     ghost agrees = { λ rack t is. agrees_of (now t) (full_slot_at rack.slots.items) (rack.keeps t is) };
+
+    ghost lawful = { λ rack t is. rack.lawful t is };
 
     fn slots(&self) -> u8 {
         self.slots.len() as u8

@@ -1,6 +1,7 @@
 ghost use Rattle.std.specs.Prelude.{◌≡◌, ◌<◌, ℕ, true, false, Option, Some, OnOk, is_ok};
 ghost use Rattle.paraid_rack.specs.Slots.{Slot, ChangesOneSlot, AreSlots, Agrees};
-ghost use Rattle.paraid_rack.specs.Trail.{Trail, now};
+ghost use Rattle.paraid_rack.specs.Trail.{Trail, initial, now};
+ghost use Rattle.paraid_rack.specs.Lawful.{AreLawful};
 ghost use Rattle.paraid_rack.specs.Told.{GrowsByCall};
 
 use crate::{Call, Power};
@@ -107,4 +108,8 @@ pub trait Rack {
 
     /// What is told of the calls agrees with what is always told.
     ghost agrees: { (rack : Self) (t : Trail) → told rack ≡ Some t → Agrees (now t) (slot rack) };
+
+    /// Each call that is told was lawful by the power of its disk as it was made.
+    ghost lawful: { (rack : Self) (t : Trail) → told rack ≡ Some t
+        → AreLawful (initial t.start) t.calls };
 }

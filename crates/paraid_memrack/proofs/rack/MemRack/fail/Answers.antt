@@ -6,6 +6,7 @@ use Rattle.paraid_memrack.proofs.ViewLemmas.{touched_failed}
 use Rattle.paraid_memrack.proofs.SlotCallLemmas.{holds_failed}
 use Rattle.paraid_memrack.proofs.NoteLemmas.{keeps_after, grows_told}
 use Rattle.paraid_memrack.proofs.RackLemmas.{notes_of}
+use Rattle.paraid_memrack.proofs.LawfulLemmas.{lawful_after}
 use Rattle.paraid_memrack.proofs.rack.MemRack.fail.Goals as goal
 
 pub invariant_of-self-clause-keeps : goal.invariant_of-self-clause-keeps
@@ -23,3 +24,6 @@ returns-clause-told c = grows_told _ _ _ _ c.note.ensures.told
 
 pub returns-clause-notes : goal.returns-clause-notes
 returns-clause-notes c = notes_of (ap (λ v. v.items) c.note.ensures.plan) c.note.ensures.most refl c.note.ensures.calls c.note.ensures.told
+
+pub invariant_of-self-clause-lawful : goal.invariant_of-self-clause-lawful
+invariant_of-self-clause-lawful c = lawful_after _ c.args.call c.note.ensures.told c.args.self.now.lawful c.requires.lawful

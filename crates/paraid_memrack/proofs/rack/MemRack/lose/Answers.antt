@@ -10,6 +10,7 @@ use Rattle.paraid_memrack.specs.Tells.{beginning_of, no_beginning, IsSlotOf}
 use Rattle.paraid_memrack.proofs.FirstLemmas.{told_untouched, tells_some, lost_start, keeps_lost}
 use Rattle.paraid_memrack.proofs.NoteLemmas.{some_same}
 use Rattle.paraid_memrack.proofs.ViewLemmas.{small_after, slots_after}
+use Rattle.paraid_memrack.proofs.LawfulLemmas.{lawful_untouched}
 use Rattle.paraid_memrack.proofs.rack.MemRack.lose.Goals as goal
 
 -- the slot is one of the start
@@ -54,3 +55,10 @@ returns-clause-lost c =
     let rack = c.args.self.now in
     subst (λ (s : List Beginning). IsAlike (lose c.args.disk (initial (start_of rack))) (initial s)) (sym c.lose.ensures.start)
     (lost_start (start_of rack) c.args.disk (at_start rack c.args.disk c.requires.exists))
+
+pub invariant_of-self-clause-lawful : goal.invariant_of-self-clause-lawful
+invariant_of-self-clause-lawful c =
+    let rack = c.args.self.now in
+    let log = c.lose.new.self in
+    let tells = tells_some rack.log.tells rack.log.start.items rack.log.calls.items c.requires.tells in
+    lawful_untouched _ (told_untouched log.tells log.start.items log.calls.items (c.lose.ensures.tells ∙ tells) (ap (λ v. v.items) c.lose.ensures.calls ∙ c.requires.unused)) refl

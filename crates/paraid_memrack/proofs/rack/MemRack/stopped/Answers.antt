@@ -1,4 +1,4 @@
-use Rattle.std.proofs.Common.{◌≡◌, List, length, map, sym, ◌∙◌, ap, subst, arith}
+use Rattle.std.proofs.Common.{◌≡◌, List, length, map, sym, ◌∙◌, ap, subst, arith, refl}
 use Rattle.std.proofs.lemmas.List.{length-map}
 use Rattle.paraid_rack.specs.Alike.{IsAlike}
 use Rattle.paraid_rack.specs.Disks.{Disks, IsImage}
@@ -12,6 +12,7 @@ use Rattle.paraid_memrack.specs.Stop.{IsPicked, kept_at}
 use Rattle.paraid_memrack.specs.Tells.{beginning_of}
 use Rattle.paraid_memrack.proofs.FirstLemmas.{told_untouched, told_trail, slot_first, length_first, small_first, sound_first, keeps_first}
 use Rattle.paraid_memrack.proofs.StopLemmas.{left_image, left_picked}
+use Rattle.paraid_memrack.proofs.LawfulLemmas.{lawful_untouched}
 use Rattle.paraid_memrack.proofs.rack.MemRack.stopped.Goals as goal
 
 -- what is left of so many slots is as many
@@ -65,3 +66,8 @@ returns-clause-picked c t tells =
     let same = ap (λ (l : List Start). map in_bytes (map beginning_of l)) c.in_ok-log.ensures.start ∙ c.in_ok-start.ensures in
     subst (λ (v : Trail). IsPicked c.args.pick v c.args.moment (initial (map beginning_of start))) (sym (told_trail log.tells log.start.items log.calls.items t tells))
     (left_picked c.args.pick u c.args.moment c.in_ok-past.past.items (map beginning_of start) c.in_ok-past.ensures.slots same)
+
+pub invariant_of-result-clause-lawful : goal.invariant_of-result-clause-lawful
+invariant_of-result-clause-lawful c =
+    let log = c.in_ok-log.log in
+    lawful_untouched _ (told_untouched log.tells log.start.items log.calls.items c.in_ok-log.ensures.tells c.in_ok-log.ensures.calls) refl

@@ -1,10 +1,12 @@
-use Rattle.std.proofs.Common.{refl, sym, ap, true}
+use Rattle.std.proofs.Common.{refl, sym, ap, true, ◌∙◌}
 use Rattle.paraid_rack.specs.declared.call.Call.TheVariants.{Park}
 use Rattle.paraid_memrack.specs.Slots.{full_slot_at}
 use Rattle.paraid_memrack.proofs.ViewLemmas.{touched_done}
 use Rattle.paraid_memrack.proofs.SlotCallLemmas.{holds_park}
 use Rattle.paraid_memrack.proofs.NoteLemmas.{keeps_after, grows_told}
 use Rattle.paraid_memrack.proofs.RackLemmas.{notes_of}
+use Rattle.paraid_memrack.proofs.LawfulLemmas.{lawful_after, none_loose}
+use Rattle.paraid_rack.specs.Trail.{now}
 use Rattle.paraid_memrack.proofs.rack.MemRackRack.park.Goals as goal
 
 pub fail-requires-clause-dirt : goal.fail-requires-clause-dirt
@@ -23,3 +25,9 @@ returns-clause-told c = grows_told _ _ _ _ c.note.ensures.told
 
 pub returns-clause-notes : goal.returns-clause-notes
 returns-clause-notes c = notes_of (ap (λ v. v.items) c.note.ensures.plan) c.note.ensures.most refl c.note.ensures.calls c.note.ensures.told
+
+pub fail-requires-clause-lawful : goal.fail-requires-clause-lawful
+fail-requires-clause-lawful c t tells = (let h = c.args.self.now.keeps t tells c.args.disk in (h.power ∙ c.requires.spinning, none_loose (now t) c.args.disk (full_slot_at c.args.self.now.slots.items c.args.disk) h c.requires.synced))
+
+pub invariant_of-self-clause-lawful : goal.invariant_of-self-clause-lawful
+invariant_of-self-clause-lawful c = lawful_after _ (Park c.args.disk true) c.note.ensures.told c.args.self.now.lawful (λ t tells. (let h = c.args.self.now.keeps t tells c.args.disk in (h.power ∙ c.requires.spinning, none_loose (now t) c.args.disk (full_slot_at c.args.self.now.slots.items c.args.disk) h c.requires.synced)))

@@ -5,6 +5,7 @@ use Rattle.paraid_memrack.proofs.ViewLemmas.{view_here, touched_none}
 use Rattle.paraid_memrack.proofs.SlotCallLemmas.{holds_read}
 use Rattle.paraid_memrack.proofs.NoteLemmas.{keeps_still, grows_told}
 use Rattle.paraid_memrack.proofs.RackLemmas.{notes_of, present, block_told}
+use Rattle.paraid_memrack.proofs.LawfulLemmas.{lawful_after}
 use Rattle.paraid_memrack.proofs.rack.MemRackRack.read.Goals as goal
 
 pub index-requires-2 : goal.index-requires-2
@@ -33,3 +34,9 @@ returns-clause-bytes c t tells =
 
 pub returns-clause-notes : goal.returns-clause-notes
 returns-clause-notes c = notes_of (ap (λ v. v.items) c.note.ensures.plan) c.note.ensures.most refl c.note.ensures.calls c.note.ensures.told
+
+pub fail-requires-clause-lawful : goal.fail-requires-clause-lawful
+fail-requires-clause-lawful c t tells = (c.args.self.now.keeps t tells c.args.disk).power ∙ c.requires.spinning
+
+pub invariant_of-self-clause-lawful : goal.invariant_of-self-clause-lawful
+invariant_of-self-clause-lawful c = lawful_after _ (Read c.args.disk c.args.place true) c.note.ensures.told c.args.self.now.lawful (λ t tells. (c.args.self.now.keeps t tells c.args.disk).power ∙ c.requires.spinning)

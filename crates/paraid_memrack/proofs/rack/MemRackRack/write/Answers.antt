@@ -1,4 +1,4 @@
-use Rattle.std.proofs.Common.{ℕ, refl, ap, true}
+use Rattle.std.proofs.Common.{ℕ, refl, ap, true, ◌∙◌}
 use Rattle.paraid_rack.specs.declared.call.Call.TheVariants.{Write}
 use Rattle.paraid_rack.specs.Slots.{Slot}
 use Rattle.paraid_memrack.specs.Slots.{full_slot_at}
@@ -7,6 +7,7 @@ use Rattle.paraid_memrack.proofs.SlotCallLemmas.{holds_write}
 use Rattle.paraid_memrack.proofs.NoteLemmas.{keeps_after, grows_told}
 use Rattle.paraid_memrack.proofs.RackLemmas.{notes_of}
 use Rattle.std.proofs.lemmas.List.{length-set}
+use Rattle.paraid_memrack.proofs.LawfulLemmas.{lawful_after}
 use Rattle.paraid_memrack.proofs.rack.MemRackRack.write.Goals as goal
 
 pub invariant_of-self-clause-keeps : goal.invariant_of-self-clause-keeps
@@ -27,3 +28,9 @@ pub returns-clause-notes : goal.returns-clause-notes
 returns-clause-notes c =
     let bytes = c.copy-bytes.ensures in
     notes_of (ap (λ v. v.items) c.note.ensures.plan) c.note.ensures.most refl (rw bytes at c.note.ensures.calls) (rw bytes at c.note.ensures.told)
+
+pub fail-requires-clause-lawful : goal.fail-requires-clause-lawful
+fail-requires-clause-lawful c t tells = (c.args.self.now.keeps t tells c.args.disk).power ∙ c.requires.spinning
+
+pub invariant_of-self-clause-lawful : goal.invariant_of-self-clause-lawful
+invariant_of-self-clause-lawful c = lawful_after _ (Write c.args.disk c.args.place c.args.block.now true) (rw c.copy-bytes.ensures at c.note.ensures.told) c.args.self.now.lawful (λ t tells. (c.args.self.now.keeps t tells c.args.disk).power ∙ c.requires.spinning)
