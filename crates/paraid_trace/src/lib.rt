@@ -17,6 +17,7 @@ mod text;
 pub use answered::{Answered, Beside, Brief};
 pub use asked::Asked;
 pub use generator::generate;
+pub use hexes::block as block_from_hex;
 pub use line::{number, parse_line, read_line};
 pub use replies::{reply, reply_state, reply_with};
 pub use text::{MAX_TEXT, Text};
