@@ -20,4 +20,5 @@ pub use laws::{
     a_volume_answers_by_its_own_calls, calls_on_other_volumes_leave_a_volume,
 };
 pub use name::Name;
+pub use size::{extent_count, extent_size};
 pub use volumes::Volumes;
