@@ -1,0 +1,3 @@
+pub mod NameWordLemmas
+pub mod LineLemmas
+pub mod ListLemmas
