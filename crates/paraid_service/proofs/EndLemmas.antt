@@ -77,7 +77,7 @@ halt_status_is : (halt : Halt) (status : ℕ) → status ≡ status_of_halt halt
 halt_status_is (HaltTwo two) status e = inl e
 halt_status_is (Worn count) status e = inr e
 
-low_not_halt : (halt : Halt) (status n : ℕ) → status ≡ status_of_halt halt → status ≡ n → n < 5 → ⊥
+pub low_not_halt : (halt : Halt) (status n : ℕ) → status ≡ status_of_halt halt → status ≡ n → n < 5 → ⊥
 low_not_halt halt status n e is low = elim (halt_status_is halt status e) [ inl five ↦ omega (arith, five, is, low) | inr twelve ↦ omega (arith, twelve, is, low) ]
 
 module _ {A : Type 0} (g : Ghosts A) (first last : A) (events : Answers) (end : NbdEnd) (status : ℕ) where

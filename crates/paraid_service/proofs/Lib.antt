@@ -2,5 +2,10 @@ pub mod ClientLemmas
 pub mod CauseLemmas
 pub mod EndLemmas
 pub mod HeadlineLemmas
-pub mod SessionLemmas
+pub mod KeepLemmas
 pub mod LineLemmas
+pub mod HeldLemmas
+pub mod ShelfLemmas
+pub mod RunLemmas
+pub mod TakeLemmas
+pub mod TextLemmas

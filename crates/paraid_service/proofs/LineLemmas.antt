@@ -15,8 +15,11 @@ use Rattle.paraid_volume.specs.States.{ShowsVolumes}
 use Rattle.paraid_volume.specs.Tables.{IsLiveId, IsSameTable}
 use Rattle.paraid_volume.proofs.LivesLemmas.{life_shows}
 use Rattle.paraid_volume.proofs.RefusalLemmas.{has_name, name_has, named_live}
-use Rattle.paraid_service.specs.LineSteps.{AnswersLine, created_text, deleted_text, flushed_text, read_text, written_text}
-use Rattle.paraid_service.specs.VolumeLines.{VolLine, named_in, name_text, create as CreateLine, delete as DeleteLine, flush as FlushLine, read as ReadLine, write as WriteLine}
+use Rattle.paraid_service.specs.LineSteps.{AnswersLine}
+use Rattle.paraid_volume_lines.specs.Texts.{created_text, deleted_text, flushed_text, read_text, written_text}
+use Rattle.paraid_service.specs.VolumeLines.{named_in}
+use Rattle.paraid_volume_lines.specs.Lists.{name_text}
+use Rattle.paraid_volume_lines.specs.Grammar.{VolLine, create as CreateLine, delete as DeleteLine, flush as FlushLine, read as ReadLine, write as WriteLine}
 use Rattle.paraid_service.specs.VolumeLines.LineStep.{calls, unknown}
 use Rattle.paraid_service.specs.VolumeLines.IsCallOf.{creates, deletes, flushes, reads, writes}
 

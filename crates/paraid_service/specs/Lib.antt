@@ -1,6 +1,9 @@
 pub mod Ends
 pub mod Clients
-pub mod Sessions
 pub mod VolumeLines
 pub mod LineSteps
 pub mod VolumeSessions
+pub mod LineRuns
+pub mod Shelves
+pub mod LineEnds
+pub mod LinesEnds

@@ -5,9 +5,16 @@
 #![tactic(auto)]
 
 mod client;
+mod hear;
+mod held;
 mod lines;
-mod volumes;
+mod run;
+mod session;
+mod shelf;
 
 pub use client::{PROTOCOL, Served, serve_client};
+pub use held::serve_held;
 pub use lines::{create_named, delete_named, flush_volumes, read_named, write_named};
-pub use volumes::{begin_volumes, close_volumes, open_volumes};
+pub use run::{LinesEnd, LinesRun, serve_lines};
+pub use session::serve_volumes;
+pub use shelf::{Shelf, Shelved, answer_volume_line, open_shelf, serve_line};

@@ -1,9 +1,12 @@
 //! A line about a volume, as a step of volumes.
 ghost use Rattle.std.specs.Prelude.{◌≡◌, ℕ, ◌<◌, List, IfOk, IsTrue, None, slice_index_or};
-ghost use Rattle.paraid_service.specs.LineSteps.{AnswersLine, created_text, deleted_text, flushed_text, read_text, written_text};
-ghost use Rattle.paraid_service.specs.VolumeLines.{create as CreateLine, delete as DeleteLine, flush as FlushLine, read as ReadLine, write as WriteLine};
-ghost use Rattle.paraid_volume.specs.Device.{DeviceHolds, SinceHistory};
+ghost use Rattle.paraid_nbd.specs.Export.{KeepsOn};
+ghost use Rattle.paraid_service.specs.LineSteps.{AnswersLine};
+ghost use Rattle.paraid_volume_lines.specs.Grammar.{create as CreateLine, delete as DeleteLine, flush as FlushLine, read as ReadLine, write as WriteLine};
+ghost use Rattle.paraid_volume_lines.specs.Texts.{created_text, deleted_text, flushed_text, read_text, written_text};
+ghost use Rattle.paraid_volume.specs.Device.{DeviceGoesOn, DeviceHolds, SinceHistory, halt_in};
 ghost use Rattle.paraid_volume.specs.Lives.{HasLived, VolLog};
+ghost use Rattle.paraid_volume.specs.Faults.{vol_halt_in};
 ghost use Rattle.paraid_volume.specs.NameValues.{letter_of};
 ghost use Rattle.paraid_volume.specs.Values.{VolumesStandFor, device_of, halted_of};
 
@@ -13,6 +16,9 @@ use paraid_volume::{Name, VolFault, Volumes};
 
 /// Removes the volume of this name, and says whether there was one.
 pub fn delete_named<B: Blocks>(volumes: &mut Volumes<B>, name: &Name) -> Result<bool, Halt>
+    ensures halt { halted_of volumes.old ≡ None → halted_of volumes.new ≡ halt_in result }
+    ensures went { DeviceGoesOn B.block_count B.halts B.halted B.tells (device_of volumes.old) (device_of volumes.new) }
+    ensures keeps { KeepsOn B.kept (device_of volumes.old) (device_of volumes.new) }
     ensures line { IfOk result (λ there. (from : SinceHistory B) (start : ℕ) (log : VolLog)
         → (lived : HasLived (VolumesStandFor (DeviceHolds B.stands B.kept from) volumes.old) (B.block_count (device_of volumes.old)) start log)
         → IsTrue (B.tells (device_of volumes.new))
@@ -37,6 +43,9 @@ pub fn read_named<B: Blocks>(
     block: BlockNo,
     into: &mut Block,
 ) -> Result<(), VolFault>
+    ensures halt { halted_of volumes.old ≡ None → halted_of volumes.new ≡ vol_halt_in result }
+    ensures went { DeviceGoesOn B.block_count B.halts B.halted B.tells (device_of volumes.old) (device_of volumes.new) }
+    ensures keeps { KeepsOn B.kept (device_of volumes.old) (device_of volumes.new) }
     ensures line { halted_of volumes.new ≡ None → (from : SinceHistory B) (start : ℕ) (log : VolLog)
         → (lived : HasLived (VolumesStandFor (DeviceHolds B.stands B.kept from) volumes.old) (B.block_count (device_of volumes.old)) start log)
         → IsTrue (B.tells (device_of volumes.new))
@@ -57,6 +66,9 @@ pub fn write_named<B: Blocks>(
     block: BlockNo,
     bytes: &Block,
 ) -> Result<(), VolFault>
+    ensures halt { halted_of volumes.old ≡ None → halted_of volumes.new ≡ vol_halt_in result }
+    ensures went { DeviceGoesOn B.block_count B.halts B.halted B.tells (device_of volumes.old) (device_of volumes.new) }
+    ensures keeps { KeepsOn B.kept (device_of volumes.old) (device_of volumes.new) }
     ensures line { halted_of volumes.new ≡ None → (from : SinceHistory B) (start : ℕ) (log : VolLog)
         → (lived : HasLived (VolumesStandFor (DeviceHolds B.stands B.kept from) volumes.old) (B.block_count (device_of volumes.old)) start log)
         → IsTrue (B.tells (device_of volumes.new))
@@ -76,6 +88,9 @@ pub fn create_named<B: Blocks>(
     name: &Name,
     extents: u32,
 ) -> Result<u8, VolFault>
+    ensures halt { halted_of volumes.new ≡ vol_halt_in result }
+    ensures went { DeviceGoesOn B.block_count B.halts B.halted B.tells (device_of volumes.old) (device_of volumes.new) }
+    ensures keeps { KeepsOn B.kept (device_of volumes.old) (device_of volumes.new) }
     ensures line { halted_of volumes.new ≡ None → (from : SinceHistory B) (start : ℕ) (log : VolLog)
         → (lived : HasLived (VolumesStandFor (DeviceHolds B.stands B.kept from) volumes.old) (B.block_count (device_of volumes.old)) start log)
         → IsTrue (B.tells (device_of volumes.new))
@@ -88,6 +103,9 @@ pub fn create_named<B: Blocks>(
 
 /// Keeps all that was written.
 pub fn flush_volumes<B: Blocks>(volumes: &mut Volumes<B>) -> Result<u64, VolFault>
+    ensures halt { halted_of volumes.new ≡ vol_halt_in result }
+    ensures went { DeviceGoesOn B.block_count B.halts B.halted B.tells (device_of volumes.old) (device_of volumes.new) }
+    ensures keeps { KeepsOn B.kept (device_of volumes.old) (device_of volumes.new) }
     ensures line { halted_of volumes.new ≡ None → (from : SinceHistory B) (start : ℕ) (log : VolLog)
         → (lived : HasLived (VolumesStandFor (DeviceHolds B.stands B.kept from) volumes.old) (B.block_count (device_of volumes.old)) start log)
         → IsTrue (B.tells (device_of volumes.new))

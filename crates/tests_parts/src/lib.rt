@@ -33,3 +33,5 @@ mod sums;
 mod traces;
 #[cfg(test)]
 mod volumes;
+#[cfg(test)]
+mod volume_lines;

@@ -1,0 +1,182 @@
+-- Lines, one after the other, on a device.
+use Rattle.std.proofs.Common.{◌≡◌, ℕ, [], ◌∷◌, List, ◌++◌, ◌∙◌, ◌+◌, length, length-append, refl, sym, ap, subst, arith}
+use Rattle.std.specs.Prelude.{Option, Some, None, IsTrue, codes}
+use Rattle.std.proofs.lemmas.Option.{same_Some}
+use Rattle.std.proofs.lemmas.List.{append-nil, append_cancel_left, length_push}
+use Rattle.paraid_base.specs.declared.fault.Halt.{Halt}
+use Rattle.paraid_base.specs.BlockAnswers.{Answers}
+use Rattle.paraid_base.specs.History.{History, after_all}
+use Rattle.paraid_blocks.specs.declared.blocks.Blocks.{Ghosts}
+use Rattle.paraid_trace.specs.Replies.{halt_text}
+use Rattle.paraid_volume.specs.Device.{entries_in}
+use Rattle.paraid_volume.specs.Lives.{Life, VolLog}
+use Rattle.paraid_volume.specs.Lives.Life.{begun, next}
+use Rattle.paraid_volume.specs.States.{ShowsVolumes, VolumeState}
+use Rattle.paraid_volume.proofs.LivesLemmas.{life_shows}
+use Rattle.paraid_volume.proofs.DeviceLemmas.{DeviceGoesOn-then}
+use Rattle.paraid_volume_lines.specs.Grammar.{AsksVolumes, VolLine, bad, create, delete, flush, init, list, read, write}
+use Rattle.paraid_service.specs.declared.shelf.Shelf.{Shelf}
+use Rattle.paraid_service.specs.declared.shelf.Shelf.TheVariants.{Bare, Held as HeldShelf}
+use Rattle.paraid_service.specs.LineRuns.{RunsLines, RunsOn, SaysLines}
+use Rattle.paraid_service.specs.Shelves.{OnFirst, OnShelf, OpensShelf, ServesShelf, StepsShelf, device_in}
+use Rattle.paraid_service.specs.VolumeLines.{Held, LinesStep, halted_text}
+use Rattle.paraid_service.specs.VolumeLines.LinesStep.{bad_later, halting, none_yet, one_more}
+use Rattle.paraid_service.specs.VolumeSessions.{Holds, IsLifeOf}
+use Rattle.paraid_service.specs.VolumeSessions.BeginsWith.{known, unknown}
+use Rattle.paraid_service.specs.VolumeSessions.Holds.{volumes as volumes_held, no_table as none_held}
+use Rattle.paraid_service.specs.VolumeSessions.IsLifeOf.{lives, waits}
+use Rattle.paraid_nbd.proofs.DeviceLemmas.{keeps_then}
+
+module _ {B : Type 0} (g : Ghosts B) where
+  -- what is held is that of a life by the events that were kept
+  pub life_on : (start : B) (h : History) (shelf : Shelf B g) (s : Held) (log : VolLog) → OnShelf g (Some (start, h, [])) (g.block_count start) h shelf s log
+      → (made : Answers) × g.kept start (device_in shelf) made × IsLifeOf (g.block_count start) h made s log
+  life_on start h (HeldShelf volumes) (Some s) log on =
+      let holds = on.lived.stands.0 in
+      (holds.1, holds.2, subst (λ z. IsLifeOf (g.block_count start) h holds.1 (Some z) log) on.is (lives on.start on.lived.state log on.began (subst (λ (w : History). Life (g.block_count start) on.start w on.lived.state log) holds.3 on.lived.life)))
+  life_on start h (HeldShelf volumes) None log on = absurd on
+  life_on start h (Bare blocks) (Some s) log on = absurd on
+  life_on start h (Bare blocks) None log on =
+      let holds = on.holds in
+      (holds.1, holds.2, subst (λ (l : VolLog). IsLifeOf (g.block_count start) h holds.1 None l) (sym on.none) (waits (no_entries h (entries_in holds.1) holds.3)))
+    where
+      no_entries : (a b : History) → a ≡ a ++ b → b ≡ []
+      no_entries a b e = append_cancel_left a b [] (sym e ∙ sym (append-nil a))
+
+  -- ---- a line more
+
+  module _ (old new : Shelf B g) (asked : VolLine) (said : List ℕ) where
+    more_says : (halt : Option Halt) (l : ServesShelf g old new asked said halt) (start : B) (lines : List (List ℕ)) (line text : List ℕ) → AsksVolumes line asked → (r : RunsLines g start lines text old None)
+        → (h : History) → g.stands start h → IsTrue (g.tells (device_in new)) → SaysLines g start h (lines ++ line ∷ []) (text ++ said) new halt
+    more_says None l start lines line text ask r h stands tells =
+        let y = r.says h stands (l.went.told tells) in
+        let step = subst (λ (k : ℕ). OnShelf g (Some (start, h, [])) k h old y.last y.log → StepsShelf (OnShelf g (Some (start, h, [])) k h new) k y.last asked l.said y.log) r.went.size (λ o. l.step refl (Some (start, h, [])) h y.last y.log o tells) (y.on refl) in
+        record {
+          first = y.first;
+          begun = y.begun;
+          begins = y.begins;
+          log = y.log ++ step.more;
+          last = step.last;
+          steps = subst (λ (x : List ℕ). LinesStep (g.block_count start) y.first y.begun (lines ++ line ∷ []) (text ++ x) (y.log ++ step.more) step.last None) (sym l.printed) (one_more y.last step.last lines line text l.said asked y.log step.more y.steps ask step.step);
+          on = λ none. step.on;
+          broken = λ own e. absurd (let no : None ≡ Some own = e in cc);
+        }
+    more_says (Some own) l start lines line text ask r h stands tells =
+        let y = r.says h stands (l.went.told tells) in
+        let why = l.halts own refl in
+        let life = life_on start h old y.last y.log (y.on refl) in
+        let kept = l.keeps.grows start life.0 life.1 in
+        record {
+          first = y.first;
+          begun = y.begun;
+          begins = y.begins;
+          log = y.log;
+          last = y.last;
+          steps = subst (λ (x : List ℕ). LinesStep (g.block_count start) y.first y.begun (lines ++ line ∷ []) (text ++ x) y.log y.last (Some own)) (sym (l.printed ∙ ap (λ (x : List ℕ). x ++ codes "\n") why.0))
+              (halting y.last lines line text asked y.log None own y.steps ask why.1 (λ none. why.2) (λ other e. absurd (let no : None ≡ Some other = e in cc)));
+          on = λ none. absurd (let no : Some own ≡ None = none in cc);
+          broken = λ other e. record { before = life.0; rest = kept.0; all = kept.1; life = life.2 };
+        }
+
+    pub runs_more : (halt : Option Halt) → ServesShelf g old new asked said halt → RunsOn g old new None halt asked said
+    runs_more halt l start lines line text ask r = record {
+      going = l.going;
+      went = DeviceGoesOn-then g.block_count g.halts g.halted g.tells start (device_in old) (device_in new) r.went l.went;
+      keeps = keeps_then g.kept start (device_in old) (device_in new) r.keeps l.keeps;
+      says = more_says halt l start lines line text ask r;
+    }
+
+  -- ---- a line after a halt
+
+  module _ (count : ℕ) (first : Held) (was : Option Halt) (lines : List (List ℕ)) (text : List ℕ) (log : VolLog) (last : Held) (own : Halt) (steps : LinesStep count first was lines text log last (Some own)) (line : List ℕ) where
+    later : (asked : VolLine) → AsksVolumes line asked → (asked ≡ bad → ⊥) → LinesStep count first was (lines ++ line ∷ []) (text ++ (halt_text own ++ codes "\n")) log last (Some own)
+    later asked ask not_bad = halting last lines line text asked log (Some own) own steps ask not_bad (λ none. absurd (let no : Some own ≡ None = none in cc)) (λ other e. sym (same_Some _ _ e))
+
+    later_steps : (asked : VolLine) → AsksVolumes line asked → LinesStep count first was (lines ++ line ∷ []) (text ++ (halted_text own asked ++ codes "\n")) log last (Some own)
+    later_steps init ask = later init ask (λ e. cc)
+    later_steps (create name extents) ask = later (create name extents) ask (λ e. cc)
+    later_steps (delete name) ask = later (delete name) ask (λ e. cc)
+    later_steps (read name block) ask = later (read name block) ask (λ e. cc)
+    later_steps (write name block bytes) ask = later (write name block bytes) ask (λ e. cc)
+    later_steps flush ask = later flush ask (λ e. cc)
+    later_steps list ask = later list ask (λ e. cc)
+    later_steps bad ask = bad_later last lines line text log own steps ask
+
+  pub runs_later : (shelf : Shelf B g) (asked : VolLine) (said : List ℕ) (own : Halt) → said ≡ halted_text own asked ++ codes "\n" → RunsOn g shelf shelf (Some own) (Some own) asked said
+  runs_later shelf asked said own printed start lines line text ask r = record {
+    going = r.going;
+    went = r.went;
+    keeps = r.keeps;
+    says = λ h stands tells.
+        let y = r.says h stands tells in
+        record {
+          first = y.first;
+          begun = y.begun;
+          begins = y.begins;
+          log = y.log;
+          last = y.last;
+          steps = subst (λ (x : List ℕ). LinesStep (g.block_count start) y.first y.begun (lines ++ line ∷ []) (text ++ x) y.log y.last (Some own)) (sym printed) (later_steps (g.block_count start) y.first y.begun lines text y.log y.last own y.steps line asked ask);
+          on = y.on;
+          broken = y.broken;
+        };
+  }
+
+  -- ---- before any line
+
+  -- a life of no call
+  life_starts : (count start : ℕ) (w : History) (s : VolumeState) (log : VolLog) → Life count start w s log → length log ≡ 0 → length w ≡ start
+  life_starts count start w s log (begun h t e shows) none = e
+  life_starts count start w s log (next h more t u before call answer life step during shows number) none = absurd (let long = length_push before (call, answer) in let no : ⊥ = omega (arith, long, none) in no)
+
+  first_on : (start : B) (h : History) (shelf : Shelf B g) (s : Held) → OnFirst g (Some (start, h, [])) (g.block_count start) h shelf s → OnShelf g (Some (start, h, [])) (g.block_count start) h shelf s []
+  first_on start h (HeldShelf volumes) (Some s) on = record { start = length h; began = omega arith; lived = on.0; is = on.1 }
+  first_on start h (HeldShelf volumes) None on = absurd on
+  first_on start h (Bare blocks) (Some s) on = absurd on
+  first_on start h (Bare blocks) None on = on
+
+  first_holds : (start : B) (h : History) (shelf : Shelf B g) (s : Held) → OnFirst g (Some (start, h, [])) (g.block_count start) h shelf s → Holds (g.block_count start) (after_all h) s
+  first_holds start h (HeldShelf volumes) (Some s) on =
+      let l = on.0 in
+      let holds = l.stands.0 in
+      let made = entries_in holds.1 in
+      let long = life_starts (g.block_count start) (length h) l.writes l.state [] l.life refl in
+      let both : length l.writes ≡ length h + length made = ap length holds.3 ∙ length-append h made in
+      let none : made ≡ [] = empty made (omega (arith, long, both)) in
+      let same : l.writes ≡ h = holds.3 ∙ ap (λ (x : History). h ++ x) none ∙ append-nil h in
+      volumes_held s (subst (λ (z : VolumeState). ShowsVolumes (g.block_count start) (after_all h) z) on.1 (subst (λ (w : History). ShowsVolumes (g.block_count start) (after_all w) l.state) same (life_shows (g.block_count start) (length h) l.writes l.state [] l.life)))
+    where
+      empty : (x : History) → length x ≡ 0 → x ≡ []
+      empty [] e = refl
+      empty (y ∷ x) e = absurd (let no : ⊥ = omega (arith, e) in no)
+  first_holds start h (HeldShelf volumes) None on = absurd on
+  first_holds start h (Bare blocks) (Some s) on = absurd on
+  first_holds start h (Bare blocks) None on = none_held on.no_table
+
+  first_says : (start : B) (shelf : Shelf B g) (halt : Option Halt) (o : OpensShelf g start shelf halt) → g.kept start start [] → (h : History) → g.stands start h → IsTrue (g.tells (device_in shelf)) → SaysLines g start h [] [] shelf halt
+  first_says start shelf None o begins h stands tells =
+      let f = o.first refl (Some (start, h, [])) h (stands, [], begins, sym (append-nil h)) tells in
+      record {
+        first = f.0;
+        begun = None;
+        begins = known f.0 (first_holds start h shelf f.0 f.1);
+        log = [];
+        last = f.0;
+        steps = none_yet;
+        on = λ none. first_on start h shelf f.0 f.1;
+        broken = λ own e. absurd (let no : None ≡ Some own = e in cc);
+      }
+  first_says start shelf (Some own) o begins h stands tells =
+      let kept = o.keeps.grows start [] begins in
+      record {
+        first = None;
+        begun = Some own;
+        begins = unknown own;
+        log = [];
+        last = None;
+        steps = none_yet;
+        on = λ none. absurd (let no : Some own ≡ None = none in cc);
+        broken = λ other e. record { before = []; rest = kept.0; all = kept.1; life = waits refl };
+      }
+
+  pub runs_first : (start : B) (shelf : Shelf B g) (halt : Option Halt) → OpensShelf g start shelf halt → g.kept start start [] → RunsLines g start [] [] shelf halt
+  runs_first start shelf halt o begins = record { going = o.going; went = o.went; keeps = o.keeps; says = first_says start shelf halt o begins }

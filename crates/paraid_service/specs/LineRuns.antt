@@ -1,0 +1,44 @@
+-- Lines, one after the other, on a device.
+use Rattle.std.specs.Prelude.{◌≡◌, ℕ, ◌++◌, [], ◌∷◌, List, Option, Some, None, IsTrue}
+use Rattle.paraid_base.specs.declared.fault.Halt.{Halt}
+use Rattle.paraid_base.specs.BlockAnswers.{Answers}
+use Rattle.paraid_base.specs.History.{History, after_all}
+use Rattle.paraid_blocks.specs.declared.blocks.Blocks.{Ghosts}
+use Rattle.paraid_volume.specs.Device.{DeviceGoesOn}
+use Rattle.paraid_volume.specs.Lives.{VolLog}
+use Rattle.paraid_volume_lines.specs.Grammar.{AsksVolumes, VolLine}
+use Rattle.paraid_service.specs.declared.shelf.Shelf.{Shelf}
+use Rattle.paraid_nbd.specs.Export.{KeepsOn}
+use Rattle.paraid_service.specs.Shelves.{IsGoing, OnShelf, device_in}
+use Rattle.paraid_service.specs.VolumeLines.{Held, LinesStep}
+use Rattle.paraid_service.specs.VolumeSessions.{BeginsWith, IsLifeOf}
+
+-- The events that were kept before the call in which the halt came are those of a life.
+pub record BrokenOff (kept : Answers → Type 0) (count : ℕ) (h : History) (last : Held) (log : VolLog) : Type 0 where
+  pub before : Answers
+  pub rest : Answers
+  pub all : kept (before ++ rest)
+  pub life : IsLifeOf count h before last log
+
+-- Lines were answered with this text since the device stood for this history.
+pub record SaysLines {B : Type 0} (g : Ghosts B) (start : B) (h : History) (lines : List (List ℕ)) (text : List ℕ) (shelf : Shelf B g) (halt : Option Halt) : Type 0 where
+  pub first : Held
+  pub begun : Option Halt
+  pub begins : BeginsWith (g.block_count start) (after_all h) first begun
+  pub log : VolLog
+  pub last : Held
+  pub steps : LinesStep (g.block_count start) first begun lines text log last halt
+  pub on : halt ≡ None → OnShelf g (Some (start, h, [])) (g.block_count start) h shelf last log
+  pub broken : (own : Halt) → halt ≡ Some own → BrokenOff (g.kept start (device_in shelf)) (g.block_count start) h last log
+
+-- Lines were answered since the device was so.
+pub record RunsLines {B : Type 0} (g : Ghosts B) (start : B) (lines : List (List ℕ)) (text : List ℕ) (shelf : Shelf B g) (halt : Option Halt) : Type 0 where
+  pub going : halt ≡ None → IsGoing shelf
+  pub went : DeviceGoesOn g.block_count g.halts g.halted g.tells start (device_in shelf)
+  pub keeps : KeepsOn g.kept start (device_in shelf)
+  pub says : (h : History) → g.stands start h → IsTrue (g.tells (device_in shelf)) → SaysLines g start h lines text shelf halt
+
+-- One line more is answered.
+abbrev pub RunsOn : {B : Type 0} (g : Ghosts B) → (old new : Shelf B g) → (halt_old halt_new : Option Halt) → VolLine → List ℕ → Type 0
+RunsOn {B} g old new halt_old halt_new asked said = (start : B) (lines : List (List ℕ)) (line text : List ℕ) → AsksVolumes line asked → RunsLines g start lines text old halt_old
+    → RunsLines g start (lines ++ line ∷ []) (text ++ said) new halt_new

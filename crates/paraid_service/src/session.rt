@@ -1,0 +1,95 @@
+//! A session of volumes on a mounted array.
+ghost use Rattle.std.specs.Prelude.{◌≡◌, ◌≢◌, ◌≤◌, ℕ, None};
+ghost use Rattle.paraid_base.specs.Told.{HasRisen};
+ghost use Rattle.paraid_service.specs.LinesEnds.{EndsSession, device_kept};
+ghost use Rattle.paraid_service.specs.declared.run.LinesEnd.TheVariants.{Done, Sink as AtSink};
+ghost use Rattle.paraid_service.specs.Shelves.{device_in};
+ghost use Rattle.paraid_service.specs.VolumeSessions.{VolumesHeadline, VolumesRun};
+ghost use Rattle.paraid_session.specs.Mount.{IsMountedFromEach};
+
+use crate::client::Served;
+use crate::run::{LinesEnd, serve_lines};
+use crate::shelf::Shelf;
+use paraid_blocks::Blocks;
+use paraid_device::Device;
+use paraid_io::{Sink, Source, write_all};
+use paraid_serve::ending::{end_text, halt_status, last, mount_text};
+use paraid_serve::{Serves, status};
+use paraid_trace::{Brief, Text, reply};
+
+impl<B: Blocks> Shelf<B> {
+    /// The device.
+    pub fn finish(self) -> B
+        ensures { result ≡ device_in self }
+    {
+        match self {
+            Shelf::Held(volumes) => volumes.finish(),
+            Shelf::Bare(blocks) => blocks,
+        }
+    }
+}
+
+/// Serves lines about volumes with a mounted array.
+pub fn serve_volumes<S: Source, K: Sink, A: Serves>(
+    source: &mut S,
+    sink: &mut K,
+    array: A,
+) -> Served<A>
+    requires going { A.halted array ≡ None }
+    ensures run { VolumesRun (A.slots array) (A.setup array) (A.stands array) (A.told array) (A.told result.array)
+        (S.left source.old) (S.left source.new) (K.written sink.old) (K.written sink.new) result.status }
+    ensures headline { (began : ℕ) → IsMountedFromEach (A.slots array) (A.setup array) began (A.told array) (A.stands array)
+        → VolumesHeadline (A.slots array) (A.setup array) began (A.told array) (A.told result.array)
+        (S.left source.old) (S.left source.new) (K.written sink.old) (K.written sink.new) result.status }
+    ensures source { result.status ≡ 3 → HasRisen (S.faults source.old) (S.faults source.new) }
+    ensures sink { result.status ≡ 4 → HasRisen (K.faults sink.old) (K.faults sink.new) }
+{
+    let mut text = Text::new();
+    mount_text(&mut text, array.writes(), array.gear());
+    let Ok(()) = write_all(sink, text.as_slice()) else {
+        return Served {
+            status: status::SINK,
+            array,
+        };
+    };
+    let run = serve_lines(source, sink, Device::new(array));
+    let end = run.end;
+    let mut device = run.shelved.shelf.finish();
+    let status = end_session(&mut device, end, sink);
+    Served {
+        status,
+        array: device.close(),
+    }
+}
+
+// The last flush and the last line.
+fn end_session<K: Sink, A: Serves>(device: &mut Device<A>, end: LinesEnd, sink: &mut K) -> u8
+    ensures ends { EndsSession (device_kept A.Serves) device.old device.new (K.written sink.old) (K.written sink.new) end result }
+    ensures cause { result ≡ 4 → end ≢ AtSink → HasRisen (K.faults sink.old) (K.faults sink.new) }
+    ensures later { K.faults sink.old ≤ K.faults sink.new }
+{
+    match end {
+        LinesEnd::Done => end_done(device, sink),
+        LinesEnd::Source => last(sink, b"source\n", status::SOURCE),
+        LinesEnd::TooLong => last(sink, b"toolong\n", status::TOO_LONG),
+        LinesEnd::Sink => status::SINK,
+    }
+}
+
+fn end_done<K: Sink, A: Serves>(device: &mut Device<A>, sink: &mut K) -> u8
+    ensures ends { EndsSession (device_kept A.Serves) device.old device.new (K.written sink.old) (K.written sink.new) Done result }
+    ensures cause { result ≡ 4 → HasRisen (K.faults sink.old) (K.faults sink.new) }
+    ensures later { K.faults sink.old ≤ K.faults sink.new }
+{
+    let mut text = Text::new();
+    match device.flush() {
+        Ok(writes) => {
+            end_text(&mut text, writes);
+            last(sink, text.as_slice(), status::DONE)
+        }
+        Err(halt) => {
+            reply(&Brief::Halted(halt), &mut text);
+            last(sink, text.as_slice(), halt_status(halt))
+        }
+    }
+}
