@@ -109,7 +109,7 @@ write_either State is = is
 write_either Energy is = is
 write_either Bad is = is
 
-entries_in-append : (a b : Answers) → entries_in (a ++ b) ≡ entries_in a ++ entries_in b
+pub entries_in-append : (a b : Answers) → entries_in (a ++ b) ≡ entries_in a ++ entries_in b
 entries_in-append [] b = refl
 entries_in-append (e ∷ a) b = ap (λ (x : History). entry_in e.0 e.1 ++ x) (entries_in-append a b) ∙ sym (append_assoc (entry_in e.0 e.1) (entries_in a) (entries_in b))
 
