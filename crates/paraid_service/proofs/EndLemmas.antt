@@ -80,6 +80,17 @@ halt_status_is (Worn count) status e = inr e
 pub low_not_halt : (halt : Halt) (status n : ℕ) → status ≡ status_of_halt halt → status ≡ n → n < 5 → ⊥
 low_not_halt halt status n e is low = elim (halt_status_is halt status e) [ inl five ↦ omega (arith, five, is, low) | inr twelve ↦ omega (arith, twelve, is, low) ]
 
+-- after a session that ended with no halt no block is loose
+module _ {A : Type 0} (g : Ghosts A) (first last : A) (p : Point) (at : g.stands first p) (is : IsSome (g.told last)) (agrees : (x : A) (q : Point) → g.stands x q → q.halt ≡ g.halted x) (mark : IsMark (g.slots first) (g.setup first) p)
+    (here : (t : Trail) → g.told first ≡ Some t → p.disks ≡ disks_now t) where
+  pub synced_after : (es : Answers) → HasAnswered g first last es → g.halted last ≡ None → (u : Trail) → g.told last ≡ Some u → AreSynced (disks_now u)
+  synced_after es k going u tells =
+      let a = k.leads is p at in
+      elim (stretch_leaves (g.slots first) (g.setup first) (g.told first) (g.told last) p a.asked a.all mark (here a.all.from a.all.was)) [
+        | two_down pair told ↦ absurd (none_some a.all.end.halt (HaltTwo pair) (agrees last a.all.end a.stands ∙ going) told)
+        | rests r ↦ subst (λ (t : Trail). AreSynced (disks_now t)) (same_trail (g.told last) a.all.to u a.all.is tells) r.synced
+      ]
+
 module _ {A : Type 0} (g : Ghosts A) (first last : A) (events : Answers) (end : NbdEnd) (status : ℕ) where
   pub ends_status : EndsService g first last events end status → IsClientStatus status
   ends_status (broken e k) = elim (broken_is end status e) [
@@ -136,13 +147,5 @@ module _ {A : Type 0} (g : Ghosts A) (first last : A) (events : Answers) (end : 
     ends_with_status (flushed e (halted halt told now k)) = status_halted halt e told (kept_from _ k)
 
     module _ (agrees : (x : A) (q : Point) → g.stands x q → q.halt ≡ g.halted x) (mark : IsMark (g.slots first) (g.setup first) p) (here : (t : Trail) → g.told first ≡ Some t → p.disks ≡ disks_now t) where
-      synced_after : (es : Answers) → HasAnswered g first last es → g.halted last ≡ None → (u : Trail) → g.told last ≡ Some u → AreSynced (disks_now u)
-      synced_after es k going u tells =
-          let a = k.leads is p at in
-          elim (stretch_leaves (g.slots first) (g.setup first) (g.told first) (g.told last) p a.asked a.all mark (here a.all.from a.all.was)) [
-            | two_down pair told ↦ absurd (none_some a.all.end.halt (HaltTwo pair) (agrees last a.all.end a.stands ∙ going) told)
-            | rests r ↦ subst (λ (t : Trail). AreSynced (disks_now t)) (same_trail (g.told last) a.all.to u a.all.is tells) r.synced
-          ]
-
       pub ends_synced : EndsService g first last events end status → status ≡ 0 → (u : Trail) → g.told last ≡ Some u → AreSynced (disks_now u)
-      ends_synced e zero = let k = ends_answered e in synced_after k.0 k.1 (ends_going e zero)
+      ends_synced e zero = let k = ends_answered e in synced_after g first last p at is agrees mark here k.0 k.1 (ends_going e zero)

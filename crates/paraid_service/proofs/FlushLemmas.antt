@@ -1,18 +1,20 @@
 -- Which flushes are kept, and how many writes they keep.
-use Rattle.std.proofs.Common.{◌≡◌, ℕ, ◌≤◌, List, [], ◌∷◌, ◌++◌, ◌∙◌, Option, Some, None, refl, sym, ap, subst, arith, inl, inr, append_assoc}
-use Rattle.std.specs.Prelude.{◌⊎◌}
+use Rattle.std.proofs.Common.{◌≡◌, ℕ, ◌≤◌, List, [], ◌∷◌, ◌++◌, ◌∙◌, length, refl, sym, ap, subst, arith, inl, inr, append_assoc}
+use Rattle.std.specs.Prelude.{◌⊎◌, All}
 use Rattle.paraid_base.specs.declared.event.Answer.TheVariants.{Flushed as FlushedAnswer}
 use Rattle.paraid_base.specs.declared.event.Event.{Event}
 use Rattle.paraid_base.specs.declared.event.Event.TheVariants.{Flush as FlushEvent}
 use Rattle.paraid_base.specs.declared.event.Answer.{Answer}
 use Rattle.paraid_base.specs.BlockAnswers.{Answers}
-use Rattle.paraid_volume.specs.Lives.{VolAnswer, VolCall, VolLog, VolumeStep, flush as FlushCall, flushed, creates, deletes, reads, writes, flushes, refuses}
+use Rattle.std.proofs.lemmas.List.Elements.{All-head, All-tail}
+use Rattle.paraid_base.specs.History.{History}
+use Rattle.paraid_volume.specs.Lives.{IsFlushedBy, VolAnswer, VolCall, VolLog, VolumeStep, flush as FlushCall, flushed, creates, deletes, reads, writes, flushes, refuses}
 use Rattle.paraid_volume.specs.States.{VolumeState}
 use Rattle.paraid_volume_lines.specs.Grammar.{VolLine, bad, create, delete, flush, init, list, read, write}
 use Rattle.paraid_service.specs.VolumeLines.{Held, IsCallOf, LineStep}
 use Rattle.paraid_service.specs.VolumeLines.IsCallOf.{creates as CallCreates, deletes as CallDeletes, flushes as CallFlushes, reads as CallReads, writes as CallWrites}
 use Rattle.paraid_service.specs.VolumeLines.LineStep.{begins, calls, is_already, is_bad, is_small, lists, no_table, unknown}
-use Rattle.paraid_service.specs.VolumeSessions.{AreFlushedWithin, AreFlushesKept, HasEvent}
+use Rattle.paraid_service.specs.VolumeSessions.{AreFlushedWithin, AreFlushesKept, HasEvent, HasNoFlush, LeavesFlushed, LeavesVolumes}
 
 -- ---- events and more
 
@@ -78,3 +80,30 @@ flush_or_not bad = inr (λ e. cc)
 pub within_low : (low : ℕ) (log : VolLog) (events : Answers) → AreFlushesKept log events → ((n : ℕ) → HasEvent events (FlushEvent, FlushedAnswer n) → n ≤ low) → AreFlushedWithin low log
 within_low low [] events k each = tt
 within_low low (pair ∷ log) events k each = ((λ n is. each n (k.0 n is)), within_low low log events k.1 each)
+
+-- ---- what a stop leaves
+
+within_rest : (low : ℕ) (done rest : VolLog) → AreFlushedWithin low (done ++ rest) → AreFlushedWithin low rest
+within_rest low [] rest within = within
+within_rest low (pair ∷ done) rest within = within_rest low done rest within.1
+
+no_flush_later : (low k : ℕ) (rest : VolLog) → low ≤ k → AreFlushedWithin low rest → All (λ (pair : VolCall × VolAnswer). IsFlushedBy k pair → ⊥) rest → HasNoFlush rest
+no_flush_later low k [] below within not = tt
+no_flush_later low k (pair ∷ rest) below within not = (
+  (λ n is. All-head (λ (x : VolCall × VolAnswer). IsFlushedBy k x → ⊥) pair rest not (n, is, (let few = within.0 n is in omega (arith, few, below)))),
+  no_flush_later low k rest below within.1 (All-tail (λ (x : VolCall × VolAnswer). IsFlushedBy k x → ⊥) pair rest not),
+)
+
+pub leaves_flushed : (count low : ℕ) (h written : History) (log : VolLog) → (left : LeavesVolumes count low h written log) → (k : ℕ) → left.start ≤ k → low ≤ k → k ≤ length written → LeavesFlushed count left.start written k log
+leaves_flushed count low h written log left k from below within =
+    let l = left.left k from within in
+    record {
+      done = l.done;
+      rest = l.rest;
+      parts = l.parts;
+      past = l.past;
+      state = l.state;
+      lived = l.lived;
+      shows = l.shows;
+      flushed_all = no_flush_later low k l.rest below (within_rest low l.done l.rest (subst (AreFlushedWithin low) l.parts left.flushed)) l.flushed_all;
+    }

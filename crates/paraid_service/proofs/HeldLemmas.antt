@@ -17,11 +17,11 @@ use Rattle.paraid_volume.specs.Lives.{HasLived, Life, VolLog}
 use Rattle.paraid_volume.specs.Values.{VolumesStandFor, device_of, halted_of, volume_table}
 use Rattle.paraid_volume.proofs.DeviceLemmas.{DeviceGoesOn-none}
 use Rattle.paraid_volume.proofs.LivesLemmas.{life_shows}
-use Rattle.paraid_volume_lines.specs.Grammar.{VolLine, bad, list}
+use Rattle.paraid_volume_lines.specs.Grammar.{VolLine, bad, flush, list}
 use Rattle.paraid_volume_lines.specs.Lists.{TellsVolumes}
 use Rattle.paraid_volume_lines.specs.Texts.{created_text, fault_text, flushed_text, read_text, written_text}
 use Rattle.paraid_nbd.specs.Export.{KeepsOn}
-use Rattle.paraid_service.specs.LineSteps.{AnswersLine, ServesHeld}
+use Rattle.paraid_service.specs.LineSteps.{AnswersLine, KeepsFlush, ServesHeld}
 use Rattle.paraid_service.specs.VolumeLines.{LineStep}
 use Rattle.paraid_service.specs.VolumeLines.LineStep.{lists}
 use Rattle.paraid_nbd.proofs.DeviceLemmas.{keeps_none}
@@ -61,22 +61,24 @@ module _ {B : Type 0} (g : Ghosts B) where
       → text ≡ said ++ codes "\n" → (line ≡ bad → ⊥) → (line ≡ list → ⊥) → ((own : Halt) → now ≡ Some own → said ≡ halt_text own)
       → (halted_of new ≡ None → (from : SinceHistory B) (start : ℕ) (log : VolLog) → (lived : HasLived (VolumesStandFor (DeviceHolds g.stands g.kept from) old) (g.block_count (device_of old)) start log) → IsTrue (g.tells (device_of new))
       → AnswersLine (VolumesStandFor (DeviceHolds g.stands g.kept from) old) (VolumesStandFor (DeviceHolds g.stands g.kept from) new) (g.block_count (device_of old)) start log lived line said)
+      → (halted_of new ≡ None → line ≡ flush → KeepsFlush g old new × (said ≡ codes "flushed"))
       → ServesHeld g old new line text halt
-  serves old new line now halt said text halted is went keeps printed not_bad not_list told step = record {
+  serves old new line now halt said text halted is went keeps printed not_bad not_list told step flushed = record {
     halted = halted ∙ sym is;
     went = went;
     keeps = keeps;
     said = said;
     printed = printed;
     step = λ none. step (halted ∙ sym is ∙ none);
+    flushes = λ none. flushed (halted ∙ sym is ∙ none);
     halts = λ own e. (told own (sym is ∙ e), not_bad, not_list);
   }
 
   -- a line that calls nothing
-  pub serves_none : (v : Volumes B g) (line : VolLine) (said text : List ℕ) → halted_of v ≡ None → text ≡ said ++ codes "\n"
+  pub serves_none : (v : Volumes B g) (line : VolLine) (said text : List ℕ) → halted_of v ≡ None → text ≡ said ++ codes "\n" → (line ≡ flush → ⊥)
       → ((from : SinceHistory B) (start : ℕ) (log : VolLog) (lived : HasLived (VolumesStandFor (DeviceHolds g.stands g.kept from) v) (g.block_count (device_of v)) start log) → LineStep (g.block_count (device_of v)) (Some lived.state) line said [] (Some lived.state))
       → ServesHeld g v v line text None
-  serves_none v line said text going printed step = record {
+  serves_none v line said text going printed not_flush step = record {
     halted = going;
     went = DeviceGoesOn-none g.block_count g.halts g.halted g.tells (device_of v);
     keeps = keeps_none g.kept (device_of v);
@@ -87,10 +89,11 @@ module _ {B : Type 0} (g : Ghosts B) where
       all = record { writes = lived.writes; state = lived.state; stands = lived.stands; life = subst (λ (l : VolLog). Life (g.block_count (device_of v)) start lived.writes lived.state l) (sym (append-nil log)) lived.life };
       step = step from start log lived;
     };
+    flushes = λ none is. absurd (not_flush is);
     halts = λ own e. absurd (let no : None ≡ Some own = e in cc);
   }
 
   pub serves_list : (v : Volumes B g) (text : List ℕ) → halted_of v ≡ None → TellsVolumes (g.block_count (device_of v)) (volume_table v) text → ServesHeld g v v list text None
-  serves_list v text going told = serves_none v list (codes "list" ++ told.text) text going told.printed (λ from start log lived.
+  serves_list v text going told = serves_none v list (codes "list" ++ told.text) text going told.printed (λ no. cc) (λ from start log lived.
       let shows = life_shows (g.block_count (device_of v)) start lived.writes lived.state log lived.life in
       lists lived.state told.text refl (told.each (after_all lived.writes) lived.state lived.stands.1 shows))

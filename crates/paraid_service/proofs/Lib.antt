@@ -5,6 +5,8 @@ pub mod HeadlineLemmas
 pub mod KeepLemmas
 pub mod LineLemmas
 pub mod HeldLemmas
+pub mod FlushLemmas
+pub mod PointLemmas
 pub mod ShelfLemmas
 pub mod RunLemmas
 pub mod TakeLemmas

@@ -1,13 +1,19 @@
 -- Lines as steps of volumes.
-use Rattle.std.proofs.Common.{◌≡◌, ℕ, ◌<◌, [], List, true, refl, sym, ◌∙◌, subst}
+use Rattle.std.proofs.Common.{◌≡◌, ℕ, ◌<◌, [], ◌∷◌, ◌++◌, List, length, true, refl, sym, ◌∙◌, subst}
 use Rattle.paraid_base.specs.declared.fault.Halt.{Halt}
 use Rattle.paraid_volume.specs.declared.fault.VolFault.TheVariants.{Halt as VolHalt, Small, NotVolumes, Already, NoVolume, NoBlock, Exists, NoExtents, Names, Space}
 use Rattle.paraid_volume.specs.Faults.{IsHalt}
-use Rattle.std.specs.Prelude.{Option, Some, None, Result, Ok, Err, OnOk, IfOk, IfErr, slice_index_or, codes}
+use Rattle.std.specs.Prelude.{Option, Some, None, Result, Ok, Err, OnOk, IfOk, IfErr, IsTrue, slice_index_or, codes}
 use Rattle.paraid_volume.specs.declared.fault.VolFault.{VolFault}
 use Rattle.std.proofs.lemmas.List.{append-nil}
 use Rattle.paraid_base.specs.declared.block.Block.{Block}
+use Rattle.paraid_base.specs.declared.event.Answer.TheVariants.{Flushed as FlushedAnswer}
+use Rattle.paraid_base.specs.declared.event.Event.TheVariants.{Flush as FlushEvent}
+use Rattle.paraid_base.specs.BlockAnswers.{Answers}
 use Rattle.paraid_base.specs.History.{History, after_all}
+use Rattle.paraid_blocks.specs.declared.blocks.Blocks.{Ghosts}
+use Rattle.paraid_volume.specs.declared.volumes.Volumes.{Volumes}
+use Rattle.paraid_volume.specs.Values.{VolumesStandFor, device_of, halted_of}
 use Rattle.paraid_volume.specs.declared.name.Name.{Name}
 use Rattle.paraid_volume.specs.Lives.{HasLived, HasName, Life, LivesMore, VolLog, create as CreateCall, delete as DeleteCall, read as ReadCall, write as WriteCall, flush as FlushCall, flushed, made, refused, removed, value, wrote}
 use Rattle.paraid_volume.specs.NameValues.{IsNameOf, letter_of}
@@ -15,7 +21,7 @@ use Rattle.paraid_volume.specs.States.{ShowsVolumes}
 use Rattle.paraid_volume.specs.Tables.{IsLiveId, IsSameTable}
 use Rattle.paraid_volume.proofs.LivesLemmas.{life_shows}
 use Rattle.paraid_volume.proofs.RefusalLemmas.{has_name, name_has, named_live}
-use Rattle.paraid_service.specs.LineSteps.{AnswersLine}
+use Rattle.paraid_service.specs.LineSteps.{AnswersLine, KeepsFlush}
 use Rattle.paraid_volume_lines.specs.Texts.{created_text, deleted_text, flushed_text, read_text, written_text}
 use Rattle.paraid_service.specs.VolumeLines.{named_in}
 use Rattle.paraid_volume_lines.specs.Lists.{name_text}
@@ -98,3 +104,11 @@ module _ (old new : History → Type 0) (count start : ℕ) (log : VolLog) (live
       → AnswersLine old new count start log lived FlushLine (flushed_text r)
   flush_line halted (Ok n) ok err none = record { more = _; all = ok.all; step = calls lived.state ok.all.state FlushLine FlushCall (flushed n) refl flushes ok.step }
   flush_line halted (Err fault) ok err none = absurd (no_halt halted fault err none)
+
+-- a flush that was answered with a number
+pub flush_keeps : {B : Type 0} (g : Ghosts B) (old new : Volumes B g) (r : Result ℕ VolFault) → IfErr r (IsHalt (halted_of new))
+    → IfOk r (λ number. (h : History) → VolumesStandFor g.stands old h → IsTrue (g.tells (device_of new)) → (number ≡ length h) × VolumesStandFor g.stands new h)
+    → IfOk r (λ number. (first : B) (events : Answers) → g.kept first (device_of old) events → g.kept first (device_of new) (events ++ (FlushEvent, FlushedAnswer number) ∷ []))
+    → halted_of new ≡ None → KeepsFlush g old new × (flushed_text r ≡ codes "flushed")
+flush_keeps g old new (Ok number) err stands kept none = (record { number = number; kept = kept; counts = λ h s t. (stands h s t).0; stands = λ h s t. (stands h s t).1 }, refl)
+flush_keeps g old new (Err fault) err stands kept none = absurd (no_halt (halted_of new) fault err none)

@@ -1,8 +1,8 @@
 -- Lines, one after the other, on a device.
-use Rattle.std.proofs.Common.{◌≡◌, ℕ, [], ◌∷◌, List, ◌++◌, ◌∙◌, ◌+◌, length, length-append, refl, sym, ap, subst, arith}
+use Rattle.std.proofs.Common.{◌≡◌, ℕ, [], ◌∷◌, List, ◌++◌, ◌∙◌, refl, sym, ap, subst}
 use Rattle.std.specs.Prelude.{Option, Some, None, IsTrue, codes}
 use Rattle.std.proofs.lemmas.Option.{same_Some}
-use Rattle.std.proofs.lemmas.List.{append-nil, append_cancel_left, length_push}
+use Rattle.std.proofs.lemmas.List.{append-nil, append_cancel_left}
 use Rattle.paraid_base.specs.declared.fault.Halt.{Halt}
 use Rattle.paraid_base.specs.BlockAnswers.{Answers}
 use Rattle.paraid_base.specs.History.{History, after_all}
@@ -10,8 +10,7 @@ use Rattle.paraid_blocks.specs.declared.blocks.Blocks.{Ghosts}
 use Rattle.paraid_trace.specs.Replies.{halt_text}
 use Rattle.paraid_volume.specs.Device.{entries_in}
 use Rattle.paraid_volume.specs.Lives.{Life, VolLog}
-use Rattle.paraid_volume.specs.Lives.Life.{begun, next}
-use Rattle.paraid_volume.specs.States.{ShowsVolumes, VolumeState}
+use Rattle.paraid_volume.specs.States.{ShowsVolumes}
 use Rattle.paraid_volume.proofs.LivesLemmas.{life_shows}
 use Rattle.paraid_volume.proofs.DeviceLemmas.{DeviceGoesOn-then}
 use Rattle.paraid_volume_lines.specs.Grammar.{AsksVolumes, VolLine, bad, create, delete, flush, init, list, read, write}
@@ -27,21 +26,27 @@ use Rattle.paraid_service.specs.VolumeSessions.Holds.{volumes as volumes_held, n
 use Rattle.paraid_service.specs.VolumeSessions.IsLifeOf.{lives, waits}
 use Rattle.paraid_nbd.proofs.DeviceLemmas.{keeps_then}
 
+-- The events that were kept since the device was as `start` and stood for `h` are those of a life.
+pub record LivesKept {B : Type 0} (g : Ghosts B) (start : B) (h : History) (device : B) (s : Held) (log : VolLog) : Type 0 where
+  pub events : Answers
+  pub kept : g.kept start device events
+  pub life : IsLifeOf (g.block_count start) h events s log
+
+no_entries : (a b : History) → a ≡ a ++ b → b ≡ []
+no_entries a b e = append_cancel_left a b [] (sym e ∙ sym (append-nil a))
+
 module _ {B : Type 0} (g : Ghosts B) where
-  -- what is held is that of a life by the events that were kept
-  pub life_on : (start : B) (h : History) (shelf : Shelf B g) (s : Held) (log : VolLog) → OnShelf g (Some (start, h, [])) (g.block_count start) h shelf s log
-      → (made : Answers) × g.kept start (device_in shelf) made × IsLifeOf (g.block_count start) h made s log
-  life_on start h (HeldShelf volumes) (Some s) log on =
-      let holds = on.lived.stands.0 in
-      (holds.1, holds.2, subst (λ z. IsLifeOf (g.block_count start) h holds.1 (Some z) log) on.is (lives on.start on.lived.state log on.began (subst (λ (w : History). Life (g.block_count start) on.start w on.lived.state log) holds.3 on.lived.life)))
+  pub life_on : (start : B) (h : History) (shelf : Shelf B g) (s : Held) (log : VolLog) → OnShelf g start (g.block_count start) h shelf s log → LivesKept g start h (device_in shelf) s log
+  life_on start h (HeldShelf volumes) (Some s) log on = record {
+    events = on.events;
+    kept = on.kept;
+    life = lives on.start s log on.began on.soon (subst (λ (w : History). Life (g.block_count start) on.start w s log) on.are on.life) on.flushes;
+  }
   life_on start h (HeldShelf volumes) None log on = absurd on
   life_on start h (Bare blocks) (Some s) log on = absurd on
   life_on start h (Bare blocks) None log on =
       let holds = on.holds in
-      (holds.1, holds.2, subst (λ (l : VolLog). IsLifeOf (g.block_count start) h holds.1 None l) (sym on.none) (waits (no_entries h (entries_in holds.1) holds.3)))
-    where
-      no_entries : (a b : History) → a ≡ a ++ b → b ≡ []
-      no_entries a b e = append_cancel_left a b [] (sym e ∙ sym (append-nil a))
+      record { events = holds.1; kept = holds.2; life = subst (λ (l : VolLog). IsLifeOf (g.block_count start) h holds.1 None l) (sym on.none) (waits (no_entries h (entries_in holds.1) holds.3)) }
 
   -- ---- a line more
 
@@ -50,7 +55,7 @@ module _ {B : Type 0} (g : Ghosts B) where
         → (h : History) → g.stands start h → IsTrue (g.tells (device_in new)) → SaysLines g start h (lines ++ line ∷ []) (text ++ said) new halt
     more_says None l start lines line text ask r h stands tells =
         let y = r.says h stands (l.went.told tells) in
-        let step = subst (λ (k : ℕ). OnShelf g (Some (start, h, [])) k h old y.last y.log → StepsShelf (OnShelf g (Some (start, h, [])) k h new) k y.last asked l.said y.log) r.went.size (λ o. l.step refl (Some (start, h, [])) h y.last y.log o tells) (y.on refl) in
+        let step = subst (λ (k : ℕ). OnShelf g start k h old y.last y.log → StepsShelf (OnShelf g start k h new) k y.last asked l.said y.log) r.went.size (λ o. l.step refl start h y.last y.log o tells) (y.on refl) in
         record {
           first = y.first;
           begun = y.begun;
@@ -65,7 +70,7 @@ module _ {B : Type 0} (g : Ghosts B) where
         let y = r.says h stands (l.went.told tells) in
         let why = l.halts own refl in
         let life = life_on start h old y.last y.log (y.on refl) in
-        let kept = l.keeps.grows start life.0 life.1 in
+        let kept = l.keeps.grows start life.events life.kept in
         record {
           first = y.first;
           begun = y.begun;
@@ -75,7 +80,7 @@ module _ {B : Type 0} (g : Ghosts B) where
           steps = subst (λ (x : List ℕ). LinesStep (g.block_count start) y.first y.begun (lines ++ line ∷ []) (text ++ x) y.log y.last (Some own)) (sym (l.printed ∙ ap (λ (x : List ℕ). x ++ codes "\n") why.0))
               (halting y.last lines line text asked y.log None own y.steps ask why.1 (λ none. why.2) (λ other e. absurd (let no : None ≡ Some other = e in cc)));
           on = λ none. absurd (let no : Some own ≡ None = none in cc);
-          broken = λ other e. record { before = life.0; rest = kept.0; all = kept.1; life = life.2 };
+          broken = λ other e. record { before = life.events; rest = kept.0; all = kept.1; life = life.life };
         }
 
     pub runs_more : (halt : Option Halt) → ServesShelf g old new asked said halt → RunsOn g old new None halt asked said
@@ -83,6 +88,7 @@ module _ {B : Type 0} (g : Ghosts B) where
       going = l.going;
       went = DeviceGoesOn-then g.block_count g.halts g.halted g.tells start (device_in old) (device_in new) r.went l.went;
       keeps = keeps_then g.kept start (device_in old) (device_in new) r.keeps l.keeps;
+      halted = λ going. l.halted (r.halted going);
       says = more_says halt l start lines line text ask r;
     }
 
@@ -107,6 +113,7 @@ module _ {B : Type 0} (g : Ghosts B) where
     going = r.going;
     went = r.went;
     keeps = r.keeps;
+    halted = r.halted;
     says = λ h stands tells.
         let y = r.says h stands tells in
         record {
@@ -123,38 +130,23 @@ module _ {B : Type 0} (g : Ghosts B) where
 
   -- ---- before any line
 
-  -- a life of no call
-  life_starts : (count start : ℕ) (w : History) (s : VolumeState) (log : VolLog) → Life count start w s log → length log ≡ 0 → length w ≡ start
-  life_starts count start w s log (begun h t e shows) none = e
-  life_starts count start w s log (next h more t u before call answer life step during shows number) none = absurd (let long = length_push before (call, answer) in let no : ⊥ = omega (arith, long, none) in no)
-
-  first_on : (start : B) (h : History) (shelf : Shelf B g) (s : Held) → OnFirst g (Some (start, h, [])) (g.block_count start) h shelf s → OnShelf g (Some (start, h, [])) (g.block_count start) h shelf s []
-  first_on start h (HeldShelf volumes) (Some s) on = record { start = length h; began = omega arith; lived = on.0; is = on.1 }
+  first_on : (start : B) (h : History) (shelf : Shelf B g) (s : Held) → OnFirst g start (g.block_count start) h shelf s → OnShelf g start (g.block_count start) h shelf s []
+  first_on start h (HeldShelf volumes) (Some s) on = on.0
   first_on start h (HeldShelf volumes) None on = absurd on
   first_on start h (Bare blocks) (Some s) on = absurd on
   first_on start h (Bare blocks) None on = on
 
-  first_holds : (start : B) (h : History) (shelf : Shelf B g) (s : Held) → OnFirst g (Some (start, h, [])) (g.block_count start) h shelf s → Holds (g.block_count start) (after_all h) s
+  first_holds : (start : B) (h : History) (shelf : Shelf B g) (s : Held) → OnFirst g start (g.block_count start) h shelf s → Holds (g.block_count start) (after_all h) s
   first_holds start h (HeldShelf volumes) (Some s) on =
       let l = on.0 in
-      let holds = l.stands.0 in
-      let made = entries_in holds.1 in
-      let long = life_starts (g.block_count start) (length h) l.writes l.state [] l.life refl in
-      let both : length l.writes ≡ length h + length made = ap length holds.3 ∙ length-append h made in
-      let none : made ≡ [] = empty made (omega (arith, long, both)) in
-      let same : l.writes ≡ h = holds.3 ∙ ap (λ (x : History). h ++ x) none ∙ append-nil h in
-      volumes_held s (subst (λ (z : VolumeState). ShowsVolumes (g.block_count start) (after_all h) z) on.1 (subst (λ (w : History). ShowsVolumes (g.block_count start) (after_all w) l.state) same (life_shows (g.block_count start) (length h) l.writes l.state [] l.life)))
-    where
-      empty : (x : History) → length x ≡ 0 → x ≡ []
-      empty [] e = refl
-      empty (y ∷ x) e = absurd (let no : ⊥ = omega (arith, e) in no)
+      volumes_held s (subst (λ (w : History). ShowsVolumes (g.block_count start) (after_all w) s) on.1 (life_shows (g.block_count start) l.start l.writes s [] l.life))
   first_holds start h (HeldShelf volumes) None on = absurd on
   first_holds start h (Bare blocks) (Some s) on = absurd on
   first_holds start h (Bare blocks) None on = none_held on.no_table
 
   first_says : (start : B) (shelf : Shelf B g) (halt : Option Halt) (o : OpensShelf g start shelf halt) → g.kept start start [] → (h : History) → g.stands start h → IsTrue (g.tells (device_in shelf)) → SaysLines g start h [] [] shelf halt
   first_says start shelf None o begins h stands tells =
-      let f = o.first refl (Some (start, h, [])) h (stands, [], begins, sym (append-nil h)) tells in
+      let f = o.first refl start h (stands, [], begins, sym (append-nil h)) tells in
       record {
         first = f.0;
         begun = None;
@@ -179,4 +171,4 @@ module _ {B : Type 0} (g : Ghosts B) where
       }
 
   pub runs_first : (start : B) (shelf : Shelf B g) (halt : Option Halt) → OpensShelf g start shelf halt → g.kept start start [] → RunsLines g start [] [] shelf halt
-  runs_first start shelf halt o begins = record { going = o.going; went = o.went; keeps = o.keeps; says = first_says start shelf halt o begins }
+  runs_first start shelf halt o begins = record { going = o.going; went = o.went; keeps = o.keeps; halted = o.halted; says = first_says start shelf halt o begins }

@@ -1,49 +1,111 @@
 -- Lines, whether there are volumes or not.
-use Rattle.std.proofs.Common.{◌≡◌, ℕ, ◌+◌, ◌<◌, ◌≤◌, [], List, ◌++◌, ◌∙◌, length, refl, sym, subst, arith}
+use Rattle.std.proofs.Common.{◌≡◌, ℕ, ◌+◌, ◌<◌, ◌≤◌, [], ◌∷◌, List, ◌++◌, ◌∙◌, length, length-append, refl, sym, ap, subst, arith, inl, inr}
 use Rattle.std.specs.Prelude.{Option, Some, None, Err, IsTrue, codes}
-use Rattle.std.proofs.lemmas.List.{append-nil}
+use Rattle.std.proofs.lemmas.List.{append-nil, append_assoc, length_push}
 use Rattle.paraid_base.specs.declared.block.Block.{Block}
 use Rattle.paraid_base.specs.declared.fault.Halt.{Halt}
+use Rattle.paraid_base.specs.declared.event.Answer.TheVariants.{Flushed as FlushedAnswer}
+use Rattle.paraid_base.specs.declared.event.Event.TheVariants.{Flush as FlushEvent}
+use Rattle.paraid_base.specs.BlockAnswers.{Answers}
 use Rattle.paraid_base.specs.History.{History, after_all}
 use Rattle.paraid_blocks.specs.declared.blocks.Blocks.{Ghosts}
 use Rattle.paraid_volume.specs.declared.fault.VolFault.{VolFault}
 use Rattle.paraid_volume.specs.declared.fault.VolFault.TheVariants.{Halt as VolHalt, Small, NotVolumes, Already, NoVolume, NoBlock, Exists, NoExtents, Names, Space}
 use Rattle.paraid_volume.specs.declared.volumes.Volumes.{Volumes}
-use Rattle.paraid_volume.specs.Device.{DeviceGoesOn, DeviceHolds, SinceHistory}
+use Rattle.paraid_volume.specs.Device.{DeviceGoesOn, DeviceHolds, SinceHistory, entries_in}
 use Rattle.paraid_volume.specs.Faults.{IsAdoptFault, IsInitFault, vol_halt_in}
-use Rattle.paraid_volume.specs.Lives.{BeginsLife, HasLived, Life, VolLog}
+use Rattle.paraid_volume.specs.Lives.{BeginsLife, HasLived, Life, VolLog, flush as FlushCall, flushed}
+use Rattle.paraid_volume.specs.Lives.Life.{begun, next}
 use Rattle.paraid_volume_lines.specs.Asked.{line_with}
 use Rattle.paraid_volume_lines.specs.declared.asked.VolAsked.{VolAsked}
 use Rattle.paraid_volume_lines.specs.declared.asked.VolAsked.TheVariants.{Init as AskInit, Create as AskCreate, Delete as AskDelete, Read as AskRead, Write as AskWrite, Flush as AskFlush, List as AskList, Bad as AskBad}
-use Rattle.paraid_volume.specs.States.{no_volumes}
+use Rattle.paraid_volume.specs.States.{VolumeState, no_volumes}
 use Rattle.paraid_volume.specs.Tables.{IsVolumeTable, extent_count, extent_size}
 use Rattle.paraid_volume.specs.Values.{VolumesStandFor, device_of, halted_of}
-use Rattle.paraid_volume.proofs.DeviceLemmas.{DeviceGoesOn-none, holds_stands}
-use Rattle.paraid_volume_lines.specs.Grammar.{VolLine, bad, init, list}
+use Rattle.paraid_volume.proofs.DeviceLemmas.{DeviceGoesOn-none, entries_in-append}
+use Rattle.paraid_volume.proofs.OneCallLemmas.{lived_flush}
+use Rattle.paraid_volume_lines.specs.Grammar.{VolLine, bad, flush, init, list}
 use Rattle.paraid_volume_lines.specs.Texts.{begun_text, fault_text}
 use Rattle.paraid_service.specs.declared.shelf.Shelf.TheVariants.{Bare, Held as HeldShelf}
 use Rattle.paraid_nbd.specs.Export.{KeepsOn}
-use Rattle.paraid_service.specs.LineSteps.{ServesHeld}
-use Rattle.paraid_service.specs.Shelves.{OnShelf, OpensShelf, ServesShelf, StepsShelf}
+use Rattle.paraid_service.specs.LineSteps.{KeepsFlush, ServesHeld}
+use Rattle.paraid_service.specs.Shelves.{OnHeld, OnShelf, OpensShelf, ServesShelf, StepsShelf}
 use Rattle.paraid_service.specs.VolumeLines.{Held, LineStep}
-use Rattle.paraid_service.specs.VolumeLines.LineStep.{begins}
+use Rattle.paraid_service.specs.VolumeLines.LineStep.{begins, calls}
+use Rattle.paraid_service.specs.VolumeLines.IsCallOf.{flushes}
+use Rattle.paraid_service.specs.VolumeSessions.{AreFlushesKept}
+use Rattle.paraid_service.proofs.FlushLemmas.{flush_kept, flush_or_not, flushes_append, flushes_later, no_flush}
 use Rattle.paraid_service.proofs.HeldLemmas.{fault_halts}
 use Rattle.paraid_nbd.proofs.DeviceLemmas.{keeps_none}
 
 module _ {B : Type 0} (g : Ghosts B) where
   -- ---- where there are volumes
 
-  held_steps : (old new : Volumes B g) (line : VolLine) (text : List ℕ) (halt : Option Halt) (l : ServesHeld g old new line text halt) → halt ≡ None → (from : SinceHistory B) (h : History) (s : Held) (log : VolLog)
-      → OnShelf g from (g.block_count (device_of old)) h (HeldShelf old) s log → IsTrue (g.tells (device_of new)) → StepsShelf (OnShelf g from (g.block_count (device_of old)) h (HeldShelf new)) (g.block_count (device_of old)) s line l.said log
-  held_steps old new line text halt l none from h (Some s) log on tells =
-      let a = l.step none from on.start log on.lived tells in
+  -- a step of a life, with the events that it kept
+  other_steps : (old new : Volumes B g) (line : VolLine) (text : List ℕ) (halt : Option Halt) (l : ServesHeld g old new line text halt) → halt ≡ None → (line ≡ flush → ⊥) → (first : B) (h : History) (s : VolumeState) (log : VolLog)
+      → OnHeld g first (g.block_count (device_of old)) h old s log → IsTrue (g.tells (device_of new)) → StepsShelf (OnShelf g first (g.block_count (device_of old)) h (HeldShelf new)) (g.block_count (device_of old)) (Some s) line l.said log
+  other_steps old new line text halt l none not first h s log on tells =
+      let a = l.step none (Some (first, on.writes, on.events)) on.start log (record {
+        writes = on.writes;
+        state = s;
+        stands = ((on.stands.0, [], subst (g.kept first (device_of old)) (sym (append-nil on.events)) on.kept, sym (append-nil on.writes)), on.stands.1);
+        life = on.life;
+      }) tells in
+      let holds = a.all.stands.0 in
+      let events : Answers = on.events ++ holds.1 in
       record {
         more = a.more;
         last = Some a.all.state;
-        step = subst (λ z. LineStep (g.block_count (device_of old)) (Some z) line l.said a.more (Some a.all.state)) on.is a.step;
-        on = record { start = on.start; began = on.began; lived = a.all; is = refl };
+        step = a.step;
+        on = record {
+          start = on.start;
+          began = on.began;
+          soon = on.soon;
+          events = events;
+          kept = holds.2;
+          writes = a.all.writes;
+          are = holds.3 ∙ ap (λ (x : History). x ++ entries_in holds.1) on.are ∙ append_assoc h (entries_in on.events) (entries_in holds.1) ∙ ap (λ (x : History). h ++ x) (sym (entries_in-append on.events holds.1));
+          stands = (holds.0, a.all.stands.1);
+          life = a.all.life;
+          flushes = flushes_append log a.more events (flushes_later log on.events holds.1 on.flushes) (no_flush (g.block_count (device_of old)) (Some s) (Some a.all.state) line l.said a.more events a.step not);
+        };
       }
-  held_steps old new line text halt l none from h None log on tells = absurd on
+
+  -- a flush, which is kept
+  flush_steps : (old new : Volumes B g) (said : List ℕ) → KeepsFlush g old new → said ≡ codes "flushed" → (first : B) (h : History) (s : VolumeState) (log : VolLog)
+      → OnHeld g first (g.block_count (device_of old)) h old s log → IsTrue (g.tells (device_of new)) → StepsShelf (OnShelf g first (g.block_count (device_of old)) h (HeldShelf new)) (g.block_count (device_of old)) (Some s) flush said log
+  flush_steps old new said k is first h s log on tells =
+      let m = lived_flush (λ w. VolumesStandFor g.stands old w × (w ≡ on.writes)) (λ w. VolumesStandFor g.stands new w × (w ≡ on.writes)) (g.block_count (device_of old)) on.start log
+      (record { writes = on.writes; state = s; stands = (on.stands, refl); life = on.life }) k.number (λ w holds. (k.counts w holds.0 tells, (k.stands w holds.0 tells, holds.1))) in
+      let more : VolLog = (FlushCall, flushed k.number) ∷ [] in
+      let kept : Answers = (FlushEvent, FlushedAnswer k.number) ∷ [] in
+      record {
+        more = more;
+        last = Some m.all.state;
+        step = subst (λ (x : List ℕ). LineStep (g.block_count (device_of old)) (Some s) flush x more (Some m.all.state)) (sym is) (calls s m.all.state flush FlushCall (flushed k.number) refl flushes m.step);
+        on = record {
+          start = on.start;
+          began = on.began;
+          soon = on.soon;
+          events = on.events ++ kept;
+          kept = k.kept first on.events on.kept;
+          writes = m.all.writes;
+          are = m.all.stands.1 ∙ on.are ∙ ap (λ (x : History). h ++ x) (sym (entries_in-append on.events kept ∙ append-nil (entries_in on.events)));
+          stands = m.all.stands.0;
+          life = m.all.life;
+          flushes = flushes_append log more (on.events ++ kept) (flushes_later log on.events kept on.flushes) (flush_kept k.number on.events);
+        };
+      }
+
+  held_steps : (old new : Volumes B g) (line : VolLine) (text : List ℕ) (halt : Option Halt) (l : ServesHeld g old new line text halt) → halt ≡ None → (first : B) (h : History) (s : Held) (log : VolLog)
+      → OnShelf g first (g.block_count (device_of old)) h (HeldShelf old) s log → IsTrue (g.tells (device_of new)) → StepsShelf (OnShelf g first (g.block_count (device_of old)) h (HeldShelf new)) (g.block_count (device_of old)) s line l.said log
+  held_steps old new line text halt l none first h (Some s) log on tells = elim (flush_or_not line) [
+    | inl is ↦
+        let f = l.flushes none is in
+        subst (λ (x : VolLine). StepsShelf (OnShelf g first (g.block_count (device_of old)) h (HeldShelf new)) (g.block_count (device_of old)) (Some s) x l.said log) (sym is) (flush_steps old new l.said f.0 f.1 first h s log on tells)
+    | inr not ↦ other_steps old new line text halt l none not first h s log on tells
+  ]
+  held_steps old new line text halt l none first h None log on tells = absurd on
 
   pub on_held : (old new : Volumes B g) (line : VolLine) (text : List ℕ) (halt : Option Halt) → ServesHeld g old new line text halt → ServesShelf g (HeldShelf old) (HeldShelf new) line text halt
   on_held old new line text halt l = record {
@@ -52,16 +114,17 @@ module _ {B : Type 0} (g : Ghosts B) where
     keeps = l.keeps;
     said = l.said;
     printed = l.printed;
+    halted = λ going. new.halted ∙ l.halted;
     step = held_steps old new line text halt l;
     halts = l.halts;
   }
 
   -- ---- where there is no table
 
-  bare_steps : (blocks : B) (line : VolLine) (said : List ℕ) → LineStep (g.block_count blocks) None line said [] None → (from : SinceHistory B) (h : History) (s : Held) (log : VolLog)
-      → OnShelf g from (g.block_count blocks) h (Bare blocks) s log → StepsShelf (OnShelf g from (g.block_count blocks) h (Bare blocks)) (g.block_count blocks) s line said log
-  bare_steps blocks line said step from h (Some s) log on = absurd on
-  bare_steps blocks line said step from h None log on = record { more = []; last = None; step = step; on = record { none = append-nil log ∙ on.none; holds = on.holds; no_table = on.no_table } }
+  bare_steps : (blocks : B) (line : VolLine) (said : List ℕ) → LineStep (g.block_count blocks) None line said [] None → (first : B) (h : History) (s : Held) (log : VolLog)
+      → OnShelf g first (g.block_count blocks) h (Bare blocks) s log → StepsShelf (OnShelf g first (g.block_count blocks) h (Bare blocks)) (g.block_count blocks) s line said log
+  bare_steps blocks line said step first h (Some s) log on = absurd on
+  bare_steps blocks line said step first h None log on = record { more = []; last = None; step = step; on = record { none = append-nil log ∙ on.none; holds = on.holds; no_table = on.no_table } }
 
   -- a line that leaves the device
   pub on_bare : (blocks : B) (line : VolLine) (said text : List ℕ) → text ≡ said ++ codes "\n" → LineStep (g.block_count blocks) None line said [] None → ServesShelf g (Bare blocks) (Bare blocks) line text None
@@ -71,31 +134,36 @@ module _ {B : Type 0} (g : Ghosts B) where
     keeps = keeps_none g.kept blocks;
     said = said;
     printed = printed;
-    step = λ none from h s log on tells. bare_steps blocks line said step from h s log on;
+    halted = λ going. going;
+    step = λ none first h s log on tells. bare_steps blocks line said step first h s log on;
     halts = λ own e. absurd (let no : None ≡ Some own = e in cc);
   }
 
   begin_steps : (blocks : B) (volumes : Volumes B g) → 7 ≤ g.block_count blocks
       → ((from : SinceHistory B) (h : History) → DeviceHolds g.stands g.kept from blocks h → IsTrue (g.tells (device_of volumes)) → BeginsLife (VolumesStandFor (DeviceHolds g.stands g.kept from) volumes) (g.block_count blocks) (length h + 1))
-      → (from : SinceHistory B) (h : History) (s : Held) (log : VolLog) → OnShelf g from (g.block_count blocks) h (Bare blocks) s log → IsTrue (g.tells (device_of volumes))
-      → StepsShelf (OnShelf g from (g.block_count blocks) h (HeldShelf volumes)) (g.block_count blocks) s init (begun_text (extent_count (g.block_count blocks)) (extent_size (g.block_count blocks))) log
-  begin_steps blocks volumes large lived from h (Some s) log on tells = absurd on
-  begin_steps blocks volumes large lived from h None log on tells =
-      let b = lived from h on.holds tells in
+      → (first : B) (h : History) (s : Held) (log : VolLog) → OnShelf g first (g.block_count blocks) h (Bare blocks) s log → IsTrue (g.tells (device_of volumes))
+      → StepsShelf (OnShelf g first (g.block_count blocks) h (HeldShelf volumes)) (g.block_count blocks) s init (begun_text (extent_count (g.block_count blocks)) (extent_size (g.block_count blocks))) log
+  begin_steps blocks volumes large lived first h (Some s) log on tells = absurd on
+  begin_steps blocks volumes large lived first h None log on tells =
+      let b = lived (Some (first, h, [])) h on.holds tells in
+      let l = b.lived in
+      let holds = l.stands.0 in
+      let none : log ++ [] ≡ [] = append-nil log ∙ on.none in
       record {
         more = [];
-        last = Some (no_volumes (g.block_count blocks));
-        step = begins refl large;
+        last = Some l.state;
+        step = subst (λ (z : VolumeState). LineStep (g.block_count blocks) None init (begun_text (extent_count (g.block_count blocks)) (extent_size (g.block_count blocks))) [] (Some z)) (sym b.none) (begins refl large);
         on = record {
           start = length h + 1;
           began = omega arith;
-          lived = record {
-            writes = b.lived.writes;
-            state = b.lived.state;
-            stands = b.lived.stands;
-            life = subst (λ (l : VolLog). Life (g.block_count blocks) (length h + 1) b.lived.writes b.lived.state l) (sym (append-nil log ∙ on.none)) b.lived.life;
-          };
-          is = b.none;
+          soon = omega arith;
+          events = holds.1;
+          kept = holds.2;
+          writes = l.writes;
+          are = holds.3;
+          stands = (holds.0, l.stands.1);
+          life = subst (λ (x : VolLog). Life (g.block_count blocks) (length h + 1) l.writes l.state x) (sym none) l.life;
+          flushes = subst (λ (x : VolLog). AreFlushesKept x holds.1) (sym none) tt;
         };
       }
 
@@ -109,7 +177,8 @@ module _ {B : Type 0} (g : Ghosts B) where
     keeps = keeps;
     said = begun_text (extent_count (g.block_count blocks)) (extent_size (g.block_count blocks));
     printed = printed;
-    step = λ none from h s log on tells. begin_steps blocks volumes large lived from h s log on tells;
+    halted = λ none. volumes.halted ∙ going;
+    step = λ none first h s log on tells. begin_steps blocks volumes large lived first h s log on tells;
     halts = λ own e. absurd (let no : None ≡ Some own = e in cc);
   }
 
@@ -126,12 +195,24 @@ module _ {B : Type 0} (g : Ghosts B) where
   no_refusal blocks Names halted table large none f = absurd f
   no_refusal blocks (Space free) halted table large none f = absurd f
 
+  init_halts : (count : ℕ) (fault : VolFault) (halted : Option Halt) (table : Type 0) → 7 ≤ count → IsInitFault count halted table fault → halted ≡ vol_halt_in {A = Unit {0}} (Err fault)
+  init_halts count (VolHalt halt) halted table large f = f.1
+  init_halts count (Small n) halted table large f = let small = f.1 in let no : ⊥ = omega (arith, small, large) in absurd no
+  init_halts count NotVolumes halted table large f = absurd f
+  init_halts count Already halted table large f = f.1
+  init_halts count (NoVolume id) halted table large f = absurd f
+  init_halts count (NoBlock block) halted table large f = absurd f
+  init_halts count (Exists id) halted table large f = absurd f
+  init_halts count NoExtents halted table large f = absurd f
+  init_halts count Names halted table large f = absurd f
+  init_halts count (Space free) halted table large f = absurd f
+
   refused_steps : (blocks now : B) (fault : VolFault) → 7 ≤ g.block_count blocks
       → IsInitFault (g.block_count blocks) (g.halted now) ((h : History) → g.stands blocks h → IsTrue (g.tells now) → IsVolumeTable (g.block_count blocks) (after_all h)) fault
-      → vol_halt_in {A = Unit {0}} (Err fault) ≡ None → (from : SinceHistory B) (h : History) (s : Held) (log : VolLog) → OnShelf g from (g.block_count blocks) h (Bare blocks) s log → IsTrue (g.tells now)
-      → StepsShelf (OnShelf g from (g.block_count blocks) h (Bare now)) (g.block_count blocks) s init (fault_text fault) log
-  refused_steps blocks now fault large f none from h (Some s) log on tells = absurd on
-  refused_steps blocks now fault large f none from h None log on tells = absurd (on.no_table large (no_refusal blocks fault (g.halted now) _ large none f h (holds_stands g.stands g.kept from blocks h on.holds) tells))
+      → vol_halt_in {A = Unit {0}} (Err fault) ≡ None → (first : B) (h : History) (s : Held) (log : VolLog) → OnShelf g first (g.block_count blocks) h (Bare blocks) s log → IsTrue (g.tells now)
+      → StepsShelf (OnShelf g first (g.block_count blocks) h (Bare now)) (g.block_count blocks) s init (fault_text fault) log
+  refused_steps blocks now fault large f none first h (Some s) log on tells = absurd on
+  refused_steps blocks now fault large f none first h None log on tells = absurd (on.no_table large (no_refusal blocks fault (g.halted now) _ large none f h on.holds.0 tells))
 
   pub on_refused : (blocks now : B) (fault : VolFault) (text : List ℕ) → 7 ≤ g.block_count blocks → DeviceGoesOn g.block_count g.halts g.halted g.tells blocks now → KeepsOn g.kept blocks now
       → text ≡ fault_text fault ++ codes "\n"
@@ -143,6 +224,7 @@ module _ {B : Type 0} (g : Ghosts B) where
     keeps = keeps;
     said = fault_text fault;
     printed = printed;
+    halted = λ going. init_halts (g.block_count blocks) fault (g.halted now) _ large f;
     step = refused_steps blocks now fault large f;
     halts = λ own e. (fault_halts (Unit {0}) fault own e, (λ no. let x : init ≡ bad = no in cc), (λ no. let x : init ≡ list = no in cc));
   }
@@ -154,8 +236,18 @@ module _ {B : Type 0} (g : Ghosts B) where
     going = λ none. tt;
     went = DeviceGoesOn-none g.block_count g.halts g.halted g.tells blocks;
     keeps = keeps_none g.kept blocks;
-    first = λ none from h holds tells. (None, record { none = refl; holds = holds; no_table = λ large. let no : ⊥ = omega (arith, small, large) in absurd no });
+    halted = λ going. going;
+    first = λ none first h holds tells. (None, record { none = refl; holds = holds; no_table = λ large. let no : ⊥ = omega (arith, small, large) in absurd no });
   }
+
+  no_write : (h w more : History) → w ≡ h ++ more → length w ≡ length h → w ≡ h
+  no_write h w [] is long = is ∙ append-nil h
+  no_write h w (entry ∷ more) is long = absurd (let both = ap length is ∙ length-append h (entry ∷ more) in let no : ⊥ = omega (arith, both, long) in no)
+
+  -- a life of no call
+  life_starts : (count start : ℕ) (w : History) (s : VolumeState) (log : VolLog) → Life count start w s log → length log ≡ 0 → length w ≡ start
+  life_starts count start w s log (begun h t e shows) none = e
+  life_starts count start w s log (next h more t u before call answer life step during shows number) none = absurd (let long = length_push before (call, answer) in let no : ⊥ = omega (arith, long, none) in no)
 
   pub open_held : (blocks : B) (volumes : Volumes B g) → halted_of volumes ≡ None → DeviceGoesOn g.block_count g.halts g.halted g.tells blocks (device_of volumes) → KeepsOn g.kept blocks (device_of volumes)
       → ((from : SinceHistory B) (h : History) → DeviceHolds g.stands g.kept from blocks h → IsTrue (g.tells (device_of volumes)) → HasLived (VolumesStandFor (DeviceHolds g.stands g.kept from) volumes) (g.block_count blocks) (length h) [])
@@ -164,7 +256,16 @@ module _ {B : Type 0} (g : Ghosts B) where
     going = λ none. going;
     went = went;
     keeps = keeps;
-    first = λ none from h holds tells. let l = lived from h holds tells in (Some l.state, (l, refl));
+    halted = λ none. volumes.halted ∙ going;
+    first = λ none first h holds tells.
+        let l = lived (Some (first, h, [])) h holds tells in
+        let now = l.stands.0 in (
+          Some l.state,
+          (
+            record { start = length h; began = omega arith; soon = omega arith; events = now.1; kept = now.2; writes = l.writes; are = now.3; stands = (now.0, l.stands.1); life = l.life; flushes = tt },
+            no_write h l.writes (entries_in now.1) now.3 (life_starts (g.block_count blocks) (length h) l.writes l.state [] l.life refl),
+          ),
+        );
   }
 
   found_none : (blocks : B) (fault : VolFault) (halted : Option Halt) (without : Type 0) → 7 ≤ g.block_count blocks → vol_halt_in {A = Unit {0}} (Err fault) ≡ None → IsAdoptFault (g.block_count blocks) halted without fault → (halted ≡ None) × without
@@ -179,6 +280,18 @@ module _ {B : Type 0} (g : Ghosts B) where
   found_none blocks Names halted without large none f = absurd f
   found_none blocks (Space free) halted without large none f = absurd f
 
+  adopt_halts : (count : ℕ) (fault : VolFault) (halted : Option Halt) (without : Type 0) → 7 ≤ count → IsAdoptFault count halted without fault → halted ≡ vol_halt_in {A = Unit {0}} (Err fault)
+  adopt_halts count (VolHalt halt) halted without large f = f.1
+  adopt_halts count (Small n) halted without large f = let small = f.1 in let no : ⊥ = omega (arith, small, large) in absurd no
+  adopt_halts count NotVolumes halted without large f = f.1
+  adopt_halts count Already halted without large f = absurd f
+  adopt_halts count (NoVolume id) halted without large f = absurd f
+  adopt_halts count (NoBlock block) halted without large f = absurd f
+  adopt_halts count (Exists id) halted without large f = absurd f
+  adopt_halts count NoExtents halted without large f = absurd f
+  adopt_halts count Names halted without large f = absurd f
+  adopt_halts count (Space free) halted without large f = absurd f
+
   pub open_bare : (blocks now : B) (fault : VolFault) → 7 ≤ g.block_count blocks → DeviceGoesOn g.block_count g.halts g.halted g.tells blocks now → KeepsOn g.kept blocks now
       → IsAdoptFault (g.block_count blocks) (g.halted now) ((h : History) → g.stands blocks h → IsTrue (g.tells now) → IsVolumeTable (g.block_count blocks) (after_all h) → ⊥) fault
       → (g.halted now ≡ None → (from : SinceHistory B) (h : History) → DeviceHolds g.stands g.kept from blocks h → IsTrue (g.tells now) → DeviceHolds g.stands g.kept from now h)
@@ -187,9 +300,10 @@ module _ {B : Type 0} (g : Ghosts B) where
     going = λ none. tt;
     went = went;
     keeps = keeps;
-    first = λ none from h holds tells.
+    halted = λ going. adopt_halts (g.block_count blocks) fault (g.halted now) _ large f;
+    first = λ none first h holds tells.
         let found = found_none blocks fault (g.halted now) _ large none f in
-        (None, record { none = refl; holds = stands found.0 from h holds tells; no_table = λ many. found.1 h (holds_stands g.stands g.kept from blocks h holds) tells });
+        (None, record { none = refl; holds = stands found.0 (Some (first, h, [])) h holds tells; no_table = λ many. found.1 h holds.0 tells });
   }
 
 -- ---- a line where there is no table

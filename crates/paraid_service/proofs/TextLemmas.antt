@@ -1,53 +1,93 @@
 -- The whole text of a session of volumes.
-use Rattle.std.proofs.Common.{◌≤◌, ◌≡◌, ◌≢◌, ℕ, [], ◌∷◌, List, ◌++◌, ◌∙◌, take, drop, IsSome, refl, sym, ap, subst, inl, inr, arith, take-append-drop}
+use Rattle.std.proofs.Common.{◌≤◌, ◌<◌, ◌≡◌, ◌≢◌, ◌⊎◌, ◌^◌, ℕ, [], ◌∷◌, List, ◌++◌, ◌∙◌, length, take, drop, IsSome, refl, sym, ap, subst, inl, inr, arith, take-append-drop}
 use Rattle.std.specs.Prelude.{Option, Some, None, codes, is_some, if◌then◌else◌}
 use Rattle.std.proofs.lemmas.List.{append-nil, append_assoc, take_all}
+use Rattle.paraid_base.specs.declared.event.Answer.{Answer}
 use Rattle.paraid_base.specs.declared.event.Answer.TheVariants.{Flushed, Halted}
 use Rattle.paraid_base.specs.declared.event.Event.TheVariants.{Flush}
 use Rattle.paraid_base.specs.declared.fault.Halt.{Halt}
+use Rattle.paraid_base.specs.declared.fault.Halt.TheVariants.{Two as HaltTwo, Worn}
 use Rattle.paraid_base.specs.BlockAnswers.{Answers}
 use Rattle.paraid_base.specs.History.{History}
-use Rattle.paraid_base.specs.Told.{GrowsByBytes, HasRisen}
+use Rattle.paraid_base.specs.Told.{AtEnd, GrowsByBytes, HasRisen}
 use Rattle.paraid_base.proofs.ToldLemmas.{Gives-none, GrowsByBytes-then, HasRisen-later, HasRisen-sooner}
 use Rattle.paraid_blocks.specs.declared.blocks.Blocks.{Ghosts as BlocksGhosts}
 use Rattle.paraid_device.specs.declared.device.Device.{Device}
-use Rattle.paraid_device.specs.Devices.{StandsFor, array_of, halt_of_device}
-use Rattle.paraid_device.specs.Laws.{answered_none}
+use Rattle.paraid_device.specs.Devices.{HasAnswered, StandsFor, array_of, halt_of_device}
+use Rattle.paraid_device.specs.Laws.{answered_none, array_halt}
+use Rattle.paraid_image.specs.Rest.{AreSynced}
+use Rattle.paraid_io.specs.Lines.{lines_of}
 use Rattle.paraid_machine.specs.Machine.{block_count}
-use Rattle.paraid_rack.specs.Trail.{Trail}
+use Rattle.paraid_rack.specs.Slots.{Slot}
+use Rattle.paraid_rack.specs.Trail.{Trail, now as disks_now}
 use Rattle.paraid_record.specs.declared.meta.Setup.{Setup}
 use Rattle.paraid_serve.specs.declared.serves.Serves.{Ghosts}
 use Rattle.paraid_serve.specs.Ending.{EndsWithLine, end_line, halt_line, status_of_halt}
-use Rattle.paraid_serve.specs.Output.{begins_with}
+use Rattle.paraid_serve.specs.Lost.{HaltsBySecondLoss, HaltsByWear, NamesTwoLost, TellsWear}
+use Rattle.paraid_serve.specs.Output.{IsServedStatus, IsWholeStatus, begins_with}
+use Rattle.paraid_serve.proofs.ExitLemmas.{stretch_leaves}
 use Rattle.paraid_serve.proofs.GrowsLemmas.{told_then}
-use Rattle.paraid_session.specs.Turn.{Point}
+use Rattle.paraid_serve.proofs.HaltLemmas.{names_two, tells_wear}
+use Rattle.paraid_serve.proofs.StatusLemmas.{halt_served, other, served}
+use Rattle.paraid_serve.proofs.StretchLemmas.{stretch_none}
+use Rattle.paraid_session.specs.Turn.{IsMark, Point}
 use Rattle.paraid_session.specs.Mount.{IsMountedFromEach}
 use Rattle.paraid_session.proofs.MountLemmas.{IsMountedFromEach-follows}
-use Rattle.paraid_serve.proofs.ExitLemmas.{stretch_leaves}
-use Rattle.paraid_service.specs.Clients.{Keeps}
+use Rattle.paraid_volume.specs.Device.{entries_in}
+use Rattle.paraid_volume.specs.Lives.{VolLog}
+use Rattle.paraid_volume.proofs.LivesLemmas.{left_by}
 use Rattle.paraid_service.specs.declared.run.LinesEnd.{LinesEnd}
 use Rattle.paraid_service.specs.declared.run.LinesEnd.TheVariants.{Done, Source, TooLong, Sink}
 use Rattle.paraid_service.specs.declared.shelf.Shelf.{Shelf}
 use Rattle.paraid_service.specs.LineEnds.{ServesVolumeLines}
 use Rattle.paraid_service.specs.LineRuns.{SaysLines}
-use Rattle.paraid_service.specs.LinesEnds.{EndsSession, device_kept}
+use Rattle.paraid_service.specs.LinesEnds.{EndsSession, HasFlushed, device_kept}
 use Rattle.paraid_service.specs.LinesEnds.EndsSession.{at_sink, at_source, halted, kept, too_long}
 use Rattle.paraid_service.specs.Shelves.{device_in}
-use Rattle.paraid_service.specs.VolumeSessions.{AnswersLines, FollowsForVolumes, VolumesHeadline, VolumesRun, VolumesText, WritesVolumes}
+use Rattle.paraid_service.specs.VolumeLines.{Held}
+use Rattle.paraid_service.specs.VolumeSessions.{AnswersFromPoint, AnswersLines, FlushesLast, FollowsForVolumes, HasEvent, IsLifeOf, LeavesHeld, VolumesHeadline, VolumesRun, VolumesText, WritesVolumes}
+use Rattle.paraid_service.specs.VolumeSessions.IsLifeOf.{lives, waits}
 use Rattle.paraid_service.specs.VolumeSessions.VolumesText.{done as done_text, halted as halted_text, source as source_text, too_long as too_long_text}
 use Rattle.paraid_service.specs.VolumeSessions.WritesVolumes.{answers, first_line, last_line, whole}
-use Rattle.paraid_service.proofs.EndLemmas.{low_not_halt}
+use Rattle.paraid_service.proofs.EndLemmas.{synced_after}
+use Rattle.paraid_service.proofs.FlushLemmas.{within_low}
+use Rattle.paraid_service.proofs.PointLemmas.{flush_low, turns_history}
 use Rattle.paraid_service.proofs.RunLemmas.{life_on}
 
--- what was said of lines, with the events that were kept
-pub answers_of : {B : Type 0} (b : BlocksGhosts B) (start : B) (h : History) (lines : List (List ℕ)) (text : List ℕ) (shelf : Shelf B b) (halt : Option Halt) → SaysLines b start h lines text shelf halt
-    → (events : Answers) × b.kept start (device_in shelf) events × AnswersLines (b.block_count start) h lines text events
+-- What was said of lines, with the events that were kept and what a stop leaves of them.
+pub record SaysKept {B : Type 0} (b : BlocksGhosts B) (start : B) (h : History) (lines : List (List ℕ)) (text : List ℕ) (device : B) (halt : Option Halt) : Type 0 where
+  pub events : Answers
+  pub kept : b.kept start device events
+  pub answers : AnswersLines (b.block_count start) h lines text events halt
+  pub leaves : halt ≡ None → (low : ℕ) → ((n : ℕ) → HasEvent events (Flush, Flushed n) → n ≤ low) → LeavesHeld (b.block_count start) low h (h ++ entries_in events) answers.last answers.log
+
+leaves_of : (count : ℕ) (h : History) (made : Answers) (s : Held) (log : VolLog) → IsLifeOf count h made s log → (low : ℕ) → ((n : ℕ) → HasEvent made (Flush, Flushed n) → n ≤ low) → LeavesHeld count low h (h ++ entries_in made) s log
+leaves_of count h made _ _ (lives began s log late soon life flushes) low each = record {
+  start = began;
+  began = late;
+  soon = soon;
+  left = left_by count began (h ++ entries_in made) s log life;
+  flushed = within_low low log made flushes each;
+}
+leaves_of count h made _ _ (waits none) low each = tt
+
+pub answers_of : {B : Type 0} (b : BlocksGhosts B) (start : B) (h : History) (lines : List (List ℕ)) (text : List ℕ) (shelf : Shelf B b) (halt : Option Halt) → SaysLines b start h lines text shelf halt → SaysKept b start h lines text (device_in shelf) halt
 answers_of b start h lines text shelf None y =
     let l = life_on b start h shelf y.last y.log (y.on refl) in
-    (l.0, l.1, record { first = y.first; begun = y.begun; begins = y.begins; log = y.log; last = y.last; halt = None; steps = y.steps; before = l.0; rest = []; parts = sym (append-nil l.0); quiet = λ none. refl; life = l.2 })
+    record {
+      events = l.events;
+      kept = l.kept;
+      answers = record { first = y.first; begun = y.begun; begins = y.begins; log = y.log; last = y.last; steps = y.steps; before = l.events; rest = []; parts = sym (append-nil l.events); quiet = λ none. refl; life = l.life };
+      leaves = λ none. leaves_of (b.block_count start) h l.events y.last y.log l.life;
+    }
 answers_of b start h lines text shelf (Some own) y =
     let l = y.broken own refl in
-    (l.before ++ l.rest, l.all, record { first = y.first; begun = y.begun; begins = y.begins; log = y.log; last = y.last; halt = Some own; steps = y.steps; before = l.before; rest = l.rest; parts = refl; quiet = λ none. absurd (let no : Some own ≡ None = none in cc); life = l.life })
+    record {
+      events = l.before ++ l.rest;
+      kept = l.all;
+      answers = record { first = y.first; begun = y.begun; begins = y.begins; log = y.log; last = y.last; steps = y.steps; before = l.before; rest = l.rest; parts = refl; quiet = λ none. absurd (let no : Some own ≡ None = none in cc); life = l.life };
+      leaves = λ none. absurd (let no : Some own ≡ None = none in cc);
+    }
 
 -- a last line, written whole or in part
 with_last : {slots : ℕ} {setup : Setup} {start final : Option Trail} {p : Point} {bytes : List ℕ} {before after : Option (List ℕ)} (said line : List ℕ) (code status : ℕ) → (e : EndsWithLine before after line code status) → VolumesText slots setup start final p bytes code (said ++ line)
@@ -62,6 +102,54 @@ with_last {slots} {setup} {start} {final} {p} {bytes} {before} {after} said line
 abbrev device_stands : {A : Type 0} (g : Ghosts A) → Device A g → History → Type 0
 device_stands g device = StandsFor (g.stands (array_of device))
 
+-- ---- the whole text, from what was answered
+
+module _ (slots : ℕ) (setup : Setup) (start mid final : Option Trail) (p : Point) (bytes : List ℕ) (text told : List ℕ) (same : told ≡ text) where
+  done_at : (lines : List (List ℕ)) (met : Option Halt) (writes : ℕ) (a : AnswersFromPoint slots setup start mid p lines text met) → lines ≡ lines_of bytes → met ≡ None → writes ≡ length a.all.end.history → FlushesLast slots setup mid final a.all.end (Flushed writes)
+      → VolumesText slots setup start final p bytes 0 ((begins_with p ++ told) ++ end_line writes)
+  done_at lines met writes a all none number flush =
+      subst (λ (l : List (List ℕ)). (a : AnswersFromPoint slots setup start mid p l text met) → writes ≡ length a.all.end.history → FlushesLast slots setup mid final a.all.end (Flushed writes) → VolumesText slots setup start final p bytes 0 ((begins_with p ++ told) ++ end_line writes)) (sym all)
+      (subst (λ (o : Option Halt). (a : AnswersFromPoint slots setup start mid p (lines_of bytes) text o) → writes ≡ length a.all.end.history → FlushesLast slots setup mid final a.all.end (Flushed writes) → VolumesText slots setup start final p bytes 0 ((begins_with p ++ told) ++ end_line writes)) (sym none)
+      (λ a n f.
+      subst (λ (x : List ℕ). VolumesText slots setup start final p bytes 0 ((begins_with p ++ x) ++ end_line writes)) (sym same)
+      (subst (λ (k : ℕ). VolumesText slots setup start final p bytes 0 ((begins_with p ++ text) ++ end_line k)) (sym n) (done_text mid text a (subst (λ (k : ℕ). FlushesLast slots setup mid final a.all.end (Flushed k)) n f)))))
+      a number flush
+
+  halted_at : (lines : List (List ℕ)) (met : Option Halt) (own : Halt) (a : AnswersFromPoint slots setup start mid p lines text met) → lines ≡ lines_of bytes → (met ≡ None) ⊎ (met ≡ Some own) → FlushesLast slots setup mid final a.all.end (Halted own)
+      → VolumesText slots setup start final p bytes (status_of_halt own) ((begins_with p ++ told) ++ halt_line own)
+  halted_at lines met own a all why flush =
+      subst (λ (l : List (List ℕ)). (a : AnswersFromPoint slots setup start mid p l text met) → FlushesLast slots setup mid final a.all.end (Halted own) → VolumesText slots setup start final p bytes (status_of_halt own) ((begins_with p ++ told) ++ halt_line own)) (sym all)
+      (λ a f. subst (λ (x : List ℕ). VolumesText slots setup start final p bytes (status_of_halt own) ((begins_with p ++ x) ++ halt_line own)) (sym same) (halted_text mid own met text a why f))
+      a flush
+
+-- the halt of a device before its last flush
+not_halted : (old new met : Option Halt) → old ≡ met → (IsSome old → new ≡ old) → new ≡ None → met ≡ None
+not_halted None new met same again none = sym same
+not_halted (Some own) new met same again none = absurd (let no : Some own ≡ None = sym (again refl) ∙ none in cc)
+
+met_by : (old new met : Option Halt) (own : Halt) → old ≡ met → (IsSome old → new ≡ old) → new ≡ Some own → (met ≡ None) ⊎ (met ≡ Some own)
+met_by None new met own same again is = inl (sym same)
+met_by (Some other) new met own same again is = inr (sym same ∙ sym (again refl) ∙ is)
+
+-- ---- its status
+
+halt_status_is : (halt : Halt) → (status_of_halt halt ≡ 5) ⊎ (status_of_halt halt ≡ 12)
+halt_status_is (HaltTwo two) = inl refl
+halt_status_is (Worn count) = inr refl
+
+no_halt_code : (halt : Halt) (n : ℕ) → n ≢ 5 → n ≢ 12 → n ≢ status_of_halt halt
+no_halt_code halt n five twelve is = elim (halt_status_is halt) [ inl e ↦ five (is ∙ e) | inr e ↦ twelve (is ∙ e) ]
+
+no_whole_status : {before after : Option (List ℕ)} {line : List ℕ} (code status : ℕ) → EndsWithLine before after line code status → 0 ≢ code → 5 ≢ code → 12 ≢ code → IsWholeStatus status → ⊥
+no_whole_status code status e zero five twelve it = elim it [
+  | inl is ↦ other _ _ _ _ _ e 0 (λ no. omega (arith, no)) zero is
+  | inr (inl is) ↦ other _ _ _ _ _ e 5 (λ no. omega (arith, no)) five is
+  | inr (inr is) ↦ other _ _ _ _ _ e 12 (λ no. omega (arith, no)) twelve is
+]
+
+four_not_whole : IsWholeStatus 4 → ⊥
+four_not_whole it = elim it [ inl is ↦ omega (arith, is) | inr (inl is) ↦ omega (arith, is) | inr (inr is) ↦ omega (arith, is) ]
+
 module _ {A : Type 0} (g : Ghosts A) where
   abbrev device_ghosts : BlocksGhosts (Device A g)
   device_ghosts = record {
@@ -73,67 +161,136 @@ module _ {A : Type 0} (g : Ghosts A) where
     kept = device_kept g;
   }
 
-  -- the events that a device kept since the array stood at a point
-  keeps_at : (first last : Device A g) (p : Point) (events : Answers) → g.stands (array_of first) p → IsSome (g.told (array_of last)) → device_kept g first last events
-      → Keeps (g.slots (array_of first)) (g.setup (array_of first)) (g.told (array_of first)) (g.told (array_of last)) p events
-  keeps_at first last p events at is k = let x = k.leads is p at in record { asked = x.asked; all = x.all; answered = x.answered }
+  module _ (agrees : (x : A) (q : Point) → g.stands x q → q.halt ≡ g.halted x) (first : Device A g) where
+    abbrev Text : Option Trail → Point → List ℕ → ℕ → List ℕ → Type 0
+    Text final p bytes code text = VolumesText (g.slots (array_of first)) (g.setup (array_of first)) (g.told (array_of first)) final p bytes code text
 
-  module _ (first : Device A g) {left_before left written_before begun written : Option (List ℕ)} (shelf : Shelf (Device A g) device_ghosts) (halt : Option Halt) (mount : List ℕ)
-      (grew : GrowsByBytes written_before begun mount) (mounted : (p : Point) → g.stands (array_of first) p → mount ≡ begins_with p) where
-    module _ (end : LinesEnd) (s : ServesVolumeLines device_ghosts first left_before left begun written shelf halt end) where
-      said_at : (last : Device A g) → IsSome (g.told (array_of last)) → IsSome (g.told (array_of (device_in shelf))) → (p : Point) → g.stands (array_of first) p
-          → (events : Answers) × device_kept g first (device_in shelf) events × AnswersLines (block_count (g.setup (array_of first))) p.history s.lines s.text events
-      said_at last is here p at = answers_of device_ghosts first p.history s.lines s.text shelf halt (s.runs.says p.history (record { point = p; at = at; is = refl }) here)
+    abbrev Run : Option Trail → (left_before left written_before written : Option (List ℕ)) → ℕ → Type 0
+    Run final left_before left written_before written status = VolumesRun (g.slots (array_of first)) (g.setup (array_of first)) (g.stands (array_of first)) (g.told (array_of first)) final left_before left written_before written status
 
-      told_mid : (last : Device A g) (events : Answers) → device_kept g (device_in shelf) last events → IsSome (g.told (array_of last)) → IsSome (g.told (array_of (device_in shelf)))
-      told_mid last events k is = told_then (g.told (array_of (device_in shelf))) (g.told (array_of last)) k.grows is
+    -- lines that a device answered, from a point at which its array stood
+    point_answers : (mid : Device A g) (p : Point) (lines : List (List ℕ)) (text : List ℕ) (halt : Option Halt) → (at : g.stands (array_of first) p) (is : IsSome (g.told (array_of mid))) → halt_of_device mid ≡ halt
+        → (x : SaysKept device_ghosts first p.history lines text mid halt) → (a : AnswersFromPoint (g.slots (array_of first)) (g.setup (array_of first)) (g.told (array_of first)) (g.told (array_of mid)) p lines text halt) × g.stands (array_of mid) a.all.end
+    point_answers mid p lines text halt at is same x =
+        let k = x.kept.leads is p at in
+        let halted : k.all.end.halt ≡ halt = agrees (array_of mid) k.all.end k.stands ∙ array_halt mid ∙ same in
+        let written : k.all.end.history ≡ p.history ++ entries_in x.events =
+            turns_history (g.slots (array_of first)) (g.setup (array_of first)) p k.all.end k.all.turns k.all.went ∙ ap (λ (e : Answers). p.history ++ entries_in e) k.answered in
+        (
+          record {
+            events = x.events;
+            answers = x.answers;
+            asked = k.asked;
+            all = k.all;
+            answered = k.answered;
+            halted = halted;
+            written = written;
+            stops = λ none. subst (λ (w : History). LeavesHeld (block_count (g.setup (array_of first))) k.all.end.low p.history w x.answers.last x.answers.log) (sym written)
+                (x.leaves none k.all.end.low (flush_low (g.slots (array_of first)) (g.setup (array_of first)) p k.all.end k.all.turns x.events k.all.went k.answered (halted ∙ none)));
+          },
+          k.stands,
+        )
 
-      -- a last line behind the answers
-      ends_line : {wrote : Option (List ℕ)} (last : Device A g) (line : List ℕ) (code status : ℕ) (e : EndsWithLine written wrote line code status)
-          → (IsSome (g.told (array_of last)) → (p : Point) → g.stands (array_of first) p → VolumesText (g.slots (array_of first)) (g.setup (array_of first)) (g.told (array_of first)) (g.told (array_of last)) p s.bytes code ((begins_with p ++ s.told) ++ line))
-          → VolumesRun (g.slots (array_of first)) (g.setup (array_of first)) (g.stands (array_of first)) (g.told (array_of first)) (g.told (array_of last)) left_before left written_before wrote status
-      ends_line {wrote} last line code status e text = record {
-        bytes = s.bytes;
-        text = (mount ++ s.told) ++ take e.count line;
-        given = s.given;
-        grows = GrowsByBytes-then written_before written wrote (mount ++ s.told) (take e.count line) (GrowsByBytes-then written_before begun written mount s.told grew s.grows) e.grows;
-        wrote = λ is p at. subst (λ (x : List ℕ). WritesVolumes (g.slots (array_of first)) (g.setup (array_of first)) (g.told (array_of first)) (g.told (array_of last)) p s.bytes status ((x ++ s.told) ++ take e.count line)) (sym (mounted p at))
-            (with_last (begins_with p ++ s.told) line code status e (text is p at));
-      }
+    -- the flush behind them
+    flush_behind : (mid last : Device A g) (q : Point) (answer : Answer) (halt : Option Halt) → g.slots (array_of mid) ≡ g.slots (array_of first) → g.setup (array_of mid) ≡ g.setup (array_of first) → g.stands (array_of mid) q → IsSome (g.told (array_of last))
+        → HasFlushed g mid last answer halt → FlushesLast (g.slots (array_of first)) (g.setup (array_of first)) (g.told (array_of mid)) (g.told (array_of last)) q answer
+    flush_behind mid last q answer halt slots setup stands is f =
+        let k = (f.kept mid [] (answered_none g (array_of mid))).leads is q stands in
+        subst (λ (n : ℕ). FlushesLast n (g.setup (array_of first)) (g.told (array_of mid)) (g.told (array_of last)) q answer) slots
+        (subst (λ (z : Setup). FlushesLast (g.slots (array_of mid)) z (g.told (array_of mid)) (g.told (array_of last)) q answer) setup (record { asked = k.asked; all = k.all; answered = k.answered }))
 
-    pub ran : {wrote : Option (List ℕ)} (last : Device A g) (end : LinesEnd) (status : ℕ) → ServesVolumeLines device_ghosts first left_before left begun written shelf halt end → EndsSession (device_kept g) (device_in shelf) last written wrote end status
-        → VolumesRun (g.slots (array_of first)) (g.setup (array_of first)) (g.stands (array_of first)) (g.told (array_of first)) (g.told (array_of last)) left_before left written_before wrote status
-    ran {wrote} last Done status s (kept writes status' k e) = ends_line Done s last (end_line writes) 0 status e (λ is p at.
-        let mid = told_mid Done s last _ (k (device_in shelf) [] (answered_none g (array_of (device_in shelf)))) is in
-        let x = said_at Done s last is mid p at in
-        let t = done_text writes s.text x.0 (subst (λ (l : List (List ℕ)). AnswersLines (block_count (g.setup (array_of first))) p.history l s.text x.0) s.ends.0 x.2) (keeps_at first last p (x.0 ++ (Flush, Flushed writes) ∷ []) at is (k first x.0 x.1)) in
-        subst (λ (w : List ℕ). VolumesText (g.slots (array_of first)) (g.setup (array_of first)) (g.told (array_of first)) (g.told (array_of last)) p s.bytes 0 ((begins_with p ++ w) ++ end_line writes)) (sym s.ends.1) t)
-    ran {wrote} last Done status s (halted own status' k e) = ends_line Done s last (halt_line own) (status_of_halt own) status e (λ is p at.
-        let mid = told_mid Done s last _ (k (device_in shelf) [] (answered_none g (array_of (device_in shelf)))) is in
-        let x = said_at Done s last is mid p at in
-        let t = halted_text own s.text x.0 (subst (λ (l : List (List ℕ)). AnswersLines (block_count (g.setup (array_of first))) p.history l s.text x.0) s.ends.0 x.2) (keeps_at first last p (x.0 ++ (Flush, Halted own) ∷ []) at is (k first x.0 x.1)) in
-        subst (λ (w : List ℕ). VolumesText (g.slots (array_of first)) (g.setup (array_of first)) (g.told (array_of first)) (g.told (array_of last)) p s.bytes (status_of_halt own) ((begins_with p ++ w) ++ halt_line own)) (sym s.ends.1) t)
-    ran {wrote} last Source status s (at_source status' same e) = ends_line Source s last (codes "source\n") 3 status e (λ is p at.
-        let mid = subst (λ (d : Device A g). IsSome (g.told (array_of d))) same is in
-        let x = said_at Source s last is mid p at in
-        let t = source_text s.text x.0 (subst (λ (l : List (List ℕ)). AnswersLines (block_count (g.setup (array_of first))) p.history l s.text x.0) s.ends.0 x.2) (keeps_at first last p x.0 at is (subst (λ (d : Device A g). device_kept g first d x.0) (sym same) x.1)) in
-        subst (λ (w : List ℕ). VolumesText (g.slots (array_of first)) (g.setup (array_of first)) (g.told (array_of first)) (g.told (array_of last)) p s.bytes 3 ((begins_with p ++ w) ++ codes "source\n")) (sym s.ends.1) t)
-    ran {wrote} last TooLong status s (too_long status' same e) = ends_line TooLong s last (codes "toolong\n") 10 status e (λ is p at.
-        let mid = subst (λ (d : Device A g). IsSome (g.told (array_of d))) same is in
-        let x = said_at TooLong s last is mid p at in
-        let t = too_long_text s.ends.2 s.text x.0 (subst (λ (l : List (List ℕ)). AnswersLines (block_count (g.setup (array_of first))) p.history l s.text x.0) s.ends.0 x.2) (keeps_at first last p x.0 at is (subst (λ (d : Device A g). device_kept g first d x.0) (sym same) x.1)) in
-        subst (λ (w : List ℕ). VolumesText (g.slots (array_of first)) (g.setup (array_of first)) (g.told (array_of first)) (g.told (array_of last)) p s.bytes 10 ((begins_with p ++ w) ++ codes "toolong\n")) (sym s.ends.1) t)
-    ran {wrote} last Sink status s (at_sink same after) = record {
-      bytes = s.bytes;
-      text = mount ++ s.told;
-      given = s.given;
-      grows = subst (λ (w : Option (List ℕ)). GrowsByBytes written_before w (mount ++ s.told)) (sym after) (GrowsByBytes-then written_before begun written mount s.told grew s.grows);
-      wrote = λ is p at.
-          let mid = subst (λ (d : Device A g). IsSome (g.told (array_of d))) same is in
-          let x = said_at Sink s last is mid p at in
-          answers refl s.lines s.ends.0.0 s.text s.ends.1.0 x.0 s.ends.0.1 x.2 (keeps_at first last p x.0 at is (subst (λ (d : Device A g). device_kept g first d x.0) (sym same) x.1))
-          (ap (λ (w : List ℕ). begins_with p ++ w) s.ends.1.1 ∙ sym (append_assoc (begins_with p) s.told s.ends.1.0) ∙ ap (λ (w : List ℕ). (w ++ s.told) ++ s.ends.1.0) (sym (mounted p at)));
-    }
+    module _ (going : halt_of_device first ≡ None) {left_before left written_before begun written : Option (List ℕ)} (shelf : Shelf (Device A g) device_ghosts) (halt : Option Halt) (mount : List ℕ)
+        (grew : GrowsByBytes written_before begun mount) (mounted : (p : Point) → g.stands (array_of first) p → mount ≡ begins_with p) where
+      module _ (end : LinesEnd) (s : ServesVolumeLines device_ghosts first left_before left begun written shelf halt end) where
+        -- the events that were kept, whatever is told
+        answered_mid : (e : Answers) × HasAnswered g (array_of first) (array_of (device_in shelf)) e
+        answered_mid = let k = s.runs.keeps.grows first [] (answered_none g (array_of first)) in (k.0, k.1)
+
+        says_mid : IsSome (g.told (array_of (device_in shelf))) → (p : Point) → g.stands (array_of first) p → SaysKept device_ghosts first p.history s.lines s.text (device_in shelf) halt
+        says_mid is p at = answers_of device_ghosts first p.history s.lines s.text shelf halt (s.runs.says p.history (record { point = p; at = at; is = refl }) is)
+
+        answers_mid : (is : IsSome (g.told (array_of (device_in shelf)))) (p : Point) → g.stands (array_of first) p
+            → (a : AnswersFromPoint (g.slots (array_of first)) (g.setup (array_of first)) (g.told (array_of first)) (g.told (array_of (device_in shelf))) p s.lines s.text halt) × g.stands (array_of (device_in shelf)) a.all.end
+        answers_mid is p at = point_answers (device_in shelf) p s.lines s.text halt at is (s.runs.halted going) (says_mid is p at)
+
+        -- a last line behind the answers
+        ends_line : {wrote : Option (List ℕ)} (final : Option Trail) (line : List ℕ) (code status : ℕ) (e : EndsWithLine written wrote line code status) → (status ≡ 10 → length s.bytes ≡ 2 ^ 40) → (IsWholeStatus status → (length s.bytes < 2 ^ 40) × AtEnd left)
+            → (IsSome final → (p : Point) → g.stands (array_of first) p → Text final p s.bytes code ((begins_with p ++ s.told) ++ line)) → Run final left_before left written_before wrote status
+        ends_line {wrote} final line code status e full all text = record {
+          bytes = s.bytes;
+          text = (mount ++ s.told) ++ take e.count line;
+          given = s.given;
+          grows = GrowsByBytes-then written_before written wrote (mount ++ s.told) (take e.count line) (GrowsByBytes-then written_before begun written mount s.told grew s.grows) e.grows;
+          full = full;
+          all = all;
+          wrote = λ is p at. subst (λ (x : List ℕ). WritesVolumes (g.slots (array_of first)) (g.setup (array_of first)) (g.told (array_of first)) final p s.bytes status ((x ++ s.told) ++ take e.count line)) (sym (mounted p at))
+              (with_last (begins_with p ++ s.told) line code status e (text is p at));
+        }
+
+      -- all lines were answered, and the flush with a number
+      ran_kept : {wrote : Option (List ℕ)} (last : Device A g) (writes status : ℕ) → ServesVolumeLines device_ghosts first left_before left begun written shelf halt Done → HasFlushed g (device_in shelf) last (Flushed writes) None
+          → EndsWithLine written wrote (end_line writes) 0 status → Run (g.told (array_of last)) left_before left written_before wrote status
+      ran_kept last writes status s f e =
+          let mid = device_in shelf in
+          let before = answered_mid Done s in
+          let none : halt ≡ None = not_halted (halt_of_device mid) (halt_of_device last) halt (s.runs.halted going) f.again f.halted in
+          ends_line Done s (g.told (array_of last)) (end_line writes) 0 status e (λ ten. absurd (other _ _ _ _ _ e 10 (λ no. omega arith) (λ no. omega arith) ten)) (λ whole. (s.ends.2, s.ends.3)) (λ is p at.
+          let here = told_then (g.told (array_of mid)) (g.told (array_of last)) (f.kept mid [] (answered_none g (array_of mid))).grows is in
+          let x = answers_mid Done s here p at in
+          let number : writes ≡ length x.0.all.end.history = f.number x.0.all.end.history (record { point = x.0.all.end; at = x.1; is = refl }) is writes refl in
+          let behind = flush_behind mid last x.0.all.end (Flushed writes) None before.1.same_slots before.1.same_setup x.1 is f in
+          done_at (g.slots (array_of first)) (g.setup (array_of first)) (g.told (array_of first)) (g.told (array_of mid)) (g.told (array_of last)) p s.bytes s.text s.told s.ends.1 s.lines halt writes x.0 s.ends.0 none number behind)
+
+      -- all lines were answered, and the flush by a halt
+      ran_halted : {wrote : Option (List ℕ)} (last : Device A g) (own : Halt) (status : ℕ) → ServesVolumeLines device_ghosts first left_before left begun written shelf halt Done → HasFlushed g (device_in shelf) last (Halted own) (Some own)
+          → EndsWithLine written wrote (halt_line own) (status_of_halt own) status → Run (g.told (array_of last)) left_before left written_before wrote status
+      ran_halted last own status s f e =
+          let mid = device_in shelf in
+          let before = answered_mid Done s in
+          ends_line Done s (g.told (array_of last)) (halt_line own) (status_of_halt own) status e (λ ten. absurd (other _ _ _ _ _ e 10 (λ no. omega (arith, no)) (no_halt_code own 10 (λ no. omega (arith, no)) (λ no. omega (arith, no))) ten)) (λ whole. (s.ends.2, s.ends.3)) (λ is p at.
+          let here = told_then (g.told (array_of mid)) (g.told (array_of last)) (f.kept mid [] (answered_none g (array_of mid))).grows is in
+          let x = answers_mid Done s here p at in
+          halted_at (g.slots (array_of first)) (g.setup (array_of first)) (g.told (array_of first)) (g.told (array_of mid)) (g.told (array_of last)) p s.bytes s.text s.told s.ends.1 s.lines halt own x.0 s.ends.0
+          (met_by (halt_of_device mid) (halt_of_device last) halt own (s.runs.halted going) f.again f.halted) (flush_behind mid last x.0.all.end (Halted own) (Some own) before.1.same_slots before.1.same_setup x.1 is f))
+
+      pub ran : {wrote : Option (List ℕ)} (last : Device A g) (end : LinesEnd) (status : ℕ) → ServesVolumeLines device_ghosts first left_before left begun written shelf halt end → EndsSession g (device_in shelf) last written wrote end status → Run (g.told (array_of last)) left_before left written_before wrote status
+      ran last Done status s (kept writes status' f e) = ran_kept last writes status s f e
+      ran last Done status s (halted own status' f e) = ran_halted last own status s f e
+      ran {wrote} last Source status s (at_source status' same e) =
+          subst (λ (d : Device A g). Run (g.told (array_of d)) left_before left written_before wrote status) (sym same)
+          (ends_line Source s (g.told (array_of (device_in shelf))) (codes "source\n") 3 status e (λ ten. absurd (other _ _ _ _ _ e 10 (λ no. omega (arith, no)) (λ no. omega (arith, no)) ten))
+          (λ whole. absurd (no_whole_status 3 status e (λ no. omega (arith, no)) (λ no. omega (arith, no)) (λ no. omega (arith, no)) whole)) (λ is p at.
+          let x = answers_mid Source s is p at in
+          subst (λ (w : List ℕ). Text (g.told (array_of (device_in shelf))) p s.bytes 3 ((begins_with p ++ w) ++ codes "source\n")) (sym s.ends.1)
+          (source_text halt s.text (subst (λ (l : List (List ℕ)). AnswersFromPoint (g.slots (array_of first)) (g.setup (array_of first)) (g.told (array_of first)) (g.told (array_of (device_in shelf))) p l s.text halt) s.ends.0 x.0))))
+      ran {wrote} last TooLong status s (too_long status' same e) =
+          subst (λ (d : Device A g). Run (g.told (array_of d)) left_before left written_before wrote status) (sym same)
+          (ends_line TooLong s (g.told (array_of (device_in shelf))) (codes "toolong\n") 10 status e (λ ten. s.ends.2)
+          (λ whole. absurd (no_whole_status 10 status e (λ no. omega (arith, no)) (λ no. omega (arith, no)) (λ no. omega (arith, no)) whole)) (λ is p at.
+          let x = answers_mid TooLong s is p at in
+          subst (λ (w : List ℕ). Text (g.told (array_of (device_in shelf))) p s.bytes 10 ((begins_with p ++ w) ++ codes "toolong\n")) (sym s.ends.1)
+          (too_long_text s.ends.2 halt s.text (subst (λ (l : List (List ℕ)). AnswersFromPoint (g.slots (array_of first)) (g.setup (array_of first)) (g.told (array_of first)) (g.told (array_of (device_in shelf))) p l s.text halt) s.ends.0 x.0))))
+      ran {wrote} last Sink status s (at_sink same after) =
+          subst (λ (d : Device A g). Run (g.told (array_of d)) left_before left written_before wrote 4) (sym same) (record {
+            bytes = s.bytes;
+            text = mount ++ s.told;
+            given = s.given;
+            grows = subst (λ (w : Option (List ℕ)). GrowsByBytes written_before w (mount ++ s.told)) (sym after) (GrowsByBytes-then written_before begun written mount s.told grew s.grows);
+            full = λ ten. absurd (omega (arith, ten));
+            all = λ whole. absurd (four_not_whole whole);
+            wrote = λ is p at.
+                answers refl s.lines s.ends.0.0 s.text s.ends.1.0 halt s.ends.0.1 (answers_mid Sink s is p at).0
+                (ap (λ (w : List ℕ). begins_with p ++ w) s.ends.1.1 ∙ sym (append_assoc (begins_with p) s.told s.ends.1.0) ∙ ap (λ (w : List ℕ). (w ++ s.told) ++ s.ends.1.0) (sym (mounted p at)));
+          })
+
+      -- what the array did in all
+      pub all_answered : {wrote : Option (List ℕ)} (last : Device A g) (end : LinesEnd) (status : ℕ) → ServesVolumeLines device_ghosts first left_before left begun written shelf halt end → EndsSession g (device_in shelf) last written wrote end status
+          → (e : Answers) × HasAnswered g (array_of first) (array_of last) e
+      all_answered last Done status s (kept writes status' f e) = let k = answered_mid Done s in (_, f.kept first k.0 k.1)
+      all_answered last Done status s (halted own status' f e) = let k = answered_mid Done s in (_, f.kept first k.0 k.1)
+      all_answered last Source status s (at_source status' same e) = let k = answered_mid Source s in (k.0, subst (λ (d : Device A g). HasAnswered g (array_of first) (array_of d) k.0) (sym same) k.1)
+      all_answered last TooLong status s (too_long status' same e) = let k = answered_mid TooLong s in (k.0, subst (λ (d : Device A g). HasAnswered g (array_of first) (array_of d) k.0) (sym same) k.1)
+      all_answered last Sink status s (at_sink same after) = let k = answered_mid Sink s in (k.0, subst (λ (d : Device A g). HasAnswered g (array_of first) (array_of d) k.0) (sym same) k.1)
 
   -- the first line could not be written
   pub ran_none : (a : A) {left written_before wrote : Option (List ℕ)} (mount : List ℕ) (n : ℕ) → GrowsByBytes written_before wrote (take n mount) → ((p : Point) → g.stands a p → mount ≡ begins_with p)
@@ -143,32 +300,90 @@ module _ {A : Type 0} (g : Ghosts A) where
     text = take n mount;
     given = Gives-none _;
     grows = grew;
-    wrote = λ is p at. let k = (answered_none g a).leads is p at in first_line refl (drop n mount) refl (record { asked = k.asked; all = k.all; answered = k.answered }) (sym (mounted p at) ∙ sym (take-append-drop n mount));
+    full = λ ten. absurd (omega (arith, ten));
+    all = λ whole. absurd (four_not_whole whole);
+    wrote = λ is p at. first_line refl (drop n mount) refl (stretch_none (g.slots a) (g.setup a) (g.told a) p is) (sym (mounted p at) ∙ sym (take-append-drop n mount));
   }
 
--- from the first point of a session on
-pub headline_of : (slots : ℕ) (setup : Setup) (stood : Point → Type 0) (start final : Option Trail) {left_before left written_before written : Option (List ℕ)} (status : ℕ) → VolumesRun slots setup stood start final left_before left written_before written status
-    → (began : ℕ) → IsMountedFromEach slots setup began start stood → VolumesHeadline slots setup began start final left_before left written_before written status
-headline_of slots setup stood start final {left_before} {left} {written_before} {written} status r began mounted = record {
-  bytes = r.bytes;
-  text = r.text;
-  given = r.given;
-  grows = r.grows;
-  said = λ is. IsMountedFromEach-follows slots setup began start stood (FollowsForVolumes slots setup start final r.bytes status r.text)
-      (λ p mark here at. record { wrote = r.wrote is p at; left = λ asked c. stretch_leaves slots setup start final p asked c mark (here c.from c.was) }) mounted;
-}
+    -- what a device answered, told of its arrays
+pub answered_at : {A : Type 0} (g : Ghosts A) (first last : Device A g) (a b : A) (events : Answers) → array_of first ≡ a → b ≡ array_of last → HasAnswered g (array_of first) (array_of last) events → HasAnswered g a b events
+answered_at {A} g first last a b events e f k = subst (λ (z : A). HasAnswered g a z events) (sym f) (subst (λ (z : A). HasAnswered g z (array_of last) events) e k)
+
+-- ---- the last flush
+
+flushed_same : (n m : ℕ) → Flushed n ≡ Flushed m → n ≡ m
+flushed_same n m e = cc
+
+halted_flushed : (own : Halt) (n : ℕ) → Halted own ≡ Flushed n → ⊥
+halted_flushed own n e = cc
+
+module _ {A : Type 0} (g : Ghosts A) (old new : Device A g) where
+  pub flush_kept : (writes : ℕ) → ((first : Device A g) (events : Answers) → device_kept g first old events → device_kept g first new (events ++ (Flush, Flushed writes) ∷ [])) → halt_of_device new ≡ None → (IsSome (halt_of_device old) → halt_of_device new ≡ halt_of_device old)
+      → ((h : History) → StandsFor (g.stands (array_of old)) h → IsSome (g.told (array_of new)) → writes ≡ length h) → HasFlushed g old new (Flushed writes) None
+  flush_kept writes grown none again number = record { kept = grown; halted = none; again = again; number = λ h at is n e. sym (flushed_same writes n e) ∙ number h at is }
+
+  pub flush_halted : (own : Halt) → ((first : Device A g) (events : Answers) → device_kept g first old events → device_kept g first new (events ++ (Flush, Halted own) ∷ [])) → halt_of_device new ≡ Some own → (IsSome (halt_of_device old) → halt_of_device new ≡ halt_of_device old)
+      → HasFlushed g old new (Halted own) (Some own)
+  flush_halted own grown some again = record { kept = grown; halted = some; again = again; number = λ h at is n e. absurd (halted_flushed own n e) }
+
+-- ---- from the first point of a session on
+
+module _ {A : Type 0} (g : Ghosts A) (agrees : (x : A) (q : Point) → g.stands x q → q.halt ≡ g.halted x) (a b : A) (events : Answers) (all : HasAnswered g a b events) (status : ℕ) (going : status ≡ 0 → g.halted b ≡ None)
+    {left_before left written_before written : Option (List ℕ)} (r : VolumesRun (g.slots a) (g.setup a) (g.stands a) (g.told a) (g.told b) left_before left written_before written status) where
+  -- after an end with 0 no block is loose
+  synced_at : IsSome (g.told b) → (p : Point) → g.stands a p → IsMark (g.slots a) (g.setup a) p → ((t : Trail) → g.told a ≡ Some t → p.disks ≡ disks_now t) → status ≡ 0 → (u : Trail) → g.told b ≡ Some u → AreSynced (disks_now u)
+  synced_at is p at mark here zero = synced_after g a b p at is agrees mark here events all (going zero)
+
+  pub headline_of : (began : ℕ) → IsMountedFromEach (g.slots a) (g.setup a) began (g.told a) (g.stands a) → VolumesHeadline (g.slots a) (g.setup a) began (g.told a) (g.told b) left_before left written_before written status
+  headline_of began mounted = record {
+    bytes = r.bytes;
+    text = r.text;
+    given = r.given;
+    grows = r.grows;
+    full = r.full;
+    all = r.all;
+    said = λ is. IsMountedFromEach-follows (g.slots a) (g.setup a) began (g.told a) (g.stands a) (FollowsForVolumes (g.slots a) (g.setup a) (g.told a) (g.told b) r.bytes status r.text)
+        (λ p mark here at. record { wrote = r.wrote is p at; left = λ asked c. stretch_leaves (g.slots a) (g.setup a) (g.told a) (g.told b) p asked c mark (here c.from c.was); synced = synced_at is p at mark here }) mounted;
+  }
 
 -- ---- why it ended so
 
-line_three : {before after : Option (List ℕ)} {line : List ℕ} (code status : ℕ) → EndsWithLine before after line code status → status ≡ 3 → code ≡ 3
-line_three code status e three = elim e.whole [ inl four ↦ let no : ⊥ = omega (arith, four, three) in absurd no | inr all ↦ sym all.1 ∙ three ]
+module _ {A : Type 0} (g : Ghosts A) {old new : Device A g} {before after : Option (List ℕ)} where
+  pub ends_served : (end : LinesEnd) (status : ℕ) → EndsSession g old new before after end status → IsServedStatus status
+  ends_served Done status (kept writes status' f e) = served _ _ _ _ _ e (inl refl)
+  ends_served Done status (halted own status' f e) = served _ _ _ _ _ e (halt_served own)
+  ends_served Source status (at_source status' same e) = served _ _ _ _ _ e (inr (inl refl))
+  ends_served TooLong status (too_long status' same e) = served _ _ _ _ _ e (inr (inr (inr (inr (inl refl)))))
+  ends_served Sink status (at_sink same w) = inr (inr (inl refl))
 
-pub ends_three : {D : Type 0} {answered : D → D → Answers → Type 0} {old new : D} {before after : Option (List ℕ)} {end : LinesEnd} {status : ℕ} → EndsSession answered old new before after end status → status ≡ 3 → end ≡ Source
-ends_three (kept writes status k e) three = let no = line_three 0 status e three in let z : ⊥ = omega (arith, no) in absurd z
-ends_three (halted halt status k e) three = absurd (low_not_halt halt 3 3 (sym (line_three (status_of_halt halt) status e three)) refl (omega arith))
-ends_three (at_source status same e) three = refl
-ends_three (too_long status same e) three = let no = line_three 10 status e three in let z : ⊥ = omega (arith, no) in absurd z
-ends_three (at_sink same after) three = let z : ⊥ = omega (arith, three) in absurd z
+  pub ends_three : (end : LinesEnd) (status : ℕ) → EndsSession g old new before after end status → status ≡ 3 → end ≡ Source
+  ends_three Done status (kept writes status' f e) is = absurd (other _ _ _ _ _ e 3 (λ no. omega (arith, no)) (λ no. omega (arith, no)) is)
+  ends_three Done status (halted own status' f e) is = absurd (other _ _ _ _ _ e 3 (λ no. omega (arith, no)) (no_halt_code own 3 (λ no. omega (arith, no)) (λ no. omega (arith, no))) is)
+  ends_three Source status (at_source status' same e) is = refl
+  ends_three TooLong status (too_long status' same e) is = absurd (other _ _ _ _ _ e 3 (λ no. omega (arith, no)) (λ no. omega (arith, no)) is)
+  ends_three Sink status (at_sink same w) is = absurd (omega (arith, is))
+
+  pub ends_going : (end : LinesEnd) (status : ℕ) → EndsSession g old new before after end status → status ≡ 0 → g.halted (array_of new) ≡ None
+  ends_going Done status (kept writes status' f e) is = array_halt new ∙ f.halted
+  ends_going Done status (halted own status' f e) is = absurd (other _ _ _ _ _ e 0 (λ no. omega (arith, no)) (no_halt_code own 0 (λ no. omega (arith, no)) (λ no. omega (arith, no))) is)
+  ends_going Source status (at_source status' same e) is = absurd (other _ _ _ _ _ e 0 (λ no. omega (arith, no)) (λ no. omega (arith, no)) is)
+  ends_going TooLong status (too_long status' same e) is = absurd (other _ _ _ _ _ e 0 (λ no. omega (arith, no)) (λ no. omega (arith, no)) is)
+  ends_going Sink status (at_sink same w) is = absurd (omega (arith, is))
+
+  module _ (written_before : Option (List ℕ)) (text : List ℕ) (grew : GrowsByBytes written_before before text) where
+    pub ends_two : (start : ℕ → Slot) → HaltsBySecondLoss start (g.slot (array_of new)) (g.halted (array_of new)) → (end : LinesEnd) (status : ℕ) → EndsSession g old new before after end status → status ≡ 5 → NamesTwoLost start (g.slot (array_of new)) written_before after
+    ends_two start lost Done status (kept writes status' f e) is = absurd (other _ _ _ _ _ e 5 (λ no. omega (arith, no)) (λ no. omega (arith, no)) is)
+    ends_two start lost Done status (halted own status' f e) is = names_two start (g.slot (array_of new)) own written_before before after text status (subst (λ (o : Option Halt). HaltsBySecondLoss start (g.slot (array_of new)) o) (array_halt new ∙ f.halted) lost) grew e is
+    ends_two start lost Source status (at_source status' same e) is = absurd (other _ _ _ _ _ e 5 (λ no. omega (arith, no)) (λ no. omega (arith, no)) is)
+    ends_two start lost TooLong status (too_long status' same e) is = absurd (other _ _ _ _ _ e 5 (λ no. omega (arith, no)) (λ no. omega (arith, no)) is)
+    ends_two start lost Sink status (at_sink same w) is = absurd (omega (arith, is))
+
+    pub ends_worn : HaltsByWear (g.halted (array_of new)) → (end : LinesEnd) (status : ℕ) → EndsSession g old new before after end status → status ≡ 12 → TellsWear written_before after
+    ends_worn worn Done status (kept writes status' f e) is = absurd (other _ _ _ _ _ e 12 (λ no. omega (arith, no)) (λ no. omega (arith, no)) is)
+    ends_worn worn Done status (halted own status' f e) is = tells_wear own written_before before after text status (subst HaltsByWear (array_halt new ∙ f.halted) worn) grew e is
+    ends_worn worn Source status (at_source status' same e) is = absurd (other _ _ _ _ _ e 12 (λ no. omega (arith, no)) (λ no. omega (arith, no)) is)
+    ends_worn worn TooLong status (too_long status' same e) is = absurd (other _ _ _ _ _ e 12 (λ no. omega (arith, no)) (λ no. omega (arith, no)) is)
+    ends_worn worn Sink status (at_sink same w) is = absurd (omega (arith, is))
 
 -- a fault of the sink, in the lines or in the last one
 pub sink_cause : (end : LinesEnd) (first began ended last status : ℕ) → first ≤ began → began ≤ ended → ended ≤ last → (end ≡ Sink → HasRisen began ended) → (status ≡ 4 → end ≢ Sink → HasRisen ended last) → status ≡ 4 → HasRisen first last

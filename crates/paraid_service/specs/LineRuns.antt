@@ -28,7 +28,7 @@ pub record SaysLines {B : Type 0} (g : Ghosts B) (start : B) (h : History) (line
   pub log : VolLog
   pub last : Held
   pub steps : LinesStep (g.block_count start) first begun lines text log last halt
-  pub on : halt ≡ None → OnShelf g (Some (start, h, [])) (g.block_count start) h shelf last log
+  pub on : halt ≡ None → OnShelf g start (g.block_count start) h shelf last log
   pub broken : (own : Halt) → halt ≡ Some own → BrokenOff (g.kept start (device_in shelf)) (g.block_count start) h last log
 
 -- Lines were answered since the device was so.
@@ -36,6 +36,7 @@ pub record RunsLines {B : Type 0} (g : Ghosts B) (start : B) (lines : List (List
   pub going : halt ≡ None → IsGoing shelf
   pub went : DeviceGoesOn g.block_count g.halts g.halted g.tells start (device_in shelf)
   pub keeps : KeepsOn g.kept start (device_in shelf)
+  pub halted : g.halted start ≡ None → g.halted (device_in shelf) ≡ halt
   pub says : (h : History) → g.stands start h → IsTrue (g.tells (device_in shelf)) → SaysLines g start h lines text shelf halt
 
 -- One line more is answered.

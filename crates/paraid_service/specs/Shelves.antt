@@ -1,14 +1,15 @@
 -- Lines, whether there are volumes or not.
-use Rattle.std.specs.Prelude.{◌≡◌, ℕ, ◌≤◌, ◌++◌, [], List, length, Option, Some, None, Err, IsTrue, codes}
+use Rattle.std.specs.Prelude.{◌≡◌, ℕ, ◌+◌, ◌≤◌, ◌++◌, [], List, length, Option, Some, None, Err, IsTrue, codes}
 use Rattle.paraid_base.specs.declared.fault.Halt.{Halt}
+use Rattle.paraid_base.specs.BlockAnswers.{Answers}
 use Rattle.paraid_base.specs.History.{History, after_all}
 use Rattle.paraid_blocks.specs.declared.blocks.Blocks.{Ghosts}
 use Rattle.paraid_trace.specs.Replies.{halt_text}
 use Rattle.paraid_volume.specs.declared.fault.VolRefused.{VolRefused}
 use Rattle.paraid_volume.specs.declared.volumes.Volumes.{Volumes}
-use Rattle.paraid_volume.specs.Device.{DeviceGoesOn, DeviceHolds, SinceHistory}
+use Rattle.paraid_volume.specs.Device.{DeviceGoesOn, DeviceHolds, entries_in}
 use Rattle.paraid_volume.specs.Faults.{vol_halt_in}
-use Rattle.paraid_volume.specs.Lives.{HasLived, VolLog}
+use Rattle.paraid_volume.specs.Lives.{Life, VolLog}
 use Rattle.paraid_volume.specs.States.{VolumeState}
 use Rattle.paraid_volume.specs.Tables.{IsVolumeTable}
 use Rattle.paraid_volume.specs.Values.{VolumesStandFor, device_of, halted_of}
@@ -18,6 +19,7 @@ use Rattle.paraid_service.specs.declared.shelf.Shelf.TheVariants.{Bare, Held as 
 use Rattle.paraid_service.specs.declared.shelf.Shelved.{Shelved}
 use Rattle.paraid_nbd.specs.Export.{KeepsOn}
 use Rattle.paraid_service.specs.VolumeLines.{Held, LineStep}
+use Rattle.paraid_service.specs.VolumeSessions.{AreFlushesKept}
 
 -- its device
 abbrev pub device_in : {B : Type 0} {g : Ghosts B} → Shelf B g → B
@@ -33,32 +35,39 @@ IsGoing (Bare blocks) = Unit {0}
 abbrev pub left_bare : {B : Type 0} {g : Ghosts B} → VolRefused B → Shelved B g
 left_bare refused = record { shelf = Bare refused.blocks; halt = vol_halt_in {A = Unit {0}} (Err refused.fault) }
 
--- volumes in this state, by a life that began after this history
-pub record OnHeld {B : Type 0} (g : Ghosts B) (from : SinceHistory B) (count : ℕ) (h : History) (volumes : Volumes B g) (s : VolumeState) (log : VolLog) : Type 0 where
+-- Volumes in this state, by a life whose writes are those of the events that were kept since the device was as `first` and
+-- stood for `h`. Each flush of that life is one of these events.
+pub record OnHeld {B : Type 0} (g : Ghosts B) (first : B) (count : ℕ) (h : History) (volumes : Volumes B g) (s : VolumeState) (log : VolLog) : Type 0 where
   pub start : ℕ
   pub began : length h ≤ start
-  pub lived : HasLived (VolumesStandFor (DeviceHolds g.stands g.kept from) volumes) count start log
-  pub is : lived.state ≡ s
+  pub soon : start ≤ length h + 1
+  pub events : Answers
+  pub kept : g.kept first (device_of volumes) events
+  pub writes : History
+  pub are : writes ≡ h ++ entries_in events
+  pub stands : VolumesStandFor g.stands volumes writes
+  pub life : Life count start writes s log
+  pub flushes : AreFlushesKept log events
 
--- no table, and no write since this history
-pub record OnBare {B : Type 0} (g : Ghosts B) (from : SinceHistory B) (count : ℕ) (h : History) (blocks : B) (log : VolLog) : Type 0 where
+-- no table, and no write since then
+pub record OnBare {B : Type 0} (g : Ghosts B) (first : B) (count : ℕ) (h : History) (blocks : B) (log : VolLog) : Type 0 where
   pub none : log ≡ []
-  pub holds : DeviceHolds g.stands g.kept from blocks h
+  pub holds : DeviceHolds g.stands g.kept (Some (first, h, [])) blocks h
   pub no_table : 7 ≤ count → IsVolumeTable count (after_all h) → ⊥
 
 -- what is there is held so, after these calls
-abbrev pub OnShelf : {B : Type 0} (g : Ghosts B) → SinceHistory B → ℕ → History → Shelf B g → Held → VolLog → Type 0
-OnShelf g from count h (HeldShelf volumes) (Some s) log = OnHeld g from count h volumes s log
-OnShelf g from count h (HeldShelf volumes) None log = ⊥
-OnShelf g from count h (Bare blocks) (Some s) log = ⊥
-OnShelf g from count h (Bare blocks) None log = OnBare g from count h blocks log
+abbrev pub OnShelf : {B : Type 0} (g : Ghosts B) → B → ℕ → History → Shelf B g → Held → VolLog → Type 0
+OnShelf g first count h (HeldShelf volumes) (Some s) log = OnHeld g first count h volumes s log
+OnShelf g first count h (HeldShelf volumes) None log = ⊥
+OnShelf g first count h (Bare blocks) (Some s) log = ⊥
+OnShelf g first count h (Bare blocks) None log = OnBare g first count h blocks log
 
 -- the same before any line
-abbrev pub OnFirst : {B : Type 0} (g : Ghosts B) → SinceHistory B → ℕ → History → Shelf B g → Held → Type 0
-OnFirst g from count h (HeldShelf volumes) (Some s) = (lived : HasLived (VolumesStandFor (DeviceHolds g.stands g.kept from) volumes) count (length h) []) × (lived.state ≡ s)
-OnFirst g from count h (HeldShelf volumes) None = ⊥
-OnFirst g from count h (Bare blocks) (Some s) = ⊥
-OnFirst g from count h (Bare blocks) None = OnBare g from count h blocks []
+abbrev pub OnFirst : {B : Type 0} (g : Ghosts B) → B → ℕ → History → Shelf B g → Held → Type 0
+OnFirst g first count h (HeldShelf volumes) (Some s) = (on : OnHeld g first count h volumes s []) × (on.writes ≡ h)
+OnFirst g first count h (HeldShelf volumes) None = ⊥
+OnFirst g first count h (Bare blocks) (Some s) = ⊥
+OnFirst g first count h (Bare blocks) None = OnBare g first count h blocks []
 
 -- one step, and how things are held then
 pub record StepsShelf (holds : Held → VolLog → Type 0) (count : ℕ) (s : Held) (line : VolLine) (said : List ℕ) (log : VolLog) : Type 0 where
@@ -74,8 +83,9 @@ pub record ServesShelf {B : Type 0} (g : Ghosts B) (old new : Shelf B g) (line :
   pub keeps : KeepsOn g.kept (device_in old) (device_in new)
   pub said : List ℕ
   pub printed : text ≡ said ++ codes "\n"
-  pub step : halt ≡ None → (from : SinceHistory B) (h : History) (s : Held) (log : VolLog) → OnShelf g from (g.block_count (device_in old)) h old s log → IsTrue (g.tells (device_in new))
-      → StepsShelf (OnShelf g from (g.block_count (device_in old)) h new) (g.block_count (device_in old)) s line said log
+  pub halted : g.halted (device_in old) ≡ None → g.halted (device_in new) ≡ halt
+  pub step : halt ≡ None → (first : B) (h : History) (s : Held) (log : VolLog) → OnShelf g first (g.block_count (device_in old)) h old s log → IsTrue (g.tells (device_in new))
+      → StepsShelf (OnShelf g first (g.block_count (device_in old)) h new) (g.block_count (device_in old)) s line said log
   pub halts : (own : Halt) → halt ≡ Some own → (said ≡ halt_text own) × (line ≡ bad → ⊥) × (line ≡ list → ⊥)
 
 -- The table of a device was taken, or it holds none, or the device has halted.
@@ -83,4 +93,5 @@ pub record OpensShelf {B : Type 0} (g : Ghosts B) (blocks : B) (new : Shelf B g)
   pub going : halt ≡ None → IsGoing new
   pub went : DeviceGoesOn g.block_count g.halts g.halted g.tells blocks (device_in new)
   pub keeps : KeepsOn g.kept blocks (device_in new)
-  pub first : halt ≡ None → (from : SinceHistory B) (h : History) → DeviceHolds g.stands g.kept from blocks h → IsTrue (g.tells (device_in new)) → (s : Held) × OnFirst g from (g.block_count blocks) h new s
+  pub halted : g.halted blocks ≡ None → g.halted (device_in new) ≡ halt
+  pub first : halt ≡ None → (first : B) (h : History) → DeviceHolds g.stands g.kept (Some (first, h, [])) blocks h → IsTrue (g.tells (device_in new)) → (s : Held) × OnFirst g first (g.block_count blocks) h new s

@@ -1,26 +1,28 @@
 -- What a session of volumes promises.
-use Rattle.std.specs.Prelude.{◌≡◌, ℕ, ◌≤◌, List, [], ◌∷◌, ◌++◌, length, codes, Option, Some, None, IsSome}
-use Rattle.paraid_base.specs.Told.{Gives, GrowsByBytes}
+use Rattle.std.specs.Prelude.{◌≡◌, ℕ, ◌+◌, ◌<◌, ◌≤◌, ◌^◌, ◌⊎◌, List, [], ◌∷◌, ◌++◌, length, codes, Option, Some, None, IsSome}
+use Rattle.paraid_base.specs.Told.{AtEnd, Gives, GrowsByBytes}
+use Rattle.paraid_base.specs.declared.event.Answer.{Answer}
 use Rattle.paraid_base.specs.declared.event.Answer.TheVariants.{Flushed, Halted}
 use Rattle.paraid_base.specs.declared.event.Event.TheVariants.{Flush}
 use Rattle.paraid_base.specs.declared.event.Event.{Event}
 use Rattle.paraid_base.specs.declared.fault.Halt.{Halt}
 use Rattle.paraid_base.specs.BlockAnswers.{Answers}
-use Rattle.paraid_base.specs.History.{History, after_all}
+use Rattle.paraid_base.specs.History.{History, after, after_all}
 use Rattle.paraid_session.specs.Mount.{IsMountedFromEach}
 use Rattle.paraid_io.specs.Lines.{lines_of, whole_lines}
 use Rattle.paraid_machine.specs.Machine.{block_count}
-use Rattle.paraid_rack.specs.Trail.{Trail}
+use Rattle.paraid_device.specs.Devices.{answers_in}
+use Rattle.paraid_image.specs.Rest.{AreSynced}
+use Rattle.paraid_rack.specs.Trail.{Trail, now}
 use Rattle.paraid_record.specs.declared.meta.Setup.{Setup}
 use Rattle.paraid_serve.specs.Ending.{end_line, halt_line, status_of_halt}
-use Rattle.paraid_serve.specs.Output.{IsLeftByStretch, begins_with}
+use Rattle.paraid_serve.specs.Output.{IsLeftByStretch, IsWholeStatus, begins_with}
 use Rattle.paraid_serve.specs.Stretch.{Stretch}
 use Rattle.paraid_session.specs.Turn.{Point}
 use Rattle.paraid_volume.specs.Device.{entries_in}
-use Rattle.paraid_volume.specs.Lives.{Life, VolLog}
+use Rattle.paraid_volume.specs.Lives.{IsLeftByLife, Life, VolLog, flushed}
 use Rattle.paraid_volume.specs.States.{ShowsVolumes, VolumeState}
 use Rattle.paraid_volume.specs.Tables.{IsVolumeTable}
-use Rattle.paraid_service.specs.Clients.{Keeps}
 use Rattle.paraid_service.specs.VolumeLines.{Held, LinesStep}
 
 -- what the blocks of an array hold: volumes in this state, or no table
@@ -33,21 +35,31 @@ pub data BeginsWith (count : ℕ) (content : ℕ → _) : Held → Option Halt �
   known : (s : Held) → Holds count content s → BeginsWith count content s None
   unknown : (halt : Halt) → BeginsWith count content None (Some halt)
 
--- The writes among the events are those of a life of volumes, from the table of the array or from the one write of `init` on;
--- or no call on volumes was made.
+-- an event is one of these
+pub record HasEvent (events : Answers) (event : Event × Answer) : Type 0 where
+  pub before : Answers
+  pub after : Answers
+  pub parts : events ≡ before ++ event ∷ after
+
+-- each flush of these calls that was answered is one of the events
+abbrev pub AreFlushesKept : VolLog → Answers → Type 0
+AreFlushesKept [] events = Unit {0}
+AreFlushesKept (pair ∷ log) events = ((number : ℕ) → pair.1 ≡ flushed number → HasEvent events (Flush, Flushed number)) × AreFlushesKept log events
+
+-- The writes among the events are those of a life of volumes, from the table of the array or from the one write of `init` on, and
+-- each flush of that life is one of the events; or no call on volumes was made.
 pub data IsLifeOf (count : ℕ) (h : History) (made : Answers) : Held → VolLog → Type 0 where
-  lives : (began : ℕ) (s : VolumeState) (log : VolLog) → length h ≤ began → Life count began (h ++ entries_in made) s log → IsLifeOf count h made (Some s) log
+  lives : (began : ℕ) (s : VolumeState) (log : VolLog) → length h ≤ began → began ≤ length h + 1 → Life count began (h ++ entries_in made) s log → AreFlushesKept log made → IsLifeOf count h made (Some s) log
   waits : entries_in made ≡ [] → IsLifeOf count h made None []
 
 -- Lines of `vol` were answered: by the steps of volumes, up to the first halt. Up to it the events that the array kept are those
 -- of a life; the others are those of the call in which it came.
-pub record AnswersLines (count : ℕ) (h : History) (lines : List (List ℕ)) (text : List ℕ) (events : Answers) : Type 0 where
+pub record AnswersLines (count : ℕ) (h : History) (lines : List (List ℕ)) (text : List ℕ) (events : Answers) (halt : Option Halt) : Type 0 where
   pub first : Held
   pub begun : Option Halt
   pub begins : BeginsWith count (after_all h) first begun
   pub log : VolLog
   pub last : Held
-  pub halt : Option Halt
   pub steps : LinesStep count first begun lines text log last halt
   pub before : Answers
   pub rest : Answers
@@ -55,15 +67,69 @@ pub record AnswersLines (count : ℕ) (h : History) (lines : List (List ℕ)) (t
   pub quiet : halt ≡ None → rest ≡ []
   pub life : IsLifeOf count h before last log
 
--- The whole text of `vol` for these bytes, by its status, as that of `run`.
+-- each flush of these calls that was answered tells at most `low` writes
+abbrev pub AreFlushedWithin : ℕ → VolLog → Type 0
+AreFlushedWithin low [] = Unit {0}
+AreFlushedWithin low (pair ∷ log) = ((number : ℕ) → pair.1 ≡ flushed number → number ≤ low) × AreFlushedWithin low log
+
+-- What a stop leaves of volumes, where `written` was written since `h` and each stop keeps `low` writes. After the first `k` writes,
+-- from the table's own on, the volumes are those after a first part of the calls, with each call before a flush that tells at most
+-- `k`; and no flush tells more than `low`.
+pub record LeavesVolumes (count low : ℕ) (h written : History) (log : VolLog) : Type 0 where
+  pub start : ℕ
+  pub began : length h ≤ start
+  pub soon : start ≤ length h + 1
+  pub left : (k : ℕ) → start ≤ k → k ≤ length written → IsLeftByLife count start written k log
+  pub flushed : AreFlushedWithin low log
+
+-- no flush among these calls was answered
+abbrev pub HasNoFlush : VolLog → Type 0
+HasNoFlush [] = Unit {0}
+HasNoFlush (pair ∷ log) = ((number : ℕ) → pair.1 ≡ flushed number → ⊥) × HasNoFlush log
+
+-- After the first `k` writes the volumes are those after a first part of the calls, and no call before a flush is missing.
+pub record LeavesFlushed (count start : ℕ) (written : History) (k : ℕ) (log : VolLog) : Type 0 where
+  pub done : VolLog
+  pub rest : VolLog
+  pub parts : log ≡ done ++ rest
+  pub past : History
+  pub state : VolumeState
+  pub lived : Life count start past state done
+  pub shows : ShowsVolumes count (after written k) state
+  pub flushed_all : HasNoFlush rest
+
+-- the same where the array holds a table
+abbrev pub LeavesHeld : ℕ → ℕ → History → History → Held → VolLog → Type 0
+LeavesHeld count low h written (Some s) log = LeavesVolumes count low h written log
+LeavesHeld count low h written None log = Unit {0}
+
+-- Lines of `vol` were answered from point p of a session on: these events and no others are those of the array, its halt is that of
+-- the lines, and unless it has halted each stop leaves the volumes after a first part of the calls.
+pub record AnswersFromPoint (slots : ℕ) (setup : Setup) (start now : Option Trail) (p : Point) (lines : List (List ℕ)) (text : List ℕ) (halt : Option Halt) : Type 0 where
+  pub events : Answers
+  pub answers : AnswersLines (block_count setup) p.history lines text events halt
+  pub asked : List Event
+  pub all : Stretch slots setup start now p asked
+  pub answered : answers_in all.turns ≡ events
+  pub halted : all.end.halt ≡ halt
+  pub written : all.end.history ≡ p.history ++ entries_in events
+  pub stops : halt ≡ None → LeavesHeld (block_count setup) all.end.low p.history all.end.history answers.last answers.log
+
+-- The last event of a session is a flush, which was answered so.
+pub record FlushesLast (slots : ℕ) (setup : Setup) (mid final : Option Trail) (p : Point) (answer : Answer) : Type 0 where
+  pub asked : List Event
+  pub all : Stretch slots setup mid final p asked
+  pub answered : answers_in all.turns ≡ (Flush, answer) ∷ []
+
+-- The whole text of `vol` for these bytes, by its status, as that of `run`. After a halt in the lines the last flush gives it again.
 pub data VolumesText (slots : ℕ) (setup : Setup) (start final : Option Trail) (p : Point) (bytes : List ℕ) : ℕ → List ℕ → Type 0 where
-  done : (writes : ℕ) (text : List ℕ) (events : Answers) → AnswersLines (block_count setup) p.history (lines_of bytes) text events → Keeps slots setup start final p (events ++ (Flush, Flushed writes) ∷ [])
-      → VolumesText slots setup start final p bytes 0 (begins_with p ++ text ++ end_line writes)
-  halted : (halt : Halt) (text : List ℕ) (events : Answers) → AnswersLines (block_count setup) p.history (lines_of bytes) text events → Keeps slots setup start final p (events ++ (Flush, Halted halt) ∷ [])
+  done : (mid : Option Trail) (text : List ℕ) (a : AnswersFromPoint slots setup start mid p (lines_of bytes) text None) → FlushesLast slots setup mid final a.all.end (Flushed (length a.all.end.history))
+      → VolumesText slots setup start final p bytes 0 (begins_with p ++ text ++ end_line (length a.all.end.history))
+  halted : (mid : Option Trail) (halt : Halt) (met : Option Halt) (text : List ℕ) (a : AnswersFromPoint slots setup start mid p (lines_of bytes) text met) → (met ≡ None) ⊎ (met ≡ Some halt) → FlushesLast slots setup mid final a.all.end (Halted halt)
       → VolumesText slots setup start final p bytes (status_of_halt halt) (begins_with p ++ text ++ halt_line halt)
-  source : (text : List ℕ) (events : Answers) → AnswersLines (block_count setup) p.history (whole_lines bytes) text events → Keeps slots setup start final p events
+  source : (met : Option Halt) (text : List ℕ) → AnswersFromPoint slots setup start final p (whole_lines bytes) text met
       → VolumesText slots setup start final p bytes 3 (begins_with p ++ text ++ codes "source\n")
-  too_long : length bytes ≡ 1099511627776 → (text : List ℕ) (events : Answers) → AnswersLines (block_count setup) p.history (whole_lines bytes) text events → Keeps slots setup start final p events
+  too_long : length bytes ≡ 1099511627776 → (met : Option Halt) (text : List ℕ) → AnswersFromPoint slots setup start final p (whole_lines bytes) text met
       → VolumesText slots setup start final p bytes 10 (begins_with p ++ text ++ codes "toolong\n")
 
 -- What was written: the whole text of the status; or at 4 a first part of such a text, of the answers to a first part of the
@@ -72,9 +138,9 @@ pub data WritesVolumes (slots : ℕ) (setup : Setup) (start final : Option Trail
   whole : VolumesText slots setup start final p bytes status text → WritesVolumes slots setup start final p bytes status text
   last_line : status ≡ 4 → (code : ℕ) (full rest : List ℕ) → VolumesText slots setup start final p bytes code full → full ≡ text ++ rest
       → WritesVolumes slots setup start final p bytes status text
-  answers : status ≡ 4 → (lines more : List (List ℕ)) (said rest : List ℕ) (events : Answers) → lines_of bytes ≡ lines ++ more → AnswersLines (block_count setup) p.history lines said events
-      → Keeps slots setup start final p events → begins_with p ++ said ≡ text ++ rest → WritesVolumes slots setup start final p bytes status text
-  first_line : status ≡ 4 → (rest : List ℕ) → bytes ≡ [] → Keeps slots setup start final p [] → begins_with p ≡ text ++ rest → WritesVolumes slots setup start final p bytes status text
+  answers : status ≡ 4 → (lines more : List (List ℕ)) (said rest : List ℕ) (met : Option Halt) → lines_of bytes ≡ lines ++ more → AnswersFromPoint slots setup start final p lines said met
+      → begins_with p ++ said ≡ text ++ rest → WritesVolumes slots setup start final p bytes status text
+  first_line : status ≡ 4 → (rest : List ℕ) → bytes ≡ [] → Stretch slots setup start final p [] → begins_with p ≡ text ++ rest → WritesVolumes slots setup start final p bytes status text
 
 -- A session took these bytes and wrote this text. What it is is known where all is told, from each point at which the array stood.
 pub record VolumesRun (slots : ℕ) (setup : Setup) (stood : Point → Type 0) (start final : Option Trail) (left_before left written_before written : Option (List ℕ)) (status : ℕ) : Type 0 where
@@ -82,12 +148,16 @@ pub record VolumesRun (slots : ℕ) (setup : Setup) (stood : Point → Type 0) (
   pub text : List ℕ
   pub given : Gives left_before left bytes
   pub grows : GrowsByBytes written_before written text
+  pub full : status ≡ 10 → length bytes ≡ 2 ^ 40
+  pub all : IsWholeStatus status → (length bytes < 2 ^ 40) × AtEnd left
   pub wrote : IsSome final → (p : Point) → stood p → WritesVolumes slots setup start final p bytes status text
 
--- What follows from the first point of a session.
+-- What follows from the first point of a session. After one that ends well no block of a disk that is there is loose, so no stop
+-- changes one.
 pub record FollowsForVolumes (slots : ℕ) (setup : Setup) (start final : Option Trail) (bytes : List ℕ) (status : ℕ) (text : List ℕ) (p : Point) : Type 0 where
   pub wrote : WritesVolumes slots setup start final p bytes status text
   pub left : (asked : List Event) (c : Stretch slots setup start final p asked) → IsLeftByStretch slots c
+  pub synced : status ≡ 0 → (t : Trail) → final ≡ Some t → AreSynced (now t)
 
 -- The headline of `vol`. The session took these bytes and wrote this text; where all is told, on a rack that held a history, the
 -- text is what the lines are answered, the array kept the events of these answers, and each stop leaves what a session promises.
@@ -96,4 +166,6 @@ pub record VolumesHeadline (slots : ℕ) (setup : Setup) (began : ℕ) (start fi
   pub text : List ℕ
   pub given : Gives left_before left bytes
   pub grows : GrowsByBytes written_before written text
+  pub full : status ≡ 10 → length bytes ≡ 2 ^ 40
+  pub all : IsWholeStatus status → (length bytes < 2 ^ 40) × AtEnd left
   pub said : IsSome final → IsMountedFromEach slots setup began start (FollowsForVolumes slots setup start final bytes status text)

@@ -1,7 +1,7 @@
 //! A line about a volume, as a step of volumes.
-ghost use Rattle.std.specs.Prelude.{◌≡◌, ℕ, ◌<◌, List, IfOk, IsTrue, None, slice_index_or};
+ghost use Rattle.std.specs.Prelude.{◌≡◌, ℕ, ◌<◌, List, IfOk, IsTrue, None, codes, slice_index_or};
 ghost use Rattle.paraid_nbd.specs.Export.{KeepsOn};
-ghost use Rattle.paraid_service.specs.LineSteps.{AnswersLine};
+ghost use Rattle.paraid_service.specs.LineSteps.{AnswersLine, KeepsFlush};
 ghost use Rattle.paraid_volume_lines.specs.Grammar.{create as CreateLine, delete as DeleteLine, flush as FlushLine, read as ReadLine, write as WriteLine};
 ghost use Rattle.paraid_volume_lines.specs.Texts.{created_text, deleted_text, flushed_text, read_text, written_text};
 ghost use Rattle.paraid_volume.specs.Device.{DeviceGoesOn, DeviceHolds, SinceHistory, halt_in};
@@ -111,6 +111,8 @@ pub fn flush_volumes<B: Blocks>(volumes: &mut Volumes<B>) -> Result<u64, VolFaul
         → IsTrue (B.tells (device_of volumes.new))
         → AnswersLine (VolumesStandFor (DeviceHolds B.stands B.kept from) volumes.old) (VolumesStandFor (DeviceHolds B.stands B.kept from) volumes.new)
         (B.block_count (device_of volumes.old)) start log lived FlushLine (flushed_text result) }
+    ensures flushed { halted_of volumes.new ≡ None
+        → KeepsFlush B.Blocks volumes.old volumes.new × (flushed_text result ≡ codes "flushed") }
 {
     volumes.flush()
 }

@@ -1,7 +1,10 @@
 //! A session of volumes on a mounted array.
 ghost use Rattle.std.specs.Prelude.{◌≡◌, ◌≢◌, ◌≤◌, ℕ, None};
 ghost use Rattle.paraid_base.specs.Told.{HasRisen};
-ghost use Rattle.paraid_service.specs.LinesEnds.{EndsSession, device_kept};
+ghost use Rattle.paraid_serve.specs.Calls.{Grows, IsNotDouble};
+ghost use Rattle.paraid_serve.specs.Lost.{NamesTwoLost, TellsWear};
+ghost use Rattle.paraid_serve.specs.Output.{IsServedStatus};
+ghost use Rattle.paraid_service.specs.LinesEnds.{EndsSession};
 ghost use Rattle.paraid_service.specs.declared.run.LinesEnd.TheVariants.{Done, Sink as AtSink};
 ghost use Rattle.paraid_service.specs.Shelves.{device_in};
 ghost use Rattle.paraid_service.specs.VolumeSessions.{VolumesHeadline, VolumesRun};
@@ -41,6 +44,12 @@ pub fn serve_volumes<S: Source, K: Sink, A: Serves>(
     ensures headline { (began : ℕ) → IsMountedFromEach (A.slots array) (A.setup array) began (A.told array) (A.stands array)
         → VolumesHeadline (A.slots array) (A.setup array) began (A.told array) (A.told result.array)
         (S.left source.old) (S.left source.new) (K.written sink.old) (K.written sink.new) result.status }
+    ensures told { Grows (A.told array) (A.told result.array) }
+    ensures status { IsServedStatus result.status }
+    ensures present { result.status ≡ 0 → IsNotDouble (A.setup array) (A.slot result.array) }
+    ensures two { result.status ≡ 5 → NamesTwoLost (A.slot array) (A.slot result.array)
+        (K.written sink.old) (K.written sink.new) }
+    ensures worn { result.status ≡ 12 → TellsWear (K.written sink.old) (K.written sink.new) }
     ensures source { result.status ≡ 3 → HasRisen (S.faults source.old) (S.faults source.new) }
     ensures sink { result.status ≡ 4 → HasRisen (K.faults sink.old) (K.faults sink.new) }
 {
@@ -64,7 +73,7 @@ pub fn serve_volumes<S: Source, K: Sink, A: Serves>(
 
 // The last flush and the last line.
 fn end_session<K: Sink, A: Serves>(device: &mut Device<A>, end: LinesEnd, sink: &mut K) -> u8
-    ensures ends { EndsSession (device_kept A.Serves) device.old device.new (K.written sink.old) (K.written sink.new) end result }
+    ensures ends { EndsSession A.Serves device.old device.new (K.written sink.old) (K.written sink.new) end result }
     ensures cause { result ≡ 4 → end ≢ AtSink → HasRisen (K.faults sink.old) (K.faults sink.new) }
     ensures later { K.faults sink.old ≤ K.faults sink.new }
 {
@@ -77,7 +86,7 @@ fn end_session<K: Sink, A: Serves>(device: &mut Device<A>, end: LinesEnd, sink: 
 }
 
 fn end_done<K: Sink, A: Serves>(device: &mut Device<A>, sink: &mut K) -> u8
-    ensures ends { EndsSession (device_kept A.Serves) device.old device.new (K.written sink.old) (K.written sink.new) Done result }
+    ensures ends { EndsSession A.Serves device.old device.new (K.written sink.old) (K.written sink.new) Done result }
     ensures cause { result ≡ 4 → HasRisen (K.faults sink.old) (K.faults sink.new) }
     ensures later { K.faults sink.old ≤ K.faults sink.new }
 {

@@ -1,19 +1,66 @@
-use Rattle.std.proofs.Common.{arith, refl}
+use Rattle.std.proofs.Common.{◌≡◌, [], ◌++◌, None, arith, inl, inr, refl, subst}
+use Rattle.paraid_base.proofs.ToldLemmas.{GrowsByBytes-then}
+use Rattle.paraid_device.specs.Devices.{array_of}
+use Rattle.paraid_record.specs.declared.meta.Setup.{Setup}
+use Rattle.paraid_device.specs.Laws.{answered_none}
+use Rattle.paraid_serve.specs.Calls.{IsNotDouble}
 use Rattle.paraid_serve.specs.Ending.{mount_line}
+use Rattle.paraid_serve.specs.Output.{begins_with}
+use Rattle.paraid_session.specs.Turn.{Point}
+use Rattle.paraid_serve.proofs.GrowsLemmas.{grows_none}
+use Rattle.paraid_serve.proofs.HaltLemmas.{no_event_yet}
+use Rattle.paraid_service.proofs.TextLemmas.{all_answered, answered_at, ends_going, ends_served, ends_three, ends_two, ends_worn, headline_of, ran, ran_none, sink_cause}
 use Rattle.paraid_service.specs.VolumeSessions.{VolumesRun}
-use Rattle.paraid_service.proofs.TextLemmas.{ends_three, headline_of, ran, ran_none, sink_cause}
 use Rattle.paraid_service.proofs.session.serve_volumes.Goals as goal
 
 pub returns-in_default : goal.returns-in_default
 returns-in_default g c =
+    let a = c.args.array in
     let p = c.in_default.ensures.part in
-    let run = ran_none g.A.Serves c.args.array (mount_line c.writes.result c.gear.result) p.0 (rw (c.as_slice.ensures.value, c.mount_text.ensures) at p.2) (λ q at. rw (c.writes.ensures.point c.requires.going q at, c.gear.ensures.point q at) refl) in
-    record { run = run; headline = headline_of _ _ _ _ _ 4 run; source = λ no. let z : ⊥ = omega (arith, no) in absurd z; sink = λ four. c.in_default.ensures.cause }
+    let run = ran_none g.A.Serves a (mount_line c.writes.result c.gear.result) p.0 (rw (c.as_slice.ensures.value, c.mount_text.ensures) at p.2) (λ q at. rw (c.writes.ensures.point c.requires.going q at, c.gear.ensures.point q at) refl) in
+    record {
+      run = run;
+      headline = headline_of g.A.Serves g.met.A.Serves.agrees a a [] (answered_none g.A.Serves a) 4 (λ zero. absurd (omega (arith, zero))) run;
+      told = grows_none (g.A.Serves.told a);
+      status = inr (inr (inl refl));
+      present = λ zero. absurd (omega (arith, zero));
+      two = λ five. absurd (omega (arith, five));
+      worn = λ twelve. absurd (omega (arith, twelve));
+      source = λ three. absurd (omega (arith, three));
+      sink = λ four. c.in_default.ensures.cause;
+    }
 
 pub returns : goal.returns
 returns g c =
+    let a = c.args.array in
+    let b = c.close.result in
+    let first = c.new.result in
+    let last = c.end_session-status.new.device in
+    let shelf = c.serve_lines-run.result.shelved.shelf in
+    let halt = c.serve_lines-run.result.shelved.halt in
+    let end = c.serve_lines-run.result.end in
+    let status = c.end_session-status.result in
+    let mount = mount_line c.writes.result c.gear.result in
+    let lines = c.serve_lines-run.ensures.lines in
+    let ends = rw c.finish-device.ensures at c.end_session-status.ensures.ends in
     let k = c.in-Ok.ensures in
-    let run : VolumesRun (g.A.Serves.slots c.args.array) (g.A.Serves.setup c.args.array) (g.A.Serves.stands c.args.array) (g.A.Serves.told c.args.array) (g.A.Serves.told c.close.result) (g.S.Source.left c.args.source.now) (g.S.Source.left c.serve_lines-run.new.source) (g.K.Sink.written c.args.sink.now) (g.K.Sink.written c.end_session-status.new.sink) c.end_session-status.result
-    = rw (c.close.ensures, ← c.new.ensures.array) (ran g.A.Serves c.new.result c.serve_lines-run.result.shelved.shelf c.serve_lines-run.result.shelved.halt (mount_line c.writes.result c.gear.result) (rw (c.as_slice.ensures.value, c.mount_text.ensures) at k.grows) (λ q stands. let here = rw c.new.ensures.array at stands in rw (c.writes.ensures.point c.requires.going q here, c.gear.ensures.point q here) refl)
-    c.end_session-status.new.device c.serve_lines-run.result.end c.end_session-status.result c.serve_lines-run.ensures.lines (rw c.finish-device.ensures at c.end_session-status.ensures.ends)) in
-    record { run = run; headline = headline_of _ _ _ _ _ c.end_session-status.result run; source = λ three. c.serve_lines-run.ensures.source (ends_three c.end_session-status.ensures.ends three); sink = sink_cause c.serve_lines-run.result.end _ _ _ _ c.end_session-status.result k.later c.serve_lines-run.ensures.later_sink c.end_session-status.ensures.later c.serve_lines-run.ensures.sink c.end_session-status.ensures.cause }
+    let grew = rw (c.as_slice.ensures.value, c.mount_text.ensures) at k.grows in
+    let mounted : (q : Point) → g.A.Serves.stands (array_of first) q → mount ≡ begins_with q = λ q stands. let here = rw c.new.ensures.array at stands in rw (c.writes.ensures.point c.requires.going q here, c.gear.ensures.point q here) refl in
+    let run : VolumesRun (g.A.Serves.slots a) (g.A.Serves.setup a) (g.A.Serves.stands a) (g.A.Serves.told a) (g.A.Serves.told b) (g.S.Source.left c.args.source.now) (g.S.Source.left c.serve_lines-run.new.source) (g.K.Sink.written c.args.sink.now) (g.K.Sink.written c.end_session-status.new.sink) status
+    = rw (c.close.ensures, ← c.new.ensures.array) (ran g.A.Serves g.met.A.Serves.agrees first c.new.ensures.going shelf halt mount grew mounted last end status lines ends) in
+    let every = all_answered g.A.Serves g.met.A.Serves.agrees first c.new.ensures.going shelf halt mount grew mounted last end status lines ends in
+    let all = answered_at g.A.Serves first last a b every.0 c.new.ensures.array c.close.ensures every.1 in
+    let going : status ≡ 0 → g.A.Serves.halted b ≡ None = λ zero. rw c.close.ensures (ends_going g.A.Serves end status ends zero) in
+    let text = GrowsByBytes-then _ _ _ mount lines.told grew lines.grows in
+    let since = all.since (g.A.Serves.slot a) (no_event_yet (g.A.Serves.slot a) (g.A.Serves.halted a) c.requires.going) in
+    record {
+      run = run;
+      headline = headline_of g.A.Serves g.met.A.Serves.agrees a b every.0 all status going run;
+      told = all.grows;
+      status = ends_served g.A.Serves end status ends;
+      present = λ zero. subst (λ (z : Setup). IsNotDouble z (g.A.Serves.slot b)) all.same_setup (g.met.A.Serves.serves b (going zero));
+      two = λ five. rw c.close.ensures (ends_two g.A.Serves _ (mount ++ lines.told) text (g.A.Serves.slot a) (rw c.close.ensures at since.lost) end status ends five);
+      worn = λ twelve. ends_worn g.A.Serves _ (mount ++ lines.told) text (g.met.A.Serves.worn (array_of last)) end status ends twelve;
+      source = λ three. c.serve_lines-run.ensures.source (ends_three g.A.Serves end status ends three);
+      sink = sink_cause end _ _ _ _ status k.later c.serve_lines-run.ensures.later_sink c.end_session-status.ensures.later c.serve_lines-run.ensures.sink c.end_session-status.ensures.cause;
+    }
