@@ -1,5 +1,5 @@
 -- Which flushes are kept, and how many writes they keep.
-use Rattle.std.proofs.Common.{◌≡◌, ℕ, ◌≤◌, List, [], ◌∷◌, ◌++◌, ◌∙◌, length, refl, sym, ap, subst, arith, inl, inr, append_assoc}
+use Rattle.std.proofs.Common.{◌≡◌, ℕ, ◌≤◌, List, [], ◌∷◌, ◌++◌, ◌∙◌, length, refl, ap, subst, arith, inl, inr, append_assoc}
 use Rattle.std.specs.Prelude.{◌⊎◌, All}
 use Rattle.paraid_base.specs.declared.event.Answer.TheVariants.{Flushed as FlushedAnswer}
 use Rattle.paraid_base.specs.declared.event.Event.{Event}

@@ -11,20 +11,18 @@ use Rattle.paraid_trace.specs.Replies.{halt_text}
 use Rattle.paraid_volume.specs.declared.fault.VolFault.{VolFault}
 use Rattle.paraid_volume.specs.declared.fault.VolFault.TheVariants.{Halt as VolHalt, Small, NotVolumes, Already, NoVolume, NoBlock, Exists, NoExtents, Names, Space}
 use Rattle.paraid_volume.specs.declared.volumes.Volumes.{Volumes}
-use Rattle.paraid_volume.specs.Device.{DeviceGoesOn, DeviceHolds, SinceHistory}
+use Rattle.paraid_volume.specs.Device.{DeviceGoesOn, DeviceHolds, KeepsMore, SinceHistory}
 use Rattle.paraid_volume.specs.Faults.{vol_halt_in}
 use Rattle.paraid_volume.specs.Lives.{HasLived, Life, VolLog}
 use Rattle.paraid_volume.specs.Values.{VolumesStandFor, device_of, halted_of, volume_table}
-use Rattle.paraid_volume.proofs.DeviceLemmas.{DeviceGoesOn-none}
+use Rattle.paraid_volume.proofs.DeviceLemmas.{DeviceGoesOn-none, KeepsMore-none}
 use Rattle.paraid_volume.proofs.LivesLemmas.{life_shows}
 use Rattle.paraid_volume_lines.specs.Grammar.{VolLine, bad, flush, list}
 use Rattle.paraid_volume_lines.specs.Lists.{TellsVolumes}
 use Rattle.paraid_volume_lines.specs.Texts.{created_text, fault_text, flushed_text, read_text, written_text}
-use Rattle.paraid_nbd.specs.Export.{KeepsOn}
 use Rattle.paraid_service.specs.LineSteps.{AnswersLine, KeepsFlush, ServesHeld}
-use Rattle.paraid_service.specs.VolumeLines.{LineStep}
+use Rattle.paraid_service.specs.VolumeLines.{IsEventOf, LineStep}
 use Rattle.paraid_service.specs.VolumeLines.LineStep.{lists}
-use Rattle.paraid_nbd.proofs.DeviceLemmas.{keeps_none}
 
 -- ---- a refusal by a halt is told as the halt
 
@@ -57,7 +55,7 @@ flushed_halts (Ok number) own e = cc
 flushed_halts (Err fault) own e = fault_halts ℕ fault own e
 
 module _ {B : Type 0} (g : Ghosts B) where
-  pub serves : (old new : Volumes B g) (line : VolLine) (now halt : Option Halt) (said text : List ℕ) → halted_of new ≡ now → halt ≡ now → DeviceGoesOn g.block_count g.halts g.halted g.tells (device_of old) (device_of new) → KeepsOn g.kept (device_of old) (device_of new)
+  pub serves : (old new : Volumes B g) (line : VolLine) (now halt : Option Halt) (said text : List ℕ) → halted_of new ≡ now → halt ≡ now → DeviceGoesOn g.block_count g.halts g.halted g.tells (device_of old) (device_of new) → KeepsMore g.kept g.tells (IsEventOf line) (device_of old) (device_of new)
       → text ≡ said ++ codes "\n" → (line ≡ bad → ⊥) → (line ≡ list → ⊥) → ((own : Halt) → now ≡ Some own → said ≡ halt_text own)
       → (halted_of new ≡ None → (from : SinceHistory B) (start : ℕ) (log : VolLog) → (lived : HasLived (VolumesStandFor (DeviceHolds g.stands g.kept from) old) (g.block_count (device_of old)) start log) → IsTrue (g.tells (device_of new))
       → AnswersLine (VolumesStandFor (DeviceHolds g.stands g.kept from) old) (VolumesStandFor (DeviceHolds g.stands g.kept from) new) (g.block_count (device_of old)) start log lived line said)
@@ -81,7 +79,7 @@ module _ {B : Type 0} (g : Ghosts B) where
   serves_none v line said text going printed not_flush step = record {
     halted = going;
     went = DeviceGoesOn-none g.block_count g.halts g.halted g.tells (device_of v);
-    keeps = keeps_none g.kept (device_of v);
+    keeps = KeepsMore-none g.kept g.tells (IsEventOf line) (device_of v);
     said = said;
     printed = printed;
     step = λ none from start log lived tells. record {

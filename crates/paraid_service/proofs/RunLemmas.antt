@@ -1,30 +1,29 @@
 -- Lines, one after the other, on a device.
 use Rattle.std.proofs.Common.{◌≡◌, ℕ, [], ◌∷◌, List, ◌++◌, ◌∙◌, refl, sym, ap, subst}
 use Rattle.std.specs.Prelude.{Option, Some, None, IsTrue, codes}
-use Rattle.std.proofs.lemmas.Option.{same_Some}
 use Rattle.std.proofs.lemmas.List.{append-nil, append_cancel_left}
 use Rattle.paraid_base.specs.declared.fault.Halt.{Halt}
 use Rattle.paraid_base.specs.BlockAnswers.{Answers}
 use Rattle.paraid_base.specs.History.{History, after_all}
 use Rattle.paraid_blocks.specs.declared.blocks.Blocks.{Ghosts}
-use Rattle.paraid_trace.specs.Replies.{halt_text}
-use Rattle.paraid_volume.specs.Device.{entries_in}
+use Rattle.paraid_volume.specs.Device.{IsReadEvent, entries_in}
 use Rattle.paraid_volume.specs.Lives.{Life, VolLog}
 use Rattle.paraid_volume.specs.States.{ShowsVolumes}
 use Rattle.paraid_volume.proofs.LivesLemmas.{life_shows}
 use Rattle.paraid_volume.proofs.DeviceLemmas.{DeviceGoesOn-then}
-use Rattle.paraid_volume_lines.specs.Grammar.{AsksVolumes, VolLine, bad, create, delete, flush, init, list, read, write}
+use Rattle.paraid_volume_lines.specs.Grammar.{AsksVolumes, VolLine}
 use Rattle.paraid_service.specs.declared.shelf.Shelf.{Shelf}
 use Rattle.paraid_service.specs.declared.shelf.Shelf.TheVariants.{Bare, Held as HeldShelf}
 use Rattle.paraid_service.specs.LineRuns.{RunsLines, RunsOn, SaysLines}
 use Rattle.paraid_service.specs.Shelves.{OnFirst, OnShelf, OpensShelf, ServesShelf, StepsShelf, device_in}
-use Rattle.paraid_service.specs.VolumeLines.{Held, LinesStep, halted_text}
-use Rattle.paraid_service.specs.VolumeLines.LinesStep.{bad_later, halting, none_yet, one_more}
+use Rattle.paraid_service.specs.VolumeLines.{Held, IsEventOf, LinesStep, halted_text}
+use Rattle.paraid_service.specs.VolumeLines.LinesStep.{halting, later, none_yet, one_more}
 use Rattle.paraid_service.specs.VolumeSessions.{Holds, IsLifeOf}
 use Rattle.paraid_service.specs.VolumeSessions.BeginsWith.{known, unknown}
 use Rattle.paraid_service.specs.VolumeSessions.Holds.{volumes as volumes_held, no_table as none_held}
 use Rattle.paraid_service.specs.VolumeSessions.IsLifeOf.{lives, waits}
 use Rattle.paraid_nbd.proofs.DeviceLemmas.{keeps_then}
+use Rattle.paraid_service.proofs.KeepLemmas.{keeps_more}
 
 -- The events that were kept since the device was as `start` and stood for `h` are those of a life.
 pub record LivesKept {B : Type 0} (g : Ghosts B) (start : B) (h : History) (device : B) (s : Held) (log : VolLog) : Type 0 where
@@ -34,6 +33,16 @@ pub record LivesKept {B : Type 0} (g : Ghosts B) (start : B) (h : History) (devi
 
 no_entries : (a b : History) → a ≡ a ++ b → b ≡ []
 no_entries a b e = append_cancel_left a b [] (sym e ∙ sym (append-nil a))
+
+-- a halt that has not come came of no line
+no_cut : {count : ℕ} {s t : Held} {begun halt : Option Halt} {cut : Option VolLine} {lines : List (List ℕ)} {text : List ℕ} {log : VolLog} → LinesStep count s begun lines text log t halt cut → halt ≡ None → cut ≡ None
+no_cut none_yet none = refl
+no_cut (one_more t u lines line text said asked log more before ask step) none = refl
+no_cut (halting t lines line text asked log halt before ask not_bad not_list) none = absurd (let no : Some halt ≡ None = none in cc)
+no_cut (later t lines line text asked log halt cut before ask) none = absurd (let no : Some halt ≡ None = none in cc)
+
+uncut : {count : ℕ} {s t : Held} {begun : Option Halt} {cut : Option VolLine} {lines : List (List ℕ)} {text : List ℕ} {log : VolLog} → LinesStep count s begun lines text log t None cut → LinesStep count s begun lines text log t None None
+uncut {count} {s} {t} {begun} {cut} {lines} {text} {log} steps = subst (λ (c : Option VolLine). LinesStep count s begun lines text log t None c) (no_cut steps refl) steps
 
 module _ {B : Type 0} (g : Ghosts B) where
   pub life_on : (start : B) (h : History) (shelf : Shelf B g) (s : Held) (log : VolLog) → OnShelf g start (g.block_count start) h shelf s log → LivesKept g start h (device_in shelf) s log
@@ -62,7 +71,8 @@ module _ {B : Type 0} (g : Ghosts B) where
           begins = y.begins;
           log = y.log ++ step.more;
           last = step.last;
-          steps = subst (λ (x : List ℕ). LinesStep (g.block_count start) y.first y.begun (lines ++ line ∷ []) (text ++ x) (y.log ++ step.more) step.last None) (sym l.printed) (one_more y.last step.last lines line text l.said asked y.log step.more y.steps ask step.step);
+          cut = None;
+          steps = subst (λ (x : List ℕ). LinesStep (g.block_count start) y.first y.begun (lines ++ line ∷ []) (text ++ x) (y.log ++ step.more) step.last None None) (sym l.printed) (one_more y.last step.last lines line text l.said asked y.log step.more (uncut y.steps) ask step.step);
           on = λ none. step.on;
           broken = λ own e. absurd (let no : None ≡ Some own = e in cc);
         }
@@ -77,36 +87,23 @@ module _ {B : Type 0} (g : Ghosts B) where
           begins = y.begins;
           log = y.log;
           last = y.last;
-          steps = subst (λ (x : List ℕ). LinesStep (g.block_count start) y.first y.begun (lines ++ line ∷ []) (text ++ x) y.log y.last (Some own)) (sym (l.printed ∙ ap (λ (x : List ℕ). x ++ codes "\n") why.0))
-              (halting y.last lines line text asked y.log None own y.steps ask why.1 (λ none. why.2) (λ other e. absurd (let no : None ≡ Some other = e in cc)));
+          cut = Some asked;
+          steps = subst (λ (x : List ℕ). LinesStep (g.block_count start) y.first y.begun (lines ++ line ∷ []) (text ++ x) y.log y.last (Some own) (Some asked)) (sym (l.printed ∙ ap (λ (x : List ℕ). x ++ codes "\n") why.0))
+              (halting y.last lines line text asked y.log own (uncut y.steps) ask why.1 why.2);
           on = λ none. absurd (let no : Some own ≡ None = none in cc);
-          broken = λ other e. record { before = life.events; rest = kept.0; all = kept.1; life = life.life };
+          broken = λ other e. record { before = life.events; rest = kept.more; all = kept.kept; life = life.life; came = kept.all };
         }
 
     pub runs_more : (halt : Option Halt) → ServesShelf g old new asked said halt → RunsOn g old new None halt asked said
     runs_more halt l start lines line text ask r = record {
       going = l.going;
       went = DeviceGoesOn-then g.block_count g.halts g.halted g.tells start (device_in old) (device_in new) r.went l.went;
-      keeps = keeps_then g.kept start (device_in old) (device_in new) r.keeps l.keeps;
+      keeps = keeps_then g.kept start (device_in old) (device_in new) r.keeps (keeps_more g.kept g.tells (IsEventOf asked) (device_in old) (device_in new) l.keeps);
       halted = λ going. l.halted (r.halted going);
       says = more_says halt l start lines line text ask r;
     }
 
   -- ---- a line after a halt
-
-  module _ (count : ℕ) (first : Held) (was : Option Halt) (lines : List (List ℕ)) (text : List ℕ) (log : VolLog) (last : Held) (own : Halt) (steps : LinesStep count first was lines text log last (Some own)) (line : List ℕ) where
-    later : (asked : VolLine) → AsksVolumes line asked → (asked ≡ bad → ⊥) → LinesStep count first was (lines ++ line ∷ []) (text ++ (halt_text own ++ codes "\n")) log last (Some own)
-    later asked ask not_bad = halting last lines line text asked log (Some own) own steps ask not_bad (λ none. absurd (let no : Some own ≡ None = none in cc)) (λ other e. sym (same_Some _ _ e))
-
-    later_steps : (asked : VolLine) → AsksVolumes line asked → LinesStep count first was (lines ++ line ∷ []) (text ++ (halted_text own asked ++ codes "\n")) log last (Some own)
-    later_steps init ask = later init ask (λ e. cc)
-    later_steps (create name extents) ask = later (create name extents) ask (λ e. cc)
-    later_steps (delete name) ask = later (delete name) ask (λ e. cc)
-    later_steps (read name block) ask = later (read name block) ask (λ e. cc)
-    later_steps (write name block bytes) ask = later (write name block bytes) ask (λ e. cc)
-    later_steps flush ask = later flush ask (λ e. cc)
-    later_steps list ask = later list ask (λ e. cc)
-    later_steps bad ask = bad_later last lines line text log own steps ask
 
   pub runs_later : (shelf : Shelf B g) (asked : VolLine) (said : List ℕ) (own : Halt) → said ≡ halted_text own asked ++ codes "\n" → RunsOn g shelf shelf (Some own) (Some own) asked said
   runs_later shelf asked said own printed start lines line text ask r = record {
@@ -122,7 +119,8 @@ module _ {B : Type 0} (g : Ghosts B) where
           begins = y.begins;
           log = y.log;
           last = y.last;
-          steps = subst (λ (x : List ℕ). LinesStep (g.block_count start) y.first y.begun (lines ++ line ∷ []) (text ++ x) y.log y.last (Some own)) (sym printed) (later_steps (g.block_count start) y.first y.begun lines text y.log y.last own y.steps line asked ask);
+          cut = y.cut;
+          steps = subst (λ (x : List ℕ). LinesStep (g.block_count start) y.first y.begun (lines ++ line ∷ []) (text ++ x) y.log y.last (Some own) y.cut) (sym printed) (later y.last lines line text asked y.log own y.cut y.steps ask);
           on = y.on;
           broken = y.broken;
         };
@@ -153,6 +151,7 @@ module _ {B : Type 0} (g : Ghosts B) where
         begins = known f.0 (first_holds start h shelf f.0 f.1);
         log = [];
         last = f.0;
+        cut = None;
         steps = none_yet;
         on = λ none. first_on start h shelf f.0 f.1;
         broken = λ own e. absurd (let no : None ≡ Some own = e in cc);
@@ -165,10 +164,11 @@ module _ {B : Type 0} (g : Ghosts B) where
         begins = unknown own;
         log = [];
         last = None;
+        cut = None;
         steps = none_yet;
         on = λ none. absurd (let no : Some own ≡ None = none in cc);
-        broken = λ other e. record { before = []; rest = kept.0; all = kept.1; life = waits refl };
+        broken = λ other e. record { before = []; rest = kept.more; all = kept.kept; life = waits refl; came = kept.all };
       }
 
   pub runs_first : (start : B) (shelf : Shelf B g) (halt : Option Halt) → OpensShelf g start shelf halt → g.kept start start [] → RunsLines g start [] [] shelf halt
-  runs_first start shelf halt o begins = record { going = o.going; went = o.went; keeps = o.keeps; halted = o.halted; says = first_says start shelf halt o begins }
+  runs_first start shelf halt o begins = record { going = o.going; went = o.went; keeps = keeps_more g.kept g.tells IsReadEvent start (device_in shelf) o.keeps; halted = o.halted; says = first_says start shelf halt o begins }

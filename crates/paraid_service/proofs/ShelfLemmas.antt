@@ -12,31 +12,29 @@ use Rattle.paraid_blocks.specs.declared.blocks.Blocks.{Ghosts}
 use Rattle.paraid_volume.specs.declared.fault.VolFault.{VolFault}
 use Rattle.paraid_volume.specs.declared.fault.VolFault.TheVariants.{Halt as VolHalt, Small, NotVolumes, Already, NoVolume, NoBlock, Exists, NoExtents, Names, Space}
 use Rattle.paraid_volume.specs.declared.volumes.Volumes.{Volumes}
-use Rattle.paraid_volume.specs.Device.{DeviceGoesOn, DeviceHolds, SinceHistory, entries_in}
+use Rattle.paraid_volume.specs.Device.{DeviceGoesOn, DeviceHolds, IsReadEvent, IsReadOrWrite, KeepsMore, SinceHistory, entries_in}
 use Rattle.paraid_volume.specs.Faults.{IsAdoptFault, IsInitFault, vol_halt_in}
 use Rattle.paraid_volume.specs.Lives.{BeginsLife, HasLived, Life, VolLog, flush as FlushCall, flushed}
 use Rattle.paraid_volume.specs.Lives.Life.{begun, next}
 use Rattle.paraid_volume_lines.specs.Asked.{line_with}
 use Rattle.paraid_volume_lines.specs.declared.asked.VolAsked.{VolAsked}
 use Rattle.paraid_volume_lines.specs.declared.asked.VolAsked.TheVariants.{Init as AskInit, Create as AskCreate, Delete as AskDelete, Read as AskRead, Write as AskWrite, Flush as AskFlush, List as AskList, Bad as AskBad}
-use Rattle.paraid_volume.specs.States.{VolumeState, no_volumes}
+use Rattle.paraid_volume.specs.States.{VolumeState}
 use Rattle.paraid_volume.specs.Tables.{IsVolumeTable, extent_count, extent_size}
 use Rattle.paraid_volume.specs.Values.{VolumesStandFor, device_of, halted_of}
-use Rattle.paraid_volume.proofs.DeviceLemmas.{DeviceGoesOn-none, entries_in-append}
+use Rattle.paraid_volume.proofs.DeviceLemmas.{DeviceGoesOn-none, KeepsMore-none, entries_in-append}
 use Rattle.paraid_volume.proofs.OneCallLemmas.{lived_flush}
 use Rattle.paraid_volume_lines.specs.Grammar.{VolLine, bad, flush, init, list}
 use Rattle.paraid_volume_lines.specs.Texts.{begun_text, fault_text}
 use Rattle.paraid_service.specs.declared.shelf.Shelf.TheVariants.{Bare, Held as HeldShelf}
-use Rattle.paraid_nbd.specs.Export.{KeepsOn}
 use Rattle.paraid_service.specs.LineSteps.{KeepsFlush, ServesHeld}
 use Rattle.paraid_service.specs.Shelves.{OnHeld, OnShelf, OpensShelf, ServesShelf, StepsShelf}
-use Rattle.paraid_service.specs.VolumeLines.{Held, LineStep}
+use Rattle.paraid_service.specs.VolumeLines.{Held, IsEventOf, LineStep}
 use Rattle.paraid_service.specs.VolumeLines.LineStep.{begins, calls}
 use Rattle.paraid_service.specs.VolumeLines.IsCallOf.{flushes}
 use Rattle.paraid_service.specs.VolumeSessions.{AreFlushesKept}
 use Rattle.paraid_service.proofs.FlushLemmas.{flush_kept, flush_or_not, flushes_append, flushes_later, no_flush}
 use Rattle.paraid_service.proofs.HeldLemmas.{fault_halts}
-use Rattle.paraid_nbd.proofs.DeviceLemmas.{keeps_none}
 
 module _ {B : Type 0} (g : Ghosts B) where
   -- ---- where there are volumes
@@ -131,7 +129,7 @@ module _ {B : Type 0} (g : Ghosts B) where
   on_bare blocks line said text printed step = record {
     going = λ none. tt;
     went = DeviceGoesOn-none g.block_count g.halts g.halted g.tells blocks;
-    keeps = keeps_none g.kept blocks;
+    keeps = KeepsMore-none g.kept g.tells (IsEventOf line) blocks;
     said = said;
     printed = printed;
     halted = λ going. going;
@@ -167,7 +165,7 @@ module _ {B : Type 0} (g : Ghosts B) where
         };
       }
 
-  pub on_begun : (blocks : B) (volumes : Volumes B g) (text : List ℕ) → 7 ≤ g.block_count blocks → halted_of volumes ≡ None → DeviceGoesOn g.block_count g.halts g.halted g.tells blocks (device_of volumes) → KeepsOn g.kept blocks (device_of volumes)
+  pub on_begun : (blocks : B) (volumes : Volumes B g) (text : List ℕ) → 7 ≤ g.block_count blocks → halted_of volumes ≡ None → DeviceGoesOn g.block_count g.halts g.halted g.tells blocks (device_of volumes) → KeepsMore g.kept g.tells IsReadOrWrite blocks (device_of volumes)
       → text ≡ begun_text (extent_count (g.block_count blocks)) (extent_size (g.block_count blocks)) ++ codes "\n"
       → ((from : SinceHistory B) (h : History) → DeviceHolds g.stands g.kept from blocks h → IsTrue (g.tells (device_of volumes)) → BeginsLife (VolumesStandFor (DeviceHolds g.stands g.kept from) volumes) (g.block_count blocks) (length h + 1))
       → ServesShelf g (Bare blocks) (HeldShelf volumes) init text None
@@ -214,7 +212,7 @@ module _ {B : Type 0} (g : Ghosts B) where
   refused_steps blocks now fault large f none first h (Some s) log on tells = absurd on
   refused_steps blocks now fault large f none first h None log on tells = absurd (on.no_table large (no_refusal blocks fault (g.halted now) _ large none f h on.holds.0 tells))
 
-  pub on_refused : (blocks now : B) (fault : VolFault) (text : List ℕ) → 7 ≤ g.block_count blocks → DeviceGoesOn g.block_count g.halts g.halted g.tells blocks now → KeepsOn g.kept blocks now
+  pub on_refused : (blocks now : B) (fault : VolFault) (text : List ℕ) → 7 ≤ g.block_count blocks → DeviceGoesOn g.block_count g.halts g.halted g.tells blocks now → KeepsMore g.kept g.tells IsReadOrWrite blocks now
       → text ≡ fault_text fault ++ codes "\n"
       → IsInitFault (g.block_count blocks) (g.halted now) ((h : History) → g.stands blocks h → IsTrue (g.tells now) → IsVolumeTable (g.block_count blocks) (after_all h)) fault
       → ServesShelf g (Bare blocks) (Bare now) init text (vol_halt_in {A = Unit {0}} (Err fault))
@@ -235,7 +233,7 @@ module _ {B : Type 0} (g : Ghosts B) where
   open_small blocks small = record {
     going = λ none. tt;
     went = DeviceGoesOn-none g.block_count g.halts g.halted g.tells blocks;
-    keeps = keeps_none g.kept blocks;
+    keeps = KeepsMore-none g.kept g.tells IsReadEvent blocks;
     halted = λ going. going;
     first = λ none first h holds tells. (None, record { none = refl; holds = holds; no_table = λ large. let no : ⊥ = omega (arith, small, large) in absurd no });
   }
@@ -249,7 +247,7 @@ module _ {B : Type 0} (g : Ghosts B) where
   life_starts count start w s log (begun h t e shows) none = e
   life_starts count start w s log (next h more t u before call answer life step during shows number) none = absurd (let long = length_push before (call, answer) in let no : ⊥ = omega (arith, long, none) in no)
 
-  pub open_held : (blocks : B) (volumes : Volumes B g) → halted_of volumes ≡ None → DeviceGoesOn g.block_count g.halts g.halted g.tells blocks (device_of volumes) → KeepsOn g.kept blocks (device_of volumes)
+  pub open_held : (blocks : B) (volumes : Volumes B g) → halted_of volumes ≡ None → DeviceGoesOn g.block_count g.halts g.halted g.tells blocks (device_of volumes) → KeepsMore g.kept g.tells IsReadEvent blocks (device_of volumes)
       → ((from : SinceHistory B) (h : History) → DeviceHolds g.stands g.kept from blocks h → IsTrue (g.tells (device_of volumes)) → HasLived (VolumesStandFor (DeviceHolds g.stands g.kept from) volumes) (g.block_count blocks) (length h) [])
       → OpensShelf g blocks (HeldShelf volumes) None
   open_held blocks volumes going went keeps lived = record {
@@ -292,7 +290,7 @@ module _ {B : Type 0} (g : Ghosts B) where
   adopt_halts count Names halted without large f = absurd f
   adopt_halts count (Space free) halted without large f = absurd f
 
-  pub open_bare : (blocks now : B) (fault : VolFault) → 7 ≤ g.block_count blocks → DeviceGoesOn g.block_count g.halts g.halted g.tells blocks now → KeepsOn g.kept blocks now
+  pub open_bare : (blocks now : B) (fault : VolFault) → 7 ≤ g.block_count blocks → DeviceGoesOn g.block_count g.halts g.halted g.tells blocks now → KeepsMore g.kept g.tells IsReadEvent blocks now
       → IsAdoptFault (g.block_count blocks) (g.halted now) ((h : History) → g.stands blocks h → IsTrue (g.tells now) → IsVolumeTable (g.block_count blocks) (after_all h) → ⊥) fault
       → (g.halted now ≡ None → (from : SinceHistory B) (h : History) → DeviceHolds g.stands g.kept from blocks h → IsTrue (g.tells now) → DeviceHolds g.stands g.kept from now h)
       → OpensShelf g blocks (Bare now) (vol_halt_in {A = Unit {0}} (Err fault))

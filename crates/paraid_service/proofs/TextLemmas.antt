@@ -44,8 +44,9 @@ use Rattle.paraid_service.specs.LineRuns.{SaysLines}
 use Rattle.paraid_service.specs.LinesEnds.{EndsSession, HasFlushed, device_kept}
 use Rattle.paraid_service.specs.LinesEnds.EndsSession.{at_sink, at_source, halted, kept, too_long}
 use Rattle.paraid_service.specs.Shelves.{device_in}
+use Rattle.paraid_volume_lines.specs.Grammar.{VolLine}
 use Rattle.paraid_service.specs.VolumeLines.{Held}
-use Rattle.paraid_service.specs.VolumeSessions.{AnswersFromPoint, AnswersLines, FlushesLast, FollowsForVolumes, HasEvent, IsLifeOf, LeavesHeld, VolumesHeadline, VolumesRun, VolumesText, WritesVolumes}
+use Rattle.paraid_service.specs.VolumeSessions.{AnswersFromPoint, AreOfHalt, AnswersLines, FlushesLast, FollowsForVolumes, HasEvent, IsLifeOf, LeavesHeld, VolumesHeadline, VolumesRun, VolumesText, WritesVolumes}
 use Rattle.paraid_service.specs.VolumeSessions.IsLifeOf.{lives, waits}
 use Rattle.paraid_service.specs.VolumeSessions.VolumesText.{done as done_text, halted as halted_text, source as source_text, too_long as too_long_text}
 use Rattle.paraid_service.specs.VolumeSessions.WritesVolumes.{answers, first_line, last_line, whole}
@@ -71,13 +72,18 @@ leaves_of count h made _ _ (lives began s log late soon life flushes) low each =
 }
 leaves_of count h made _ _ (waits none) low each = tt
 
+none_came : (begun : Option Halt) (cut : Option VolLine) → AreOfHalt begun cut []
+none_came begun (Some asked) = tt
+none_came (Some halt) None = tt
+none_came None None = refl
+
 pub answers_of : {B : Type 0} (b : BlocksGhosts B) (start : B) (h : History) (lines : List (List ℕ)) (text : List ℕ) (shelf : Shelf B b) (halt : Option Halt) → SaysLines b start h lines text shelf halt → SaysKept b start h lines text (device_in shelf) halt
 answers_of b start h lines text shelf None y =
     let l = life_on b start h shelf y.last y.log (y.on refl) in
     record {
       events = l.events;
       kept = l.kept;
-      answers = record { first = y.first; begun = y.begun; begins = y.begins; log = y.log; last = y.last; steps = y.steps; before = l.events; rest = []; parts = sym (append-nil l.events); quiet = λ none. refl; life = l.life };
+      answers = record { first = y.first; begun = y.begun; begins = y.begins; log = y.log; last = y.last; cut = y.cut; steps = y.steps; before = l.events; rest = []; parts = sym (append-nil l.events); came = none_came y.begun y.cut; life = l.life };
       leaves = λ none. leaves_of (b.block_count start) h l.events y.last y.log l.life;
     }
 answers_of b start h lines text shelf (Some own) y =
@@ -85,7 +91,7 @@ answers_of b start h lines text shelf (Some own) y =
     record {
       events = l.before ++ l.rest;
       kept = l.all;
-      answers = record { first = y.first; begun = y.begun; begins = y.begins; log = y.log; last = y.last; steps = y.steps; before = l.before; rest = l.rest; parts = refl; quiet = λ none. absurd (let no : Some own ≡ None = none in cc); life = l.life };
+      answers = record { first = y.first; begun = y.begun; begins = y.begins; log = y.log; last = y.last; cut = y.cut; steps = y.steps; before = l.before; rest = l.rest; parts = refl; came = l.came; life = l.life };
       leaves = λ none. absurd (let no : Some own ≡ None = none in cc);
     }
 
@@ -175,8 +181,7 @@ module _ {A : Type 0} (g : Ghosts A) where
         let k = x.kept.leads is p at in
         let halted : k.all.end.halt ≡ halt = agrees (array_of mid) k.all.end k.stands ∙ array_halt mid ∙ same in
         let written : k.all.end.history ≡ p.history ++ entries_in x.events =
-            turns_history (g.slots (array_of first)) (g.setup (array_of first)) p k.all.end k.all.turns k.all.went ∙ ap (λ (e : Answers). p.history ++ entries_in e) k.answered in
-        (
+        turns_history (g.slots (array_of first)) (g.setup (array_of first)) p k.all.end k.all.turns k.all.went ∙ ap (λ (e : Answers). p.history ++ entries_in e) k.answered in (
           record {
             events = x.events;
             answers = x.answers;
@@ -304,8 +309,8 @@ module _ {A : Type 0} (g : Ghosts A) where
     all = λ whole. absurd (four_not_whole whole);
     wrote = λ is p at. first_line refl (drop n mount) refl (stretch_none (g.slots a) (g.setup a) (g.told a) p is) (sym (mounted p at) ∙ sym (take-append-drop n mount));
   }
+      -- what a device answered, told of its arrays
 
-    -- what a device answered, told of its arrays
 pub answered_at : {A : Type 0} (g : Ghosts A) (first last : Device A g) (a b : A) (events : Answers) → array_of first ≡ a → b ≡ array_of last → HasAnswered g (array_of first) (array_of last) events → HasAnswered g a b events
 answered_at {A} g first last a b events e f k = subst (λ (z : A). HasAnswered g a z events) (sym f) (subst (λ (z : A). HasAnswered g z (array_of last) events) e k)
 

@@ -6,14 +6,13 @@ use Rattle.paraid_base.specs.declared.fault.Halt.{Halt}
 use Rattle.paraid_base.specs.BlockAnswers.{Answers}
 use Rattle.paraid_base.specs.History.{History}
 use Rattle.paraid_blocks.specs.declared.blocks.Blocks.{Ghosts}
-use Rattle.paraid_nbd.specs.Export.{KeepsOn}
 use Rattle.paraid_trace.specs.Replies.{halt_text}
 use Rattle.paraid_volume.specs.declared.volumes.Volumes.{Volumes}
-use Rattle.paraid_volume.specs.Device.{DeviceGoesOn, DeviceHolds, SinceHistory}
+use Rattle.paraid_volume.specs.Device.{DeviceGoesOn, DeviceHolds, KeepsMore, SinceHistory}
 use Rattle.paraid_volume.specs.Lives.{HasLived, VolLog}
 use Rattle.paraid_volume.specs.Values.{VolumesStandFor, device_of, halted_of}
 use Rattle.paraid_volume_lines.specs.Grammar.{VolLine, bad, flush, list}
-use Rattle.paraid_service.specs.VolumeLines.{LineStep}
+use Rattle.paraid_service.specs.VolumeLines.{IsEventOf, LineStep}
 
 -- The line was answered with this text, from the state of the life so far, which goes on by the calls of the line.
 pub record AnswersLine (old new : History → Type 0) (count start : ℕ) (log : VolLog) (lived : HasLived old count start log) (line : VolLine) (text : List ℕ) : Type 0 where
@@ -32,7 +31,7 @@ pub record KeepsFlush {B : Type 0} (g : Ghosts B) (old new : Volumes B g) : Type
 pub record ServesHeld {B : Type 0} (g : Ghosts B) (old new : Volumes B g) (line : VolLine) (text : List ℕ) (halt : Option Halt) : Type 0 where
   pub halted : halted_of new ≡ halt
   pub went : DeviceGoesOn g.block_count g.halts g.halted g.tells (device_of old) (device_of new)
-  pub keeps : KeepsOn g.kept (device_of old) (device_of new)
+  pub keeps : KeepsMore g.kept g.tells (IsEventOf line) (device_of old) (device_of new)
   pub said : List ℕ
   pub printed : text ≡ said ++ codes "\n"
   pub step : halt ≡ None → (from : SinceHistory B) (start : ℕ) (log : VolLog)

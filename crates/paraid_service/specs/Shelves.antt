@@ -7,7 +7,7 @@ use Rattle.paraid_blocks.specs.declared.blocks.Blocks.{Ghosts}
 use Rattle.paraid_trace.specs.Replies.{halt_text}
 use Rattle.paraid_volume.specs.declared.fault.VolRefused.{VolRefused}
 use Rattle.paraid_volume.specs.declared.volumes.Volumes.{Volumes}
-use Rattle.paraid_volume.specs.Device.{DeviceGoesOn, DeviceHolds, entries_in}
+use Rattle.paraid_volume.specs.Device.{DeviceGoesOn, DeviceHolds, IsReadEvent, KeepsMore, entries_in}
 use Rattle.paraid_volume.specs.Faults.{vol_halt_in}
 use Rattle.paraid_volume.specs.Lives.{Life, VolLog}
 use Rattle.paraid_volume.specs.States.{VolumeState}
@@ -17,8 +17,7 @@ use Rattle.paraid_volume_lines.specs.Grammar.{VolLine, bad, list}
 use Rattle.paraid_service.specs.declared.shelf.Shelf.{Shelf}
 use Rattle.paraid_service.specs.declared.shelf.Shelf.TheVariants.{Bare, Held as HeldShelf}
 use Rattle.paraid_service.specs.declared.shelf.Shelved.{Shelved}
-use Rattle.paraid_nbd.specs.Export.{KeepsOn}
-use Rattle.paraid_service.specs.VolumeLines.{Held, LineStep}
+use Rattle.paraid_service.specs.VolumeLines.{Held, IsEventOf, LineStep}
 use Rattle.paraid_service.specs.VolumeSessions.{AreFlushesKept}
 
 -- its device
@@ -80,7 +79,7 @@ pub record StepsShelf (holds : Held → VolLog → Type 0) (count : ℕ) (s : He
 pub record ServesShelf {B : Type 0} (g : Ghosts B) (old new : Shelf B g) (line : VolLine) (text : List ℕ) (halt : Option Halt) : Type 0 where
   pub going : halt ≡ None → IsGoing new
   pub went : DeviceGoesOn g.block_count g.halts g.halted g.tells (device_in old) (device_in new)
-  pub keeps : KeepsOn g.kept (device_in old) (device_in new)
+  pub keeps : KeepsMore g.kept g.tells (IsEventOf line) (device_in old) (device_in new)
   pub said : List ℕ
   pub printed : text ≡ said ++ codes "\n"
   pub halted : g.halted (device_in old) ≡ None → g.halted (device_in new) ≡ halt
@@ -92,6 +91,6 @@ pub record ServesShelf {B : Type 0} (g : Ghosts B) (old new : Shelf B g) (line :
 pub record OpensShelf {B : Type 0} (g : Ghosts B) (blocks : B) (new : Shelf B g) (halt : Option Halt) : Type 0 where
   pub going : halt ≡ None → IsGoing new
   pub went : DeviceGoesOn g.block_count g.halts g.halted g.tells blocks (device_in new)
-  pub keeps : KeepsOn g.kept blocks (device_in new)
+  pub keeps : KeepsMore g.kept g.tells IsReadEvent blocks (device_in new)
   pub halted : g.halted blocks ≡ None → g.halted (device_in new) ≡ halt
   pub first : halt ≡ None → (first : B) (h : History) → DeviceHolds g.stands g.kept (Some (first, h, [])) blocks h → IsTrue (g.tells (device_in new)) → (s : Held) × OnFirst g first (g.block_count blocks) h new s

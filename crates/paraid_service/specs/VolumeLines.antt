@@ -1,7 +1,9 @@
 -- What each line is answered by the state of the volumes.
 use Rattle.std.specs.Prelude.{◌≡◌, ℕ, ◌<◌, ◌≤◌, List, [], ◌∷◌, ◌++◌, true, codes, Option, Some, None, Ok}
+use Rattle.paraid_base.specs.declared.event.Event.{Event}
 use Rattle.paraid_base.specs.declared.fault.Halt.{Halt}
 use Rattle.paraid_trace.specs.Replies.{halt_text}
+use Rattle.paraid_volume.specs.Device.{IsFlushEvent, IsReadEvent, IsReadOrWrite, IsWriteEvent}
 use Rattle.paraid_volume.specs.Lives.{HasName, VolAnswer, VolCall, VolLog, VolumeStep, create as CreateCall, delete as DeleteCall, read as ReadCall, write as WriteCall, flush as FlushCall, made, removed, value, wrote, flushed, refused}
 use Rattle.paraid_volume.specs.States.{VolumeState, no_volumes}
 use Rattle.paraid_volume.specs.Tables.{extent_count, extent_size}
@@ -56,13 +58,24 @@ abbrev pub halted_text : Halt → VolLine → List ℕ
 halted_text halt bad = codes "bad"
 halted_text halt line = halt_text halt
 
--- Lines, one after the other, until one is answered by a halt, or from a halt on: then each that asks for something is.
-pub data LinesStep (count : ℕ) (s : Held) (begun : Option Halt) : List (List ℕ) → List ℕ → VolLog → Held → Option Halt → Type 0 where
-  none_yet : LinesStep count s begun [] [] [] s begun
-  one_more : (t u : Held) (lines : List (List ℕ)) (line text said : List ℕ) (asked : VolLine) (log more : VolLog) → LinesStep count s begun lines text log t None → AsksVolumes line asked → LineStep count t asked said more u
-      → LinesStep count s begun (lines ++ line ∷ []) (text ++ (said ++ codes "\n")) (log ++ more) u None
-  halting : (t : Held) (lines : List (List ℕ)) (line text : List ℕ) (asked : VolLine) (log : VolLog) (before : Option Halt) (halt : Halt) → LinesStep count s begun lines text log t before → AsksVolumes line asked → (asked ≡ bad → ⊥)
-      → (before ≡ None → asked ≡ list → ⊥) → ((own : Halt) → before ≡ Some own → own ≡ halt)
-      → LinesStep count s begun (lines ++ line ∷ []) (text ++ (halt_text halt ++ codes "\n")) log t (Some halt)
-  bad_later : (t : Held) (lines : List (List ℕ)) (line text : List ℕ) (log : VolLog) (halt : Halt) → LinesStep count s begun lines text log t (Some halt) → AsksVolumes line bad
-      → LinesStep count s begun (lines ++ line ∷ []) (text ++ (codes "bad" ++ codes "\n")) log t (Some halt)
+-- the events that the array keeps for a line are of this kind
+abbrev pub IsEventOf : VolLine → Event → Type 0
+IsEventOf init = IsReadOrWrite
+IsEventOf (create name extents) = IsWriteEvent
+IsEventOf (delete name) = IsWriteEvent
+IsEventOf (read name block) = IsReadEvent
+IsEventOf (write name block bytes) = IsWriteEvent
+IsEventOf flush = IsFlushEvent
+IsEventOf list = λ event. ⊥
+IsEventOf bad = λ event. ⊥
+
+-- Lines, one after the other, until a halt comes of one, or from a halt on: then each that asks for something is answered by it. Of
+-- the halt is told from which line it came, if from one.
+pub data LinesStep (count : ℕ) (s : Held) (begun : Option Halt) : List (List ℕ) → List ℕ → VolLog → Held → Option Halt → Option VolLine → Type 0 where
+  none_yet : LinesStep count s begun [] [] [] s begun None
+  one_more : (t u : Held) (lines : List (List ℕ)) (line text said : List ℕ) (asked : VolLine) (log more : VolLog) → LinesStep count s begun lines text log t None None → AsksVolumes line asked → LineStep count t asked said more u
+      → LinesStep count s begun (lines ++ line ∷ []) (text ++ (said ++ codes "\n")) (log ++ more) u None None
+  halting : (t : Held) (lines : List (List ℕ)) (line text : List ℕ) (asked : VolLine) (log : VolLog) (halt : Halt) → LinesStep count s begun lines text log t None None → AsksVolumes line asked → (asked ≡ bad → ⊥) → (asked ≡ list → ⊥)
+      → LinesStep count s begun (lines ++ line ∷ []) (text ++ (halt_text halt ++ codes "\n")) log t (Some halt) (Some asked)
+  later : (t : Held) (lines : List (List ℕ)) (line text : List ℕ) (asked : VolLine) (log : VolLog) (halt : Halt) (cut : Option VolLine) → LinesStep count s begun lines text log t (Some halt) cut → AsksVolumes line asked
+      → LinesStep count s begun (lines ++ line ∷ []) (text ++ (halted_text halt asked ++ codes "\n")) log t (Some halt) cut

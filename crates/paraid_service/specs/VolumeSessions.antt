@@ -19,11 +19,12 @@ use Rattle.paraid_serve.specs.Ending.{end_line, halt_line, status_of_halt}
 use Rattle.paraid_serve.specs.Output.{IsLeftByStretch, IsWholeStatus, begins_with}
 use Rattle.paraid_serve.specs.Stretch.{Stretch}
 use Rattle.paraid_session.specs.Turn.{Point}
-use Rattle.paraid_volume.specs.Device.{entries_in}
+use Rattle.paraid_volume.specs.Device.{AreAll, IsReadEvent, entries_in}
 use Rattle.paraid_volume.specs.Lives.{IsLeftByLife, Life, VolLog, flushed}
 use Rattle.paraid_volume.specs.States.{ShowsVolumes, VolumeState}
 use Rattle.paraid_volume.specs.Tables.{IsVolumeTable}
-use Rattle.paraid_service.specs.VolumeLines.{Held, LinesStep}
+use Rattle.paraid_volume_lines.specs.Grammar.{VolLine}
+use Rattle.paraid_service.specs.VolumeLines.{Held, IsEventOf, LinesStep}
 
 -- what the blocks of an array hold: volumes in this state, or no table
 pub data Holds (count : ℕ) (content : ℕ → _) : Held → Type 0 where
@@ -52,6 +53,12 @@ pub data IsLifeOf (count : ℕ) (h : History) (made : Answers) : Held → VolLog
   lives : (began : ℕ) (s : VolumeState) (log : VolLog) → length h ≤ began → began ≤ length h + 1 → Life count began (h ++ entries_in made) s log → AreFlushesKept log made → IsLifeOf count h made (Some s) log
   waits : entries_in made ≡ [] → IsLifeOf count h made None []
 
+-- events of the line in which a halt came, or of the reads of the table before any line; none where there was no halt
+abbrev pub AreOfHalt : Option Halt → Option VolLine → Answers → Type 0
+AreOfHalt begun (Some asked) rest = AreAll (IsEventOf asked) rest
+AreOfHalt (Some halt) None rest = AreAll IsReadEvent rest
+AreOfHalt None None rest = rest ≡ []
+
 -- Lines of `vol` were answered: by the steps of volumes, up to the first halt. Up to it the events that the array kept are those
 -- of a life; the others are those of the call in which it came.
 pub record AnswersLines (count : ℕ) (h : History) (lines : List (List ℕ)) (text : List ℕ) (events : Answers) (halt : Option Halt) : Type 0 where
@@ -60,11 +67,12 @@ pub record AnswersLines (count : ℕ) (h : History) (lines : List (List ℕ)) (t
   pub begins : BeginsWith count (after_all h) first begun
   pub log : VolLog
   pub last : Held
-  pub steps : LinesStep count first begun lines text log last halt
+  pub cut : Option VolLine
+  pub steps : LinesStep count first begun lines text log last halt cut
   pub before : Answers
   pub rest : Answers
   pub parts : events ≡ before ++ rest
-  pub quiet : halt ≡ None → rest ≡ []
+  pub came : AreOfHalt begun cut rest
   pub life : IsLifeOf count h before last log
 
 -- each flush of these calls that was answered tells at most `low` writes

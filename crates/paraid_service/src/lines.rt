@@ -1,10 +1,9 @@
 //! A line about a volume, as a step of volumes.
 ghost use Rattle.std.specs.Prelude.{◌≡◌, ℕ, ◌<◌, List, IfOk, IsTrue, None, codes, slice_index_or};
-ghost use Rattle.paraid_nbd.specs.Export.{KeepsOn};
 ghost use Rattle.paraid_service.specs.LineSteps.{AnswersLine, KeepsFlush};
 ghost use Rattle.paraid_volume_lines.specs.Grammar.{create as CreateLine, delete as DeleteLine, flush as FlushLine, read as ReadLine, write as WriteLine};
 ghost use Rattle.paraid_volume_lines.specs.Texts.{created_text, deleted_text, flushed_text, read_text, written_text};
-ghost use Rattle.paraid_volume.specs.Device.{DeviceGoesOn, DeviceHolds, SinceHistory, halt_in};
+ghost use Rattle.paraid_volume.specs.Device.{DeviceGoesOn, DeviceHolds, IsFlushEvent, IsReadEvent, IsWriteEvent, KeepsMore, SinceHistory, halt_in};
 ghost use Rattle.paraid_volume.specs.Lives.{HasLived, VolLog};
 ghost use Rattle.paraid_volume.specs.Faults.{vol_halt_in};
 ghost use Rattle.paraid_volume.specs.NameValues.{letter_of};
@@ -18,7 +17,7 @@ use paraid_volume::{Name, VolFault, Volumes};
 pub fn delete_named<B: Blocks>(volumes: &mut Volumes<B>, name: &Name) -> Result<bool, Halt>
     ensures halt { halted_of volumes.old ≡ None → halted_of volumes.new ≡ halt_in result }
     ensures went { DeviceGoesOn B.block_count B.halts B.halted B.tells (device_of volumes.old) (device_of volumes.new) }
-    ensures keeps { KeepsOn B.kept (device_of volumes.old) (device_of volumes.new) }
+    ensures keeps { KeepsMore B.kept B.tells IsWriteEvent (device_of volumes.old) (device_of volumes.new) }
     ensures line { IfOk result (λ there. (from : SinceHistory B) (start : ℕ) (log : VolLog)
         → (lived : HasLived (VolumesStandFor (DeviceHolds B.stands B.kept from) volumes.old) (B.block_count (device_of volumes.old)) start log)
         → IsTrue (B.tells (device_of volumes.new))
@@ -45,7 +44,7 @@ pub fn read_named<B: Blocks>(
 ) -> Result<(), VolFault>
     ensures halt { halted_of volumes.old ≡ None → halted_of volumes.new ≡ vol_halt_in result }
     ensures went { DeviceGoesOn B.block_count B.halts B.halted B.tells (device_of volumes.old) (device_of volumes.new) }
-    ensures keeps { KeepsOn B.kept (device_of volumes.old) (device_of volumes.new) }
+    ensures keeps { KeepsMore B.kept B.tells IsReadEvent (device_of volumes.old) (device_of volumes.new) }
     ensures line { halted_of volumes.new ≡ None → (from : SinceHistory B) (start : ℕ) (log : VolLog)
         → (lived : HasLived (VolumesStandFor (DeviceHolds B.stands B.kept from) volumes.old) (B.block_count (device_of volumes.old)) start log)
         → IsTrue (B.tells (device_of volumes.new))
@@ -68,7 +67,7 @@ pub fn write_named<B: Blocks>(
 ) -> Result<(), VolFault>
     ensures halt { halted_of volumes.old ≡ None → halted_of volumes.new ≡ vol_halt_in result }
     ensures went { DeviceGoesOn B.block_count B.halts B.halted B.tells (device_of volumes.old) (device_of volumes.new) }
-    ensures keeps { KeepsOn B.kept (device_of volumes.old) (device_of volumes.new) }
+    ensures keeps { KeepsMore B.kept B.tells IsWriteEvent (device_of volumes.old) (device_of volumes.new) }
     ensures line { halted_of volumes.new ≡ None → (from : SinceHistory B) (start : ℕ) (log : VolLog)
         → (lived : HasLived (VolumesStandFor (DeviceHolds B.stands B.kept from) volumes.old) (B.block_count (device_of volumes.old)) start log)
         → IsTrue (B.tells (device_of volumes.new))
@@ -90,7 +89,7 @@ pub fn create_named<B: Blocks>(
 ) -> Result<u8, VolFault>
     ensures halt { halted_of volumes.new ≡ vol_halt_in result }
     ensures went { DeviceGoesOn B.block_count B.halts B.halted B.tells (device_of volumes.old) (device_of volumes.new) }
-    ensures keeps { KeepsOn B.kept (device_of volumes.old) (device_of volumes.new) }
+    ensures keeps { KeepsMore B.kept B.tells IsWriteEvent (device_of volumes.old) (device_of volumes.new) }
     ensures line { halted_of volumes.new ≡ None → (from : SinceHistory B) (start : ℕ) (log : VolLog)
         → (lived : HasLived (VolumesStandFor (DeviceHolds B.stands B.kept from) volumes.old) (B.block_count (device_of volumes.old)) start log)
         → IsTrue (B.tells (device_of volumes.new))
@@ -105,7 +104,7 @@ pub fn create_named<B: Blocks>(
 pub fn flush_volumes<B: Blocks>(volumes: &mut Volumes<B>) -> Result<u64, VolFault>
     ensures halt { halted_of volumes.new ≡ vol_halt_in result }
     ensures went { DeviceGoesOn B.block_count B.halts B.halted B.tells (device_of volumes.old) (device_of volumes.new) }
-    ensures keeps { KeepsOn B.kept (device_of volumes.old) (device_of volumes.new) }
+    ensures keeps { KeepsMore B.kept B.tells IsFlushEvent (device_of volumes.old) (device_of volumes.new) }
     ensures line { halted_of volumes.new ≡ None → (from : SinceHistory B) (start : ℕ) (log : VolLog)
         → (lived : HasLived (VolumesStandFor (DeviceHolds B.stands B.kept from) volumes.old) (B.block_count (device_of volumes.old)) start log)
         → IsTrue (B.tells (device_of volumes.new))

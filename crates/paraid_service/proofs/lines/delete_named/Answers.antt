@@ -1,6 +1,4 @@
-use Rattle.paraid_nbd.proofs.DeviceLemmas.{keeps_none}
-use Rattle.paraid_service.proofs.KeepLemmas.{keeps_more}
-use Rattle.paraid_volume.proofs.DeviceLemmas.{DeviceGoesOn-none}
+use Rattle.paraid_volume.proofs.DeviceLemmas.{DeviceGoesOn-none, KeepsMore-none}
 use Rattle.paraid_volume.specs.Faults.{vol_halt_in}
 use Rattle.std.proofs.Common.{ap, ◌∙◌}
 use Rattle.std.proofs.Common.{refl}
@@ -13,7 +11,7 @@ pub returns-in_default : goal.returns-in_default
 returns-in_default g c = record {
   halt = λ none. none;
   went = DeviceGoesOn-none _ _ _ _ _;
-  keeps = keeps_none g.B.Blocks.kept _;
+  keeps = KeepsMore-none g.B.Blocks.kept _ _ _;
   line = λ from start log lived tells word spells. not_there _ _ _ start log lived (volume_table c.args.volumes.now) lived.stands.1 c.args.name.now word spells (DeleteLine word) refl (λ h stands. stands) c.in_default.ensures.none;
 }
 
@@ -21,7 +19,7 @@ pub returns-in-Ok : goal.returns-in-Ok
 returns-in-Ok g c = record {
   halt = λ none. c.delete.ensures.halt ∙ ap vol_halt_in c.in-Ok.is;
   went = c.delete.ensures.went;
-  keeps = keeps_more g.B.Blocks.kept _ _ _ _ c.delete.ensures.grown;
+  keeps = c.delete.ensures.grown;
   line = λ from start log lived tells word spells.
       let there = c.in-Some.ensures.some in
       deleted _ _ _ start log lived (volume_table c.args.volumes.now) lived.stands.1 c.args.name.now word spells c.in-Some.id there.0 there.1 (c.in-Ok.ensures.lived from start log lived tells);

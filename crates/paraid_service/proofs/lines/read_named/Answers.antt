@@ -1,6 +1,4 @@
-use Rattle.paraid_nbd.proofs.DeviceLemmas.{keeps_none}
-use Rattle.paraid_service.proofs.KeepLemmas.{keeps_more}
-use Rattle.paraid_volume.proofs.DeviceLemmas.{DeviceGoesOn-none}
+use Rattle.paraid_volume.proofs.DeviceLemmas.{DeviceGoesOn-none, KeepsMore-none}
 use Rattle.std.proofs.Common.{refl}
 use Rattle.paraid_volume.specs.Values.{volume_table}
 use Rattle.paraid_volume_lines.specs.Grammar.{read as TheLine}
@@ -11,7 +9,7 @@ pub returns-in_default : goal.returns-in_default
 returns-in_default g c = record {
   halt = λ none. none;
   went = DeviceGoesOn-none _ _ _ _ _;
-  keeps = keeps_none g.B.Blocks.kept _;
+  keeps = KeepsMore-none g.B.Blocks.kept _ _ _;
   line = λ going from start log lived tells word spells. not_there _ _ _ start log lived (volume_table c.args.volumes.now) lived.stands.1 c.args.name.now word spells (TheLine word c.args.block) refl (λ h stands. stands) c.in_default.ensures.none;
 }
 
@@ -19,7 +17,7 @@ pub returns : goal.returns
 returns g c = record {
   halt = λ none. c.read.ensures.halt;
   went = c.read.ensures.went;
-  keeps = keeps_more g.B.Blocks.kept _ _ _ _ c.read.ensures.grown;
+  keeps = c.read.ensures.grown;
   line = λ going from start log lived tells word spells.
       let there = c.in-Some.ensures.some in
       let e = c.read.ensures in

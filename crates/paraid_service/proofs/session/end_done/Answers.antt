@@ -1,4 +1,4 @@
-use Rattle.std.proofs.Common.{arith, refl, ◌∙◌}
+use Rattle.std.proofs.Common.{arith, ◌∙◌}
 use Rattle.paraid_service.proofs.EndLemmas.{low_not_halt}
 use Rattle.paraid_service.proofs.TextLemmas.{flush_halted, flush_kept}
 use Rattle.paraid_service.specs.LinesEnds.EndsSession.{halted, kept}
