@@ -1,5 +1,5 @@
 -- What is told after calls is what was told before, longer by some calls.
-use Rattle.std.proofs.Common.{◌≡◌, ◌≤◌, arith, inl, inr, ℕ, [], List, Option, subst}
+use Rattle.std.proofs.Common.{◌≡◌, ◌≤◌, arith, inl, inr, ℕ, [], List, Option, refl, subst, ◌∙◌}
 use Rattle.paraid_rack.specs.declared.call.Call.{Call}
 use Rattle.paraid_rack.specs.Disks.{Disks}
 use Rattle.paraid_rack.specs.Slots.{Slot}
@@ -47,16 +47,17 @@ no_fall_then a b c first second d =
     let two = second d in
     omega (arith, one, two)
 
-module _ {R : Type 0} {g : _} (slot : R → ℕ → Slot) (told : R → Option Trail) where
-  pub calls_none : (a : Core R g) → MakesCalls slot told a a
-  calls_none a = record { no_fall = λ d. omega arith; grows = extends_none (told (core_rack a)) }
+module _ {R : Type 0} {g : _} (count : R → ℕ) (slot : R → ℕ → Slot) (told : R → Option Trail) where
+  pub calls_none : (a : Core R g) → MakesCalls count slot told a a
+  calls_none a = record { slots = refl; no_fall = λ d. omega arith; grows = extends_none (told (core_rack a)) }
 
   -- by what is told of them
-  pub calls_told : (a b : Core R g) (Q : Disks → List Call → Type 0) → ((d : ℕ) → (slot (core_rack a) d).faults ≤ (slot (core_rack b) d).faults) → Ran (told (core_rack a)) (told (core_rack b)) Q → MakesCalls slot told a b
-  calls_told a b Q kept ran = record { no_fall = kept; grows = extends_core told a b Q ran }
+  pub calls_told : (a b : Core R g) (Q : Disks → List Call → Type 0) → count (core_rack b) ≡ count (core_rack a) → ((d : ℕ) → (slot (core_rack a) d).faults ≤ (slot (core_rack b) d).faults) → Ran (told (core_rack a)) (told (core_rack b)) Q → MakesCalls count slot told a b
+  calls_told a b Q slots kept ran = record { slots = slots; no_fall = kept; grows = extends_core told a b Q ran }
 
-  pub calls_then : (a b c : Core R g) → MakesCalls slot told a b → MakesCalls slot told b c → MakesCalls slot told a c
+  pub calls_then : (a b c : Core R g) → MakesCalls count slot told a b → MakesCalls count slot told b c → MakesCalls count slot told a c
   calls_then a b c first second = record {
+    slots = second.slots ∙ first.slots;
     no_fall = no_fall_then (slot (core_rack a)) (slot (core_rack b)) (slot (core_rack c)) first.no_fall second.no_fall;
     grows = extends_cores told a b c first.grows second.grows;
   }

@@ -33,7 +33,8 @@ pub record LeavesInService {R : Type 0} {g : _} (count : R → ℕ) (slot : R �
   pub leaves : LeavesArray count slot old new
   pub known : IsOutKnown slot new
 
--- What each call keeps, whether it was done or not: no count of faults falls, and what is told is longer by the calls.
-pub record MakesCalls {R : Type 0} {g : _} (slot : R → ℕ → Slot) (told : R → Option Trail) (old new : Core R g) : Type 0 where
+-- What each call keeps, whether it was done or not: the rack has as many slots, no count of faults falls, and what is told is longer by the calls.
+pub record MakesCalls {R : Type 0} {g : _} (count : R → ℕ) (slot : R → ℕ → Slot) (told : R → Option Trail) (old new : Core R g) : Type 0 where
+  pub slots : count (store_rack new.store) ≡ count (store_rack old.store)
   pub no_fall : (d : ℕ) → (slot (store_rack old.store) d).faults ≤ (slot (store_rack new.store) d).faults
   pub grows : Extends (told (store_rack old.store)) (told (store_rack new.store))

@@ -52,6 +52,7 @@ pub fn down<R: Rack>(core: &mut Core<R>) -> Result<Asked, Two>
     ensures halts { IfErr result (λ two. CoreHalts R.slot_count R.told core.old core.new AskDown two) }
     // With a disk out nothing changes.
     ensures out { (meta_of core.old).out ≢ No → core.new ≡ core.old }
+    ensures slots { R.slot_count (core_rack core.new) ≡ R.slot_count (core_rack core.old) }
     ensures no_fall { (d : ℕ) → (R.slot (core_rack core.old) d).faults ≤ (R.slot (core_rack core.new) d).faults }
     ensures two { IfErr result (AreTwoDown (core_down core.old)
         (R.slot (core_rack core.old)) (R.slot (core_rack core.new))) }
@@ -91,6 +92,7 @@ pub fn up<R: Rack>(core: &mut Core<R>) -> Result<Asked, Two>
     ensures halts { IfErr result (λ two. CoreHalts R.slot_count R.told core.old core.new AskUp two) }
     // With a disk out nothing changes.
     ensures out { (meta_of core.old).out ≢ No → core.new ≡ core.old }
+    ensures slots { R.slot_count (core_rack core.new) ≡ R.slot_count (core_rack core.old) }
     ensures no_fall { (d : ℕ) → (R.slot (core_rack core.old) d).faults ≤ (R.slot (core_rack core.new) d).faults }
     ensures two { IfErr result (AreTwoDown (core_down core.old)
         (R.slot (core_rack core.old)) (R.slot (core_rack core.new))) }

@@ -45,7 +45,7 @@ fn park_back<R: Rack>(core: &mut Core<R>, disk: DiskNo) -> Result<bool, Two>
     // In the event of a tick it is the park with which a rebuild ends; no second disk is lost in one call.
     ensures parks { OnOk result (CoreParksBack R.slot_count R.told core.old core.new disk) }
     ensures alone { IfErr result (λ two. R.told (core_rack core.new) ≡ None) }
-    ensures calls { MakesCalls R.slot R.told core.old core.new }
+    ensures calls { MakesCalls R.slot_count R.slot R.told core.old core.new }
     ensures two { IfErr result (AreTwoDown (core_down core.old)
         (R.slot (core_rack core.old)) (R.slot (core_rack core.new))) }
 {
@@ -78,7 +78,7 @@ fn come_back<R: Rack>(core: &mut Core<R>, disk: DiskNo) -> Result<bool, Two>
     // In the event of a tick these are the calls with which a rebuild ends.
     ensures comes { IfOk result (λ back. CoreComesBack R.slot_count R.told core.old core.new disk back) }
     ensures loses { IfErr result (λ two. CoreLosesComing R.slot_count R.told core.old core.new disk two) }
-    ensures calls { MakesCalls R.slot R.told core.old core.new }
+    ensures calls { MakesCalls R.slot_count R.slot R.told core.old core.new }
     ensures two { IfErr result (AreTwoDown (core_down core.old)
         (R.slot (core_rack core.old)) (R.slot (core_rack core.new))) }
 {
@@ -120,7 +120,7 @@ fn rejoin_disk<R: Rack>(core: &mut Core<R>, disk: DiskNo) -> Result<bool, Two>
         (service_of R.slot_count core.new samples served energy) h lo 2) }
     ensures halts { IfErr result (λ two. (rebuilt : ℕ) (windows : WindowsType) → (meta_of core.old).out ≡ Fresh disk rebuilt
         → CoreTickHalts R.slot_count R.told windows core.old core.new two) }
-    ensures calls { MakesCalls R.slot R.told core.old core.new }
+    ensures calls { MakesCalls R.slot_count R.slot R.told core.old core.new }
     ensures two { IfErr result (AreTwoDown (core_down core.old)
         (R.slot (core_rack core.old)) (R.slot (core_rack core.new))) }
 {
@@ -156,7 +156,7 @@ fn end_rebuild<R: Rack>(core: &mut Core<R>, disk: DiskNo) -> Result<bool, Two>
         })) }
     ensures halts { IfErr result (λ two. (rebuilt : ℕ) (windows : WindowsType) → (meta_of core.old).out ≡ Fresh disk rebuilt
         → CoreTickHalts R.slot_count R.told windows core.old core.new two) }
-    ensures calls { MakesCalls R.slot R.told core.old core.new }
+    ensures calls { MakesCalls R.slot_count R.slot R.told core.old core.new }
     ensures two { IfErr result (AreTwoDown (core_down core.old)
         (R.slot (core_rack core.old)) (R.slot (core_rack core.new))) }
 {
@@ -194,7 +194,7 @@ fn move_units<R: Rack>(core: &mut Core<R>, disk: DiskNo, end: u32) -> Result<boo
         })) }
     ensures halts { IfErr result (λ two. (rebuilt : ℕ) (windows : WindowsType) → (meta_of core.old).out ≡ Fresh disk rebuilt
         → CoreTickHalts R.slot_count R.told windows core.old core.new two) }
-    ensures calls { MakesCalls R.slot R.told core.old core.new }
+    ensures calls { MakesCalls R.slot_count R.slot R.told core.old core.new }
     ensures two { IfErr result (AreTwoDown (core_down core.old)
         (R.slot (core_rack core.old)) (R.slot (core_rack core.new))) }
 {
@@ -222,7 +222,7 @@ pub(crate) fn rebuild<R: Rack>(
         (record { gear = (meta_of core.new).gear; moved = done.0; event = done.1 })) }
     ensures halts { IfErr result (λ two. (windows : WindowsType)
         → CoreTickHalts R.slot_count R.told windows core.old core.new two) }
-    ensures calls { MakesCalls R.slot R.told core.old core.new }
+    ensures calls { MakesCalls R.slot_count R.slot R.told core.old core.new }
     ensures two { IfErr result (AreTwoDown (core_down core.old)
         (R.slot (core_rack core.old)) (R.slot (core_rack core.new))) }
 {

@@ -47,7 +47,7 @@ fn bring<R: Rack>(core: &mut Core<R>, disk: DiskNo) -> Result<Option<ReplaceFaul
     ensures later { HaveNotFallen (R.slot (core_rack core.old)) (R.slot (core_rack core.new)) }
     ensures two { IfErr result (AreTwoDown (core_down core.old)
         (R.slot (core_rack core.old)) (R.slot (core_rack core.new))) }
-    ensures slots { OnOk result (R.slot_count (core_rack core.new) ≡ R.slot_count (core_rack core.old)) }
+    ensures slots { R.slot_count (core_rack core.new) ≡ R.slot_count (core_rack core.old) }
     ensures told { Extends (R.told (core_rack core.old)) (R.told (core_rack core.new)) }
 {
     let there = begin(core, disk)?;
@@ -91,7 +91,7 @@ pub fn replace<R: Rack>(core: &mut Core<R>, disk: DiskNo) -> Result<Option<Repla
     ensures later { HaveNotFallen (R.slot (core_rack core.old)) (R.slot (core_rack core.new)) }
     ensures two { IfErr result (AreTwoDown (core_down core.old)
         (R.slot (core_rack core.old)) (R.slot (core_rack core.new))) }
-    ensures slots { OnOk result (R.slot_count (core_rack core.new) ≡ R.slot_count (core_rack core.old)) }
+    ensures slots { R.slot_count (core_rack core.new) ≡ R.slot_count (core_rack core.old) }
     ensures told { Extends (R.told (core_rack core.old)) (R.told (core_rack core.new)) }
 {
     if disk >= core.meta().setup.geometry.disks {

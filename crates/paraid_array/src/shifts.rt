@@ -129,7 +129,7 @@ fn move_on<R: Rack>(core: &mut Core<R>) -> Result<(u32, TickEvent), Two>
         (record { gear = (meta_of core.new).gear; moved = done.0; event = done.1 })) }
     ensures halts { IfErr result (λ two. (windows : WindowsType)
         → CoreTickHalts R.slot_count R.told windows core.old core.new two) }
-    ensures calls { MakesCalls R.slot R.told core.old core.new }
+    ensures calls { MakesCalls R.slot_count R.slot R.told core.old core.new }
     ensures two { IfErr result (AreTwoDown (core_down core.old)
         (R.slot (core_rack core.old)) (R.slot (core_rack core.new))) }
 {
@@ -176,7 +176,7 @@ fn decide<R: Rack>(core: &mut Core<R>, windows: &Windows) -> Result<TickEvent, T
     ensures turn { IfOk result (λ event. CoreTicks R.slot_count R.told windows.now core.old core.new
         (record { gear = (meta_of core.new).gear; moved = 0; event = event })) }
     ensures halts { IfErr result (λ two. CoreTickHalts R.slot_count R.told windows.now core.old core.new two) }
-    ensures calls { MakesCalls R.slot R.told core.old core.new }
+    ensures calls { MakesCalls R.slot_count R.slot R.told core.old core.new }
     ensures two { IfErr result (AreTwoDown (core_down core.old)
         (R.slot (core_rack core.old)) (R.slot (core_rack core.new))) }
 {
@@ -239,6 +239,7 @@ pub fn advance<R: Rack>(core: &mut Core<R>, windows: &Windows) -> Result<(u32, T
         → HasRisen (R.slot (core_rack core.old) d).faults (R.slot (core_rack core.new) d).faults) }
     ensures committed { IfOk result (λ done. (d u : ℕ) → (meta_of core.old).out ≡ Fresh d u → done.1 ≡ GoneInTick d
         → named_of (store_of core.new) ≡ Some d) }
+    ensures slots { R.slot_count (core_rack core.new) ≡ R.slot_count (core_rack core.old) }
     ensures no_fall { (d : ℕ) → (R.slot (core_rack core.old) d).faults ≤ (R.slot (core_rack core.new) d).faults }
     ensures two { IfErr result (AreTwoDown (core_down core.old)
         (R.slot (core_rack core.old)) (R.slot (core_rack core.new))) }

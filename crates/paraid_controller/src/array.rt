@@ -1,5 +1,6 @@
 //! An array in service: a core, and what is counted of its events.
 ghost use Rattle.std.specs.Prelude.{◌≡◌, None};
+ghost use Rattle.paraid_core.specs.Cores.{core_rack};
 ghost use Rattle.paraid_gear.specs.ThreeWindows.{lengths_of};
 ghost use Rattle.paraid_controller.specs.Lasting.{IsArrayServing, TellsItsWear, halt_of_end};
 ghost use Rattle.paraid_controller.specs.Props.{IsArrayServing-prop, TellsItsWear-prop, while_prop};
@@ -23,12 +24,13 @@ pub struct Array<R: Rack> {
     pub(crate) energy: u64,
     pub(crate) ended: Option<Ended>,
     ghost serving: { ended ≡ None → IsArrayServing R.slot_count R.slot core (lengths_of windows) setup slots } by { while_prop (IsArrayServing-prop R.slot_count R.slot core (lengths_of windows) setup slots) },
+    ghost counted: { R.slot_count (core_rack core) ≡ slots },
     ghost worn: { TellsItsWear core.meta (halt_of_end ended) } by { TellsItsWear-prop core.meta (halt_of_end ended) },
 }
 
 impl<R: Rack> Array<R> {
     ghost use Rattle.std.specs.Prelude.{ℕ, [], length};
-    ghost use Rattle.paraid_core.specs.Cores.{core_rack, meta_of};
+    ghost use Rattle.paraid_core.specs.Cores.{meta_of};
     ghost use Rattle.paraid_event.specs.Service.{service_of};
     ghost use Rattle.paraid_event.specs.Stands.{StandsAt};
     ghost use Rattle.paraid_gear.specs.ThreeWindows.{HoldLastSamples};
@@ -79,7 +81,9 @@ impl<R: Rack> Array<R> {
 
     /// Gives the rack back. It makes no call, and what is staged is dropped.
     pub fn close(self) -> R
-        ensures { result ≡ core_rack (core_of_array self) }
+        ensures rack { result ≡ core_rack (core_of_array self) }
+        // Also after a halt it has as many slots as the one that was mounted.
+        ensures slots { R.slot_count result ≡ slots_of_array self }
     {
         self.core.close()
     }

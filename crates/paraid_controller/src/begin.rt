@@ -115,6 +115,7 @@ pub fn mount_core<R: Rack>(alloc: Global, rack: R) -> Result<Begun<R>, MountRefu
     ensures none { IfOk result (λ it. HoldLastSamples it.windows []) }
     ensures later { IfOk result (λ it. (d : ℕ) → (R.slot rack d).faults
         ≤ (R.slot (core_rack it.core) d).faults) }
+    ensures refused_slots { IfErr result (λ refused. R.slot_count refused.rack ≡ R.slot_count rack) }
     ensures refused_later { IfErr result (λ refused. (d : ℕ) → (R.slot rack d).faults
         ≤ (R.slot refused.rack d).faults) }
     // held or not, it serves what stood on the disks

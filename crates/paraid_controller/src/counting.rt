@@ -53,7 +53,7 @@ pub(crate) fn commit_and_count<R: Rack>(core: &mut Core<R>) -> Result<CheckRepor
     requires copies_synced { AreCopiesSynced (meta_of core.old).setup.geometry.disks (copied_of core.old) }
     ensures copied { copied_of core.new ≡ copied_of core.old }
     ensures draft { OnOk result (draft_of core.new ≡ []) }
-    ensures slots { OnOk result (R.slot_count (core_rack core.new) ≡ R.slot_count (core_rack core.old)) }
+    ensures slots { R.slot_count (core_rack core.new) ≡ R.slot_count (core_rack core.old) }
     ensures table { OnOk result (core_table core.new ≡ core_table core.old) }
     ensures nothing { OnOk result (batch_of core.new ≡ []) }
     ensures ready { OnOk result (IsCoreReady R.slot_count R.slot core.new) }

@@ -39,6 +39,7 @@ impl<R: Rack> Core<R> {
         requires nothing { batch_of self.old ≡ [] }
         ensures leaves { OnOk result (LeavesCore R.slot_count R.slot self.old self.new) }
         ensures same { result ≡ Ok true → meta_of self.new ≡ meta_of self.old }
+        ensures slots { R.slot_count (core_rack self.new) ≡ R.slot_count (core_rack self.old) }
         ensures spared { OnlyLosesSlots (R.slot (core_rack self.old)) (R.slot (core_rack self.new)) }
         ensures two { IfErr result (AreTwoDown (core_down self.old)
             (R.slot (core_rack self.old)) (R.slot (core_rack self.new))) }
@@ -89,6 +90,7 @@ impl<R: Rack> Core<R> {
         requires nothing { batch_of self.old ≡ [] }
         ensures leaves { OnOk result (LeavesCore R.slot_count R.slot self.old self.new) }
         ensures same { result ≡ Ok true → meta_of self.new ≡ meta_of self.old }
+        ensures slots { R.slot_count (core_rack self.new) ≡ R.slot_count (core_rack self.old) }
         ensures spared { OnlyLosesSlots (R.slot (core_rack self.old)) (R.slot (core_rack self.new)) }
         ensures two { IfErr result (AreTwoDown (core_down self.old)
             (R.slot (core_rack self.old)) (R.slot (core_rack self.new))) }

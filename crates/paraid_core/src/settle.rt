@@ -39,6 +39,7 @@ impl<R: Rack> Core<R> {
         requires disk { disk < (meta_of self.old).setup.geometry.disks }
         requires spins { (R.slot (core_rack self.old) disk).power ≡ Spinning }
         ensures leaves { OnOk result (LeavesCore R.slot_count R.slot self.old self.new) }
+        ensures slots { R.slot_count (core_rack self.new) ≡ R.slot_count (core_rack self.old) }
         ensures spared { OnlyLosesSlots (R.slot (core_rack self.old)) (R.slot (core_rack self.new)) }
         ensures still_synced { StaySynced (R.slot (core_rack self.old)) (R.slot (core_rack self.new)) }
         ensures synced { OnOk result (IsSyncedAt (R.slot (core_rack self.new)) disk) }
@@ -68,6 +69,7 @@ impl<R: Rack> Core<R> {
         requires still { IsStillOut (named_of (store_of self.old)) (meta_of self.old) }
         requires disk { disk < (meta_of self.old).setup.geometry.disks }
         ensures leaves { OnOk result (LeavesCore R.slot_count R.slot self.old self.new) }
+        ensures slots { R.slot_count (core_rack self.new) ≡ R.slot_count (core_rack self.old) }
         ensures spared { OnlyLosesSlots (R.slot (core_rack self.old)) (R.slot (core_rack self.new)) }
         ensures still_synced { StaySynced (R.slot (core_rack self.old)) (R.slot (core_rack self.new)) }
         ensures synced { OnOk result (is_copied (copied_of self.old) disk ≡ true
@@ -100,6 +102,7 @@ impl<R: Rack> Core<R> {
         requires ready { IsCoreReady R.slot_count R.slot self.old }
         requires still { IsStillOut (named_of (store_of self.old)) (meta_of self.old) }
         ensures leaves { OnOk result (LeavesCore R.slot_count R.slot self.old self.new) }
+        ensures slots { R.slot_count (core_rack self.new) ≡ R.slot_count (core_rack self.old) }
         ensures spared { OnlyLosesSlots (R.slot (core_rack self.old)) (R.slot (core_rack self.new)) }
         ensures still_synced { StaySynced (R.slot (core_rack self.old)) (R.slot (core_rack self.new)) }
         ensures synced { OnOk result ((d : ℕ) → d < (meta_of self.old).setup.geometry.disks

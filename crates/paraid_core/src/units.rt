@@ -180,6 +180,7 @@ impl<R: Rack> Core<R> {
         ensures leaves { OnOk result (LeavesCore R.slot_count R.slot self.old self.new) }
         ensures same { result ≡ Ok true → meta_of self.new ≡ meta_of self.old }
         ensures spins { result ≡ Ok true → (R.slot (core_rack self.new) disk).power ≡ Spinning }
+        ensures slots { R.slot_count (core_rack self.new) ≡ R.slot_count (core_rack self.old) }
         ensures spared { OnlyLosesSlots (R.slot (core_rack self.old)) (R.slot (core_rack self.new)) }
         ensures two { IfErr result (AreTwoDown (core_down self.old)
             (R.slot (core_rack self.old)) (R.slot (core_rack self.new))) }
@@ -227,6 +228,7 @@ impl<R: Rack> Core<R> {
         ensures leaves { OnOk result (LeavesCore R.slot_count R.slot self.old self.new) }
         ensures same { result ≡ Ok true → meta_of self.new ≡ meta_of self.old }
         ensures spins { result ≡ Ok true → (R.slot (core_rack self.new) disk).power ≡ Spinning }
+        ensures slots { R.slot_count (core_rack self.new) ≡ R.slot_count (core_rack self.old) }
         ensures spared { OnlyLosesSlots (R.slot (core_rack self.old)) (R.slot (core_rack self.new)) }
         ensures two { IfErr result (AreTwoDown (core_down self.old)
             (R.slot (core_rack self.old)) (R.slot (core_rack self.new))) }
@@ -292,6 +294,7 @@ impl<R: Rack> Core<R> {
         ensures same { result ≡ Ok true → meta_of self.new ≡ meta_of self.old }
         ensures spins { result ≡ Ok true → (d : ℕ) → named_out_of (meta_of self.old).out ≡ Some d
             → (R.slot (core_rack self.new) d).power ≡ Spinning }
+        ensures slots { R.slot_count (core_rack self.new) ≡ R.slot_count (core_rack self.old) }
         ensures spared { OnlyLosesSlots (R.slot (core_rack self.old)) (R.slot (core_rack self.new)) }
         ensures two { IfErr result (AreTwoDown (core_down self.old)
             (R.slot (core_rack self.old)) (R.slot (core_rack self.new))) }

@@ -110,6 +110,7 @@ impl<R: Rack> Core<R> {
         ensures leaves { OnOk result (LeavesCore R.slot_count R.slot self.old self.new) }
         ensures same { result ≡ Ok true → meta_of self.new ≡ meta_of self.old }
         ensures copied { copied_of self.new ≡ copied_of self.old }
+        ensures slots { R.slot_count (core_rack self.new) ≡ R.slot_count (core_rack self.old) }
         ensures spared { OnlyLosesSlots (R.slot (core_rack self.old)) (R.slot (core_rack self.new)) }
         ensures still_synced { StaySynced (R.slot (core_rack self.old)) (R.slot (core_rack self.new)) }
         ensures two { IfErr result (AreTwoDown (core_down self.old)

@@ -60,6 +60,7 @@ pub fn serve_generated<K: Sink, A: Serves>(
         (A.told array.old) (A.told array.new) (K.written sink.old) (K.written sink.new)
         number lines result }
     ensures told { Grows (A.told array.old) (A.told array.new) }
+    ensures slots { A.slots array.new ≡ A.slots array.old }
     ensures status { IsGenStatus result }
     ensures present { result ≡ 0 → IsNotDouble (A.setup array.old) (A.slot array.new) }
     ensures two { result ≡ 5 → NamesTwoLost (A.slot array.old) (A.slot array.new)
@@ -107,6 +108,7 @@ pub fn serve_generated_mounted<K: Sink, A: Serves>(
         (A.told array.old) (A.told array.new) (K.written sink.old) (K.written sink.new)
         number lines result }
     ensures told { Grows (A.told array.old) (A.told array.new) }
+    ensures slots { A.slots array.new ≡ A.slots array.old }
     ensures status { IsGenStatus result }
     ensures present { result ≡ 0 → IsNotDouble (A.setup array.old) (A.slot array.new) }
     ensures two { result ≡ 5 → NamesTwoLost (A.slot array.old) (A.slot array.new)

@@ -37,6 +37,7 @@ pub fn run<S: Source, K: Sink, R: Rack, A: Serves, O: Outside<R, A>>(
         (ServesLines (R.slot_count rack) (R.slot rack) (R.slot result.rack) (R.told result.rack)
         (S.left source.old) (S.left source.new) (K.written sink.old) (K.written sink.new)
         result.status) }
+    ensures slots { R.slot_count result.rack ≡ R.slot_count rack }
     ensures status { IsStatusOfRun result.status }
     ensures source { result.status ≡ 3 → HasRisen (S.faults source.old) (S.faults source.new) }
     ensures sink { result.status ≡ 4 → HasRisen (K.faults sink.old) (K.faults sink.new) }
@@ -71,6 +72,7 @@ pub fn run_with_spares<S: Source, K: Sink, R: Rack, A: Serves, O: Outside<R, A>>
         (ServesSpares (R.slot_count rack) (R.slot rack) (R.slot result.rack) (R.told result.rack)
         (S.left source.old) (S.left source.new) (K.written sink.old) (K.written sink.new)
         stock wait result.status) }
+    ensures slots { R.slot_count result.rack ≡ R.slot_count rack }
     ensures status { IsStatusOfRun result.status }
     ensures source { result.status ≡ 3 → HasRisen (S.faults source.old) (S.faults source.new) }
     ensures sink { result.status ≡ 4 → HasRisen (K.faults sink.old) (K.faults sink.new) }
@@ -103,6 +105,7 @@ pub fn generate<K: Sink, R: Rack, A: Serves, O: Outside<R, A>>(
         (R.told result.rack) (K.written sink.old) (K.written sink.new) result.status (Unit {0})
         (ServesGenerated (R.slot_count rack) (R.slot rack) (R.slot result.rack) (R.told result.rack)
         (K.written sink.old) (K.written sink.new) number lines result.status) }
+    ensures slots { R.slot_count result.rack ≡ R.slot_count rack }
     ensures status { IsStatusOfGen result.status }
     ensures sink { result.status ≡ 4 → HasRisen (K.faults sink.old) (K.faults sink.new) }
 {
@@ -135,6 +138,7 @@ fn tell_counts<K: Sink, R: Rack, A: Serves, O: Outside<R, A>>(
         (A.told array.new) (K.written sink.old) (K.written sink.new) result
         (CountsArray (O.served array.old) (A.slot array.new) (A.told array.old) (A.told array.new)) }
     ensures told { Extends (A.told array.old) (A.told array.new) }
+    ensures slots { A.slots array.new ≡ A.slots array.old }
     ensures status { IsCheckedStatus result }
     ensures present { result ≡ 0 → IsNotDouble (A.setup array.old) (A.slot array.new) }
     ensures found { result ≡ 13 → IsNotDouble (A.setup array.old) (A.slot array.new) }
@@ -166,6 +170,7 @@ pub fn check<K: Sink, R: Rack, A: Serves, O: Outside<R, A>>(
         (R.told result.rack) (K.written sink.old) (K.written sink.new) result.status (Unit {0})
         (ChecksArray (R.slot_count rack) (R.slot rack) (R.slot result.rack) (R.told result.rack)
         (K.written sink.old) (K.written sink.new) result.status) }
+    ensures slots { R.slot_count result.rack ≡ R.slot_count rack }
     ensures status { IsStatusOfCheck result.status }
     ensures sink { result.status ≡ 4 → HasRisen (K.faults sink.old) (K.faults sink.new) }
 {
@@ -196,6 +201,7 @@ pub fn nbd<S: Source, K: Sink, R: Rack, A: Serves, O: Outside<R, A>>(
         (R.told result.rack) (S.left source.old) (S.left source.new) (S.faults source.old)
         (S.faults source.new) (K.written sink.old) (K.written sink.new) (K.faults sink.old)
         (K.faults sink.new) result.status }
+    ensures slots { R.slot_count result.rack ≡ R.slot_count rack }
     ensures status { IsStatusOfNbd result.status }
     ensures source { result.status ≡ 3 → HasRisen (S.faults source.old) (S.faults source.new) }
     ensures sink { result.status ≡ 4 → HasRisen (K.faults sink.old) (K.faults sink.new) }

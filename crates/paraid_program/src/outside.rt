@@ -37,6 +37,7 @@ pub trait Outside<R: Rack, A: Serves> {
         ensures grows { IfOk result (λ a. Extends (R.told rack) (A.told a)) }
         // No count of faults falls in a mount.
         ensures later { IfOk result (λ a. HaveNotFallen (R.slot rack) (A.slot a)) }
+        ensures refused_slots { IfErr result (λ r. R.slot_count r.rack ≡ R.slot_count rack) }
         ensures refused { IfErr result (λ r. HandsBack (R.slot_count rack) (R.slot rack)
             (R.slot r.rack) (R.told rack) (R.told r.rack) r.fault) }
         ensures mounted { IfOk result (λ a. (began : ℕ) → BeganAt (R.told rack) began
@@ -76,5 +77,7 @@ pub trait Outside<R: Rack, A: Serves> {
     /// Makes no call; what is staged is dropped.
     fn unmount(&self, array: A) -> R
         ensures told { R.told result ≡ A.told array }
-        ensures slot { R.slot result ≡ A.slot array };
+        ensures slot { R.slot result ≡ A.slot array }
+        // Also after a halt it has as many slots as the one that was mounted.
+        ensures slots { R.slot_count result ≡ A.slots array };
 }

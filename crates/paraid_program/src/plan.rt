@@ -91,6 +91,7 @@ pub fn show_plan<S: Source, K: Sink, R: Rack>(
     ensures plans { PlanOutcome (R.slot_count rack) (R.slot rack) (R.slot result.rack) (R.told rack)
         (R.told result.rack) (S.left source.old) (S.left source.new) (S.faults source.old)
         (S.faults source.new) (K.written sink.old) (K.written sink.new) ups result.status }
+    ensures slots { R.slot_count result.rack ≡ R.slot_count rack }
     ensures status { IsPlanStatus result.status }
     ensures end { result.status ≡ 0 → AtEnd (S.left source.new) }
     ensures source { result.status ≡ 3 → HasRisen (S.faults source.old) (S.faults source.new) }

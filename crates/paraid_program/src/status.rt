@@ -18,6 +18,7 @@ use std::alloc::Global;
 pub fn show_state<K: Sink, R: Rack>(alloc: Global, sink: &mut K, rack: R) -> Ended<R>
     ensures shows { Shows (R.slot_count rack) (R.slot rack) (R.slot result.rack) (R.told rack)
         (R.told result.rack) (K.written sink.old) (K.written sink.new) result.status }
+    ensures slots { R.slot_count result.rack ≡ R.slot_count rack }
     ensures status { IsShowStatus result.status }
     ensures sink { result.status ≡ 4 → HasRisen (K.faults sink.old) (K.faults sink.new) }
 {

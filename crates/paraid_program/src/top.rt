@@ -37,6 +37,7 @@ fn format<S: Source, K: Sink, R: Rack>(
         (R.told rack) (R.told result.rack) (S.left source.old) (S.left source.new)
         (S.faults source.old) (S.faults source.new) (K.written sink.old) (K.written sink.new)
         result.status }
+    ensures slots { R.slot_count result.rack ≡ R.slot_count rack }
     ensures status { IsFormatStatus result.status }
     ensures end { result.status ≡ 0 → AtEnd (S.left source.new) }
     ensures source { result.status ≡ 3 → HasRisen (S.faults source.old) (S.faults source.new) }
@@ -59,6 +60,7 @@ fn run<S: Source, K: Sink, R: Rack>(
         (ServesLines (R.slot_count rack) (R.slot rack) (R.slot result.rack) (R.told result.rack)
         (S.left source.old) (S.left source.new) (K.written sink.old) (K.written sink.new)
         result.status) }
+    ensures slots { R.slot_count result.rack ≡ R.slot_count rack }
     ensures status { IsStatusOfRun result.status }
     ensures end { result.status ≡ 0 → AtEnd (S.left source.new) }
     ensures source { result.status ≡ 3 → HasRisen (S.faults source.old) (S.faults source.new) }
@@ -83,6 +85,7 @@ fn run_with_spares<S: Source, K: Sink, R: Rack>(
         (ServesSpares (R.slot_count rack) (R.slot rack) (R.slot result.rack) (R.told result.rack)
         (S.left source.old) (S.left source.new) (K.written sink.old) (K.written sink.new)
         stock wait result.status) }
+    ensures slots { R.slot_count result.rack ≡ R.slot_count rack }
     ensures status { IsStatusOfRun result.status }
     ensures end { result.status ≡ 0 → AtEnd (S.left source.new) }
     ensures source { result.status ≡ 3 → HasRisen (S.faults source.old) (S.faults source.new) }
@@ -105,6 +108,7 @@ fn generate<K: Sink, R: Rack>(
         (R.told result.rack) (K.written sink.old) (K.written sink.new) result.status (Unit {0})
         (ServesGenerated (R.slot_count rack) (R.slot rack) (R.slot result.rack) (R.told result.rack)
         (K.written sink.old) (K.written sink.new) number lines result.status) }
+    ensures slots { R.slot_count result.rack ≡ R.slot_count rack }
     ensures status { IsStatusOfGen result.status }
     ensures sink { result.status ≡ 4 → HasRisen (K.faults sink.old) (K.faults sink.new) }
 {
@@ -118,6 +122,7 @@ fn check<K: Sink, R: Rack>(alloc: Global, sink: &mut K, rack: R) -> Ended<R>
         (R.told result.rack) (K.written sink.old) (K.written sink.new) result.status (Unit {0})
         (ChecksArray (R.slot_count rack) (R.slot rack) (R.slot result.rack) (R.told result.rack)
         (K.written sink.old) (K.written sink.new) result.status) }
+    ensures slots { R.slot_count result.rack ≡ R.slot_count rack }
     ensures status { IsStatusOfCheck result.status }
     ensures sink { result.status ≡ 4 → HasRisen (K.faults sink.old) (K.faults sink.new) }
 {
@@ -136,6 +141,7 @@ fn nbd<S: Source, K: Sink, R: Rack>(
         (R.told result.rack) (S.left source.old) (S.left source.new) (S.faults source.old)
         (S.faults source.new) (K.written sink.old) (K.written sink.new) (K.faults sink.old)
         (K.faults sink.new) result.status }
+    ensures slots { R.slot_count result.rack ≡ R.slot_count rack }
     ensures status { IsStatusOfNbd result.status }
     ensures source { result.status ≡ 3 → HasRisen (S.faults source.old) (S.faults source.new) }
     ensures sink { result.status ≡ 4 → HasRisen (K.faults sink.old) (K.faults sink.new) }
@@ -196,6 +202,9 @@ pub fn paraid<S: Source, K: Sink, R: Rack>(
         → (result.rack ≡ rack) × (source.new ≡ source.old) }
     ensures usage { result.status ≡ 2 → (c : CommandType)
         → AskFor c (map string_bytes words.now.items) → ⊥ }
+
+    // Told or not, and whatever came: the next run begins over as many slots.
+    ensures slots { R.slot_count result.rack ≡ R.slot_count rack }
 
     ensures source { result.status ≡ 3 → HasRisen (S.faults source.old) (S.faults source.new) }
     ensures sink { result.status ≡ 4 → HasRisen (K.faults sink.old) (K.faults sink.new) }

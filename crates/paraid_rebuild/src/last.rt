@@ -37,7 +37,7 @@ fn conclude<R: Rack>(core: &mut Core<R>, disk: DiskNo, end: u32) -> Result<bool,
     ensures serving { OnOk result (IsCoreServing R.slot_count R.slot core.new) }
     ensures nothing { OnOk result (batch_of core.new ≡ []) }
     ensures absent { OnOk result (IsNamedOrAbsent R.slot core.new) }
-    ensures slots { OnOk result (R.slot_count (core_rack core.new) ≡ R.slot_count (core_rack core.old)) }
+    ensures slots { R.slot_count (core_rack core.new) ≡ R.slot_count (core_rack core.old) }
     ensures few { OnOk result ((meta_of core.new).epoch ≤ (meta_of core.old).epoch + 1) }
     ensures back { result ≡ Ok true → meta_of core.new ≡ record (meta_of core.old)
         { epoch = (meta_of core.new).epoch; out = No } }
@@ -92,7 +92,7 @@ pub fn finish<R: Rack>(core: &mut Core<R>, disk: DiskNo) -> Result<bool, Two>
     ensures serving { OnOk result (IsCoreServing R.slot_count R.slot core.new) }
     ensures nothing { OnOk result (batch_of core.new ≡ []) }
     ensures absent { OnOk result (IsNamedOrAbsent R.slot core.new) }
-    ensures slots { OnOk result (R.slot_count (core_rack core.new) ≡ R.slot_count (core_rack core.old)) }
+    ensures slots { R.slot_count (core_rack core.new) ≡ R.slot_count (core_rack core.old) }
     ensures few { OnOk result ((meta_of core.new).epoch ≤ (meta_of core.old).epoch + 1) }
     ensures back { result ≡ Ok true → meta_of core.new ≡ record (meta_of core.old)
         { epoch = (meta_of core.new).epoch; out = No } }

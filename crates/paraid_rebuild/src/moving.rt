@@ -39,6 +39,7 @@ fn copy_units<R: Rack>(core: &mut Core<R>, disk: DiskNo, first: u32, end: u32) -
     ensures failed { result ≡ Ok false
         → HasRisen (R.slot (core_rack core.old) disk).faults (R.slot (core_rack core.new) disk).faults }
     ensures away { result ≡ Ok false → (R.slot (core_rack core.new) disk).power ≡ Absent }
+    ensures slots { R.slot_count (core_rack core.new) ≡ R.slot_count (core_rack core.old) }
     ensures spared { OnlyLosesSlots (R.slot (core_rack core.old)) (R.slot (core_rack core.new)) }
     ensures calls { MakesDataCalls R.told core.old core.new }
     ensures two { IfErr result (AreTwoDown (core_down core.old)
@@ -88,6 +89,7 @@ pub(crate) fn move_units<R: Rack>(
     ensures failed { result ≡ Ok false
         → HasRisen (R.slot (core_rack core.old) disk).faults (R.slot (core_rack core.new) disk).faults }
     ensures away { result ≡ Ok false → (R.slot (core_rack core.new) disk).power ≡ Absent }
+    ensures slots { R.slot_count (core_rack core.new) ≡ R.slot_count (core_rack core.old) }
     ensures spared { OnlyLosesSlots (R.slot (core_rack core.old)) (R.slot (core_rack core.new)) }
     ensures calls { MakesDataCalls R.told core.old core.new }
     ensures two { IfErr result (AreTwoDown (core_down core.old)

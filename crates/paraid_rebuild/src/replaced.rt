@@ -91,6 +91,7 @@ fn bring_fresh<R: Rack>(core: &mut Core<R>, disk: DiskNo) -> Result<bool, Two>
         → (R.slot (core_rack core.new) disk).size ≡ disk_size (meta_of core.old).setup.geometry }
     ensures table { core_table core.new ≡ core_table core.old }
     ensures named { OnOk result (named_of (store_of core.new) ≡ Some disk) }
+    ensures slots { R.slot_count (core_rack core.new) ≡ R.slot_count (core_rack core.old) }
     ensures later { HaveNotFallen (R.slot (core_rack core.old)) (R.slot (core_rack core.new)) }
     ensures two { IfErr result (AreTwoDown (core_down core.old)
         (R.slot (core_rack core.old)) (R.slot (core_rack core.new))) }
@@ -147,6 +148,7 @@ pub fn begin<R: Rack>(core: &mut Core<R>, disk: DiskNo) -> Result<bool, Two>
         → (R.slot (core_rack core.new) disk).size ≡ disk_size (meta_of core.old).setup.geometry }
     ensures table { core_table core.new ≡ core_table core.old }
     ensures named { OnOk result (named_of (store_of core.new) ≡ Some disk) }
+    ensures slots { R.slot_count (core_rack core.new) ≡ R.slot_count (core_rack core.old) }
     ensures later { HaveNotFallen (R.slot (core_rack core.old)) (R.slot (core_rack core.new)) }
     ensures two { IfErr result (AreTwoDown (core_down core.old)
         (R.slot (core_rack core.old)) (R.slot (core_rack core.new))) }

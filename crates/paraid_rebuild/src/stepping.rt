@@ -127,7 +127,7 @@ fn advance<R: Rack>(core: &mut Core<R>, disk: DiskNo, end: u32) -> Result<bool, 
     ensures serving { OnOk result (IsCoreServing R.slot_count R.slot core.new) }
     ensures nothing { OnOk result (batch_of core.new ≡ []) }
     ensures named { OnOk result (named_of (store_of core.new) ≡ Some disk) }
-    ensures slots { OnOk result (R.slot_count (core_rack core.new) ≡ R.slot_count (core_rack core.old)) }
+    ensures slots { R.slot_count (core_rack core.new) ≡ R.slot_count (core_rack core.old) }
     ensures few { OnOk result ((meta_of core.new).epoch ≤ (meta_of core.old).epoch + 1) }
     ensures moved { result ≡ Ok true → meta_of core.new ≡ record (meta_of core.old)
         { epoch = (meta_of core.new).epoch; out = Fresh disk end } }
@@ -179,7 +179,7 @@ fn go_on<R: Rack>(core: &mut Core<R>, disk: DiskNo, end: u32) -> Result<bool, Tw
     ensures serving { OnOk result (IsCoreServing R.slot_count R.slot core.new) }
     ensures nothing { OnOk result (batch_of core.new ≡ []) }
     ensures named { OnOk result (named_of (store_of core.new) ≡ Some disk) }
-    ensures slots { OnOk result (R.slot_count (core_rack core.new) ≡ R.slot_count (core_rack core.old)) }
+    ensures slots { R.slot_count (core_rack core.new) ≡ R.slot_count (core_rack core.old) }
     ensures few { OnOk result ((meta_of core.new).epoch ≤ (meta_of core.old).epoch + 2) }
     ensures moved { result ≡ Ok true → meta_of core.new ≡ record (meta_of core.old)
         { epoch = (meta_of core.new).epoch; out = Fresh disk end } }
@@ -234,7 +234,7 @@ pub fn step<R: Rack>(core: &mut Core<R>, disk: DiskNo, end: u32) -> Result<bool,
     ensures nothing { OnOk result (batch_of core.new ≡ []) }
     ensures absent { OnOk result (IsNamedOrAbsent R.slot core.new) }
     ensures named { OnOk result (named_of (store_of core.new) ≡ Some disk) }
-    ensures slots { OnOk result (R.slot_count (core_rack core.new) ≡ R.slot_count (core_rack core.old)) }
+    ensures slots { R.slot_count (core_rack core.new) ≡ R.slot_count (core_rack core.old) }
     ensures few { OnOk result ((meta_of core.new).epoch ≤ (meta_of core.old).epoch + 3) }
     ensures moved { result ≡ Ok true → meta_of core.new ≡ record (meta_of core.old)
         { epoch = (meta_of core.new).epoch; out = Fresh disk end } }

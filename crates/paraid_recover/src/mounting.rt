@@ -238,6 +238,8 @@ fn bring_up<R: Rack>(
     requires rows { length dirty ≡ standing.now.meta.setup.geometry.rows }
     requires narrow { IsNarrow (is_dirty dirty) }
     ensures slots { IfOk result (λ it. R.slot_count (store_rack it.store) ≡ R.slot_count rack) }
+    ensures refused_slots { IfErr result (λ refused. R.slot_count refused.rack
+        ≡ R.slot_count rack) }
     ensures servable { IfOk result (λ it. IsServable (R.slot_count (store_rack it.store))
         (R.slot (store_rack it.store)) (epoch_of it.store) (disks_of it.store)
         (named_by it.store) it.meta (length it.dirty)) }
@@ -323,6 +325,8 @@ fn bring_up<R: Rack>(
 /// goes out; where a second one is down, the mount names both.
 pub fn mount<R: Rack>(alloc: Global, batch: Batch, rack: R) -> Result<Mounted<R>, MountRefused<R>>
     ensures slots { IfOk result (λ it. R.slot_count (store_rack it.store) ≡ R.slot_count rack) }
+    ensures refused_slots { IfErr result (λ refused. R.slot_count refused.rack
+        ≡ R.slot_count rack) }
     ensures servable { IfOk result (λ it. IsServable (R.slot_count (store_rack it.store))
         (R.slot (store_rack it.store)) (epoch_of it.store) (disks_of it.store)
         (named_by it.store) it.meta (length it.dirty)) }

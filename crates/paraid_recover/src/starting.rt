@@ -23,6 +23,8 @@ use std::alloc::Global;
 /// All its memory is taken before the first write.
 pub fn mount<R: Rack>(alloc: Global, rack: R) -> Result<Mounted<R>, MountRefused<R>>
     ensures slots { IfOk result (λ it. R.slot_count (store_rack it.store) ≡ R.slot_count rack) }
+    ensures refused_slots { IfErr result (λ refused. R.slot_count refused.rack
+        ≡ R.slot_count rack) }
     ensures servable { IfOk result (λ it. IsServable (R.slot_count (store_rack it.store))
         (R.slot (store_rack it.store)) (epoch_of it.store) (disks_of it.store)
         (named_by it.store) it.meta (length it.dirty)) }

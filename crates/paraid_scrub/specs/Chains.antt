@@ -77,6 +77,7 @@ module _ {R : Type 0} {g : _} (count : R → ℕ) (slot : R → ℕ → Slot) (t
     module _ (agrees : (rack : R) (t : Trail) → told rack ≡ Some t → Agrees (now t) (slot rack)) where
       looks_till_two : (two : Two) → LooksTillTwo count slot told b c two → LooksTillTwo count slot told a c two
       looks_till_two two q = record {
+        slots = q.slots ∙ p.looked.leaves.slots;
         copied = q.copied ∙ p.looked.copied;
         spared = spared_then sa sb sc p.looked.leaves.spared q.spared;
         synced = dry_both sa sb sc p.looked.synced q.synced q.spared;

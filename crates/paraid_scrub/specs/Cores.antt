@@ -69,6 +69,7 @@ pub record LooksTillLost {R : Type 0} {g : _} (count : R → ℕ) (slot : R → 
 
 -- Two disks were found down in them.
 pub record LooksTillTwo {R : Type 0} {g : _} (count : R → ℕ) (slot : R → ℕ → Slot) (told : R → Option Trail) (old new : Core R g) (two : Two) : Type 0 where
+  pub slots : count (store_rack new.store) ≡ count (store_rack old.store)
   pub copied : new.copied ≡ old.copied
   pub spared : OnlyLosesSlots (slot (store_rack old.store)) (slot (store_rack new.store))
   pub synced : StaySynced (slot (store_rack old.store)) (slot (store_rack new.store))

@@ -94,7 +94,7 @@ pub fn check<R: Rack>(core: &mut Core<R>) -> Result<Checked, Two>
     requires fresh { (d : ℕ) → IsRebuilding (meta_of core.old) d → (R.slot (core_rack core.old) d).power ≡ Spinning }
 
     ensures draft { OnOk result (draft_of core.new ≡ draft_of core.old) }
-    ensures slots { OnOk result (R.slot_count (core_rack core.new) ≡ R.slot_count (core_rack core.old)) }
+    ensures slots { R.slot_count (core_rack core.new) ≡ R.slot_count (core_rack core.old) }
     ensures batch { OnOk result (batch_of core.new ≡ batch_of core.old) }
     ensures table { OnOk result (core_table core.new ≡ core_table core.old) }
     ensures named { OnOk result (named_of (store_of core.new) ≡ named_of (store_of core.old)) }

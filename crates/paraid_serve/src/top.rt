@@ -19,6 +19,7 @@ pub fn serve<S: Source, K: Sink, A: Serves>(source: &mut S, sink: &mut K, array:
         (A.told array.old) (A.told array.new) (S.left source.old) (S.left source.new)
         (K.written sink.old) (K.written sink.new) result }
     ensures told { Grows (A.told array.old) (A.told array.new) }
+    ensures slots { A.slots array.new ≡ A.slots array.old }
     ensures status { IsServedStatus result }
     ensures present { result ≡ 0 → IsNotDouble (A.setup array.old) (A.slot array.new) }
     ensures two { result ≡ 5 → NamesTwoLost (A.slot array.old) (A.slot array.new)
@@ -61,6 +62,7 @@ pub fn serve_mounted<S: Source, K: Sink, A: Serves>(
         (A.told array.old) (A.told array.new) (S.left source.old) (S.left source.new)
         (K.written sink.old) (K.written sink.new) result }
     ensures told { Grows (A.told array.old) (A.told array.new) }
+    ensures slots { A.slots array.new ≡ A.slots array.old }
     ensures status { IsServedStatus result }
     ensures present { result ≡ 0 → IsNotDouble (A.setup array.old) (A.slot array.new) }
     ensures two { result ≡ 5 → NamesTwoLost (A.slot array.old) (A.slot array.new)

@@ -70,6 +70,7 @@ pub fn serve_client<S: Source, K: Sink, A: Serves>(
         (S.faults source.old) (S.faults source.new) (K.faults sink.old) (K.faults sink.new)
         result.status }
     ensures told { Grows (A.told array) (A.told result.array) }
+    ensures slots { A.slots result.array ≡ A.slots array }
     ensures status { IsClientStatus result.status }
     ensures present { result.status ≡ 0 → IsNotDouble (A.setup array) (A.slot result.array) }
     ensures two { result.status ≡ 5 → LosesTwo (A.slot array) (A.slot result.array) }

@@ -42,6 +42,7 @@ pub fn begin_down<R: Rack>(core: &mut Core<R>, to: u8) -> Result<(), Two>
     ensures nothing { OnOk result (batch_of core.new ≡ []) }
     ensures steps { OnOk result (CoreStepsInEvent R.slot_count R.told core.old core.new 1) }
     ensures loses { IfErr result (λ two. CoreLosesInSteps R.slot_count R.told core.old core.new 1 two) }
+    ensures slots { R.slot_count (core_rack core.new) ≡ R.slot_count (core_rack core.old) }
     ensures spared { OnlyLosesSlots (R.slot (core_rack core.old)) (R.slot (core_rack core.new)) }
     ensures two { IfErr result (AreTwoDown (core_down core.old)
         (R.slot (core_rack core.old)) (R.slot (core_rack core.new))) }
@@ -85,6 +86,7 @@ fn raise<R: Rack>(core: &mut Core<R>, disk: DiskNo) -> Result<(), Two>
     ensures powers { OnOk result (PowersDisks R.slot_count R.slot R.told core.old core.new) }
     ensures store { IsSameStore (store_of core.old) (store_of core.new) }
     ensures table { core_table core.new ≡ core_table core.old }
+    ensures slots { R.slot_count (core_rack core.new) ≡ R.slot_count (core_rack core.old) }
     ensures no_fall { (d : ℕ) → (R.slot (core_rack core.old) d).faults ≤ (R.slot (core_rack core.new) d).faults }
     ensures calls { MakesPowerCalls R.told core.old core.new }
     ensures tells { IfErr result (λ two. TellsSecond R.slot R.told core.old core.new two) }
@@ -107,6 +109,7 @@ fn bring_up<R: Rack>(core: &mut Core<R>) -> Result<(), Two>
     ensures nothing { OnOk result (batch_of core.new ≡ []) }
     ensures powers { OnOk result (PowersDisks R.slot_count R.slot R.told core.old core.new) }
     ensures table { core_table core.new ≡ core_table core.old }
+    ensures slots { R.slot_count (core_rack core.new) ≡ R.slot_count (core_rack core.old) }
     ensures no_fall { (d : ℕ) → (R.slot (core_rack core.old) d).faults ≤ (R.slot (core_rack core.new) d).faults }
     ensures calls { MakesPowerCalls R.told core.old core.new }
     ensures tells { IfErr result (λ two. TellsSecond R.slot R.told core.old core.new two) }
@@ -130,6 +133,7 @@ fn commit_up<R: Rack>(core: &mut Core<R>, to: u8) -> Result<(), Two>
     requires next { AreNextGears (meta_of core.old).setup.geometry (meta_of core.old).gear to }
     ensures begun { OnOk result (CommitsUp R.slot_count R.slot R.told core.old core.new to) }
     ensures table { core_table core.new ≡ core_table core.old }
+    ensures slots { R.slot_count (core_rack core.new) ≡ R.slot_count (core_rack core.old) }
     ensures spared { OnlyLosesSlots (R.slot (core_rack core.old)) (R.slot (core_rack core.new)) }
     ensures loses { IfErr result (λ two. LosesUp R.slot_count R.told core.old core.new to two) }
     ensures two { IfErr result (AreTwoDown (core_down core.old)
@@ -155,6 +159,7 @@ pub fn begin_up<R: Rack>(core: &mut Core<R>, to: u8) -> Result<(), Two>
     ensures meta { OnOk result (HasBegunUp (meta_of core.old) (meta_of core.new) to) }
     ensures table { core_table core.new ≡ core_table core.old }
     ensures nothing { OnOk result (batch_of core.new ≡ []) }
+    ensures slots { R.slot_count (core_rack core.new) ≡ R.slot_count (core_rack core.old) }
     ensures no_fall { (d : ℕ) → (R.slot (core_rack core.old) d).faults ≤ (R.slot (core_rack core.new) d).faults }
     ensures steps { OnOk result (CoreStepsInEvent R.slot_count R.told core.old core.new 1) }
     ensures loses { IfErr result (λ two. CoreLosesInSteps R.slot_count R.told core.old core.new 1 two) }

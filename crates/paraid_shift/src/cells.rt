@@ -65,6 +65,7 @@ fn copy_cells<R: Rack>(core: &mut Core<R>, most: u32) -> Result<Option<Group>, T
     ensures group { IfOk result (λ group. IfSome group (λ it.
         IsGroupOf (meta_of core.old) (core_table core.old) most it.count it.row it.disk)) }
     ensures lost { IfOk result (λ group. IfNone group ((meta_of core.new).out ≢ No)) }
+    ensures slots { R.slot_count (core_rack core.new) ≡ R.slot_count (core_rack core.old) }
     ensures spared { OnlyLosesSlots (R.slot (core_rack core.old)) (R.slot (core_rack core.new)) }
     ensures tells { IfErr result (λ two. TellsSecond R.slot R.told core.old core.new two) }
     ensures calls { MakesDataCalls R.told core.old core.new }
@@ -164,6 +165,7 @@ pub(crate) fn move_group<R: Rack>(core: &mut Core<R>, most: u32) -> Result<u32, 
     requires whole { (meta_of core.old).out ≡ No }
     requires nothing { batch_of core.old ≡ [] }
     ensures marks { IfOk result (λ count. MarksGroup R.slot_count R.slot R.told core.old core.new most count) }
+    ensures slots { R.slot_count (core_rack core.new) ≡ R.slot_count (core_rack core.old) }
     ensures spared { OnlyLosesSlots (R.slot (core_rack core.old)) (R.slot (core_rack core.new)) }
     ensures loses { IfErr result (λ two. LosesSecond R.slot_count R.slot R.told core.old core.new 1 two) }
 {
@@ -185,6 +187,7 @@ fn copy_group<R: Rack>(core: &mut Core<R>, most: u32) -> Result<Option<Group>, T
     ensures group { IfOk result (λ group. IfSome group (λ it.
         IsGroupOf (meta_of core.new) (core_table core.new) most it.count it.row it.disk)) }
     ensures lost { IfOk result (λ group. IfNone group ((meta_of core.new).out ≢ No)) }
+    ensures slots { R.slot_count (core_rack core.new) ≡ R.slot_count (core_rack core.old) }
     ensures spared { OnlyLosesSlots (R.slot (core_rack core.old)) (R.slot (core_rack core.new)) }
     ensures tells { IfErr result (λ two. TellsSecond R.slot R.told core.old core.new two) }
     ensures calls { MakesDataCalls R.told core.old core.new }

@@ -55,6 +55,7 @@ fn lower<R: Rack>(core: &mut Core<R>, disk: DiskNo) -> Result<(), Two>
     ensures powers { OnOk result (PowersDisks R.slot_count R.slot R.told core.old core.new) }
     ensures store { IsSameStore (store_of core.old) (store_of core.new) }
     ensures table { core_table core.new ≡ core_table core.old }
+    ensures slots { R.slot_count (core_rack core.new) ≡ R.slot_count (core_rack core.old) }
     ensures no_fall { (d : ℕ) → (R.slot (core_rack core.old) d).faults ≤ (R.slot (core_rack core.new) d).faults }
     ensures calls { MakesPowerCalls R.told core.old core.new }
     ensures tells { IfErr result (λ two. TellsSecond R.slot R.told core.old core.new two) }
@@ -80,6 +81,7 @@ fn park_down<R: Rack>(core: &mut Core<R>, hi: u8) -> Result<(), Two>
     ensures nothing { OnOk result (batch_of core.new ≡ []) }
     ensures powers { OnOk result (PowersDisks R.slot_count R.slot R.told core.old core.new) }
     ensures table { core_table core.new ≡ core_table core.old }
+    ensures slots { R.slot_count (core_rack core.new) ≡ R.slot_count (core_rack core.old) }
     ensures no_fall { (d : ℕ) → (R.slot (core_rack core.old) d).faults ≤ (R.slot (core_rack core.new) d).faults }
     ensures calls { MakesPowerCalls R.told core.old core.new }
     ensures tells { IfErr result (λ two. TellsSecond R.slot R.told core.old core.new two) }
@@ -107,6 +109,7 @@ fn commit_gear<R: Rack>(core: &mut Core<R>) -> Result<(), Two>
         → d < phase_to (meta_of core.old).phase → is_dirty (core_table core.old) r d ≡ false }
     ensures ended { OnOk result (CommitsGear R.slot_count R.slot R.told core.old core.new) }
     ensures table { core_table core.new ≡ core_table core.old }
+    ensures slots { R.slot_count (core_rack core.new) ≡ R.slot_count (core_rack core.old) }
     ensures spared { OnlyLosesSlots (R.slot (core_rack core.old)) (R.slot (core_rack core.new)) }
     ensures loses { IfErr result (λ two. LosesMark R.slot_count R.told core.old core.new
         (meta_flipped_to (meta_of core.old) (phase_to (meta_of core.old).phase)) two) }
@@ -137,6 +140,7 @@ pub fn flip<R: Rack>(core: &mut Core<R>) -> Result<(), Two>
     ensures meta { OnOk result (IsMarkedFrom (record (meta_flipped_to (meta_of core.old) (phase_to (meta_of core.old).phase))
         { epoch = (meta_of core.old).epoch + 1 }) (meta_of core.new)) }
     ensures table { core_table core.new ≡ core_table core.old }
+    ensures slots { R.slot_count (core_rack core.new) ≡ R.slot_count (core_rack core.old) }
     ensures no_fall { (d : ℕ) → (R.slot (core_rack core.old) d).faults ≤ (R.slot (core_rack core.new) d).faults }
     // Wherever the last marks of the shift wait in memory, they are brought with one commit more, and the event is
     // underway again.

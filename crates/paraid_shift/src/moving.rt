@@ -33,6 +33,7 @@ fn commit<R: Rack>(core: &mut Core<R>) -> Result<(), Two>
     requires epoch { (meta_of core.old).epoch < 2 ^ 63 }
     ensures commits { OnOk result (CommitsStaged R.slot_count R.slot R.told core.old core.new) }
     ensures table { core_table core.new ≡ core_table core.old }
+    ensures slots { R.slot_count (core_rack core.new) ≡ R.slot_count (core_rack core.old) }
     ensures spared { OnlyLosesSlots (R.slot (core_rack core.old)) (R.slot (core_rack core.new)) }
     ensures loses { IfErr result (λ two. LosesInCommit R.slot_count R.slot R.told core.old core.new two) }
 {
@@ -55,6 +56,7 @@ pub fn commit_staged<R: Rack>(core: &mut Core<R>) -> Result<(), Two>
     ensures moves { OnOk result ((meta_of core.old).out ≡ No → CoreCountsMoved R.slot_count core.old core.new 0) }
     ensures steps { OnOk result (IsNamedOrAbsent R.slot core.old
         → CoreStepsInEvent R.slot_count R.told core.old core.new 1) }
+    ensures slots { R.slot_count (core_rack core.new) ≡ R.slot_count (core_rack core.old) }
     ensures no_fall { (d : ℕ) → (R.slot (core_rack core.old) d).faults ≤ (R.slot (core_rack core.new) d).faults }
     ensures two { IfErr result (AreTwoDown (core_down core.old)
         (R.slot (core_rack core.old)) (R.slot (core_rack core.new))) }
@@ -87,6 +89,7 @@ fn step_group<R: Rack>(core: &mut Core<R>, most: u32) -> Result<u32, Two>
     ensures steps { IfOk result (λ count. StepsOn R.slot_count R.slot core.old core.new most 1 count
         (MovesGroup R.slot_count core.old core.new most count)
         (CoreStepsInEvent R.slot_count R.told core.old core.new 1)) }
+    ensures slots { R.slot_count (core_rack core.new) ≡ R.slot_count (core_rack core.old) }
     ensures no_fall { (d : ℕ) → (R.slot (core_rack core.old) d).faults ≤ (R.slot (core_rack core.new) d).faults }
     ensures loses { IfErr result (λ two. LosesSecond R.slot_count R.slot R.told core.old core.new 1 two) }
 {
@@ -110,6 +113,7 @@ fn step_cells<R: Rack>(core: &mut Core<R>, most: u32) -> Result<u32, Two>
     ensures steps { IfOk result (λ count. StepsOn R.slot_count R.slot core.old core.new most most count
         (MovesUpTo R.slot_count core.old core.new (AreCellsDone (meta_of core.new) (core_table core.new)) most count)
         (CoreStepsInEvent R.slot_count R.told core.old core.new most)) }
+    ensures slots { R.slot_count (core_rack core.new) ≡ R.slot_count (core_rack core.old) }
     ensures no_fall { (d : ℕ) → (R.slot (core_rack core.old) d).faults ≤ (R.slot (core_rack core.new) d).faults }
     ensures loses { IfErr result (λ two. LosesSecond R.slot_count R.slot R.told core.old core.new most two) }
 {
@@ -162,6 +166,7 @@ fn step_stripes<R: Rack>(core: &mut Core<R>, most: u32) -> Result<u32, Two>
     ensures steps { IfOk result (λ count. StepsOn R.slot_count R.slot core.old core.new most 1 count
         (MovesUpTo R.slot_count core.old core.new (AreUnitsDone (meta_of core.new) (core_table core.new)) most count)
         (StepsOrWaits R.slot_count R.told core.old core.new 1)) }
+    ensures slots { R.slot_count (core_rack core.new) ≡ R.slot_count (core_rack core.old) }
     ensures no_fall { (d : ℕ) → (R.slot (core_rack core.old) d).faults ≤ (R.slot (core_rack core.new) d).faults }
     ensures loses { IfErr result (λ two. LosesSecond R.slot_count R.slot R.told core.old core.new 1 two) }
 {
@@ -190,6 +195,7 @@ fn step_units<R: Rack>(core: &mut Core<R>, most: u32) -> Result<u32, Two>
     ensures steps { IfOk result (λ count. StepsOn R.slot_count R.slot core.old core.new most (most + 1) count
         (MovesUpTo R.slot_count core.old core.new (AreUnitsDone (meta_of core.new) (core_table core.new)) most count)
         (StepsOrWaits R.slot_count R.told core.old core.new (most + 1))) }
+    ensures slots { R.slot_count (core_rack core.new) ≡ R.slot_count (core_rack core.old) }
     ensures no_fall { (d : ℕ) → (R.slot (core_rack core.old) d).faults ≤ (R.slot (core_rack core.new) d).faults }
     ensures loses { IfErr result (λ two. LosesSecond R.slot_count R.slot R.told core.old core.new (most + 1) two) }
 {
@@ -214,6 +220,7 @@ fn step_whole<R: Rack>(core: &mut Core<R>, most: u32) -> Result<u32, Two>
         (AreUnitsDone (meta_of core.new) (core_table core.new)) most count)
         (StepsOrWaits R.slot_count R.told core.old core.new (most + 1))) }
     ensures idle { IfOk result (λ count. (meta_of core.old).out ≢ No → (count ≡ 0) × (core.new ≡ core.old)) }
+    ensures slots { R.slot_count (core_rack core.new) ≡ R.slot_count (core_rack core.old) }
     ensures no_fall { (d : ℕ) → (R.slot (core_rack core.old) d).faults ≤ (R.slot (core_rack core.new) d).faults }
     ensures loses { IfErr result (λ two. LosesSecond R.slot_count R.slot R.told core.old core.new (most + 1) two) }
 {
@@ -255,6 +262,7 @@ pub fn step<R: Rack>(core: &mut Core<R>, units: u32) -> Result<Moved, Two>
     ensures left { IfOk result (λ moved. AreCoreUnitsLeft R.slot_count core.new moved.left) }
     ensures epoch { OnOk result ((meta_of core.new).epoch ≤ (meta_of core.old).epoch + units + 2) }
     ensures lost { IfOk result (λ moved. moved.lost ≡ named_out (meta_of core.new).out) }
+    ensures slots { R.slot_count (core_rack core.new) ≡ R.slot_count (core_rack core.old) }
     ensures no_fall { (d : ℕ) → (R.slot (core_rack core.old) d).faults ≤ (R.slot (core_rack core.new) d).faults }
     ensures two { IfErr result (AreTwoDown (core_down core.old)
         (R.slot (core_rack core.old)) (R.slot (core_rack core.new))) }

@@ -37,6 +37,7 @@ fn fill_stripes<R: Rack>(core: &mut Core<R>, end: u32) -> Result<bool, Two>
     ensures leaves { OnOk result (LeavesCore R.slot_count R.slot core.old core.new) }
     ensures same { result ≡ Ok true → meta_of core.new ≡ meta_of core.old }
     ensures gone { result ≡ Ok false → (meta_of core.new).out ≢ No }
+    ensures slots { R.slot_count (core_rack core.new) ≡ R.slot_count (core_rack core.old) }
     ensures spared { OnlyLosesSlots (R.slot (core_rack core.old)) (R.slot (core_rack core.new)) }
     ensures tells { IfErr result (λ two. TellsSecond R.slot R.told core.old core.new two) }
     ensures filled { result ≡ Ok true → (h : History) (lo : ℕ)
@@ -73,6 +74,7 @@ pub(crate) fn move_stripes<R: Rack>(core: &mut Core<R>, end: u32) -> Result<bool
         (meta_of core.old).setup.geometry.rows (phase_to (meta_of core.old).phase) }
     requires nothing { batch_of core.old ≡ [] }
     ensures marks { IfOk result (λ done. MarksStripes R.slot_count R.slot R.told core.old core.new end done) }
+    ensures slots { R.slot_count (core_rack core.new) ≡ R.slot_count (core_rack core.old) }
     ensures spared { OnlyLosesSlots (R.slot (core_rack core.old)) (R.slot (core_rack core.new)) }
     ensures loses { IfErr result (λ two. LosesSecond R.slot_count R.slot R.told core.old core.new 1 two) }
 {

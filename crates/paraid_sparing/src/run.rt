@@ -49,6 +49,7 @@ pub fn session<S: Source, K: Sink, A: Serves>(
         (S.left source.old) (S.left source.new) (K.written sink.old) (K.written sink.new) pool.new
         result }
     ensures told { Grows (A.told array.old) (A.told array.new) }
+    ensures slots { A.slots array.new ≡ A.slots array.old }
     ensures setup { A.setup array.new ≡ A.setup array.old }
     ensures going { OnOk result (A.halted array.new ≡ None) }
     ensures failed { IfErr result (IsStopOfFailed (A.slot array.old) (A.slot array.new)) }

@@ -239,6 +239,8 @@ impl<R: Rack> Store<R> {
             (IsOutOfCommit (λ e. (R.slot rack e).power) meta.now.setup.geometry.disks
             (named_of meta.now.out) (named_of meta.now.out))
             (R.slot rack) (R.slot refused.rack) refused.two) }
+        ensures refused_slots { IfErr result (λ refused. R.slot_count refused.rack
+            ≡ R.slot_count rack) }
         ensures refused_powers { IfErr result (λ refused. OnlyLosesSlots (R.slot rack)
             (R.slot refused.rack)) }
         ensures refused_each { IfErr result (λ refused. AreFailedOrWell (R.slot rack)

@@ -1,5 +1,5 @@
 use Rattle.paraid_shift.specs.Serving.{HasBegunUp}
-use Rattle.std.proofs.Common.{None, Some}
+use Rattle.std.proofs.Common.{None, Some, ◌∙◌}
 use Rattle.std.proofs.Common.{◌≡◌, ◌+◌, sym, ap, subst, refl, arith, Ok, []}
 use Rattle.paraid_base.specs.declared.state.Out.TheVariants.{No}
 use Rattle.paraid_base.specs.declared.state.Phase.TheVariants.{Steady, Up}
@@ -42,6 +42,7 @@ returns-in-Err g c =
       turn = up_stays g.R.Rack.slot_count g.R.Rack.told a c.in-Err.fault (subst (λ (z : Meta). (s : PowerState) → IsShiftStateOf z s → IsUpRefused z.setup s c.in-Err.fault) c.meta.ensures c.in-Err.ensures.refused);
       halts = tt;
       out = λ not. refl;
+      slots = refl;
       no_fall = λ d. omega arith;
       two = tt;
       told = extends_none (g.R.Rack.told (store_rack a.store));
@@ -73,6 +74,7 @@ returns-in_err-commit_staged g c =
           (up_halts g.R.Rack.slot_count g.R.Rack.told a steady whole m c.in_default.field-0 _ 1 (omega arith) loses
           (subst (λ (z : Meta). (s : PowerState) → IsShiftStateOf z s → MayGoUp z.setup s c.in_default.field-0) c.meta.ensures c.in_default.ensures.may));
       out = λ not. absurd (not whole);
+      slots = c.commit_staged.ensures.slots;
       no_fall = c.commit_staged.ensures.no_fall;
       two = handed _ c.from_residual.result _ c.from_residual.ensures.1 c.in_err-commit_staged.ensures.two;
       told = extends_core g.R.Rack.told a m _ (loses [] 0 [] 0 0);
@@ -118,6 +120,7 @@ returns-in_err-begin_up-in-Ok g c =
           (core_loses_then g.R.Rack.slot_count g.R.Rack.told a m b 1 1 _ steps c.in_err-begin_up-in-Ok.ensures.loses)
           (subst (λ (z : Meta). (s : PowerState) → IsShiftStateOf z s → MayGoUp z.setup s c.in_default.field-0) c.meta.ensures c.in_default.ensures.may));
       out = λ not. absurd (not whole);
+      slots = c.begin_up.ensures.slots ∙ c.commit_staged.ensures.slots;
       no_fall = no_fall_then (g.R.Rack.slot (store_rack a.store)) (g.R.Rack.slot (store_rack m.store)) (g.R.Rack.slot (store_rack b.store)) c.commit_staged.ensures.no_fall c.begin_up.ensures.no_fall;
       two = handed _ c.from_residual-in_err-begin_up-in-Ok.result _ c.from_residual-in_err-begin_up-in-Ok.ensures.1 (two_array g.R.Rack.slot_count g.R.Rack.slot a m b c.in_ok-commit_staged.ensures.leaves c.begin_up.ensures.no_fall _ c.in_err-begin_up-in-Ok.ensures.two);
       told = extends_cores g.R.Rack.told a m b (extends_core g.R.Rack.told a m _ (steps [] 0 [] 0 0)) (extends_core g.R.Rack.told m b _ (c.begin_up.ensures.moments [] 0));
@@ -155,6 +158,7 @@ returns-in_ok-begin_up-in-Ok g c =
           done.meta staged.serving.ready.in_range.eight done.serving.ready.in_range.eight may;
       halts = tt;
       out = λ not. absurd (not whole);
+      slots = c.begin_up.ensures.slots ∙ c.commit_staged.ensures.slots;
       no_fall = no_fall_then (g.R.Rack.slot (store_rack a.store)) (g.R.Rack.slot (store_rack m.store)) (g.R.Rack.slot (store_rack b.store)) c.commit_staged.ensures.no_fall c.begin_up.ensures.no_fall;
       two = tt;
       told = extends_cores g.R.Rack.told a m b (extends_core g.R.Rack.told a m _ (steps [] 0 [] 0 0)) (extends_core g.R.Rack.told m b _ (c.begin_up.ensures.moments [] 0));
@@ -183,6 +187,7 @@ returns-in-Err-gear_above g c =
       turn = up_stopped g.R.Rack.slot_count g.R.Rack.told a steady whole m m.meta.epoch staged.meta c.commit_staged.ensures.table steps c.in_default.field-0 c.in-Err-gear_above.fault staged.serving.copies_synced could why;
       halts = tt;
       out = λ not. absurd (not whole);
+      slots = c.commit_staged.ensures.slots;
       no_fall = c.commit_staged.ensures.no_fall;
       two = tt;
       told = extends_core g.R.Rack.told a m _ (steps [] 0 [] 0 0);

@@ -35,7 +35,7 @@ returns-in_err-copied g c = record {
   table = none_done _ c.from_residual.result _ c.from_residual.ensures.1;
   comes = none_done_if _ c.from_residual.result _ c.from_residual.ensures.1;
   loses = handed _ c.from_residual.result _ c.from_residual.ensures.1 (finishing c.in_err-copied.ensures.loses);
-  calls = calls_told g.R.Rack.slot g.R.Rack.told c.args.core.now c.finish.new.core _ c.finish.ensures.spared.no_fall (c.finish.ensures.moments [] 0);
+  calls = calls_told g.R.Rack.slot_count g.R.Rack.slot g.R.Rack.told c.args.core.now c.finish.new.core _ c.finish.ensures.slots c.finish.ensures.spared.no_fall (c.finish.ensures.moments [] 0);
   two = handed _ c.from_residual.result _ c.from_residual.ensures.1 c.in_err-copied.ensures.two;
 }
 
@@ -60,7 +60,7 @@ returns-then-not-copied g c =
       table = done.table;
       comes = lost refl done.event;
       loses = tt;
-      calls = calls_told g.R.Rack.slot g.R.Rack.told a b _ c.finish.ensures.spared.no_fall (c.finish.ensures.moments [] 0);
+      calls = calls_told g.R.Rack.slot_count g.R.Rack.slot g.R.Rack.told a b _ c.finish.ensures.slots c.finish.ensures.spared.no_fall (c.finish.ensures.moments [] 0);
       two = tt;
     }
 
@@ -106,6 +106,6 @@ returns g c =
         parks = parks;
       })) parked.parks;
       loses = if_err _ _ r (λ two none. untold none) parked.alone;
-      calls = calls_then g.R.Rack.slot g.R.Rack.told a b new (calls_told g.R.Rack.slot g.R.Rack.told a b _ c.finish.ensures.spared.no_fall (c.finish.ensures.moments [] 0)) parked.calls;
+      calls = calls_then g.R.Rack.slot_count g.R.Rack.slot g.R.Rack.told a b new (calls_told g.R.Rack.slot_count g.R.Rack.slot g.R.Rack.told a b _ c.finish.ensures.slots c.finish.ensures.spared.no_fall (c.finish.ensures.moments [] 0)) parked.calls;
       two = if_err _ _ r (λ two it. two_array g.R.Rack.slot_count g.R.Rack.slot a b new leaves parked.calls.no_fall two it) parked.two;
     }

@@ -80,7 +80,7 @@ returns-in_err-commit_lost g c =
           part_halts g.R.Rack.slot_count g.R.Rack.told a k setup p samples served energy at fit counts new c.args.disk rebuilt fresh 3 _ (omega arith)
           (lost_then (g.R.Rack.told (store_rack a.store)) (g.R.Rack.told (store_rack b.store)) (g.R.Rack.told (store_rack new.store)) (service_of g.R.Rack.slot_count a samples served energy) (service_of g.R.Rack.slot_count b samples served energy)
           p.history p.low 2 1 _ (c.in_ok-back.ensures.event (ap Ok c.if-back.false) samples served energy p.history p.low) (c.in_err-commit_lost.ensures.loses samples served energy p.history p.low)));
-      calls = calls_then g.R.Rack.slot g.R.Rack.told a b new c.rejoin_disk.ensures.calls (calls_told g.R.Rack.slot g.R.Rack.told b new _ c.commit_lost.ensures.spared.no_fall (c.commit_lost.ensures.moments [] 0));
+      calls = calls_then g.R.Rack.slot_count g.R.Rack.slot g.R.Rack.told a b new c.rejoin_disk.ensures.calls (calls_told g.R.Rack.slot_count g.R.Rack.slot g.R.Rack.told b new _ c.commit_lost.ensures.slots c.commit_lost.ensures.spared.no_fall (c.commit_lost.ensures.moments [] 0));
       two = handed _ c.from_residual-in_err-commit_lost.result _ c.from_residual-in_err-commit_lost.ensures.1 (two_array g.R.Rack.slot_count g.R.Rack.slot a b new c.in_ok-back.ensures.serves.leaves c.commit_lost.ensures.spared.no_fall _ c.in_err-commit_lost.ensures.two);
     }
 
@@ -112,6 +112,6 @@ returns g c =
           (steps_then (g.R.Rack.told (store_rack a.store)) (g.R.Rack.told (store_rack b.store)) (g.R.Rack.told (store_rack new.store)) (service_of g.R.Rack.slot_count a samples served energy) (service_of g.R.Rack.slot_count b samples served energy)
           (service_of g.R.Rack.slot_count new samples served energy) p.history p.low 2 1 (lost.event is samples served energy p.history p.low) (done.event samples served energy p.history p.low));
       halts = tt;
-      calls = calls_then g.R.Rack.slot g.R.Rack.told a b new c.rejoin_disk.ensures.calls (calls_told g.R.Rack.slot g.R.Rack.told b new _ c.commit_lost.ensures.spared.no_fall (c.commit_lost.ensures.moments [] 0));
+      calls = calls_then g.R.Rack.slot_count g.R.Rack.slot g.R.Rack.told a b new c.rejoin_disk.ensures.calls (calls_told g.R.Rack.slot_count g.R.Rack.slot g.R.Rack.told b new _ c.commit_lost.ensures.slots c.commit_lost.ensures.spared.no_fall (c.commit_lost.ensures.moments [] 0));
       two = tt;
     }

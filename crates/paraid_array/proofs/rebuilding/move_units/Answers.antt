@@ -34,7 +34,7 @@ returns g c =
           let serving = of_done _ r true done.serving is in
           record {
             serving = serving;
-            leaves = leaves_out g.R.Rack.slot_count g.R.Rack.slot a b d c.requires.serving.ready serving.ready (ap named_out c.requires.fresh) (ap (λ (m : Meta). named_out m.out) meta) (of_done _ r true done.slots is)
+            leaves = leaves_out g.R.Rack.slot_count g.R.Rack.slot a b d c.requires.serving.ready serving.ready (ap named_out c.requires.fresh) (ap (λ (m : Meta). named_out m.out) meta) done.slots
                 (ap (λ (m : Meta). m.setup) meta) (ap (λ (m : Meta). m.writes) meta) done.spared;
             known = known_fresh g.R.Rack.slot b d (ap (λ (m : Meta). named_out m.out) meta) (of_done _ r true done.named is) (done.spins is);
           })
@@ -43,7 +43,7 @@ returns g c =
           let serving = of_done _ r false done.serving is in
           record {
             serving = serving;
-            leaves = leaves_out g.R.Rack.slot_count g.R.Rack.slot a b d c.requires.serving.ready serving.ready (ap named_out c.requires.fresh) (ap (λ (m : Meta). named_out m.out) meta) (of_done _ r false done.slots is)
+            leaves = leaves_out g.R.Rack.slot_count g.R.Rack.slot a b d c.requires.serving.ready serving.ready (ap named_out c.requires.fresh) (ap (λ (m : Meta). named_out m.out) meta) done.slots
                 (ap (λ (m : Meta). m.setup) meta) (ap (λ (m : Meta). m.writes) meta) done.spared;
             known = known_gone g.R.Rack.slot b d (ap (λ (m : Meta). m.out) meta) (of_done _ r false done.absent is);
           });
@@ -54,13 +54,13 @@ returns g c =
       turn =
           either_if _ r
           (λ is rebuilt windows fresh less all k setup p samples served energy held at fit counts.
-          rebuild_moved g.R.Rack.slot_count g.R.Rack.told a k setup p samples served energy at fit counts b d rebuilt fresh (of_done _ r true done.slots is) (of_done _ r true done.table is) (of_done _ r true done.serving is).copies_synced c.args.end 3 all less
+          rebuild_moved g.R.Rack.slot_count g.R.Rack.told a k setup p samples served energy at fit counts b d rebuilt fresh done.slots (of_done _ r true done.table is) (of_done _ r true done.serving is).copies_synced c.args.end 3 all less
           (done.moved is) (omega arith) (of_done _ r true done.event is samples served energy p.history p.low))
           (λ is rebuilt windows fresh less all k setup p samples served energy held at fit counts.
-          rebuild_gone g.R.Rack.slot_count g.R.Rack.told a k setup p samples served energy at fit counts b d rebuilt fresh (of_done _ r false done.slots is) (of_done _ r false done.table is) (of_done _ r false done.serving is).copies_synced
+          rebuild_gone g.R.Rack.slot_count g.R.Rack.told a k setup p samples served energy at fit counts b d rebuilt fresh done.slots (of_done _ r false done.table is) (of_done _ r false done.serving is).copies_synced
           (g.R.Rack.slot (store_rack b.store)) 3 (g.met.R.Rack.agrees (store_rack b.store)) (done.away is) (done.gone is) (omega arith) (of_done _ r false done.event is samples served energy p.history p.low));
       halts = if_err _ _ r (λ two loses rebuilt windows fresh k setup p samples served energy held at fit counts.
           part_halts g.R.Rack.slot_count g.R.Rack.told a k setup p samples served energy at fit counts b d rebuilt fresh 3 two (omega arith) (loses samples served energy p.history p.low)) done.loses;
-      calls = calls_told g.R.Rack.slot g.R.Rack.told a b _ done.spared.no_fall (done.moments [] 0);
+      calls = calls_told g.R.Rack.slot_count g.R.Rack.slot g.R.Rack.told a b _ done.slots done.spared.no_fall (done.moments [] 0);
       two = done.two;
     }

@@ -23,7 +23,7 @@ returns-then-disk-meta g c = record {
   table = refl;
   parks = λ samples served energy h lo. stays (inl (subst (λ (m : Meta). c.args.disk < m.gear) c.meta.ensures c.if-disk-meta.true)) refl refl;
   alone = tt;
-  calls = calls_none g.R.Rack.slot g.R.Rack.told c.args.core.now;
+  calls = calls_none g.R.Rack.slot_count g.R.Rack.slot g.R.Rack.told c.args.core.now;
   two = tt;
 }
 
@@ -39,7 +39,7 @@ returns-then-disk-rising_to g c = record {
       let under : c.args.disk < rising_to c.args.core.now.meta.phase = omega (arith, rises) in
       stays (inr under) refl refl;
   alone = tt;
-  calls = calls_none g.R.Rack.slot g.R.Rack.told c.args.core.now;
+  calls = calls_none g.R.Rack.slot_count g.R.Rack.slot g.R.Rack.told c.args.core.now;
   two = tt;
 }
 
@@ -98,6 +98,6 @@ returns g c =
           (core_fails g.R.Rack.slot_count g.R.Rack.told a b c.requires.nothing done.batch d done.calls (g.R.Rack.slot (store_rack b.store)) (g.met.R.Rack.agrees (store_rack b.store))
           (ap is_present (done.failed is).absent) (done.lost is) samples served energy h lo));
       alone = if_err _ _ r (λ two tells. park_alone (g.R.Rack.told (store_rack a.store)) (g.R.Rack.told (store_rack b.store)) d (named_out a.meta.out) two (ap named_out c.requires.whole) done.calls tells) done.tells;
-      calls = calls_told g.R.Rack.slot g.R.Rack.told a b _ done.turned.no_fall done.calls;
+      calls = calls_told g.R.Rack.slot_count g.R.Rack.slot g.R.Rack.told a b _ done.slots done.turned.no_fall done.calls;
       two = done.two;
     }

@@ -41,7 +41,7 @@ returns-in_err-there g c = record {
       handed _ c.from_residual.result _ c.from_residual.ensures.1
       (λ rebuilt windows fresh k setup p samples served energy held at fit counts.
       part_halts g.R.Rack.slot_count g.R.Rack.told a k setup p samples served energy at fit counts c.commit_staged.new.core c.args.disk rebuilt fresh 1 _ (omega arith) (c.in_err-there.ensures.loses samples served energy p.history p.low));
-  calls = calls_told g.R.Rack.slot g.R.Rack.told c.args.core.now c.commit_staged.new.core _ c.commit_staged.ensures.spared.no_fall (c.commit_staged.ensures.moments [] 0);
+  calls = calls_told g.R.Rack.slot_count g.R.Rack.slot g.R.Rack.told c.args.core.now c.commit_staged.new.core _ c.commit_staged.ensures.slots c.commit_staged.ensures.spared.no_fall (c.commit_staged.ensures.moments [] 0);
   two = handed _ c.from_residual.result _ c.from_residual.ensures.1 c.in_err-there.ensures.two;
 }
 
@@ -69,7 +69,7 @@ returns-then-not-there g c =
           steps_within (g.R.Rack.told (store_rack a.store)) (g.R.Rack.told (store_rack b.store)) (service_of g.R.Rack.slot_count a samples served energy) (service_of g.R.Rack.slot_count b samples served energy) h lo 1 2 (omega arith)
           (done.event samples served energy h lo);
       halts = tt;
-      calls = calls_told g.R.Rack.slot g.R.Rack.told a b _ c.commit_staged.ensures.spared.no_fall (c.commit_staged.ensures.moments [] 0);
+      calls = calls_told g.R.Rack.slot_count g.R.Rack.slot g.R.Rack.told a b _ c.commit_staged.ensures.slots c.commit_staged.ensures.spared.no_fall (c.commit_staged.ensures.moments [] 0);
       two = tt;
     }
 
@@ -119,6 +119,6 @@ returns g c =
           (done.event samples served energy h lo) false refl (of_ok _ r false ended.comes is);
       halts = if_err _ _ r (λ two loses rebuilt windows fresh k setup p samples served energy held at fit counts.
           ended_halts g.R.Rack.slot_count g.R.Rack.told a k setup p samples served energy at fit counts m b d rebuilt fresh meta (done.event samples served energy p.history p.low) two loses) ended.loses;
-      calls = calls_then g.R.Rack.slot g.R.Rack.told a m b (calls_told g.R.Rack.slot g.R.Rack.told a m _ c.commit_staged.ensures.spared.no_fall (c.commit_staged.ensures.moments [] 0)) ended.calls;
+      calls = calls_then g.R.Rack.slot_count g.R.Rack.slot g.R.Rack.told a m b (calls_told g.R.Rack.slot_count g.R.Rack.slot g.R.Rack.told a m _ c.commit_staged.ensures.slots c.commit_staged.ensures.spared.no_fall (c.commit_staged.ensures.moments [] 0)) ended.calls;
       two = if_err _ _ r (λ two it. two_array g.R.Rack.slot_count g.R.Rack.slot a m b leaves ended.calls.no_fall two it) ended.two;
     }

@@ -45,7 +45,7 @@ returns-in_err-there g c = record {
   halts = handed _ c.from_residual.result _ c.from_residual.ensures.1 (replaced_halts g.R.Rack.slot_count g.R.Rack.told c.args.core.now c.begin.new.core c.args.disk c.requires.disk c.requires.out _ c.in_err-there.ensures.loses);
   later = c.begin.ensures.later;
   two = handed _ c.from_residual.result _ c.from_residual.ensures.1 c.in_err-there.ensures.two;
-  slots = none_done _ c.from_residual.result _ c.from_residual.ensures.1;
+  slots = c.begin.ensures.slots;
   told = extends_core g.R.Rack.told c.args.core.now c.begin.new.core _ (c.begin.ensures.moments [] 0);
 }
 
@@ -69,7 +69,7 @@ returns-then-there g c =
       halts = tt;
       later = c.begin.ensures.later;
       two = tt;
-      slots = done.leaves.slots;
+      slots = c.begin.ensures.slots;
       told = extends_core g.R.Rack.told a b _ (c.begin.ensures.moments [] 0);
     }
 
@@ -94,6 +94,6 @@ returns g c =
       halts = tt;
       later = c.begin.ensures.later;
       two = tt;
-      slots = done.leaves.slots;
+      slots = c.begin.ensures.slots;
       told = extends_core g.R.Rack.told a b _ (c.begin.ensures.moments [] 0);
     }

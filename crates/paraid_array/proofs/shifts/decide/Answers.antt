@@ -48,7 +48,7 @@ returns-in-Stay g c =
           stays_told g.R.Rack.slot_count g.R.Rack.told a k setup p samples served energy at fit counts c.requires.whole c.requires.steady
           (c.in-Stay.ensures samples held ∙ ap (λ (z : Meta). decision z.setup z.gear samples) c.meta.ensures);
       halts = tt;
-      calls = calls_none g.R.Rack.slot g.R.Rack.told a;
+      calls = calls_none g.R.Rack.slot_count g.R.Rack.slot g.R.Rack.told a;
       two = tt;
     }
 
@@ -88,7 +88,7 @@ returns-in_err-begin_up-in-Ok g c =
           up_halts g.R.Rack.slot_count g.R.Rack.told a k setup p samples served energy at fit counts c.requires.whole c.requires.steady c.begin_up.new.core c.in-Ok.to c.in-Up.to
           (c.in-Up.ensures samples held ∙ ap (λ (z : Meta). decision z.setup z.gear samples) c.meta.ensures)
           (subst (λ (z : Meta). MayGoUp z.setup s c.in-Ok.to) c.meta.ensures (c.in-Ok.ensures.may s shown)) _ c.in_err-begin_up-in-Ok.ensures.loses);
-      calls = calls_told g.R.Rack.slot g.R.Rack.told a c.begin_up.new.core _ c.begin_up.ensures.no_fall (c.begin_up.ensures.moments [] 0);
+      calls = calls_told g.R.Rack.slot_count g.R.Rack.slot g.R.Rack.told a c.begin_up.new.core _ c.begin_up.ensures.slots c.begin_up.ensures.no_fall (c.begin_up.ensures.moments [] 0);
       two = handed _ c.from_residual.result _ c.from_residual.ensures.1 c.in_err-begin_up-in-Ok.ensures.two;
     }
 
@@ -114,7 +114,7 @@ returns-in_ok-begin_up-in-Ok g c =
           (subst (λ (z : Meta). MayGoUp z.setup s c.in-Ok.to) c.meta.ensures (c.in-Ok.ensures.may s shown))
           begun.meta c.requires.serving.ready.in_range begun.serving.ready.in_range begun.serving.copies_synced c.begin_up.ensures.table begun.steps;
       halts = tt;
-      calls = calls_told g.R.Rack.slot g.R.Rack.told a c.begin_up.new.core _ c.begin_up.ensures.no_fall (c.begin_up.ensures.moments [] 0);
+      calls = calls_told g.R.Rack.slot_count g.R.Rack.slot g.R.Rack.told a c.begin_up.new.core _ c.begin_up.ensures.slots c.begin_up.ensures.no_fall (c.begin_up.ensures.moments [] 0);
       two = tt;
     }
 
@@ -137,7 +137,7 @@ returns-in-Err g c =
           absurd (up_free m.setup s (decision m.setup s.gear samples) c.in-Up.to samples c.in-Err.field-0 refl
           (ap (λ (z : ℕ). decision m.setup z samples) is.gear ∙ sym (c.in-Up.ensures samples held)) (ease_of a.meta s shown c.requires.steady c.requires.whole) (c.in-Err.ensures.refused s is));
       halts = tt;
-      calls = calls_none g.R.Rack.slot g.R.Rack.told a;
+      calls = calls_none g.R.Rack.slot_count g.R.Rack.slot g.R.Rack.told a;
       two = tt;
     }
 
@@ -158,7 +158,7 @@ returns-in_err-begin_down-in-Ok-gear_below g c =
           down_halts g.R.Rack.slot_count g.R.Rack.told a k setup p samples served energy at fit counts c.requires.whole c.requires.steady c.begin_down.new.core c.in-Ok-gear_below.to c.in-Down.to
           (c.in-Down.ensures samples held ∙ ap (λ (z : Meta). decision z.setup z.gear samples) c.meta.ensures)
           (subst (λ (z : Meta). MayGoDown z.setup s c.in-Ok-gear_below.to) c.meta.ensures (c.in-Ok-gear_below.ensures.may s shown)) _ c.in_err-begin_down-in-Ok-gear_below.ensures.loses);
-      calls = calls_told g.R.Rack.slot g.R.Rack.told a c.begin_down.new.core _ c.begin_down.ensures.spared.no_fall (c.begin_down.ensures.moments [] 0);
+      calls = calls_told g.R.Rack.slot_count g.R.Rack.slot g.R.Rack.told a c.begin_down.new.core _ c.begin_down.ensures.slots c.begin_down.ensures.spared.no_fall (c.begin_down.ensures.moments [] 0);
       two = handed _ c.from_residual-in_err-begin_down-in-Ok-gear_below.result _ c.from_residual-in_err-begin_down-in-Ok-gear_below.ensures.1 c.in_err-begin_down-in-Ok-gear_below.ensures.two;
     }
 
@@ -184,7 +184,7 @@ returns-in_ok-begin_down-in-Ok-gear_below g c =
           (subst (λ (z : Meta). MayGoDown z.setup s c.in-Ok-gear_below.to) c.meta.ensures (c.in-Ok-gear_below.ensures.may s shown))
           (subst (λ (z : Meta). c.in-Ok-gear_below.to < z.gear) c.meta.ensures c.in-Ok-gear_below.ensures.next.below) begun.meta begun.serving.copies_synced c.begin_down.ensures.table begun.steps;
       halts = tt;
-      calls = calls_told g.R.Rack.slot g.R.Rack.told a c.begin_down.new.core _ c.begin_down.ensures.spared.no_fall (c.begin_down.ensures.moments [] 0);
+      calls = calls_told g.R.Rack.slot_count g.R.Rack.slot g.R.Rack.told a c.begin_down.new.core _ c.begin_down.ensures.slots c.begin_down.ensures.spared.no_fall (c.begin_down.ensures.moments [] 0);
       two = tt;
     }
 
@@ -210,6 +210,6 @@ returns-in-Err-gear_below g c =
           (c.in-Down.ensures samples held ∙ ap (λ (z : Meta). decision z.setup z.gear samples) c.meta.ensures)
           (subst (λ (z : Meta). IsDownRefused z.setup s c.in-Err-gear_below.fault) c.meta.ensures (c.in-Err-gear_below.ensures.refused s shown)) c.event_of.ensures.worn;
       halts = tt;
-      calls = calls_none g.R.Rack.slot g.R.Rack.told a;
+      calls = calls_none g.R.Rack.slot_count g.R.Rack.slot g.R.Rack.told a;
       two = tt;
     }

@@ -58,7 +58,7 @@ returns-in_err-moved g c =
           (λ windows k setup p samples served energy held at fit counts.
           step_halts g.R.Rack.slot_count g.R.Rack.told a k setup p samples served energy at fit counts c.requires.whole c.requires.shifts c.requires.serving.ready.in_range c.units_of_tick-units.result c.units_of_tick-units.ensures.units
           c.step.new.core _ loses);
-      calls = calls_told g.R.Rack.slot g.R.Rack.told a c.step.new.core _ c.step.ensures.no_fall (loses [] 0 [] 0 0);
+      calls = calls_told g.R.Rack.slot_count g.R.Rack.slot g.R.Rack.told a c.step.new.core _ c.step.ensures.slots c.step.ensures.no_fall (loses [] 0 [] 0 0);
       two = handed _ c.from_residual.result _ c.from_residual.ensures.1 c.in_err-moved.ensures.two;
     }
 
@@ -81,7 +81,7 @@ returns-in-Some g c =
           lost_told g.R.Rack.slot_count g.R.Rack.told a k setup p samples served energy at fit counts c.requires.whole c.requires.shifts c.requires.serving.ready.in_range c.units_of_tick-units.result c.units_of_tick-units.ensures.units
           b c.in_ok-moved.moved.units (moved.moves c.requires.whole) moved.serving.copies_synced steps c.in-Some.disk moved.few named;
       halts = tt;
-      calls = record { no_fall = c.step.ensures.no_fall; grows = extends_steps g.R.Rack.told g.R.Rack.slot_count a b _ steps };
+      calls = record { slots = c.step.ensures.slots; no_fall = c.step.ensures.no_fall; grows = extends_steps g.R.Rack.told g.R.Rack.slot_count a b _ steps };
       two = tt;
     }
 
@@ -101,7 +101,7 @@ returns-then-not-is_done g c =
           b c.in_ok-moved.moved.units (moved.moves c.requires.whole) moved.serving.copies_synced steps whole moved.leaves.setup
           (subst (TellsDone (service_of g.R.Rack.slot_count b samples served energy)) c.if-not-is_done.true (c.is_done.ensures.units samples served energy));
       halts = tt;
-      calls = record { no_fall = c.step.ensures.no_fall; grows = extends_steps g.R.Rack.told g.R.Rack.slot_count a b _ steps };
+      calls = record { slots = c.step.ensures.slots; no_fall = c.step.ensures.no_fall; grows = extends_steps g.R.Rack.told g.R.Rack.slot_count a b _ steps };
       two = tt;
     }
 
@@ -125,8 +125,8 @@ returns-in_err-flip g c =
           b c.in_ok-moved.moved.units (moved.moves c.requires.whole) moved.serving.copies_synced steps whole moved.leaves.setup
           new moved.few (c.is_done.ensures.done c.if-not-is_done.false) _ c.in_err-flip.ensures.loses);
       calls =
-          calls_then g.R.Rack.slot g.R.Rack.told a b new (record { no_fall = c.step.ensures.no_fall; grows = extends_steps g.R.Rack.told g.R.Rack.slot_count a b _ steps })
-          (calls_told g.R.Rack.slot g.R.Rack.told b new _ c.flip.ensures.no_fall (c.flip.ensures.moments [] 0));
+          calls_then g.R.Rack.slot_count g.R.Rack.slot g.R.Rack.told a b new (record { slots = c.step.ensures.slots; no_fall = c.step.ensures.no_fall; grows = extends_steps g.R.Rack.told g.R.Rack.slot_count a b _ steps })
+          (calls_told g.R.Rack.slot_count g.R.Rack.slot g.R.Rack.told b new _ c.flip.ensures.slots c.flip.ensures.no_fall (c.flip.ensures.moments [] 0));
       two = handed _ c.from_residual-in_err-flip.result _ c.from_residual-in_err-flip.ensures.1 (two_array g.R.Rack.slot_count g.R.Rack.slot a b new moved.leaves c.flip.ensures.no_fall _ c.in_err-flip.ensures.two);
     }
 
@@ -156,7 +156,7 @@ returns g c =
           new moved.few (c.is_done.ensures.done c.if-not-is_done.false) ended.steps ended.meta ended.serving.copies_synced c.flip.ensures.table;
       halts = tt;
       calls =
-          calls_then g.R.Rack.slot g.R.Rack.told a b new (record { no_fall = c.step.ensures.no_fall; grows = extends_steps g.R.Rack.told g.R.Rack.slot_count a b _ steps })
-          (calls_told g.R.Rack.slot g.R.Rack.told b new _ c.flip.ensures.no_fall (c.flip.ensures.moments [] 0));
+          calls_then g.R.Rack.slot_count g.R.Rack.slot g.R.Rack.told a b new (record { slots = c.step.ensures.slots; no_fall = c.step.ensures.no_fall; grows = extends_steps g.R.Rack.told g.R.Rack.slot_count a b _ steps })
+          (calls_told g.R.Rack.slot_count g.R.Rack.slot g.R.Rack.told b new _ c.flip.ensures.slots c.flip.ensures.no_fall (c.flip.ensures.moments [] 0));
       two = tt;
     }

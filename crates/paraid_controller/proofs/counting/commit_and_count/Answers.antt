@@ -32,7 +32,7 @@ pub returns-in_err-commit : goal.returns-in_err-commit
 returns-in_err-commit g c = record {
   copied = c.commit.ensures.copied;
   draft = none_done _ c.from_residual.result _ c.from_residual.ensures.1;
-  slots = none_done _ c.from_residual.result _ c.from_residual.ensures.1;
+  slots = c.commit.ensures.slots;
   table = none_done _ c.from_residual.result _ c.from_residual.ensures.1;
   nothing = none_done _ c.from_residual.result _ c.from_residual.ensures.1;
   ready = none_done _ c.from_residual.result _ c.from_residual.ensures.1;
@@ -101,7 +101,7 @@ pub returns-in_err-checked : goal.returns-in_err-checked
 returns-in_err-checked g c = record {
   copied = c.check.ensures.copied ∙ c.commit.ensures.copied;
   draft = none_done _ c.from_residual-in_err-checked.result _ c.from_residual-in_err-checked.ensures.1;
-  slots = none_done _ c.from_residual-in_err-checked.result _ c.from_residual-in_err-checked.ensures.1;
+  slots = c.check.ensures.slots ∙ c.commit.ensures.slots;
   table = none_done _ c.from_residual-in_err-checked.result _ c.from_residual-in_err-checked.ensures.1;
   nothing = none_done _ c.from_residual-in_err-checked.result _ c.from_residual-in_err-checked.ensures.1;
   ready = none_done _ c.from_residual-in_err-checked.result _ c.from_residual-in_err-checked.ensures.1;
@@ -152,7 +152,7 @@ pub returns : goal.returns
 returns g c = record {
   copied = c.check.ensures.copied ∙ c.commit.ensures.copied;
   draft = c.in_ok-checked.ensures.draft ∙ c.commit.ensures.draft ∙ c.requires.no_draft;
-  slots = c.in_ok-checked.ensures.slots ∙ c.commit.ensures.slots;
+  slots = c.check.ensures.slots ∙ c.commit.ensures.slots;
   table = c.in_ok-checked.ensures.table ∙ c.commit.ensures.table;
   nothing = c.in_ok-checked.ensures.batch ∙ c.in_ok-commit.ensures.nothing;
   ready = c.in_ok-checked.ensures.ready;

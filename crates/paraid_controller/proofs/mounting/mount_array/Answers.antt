@@ -24,6 +24,7 @@ returns-in-Ok g c = record {
   slots = c.new.ensures.slots ∙ c.slots-slots.ensures;
   later = λ d.
       subst (λ (k : _). (g.R.Rack.slot c.args.rack d).faults ≤ (g.R.Rack.slot (core_rack k) d).faults) (sym c.new.ensures.core) (c.in-Ok.ensures.later d);
+  refused_slots = tt;
   refused_later = tt;
   nothing = ap (λ (k : _). k.batch) c.new.ensures.core ∙ c.in-Ok.ensures.nothing;
   energy = c.new.ensures.energy;
@@ -47,6 +48,7 @@ returns-in-Err g c = record {
   going = tt;
   slots = tt;
   later = tt;
+  refused_slots = c.in-Err.ensures.refused_slots;
   refused_later = c.in-Err.ensures.refused_later;
   nothing = tt;
   setup = tt;

@@ -1,4 +1,4 @@
-use Rattle.std.proofs.Common.{rules}
+use Rattle.std.proofs.Common.{refl, rules, ◌∙◌}
 use Rattle.paraid_base.proofs.ToldLemmas.{GrowsByBytes-then}
 use Rattle.paraid_serve.proofs.GrowsLemmas.{grows_none, grows_then, told_then}
 use Rattle.paraid_serve.proofs.HaltLemmas.{names_two, no_event_yet, tells_wear}
@@ -10,6 +10,7 @@ returns-in_default-write_all g c = record {
   run = no_summary_run _ _ _ _ _ _ _ _ c.writes.result c.gear.result _ _ (c.writes.ensures.point c.requires.going) c.gear.ensures.point _ _ c.answer_lines-tally.ensures.counted c.gear-2.result c.energy.result c.gear-2.ensures.point c.energy.ensures
       (rw (c.as_slice.ensures.value, c.mount_text.ensures) at c.in-Ok.ensures.grows)
       (rw (c.as_slice-2.ensures.value, c.summary_text.ensures) at c.in_default-write_all.ensures.part);
+  slots = c.answer_lines-tally.ensures.slots;
   told = search rules;
   status = search rules;
   present = search rules;
@@ -21,6 +22,7 @@ returns-in_default-write_all g c = record {
 pub returns-in_default : goal.returns-in_default
 returns-in_default g c = record {
   run = no_line_run _ _ _ _ _ _ c.writes.result c.gear.result _ _ (c.writes.ensures.point c.requires.going) c.gear.ensures.point (rw (c.as_slice.ensures.value, c.mount_text.ensures) at c.in_default.ensures.part);
+  slots = refl;
   told = grows_none _;
   status = search rules;
   present = search rules;
@@ -39,6 +41,7 @@ returns-in-Ok-finish g c = record {
       (rw (c.as_slice-2.ensures.value, c.summary_text.ensures) at c.in-Ok-write_all.ensures.grows)
       _ _ _ _ _ a.slots a.setup (told_then _ _ f.told) _ c.in-Ok-finish.writes f.turn
       (rw (c.as_slice-in-Ok-finish.ensures.value, c.end_text.ensures) at c.last.ensures.ends);
+  slots = c.in-Ok-finish.ensures.slots ∙ c.answer_lines-tally.ensures.slots;
   told = grows_then _ _ _ c.answer_lines-tally.ensures.told c.in-Ok-finish.ensures.told;
   status = search rules;
   present = search rules;
@@ -57,6 +60,7 @@ returns-in-Err g c = record {
       (rw (c.as_slice-2.ensures.value, c.summary_text.ensures) at c.in-Ok-write_all.ensures.grows)
       _ _ _ _ _ a.slots a.setup (told_then _ _ f.told) _ c.in-Err.halt f.turn
       (rw (c.as_slice-in-Err.ensures.value, c.reply.ensures.value, c.halt_status.ensures) at c.last-in-Err.ensures.ends);
+  slots = c.in-Err.ensures.slots ∙ c.answer_lines-tally.ensures.slots;
   told = grows_then _ _ _ c.answer_lines-tally.ensures.told c.in-Err.ensures.told;
   status = search rules;
   present = search rules;

@@ -6,6 +6,7 @@ pub returns : goal.returns
 returns g c = record {
   headline = λ began mounted. gen_headline _ _ _ _ _ _ _ _ _ _ _ mounted c.serve_generated.ensures.run;
   told = search rules;
+  slots = c.serve_generated.ensures.slots;
   status = search rules;
   present = search rules;
   two = search rules;

@@ -1,4 +1,4 @@
-use Rattle.std.proofs.Common.{rules}
+use Rattle.std.proofs.Common.{rules, ◌∙◌}
 use Rattle.paraid_program.specs.Ends.MountsAndThen.{mounted, refused}
 use Rattle.paraid_program.proofs.CheckLemmas.{check_is_refused, check_status_of, checks_over}
 use Rattle.paraid_program.proofs.EndLemmas.{began_at_end, begins_at_end, end_moment, end_over}
@@ -7,6 +7,7 @@ use Rattle.paraid_program.proofs.mounted.check.Goals as goal
 pub returns-in-Err : goal.returns-in-Err
 returns-in-Err g c = record {
   run = refused c.in-Err.field-0.fault c.in-Err.ensures.refused c.tell_refusal.ensures.tells tt;
+  slots = c.in-Err.ensures.refused_slots;
   status = check_is_refused c.in-Err.field-0.fault _ _ _ _ c.tell_refusal.ensures.tells;
   sink = search rules;
 }
@@ -21,6 +22,7 @@ returns-in-Ok g c = record {
       (checks_over _ _ _ _ _ _ _ _ _ _ _ _ _ _ e.slots e.setup c.unmount.ensures.told c.unmount.ensures.slot
       (end_over (g.A.Serves.setup c.in-Ok.array) (g.R.Rack.slot c.args.rack) (g.A.Serves.slot c.in-Ok.array) _ _ _ _ _ c.unmount.ensures.slot e.later done.present done.two done.worn)
       done.found (done.counts (end_moment before) (e.mounted (end_moment before) (began_at_end before))));
+  slots = c.unmount.ensures.slots ∙ c.tell_counts-status.ensures.slots ∙ c.in-Ok.ensures.slots;
   status = check_status_of _ c.tell_counts-status.ensures.status;
   sink = search rules;
 }

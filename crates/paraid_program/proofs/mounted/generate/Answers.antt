@@ -1,4 +1,4 @@
-use Rattle.std.proofs.Common.{rules}
+use Rattle.std.proofs.Common.{rules, ◌∙◌}
 use Rattle.paraid_program.specs.Ends.MountsAndThen.{mounted, refused}
 use Rattle.paraid_program.proofs.EndLemmas.{began_at_end, begins_at_end, end_moment, end_over, generated_over, generate_is_refused, generate_status}
 use Rattle.paraid_program.proofs.mounted.generate.Goals as goal
@@ -6,6 +6,7 @@ use Rattle.paraid_program.proofs.mounted.generate.Goals as goal
 pub returns-in-Err : goal.returns-in-Err
 returns-in-Err g c = record {
   run = refused c.in-Err.field-0.fault c.in-Err.ensures.refused c.tell_refusal.ensures.tells tt;
+  slots = c.in-Err.ensures.refused_slots;
   status = generate_is_refused c.in-Err.field-0.fault _ _ _ _ c.tell_refusal.ensures.tells;
   sink = search rules;
 }
@@ -20,6 +21,7 @@ returns-in-Ok g c = record {
       (generated_over _ _ _ _ _ _ _ _ _ _ _ _ _ e.slots e.setup c.unmount.ensures.told
       (end_over (g.A.Serves.setup c.in-Ok.array) (g.R.Rack.slot c.args.rack) (g.A.Serves.slot c.in-Ok.array) _ _ _ _ _ c.unmount.ensures.slot e.later done.present done.two done.worn)
       _ _ (done.headline (end_moment before) (e.mounted (end_moment before) (began_at_end before))));
+  slots = c.unmount.ensures.slots ∙ c.serve_generated_mounted-status.ensures.slots ∙ c.in-Ok.ensures.slots;
   status = generate_status _ c.serve_generated_mounted-status.ensures.status;
   sink = search rules;
 }

@@ -1,3 +1,4 @@
+use Rattle.std.proofs.Common.{◌∙◌}
 use Rattle.paraid_base.proofs.ToldLemmas.{Gives-none, GrowsByBytes-none}
 use Rattle.paraid_program.specs.Clients.ServesNbdOrNot.{mounted, refused}
 use Rattle.paraid_program.proofs.EndLemmas.{began_at_end, begins_at_end, end_moment}
@@ -17,3 +18,6 @@ returns-in-Ok-clause-nbd g c =
     mounted (g.O.Outside.served array) began (g.A.Serves.told array) e.served (begins_at_end before (g.A.Serves.told array) _ _ e.grows c.unmount.ensures.told done.told)
     (nbd_over _ _ (g.A.Serves.setup array) _ (g.R.Rack.slot c.args.rack) (g.A.Serves.slot array) _ _ began _ _ _ _ _ _ _ _ _ _ _ _ e.slots e.setup c.unmount.ensures.told c.unmount.ensures.slot e.later done.present done.two
     (done.headline began (e.mounted began (began_at_end before))))
+
+pub returns-in-Ok-clause-slots : goal.returns-in-Ok-clause-slots
+returns-in-Ok-clause-slots g c = c.unmount.ensures.slots ∙ c.serve_client-status.ensures.slots ∙ c.in-Ok.ensures.slots

@@ -6,6 +6,7 @@ use Rattle.paraid_program.proofs.mounted.run.Goals as goal
 pub returns-in-Err : goal.returns-in-Err
 returns-in-Err g c = record {
   run = refused c.in-Err.field-0.fault c.in-Err.ensures.refused c.tell_refusal.ensures.tells (refl, refl);
+  slots = c.in-Err.ensures.refused_slots;
   status = run_is_refused c.in-Err.field-0.fault _ _ _ _ c.tell_refusal.ensures.tells;
   source = search rules;
   sink = search rules;
@@ -21,6 +22,7 @@ returns-in-Ok g c = record {
       (headline_over _ _ _ _ _ _ _ _ _ _ _ _ _ e.slots e.setup c.unmount.ensures.told
       (end_over (g.A.Serves.setup c.in-Ok.array) (g.R.Rack.slot c.args.rack) (g.A.Serves.slot c.in-Ok.array) _ _ _ _ _ c.unmount.ensures.slot e.later done.present done.two done.worn)
       _ _ (g.A.Serves.shown c.in-Ok.array) (g.A.Serves.shown c.serve_mounted-status.new.array) e.shown ((g.met.A.Serves.shows c.serve_mounted-status.new.array).slot ∙ sym c.unmount.ensures.slot) (done.headline (end_moment before) (e.mounted (end_moment before) (began_at_end before))));
+  slots = c.unmount.ensures.slots ∙ c.serve_mounted-status.ensures.slots ∙ c.in-Ok.ensures.slots;
   status = run_status _ c.serve_mounted-status.ensures.status;
   source = search rules;
   sink = search rules;

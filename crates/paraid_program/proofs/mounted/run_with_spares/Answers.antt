@@ -1,4 +1,4 @@
-use Rattle.std.proofs.Common.{rules, refl}
+use Rattle.std.proofs.Common.{rules, refl, ◌∙◌}
 use Rattle.paraid_program.specs.Ends.MountsAndThen.{mounted, refused}
 use Rattle.paraid_program.proofs.EndLemmas.{began_at_end, begins_at_end, end_moment, end_over, spared_over, run_is_refused, run_status}
 use Rattle.paraid_program.proofs.mounted.run_with_spares.Goals as goal
@@ -6,6 +6,7 @@ use Rattle.paraid_program.proofs.mounted.run_with_spares.Goals as goal
 pub returns-in-Err : goal.returns-in-Err
 returns-in-Err g c = record {
   run = refused c.in-Err.field-0.fault c.in-Err.ensures.refused c.tell_refusal.ensures.tells (refl, refl);
+  slots = c.in-Err.ensures.refused_slots;
   status = run_is_refused c.in-Err.field-0.fault _ _ _ _ c.tell_refusal.ensures.tells;
   source = search rules;
   sink = search rules;
@@ -21,6 +22,7 @@ returns-in-Ok g c = record {
       (spared_over _ _ _ _ _ _ _ _ _ _ _ _ _ e.slots e.setup c.unmount.ensures.told
       (end_over (g.A.Serves.setup c.in-Ok.array) (g.R.Rack.slot c.args.rack) (g.A.Serves.slot c.in-Ok.array) _ _ _ _ _ c.unmount.ensures.slot e.later done.present done.two done.worn)
       _ _ c.args.stock c.args.wait (done.headline (end_moment before) (e.mounted (end_moment before) (began_at_end before))));
+  slots = c.unmount.ensures.slots ∙ c.serve_mounted-status.ensures.slots ∙ c.in-Ok.ensures.slots;
   status = run_status _ c.serve_mounted-status.ensures.status;
   source = search rules;
   sink = search rules;

@@ -12,6 +12,7 @@ returns-in-Ok g c = record {
       let done = c.check.ensures in
       tells_counts _ _ _ _ _ _ _ _ _ _ (CountsArray (g.O.Outside.served c.args.array.now) (g.A.Serves.slot c.check.new.array) (g.A.Serves.told c.args.array.now) (g.A.Serves.told c.check.new.array)) (told_then _ _ done.told) mounted c.in-Ok.report (rw (c.as_slice.ensures.value, c.check_text.ensures, c.check_status.ensures) at c.last.ensures.ends) c.in-Ok.ensures.turn c.in-Ok.ensures.sound (c.in-Ok.ensures.counts c.requires.nothing);
   told = search rules;
+  slots = c.check.ensures.slots;
   status = counted_status c.in-Ok.report _ _ _ _ (rw c.check_status.ensures at c.last.ensures.ends);
   present = λ zero. subst (λ (z : Setup). IsNotDouble z (g.A.Serves.slot c.check.new.array)) c.check.ensures.setup (g.met.A.Serves.serves c.check.new.array c.in-Ok.ensures.going);
   found = λ found. subst (λ (z : Setup). IsNotDouble z (g.A.Serves.slot c.check.new.array)) c.check.ensures.setup (g.met.A.Serves.serves c.check.new.array c.in-Ok.ensures.going);
@@ -26,6 +27,7 @@ returns-in-Err g c = record {
       let done = c.check.ensures in
       tells_halt _ _ _ _ _ _ _ _ _ _ (CountsArray (g.O.Outside.served c.args.array.now) (g.A.Serves.slot c.check.new.array) (g.A.Serves.told c.args.array.now) (g.A.Serves.told c.check.new.array)) (told_then _ _ done.told) mounted c.in-Err.halt (rw (c.as_slice-in-Err.ensures.value, c.reply.ensures.value, c.halt_status.ensures) at c.last-in-Err.ensures.ends) c.in-Err.ensures.ended;
   told = search rules;
+  slots = c.check.ensures.slots;
   status = halted_status c.in-Err.halt _ _ _ _ (rw c.halt_status.ensures at c.last-in-Err.ensures.ends);
   present = λ zero. halt_not_whole c.in-Err.halt _ _ _ _ (rw c.halt_status.ensures at c.last-in-Err.ensures.ends) (inl zero);
   found = λ found. halt_not_whole c.in-Err.halt _ _ _ _ (rw c.halt_status.ensures at c.last-in-Err.ensures.ends) (inr found);

@@ -1,4 +1,4 @@
-use Rattle.std.proofs.Common.{◌≡◌, inl, inr, subst, ℕ, length}
+use Rattle.std.proofs.Common.{◌≡◌, ◌∙◌, ap, inl, inr, subst, ℕ, length}
 use Rattle.paraid_dirty.specs.Table.{is_dirty}
 use Rattle.paraid_program.specs.MountFaults.{mount_fault_line, mount_fault_status}
 use Rattle.paraid_program.specs.Showing.ShowOutcome.{refused, shown}
@@ -29,6 +29,7 @@ returns-in-Ok g c = record {
         });
         ends = c.tell_state-status.ensures.tells;
       });
+  slots = ap g.R.Rack.slot_count c.close.ensures ∙ c.in-Ok.ensures.slots;
   status = elim c.tell_state-status.ensures.tells.whole [ inl failed ↦ inr (inl failed) | inr told ↦ inl told.1 ];
   sink = c.tell_state-status.ensures.sink;
 }
@@ -41,6 +42,7 @@ returns g c = record {
     outcome = refused c.in-Err.field-0.fault c.in-Err.ensures.cause (λ began at. c.in-Err.ensures.refused began at);
     ends = c.tell_refusal.ensures.tells;
   };
+  slots = c.in-Err.ensures.refused_slots;
   status = elim c.tell_refusal.ensures.tells.whole [ inl failed ↦ inr (inl failed) | inr told ↦ refused_status c.in-Err.field-0.fault _ told.1 ];
   sink = c.tell_refusal.ensures.sink;
 }

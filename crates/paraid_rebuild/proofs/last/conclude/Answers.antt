@@ -55,7 +55,7 @@ returns-in_err-copied g c =
       serving = none_done _ from.result _ from.ensures.1;
       nothing = none_done _ from.result _ from.ensures.1;
       absent = none_done _ from.result _ from.ensures.1;
-      slots = none_done _ from.result _ from.ensures.1;
+      slots = c.move_units.ensures.slots;
       few = none_done _ from.result _ from.ensures.1;
       back = λ is. none_done_as _ from.result _ _ from.ensures.1 is;
       named = λ is. none_done_as _ from.result _ _ from.ensures.1 is;
@@ -100,7 +100,7 @@ returns-then-not-copied g c =
       serving = c.in_ok-copied.ensures.serving;
       nothing = c.in_ok-copied.ensures.leaves.batch ∙ c.requires.nothing;
       absent = λ x is. inl (c.in_ok-copied.ensures.leaves.same.named ∙ c.requires.named ∙ sym out ∙ is);
-      slots = c.in_ok-copied.ensures.leaves.slots;
+      slots = c.move_units.ensures.slots;
       few = omega arith;
       back = λ is. let z : Ok false ≡ Ok true = is in cc;
       named = λ is. let z : Ok false ≡ Ok true = is in cc;
@@ -153,7 +153,7 @@ returns g c =
       serving = c.come_back.ensures.serving;
       nothing = c.come_back.ensures.nothing;
       absent = c.come_back.ensures.absent;
-      slots = on_all _ (c.come_back.ensures.slots ∙ c.in_ok-copied.ensures.leaves.slots);
+      slots = c.come_back.ensures.slots ∙ c.move_units.ensures.slots;
       few = on_map _ c.come_back.ensures.epoch (λ it. one_later a.meta.epoch b.meta.epoch new.meta.epoch (ap (λ (m : Meta). m.epoch) same) it);
       back = λ is.
           let e = c.come_back.ensures.back is ∙ ap (λ (m : Meta). record m { epoch = m.epoch + 1; out = No }) same in

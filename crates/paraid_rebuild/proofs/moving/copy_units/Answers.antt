@@ -71,6 +71,7 @@ returns-in_err-done g c =
       gone = λ is. none_done_as _ from.result _ _ from.ensures.1 is;
       failed = λ is. none_done_as _ from.result _ _ from.ensures.1 is;
       away = λ is. none_done_as _ from.result _ _ from.ensures.1 is;
+      slots = c.rebuild_unit.ensures.slots ∙ c.loop-number.invariant.leaves.slots;
       spared = spared_then (g.R.Rack.slot (store_rack c.args.core.now.store)) (g.R.Rack.slot (store_rack c.loop-number.core.store)) (g.R.Rack.slot (store_rack c.rebuild_unit.new.self.store)) c.loop-number.invariant.leaves.spared c.rebuild_unit.ensures.spared;
       calls = data_then c.args.core.now.meta c.loop-number.core.meta was.meta (g.R.Rack.told (store_rack c.args.core.now.store)) (g.R.Rack.told (store_rack c.loop-number.core.store)) (g.R.Rack.told (store_rack c.rebuild_unit.new.self.store)) was.calls c.rebuild_unit.ensures.calls;
       two =
@@ -96,6 +97,7 @@ returns-then-not-done g c =
       gone = λ is. c.in_ok-done.ensures.gone (ap Ok c.if-not-done.true) c.args.disk named ∙ ap (λ (m : Meta). meta_after_loss m c.args.disk) was.meta;
       failed = λ is. HasRisen-sooner _ _ _ (was.leaves.spared.no_fall c.args.disk) (c.in_ok-done.ensures.failed (ap Ok c.if-not-done.true) c.args.disk named).risen;
       away = λ is. (c.in_ok-done.ensures.failed (ap Ok c.if-not-done.true) c.args.disk named).absent;
+      slots = c.rebuild_unit.ensures.slots ∙ c.loop-number.invariant.leaves.slots;
       spared = spared_then (g.R.Rack.slot (store_rack c.args.core.now.store)) (g.R.Rack.slot (store_rack c.loop-number.core.store)) (g.R.Rack.slot (store_rack c.rebuild_unit.new.self.store)) c.loop-number.invariant.leaves.spared c.rebuild_unit.ensures.spared;
       calls = data_then c.args.core.now.meta c.loop-number.core.meta was.meta (g.R.Rack.told (store_rack c.args.core.now.store)) (g.R.Rack.told (store_rack c.loop-number.core.store)) (g.R.Rack.told (store_rack c.rebuild_unit.new.self.store)) was.calls c.rebuild_unit.ensures.calls;
       two = tt;
@@ -119,6 +121,7 @@ returns g c =
       gone = λ is. let z : Ok true ≡ Ok false = is in cc;
       failed = λ is. let z : Ok true ≡ Ok false = is in cc;
       away = λ is. let z : Ok true ≡ Ok false = is in cc;
+      slots = was.leaves.slots;
       spared = was.leaves.spared;
       calls = was.calls;
       two = tt;

@@ -95,6 +95,7 @@ returns-in_err-done g c =
       gone = λ is. none_done_as _ from.result _ _ from.ensures.1 is;
       failed = λ is. none_done_as _ from.result _ _ from.ensures.1 is;
       away = λ is. none_done_as _ from.result _ _ from.ensures.1 is;
+      slots = c.copy_units.ensures.slots;
       spared = c.copy_units.ensures.spared;
       calls = c.copy_units.ensures.calls;
       two = handed _ from.result _ from.ensures.1 c.in_err-done.ensures.two;
@@ -119,6 +120,7 @@ returns-in_err-settle g c =
       gone = λ is. none_done_as _ from.result _ _ from.ensures.1 is;
       failed = λ is. none_done_as _ from.result _ _ from.ensures.1 is;
       away = λ is. none_done_as _ from.result _ _ from.ensures.1 is;
+      slots = c.settle.ensures.slots ∙ c.copy_units.ensures.slots;
       spared = spared_then (g.R.Rack.slot (store_rack c.args.core.now.store)) (g.R.Rack.slot (store_rack c.copy_units.new.core.store)) (g.R.Rack.slot (store_rack c.settle.new.self.store)) c.copy_units.ensures.spared c.settle.ensures.spared;
       calls =
           data_settled a.meta b.meta b.copied (marked_from_setup a.meta b.meta c.in_ok-done.ensures.leaves.meta) (ap gone_out c.requires.fresh)
@@ -150,6 +152,7 @@ returns-then-not-done g c =
       gone = λ is. gone_stays a.meta b.meta d.meta c.args.disk (c.in_ok-done.ensures.gone (ap Ok c.if-not-done.true)) c.in_ok-settle.ensures.leaves.meta;
       failed = λ is. HasRisen-later _ _ _ (c.in_ok-done.ensures.failed (ap Ok c.if-not-done.true)) (c.settle.ensures.spared.no_fall c.args.disk);
       away = λ is. stays_away (g.R.Rack.slot (store_rack b.store)) (g.R.Rack.slot (store_rack d.store)) c.settle.ensures.spared c.args.disk (c.in_ok-done.ensures.away (ap Ok c.if-not-done.true));
+      slots = (left g c.before).slots;
       spared = (left g c.before).spared;
       calls = calls g c.before;
       two = tt;
@@ -178,6 +181,7 @@ returns g c =
           HasRisen-sooner _ _ _ (c.copy_units.ensures.spared.no_fall c.args.disk)
           (gone_failed (g.R.Rack.slot (store_rack b.store)) (g.R.Rack.slot (store_rack d.store)) b.meta d.meta c.args.disk (ap named_out out) (ap gone_out out) c.in_ok-settle.ensures.marks (c.is_gone.ensures.gone (gone_is _ is)));
       away = λ is. gone_away (g.R.Rack.slot (store_rack b.store)) (g.R.Rack.slot (store_rack d.store)) b.meta d.meta c.args.disk (ap named_out out) (ap gone_out out) c.in_ok-settle.ensures.marks (c.is_gone.ensures.gone (gone_is _ is));
+      slots = (left g c.before.before).slots;
       spared = (left g c.before.before).spared;
       calls = calls g c.before.before;
       two = tt;

@@ -63,6 +63,7 @@ returns-then-not-attach g c =
       size = λ is. let z : Ok false ≡ Ok true = is in cc;
       table = it.table;
       named = it.store.named ∙ c.requires.named;
+      slots = c.attach.ensures.slots;
       later = failed_counts (g.R.Rack.slot (store_rack c.args.core.now.store)) (g.R.Rack.slot (store_rack c.attach.new.self.store)) c.args.disk c.attach.ensures.others (c.attach.ensures.lost c.if-not-attach.true).risen;
       two = tt;
       moments = λ h lo.
@@ -112,6 +113,7 @@ returns-in_err-commit g c =
       size = λ is. none_done_as _ from.result _ _ from.ensures.1 is;
       table = c.commit.ensures.table ∙ c.attach.ensures.table;
       named = none_done _ from.result _ from.ensures.1;
+      slots = c.commit.ensures.slots ∙ c.attach.ensures.slots;
       later = counts_then old mid new (attached_counts old mid c.args.disk c.attach.ensures.others (ap (λ (s : Slot). s.faults) (c.attach.ensures.attached c.if-not-attach.false))) (no_fall_counts mid new c.commit.ensures.spared.no_fall);
       two =
           handed _ from.result _ from.ensures.1
@@ -195,6 +197,7 @@ returns g c =
           ∙ ap (λ (s : Slot). s.size) (c.attach.ensures.attached here);
       table = c.commit.ensures.table ∙ c.attach.ensures.table;
       named = c.in_ok-commit.ensures.named ∙ ap named_out out;
+      slots = c.commit.ensures.slots ∙ c.attach.ensures.slots;
       later =
           let new = g.R.Rack.slot (store_rack c.commit.new.self.store) in
           counts_then old mid new (attached_counts old mid c.args.disk c.attach.ensures.others (ap (λ (s : Slot). s.faults) (c.attach.ensures.attached c.if-not-attach.false))) (no_fall_counts mid new c.commit.ensures.spared.no_fall);

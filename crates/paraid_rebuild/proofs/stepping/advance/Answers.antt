@@ -51,7 +51,7 @@ returns-in_err-copied g c =
       serving = none_done _ from.result _ from.ensures.1;
       nothing = none_done _ from.result _ from.ensures.1;
       named = none_done _ from.result _ from.ensures.1;
-      slots = none_done _ from.result _ from.ensures.1;
+      slots = c.move_units.ensures.slots;
       few = none_done _ from.result _ from.ensures.1;
       moved = λ is. none_done_as _ from.result _ _ from.ensures.1 is;
       spins = λ is. none_done_as _ from.result _ _ from.ensures.1 is;
@@ -94,7 +94,7 @@ returns-then-not-copied g c =
       serving = c.in_ok-copied.ensures.serving;
       nothing = c.in_ok-copied.ensures.leaves.batch ∙ c.requires.nothing;
       named = c.in_ok-copied.ensures.leaves.same.named ∙ c.requires.named;
-      slots = c.in_ok-copied.ensures.leaves.slots;
+      slots = c.move_units.ensures.slots;
       few = omega arith;
       moved = λ is. let z : Ok false ≡ Ok true = is in cc;
       spins = λ is. let z : Ok false ≡ Ok true = is in cc;
@@ -145,7 +145,7 @@ returns g c =
       serving = c.mark_units.ensures.serving;
       nothing = c.mark_units.ensures.nothing;
       named = c.mark_units.ensures.named;
-      slots = on_all _ (c.mark_units.ensures.slots ∙ c.in_ok-copied.ensures.leaves.slots);
+      slots = c.mark_units.ensures.slots ∙ c.move_units.ensures.slots;
       few = on_map _ c.mark_units.ensures.epoch (λ it. one_later a.meta.epoch b.meta.epoch new.meta.epoch (ap (λ (m : Meta). m.epoch) same) it);
       moved = λ is.
           let e = c.mark_units.ensures.marked is ∙ ap (λ (m : Meta). record m { epoch = m.epoch + 1; out = Fresh c.args.disk c.args.end }) same in

@@ -40,7 +40,7 @@ returns-in_err-there g c =
       serving = none_done _ from.result _ from.ensures.1;
       nothing = none_done _ from.result _ from.ensures.1;
       named = none_done _ from.result _ from.ensures.1;
-      slots = none_done _ from.result _ from.ensures.1;
+      slots = c.commit_staged.ensures.slots;
       few = none_done _ from.result _ from.ensures.1;
       moved = λ is. none_done_as _ from.result _ _ from.ensures.1 is;
       spins = λ is. none_done_as _ from.result _ _ from.ensures.1 is;
@@ -103,7 +103,7 @@ returns g c =
       serving = c.advance.ensures.serving;
       nothing = c.advance.ensures.nothing;
       named = c.advance.ensures.named;
-      slots = on_map {X = g.R.Rack.slot_count (store_rack new.store) ≡ g.R.Rack.slot_count (store_rack b.store)} {Y = g.R.Rack.slot_count (store_rack new.store) ≡ g.R.Rack.slot_count (store_rack a.store)} _ c.advance.ensures.slots (λ it. it ∙ c.commit_staged.ensures.slots);
+      slots = c.advance.ensures.slots ∙ c.commit_staged.ensures.slots;
       few = on_map _ c.advance.ensures.few (λ it. two_later a.meta.epoch b.meta.epoch new.meta.epoch one it);
       moved = λ is. c.advance.ensures.moved is ∙ ap (λ (m : Meta). record m { epoch = new.meta.epoch; out = Fresh c.args.disk c.args.end }) same;
       spins = c.advance.ensures.spins;

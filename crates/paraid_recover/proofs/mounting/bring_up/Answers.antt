@@ -118,6 +118,7 @@ all_metas g c =
 pub returns-in-Err : goal.returns-in-Err
 returns-in-Err g c = record {
   slots = tt;
+  refused_slots = c.in-Err.ensures.refused_slots;
   servable = tt;
   nothing = tt;
   two =
@@ -160,6 +161,7 @@ returns-in-Err g c = record {
 pub returns-in-Err-raise : goal.returns-in-Err-raise
 returns-in-Err-raise g c = record {
   slots = tt;
+  refused_slots = ap g.R.Rack.slot_count c.close.ensures ∙ c.raise.ensures.slots ∙ c.in-Ok.ensures.slots;
   servable = tt;
   nothing = tt;
   two =
@@ -200,6 +202,7 @@ returns-in-Err-raise g c = record {
 pub returns-in-Ok-raise : goal.returns-in-Ok-raise
 returns-in-Ok-raise g c = record {
   slots = c.raise.ensures.slots ∙ c.in-Ok.ensures.slots;
+  refused_slots = tt;
   servable = c.in-Ok-raise.ensures.servable;
   nothing = c.clear.ensures;
   two = tt;

@@ -21,6 +21,7 @@ use Rattle.paraid_recover.proofs.mounting.mount.Goals.{In-Ok-bring_up}
 pub returns-in_default : goal.returns-in_default
 returns-in_default g c = record {
   slots = tt;
+  refused_slots = refl;
   servable = tt;
   nothing = tt;
   served = tt;
@@ -34,6 +35,7 @@ returns-in_default g c = record {
 pub returns-in_default-new : goal.returns-in_default-new
 returns-in_default-new g c = record {
   slots = tt;
+  refused_slots = c.examine.ensures.slots;
   servable = tt;
   nothing = tt;
   served = tt;
@@ -44,6 +46,7 @@ returns-in_default-new g c = record {
 pub returns-in-Err : goal.returns-in-Err
 returns-in-Err g c = record {
   slots = tt;
+  refused_slots = c.examine.ensures.slots;
   servable = tt;
   nothing = tt;
   served = tt;
@@ -94,6 +97,7 @@ pub returns-in-Ok-bring_up : goal.returns-in-Ok-bring_up
 unfolding settled
 returns-in-Ok-bring_up g c = record {
   slots = c.in-Ok-bring_up.ensures.slots ∙ c.examine.ensures.slots;
+  refused_slots = tt;
   servable = c.in-Ok-bring_up.ensures.servable;
   nothing = c.in-Ok-bring_up.ensures.nothing;
   served =
@@ -117,6 +121,7 @@ returns-in-Ok-bring_up g c = record {
 pub returns : goal.returns
 returns g c = record {
   slots = tt;
+  refused_slots = c.in-Err-bring_up.ensures.refused_slots ∙ c.examine.ensures.slots;
   servable = tt;
   nothing = tt;
   served = tt;

@@ -18,6 +18,7 @@ returns g c =
     let r = c.mount.result in
     record {
       slots = m.slots;
+      refused_slots = m.refused_slots;
       servable = m.servable;
       nothing = m.nothing;
       later = IfOk-weaker r _ _ (λ it served. served.later) m.served;
@@ -38,6 +39,7 @@ returns g c =
 pub returns-in_default : goal.returns-in_default
 returns-in_default g c = record {
   slots = tt;
+  refused_slots = refl;
   servable = tt;
   nothing = tt;
   later = tt;

@@ -71,7 +71,7 @@ returns g c = record {
 pub returns-in_err-checked : goal.returns-in_err-checked
 returns-in_err-checked g c = record {
   draft = none_done _ c.from_residual.result _ c.from_residual.ensures.1;
-  slots = none_done _ c.from_residual.result _ c.from_residual.ensures.1;
+  slots = c.in_err-checked.ensures.two.slots;
   batch = none_done _ c.from_residual.result _ c.from_residual.ensures.1;
   table = none_done _ c.from_residual.result _ c.from_residual.ensures.1;
   named = none_done _ c.from_residual.result _ c.from_residual.ensures.1;

@@ -42,6 +42,7 @@ pub returns-in-Err-Source : goal.returns-in-Err-Source
 returns-in-Err-Source g c = record {
   session = ends_at_source c.lines.invariant.sofar c.in-Err-Source.ensures.heard;
   told = c.lines.invariant.told;
+  slots = c.lines.invariant.slots;
   setup = c.lines.invariant.setup;
   going = tt;
   failed = tt;
@@ -56,6 +57,7 @@ pub returns-in-Err-TooLong : goal.returns-in-Err-TooLong
 returns-in-Err-TooLong g c = record {
   session = ends_too_long c.lines.invariant.sofar c.in-Err-TooLong.ensures.heard (c.in-Err-TooLong.ensures.too_long c.in-Err-TooLong.field-0-0 (ap Err c.in-Err-TooLong.field-0-is));
   told = c.lines.invariant.told;
+  slots = c.lines.invariant.slots;
   setup = c.lines.invariant.setup;
   going = tt;
   failed = tt;
@@ -75,6 +77,7 @@ returns-in_default g c = record {
       let h = rw c.in-Ok-Some.field-0-is at c.in-Ok-Some.ensures.heard in
       ends_at_sink i.sofar h (answer_with c.answer-answered.result c.answer-answered.new.beside) e.kind _ e.cause _ _ _ _ _ i.slots i.setup (told_then _ _ e.told) e.turn p.0 (rw (c.as_slice.ensures.value, c.reply_with.ensures.value) at p.2);
   told = grows_then _ _ _ c.lines.invariant.told c.answer-answered.ensures.told;
+  slots = c.answer-answered.ensures.slots ∙ c.lines.invariant.slots;
   setup = c.answer-answered.ensures.setup ∙ c.lines.invariant.setup;
   going = tt;
   failed = tt;
@@ -92,6 +95,7 @@ returns-in-Ok-finish g c = record {
       let f = c.in-Ok-finish.ensures in
       ends_well i.sofar (rw c.in-Ok-None.field-0-is at c.in-Ok-None.ensures.heard) _ _ _ _ i.slots i.setup (told_then _ _ f.told) c.in-Ok-finish.writes _ f.cause f.turn;
   told = grows_then _ _ _ c.lines.invariant.told c.in-Ok-finish.ensures.told;
+  slots = c.in-Ok-finish.ensures.slots ∙ c.lines.invariant.slots;
   setup = c.in-Ok-finish.ensures.setup ∙ c.lines.invariant.setup;
   going = c.in-Ok-finish.ensures.going;
   failed = tt;
@@ -109,6 +113,7 @@ returns-in-Err g c = record {
       let f = c.in-Err.ensures in
       ends_halted i.sofar (rw c.in-Ok-None.field-0-is at c.in-Ok-None.ensures.heard) _ _ _ _ i.slots i.setup (told_then _ _ f.told) c.in-Err.halt _ f.cause f.turn;
   told = grows_then _ _ _ c.lines.invariant.told c.in-Err.ensures.told;
+  slots = c.in-Err.ensures.slots ∙ c.lines.invariant.slots;
   setup = c.in-Err.ensures.setup ∙ c.lines.invariant.setup;
   going = tt;
   failed = (c.in-Err.ensures.since (g.A.Serves.slot c.args.array.now) c.lines.invariant.since).lost;

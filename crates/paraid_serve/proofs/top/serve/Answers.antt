@@ -15,6 +15,7 @@ returns-in-Ok-session g c = record {
   run = done_run _ _ _ _ _ _ _ _ _ _ _ _ _ c.writes.result c.gear.result (c.writes.ensures.point c.requires.going) c.gear.ensures.point (shown_line c.writes.result c.gear.result (g.A.Serves.shown c.args.array.now) c.writes.ensures.shown (c.gear.ensures.shown c.requires.going)) _ (rw (c.as_slice.ensures.value, c.mount_text.ensures) at c.in-Ok.ensures.grows)
       c.in-Ok-session.writes c.in-Ok-session.ensures.session (rw (c.as_slice-in-Ok-session.ensures.value, c.end_text.ensures) at c.last.ensures.ends);
   told = c.session.ensures.told;
+  slots = c.session.ensures.slots;
   status = served _ _ _ _ _ c.last.ensures.ends (inl refl);
   present = λ is. subst (λ (s : Setup). IsNotDouble s (g.A.Serves.slot c.session.new.array)) c.session.ensures.setup (g.met.A.Serves.serves c.session.new.array c.in-Ok-session.ensures.going);
   two = λ is. absurd (other _ _ _ _ _ c.last.ensures.ends 5 (λ e. omega arith) (λ e. omega arith) is);
@@ -28,6 +29,7 @@ returns-in-Err-Source g c = record {
   run = source_run _ _ _ _ _ _ _ _ _ _ _ _ _ c.writes.result c.gear.result (c.writes.ensures.point c.requires.going) c.gear.ensures.point (shown_line c.writes.result c.gear.result (g.A.Serves.shown c.args.array.now) c.writes.ensures.shown (c.gear.ensures.shown c.requires.going)) _ (rw (c.as_slice.ensures.value, c.mount_text.ensures) at c.in-Ok.ensures.grows)
       (rw c.in-Err-Source.field-0-is at c.in-Err-Source.ensures.session) c.last-in-Err-Source.ensures.ends;
   told = c.session.ensures.told;
+  slots = c.session.ensures.slots;
   status = served _ _ _ _ _ c.last-in-Err-Source.ensures.ends (inr (inl refl));
   present = λ is. absurd (other _ _ _ _ _ c.last-in-Err-Source.ensures.ends 0 (λ e. omega arith) (λ e. omega arith) is);
   two = λ is. absurd (other _ _ _ _ _ c.last-in-Err-Source.ensures.ends 5 (λ e. omega arith) (λ e. omega arith) is);
@@ -41,6 +43,7 @@ returns-in-Err-TooLong g c = record {
   run = too_long_run _ _ _ _ _ _ _ _ _ _ _ _ _ c.writes.result c.gear.result (c.writes.ensures.point c.requires.going) c.gear.ensures.point (shown_line c.writes.result c.gear.result (g.A.Serves.shown c.args.array.now) c.writes.ensures.shown (c.gear.ensures.shown c.requires.going)) _ (rw (c.as_slice.ensures.value, c.mount_text.ensures) at c.in-Ok.ensures.grows)
       (rw c.in-Err-TooLong.field-0-is at c.in-Err-TooLong.ensures.session) c.last-in-Err-TooLong.ensures.ends;
   told = c.session.ensures.told;
+  slots = c.session.ensures.slots;
   status = served _ _ _ _ _ c.last-in-Err-TooLong.ensures.ends (inr (inr (inr (inr (inl refl)))));
   present = λ is. absurd (other _ _ _ _ _ c.last-in-Err-TooLong.ensures.ends 0 (λ e. omega arith) (λ e. omega arith) is);
   two = λ is. absurd (other _ _ _ _ _ c.last-in-Err-TooLong.ensures.ends 5 (λ e. omega arith) (λ e. omega arith) is);
@@ -54,6 +57,7 @@ returns-in-Err-Sink g c = record {
   run = sink_run _ _ _ _ _ _ _ _ _ _ _ _ (g.K.Sink.written c.args.sink.now) c.writes.result c.gear.result (c.writes.ensures.point c.requires.going) c.gear.ensures.point (shown_line c.writes.result c.gear.result (g.A.Serves.shown c.args.array.now) c.writes.ensures.shown (c.gear.ensures.shown c.requires.going)) (rw (c.as_slice.ensures.value, c.mount_text.ensures) at c.in-Ok.ensures.grows)
       (rw c.in-Err-Sink.field-0-is at c.in-Err-Sink.ensures.session);
   told = c.session.ensures.told;
+  slots = c.session.ensures.slots;
   status = inr (inr (inl refl));
   present = λ is. absurd (omega (arith, is));
   two = λ is. absurd (omega (arith, is));
@@ -68,6 +72,7 @@ returns-in-Err-Halt g c = record {
       c.in-Err-Halt.halt (rw c.in-Err-Halt.field-0-is at c.in-Err-Halt.ensures.session)
       (rw (c.as_slice-in-Err-Halt.ensures.value, c.reply.ensures.value, c.halt_status.ensures) at c.last-in-Err-Halt.ensures.ends);
   told = c.session.ensures.told;
+  slots = c.session.ensures.slots;
   status = served _ _ _ _ _ c.last-in-Err-Halt.ensures.ends (subst IsServedStatus (sym c.halt_status.ensures) (halt_served c.in-Err-Halt.halt));
   present = λ is. absurd (other _ _ _ _ _ c.last-in-Err-Halt.ensures.ends 0 (λ e. omega arith) (λ e. halt_high c.in-Err-Halt.halt 0 (omega arith) (e ∙ c.halt_status.ensures)) is);
   two = λ five.
@@ -88,6 +93,7 @@ pub returns-in_default : goal.returns-in_default
 returns-in_default g c = record {
   run = no_mount_run _ _ _ _ _ _ _ _ c.writes.result c.gear.result (c.writes.ensures.point c.requires.going) c.gear.ensures.point (shown_line c.writes.result c.gear.result (g.A.Serves.shown c.args.array.now) c.writes.ensures.shown (c.gear.ensures.shown c.requires.going)) (rw (c.as_slice.ensures.value, c.mount_text.ensures) at c.in_default.ensures.part);
   told = grows_none _;
+  slots = refl;
   status = inr (inr (inl refl));
   present = λ is. absurd (omega (arith, is));
   two = λ is. absurd (omega (arith, is));

@@ -23,6 +23,7 @@ returns g c =
     record {
       headline = headline_at g.A.Serves g.met.A.Serves.agrees first c.serve_nbd-end.new.blocks last status c.new-device.ensures.going c.serve_nbd-end.ensures.service c.end_client-status.ensures.ends a b c.new-device.ensures.array c.close.ensures;
       told = all.1.grows;
+      slots = all.1.same_slots;
       status = ends_status g.A.Serves a b k.0 end status e;
       present = λ zero. subst (λ (z : Setup). IsNotDouble z (g.A.Serves.slot b)) all.1.same_setup (g.met.A.Serves.serves b (ends_going g.A.Serves a b k.0 end status e zero));
       two = λ five. ends_two g.A.Serves a b k.0 end status c.requires.going e five;

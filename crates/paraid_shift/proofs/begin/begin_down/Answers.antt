@@ -46,6 +46,7 @@ returns-in_err-commit g c =
           (λ samples served energy. down_mark (service_of g.R.Rack.slot_count a samples served energy) (service_of g.R.Rack.slot_count b samples served energy) (ap (λ (z : _). g.R.Rack.slot_count (store_rack z)) marks.store) (ap named_of marks.store) c.args.to c.requires.whole marks.meta)
           marks.stands)
           (commit_is_lost g.R.Rack.slot_count g.R.Rack.slot g.R.Rack.told b new _ all.calls all.whole (all.moments_since away) marks.serves.stays c.in_err-commit.ensures.tells));
+      slots = all.slots ∙ ap (λ (z : _). g.R.Rack.slot_count (store_rack z)) marks.store;
       spared = subst (λ (z : _). OnlyLosesSlots (g.R.Rack.slot (store_rack z)) (g.R.Rack.slot (store_rack new.store))) marks.store all.spared;
       two = handed (AreTwoDown (core_down a) (g.R.Rack.slot (store_rack a.store)) (g.R.Rack.slot (store_rack new.store))) from.result _ from.ensures.1
           (two_array g.R.Rack.slot_count g.R.Rack.slot a b new
@@ -94,6 +95,7 @@ returns g c =
           (commit_is_marked g.R.Rack.slot_count g.R.Rack.slot g.R.Rack.told b new (g.met.R.Rack.agrees (store_rack b.store)) (g.met.R.Rack.agrees (store_rack new.store)) all.slots done.setup done.ready done.marks all.calls all.whole
           (commit_stands g.R.Rack.slot_count g.R.Rack.slot g.R.Rack.told b new done.nothing (done.filled_since away)));
       loses = tt;
+      slots = all.slots ∙ ap (λ (z : _). g.R.Rack.slot_count (store_rack z)) marks.store;
       spared = spared;
       two = tt;
       moments = λ h lo.

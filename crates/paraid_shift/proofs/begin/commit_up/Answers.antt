@@ -45,6 +45,7 @@ returns-in_err-commit g c =
     record {
       begun = none_done _ from.result _ from.ensures.1;
       table = all.table ∙ marks.table;
+      slots = all.slots ∙ ap (λ (z : _). g.R.Rack.slot_count (store_rack z)) marks.store;
       spared = subst (λ (z : _). OnlyLosesSlots (g.R.Rack.slot (store_rack z)) (g.R.Rack.slot (store_rack new.store))) marks.store all.spared;
       loses = handed (λ two. LosesUp g.R.Rack.slot_count g.R.Rack.told a new c.args.to two) from.result _ from.ensures.1
           (record {
@@ -123,6 +124,7 @@ returns g c =
             (CoreStandsFor g.R.Rack.slot_count a h lo) (CoreStandsFor g.R.Rack.slot_count b h lo) (Filled g.R.Rack.slot_count new h (length h) new.meta.fill) h lo _ (marks.stands h lo) (done.filled_since away h lo));
       };
       table = all.table ∙ marks.table;
+      slots = all.slots ∙ ap (λ (z : _). g.R.Rack.slot_count (store_rack z)) marks.store;
       spared = spared;
       loses = tt;
       two = tt;

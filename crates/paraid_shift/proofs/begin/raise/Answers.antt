@@ -55,6 +55,7 @@ returns-then-not-is_down g c =
       powers = powers;
       store = same_none a.store;
       table = refl;
+      slots = refl;
       no_fall = λ d. le_refl _;
       calls = calls_none _ (g.R.Rack.told (store_rack a.store));
       tells = tt;
@@ -74,6 +75,7 @@ returns-in_err-spin_up g c =
       powers = none_done _ from.result _ from.ensures.1;
       store = all.store;
       table = all.table;
+      slots = all.slots;
       no_fall = all.turned.no_fall;
       calls = one_is_each _ (IsPowerCall a.meta) (λ done. spin_is a.meta c.args.disk done c.requires.disk c.requires.past_gear c.requires.rises (c.is_down.ensures.not_out c.if-not-is_down.false)) _ _ all.calls;
       tells = handed (λ two. TellsSecond g.R.Rack.slot g.R.Rack.told a new two) from.result _ from.ensures.1 (record { down = c.in_err-spin_up.ensures.two; tells = c.in_err-spin_up.ensures.tells });
@@ -131,6 +133,7 @@ returns g c =
       };
       store = all.store;
       table = all.table;
+      slots = all.slots;
       no_fall = all.turned.no_fall;
       calls = one_is_each _ (IsPowerCall a.meta) (λ done. spin_is a.meta c.args.disk done c.requires.disk c.requires.past_gear c.requires.rises (c.is_down.ensures.not_out c.if-not-is_down.false)) _ _ all.calls;
       tells = tt;

@@ -43,6 +43,7 @@ returns-in_err-done g c =
       leaves = none_done _ from.result _ from.ensures.1;
       group = none_done_if _ from.result _ from.ensures.1;
       lost = none_done_if _ from.result _ from.ensures.1;
+      slots = all.slots ∙ was.leaves.slots;
       spared = spared_then (g.R.Rack.slot (store_rack a.store)) (g.R.Rack.slot (store_rack b.store)) (g.R.Rack.slot (store_rack new.store)) was.leaves.spared all.spared;
       tells = handed (λ two. TellsSecond g.R.Rack.slot g.R.Rack.told a new two) from.result _ from.ensures.1
           (record {
@@ -71,6 +72,7 @@ returns-then-not-done g c =
       leaves = leaves_then g.R.Rack.slot_count g.R.Rack.slot g.R.Rack.told a b was.leaves new done.leaves;
       group = tt;
       lost = let lost = done.failed (ap Ok c.if-not-done.true) in named_not new.meta.out lost.disk (ap (λ (m : Meta). named_out m.out) lost.gone);
+      slots = all.slots ∙ was.leaves.slots;
       spared = spared_then (g.R.Rack.slot (store_rack a.store)) (g.R.Rack.slot (store_rack b.store)) (g.R.Rack.slot (store_rack new.store)) was.leaves.spared all.spared;
       tells = tt;
       calls = calls_then _ _ _ _ was.calls (data_same b.meta a.meta was.meta _ _ all.calls);
@@ -108,6 +110,7 @@ returns-in_default g c =
         before = was.before;
       };
       lost = tt;
+      slots = was.leaves.slots;
       spared = was.leaves.spared;
       tells = tt;
       calls = was.calls;
@@ -131,6 +134,7 @@ returns-in_default-with_cell g c =
         before = was.before;
       };
       lost = tt;
+      slots = was.leaves.slots;
       spared = was.leaves.spared;
       tells = tt;
       calls = was.calls;
@@ -154,6 +158,7 @@ returns g c =
         before = was.before;
       };
       lost = tt;
+      slots = was.leaves.slots;
       spared = was.leaves.spared;
       tells = tt;
       calls = was.calls;

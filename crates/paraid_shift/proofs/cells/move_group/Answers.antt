@@ -32,6 +32,7 @@ returns-in_err-copied g c =
     let call = c.copy_group.ensures in
     record {
       marks = none_done_if _ c.from_residual.result _ c.from_residual.ensures.1;
+      slots = call.slots;
       spared = call.spared;
       loses = handed (λ two. LosesSecond g.R.Rack.slot_count g.R.Rack.slot g.R.Rack.told a new 1 two) c.from_residual.result _ c.from_residual.ensures.1
           (record {
@@ -61,6 +62,7 @@ returns-in_default g c =
         steps = copies_are_steps g.R.Rack.slot_count g.R.Rack.slot g.R.Rack.told a b (g.met.R.Rack.agrees (store_rack a.store)) (g.met.R.Rack.agrees (store_rack b.store)) array.slots array.setup done.serving.ready done.marks
             c.requires.nothing call.calls done.stands;
       };
+      slots = call.slots;
       spared = call.spared;
       loses = tt;
     }
@@ -103,6 +105,7 @@ returns g c =
             (copies_then g.R.Rack.slot_count g.R.Rack.slot g.R.Rack.told a b new left cells (some_at _ _ _ c.in-Some.is done.copied)
             (subst (λ (m : Meta). KeepsCopied g.R.Rack.slot_count g.R.Rack.told b new (are_copied_before m c.in-Some.group.row c.in-Some.group.disk)) same marks.copied)));
       };
+      slots = moved.slots;
       spared = spared_marked a b new marks.store marks.meta g.R.Rack.slot call.spared;
       loses = tt;
     }

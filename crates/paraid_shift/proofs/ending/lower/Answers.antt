@@ -33,6 +33,7 @@ returns-then-not-is_up g c =
       powers = powers;
       store = same_none a.store;
       table = refl;
+      slots = refl;
       no_fall = λ d. le_refl _;
       calls = calls_none _ (g.R.Rack.told (store_rack a.store));
       tells = tt;
@@ -53,6 +54,7 @@ returns-in_err-park g c =
       powers = none_done _ from.result _ from.ensures.1;
       store = all.store;
       table = all.table;
+      slots = all.slots;
       no_fall = all.turned.no_fall;
       calls = one_is_each _ (IsPowerCall a.meta) (λ done. park_is a.meta c.args.disk done c.requires.steady c.requires.disk c.requires.past_gear (c.is_up.ensures.not_out c.if-not-is_up.false)) _ _ all.calls;
       tells = handed (λ two. TellsSecond g.R.Rack.slot g.R.Rack.told a new two) from.result _ from.ensures.1 (record { down = c.in_err-park.ensures.two; tells = c.in_err-park.ensures.tells });
@@ -103,6 +105,7 @@ returns g c =
       };
       store = all.store;
       table = all.table;
+      slots = all.slots;
       no_fall = all.turned.no_fall;
       calls = one_is_each _ (IsPowerCall a.meta) (λ done. park_is a.meta c.args.disk done c.requires.steady c.requires.disk c.requires.past_gear (c.is_up.ensures.not_out c.if-not-is_up.false)) _ _ all.calls;
       tells = tt;

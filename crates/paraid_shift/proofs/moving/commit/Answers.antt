@@ -20,6 +20,7 @@ returns-in_err-commit g c =
     record {
       commits = none_done _ c.from_residual.result _ c.from_residual.ensures.1;
       table = all.table;
+      slots = all.slots;
       spared = all.spared;
       loses = handed (λ two. LosesInCommit g.R.Rack.slot_count g.R.Rack.slot g.R.Rack.told a b two) c.from_residual.result _ c.from_residual.ensures.1
           (record {
@@ -62,6 +63,7 @@ returns g c =
             (commit_stands g.R.Rack.slot_count g.R.Rack.slot g.R.Rack.told a b done.nothing (done.filled_since absent));
       };
       table = all.table;
+      slots = all.slots;
       spared = all.spared;
       loses = tt;
     }

@@ -25,6 +25,7 @@ returns-then-staged-eq0 g c =
       table = refl;
       moves = core_moves_same g.R.Rack.slot_count a;
       steps = λ absent. core_steps_within g.R.Rack.slot_count g.R.Rack.slot g.R.Rack.told a a 0 1 (omega arith) (core_steps_none g.R.Rack.slot_count g.R.Rack.slot g.R.Rack.told a);
+      slots = refl;
       no_fall = λ d. le_refl _;
       two = tt;
       loses = tt;
@@ -47,6 +48,7 @@ returns g c =
       table = c.commit.ensures.table;
       moves = ok_map {X = C} _ (λ k. k.moves) done;
       steps = ok_map {X = C} _ (λ k. k.steps) done;
+      slots = c.commit.ensures.slots;
       no_fall = c.commit.ensures.spared.no_fall;
       two = err_map {P = L} _ (λ two k. k.down) c.commit.ensures.loses;
       loses = err_map {P = L} _ (λ two k. k.loses) c.commit.ensures.loses;

@@ -64,6 +64,7 @@ returns-in_default g c =
         moves = record { moves = was.moves; all = λ none. absurd (c.in_default.not-No (c.out.ensures ∙ none)); ended = was.ended };
         steps = core_steps_within g.R.Rack.slot_count g.R.Rack.slot g.R.Rack.told a b c.loop-at.at c.args.most low was.steps;
       };
+      slots = was.serves.leaves.slots;
       no_fall = was.serves.leaves.turned.no_fall;
       loses = tt;
     }
@@ -81,6 +82,7 @@ returns-then-staged-ne0 g c =
         moves = record { moves = was.moves; all = λ none. inr (was.ended (staged_some b.batch _ c.staged.ensures c.if-staged-ne0.true)).clean; ended = was.ended };
         steps = core_steps_within g.R.Rack.slot_count g.R.Rack.slot g.R.Rack.told a b c.loop-at.at c.args.most low was.steps;
       };
+      slots = was.serves.leaves.slots;
       no_fall = was.serves.leaves.turned.no_fall;
       loses = tt;
     }
@@ -110,6 +112,7 @@ returns-then-count-eq0 g c =
         steps = core_steps_within g.R.Rack.slot_count g.R.Rack.slot g.R.Rack.told a new (c.loop-at.at + 1) c.args.most (let low = c.loop-at-test.true in omega arith)
             (core_steps_then g.R.Rack.slot_count g.R.Rack.slot g.R.Rack.told a b new c.loop-at.at 1 was.steps one.steps);
       };
+      slots = c.step_group.ensures.slots ∙ was.serves.leaves.slots;
       no_fall = no_fall_then g.R.Rack.slot a b new was.serves.leaves.turned.no_fall c.step_group.ensures.no_fall;
       loses = tt;
     }
@@ -131,6 +134,7 @@ returns g c =
         };
         steps = core_steps_within g.R.Rack.slot_count g.R.Rack.slot g.R.Rack.told a b c.loop-at.at c.args.most low was.steps;
       };
+      slots = was.serves.leaves.slots;
       no_fall = was.serves.leaves.turned.no_fall;
       loses = tt;
     }
@@ -143,6 +147,7 @@ returns-in_err-count g c =
     let was = c.loop-at.invariant in
     record {
       steps = none_done_if _ c.from_residual.result _ c.from_residual.ensures.1;
+      slots = c.step_group.ensures.slots ∙ was.serves.leaves.slots;
       no_fall = no_fall_then g.R.Rack.slot a b new was.serves.leaves.turned.no_fall c.step_group.ensures.no_fall;
       loses = handed (λ two. LosesSecond g.R.Rack.slot_count g.R.Rack.slot g.R.Rack.told a new c.args.most two) c.from_residual.result _ c.from_residual.ensures.1
           (second_then g.R.Rack.slot_count g.R.Rack.slot g.R.Rack.told a b new c.loop-at.at 1 c.args.most _ (let low = c.loop-at-test.true in omega arith) was.serves.leaves was.steps c.step_group.ensures.no_fall c.in_err-count.ensures.loses);

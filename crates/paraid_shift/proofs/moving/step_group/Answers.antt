@@ -1,4 +1,4 @@
-use Rattle.std.proofs.Common.{arith}
+use Rattle.std.proofs.Common.{arith, ◌∙◌}
 use Rattle.paraid_core.proofs.AfterLemmas.{handed}
 use Rattle.paraid_shift.proofs.AnswerLemmas.{none_done_if}
 use Rattle.paraid_shift.specs.Outcomes.{LosesSecond}
@@ -22,6 +22,7 @@ commit-requires g c =
 pub returns-in_err-count : goal.returns-in_err-count
 returns-in_err-count g c = record {
   steps = none_done_if _ c.from_residual.result _ c.from_residual.ensures.1;
+  slots = c.move_group.ensures.slots;
   no_fall = c.move_group.ensures.spared.no_fall;
   loses = handed (λ two. LosesSecond g.R.Rack.slot_count g.R.Rack.slot g.R.Rack.told c.args.core.now c.move_group.new.core 1 two) c.from_residual.result _ c.from_residual.ensures.1 c.in_err-count.ensures.loses;
 }
@@ -43,6 +44,7 @@ returns-then-count-eq0 g c =
         };
         steps = core_steps_within g.R.Rack.slot_count g.R.Rack.slot g.R.Rack.told a b 0 1 (omega arith) marks.steps;
       };
+      slots = c.move_group.ensures.slots;
       no_fall = c.move_group.ensures.spared.no_fall;
       loses = tt;
     }
@@ -63,6 +65,7 @@ returns-then-has_ended g c =
         };
         steps = core_steps_within g.R.Rack.slot_count g.R.Rack.slot g.R.Rack.told a b 0 1 (omega arith) marks.steps;
       };
+      slots = c.move_group.ensures.slots;
       no_fall = c.move_group.ensures.spared.no_fall;
       loses = tt;
     }
@@ -77,6 +80,7 @@ returns-in_err-commit g c =
     let from = c.from_residual-in_err-commit in
     record {
       steps = none_done_if _ from.result _ from.ensures.1;
+      slots = c.commit.ensures.slots ∙ c.move_group.ensures.slots;
       no_fall = no_fall_then g.R.Rack.slot a b new c.move_group.ensures.spared.no_fall spared.no_fall;
       loses = handed (λ two. LosesSecond g.R.Rack.slot_count g.R.Rack.slot g.R.Rack.told a new 1 two) from.result _ from.ensures.1
           (second_then g.R.Rack.slot_count g.R.Rack.slot g.R.Rack.told a b new 0 1 1 _ (omega arith) marks.leaves marks.steps spared.no_fall
@@ -104,6 +108,7 @@ returns g c =
         };
         steps = core_steps_then g.R.Rack.slot_count g.R.Rack.slot g.R.Rack.told a b new 0 1 marks.steps (made.steps (none_away g.R.Rack.slot b whole));
       };
+      slots = c.commit.ensures.slots ∙ c.move_group.ensures.slots;
       no_fall = no_fall_then g.R.Rack.slot a b new c.move_group.ensures.spared.no_fall c.commit.ensures.spared.no_fall;
       loses = tt;
     }

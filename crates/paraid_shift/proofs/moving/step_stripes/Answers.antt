@@ -103,6 +103,7 @@ returns-then-end-from g c =
         };
         steps = inl (core_steps_within g.R.Rack.slot_count g.R.Rack.slot g.R.Rack.told a a 0 1 (omega arith) (core_steps_none g.R.Rack.slot_count g.R.Rack.slot g.R.Rack.told a));
       };
+      slots = refl;
       no_fall = λ d. le_refl _;
       loses = tt;
     }
@@ -110,6 +111,7 @@ returns-then-end-from g c =
 pub returns-in_err-done : goal.returns-in_err-done
 returns-in_err-done g c = record {
   steps = none_done_if _ c.from_residual.result _ c.from_residual.ensures.1;
+  slots = c.move_stripes.ensures.slots;
   no_fall = c.move_stripes.ensures.spared.no_fall;
   loses = handed (λ two. LosesSecond g.R.Rack.slot_count g.R.Rack.slot g.R.Rack.told c.args.core.now c.move_stripes.new.core 1 two) c.from_residual.result _ c.from_residual.ensures.1 c.in_err-done.ensures.loses;
 }
@@ -137,6 +139,7 @@ returns-then-not-done g c =
         };
         steps = inl (core_steps_within g.R.Rack.slot_count g.R.Rack.slot g.R.Rack.told a b 0 1 (omega arith) (marks.steps failed));
       };
+      slots = c.move_stripes.ensures.slots;
       no_fall = c.move_stripes.ensures.spared.no_fall;
       loses = tt;
     }
@@ -169,6 +172,7 @@ returns-then-has_ended g c =
         };
         steps = inr ((ended, whole), core_waits_within g.R.Rack.slot_count g.R.Rack.slot g.R.Rack.told a b b.meta 0 1 (omega arith) (marks.waits done));
       };
+      slots = c.move_stripes.ensures.slots;
       no_fall = c.move_stripes.ensures.spared.no_fall;
       loses = tt;
     }
@@ -185,6 +189,7 @@ returns-in_err-commit g c =
     let lost = c.in_err-commit.ensures.loses in
     record {
       steps = none_done_if _ from.result _ from.ensures.1;
+      slots = c.commit.ensures.slots ∙ c.move_stripes.ensures.slots;
       no_fall = no_fall_then g.R.Rack.slot a b new c.move_stripes.ensures.spared.no_fall c.commit.ensures.spared.no_fall;
       loses = handed (λ two. LosesSecond g.R.Rack.slot_count g.R.Rack.slot g.R.Rack.told a new 1 two) from.result _ from.ensures.1
           (record {
@@ -227,6 +232,7 @@ returns g c =
         };
         steps = inl (marks_committed g.R.Rack.slot_count g.R.Rack.slot g.R.Rack.told a b new b.meta 0 (marks.waits done) made.leaves.slots made.epoch (λ d. refl) (made.marked (none_away g.R.Rack.slot b whole)));
       };
+      slots = c.commit.ensures.slots ∙ c.move_stripes.ensures.slots;
       no_fall = no_fall_then g.R.Rack.slot a b new c.move_stripes.ensures.spared.no_fall c.commit.ensures.spared.no_fall;
       loses = tt;
     }

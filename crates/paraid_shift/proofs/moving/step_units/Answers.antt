@@ -56,6 +56,7 @@ returns-in_err-cells g c =
     let new = c.step_cells.new.core in
     record {
       steps = none_done_if _ c.from_residual.result _ c.from_residual.ensures.1;
+      slots = c.step_cells.ensures.slots;
       no_fall = c.step_cells.ensures.no_fall;
       loses = handed (λ two. LosesSecond g.R.Rack.slot_count g.R.Rack.slot g.R.Rack.told a new (c.args.most + 1) two) c.from_residual.result _ c.from_residual.ensures.1
           (second_within g.R.Rack.slot_count g.R.Rack.slot g.R.Rack.told a new c.args.most (c.args.most + 1) _ (one_more c.args.most) c.in_err-cells.ensures.loses);
@@ -73,6 +74,7 @@ returns-in_default g c =
         moves = record { moves = was.moves.moves; all = λ none. absurd (c.in_default.not-No (c.out.ensures ∙ none)); ended = was.moves.ended };
         steps = inl (core_steps_within g.R.Rack.slot_count g.R.Rack.slot g.R.Rack.told a b c.args.most (c.args.most + 1) (one_more c.args.most) was.steps);
       };
+      slots = c.step_cells.ensures.slots;
       no_fall = c.step_cells.ensures.no_fall;
       loses = tt;
     }
@@ -89,6 +91,7 @@ returns-then-staged-ne0 g c =
         moves = record { moves = was.moves.moves; all = λ none. inr (was.moves.ended (staged_some b.batch _ c.staged.ensures c.if-staged-ne0.true)); ended = was.moves.ended };
         steps = inl (core_steps_within g.R.Rack.slot_count g.R.Rack.slot g.R.Rack.told a b c.args.most (c.args.most + 1) (one_more c.args.most) was.steps);
       };
+      slots = c.step_cells.ensures.slots;
       no_fall = c.step_cells.ensures.no_fall;
       loses = tt;
     }
@@ -102,6 +105,7 @@ returns-in_err-stripes g c =
     let from = c.from_residual-in_err-stripes in
     record {
       steps = none_done_if _ from.result _ from.ensures.1;
+      slots = c.step_stripes.ensures.slots ∙ c.step_cells.ensures.slots;
       no_fall = no_fall_then g.R.Rack.slot a b new c.step_cells.ensures.no_fall c.step_stripes.ensures.no_fall;
       loses = handed (λ two. LosesSecond g.R.Rack.slot_count g.R.Rack.slot g.R.Rack.told a new (c.args.most + 1) two) from.result _ from.ensures.1
           (second_then g.R.Rack.slot_count g.R.Rack.slot g.R.Rack.told a b new c.args.most 1 (c.args.most + 1) _ (same_more c.args.most) was.serves.leaves was.steps c.step_stripes.ensures.no_fall c.in_err-stripes.ensures.loses);
@@ -122,6 +126,7 @@ returns g c =
         moves = up_to_more g.R.Rack.slot_count a b new _ c.args.most c.in_ok-cells.cells c.in_ok-stripes.stripes was.moves.moves whole was.serves.leaves.setup was.few more.moves;
         steps = steps_or_waits_then g.R.Rack.slot_count g.R.Rack.slot g.R.Rack.told a b new c.args.most 1 (c.args.most + 1) (same_more c.args.most) was.steps more.steps;
       };
+      slots = c.step_stripes.ensures.slots ∙ c.step_cells.ensures.slots;
       no_fall = no_fall_then g.R.Rack.slot a b new c.step_cells.ensures.no_fall c.step_stripes.ensures.no_fall;
       loses = tt;
     }

@@ -24,6 +24,7 @@ returns-in_default g c =
         steps = inl (core_steps_within g.R.Rack.slot_count g.R.Rack.slot g.R.Rack.told a a 0 (c.args.most + 1) (omega arith) (core_steps_none g.R.Rack.slot_count g.R.Rack.slot g.R.Rack.told a));
       };
       idle = λ out. (refl, refl);
+      slots = refl;
       no_fall = λ d. le_refl _;
       loses = tt;
     }
@@ -36,6 +37,7 @@ returns g c =
     record {
       steps = if_map {Q = λ count. StepsOn g.R.Rack.slot_count g.R.Rack.slot a b c.args.most (c.args.most + 1) count (a.meta.out ≡ No → MovesUpTo g.R.Rack.slot_count a b (AreUnitsDone b.meta b.dirty) c.args.most count) (StepsOrWaits g.R.Rack.slot_count g.R.Rack.told a b (c.args.most + 1))} _ (λ count k. record { serves = k.serves; few = k.few; moves = λ is. k.moves; steps = k.steps }) c.step_units.ensures.steps;
       idle = if_map {Q = λ count. a.meta.out ≢ No → (count ≡ 0) × (b ≡ a)} _ (λ count k out. absurd (out whole)) c.step_units.ensures.steps;
+      slots = c.step_units.ensures.slots;
       no_fall = c.step_units.ensures.no_fall;
       loses = c.step_units.ensures.loses;
     }

@@ -67,6 +67,7 @@ returns-in_err-done g c =
       leaves = none_done _ from.result _ from.ensures.1;
       same = λ is. none_done_as _ from.result _ _ from.ensures.1 is;
       gone = λ is. none_done_as _ from.result _ _ from.ensures.1 is;
+      slots = all.slots ∙ was.leaves.slots;
       spared = spared_then (g.R.Rack.slot (store_rack a.store)) (g.R.Rack.slot (store_rack b.store)) (g.R.Rack.slot (store_rack new.store)) was.leaves.spared all.spared;
       tells = handed (λ two. TellsSecond g.R.Rack.slot g.R.Rack.told a new two) from.result _ from.ensures.1
           (record {
@@ -94,6 +95,7 @@ returns-then-not-done g c =
       leaves = leaves_then g.R.Rack.slot_count g.R.Rack.slot g.R.Rack.told a b was.leaves new done.leaves;
       same = λ is. let z : Ok false ≡ Ok true = is in cc;
       gone = λ is. let lost = done.failed failed in named_not new.meta.out lost.disk (ap (λ (m : Meta). named_out m.out) lost.gone);
+      slots = all.slots ∙ was.leaves.slots;
       spared = spared_then (g.R.Rack.slot (store_rack a.store)) (g.R.Rack.slot (store_rack b.store)) (g.R.Rack.slot (store_rack new.store)) was.leaves.spared all.spared;
       tells = tt;
       filled = λ is. let z : Ok false ≡ Ok true = is in cc;
@@ -117,6 +119,7 @@ returns g c =
       leaves = was.leaves;
       same = λ is. was.meta;
       gone = λ is. let z : Ok true ≡ Ok false = is in cc;
+      slots = was.leaves.slots;
       spared = was.leaves.spared;
       tells = tt;
       filled = λ is h lo.

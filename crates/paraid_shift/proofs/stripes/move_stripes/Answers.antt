@@ -93,6 +93,7 @@ returns-in_err-done g c =
     let from = c.from_residual in
     record {
       marks = none_done_if _ from.result _ from.ensures.1;
+      slots = call.slots;
       spared = call.spared;
       loses = handed (λ two. LosesSecond g.R.Rack.slot_count g.R.Rack.slot g.R.Rack.told a new 1 two) from.result _ from.ensures.1
           (record {
@@ -111,6 +112,7 @@ returns-in_err-settle g c =
     let from = c.from_residual-in_err-settle in
     record {
       marks = none_done_if _ from.result _ from.ensures.1;
+      slots = c.settle.ensures.slots ∙ call.slots;
       spared = spared_then (g.R.Rack.slot (store_rack a.store)) (g.R.Rack.slot (store_rack b.store)) (g.R.Rack.slot (store_rack new.store)) call.spared c.settle.ensures.spared;
       loses = handed (λ two. LosesSecond g.R.Rack.slot_count g.R.Rack.slot g.R.Rack.told a new 1 two) from.result _ from.ensures.1
           (record {
@@ -153,6 +155,7 @@ failed g c out =
 pub returns-then-not-done : goal.returns-then-not-done
 returns-then-not-done g c = record {
   marks = failed g c.before (out_stays _ _ c.in_ok-settle.ensures.leaves.meta (c.in_ok-done.ensures.gone (ap Ok c.if-not-done.true)));
+  slots = (left g c.before).slots;
   spared = (left g c.before).spared;
   loses = tt;
 }
@@ -160,6 +163,7 @@ returns-then-not-done g c = record {
 pub returns-then-is_any : goal.returns-then-is_any
 returns-then-is_any g c = record {
   marks = failed g c.before.before.before.before (has_some _ (ap has_out (sym c.out.ensures) ∙ sym c.is_any.ensures ∙ c.if-is_any.true));
+  slots = (left g c.before.before.before.before).slots;
   spared = (left g c.before.before.before.before).spared;
   loses = tt;
 }
@@ -197,6 +201,7 @@ returns g c =
         gone = λ is. let z : true ≡ false = is in absurd cc;
         steps = λ is. let z : true ≡ false = is in absurd cc;
       };
+      slots = ap (λ (z : _). g.R.Rack.slot_count (store_rack z)) marked.store ∙ l.slots;
       spared = subst (λ (z : _). OnlyLosesSlots (g.R.Rack.slot (store_rack a.store)) (g.R.Rack.slot (store_rack z))) (sym marked.store) l.spared;
       loses = tt;
     }

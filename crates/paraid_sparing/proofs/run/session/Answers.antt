@@ -41,6 +41,7 @@ pub returns-in-Err-Source : goal.returns-in-Err-Source
 returns-in-Err-Source g c = record {
   session = ends_at_source c.lines.invariant.sofar c.in-Err-Source.ensures.heard;
   told = c.lines.invariant.told;
+  slots = c.lines.invariant.slots;
   setup = c.lines.invariant.setup;
   going = tt;
   failed = tt;
@@ -55,6 +56,7 @@ pub returns-in-Err-TooLong : goal.returns-in-Err-TooLong
 returns-in-Err-TooLong g c = record {
   session = ends_too_long c.lines.invariant.sofar c.in-Err-TooLong.ensures.heard (c.in-Err-TooLong.ensures.too_long c.in-Err-TooLong.field-0-0 (ap Err c.in-Err-TooLong.field-0-is));
   told = c.lines.invariant.told;
+  slots = c.lines.invariant.slots;
   setup = c.lines.invariant.setup;
   going = tt;
   failed = tt;
@@ -74,6 +76,7 @@ returns-in_default g c = record {
       let h = rw c.in-Ok-Some.field-0-is at c.in-Ok-Some.ensures.heard in
       ends_at_sink i.sofar h _ _ _ _ _ _ i.slots i.setup (told_then _ _ e.told) (λ q w j at keeps. e.serves q w j at keeps) e.form _ p.0 (rw (c.as_slice.ensures.value, c.as_slice-in-lines.ensures.value) at p.1);
   told = grows_then _ _ _ c.lines.invariant.told c.answer_line.ensures.told;
+  slots = c.answer_line.ensures.slots ∙ c.lines.invariant.slots;
   setup = c.answer_line.ensures.setup ∙ c.lines.invariant.setup;
   going = tt;
   failed = tt;
@@ -91,6 +94,7 @@ returns-in-Ok-finish g c = record {
       let f = c.in-Ok-finish.ensures in
       ends_well i.sofar (rw c.in-Ok-None.field-0-is at c.in-Ok-None.ensures.heard) _ _ _ _ i.slots i.setup (told_then _ _ f.told) c.in-Ok-finish.writes f.turn;
   told = grows_then _ _ _ c.lines.invariant.told c.in-Ok-finish.ensures.told;
+  slots = c.in-Ok-finish.ensures.slots ∙ c.lines.invariant.slots;
   setup = c.in-Ok-finish.ensures.setup ∙ c.lines.invariant.setup;
   going = c.in-Ok-finish.ensures.going;
   failed = tt;
@@ -108,6 +112,7 @@ returns-in-Err g c = record {
       let f = c.in-Err.ensures in
       ends_halted i.sofar (rw c.in-Ok-None.field-0-is at c.in-Ok-None.ensures.heard) _ _ _ _ i.slots i.setup (told_then _ _ f.told) c.in-Err.halt f.turn;
   told = grows_then _ _ _ c.lines.invariant.told c.in-Err.ensures.told;
+  slots = c.in-Err.ensures.slots ∙ c.lines.invariant.slots;
   setup = c.in-Err.ensures.setup ∙ c.lines.invariant.setup;
   going = tt;
   failed = (c.in-Err.ensures.since (g.A.Serves.slot c.args.array.now) c.lines.invariant.since).lost;

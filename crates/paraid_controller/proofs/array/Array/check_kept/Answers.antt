@@ -35,6 +35,7 @@ invariant_of-self g c =
     record {
       serving = λ e. serving_then g.R.Rack.slot_count g.R.Rack.slot a.core c.check.new.core (lengths_of a.windows) a.setup a.slots false (a.serving e) done.marks done.setup done.slots done.ready done.serves
           (done.draft ∙ (a.serving e).serving.draft) all.copied done.unsynced done.named;
+      counted = c.check.ensures.slots ∙ c.args.self.now.counted;
       worn = going_wear c.check.new.core.meta c.args.self.now.ended c.requires.going;
     }
 
@@ -94,4 +95,4 @@ returns-in-Err g c = record {
 }
 
 pub invariant_of-self-in-Err : goal.invariant_of-self-in-Err
-invariant_of-self-in-Err g c = record { serving = λ e. ended_not_none _ e; worn = two_wear c.check.new.core.meta c.in-Err.two }
+invariant_of-self-in-Err g c = record { serving = λ e. ended_not_none _ e; counted = c.check.ensures.slots ∙ c.args.self.now.counted; worn = two_wear c.check.new.core.meta c.in-Err.two }

@@ -31,6 +31,7 @@ invariant_of-self g c =
     record {
       serving = λ e. serving_then g.R.Rack.slot_count g.R.Rack.slot a.core c.commit.new.self (lengths_of a.windows) a.setup a.slots true (a.serving e) done.marks done.setup c.commit.ensures.slots done.ready (done.serves (a.serving e).serving.serves)
           (all.draft ∙ (a.serving e).serving.draft) all.copied done.unsynced done.named;
+      counted = c.commit.ensures.slots ∙ c.args.self.now.counted;
       worn = going_wear c.commit.new.self.meta c.args.self.now.ended c.requires.going;
     }
 
@@ -83,4 +84,4 @@ returns-in-Err g c = record {
 }
 
 pub invariant_of-self-in-Err : goal.invariant_of-self-in-Err
-invariant_of-self-in-Err g c = record { serving = λ e. ended_not_none _ e; worn = two_wear c.commit.new.self.meta c.in-Err.two }
+invariant_of-self-in-Err g c = record { serving = λ e. ended_not_none _ e; counted = c.commit.ensures.slots ∙ c.args.self.now.counted; worn = two_wear c.commit.new.self.meta c.in-Err.two }

@@ -38,6 +38,7 @@ invariant_of-self g c =
     record {
       serving = λ e. let q = a.serving e in serving_of g.R.Rack.slot_count g.R.Rack.slot c.down.new.core (lengths_of a.windows) a.setup a.slots
           done.serving (done.known (known_of g.R.Rack.slot_count g.R.Rack.slot a.core (lengths_of a.windows) a.setup a.slots q)) q.windows (done.leaves.setup ∙ q.same_setup) (done.leaves.slots ∙ q.same_slots);
+      counted = c.down.ensures.slots ∙ c.args.self.now.counted;
       worn = going_wear c.down.new.core.meta c.args.self.now.ended c.requires.going;
     }
 
@@ -105,4 +106,4 @@ returns-in-Err g c = record {
 }
 
 pub invariant_of-self-in-Err : goal.invariant_of-self-in-Err
-invariant_of-self-in-Err g c = record { serving = λ e. ended_not_none _ e; worn = two_wear c.down.new.core.meta c.in-Err.two }
+invariant_of-self-in-Err g c = record { serving = λ e. ended_not_none _ e; counted = c.down.ensures.slots ∙ c.args.self.now.counted; worn = two_wear c.down.new.core.meta c.in-Err.two }

@@ -40,6 +40,7 @@ invariant_of-self g c =
       serving = λ e. let q = a.serving e in serving_of g.R.Rack.slot_count g.R.Rack.slot c.take_out.new.core (lengths_of a.windows) a.setup a.slots
           (service_serving g.R.Rack.slot_count g.R.Rack.slot c.take_out.new.core done.service (done.unsynced q.serving.unsynced))
           (done.known (known_of g.R.Rack.slot_count g.R.Rack.slot a.core (lengths_of a.windows) a.setup a.slots q)) q.windows (done.setup ∙ q.same_setup) (c.take_out.ensures.slots ∙ q.same_slots);
+      counted = c.take_out.ensures.slots ∙ c.args.self.now.counted;
       worn = going_wear c.take_out.new.core.meta c.args.self.now.ended c.requires.going;
     }
 
@@ -95,4 +96,4 @@ returns-in-Err g c = record {
 }
 
 pub invariant_of-self-in-Err : goal.invariant_of-self-in-Err
-invariant_of-self-in-Err g c = record { serving = λ e. ended_not_none _ e; worn = two_wear c.take_out.new.core.meta c.in-Err.two }
+invariant_of-self-in-Err g c = record { serving = λ e. ended_not_none _ e; counted = c.take_out.ensures.slots ∙ c.args.self.now.counted; worn = two_wear c.take_out.new.core.meta c.in-Err.two }

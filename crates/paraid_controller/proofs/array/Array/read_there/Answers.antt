@@ -42,6 +42,7 @@ invariant_of-self g c =
     record {
       serving = λ e. serving_then g.R.Rack.slot_count g.R.Rack.slot a.core c.read.new.self (lengths_of a.windows) a.setup a.slots (read_commits_first c.args.self.now.core.meta c.args.self.now.core.dirty c.args.self.now.core.batch c.args.block) (a.serving e) done.marks done.setup c.read.ensures.slots done.ready done.serves
           done.draft done.copied done.unsynced done.names;
+      counted = c.read.ensures.slots ∙ c.args.self.now.counted;
       worn = going_wear c.read.new.self.meta c.args.self.now.ended c.requires.going;
     }
 
@@ -93,4 +94,4 @@ returns-in-Err g c = record {
 }
 
 pub invariant_of-self-in-Err : goal.invariant_of-self-in-Err
-invariant_of-self-in-Err g c = record { serving = λ e. ended_not_none _ e; worn = two_wear c.read.new.self.meta c.in-Err.two }
+invariant_of-self-in-Err g c = record { serving = λ e. ended_not_none _ e; counted = c.read.ensures.slots ∙ c.args.self.now.counted; worn = two_wear c.read.new.self.meta c.in-Err.two }

@@ -39,6 +39,7 @@ invariant_of-self g c =
     record {
       serving = λ e. let q = a.serving e in serving_of g.R.Rack.slot_count g.R.Rack.slot c.replace.new.core (lengths_of a.windows) a.setup a.slots
           done.serving done.known q.windows (done.setup ∙ q.same_setup) (done.slots ∙ q.same_slots);
+      counted = c.replace.ensures.slots ∙ c.args.self.now.counted;
       worn = going_wear c.replace.new.core.meta c.args.self.now.ended c.requires.going;
     }
 
@@ -96,4 +97,4 @@ returns-in-Err g c = record {
 }
 
 pub invariant_of-self-in-Err : goal.invariant_of-self-in-Err
-invariant_of-self-in-Err g c = record { serving = λ e. ended_not_none _ e; worn = two_wear c.replace.new.core.meta c.in-Err.two }
+invariant_of-self-in-Err g c = record { serving = λ e. ended_not_none _ e; counted = c.replace.ensures.slots ∙ c.args.self.now.counted; worn = two_wear c.replace.new.core.meta c.in-Err.two }

@@ -66,6 +66,7 @@ invariant_of-self g c =
       serving = λ e. let q = a.serving e in serving_of g.R.Rack.slot_count g.R.Rack.slot c.advance.new.core (lengths_of c.push.new.self) a.setup a.slots
           done.serving done.known (c.push.ensures.lengths ∙ q.windows) (done.leaves.setup ∙ ap (λ (m : Meta). m.setup) t.meta ∙ q.same_setup)
           (done.leaves.slots ∙ ap (λ (s : Store _ _). g.R.Rack.slot_count s.rack) t.store ∙ q.same_slots);
+      counted = c.advance.ensures.slots ∙ ap (λ (s : Store _ _). g.R.Rack.slot_count s.rack) c.count_tick.ensures.store ∙ c.args.self.now.counted;
       worn = going_wear c.advance.new.core.meta c.args.self.now.ended c.requires.going;
     }
 
@@ -183,4 +184,4 @@ returns-in-Err g c = record {
 }
 
 pub invariant_of-self-in-Err : goal.invariant_of-self-in-Err
-invariant_of-self-in-Err g c = record { serving = λ e. ended_not_none _ e; worn = two_wear c.advance.new.core.meta c.in-Err.two }
+invariant_of-self-in-Err g c = record { serving = λ e. ended_not_none _ e; counted = c.advance.ensures.slots ∙ ap (λ (s : Store _ _). g.R.Rack.slot_count s.rack) c.count_tick.ensures.store ∙ c.args.self.now.counted; worn = two_wear c.advance.new.core.meta c.in-Err.two }

@@ -9,7 +9,7 @@ use Rattle.paraid_base.specs.Pairs.{pairs_of}
 use Rattle.paraid_base.specs.declared.block.Block.{Block}
 use Rattle.std.specs.Prelude.{All}
 use Rattle.paraid_controller.specs.Lasting.{halt_of_end}
-use Rattle.std.proofs.Common.{refl, ap, ◌+◌, ◌*◌, Some, ℕ, ◌<◌, arith, subst, sym}
+use Rattle.std.proofs.Common.{refl, ap, ◌+◌, ◌*◌, Some, ℕ, ◌<◌, arith, subst, sym, ◌∙◌}
 use Rattle.paraid_base.specs.declared.fault.Halt.TheVariants.{Two as HaltTwo}
 use Rattle.paraid_record.specs.declared.meta.Meta.{Meta}
 use Rattle.paraid_gear.specs.ThreeWindows.{lengths_of}
@@ -44,6 +44,7 @@ invariant_of-self g c =
     record {
       serving = λ e. serving_then g.R.Rack.slot_count g.R.Rack.slot a.core c.write_many.new.self (lengths_of a.windows) a.setup a.slots (commits_first c.args.self.now.core.batch (10 * c.args.pairs.now.count)) (a.serving e) done.marks done.setup c.write_many.ensures.slots done.ready done.serves
           done.draft done.copied done.unsynced done.names;
+      counted = c.write_many.ensures.slots ∙ c.args.self.now.counted;
       worn = going_wear c.write_many.new.self.meta c.args.self.now.ended c.requires.going;
     }
 
@@ -95,7 +96,7 @@ returns-in-Err g c = record {
 }
 
 pub invariant_of-self-in-Err : goal.invariant_of-self-in-Err
-invariant_of-self-in-Err g c = record { serving = λ e. ended_not_none _ e; worn = two_wear c.write_many.new.self.meta c.in-Err.two }
+invariant_of-self-in-Err g c = record { serving = λ e. ended_not_none _ e; counted = c.write_many.ensures.slots ∙ c.args.self.now.counted; worn = two_wear c.write_many.new.self.meta c.in-Err.two }
 
 pub overflow_add-result : goal.overflow_add-result
 overflow_add-result g c = let w = subst (λ (m : Meta). m.writes < worn_at) (sym c.meta-2.ensures) c.requires.writes in omega (arith, w)

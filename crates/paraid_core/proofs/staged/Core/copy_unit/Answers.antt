@@ -26,6 +26,7 @@ returns-in_default g c = record {
       (gathered_leaves g.R.Rack.slot_count g.R.Rack.slot g.R.Rack.told c.args.self.now c.requires.ready c.read_unit.new.store c.in_default.ensures.read c.requires.serves.stays) c.write_unit.new.self was_so) c.write_unit.ensures.leaves;
   same = λ is. c.write_unit.ensures.same is;
   spins = λ is. c.write_unit.ensures.spins is;
+  slots = c.write_unit.ensures.slots ∙ c.in_default.ensures.read.slots;
   spared = spared_then (g.R.Rack.slot (store_rack c.args.self.now.store)) (g.R.Rack.slot (store_rack c.read_unit.new.store)) (g.R.Rack.slot (store_rack c.write_unit.new.self.store)) (left_spared _ _ _ c.in_default.ensures.read.left) c.write_unit.ensures.spared;
   two = IfErr-weaker c.write_unit.result _ _ (λ two down. two_then g.R.Rack.slot_count g.R.Rack.slot g.R.Rack.told c.args.self.now (record c.args.self.now { store = c.read_unit.new.store })
       (gathered_leaves g.R.Rack.slot_count g.R.Rack.slot g.R.Rack.told c.args.self.now c.requires.ready c.read_unit.new.store c.in_default.ensures.read c.requires.serves.stays) c.write_unit.new.self c.write_unit.ensures.spared _ down) c.write_unit.ensures.two;
@@ -87,6 +88,7 @@ returns g c = record {
   leaves = tt;
   same = λ is. err_not_ok _ _ _ is;
   spins = λ is. err_not_ok _ _ _ is;
+  slots = c.in-Err.ensures.read.slots;
   spared = left_spared _ _ _ c.in-Err.ensures.read.left;
   -- the disk that is rebuilt was out, and another one has failed
   two =

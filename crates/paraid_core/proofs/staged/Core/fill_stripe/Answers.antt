@@ -12,7 +12,6 @@ use Rattle.paraid_view.proofs.TwoLemmas.{left_spared, spared_then}
 use Rattle.paraid_core.specs.declared.staged.Core.{Core}
 use Rattle.paraid_core.specs.Cores.{CoreStandsFor}
 use Rattle.paraid_core.specs.Fills.{Filled, Filling}
-use Rattle.paraid_core.proofs.AfterLemmas.{handed}
 use Rattle.paraid_core.proofs.FillLemmas.{gather_held, gather_lost_leaves, gather_lost_stands, gathered, gathered_leaves, can_read_whole, gear_to}
 use Rattle.paraid_core.proofs.StepLemmas.{held_runs_then, leaves_then, runs_then, two_then}
 use Rattle.paraid_txn.specs.Commit.{gone_out}
@@ -20,11 +19,9 @@ use Rattle.paraid_core.proofs.KindLemmas.{calls_then, calls_whole}
 use Rattle.paraid_core.proofs.LostMarkLemmas.{loses_after, loses_read, marks_read, marks_then}
 use Rattle.paraid_core.proofs.ReadyLemmas.{some_is}
 use Rattle.paraid_core.proofs.OrderLemmas.{tells_unhurt}
-use Rattle.paraid_rack.specs.Told.{Ran}
 use Rattle.paraid_image.specs.Out.{named_out}
-use Rattle.paraid_image.specs.Lost.{TellsLosses}
 use Rattle.paraid_core.proofs.OrderLemmas.{lose_tells}
-use Rattle.paraid_core.proofs.ErrLemmas.{done_not_dropped, none_done, none_done_as, two_lost}
+use Rattle.paraid_core.proofs.ErrLemmas.{two_lost}
 use Rattle.paraid_core.proofs.staged.Core.fill_stripe.Goals as goal
 
 pub returns-in_default : goal.returns-in_default
@@ -32,6 +29,7 @@ returns-in_default g c = record {
   leaves = on_ok_weaker c.write_members.result (λ was_so. leaves_then g.R.Rack.slot_count g.R.Rack.slot g.R.Rack.told c.args.self.now (record c.args.self.now { store = c.gather.new.store })
       (gathered_leaves g.R.Rack.slot_count g.R.Rack.slot g.R.Rack.told c.args.self.now c.requires.ready c.gather.new.store c.in_default.ensures.read c.requires.serves.stays) c.write_members.new.self was_so) c.write_members.ensures.leaves;
   same = λ is. c.write_members.ensures.same is;
+  slots = c.write_members.ensures.slots ∙ c.in_default.ensures.read.slots;
   spared = spared_then (g.R.Rack.slot (store_rack c.args.self.now.store)) (g.R.Rack.slot (store_rack c.gather.new.store)) (g.R.Rack.slot (store_rack c.write_members.new.self.store)) (left_spared _ _ _ c.in_default.ensures.read.left) c.write_members.ensures.spared;
   two = IfErr-weaker c.write_members.result _ _ (λ two down. two_then g.R.Rack.slot_count g.R.Rack.slot g.R.Rack.told c.args.self.now (record c.args.self.now { store = c.gather.new.store })
       (gathered_leaves g.R.Rack.slot_count g.R.Rack.slot g.R.Rack.told c.args.self.now c.requires.ready c.gather.new.store c.in_default.ensures.read c.requires.serves.stays) c.write_members.new.self c.write_members.ensures.spared _ down) c.write_members.ensures.two;
@@ -80,6 +78,7 @@ returns g c = record {
   leaves = on_ok_weaker c.put_out.result (λ put. gather_lost_leaves g.R.Rack.slot_count g.R.Rack.slot g.R.Rack.told c.args.self.now c.requires.ready c.gather.new.store c.in-Err.disk c.in-Err.ensures.read c.in-Err.ensures.below c.requires.whole c.requires.serves.stays c.put_out.new.meta
       put.marked) c.put_out.ensures.out;
   same = λ is. absurd (c.put_out.ensures.never is);
+  slots = c.in-Err.ensures.read.slots;
   spared = left_spared _ _ _ c.in-Err.ensures.read.left;
   two =
       let old = c.args.self.now in

@@ -23,15 +23,12 @@ use Rattle.paraid_core.proofs.ReadyLemmas.{IsLostOnly, some_is}
 use Rattle.paraid_core.proofs.KindLemmas.{one_call, may_park}
 use Rattle.paraid_rack.specs.Trail.{now}
 use Rattle.paraid_core.proofs.OrderLemmas.{call_tells}
-use Rattle.paraid_rack.specs.Told.{Ran}
-use Rattle.paraid_image.specs.Lost.{TellsLosses}
-use Rattle.paraid_core.proofs.AfterLemmas.{handed}
 use Rattle.paraid_core.proofs.staged.Core.park.Given.{Over}
 use Rattle.paraid_core.proofs.TurnLemmas.{only_turns}
 use Rattle.std.proofs.lemmas.Bool.{cases_eq, false≢true}
 use Rattle.paraid_core.proofs.UnsyncedLemmas.{gone_marked}
 use Rattle.paraid_core.proofs.staged.Core.park.Goals as goal
-use Rattle.paraid_core.proofs.ErrLemmas.{done_not_dropped, none_done, none_done_as, two_lost}
+use Rattle.paraid_core.proofs.ErrLemmas.{done_not_dropped, two_lost}
 use Rattle.paraid_core.proofs.staged.Core.park.Goals.{After-put_out}
 
 -- it failed, and no other disk is out

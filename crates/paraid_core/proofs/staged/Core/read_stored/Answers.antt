@@ -20,12 +20,9 @@ use Rattle.paraid_core.proofs.StoredLemmas.{keeps_read}
 use Rattle.paraid_core.proofs.KindLemmas.{one_call}
 use Rattle.paraid_core.proofs.LostMarkLemmas.{marks_done, marks_failed}
 use Rattle.paraid_core.proofs.OrderLemmas.{call_tells}
-use Rattle.paraid_rack.specs.Told.{Ran}
-use Rattle.paraid_image.specs.Lost.{TellsLosses}
-use Rattle.paraid_core.proofs.AfterLemmas.{handed}
 use Rattle.paraid_core.proofs.staged.Core.read_stored.Given.{Over}
 use Rattle.paraid_core.proofs.staged.Core.read_stored.Goals as goal
-use Rattle.paraid_core.proofs.ErrLemmas.{done_not_dropped, none_done, none_done_as, two_lost}
+use Rattle.paraid_core.proofs.ErrLemmas.{done_not_dropped, two_lost}
 use Rattle.paraid_core.proofs.staged.Core.read_stored.Goals.{After-put_out, In_default}
 
 -- it was done
@@ -58,6 +55,7 @@ returns-in_default g c = record {
       (call_spared 8 _ _ _ _ _ _ c.read.ensures.slot refl refl refl) (λ d is. cc) (marks_read _ _ _ _ _ _ c.read.ensures.slot _ refl);
   same = λ is. refl;
   copied = refl;
+  slots = c.read.ensures.slots;
   spared = call_spared 8 _ _ _ _ _ _ c.read.ensures.slot refl refl refl;
   still_synced = one_dry _ _ _ _ _ _ c.read.ensures.slot (λ wet. wet);
   two = tt;
@@ -84,6 +82,7 @@ returns g c = record {
       (λ d is. subst (λ (e : ℕ). HasRisen (g.R.Rack.slot (store_rack c.args.self.now.store) e).faults (g.R.Rack.slot (store_rack c.read.new.self) e).faults) (some_is c.args.disk d is) (c.read.ensures.slot.risen (failed g c put))) (marks_read _ _ _ _ _ _ c.read.ensures.slot _ refl)) c.put_out.ensures.out;
   same = λ is. absurd (c.put_out.ensures.never is);
   copied = refl;
+  slots = c.read.ensures.slots;
   spared = call_spared 8 _ _ _ _ _ _ c.read.ensures.slot refl refl refl;
   still_synced = one_dry _ _ _ _ _ _ c.read.ensures.slot (λ wet. wet);
   two =

@@ -11,7 +11,7 @@ use Rattle.paraid_image.specs.Sides.{Batch}
 use Rattle.paraid_image.specs.Standing.{contents}
 use Rattle.paraid_view.specs.Reads.{ShowsContents}
 use Rattle.paraid_image.specs.Out.{named_out, or_else, out_disk}
-use Rattle.paraid_view.proofs.TwoLemmas.{left_spared, left_synced}
+use Rattle.paraid_view.proofs.TwoLemmas.{left_spared}
 use Rattle.paraid_core.specs.CoreInvariant.{CanServe, lost_in, meta_with_lost}
 use Rattle.paraid_core.proofs.AfterLemmas.{down_named, handed, lost_in_is, lost_in_low, marked_setup, marked_writes, named_is_out, out_is_named, ready_after, ready_moved, serve_after, two_by}
 use Rattle.std.specs.Prelude.{false}

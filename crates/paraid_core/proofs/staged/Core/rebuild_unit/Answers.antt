@@ -33,6 +33,7 @@ returns g c = record {
   spins = λ is d named.
       let same : c.fresh_disk-disk.result ≡ d = some_is c.fresh_disk-disk.result d (sym (rebuilding_named c.args.self.now.meta c.fresh_disk-disk.result c.fresh_disk-disk.ensures) ∙ named) in
       subst (λ (x : ℕ). (g.R.Rack.slot (store_rack c.copy_unit.new.self.store) x).power ≡ Spinning) same (c.copy_unit.ensures.spins is);
+  slots = c.copy_unit.ensures.slots;
   spared = c.copy_unit.ensures.spared;
   two = c.copy_unit.ensures.two;
   tells = c.copy_unit.ensures.tells;
@@ -55,6 +56,7 @@ returns-then-is_passed g c = record {
   leaves = leaves_none g.R.Rack.slot_count g.R.Rack.slot g.R.Rack.told c.args.self.now c.requires.ready c.requires.serves.stays;
   same = λ is. refl;
   spins = λ is. c.requires.spins;
+  slots = refl;
   spared = record { power = λ d here. refl; size = λ d here. refl; no_fall = λ d. omega arith };
   two = tt;
   tells = tt;

@@ -57,6 +57,7 @@ loop-disk-preserved g c =
 pub returns-in_err-settle_one : goal.returns-in_err-settle_one
 returns-in_err-settle_one g c = record {
   leaves = none_done _ c.from_residual.result _ c.from_residual.ensures.1;
+  slots = c.settle_one.ensures.slots ∙ c.loop-disk.invariant.leaves.slots;
   spared = spared_then _ _ _ c.loop-disk.invariant.leaves.spared c.settle_one.ensures.spared;
   still_synced = dry_both (g.R.Rack.slot (store_rack c.args.self.now.store)) (g.R.Rack.slot (store_rack c.loop-disk.self.store)) (g.R.Rack.slot (store_rack c.settle_one.new.self.store)) c.loop-disk.invariant.still_synced c.settle_one.ensures.still_synced c.settle_one.ensures.spared;
   synced = none_done _ c.from_residual.result _ c.from_residual.ensures.1;
@@ -88,6 +89,7 @@ returns-in_err-settle_one g c = record {
 pub returns : goal.returns
 returns g c = record {
   leaves = c.loop-disk.invariant.leaves;
+  slots = c.loop-disk.invariant.leaves.slots;
   spared = c.loop-disk.invariant.leaves.spared;
   still_synced = c.loop-disk.invariant.still_synced;
   synced = λ d low is. let past = c.loop-disk-test.false in c.loop-disk.invariant.synced d (omega (arith, low, past)) is;

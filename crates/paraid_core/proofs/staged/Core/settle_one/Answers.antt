@@ -16,6 +16,7 @@ use Rattle.paraid_core.proofs.staged.Core.settle_one.Goals as goal
 pub returns : goal.returns
 returns g c = record {
   leaves = c.sync_disk.ensures.leaves;
+  slots = c.sync_disk.ensures.slots;
   spared = c.sync_disk.ensures.spared;
   still_synced = c.sync_disk.ensures.still_synced;
   synced = on_ok_weaker c.sync_disk.result (λ synced is. synced) c.sync_disk.ensures.synced;
@@ -34,6 +35,7 @@ returns g c = record {
 pub returns-then-not-self-disk : goal.returns-then-not-self-disk
 returns-then-not-self-disk g c = record {
   leaves = leaves_none g.R.Rack.slot_count g.R.Rack.slot g.R.Rack.told c.args.self.now c.requires.ready c.requires.still;
+  slots = refl;
   spared = (leaves_none g.R.Rack.slot_count g.R.Rack.slot g.R.Rack.told c.args.self.now c.requires.ready c.requires.still).spared;
   still_synced = λ d here wet. inl wet;
   synced = search rules;
@@ -55,6 +57,7 @@ returns-then-not-is_spinning g c = record {
       let idle : (g.R.Rack.slot (store_rack c.args.self.now.store) c.args.disk).power ≢ Spinning = (λ is. c.is_spinning.ensures.rests (c.if-not-is_spinning.true) (sym (sym c.power.ensures) ∙ is)) in
       leaves_unmarked g.R.Rack.slot_count g.R.Rack.slot g.R.Rack.told c.args.self.now _ c.requires.ready c.requires.still
       (marks_idle _ _ c.args.disk _ _ (g.met.R.Rack.slots_hold (store_rack c.args.self.now.store)) idle (cleared_at _ _));
+  slots = refl;
   spared = (leaves_none g.R.Rack.slot_count g.R.Rack.slot g.R.Rack.told c.args.self.now c.requires.ready c.requires.still).spared;
   still_synced = λ d here wet. inl wet;
   synced = search rules;

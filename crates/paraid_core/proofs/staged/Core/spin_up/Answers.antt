@@ -24,14 +24,11 @@ use Rattle.paraid_core.proofs.ReadyLemmas.{IsLostOnly, some_is}
 use Rattle.paraid_core.proofs.BeginLemmas.{lost_serves, up_serves}
 use Rattle.paraid_core.proofs.KindLemmas.{one_call}
 use Rattle.paraid_core.proofs.OrderLemmas.{call_tells}
-use Rattle.paraid_rack.specs.Told.{Ran}
-use Rattle.paraid_image.specs.Lost.{TellsLosses}
-use Rattle.paraid_core.proofs.AfterLemmas.{handed}
 use Rattle.paraid_core.proofs.staged.Core.spin_up.Given.{Over}
 use Rattle.paraid_core.proofs.TurnLemmas.{only_turns}
 use Rattle.paraid_core.proofs.UnsyncedLemmas.{gone_still}
 use Rattle.paraid_core.proofs.staged.Core.spin_up.Goals as goal
-use Rattle.paraid_core.proofs.ErrLemmas.{done_not_dropped, none_done, none_done_as, two_lost}
+use Rattle.paraid_core.proofs.ErrLemmas.{done_not_dropped, two_lost}
 use Rattle.paraid_core.proofs.staged.Core.spin_up.Goals.{After-put_out}
 
 -- it failed, and no other disk is out

@@ -10,7 +10,7 @@ use Rattle.paraid_core.proofs.AfterLemmas.{handed}
 use Rattle.paraid_core.proofs.FillLemmas.{gather_lost_leaves, gathered_leaves, can_read_whole}
 use Rattle.paraid_core.proofs.CopyCellLemmas.{cell_gathered, cell_lost, cell_reads_held, disk_in}
 use Rattle.paraid_core.proofs.StepLemmas.{held_runs_then, leaves_then, runs_then, two_then}
-use Rattle.std.proofs.Common.{sym, ap, ◌≡◌, ℕ, ◌<◌, None, Some, refl, subst}
+use Rattle.std.proofs.Common.{sym, ap, ◌≡◌, ℕ, ◌<◌, None, Some, refl, subst, ◌∙◌}
 use Rattle.paraid_txn.specs.Commit.{gone_out}
 use Rattle.paraid_core.proofs.KindLemmas.{calls_then, calls_whole}
 use Rattle.paraid_core.proofs.LostMarkLemmas.{loses_read, lost_after, marks_read, marks_then}
@@ -28,6 +28,7 @@ returns-in_default g c = record {
   leaves = on_ok_weaker c.write_cell.result (λ was_so. leaves_then g.R.Rack.slot_count g.R.Rack.slot g.R.Rack.told c.args.self.now (record c.args.self.now { store = c.read_value.new.store })
       (gathered_leaves g.R.Rack.slot_count g.R.Rack.slot g.R.Rack.told c.args.self.now c.requires.ready c.read_value.new.store c.in_default.ensures.read c.requires.serves.stays) c.write_cell.new.self was_so) c.write_cell.ensures.leaves;
   same = λ is. c.write_cell.ensures.same is;
+  slots = c.write_cell.ensures.slots ∙ c.in_default.ensures.read.slots;
   spared = spared_then (g.R.Rack.slot (store_rack c.args.self.now.store)) (g.R.Rack.slot (store_rack c.read_value.new.store)) (g.R.Rack.slot (store_rack c.write_cell.new.self.store)) (left_spared _ _ _ c.in_default.ensures.read.left) c.write_cell.ensures.spared;
   two = IfErr-weaker c.write_cell.result _ _ (λ two down. two_then g.R.Rack.slot_count g.R.Rack.slot g.R.Rack.told c.args.self.now (record c.args.self.now { store = c.read_value.new.store })
       (gathered_leaves g.R.Rack.slot_count g.R.Rack.slot g.R.Rack.told c.args.self.now c.requires.ready c.read_value.new.store c.in_default.ensures.read c.requires.serves.stays) c.write_cell.new.self c.write_cell.ensures.spared _ down) c.write_cell.ensures.two;
@@ -80,6 +81,7 @@ returns g c = record {
   leaves = on_ok_weaker c.put_out.result (λ put. gather_lost_leaves g.R.Rack.slot_count g.R.Rack.slot g.R.Rack.told c.args.self.now c.requires.ready c.read_value.new.store c.in-Err.lost c.in-Err.ensures.read c.in-Err.ensures.below c.requires.whole c.requires.serves.stays c.put_out.new.meta
       put.marked) c.put_out.ensures.out;
   same = λ is. absurd (c.put_out.ensures.never is);
+  slots = c.in-Err.ensures.read.slots;
   spared = left_spared _ _ _ c.in-Err.ensures.read.left;
   two =
       let old = c.args.self.now in

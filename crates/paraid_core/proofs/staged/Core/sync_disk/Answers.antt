@@ -23,12 +23,9 @@ use Rattle.paraid_core.proofs.SettleLemmas.{cleared_at, keeps_synced, keeps_unsy
 use Rattle.paraid_core.proofs.KindLemmas.{one_call}
 use Rattle.paraid_core.proofs.LostMarkLemmas.{marks_done, marks_failed}
 use Rattle.paraid_core.proofs.OrderLemmas.{call_tells}
-use Rattle.paraid_rack.specs.Told.{Ran}
-use Rattle.paraid_image.specs.Lost.{TellsLosses}
-use Rattle.paraid_core.proofs.AfterLemmas.{handed}
 use Rattle.paraid_core.proofs.staged.Core.sync_disk.Given.{Over}
 use Rattle.paraid_core.proofs.staged.Core.sync_disk.Goals as goal
-use Rattle.paraid_core.proofs.ErrLemmas.{both_put, none_done, two_lost}
+use Rattle.paraid_core.proofs.ErrLemmas.{both_put, two_lost}
 use Rattle.paraid_core.proofs.staged.Core.sync_disk.Goals.{After-lose, In_default}
 
 -- it was done
@@ -60,6 +57,7 @@ returns g c = record {
       (failed_only _ _ _ _ _ _ _ c.sync-answer.ensures.slot refl refl (failed g c put)) (λ d x is k. alone g c put x k ∙ some_is c.args.disk d is) (meta_is g c put)
       (call_spared 8 _ _ _ _ _ _ c.sync-answer.ensures.slot refl refl refl)
       (λ d is. subst (λ (e : ℕ). HasRisen (g.R.Rack.slot (store_rack c.args.self.now.store) e).faults (g.R.Rack.slot (store_rack c.sync-answer.new.self) e).faults) (some_is c.args.disk d is) (c.sync-answer.ensures.slot.risen (failed g c put))) (marks_cleared _ _ _ _ _ _ c.sync-answer.ensures.slot _ _ refl (cleared_at _ _))) (both_put c.lose.result c.args.self.now.meta c.lose.new.meta (Some c.args.disk) c.lose.ensures.marked c.lose.ensures.alone);
+  slots = c.sync-answer.ensures.slots;
   spared = call_spared 8 _ _ _ _ _ _ c.sync-answer.ensures.slot refl refl refl;
   still_synced = one_dry _ _ _ _ _ _ c.sync-answer.ensures.slot (λ wet. absurd (false≢true wet));
   synced = on_ok_weaker c.lose.result (λ put. one_synced _ _ _ _ _ _ c.sync-answer.ensures.slot refl) (both_put c.lose.result c.args.self.now.meta c.lose.new.meta (Some c.args.disk) c.lose.ensures.marked c.lose.ensures.alone);
@@ -90,6 +88,7 @@ returns-in_default g c = record {
       call_leaves g.R.Rack.slot_count g.R.Rack.slot c.args.self.now _ c.requires.ready c.requires.still c.sync-answer.ensures.slots c.sync-answer.ensures.same refl refl refl
       None (λ d is. cc) (done_only _ _ _ _ _ _ _ c.sync-answer.ensures.slot refl refl (done g c)) (λ d x is. cc) refl
       (call_spared 8 _ _ _ _ _ _ c.sync-answer.ensures.slot refl refl refl) (λ d is. cc) (marks_cleared _ _ _ _ _ _ c.sync-answer.ensures.slot _ _ refl (cleared_at _ _));
+  slots = c.sync-answer.ensures.slots;
   spared = call_spared 8 _ _ _ _ _ _ c.sync-answer.ensures.slot refl refl refl;
   still_synced = one_dry _ _ _ _ _ _ c.sync-answer.ensures.slot (λ wet. absurd (false≢true wet));
   synced = one_synced _ _ _ _ _ _ c.sync-answer.ensures.slot refl;

@@ -19,12 +19,9 @@ use Rattle.paraid_core.proofs.StripeLemmas.{keeps_unwritten, member_held, member
 use Rattle.paraid_core.proofs.KindLemmas.{gone_named, written_calls}
 use Rattle.paraid_core.proofs.LostMarkLemmas.{marks_done, marks_failed}
 use Rattle.paraid_core.proofs.OrderLemmas.{call_tells}
-use Rattle.paraid_rack.specs.Told.{Ran}
-use Rattle.paraid_image.specs.Lost.{TellsLosses}
-use Rattle.paraid_core.proofs.AfterLemmas.{handed}
 use Rattle.paraid_core.proofs.staged.Core.write_member.Given.{Over}
 use Rattle.paraid_core.proofs.staged.Core.write_member.Goals as goal
-use Rattle.paraid_core.proofs.ErrLemmas.{done_not_dropped, none_done, none_done_as, two_lost}
+use Rattle.paraid_core.proofs.ErrLemmas.{done_not_dropped, two_lost}
 use Rattle.paraid_core.proofs.staged.Core.write_member.Goals.{After-put_out}
 
 -- it failed, and no other disk is out
@@ -51,6 +48,7 @@ returns-in_default g c = record {
       None (λ d is. cc) (done_only _ _ _ _ _ _ _ c.write_free-answer.ensures.slot refl refl (ap is_ok c.in_default.is)) (λ d x is. cc) refl
       (call_spared 8 _ _ _ _ _ _ c.write_free-answer.ensures.slot refl refl refl) (λ d is. cc) (marks_written _ _ _ _ _ _ c.write_free-answer.ensures.slot _ _ (record { here = c.mark.ensures.here; others = c.mark.ensures.others }));
   same = λ is. refl;
+  slots = c.write_free-answer.ensures.slots;
   spared = call_spared 8 _ _ _ _ _ _ c.write_free-answer.ensures.slot refl refl refl;
   two = tt;
   tells = tt;
@@ -83,6 +81,7 @@ returns g c = record {
       (call_spared 8 _ _ _ _ _ _ c.write_free-answer.ensures.slot refl refl refl)
       (λ d is. subst (λ (e : ℕ). HasRisen (g.R.Rack.slot (store_rack c.args.self.now.store) e).faults (g.R.Rack.slot (store_rack c.write_free-answer.new.self) e).faults) (some_is c.args.disk d is) (c.write_free-answer.ensures.slot.risen (failed g c put))) (marks_written _ _ _ _ _ _ c.write_free-answer.ensures.slot _ _ (record { here = c.mark.ensures.here; others = c.mark.ensures.others }))) c.put_out.ensures.out;
   same = λ is. absurd (c.put_out.ensures.never is);
+  slots = c.write_free-answer.ensures.slots;
   spared = call_spared 8 _ _ _ _ _ _ c.write_free-answer.ensures.slot refl refl refl;
   two =
       let old = c.args.self.now in

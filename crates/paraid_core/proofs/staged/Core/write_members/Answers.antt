@@ -54,6 +54,7 @@ pub returns-in_err-done : goal.returns-in_err-done
 returns-in_err-done g c = record {
   leaves = none_done _ c.from_residual.result _ c.from_residual.ensures.1;
   same = λ is. none_done_as _ c.from_residual.result _ _ c.from_residual.ensures.1 is;
+  slots = c.write_member.ensures.slots ∙ c.loop-disk.invariant.leaves.slots;
   spared = spared_then (g.R.Rack.slot (store_rack c.args.self.now.store)) (g.R.Rack.slot (store_rack c.loop-disk.self.store)) (g.R.Rack.slot (store_rack c.write_member.new.self.store)) c.loop-disk.invariant.leaves.spared c.write_member.ensures.spared;
   two =
       handed _ c.from_residual.result _ c.from_residual.ensures.1
@@ -79,6 +80,7 @@ pub returns-then-not-done : goal.returns-then-not-done
 returns-then-not-done g c = record {
   leaves = leaves_then g.R.Rack.slot_count g.R.Rack.slot g.R.Rack.told c.args.self.now c.loop-disk.self c.loop-disk.invariant.leaves c.write_member.new.self c.in_ok-done.ensures.leaves;
   same = λ is. done_not_dropped _ _ is refl;
+  slots = c.write_member.ensures.slots ∙ c.loop-disk.invariant.leaves.slots;
   spared = spared_then (g.R.Rack.slot (store_rack c.args.self.now.store)) (g.R.Rack.slot (store_rack c.loop-disk.self.store)) (g.R.Rack.slot (store_rack c.write_member.new.self.store)) c.loop-disk.invariant.leaves.spared c.write_member.ensures.spared;
   two = tt;
   tells = tt;
@@ -111,6 +113,7 @@ pub returns : goal.returns
 returns g c = record {
   leaves = c.loop-disk.invariant.leaves;
   same = λ is. c.loop-disk.invariant.meta;
+  slots = c.loop-disk.invariant.leaves.slots;
   spared = c.loop-disk.invariant.leaves.spared;
   two = tt;
   tells = tt;

@@ -25,12 +25,9 @@ use Rattle.paraid_core.proofs.KindLemmas.{written_calls}
 use Rattle.paraid_txn.specs.Commit.{gone_out}
 use Rattle.paraid_core.proofs.LostMarkLemmas.{marks_done, marks_failed}
 use Rattle.paraid_core.proofs.OrderLemmas.{call_tells}
-use Rattle.paraid_rack.specs.Told.{Ran}
-use Rattle.paraid_image.specs.Lost.{TellsLosses}
-use Rattle.paraid_core.proofs.AfterLemmas.{handed}
 use Rattle.paraid_core.proofs.staged.Core.write_unit.Given.{Over}
 use Rattle.paraid_core.proofs.staged.Core.write_unit.Goals as goal
-use Rattle.paraid_core.proofs.ErrLemmas.{done_not_dropped, none_done, none_done_as, two_lost}
+use Rattle.paraid_core.proofs.ErrLemmas.{done_not_dropped, two_lost}
 use Rattle.paraid_core.proofs.staged.Core.write_unit.Goals.{After-put_out}
 
 -- it failed, and no other disk is out
@@ -61,6 +58,7 @@ returns-in_default g c = record {
       (call_spared 8 _ _ _ _ _ _ c.write_free-answer.ensures.slot refl refl refl) (λ d is. cc) (marks_written _ _ _ _ _ _ c.write_free-answer.ensures.slot _ _ (record { here = c.mark.ensures.here; others = c.mark.ensures.others }));
   same = λ is. refl;
   spins = λ is. ap (λ (s : Slot). s.power) (c.write_free-answer.ensures.slot.done (ap is_ok c.in_default.is)) ∙ c.requires.spins;
+  slots = c.write_free-answer.ensures.slots;
   spared = call_spared 8 _ _ _ _ _ _ c.write_free-answer.ensures.slot refl refl refl;
   two = tt;
   tells = tt;
@@ -99,6 +97,7 @@ returns g c = record {
       (λ d is. subst (λ (e : ℕ). HasRisen (g.R.Rack.slot (store_rack c.args.self.now.store) e).faults (g.R.Rack.slot (store_rack c.write_free-answer.new.self) e).faults) (some_is c.args.disk d is) (c.write_free-answer.ensures.slot.risen (failed g c put))) (marks_written _ _ _ _ _ _ c.write_free-answer.ensures.slot _ _ (record { here = c.mark.ensures.here; others = c.mark.ensures.others }))) c.put_out.ensures.out;
   same = λ is. absurd (c.put_out.ensures.never is);
   spins = λ is. absurd (c.put_out.ensures.never is);
+  slots = c.write_free-answer.ensures.slots;
   spared = call_spared 8 _ _ _ _ _ _ c.write_free-answer.ensures.slot refl refl refl;
   two =
       let old = c.args.self.now in

@@ -56,6 +56,7 @@ returns-in-Err g c = record {
   lost =
       let e = c.read_stored.ensures in
       record {
+        slots = e.slots;
         copied = e.copied;
         spared = e.spared;
         synced = e.still_synced;

@@ -36,6 +36,7 @@ returns-in-Err g c =
           (rw (← (c.adopt-store.ensures.rack), c.close.ensures) c.in-Err.ensures.leaves.part.two));
       refused_gone = (gone_beside _ _ _ _ _ _ _ _ (down_is g at.After-end_commit-ended)
           (rw (← (c.adopt-store.ensures.rack), c.close.ensures) c.in-Err.ensures.leaves.part.gone));
+      refused_slots = rw (← (c.adopt-store.ensures.rack), c.close.ensures) c.end_commit-ended.ensures.leaves.slots;
       refused_powers = (let lasts = c.end_commit-ended.ensures.leaves.part.lasts in
           rw (← (c.adopt-store.ensures.rack), c.close.ensures) (record { power = lasts.power; size = lasts.size; no_fall = lasts.no_fall }));
       refused_each = rw (← (c.adopt-store.ensures.rack), c.close.ensures) c.end_commit-ended.ensures.leaves.part.lasts.each;
@@ -63,6 +64,7 @@ returns g c =
           rw (← (c.adopt-store.ensures.rack)) (one_stays c.args.meta.now.setup.geometry.disks (named_out c.args.meta.now.out) (named_out c.args.meta.now.out) _ _ _ _ (λ e is. is) (down_by g at.After-end_commit-ended) part.lasts part.well));
       two = tt;
       refused_gone = tt;
+      refused_slots = tt;
       refused_powers = tt;
       refused_each = tt;
       refused_calls = tt;
