@@ -31,7 +31,7 @@ module _ (runs : List Run) (d : ℕ) (y : Run) (within : d < length runs) where
         | inr not ↦ with_at_other (waiting_at runs) d (run_of y) e not
       ]
 
-  set_same : waiting_at (set runs d y) d ≡ run_of y
+  pub set_same : waiting_at (set runs d y) d ≡ run_of y
   unfolding waiting_at
   set_same = ap (λ (l : List Waiting). get_or l d none_waits) (map-set run_of runs d y) ∙ get_or-set_same (map run_of runs) d (run_of y) none_waits (simp length-map (omega arith))
 

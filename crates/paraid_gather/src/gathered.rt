@@ -27,13 +27,14 @@ pub struct Gathered<R: BulkRack> {
 }
 
 impl<R: BulkRack + Drop> Gathered<R> {
-    ghost use Rattle.std.specs.Prelude.{◌<◌, Some, is_ok};
+    ghost use Rattle.std.specs.Prelude.{◌<◌, Some, true, false, is_ok};
     ghost use Rattle.paraid_rack.specs.Slots.{ChangesOneSlot};
     ghost use Rattle.paraid_rack.specs.Disks.{Disks};
     ghost use Rattle.paraid_rack.specs.Trail.{Trail, now};
     ghost use Rattle.paraid_gather.specs.Above.{Follows, IsAbove, slots_above};
     ghost use Rattle.paraid_gather.specs.Bulk.{left_by};
     ghost use Rattle.paraid_gather.specs.Gathers.{rack_below, waiting_in};
+    ghost use Rattle.paraid_gather.specs.Waiting.{waits};
 
     /// Takes over a rack, for whose disks nothing waits. It takes the memory for what may wait.
     pub fn new(alloc: Global, rack: R) -> Result<Gathered<R>, NoMemory>
@@ -47,7 +48,8 @@ impl<R: BulkRack + Drop> Gathered<R> {
         Ok(Gathered { rack, runs })
     }
 
-    /// Writes what waits for a disk. The disks stay as the caller sees them, or this one is lost.
+    /// Writes what waits for a disk, so that nothing waits for it any more. The disks stay as the
+    /// caller sees them, or this one is lost.
     pub fn write_out(&mut self, disk: DiskNo) -> Result<(), Failed>
         requires exists { disk < R.slot_count (rack_below self.old) }
         requires spinning { (R.slot (rack_below self.old) disk).power ≡ Power.Spinning }
@@ -58,6 +60,7 @@ impl<R: BulkRack + Drop> Gathered<R> {
             (slots_above (R.slot (rack_below self.old)) (waiting_in self.old) disk).unsynced (is_ok result) }
         ensures above { (s : Disks) → Follows (R.told (rack_below self.old)) (R.told (rack_below self.new))
             (waiting_in self.old) (waiting_in self.new) s (left_by (is_ok result) disk s) }
+        ensures empty { is_ok result ≡ true → waits (waiting_in self.new disk) ≡ false }
     {
         calls::write_out(&mut self.rack, &mut self.runs[disk as usize], disk)
     }

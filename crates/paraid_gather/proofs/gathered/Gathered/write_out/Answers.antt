@@ -1,9 +1,9 @@
-use Rattle.std.proofs.Common.{length, set, ◌∙◌, subst, is_ok}
+use Rattle.std.proofs.Common.{length, set, ap, ◌∙◌, subst, is_ok}
 use Rattle.std.proofs.lemmas.List.{length-set}
 use Rattle.paraid_rack.specs.Slots.{Slot}
-use Rattle.paraid_gather.specs.Waiting.{Waiting, Fits, run_of, waiting_at}
+use Rattle.paraid_gather.specs.Waiting.{Waiting, Fits, run_of, waiting_at, waits}
 use Rattle.paraid_gather.specs.Bulk.{left_by}
-use Rattle.paraid_gather.proofs.WholeLemmas.{does_whole, disk_within, waiting_here, with_this, with_new}
+use Rattle.paraid_gather.proofs.WholeLemmas.{does_whole, disk_within, set_same, waiting_here, with_this, with_new}
 use Rattle.paraid_gather.proofs.gathered.Gathered.write_out.Goals as goal
 
 pub write_out-requires-clause-fits : goal.write_out-requires-clause-fits
@@ -34,4 +34,4 @@ returns g c =
     let within = disk_within _ d (length runs) c.requires.exists (g.met.R.Rack.slots_hold gathered.rack).few gathered.eight in
     let whole = does_whole g.R.Rack gathered.rack c.write_out.new.rack d (run_of y) (run_of x) (waiting_at runs) (waiting_at (set runs d x)) (λ (z : Slot). z) (λ (z : Slot). z.unsynced) (is_ok c.write_out.result) (left_by (is_ok c.write_out.result) d)
     (with_this runs d y within c.index_mut.ensures.value) (with_new runs d x within) (waiting_here runs d y within c.index_mut.ensures.value) gathered.fits c.write_out.ensures.does in
-    record { slots = whole.slots; slot = whole.slot; above = whole.told }
+    record { slots = whole.slots; slot = whole.slot; above = whole.told; empty = λ is. ap waits (set_same runs d x within) ∙ c.write_out.ensures.empty is }
