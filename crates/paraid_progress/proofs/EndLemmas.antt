@@ -22,7 +22,7 @@ use Rattle.paraid_record.specs.declared.meta.Mode.{Mode}
 use Rattle.paraid_record.specs.declared.meta.Mode.TheVariants.{Whole, Access}
 use Rattle.paraid_record.specs.Range.{rebuild_units}
 use Rattle.paraid_record.specs.declared.meta.Setup.{Setup}
-use Rattle.paraid_progress.specs.Progress.{AnswersEach, AnswersTell, AreMild, IsToldBy, is_mild, counts_as_tick, ticks_in}
+use Rattle.paraid_progress.specs.Progress.{AnswersEach, AnswersTell, AreMild, IsToldBy, TellsUnits, is_mild, counts_as_tick, ticks_in}
 use Rattle.paraid_progress.proofs.MildLemmas.{event_calm, only}
 use Rattle.paraid_progress.proofs.UnitLemmas.{KeepsShift, units_keep, units_moved}
 
@@ -60,6 +60,35 @@ pub shift_tick : (setup : Setup) (h : History) (used : ℕ) (s : PowerState) (an
 unfolding outcomes
 shift_tick setup h used s answer new whole some is =
     phase_outcome setup s s.phase refl some (answer, new)
+    (subst (λ (o : Out). Contains (tick_by_out setup None (state_with_tick s) o) (answer, new)) whole is.among)
+
+-- what a tick of a shift tells
+move_tells : (setup : Setup) (s : PowerState) (b : Bool) → (units_of_tick setup s == units_left setup s) ≡ b → (it : Answer × PowerState) → Contains (move setup None (state_with_tick s) (units_of_tick setup s) b) it
+    → TellsUnits (units_of_tick setup s) (units_left setup s) it.0
+move_tells setup s true is it among =
+    let count = units_of_tick setup s in
+    let left = units_left setup s in
+    let end = after_flip (after_units setup count (state_with_tick s)) in
+    subst (λ (x : Answer × PowerState). TellsUnits count left x.0) (only (report end count Flipped) it among)
+    (end.gear, ap (λ (b : Bool). Ticked (record { gear = end.gear; moved = count; event = if b then Flipped else Moving })) (sym is))
+move_tells setup s false is it among =
+    let count = units_of_tick setup s in
+    let left = units_left setup s in
+    let end = after_units setup count (state_with_tick s) in
+    subst (λ (x : Answer × PowerState). TellsUnits count left x.0) (only (report end count Moving) it among)
+    (end.gear, ap (λ (b : Bool). Ticked (record { gear = end.gear; moved = count; event = if b then Flipped else Moving })) (sym is))
+
+phase_tells : (setup : Setup) (s : PowerState) (phase : Phase) → s.phase ≡ phase → 0 < phase_to phase → (it : Answer × PowerState) → Contains (tick_by_phase setup None (state_with_tick s) phase) it
+    → TellsUnits (units_of_tick setup s) (units_left setup s) it.0
+phase_tells setup s Steady is some it among = absurd (omega arith)
+phase_tells setup s (Down to) is some it among = move_tells setup s (units_of_tick setup s == units_left setup s) refl it among
+phase_tells setup s (Up to) is some it among = move_tells setup s (units_of_tick setup s == units_left setup s) refl it among
+
+pub shift_tick_tells : (setup : Setup) (h : History) (used : ℕ) (s : PowerState) (answer : Answer) (new : PowerState) → s.out ≡ No → 0 < phase_to s.phase → IsEventStep setup h used s Tick None answer new
+    → TellsUnits (units_of_tick setup s) (units_left setup s) answer
+unfolding outcomes
+shift_tick_tells setup h used s answer new whole some is =
+    phase_tells setup s s.phase refl some (answer, new)
     (subst (λ (o : Out). Contains (tick_by_out setup None (state_with_tick s) o) (answer, new)) whole is.among)
 
 -- a tick that does not move all moves as many as the rate

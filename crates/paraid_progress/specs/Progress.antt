@@ -1,10 +1,11 @@
 -- When shifts and rebuilds end: after how many ticks, whatever is read and written between them.
-use Rattle.std.specs.Prelude.{◌≡◌, ℕ, ◌+◌, ◌⊎◌, Bool, true, false, List, [], ◌∷◌, None, if◌then◌else◌}
+use Rattle.std.specs.Prelude.{◌≡◌, ◌==◌, ℕ, ◌+◌, ◌⊎◌, Bool, true, false, List, [], ◌∷◌, None, if◌then◌else◌}
 use Rattle.paraid_base.specs.declared.event.Answer.{Answer}
 use Rattle.paraid_base.specs.declared.event.Answer.TheVariants.{Ticked}
 use Rattle.paraid_base.specs.declared.event.Event.{Event}
 use Rattle.paraid_base.specs.declared.event.Event.TheVariants.{Tick, Up, Down, Fail, Replace}
 use Rattle.paraid_base.specs.declared.state.TickEvent.{TickEvent}
+use Rattle.paraid_base.specs.declared.state.TickEvent.TheVariants.{Flipped, Moving}
 use Rattle.paraid_base.specs.History.{History}
 use Rattle.paraid_image.specs.Power.{PowerState}
 use Rattle.paraid_machine.specs.Machine.{IsEventStep}
@@ -42,6 +43,11 @@ ticks_in (step ∷ steps) = (if counts_as_tick step.0 then 1 else 0) + ticks_in 
 -- the answer of a tick, in which this came
 abbrev pub IsToldBy : TickEvent → Answer → Type 0
 IsToldBy event answer = (gear : ℕ) × (moved : ℕ) × (answer ≡ Ticked (record { gear = gear; moved = moved; event = event }))
+
+-- The answer of a tick of a shift that moved so many of the units that were left: it ends the shift where these are all.
+abbrev pub TellsUnits : ℕ → ℕ → Answer → Type 0
+TellsUnits count left answer =
+    (gear : ℕ) × (answer ≡ Ticked (record { gear = gear; moved = count; event = if count == left then Flipped else Moving }))
 
 -- one of the answers is that of a tick in which this came
 abbrev pub AnswersTell : TickEvent → List (Event × Answer) → Type 0

@@ -18,7 +18,7 @@ ghost use Rattle.paraid_image.specs.Power.{PowerState};
 ghost use Rattle.paraid_machine.specs.Machine.{IsEventStep};
 ghost use Rattle.paraid_machine.specs.Moves.{units_left, units_of_tick, units_to_rebuild};
 ghost use Rattle.paraid_record.specs.declared.meta.Setup.{Setup as SetupType};
-ghost use Rattle.paraid_progress.specs.Progress.{AnswersEach, AnswersTell, AreMild, IsToldBy, ticks_in};
+ghost use Rattle.paraid_progress.specs.Progress.{AnswersEach, AnswersTell, AreMild, IsToldBy, TellsUnits, ticks_in};
 
 /// A shift under way ends by a tick that is answered `flipped`, once the ticks have room for the
 /// units that are left: their number times the rate is no less. One tick is needed where none is left.
@@ -40,7 +40,10 @@ pub fn a_rebuild_ends()
 /// A tick of a shift tells how many units it moved: the lesser of the rate and what is left, or in
 /// whole mode all of a shift up. Where that is not all, at least so many fewer are left after it.
 pub fn a_tick_moves_its_units()
-    ensures { (setup : SetupType) (h : History) (used : ℕ) (s new : PowerState) (answer : AnswerType)
+    ensures fewer { (setup : SetupType) (h : History) (used : ℕ) (s new : PowerState) (answer : AnswerType)
         → s.out ≡ No → 0 < phase_to s.phase → IsEventStep setup h used s TickEvent None answer new
         → IsToldBy Moving answer → units_left setup new + units_of_tick setup s ≤ units_left setup s }
+    ensures tells { (setup : SetupType) (h : History) (used : ℕ) (s new : PowerState) (answer : AnswerType)
+        → s.out ≡ No → 0 < phase_to s.phase → IsEventStep setup h used s TickEvent None answer new
+        → TellsUnits (units_of_tick setup s) (units_left setup s) answer }
 {}
