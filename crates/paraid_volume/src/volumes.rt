@@ -60,6 +60,7 @@ impl<B: Blocks> Volumes<B> {
         ensures stands_refused { IfErr result (λ refused. B.halted refused.blocks ≡ None → (from : SinceHistory B) (h : History)
             → DeviceHolds B.stands B.kept from blocks h → IsTrue (B.tells refused.blocks)
             → DeviceHolds B.stands B.kept from refused.blocks h) }
+        ensures untouched { IfErr result (λ refused. B.block_count blocks < 7 → refused.blocks ≡ blocks) }
         ensures ok { IfOk result (λ volumes. halted_of volumes ≡ None) }
         ensures stands { IfOk result (λ volumes. (from : SinceHistory B) (h : History) → DeviceHolds B.stands B.kept from blocks h
             → IsTrue (B.tells (device_of volumes)) → VolumesStandFor (DeviceHolds B.stands B.kept from) volumes h) }
@@ -110,6 +111,7 @@ impl<B: Blocks> Volumes<B> {
         ensures stands_refused { IfErr result (λ refused. B.halted refused.blocks ≡ None → (from : SinceHistory B) (h : History)
             → DeviceHolds B.stands B.kept from blocks h → IsTrue (B.tells refused.blocks)
             → DeviceHolds B.stands B.kept from refused.blocks h) }
+        ensures untouched { IfErr result (λ refused. B.block_count blocks < 7 → refused.blocks ≡ blocks) }
         ensures ok { IfOk result (λ volumes. halted_of volumes ≡ None) }
         ensures stands { IfOk result (λ volumes. (from : SinceHistory B) (h : History) → DeviceHolds B.stands B.kept from blocks h
             → IsTrue (B.tells (device_of volumes))
@@ -183,7 +185,7 @@ impl<B: Blocks> Volumes<B> {
         }
     }
 
-    /// Reads a block of a volume. After a refusal `into` holds any bytes.
+    /// Reads a block of a volume. After a halt in this call `into` holds any bytes.
     pub fn read(&mut self, id: u8, block: u32, into: &mut Block) -> Result<(), VolFault>
         ensures fault { IfErr result (IsPlaceFault (B.block_count (device_of self.old))
             (volume_table self.old) (halted_of self.new) id block) }
@@ -202,6 +204,8 @@ impl<B: Blocks> Volumes<B> {
         ensures event { OnOk result ((first : B) (events : Answers) → B.kept first (device_of self.old) events
             → KeepsRead (B.kept first (device_of self.new)) events (B.block_count (device_of self.old))
             (volume_table self.old) id block into.new) }
+        ensures untouched { OnErr result (halted_of self.new ≡ halted_of self.old
+            → (device_of self.new ≡ device_of self.old) × (into.new ≡ into.old)) }
         ensures lived { OnOk result ((from : SinceHistory B) (start : ℕ) (log : VolLog)
             → (lived : HasLived (VolumesStandFor (DeviceHolds B.stands B.kept from) self.old) (B.block_count (device_of self.old)) start log)
             → IsTrue (B.tells (device_of self.new))
@@ -247,6 +251,8 @@ impl<B: Blocks> Volumes<B> {
         ensures event { OnOk result ((first : B) (events : Answers) → B.kept first (device_of self.old) events
             → KeepsWrite (B.kept first (device_of self.new)) events (B.block_count (device_of self.old))
             (volume_table self.old) id block bytes.now) }
+        ensures untouched { OnErr result (halted_of self.new ≡ halted_of self.old
+            → device_of self.new ≡ device_of self.old) }
         ensures lived { OnOk result ((from : SinceHistory B) (start : ℕ) (log : VolLog)
             → (lived : HasLived (VolumesStandFor (DeviceHolds B.stands B.kept from) self.old) (B.block_count (device_of self.old)) start log)
             → IsTrue (B.tells (device_of self.new))
@@ -284,6 +290,8 @@ impl<B: Blocks> Volumes<B> {
         ensures event { IfOk result (λ number. (first : B) (events : Answers)
             → B.kept first (device_of self.old) events
             → B.kept first (device_of self.new) (events ++ (FlushEvent, FlushedAnswer number) ∷ [])) }
+        ensures untouched { OnErr result (halted_of self.new ≡ halted_of self.old
+            → device_of self.new ≡ device_of self.old) }
         ensures lived { IfOk result (λ number. (from : SinceHistory B) (start : ℕ) (log : VolLog)
             → (lived : HasLived (VolumesStandFor (DeviceHolds B.stands B.kept from) self.old) (B.block_count (device_of self.old)) start log)
             → IsTrue (B.tells (device_of self.new))
@@ -354,6 +362,8 @@ impl<B: Blocks> Volumes<B> {
         ensures stands { OnErr result (halted_of self.new ≡ None → (from : SinceHistory B) (h : History)
             → VolumesStandFor (DeviceHolds B.stands B.kept from) self.old h → IsTrue (B.tells (device_of self.new))
             → VolumesStandFor (DeviceHolds B.stands B.kept from) self.new h) }
+        ensures untouched { OnErr result (halted_of self.new ≡ halted_of self.old
+            → device_of self.new ≡ device_of self.old) }
         ensures lived { OnOk result ((from : SinceHistory B) (start : ℕ) (log : VolLog)
             → (lived : HasLived (VolumesStandFor (DeviceHolds B.stands B.kept from) self.old) (B.block_count (device_of self.old)) start log)
             → IsTrue (B.tells (device_of self.new))
@@ -439,6 +449,8 @@ impl<B: Blocks> Volumes<B> {
         ensures stands { OnErr result (halted_of self.new ≡ None → (from : SinceHistory B) (h : History)
             → VolumesStandFor (DeviceHolds B.stands B.kept from) self.old h → IsTrue (B.tells (device_of self.new))
             → VolumesStandFor (DeviceHolds B.stands B.kept from) self.new h) }
+        ensures untouched { OnErr result (halted_of self.new ≡ halted_of self.old
+            → device_of self.new ≡ device_of self.old) }
         ensures lived { IfOk result (λ id. (from : SinceHistory B) (start : ℕ) (log : VolLog)
             → (lived : HasLived (VolumesStandFor (DeviceHolds B.stands B.kept from) self.old) (B.block_count (device_of self.old)) start log)
             → IsTrue (B.tells (device_of self.new))

@@ -1,6 +1,6 @@
 use Rattle.paraid_base.specs.declared.fault.Halt.{Halt}
 use Rattle.std.proofs.Common.{Option, Some, None}
-use Rattle.std.proofs.Common.{◌≡◌, ℕ, ◌<◌, ◌≤◌, ◌^◌, ◌∙◌, refl, sym, ap, subst}
+use Rattle.std.proofs.Common.{◌≡◌, ℕ, ◌<◌, ◌≤◌, ◌^◌, ◌∙◌, refl, sym, ap, subst, arith}
 use Rattle.std.specs.Prelude.{true}
 use Rattle.std.proofs.lemmas.Bool.{false≢true}
 use Rattle.paraid_base.specs.History.{after_all}
@@ -15,6 +15,10 @@ use Rattle.paraid_volume.proofs.volumes.Volumes.adopt.Goals as goal
 -- a halt is no want of one
 halts : (h : Halt) → ◌≡◌ {A = Option Halt} (Some h) None → ⊥
 halts h e = cc
+
+-- no device has seven blocks and fewer
+few_not : (n : ℕ) → 7 ≤ n → n < 7 → ⊥
+few_not n large few = omega (arith, large, few)
 
 pub returns-then-not-is_table : goal.returns-then-not-is_table
 returns-then-not-is_table g c = record {
@@ -35,6 +39,7 @@ returns-then-not-is_table g c = record {
   grown = tt;
   grown_refused = c.read_table.ensures.grown;
   stands_refused = λ none from h stands tells. c.in_default.ensures.keeps from h stands tells;
+  untouched = λ few. absurd (few_not _ (subst (λ (n : ℕ). 7 ≤ n) c.blocks-count.ensures c.if-count-lt7.false) few);
   ok = tt;
   stands = tt;
   lived = tt;
@@ -62,6 +67,7 @@ returns g c = record {
   grown = c.read_table.ensures.grown;
   grown_refused = tt;
   stands_refused = tt;
+  untouched = tt;
   ok = refl;
   stands = λ from h stands tells.
       let read = c.in_default.ensures in
@@ -85,6 +91,7 @@ returns-then-count-lt7 g c = record {
   grown = tt;
   grown_refused = KeepsMore-none _ _ _ _;
   stands_refused = λ none from h stands tells. stands;
+  untouched = λ few. refl;
   ok = tt;
   stands = tt;
   lived = tt;
@@ -98,6 +105,7 @@ returns-in-Err g c = record {
   grown = tt;
   grown_refused = c.read_table.ensures.grown;
   stands_refused = λ none. absurd (halts _ (sym (c.read_table.ensures.halt ∙ ap halt_in c.in-Err.is) ∙ none));
+  untouched = λ few. absurd (few_not _ (subst (λ (n : ℕ). 7 ≤ n) c.blocks-count.ensures c.if-count-lt7.false) few);
   ok = tt;
   stands = tt;
   lived = tt;

@@ -150,6 +150,7 @@ returns-in_err-id g c =
       id = rw p.1 tt;
       makes = rw p.1 tt;
       stands = rw p.1 (λ none from h stands tells. stands);
+      untouched = rw p.1 (λ same. refl);
       lived = rw p.1 tt;
       lived_refused = IfErr-weaker c.from_residual.result _ _
           (λ fault is none from start log lived tells. lived_refused _ _ _ start log lived (create (letter_of c.args.name.now) c.args.extents) fault (λ h stands. stands)
@@ -169,6 +170,7 @@ returns-in-Err g c = record {
   id = tt;
   makes = tt;
   stands = λ none. absurd (halts _ none);
+  untouched = λ same. absurd (halts _ (same ∙ sym {a = None} c.in_ok-id.ensures.halt));
   lived = tt;
   lived_refused = λ none. absurd (halts _ none);
 }
@@ -184,6 +186,9 @@ returns-in-Ok-clause-refused g c = tt
 
 pub returns-in-Ok-clause-stands : goal.returns-in-Ok-clause-stands
 returns-in-Ok-clause-stands g c = tt
+
+pub returns-in-Ok-clause-untouched : goal.returns-in-Ok-clause-untouched
+returns-in-Ok-clause-untouched g c = tt
 
 pub returns-in-Ok-clause-lived_refused : goal.returns-in-Ok-clause-lived_refused
 returns-in-Ok-clause-lived_refused g c = tt

@@ -93,6 +93,7 @@ returns-then-not-is_live g c = record {
   refused = refl;
   adds = tt;
   stands = λ none from h stands tells. stands;
+  untouched = λ same. refl;
   lived = tt;
   lived_refused = λ none from start log lived tells.
       lived_refused _ _ _ start log lived (delete c.args.id) (NoVolume c.args.id) (λ h stands. stands)
@@ -110,6 +111,7 @@ returns-in-Some g c = record {
   refused = refl;
   adds = tt;
   stands = λ none from h stands tells. stands;
+  untouched = λ same. refl;
   lived = tt;
   lived_refused = λ none. absurd (halts _ (sym c.in-Some.is ∙ none));
 }
@@ -124,6 +126,7 @@ returns-in-Err g c = record {
   refused = refl;
   adds = tt;
   stands = λ none. absurd (halts _ none);
+  untouched = λ same. absurd (halts _ (same ∙ c.in_default.is));
   lived = tt;
   lived_refused = λ none. absurd (halts _ none);
 }
@@ -139,6 +142,9 @@ returns-in-Ok-clause-refused g c = tt
 
 pub returns-in-Ok-clause-stands : goal.returns-in-Ok-clause-stands
 returns-in-Ok-clause-stands g c = tt
+
+pub returns-in-Ok-clause-untouched : goal.returns-in-Ok-clause-untouched
+returns-in-Ok-clause-untouched g c = tt
 
 pub returns-in-Ok-clause-lived_refused : goal.returns-in-Ok-clause-lived_refused
 returns-in-Ok-clause-lived_refused g c = tt

@@ -1,12 +1,17 @@
 use Rattle.paraid_base.specs.declared.event.Event.TheVariants.{Flush}
+use Rattle.paraid_base.specs.declared.fault.Halt.{Halt}
 use Rattle.paraid_base.specs.declared.event.Answer.TheVariants.{Flushed}
 use Rattle.paraid_volume.specs.Values.{device_of}
 use Rattle.paraid_volume.proofs.OneCallLemmas.{lived_flush}
 use Rattle.paraid_volume.proofs.DeviceLemmas.{DeviceGoesOn-none, KeepsMore-none, KeepsMore-one, holds_same, holds_stands}
-use Rattle.std.proofs.Common.{ℕ, ◌≤◌, ◌<◌, ◌^◌, ◌∙◌, ap, refl, subst, sym}
+use Rattle.std.proofs.Common.{ℕ, ◌≡◌, None, Option, Some, ◌≤◌, ◌<◌, ◌^◌, ◌∙◌, ap, refl, subst, sym}
 use Rattle.paraid_volume.specs.TableBlocks.{in_table}
 use Rattle.paraid_volume.specs.Tables.{IsVolumeTable, extent_count, extent_size}
 use Rattle.paraid_volume.proofs.volumes.Volumes.flush.Goals as goal
+
+-- a halt is no want of one
+halts : (h : Halt) → ◌≡◌ {A = Option Halt} (Some h) None → ⊥
+halts h e = cc
 
 pub returns-in-Ok-clause-stands : goal.returns-in-Ok-clause-stands
 returns-in-Ok-clause-stands g c = λ from h stands tells. (
@@ -32,6 +37,7 @@ returns-in-Err g c = record {
   table = refl;
   stands = tt;
   event = tt;
+  untouched = λ same. absurd (halts _ (same ∙ c.in_default.is));
   lived = tt;
 }
 
@@ -44,8 +50,12 @@ returns-in-Some g c = record {
   table = refl;
   stands = tt;
   event = tt;
+  untouched = λ same. refl;
   lived = tt;
 }
+
+pub returns-in-Ok-clause-untouched : goal.returns-in-Ok-clause-untouched
+returns-in-Ok-clause-untouched g c = tt
 
 pub returns-in-Ok-clause-fault : goal.returns-in-Ok-clause-fault
 returns-in-Ok-clause-fault g c = tt

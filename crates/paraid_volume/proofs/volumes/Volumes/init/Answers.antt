@@ -20,6 +20,10 @@ use Rattle.paraid_volume.proofs.volumes.Volumes.init.Goals as goal
 halts : (h : Halt) → ◌≡◌ {A = Option Halt} (Some h) None → ⊥
 halts h e = cc
 
+-- no device has seven blocks and fewer
+few_not : (n : ℕ) → 7 ≤ n → n < 7 → ⊥
+few_not n large few = omega (arith, large, few)
+
 pub returns-then-is_table : goal.returns-then-is_table
 returns-then-is_table g c = record {
   refused = let count = c.blocks-count.ensures in
@@ -38,6 +42,7 @@ returns-then-is_table g c = record {
   grown = tt;
   grown_refused = KeepsMore-weaker _ _ _ _ _ _ read_either c.read_table.ensures.grown;
   stands_refused = λ none from h stands tells. c.in_default.ensures.keeps from h stands tells;
+  untouched = λ few. absurd (few_not _ (subst (λ (n : ℕ). 7 ≤ n) c.blocks-count.ensures c.if-count-lt7.false) few);
   ok = tt;
   stands = tt;
   lived = tt;
@@ -93,6 +98,7 @@ returns-in-Err g c = record {
   grown = tt;
   grown_refused = KeepsMore-weaker _ _ _ _ _ _ read_either c.read_table.ensures.grown;
   stands_refused = λ none. absurd (halts _ (sym (c.read_table.ensures.halt ∙ ap halt_in c.in-Err.is) ∙ none));
+  untouched = λ few. absurd (few_not _ (subst (λ (n : ℕ). 7 ≤ n) c.blocks-count.ensures c.if-count-lt7.false) few);
   ok = tt;
   stands = tt;
   lived = tt;
@@ -107,6 +113,7 @@ returns-in-Err-write_table g c = record {
   grown = tt;
   grown_refused = KeepsMore-then _ _ _ _ _ _ c.write_table.ensures.went.told (KeepsMore-weaker _ _ _ _ _ _ read_either c.read_table.ensures.grown) (KeepsMore-weaker _ _ _ _ _ _ write_either c.write_table.ensures.grown);
   stands_refused = λ none. absurd (halts _ (sym (c.write_table.ensures.halt ∙ ap halt_in c.in-Err-write_table.is) ∙ none));
+  untouched = λ few. absurd (few_not _ (subst (λ (n : ℕ). 7 ≤ n) c.blocks-count.ensures c.if-count-lt7.false) few);
   ok = tt;
   stands = tt;
   lived = tt;
@@ -134,6 +141,7 @@ returns-then-count-lt7 g c = record {
   grown = tt;
   grown_refused = KeepsMore-none _ _ _ _;
   stands_refused = λ none from h stands tells. stands;
+  untouched = λ few. refl;
   ok = tt;
   stands = tt;
   lived = tt;
@@ -165,6 +173,9 @@ extent_size-requires g c = c.if-count-lt7.false
 
 pub extent_count-requires : goal.extent_count-requires
 extent_count-requires g c = c.if-count-lt7.false
+
+pub returns-clause-untouched : goal.returns-clause-untouched
+returns-clause-untouched g c = tt
 
 pub returns-clause-stands_refused : goal.returns-clause-stands_refused
 returns-clause-stands_refused g c = tt

@@ -61,6 +61,7 @@ returns-in-Err-Halt g c = record {
   stands = λ none. absurd (halts _ none);
   value = tt;
   event = tt;
+  untouched = λ same. absurd (halts _ (same ∙ sym {a = None} c.in_ok-place.ensures.halt));
   lived = tt;
   lived_refused = λ none. absurd (halts _ none);
 }
@@ -94,6 +95,8 @@ returns-in_err-place g c = record {
       rw p.1 tt;
   event = let p = err_from_is_err_and c.from_residual.result c.from_residual.ensures.1 in
       rw p.1 tt;
+  untouched = let p = err_from_is_err_and c.from_residual.result c.from_residual.ensures.1 in
+      rw p.1 (λ same. (refl, refl));
   lived = let p = err_from_is_err_and c.from_residual.result c.from_residual.ensures.1 in
       rw p.1 tt;
   lived_refused = let v = c.args.self.now in
@@ -113,6 +116,9 @@ returns-in-Ok-clause-halt g c = sym c.in_ok-place.ensures.halt
 
 pub returns-in-Ok-clause-table : goal.returns-in-Ok-clause-table
 returns-in-Ok-clause-table g c = refl
+
+pub returns-in-Ok-clause-untouched : goal.returns-in-Ok-clause-untouched
+returns-in-Ok-clause-untouched g c = tt
 
 pub returns-in-Ok-clause-lived_refused : goal.returns-in-Ok-clause-lived_refused
 returns-in-Ok-clause-lived_refused g c = tt

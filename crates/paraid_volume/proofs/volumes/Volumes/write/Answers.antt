@@ -76,6 +76,7 @@ returns-in-Err-Halt g c = record {
   adds = tt;
   stands = λ none. absurd (halts _ none);
   event = tt;
+  untouched = λ same. absurd (halts _ (same ∙ sym {a = None} c.in_ok-place.ensures.halt));
   lived = tt;
   lived_refused = λ none. absurd (halts _ none);
 }
@@ -104,6 +105,8 @@ returns-in_err-place g c = record {
       rw p.1 (λ none from h stands tells. stands);
   event = let p = err_from_is_err_and c.from_residual.result c.from_residual.ensures.1 in
       rw p.1 tt;
+  untouched = let p = err_from_is_err_and c.from_residual.result c.from_residual.ensures.1 in
+      rw p.1 (λ same. refl);
   lived = let p = err_from_is_err_and c.from_residual.result c.from_residual.ensures.1 in
       rw p.1 tt;
   lived_refused = let v = c.args.self.now in
@@ -126,6 +129,9 @@ returns-in-Ok-clause-table g c = refl
 
 pub returns-in-Ok-clause-stands : goal.returns-in-Ok-clause-stands
 returns-in-Ok-clause-stands g c = tt
+
+pub returns-in-Ok-clause-untouched : goal.returns-in-Ok-clause-untouched
+returns-in-Ok-clause-untouched g c = tt
 
 pub returns-in-Ok-clause-lived_refused : goal.returns-in-Ok-clause-lived_refused
 returns-in-Ok-clause-lived_refused g c = tt
