@@ -1,5 +1,5 @@
 -- Lines of volumes with their texts.
-use Rattle.std.proofs.Common.{◌≡◌, ℕ, [], List, ◌++◌, ◌∙◌, refl, sym, ap, subst}
+use Rattle.std.proofs.Common.{◌≡◌, ℕ, [], Bool, true, false, List, ◌++◌, ◌∙◌, refl, sym, ap, subst}
 use Rattle.std.specs.Prelude.{Option, Some, None, Result, Ok, Err, IsTrue, codes}
 use Rattle.std.proofs.lemmas.List.{append-nil}
 use Rattle.std.proofs.lemmas.Option.{same_Some}
@@ -17,11 +17,13 @@ use Rattle.paraid_volume.specs.Lives.{HasLived, Life, VolLog}
 use Rattle.paraid_volume.specs.Values.{VolumesStandFor, device_of, halted_of, volume_table}
 use Rattle.paraid_volume.proofs.DeviceLemmas.{DeviceGoesOn-none, KeepsMore-none}
 use Rattle.paraid_volume.proofs.LivesLemmas.{life_shows}
-use Rattle.paraid_volume_lines.specs.Grammar.{VolLine, bad, flush, list}
+use Rattle.paraid_volume_lines.specs.Grammar.{VolLine, bad, create, delete, flush, list, read, write}
 use Rattle.paraid_volume_lines.specs.Lists.{TellsVolumes}
-use Rattle.paraid_volume_lines.specs.Texts.{created_text, fault_text, flushed_text, read_text, written_text}
+use Rattle.paraid_volume_lines.specs.Texts.{created_text, deleted_text, fault_text, flushed_text, read_text, written_text}
 use Rattle.paraid_service.specs.LineSteps.{AnswersLine, KeepsFlush, ServesHeld}
 use Rattle.paraid_service.specs.VolumeLines.{IsEventOf, LineStep}
+use Rattle.paraid_service.specs.VolumeForms.{IsReplyTo}
+use Rattle.paraid_service.specs.VolumeForms.IsReplyTo.{created, deleted, flushed, listed, refused, told, wrote}
 use Rattle.paraid_service.specs.VolumeLines.LineStep.{lists}
 
 -- ---- a refusal by a halt is told as the halt
@@ -54,29 +56,64 @@ pub flushed_halts : (r : Result ℕ VolFault) (own : Halt) → vol_halt_in r ≡
 flushed_halts (Ok number) own e = cc
 flushed_halts (Err fault) own e = fault_halts ℕ fault own e
 
+-- ---- the form of an answer
+
+fault_replies : (T : Type 0) (line : VolLine) (fault : VolFault) → (line ≡ bad → ⊥) → vol_halt_in {A = T} (Err fault) ≡ None → IsReplyTo line (fault_text fault)
+fault_replies T line (VolHalt halt) not_bad none = absurd (let no : Some halt ≡ None = none in cc)
+fault_replies T line (Small blocks) not_bad none = refused line (Small blocks) not_bad refl
+fault_replies T line NotVolumes not_bad none = refused line NotVolumes not_bad refl
+fault_replies T line Already not_bad none = refused line Already not_bad refl
+fault_replies T line (NoVolume id) not_bad none = refused line (NoVolume id) not_bad refl
+fault_replies T line (NoBlock block) not_bad none = refused line (NoBlock block) not_bad refl
+fault_replies T line (Exists id) not_bad none = refused line (Exists id) not_bad refl
+fault_replies T line NoExtents not_bad none = refused line NoExtents not_bad refl
+fault_replies T line Names not_bad none = refused line Names not_bad refl
+fault_replies T line (Space free) not_bad none = refused line (Space free) not_bad refl
+
+pub create_replies : (name : List ℕ) (extents : ℕ) (r : Result ℕ VolFault) → vol_halt_in r ≡ None → IsReplyTo (create name extents) (created_text name r)
+create_replies name extents (Ok id) none = created name extents id
+create_replies name extents (Err fault) none = fault_replies ℕ (create name extents) fault (λ no. cc) none
+
+pub delete_replies : (name : List ℕ) (there : Bool) → IsReplyTo (delete name) (deleted_text name there)
+delete_replies name true = deleted name
+delete_replies name false = refused (delete name) (NoVolume 0) (λ no. cc) refl
+
+pub read_replies : (name : List ℕ) (block : ℕ) (r : Result (Unit {0}) VolFault) (bytes : Block) → vol_halt_in r ≡ None → IsReplyTo (read name block) (read_text name block r bytes)
+read_replies name block (Ok done) bytes none = told name block bytes
+read_replies name block (Err fault) bytes none = fault_replies (Unit {0}) (read name block) fault (λ no. cc) none
+
+pub write_replies : (name : List ℕ) (block : ℕ) (bytes : Block) (r : Result (Unit {0}) VolFault) → vol_halt_in r ≡ None → IsReplyTo (write name block bytes) (written_text r)
+write_replies name block bytes (Ok done) none = wrote name block bytes
+write_replies name block bytes (Err fault) none = fault_replies (Unit {0}) (write name block bytes) fault (λ no. cc) none
+
+pub flush_replies : (r : Result ℕ VolFault) → vol_halt_in r ≡ None → IsReplyTo flush (flushed_text r)
+flush_replies (Ok number) none = flushed
+flush_replies (Err fault) none = fault_replies ℕ flush fault (λ no. cc) none
+
 module _ {B : Type 0} (g : Ghosts B) where
   pub serves : (old new : Volumes B g) (line : VolLine) (now halt : Option Halt) (said text : List ℕ) → halted_of new ≡ now → halt ≡ now → DeviceGoesOn g.block_count g.halts g.halted g.tells (device_of old) (device_of new) → KeepsMore g.kept g.tells (IsEventOf line) (device_of old) (device_of new)
       → text ≡ said ++ codes "\n" → (line ≡ bad → ⊥) → (line ≡ list → ⊥) → ((own : Halt) → now ≡ Some own → said ≡ halt_text own)
       → (halted_of new ≡ None → (from : SinceHistory B) (start : ℕ) (log : VolLog) → (lived : HasLived (VolumesStandFor (DeviceHolds g.stands g.kept from) old) (g.block_count (device_of old)) start log) → IsTrue (g.tells (device_of new))
       → AnswersLine (VolumesStandFor (DeviceHolds g.stands g.kept from) old) (VolumesStandFor (DeviceHolds g.stands g.kept from) new) (g.block_count (device_of old)) start log lived line said)
-      → (halted_of new ≡ None → line ≡ flush → KeepsFlush g old new × (said ≡ codes "flushed"))
+      → (halted_of new ≡ None → line ≡ flush → KeepsFlush g old new × (said ≡ codes "flushed")) → (now ≡ None → IsReplyTo line said)
       → ServesHeld g old new line text halt
-  serves old new line now halt said text halted is went keeps printed not_bad not_list told step flushed = record {
+  serves old new line now halt said text halted is went keeps printed not_bad not_list says step kept_flush reply = record {
     halted = halted ∙ sym is;
     went = went;
     keeps = keeps;
     said = said;
     printed = printed;
     step = λ none. step (halted ∙ sym is ∙ none);
-    flushes = λ none. flushed (halted ∙ sym is ∙ none);
-    halts = λ own e. (told own (sym is ∙ e), not_bad, not_list);
+    reply = λ none. reply (sym is ∙ none);
+    flushes = λ none. kept_flush (halted ∙ sym is ∙ none);
+    halts = λ own e. (says own (sym is ∙ e), not_bad, not_list);
   }
 
   -- a line that calls nothing
-  pub serves_none : (v : Volumes B g) (line : VolLine) (said text : List ℕ) → halted_of v ≡ None → text ≡ said ++ codes "\n" → (line ≡ flush → ⊥)
+  pub serves_none : (v : Volumes B g) (line : VolLine) (said text : List ℕ) → halted_of v ≡ None → text ≡ said ++ codes "\n" → (line ≡ flush → ⊥) → IsReplyTo line said
       → ((from : SinceHistory B) (start : ℕ) (log : VolLog) (lived : HasLived (VolumesStandFor (DeviceHolds g.stands g.kept from) v) (g.block_count (device_of v)) start log) → LineStep (g.block_count (device_of v)) (Some lived.state) line said [] (Some lived.state))
       → ServesHeld g v v line text None
-  serves_none v line said text going printed not_flush step = record {
+  serves_none v line said text going printed not_flush reply step = record {
     halted = going;
     went = DeviceGoesOn-none g.block_count g.halts g.halted g.tells (device_of v);
     keeps = KeepsMore-none g.kept g.tells (IsEventOf line) (device_of v);
@@ -87,11 +124,12 @@ module _ {B : Type 0} (g : Ghosts B) where
       all = record { writes = lived.writes; state = lived.state; stands = lived.stands; life = subst (λ (l : VolLog). Life (g.block_count (device_of v)) start lived.writes lived.state l) (sym (append-nil log)) lived.life };
       step = step from start log lived;
     };
+    reply = λ none. reply;
     flushes = λ none is. absurd (not_flush is);
     halts = λ own e. absurd (let no : None ≡ Some own = e in cc);
   }
 
   pub serves_list : (v : Volumes B g) (text : List ℕ) → halted_of v ≡ None → TellsVolumes (g.block_count (device_of v)) (volume_table v) text → ServesHeld g v v list text None
-  serves_list v text going told = serves_none v list (codes "list" ++ told.text) text going told.printed (λ no. cc) (λ from start log lived.
+  serves_list v text going tells = serves_none v list (codes "list" ++ tells.text) text going tells.printed (λ no. cc) (listed tells.text) (λ from start log lived.
       let shows = life_shows (g.block_count (device_of v)) start lived.writes lived.state log lived.life in
-      lists lived.state told.text refl (told.each (after_all lived.writes) lived.state lived.stands.1 shows))
+      lists lived.state tells.text refl (tells.each (after_all lived.writes) lived.state lived.stands.1 shows))

@@ -17,6 +17,8 @@ use Rattle.paraid_service.specs.declared.shelf.Shelf.TheVariants.{Bare, Held as 
 use Rattle.paraid_service.specs.LineRuns.{RunsLines, RunsOn, SaysLines}
 use Rattle.paraid_service.specs.Shelves.{OnFirst, OnShelf, OpensShelf, ServesShelf, StepsShelf, device_in}
 use Rattle.paraid_service.specs.VolumeLines.{Held, IsEventOf, LinesStep, halted_text}
+use Rattle.paraid_service.specs.VolumeForms.{FormsLines, HaveForm}
+use Rattle.paraid_service.specs.VolumeForms.FormsLines.{halting as form_halting, later as form_later, none_yet as form_none, one_more as form_more}
 use Rattle.paraid_service.specs.VolumeLines.LinesStep.{halting, later, none_yet, one_more}
 use Rattle.paraid_service.specs.VolumeSessions.{Holds, IsLifeOf}
 use Rattle.paraid_service.specs.VolumeSessions.BeginsWith.{known, unknown}
@@ -94,11 +96,22 @@ module _ {B : Type 0} (g : Ghosts B) where
           broken = λ other e. record { before = life.events; rest = kept.more; all = kept.kept; life = life.life; came = kept.all };
         }
 
+    more_form : (halt : Option Halt) (l : ServesShelf g old new asked said halt) (lines : List (List ℕ)) (line text : List ℕ) → AsksVolumes line asked → HaveForm lines text None → HaveForm (lines ++ line ∷ []) (text ++ said) halt
+    more_form None l lines line text ask f =
+        record { begun = f.begun; form = subst (λ (x : List ℕ). FormsLines f.begun (lines ++ line ∷ []) (text ++ x) None) (sym l.printed) (form_more lines line text l.said asked f.form ask (l.reply refl)) }
+    more_form (Some own) l lines line text ask f =
+        let why = l.halts own refl in
+        record {
+          begun = f.begun;
+          form = subst (λ (x : List ℕ). FormsLines f.begun (lines ++ line ∷ []) (text ++ x) (Some own)) (sym (l.printed ∙ ap (λ (x : List ℕ). x ++ codes "\n") why.0)) (form_halting lines line text asked own f.form ask why.1 why.2);
+        }
+
     pub runs_more : (halt : Option Halt) → ServesShelf g old new asked said halt → RunsOn g old new None halt asked said
     runs_more halt l start lines line text ask r = record {
       going = l.going;
       went = DeviceGoesOn-then g.block_count g.halts g.halted g.tells start (device_in old) (device_in new) r.went l.went;
       keeps = keeps_then g.kept start (device_in old) (device_in new) r.keeps (keeps_more g.kept g.tells (IsEventOf asked) (device_in old) (device_in new) l.keeps);
+      form = more_form halt l lines line text ask r.form;
       halted = λ going. l.halted (r.halted going);
       says = more_says halt l start lines line text ask r;
     }
@@ -110,6 +123,7 @@ module _ {B : Type 0} (g : Ghosts B) where
     going = r.going;
     went = r.went;
     keeps = r.keeps;
+    form = record { begun = r.form.begun; form = subst (λ (x : List ℕ). FormsLines r.form.begun (lines ++ line ∷ []) (text ++ x) (Some own)) (sym printed) (form_later lines line text asked own r.form.form ask) };
     halted = r.halted;
     says = λ h stands tells.
         let y = r.says h stands tells in
@@ -171,4 +185,4 @@ module _ {B : Type 0} (g : Ghosts B) where
       }
 
   pub runs_first : (start : B) (shelf : Shelf B g) (halt : Option Halt) → OpensShelf g start shelf halt → g.kept start start [] → RunsLines g start [] [] shelf halt
-  runs_first start shelf halt o begins = record { going = o.going; went = o.went; keeps = keeps_more g.kept g.tells IsReadEvent start (device_in shelf) o.keeps; halted = o.halted; says = first_says start shelf halt o begins }
+  runs_first start shelf halt o begins = record { going = o.going; went = o.went; keeps = keeps_more g.kept g.tells IsReadEvent start (device_in shelf) o.keeps; form = record { begun = halt; form = form_none }; halted = o.halted; says = first_says start shelf halt o begins }

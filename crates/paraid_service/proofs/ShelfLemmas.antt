@@ -32,6 +32,8 @@ use Rattle.paraid_service.specs.Shelves.{OnHeld, OnShelf, OpensShelf, ServesShel
 use Rattle.paraid_service.specs.VolumeLines.{Held, IsEventOf, LineStep}
 use Rattle.paraid_service.specs.VolumeLines.LineStep.{begins, calls}
 use Rattle.paraid_service.specs.VolumeLines.IsCallOf.{flushes}
+use Rattle.paraid_service.specs.VolumeForms.{IsReplyTo}
+use Rattle.paraid_service.specs.VolumeForms.IsReplyTo.{begun as begun_reply, refused}
 use Rattle.paraid_service.specs.VolumeSessions.{AreFlushesKept}
 use Rattle.paraid_service.proofs.FlushLemmas.{flush_kept, flush_or_not, flushes_append, flushes_later, no_flush}
 use Rattle.paraid_service.proofs.HeldLemmas.{fault_halts}
@@ -112,6 +114,7 @@ module _ {B : Type 0} (g : Ghosts B) where
     keeps = l.keeps;
     said = l.said;
     printed = l.printed;
+    reply = l.reply;
     halted = λ going. new.halted ∙ l.halted;
     step = held_steps old new line text halt l;
     halts = l.halts;
@@ -125,13 +128,14 @@ module _ {B : Type 0} (g : Ghosts B) where
   bare_steps blocks line said step first h None log on = record { more = []; last = None; step = step; on = record { none = append-nil log ∙ on.none; holds = on.holds; no_table = on.no_table } }
 
   -- a line that leaves the device
-  pub on_bare : (blocks : B) (line : VolLine) (said text : List ℕ) → text ≡ said ++ codes "\n" → LineStep (g.block_count blocks) None line said [] None → ServesShelf g (Bare blocks) (Bare blocks) line text None
-  on_bare blocks line said text printed step = record {
+  pub on_bare : (blocks : B) (line : VolLine) (said text : List ℕ) → text ≡ said ++ codes "\n" → IsReplyTo line said → LineStep (g.block_count blocks) None line said [] None → ServesShelf g (Bare blocks) (Bare blocks) line text None
+  on_bare blocks line said text printed reply step = record {
     going = λ none. tt;
     went = DeviceGoesOn-none g.block_count g.halts g.halted g.tells blocks;
     keeps = KeepsMore-none g.kept g.tells (IsEventOf line) blocks;
     said = said;
     printed = printed;
+    reply = λ none. reply;
     halted = λ going. going;
     step = λ none first h s log on tells. bare_steps blocks line said step first h s log on;
     halts = λ own e. absurd (let no : None ≡ Some own = e in cc);
@@ -175,6 +179,7 @@ module _ {B : Type 0} (g : Ghosts B) where
     keeps = keeps;
     said = begun_text (extent_count (g.block_count blocks)) (extent_size (g.block_count blocks));
     printed = printed;
+    reply = λ none. begun_reply (extent_count (g.block_count blocks)) (extent_size (g.block_count blocks));
     halted = λ none. volumes.halted ∙ going;
     step = λ none first h s log on tells. begin_steps blocks volumes large lived first h s log on tells;
     halts = λ own e. absurd (let no : None ≡ Some own = e in cc);
@@ -222,6 +227,7 @@ module _ {B : Type 0} (g : Ghosts B) where
     keeps = keeps;
     said = fault_text fault;
     printed = printed;
+    reply = λ none. refused init fault (λ no. let x : init ≡ bad = no in cc) none;
     halted = λ going. init_halts (g.block_count blocks) fault (g.halted now) _ large f;
     step = refused_steps blocks now fault large f;
     halts = λ own e. (fault_halts (Unit {0}) fault own e, (λ no. let x : init ≡ bad = no in cc), (λ no. let x : init ≡ list = no in cc));

@@ -22,7 +22,7 @@ use Rattle.paraid_rack.specs.Slots.{Slot}
 use Rattle.paraid_rack.specs.Trail.{Trail, now as disks_now}
 use Rattle.paraid_record.specs.declared.meta.Setup.{Setup}
 use Rattle.paraid_serve.specs.declared.serves.Serves.{Ghosts}
-use Rattle.paraid_serve.specs.Ending.{EndsWithLine, end_line, halt_line, status_of_halt}
+use Rattle.paraid_serve.specs.Ending.{EndsWithLine, end_line, halt_line, mount_line, status_of_halt}
 use Rattle.paraid_serve.specs.Lost.{HaltsBySecondLoss, HaltsByWear, NamesTwoLost, TellsWear}
 use Rattle.paraid_serve.specs.Output.{IsServedStatus, IsWholeStatus, begins_with}
 use Rattle.paraid_serve.proofs.ExitLemmas.{stretch_leaves}
@@ -47,6 +47,9 @@ use Rattle.paraid_service.specs.Shelves.{device_in}
 use Rattle.paraid_volume_lines.specs.Grammar.{VolLine}
 use Rattle.paraid_service.specs.VolumeLines.{Held}
 use Rattle.paraid_service.specs.VolumeSessions.{AnswersFromPoint, AreOfHalt, AnswersLines, FlushesLast, FollowsForVolumes, HasEvent, IsLifeOf, LeavesHeld, VolumesHeadline, VolumesRun, VolumesText, WritesVolumes}
+use Rattle.paraid_service.specs.VolumeForms.{HasVolumesForm, HaveForm, VolumesForm}
+use Rattle.paraid_service.specs.VolumeForms.VolumesForm.{done as form_done, halted as form_halted, source as form_source, too_long as form_too_long}
+use Rattle.paraid_service.specs.VolumeForms.HasVolumesForm.{answers as form_answers, first_line as form_first, last_line as form_last_line, whole as form_whole}
 use Rattle.paraid_service.specs.VolumeSessions.IsLifeOf.{lives, waits}
 use Rattle.paraid_service.specs.VolumeSessions.VolumesText.{done as done_text, halted as halted_text, source as source_text, too_long as too_long_text}
 use Rattle.paraid_service.specs.VolumeSessions.WritesVolumes.{answers, first_line, last_line, whole}
@@ -107,6 +110,15 @@ with_last {slots} {setup} {start} {final} {p} {bytes} {before} {after} said line
 
 abbrev device_stands : {A : Type 0} (g : Ghosts A) → Device A g → History → Type 0
 device_stands g device = StandsFor (g.stands (array_of device))
+
+-- the same of its form
+form_last : {bytes : List ℕ} {before after : Option (List ℕ)} (said line : List ℕ) (code status : ℕ) → (e : EndsWithLine before after line code status) → VolumesForm bytes code (said ++ line) → HasVolumesForm bytes status (said ++ take e.count line)
+form_last {bytes} {before} {after} said line code status e t = elim e.whole [
+  | inl four ↦ form_last_line four code (said ++ line) (drop e.count line) t (ap (λ (x : List ℕ). said ++ x) (sym (take-append-drop e.count line)) ∙ sym (append_assoc said (take e.count line) (drop e.count line)))
+  | inr all ↦
+      let full : take e.count line ≡ line = take_all e.count line (let n = all.0 in omega (arith, n)) in
+      subst (λ (x : List ℕ). HasVolumesForm bytes status (said ++ x)) (sym full) (subst (λ (s : ℕ). HasVolumesForm bytes s (said ++ line)) (sym all.1) (form_whole t))
+]
 
 -- ---- the whole text, from what was answered
 
@@ -204,8 +216,8 @@ module _ {A : Type 0} (g : Ghosts A) where
         subst (λ (n : ℕ). FlushesLast n (g.setup (array_of first)) (g.told (array_of mid)) (g.told (array_of last)) q answer) slots
         (subst (λ (z : Setup). FlushesLast (g.slots (array_of mid)) z (g.told (array_of mid)) (g.told (array_of last)) q answer) setup (record { asked = k.asked; all = k.all; answered = k.answered }))
 
-    module _ (going : halt_of_device first ≡ None) {left_before left written_before begun written : Option (List ℕ)} (shelf : Shelf (Device A g) device_ghosts) (halt : Option Halt) (mount : List ℕ)
-        (grew : GrowsByBytes written_before begun mount) (mounted : (p : Point) → g.stands (array_of first) p → mount ≡ begins_with p) where
+    module _ (going : halt_of_device first ≡ None) {left_before left written_before begun written : Option (List ℕ)} (shelf : Shelf (Device A g) device_ghosts) (halt : Option Halt) (writes_seen gear_seen : ℕ)
+        (grew : GrowsByBytes written_before begun (mount_line writes_seen gear_seen)) (mounted : (p : Point) → g.stands (array_of first) p → mount_line writes_seen gear_seen ≡ begins_with p) where
       module _ (end : LinesEnd) (s : ServesVolumeLines device_ghosts first left_before left begun written shelf halt end) where
         -- the events that were kept, whatever is told
         answered_mid : (e : Answers) × HasAnswered g (array_of first) (array_of (device_in shelf)) e
@@ -220,14 +232,15 @@ module _ {A : Type 0} (g : Ghosts A) where
 
         -- a last line behind the answers
         ends_line : {wrote : Option (List ℕ)} (final : Option Trail) (line : List ℕ) (code status : ℕ) (e : EndsWithLine written wrote line code status) → (status ≡ 10 → length s.bytes ≡ 2 ^ 40) → (IsWholeStatus status → (length s.bytes < 2 ^ 40) × AtEnd left)
-            → (IsSome final → (p : Point) → g.stands (array_of first) p → Text final p s.bytes code ((begins_with p ++ s.told) ++ line)) → Run final left_before left written_before wrote status
-        ends_line {wrote} final line code status e full all text = record {
+            → VolumesForm s.bytes code ((mount_line writes_seen gear_seen ++ s.told) ++ line) → (IsSome final → (p : Point) → g.stands (array_of first) p → Text final p s.bytes code ((begins_with p ++ s.told) ++ line)) → Run final left_before left written_before wrote status
+        ends_line {wrote} final line code status e full all form text = record {
           bytes = s.bytes;
-          text = (mount ++ s.told) ++ take e.count line;
+          text = (mount_line writes_seen gear_seen ++ s.told) ++ take e.count line;
           given = s.given;
-          grows = GrowsByBytes-then written_before written wrote (mount ++ s.told) (take e.count line) (GrowsByBytes-then written_before begun written mount s.told grew s.grows) e.grows;
+          grows = GrowsByBytes-then written_before written wrote (mount_line writes_seen gear_seen ++ s.told) (take e.count line) (GrowsByBytes-then written_before begun written (mount_line writes_seen gear_seen) s.told grew s.grows) e.grows;
           full = full;
           all = all;
+          form = form_last (mount_line writes_seen gear_seen ++ s.told) line code status e form;
           wrote = λ is p at. subst (λ (x : List ℕ). WritesVolumes (g.slots (array_of first)) (g.setup (array_of first)) (g.told (array_of first)) final p s.bytes status ((x ++ s.told) ++ take e.count line)) (sym (mounted p at))
               (with_last (begins_with p ++ s.told) line code status e (text is p at));
         }
@@ -239,7 +252,7 @@ module _ {A : Type 0} (g : Ghosts A) where
           let mid = device_in shelf in
           let before = answered_mid Done s in
           let none : halt ≡ None = not_halted (halt_of_device mid) (halt_of_device last) halt (s.runs.halted going) f.again f.halted in
-          ends_line Done s (g.told (array_of last)) (end_line writes) 0 status e (λ ten. absurd (other _ _ _ _ _ e 10 (λ no. omega arith) (λ no. omega arith) ten)) (λ whole. (s.ends.2, s.ends.3)) (λ is p at.
+          ends_line Done s (g.told (array_of last)) (end_line writes) 0 status e (λ ten. absurd (other _ _ _ _ _ e 10 (λ no. omega arith) (λ no. omega arith) ten)) (λ whole. (s.ends.2, s.ends.3)) (subst (λ (w : List ℕ). VolumesForm s.bytes 0 ((mount_line writes_seen gear_seen ++ w) ++ end_line writes)) (sym s.ends.1) (form_done writes_seen gear_seen writes s.text (subst (λ (l : List (List ℕ)). HaveForm l s.text None) s.ends.0 (subst (λ (o : Option Halt). HaveForm s.lines s.text o) none s.runs.form)))) (λ is p at.
           let here = told_then (g.told (array_of mid)) (g.told (array_of last)) (f.kept mid [] (answered_none g (array_of mid))).grows is in
           let x = answers_mid Done s here p at in
           let number : writes ≡ length x.0.all.end.history = f.number x.0.all.end.history (record { point = x.0.all.end; at = x.1; is = refl }) is writes refl in
@@ -252,11 +265,12 @@ module _ {A : Type 0} (g : Ghosts A) where
       ran_halted last own status s f e =
           let mid = device_in shelf in
           let before = answered_mid Done s in
-          ends_line Done s (g.told (array_of last)) (halt_line own) (status_of_halt own) status e (λ ten. absurd (other _ _ _ _ _ e 10 (λ no. omega (arith, no)) (no_halt_code own 10 (λ no. omega (arith, no)) (λ no. omega (arith, no))) ten)) (λ whole. (s.ends.2, s.ends.3)) (λ is p at.
+          let met = met_by (halt_of_device mid) (halt_of_device last) halt own (s.runs.halted going) f.again f.halted in
+          ends_line Done s (g.told (array_of last)) (halt_line own) (status_of_halt own) status e (λ ten. absurd (other _ _ _ _ _ e 10 (λ no. omega (arith, no)) (no_halt_code own 10 (λ no. omega (arith, no)) (λ no. omega (arith, no))) ten)) (λ whole. (s.ends.2, s.ends.3)) (subst (λ (w : List ℕ). VolumesForm s.bytes (status_of_halt own) ((mount_line writes_seen gear_seen ++ w) ++ halt_line own)) (sym s.ends.1) (form_halted writes_seen gear_seen own halt s.text (subst (λ (l : List (List ℕ)). HaveForm l s.text halt) s.ends.0 s.runs.form) met)) (λ is p at.
           let here = told_then (g.told (array_of mid)) (g.told (array_of last)) (f.kept mid [] (answered_none g (array_of mid))).grows is in
           let x = answers_mid Done s here p at in
           halted_at (g.slots (array_of first)) (g.setup (array_of first)) (g.told (array_of first)) (g.told (array_of mid)) (g.told (array_of last)) p s.bytes s.text s.told s.ends.1 s.lines halt own x.0 s.ends.0
-          (met_by (halt_of_device mid) (halt_of_device last) halt own (s.runs.halted going) f.again f.halted) (flush_behind mid last x.0.all.end (Halted own) (Some own) before.1.same_slots before.1.same_setup x.1 is f))
+          met (flush_behind mid last x.0.all.end (Halted own) (Some own) before.1.same_slots before.1.same_setup x.1 is f))
 
       pub ran : {wrote : Option (List ℕ)} (last : Device A g) (end : LinesEnd) (status : ℕ) → ServesVolumeLines device_ghosts first left_before left begun written shelf halt end → EndsSession g (device_in shelf) last written wrote end status → Run (g.told (array_of last)) left_before left written_before wrote status
       ran last Done status s (kept writes status' f e) = ran_kept last writes status s f e
@@ -264,25 +278,26 @@ module _ {A : Type 0} (g : Ghosts A) where
       ran {wrote} last Source status s (at_source status' same e) =
           subst (λ (d : Device A g). Run (g.told (array_of d)) left_before left written_before wrote status) (sym same)
           (ends_line Source s (g.told (array_of (device_in shelf))) (codes "source\n") 3 status e (λ ten. absurd (other _ _ _ _ _ e 10 (λ no. omega (arith, no)) (λ no. omega (arith, no)) ten))
-          (λ whole. absurd (no_whole_status 3 status e (λ no. omega (arith, no)) (λ no. omega (arith, no)) (λ no. omega (arith, no)) whole)) (λ is p at.
+          (λ whole. absurd (no_whole_status 3 status e (λ no. omega (arith, no)) (λ no. omega (arith, no)) (λ no. omega (arith, no)) whole)) (subst (λ (w : List ℕ). VolumesForm s.bytes 3 ((mount_line writes_seen gear_seen ++ w) ++ codes "source\n")) (sym s.ends.1) (form_source writes_seen gear_seen halt s.text (subst (λ (l : List (List ℕ)). HaveForm l s.text halt) s.ends.0 s.runs.form))) (λ is p at.
           let x = answers_mid Source s is p at in
           subst (λ (w : List ℕ). Text (g.told (array_of (device_in shelf))) p s.bytes 3 ((begins_with p ++ w) ++ codes "source\n")) (sym s.ends.1)
           (source_text halt s.text (subst (λ (l : List (List ℕ)). AnswersFromPoint (g.slots (array_of first)) (g.setup (array_of first)) (g.told (array_of first)) (g.told (array_of (device_in shelf))) p l s.text halt) s.ends.0 x.0))))
       ran {wrote} last TooLong status s (too_long status' same e) =
           subst (λ (d : Device A g). Run (g.told (array_of d)) left_before left written_before wrote status) (sym same)
           (ends_line TooLong s (g.told (array_of (device_in shelf))) (codes "toolong\n") 10 status e (λ ten. s.ends.2)
-          (λ whole. absurd (no_whole_status 10 status e (λ no. omega (arith, no)) (λ no. omega (arith, no)) (λ no. omega (arith, no)) whole)) (λ is p at.
+          (λ whole. absurd (no_whole_status 10 status e (λ no. omega (arith, no)) (λ no. omega (arith, no)) (λ no. omega (arith, no)) whole)) (subst (λ (w : List ℕ). VolumesForm s.bytes 10 ((mount_line writes_seen gear_seen ++ w) ++ codes "toolong\n")) (sym s.ends.1) (form_too_long writes_seen gear_seen halt s.text s.ends.2 (subst (λ (l : List (List ℕ)). HaveForm l s.text halt) s.ends.0 s.runs.form))) (λ is p at.
           let x = answers_mid TooLong s is p at in
           subst (λ (w : List ℕ). Text (g.told (array_of (device_in shelf))) p s.bytes 10 ((begins_with p ++ w) ++ codes "toolong\n")) (sym s.ends.1)
           (too_long_text s.ends.2 halt s.text (subst (λ (l : List (List ℕ)). AnswersFromPoint (g.slots (array_of first)) (g.setup (array_of first)) (g.told (array_of first)) (g.told (array_of (device_in shelf))) p l s.text halt) s.ends.0 x.0))))
       ran {wrote} last Sink status s (at_sink same after) =
           subst (λ (d : Device A g). Run (g.told (array_of d)) left_before left written_before wrote 4) (sym same) (record {
             bytes = s.bytes;
-            text = mount ++ s.told;
+            text = mount_line writes_seen gear_seen ++ s.told;
             given = s.given;
-            grows = subst (λ (w : Option (List ℕ)). GrowsByBytes written_before w (mount ++ s.told)) (sym after) (GrowsByBytes-then written_before begun written mount s.told grew s.grows);
+            grows = subst (λ (w : Option (List ℕ)). GrowsByBytes written_before w (mount_line writes_seen gear_seen ++ s.told)) (sym after) (GrowsByBytes-then written_before begun written (mount_line writes_seen gear_seen) s.told grew s.grows);
             full = λ ten. absurd (omega (arith, ten));
             all = λ whole. absurd (four_not_whole whole);
+            form = form_answers refl writes_seen gear_seen s.lines s.ends.0.0 s.text s.ends.1.0 halt s.ends.0.1 s.runs.form (ap (λ (w : List ℕ). mount_line writes_seen gear_seen ++ w) s.ends.1.1 ∙ sym (append_assoc (mount_line writes_seen gear_seen) s.told s.ends.1.0));
             wrote = λ is p at.
                 answers refl s.lines s.ends.0.0 s.text s.ends.1.0 halt s.ends.0.1 (answers_mid Sink s is p at).0
                 (ap (λ (w : List ℕ). begins_with p ++ w) s.ends.1.1 ∙ sym (append_assoc (begins_with p) s.told s.ends.1.0) ∙ ap (λ (w : List ℕ). (w ++ s.told) ++ s.ends.1.0) (sym (mounted p at)));
@@ -298,16 +313,17 @@ module _ {A : Type 0} (g : Ghosts A) where
       all_answered last Sink status s (at_sink same after) = let k = answered_mid Sink s in (k.0, subst (λ (d : Device A g). HasAnswered g (array_of first) (array_of d) k.0) (sym same) k.1)
 
   -- the first line could not be written
-  pub ran_none : (a : A) {left written_before wrote : Option (List ℕ)} (mount : List ℕ) (n : ℕ) → GrowsByBytes written_before wrote (take n mount) → ((p : Point) → g.stands a p → mount ≡ begins_with p)
+  pub ran_none : (a : A) {left written_before wrote : Option (List ℕ)} (writes gear n : ℕ) → GrowsByBytes written_before wrote (take n (mount_line writes gear)) → ((p : Point) → g.stands a p → mount_line writes gear ≡ begins_with p)
       → VolumesRun (g.slots a) (g.setup a) (g.stands a) (g.told a) (g.told a) left left written_before wrote 4
-  ran_none a mount n grew mounted = record {
+  ran_none a writes gear n grew mounted = record {
     bytes = [];
-    text = take n mount;
+    text = take n (mount_line writes gear);
     given = Gives-none _;
     grows = grew;
     full = λ ten. absurd (omega (arith, ten));
     all = λ whole. absurd (four_not_whole whole);
-    wrote = λ is p at. first_line refl (drop n mount) refl (stretch_none (g.slots a) (g.setup a) (g.told a) p is) (sym (mounted p at) ∙ sym (take-append-drop n mount));
+    form = form_first refl writes gear (drop n (mount_line writes gear)) refl (sym (take-append-drop n (mount_line writes gear)));
+    wrote = λ is p at. first_line refl (drop n (mount_line writes gear)) refl (stretch_none (g.slots a) (g.setup a) (g.told a) p is) (sym (mounted p at) ∙ sym (take-append-drop n (mount_line writes gear)));
   }
       -- what a device answered, told of its arrays
 
@@ -347,6 +363,7 @@ module _ {A : Type 0} (g : Ghosts A) (agrees : (x : A) (q : Point) → g.stands 
     grows = r.grows;
     full = r.full;
     all = r.all;
+    form = r.form;
     said = λ is. IsMountedFromEach-follows (g.slots a) (g.setup a) began (g.told a) (g.stands a) (FollowsForVolumes (g.slots a) (g.setup a) (g.told a) (g.told b) r.bytes status r.text)
         (λ p mark here at. record { wrote = r.wrote is p at; left = λ asked c. stretch_leaves (g.slots a) (g.setup a) (g.told a) (g.told b) p asked c mark (here c.from c.was); synced = synced_at is p at mark here }) mounted;
   }

@@ -1,6 +1,7 @@
 pub mod Ends
 pub mod Clients
 pub mod VolumeLines
+pub mod VolumeForms
 pub mod LineSteps
 pub mod VolumeSessions
 pub mod LineRuns

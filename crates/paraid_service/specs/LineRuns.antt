@@ -10,6 +10,7 @@ use Rattle.paraid_volume_lines.specs.Grammar.{AsksVolumes, VolLine}
 use Rattle.paraid_service.specs.declared.shelf.Shelf.{Shelf}
 use Rattle.paraid_nbd.specs.Export.{KeepsOn}
 use Rattle.paraid_service.specs.Shelves.{IsGoing, OnShelf, device_in}
+use Rattle.paraid_service.specs.VolumeForms.{HaveForm}
 use Rattle.paraid_service.specs.VolumeLines.{Held, LinesStep}
 use Rattle.paraid_service.specs.VolumeSessions.{AreOfHalt, BeginsWith, IsLifeOf}
 
@@ -38,6 +39,7 @@ pub record RunsLines {B : Type 0} (g : Ghosts B) (start : B) (lines : List (List
   pub going : halt ≡ None → IsGoing shelf
   pub went : DeviceGoesOn g.block_count g.halts g.halted g.tells start (device_in shelf)
   pub keeps : KeepsOn g.kept start (device_in shelf)
+  pub form : HaveForm lines text halt
   pub halted : g.halted start ≡ None → g.halted (device_in shelf) ≡ halt
   pub says : (h : History) → g.stands start h → IsTrue (g.tells (device_in shelf)) → SaysLines g start h lines text shelf halt
 

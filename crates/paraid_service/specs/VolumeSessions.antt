@@ -24,6 +24,7 @@ use Rattle.paraid_volume.specs.Lives.{IsLeftByLife, Life, VolLog, flushed}
 use Rattle.paraid_volume.specs.States.{ShowsVolumes, VolumeState}
 use Rattle.paraid_volume.specs.Tables.{IsVolumeTable}
 use Rattle.paraid_volume_lines.specs.Grammar.{VolLine}
+use Rattle.paraid_service.specs.VolumeForms.{HasVolumesForm}
 use Rattle.paraid_service.specs.VolumeLines.{Held, IsEventOf, LinesStep}
 
 -- what the blocks of an array hold: volumes in this state, or no table
@@ -158,6 +159,7 @@ pub record VolumesRun (slots : ℕ) (setup : Setup) (stood : Point → Type 0) (
   pub grows : GrowsByBytes written_before written text
   pub full : status ≡ 10 → length bytes ≡ 2 ^ 40
   pub all : IsWholeStatus status → (length bytes < 2 ^ 40) × AtEnd left
+  pub form : HasVolumesForm bytes status text
   pub wrote : IsSome final → (p : Point) → stood p → WritesVolumes slots setup start final p bytes status text
 
 -- What follows from the first point of a session. After one that ends well no block of a disk that is there is loose, so no stop
@@ -176,4 +178,5 @@ pub record VolumesHeadline (slots : ℕ) (setup : Setup) (began : ℕ) (start fi
   pub grows : GrowsByBytes written_before written text
   pub full : status ≡ 10 → length bytes ≡ 2 ^ 40
   pub all : IsWholeStatus status → (length bytes < 2 ^ 40) × AtEnd left
+  pub form : HasVolumesForm bytes status text
   pub said : IsSome final → IsMountedFromEach slots setup began start (FollowsForVolumes slots setup start final bytes status text)

@@ -17,7 +17,7 @@ pub returns-in_default : goal.returns-in_default
 returns-in_default g c =
     let a = c.args.array in
     let p = c.in_default.ensures.part in
-    let run = ran_none g.A.Serves a (mount_line c.writes.result c.gear.result) p.0 (rw (c.as_slice.ensures.value, c.mount_text.ensures) at p.2) (λ q at. rw (c.writes.ensures.point c.requires.going q at, c.gear.ensures.point q at) refl) in
+    let run = ran_none g.A.Serves a c.writes.result c.gear.result p.0 (rw (c.as_slice.ensures.value, c.mount_text.ensures) at p.2) (λ q at. rw (c.writes.ensures.point c.requires.going q at, c.gear.ensures.point q at) refl) in
     record {
       run = run;
       headline = headline_of g.A.Serves g.met.A.Serves.agrees a a [] (answered_none g.A.Serves a) 4 (λ zero. absurd (omega (arith, zero))) run;
@@ -47,8 +47,8 @@ returns g c =
     let grew = rw (c.as_slice.ensures.value, c.mount_text.ensures) at k.grows in
     let mounted : (q : Point) → g.A.Serves.stands (array_of first) q → mount ≡ begins_with q = λ q stands. let here = rw c.new.ensures.array at stands in rw (c.writes.ensures.point c.requires.going q here, c.gear.ensures.point q here) refl in
     let run : VolumesRun (g.A.Serves.slots a) (g.A.Serves.setup a) (g.A.Serves.stands a) (g.A.Serves.told a) (g.A.Serves.told b) (g.S.Source.left c.args.source.now) (g.S.Source.left c.serve_lines-run.new.source) (g.K.Sink.written c.args.sink.now) (g.K.Sink.written c.end_session-status.new.sink) status
-    = rw (c.close.ensures, ← c.new.ensures.array) (ran g.A.Serves g.met.A.Serves.agrees first c.new.ensures.going shelf halt mount grew mounted last end status lines ends) in
-    let every = all_answered g.A.Serves g.met.A.Serves.agrees first c.new.ensures.going shelf halt mount grew mounted last end status lines ends in
+    = rw (c.close.ensures, ← c.new.ensures.array) (ran g.A.Serves g.met.A.Serves.agrees first c.new.ensures.going shelf halt c.writes.result c.gear.result grew mounted last end status lines ends) in
+    let every = all_answered g.A.Serves g.met.A.Serves.agrees first c.new.ensures.going shelf halt c.writes.result c.gear.result grew mounted last end status lines ends in
     let all = answered_at g.A.Serves first last a b every.0 c.new.ensures.array c.close.ensures every.1 in
     let going : status ≡ 0 → g.A.Serves.halted b ≡ None = λ zero. rw c.close.ensures (ends_going g.A.Serves end status ends zero) in
     let text = GrowsByBytes-then _ _ _ mount lines.told grew lines.grows in

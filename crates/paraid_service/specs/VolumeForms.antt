@@ -1,0 +1,52 @@
+-- The form of what a session of volumes writes, whatever the rack holds.
+use Rattle.std.specs.Prelude.{◌≡◌, ℕ, ◌^◌, ◌⊎◌, List, [], ◌∷◌, ◌++◌, length, true, codes, Option, Some, None, Ok, Err}
+use Rattle.paraid_base.specs.declared.block.Block.{Block}
+use Rattle.paraid_base.specs.declared.fault.Halt.{Halt}
+use Rattle.paraid_io.specs.Lines.{lines_of, whole_lines}
+use Rattle.paraid_serve.specs.Ending.{end_line, halt_line, mount_line, status_of_halt}
+use Rattle.paraid_trace.specs.Replies.{halt_text}
+use Rattle.paraid_volume.specs.declared.fault.VolFault.{VolFault}
+use Rattle.paraid_volume.specs.Faults.{vol_halt_in}
+use Rattle.paraid_volume_lines.specs.Grammar.{AsksVolumes, VolLine, bad, create, delete, flush, init, list, read, write}
+use Rattle.paraid_volume_lines.specs.Texts.{begun_text, created_text, deleted_text, fault_text, read_text}
+use Rattle.paraid_service.specs.VolumeLines.{halted_text}
+
+-- A line may be answered so, if no halt comes of it.
+pub data IsReplyTo : VolLine → List ℕ → Type 0 where
+  no_task : IsReplyTo bad (codes "bad")
+  begun : (extents size : ℕ) → IsReplyTo init (begun_text extents size)
+  created : (name : List ℕ) (extents id : ℕ) → IsReplyTo (create name extents) (created_text name (Ok id))
+  deleted : (name : List ℕ) → IsReplyTo (delete name) (deleted_text name true)
+  told : (name : List ℕ) (block : ℕ) (bytes : Block) → IsReplyTo (read name block) (read_text name block (Ok tt) bytes)
+  wrote : (name : List ℕ) (block : ℕ) (bytes : Block) → IsReplyTo (write name block bytes) (codes "wrote")
+  flushed : IsReplyTo flush (codes "flushed")
+  listed : (text : List ℕ) → IsReplyTo list (codes "list" ++ text)
+  refused : (line : VolLine) (fault : VolFault) → (line ≡ bad → ⊥) → vol_halt_in {A = Unit {0}} (Err fault) ≡ None → IsReplyTo line (fault_text fault)
+
+-- Lines, one after the other, have answers of such a form, until one is answered by a halt, or from a halt on: then each that asks
+-- for something is.
+pub data FormsLines (begun : Option Halt) : List (List ℕ) → List ℕ → Option Halt → Type 0 where
+  none_yet : FormsLines begun [] [] begun
+  one_more : (lines : List (List ℕ)) (line text said : List ℕ) (asked : VolLine) → FormsLines begun lines text None → AsksVolumes line asked → IsReplyTo asked said → FormsLines begun (lines ++ line ∷ []) (text ++ (said ++ codes "\n")) None
+  halting : (lines : List (List ℕ)) (line text : List ℕ) (asked : VolLine) (halt : Halt) → FormsLines begun lines text None → AsksVolumes line asked → (asked ≡ bad → ⊥) → (asked ≡ list → ⊥) → FormsLines begun (lines ++ line ∷ []) (text ++ (halt_text halt ++ codes "\n")) (Some halt)
+  later : (lines : List (List ℕ)) (line text : List ℕ) (asked : VolLine) (halt : Halt) → FormsLines begun lines text (Some halt) → AsksVolumes line asked → FormsLines begun (lines ++ line ∷ []) (text ++ (halted_text halt asked ++ codes "\n")) (Some halt)
+
+-- These lines were answered in such a form, and the last halt that was told is this one.
+pub record HaveForm (lines : List (List ℕ)) (text : List ℕ) (halt : Option Halt) : Type 0 where
+  pub begun : Option Halt
+  pub form : FormsLines begun lines text halt
+
+-- The form of a whole text for these bytes, by its status: the line of a mount, the answers, and the last line.
+pub data VolumesForm (bytes : List ℕ) : ℕ → List ℕ → Type 0 where
+  done : (writes gear number : ℕ) (text : List ℕ) → HaveForm (lines_of bytes) text None → VolumesForm bytes 0 (mount_line writes gear ++ text ++ end_line number)
+  halted : (writes gear : ℕ) (halt : Halt) (met : Option Halt) (text : List ℕ) → HaveForm (lines_of bytes) text met → (met ≡ None) ⊎ (met ≡ Some halt) → VolumesForm bytes (status_of_halt halt) (mount_line writes gear ++ text ++ halt_line halt)
+  source : (writes gear : ℕ) (met : Option Halt) (text : List ℕ) → HaveForm (whole_lines bytes) text met → VolumesForm bytes 3 (mount_line writes gear ++ text ++ codes "source\n")
+  too_long : (writes gear : ℕ) (met : Option Halt) (text : List ℕ) → length bytes ≡ 2 ^ 40 → HaveForm (whole_lines bytes) text met → VolumesForm bytes 10 (mount_line writes gear ++ text ++ codes "toolong\n")
+
+-- The form of what was written: of a whole text; or at 4 of a first part of such a text, of the answers to a first part of the lines,
+-- or of the first line.
+pub data HasVolumesForm (bytes : List ℕ) (status : ℕ) (text : List ℕ) : Type 0 where
+  whole : VolumesForm bytes status text → HasVolumesForm bytes status text
+  last_line : status ≡ 4 → (code : ℕ) (full rest : List ℕ) → VolumesForm bytes code full → full ≡ text ++ rest → HasVolumesForm bytes status text
+  answers : status ≡ 4 → (writes gear : ℕ) (lines more : List (List ℕ)) (said rest : List ℕ) (met : Option Halt) → lines_of bytes ≡ lines ++ more → HaveForm lines said met → mount_line writes gear ++ said ≡ text ++ rest → HasVolumesForm bytes status text
+  first_line : status ≡ 4 → (writes gear : ℕ) (rest : List ℕ) → bytes ≡ [] → mount_line writes gear ≡ text ++ rest → HasVolumesForm bytes status text
