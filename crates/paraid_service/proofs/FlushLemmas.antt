@@ -94,8 +94,8 @@ no_flush_later low k (pair ∷ rest) below within not = (
   no_flush_later low k rest below within.1 (All-tail (λ (x : VolCall × VolAnswer). IsFlushedBy k x → ⊥) pair rest not),
 )
 
-pub leaves_flushed : (count low : ℕ) (h written : History) (log : VolLog) → (left : LeavesVolumes count low h written log) → (k : ℕ) → left.start ≤ k → low ≤ k → k ≤ length written → LeavesFlushed count left.start written k log
-leaves_flushed count low h written log left k from below within =
+pub leaves_flushed : (count start low : ℕ) (written : History) (log : VolLog) → LeavesVolumes count start low written log → (k : ℕ) → start ≤ k → low ≤ k → k ≤ length written → LeavesFlushed count start written k log
+leaves_flushed count start low written log left k from below within =
     let l = left.left k from within in
     record {
       done = l.done;

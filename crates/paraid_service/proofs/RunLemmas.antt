@@ -1,5 +1,5 @@
 -- Lines, one after the other, on a device.
-use Rattle.std.proofs.Common.{◌≡◌, ℕ, [], ◌∷◌, List, ◌++◌, ◌∙◌, refl, sym, ap, subst}
+use Rattle.std.proofs.Common.{◌≡◌, ℕ, length, [], ◌∷◌, List, ◌++◌, ◌∙◌, refl, sym, ap, subst}
 use Rattle.std.specs.Prelude.{Option, Some, None, IsTrue, codes}
 use Rattle.std.proofs.lemmas.List.{append-nil, append_cancel_left}
 use Rattle.paraid_base.specs.declared.fault.Halt.{Halt}
@@ -20,7 +20,7 @@ use Rattle.paraid_service.specs.VolumeLines.{Held, IsEventOf, LinesStep, halted_
 use Rattle.paraid_service.specs.VolumeForms.{FormsLines, HaveForm}
 use Rattle.paraid_service.specs.VolumeForms.FormsLines.{halting as form_halting, later as form_later, none_yet as form_none, one_more as form_more}
 use Rattle.paraid_service.specs.VolumeLines.LinesStep.{halting, later, none_yet, one_more}
-use Rattle.paraid_service.specs.VolumeSessions.{Holds, IsLifeOf}
+use Rattle.paraid_service.specs.VolumeSessions.{Holds, IsLifeOf, life_start}
 use Rattle.paraid_service.specs.VolumeSessions.BeginsWith.{known, unknown}
 use Rattle.paraid_service.specs.VolumeSessions.Holds.{volumes as volumes_held, no_table as none_held}
 use Rattle.paraid_service.specs.VolumeSessions.IsLifeOf.{lives, waits}
@@ -28,10 +28,10 @@ use Rattle.paraid_nbd.proofs.DeviceLemmas.{keeps_then}
 use Rattle.paraid_service.proofs.KeepLemmas.{keeps_more}
 
 -- The events that were kept since the device was as `start` and stood for `h` are those of a life.
-pub record LivesKept {B : Type 0} (g : Ghosts B) (start : B) (h : History) (device : B) (s : Held) (log : VolLog) : Type 0 where
+pub record LivesKept {B : Type 0} (g : Ghosts B) (start : B) (h : History) (was : Held) (device : B) (s : Held) (log : VolLog) : Type 0 where
   pub events : Answers
   pub kept : g.kept start device events
-  pub life : IsLifeOf (g.block_count start) h events s log
+  pub life : IsLifeOf (g.block_count start) h was events s log
 
 no_entries : (a b : History) → a ≡ a ++ b → b ≡ []
 no_entries a b e = append_cancel_left a b [] (sym e ∙ sym (append-nil a))
@@ -47,17 +47,17 @@ uncut : {count : ℕ} {s t : Held} {begun : Option Halt} {cut : Option VolLine} 
 uncut {count} {s} {t} {begun} {cut} {lines} {text} {log} steps = subst (λ (c : Option VolLine). LinesStep count s begun lines text log t None c) (no_cut steps refl) steps
 
 module _ {B : Type 0} (g : Ghosts B) where
-  pub life_on : (start : B) (h : History) (shelf : Shelf B g) (s : Held) (log : VolLog) → OnShelf g start (g.block_count start) h shelf s log → LivesKept g start h (device_in shelf) s log
-  life_on start h (HeldShelf volumes) (Some s) log on = record {
+  pub life_on : (start : B) (h : History) (was : Held) (shelf : Shelf B g) (s : Held) (log : VolLog) → OnShelf g start (g.block_count start) h was shelf s log → LivesKept g start h was (device_in shelf) s log
+  life_on start h was (HeldShelf volumes) (Some s) log on = record {
     events = on.events;
     kept = on.kept;
-    life = lives on.start s log on.began on.soon (subst (λ (w : History). Life (g.block_count start) on.start w s log) on.are on.life) on.flushes;
+    life = lives s log (subst (λ (w : History). Life (g.block_count start) (life_start was h) w s log) on.are on.life) on.flushes;
   }
-  life_on start h (HeldShelf volumes) None log on = absurd on
-  life_on start h (Bare blocks) (Some s) log on = absurd on
-  life_on start h (Bare blocks) None log on =
+  life_on start h was (HeldShelf volumes) None log on = absurd on
+  life_on start h was (Bare blocks) (Some s) log on = absurd on
+  life_on start h was (Bare blocks) None log on =
       let holds = on.holds in
-      record { events = holds.1; kept = holds.2; life = subst (λ (l : VolLog). IsLifeOf (g.block_count start) h holds.1 None l) (sym on.none) (waits (no_entries h (entries_in holds.1) holds.3)) }
+      record { events = holds.1; kept = holds.2; life = subst (λ (l : VolLog). IsLifeOf (g.block_count start) h was holds.1 None l) (sym on.none) (waits on.bare (no_entries h (entries_in holds.1) holds.3)) }
 
   -- ---- a line more
 
@@ -66,7 +66,7 @@ module _ {B : Type 0} (g : Ghosts B) where
         → (h : History) → g.stands start h → IsTrue (g.tells (device_in new)) → SaysLines g start h (lines ++ line ∷ []) (text ++ said) new halt
     more_says None l start lines line text ask r h stands tells =
         let y = r.says h stands (l.went.told tells) in
-        let step = subst (λ (k : ℕ). OnShelf g start k h old y.last y.log → StepsShelf (OnShelf g start k h new) k y.last asked l.said y.log) r.went.size (λ o. l.step refl start h y.last y.log o tells) (y.on refl) in
+        let step = subst (λ (k : ℕ). OnShelf g start k h y.first old y.last y.log → StepsShelf (OnShelf g start k h y.first new) k y.last asked l.said y.log) r.went.size (λ o. l.step refl start h y.first y.last y.log o tells) (y.on refl) in
         record {
           first = y.first;
           begun = y.begun;
@@ -81,7 +81,7 @@ module _ {B : Type 0} (g : Ghosts B) where
     more_says (Some own) l start lines line text ask r h stands tells =
         let y = r.says h stands (l.went.told tells) in
         let why = l.halts own refl in
-        let life = life_on start h old y.last y.log (y.on refl) in
+        let life = life_on start h y.first old y.last y.log (y.on refl) in
         let kept = l.keeps.grows start life.events life.kept in
         record {
           first = y.first;
@@ -142,7 +142,7 @@ module _ {B : Type 0} (g : Ghosts B) where
 
   -- ---- before any line
 
-  first_on : (start : B) (h : History) (shelf : Shelf B g) (s : Held) → OnFirst g start (g.block_count start) h shelf s → OnShelf g start (g.block_count start) h shelf s []
+  first_on : (start : B) (h : History) (shelf : Shelf B g) (s : Held) → OnFirst g start (g.block_count start) h shelf s → OnShelf g start (g.block_count start) h s shelf s []
   first_on start h (HeldShelf volumes) (Some s) on = on.0
   first_on start h (HeldShelf volumes) None on = absurd on
   first_on start h (Bare blocks) (Some s) on = absurd on
@@ -151,7 +151,7 @@ module _ {B : Type 0} (g : Ghosts B) where
   first_holds : (start : B) (h : History) (shelf : Shelf B g) (s : Held) → OnFirst g start (g.block_count start) h shelf s → Holds (g.block_count start) (after_all h) s
   first_holds start h (HeldShelf volumes) (Some s) on =
       let l = on.0 in
-      volumes_held s (subst (λ (w : History). ShowsVolumes (g.block_count start) (after_all w) s) on.1 (life_shows (g.block_count start) l.start l.writes s [] l.life))
+      volumes_held s (subst (λ (w : History). ShowsVolumes (g.block_count start) (after_all w) s) on.1 (life_shows (g.block_count start) (length h) l.writes s [] l.life))
   first_holds start h (HeldShelf volumes) None on = absurd on
   first_holds start h (Bare blocks) (Some s) on = absurd on
   first_holds start h (Bare blocks) None on = none_held on.no_table
@@ -181,7 +181,7 @@ module _ {B : Type 0} (g : Ghosts B) where
         cut = None;
         steps = none_yet;
         on = λ none. absurd (let no : Some own ≡ None = none in cc);
-        broken = λ other e. record { before = []; rest = kept.more; all = kept.kept; life = waits refl; came = kept.all };
+        broken = λ other e. record { before = []; rest = kept.more; all = kept.kept; life = waits refl refl; came = kept.all };
       }
 
   pub runs_first : (start : B) (shelf : Shelf B g) (halt : Option Halt) → OpensShelf g start shelf halt → g.kept start start [] → RunsLines g start [] [] shelf halt

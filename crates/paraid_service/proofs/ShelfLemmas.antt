@@ -34,7 +34,7 @@ use Rattle.paraid_service.specs.VolumeLines.LineStep.{begins, calls}
 use Rattle.paraid_service.specs.VolumeLines.IsCallOf.{flushes}
 use Rattle.paraid_service.specs.VolumeForms.{IsReplyTo}
 use Rattle.paraid_service.specs.VolumeForms.IsReplyTo.{begun as begun_reply, refused}
-use Rattle.paraid_service.specs.VolumeSessions.{AreFlushesKept}
+use Rattle.paraid_service.specs.VolumeSessions.{AreFlushesKept, life_start}
 use Rattle.paraid_service.proofs.FlushLemmas.{flush_kept, flush_or_not, flushes_append, flushes_later, no_flush}
 use Rattle.paraid_service.proofs.HeldLemmas.{fault_halts}
 
@@ -42,10 +42,10 @@ module _ {B : Type 0} (g : Ghosts B) where
   -- ---- where there are volumes
 
   -- a step of a life, with the events that it kept
-  other_steps : (old new : Volumes B g) (line : VolLine) (text : List ℕ) (halt : Option Halt) (l : ServesHeld g old new line text halt) → halt ≡ None → (line ≡ flush → ⊥) → (first : B) (h : History) (s : VolumeState) (log : VolLog)
-      → OnHeld g first (g.block_count (device_of old)) h old s log → IsTrue (g.tells (device_of new)) → StepsShelf (OnShelf g first (g.block_count (device_of old)) h (HeldShelf new)) (g.block_count (device_of old)) (Some s) line l.said log
-  other_steps old new line text halt l none not first h s log on tells =
-      let a = l.step none (Some (first, on.writes, on.events)) on.start log (record {
+  other_steps : (old new : Volumes B g) (line : VolLine) (text : List ℕ) (halt : Option Halt) (l : ServesHeld g old new line text halt) → halt ≡ None → (line ≡ flush → ⊥) → (first : B) (h : History) (was : Held) (s : VolumeState) (log : VolLog)
+      → OnHeld g first (g.block_count (device_of old)) h was old s log → IsTrue (g.tells (device_of new)) → StepsShelf (OnShelf g first (g.block_count (device_of old)) h was (HeldShelf new)) (g.block_count (device_of old)) (Some s) line l.said log
+  other_steps old new line text halt l none not first h was s log on tells =
+      let a = l.step none (Some (first, on.writes, on.events)) (life_start was h) log (record {
         writes = on.writes;
         state = s;
         stands = ((on.stands.0, [], subst (g.kept first (device_of old)) (sym (append-nil on.events)) on.kept, sym (append-nil on.writes)), on.stands.1);
@@ -58,9 +58,6 @@ module _ {B : Type 0} (g : Ghosts B) where
         last = Some a.all.state;
         step = a.step;
         on = record {
-          start = on.start;
-          began = on.began;
-          soon = on.soon;
           events = events;
           kept = holds.2;
           writes = a.all.writes;
@@ -72,10 +69,10 @@ module _ {B : Type 0} (g : Ghosts B) where
       }
 
   -- a flush, which is kept
-  flush_steps : (old new : Volumes B g) (said : List ℕ) → KeepsFlush g old new → said ≡ codes "flushed" → (first : B) (h : History) (s : VolumeState) (log : VolLog)
-      → OnHeld g first (g.block_count (device_of old)) h old s log → IsTrue (g.tells (device_of new)) → StepsShelf (OnShelf g first (g.block_count (device_of old)) h (HeldShelf new)) (g.block_count (device_of old)) (Some s) flush said log
-  flush_steps old new said k is first h s log on tells =
-      let m = lived_flush (λ w. VolumesStandFor g.stands old w × (w ≡ on.writes)) (λ w. VolumesStandFor g.stands new w × (w ≡ on.writes)) (g.block_count (device_of old)) on.start log
+  flush_steps : (old new : Volumes B g) (said : List ℕ) → KeepsFlush g old new → said ≡ codes "flushed" → (first : B) (h : History) (was : Held) (s : VolumeState) (log : VolLog)
+      → OnHeld g first (g.block_count (device_of old)) h was old s log → IsTrue (g.tells (device_of new)) → StepsShelf (OnShelf g first (g.block_count (device_of old)) h was (HeldShelf new)) (g.block_count (device_of old)) (Some s) flush said log
+  flush_steps old new said k is first h was s log on tells =
+      let m = lived_flush (λ w. VolumesStandFor g.stands old w × (w ≡ on.writes)) (λ w. VolumesStandFor g.stands new w × (w ≡ on.writes)) (g.block_count (device_of old)) (life_start was h) log
       (record { writes = on.writes; state = s; stands = (on.stands, refl); life = on.life }) k.number (λ w holds. (k.counts w holds.0 tells, (k.stands w holds.0 tells, holds.1))) in
       let more : VolLog = (FlushCall, flushed k.number) ∷ [] in
       let kept : Answers = (FlushEvent, FlushedAnswer k.number) ∷ [] in
@@ -84,9 +81,6 @@ module _ {B : Type 0} (g : Ghosts B) where
         last = Some m.all.state;
         step = subst (λ (x : List ℕ). LineStep (g.block_count (device_of old)) (Some s) flush x more (Some m.all.state)) (sym is) (calls s m.all.state flush FlushCall (flushed k.number) refl flushes m.step);
         on = record {
-          start = on.start;
-          began = on.began;
-          soon = on.soon;
           events = on.events ++ kept;
           kept = k.kept first on.events on.kept;
           writes = m.all.writes;
@@ -97,15 +91,15 @@ module _ {B : Type 0} (g : Ghosts B) where
         };
       }
 
-  held_steps : (old new : Volumes B g) (line : VolLine) (text : List ℕ) (halt : Option Halt) (l : ServesHeld g old new line text halt) → halt ≡ None → (first : B) (h : History) (s : Held) (log : VolLog)
-      → OnShelf g first (g.block_count (device_of old)) h (HeldShelf old) s log → IsTrue (g.tells (device_of new)) → StepsShelf (OnShelf g first (g.block_count (device_of old)) h (HeldShelf new)) (g.block_count (device_of old)) s line l.said log
-  held_steps old new line text halt l none first h (Some s) log on tells = elim (flush_or_not line) [
+  held_steps : (old new : Volumes B g) (line : VolLine) (text : List ℕ) (halt : Option Halt) (l : ServesHeld g old new line text halt) → halt ≡ None → (first : B) (h : History) (was s : Held) (log : VolLog)
+      → OnShelf g first (g.block_count (device_of old)) h was (HeldShelf old) s log → IsTrue (g.tells (device_of new)) → StepsShelf (OnShelf g first (g.block_count (device_of old)) h was (HeldShelf new)) (g.block_count (device_of old)) s line l.said log
+  held_steps old new line text halt l none first h was (Some s) log on tells = elim (flush_or_not line) [
     | inl is ↦
         let f = l.flushes none is in
-        subst (λ (x : VolLine). StepsShelf (OnShelf g first (g.block_count (device_of old)) h (HeldShelf new)) (g.block_count (device_of old)) (Some s) x l.said log) (sym is) (flush_steps old new l.said f.0 f.1 first h s log on tells)
-    | inr not ↦ other_steps old new line text halt l none not first h s log on tells
+        subst (λ (x : VolLine). StepsShelf (OnShelf g first (g.block_count (device_of old)) h was (HeldShelf new)) (g.block_count (device_of old)) (Some s) x l.said log) (sym is) (flush_steps old new l.said f.0 f.1 first h was s log on tells)
+    | inr not ↦ other_steps old new line text halt l none not first h was s log on tells
   ]
-  held_steps old new line text halt l none first h None log on tells = absurd on
+  held_steps old new line text halt l none first h was None log on tells = absurd on
 
   pub on_held : (old new : Volumes B g) (line : VolLine) (text : List ℕ) (halt : Option Halt) → ServesHeld g old new line text halt → ServesShelf g (HeldShelf old) (HeldShelf new) line text halt
   on_held old new line text halt l = record {
@@ -122,10 +116,10 @@ module _ {B : Type 0} (g : Ghosts B) where
 
   -- ---- where there is no table
 
-  bare_steps : (blocks : B) (line : VolLine) (said : List ℕ) → LineStep (g.block_count blocks) None line said [] None → (first : B) (h : History) (s : Held) (log : VolLog)
-      → OnShelf g first (g.block_count blocks) h (Bare blocks) s log → StepsShelf (OnShelf g first (g.block_count blocks) h (Bare blocks)) (g.block_count blocks) s line said log
-  bare_steps blocks line said step first h (Some s) log on = absurd on
-  bare_steps blocks line said step first h None log on = record { more = []; last = None; step = step; on = record { none = append-nil log ∙ on.none; holds = on.holds; no_table = on.no_table } }
+  bare_steps : (blocks : B) (line : VolLine) (said : List ℕ) → LineStep (g.block_count blocks) None line said [] None → (first : B) (h : History) (was s : Held) (log : VolLog)
+      → OnShelf g first (g.block_count blocks) h was (Bare blocks) s log → StepsShelf (OnShelf g first (g.block_count blocks) h was (Bare blocks)) (g.block_count blocks) s line said log
+  bare_steps blocks line said step first h was (Some s) log on = absurd on
+  bare_steps blocks line said step first h was None log on = record { more = []; last = None; step = step; on = record { none = append-nil log ∙ on.none; bare = on.bare; holds = on.holds; no_table = on.no_table } }
 
   -- a line that leaves the device
   pub on_bare : (blocks : B) (line : VolLine) (said text : List ℕ) → text ≡ said ++ codes "\n" → IsReplyTo line said → LineStep (g.block_count blocks) None line said [] None → ServesShelf g (Bare blocks) (Bare blocks) line text None
@@ -137,16 +131,16 @@ module _ {B : Type 0} (g : Ghosts B) where
     printed = printed;
     reply = λ none. reply;
     halted = λ going. going;
-    step = λ none first h s log on tells. bare_steps blocks line said step first h s log on;
+    step = λ none first h was s log on tells. bare_steps blocks line said step first h was s log on;
     halts = λ own e. absurd (let no : None ≡ Some own = e in cc);
   }
 
   begin_steps : (blocks : B) (volumes : Volumes B g) → 7 ≤ g.block_count blocks
       → ((from : SinceHistory B) (h : History) → DeviceHolds g.stands g.kept from blocks h → IsTrue (g.tells (device_of volumes)) → BeginsLife (VolumesStandFor (DeviceHolds g.stands g.kept from) volumes) (g.block_count blocks) (length h + 1))
-      → (first : B) (h : History) (s : Held) (log : VolLog) → OnShelf g first (g.block_count blocks) h (Bare blocks) s log → IsTrue (g.tells (device_of volumes))
-      → StepsShelf (OnShelf g first (g.block_count blocks) h (HeldShelf volumes)) (g.block_count blocks) s init (begun_text (extent_count (g.block_count blocks)) (extent_size (g.block_count blocks))) log
-  begin_steps blocks volumes large lived first h (Some s) log on tells = absurd on
-  begin_steps blocks volumes large lived first h None log on tells =
+      → (first : B) (h : History) (was s : Held) (log : VolLog) → OnShelf g first (g.block_count blocks) h was (Bare blocks) s log → IsTrue (g.tells (device_of volumes))
+      → StepsShelf (OnShelf g first (g.block_count blocks) h was (HeldShelf volumes)) (g.block_count blocks) s init (begun_text (extent_count (g.block_count blocks)) (extent_size (g.block_count blocks))) log
+  begin_steps blocks volumes large lived first h was (Some s) log on tells = absurd on
+  begin_steps blocks volumes large lived first h was None log on tells =
       let b = lived (Some (first, h, [])) h on.holds tells in
       let l = b.lived in
       let holds = l.stands.0 in
@@ -156,15 +150,12 @@ module _ {B : Type 0} (g : Ghosts B) where
         last = Some l.state;
         step = subst (λ (z : VolumeState). LineStep (g.block_count blocks) None init (begun_text (extent_count (g.block_count blocks)) (extent_size (g.block_count blocks))) [] (Some z)) (sym b.none) (begins refl large);
         on = record {
-          start = length h + 1;
-          began = omega arith;
-          soon = omega arith;
           events = holds.1;
           kept = holds.2;
           writes = l.writes;
           are = holds.3;
           stands = (holds.0, l.stands.1);
-          life = subst (λ (x : VolLog). Life (g.block_count blocks) (length h + 1) l.writes l.state x) (sym none) l.life;
+          life = subst (λ (w : Held). Life (g.block_count blocks) (life_start w h) l.writes l.state (log ++ [])) (sym on.bare) (subst (λ (x : VolLog). Life (g.block_count blocks) (length h + 1) l.writes l.state x) (sym none) l.life);
           flushes = subst (λ (x : VolLog). AreFlushesKept x holds.1) (sym none) tt;
         };
       }
@@ -181,7 +172,7 @@ module _ {B : Type 0} (g : Ghosts B) where
     printed = printed;
     reply = λ none. begun_reply (extent_count (g.block_count blocks)) (extent_size (g.block_count blocks));
     halted = λ none. volumes.halted ∙ going;
-    step = λ none first h s log on tells. begin_steps blocks volumes large lived first h s log on tells;
+    step = λ none first h was s log on tells. begin_steps blocks volumes large lived first h was s log on tells;
     halts = λ own e. absurd (let no : None ≡ Some own = e in cc);
   }
 
@@ -212,10 +203,10 @@ module _ {B : Type 0} (g : Ghosts B) where
 
   refused_steps : (blocks now : B) (fault : VolFault) → 7 ≤ g.block_count blocks
       → IsInitFault (g.block_count blocks) (g.halted now) ((h : History) → g.stands blocks h → IsTrue (g.tells now) → IsVolumeTable (g.block_count blocks) (after_all h)) fault
-      → vol_halt_in {A = Unit {0}} (Err fault) ≡ None → (first : B) (h : History) (s : Held) (log : VolLog) → OnShelf g first (g.block_count blocks) h (Bare blocks) s log → IsTrue (g.tells now)
-      → StepsShelf (OnShelf g first (g.block_count blocks) h (Bare now)) (g.block_count blocks) s init (fault_text fault) log
-  refused_steps blocks now fault large f none first h (Some s) log on tells = absurd on
-  refused_steps blocks now fault large f none first h None log on tells = absurd (on.no_table large (no_refusal blocks fault (g.halted now) _ large none f h on.holds.0 tells))
+      → vol_halt_in {A = Unit {0}} (Err fault) ≡ None → (first : B) (h : History) (was s : Held) (log : VolLog) → OnShelf g first (g.block_count blocks) h was (Bare blocks) s log → IsTrue (g.tells now)
+      → StepsShelf (OnShelf g first (g.block_count blocks) h was (Bare now)) (g.block_count blocks) s init (fault_text fault) log
+  refused_steps blocks now fault large f none first h was (Some s) log on tells = absurd on
+  refused_steps blocks now fault large f none first h was None log on tells = absurd (on.no_table large (no_refusal blocks fault (g.halted now) _ large none f h on.holds.0 tells))
 
   pub on_refused : (blocks now : B) (fault : VolFault) (text : List ℕ) → 7 ≤ g.block_count blocks → DeviceGoesOn g.block_count g.halts g.halted g.tells blocks now → KeepsMore g.kept g.tells IsReadOrWrite blocks now
       → text ≡ fault_text fault ++ codes "\n"
@@ -241,7 +232,7 @@ module _ {B : Type 0} (g : Ghosts B) where
     went = DeviceGoesOn-none g.block_count g.halts g.halted g.tells blocks;
     keeps = KeepsMore-none g.kept g.tells IsReadEvent blocks;
     halted = λ going. going;
-    first = λ none first h holds tells. (None, record { none = refl; holds = holds; no_table = λ large. let no : ⊥ = omega (arith, small, large) in absurd no });
+    first = λ none first h holds tells. (None, record { none = refl; bare = refl; holds = holds; no_table = λ large. let no : ⊥ = omega (arith, small, large) in absurd no });
   }
 
   no_write : (h w more : History) → w ≡ h ++ more → length w ≡ length h → w ≡ h
@@ -266,7 +257,7 @@ module _ {B : Type 0} (g : Ghosts B) where
         let now = l.stands.0 in (
           Some l.state,
           (
-            record { start = length h; began = omega arith; soon = omega arith; events = now.1; kept = now.2; writes = l.writes; are = now.3; stands = (now.0, l.stands.1); life = l.life; flushes = tt },
+            record { events = now.1; kept = now.2; writes = l.writes; are = now.3; stands = (now.0, l.stands.1); life = l.life; flushes = tt },
             no_write h l.writes (entries_in now.1) now.3 (life_starts (g.block_count blocks) (length h) l.writes l.state [] l.life refl),
           ),
         );
@@ -307,7 +298,7 @@ module _ {B : Type 0} (g : Ghosts B) where
     halted = λ going. adopt_halts (g.block_count blocks) fault (g.halted now) _ large f;
     first = λ none first h holds tells.
         let found = found_none blocks fault (g.halted now) _ large none f in
-        (None, record { none = refl; holds = stands found.0 (Some (first, h, [])) h holds tells; no_table = λ many. found.1 h holds.0 tells });
+        (None, record { none = refl; bare = refl; holds = stands found.0 (Some (first, h, [])) h holds tells; no_table = λ many. found.1 h holds.0 tells });
   }
 
 -- ---- a line where there is no table

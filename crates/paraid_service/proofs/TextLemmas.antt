@@ -46,7 +46,7 @@ use Rattle.paraid_service.specs.LinesEnds.EndsSession.{at_sink, at_source, halte
 use Rattle.paraid_service.specs.Shelves.{device_in}
 use Rattle.paraid_volume_lines.specs.Grammar.{VolLine}
 use Rattle.paraid_service.specs.VolumeLines.{Held}
-use Rattle.paraid_service.specs.VolumeSessions.{AnswersFromPoint, AreOfHalt, AnswersLines, FlushesLast, FollowsForVolumes, HasEvent, IsLifeOf, LeavesHeld, VolumesHeadline, VolumesRun, VolumesText, WritesVolumes}
+use Rattle.paraid_service.specs.VolumeSessions.{AnswersFromPoint, AreOfHalt, AnswersLines, FlushesLast, FollowsForVolumes, HasEvent, IsLifeOf, LeavesHeld, VolumesHeadline, VolumesRun, VolumesText, WritesVolumes, life_start}
 use Rattle.paraid_service.specs.VolumeForms.{HasVolumesForm, HaveForm, VolumesForm}
 use Rattle.paraid_service.specs.VolumeForms.VolumesForm.{done as form_done, halted as form_halted, source as form_source, too_long as form_too_long}
 use Rattle.paraid_service.specs.VolumeForms.HasVolumesForm.{answers as form_answers, first_line as form_first, last_line as form_last_line, whole as form_whole}
@@ -63,17 +63,14 @@ pub record SaysKept {B : Type 0} (b : BlocksGhosts B) (start : B) (h : History) 
   pub events : Answers
   pub kept : b.kept start device events
   pub answers : AnswersLines (b.block_count start) h lines text events halt
-  pub leaves : halt ≡ None → (low : ℕ) → ((n : ℕ) → HasEvent events (Flush, Flushed n) → n ≤ low) → LeavesHeld (b.block_count start) low h (h ++ entries_in events) answers.last answers.log
+  pub leaves : halt ≡ None → (low : ℕ) → ((n : ℕ) → HasEvent events (Flush, Flushed n) → n ≤ low) → LeavesHeld (b.block_count start) (life_start answers.first h) low (h ++ entries_in events) answers.last answers.log
 
-leaves_of : (count : ℕ) (h : History) (made : Answers) (s : Held) (log : VolLog) → IsLifeOf count h made s log → (low : ℕ) → ((n : ℕ) → HasEvent made (Flush, Flushed n) → n ≤ low) → LeavesHeld count low h (h ++ entries_in made) s log
-leaves_of count h made _ _ (lives began s log late soon life flushes) low each = record {
-  start = began;
-  began = late;
-  soon = soon;
-  left = left_by count began (h ++ entries_in made) s log life;
+leaves_of : (count : ℕ) (h : History) (first : Held) (made : Answers) (s : Held) (log : VolLog) → IsLifeOf count h first made s log → (low : ℕ) → ((n : ℕ) → HasEvent made (Flush, Flushed n) → n ≤ low) → LeavesHeld count (life_start first h) low (h ++ entries_in made) s log
+leaves_of count h first made _ _ (lives s log life flushes) low each = record {
+  left = left_by count (life_start first h) (h ++ entries_in made) s log life;
   flushed = within_low low log made flushes each;
 }
-leaves_of count h made _ _ (waits none) low each = tt
+leaves_of count h first made _ _ (waits bare none) low each = tt
 
 none_came : (begun : Option Halt) (cut : Option VolLine) → AreOfHalt begun cut []
 none_came begun (Some asked) = tt
@@ -82,12 +79,12 @@ none_came None None = refl
 
 pub answers_of : {B : Type 0} (b : BlocksGhosts B) (start : B) (h : History) (lines : List (List ℕ)) (text : List ℕ) (shelf : Shelf B b) (halt : Option Halt) → SaysLines b start h lines text shelf halt → SaysKept b start h lines text (device_in shelf) halt
 answers_of b start h lines text shelf None y =
-    let l = life_on b start h shelf y.last y.log (y.on refl) in
+    let l = life_on b start h y.first shelf y.last y.log (y.on refl) in
     record {
       events = l.events;
       kept = l.kept;
       answers = record { first = y.first; begun = y.begun; begins = y.begins; log = y.log; last = y.last; cut = y.cut; steps = y.steps; before = l.events; rest = []; parts = sym (append-nil l.events); came = none_came y.begun y.cut; life = l.life };
-      leaves = λ none. leaves_of (b.block_count start) h l.events y.last y.log l.life;
+      leaves = λ none. leaves_of (b.block_count start) h y.first l.events y.last y.log l.life;
     }
 answers_of b start h lines text shelf (Some own) y =
     let l = y.broken own refl in
@@ -202,7 +199,7 @@ module _ {A : Type 0} (g : Ghosts A) where
             answered = k.answered;
             halted = halted;
             written = written;
-            stops = λ none. subst (λ (w : History). LeavesHeld (block_count (g.setup (array_of first))) k.all.end.low p.history w x.answers.last x.answers.log) (sym written)
+            stops = λ none. subst (λ (w : History). LeavesHeld (block_count (g.setup (array_of first))) (life_start x.answers.first p.history) k.all.end.low w x.answers.last x.answers.log) (sym written)
                 (x.leaves none k.all.end.low (flush_low (g.slots (array_of first)) (g.setup (array_of first)) p k.all.end k.all.turns x.events k.all.went k.answered (halted ∙ none)));
           },
           k.stands,

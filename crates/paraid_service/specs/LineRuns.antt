@@ -15,11 +15,11 @@ use Rattle.paraid_service.specs.VolumeLines.{Held, LinesStep}
 use Rattle.paraid_service.specs.VolumeSessions.{AreOfHalt, BeginsWith, IsLifeOf}
 
 -- The events that were kept before the call in which the halt came are those of a life; the others are of the line of that call.
-pub record BrokenOff (kept : Answers → Type 0) (count : ℕ) (h : History) (last : Held) (log : VolLog) (begun : Option Halt) (cut : Option VolLine) : Type 0 where
+pub record BrokenOff (kept : Answers → Type 0) (count : ℕ) (h : History) (first last : Held) (log : VolLog) (begun : Option Halt) (cut : Option VolLine) : Type 0 where
   pub before : Answers
   pub rest : Answers
   pub all : kept (before ++ rest)
-  pub life : IsLifeOf count h before last log
+  pub life : IsLifeOf count h first before last log
   pub came : AreOfHalt begun cut rest
 
 -- Lines were answered with this text since the device stood for this history.
@@ -31,8 +31,8 @@ pub record SaysLines {B : Type 0} (g : Ghosts B) (start : B) (h : History) (line
   pub last : Held
   pub cut : Option VolLine
   pub steps : LinesStep (g.block_count start) first begun lines text log last halt cut
-  pub on : halt ≡ None → OnShelf g start (g.block_count start) h shelf last log
-  pub broken : (own : Halt) → halt ≡ Some own → BrokenOff (g.kept start (device_in shelf)) (g.block_count start) h last log begun cut
+  pub on : halt ≡ None → OnShelf g start (g.block_count start) h first shelf last log
+  pub broken : (own : Halt) → halt ≡ Some own → BrokenOff (g.kept start (device_in shelf)) (g.block_count start) h first last log begun cut
 
 -- Lines were answered since the device was so.
 pub record RunsLines {B : Type 0} (g : Ghosts B) (start : B) (lines : List (List ℕ)) (text : List ℕ) (shelf : Shelf B g) (halt : Option Halt) : Type 0 where

@@ -1,5 +1,5 @@
 -- Lines, whether there are volumes or not.
-use Rattle.std.specs.Prelude.{◌≡◌, ℕ, ◌+◌, ◌≤◌, ◌++◌, [], List, length, Option, Some, None, Err, IsTrue, codes}
+use Rattle.std.specs.Prelude.{◌≡◌, ℕ, ◌≤◌, ◌++◌, [], List, Option, Some, None, Err, IsTrue, codes}
 use Rattle.paraid_base.specs.declared.fault.Halt.{Halt}
 use Rattle.paraid_base.specs.BlockAnswers.{Answers}
 use Rattle.paraid_base.specs.History.{History, after_all}
@@ -19,7 +19,7 @@ use Rattle.paraid_service.specs.declared.shelf.Shelf.TheVariants.{Bare, Held as 
 use Rattle.paraid_service.specs.declared.shelf.Shelved.{Shelved}
 use Rattle.paraid_service.specs.VolumeForms.{IsReplyTo}
 use Rattle.paraid_service.specs.VolumeLines.{Held, IsEventOf, LineStep}
-use Rattle.paraid_service.specs.VolumeSessions.{AreFlushesKept}
+use Rattle.paraid_service.specs.VolumeSessions.{AreFlushesKept, life_start}
 
 -- its device
 abbrev pub device_in : {B : Type 0} {g : Ghosts B} → Shelf B g → B
@@ -35,39 +35,37 @@ IsGoing (Bare blocks) = Unit {0}
 abbrev pub left_bare : {B : Type 0} {g : Ghosts B} → VolRefused B → Shelved B g
 left_bare refused = record { shelf = Bare refused.blocks; halt = vol_halt_in {A = Unit {0}} (Err refused.fault) }
 
--- Volumes in this state, by a life whose writes are those of the events that were kept since the device was as `first` and
--- stood for `h`. Each flush of that life is one of these events.
-pub record OnHeld {B : Type 0} (g : Ghosts B) (first : B) (count : ℕ) (h : History) (volumes : Volumes B g) (s : VolumeState) (log : VolLog) : Type 0 where
-  pub start : ℕ
-  pub began : length h ≤ start
-  pub soon : start ≤ length h + 1
+-- Volumes in this state, by a life whose writes are those of the events that were kept since the device was as `first`, stood for `h`
+-- and held this. Each flush of that life is one of these events.
+pub record OnHeld {B : Type 0} (g : Ghosts B) (first : B) (count : ℕ) (h : History) (was : Held) (volumes : Volumes B g) (s : VolumeState) (log : VolLog) : Type 0 where
   pub events : Answers
   pub kept : g.kept first (device_of volumes) events
   pub writes : History
   pub are : writes ≡ h ++ entries_in events
   pub stands : VolumesStandFor g.stands volumes writes
-  pub life : Life count start writes s log
+  pub life : Life count (life_start was h) writes s log
   pub flushes : AreFlushesKept log events
 
--- no table, and no write since then
-pub record OnBare {B : Type 0} (g : Ghosts B) (first : B) (count : ℕ) (h : History) (blocks : B) (log : VolLog) : Type 0 where
+-- no table, as at first, and no write since then
+pub record OnBare {B : Type 0} (g : Ghosts B) (first : B) (count : ℕ) (h : History) (was : Held) (blocks : B) (log : VolLog) : Type 0 where
   pub none : log ≡ []
+  pub bare : was ≡ None
   pub holds : DeviceHolds g.stands g.kept (Some (first, h, [])) blocks h
   pub no_table : 7 ≤ count → IsVolumeTable count (after_all h) → ⊥
 
 -- what is there is held so, after these calls
-abbrev pub OnShelf : {B : Type 0} (g : Ghosts B) → B → ℕ → History → Shelf B g → Held → VolLog → Type 0
-OnShelf g first count h (HeldShelf volumes) (Some s) log = OnHeld g first count h volumes s log
-OnShelf g first count h (HeldShelf volumes) None log = ⊥
-OnShelf g first count h (Bare blocks) (Some s) log = ⊥
-OnShelf g first count h (Bare blocks) None log = OnBare g first count h blocks log
+abbrev pub OnShelf : {B : Type 0} (g : Ghosts B) → B → ℕ → History → Held → Shelf B g → Held → VolLog → Type 0
+OnShelf g first count h was (HeldShelf volumes) (Some s) log = OnHeld g first count h was volumes s log
+OnShelf g first count h was (HeldShelf volumes) None log = ⊥
+OnShelf g first count h was (Bare blocks) (Some s) log = ⊥
+OnShelf g first count h was (Bare blocks) None log = OnBare g first count h was blocks log
 
 -- the same before any line
 abbrev pub OnFirst : {B : Type 0} (g : Ghosts B) → B → ℕ → History → Shelf B g → Held → Type 0
-OnFirst g first count h (HeldShelf volumes) (Some s) = (on : OnHeld g first count h volumes s []) × (on.writes ≡ h)
+OnFirst g first count h (HeldShelf volumes) (Some s) = (on : OnHeld g first count h (Some s) volumes s []) × (on.writes ≡ h)
 OnFirst g first count h (HeldShelf volumes) None = ⊥
 OnFirst g first count h (Bare blocks) (Some s) = ⊥
-OnFirst g first count h (Bare blocks) None = OnBare g first count h blocks []
+OnFirst g first count h (Bare blocks) None = OnBare g first count h None blocks []
 
 -- one step, and how things are held then
 pub record StepsShelf (holds : Held → VolLog → Type 0) (count : ℕ) (s : Held) (line : VolLine) (said : List ℕ) (log : VolLog) : Type 0 where
@@ -85,8 +83,8 @@ pub record ServesShelf {B : Type 0} (g : Ghosts B) (old new : Shelf B g) (line :
   pub printed : text ≡ said ++ codes "\n"
   pub reply : halt ≡ None → IsReplyTo line said
   pub halted : g.halted (device_in old) ≡ None → g.halted (device_in new) ≡ halt
-  pub step : halt ≡ None → (first : B) (h : History) (s : Held) (log : VolLog) → OnShelf g first (g.block_count (device_in old)) h old s log → IsTrue (g.tells (device_in new))
-      → StepsShelf (OnShelf g first (g.block_count (device_in old)) h new) (g.block_count (device_in old)) s line said log
+  pub step : halt ≡ None → (first : B) (h : History) (was s : Held) (log : VolLog) → OnShelf g first (g.block_count (device_in old)) h was old s log → IsTrue (g.tells (device_in new))
+      → StepsShelf (OnShelf g first (g.block_count (device_in old)) h was new) (g.block_count (device_in old)) s line said log
   pub halts : (own : Halt) → halt ≡ Some own → (said ≡ halt_text own) × (line ≡ bad → ⊥) × (line ≡ list → ⊥)
 
 -- The table of a device was taken, or it holds none, or the device has halted.

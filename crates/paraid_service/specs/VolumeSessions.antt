@@ -48,11 +48,16 @@ abbrev pub AreFlushesKept : VolLog → Answers → Type 0
 AreFlushesKept [] events = Unit {0}
 AreFlushesKept (pair ∷ log) events = ((number : ℕ) → pair.1 ≡ flushed number → HasEvent events (Flush, Flushed number)) × AreFlushesKept log events
 
--- The writes among the events are those of a life of volumes, from the table of the array or from the one write of `init` on, and
--- each flush of that life is one of the events; or no call on volumes was made.
-pub data IsLifeOf (count : ℕ) (h : History) (made : Answers) : Held → VolLog → Type 0 where
-  lives : (began : ℕ) (s : VolumeState) (log : VolLog) → length h ≤ began → began ≤ length h + 1 → Life count began (h ++ entries_in made) s log → AreFlushesKept log made → IsLifeOf count h made (Some s) log
-  waits : entries_in made ≡ [] → IsLifeOf count h made None []
+-- how many writes there are as a life begins: the table's own is one more where there was none
+abbrev pub life_start : Held → History → ℕ
+life_start (Some s) h = length h
+life_start None h = length h + 1
+
+-- The writes among the events are those of a life of volumes, from the table that was held at first or from the one write of `init`
+-- on, and each flush of that life is one of the events; or no table is held, and nothing was written.
+pub data IsLifeOf (count : ℕ) (h : History) (first : Held) (made : Answers) : Held → VolLog → Type 0 where
+  lives : (s : VolumeState) (log : VolLog) → Life count (life_start first h) (h ++ entries_in made) s log → AreFlushesKept log made → IsLifeOf count h first made (Some s) log
+  waits : first ≡ None → entries_in made ≡ [] → IsLifeOf count h first made None []
 
 -- events of the line in which a halt came, or of the reads of the table before any line; none where there was no halt
 abbrev pub AreOfHalt : Option Halt → Option VolLine → Answers → Type 0
@@ -74,20 +79,16 @@ pub record AnswersLines (count : ℕ) (h : History) (lines : List (List ℕ)) (t
   pub rest : Answers
   pub parts : events ≡ before ++ rest
   pub came : AreOfHalt begun cut rest
-  pub life : IsLifeOf count h before last log
+  pub life : IsLifeOf count h first before last log
 
 -- each flush of these calls that was answered tells at most `low` writes
 abbrev pub AreFlushedWithin : ℕ → VolLog → Type 0
 AreFlushedWithin low [] = Unit {0}
 AreFlushedWithin low (pair ∷ log) = ((number : ℕ) → pair.1 ≡ flushed number → number ≤ low) × AreFlushedWithin low log
 
--- What a stop leaves of volumes, where `written` was written since `h` and each stop keeps `low` writes. After the first `k` writes,
--- from the table's own on, the volumes are those after a first part of the calls, with each call before a flush that tells at most
--- `k`; and no flush tells more than `low`.
-pub record LeavesVolumes (count low : ℕ) (h written : History) (log : VolLog) : Type 0 where
-  pub start : ℕ
-  pub began : length h ≤ start
-  pub soon : start ≤ length h + 1
+-- What a stop leaves of volumes, where each stop keeps `low` of these writes. After the first `k` writes, from `start` on, the volumes
+-- are those after a first part of the calls, with each call before a flush that tells at most `k`; and no flush tells more than `low`.
+pub record LeavesVolumes (count start low : ℕ) (written : History) (log : VolLog) : Type 0 where
   pub left : (k : ℕ) → start ≤ k → k ≤ length written → IsLeftByLife count start written k log
   pub flushed : AreFlushedWithin low log
 
@@ -108,9 +109,9 @@ pub record LeavesFlushed (count start : ℕ) (written : History) (k : ℕ) (log 
   pub flushed_all : HasNoFlush rest
 
 -- the same where the array holds a table
-abbrev pub LeavesHeld : ℕ → ℕ → History → History → Held → VolLog → Type 0
-LeavesHeld count low h written (Some s) log = LeavesVolumes count low h written log
-LeavesHeld count low h written None log = Unit {0}
+abbrev pub LeavesHeld : ℕ → ℕ → ℕ → History → Held → VolLog → Type 0
+LeavesHeld count start low written (Some s) log = LeavesVolumes count start low written log
+LeavesHeld count start low written None log = Unit {0}
 
 -- Lines of `vol` were answered from point p of a session on: these events and no others are those of the array, its halt is that of
 -- the lines, and unless it has halted each stop leaves the volumes after a first part of the calls.
@@ -122,7 +123,7 @@ pub record AnswersFromPoint (slots : ℕ) (setup : Setup) (start now : Option Tr
   pub answered : answers_in all.turns ≡ events
   pub halted : all.end.halt ≡ halt
   pub written : all.end.history ≡ p.history ++ entries_in events
-  pub stops : halt ≡ None → LeavesHeld (block_count setup) all.end.low p.history all.end.history answers.last answers.log
+  pub stops : halt ≡ None → LeavesHeld (block_count setup) (life_start answers.first p.history) all.end.low all.end.history answers.last answers.log
 
 -- The last event of a session is a flush, which was answered so.
 pub record FlushesLast (slots : ℕ) (setup : Setup) (mid final : Option Trail) (p : Point) (answer : Answer) : Type 0 where

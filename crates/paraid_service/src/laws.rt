@@ -7,7 +7,6 @@ ghost use Rattle.paraid_service.specs.VolumeSessions.{LeavesFlushed, LeavesVolum
 /// A stop that leaves at least the writes that each stop keeps leaves the volumes after a first part
 /// of the calls, with each call before the last flush that was told.
 pub fn a_stop_leaves_each_call_before_a_flush()
-    ensures { (count low : ℕ) (h written : History) (log : VolLog) → (left : LeavesVolumes count low h written log)
-        → (k : ℕ) → left.start ≤ k → low ≤ k → k ≤ length written
-        → LeavesFlushed count left.start written k log }
+    ensures { (count start low : ℕ) (written : History) (log : VolLog) → LeavesVolumes count start low written log
+        → (k : ℕ) → start ≤ k → low ≤ k → k ≤ length written → LeavesFlushed count start written k log }
 {}
