@@ -139,7 +139,7 @@ pub data VolumesText (slots : ℕ) (setup : Setup) (start final : Option Trail) 
       → VolumesText slots setup start final p bytes (status_of_halt halt) (begins_with p ++ text ++ halt_line halt)
   source : (met : Option Halt) (text : List ℕ) → AnswersFromPoint slots setup start final p (whole_lines bytes) text met
       → VolumesText slots setup start final p bytes 3 (begins_with p ++ text ++ codes "source\n")
-  too_long : length bytes ≡ 1099511627776 → (met : Option Halt) (text : List ℕ) → AnswersFromPoint slots setup start final p (whole_lines bytes) text met
+  too_long : length bytes ≡ 2 ^ 40 → (met : Option Halt) (text : List ℕ) → AnswersFromPoint slots setup start final p (whole_lines bytes) text met
       → VolumesText slots setup start final p bytes 10 (begins_with p ++ text ++ codes "toolong\n")
 
 -- What was written: the whole text of the status; or at 4 a first part of such a text, of the answers to a first part of the

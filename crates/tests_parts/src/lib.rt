@@ -32,6 +32,6 @@ mod sums;
 #[cfg(test)]
 mod traces;
 #[cfg(test)]
-mod volumes;
-#[cfg(test)]
 mod volume_lines;
+#[cfg(test)]
+mod volumes;

@@ -13,7 +13,12 @@ const SESSIONS: [(u32, usize, &str, &str); 5] = [
         "init\ncreate a 3\nw a 0 11\ncreate b 11\ncreate c 1\nr b 0\ndelete a\ncreate c 3\nr c 0\nr a 0\nlist\ncreate c 1\nr b 11\ninit\nf\n",
         "volumes 14 of 1\ncreated a 1\nwrote\ncreated b 2\nspace 0\nb 0=00\ndeleted a\ncreated c 1\nc 0=00\nnovolume\nlist c 3 b 11\nexists\nnoblock\nalready\nflushed\n",
     ),
-    (6, 1000, "list\ninit\nw a 0 1\nr a 4294967296", "novolumes\nsmall\nbad\nbad\n"),
+    (
+        6,
+        1000,
+        "list\ninit\nw a 0 1\nr a 4294967296",
+        "novolumes\nsmall\nbad\nbad\n",
+    ),
     (
         20,
         1000,
