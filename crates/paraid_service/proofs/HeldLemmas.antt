@@ -1,6 +1,6 @@
 -- Lines of volumes with their texts.
 use Rattle.std.proofs.Common.{◌≡◌, ℕ, [], Bool, true, false, List, ◌++◌, ◌∙◌, refl, sym, ap, subst}
-use Rattle.std.specs.Prelude.{Option, Some, None, Result, Ok, Err, IsTrue, codes}
+use Rattle.std.specs.Prelude.{Option, Some, None, Result, Ok, Err, IfErr, IsTrue, codes}
 use Rattle.std.proofs.lemmas.List.{append-nil}
 use Rattle.std.proofs.lemmas.Option.{same_Some}
 use Rattle.paraid_base.specs.declared.block.Block.{Block}
@@ -22,7 +22,7 @@ use Rattle.paraid_volume_lines.specs.Lists.{TellsVolumes}
 use Rattle.paraid_volume_lines.specs.Texts.{created_text, deleted_text, fault_text, flushed_text, read_text, written_text}
 use Rattle.paraid_service.specs.LineSteps.{AnswersLine, KeepsFlush, ServesHeld}
 use Rattle.paraid_service.specs.VolumeLines.{IsEventOf, LineStep}
-use Rattle.paraid_service.specs.VolumeForms.{IsReplyTo}
+use Rattle.paraid_service.specs.VolumeForms.{IsReplyTo, MayRefuse}
 use Rattle.paraid_service.specs.VolumeForms.IsReplyTo.{created, deleted, flushed, listed, refused, told, wrote}
 use Rattle.paraid_service.specs.VolumeLines.LineStep.{lists}
 
@@ -58,37 +58,38 @@ flushed_halts (Err fault) own e = fault_halts ℕ fault own e
 
 -- ---- the form of an answer
 
-fault_replies : (T : Type 0) (line : VolLine) (fault : VolFault) → (line ≡ bad → ⊥) → vol_halt_in {A = T} (Err fault) ≡ None → IsReplyTo line (fault_text fault)
-fault_replies T line (VolHalt halt) not_bad none = absurd (let no : Some halt ≡ None = none in cc)
-fault_replies T line (Small blocks) not_bad none = refused line (Small blocks) not_bad refl
-fault_replies T line NotVolumes not_bad none = refused line NotVolumes not_bad refl
-fault_replies T line Already not_bad none = refused line Already not_bad refl
-fault_replies T line (NoVolume id) not_bad none = refused line (NoVolume id) not_bad refl
-fault_replies T line (NoBlock block) not_bad none = refused line (NoBlock block) not_bad refl
-fault_replies T line (Exists id) not_bad none = refused line (Exists id) not_bad refl
-fault_replies T line NoExtents not_bad none = refused line NoExtents not_bad refl
-fault_replies T line Names not_bad none = refused line Names not_bad refl
-fault_replies T line (Space free) not_bad none = refused line (Space free) not_bad refl
+-- a refusal by no halt has none, whatever the result would be
+same_none : (T : Type 0) (fault : VolFault) → vol_halt_in {A = T} (Err fault) ≡ None → vol_halt_in {A = Unit {0}} (Err fault) ≡ None
+same_none T (VolHalt halt) none = absurd (let no : Some halt ≡ None = none in cc)
+same_none T (Small blocks) none = refl
+same_none T NotVolumes none = refl
+same_none T Already none = refl
+same_none T (NoVolume id) none = refl
+same_none T (NoBlock block) none = refl
+same_none T (Exists id) none = refl
+same_none T NoExtents none = refl
+same_none T Names none = refl
+same_none T (Space free) none = refl
 
-pub create_replies : (name : List ℕ) (extents : ℕ) (r : Result ℕ VolFault) → vol_halt_in r ≡ None → IsReplyTo (create name extents) (created_text name r)
-create_replies name extents (Ok id) none = created name extents id
-create_replies name extents (Err fault) none = fault_replies ℕ (create name extents) fault (λ no. cc) none
+pub create_replies : (name : List ℕ) (extents : ℕ) (r : Result ℕ VolFault) → IfErr r (λ fault. vol_halt_in {A = Unit {0}} (Err fault) ≡ None → MayRefuse (create name extents) fault) → vol_halt_in r ≡ None → IsReplyTo (create name extents) (created_text name r)
+create_replies name extents (Ok id) may none = created name extents id
+create_replies name extents (Err fault) may none = refused (create name extents) fault (may (same_none ℕ fault none))
 
 pub delete_replies : (name : List ℕ) (there : Bool) → IsReplyTo (delete name) (deleted_text name there)
 delete_replies name true = deleted name
-delete_replies name false = refused (delete name) (NoVolume 0) (λ no. cc) refl
+delete_replies name false = refused (delete name) (NoVolume 0) tt
 
-pub read_replies : (name : List ℕ) (block : ℕ) (r : Result (Unit {0}) VolFault) (bytes : Block) → vol_halt_in r ≡ None → IsReplyTo (read name block) (read_text name block r bytes)
-read_replies name block (Ok done) bytes none = told name block bytes
-read_replies name block (Err fault) bytes none = fault_replies (Unit {0}) (read name block) fault (λ no. cc) none
+pub read_replies : (name : List ℕ) (block : ℕ) (r : Result (Unit {0}) VolFault) (bytes : Block) → IfErr r (λ fault. vol_halt_in {A = Unit {0}} (Err fault) ≡ None → MayRefuse (read name block) fault) → vol_halt_in r ≡ None → IsReplyTo (read name block) (read_text name block r bytes)
+read_replies name block (Ok done) bytes may none = told name block bytes
+read_replies name block (Err fault) bytes may none = refused (read name block) fault (may none)
 
-pub write_replies : (name : List ℕ) (block : ℕ) (bytes : Block) (r : Result (Unit {0}) VolFault) → vol_halt_in r ≡ None → IsReplyTo (write name block bytes) (written_text r)
-write_replies name block bytes (Ok done) none = wrote name block bytes
-write_replies name block bytes (Err fault) none = fault_replies (Unit {0}) (write name block bytes) fault (λ no. cc) none
+pub write_replies : (name : List ℕ) (block : ℕ) (bytes : Block) (r : Result (Unit {0}) VolFault) → IfErr r (λ fault. vol_halt_in {A = Unit {0}} (Err fault) ≡ None → MayRefuse (write name block bytes) fault) → vol_halt_in r ≡ None → IsReplyTo (write name block bytes) (written_text r)
+write_replies name block bytes (Ok done) may none = wrote name block bytes
+write_replies name block bytes (Err fault) may none = refused (write name block bytes) fault (may none)
 
-pub flush_replies : (r : Result ℕ VolFault) → vol_halt_in r ≡ None → IsReplyTo flush (flushed_text r)
-flush_replies (Ok number) none = flushed
-flush_replies (Err fault) none = fault_replies ℕ flush fault (λ no. cc) none
+pub flush_replies : (r : Result ℕ VolFault) → IfErr r (λ fault. vol_halt_in {A = Unit {0}} (Err fault) ≡ None → MayRefuse flush fault) → vol_halt_in r ≡ None → IsReplyTo flush (flushed_text r)
+flush_replies (Ok number) may none = flushed
+flush_replies (Err fault) may none = refused flush fault (may (same_none ℕ fault none))
 
 module _ {B : Type 0} (g : Ghosts B) where
   pub serves : (old new : Volumes B g) (line : VolLine) (now halt : Option Halt) (said text : List ℕ) → halted_of new ≡ now → halt ≡ now → DeviceGoesOn g.block_count g.halts g.halted g.tells (device_of old) (device_of new) → KeepsMore g.kept g.tells (IsEventOf line) (device_of old) (device_of new)

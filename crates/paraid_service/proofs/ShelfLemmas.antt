@@ -32,7 +32,7 @@ use Rattle.paraid_service.specs.Shelves.{OnHeld, OnShelf, OpensShelf, ServesShel
 use Rattle.paraid_service.specs.VolumeLines.{Held, IsEventOf, LineStep}
 use Rattle.paraid_service.specs.VolumeLines.LineStep.{begins, calls}
 use Rattle.paraid_service.specs.VolumeLines.IsCallOf.{flushes}
-use Rattle.paraid_service.specs.VolumeForms.{IsReplyTo}
+use Rattle.paraid_service.specs.VolumeForms.{IsReplyTo, MayRefuse}
 use Rattle.paraid_service.specs.VolumeForms.IsReplyTo.{begun as begun_reply, refused}
 use Rattle.paraid_service.specs.VolumeSessions.{AreFlushesKept, life_start}
 use Rattle.paraid_service.proofs.FlushLemmas.{flush_kept, flush_or_not, flushes_append, flushes_later, no_flush}
@@ -201,6 +201,18 @@ module _ {B : Type 0} (g : Ghosts B) where
   init_halts count Names halted table large f = absurd f
   init_halts count (Space free) halted table large f = absurd f
 
+  init_may : (count : ℕ) (fault : VolFault) (halted : Option Halt) (table : Type 0) → vol_halt_in {A = Unit {0}} (Err fault) ≡ None → IsInitFault count halted table fault → MayRefuse init fault
+  init_may count (VolHalt halt) halted table none is = absurd (let no : Some halt ≡ None = none in cc)
+  init_may count (Small blocks) halted table none is = tt
+  init_may count NotVolumes halted table none is = absurd is
+  init_may count Already halted table none is = tt
+  init_may count (NoVolume id) halted table none is = absurd is
+  init_may count (NoBlock block) halted table none is = absurd is
+  init_may count (Exists id) halted table none is = absurd is
+  init_may count NoExtents halted table none is = absurd is
+  init_may count Names halted table none is = absurd is
+  init_may count (Space free) halted table none is = absurd is
+
   refused_steps : (blocks now : B) (fault : VolFault) → 7 ≤ g.block_count blocks
       → IsInitFault (g.block_count blocks) (g.halted now) ((h : History) → g.stands blocks h → IsTrue (g.tells now) → IsVolumeTable (g.block_count blocks) (after_all h)) fault
       → vol_halt_in {A = Unit {0}} (Err fault) ≡ None → (first : B) (h : History) (was s : Held) (log : VolLog) → OnShelf g first (g.block_count blocks) h was (Bare blocks) s log → IsTrue (g.tells now)
@@ -218,7 +230,7 @@ module _ {B : Type 0} (g : Ghosts B) where
     keeps = keeps;
     said = fault_text fault;
     printed = printed;
-    reply = λ none. refused init fault (λ no. let x : init ≡ bad = no in cc) none;
+    reply = λ none. refused init fault (init_may (g.block_count blocks) fault (g.halted now) _ none f);
     halted = λ going. init_halts (g.block_count blocks) fault (g.halted now) _ large f;
     step = refused_steps blocks now fault large f;
     halts = λ own e. (fault_halts (Unit {0}) fault own e, (λ no. let x : init ≡ bad = no in cc), (λ no. let x : init ≡ list = no in cc));
@@ -303,12 +315,12 @@ module _ {B : Type 0} (g : Ghosts B) where
 
 -- ---- a line where there is no table
 
-pub other_line : (asked : VolAsked) (bytes : Block) → (asked ≡ AskInit → ⊥) → (asked ≡ AskBad → ⊥) → (line_with asked bytes ≡ init → ⊥) × (line_with asked bytes ≡ bad → ⊥)
+pub other_line : (asked : VolAsked) (bytes : Block) → (asked ≡ AskInit → ⊥) → (asked ≡ AskBad → ⊥) → (line_with asked bytes ≡ init → ⊥) × (line_with asked bytes ≡ bad → ⊥) × MayRefuse (line_with asked bytes) NotVolumes
 other_line AskInit bytes not_init not_bad = absurd (not_init refl)
-other_line (AskCreate name extents) bytes not_init not_bad = ((λ e. cc), (λ e. cc))
-other_line (AskDelete name) bytes not_init not_bad = ((λ e. cc), (λ e. cc))
-other_line (AskRead name block) bytes not_init not_bad = ((λ e. cc), (λ e. cc))
-other_line (AskWrite name block) bytes not_init not_bad = ((λ e. cc), (λ e. cc))
-other_line AskFlush bytes not_init not_bad = ((λ e. cc), (λ e. cc))
-other_line AskList bytes not_init not_bad = ((λ e. cc), (λ e. cc))
+other_line (AskCreate name extents) bytes not_init not_bad = ((λ e. cc), (λ e. cc), tt)
+other_line (AskDelete name) bytes not_init not_bad = ((λ e. cc), (λ e. cc), tt)
+other_line (AskRead name block) bytes not_init not_bad = ((λ e. cc), (λ e. cc), tt)
+other_line (AskWrite name block) bytes not_init not_bad = ((λ e. cc), (λ e. cc), tt)
+other_line AskFlush bytes not_init not_bad = ((λ e. cc), (λ e. cc), tt)
+other_line AskList bytes not_init not_bad = ((λ e. cc), (λ e. cc), tt)
 other_line AskBad bytes not_init not_bad = absurd (not_bad refl)

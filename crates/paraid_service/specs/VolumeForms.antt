@@ -1,15 +1,36 @@
 -- The form of what a session of volumes writes, whatever the rack holds.
-use Rattle.std.specs.Prelude.{◌≡◌, ℕ, ◌^◌, ◌⊎◌, List, [], ◌∷◌, ◌++◌, length, true, codes, Option, Some, None, Ok, Err}
+use Rattle.std.specs.Prelude.{◌≡◌, ℕ, ◌^◌, ◌⊎◌, List, [], ◌∷◌, ◌++◌, length, true, codes, Option, Some, None, Ok}
 use Rattle.paraid_base.specs.declared.block.Block.{Block}
 use Rattle.paraid_base.specs.declared.fault.Halt.{Halt}
 use Rattle.paraid_io.specs.Lines.{lines_of, whole_lines}
 use Rattle.paraid_serve.specs.Ending.{end_line, halt_line, mount_line, status_of_halt}
 use Rattle.paraid_trace.specs.Replies.{halt_text}
 use Rattle.paraid_volume.specs.declared.fault.VolFault.{VolFault}
-use Rattle.paraid_volume.specs.Faults.{vol_halt_in}
+use Rattle.paraid_volume.specs.declared.fault.VolFault.TheVariants.{Small, NotVolumes, Already, NoVolume, NoBlock, Exists, NoExtents, Names, Space}
 use Rattle.paraid_volume_lines.specs.Grammar.{AsksVolumes, VolLine, bad, create, delete, flush, init, list, read, write}
 use Rattle.paraid_volume_lines.specs.Texts.{begun_text, created_text, deleted_text, fault_text, read_text}
 use Rattle.paraid_service.specs.VolumeLines.{halted_text}
+
+-- a line may be refused so, where no halt came of it
+abbrev pub MayRefuse : VolLine → VolFault → Type 0
+MayRefuse init (Small blocks) = Unit {0}
+MayRefuse init Already = Unit {0}
+MayRefuse (create name extents) NotVolumes = Unit {0}
+MayRefuse (create name extents) (Exists id) = Unit {0}
+MayRefuse (create name extents) NoExtents = Unit {0}
+MayRefuse (create name extents) Names = Unit {0}
+MayRefuse (create name extents) (Space free) = Unit {0}
+MayRefuse (delete name) NotVolumes = Unit {0}
+MayRefuse (delete name) (NoVolume id) = Unit {0}
+MayRefuse (read name block) NotVolumes = Unit {0}
+MayRefuse (read name block) (NoVolume id) = Unit {0}
+MayRefuse (read name block) (NoBlock b) = Unit {0}
+MayRefuse (write name block bytes) NotVolumes = Unit {0}
+MayRefuse (write name block bytes) (NoVolume id) = Unit {0}
+MayRefuse (write name block bytes) (NoBlock b) = Unit {0}
+MayRefuse flush NotVolumes = Unit {0}
+MayRefuse list NotVolumes = Unit {0}
+MayRefuse line fault = ⊥
 
 -- A line may be answered so, if no halt comes of it.
 pub data IsReplyTo : VolLine → List ℕ → Type 0 where
@@ -21,7 +42,7 @@ pub data IsReplyTo : VolLine → List ℕ → Type 0 where
   wrote : (name : List ℕ) (block : ℕ) (bytes : Block) → IsReplyTo (write name block bytes) (codes "wrote")
   flushed : IsReplyTo flush (codes "flushed")
   listed : (text : List ℕ) → IsReplyTo list (codes "list" ++ text)
-  refused : (line : VolLine) (fault : VolFault) → (line ≡ bad → ⊥) → vol_halt_in {A = Unit {0}} (Err fault) ≡ None → IsReplyTo line (fault_text fault)
+  refused : (line : VolLine) (fault : VolFault) → MayRefuse line fault → IsReplyTo line (fault_text fault)
 
 -- Lines, one after the other, have answers of such a form, until one is answered by a halt, or from a halt on: then each that asks
 -- for something is.

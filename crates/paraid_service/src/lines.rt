@@ -1,5 +1,7 @@
 //! A line about a volume, as a step of volumes.
-ghost use Rattle.std.specs.Prelude.{◌≡◌, ℕ, ◌<◌, List, IfOk, IsTrue, None, codes, slice_index_or};
+ghost use Rattle.std.specs.Prelude.{◌≡◌, ℕ, ◌<◌, List, Err, IfErr, IfOk, IsTrue, None, codes, slice_index_or};
+ghost use Rattle.paraid_service.specs.VolumeForms.{MayRefuse};
+ghost use Rattle.paraid_volume_lines.specs.NameWords.{word_of};
 ghost use Rattle.paraid_service.specs.LineSteps.{AnswersLine, KeepsFlush};
 ghost use Rattle.paraid_volume_lines.specs.Grammar.{create as CreateLine, delete as DeleteLine, flush as FlushLine, read as ReadLine, write as WriteLine};
 ghost use Rattle.paraid_volume_lines.specs.Texts.{created_text, deleted_text, flushed_text, read_text, written_text};
@@ -51,6 +53,8 @@ pub fn read_named<B: Blocks>(
         → (word : List ℕ) → ((k : ℕ) → k < 16 → slice_index_or word k 0 ≡ letter_of name.now k)
         → AnswersLine (VolumesStandFor (DeviceHolds B.stands B.kept from) volumes.old) (VolumesStandFor (DeviceHolds B.stands B.kept from) volumes.new)
         (B.block_count (device_of volumes.old)) start log lived (ReadLine word block) (read_text word block result into.new) }
+    ensures refused { IfErr result (λ fault. vol_halt_in {A = Unit {0}} (Err fault) ≡ None
+        → MayRefuse (ReadLine (word_of name.now) block) fault) }
 {
     let Some(id) = volumes.find(name) else {
         return Err(VolFault::NoVolume { id: 0 });
@@ -74,6 +78,8 @@ pub fn write_named<B: Blocks>(
         → (word : List ℕ) → ((k : ℕ) → k < 16 → slice_index_or word k 0 ≡ letter_of name.now k)
         → AnswersLine (VolumesStandFor (DeviceHolds B.stands B.kept from) volumes.old) (VolumesStandFor (DeviceHolds B.stands B.kept from) volumes.new)
         (B.block_count (device_of volumes.old)) start log lived (WriteLine word block bytes.now) (written_text result) }
+    ensures refused { IfErr result (λ fault. vol_halt_in {A = Unit {0}} (Err fault) ≡ None
+        → MayRefuse (WriteLine (word_of name.now) block bytes.now) fault) }
 {
     let Some(id) = volumes.find(name) else {
         return Err(VolFault::NoVolume { id: 0 });
@@ -96,6 +102,8 @@ pub fn create_named<B: Blocks>(
         → (word : List ℕ) → ((k : ℕ) → k < 16 → slice_index_or word k 0 ≡ letter_of name.now k)
         → AnswersLine (VolumesStandFor (DeviceHolds B.stands B.kept from) volumes.old) (VolumesStandFor (DeviceHolds B.stands B.kept from) volumes.new)
         (B.block_count (device_of volumes.old)) start log lived (CreateLine word extents) (created_text word result) }
+    ensures refused { IfErr result (λ fault. vol_halt_in {A = Unit {0}} (Err fault) ≡ None
+        → MayRefuse (CreateLine (word_of name.now) extents) fault) }
 {
     volumes.create(name, extents)
 }
@@ -112,6 +120,8 @@ pub fn flush_volumes<B: Blocks>(volumes: &mut Volumes<B>) -> Result<u64, VolFaul
         (B.block_count (device_of volumes.old)) start log lived FlushLine (flushed_text result) }
     ensures flushed { halted_of volumes.new ≡ None
         → KeepsFlush B.Blocks volumes.old volumes.new × (flushed_text result ≡ codes "flushed") }
+    ensures refused { IfErr result (λ fault. vol_halt_in {A = Unit {0}} (Err fault) ≡ None
+        → MayRefuse FlushLine fault) }
 {
     volumes.flush()
 }

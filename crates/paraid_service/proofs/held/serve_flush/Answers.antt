@@ -8,4 +8,4 @@ pub returns : goal.returns
 returns g c =
     let e = c.flush_volumes-flushed.ensures in
     serves g.B.Blocks c.args.volumes.now c.flush_volumes-flushed.new.volumes (flush) (vol_halt_in c.flush_volumes-flushed.result) c.halt_of.result (flushed_text c.flush_volumes-flushed.result) c.tell_flushed.new.into e.halt c.halt_of.ensures e.went e.keeps c.tell_flushed.ensures (λ no. cc) (λ no. cc)
-    (flushed_halts c.flush_volumes-flushed.result) e.line (λ none is. e.flushed none) (flush_replies c.flush_volumes-flushed.result)
+    (flushed_halts c.flush_volumes-flushed.result) e.line (λ none is. e.flushed none) (flush_replies c.flush_volumes-flushed.result e.refused)

@@ -8,4 +8,4 @@ use Rattle.paraid_service.proofs.HeldLemmas.{serves_none}
 use Rattle.paraid_service.proofs.held.serve_init.Goals as goal
 
 pub returns : goal.returns
-returns g c = serves_none g.B.Blocks c.args.volumes.now init (fault_text Already) c.tell_fault.new.into c.requires.going c.tell_fault.ensures (λ no. cc) (refused init Already (λ no. cc) refl) (λ from start log lived. is_already lived.state refl)
+returns g c = serves_none g.B.Blocks c.args.volumes.now init (fault_text Already) c.tell_fault.new.into c.requires.going c.tell_fault.ensures (λ no. cc) (refused init Already tt) (λ from start log lived. is_already lived.state refl)

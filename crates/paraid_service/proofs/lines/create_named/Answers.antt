@@ -1,4 +1,5 @@
-use Rattle.paraid_service.proofs.LineLemmas.{create_line, if_err_with, if_ok_with}
+use Rattle.paraid_volume_lines.specs.NameWords.{word_of}
+use Rattle.paraid_service.proofs.LineLemmas.{create_may, create_line, if_err_with, if_ok_with}
 use Rattle.paraid_service.proofs.lines.create_named.Goals as goal
 
 pub returns : goal.returns
@@ -10,4 +11,5 @@ returns g c = record {
       let e = c.create.ensures in
       create_line _ _ _ start log lived c.args.name.now word c.args.extents c.create.result spells (if_ok_with _ _ c.create.result (λ id x. x from start log lived tells) e.lived)
       (if_err_with _ _ c.create.result (λ fault x. x going from start log lived tells) e.lived_refused);
+  refused = if_err_with _ _ c.create.result (create_may (word_of c.args.name.now) c.args.extents _ _ _ c.args.name.now _) c.create.ensures.fault;
 }

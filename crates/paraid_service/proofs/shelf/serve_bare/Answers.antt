@@ -15,4 +15,4 @@ returns-in-Bad g c = λ b. rw c.in-Bad.is (on_bare g.B.Blocks c.args.blocks bad 
 pub returns-in_default : goal.returns-in_default
 returns-in_default g c = λ b.
     let other = other_line c.args.asked.now b c.in_default.not-Init c.in_default.not-Bad in
-    on_bare g.B.Blocks c.args.blocks (line_with c.args.asked.now b) (fault_text NotVolumes) c.tell_fault.new.into c.tell_fault.ensures (refused _ NotVolumes other.1 refl) (no_table _ other.0 other.1 refl)
+    on_bare g.B.Blocks c.args.blocks (line_with c.args.asked.now b) (fault_text NotVolumes) c.tell_fault.new.into c.tell_fault.ensures (refused _ NotVolumes other.2) (no_table _ other.0 other.1 refl)
