@@ -32,6 +32,5 @@ mod sums;
 #[cfg(test)]
 mod traces;
 #[cfg(test)]
-mod volume_lines;
 #[cfg(test)]
 mod volumes;
