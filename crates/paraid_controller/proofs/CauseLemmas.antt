@@ -8,7 +8,7 @@ use Rattle.paraid_base.specs.declared.block.Block.{Block}
 use Rattle.paraid_base.specs.declared.event.Answer.{Answer}
 use Rattle.paraid_base.specs.declared.event.Answer.TheVariants.{Failed, Halted, NoBlock, NoDisk, NoFresh as NoFreshAnswer, NotOut, Out as IsOut, Replaced, State as IsState, Ticked}
 use Rattle.paraid_base.specs.declared.event.Event.{Event}
-use Rattle.paraid_base.specs.declared.event.Event.TheVariants.{Bad, Down as DownEvent, Fail, Replace, Up as UpEvent}
+use Rattle.paraid_base.specs.declared.event.Event.TheVariants.{Down as DownEvent, Fail, Replace, Up as UpEvent}
 use Rattle.paraid_base.specs.declared.fault.Halt.{Halt}
 use Rattle.paraid_base.specs.declared.fault.Halt.TheVariants.{Two as HaltTwo, Worn}
 use Rattle.paraid_base.specs.declared.fault.Two.{Two}

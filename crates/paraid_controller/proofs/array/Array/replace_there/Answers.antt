@@ -1,4 +1,3 @@
-use Rattle.std.proofs.Common.{inl, inr}
 use Rattle.std.proofs.Common.{Ok}
 use Rattle.paraid_serve.specs.Causes.{HasCause}
 use Rattle.paraid_controller.specs.Arrays.{shown_of_array}

@@ -1,5 +1,5 @@
 use Rattle.std.proofs.Common.{Option, ◌⊎◌}
-use Rattle.std.proofs.Common.{◌≡◌, ◌≢◌, None, Some}
+use Rattle.std.proofs.Common.{◌≡◌, None, Some}
 use Rattle.paraid_array.proofs.OutLemmas.{fails_newly}
 use Rattle.paraid_array.specs.TickAnswers.{MarksMove, TellsRebuild, TellsRest}
 use Rattle.paraid_base.specs.declared.event.Answer.TheVariants.{Ticked}
