@@ -66,6 +66,7 @@ impl<R: Rack> Array<R> {
     /// The energy that it has used since its mount.
     pub fn energy(&self) -> u64
         ensures point { (p : Point) → ArrayStandsAt R.slot_count R.told self.now p → result ≡ p.energy }
+        ensures value { result ≡ energy_of_array self.now }
     {
         self.energy
     }

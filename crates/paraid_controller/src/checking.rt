@@ -6,7 +6,8 @@ ghost use Rattle.paraid_base.specs.Log.{worn_at};
 ghost use Rattle.paraid_core.specs.Cores.{batch_of, meta_of};
 ghost use Rattle.paraid_rack.specs.Told.{Ran};
 ghost use Rattle.paraid_recover.specs.HeldMoments.{Extends};
-ghost use Rattle.paraid_scrub.specs.Counts.{no_faults};
+ghost use Rattle.paraid_scrub.specs.Counts.{AreWithinMembers, no_faults};
+ghost use Rattle.paraid_serve.specs.Causes.{HasCause};
 ghost use Rattle.paraid_serve.specs.Lost.{HaltsByTwoLost};
 ghost use Rattle.paraid_session.specs.Faults.{HaveNotFallen};
 ghost use Rattle.paraid_session.specs.Turn.{GoesOn, Point};
@@ -20,7 +21,7 @@ use paraid_scrub::{CheckReport, check};
 
 impl<R: Rack> Array<R> {
     ghost use Rattle.paraid_controller.specs.Checked.{CountsCommitted, CountsDisks, answer_to_check};
-    ghost use Rattle.paraid_controller.specs.Arrays.{AnswersEvent, ArrayStandsAt, core_of_array, down_of_array, end_of_array, halt_of_array, setup_of_array, slot_of_array, slots_of_array, told_of_array};
+    ghost use Rattle.paraid_controller.specs.Arrays.{AnswersEvent, ArrayStandsAt, core_of_array, down_of_array, end_of_array, halt_of_array, setup_of_array, shown_of_array, slot_of_array, slots_of_array, told_of_array};
 
     // Commits all that is staged, and counts what is false.
     fn commit_and_check(&mut self) -> Result<CheckReport, Halt>
@@ -55,6 +56,7 @@ impl<R: Rack> Array<R> {
         ensures sound { IfOk result (λ report. IsSome (told_of_array R.told self.new) → (p : Point)
             → ArrayStandsAt R.slot_count R.told self.old p → report ≡ no_faults) }
         ensures counts { IfOk result (CountsDisks R.slot R.told (core_of_array self.old) (core_of_array self.new)) }
+        ensures most { IfOk result (AreWithinMembers (meta_of (core_of_array self.old))) }
     {
         let gear = self.core.meta().gear;
         match check(&mut self.core) {
@@ -79,6 +81,8 @@ impl<R: Rack> Array<R> {
         ensures counts { IfOk result (CountsDisks R.slot R.told (core_of_array self.old) (core_of_array self.new)) }
         ensures committed { IfOk result (λ report. batch_of (core_of_array self.old) ≢ []
             → CountsCommitted R.slot R.told (core_of_array self.old) (core_of_array self.new) report) }
+        ensures most { IfOk result (λ report. batch_of (core_of_array self.old) ≡ []
+            → AreWithinMembers (meta_of (core_of_array self.old)) report) }
     {
         if self.is_kept() {
             return self.check_kept();
@@ -108,11 +112,17 @@ impl<R: Rack> Array<R> {
         ensures two { HaltsByTwoLost (down_of_array self.old) FlushEvent
             (slot_of_array R.slot self.old) (slot_of_array R.slot self.new) (halt_of_array self.new) }
         ensures later { HaveNotFallen (slot_of_array R.slot self.old) (slot_of_array R.slot self.new) }
+        // Over every rack it is a flush with its cause.
+        ensures cause { HasCause (shown_of_array R.slot self.old) FlushEvent
+            (answer_to_check (meta_of (core_of_array self.old)).writes result) (shown_of_array R.slot self.new) }
         // An array that stands at a point of a session has nothing false.
         ensures sound { IfOk result (λ report. IsSome (told_of_array R.told self.new) → (p : Point)
             → ArrayStandsAt R.slot_count R.told self.old p → report ≡ no_faults) }
         // With nothing staged the counts are those of the disks, whatever these hold.
         ensures counts { IfOk result (CountsDisks R.slot R.told (core_of_array self.old) (core_of_array self.new)) }
+        // Over every rack no more is counted then than there is.
+        ensures most { IfOk result (λ report. batch_of (core_of_array self.old) ≡ []
+            → AreWithinMembers (meta_of (core_of_array self.old)) report) }
         // Else they are those after its commit.
         ensures committed { IfOk result (λ report. batch_of (core_of_array self.old) ≢ []
             → CountsCommitted R.slot R.told (core_of_array self.old) (core_of_array self.new) report) }

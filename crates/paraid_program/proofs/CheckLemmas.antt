@@ -18,14 +18,16 @@ use Rattle.paraid_session.specs.Mount.{IsMountedFromEach}
 use Rattle.paraid_session.specs.Turn.{GoesOn, IsMark, Point}
 use Rattle.paraid_serve.specs.Ending.{EndsWithLine, halt_line, status_of_halt}
 use Rattle.paraid_serve.specs.Calls.{IsNotDouble}
+use Rattle.paraid_serve.specs.Causes.{Shown}
 use Rattle.paraid_serve.specs.Lost.{HaltsByTwoLost, HaltsByWear, NamesTwoLost, TellsWear}
 use Rattle.paraid_serve.proofs.ExitLemmas.{stretch_leaves}
 use Rattle.paraid_session.proofs.MountLemmas.{IsMountedFromEach-follows}
 use Rattle.paraid_serve.proofs.HaltLemmas.{names_two, tells_wear}
 use Rattle.paraid_serve.proofs.StretchLemmas.{stretch_more, stretch_none}
 use Rattle.paraid_program.specs.MountFaults.{mount_fault_status}
+use Rattle.paraid_program.specs.CheckCauses.{HasCheckCauses}
 use Rattle.paraid_program.specs.Counts.{check_line, check_status}
-use Rattle.paraid_program.specs.Ends.{ChecksArray, ChecksFromPoint, CountsArray, IsCheckedStatus, IsEndOver, IsStatusOfCheck, ServedArray, TellsCounts}
+use Rattle.paraid_program.specs.Ends.{ChecksArray, ChecksFromPoint, CountsArray, IsCheckedStatus, IsEndOver, IsStatusOfCheck, ServedArray, TellsCounts, shown_served}
 use Rattle.paraid_program.specs.Ends.TellsCounts.{counted, halted}
 use Rattle.paraid_program.proofs.EndLemmas.{IsRefusedStatus, refused_status}
 
@@ -125,8 +127,12 @@ check_is_refused fault before after line status end = check_refused status (refu
 -- over the rack that is handed back
 pub checks_over : (slots slots_now : ℕ) (setup : Setup) (array : ServedArray) (old now slot : ℕ → Slot) (began : ℕ) (middle final after : Option Trail) (w x : Option (List ℕ)) (status : ℕ) → slots_now ≡ slots → setup ≡ array.meta.setup
     → after ≡ final → slot ≡ now → IsEndOver setup old slot w x status → (status ≡ 13 → IsNotDouble setup now)
+    → (first seen : Shown) → first ≡ shown_served array → seen.slot ≡ slot → HasCheckCauses first seen w x status
     → TellsCounts slots_now setup began middle final w x status (CountsArray array now middle final) → ChecksArray slots old slot after w x status array began middle
-checks_over slots slots_now setup array old now slot began middle final after w x status e tied f same end found told = record {
+checks_over slots slots_now setup array old now slot began middle final after w x status e tied f same end found first seen begins ends causes told = record {
+  seen = seen;
+  last = ends;
+  causes = subst (λ (y : Shown). HasCheckCauses y seen w x status) begins causes;
   told = subst (λ (z : Setup). TellsCounts slots z began middle after w x status (CountsArray array slot middle after)) tied
       (subst (λ (k : ℕ). TellsCounts k setup began middle after w x status (CountsArray array slot middle after)) e
       (subst (λ (t : Option Trail). TellsCounts slots_now setup began middle t w x status (CountsArray array slot middle t)) (sym f)

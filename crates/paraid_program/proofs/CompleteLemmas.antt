@@ -35,7 +35,8 @@ use Rattle.paraid_serve.specs.Stretch.{EndsStretch, Turn, events_in, replies, tu
 use Rattle.paraid_serve.proofs.CauseLemmas.{HaltsAt, MeetsHalt, ends_at_cause}
 use Rattle.paraid_serve.proofs.CauseLemmas.HaltsAt.{lost, worn_out}
 use Rattle.paraid_serve.proofs.StretchLemmas.{some_is}
-use Rattle.paraid_program.specs.Generating.{GenFollows, GenOutput, GenWrote, first_lines, generated_events}
+use Rattle.paraid_program.specs.Generating.{GenFollows, GenOutput, GenWrote, first_lines}
+use Rattle.paraid_program.specs.GenEvents.{generated_events}
 use Rattle.paraid_machine.specs.Machine.{block_count}
 use Rattle.paraid_program.specs.Generating.GenOutput.{done as gen_done, halted as gen_halted}
 use Rattle.paraid_program.specs.Generating.GenWrote.{whole as gen_whole, last_line as gen_last, before_flush as gen_before, first_line as gen_first}

@@ -55,17 +55,24 @@ module _ (slots slots_now : ℕ) (setup : Setup) (array : ServedArray) (old slot
     end = subst (λ (z : Setup). IsEndOver z old slot w x status) same end;
   }
 
-  pub spared_over : (l m : Option (List ℕ)) (stock wait : ℕ) → SparedHeadline slots_now setup wait (fresh_stock stock) began middle final l m w x status → ServesSpares slots old slot after l m w x stock wait status array began middle
-  spared_over l m stock wait h = record {
-    headline = subst (λ (z : Setup). SparedHeadline slots z wait (fresh_stock stock) began middle after l m w x status) same
-        (subst (λ (k : ℕ). SparedHeadline k setup wait (fresh_stock stock) began middle after l m w x status) e (subst (λ (t : Option Trail). SparedHeadline slots_now setup wait (fresh_stock stock) began middle t l m w x status) (sym f) h));
+  pub spared_over : (l m : Option (List ℕ)) (stock wait : ℕ) (first seen : Shown) → first ≡ shown_served array → seen.slot ≡ slot → SparedHeadline first seen slots_now setup wait (fresh_stock stock) began middle final l m w x status
+      → ServesSpares slots old slot after l m w x stock wait status array began middle
+  spared_over l m stock wait first seen begins ends h = record {
+    seen = seen;
+    last = ends;
+    headline = subst (λ (y : Shown). SparedHeadline y seen slots array.meta.setup wait (fresh_stock stock) began middle after l m w x status) begins
+        (subst (λ (z : Setup). SparedHeadline first seen slots z wait (fresh_stock stock) began middle after l m w x status) same
+        (subst (λ (k : ℕ). SparedHeadline first seen k setup wait (fresh_stock stock) began middle after l m w x status) e
+        (subst (λ (t : Option Trail). SparedHeadline first seen slots_now setup wait (fresh_stock stock) began middle t l m w x status) (sym f) h)));
     end = subst (λ (z : Setup). IsEndOver z old slot w x status) same end;
   }
 
-  pub generated_over : (number count : ℕ) → GenHeadline slots_now setup began middle final w x number count status → ServesGenerated slots old slot after w x number count status array began middle
-  generated_over number count h = record {
-    headline = subst (λ (z : Setup). GenHeadline slots z began middle after w x number count status) same
-        (subst (λ (k : ℕ). GenHeadline k setup began middle after w x number count status) e (subst (λ (t : Option Trail). GenHeadline slots_now setup began middle t w x number count status) (sym f) h));
+  pub generated_over : (number count : ℕ) (first seen : Shown) → first ≡ shown_served array → seen.slot ≡ slot → GenHeadline first seen slots_now setup began middle final w x number count status → ServesGenerated slots old slot after w x number count status array began middle
+  generated_over number count first seen begins ends h = record {
+    seen = seen;
+    last = ends;
+    headline = subst (λ (y : Shown). GenHeadline y seen slots array.meta.setup began middle after w x number count status) begins (subst (λ (z : Setup). GenHeadline first seen slots z began middle after w x number count status) same
+        (subst (λ (k : ℕ). GenHeadline first seen k setup began middle after w x number count status) e (subst (λ (t : Option Trail). GenHeadline first seen slots_now setup began middle t w x number count status) (sym f) h)));
     end = subst (λ (z : Setup). IsEndOver z old slot w x status) same end;
   }
 

@@ -13,7 +13,8 @@ use Rattle.paraid_serve.specs.Stretch.{Stretch, turn_with}
 use Rattle.paraid_session.specs.Turn.{GoesOn, Point}
 use Rattle.paraid_serve.proofs.StretchLemmas.{More, stretch_more, stretch_none}
 use Rattle.paraid_program.specs.declared.tally.Tally.{Tally}
-use Rattle.paraid_program.specs.Generating.{AnswersGenerated, generated_events}
+use Rattle.paraid_program.specs.Generating.{AnswersGenerated}
+use Rattle.paraid_program.specs.GenEvents.{generated_events}
 use Rattle.paraid_program.specs.CountedLines.{CountsLines}
 use Rattle.paraid_program.specs.Tally.{empty_tally, tally_of, tally_with_answer, tally_with_event}
 use Rattle.paraid_program.proofs.TallyLemmas.{tally_of-push}

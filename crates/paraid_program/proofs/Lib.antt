@@ -3,6 +3,7 @@ pub mod ReadingLemmas
 pub mod MadeLemmas
 pub mod OutcomeLemmas
 pub mod TallyLemmas
+pub mod GenCauseLemmas
 pub mod GenLemmas
 pub mod LineLemmas
 pub mod ShowLemmas

@@ -16,18 +16,22 @@ use Rattle.paraid_base.specs.declared.state.Status.{Status}
 use Rattle.paraid_machine.specs.Machine.{state_status as told_status}
 use Rattle.paraid_trace.specs.Replies.{reply_of}
 use Rattle.paraid_session.specs.Mount.{IsMountedFromEach}
+use Rattle.paraid_serve.specs.Causes.{HasCause, Shown}
 use Rattle.paraid_serve.specs.Ending.{EndsWithLine, end_line, halt_line, mount_line, status_of_halt}
-use Rattle.paraid_serve.specs.Output.{begins_with}
+use Rattle.paraid_serve.specs.Output.{begins_with, first_line as first_line_shown}
 use Rattle.paraid_session.specs.Turn.{GoesOn, Point}
 use Rattle.paraid_serve.proofs.ExitLemmas.{stretch_leaves}
 use Rattle.paraid_session.proofs.MountLemmas.{IsMountedFromEach-follows}
 use Rattle.paraid_program.specs.declared.tally.Tally.{Tally}
-use Rattle.paraid_program.specs.Generating.{Flushes, GenFollows, GenHeadline, GenOutput, GenRun, GenWrote, first_lines, summary, summary_of}
+use Rattle.paraid_program.specs.Generating.{Flushes, GenFollows, GenHeadline, GenOutput, GenRun, GenWrote, first_lines, summary_of}
+use Rattle.paraid_program.specs.GenEvents.{summary}
+use Rattle.paraid_program.specs.GenCauses.{GenCaused, TellsGenerated}
 use Rattle.paraid_program.specs.Generating.GenOutput.{done, halted}
 use Rattle.paraid_program.specs.Generating.GenWrote.{before_flush, first_line, last_line, whole}
 use Rattle.paraid_program.specs.CountedLines.{CountsLines}
 use Rattle.paraid_program.specs.Tally.{empty_tally, tally_of}
 use Rattle.paraid_program.specs.Telling.{state_line, state_lines}
+use Rattle.paraid_program.proofs.GenCauseLemmas.{cut_first, cut_summary, flushed_caused, gen_caused, halt_caused}
 use Rattle.paraid_program.proofs.GenLemmas.{flushes}
 
 take-two : (n : ℕ) (xs ys : List ℕ) → take (length xs + n) (xs ++ ys) ≡ xs ++ take n ys
@@ -87,16 +91,17 @@ wrote_last slots setup start final p number count text line before after code st
     taken n line is = take_all n line (omega (arith, is))
 
 -- the sink failed at the first line
-pub no_line_run : (slots : ℕ) (setup : Setup) (stood : Point → Type 0) (told : Option Trail) (first second : Option (List ℕ)) (writes gear number count : ℕ) → ((p : Point) → stood p → writes ≡ length p.history) → ((p : Point) → stood p → gear ≡ p.state.gear)
-    → (n : ℕ) × (n ≤ length (mount_line writes gear)) × GrowsByBytes first second (take n (mount_line writes gear)) → GenRun slots setup stood told told first second number count 4
-no_line_run slots setup stood told first second writes gear number count counts in_gear part = record {
+pub no_line_run : (seen : Shown) (slots : ℕ) (setup : Setup) (stood : Point → Type 0) (told : Option Trail) (first second : Option (List ℕ)) (writes gear number count : ℕ) → ((p : Point) → stood p → writes ≡ length p.history) → ((p : Point) → stood p → gear ≡ p.state.gear) → mount_line writes gear ≡ first_line_shown seen
+    → (n : ℕ) × (n ≤ length (mount_line writes gear)) × GrowsByBytes first second (take n (mount_line writes gear)) → GenRun seen seen slots setup stood told told first second number count 4
+no_line_run seen slots setup stood told first second writes gear number count counts in_gear shows part = record {
   text = take part.0 (mount_line writes gear);
   grows = part.2;
+  causes = cut_first seen number count (mount_line writes gear) part.0 shows;
   wrote = λ t p at_p. first_line refl refl (drop part.0 (mount_line writes gear))
       (sym (mount_is p writes gear (counts p at_p) (in_gear p at_p)) ∙ sym (take-append-drop part.0 (mount_line writes gear)));
 }
 
-module _ (slots : ℕ) (setup : Setup) (stood : Point → Type 0) (start middle : Option Trail) (first second third : Option (List ℕ)) (writes gear number count : ℕ) (counts : (p : Point) → stood p → writes ≡ length p.history) (in_gear : (p : Point) → stood p → gear ≡ p.state.gear) (tally : Tally) (stands : Point → Type 0) (counted : IsSome middle → (p : Point) → stood p → CountsLines slots setup start middle p number count tally stands) (gear_now energy : ℕ) (in_gear_now : (q : Point) → stands q → gear_now ≡ q.state.gear) (used : (q : Point) → stands q → energy ≡ q.energy) (head : GrowsByBytes first second (mount_line writes gear)) where
+module _ (seen mid : Shown) (slots : ℕ) (setup : Setup) (stood : Point → Type 0) (start middle : Option Trail) (first second third : Option (List ℕ)) (writes gear number count : ℕ) (counts : (p : Point) → stood p → writes ≡ length p.history) (in_gear : (p : Point) → stood p → gear ≡ p.state.gear) (tally : Tally) (stands : Point → Type 0) (counted : IsSome middle → (p : Point) → stood p → CountsLines slots setup start middle p number count tally stands) (gear_now energy : ℕ) (in_gear_now : (q : Point) → stands q → gear_now ≡ q.state.gear) (used : (q : Point) → stands q → energy ≡ q.energy) (caused : TellsGenerated seen number count (mount_line writes gear ++ summary count tally gear_now energy) mid) (head : GrowsByBytes first second (mount_line writes gear)) where
   summary_is : (p : Point) (c : CountsLines slots setup start middle p number count tally stands) → summary count tally gear_now energy ≡ summary_of count c.all.turns c.all.end
   summary_is p c =
       ap (λ (t : Tally). summary count t gear_now energy) c.counts
@@ -107,28 +112,31 @@ module _ (slots : ℕ) (setup : Setup) (stood : Point → Type 0) (start middle 
   lines_are p at_p c = ap (λ x. x ++ summary count tally gear_now energy) (mount_is p writes gear (counts p at_p) (in_gear p at_p)) ∙ ap (λ x. begins_with p ++ x) (summary_is p c)
 
   -- the sink failed within the summary
-  pub no_summary_run : (n : ℕ) × (n ≤ length (summary count tally gear_now energy)) × GrowsByBytes second third (take n (summary count tally gear_now energy)) → GenRun slots setup stood start middle first third number count 4
+  pub no_summary_run : (n : ℕ) × (n ≤ length (summary count tally gear_now energy)) × GrowsByBytes second third (take n (summary count tally gear_now energy)) → GenRun seen mid slots setup stood start middle first third number count 4
   no_summary_run part =
       let all = summary count tally gear_now energy in
       record {
         text = mount_line writes gear ++ take part.0 all;
         grows = GrowsByBytes-then first second third (mount_line writes gear) (take part.0 all) head part.2;
+        causes = cut_summary seen mid number count (mount_line writes gear) all part.0 caused;
         wrote = λ t p at_p.
             let c = counted t p at_p in
             before_flush refl c.all (drop part.0 all)
             (sym (lines_are p at_p c) ∙ ap (λ x. mount_line writes gear ++ x) (sym (take-append-drop part.0 all)) ∙ sym (append_assoc (mount_line writes gear) (take part.0 all) (drop part.0 all)));
       }
 
-  module _ (told_lines : GrowsByBytes second third (summary count tally gear_now energy)) (final : Option Trail) (last : Option (List ℕ)) (new_stood : Point → Type 0) (slots_now : ℕ) (setup_now : Setup) (same_slots : slots_now ≡ slots) (same_setup : setup_now ≡ setup) (tells : IsSome final → IsSome middle) (status : ℕ) where
+  module _ (told_lines : GrowsByBytes second third (summary count tally gear_now energy)) (final : Option Trail) (last : Option (List ℕ)) (new_stood : Point → Type 0) (slots_now : ℕ) (setup_now : Setup) (same_slots : slots_now ≡ slots) (same_setup : setup_now ≡ setup) (tells : IsSome final → IsSome middle) (seen_now : Shown) (status : ℕ) where
     ends : (answer : Answer) (line : List ℕ) (code : ℕ) → ((q : Point) → stands q → Ran middle final (GoesOn slots_now setup_now q Flush answer new_stood))
         → EndsWithLine third last line code status
         → ((p : Point) (e : Flushes slots setup start final p number count answer) → GenOutput slots setup start final p number count code (first_lines p count e.lines.turns e.lines.end ++ line))
-        → GenRun slots setup stood start final first last number count status
-    ends answer line code goes end out =
+        → GenCaused seen seen_now number count code ((mount_line writes gear ++ summary count tally gear_now energy) ++ line)
+        → GenRun seen seen_now slots setup stood start final first last number count status
+    ends answer line code goes end out full =
         let text = mount_line writes gear ++ summary count tally gear_now energy in
         record {
           text = text ++ take end.count line;
           grows = GrowsByBytes-then first third last text (take end.count line) (GrowsByBytes-then first second third (mount_line writes gear) (summary count tally gear_now energy) head told_lines) end.grows;
+          causes = gen_caused seen seen_now number count text line third last code status full end;
           wrote = λ t p at_p.
               let c = counted (tells t) p at_p in
               let f = flushes c answer final new_stood slots_now setup_now same_slots same_setup goes t in
@@ -137,20 +145,21 @@ module _ (slots : ℕ) (setup : Setup) (stood : Point → Type 0) (start middle 
               (out p (record { middle = middle; lines = c.all; all = f.all; calls = f.calls; turns = f.turns })) end);
         }
 
-    pub done_gen : (kept : ℕ) → ((q : Point) → stands q → Ran middle final (GoesOn slots_now setup_now q Flush (Flushed kept) new_stood)) → EndsWithLine third last (end_line kept) 0 status
-        → GenRun slots setup stood start final first last number count status
-    done_gen kept goes end = ends (Flushed kept) (end_line kept) 0 goes end (λ p e. done kept e)
+    pub done_gen : (kept : ℕ) → HasCause mid Flush (Flushed kept) seen_now → ((q : Point) → stands q → Ran middle final (GoesOn slots_now setup_now q Flush (Flushed kept) new_stood)) → EndsWithLine third last (end_line kept) 0 status
+        → GenRun seen seen_now slots setup stood start final first last number count status
+    done_gen kept cause goes end = ends (Flushed kept) (end_line kept) 0 goes end (λ p e. done kept e) (flushed_caused seen mid seen_now number count (mount_line writes gear ++ summary count tally gear_now energy) kept caused cause)
 
-    pub halted_gen : (halt : Halt) → ((q : Point) → stands q → Ran middle final (GoesOn slots_now setup_now q Flush (Halted halt) new_stood)) → EndsWithLine third last (halt_line halt) (status_of_halt halt) status
-        → GenRun slots setup stood start final first last number count status
-    halted_gen halt goes end = ends (Halted halt) (halt_line halt) (status_of_halt halt) goes end (λ p e. halted halt e)
+    pub halted_gen : (halt : Halt) → HasCause mid Flush (Halted halt) seen_now → ((q : Point) → stands q → Ran middle final (GoesOn slots_now setup_now q Flush (Halted halt) new_stood)) → EndsWithLine third last (halt_line halt) (status_of_halt halt) status
+        → GenRun seen seen_now slots setup stood start final first last number count status
+    halted_gen halt cause goes end = ends (Halted halt) (halt_line halt) (status_of_halt halt) goes end (λ p e. halted halt e) (halt_caused seen mid seen_now number count (mount_line writes gear ++ summary count tally gear_now energy) halt caused cause)
 
-pub gen_headline : (slots : ℕ) (setup : Setup) (began : ℕ) (stood : Point → Type 0) (start final : Option Trail) (written_before written : Option (List ℕ)) (number count status : ℕ)
-    → IsMountedFromEach slots setup began start stood → GenRun slots setup stood start final written_before written number count status
-    → GenHeadline slots setup began start final written_before written number count status
-gen_headline slots setup began stood start final written_before written number count status mounted r = record {
+pub gen_headline : (seen seen_now : Shown) (slots : ℕ) (setup : Setup) (began : ℕ) (stood : Point → Type 0) (start final : Option Trail) (written_before written : Option (List ℕ)) (number count status : ℕ)
+    → IsMountedFromEach slots setup began start stood → GenRun seen seen_now slots setup stood start final written_before written number count status
+    → GenHeadline seen seen_now slots setup began start final written_before written number count status
+gen_headline seen seen_now slots setup began stood start final written_before written number count status mounted r = record {
   text = r.text;
   grows = r.grows;
+  causes = r.causes;
   said = λ t. IsMountedFromEach-follows slots setup began start stood (GenFollows slots setup start final number count status r.text)
       (λ p mark here at_p. record {
         wrote = r.wrote t p at_p;

@@ -29,6 +29,7 @@ use Rattle.paraid_recover.specs.Mount.{IsCauseOfRefusal}
 use Rattle.paraid_recover.specs.StartRefusals.{refusal_by_fault}
 use Rattle.paraid_program.specs.Showing.{BeganAt, IsServedBy}
 use Rattle.paraid_program.specs.MountFaults.{mount_fault_line, mount_fault_status}
+use Rattle.paraid_program.specs.CheckCauses.{HasCheckCauses}
 use Rattle.paraid_program.specs.Counts.{check_line, check_status}
 
 -- Where the record is told after a mount, it was told before; it is longer by the calls of the
@@ -98,9 +99,11 @@ pub record ServesLines (slots : ℕ) (old new : ℕ → Slot) (after : Option Tr
   pub last : seen.slot ≡ new
   pub end : IsEndOver array.meta.setup old new written_before written status
 
--- The same of generated lines.
+-- The same of generated lines, by what was seen of the array from its mount to the end.
 pub record ServesGenerated (slots : ℕ) (old new : ℕ → Slot) (after : Option Trail) (written_before written : Option (List ℕ)) (number lines status : ℕ) (array : ServedArray) (began : ℕ) (middle : Option Trail) : Type 0 where
-  pub headline : GenHeadline slots array.meta.setup began middle after written_before written number lines status
+  pub seen : Shown
+  pub headline : GenHeadline (shown_served array) seen slots array.meta.setup began middle after written_before written number lines status
+  pub last : seen.slot ≡ new
   pub end : IsEndOver array.meta.setup old new written_before written status
 
 -- From this first point of a session a check is one flush, which is answered so. It leaves a rack that held all its writes,
@@ -125,8 +128,12 @@ pub data TellsCounts (slots : ℕ) (setup : Setup) (began : ℕ) (start final : 
       → (IsSome final → IsMountedFromEach slots setup began start (ChecksFromPoint slots setup start final (Halted halt)))
       → TellsCounts slots setup began start final written_before written status Q
 
--- A check of a mounted array: what it told, and what is known of its end over every rack.
+-- A check of a mounted array: what it told; why, by what was seen of the array from its mount to the end, when its slots were those
+-- that are handed back; and what is known of its end over every rack.
 pub record ChecksArray (slots : ℕ) (old new : ℕ → Slot) (after : Option Trail) (written_before written : Option (List ℕ)) (status : ℕ) (array : ServedArray) (began : ℕ) (middle : Option Trail) : Type 0 where
   pub told : TellsCounts slots array.meta.setup began middle after written_before written status (CountsArray array new middle after)
+  pub seen : Shown
+  pub causes : HasCheckCauses (shown_served array) seen written_before written status
+  pub last : seen.slot ≡ new
   pub end : IsEndOver array.meta.setup old new written_before written status
   pub found : status ≡ 13 → IsNotDouble array.meta.setup new

@@ -1,6 +1,5 @@
 -- What `gen` answers and writes.
-use Rattle.std.specs.Prelude.{◌≡◌, ℕ, ◌⊎◌, List, [], ◌∷◌, ◌++◌, codes, decimal, Option, IsSome}
-use Rattle.std.proofs.Common.{zero, suc}
+use Rattle.std.specs.Prelude.{◌≡◌, ℕ, ◌⊎◌, List, [], ◌∷◌, ◌++◌, Option, IsSome}
 use Rattle.paraid_base.specs.declared.event.Answer.{Answer}
 use Rattle.paraid_base.specs.declared.event.Answer.TheVariants.{Flushed, Halted}
 use Rattle.paraid_base.specs.declared.event.Event.{Event}
@@ -11,34 +10,19 @@ use Rattle.paraid_rack.specs.declared.call.Call.{Call}
 use Rattle.paraid_rack.specs.Trail.{Trail}
 use Rattle.paraid_record.specs.declared.meta.Setup.{Setup}
 use Rattle.paraid_machine.specs.Machine.{block_count}
-use Rattle.paraid_trace.specs.Generated.{generated_event}
 use Rattle.paraid_session.specs.Mount.{IsMountedFromEach}
+use Rattle.paraid_serve.specs.Causes.{Shown}
 use Rattle.paraid_serve.specs.Ending.{end_line, halt_line, status_of_halt}
 use Rattle.paraid_serve.specs.Output.{IsLeftByStretch, begins_with}
 use Rattle.paraid_serve.specs.Stretch.{Stretch, Turn, turn_with}
 use Rattle.paraid_session.specs.Turn.{Point}
-use Rattle.paraid_program.specs.declared.tally.Tally.{Tally}
+use Rattle.paraid_program.specs.GenCauses.{HasGenCauses}
+use Rattle.paraid_program.specs.GenEvents.{generated_events, summary}
 use Rattle.paraid_program.specs.Tally.{empty_tally, tally_of}
 
 -- the statuses of `gen` on an array that is mounted
 abbrev pub IsGenStatus : ℕ → Type 0
 IsGenStatus status = (status ≡ 0) ⊎ (status ≡ 4) ⊎ (status ≡ 5) ⊎ (status ≡ 12)
-
--- the first lines of the trace of a number, on so many blocks
-abbrev pub generated_events : ℕ → ℕ → ℕ → List Event
-generated_events number blocks zero = []
-generated_events number blocks (suc i) = generated_events number blocks i ++ generated_event number i blocks ∷ []
-
--- the first line of a summary
-abbrev pub lines_line : ℕ → Tally → List ℕ
-lines_line count t =
-    codes "lines " ++ decimal count ++ codes " reads " ++ decimal t.reads ++ codes " writes " ++ decimal t.writes
-    ++ codes " flushes " ++ decimal t.flushes ++ codes " ticks " ++ decimal t.ticks ++ codes " shifts " ++ decimal t.shifts ++ codes "\n"
-
--- the two lines of the summary
-abbrev pub summary : ℕ → Tally → ℕ → ℕ → List ℕ
-summary count t gear energy =
-    lines_line count t ++ codes "sum " ++ decimal t.sum ++ codes " gear " ++ decimal gear ++ codes " energy " ++ decimal energy ++ codes "\n"
 
 -- the summary of some lines and their answers, which end at this point of a session
 abbrev pub summary_of : ℕ → List Turn → Point → List ℕ
@@ -79,9 +63,10 @@ pub data GenWrote (slots : ℕ) (setup : Setup) (start final : Option Trail) (p 
 
 -- `gen` wrote this text. What it is is known where the rack tells, from each point at which the
 -- array stood.
-pub record GenRun (slots : ℕ) (setup : Setup) (stood : Point → Type 0) (start final : Option Trail) (written_before written : Option (List ℕ)) (number count status : ℕ) : Type 0 where
+pub record GenRun (seen seen_now : Shown) (slots : ℕ) (setup : Setup) (stood : Point → Type 0) (start final : Option Trail) (written_before written : Option (List ℕ)) (number count status : ℕ) : Type 0 where
   pub text : List ℕ
   pub grows : GrowsByBytes written_before written text
+  pub causes : HasGenCauses seen seen_now number count status text
   pub wrote : IsSome final → (p : Point) → stood p → GenWrote slots setup start final p number count status text
 
 -- what follows from the first point of a session
@@ -90,7 +75,8 @@ pub record GenFollows (slots : ℕ) (setup : Setup) (start final : Option Trail)
   pub left : (events : List Event) (c : Stretch slots setup start final p events) → IsLeftByStretch slots c
 
 -- The headline for generated lines.
-pub record GenHeadline (slots : ℕ) (setup : Setup) (began : ℕ) (start final : Option Trail) (written_before written : Option (List ℕ)) (number count status : ℕ) : Type 0 where
+pub record GenHeadline (seen seen_now : Shown) (slots : ℕ) (setup : Setup) (began : ℕ) (start final : Option Trail) (written_before written : Option (List ℕ)) (number count status : ℕ) : Type 0 where
   pub text : List ℕ
   pub grows : GrowsByBytes written_before written text
+  pub causes : HasGenCauses seen seen_now number count status text
   pub said : IsSome final → IsMountedFromEach slots setup began start (GenFollows slots setup start final number count status text)

@@ -4,6 +4,8 @@ pub mod Lines
 pub mod Reading
 pub mod Outcome
 pub mod Tally
+pub mod GenEvents
+pub mod GenCauses
 pub mod Generating
 pub mod Telling
 pub mod CountedLines
@@ -11,6 +13,7 @@ pub mod States
 pub mod MountFaults
 pub mod Showing
 pub mod Counts
+pub mod CheckCauses
 pub mod Ends
 pub mod Complete
 pub mod Planning

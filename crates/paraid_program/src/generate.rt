@@ -5,6 +5,7 @@ ghost use Rattle.paraid_serve.specs.Calls.{Grows, IsNotDouble};
 ghost use Rattle.paraid_serve.specs.Lost.{HasServedSince, NamesTwoLost, TellsWear};
 ghost use Rattle.paraid_session.specs.Mount.{IsMountedFromEach};
 ghost use Rattle.paraid_session.specs.Turn.{Point};
+ghost use Rattle.paraid_program.specs.GenCauses.{CountsCauses};
 ghost use Rattle.paraid_program.specs.Generating.{GenHeadline, GenRun, IsGenStatus};
 ghost use Rattle.paraid_program.specs.CountedLines.{CountsLines};
 
@@ -29,6 +30,8 @@ pub fn answer_lines<A: Serves>(
     ensures counted { IsSome (A.told array.new) → (p : Point) → A.stands array.old p
         → CountsLines (A.slots array.old) (A.setup array.old) (A.told array.old) (A.told array.new) p
         number lines result (A.stands array.new) }
+    // Over every rack each answer has its cause.
+    ensures causes { CountsCauses (A.shown array.old) number lines result (A.shown array.new) }
     ensures told { Grows (A.told array.old) (A.told array.new) }
     ensures slots { A.slots array.new ≡ A.slots array.old }
     ensures setup { A.setup array.new ≡ A.setup array.old }
@@ -56,7 +59,7 @@ pub fn serve_generated<K: Sink, A: Serves>(
 ) -> u8
     requires few { lines ≤ 1000000 }
     requires going { A.halted array.old ≡ None }
-    ensures run { GenRun (A.slots array.old) (A.setup array.old) (A.stands array.old)
+    ensures run { GenRun (A.shown array.old) (A.shown array.new) (A.slots array.old) (A.setup array.old) (A.stands array.old)
         (A.told array.old) (A.told array.new) (K.written sink.old) (K.written sink.new)
         number lines result }
     ensures told { Grows (A.told array.old) (A.told array.new) }
@@ -104,7 +107,7 @@ pub fn serve_generated_mounted<K: Sink, A: Serves>(
     requires going { A.halted array.old ≡ None }
     ensures headline { (began : ℕ) → IsMountedFromEach (A.slots array.old) (A.setup array.old) began
         (A.told array.old) (A.stands array.old)
-        → GenHeadline (A.slots array.old) (A.setup array.old) began
+        → GenHeadline (A.shown array.old) (A.shown array.new) (A.slots array.old) (A.setup array.old) began
         (A.told array.old) (A.told array.new) (K.written sink.old) (K.written sink.new)
         number lines result }
     ensures told { Grows (A.told array.old) (A.told array.new) }

@@ -1,6 +1,6 @@
 ghost use Rattle.std.specs.Prelude.{◌≡◌, ◌≤◌, [], ◌++◌, length, codes, decimal};
 ghost use Rattle.paraid_program.specs.declared.tally.Tally.{Tally as TallyType};
-ghost use Rattle.paraid_program.specs.Generating.{lines_line, summary};
+ghost use Rattle.paraid_program.specs.GenEvents.{lines_line, summary};
 
 use crate::tally::Tally;
 use paraid_trace::Text;

@@ -5,6 +5,7 @@ ghost use Rattle.paraid_recover.specs.HeldMoments.{Extends};
 ghost use Rattle.paraid_serve.specs.Calls.{IsNotDouble};
 ghost use Rattle.paraid_serve.specs.Lost.{NamesTwoLost, TellsWear};
 ghost use Rattle.paraid_session.specs.Mount.{IsMountedFromEach};
+ghost use Rattle.paraid_program.specs.CheckCauses.{HasCheckCauses};
 ghost use Rattle.paraid_program.specs.Clients.{IsStatusOfNbd, ServesNbdOrNot};
 ghost use Rattle.paraid_program.specs.Spares.{ServesSpares};
 ghost use Rattle.paraid_program.specs.Ends.{ChecksArray, CountsArray, IsCheckedStatus, IsStatusOfCheck, IsStatusOfGen, IsStatusOfRun, IsUnheard, MountsAndThen, ServesGenerated, ServesLines, TellsCounts};
@@ -137,6 +138,8 @@ fn tell_counts<K: Sink, R: Rack, A: Serves, O: Outside<R, A>>(
         → TellsCounts (A.slots array.old) (A.setup array.old) began (A.told array.old)
         (A.told array.new) (K.written sink.old) (K.written sink.new) result
         (CountsArray (O.served array.old) (A.slot array.new) (A.told array.old) (A.told array.new)) }
+    ensures causes { HasCheckCauses (A.shown array.old) (A.shown array.new) (K.written sink.old)
+        (K.written sink.new) result }
     ensures told { Extends (A.told array.old) (A.told array.new) }
     ensures slots { A.slots array.new ≡ A.slots array.old }
     ensures status { IsCheckedStatus result }

@@ -1,9 +1,11 @@
 ghost use Rattle.std.specs.Prelude.{◌≡◌, ℕ, length, None, Some, IfErr, IfOk, IsSome, OnOk};
 ghost use Rattle.paraid_base.specs.declared.event.Answer.TheVariants.{Flushed, Halted};
 ghost use Rattle.paraid_base.specs.declared.event.Event.TheVariants.{Flush as FlushEvent};
+ghost use Rattle.paraid_controller.specs.Checked.{answer_to_check};
 ghost use Rattle.paraid_rack.specs.Told.{Ran};
 ghost use Rattle.paraid_recover.specs.HeldMoments.{Extends};
-ghost use Rattle.paraid_scrub.specs.Counts.{no_faults};
+ghost use Rattle.paraid_scrub.specs.Counts.{AreWithinMembers, no_faults};
+ghost use Rattle.paraid_serve.specs.Causes.{HasCause};
 ghost use Rattle.paraid_serve.specs.Lost.{HaltsByTwoLost};
 ghost use Rattle.paraid_session.specs.Faults.{HaveNotFallen};
 ghost use Rattle.paraid_session.specs.Mount.{IsMountedFromEach};
@@ -66,9 +68,15 @@ pub trait Outside<R: Rack, A: Serves> {
         ensures two { HaltsByTwoLost (A.down array.old) FlushEvent (A.slot array.old)
             (A.slot array.new) (A.halted array.new) }
         ensures later { HaveNotFallen (A.slot array.old) (A.slot array.new) }
+        // Over every rack it is a flush with its cause.
+        ensures cause { HasCause (A.shown array.old) FlushEvent
+            (answer_to_check (A.shown array.old).meta.writes result) (A.shown array.new) }
         // From where it stood there is nothing to count.
         ensures sound { IfOk result (λ report. IsSome (A.told array.new) → (p : Point)
             → A.stands array.old p → report ≡ no_faults) }
+        // With nothing staged no more is counted than there is, over every rack.
+        ensures most { IfOk result (λ report. nothing array.old
+            → AreWithinMembers (A.shown array.old).meta report) }
         // Wherever it stood, with nothing staged the counts are those of its disks.
         ensures counts { IfOk result (λ report. nothing array.old
             → CountsArray (served array.old) (A.slot array.new) (A.told array.old)

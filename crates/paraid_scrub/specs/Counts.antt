@@ -10,6 +10,7 @@ use Rattle.paraid_rack.specs.Slots.{Slot}
 use Rattle.paraid_record.specs.declared.meta.Meta.{Meta}
 use Rattle.paraid_base.specs.States.{rebuilt_count}
 use Rattle.paraid_record.specs.Codes.{phase_to}
+use Rattle.paraid_image.specs.Out.{named_out}
 use Rattle.paraid_image.specs.Sound.{IsStripeZero, stripes_on}
 use Rattle.paraid_image.specs.Spot.{View}
 use Rattle.paraid_image.specs.Standing.{other_log}
@@ -103,3 +104,11 @@ pub record CountsByView (v : View) (old new : ℕ → Slot) (report : CheckRepor
 -- nothing is false
 abbrev pub no_faults : CheckReport
 no_faults = record { rows = 0; stripes = 0; fill = 0; units = 0; mirrors = 0 }
+
+-- The counts of each kind are at most its members by this meta.
+pub record AreWithinMembers (m : Meta) (report : CheckReport) : Type 0 where
+  pub rows : report.rows ≤ total m (named_out m.out) Row
+  pub stripes : report.stripes ≤ total m (named_out m.out) Stripe
+  pub fill : report.fill ≤ total m (named_out m.out) Fill
+  pub units : report.units ≤ total m (named_out m.out) RebuiltUnit
+  pub mirrors : report.mirrors ≤ total m (named_out m.out) Mirror

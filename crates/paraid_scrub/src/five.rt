@@ -1,7 +1,7 @@
 //! The five counts, in their order.
 ghost use Rattle.std.specs.Prelude.{◌≡◌, ℕ, false, IfOk, IfErr, IsTrue};
 ghost use Rattle.paraid_image.specs.Spot.{View};
-ghost use Rattle.paraid_scrub.specs.Counts.{AreCounts, all_members};
+ghost use Rattle.paraid_scrub.specs.Counts.{AreCounts, AreWithinMembers, all_members};
 ghost use Rattle.paraid_scrub.specs.Looks.{KeepsView};
 ghost use Rattle.paraid_scrub.specs.declared.ending.Ending.TheVariants.{Lost as HasLost, Two as LostTwo};
 
@@ -48,6 +48,8 @@ pub(crate) fn count_all<C: Stored>(core: &mut C) -> Result<Checked, Two>
     ensures counts { IfOk result (λ checked. (v : View) → C.shows core.old v → C.tells core.new
         → (seen : ℕ) × AreCounts v seen checked.report
         × (IsTrue checked.whole → seen ≡ all_members v)) }
+    // Over every rack no more is counted than there is.
+    ensures most { IfOk result (λ checked. AreWithinMembers (C.meta core.old) checked.report) }
 {
     let rows = count(core, Kind::Row)?;
     if !rows.whole {

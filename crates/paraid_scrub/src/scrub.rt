@@ -1,5 +1,5 @@
 //! The members of one kind, in ascending order.
-ghost use Rattle.std.specs.Prelude.{◌≡◌, ◌<◌, ◌↔◌, ℕ, false, IfOk, IfErr, IsTrue, if◌then◌else◌};
+ghost use Rattle.std.specs.Prelude.{◌≡◌, ◌<◌, ◌≤◌, ◌↔◌, ℕ, false, IfOk, IfErr, IsTrue, if◌then◌else◌};
 ghost use Rattle.paraid_record.specs.Range.{IsInRange};
 ghost use Rattle.paraid_image.specs.Out.{named_out};
 ghost use Rattle.paraid_image.specs.Spot.{View};
@@ -109,6 +109,7 @@ pub(crate) fn count<C: Stored>(core: &mut C, kind: Kind) -> Result<Part, Two>
     ensures two { IfErr result (λ two. C.loses core.old core.new (LostTwo two)) }
     ensures counts { IfOk result (λ part. (v : View) → C.shows core.old v → C.tells core.new
         → PartCount v kind (total v.meta v.out kind) part.found part.whole) }
+    ensures most { IfOk result (λ part. part.found ≤ total (C.meta core.old) (named_out (C.meta core.old).out) kind) }
 {
     let size = members(&core.meta(), kind);
     let mut found = 0;

@@ -21,7 +21,7 @@ ghost use Rattle.paraid_core.specs.Down.{IsDownAfter};
 ghost use Rattle.paraid_core.specs.Lost.{CoreLosesDisk, CoreMarksLost, CoreTellsLosses, MakesReads};
 ghost use Rattle.paraid_core.specs.Steps.{AreUnsyncedCopied};
 ghost use Rattle.paraid_core.specs.Units.{IsRebuilding};
-ghost use Rattle.paraid_scrub.specs.Counts.{AreCounts, all_members, no_faults};
+ghost use Rattle.paraid_scrub.specs.Counts.{AreCounts, AreWithinMembers, all_members, no_faults};
 ghost use Rattle.paraid_scrub.specs.declared.kind.CheckReport.{CheckReport as ReportType};
 ghost use Rattle.paraid_scrub.specs.Cores.{HasMapBits, core_view};
 
@@ -132,6 +132,8 @@ pub fn check<R: Rack>(core: &mut Core<R>) -> Result<Checked, Two>
         → HasMapBits core.old (core_view core.old (now t))
         → (seen : ℕ) × AreCounts (core_view core.old (now t)) seen checked.report
         × (IsTrue checked.whole → seen ≡ all_members (core_view core.old (now t)))) }
+    // Over every rack no more is counted than there is.
+    ensures most { IfOk result (λ checked. AreWithinMembers (meta_of core.old) checked.report) }
     ensures zeros { IfOk result (λ checked. (h : History) (lo : ℕ) (t : Trail) → R.told (core_rack core.old) ≡ Some t
         → CoreStandsFor R.slot_count core.old h lo (now t) → IsSome (R.told (core_rack core.new))
         → checked.report ≡ no_faults) }

@@ -1,16 +1,16 @@
 -- What the causes of answers say in a reader's words.
-use Rattle.std.proofs.Common.{◌≡◌, ◌≢◌, ℕ, ◌+◌, ◌<◌, ◌≤◌, true, false, Bool, List, [], ◌∷◌, Option, Some, None, refl, sym, ap, ◌∙◌, subst, arith, if◌then◌else◌}
+use Rattle.std.proofs.Common.{◌≡◌, ◌≢◌, ℕ, ◌<◌, ◌≤◌, true, false, Bool, List, [], ◌∷◌, Option, Some, None, refl, sym, ap, ◌∙◌, arith, if◌then◌else◌}
 use Rattle.std.specs.Prelude.{nat_lt}
 use Rattle.std.proofs.lemmas.Bool.Decides.{nat_tests}
 use Rattle.paraid_base.specs.declared.event.Answer.{Answer}
-use Rattle.paraid_base.specs.declared.event.Answer.TheVariants.{Halted, NoBlock, NoDisk, Top, Value}
+use Rattle.paraid_base.specs.declared.event.Answer.TheVariants.{Halted, NoBlock, Value}
 use Rattle.paraid_base.specs.declared.event.Event.{Event}
-use Rattle.paraid_base.specs.declared.event.Event.TheVariants.{Bad, Fail, Read, Replace, Up}
+use Rattle.paraid_base.specs.declared.event.Event.TheVariants.{Bad, Read}
 use Rattle.paraid_base.specs.declared.fault.Halt.{Halt}
 use Rattle.paraid_base.specs.declared.fault.Halt.TheVariants.{Two as HaltTwo, Worn}
 use Rattle.paraid_base.specs.declared.block.Block.{Block}
 use Rattle.paraid_machine.specs.Machine.{block_count, first_missing}
-use Rattle.paraid_serve.specs.Causes.{HasCause, HasReason, HaveCauses, Shown, missing_answer, quiet_answer}
+use Rattle.paraid_serve.specs.Causes.{HasCause, HasReason, HaveCauses, Shown, missing_answer}
 use Rattle.paraid_serve.specs.Causes.HasReason.{again, bad, done, quiet, two, worn}
 
 past : (block count : ℕ) → nat_lt block count ≡ false → count ≤ block

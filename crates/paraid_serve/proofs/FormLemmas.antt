@@ -46,7 +46,7 @@ not_bad AskTellState p good e = cc
 not_bad AskTellEnergy p good e = cc
 not_bad AskBad p good e = absurd (good refl)
 
-kinds_push : (events : List Event) (answers : List Answer) (event : Event) (answer : Answer) → AreAnswersTo events answers → is_answer_to event answer ≡ true → AreAnswersTo (events ++ event ∷ []) (answers ++ answer ∷ [])
+pub kinds_push : (events : List Event) (answers : List Answer) (event : Event) (answer : Answer) → AreAnswersTo events answers → is_answer_to event answer ≡ true → AreAnswersTo (events ++ event ∷ []) (answers ++ answer ∷ [])
 kinds_push [] [] event answer all is = (is, tt)
 kinds_push [] (a ∷ answers) event answer all is = absurd all
 kinds_push (e ∷ events) [] event answer all is = absurd all
@@ -63,7 +63,7 @@ bad_cause x = record { reason = reason_bad refl refl refl; setup = refl; halt = 
 pub again_cause : (x : Shown) (event : Event) (halt : Halt) → event ≢ Bad → x.halt ≡ Some halt → HasCause x event (Halted halt) x
 again_cause x event halt good is = record { reason = reason_again halt is good refl refl; setup = refl; halt = λ not. is; later = same_counts x.slot }
 
-causes_push : (old mid new : Shown) (events : List Event) (answers : List Answer) (event : Event) (answer : Answer) → HaveCauses old events answers mid → HasCause mid event answer new
+pub causes_push : (old mid new : Shown) (events : List Event) (answers : List Answer) (event : Event) (answer : Answer) → HaveCauses old events answers mid → HasCause mid event answer new
     → HaveCauses old (events ++ event ∷ []) (answers ++ answer ∷ []) new
 causes_push old mid new [] [] event answer all is = (new, subst (λ (x : Shown). HasCause x event answer new) all is, refl)
 causes_push old mid new [] (a ∷ answers) event answer all is = absurd all

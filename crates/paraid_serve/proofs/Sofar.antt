@@ -274,13 +274,18 @@ module _ {seen seen_now : Shown} {slots : ℕ} {setup : Setup} {first : Point �
         grows = GrowsByBytes-then written_before written wrote s.text (take n (reply_of answer)) s.grows grew;
         full = tt;
         form = record {
-          lines = s.answered ++ line ∷ [];
+          before = s.answered;
+          line = line;
           more = lines_of new.rest;
-          rest = drop n (reply_of answer);
           split = cut;
-          told = subst (λ (x : List ℕ). HasAnswers seen (s.answered ++ line ∷ []) x seen_later)
-              (ap (λ x. s.text ++ x) (sym (take-append-drop n (reply_of answer))) ∙ sym (append_assoc s.text (take n (reply_of answer)) (drop n (reply_of answer))))
-              (answers_push seen seen_now seen_later s.answered s.text line event answer h.says.1 kind cause s.form);
+          front = s.text;
+          mid = seen_now;
+          told = s.form;
+          answer = answer;
+          kind = subst (λ (e : Event). is_answer_to e answer ≡ true) h.says.1 kind;
+          cause = subst (λ (e : Event). HasCause seen_now e answer seen_later) h.says.1 cause;
+          count = n;
+          cut = refl;
         };
         answered = λ t p f.
             let said = one_more h answer later new_stood slots_now setup_now same_slots same_setup tells goes t p f in (

@@ -15,8 +15,7 @@ use Rattle.paraid_serve.specs.Causes.{Shown}
 use Rattle.paraid_serve.specs.Output.OutputText.{done, halted, source, too_long}
 use Rattle.paraid_serve.specs.Output.WritesOutput.{answers, last_line, whole}
 use Rattle.paraid_serve.specs.Output.OutputForm.{done as form_done, halted as form_halted, source as form_source, too_long as form_too_long}
-use Rattle.paraid_serve.specs.Output.HasForm.{answers as form_answers, last_line as form_last_line, whole as form_whole}
-use Rattle.paraid_serve.proofs.FormLemmas.{no_answers}
+use Rattle.paraid_serve.specs.Output.HasForm.{answers as form_answers, at_first_line as form_first, last_line as form_last_line, whole as form_whole}
 use Rattle.paraid_serve.specs.Session.{ServesSession}
 use Rattle.paraid_session.specs.Turn.{Point}
 use Rattle.paraid_serve.proofs.StretchLemmas.{stretch_none}
@@ -131,7 +130,7 @@ module _ (seen seen_now : Shown) (slots : ℕ) (setup : Setup) (stood : Point �
     grows = GrowsByBytes-then first second third (mount_line writes gear) s.text head s.grows;
     full = λ e. absurd (omega (arith, e));
     all = λ is. absurd (partly 4 (λ e. omega (arith, e)) (λ e. omega (arith, e)) (λ e. omega (arith, e)) is);
-    form = form_answers refl s.form.lines s.form.more (s.text ++ s.form.rest) s.form.rest s.form.split s.form.told (ap (λ (x : List ℕ). x ++ (s.text ++ s.form.rest)) (sym shows) ∙ sym (append_assoc (mount_line writes gear) s.text s.form.rest));
+    form = form_answers refl s.text s.form (ap (λ (x : List ℕ). x ++ s.text) shows);
     wrote = λ t p at_p.
         let a = s.answered t p at_p in
         answers refl a.0 a.1 a.2 a.3 a.4 (ap (λ x. begins_with p ++ x) a.5 ∙ sym (append_assoc (begins_with p) s.text a.2) ∙ ap (λ x. (x ++ s.text) ++ a.2) (sym (head_is p at_p)));
@@ -147,8 +146,7 @@ no_mount_run seen slots setup stood told left first second writes gear counts in
   grows = part.2;
   full = λ e. absurd (omega (arith, e));
   all = λ is. absurd (partly 4 (λ e. omega (arith, e)) (λ e. omega (arith, e)) (λ e. omega (arith, e)) is);
-  form = form_answers refl [] [] [] (drop part.0 (mount_line writes gear)) refl (no_answers seen)
-      (ap (λ (x : List ℕ). x ++ []) (sym shows) ∙ append-nil (mount_line writes gear) ∙ sym (take-append-drop part.0 (mount_line writes gear)));
+  form = form_first refl refl refl (drop part.0 (mount_line writes gear)) (sym shows ∙ sym (take-append-drop part.0 (mount_line writes gear)));
   wrote = λ t p at_p. answers refl [] [] (drop part.0 (mount_line writes gear)) refl (stretch_none slots setup told p t)
       (append-nil (begins_with p) ∙ sym (head_is seen seen slots setup stood told told left left first first first first writes gear counts in_gear shows p at_p) ∙ sym (take-append-drop part.0 (mount_line writes gear)));
 }

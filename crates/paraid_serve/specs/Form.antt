@@ -1,12 +1,13 @@
 -- The form of what a run writes, whatever the rack holds: to each line an answer of its kind.
-use Rattle.std.specs.Prelude.{◌≡◌, ℕ, ◌==◌, Bool, true, false, List, [], ◌∷◌, ◌++◌}
+use Rattle.std.specs.Prelude.{◌≡◌, ℕ, ◌==◌, Bool, true, false, List, [], ◌∷◌, ◌++◌, take}
 use Rattle.paraid_base.specs.declared.event.Answer.{Answer}
 use Rattle.paraid_base.specs.declared.event.Answer.TheVariants.{Value, NoBlock, Wrote, Flushed, Ticked, Shift, Top, Lowest, Shifting, Failed, Replaced, NoDisk, Out as IsOut, NotOut, NoFresh, Ration as RationUsed, State as IsState, Energy as EnergyUsed, Bad as IsBad, Halted}
 use Rattle.paraid_base.specs.declared.event.Event.{Event}
 use Rattle.paraid_base.specs.declared.event.Event.TheVariants.{Read, Write, Flush, Tick, Up, Down, Fail, Replace, State as AskState, Energy as AskEnergy, Bad}
 use Rattle.paraid_io.specs.Lines.{lines_of}
+use Rattle.paraid_trace.specs.LineEvents.{event_of}
 use Rattle.paraid_trace.specs.Replies.{reply_of}
-use Rattle.paraid_serve.specs.Causes.{HaveCauses, Shown}
+use Rattle.paraid_serve.specs.Causes.{HasCause, HaveCauses, Shown}
 use Rattle.paraid_serve.specs.Stretch.{events_in}
 
 -- whether an answer has the form of one to a line that is no event
@@ -121,10 +122,18 @@ pub record HasAnswers (old : Shown) (lines : List (List ℕ)) (text : List ℕ) 
   pub causes : HaveCauses old (events_in lines) answers new
   pub is : text ≡ texts answers
 
--- a text that begins so
+-- A text that tells an answer to each of some lines, and a first part of the answer to the next one, with the cause of each. After
+-- that answer no line was served: so the array was seen first, and so after it.
 pub record BeginsAnswers (old : Shown) (bytes text : List ℕ) (new : Shown) : Type 0 where
-  pub lines : List (List ℕ)
+  pub before : List (List ℕ)
+  pub line : List ℕ
   pub more : List (List ℕ)
-  pub rest : List ℕ
-  pub split : lines_of bytes ≡ lines ++ more
-  pub told : HasAnswers old lines (text ++ rest) new
+  pub split : lines_of bytes ≡ (before ++ line ∷ []) ++ more
+  pub front : List ℕ
+  pub mid : Shown
+  pub told : HasAnswers old before front mid
+  pub answer : Answer
+  pub kind : is_answer_to (event_of line) answer ≡ true
+  pub cause : HasCause mid (event_of line) answer new
+  pub count : ℕ
+  pub cut : text ≡ front ++ take count (reply_of answer)

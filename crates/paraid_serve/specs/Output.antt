@@ -16,7 +16,7 @@ use Rattle.paraid_image.specs.Rest.{AreSynced}
 use Rattle.paraid_image.specs.RunStart.{IsRunStart}
 use Rattle.paraid_session.specs.Mount.{IsMountedFromEach}
 use Rattle.paraid_serve.specs.Causes.{HasCause, Shown}
-use Rattle.paraid_serve.specs.Form.{HasAnswers}
+use Rattle.paraid_serve.specs.Form.{BeginsAnswers, HasAnswers}
 use Rattle.paraid_serve.specs.Stretch.{EndsStretch, Stretch, events_in, replies}
 use Rattle.paraid_session.specs.Turn.{Point}
 
@@ -72,13 +72,13 @@ pub data OutputForm (old new : Shown) (bytes : List ℕ) : ℕ → List ℕ → 
   too_long : (replies : List ℕ) → HasAnswers old (whole_lines bytes) replies new
       → OutputForm old new bytes 10 (first_line old ++ replies ++ codes "toolong\n")
 
--- the form of what was written: of a whole text; or at 4 of a first part of such a text, or of the
--- answers to a first part of the lines
+-- The form of what was written: of a whole text; or at 4 of a first part of such a text, or of the first line, and then nothing was
+-- served; or of the answers up to one that was written in part, and then nothing more was served.
 pub data HasForm (old new : Shown) (bytes : List ℕ) (status : ℕ) (text : List ℕ) : Type 0 where
   whole : OutputForm old new bytes status text → HasForm old new bytes status text
   last_line : status ≡ 4 → (code : ℕ) (full rest : List ℕ) → OutputForm old new bytes code full → full ≡ text ++ rest → HasForm old new bytes status text
-  answers : status ≡ 4 → (lines more : List (List ℕ)) (replies rest : List ℕ) → lines_of bytes ≡ lines ++ more
-      → HasAnswers old lines replies new → first_line old ++ replies ≡ text ++ rest → HasForm old new bytes status text
+  at_first_line : status ≡ 4 → bytes ≡ [] → new ≡ old → (rest : List ℕ) → first_line old ≡ text ++ rest → HasForm old new bytes status text
+  answers : status ≡ 4 → (part : List ℕ) → BeginsAnswers old bytes part new → text ≡ first_line old ++ part → HasForm old new bytes status text
 
 -- A run took these bytes and wrote this text. What it is is known where source, sink and rack
 -- tell, from each point at which the array stood.

@@ -12,7 +12,7 @@ ghost use Rattle.paraid_trace.specs.Answered.{answer_with};
 ghost use Rattle.paraid_trace.specs.Asked.{event_with};
 ghost use Rattle.paraid_trace.specs.Replies.{HasFewDisks};
 ghost use Rattle.paraid_serve.specs.Calls.{Grows, IsAbsentOut, IsNotDouble};
-ghost use Rattle.paraid_serve.specs.Causes.{HasCause, Shown, Shows};
+ghost use Rattle.paraid_serve.specs.Causes.{HasCause, Shown, Shows, state_shown};
 ghost use Rattle.paraid_serve.specs.Form.{is_answer_to};
 ghost use Rattle.paraid_serve.specs.Lost.{HaltsByTwoLost, HaltsByWear};
 ghost use Rattle.paraid_session.specs.Faults.{HaveNotFallen};
@@ -102,7 +102,9 @@ pub trait Serves {
     fn status(&self) -> Status
         ensures point { halted self.now ≡ None → (p : Point) → stands self.now p
             → result ≡ state_status (setup self.now) (length p.history) p.state }
-        ensures down { halted self.now ≡ None → named_out result.out ≡ down self.now };
+        ensures down { halted self.now ≡ None → named_out result.out ≡ down self.now }
+        ensures shown { halted self.now ≡ None → result ≡ state_status (setup self.now)
+            (shown self.now).meta.writes (state_shown (shown self.now)) };
 
     /// The number of its disks.
     fn disks(&self) -> u8
@@ -110,7 +112,8 @@ pub trait Serves {
 
     /// The energy that it has used since its mount.
     fn energy(&self) -> u64
-        ensures { (p : Point) → stands self.now p → result ≡ p.energy };
+        ensures point { (p : Point) → stands self.now p → result ≡ p.energy }
+        ensures shown { result ≡ (shown self.now).energy };
 
     /// While there is no halt, at most one of its disks is absent.
     ghost serves: { (x : Self) → halted x ≡ None → IsNotDouble (setup x) (slot x) };

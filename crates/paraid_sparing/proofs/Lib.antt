@@ -1,5 +1,6 @@
 pub mod StockLemmas
 pub mod ServedLemmas
+pub mod SparedCauseLemmas
 pub mod Sofar
 pub mod TextLemmas
 pub mod TopLemmas

@@ -19,6 +19,7 @@ use Rattle.paraid_rack.proofs.TrailsLemmas.{extend-extend}
 use Rattle.paraid_record.specs.declared.meta.Setup.{Setup}
 use Rattle.paraid_trace.specs.LineEvents.{event_of}
 use Rattle.paraid_serve.specs.declared.stop.Stop.TheVariants.{Source, TooLong, Sink, Halt as Halts}
+use Rattle.paraid_serve.specs.Causes.{HasCause, Shown}
 use Rattle.paraid_serve.specs.Heard.{HearsLine, IsNextLine}
 use Rattle.paraid_serve.specs.Stretch.{Turn, TurnsLead, events_in, turn_calls, turn_events}
 use Rattle.paraid_serve.proofs.Sofar.{heard_end, heard_in_time}
@@ -32,6 +33,8 @@ use Rattle.paraid_sparing.specs.Serving.{Keeps, ServesLine}
 use Rattle.paraid_sparing.specs.Session.{EndsSpared, ServesSpared, Spared}
 use Rattle.paraid_sparing.specs.Sparing.{AnswersLine, AnswersTrace, Stock, spun_by}
 use Rattle.paraid_sparing.proofs.RecordedLemmas.{ends_count, trace_counts}
+use Rattle.paraid_sparing.specs.SparedCauses.{CausesFlush, CausesLine, CausesLines}
+use Rattle.paraid_sparing.proofs.SparedCauseLemmas.{causes_cut, causes_none, causes_push}
 use Rattle.paraid_sparing.specs.Sparing.AnswersLine.{alone, spared}
 use Rattle.paraid_sparing.specs.Sparing.AnswersTrace.{more as one_more_line, none as no_line}
 
@@ -67,7 +70,7 @@ pub record Said (slots : ℕ) (setup : Setup) (wait : ℕ) (start now : Option T
   pub stands : stood part.all.end
   pub keeps : Keeps pool wait part.stock
 
-pub record Sofar (slots : ℕ) (setup : Setup) (wait : ℕ) (k : Stock) (first : Point → Type 0) (left_before left written_before written : Option (List ℕ)) (start now : Option Trail) (stood : Point → Type 0) (pool : Pool) (reader : Reading) : Type 0 where
+pub record Sofar (seen seen_now : Shown) (slots : ℕ) (setup : Setup) (wait : ℕ) (k : Stock) (first : Point → Type 0) (left_before left written_before written : Option (List ℕ)) (start now : Option Trail) (stood : Point → Type 0) (pool : Pool) (reader : Reading) : Type 0 where
   pub bytes : List ℕ
   pub answered : List (List ℕ)
   pub text : List ℕ
@@ -81,12 +84,13 @@ pub record Sofar (slots : ℕ) (setup : Setup) (wait : ℕ) (k : Stock) (first :
   pub count : reader.taken ≡ length bytes
   pub grows : GrowsByBytes written_before written text
   pub form : TellsLines k.left answered text (left_of pool)
+  pub causes : CausesLines wait seen k answered text seen_now pool
   pub tells : IsSome now → IsSome start
   pub said : IsSome now → (p : Point) → first p → Said slots setup wait start now p k answered text stood pool
 
-pub sofar_start : (slots : ℕ) (setup : Setup) (wait : ℕ) (k : Stock) (left written : Option (List ℕ)) (start : Option Trail) (stood : Point → Type 0) (pool : Pool) → Keeps pool wait k
-    → Sofar slots setup wait k stood left left written written start start stood pool (fresh_reader 0)
-sofar_start slots setup wait k left written start stood pool keeps = record {
+pub sofar_start : (seen : Shown) (slots : ℕ) (setup : Setup) (wait : ℕ) (k : Stock) (left written : Option (List ℕ)) (start : Option Trail) (stood : Point → Type 0) (pool : Pool) → Keeps pool wait k
+    → Sofar seen seen slots setup wait k stood left left written written start start stood pool (fresh_reader 0)
+sofar_start seen slots setup wait k left written start stood pool keeps = record {
   bytes = [];
   answered = [];
   text = [];
@@ -100,6 +104,7 @@ sofar_start slots setup wait k left written start stood pool keeps = record {
   count = refl;
   grows = GrowsByBytes-none written;
   form = subst (λ (n : ℕ). TellsLines k.left [] [] n) (sym keeps.left) no_lines;
+  causes = causes_none wait seen k pool keeps;
   tells = λ t. t;
   said = λ t p at_p. record { part = record { put_in = []; all = stretch_none slots setup start p t; stock = k; answers = no_line; counts = λ one d low fresh. trace_counts slots setup wait p k [] [] [] p k no_line one d low fresh }; stands = at_p; keeps = keeps };
 }
@@ -154,17 +159,20 @@ said_more {slots} {setup} {wait} {start} {now} {p} {k} {lines} {text} {stood} {p
       keeps = l.keeps;
     }
 
-module _ {slots : ℕ} {setup : Setup} {wait : ℕ} {k : Stock} {first : Point → Type 0} {left_before left after written_before written : Option (List ℕ)} {start now : Option Trail} {stood : Point → Type 0} {pool : Pool} {old new : Reading} (s : Sofar slots setup wait k first left_before left written_before written start now stood pool old) where
+module _ {seen seen_now : Shown} {slots : ℕ} {setup : Setup} {wait : ℕ} {k : Stock} {first : Point → Type 0} {left_before left after written_before written : Option (List ℕ)} {start now : Option Trail} {stood : Point → Type 0} {pool : Pool} {old new : Reading} (s : Sofar seen seen_now slots setup wait k first left_before left written_before written start now stood pool old) where
   -- one line more
   module _ {event : Event} (h : HearsLine left after old new (Ok (Some event))) (later : Option Trail) (told : List ℕ) (new_stood : Point → Type 0) (new_pool : Pool) (slots_now : ℕ) (setup_now : Setup) (same_slots : slots_now ≡ slots) (same_setup : setup_now ≡ setup) (tells : IsSome later → IsSome now)
-      (goes : (q : Point) (w : ℕ) (j : Stock) → stood q → Keeps pool w j → Ran now later (ServesLine slots_now setup_now w q j event told new_stood new_pool)) (kind : TellsLine event (left_of pool) told (left_of new_pool)) where
+      (goes : (q : Point) (w : ℕ) (j : Stock) → stood q → Keeps pool w j → Ran now later (ServesLine slots_now setup_now w q j event told new_stood new_pool)) (kind : TellsLine event (left_of pool) told (left_of new_pool)) (seen_later : Shown) (caused : (w : ℕ) (j : Stock) → Keeps pool w j → CausesLine w seen_now j event told seen_later new_pool) where
     told_more : TellsLines k.left (s.answered ++ h.says.0 ∷ []) (s.text ++ told) (left_of new_pool)
     told_more = line_more s.answered s.text (left_of pool) s.form h.says.0 told (left_of new_pool) (subst (λ (e : Event). TellsLine e (left_of pool) told (left_of new_pool)) h.says.1 kind)
+
+    caused_more : CausesLines wait seen k (s.answered ++ h.says.0 ∷ []) (s.text ++ told) seen_later new_pool
+    caused_more = causes_push wait seen seen_now seen_later k s.answered s.text pool event h.says.0 told new_pool h.says.1 s.causes caused
 
     says : IsSome later → (p : Point) → first p → Said slots setup wait start later p k (s.answered ++ h.says.0 ∷ []) (s.text ++ told) new_stood new_pool
     says t p f = said_more (s.said (tells t) p f) h.says.0 event later told new_stood new_pool slots_now setup_now same_slots same_setup h.says.1 goes t
 
-    pub sofar_more : new.fault ≡ None → (wrote : Option (List ℕ)) → GrowsByBytes written wrote told → Sofar slots setup wait k first left_before after written_before wrote start later new_stood new_pool new
+    pub sofar_more : new.fault ≡ None → (wrote : Option (List ℕ)) → GrowsByBytes written wrote told → Sofar seen seen_later slots setup wait k first left_before after written_before wrote start later new_stood new_pool new
     sofar_more fault wrote grew =
         let line : List ℕ = h.says.0 in
         let n : IsNextLine (old.rest ++ h.got) line new = h.says.2 in
@@ -182,12 +190,13 @@ module _ {slots : ℕ} {setup : Setup} {wait : ℕ} {k : Stock} {first : Point �
           count = omega (arith, s.count, h.taken, length-append s.bytes h.got);
           grows = GrowsByBytes-then written_before written wrote s.text told s.grows grew;
           form = told_more;
+          causes = caused_more;
           tells = λ t. s.tells (tells t);
           said = says;
         }
 
     -- the answer could not be written
-    pub ends_at_sink : (wrote : Option (List ℕ)) (n : ℕ) → GrowsByBytes written wrote (take n told) → ServesSpared slots setup wait k first start later left_before after written_before wrote new_pool (Err Sink)
+    pub ends_at_sink : (wrote : Option (List ℕ)) (n : ℕ) → GrowsByBytes written wrote (take n told) → ServesSpared seen seen_later slots setup wait k first start later left_before after written_before wrote new_pool (Err Sink)
     ends_at_sink wrote n grew =
         let line : List ℕ = h.says.0 in
         let next_line : IsNextLine (old.rest ++ h.got) line new = h.says.2 in
@@ -205,6 +214,7 @@ module _ {slots : ℕ} {setup : Setup} {wait : ℕ} {k : Stock} {first : Point �
             cut,
             subst (λ (x : List ℕ). TellsLines k.left (s.answered ++ line ∷ []) x (left_of new_pool)) (ap (λ x. s.text ++ x) (sym (take-append-drop n told)) ∙ sym (append_assoc s.text (take n told) (drop n told))) told_more,
           );
+          causes = causes_cut wait seen seen_now seen_later k (s.bytes ++ h.got) s.answered (lines_of new.rest) s.text pool event line told n new_pool cut h.says.1 s.causes caused;
           answered = λ t p f. (
             s.answered ++ line ∷ [],
             lines_of new.rest,
@@ -243,25 +253,30 @@ module _ {slots : ℕ} {setup : Setup} {wait : ℕ} {k : Stock} {first : Point �
           said.keeps,
         )
 
-    pub ends_well : (writes : ℕ) → ((q : Point) → stood q → Ran now later (GoesOn slots_now setup_now q Flush (Flushed writes) new_stood)) → ServesSpared slots setup wait k first start later left_before after written_before written pool (Ok writes)
-    ends_well writes goes = record {
+    flush_caused : (answer : Answer) (seen_later : Shown) → HasCause seen_now Flush answer seen_later → CausesFlush wait seen k (lines_of (s.bytes ++ h.got)) s.text answer seen_later pool
+    flush_caused answer seen_later cause = record { mid = seen_now; before = subst (λ (ls : List (List ℕ)). CausesLines wait seen k ls s.text seen_now pool) (all_lines h) s.causes; cause = cause }
+
+    pub ends_well : (writes : ℕ) → (seen_later : Shown) → HasCause seen_now Flush (Flushed writes) seen_later → ((q : Point) → stood q → Ran now later (GoesOn slots_now setup_now q Flush (Flushed writes) new_stood)) → ServesSpared seen seen_later slots setup wait k first start later left_before after written_before written pool (Ok writes)
+    ends_well writes seen_later cause goes = record {
       bytes = s.bytes ++ h.got;
       text = s.text;
       given = Gives-then left_before left after s.bytes h.got s.given h.given;
       grows = s.grows;
       full = all_taken h;
       form = subst (λ (ls : List (List ℕ)). TellsLines k.left ls s.text (left_of pool)) (all_lines h) s.form;
+      causes = flush_caused (Flushed writes) seen_later cause;
       answered = flushed (Flushed writes) refl goes;
     }
 
-    pub ends_halted : (halt : Halt) → ((q : Point) → stood q → Ran now later (GoesOn slots_now setup_now q Flush (Halted halt) new_stood)) → ServesSpared slots setup wait k first start later left_before after written_before written pool (Err (Halts halt))
-    ends_halted halt goes = record {
+    pub ends_halted : (halt : Halt) → (seen_later : Shown) → HasCause seen_now Flush (Halted halt) seen_later → ((q : Point) → stood q → Ran now later (GoesOn slots_now setup_now q Flush (Halted halt) new_stood)) → ServesSpared seen seen_later slots setup wait k first start later left_before after written_before written pool (Err (Halts halt))
+    ends_halted halt seen_later cause goes = record {
       bytes = s.bytes ++ h.got;
       text = s.text;
       given = Gives-then left_before left after s.bytes h.got s.given h.given;
       grows = s.grows;
       full = all_taken h;
       form = subst (λ (ls : List (List ℕ)). TellsLines k.left ls s.text (left_of pool)) (all_lines h) s.form;
+      causes = flush_caused (Halted halt) seen_later cause;
       answered = flushed (Halted halt) refl goes;
     }
 
@@ -271,7 +286,7 @@ module _ {slots : ℕ} {setup : Setup} {wait : ℕ} {k : Stock} {first : Point �
   faulted : {fault : LineFault} (h : HearsLine left after old new (Err fault)) → IsSome now → (p : Point) → first p → Spared slots setup wait start now p k (events_in (whole_lines (s.bytes ++ h.got))) s.text
   faulted {fault} h t p f = subst (λ (ls : List (List ℕ)). Spared slots setup wait start now p k (events_in ls) s.text) (fault_lines h) (s.said t p f).part
 
-  pub ends_at_source : {fault : LineFault} (h : HearsLine left after old new (Err fault)) → ServesSpared slots setup wait k first start now left_before after written_before written pool (Err Source)
+  pub ends_at_source : {fault : LineFault} (h : HearsLine left after old new (Err fault)) → ServesSpared seen seen_now slots setup wait k first start now left_before after written_before written pool (Err Source)
   ends_at_source {fault} h = record {
     bytes = s.bytes ++ h.got;
     text = s.text;
@@ -279,10 +294,11 @@ module _ {slots : ℕ} {setup : Setup} {wait : ℕ} {k : Stock} {first : Point �
     grows = s.grows;
     full = tt;
     form = subst (λ (ls : List (List ℕ)). TellsLines k.left ls s.text (left_of pool)) (fault_lines h) s.form;
+    causes = subst (λ (ls : List (List ℕ)). CausesLines wait seen k ls s.text seen_now pool) (fault_lines h) s.causes;
     answered = faulted h;
   }
 
-  pub ends_too_long : {fault : LineFault} (h : HearsLine left after old new (Err fault)) → new.taken ≡ 2 ^ 40 → ServesSpared slots setup wait k first start now left_before after written_before written pool (Err TooLong)
+  pub ends_too_long : {fault : LineFault} (h : HearsLine left after old new (Err fault)) → new.taken ≡ 2 ^ 40 → ServesSpared seen seen_now slots setup wait k first start now left_before after written_before written pool (Err TooLong)
   ends_too_long {fault} h full = record {
     bytes = s.bytes ++ h.got;
     text = s.text;
@@ -290,5 +306,6 @@ module _ {slots : ℕ} {setup : Setup} {wait : ℕ} {k : Stock} {first : Point �
     grows = s.grows;
     full = omega (arith, s.count, h.taken, length-append s.bytes h.got, full);
     form = subst (λ (ls : List (List ℕ)). TellsLines k.left ls s.text (left_of pool)) (fault_lines h) s.form;
+    causes = subst (λ (ls : List (List ℕ)). CausesLines wait seen k ls s.text seen_now pool) (fault_lines h) s.causes;
     answered = faulted h;
   }

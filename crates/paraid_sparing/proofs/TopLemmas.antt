@@ -15,8 +15,9 @@ use Rattle.paraid_rack.specs.Trail.{Trail, now}
 use Rattle.paraid_record.specs.declared.meta.Setup.{Setup}
 use Rattle.paraid_serve.specs.declared.stop.Stop.{Stop}
 use Rattle.paraid_serve.specs.declared.stop.Stop.TheVariants.{Source, TooLong, Sink, Halt as Halts}
+use Rattle.paraid_serve.specs.Causes.{Shown}
 use Rattle.paraid_serve.specs.Ending.{EndsWithLine, end_line, halt_line, mount_line, status_of_halt}
-use Rattle.paraid_serve.specs.Output.{IsWholeStatus, begins_with}
+use Rattle.paraid_serve.specs.Output.{IsWholeStatus, begins_with, first_line}
 use Rattle.paraid_serve.specs.Output.IsLeftByStretch.{rests as left_rests, two_down as left_two}
 use Rattle.paraid_serve.specs.Stretch.{Turn, TurnsLead, turn_with}
 use Rattle.paraid_serve.proofs.ExitLemmas.{stretch_leaves}
@@ -40,6 +41,8 @@ use Rattle.paraid_sparing.specs.Session.{EndsSpared, ServesSpared}
 use Rattle.paraid_sparing.specs.Sparing.{Stock}
 use Rattle.paraid_sparing.specs.Sparing.AnswersTrace.{none as no_line}
 use Rattle.paraid_sparing.proofs.RecordedLemmas.{trace_counts}
+use Rattle.paraid_sparing.specs.SparedCauses.{CausedText}
+use Rattle.paraid_sparing.proofs.SparedCauseLemmas.{done_caused, first_caused, halted_caused, last_caused, sink_caused, source_caused, too_long_caused}
 use Rattle.paraid_sparing.proofs.TextLemmas.{line_alike}
 
 -- what was written of the last lines
@@ -88,18 +91,18 @@ whole_code status code k n (inr all) is = subst IsWholeStatus all.1 is
 pool_line : (pool : Pool) (wait : ℕ) (k : Stock) (setup : Setup) (disks : ℕ) → Keeps pool wait k → disks ≡ setup.geometry.disks → spares_line (left_of pool) (spins_of pool) disks ≡ stock_line k setup
 pool_line pool wait k setup disks keeps same = line_alike (left_of pool) k.left (spins_of pool) k.spins disks setup.geometry.disks keeps.left same (let high = setup.geometry.disks_high in omega (arith, same, high)) keeps.spins
 
-module _ (slots : ℕ) (setup : Setup) (wait : ℕ) (k : Stock) (stood : Point → Type 0) (start now : Option Trail) (left_before left first second third last_text : Option (List ℕ)) (pool : Pool) (writes gear : ℕ) (counts : (p : Point) → stood p → writes ≡ length p.history) (in_gear : (p : Point) → stood p → gear ≡ p.state.gear) where
+module _ (seen seen_now : Shown) (slots : ℕ) (setup : Setup) (wait : ℕ) (k : Stock) (stood : Point → Type 0) (start now : Option Trail) (left_before left first second third last_text : Option (List ℕ)) (pool : Pool) (writes gear : ℕ) (shows : mount_line writes gear ≡ first_line seen) (counts : (p : Point) → stood p → writes ≡ length p.history) (in_gear : (p : Point) → stood p → gear ≡ p.state.gear) where
   head_is : (p : Point) → stood p → mount_line writes gear ≡ begins_with p
   head_is p s = ap (λ (w : ℕ). mount_line w gear) (counts p s) ∙ ap (λ (g : ℕ). mount_line (length p.history) g) (in_gear p s)
 
   -- A session after the first line, and the last lines after it.
   finish : (result : Result ℕ Stop) (line : List ℕ) (code status : ℕ)
-      → GrowsByBytes first second (mount_line writes gear) → (s : ServesSpared slots setup wait k stood start now left_before left second third pool result) → EndsWithLine third last_text line code status
+      → GrowsByBytes first second (mount_line writes gear) → (s : ServesSpared seen seen_now slots setup wait k stood start now left_before left second third pool result) → EndsWithLine third last_text line code status
       → (IsSome now → (p : Point) → stood p → SparedText slots setup wait start now p k s.bytes code ((begins_with p ++ s.text) ++ line))
       → (code ≡ 10 → length s.bytes ≡ 2 ^ 40) → (IsWholeStatus code → (length s.bytes < 2 ^ 40) × AtEnd left)
-      → SparedForm k.left s.bytes code ((mount_line writes gear ++ s.text) ++ line)
-      → SparedRun slots setup wait k stood start now left_before left first last_text status
-  finish result line code status head s end out full all form = record {
+      → SparedForm k.left s.bytes code ((mount_line writes gear ++ s.text) ++ line) → CausedText wait seen k seen_now s.bytes code ((mount_line writes gear ++ s.text) ++ line)
+      → SparedRun seen seen_now slots setup wait k stood start now left_before left first last_text status
+  finish result line code status head s end out full all form caused = record {
     bytes = s.bytes;
     text = (mount_line writes gear ++ s.text) ++ take end.count line;
     given = s.given;
@@ -107,42 +110,47 @@ module _ (slots : ℕ) (setup : Setup) (wait : ℕ) (k : Stock) (stood : Point �
     full = λ ten. full (the_code status code (length line) end.count 10 end.whole ten (λ e. absurd (omega (arith, e))));
     all = λ is. all (whole_code status code (length line) end.count end.whole is);
     form = form_last k.left s.bytes (mount_line writes gear ++ s.text) line third last_text code status form end;
+    causes = last_caused wait seen k seen_now s.bytes (mount_line writes gear ++ s.text) line third last_text code status caused end;
     wrote = λ t p at_p. subst (λ (x : List ℕ). WritesSpared slots setup wait start now p k s.bytes status ((x ++ s.text) ++ take end.count line)) (sym (head_is p at_p))
         (wrote_last slots setup wait start now p k s.bytes (begins_with p ++ s.text) line third last_text code status (out t p at_p) end);
   }
 
-  module _ (status : ℕ) (head : GrowsByBytes first second (mount_line writes gear)) (disks : ℕ) (same : disks ≡ setup.geometry.disks) where
-    pub done_run : (count : ℕ) → ServesSpared slots setup wait k stood start now left_before left second third pool (Ok count) → EndsWithLine third last_text (spares_line (left_of pool) (spins_of pool) disks ++ end_line count) 0 status
-        → SparedRun slots setup wait k stood start now left_before left first last_text status
+  module _ (status : ℕ) (head : GrowsByBytes first second (mount_line writes gear)) (disks : ℕ) (same : disks ≡ setup.geometry.disks) (seen_disks : disks ≡ seen.setup.geometry.disks) where
+    pub done_run : (count : ℕ) → ServesSpared seen seen_now slots setup wait k stood start now left_before left second third pool (Ok count) → EndsWithLine third last_text (spares_line (left_of pool) (spins_of pool) disks ++ end_line count) 0 status
+        → SparedRun seen seen_now slots setup wait k stood start now left_before left first last_text status
     done_run count s end = finish (Ok count) (spares_line (left_of pool) (spins_of pool) disks ++ end_line count) 0 status head s end
         (λ t p at_p. let a = s.answered t p at_p in
         subst (λ (x : List ℕ). SparedText slots setup wait start now p k s.bytes 0 ((begins_with p ++ s.text) ++ (x ++ end_line count))) (sym (pool_line pool wait a.0.lines.stock setup disks a.1 same)) (done count s.text a.0))
         (λ e. absurd (omega (arith, e))) (λ is. s.full) (form_done writes gear count (left_of pool) disks (spins_of pool) s.text s.form)
+        (done_caused wait seen k seen_now s.bytes pool disks seen_disks (mount_line writes gear) shows count s.text s.causes)
 
-    pub halted_run : (halt : Halt) → ServesSpared slots setup wait k stood start now left_before left second third pool (Err (Halts halt)) → EndsWithLine third last_text (spares_line (left_of pool) (spins_of pool) disks ++ halt_line halt) (status_of_halt halt) status
-        → SparedRun slots setup wait k stood start now left_before left first last_text status
+    pub halted_run : (halt : Halt) → ServesSpared seen seen_now slots setup wait k stood start now left_before left second third pool (Err (Halts halt)) → EndsWithLine third last_text (spares_line (left_of pool) (spins_of pool) disks ++ halt_line halt) (status_of_halt halt) status
+        → SparedRun seen seen_now slots setup wait k stood start now left_before left first last_text status
     halted_run halt s end = finish (Err (Halts halt)) (spares_line (left_of pool) (spins_of pool) disks ++ halt_line halt) (status_of_halt halt) status head s end
         (λ t p at_p. let a = s.answered t p at_p in
         subst (λ (x : List ℕ). SparedText slots setup wait start now p k s.bytes (status_of_halt halt) ((begins_with p ++ s.text) ++ (x ++ halt_line halt))) (sym (pool_line pool wait a.0.lines.stock setup disks a.1 same)) (halted halt s.text a.0))
         (λ e. absurd (not_ten halt e)) (λ is. s.full) (form_halted writes gear halt (left_of pool) disks (spins_of pool) s.text s.form)
+        (halted_caused wait seen k seen_now s.bytes pool disks seen_disks (mount_line writes gear) shows halt s.text s.causes)
       where
         not_ten : (h : Halt) → status_of_halt h ≢ 10
         not_ten (HaltTwo two) e = omega (arith, e)
         not_ten (Worn count) e = omega (arith, e)
 
   module _ (status : ℕ) (head : GrowsByBytes first second (mount_line writes gear)) where
-    pub source_run : ServesSpared slots setup wait k stood start now left_before left second third pool (Err Source) → EndsWithLine third last_text (codes "source\n") 3 status
-        → SparedRun slots setup wait k stood start now left_before left first last_text status
+    pub source_run : ServesSpared seen seen_now slots setup wait k stood start now left_before left second third pool (Err Source) → EndsWithLine third last_text (codes "source\n") 3 status
+        → SparedRun seen seen_now slots setup wait k stood start now left_before left first last_text status
     source_run s end = finish (Err Source) (codes "source\n") 3 status head s end (λ t p at_p. source s.text (s.answered t p at_p))
         (λ e. absurd (omega (arith, e))) (λ is. absurd (partly 3 (λ e. omega (arith, e)) (λ e. omega (arith, e)) (λ e. omega (arith, e)) is)) (form_source writes gear (left_of pool) s.text s.form)
+        (source_caused wait seen k seen_now s.bytes pool (mount_line writes gear) shows s.text s.causes)
 
-    pub too_long_run : ServesSpared slots setup wait k stood start now left_before left second third pool (Err TooLong) → EndsWithLine third last_text (codes "toolong\n") 10 status
-        → SparedRun slots setup wait k stood start now left_before left first last_text status
+    pub too_long_run : ServesSpared seen seen_now slots setup wait k stood start now left_before left second third pool (Err TooLong) → EndsWithLine third last_text (codes "toolong\n") 10 status
+        → SparedRun seen seen_now slots setup wait k stood start now left_before left first last_text status
     too_long_run s end = finish (Err TooLong) (codes "toolong\n") 10 status head s end (λ t p at_p. too_long s.full s.text (s.answered t p at_p))
         (λ e. s.full) (λ is. absurd (partly 10 (λ e. omega (arith, e)) (λ e. omega (arith, e)) (λ e. omega (arith, e)) is)) (form_too_long writes gear (left_of pool) s.text s.form)
+        (too_long_caused wait seen k seen_now s.bytes pool (mount_line writes gear) shows s.text s.causes)
 
   -- the sink failed within an answer
-  pub sink_run : GrowsByBytes first second (mount_line writes gear) → ServesSpared slots setup wait k stood start now left_before left second third pool (Err Sink) → SparedRun slots setup wait k stood start now left_before left first third 4
+  pub sink_run : GrowsByBytes first second (mount_line writes gear) → ServesSpared seen seen_now slots setup wait k stood start now left_before left second third pool (Err Sink) → SparedRun seen seen_now slots setup wait k stood start now left_before left first third 4
   sink_run head s = record {
     bytes = s.bytes;
     text = mount_line writes gear ++ s.text;
@@ -151,15 +159,16 @@ module _ (slots : ℕ) (setup : Setup) (wait : ℕ) (k : Stock) (stood : Point �
     full = λ e. absurd (omega (arith, e));
     all = λ is. absurd (partly 4 (λ e. omega (arith, e)) (λ e. omega (arith, e)) (λ e. omega (arith, e)) is);
     form = form_answers refl writes gear (left_of pool) s.form.0 s.form.1 (s.text ++ s.form.2) s.form.2 s.form.3 s.form.4 (sym (append_assoc (mount_line writes gear) s.text s.form.2));
+    causes = sink_caused wait seen k seen_now s.bytes pool (mount_line writes gear) shows s.text s.causes;
     wrote = λ t p at_p.
         let a = s.answered t p at_p in
         answers refl a.0 a.1 (s.text ++ a.2) a.2 a.3 a.4 (sym (append_assoc (begins_with p) s.text a.2) ∙ ap (λ x. (x ++ s.text) ++ a.2) (sym (head_is p at_p)));
   }
 
 -- the sink failed at the first line
-pub no_mount_run : (slots : ℕ) (setup : Setup) (wait : ℕ) (k : Stock) (stood : Point → Type 0) (told : Option Trail) (left first second : Option (List ℕ)) (writes gear : ℕ) → ((p : Point) → stood p → writes ≡ length p.history) → ((p : Point) → stood p → gear ≡ p.state.gear)
-    → (n : ℕ) × (n ≤ length (mount_line writes gear)) × GrowsByBytes first second (take n (mount_line writes gear)) → SparedRun slots setup wait k stood told told left left first second 4
-no_mount_run slots setup wait k stood told left first second writes gear counts in_gear part = record {
+pub no_mount_run : (seen : Shown) (slots : ℕ) (setup : Setup) (wait : ℕ) (k : Stock) (stood : Point → Type 0) (told : Option Trail) (left first second : Option (List ℕ)) (writes gear : ℕ) → ((p : Point) → stood p → writes ≡ length p.history) → ((p : Point) → stood p → gear ≡ p.state.gear) → mount_line writes gear ≡ first_line seen
+    → (n : ℕ) × (n ≤ length (mount_line writes gear)) × GrowsByBytes first second (take n (mount_line writes gear)) → SparedRun seen seen slots setup wait k stood told told left left first second 4
+no_mount_run seen slots setup wait k stood told left first second writes gear counts in_gear shows part = record {
   bytes = [];
   text = take part.0 (mount_line writes gear);
   given = Gives-none left;
@@ -167,6 +176,7 @@ no_mount_run slots setup wait k stood told left first second writes gear counts 
   full = λ e. absurd (omega (arith, e));
   all = λ is. absurd (partly 4 (λ e. omega (arith, e)) (λ e. omega (arith, e)) (λ e. omega (arith, e)) is);
   form = form_answers refl writes gear k.left [] [] [] (drop part.0 (mount_line writes gear)) refl no_lines (append-nil (mount_line writes gear) ∙ sym (take-append-drop part.0 (mount_line writes gear)));
+  causes = first_caused wait seen k (mount_line writes gear) part.0 shows;
   wrote = λ t p at_p. answers refl [] [] [] (drop part.0 (mount_line writes gear)) refl (record { put_in = []; all = stretch_none slots setup told p t; stock = k; answers = no_line; counts = λ one d low fresh. trace_counts slots setup wait p k [] [] [] p k no_line one d low fresh })
       (append-nil (begins_with p) ∙ sym (ap (λ (w : ℕ). mount_line w gear) (counts p at_p) ∙ ap (λ (g : ℕ). mount_line (length p.history) g) (in_gear p at_p)) ∙ sym (take-append-drop part.0 (mount_line writes gear)));
 }
@@ -217,10 +227,10 @@ module _ (slots : ℕ) (setup : Setup) (wait : ℕ) (k : Stock) (start final : O
   output_synced bytes status text (last_line four code full rest out front) zero = absurd (omega (arith, four, zero))
   output_synced bytes status text (answers four lines more told rest lines_are c front) zero = absurd (omega (arith, four, zero))
 
-pub headline : (slots : ℕ) (setup : Setup) (wait : ℕ) (k : Stock) (began : ℕ) (stood : Point → Type 0) (start final : Option Trail) (left_before left written_before written : Option (List ℕ)) (status : ℕ)
-    → IsMountedFromEach slots setup began start stood → SparedRun slots setup wait k stood start final left_before left written_before written status
-    → SparedHeadline slots setup wait k began start final left_before left written_before written status
-headline slots setup wait k began stood start final left_before left written_before written status mounted r = record {
+pub headline : (seen seen_now : Shown) (slots : ℕ) (setup : Setup) (wait : ℕ) (k : Stock) (began : ℕ) (stood : Point → Type 0) (start final : Option Trail) (left_before left written_before written : Option (List ℕ)) (status : ℕ)
+    → IsMountedFromEach slots setup began start stood → SparedRun seen seen_now slots setup wait k stood start final left_before left written_before written status
+    → SparedHeadline seen seen_now slots setup wait k began start final left_before left written_before written status
+headline seen seen_now slots setup wait k began stood start final left_before left written_before written status mounted r = record {
   bytes = r.bytes;
   text = r.text;
   given = r.given;
@@ -228,6 +238,7 @@ headline slots setup wait k began stood start final left_before left written_bef
   full = r.full;
   all = r.all;
   form = r.form;
+  causes = r.causes;
   said = λ t. IsMountedFromEach-follows slots setup began start stood (FollowsSpared slots setup wait k start final r.bytes status r.text)
       (λ p mark here at_p. record {
         wrote = r.wrote t p at_p;

@@ -2,6 +2,7 @@ pub mod Sparing
 pub mod Serving
 pub mod Texts
 pub mod Form
+pub mod SparedCauses
 pub mod Session
 pub mod Output
 pub mod Spinning

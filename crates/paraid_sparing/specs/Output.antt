@@ -8,6 +8,7 @@ use Rattle.paraid_io.specs.Lines.{lines_of, whole_lines}
 use Rattle.paraid_image.specs.Rest.{AreSynced}
 use Rattle.paraid_rack.specs.Trail.{Trail, now}
 use Rattle.paraid_record.specs.declared.meta.Setup.{Setup}
+use Rattle.paraid_serve.specs.Causes.{Shown}
 use Rattle.paraid_serve.specs.Ending.{end_line, halt_line, status_of_halt}
 use Rattle.paraid_serve.specs.Output.{IsLeftByStretch, IsWholeStatus, begins_with}
 use Rattle.paraid_serve.specs.Stretch.{Stretch, events_in}
@@ -15,6 +16,7 @@ use Rattle.paraid_session.specs.Mount.{IsMountedFromEach}
 use Rattle.paraid_session.specs.Turn.{Point}
 use Rattle.paraid_sparing.specs.Session.{EndsSpared, Spared}
 use Rattle.paraid_sparing.specs.Form.{HasSparedForm}
+use Rattle.paraid_sparing.specs.SparedCauses.{HasSparedCauses}
 use Rattle.paraid_sparing.specs.Sparing.{Stock}
 use Rattle.paraid_sparing.specs.Texts.{spares_line}
 
@@ -47,7 +49,7 @@ pub data WritesSpared (slots : ℕ) (setup : Setup) (wait : ℕ) (start final : 
 
 -- A run took these bytes and wrote this text. What it is is known where source, sink and rack tell, from each point at which
 -- the array stood.
-pub record SparedRun (slots : ℕ) (setup : Setup) (wait : ℕ) (k : Stock) (stood : Point → Type 0) (start final : Option Trail) (left_before left written_before written : Option (List ℕ)) (status : ℕ) : Type 0 where
+pub record SparedRun (seen seen_now : Shown) (slots : ℕ) (setup : Setup) (wait : ℕ) (k : Stock) (stood : Point → Type 0) (start final : Option Trail) (left_before left written_before written : Option (List ℕ)) (status : ℕ) : Type 0 where
   pub bytes : List ℕ
   pub text : List ℕ
   pub given : Gives left_before left bytes
@@ -55,6 +57,7 @@ pub record SparedRun (slots : ℕ) (setup : Setup) (wait : ℕ) (k : Stock) (sto
   pub full : status ≡ 10 → length bytes ≡ 2 ^ 40
   pub all : IsWholeStatus status → (length bytes < 2 ^ 40) × AtEnd left
   pub form : HasSparedForm k.left bytes status text
+  pub causes : HasSparedCauses wait seen k seen_now bytes status text
   pub wrote : IsSome final → (p : Point) → stood p → WritesSpared slots setup wait start final p k bytes status text
 
 -- what follows from the first point of a session
@@ -64,7 +67,7 @@ pub record FollowsSpared (slots : ℕ) (setup : Setup) (wait : ℕ) (k : Stock) 
   pub synced : status ≡ 0 → (t : Trail) → final ≡ Some t → AreSynced (now t)
 
 -- The headline for a run with spares.
-pub record SparedHeadline (slots : ℕ) (setup : Setup) (wait : ℕ) (k : Stock) (began : ℕ) (start final : Option Trail) (left_before left written_before written : Option (List ℕ)) (status : ℕ) : Type 0 where
+pub record SparedHeadline (seen seen_now : Shown) (slots : ℕ) (setup : Setup) (wait : ℕ) (k : Stock) (began : ℕ) (start final : Option Trail) (left_before left written_before written : Option (List ℕ)) (status : ℕ) : Type 0 where
   pub bytes : List ℕ
   pub text : List ℕ
   pub given : Gives left_before left bytes
@@ -72,4 +75,5 @@ pub record SparedHeadline (slots : ℕ) (setup : Setup) (wait : ℕ) (k : Stock)
   pub full : status ≡ 10 → length bytes ≡ 2 ^ 40
   pub all : IsWholeStatus status → (length bytes < 2 ^ 40) × AtEnd left
   pub form : HasSparedForm k.left bytes status text
+  pub causes : HasSparedCauses wait seen k seen_now bytes status text
   pub said : IsSome final → IsMountedFromEach slots setup began start (FollowsSpared slots setup wait k start final bytes status text)

@@ -11,6 +11,7 @@ use Rattle.paraid_rack.specs.Trail.{Trail}
 use Rattle.paraid_record.specs.declared.meta.Setup.{Setup}
 use Rattle.paraid_serve.specs.declared.stop.Stop.{Stop}
 use Rattle.paraid_serve.specs.declared.stop.Stop.TheVariants.{Source, TooLong, Sink, Halt as Halts}
+use Rattle.paraid_serve.specs.Causes.{Shown}
 use Rattle.paraid_serve.specs.Session.{IsAllTaken}
 use Rattle.paraid_serve.specs.Stretch.{Stretch, events_in, turn_calls, turn_with}
 use Rattle.paraid_session.specs.Turn.{Point}
@@ -18,6 +19,7 @@ use Rattle.paraid_spare.specs.declared.pool.Pool.{Pool}
 use Rattle.paraid_spare.specs.Pools.{left_of, slot_spin_ups}
 use Rattle.paraid_sparing.specs.Form.{HaveSparedForm}
 use Rattle.paraid_sparing.specs.Serving.{Keeps}
+use Rattle.paraid_sparing.specs.SparedCauses.{HaveSparedCauses}
 use Rattle.paraid_sparing.specs.Sparing.{AnswersTrace, Stock}
 use Rattle.paraid_sparing.specs.Spinning.{AreBesideOne}
 
@@ -58,11 +60,12 @@ AreLinesSpared slots setup wait start now p k pool (Err Sink) bytes text =
 
 -- A session took these bytes and wrote this text. What it answered is known where the record is told, from each point at
 -- which the array stood.
-pub record ServesSpared (slots : ℕ) (setup : Setup) (wait : ℕ) (k : Stock) (stood : Point → Type 0) (start now : Option Trail) (left_before left written_before written : Option (List ℕ)) (pool : Pool) (result : Result ℕ Stop) : Type 0 where
+pub record ServesSpared (seen seen_now : Shown) (slots : ℕ) (setup : Setup) (wait : ℕ) (k : Stock) (stood : Point → Type 0) (start now : Option Trail) (left_before left written_before written : Option (List ℕ)) (pool : Pool) (result : Result ℕ Stop) : Type 0 where
   pub bytes : List ℕ
   pub text : List ℕ
   pub given : Gives left_before left bytes
   pub grows : GrowsByBytes written_before written text
   pub full : IsAllTaken result bytes left
   pub form : HaveSparedForm k.left (left_of pool) result bytes text
+  pub causes : HaveSparedCauses wait seen k pool result bytes text seen_now
   pub answered : IsSome now → (p : Point) → stood p → AreLinesSpared slots setup wait start now p k pool result bytes text

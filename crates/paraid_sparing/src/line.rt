@@ -4,12 +4,14 @@ ghost use Rattle.paraid_base.specs.declared.event.Event.TheVariants.{Replace as 
 ghost use Rattle.paraid_rack.specs.Slots.{Slot};
 ghost use Rattle.paraid_rack.specs.Told.{Ran};
 ghost use Rattle.paraid_serve.specs.Calls.{Grows};
+ghost use Rattle.paraid_serve.specs.Causes.{HasCause};
 ghost use Rattle.paraid_serve.specs.Form.{is_answer_to};
 ghost use Rattle.paraid_serve.specs.Lost.{HasServedSince};
 ghost use Rattle.paraid_session.specs.Turn.{GoesOn, Point};
 ghost use Rattle.paraid_spare.specs.Pools.{left_of};
 ghost use Rattle.paraid_sparing.specs.Form.{TellsLine};
 ghost use Rattle.paraid_sparing.specs.Sparing.{Stock, spare_line, stock_after, used};
+ghost use Rattle.paraid_sparing.specs.SparedCauses.{CausesLine, stock_when};
 ghost use Rattle.paraid_sparing.specs.Serving.{Keeps, ServesLine};
 ghost use Rattle.paraid_trace.specs.Answered.{answer_with};
 ghost use Rattle.paraid_trace.specs.Asked.{event_with};
@@ -48,6 +50,8 @@ fn put_in<A: Serves>(
     ensures line { line.new ≡ spare_line (answer_with result beside.new) (left_of pool.old - 1) }
     ensures left { left_of pool.new ≡ left_of pool.old - 1 }
     ensures kind { is_answer_to (ReplaceEvent disk) (answer_with result beside.new) ≡ true }
+    ensures cause { HasCause (A.shown array.old) (ReplaceEvent disk) (answer_with result beside.new)
+        (A.shown array.new) }
 {
     let answered = answer(
         array,
@@ -89,6 +93,11 @@ fn answer_alone<A: Serves>(
     ensures text { text.new ≡ reply_of (answer_with result beside.new) }
     ensures left { left_of pool.new ≡ left_of pool.old }
     ensures kind { is_answer_to (event_with asked pairs.now) (answer_with result beside.new) ≡ true }
+    ensures cause { HasCause (A.shown array.old) (event_with asked pairs.now)
+        (answer_with result beside.new) (A.shown array.new) }
+    ensures stock { (wait : ℕ) (k : Stock) → Keeps pool.old wait k
+        → Keeps pool.new wait (stock_when k (answer_with result beside.new) (A.halted array.new)
+        (A.shown array.new).meta.out) }
 {
     let answered = answer(array, halt, asked, pairs, beside);
     follow(array, *halt, pool, &answered);
@@ -111,6 +120,9 @@ pub fn answer_line<A: Serves>(
     ensures serves { (p : Point) (wait : ℕ) (k : Stock) → A.stands array.old p → Keeps pool.old wait k
         → Ran (A.told array.old) (A.told array.new) (ServesLine (A.slots array.old) (A.setup array.old)
         wait p k (event_with asked pairs.now) (line.new ++ text.new) (A.stands array.new) pool.new) }
+    // Over every rack a spare is put in exactly where one is due, and each answer has its cause.
+    ensures causes { (wait : ℕ) (k : Stock) → Keeps pool.old wait k → CausesLine wait (A.shown array.old) k
+        (event_with asked pairs.now) (line.new ++ text.new) (A.shown array.new) pool.new }
     ensures form { TellsLine (event_with asked pairs.now) (left_of pool.old) (line.new ++ text.new)
         (left_of pool.new) }
     ensures told { Grows (A.told array.old) (A.told array.new) }

@@ -6,6 +6,7 @@ ghost use Rattle.paraid_base.specs.States.{gone_out};
 ghost use Rattle.paraid_session.specs.Turn.{Point};
 ghost use Rattle.paraid_spare.specs.Pools.{left_of, spins_of, wait_of, waits_of};
 ghost use Rattle.paraid_sparing.specs.Sparing.{Stock, begun_to, due_before, is_wait, is_waiting, rise_to, spins_after, spun_by, stock_after, waits_then};
+ghost use Rattle.paraid_sparing.specs.SparedCauses.{due_when, stock_when};
 ghost use Rattle.paraid_sparing.specs.Serving.{Keeps};
 ghost use Rattle.paraid_trace.specs.Answered.{answer_of, answer_with};
 ghost use Rattle.paraid_trace.specs.Asked.{event_with};
@@ -19,7 +20,8 @@ use paraid_trace::{Answered, Asked, Brief};
 // The disk that is gone.
 fn gone<A: Serves>(array: &A) -> Option<DiskNo>
     requires going { A.halted array.now ≡ None }
-    ensures { (p : Point) → A.stands array.now p → result ≡ gone_out p.state.out }
+    ensures point { (p : Point) → A.stands array.now p → result ≡ gone_out p.state.out }
+    ensures shown { result ≡ gone_out (A.shown array.now).meta.out }
 {
     match array.status().out {
         Out::Gone { disk } => Some(disk),
@@ -38,6 +40,8 @@ pub(crate) fn due<A: Serves>(
     requires halt { halt ≡ A.halted array.now }
     ensures due { (p : Point) (wait : ℕ) (k : Stock) (pairs : PairsType) → A.stands array.now p
         → Keeps pool.now wait k → result ≡ due_before wait k p (event_with asked pairs) }
+    ensures shown { (wait : ℕ) (k : Stock) (pairs : PairsType) → Keeps pool.now wait k → result
+        ≡ due_when wait k (A.halted array.now) (A.shown array.now).meta.out (event_with asked pairs) }
     ensures left { IfSome result (λ d. 0 < left_of pool.now) }
     ensures tick { (pairs : PairsType) → IfSome result (λ d. event_with asked pairs ≡ TickEventType) }
 {
@@ -145,6 +149,9 @@ fn count_wait<A: Serves>(array: &A, halt: Option<Halt>, pool: &mut Pool, answere
     ensures spins { (d : ℕ) → spins_of pool.new d ≡ spins_of pool.old d }
     ensures waits { (p : Point) (beside : BesideType) → A.stands array.now p → (d : ℕ) → waits_of pool.new d
         ≡ waits_then p.halt (gone_out p.state.out) (is_waiting (answer_with answered.now beside)) (waits_of pool.old) d }
+    ensures shown { (beside : BesideType) (d : ℕ) → waits_of pool.new d
+        ≡ waits_then (A.halted array.now) (gone_out (A.shown array.now).meta.out)
+        (is_waiting (answer_with answered.now beside)) (waits_of pool.old) d }
 {
     if let Some(_) = halt {
         return;
@@ -166,6 +173,9 @@ pub(crate) fn follow<A: Serves>(array: &A, halt: Option<Halt>, pool: &mut Pool, 
     ensures keeps { (p : Point) (wait : ℕ) (k : Stock) (beside : BesideType) → A.stands array.now p
         → Keeps pool.old wait k
         → Keeps pool.new wait (stock_after k (answer_with answered.now beside) p) }
+    ensures stock { (wait : ℕ) (k : Stock) (beside : BesideType) → Keeps pool.old wait k
+        → Keeps pool.new wait (stock_when k (answer_with answered.now beside) (A.halted array.now)
+        (A.shown array.now).meta.out) }
 {
     count_spins(pool, answered);
     count_wait(array, halt, pool, answered);

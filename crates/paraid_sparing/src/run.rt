@@ -44,7 +44,7 @@ pub fn session<S: Source, K: Sink, A: Serves>(
 ) -> Result<u64, Stop>
     requires going { A.halted array.old ≡ None }
     requires fresh { Keeps pool.old (wait_of pool.old) (fresh_stock (left_of pool.old)) }
-    ensures session { ServesSpared (A.slots array.old) (A.setup array.old) (wait_of pool.old)
+    ensures session { ServesSpared (A.shown array.old) (A.shown array.new) (A.slots array.old) (A.setup array.old) (wait_of pool.old)
         (fresh_stock (left_of pool.old)) (A.stands array.old) (A.told array.old) (A.told array.new)
         (S.left source.old) (S.left source.new) (K.written sink.old) (K.written sink.new) pool.new
         result }

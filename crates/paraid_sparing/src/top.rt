@@ -46,7 +46,7 @@ pub fn serve<S: Source, K: Sink, A: Serves>(
     wait: u32,
 ) -> u8
     requires going { A.halted array.old ≡ None }
-    ensures run { SparedRun (A.slots array.old) (A.setup array.old) wait (fresh_stock stock)
+    ensures run { SparedRun (A.shown array.old) (A.shown array.new) (A.slots array.old) (A.setup array.old) wait (fresh_stock stock)
         (A.stands array.old) (A.told array.old) (A.told array.new) (S.left source.old)
         (S.left source.new) (K.written sink.old) (K.written sink.new) result }
     ensures told { Grows (A.told array.old) (A.told array.new) }
@@ -93,7 +93,7 @@ pub fn serve_mounted<S: Source, K: Sink, A: Serves>(
     requires going { A.halted array.old ≡ None }
     ensures headline { (began : ℕ) → IsMountedFromEach (A.slots array.old) (A.setup array.old) began
         (A.told array.old) (A.stands array.old)
-        → SparedHeadline (A.slots array.old) (A.setup array.old) wait (fresh_stock stock) began
+        → SparedHeadline (A.shown array.old) (A.shown array.new) (A.slots array.old) (A.setup array.old) wait (fresh_stock stock) began
         (A.told array.old) (A.told array.new) (S.left source.old) (S.left source.new)
         (K.written sink.old) (K.written sink.new) result }
     ensures told { Grows (A.told array.old) (A.told array.new) }

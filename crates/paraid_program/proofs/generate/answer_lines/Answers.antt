@@ -1,7 +1,9 @@
-use Rattle.std.proofs.Common.{◌≡◌, ◌+◌, ◌≤◌, arith, ap, ◌∙◌, refl}
+use Rattle.std.proofs.Common.{◌≡◌, ◌+◌, ◌≤◌, arith, ap, ◌∙◌, refl, sym}
 use Rattle.paraid_serve.proofs.GrowsLemmas.{grows_none, grows_then, told_then}
 use Rattle.paraid_program.specs.declared.tally.Tally.{Tally}
 use Rattle.paraid_program.specs.Tally.{tally_with_answer, tally_with_event}
+use Rattle.paraid_machine.specs.Machine.{block_count}
+use Rattle.paraid_program.proofs.GenCauseLemmas.{causes_more, causes_none}
 use Rattle.paraid_program.proofs.GenLemmas.{counted_more, counted_none}
 use Rattle.paraid_program.proofs.TallyLemmas.{fits_answer, fits_event, fits_none, fits_room}
 use Rattle.paraid_program.proofs.generate.answer_lines.Goals as goal
@@ -14,6 +16,7 @@ events-init g c = rw c.new-tally.ensures (record {
   setup = refl;
   halt = c.requires.halt;
   since = λ start s. s;
+  causes = causes_none _ _;
   fits = fits_none;
 })
 
@@ -31,6 +34,7 @@ events-preserved g c =
       setup = e.setup ∙ i.setup;
       halt = e.halt;
       since = λ start s. e.since start (i.since start s);
+      causes = causes_more i.causes c.generate-event.result c.answer_event-answered.result _ c.blocks-blocks.result c.count_answer.new.self (c.blocks-blocks.ensures.value ∙ ap block_count (sym (g.met.A.Serves.shows c.args.array.now).setup)) c.generate-event.ensures.value e.kind e.cause new;
       fits = rw new (fits_answer (tally_with_event c.events.tally c.generate-event.result) c.answer_event-answered.result (c.events.i + 1) c.events.i (fits_event c.events.tally c.generate-event.result c.events.i c.events.i i.fits));
     }
 
@@ -56,6 +60,9 @@ returns g c = record {
   counted = λ t p s.
       let e : c.events.i ≡ c.args.lines = omega (arith, c.events-test.false, c.events.auto.i-end) in
       rw e at (c.events.invariant.counted t p s);
+  causes =
+      let e : c.events.i ≡ c.args.lines = omega (arith, c.events-test.false, c.events.auto.i-end) in
+      rw e at c.events.invariant.causes;
   told = c.events.invariant.told;
   slots = c.events.invariant.slots;
   setup = c.events.invariant.setup;

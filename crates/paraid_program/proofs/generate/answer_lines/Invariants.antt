@@ -4,6 +4,7 @@ use Rattle.paraid_rack.specs.Slots.{Slot}
 use Rattle.paraid_serve.specs.Calls.{Grows}
 use Rattle.paraid_serve.specs.Lost.{HasServedSince}
 use Rattle.paraid_program.specs.CountedLines.{CountsLines}
+use Rattle.paraid_program.specs.GenCauses.{CountsCauses}
 use Rattle.paraid_program.proofs.TallyLemmas.{Fits}
 use Rattle.paraid_program.proofs.generate.answer_lines.Given as goal
 
@@ -15,5 +16,6 @@ invariant-events g l = record {
   setup : g.A.Serves.setup l.array ≡ g.A.Serves.setup l.initial.array;
   halt : l.halt ≡ g.A.Serves.halted l.array;
   since : (start : ℕ → Slot) → HasServedSince start (g.A.Serves.slot l.initial.array) (g.A.Serves.halted l.initial.array) → HasServedSince start (g.A.Serves.slot l.array) (g.A.Serves.halted l.array);
+  causes : CountsCauses (g.A.Serves.shown l.initial.array) l.number l.i l.tally (g.A.Serves.shown l.array);
   fits : Fits l.tally l.i l.i;
 }

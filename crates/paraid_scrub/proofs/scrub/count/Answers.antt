@@ -42,6 +42,11 @@ returns g c = record {
       let all : c.loop-at.at ≡ c.members-size.result = omega arith in
       let size = c.members-size.ensures ∙ ap (λ (z : Meta). total z (named_out z.out) c.args.kind) (c.meta.ensures.value ∙ sym a.0) ∙ ap (λ (o : Option ℕ). total v.meta o c.args.kind) (ap (λ (z : Meta). named_out z.out) a.0 ∙ sym a.1) in
       part_whole v c.args.kind c.loop-at.at c.loop-at.found (total v.meta v.out c.args.kind) (all ∙ size) (c.loop-at.invariant.kept.shown v s tells).1;
+  most =
+      let all : c.loop-at.at ≡ c.members-size.result = omega arith in
+      let few = c.loop-at.invariant.few in
+      let size : c.members-size.result ≡ total (g.C.Stored.meta c.args.core.now) (named_out (g.C.Stored.meta c.args.core.now).out) c.args.kind = c.members-size.ensures ∙ ap (λ (z : Meta). total z (named_out z.out) c.args.kind) c.meta.ensures.value in
+      omega (arith, all, few, size);
 }
 
 pub overflow_add-found : goal.overflow_add-found
@@ -62,4 +67,9 @@ returns-in-Err-Lost g c = record {
       let more = c.loop-at-test.true in
       let before = g.met.C.Stored.told_lost _ _ _ c.in-Err-Lost.ensures.lost tells in
       part_first v c.args.kind c.loop-at.at c.loop-at.found (total v.meta v.out c.args.kind) (omega (arith, size, more)) (c.loop-at.invariant.kept.shown v s before).1;
+  most =
+      let more = c.loop-at-test.true in
+      let few = c.loop-at.invariant.few in
+      let size : c.members-size.result ≡ total (g.C.Stored.meta c.args.core.now) (named_out (g.C.Stored.meta c.args.core.now).out) c.args.kind = c.members-size.ensures ∙ ap (λ (z : Meta). total z (named_out z.out) c.args.kind) c.meta.ensures.value in
+      omega (arith, more, few, size);
 }

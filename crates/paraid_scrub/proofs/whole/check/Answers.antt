@@ -60,6 +60,7 @@ returns g c = record {
   moments_since = let l = looked g c in stands_held g.R.Rack.slot_count g.R.Rack.slot g.R.Rack.told c.args.core.now c.count_all.new.core l.leaves l.stands;
   since = (looked g c).stands;
   counts = counts_then g c;
+  most = c.in_ok-checked.ensures.most;
   zeros = λ h lo t tells stands some.
       let can : CanBeChecked g.R.Rack.slot_count g.R.Rack.slot c.args.core.now = record { ready = c.requires.ready; serves = c.requires.serves; draft = c.requires.no_draft; nothing = c.requires.nothing; fresh = c.requires.fresh } in
       let counted = counts_then g c t tells some (map_bits g.R.Rack.slot_count g.R.Rack.slot g.R.Rack.told c.args.core.now c.count_all.new.core h lo (now t) stands) in
@@ -94,6 +95,7 @@ returns-in_err-checked g c = record {
   stands = none_done _ c.from_residual.result _ c.from_residual.ensures.1;
   moments_since = c.in_err-checked.ensures.two.held;
   since = none_done _ c.from_residual.result _ c.from_residual.ensures.1;
+  most = none_done_if _ c.from_residual.result _ c.from_residual.ensures.1;
   counts = none_done_if _ c.from_residual.result _ c.from_residual.ensures.1;
   zeros = none_done_if _ c.from_residual.result _ c.from_residual.ensures.1;
   ended = none_done_if _ c.from_residual.result _ c.from_residual.ensures.1;

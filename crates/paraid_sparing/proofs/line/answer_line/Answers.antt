@@ -1,6 +1,7 @@
 use Rattle.std.proofs.Common.{◌∙◌, sym}
 use Rattle.paraid_serve.proofs.GrowsLemmas.{grows_then}
 use Rattle.paraid_sparing.specs.Sparing.{used}
+use Rattle.paraid_sparing.proofs.SparedCauseLemmas.{causes_alone, causes_spared}
 use Rattle.paraid_sparing.proofs.ServedLemmas.{served_alone, served_spared, told_alone, told_spared}
 use Rattle.paraid_sparing.proofs.line.answer_line.Goals as goal
 
@@ -28,3 +29,16 @@ returns-in-Some-clause-form g c = told_spared _ _ _ _ c.in-Some.disk _ _ _ (c.in
 
 pub returns-in-None-clause-form : goal.returns-in-None-clause-form
 returns-in-None-clause-form g c = told_alone _ _ _ _ _ _ c.answer_alone-in-None.ensures.kind c.clear.ensures.empty c.answer_alone-in-None.ensures.text c.answer_alone-in-None.ensures.left
+
+pub returns-in-Some-clause-causes : goal.returns-in-Some-clause-causes
+returns-in-Some-clause-causes g c wait k keeps =
+    let put = c.put_in.ensures in
+    let then = c.answer_alone.ensures in
+    causes_spared wait _ k _ _ _ _ _ _ _ (g.met.A.Serves.shows c.answer_alone.new.array).halt then.text then.kind _ c.in-Some.disk _ _ _ (g.met.A.Serves.shows c.args.array.now).halt keeps.left put.line
+    (sym (c.due.ensures.shown wait k c.args.pairs.now keeps) ∙ c.in-Some.is) put.kind put.cause then.cause (then.stock wait (used k) (put.keeps wait k keeps))
+
+pub returns-in-None-clause-causes : goal.returns-in-None-clause-causes
+returns-in-None-clause-causes g c wait k keeps =
+    let then = c.answer_alone-in-None.ensures in
+    causes_alone wait _ k _ _ _ _ _ _ _ (g.met.A.Serves.shows c.answer_alone-in-None.new.array).halt then.text then.kind _ (g.met.A.Serves.shows c.args.array.now).halt c.clear.ensures.empty
+    (sym (c.due.ensures.shown wait k c.args.pairs.now keeps) ∙ c.in-None.is) then.cause (then.stock wait k keeps)

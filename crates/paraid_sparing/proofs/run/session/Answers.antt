@@ -10,7 +10,7 @@ use Rattle.paraid_sparing.proofs.run.session.Goals as goal
 
 pub lines-init : goal.lines-init
 lines-init g c = record {
-  sofar = rw c.new-reader.ensures (sofar_start _ _ _ _ _ _ _ _ _ c.requires.fresh);
+  sofar = rw c.new-reader.ensures (sofar_start _ _ _ _ _ _ _ _ _ _ c.requires.fresh);
   told = grows_none _;
   slots = refl;
   setup = refl;
@@ -27,7 +27,7 @@ lines-preserved g c =
     let k = c.in-Ok.ensures in
     let h = rw c.in-Ok-Some.field-0-is at c.in-Ok-Some.ensures.heard in
     record {
-      sofar = sofar_more i.sofar h _ _ _ _ _ _ i.slots i.setup (told_then _ _ e.told) (λ q w j at keeps. e.serves q w j at keeps) e.form c.in-Ok-Some.ensures.goes_on _ (rw (c.as_slice.ensures.value, c.as_slice-in-lines.ensures.value) at k.grows);
+      sofar = sofar_more i.sofar h _ _ _ _ _ _ i.slots i.setup (told_then _ _ e.told) (λ q w j at keeps. e.serves q w j at keeps) e.form _ (λ w j keeps. e.causes w j keeps) c.in-Ok-Some.ensures.goes_on _ (rw (c.as_slice.ensures.value, c.as_slice-in-lines.ensures.value) at k.grows);
       told = grows_then _ _ _ i.told e.told;
       slots = e.slots ∙ i.slots;
       setup = e.setup ∙ i.setup;
@@ -74,7 +74,7 @@ returns-in_default g c = record {
       let e = c.answer_line.ensures in
       let p = c.in_default.ensures.part in
       let h = rw c.in-Ok-Some.field-0-is at c.in-Ok-Some.ensures.heard in
-      ends_at_sink i.sofar h _ _ _ _ _ _ i.slots i.setup (told_then _ _ e.told) (λ q w j at keeps. e.serves q w j at keeps) e.form _ p.0 (rw (c.as_slice.ensures.value, c.as_slice-in-lines.ensures.value) at p.1);
+      ends_at_sink i.sofar h _ _ _ _ _ _ i.slots i.setup (told_then _ _ e.told) (λ q w j at keeps. e.serves q w j at keeps) e.form _ (λ w j keeps. e.causes w j keeps) _ p.0 (rw (c.as_slice.ensures.value, c.as_slice-in-lines.ensures.value) at p.1);
   told = grows_then _ _ _ c.lines.invariant.told c.answer_line.ensures.told;
   slots = c.answer_line.ensures.slots ∙ c.lines.invariant.slots;
   setup = c.answer_line.ensures.setup ∙ c.lines.invariant.setup;
@@ -92,7 +92,7 @@ returns-in-Ok-finish g c = record {
   session =
       let i = c.lines.invariant in
       let f = c.in-Ok-finish.ensures in
-      ends_well i.sofar (rw c.in-Ok-None.field-0-is at c.in-Ok-None.ensures.heard) _ _ _ _ i.slots i.setup (told_then _ _ f.told) c.in-Ok-finish.writes f.turn;
+      ends_well i.sofar (rw c.in-Ok-None.field-0-is at c.in-Ok-None.ensures.heard) _ _ _ _ i.slots i.setup (told_then _ _ f.told) c.in-Ok-finish.writes _ f.cause f.turn;
   told = grows_then _ _ _ c.lines.invariant.told c.in-Ok-finish.ensures.told;
   slots = c.in-Ok-finish.ensures.slots ∙ c.lines.invariant.slots;
   setup = c.in-Ok-finish.ensures.setup ∙ c.lines.invariant.setup;
@@ -110,7 +110,7 @@ returns-in-Err g c = record {
   session =
       let i = c.lines.invariant in
       let f = c.in-Err.ensures in
-      ends_halted i.sofar (rw c.in-Ok-None.field-0-is at c.in-Ok-None.ensures.heard) _ _ _ _ i.slots i.setup (told_then _ _ f.told) c.in-Err.halt f.turn;
+      ends_halted i.sofar (rw c.in-Ok-None.field-0-is at c.in-Ok-None.ensures.heard) _ _ _ _ i.slots i.setup (told_then _ _ f.told) c.in-Err.halt _ f.cause f.turn;
   told = grows_then _ _ _ c.lines.invariant.told c.in-Err.ensures.told;
   slots = c.in-Err.ensures.slots ∙ c.lines.invariant.slots;
   setup = c.in-Err.ensures.setup ∙ c.lines.invariant.setup;

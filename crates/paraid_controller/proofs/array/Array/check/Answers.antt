@@ -26,8 +26,10 @@ returns-in-Some g c =
       halt = worn.halt;
       two = worn.two;
       later = worn.later;
+      cause = worn.cause;
       sound = tt;
       counts = tt;
+      most = tt;
       committed = tt;
     }
 
@@ -53,7 +55,9 @@ returns g c =
       halt = check_halt g.R.Rack.slot_count g.R.Rack.slot g.R.Rack.told a b a.core.meta.writes r it;
       two = it.two;
       later = it.later;
+      cause = it.cause;
       sound = c.check_there.ensures.sound;
       counts = c.check_there.ensures.counts;
+      most = c.check_there.ensures.most;
       committed = c.check_there.ensures.committed;
     }

@@ -63,6 +63,7 @@ returns-in-Ok g c = record {
   sound = λ some p at.
       at_point g.R.Rack.slot_count g.R.Rack.told c.args.self.now c.requires.going (c.in-Ok.checked.report ≡ no_faults) (λ h lo t tells stands. c.in-Ok.ensures.zeros h lo t tells stands some)
       (told_before (g.R.Rack.told c.args.self.now.core.store.rack) (g.R.Rack.told c.check.new.core.store.rack) _ c.check.ensures.calls some) p at;
+  most = c.in-Ok.ensures.most;
   counts = λ nothing t tells some bits.
       let it = c.in-Ok.ensures.counts t tells some bits in
       counts_by (core_view c.args.self.now.core (now t)) (g.R.Rack.slot (core_rack c.args.self.now.core)) (g.R.Rack.slot (core_rack c.check.new.core)) c.in-Ok.checked.report c.in-Ok.checked.whole it.0 it.1 it.2 (λ part. failed_one g.R.Rack.slot c.args.self.now.core c.check.new.core (c.in-Ok.ensures.ended part));
@@ -92,6 +93,7 @@ returns-in-Err g c = record {
   };
   sound = tt;
   counts = tt;
+  most = tt;
 }
 
 pub invariant_of-self-in-Err : goal.invariant_of-self-in-Err

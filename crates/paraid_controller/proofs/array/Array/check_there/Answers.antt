@@ -1,6 +1,7 @@
-use Rattle.std.proofs.Common.{◌≢◌, [], refl}
+use Rattle.std.proofs.Common.{◌≡◌, ◌≢◌, [], refl}
 use Rattle.std.proofs.lemmas.Bool.{false≢true}
 use Rattle.std.proofs.lemmas.Result.{IfOk-weaker}
+use Rattle.paraid_scrub.specs.Counts.{AreWithinMembers}
 use Rattle.paraid_scrub.specs.declared.kind.CheckReport.{CheckReport}
 use Rattle.paraid_controller.specs.Checked.{CountsCommitted, CountsDisks}
 use Rattle.paraid_controller.proofs.CheckLemmas.{unstaged}
@@ -17,6 +18,7 @@ returns-then-is_kept g c = record {
   answers = c.check_kept.ensures.answers;
   sound = c.check_kept.ensures.sound;
   counts = c.check_kept.ensures.counts;
+  most = IfOk-weaker c.check_kept.result _ _ (λ report within nothing. within) c.check_kept.ensures.most;
   committed =
       let old = c.args.self.now.core in
       unstaged {P = λ (report : CheckReport). old.batch ≢ [] → CountsCommitted g.R.Rack.slot g.R.Rack.told old c.check_kept.new.self.core report} c.check_kept.result
@@ -29,6 +31,9 @@ returns g c = record {
   sound = c.commit_and_check.ensures.sound;
   counts =
       unstaged {P = λ (report : CheckReport). CountsDisks g.R.Rack.slot g.R.Rack.told c.args.self.now.core c.commit_and_check.new.self.core report} c.commit_and_check.result
+      (λ report nothing. absurd (false≢true (c.if-is_kept.ensures.kept nothing)));
+  most =
+      unstaged {P = λ (report : CheckReport). c.args.self.now.core.batch ≡ [] → AreWithinMembers c.args.self.now.core.meta report} c.commit_and_check.result
       (λ report nothing. absurd (false≢true (c.if-is_kept.ensures.kept nothing)));
   committed = IfOk-weaker c.commit_and_check.result _ _ (λ report counts staged. counts) c.commit_and_check.ensures.counts;
 }

@@ -1,0 +1,49 @@
+-- Why `gen` tells what it tells, whatever the rack holds: each line is answered with its cause, and counted by its answer.
+use Rattle.std.specs.Prelude.{◌≡◌, ℕ, List, [], ◌∷◌, ◌++◌, None}
+use Rattle.paraid_base.specs.declared.event.Answer.{Answer}
+use Rattle.paraid_base.specs.declared.event.Answer.TheVariants.{Flushed, Halted}
+use Rattle.paraid_base.specs.declared.event.Event.{Event}
+use Rattle.paraid_base.specs.declared.event.Event.TheVariants.{Flush}
+use Rattle.paraid_base.specs.declared.fault.Halt.{Halt}
+use Rattle.paraid_machine.specs.Machine.{block_count}
+use Rattle.paraid_serve.specs.Causes.{HasCause, HaveCauses, Shown}
+use Rattle.paraid_serve.specs.Ending.{end_line, halt_line, status_of_halt}
+use Rattle.paraid_serve.specs.Form.{AreAnswersTo}
+use Rattle.paraid_serve.specs.Output.{first_line}
+use Rattle.paraid_program.specs.declared.tally.Tally.{Tally}
+use Rattle.paraid_program.specs.GenEvents.{generated_events, summary}
+use Rattle.paraid_program.specs.Tally.{empty_tally, tally_with_answer, tally_with_event}
+
+-- the count after these events and their answers, one for each
+abbrev pub tally_over : Tally → List Event → List Answer → Tally
+tally_over t [] answers = t
+tally_over t (event ∷ events) [] = t
+tally_over t (event ∷ events) (answer ∷ answers) = tally_over (tally_with_answer (tally_with_event t event) answer) events answers
+
+-- So many lines of the trace of a number were answered, each with its cause, and counted so.
+pub record CountsCauses (old : Shown) (number count : ℕ) (tally : Tally) (new : Shown) : Type 0 where
+  pub answers : List Answer
+  pub kinds : AreAnswersTo (generated_events number (block_count old.setup) count) answers
+  pub causes : HaveCauses old (generated_events number (block_count old.setup) count) answers new
+  pub counted : tally ≡ tally_over empty_tally (generated_events number (block_count old.setup) count) answers
+
+-- The lines before the last one: that of the mount, and the summary. While there is no halt the gear is that of the meta.
+pub record TellsGenerated (old : Shown) (number count : ℕ) (text : List ℕ) (new : Shown) : Type 0 where
+  pub tally : Tally
+  pub counts : CountsCauses old number count tally new
+  pub gear : ℕ
+  pub in_gear : new.halt ≡ None → gear ≡ new.meta.gear
+  pub is : text ≡ first_line old ++ summary count tally gear new.energy
+
+-- The whole text of `gen` by its status, with the cause of the flush at the end.
+pub data GenCaused (old new : Shown) (number count : ℕ) : ℕ → List ℕ → Type 0 where
+  done : (writes : ℕ) (text : List ℕ) (mid : Shown) → TellsGenerated old number count text mid → HasCause mid Flush (Flushed writes) new → GenCaused old new number count 0 (text ++ end_line writes)
+  halted : (halt : Halt) (text : List ℕ) (mid : Shown) → TellsGenerated old number count text mid → HasCause mid Flush (Halted halt) new → GenCaused old new number count (status_of_halt halt) (text ++ halt_line halt)
+
+-- What was written, with its causes: the whole text of the status; or at 4 a first part of such a text, or of the lines before the
+-- flush, or of the first line, and then no event was made.
+pub data HasGenCauses (old new : Shown) (number count status : ℕ) (text : List ℕ) : Type 0 where
+  whole : GenCaused old new number count status text → HasGenCauses old new number count status text
+  last_line : status ≡ 4 → (code : ℕ) (full rest : List ℕ) → GenCaused old new number count code full → full ≡ text ++ rest → HasGenCauses old new number count status text
+  before_flush : status ≡ 4 → (full rest : List ℕ) → TellsGenerated old number count full new → full ≡ text ++ rest → HasGenCauses old new number count status text
+  at_first_line : status ≡ 4 → new ≡ old → (rest : List ℕ) → first_line old ≡ text ++ rest → HasGenCauses old new number count status text
