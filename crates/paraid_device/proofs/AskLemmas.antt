@@ -11,7 +11,9 @@ use Rattle.paraid_session.specs.Faults.{HaveNotFallen}
 use Rattle.paraid_session.specs.Turn.{GoesOn, Point, halt_told}
 use Rattle.paraid_serve.specs.declared.serves.Serves.{Ghosts}
 use Rattle.paraid_serve.specs.Calls.{Grows}
+use Rattle.paraid_serve.specs.Causes.{HasCause}
 use Rattle.paraid_serve.specs.Lost.{HaltsByTwoLost}
+use Rattle.paraid_serve.proofs.FormLemmas.{again_cause}
 use Rattle.paraid_serve.proofs.GrowsLemmas.{grows_none}
 use Rattle.paraid_serve.proofs.HaltLemmas.{served_more}
 use Rattle.paraid_serve.proofs.StretchLemmas.{again_turn}
@@ -22,27 +24,29 @@ no_halt_yet o p none some = absurd (false≢true (subst IsSome none some))
 
 module _ {A : Type 0} (g : Ghosts A) where
   -- one that has halted gives its halt, with no call
-  pub asks_halted : (a : A) (event : Event) (halt : Halt) → event ≢ Bad → g.halted a ≡ Some halt → ((p : Point) → g.stands a p → p.halt ≡ g.halted a) → AsksArray g a a event (Halted halt)
-  asks_halted a event halt apart is agrees = record {
+  pub asks_halted : (a : A) (event : Event) (halt : Halt) → event ≢ Bad → g.halted a ≡ Some halt → ((p : Point) → g.stands a p → p.halt ≡ g.halted a) → (g.shown a).halt ≡ g.halted a → AsksArray g a a event (Halted halt)
+  asks_halted a event halt apart is agrees shows = record {
     turn = λ p at. again_turn (g.slots a) (g.setup a) (g.told a) p (g.stands a) event halt apart (agrees p at ∙ is) at;
     grows = grows_none (g.told a);
     same_slots = refl;
     same_setup = refl;
     halt = is;
     again = λ some. refl;
+    cause = again_cause (g.shown a) event halt apart (shows ∙ is);
     since = λ start s. s;
   }
 
   -- one that serves answers
   pub asks_served : (a b : A) (event : Event) (answer : Answer) → g.halted a ≡ None → ((p : Point) → g.stands a p → Ran (g.told a) (g.told b) (GoesOn (g.slots a) (g.setup a) p event answer (g.stands b)))
       → Grows (g.told a) (g.told b) → g.slots b ≡ g.slots a → g.setup b ≡ g.setup a → g.halted b ≡ halt_told answer
-      → HaltsByTwoLost (g.down a) event (g.slot a) (g.slot b) (g.halted b) → HaveNotFallen (g.slot a) (g.slot b) → AsksArray g a b event answer
-  asks_served a b event answer going turn grows slots setup halt two later = record {
+      → HaltsByTwoLost (g.down a) event (g.slot a) (g.slot b) (g.halted b) → HaveNotFallen (g.slot a) (g.slot b) → HasCause (g.shown a) event answer (g.shown b) → AsksArray g a b event answer
+  asks_served a b event answer going turn grows slots setup halt two later cause = record {
     turn = turn;
     grows = grows;
     same_slots = slots;
     same_setup = setup;
     halt = halt;
     again = no_halt_yet (g.halted a) (g.halted b) going;
+    cause = cause;
     since = λ start s. served_more start (g.slot a) (g.slot b) (g.halted a) (g.halted b) (g.down a) event two later s;
   }

@@ -1,5 +1,5 @@
 -- What a device kept, one event after the other.
-use Rattle.std.proofs.Common.{◌≡◌, ℕ, List, [], ◌∷◌, ◌++◌, IsSome, refl, ap, ◌∙◌, subst}
+use Rattle.std.proofs.Common.{◌≡◌, ℕ, List, [], ◌∷◌, ◌++◌, refl, ap, ◌∙◌, subst}
 use Rattle.paraid_base.specs.declared.event.Answer.{Answer}
 use Rattle.paraid_base.specs.declared.event.Event.{Event}
 use Rattle.paraid_base.specs.BlockAnswers.{Answers}
@@ -8,24 +8,30 @@ use Rattle.paraid_rack.specs.Told.{Ran}
 use Rattle.paraid_record.specs.declared.meta.Setup.{Setup}
 use Rattle.paraid_session.specs.Turn.{GoesOn, Point}
 use Rattle.paraid_serve.specs.declared.serves.Serves.{Ghosts}
+use Rattle.paraid_serve.specs.Causes.{HasCause, Shown}
 use Rattle.paraid_serve.specs.Stretch.{Turn, turn_with}
 use Rattle.paraid_serve.proofs.GrowsLemmas.{grows_then, told_then}
 use Rattle.paraid_serve.proofs.StretchLemmas.{stretch_more}
 use Rattle.paraid_device.specs.Asking.{AsksArray}
-use Rattle.paraid_device.specs.Devices.{HasAnswered, answers_in}
+use Rattle.paraid_device.specs.Devices.{HasAnswered, HaveAnswerCauses, answers_in}
 
 answers_in-push : (ts : List Turn) (e : Event) (a : Answer) (cs : List Call) → answers_in (ts ++ turn_with e a cs ∷ []) ≡ answers_in ts ++ (e, a) ∷ []
 answers_in-push [] e a cs = refl
 answers_in-push (t ∷ ts) e a cs = ap (λ (l : Answers). (t.event, t.answer) ∷ l) (answers_in-push ts e a cs)
 
+causes_then : (old mid new : Shown) (events : Answers) (event : Event) (answer : Answer) → HaveAnswerCauses old events mid → HasCause mid event answer new → HaveAnswerCauses old (events ++ (event, answer) ∷ []) new
+causes_then old mid new [] event answer all is = (new, subst (λ (x : Shown). HasCause x event answer new) all is, refl)
+causes_then old mid new (e ∷ events) event answer all is = (all.0, all.1, causes_then all.0 mid new events event answer all.2 is)
+
 module _ {A : Type 0} (g : Ghosts A) where
-  -- One event more was answered. What is said of the answer need be the answer only where the record is told.
+  -- one event more was answered, as it is said
   pub answered_more : (first old new : A) (events : Answers) (event : Event) (answer said : Answer) → HasAnswered g first old events → AsksArray g old new event answer
-      → (IsSome (g.told new) → (p : Point) → g.stands old p → answer ≡ said) → HasAnswered g first new (events ++ (event, said) ∷ [])
+      → answer ≡ said → HasAnswered g first new (events ++ (event, said) ∷ [])
   answered_more first old new events event answer said before asks same = record {
     same_slots = asks.same_slots ∙ before.same_slots;
     same_setup = asks.same_setup ∙ before.same_setup;
     grows = grows_then (g.told first) (g.told old) (g.told new) before.grows asks.grows;
+    causes = causes_then (g.shown first) (g.shown old) (g.shown new) events event said before.causes (subst (λ (x : Answer). HasCause (g.shown old) event x (g.shown new)) same asks.cause);
     since = λ start s. asks.since start (before.since start s);
     leads = λ is p at.
         let a = before.leads (told_then (g.told old) (g.told new) asks.grows is) p at in
@@ -38,7 +44,7 @@ module _ {A : Type 0} (g : Ghosts A) where
           asked = a.asked ++ event ∷ [];
           all = more.all;
           answered = ap answers_in more.turns ∙ answers_in-push a.all.turns event answer more.calls ∙ ap (λ (l : Answers). l ++ (event, answer) ∷ []) a.answered
-              ∙ ap (λ (x : Answer). events ++ (event, x) ∷ []) (same is a.all.end a.stands);
+              ∙ ap (λ (x : Answer). events ++ (event, x) ∷ []) same;
           stands = more.stands;
         };
   }

@@ -1,3 +1,4 @@
 pub mod AskLemmas
 pub mod KeptLemmas
 pub mod TurnLemmas
+pub mod ReasonLemmas

@@ -68,13 +68,13 @@ below_test a b l = grind (arith, nat_tests)
 past_test : (a b : ℕ) → b ≤ a → nat_lt a b ≡ false
 past_test a b l = grind (arith, nat_tests)
 
-one_there : (count b : ℕ) → b < count → first_missing count (b ∷ []) ≡ None
+pub one_there : (count b : ℕ) → b < count → first_missing count (b ∷ []) ≡ None
 one_there count b l = rw (below_test b count l) refl
 
-one_past : (count b : ℕ) → count ≤ b → first_missing count (b ∷ []) ≡ Some b
+pub one_past : (count b : ℕ) → count ≤ b → first_missing count (b ∷ []) ≡ Some b
 one_past count b l = rw (past_test b count l) refl
 
-all_there : (count : ℕ) (entry : Entry) → All (λ (pair : ℕ × Block). pair.0 < count) entry → first_missing count (blocks_named entry) ≡ None
+pub all_there : (count : ℕ) (entry : Entry) → All (λ (pair : ℕ × Block). pair.0 < count) entry → first_missing count (blocks_named entry) ≡ None
 all_there count [] is = refl
 all_there count (pair ∷ entry) is =
     rw (below_test pair.0 count (All-head (λ (x : ℕ × Block). x.0 < count) pair entry is)) (all_there count entry (All-tail (λ (x : ℕ × Block). x.0 < count) pair entry is))
@@ -84,7 +84,7 @@ past_in count block bytes rest [] below past = rw (past_test block count past) r
 past_in count block bytes rest (pair ∷ before) below past =
     rw (below_test pair.0 count (All-head (λ (x : ℕ × Block). x.0 < count) pair before below)) (past_in count block bytes rest before (All-tail (λ (x : ℕ × Block). x.0 < count) pair before below) past)
 
-some_past : (count : ℕ) (entry : Entry) (block : ℕ) → IsFirstMissing count entry block → first_missing count (blocks_named entry) ≡ Some block
+pub some_past : (count : ℕ) (entry : Entry) (block : ℕ) → IsFirstMissing count entry block → first_missing count (blocks_named entry) ≡ Some block
 some_past count entry block is = subst (λ (e : Entry). first_missing count (blocks_named e) ≡ Some block) (sym is.is) (past_in count block is.bytes is.rest is.before is.below is.missing)
 
 module _ (setup : Setup) (h : History) (used : ℕ) (s : PowerState) (loss : Option ℕ) where

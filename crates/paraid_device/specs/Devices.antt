@@ -10,6 +10,7 @@ use Rattle.paraid_record.specs.declared.meta.Setup.{Setup}
 use Rattle.paraid_session.specs.Turn.{Point}
 use Rattle.paraid_serve.specs.declared.serves.Serves.{Ghosts}
 use Rattle.paraid_serve.specs.Calls.{Grows}
+use Rattle.paraid_serve.specs.Causes.{HasCause, Shown}
 use Rattle.paraid_serve.specs.Lost.{HasServedSince}
 use Rattle.paraid_serve.specs.Stretch.{Stretch, Turn}
 use Rattle.paraid_device.specs.declared.device.Device.{Device}
@@ -41,7 +42,12 @@ pub record AnswersFrom (slots : ℕ) (setup : Setup) (start now : Option Trail) 
   pub answered : answers_in all.turns ≡ events
   pub stands : stood all.end
 
--- Since the array was as the first is, it answered these events: over the same slots and with the
+-- Each of these events is answered so with a cause, one after the other.
+abbrev pub HaveAnswerCauses : Shown → Answers → Shown → Type 0
+HaveAnswerCauses old [] new = new ≡ old
+HaveAnswerCauses old (e ∷ events) new = (mid : Shown) × HasCause old e.0 e.1 mid × HaveAnswerCauses mid events new
+
+-- Since the array was as the first is, it answered these events, each with its cause: over the same slots and with the
 -- same setup; what is told is longer by its calls; a halt that names two disks has come of the
 -- failure of the second one since; and where its record is told, from each point at which it stood
 -- then a session led to a point at which it stands now.
@@ -49,6 +55,7 @@ pub record HasAnswered {A : Type 0} (g : Ghosts A) (first now : A) (events : Ans
   pub same_slots : g.slots now ≡ g.slots first
   pub same_setup : g.setup now ≡ g.setup first
   pub grows : Grows (g.told first) (g.told now)
+  pub causes : HaveAnswerCauses (g.shown first) events (g.shown now)
   pub since : (start : ℕ → Slot) → HasServedSince start (g.slot first) (g.halted first) → HasServedSince start (g.slot now) (g.halted now)
   pub leads : IsSome (g.told now) → (p : Point) → g.stands first p
       → AnswersFrom (g.slots first) (g.setup first) (g.told first) (g.told now) p events (g.stands now)

@@ -33,6 +33,7 @@ use Rattle.paraid_nbd.specs.Taking.{Takes, Lacks}
 use Rattle.paraid_nbd.proofs.TakingLemmas.{Takes-none, Takes-then, IsCut-sooner}
 use Rattle.paraid_nbd.proofs.OptionLemmas.{Takes-last}
 use Rattle.paraid_nbd.proofs.DeviceLemmas.{first_reads}
+use Rattle.paraid_nbd.proofs.ErrorLemmas.{replies_more, replies_none}
 
 both_false : (a b c : Bool) → (if a then (if b || c then Invalid else Done) else Invalid) ≡ Done → (b ≡ false) × (c ≡ false)
 both_false true true c e = absurd (cc)
@@ -215,6 +216,7 @@ serves_none size stands halted kept tells was left at written = record {
   each = tt;
   takes = Takes-none left at;
   does = λ first t s events is k. record { out = []; new = []; t = s; steps = None_yet; now = is; kept_is = subst (kept first was) (sym (append-nil events)) k; grows = GrowsByBytes-none written };
+  replies = λ first events k. replies_none kept was size written first events k;
 }
 
 pub serves_more : {D : Type 0} (size : ℕ) (stands : D → History → Type 0) (halted : D → Option Halt) (kept : D → D → Answers → Type 0) (tells : D → Bool)
@@ -222,7 +224,7 @@ pub serves_more : {D : Type 0} (size : ℕ) (stands : D → History → Type 0) 
     → ServesAll size stands halted kept tells was mid before left old at written said ps → (v : Serves size stands halted kept tells mid now left after at new said now_written)
     → (IsTrue (tells now) → IsTrue (tells mid))
     → ServesAll size stands halted kept tells was now before after old new written now_written (ps ++ v.parts ∷ [])
-serves_more size stands halted kept tells {was} {mid} {now} {before} {left} {after} {old} {at} {new} ps a v told = record {
+serves_more size stands halted kept tells {was} {mid} {now} {before} {left} {after} {old} {at} {new} {written} {said} {now_written} ps a v told = record {
   each = each_request ps v.parts a.each v.is;
   takes = subst (λ (x : List ℕ). Takes before after old new x) (flat_map_more request_bytes [] ps v.parts) (Takes-then a.takes v.takes);
   does = λ first t s events is k.
@@ -237,6 +239,7 @@ serves_more size stands halted kept tells {was} {mid} {now} {before} {left} {aft
         kept_is = subst (kept first now) (append_assoc events x.new y.new) y.kept_is;
         grows = GrowsByBytes-then _ _ _ _ _ x.grows y.grows;
       };
+  replies = λ first events k. replies_more kept mid now size written said now_written first events ps v.parts (a.replies first events k) (v.replies first);
 }
 
 -- what is neither a read nor a write nor a flush is not done

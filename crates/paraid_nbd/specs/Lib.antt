@@ -6,3 +6,4 @@ pub mod Export
 pub mod Handshake
 pub mod Service
 pub mod Performing
+pub mod Errors

@@ -9,6 +9,7 @@ use Rattle.paraid_nbd.specs.declared.ending.NbdEnd.{NbdEnd}
 use Rattle.paraid_nbd.specs.declared.ending.NbdEnd.TheVariants.{Done, Protocol, Sink, NoMemory}
 use Rattle.paraid_nbd.specs.declared.request.Command.TheVariants.{Disconnect}
 use Rattle.paraid_nbd.specs.declared.request.Request.{Request}
+use Rattle.paraid_nbd.specs.Errors.{RepliesAll, RepliesOne, RepliesUnsent}
 use Rattle.paraid_nbd.specs.Export.{IsDeviceState, ForEachState, RequestStep, RequestSteps}
 use Rattle.paraid_nbd.specs.Handshake.{IsUnsent, BeginsTransmission, EndsEarly}
 use Rattle.paraid_nbd.specs.Numbers.{number}
@@ -74,6 +75,7 @@ module _ {D : Type 0} (size : ℕ) (stands : D → History → Type 0) (halted :
     pub is : IsRequest parts
     pub takes : Takes before after old new (request_bytes parts)
     pub does : (first : D) → ForEachState (stands was) (halted was) (kept first was) (tells now) (λ s events. DoesRequest size (stands now) (halted now) (kept first now) written now_written s events parts)
+    pub replies : (first : D) (events : Answers) → kept first was events → RepliesOne size (kept first now) written now_written events parts
 
   -- The service ends at a request.
   pub data EndsRequest (was now : D) (before after : Option (List ℕ)) (old new : ℕ) (written now_written : Option (List ℕ)) (faults now_faults sink_faults sink_now : ℕ) (end : NbdEnd) : Type 0 where
@@ -81,6 +83,7 @@ module _ {D : Type 0} (size : ℕ) (stands : D → History → Type 0) (halted :
         → EndsRequest was now before after old new written now_written faults now_faults sink_faults sink_now end
     UnsentAnswer : (p : RequestParts) → IsRequest p → Takes before after old new (request_bytes p) → end ≡ Sink → HasRisen sink_faults sink_now
         → ((first : D) → ForEachState (stands was) (halted was) (kept first was) (tells now) (λ s events. DoesUnsent size (stands now) (halted now) (kept first now) written now_written s events p sink_faults sink_now end))
+        → ((first : D) (events : Answers) → kept first was events → RepliesUnsent size (kept first now) written now_written events p sink_faults sink_now end)
         → EndsRequest was now before after old new written now_written faults now_faults sink_faults sink_now end
 
   -- These requests were taken, done and answered.
@@ -88,6 +91,7 @@ module _ {D : Type 0} (size : ℕ) (stands : D → History → Type 0) (halted :
     pub each : AllByRecursion IsRequest requests
     pub takes : Takes before after old new (flat_map request_bytes requests)
     pub does : (first : D) → ForEachState (stands was) (halted was) (kept first was) (tells now) (λ s events. DoesRequests size (stands now) (halted now) (kept first now) written now_written s events requests)
+    pub replies : (first : D) (events : Answers) → kept first was events → RepliesAll size (kept first now) written now_written events requests
 
   -- The requests up to the end.
   pub record Transmits (was now : D) (before after : Option (List ℕ)) (old new : ℕ) (written now_written : Option (List ℕ)) (faults now_faults sink_faults sink_now : ℕ) (end : NbdEnd) : Type 0 where

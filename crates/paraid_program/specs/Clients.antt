@@ -6,19 +6,38 @@ use Rattle.paraid_rack.specs.Trail.{Trail}
 use Rattle.paraid_recover.specs.declared.fault.MountFault.{MountFault}
 use Rattle.paraid_serve.specs.Calls.{IsNotDouble}
 use Rattle.paraid_record.specs.declared.meta.Setup.{Setup}
+use Rattle.paraid_serve.specs.Causes.{Shown}
 use Rattle.paraid_machine.specs.Machine.{block_count}
 use Rattle.paraid_nbd.specs.declared.ending.NbdEnd.{NbdEnd}
+use Rattle.paraid_service.specs.ClientCauses.{ClientCauses, Exchange}
 use Rattle.paraid_service.specs.Clients.{ClientHeadline, LosesTwo, TakesClient}
 use Rattle.paraid_service.specs.Ends.{broken_status}
 use Rattle.paraid_program.specs.Complete.{HeldHistory, Hinders}
-use Rattle.paraid_program.specs.Ends.{BeginsAt, HandsBack, ServedArray}
+use Rattle.paraid_program.specs.Ends.{BeginsAt, HandsBack, ServedArray, shown_served}
 use Rattle.paraid_program.specs.MountFaults.{mount_fault_status}
 use Rattle.paraid_program.specs.Showing.{IsServedBy}
 
--- A client was served with a mounted array: its headline, and over every rack that at 0 at most one disk of the array is absent,
--- and that at 5 two different disks are down, of which the second has failed since before the mount.
+-- what went in and out while a client was served
+abbrev pub exchange : Option (List ℕ) → Option (List ℕ) → Option (List ℕ) → Option (List ℕ) → ℕ → ℕ → ℕ → ℕ → Exchange
+exchange before after written now_written faults now_faults sink_faults sink_now = record {
+  before = before;
+  after = after;
+  written = written;
+  now_written = now_written;
+  faults = faults;
+  now_faults = now_faults;
+  sink_faults = sink_faults;
+  sink_now = sink_now;
+}
+
+-- A client was served with a mounted array: its headline; over every rack what it was answered and why, by what was seen of the array
+-- from its mount to the end, when its slots were those that are handed back; that at 0 at most one disk of the array is absent, and
+-- that at 5 two different disks are down, of which the second has failed since before the mount.
 pub record ServesNbd (slots : ℕ) (old new : ℕ → Slot) (after : Option Trail) (left_before left : Option (List ℕ)) (faults_before faults : ℕ) (written_before written : Option (List ℕ)) (counted count : ℕ) (status : ℕ) (array : ServedArray) (began : ℕ) (middle : Option Trail) : Type 0 where
   pub headline : ClientHeadline slots array.meta.setup began middle after left_before left written_before written faults_before faults counted count status
+  pub seen : Shown
+  pub causes : ClientCauses (shown_served array) seen (exchange left_before left written_before written faults_before faults counted count) status
+  pub last : seen.slot ≡ new
   pub present : status ≡ 0 → IsNotDouble array.meta.setup new
   pub two : status ≡ 5 → LosesTwo old new
 

@@ -76,7 +76,7 @@ cause_request (LastRequest rest takes last is) = cause_is Done (λ q. cc) (λ q.
 module _ {D : Type 0} (size : ℕ) (stands : D → History → Type 0) (halted : D → Option Halt) (kept : D → D → Answers → Type 0) (tells : D → Bool) {a b w x : Option (List ℕ)} {f z sf sz : ℕ} {end : NbdEnd} where
   cause_requests : {i k : ℕ} (d now : D) → EndsRequest size stands halted kept tells d now a b i k w x f z sf sz end → HasCause f z sf sz end
   cause_requests d now (UnreadRequest stops grows same) = cause_request stops
-  cause_requests d now (UnsentAnswer p is takes e cause does) = record { source = λ q. absurd (sink_not_source (sym e ∙ q)); sink = λ q. cause }
+  cause_requests d now (UnsentAnswer p is takes e cause does replies) = record { source = λ q. absurd (sink_not_source (sym e ∙ q)); sink = λ q. cause }
 
 module _ {D : Type 0} (size : ℕ) (stands : D → History → Type 0) (halted : D → Option Halt) (kept : D → D → Answers → Type 0) (tells : D → Bool) {a b w x : Option (List ℕ)} {f z sf sz : ℕ} {end : NbdEnd} where
   pub service_cause : (was now : D) → Service size stands halted kept tells was now a b w x f z sf sz end → HasCause f z sf sz end

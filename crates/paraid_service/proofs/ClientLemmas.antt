@@ -46,7 +46,7 @@ module _ {D : Type 0} (size : ℕ) (stands : D → History → Type 0) (halted :
 
   stopped_at : {a b w x : Option (List ℕ)} {i k f z sf sz : ℕ} {end : NbdEnd} (d now : D) → EndsRequest size stands halted kept tells d now a b i k w x f z sf sz end → StopsAtRequest a b i k f z sf sz end
   stopped_at d now (UnreadRequest stops grows same) = stopped stops
-  stopped_at d now (UnsentAnswer p is_request takes e cause does) = cut_short p is_request takes e cause
+  stopped_at d now (UnsentAnswer p is_request takes e cause does replies) = cut_short p is_request takes e cause
 
   -- what was taken, over every device
   pub client_taken : {a b w x : Option (List ℕ)} {f z sf sz : ℕ} {end : NbdEnd} (was now : D) → Service size stands halted kept tells was now a b w x f z sf sz end → TakesClient size a b w x f z sf sz end
@@ -86,7 +86,7 @@ module _ {D : Type 0} (size : ℕ) (stands : D → History → Type 0) (halted :
       state = subst (λ (d : D). IsDeviceState (stands d) (halted d) x.t) (sym same) x.now;
       kept_is = subst (λ (d : D). kept was d x.new) (sym same) x.kept_is;
     }
-    ended tr x (UnsentAnswer p is_request takes e cause does) =
+    ended tr x (UnsentAnswer p is_request takes e cause does replies) =
         let y = does was is x.t x.new x.now x.kept_is in
         record {
           events = x.new ++ y.new;

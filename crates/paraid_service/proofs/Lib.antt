@@ -11,3 +11,4 @@ pub mod ShelfLemmas
 pub mod RunLemmas
 pub mod TakeLemmas
 pub mod TextLemmas
+pub mod ReplyLemmas

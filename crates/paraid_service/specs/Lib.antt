@@ -1,5 +1,6 @@
 pub mod Ends
 pub mod Clients
+pub mod ClientCauses
 pub mod VolumeLines
 pub mod VolumeForms
 pub mod LineSteps

@@ -9,7 +9,7 @@ use Rattle.paraid_device.proofs.AskLemmas.{asks_halted, asks_served}
 use Rattle.paraid_device.proofs.ask.ask.Goals as goal
 
 pub returns-in-Some-clause-asks : goal.returns-in-Some-clause-asks
-returns-in-Some-clause-asks g c = asks_halted g.A.Serves c.args.array.now (event_with c.args.asked c.args.pairs.now) c.in-Some.halt c.requires.event (sym c.requires.halt ∙ c.in-Some.is) (g.met.A.Serves.agrees c.args.array.now)
+returns-in-Some-clause-asks g c = asks_halted g.A.Serves c.args.array.now (event_with c.args.asked c.args.pairs.now) c.in-Some.halt c.requires.event (sym c.requires.halt ∙ c.in-Some.is) (g.met.A.Serves.agrees c.args.array.now) (g.met.A.Serves.shows c.args.array.now).halt
 
 pub returns-in-Brief-Halted-clause-asks : goal.returns-in-Brief-Halted-clause-asks
 returns-in-Brief-Halted-clause-asks g c =
@@ -20,4 +20,4 @@ returns-in-Brief-Halted-clause-asks g c =
     let told : c.in-Brief-Halted.field-0 ≡ ToldHalted c.in-Brief-Halted.now = rw c.in-Brief-Halted.is at c.in-Brief-Halted.field-0-is in
     let is = ap (λ (x : Answered). answer_with x c.serve-answered.new.beside) c.in-Brief-Halted.is ∙ ap answer_of told in
     subst (λ (x : Answer). AsksArray g.A.Serves a b event x) is
-    (asks_served g.A.Serves a b event (answer_with c.serve-answered.result c.serve-answered.new.beside) (sym c.requires.halt ∙ c.in_default.is) e.turn e.told e.slots e.setup e.halt e.two e.later)
+    (asks_served g.A.Serves a b event (answer_with c.serve-answered.result c.serve-answered.new.beside) (sym c.requires.halt ∙ c.in_default.is) e.turn e.told e.slots e.setup e.halt e.two e.later e.cause)

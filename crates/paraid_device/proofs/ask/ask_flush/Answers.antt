@@ -8,14 +8,14 @@ apart : Flush ≢ Bad
 apart e = cc
 
 pub returns-in-Some-clause-asks : goal.returns-in-Some-clause-asks
-returns-in-Some-clause-asks g c = asks_halted g.A.Serves c.args.array.now Flush c.in-Some.halt apart (sym c.requires.halt ∙ c.in-Some.is) (g.met.A.Serves.agrees c.args.array.now)
+returns-in-Some-clause-asks g c = asks_halted g.A.Serves c.args.array.now Flush c.in-Some.halt apart (sym c.requires.halt ∙ c.in-Some.is) (g.met.A.Serves.agrees c.args.array.now) (g.met.A.Serves.shows c.args.array.now).halt
 
 pub returns-in-Ok-clause-asks : goal.returns-in-Ok-clause-asks
 returns-in-Ok-clause-asks g c =
     let e = c.in-Ok.ensures in
-    asks_served g.A.Serves c.args.array.now c.flush.new.self Flush (Flushed c.in-Ok.writes) (sym c.requires.halt ∙ c.in_default.is) e.turn e.told e.slots e.setup e.halt e.two e.later
+    asks_served g.A.Serves c.args.array.now c.flush.new.self Flush (Flushed c.in-Ok.writes) (sym c.requires.halt ∙ c.in_default.is) e.turn e.told e.slots e.setup e.halt e.two e.later e.cause
 
 pub returns-in-Err-clause-asks : goal.returns-in-Err-clause-asks
 returns-in-Err-clause-asks g c =
     let e = c.in-Err.ensures in
-    asks_served g.A.Serves c.args.array.now c.flush.new.self Flush (Halted c.in-Err.now) (sym c.requires.halt ∙ c.in_default.is) e.turn e.told e.slots e.setup e.halt e.two e.later
+    asks_served g.A.Serves c.args.array.now c.flush.new.self Flush (Halted c.in-Err.now) (sym c.requires.halt ∙ c.in_default.is) e.turn e.told e.slots e.setup e.halt e.two e.later e.cause

@@ -1,5 +1,6 @@
-use Rattle.std.proofs.Common.{rules}
+use Rattle.std.proofs.Common.{refl, rules}
 use Rattle.paraid_nbd.proofs.DeviceLemmas.{halted_call, keeps_call}
+use Rattle.paraid_nbd.proofs.ErrorLemmas.{halts_on_call, serves_on_call}
 use Rattle.paraid_nbd.proofs.export.read_block.Goals as goal
 
 pub returns-in-Err-Halt : goal.returns-in-Err-Halt
@@ -7,6 +8,8 @@ returns-in-Err-Halt g c = record {
   size = search rules;
   told = search rules;
   keeps = keeps_call _ _ _ _ c.read.ensures.events;
+  serves = tt;
+  halts = halts_on_call _ _ _ _ c.in-Err-Halt.halt (λ first events kept. rw c.in-Err-Halt.field-0-is at c.in-Err-Halt.ensures.events first events kept);
   read = search rules;
   stops = λ first tells s events is kept.
       let halts = rw c.in-Err-Halt.field-0-is at c.in-Err-Halt.ensures.halt in
@@ -16,3 +19,6 @@ returns-in-Err-Halt g c = record {
 
 pub returns-in-Ok-clause-keeps : goal.returns-in-Ok-clause-keeps
 returns-in-Ok-clause-keeps g c = keeps_call _ _ _ _ c.read.ensures.events
+
+pub returns-in-Ok-clause-serves : goal.returns-in-Ok-clause-serves
+returns-in-Ok-clause-serves g c = serves_on_call _ _ _ _ c.in-Ok.ensures.events refl

@@ -5,6 +5,7 @@ use Rattle.std.proofs.lemmas.List.{length-take-le, take_all}
 use Rattle.std.proofs.lemmas.Slice.{take-put_mid}
 use Rattle.paraid_nbd.specs.Export.{HasBytes}
 use Rattle.paraid_nbd.proofs.TakingLemmas.{length-put_mid}
+use Rattle.paraid_nbd.proofs.ErrorLemmas.{halts_on_then, serves_on_none, serves_on_then}
 use Rattle.paraid_nbd.proofs.DeviceLemmas.{bytes_none, bytes_more, halts_later, keeps_none, keeps_then}
 use Rattle.paraid_nbd.proofs.export.read_bytes.Goals as goal
 
@@ -14,6 +15,7 @@ loop-done-init g c = record {
   size = refl;
   told = λ t. t;
   keeps = keeps_none _ _;
+  serves = serves_on_none _ _;
   read = λ first tells s events is kept. bytes_none c.args.offset is kept;
 }
 
@@ -30,6 +32,8 @@ returns-in_err-read_block g c =
       size = c.in_err-read_block.ensures.size ∙ c.loop-done.invariant.size;
       told = λ t. c.loop-done.invariant.told (c.in_err-read_block.ensures.told t);
       keeps = keeps_then _ _ _ _ i.keeps e.keeps;
+      serves = rw (err_from_is_err_and c.from_residual.result c.from_residual.ensures.1).1 tt;
+      halts = on_err c.from_residual.result (halts_on_then _ _ _ _ i.serves e.halts);
       read = rw p.1 tt;
       stops = on_err c.from_residual.result (λ first tells s events is kept.
           let r = i.read first (e.told tells) s events is kept in
@@ -61,6 +65,7 @@ loop-done-preserved g c =
       size = e.size ∙ i.size;
       told = λ t. i.told (e.told t);
       keeps = keeps_then _ _ _ _ i.keeps e.keeps;
+      serves = serves_on_then _ _ _ _ i.serves e.serves;
       read = λ first tells s events is kept.
           let r = i.read first (e.told tells) s events is kept in
           rw all (bytes_more part.block part.start part.length c.read_block.new.into r (omega (arith, place.block, place.start, front)) inside (omega (arith, place.length, place.start, c.loop-done-test.true)) (e.read first tells s (events ++ r.new) r.now r.kept_is));
@@ -71,6 +76,8 @@ returns g c = record {
   size = c.loop-done.invariant.size;
   told = c.loop-done.invariant.told;
   keeps = c.loop-done.invariant.keeps;
+  serves = c.loop-done.invariant.serves;
+  halts = tt;
   read = λ first tells s events is kept.
       let b = g.B.Blocks in
       subst (λ (x : List ℕ). HasBytes (b.stands c.loop-done.blocks) (b.halted c.loop-done.blocks) (b.kept first c.loop-done.blocks) s events c.args.offset x)

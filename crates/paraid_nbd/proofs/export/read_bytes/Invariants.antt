@@ -1,4 +1,5 @@
 use Rattle.std.proofs.Common.{◌≡◌, ◌≤◌, ◌-◌, length, take, IsTrue}
+use Rattle.paraid_nbd.specs.Errors.{KeepsServed}
 use Rattle.paraid_nbd.specs.Export.{ForEachState, KeepsOn, HasBytes}
 use Rattle.paraid_nbd.proofs.export.read_bytes.Given as goal
 
@@ -10,6 +11,7 @@ invariant-loop-done g l =
       size : b.block_count l.blocks ≡ b.block_count l.initial.blocks;
       told : IsTrue (b.tells l.blocks) → IsTrue (b.tells l.initial.blocks);
       keeps : KeepsOn b.kept l.initial.blocks l.blocks;
+      serves : KeepsServed b.kept l.initial.blocks l.blocks;
       read : (first : _) → ForEachState (b.stands l.initial.blocks) (b.halted l.initial.blocks) (b.kept first l.initial.blocks) (b.tells l.blocks)
           (λ s events. HasBytes (b.stands l.blocks) (b.halted l.blocks) (b.kept first l.blocks) s events l.offset (take l.done l.into));
     }

@@ -3,6 +3,7 @@ use Rattle.std.proofs.lemmas.Bool.{cases_lt}
 use Rattle.std.proofs.lemmas.List.{take_all}
 use Rattle.std.proofs.lemmas.Result.{err_from_is_err_and}
 use Rattle.paraid_nbd.specs.Export.{HasWritten}
+use Rattle.paraid_nbd.proofs.ErrorLemmas.{halts_on_then, serves_on_none, serves_on_then}
 use Rattle.paraid_nbd.proofs.DeviceLemmas.{keeps_none, keeps_then}
 use Rattle.paraid_nbd.proofs.WriteLemmas.{written_none, written_more, stops_after}
 use Rattle.paraid_nbd.proofs.export.write_bytes.Goals as goal
@@ -14,6 +15,7 @@ loop-done-init g c = record {
   size = refl;
   told = λ t. t;
   keeps = keeps_none _ _;
+  serves = serves_on_none _ _;
   written = λ first tells s events is kept. written_none s c.args.offset is kept;
 }
 
@@ -29,6 +31,8 @@ returns-in_err-write_part g c =
       size = c.in_err-write_part.ensures.size ∙ c.loop-done.invariant.size;
       told = λ t. c.loop-done.invariant.told (c.in_err-write_part.ensures.told t);
       keeps = keeps_then _ _ _ _ i.keeps e.keeps;
+      serves = rw (err_from_is_err_and c.from_residual.result c.from_residual.ensures.1).1 tt;
+      halts = on_err c.from_residual.result (halts_on_then _ _ _ _ i.serves e.halts);
       written = rw (err_from_is_err_and c.from_residual.result c.from_residual.ensures.1).1 tt;
       stops = on_err c.from_residual.result (λ first tells s events is kept.
           let r = i.written first (e.told tells) s events is kept in
@@ -62,6 +66,7 @@ loop-done-preserved g c =
       size = e.size ∙ i.size;
       told = λ t. i.told (e.told t);
       keeps = keeps_then _ _ _ _ i.keeps e.keeps;
+      serves = serves_on_then _ _ _ _ i.serves e.serves;
       written = λ first tells s events is kept.
           let r = i.written first (e.told tells) s events is kept in
           written_more done c.args.from.now part.block part.start part.length _ r (omega (arith, place.block, place.start)) (omega (arith, place.start, place.length)) (omega (arith, place.length, place.start, c.loop-done-test.true)) within
@@ -73,6 +78,8 @@ returns g c = record {
   size = c.loop-done.invariant.size;
   told = c.loop-done.invariant.told;
   keeps = c.loop-done.invariant.keeps;
+  serves = c.loop-done.invariant.serves;
+  halts = tt;
   written = λ first tells s events is kept.
       let b = g.B.Blocks in
       subst (λ (x : List ℕ). HasWritten (b.stands c.loop-done.blocks) (b.halted c.loop-done.blocks) (b.kept first c.loop-done.blocks) s events c.args.offset x)

@@ -1,6 +1,7 @@
 use Rattle.std.proofs.lemmas.Result.{err_from_is_err_and, on_ok_weaker, on_err_weaker}
 use Rattle.std.proofs.Common.{ℕ, ◌+◌, ◌<◌, ◌≤◌, ◌++◌, ◌∙◌, subst, sym, rules}
 use Rattle.paraid_nbd.proofs.DeviceLemmas.{halts_later, keeps_then}
+use Rattle.paraid_nbd.proofs.ErrorLemmas.{halts_on_then, serves_on_then}
 use Rattle.paraid_nbd.proofs.WriteLemmas.{part_written}
 use Rattle.paraid_nbd.proofs.export.write_part.Goals as goal
 
@@ -9,6 +10,8 @@ returns g c = record {
   size = c.write_block.ensures.size ∙ c.read_rest.ensures.size;
   told = λ tells. c.read_rest.ensures.told (c.write_block.ensures.told tells);
   keeps = keeps_then _ _ _ _ c.read_rest.ensures.keeps c.write_block.ensures.keeps;
+  serves = on_ok_weaker c.write_block.result (λ f. serves_on_then _ _ _ _ c.in_ok-read_rest.ensures.serves f) c.write_block.ensures.serves;
+  halts = on_err_weaker c.write_block.result (λ f. halts_on_then _ _ _ _ c.in_ok-read_rest.ensures.serves f) c.write_block.ensures.halts;
   written = on_ok_weaker c.write_block.result (λ f first tells s events is kept.
       let r = c.in_ok-read_rest.ensures.read first (c.write_block.ensures.told tells) s events is kept in
       part_written c.args.part.start c.args.bytes.now c.replaced-new.result r c.requires.length c.requires.within c.replaced-new.ensures.inside c.replaced-new.ensures.outside (f first tells s (events ++ r.new) r.now r.kept_is)) c.write_block.ensures.written;
@@ -31,6 +34,12 @@ returns-in_err-read_rest g c = record {
   size = c.read_rest.ensures.size;
   told = c.read_rest.ensures.told;
   keeps = c.read_rest.ensures.keeps;
+  serves =
+      let p = err_from_is_err_and c.from_residual.result c.from_residual.ensures.1 in
+      rw p.1 tt;
+  halts =
+      let p = err_from_is_err_and c.from_residual.result c.from_residual.ensures.1 in
+      rw p.1 c.in_err-read_rest.ensures.halts;
   written =
       let p = err_from_is_err_and c.from_residual.result c.from_residual.ensures.1 in
       rw p.1 tt;

@@ -1,5 +1,6 @@
 use Rattle.std.proofs.Common.{◌≡◌, ◌∙◌, ℕ, List, Option, refl, subst, sym}
 use Rattle.paraid_nbd.proofs.DeviceLemmas.{keeps_none}
+use Rattle.paraid_nbd.proofs.ErrorLemmas.{comes_at, comes_by_itself}
 use Rattle.paraid_nbd.proofs.ServiceLemmas.{refused_performs, not_done}
 use Rattle.paraid_base.specs.BlockAnswers.{Answers}
 use Rattle.paraid_base.specs.History.{History}
@@ -30,6 +31,8 @@ pub returns-in_default : goal.returns-in_default
 returns-in_default g c = record {
   performs = λ first tells s events is kept.
       refused_performs c.args.size s c.args.request.now c.args.content.now c.args.content.now c.args.outcome c.requires.outcome c.in_default.not-Done is kept;
+  comes = comes_by_itself _ _ c.args.size c.args.request.now c.args.outcome c.requires.outcome c.in_default.not-Done;
+  many = λ read done. absurd (c.in_default.not-Done done);
   size = refl;
   told = λ t. t;
   keeps = keeps_none _ _;
@@ -39,6 +42,8 @@ pub returns-in-Disconnect : goal.returns-in-Disconnect
 returns-in-Disconnect g c = record {
   performs = λ first tells s events is kept.
       absurd (not_done c.args.size c.args.request.now c.in-Disconnect.is c.requires.stays (sym c.requires.outcome ∙ c.in-Done.is));
+  comes = absurd (not_done c.args.size c.args.request.now c.in-Disconnect.is c.requires.stays (sym c.requires.outcome ∙ c.in-Done.is));
+  many = λ read done. absurd (not_done c.args.size c.args.request.now c.in-Disconnect.is c.requires.stays (sym c.requires.outcome ∙ c.in-Done.is));
   size = refl;
   told = λ t. t;
   keeps = keeps_none _ _;
@@ -55,6 +60,8 @@ perform_read-requires g c = record {
 pub returns-in-Read : goal.returns-in-Read
 returns-in-Read g c = record {
   performs = λ first tells s events is kept. at_size c.requires.size (c.perform_read.ensures.performs first tells s events is kept);
+  comes = comes_at _ _ _ _ _ _ _ c.requires.size c.perform_read.ensures.comes;
+  many = λ read done. c.perform_read.auto.content ∙ c.requires.room ∙ part_read _ _ c.args.request.now.length c.in-Read.is c.in-Done.is;
   size = c.perform_read.ensures.size;
   told = c.perform_read.ensures.told;
   keeps = c.perform_read.ensures.keeps;
@@ -71,6 +78,8 @@ perform_write-requires g c = record {
 pub returns-in-Write : goal.returns-in-Write
 returns-in-Write g c = record {
   performs = λ first tells s events is kept. at_size c.requires.size (c.perform_write.ensures.performs first tells s events is kept);
+  comes = comes_at _ _ _ _ _ _ _ c.requires.size c.perform_write.ensures.comes;
+  many = λ read done. absurd (let z : Read ≡ Write = sym read ∙ c.in-Write.is in cc);
   size = c.perform_write.ensures.size;
   told = c.perform_write.ensures.told;
   keeps = c.perform_write.ensures.keeps;
@@ -87,6 +96,8 @@ perform_flush-requires g c = record {
 pub returns-in-Flush : goal.returns-in-Flush
 returns-in-Flush g c = record {
   performs = λ first tells s events is kept. at_size c.requires.size (c.perform_flush.ensures.performs first tells s events is kept);
+  comes = comes_at _ _ _ _ _ _ _ c.requires.size c.perform_flush.ensures.comes;
+  many = λ read done. absurd (let z : Read ≡ Flush = sym read ∙ c.in-Flush.is in cc);
   size = c.perform_flush.ensures.size;
   told = c.perform_flush.ensures.told;
   keeps = c.perform_flush.ensures.keeps;

@@ -9,6 +9,7 @@ use Rattle.paraid_nbd.specs.Export.{RequestStep}
 use Rattle.paraid_nbd.specs.Performing.{said_with}
 use Rattle.paraid_nbd.specs.Service.EndsRequest.{UnreadRequest, UnsentAnswer}
 use Rattle.paraid_nbd.proofs.OptionLemmas.{Takes-last}
+use Rattle.paraid_nbd.proofs.ErrorLemmas.{reply_over}
 use Rattle.paraid_nbd.proofs.ServiceLemmas.{content_stops, request_taken}
 use Rattle.paraid_nbd.proofs.serve.serve_request.Goals as goal
 
@@ -58,6 +59,9 @@ returns g c =
               kept_is = x.kept_is;
               grows = f;
             };
+        replies = λ first events kept.
+            let x = reply_over _ _ _ c.args.size c.in_ok-request.request h.head c.perform-outcome.result c.perform-outcome.new.content h.is c.perform-outcome.ensures.comes c.perform-outcome.ensures.many first events kept in
+            record { out = said_with c.in_ok-request.request c.perform-outcome.result c.perform-outcome.new.content; new = x.0; reply = x.1; kept_is = x.2; grows = f };
       }) c.reply.ensures.sends;
       ends = MatchResult-weaker c.reply.result c.reply.ensures.unsent (λ x e. tt) (λ e f. UnsentAnswer (record { magic = h.magic; head = h.head; content = t.content }) (request_taken t.content h t.whole) (Takes-last h.magic h.head t.content h.takes t.takes) f.is f.cause
           (λ first tells s events is kept.
@@ -70,7 +74,10 @@ returns g c =
             now = x.now;
             kept_is = x.kept_is;
             unsent = f;
-          }));
+          })
+          (λ first events kept.
+          let x = reply_over _ _ _ c.args.size c.in_ok-request.request h.head c.perform-outcome.result c.perform-outcome.new.content h.is c.perform-outcome.ensures.comes c.perform-outcome.ensures.many first events kept in
+          record { out = said_with c.in_ok-request.request c.perform-outcome.result c.perform-outcome.new.content; new = x.0; reply = x.1; kept_is = x.2; unsent = f }));
       size = c.perform-outcome.ensures.size;
       told = c.perform-outcome.ensures.told;
       keeps = c.perform-outcome.ensures.keeps;

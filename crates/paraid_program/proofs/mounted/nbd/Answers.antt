@@ -1,4 +1,4 @@
-use Rattle.std.proofs.Common.{◌∙◌}
+use Rattle.std.proofs.Common.{◌∙◌, sym}
 use Rattle.paraid_base.proofs.ToldLemmas.{Gives-none, GrowsByBytes-none}
 use Rattle.paraid_program.specs.Clients.ServesNbdOrNot.{mounted, refused}
 use Rattle.paraid_program.proofs.EndLemmas.{began_at_end, begins_at_end, end_moment}
@@ -17,6 +17,7 @@ returns-in-Ok-clause-nbd g c =
     let began = end_moment before in
     mounted (g.O.Outside.served array) began (g.A.Serves.told array) e.served (begins_at_end before (g.A.Serves.told array) _ _ e.grows c.unmount.ensures.told done.told)
     (nbd_over _ _ (g.A.Serves.setup array) _ (g.R.Rack.slot c.args.rack) (g.A.Serves.slot array) _ _ began _ _ _ _ _ _ _ _ _ _ _ _ e.slots e.setup c.unmount.ensures.told c.unmount.ensures.slot e.later done.present done.two
+    (g.A.Serves.shown array) (g.A.Serves.shown c.serve_client-status.result.array) e.shown ((g.met.A.Serves.shows c.serve_client-status.result.array).slot ∙ sym c.unmount.ensures.slot) done.causes
     (done.headline began (e.mounted began (began_at_end before))))
 
 pub returns-in-Ok-clause-slots : goal.returns-in-Ok-clause-slots

@@ -1,4 +1,4 @@
-use Rattle.std.proofs.Common.{ℕ, ◌∙◌, ◌<◌, ap, refl, sym, subst}
+use Rattle.std.proofs.Common.{ℕ, ◌∙◌, ◌<◌, refl, sym, subst}
 use Rattle.std.specs.Prelude.{All}
 use Rattle.paraid_base.specs.declared.block.Block.{Block}
 use Rattle.paraid_base.specs.declared.event.Answer.TheVariants.{Halted, NoBlock, Wrote}
@@ -8,7 +8,8 @@ use Rattle.paraid_base.specs.Pairs.{pairs_of}
 use Rattle.paraid_serve.proofs.GrowsLemmas.{told_then}
 use Rattle.paraid_device.specs.Devices.{array_of}
 use Rattle.paraid_device.proofs.KeptLemmas.{answered_more}
-use Rattle.paraid_device.proofs.TurnLemmas.{missing_history, write_answer, write_missing, written_history}
+use Rattle.paraid_device.proofs.ReasonLemmas.{no_write_by_cause, write_by_cause}
+use Rattle.paraid_device.proofs.TurnLemmas.{missing_history, written_history}
 use Rattle.paraid_device.proofs.device.DeviceBlocks.write_many.Goals as goal
 
 pub returns-in-Err-clause-told : goal.returns-in-Err-clause-told
@@ -16,7 +17,7 @@ returns-in-Err-clause-told g c = told_then _ _ c.in-Err.ensures.asks.grows
 
 pub returns-in-Err-clause-events : goal.returns-in-Err-clause-events
 returns-in-Err-clause-events g c = λ first events before.
-    answered_more g.A.Serves (array_of first) (array_of c.args.self.now) c.ask.new.array events (Write c.args.pairs.now) (Halted c.in-Err.halt) (Halted c.in-Err.halt) before c.in-Err.ensures.asks (λ is p at. refl)
+    answered_more g.A.Serves (array_of first) (array_of c.args.self.now) c.ask.new.array events (Write c.args.pairs.now) (Halted c.in-Err.halt) (Halted c.in-Err.halt) before c.in-Err.ensures.asks refl
 
 pub returns-in-Some-clause-told : goal.returns-in-Some-clause-told
 returns-in-Some-clause-told g c = told_then _ _ c.in-Ok.ensures.asks.grows
@@ -32,7 +33,7 @@ returns-in-Some-clause-events g c = λ first events before.
     let b = c.ask.new.array in
     let past = subst (λ (n : ℕ). IsFirstMissing n (pairs_of c.args.pairs.now) c.in-Some.block) c.blocks-2.ensures.value c.in-Some.ensures.some in
     answered_more g.A.Serves (array_of first) a b events (Write c.args.pairs.now) _ (NoBlock c.in-Some.block) before c.in-Ok.ensures.asks
-    (λ is p at. write_missing g.A.Serves a b c.args.pairs.now c.in-Some.block _ p c.in-Ok.ensures.asks c.in-Ok.ensures.going past is at)
+    (no_write_by_cause _ _ (g.A.Serves.setup a) (g.met.A.Serves.shows a).setup c.args.pairs.now c.in-Some.block _ c.in-Ok.ensures.asks.cause (sym c.in-Ok.ensures.asks.halt ∙ c.in-Ok.ensures.going) past)
 
 pub returns-in-None-clause-told : goal.returns-in-None-clause-told
 returns-in-None-clause-told g c = told_then _ _ c.in-Ok.ensures.asks.grows
@@ -48,6 +49,4 @@ returns-in-None-clause-events g c = λ first events before.
     let b = c.ask.new.array in
     let there = subst (λ (n : ℕ). All (λ (pair : ℕ × Block). pair.0 < n) (pairs_of c.args.pairs.now)) c.blocks-2.ensures.value c.in-None.ensures.none in
     answered_more g.A.Serves (array_of first) a b events (Write c.args.pairs.now) _ (Wrote c.number_in.result) before c.in-Ok.ensures.asks
-    (λ is p at.
-    let e = write_answer g.A.Serves a b c.args.pairs.now _ p c.in-Ok.ensures.asks c.in-Ok.ensures.going there is at in
-    e ∙ ap (λ (n : ℕ). Wrote n) (sym (c.number_in.ensures c.ask.new.beside _ e)))
+    (write_by_cause _ _ (g.A.Serves.setup a) (g.met.A.Serves.shows a).setup c.args.pairs.now _ c.number_in.result c.in-Ok.ensures.asks.cause (sym c.in-Ok.ensures.asks.halt ∙ c.in-Ok.ensures.going) there (c.number_in.ensures c.ask.new.beside))
