@@ -2,7 +2,7 @@
 _paraid() {
     local word=${COMP_WORDS[COMP_CWORD]} before=${COMP_WORDS[COMP_CWORD - 1]} options='' at
     if [ "$COMP_CWORD" -eq 1 ]; then
-        options='format run status check gen nbd plan'
+        options='format run status check gen nbd vol plan'
     else
         case ${COMP_WORDS[1]} in
         format) options=' --force ' ;;

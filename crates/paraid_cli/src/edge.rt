@@ -91,7 +91,7 @@ pub(crate) fn tell_words<H: Host>(rt: &H, words: &Vec<String>) -> u8 {
 fn reads_input(command: &Command) -> bool {
     match command {
         Command::Format { .. } | Command::Run | Command::Spare { .. } => true,
-        Command::Nbd | Command::Plan { .. } => true,
+        Command::Nbd | Command::Vol | Command::Plan { .. } => true,
         Command::Status | Command::Check | Command::Gen { .. } => false,
     }
 }

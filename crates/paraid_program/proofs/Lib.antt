@@ -18,3 +18,4 @@ pub mod NbdLemmas
 pub mod NbdComesLemmas
 pub mod PlanLemmas
 pub mod SpareLemmas
+pub mod VolumeLemmas

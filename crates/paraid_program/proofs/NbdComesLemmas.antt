@@ -62,7 +62,7 @@ alone : (t : Turn) (ts : List Turn) (e : Event × Answer) → (t.event, t.answer
 alone t [] e is = record { before = []; last = t; split = refl; is = ap (λ (x : Event × Answer). x.1) (first_is _ _ _ _ is) }
 alone t (u ∷ ts) e is = absurd (let z = rest_is _ _ _ _ is in cc)
 
-ends_turns : (ts : List Turn) (es : Answers) (e : Event × Answer) → answers_in ts ≡ es ++ e ∷ [] → EndsTurns ts e.1
+pub ends_turns : (ts : List Turn) (es : Answers) (e : Event × Answer) → answers_in ts ≡ es ++ e ∷ [] → EndsTurns ts e.1
 ends_turns [] es e is = absurd (no_pairs es e is)
 ends_turns (t ∷ ts) [] e is = alone t ts e is
 ends_turns (t ∷ ts) (x ∷ es) e is =

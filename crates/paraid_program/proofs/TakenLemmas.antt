@@ -25,7 +25,7 @@ refused_so : (fault : MountFault) (status n m : ℕ) → (status ≡ 4) ⊎ ((n 
 refused_so fault status n m (inl four) zero = omega (arith, four, zero)
 refused_so fault status n m (inr all) zero = not_done fault status all.1 zero
 
-refused_not : (fault : MountFault) (before after : Option (List ℕ)) (line : List ℕ) (status : ℕ) → EndsWithLine before after line (mount_fault_status fault) status → status ≡ 0 → ⊥
+pub refused_not : (fault : MountFault) (before after : Option (List ℕ)) (line : List ℕ) (status : ℕ) → EndsWithLine before after line (mount_fault_status fault) status → status ≡ 0 → ⊥
 refused_not fault before after line status end zero = refused_so fault status end.count (length line) end.whole zero
 
 -- a run with spares that ends well has taken all of the source

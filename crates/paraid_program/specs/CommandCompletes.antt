@@ -18,7 +18,7 @@ use Rattle.paraid_program.specs.Clients.{HindersNbd, IsNbdWhole}
 use Rattle.paraid_program.specs.Complete.{Completes, HeldHistory, Hinders, HindersRun, IsCheckWhole, IsGenWhole, IsRunWhole, IsStatusWhole, TellsLast}
 use Rattle.paraid_program.specs.PlanComes.{HindersPlan, IsPlanUnmade, IsPlanWhole}
 use Rattle.paraid_program.specs.declared.command.Command.{Command}
-use Rattle.paraid_program.specs.declared.command.Command.TheVariants.{Format, Run, Spare, Status, Check, Gen, Nbd, Plan}
+use Rattle.paraid_program.specs.declared.command.Command.TheVariants.{Format, Run, Spare, Status, Check, Gen, Nbd, Vol, Plan}
 
 -- The array that the source describes was made, and its line was told.
 pub record IsFormatWhole (force : Bool) (slots : ℕ) (old new : ℕ → Slot) (before after : Option Trail) (left_before left written_before written : Option (List ℕ)) : Type 0 where
@@ -69,6 +69,9 @@ CompletesCommand slots old new before after left_before left faults_before fault
 CompletesCommand slots old new before after left_before left faults_before faults counted count written_before written status Nbd =
     (h : HeldHistory slots before after) → Completes (IsNbdWhole left_before left faults_before faults written_before written counted count) (HasOnlyRead before after)
     (HindersNbd h old new left_before left faults_before faults written_before written counted count status) status
+CompletesCommand slots old new before after left_before left faults_before faults counted count written_before written status Vol =
+    (h : HeldHistory slots before after) → Completes (IsRunWhole left written_before written) (HasOnlyRead before after)
+    (HindersRun h old new faults_before faults counted count left_before left written_before written status) status
 CompletesCommand slots old new before after left_before left faults_before faults counted count written_before written status (Plan ups) =
     (h : HeldHistory slots before after) → Completes (IsPlanWhole left written_before written) (IsPlanUnmade slots old new before after)
     (HindersPlan h old new faults_before faults counted count left_before left written_before written status) status

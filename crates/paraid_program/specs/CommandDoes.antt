@@ -7,9 +7,10 @@ use Rattle.paraid_program.specs.Showing.{Shows}
 use Rattle.paraid_program.specs.Clients.{IsStatusOfNbd, ServesNbdOrNot}
 use Rattle.paraid_program.specs.Planning.{IsPlanStatus, PlanOutcome}
 use Rattle.paraid_program.specs.Spares.{ServesSpares}
+use Rattle.paraid_program.specs.Volumes.{ServesVolumes}
 use Rattle.paraid_program.specs.Ends.{ChecksArray, IsStatusOfCheck, IsStatusOfGen, IsStatusOfRun, IsUnheard, MountsAndThen, ServesGenerated, ServesLines}
 use Rattle.paraid_program.specs.declared.command.Command.{Command}
-use Rattle.paraid_program.specs.declared.command.Command.TheVariants.{Format, Run, Spare, Status, Check, Gen, Nbd, Plan}
+use Rattle.paraid_program.specs.declared.command.Command.TheVariants.{Format, Run, Spare, Status, Check, Gen, Nbd, Vol, Plan}
 
 -- What the program does on a command: by the number of slots, the slots before and after it, the records
 -- of the rack, what is left of the source, its faults, those of the sink, what was written, and the status.
@@ -28,6 +29,8 @@ DoesCommand slots old new before after left_before left faults_before faults cou
     MountsAndThen slots old new before after written_before written status (Unit {0}) (ServesGenerated slots old new after written_before written number lines status) × IsStatusOfGen status
 DoesCommand slots old new before after left_before left faults_before faults counted count written_before written status Nbd =
     ServesNbdOrNot slots old new before after left_before left faults_before faults written_before written counted count status × IsStatusOfNbd status
+DoesCommand slots old new before after left_before left faults_before faults counted count written_before written status Vol =
+    MountsAndThen slots old new before after written_before written status (IsUnheard left_before left faults_before faults) (ServesVolumes slots old new after left_before left written_before written status) × IsStatusOfRun status
 DoesCommand slots old new before after left_before left faults_before faults counted count written_before written status (Plan ups) =
     PlanOutcome slots old new before after left_before left faults_before faults written_before written ups status × IsPlanStatus status
 
@@ -40,6 +43,7 @@ TakesSource Status = ⊥
 TakesSource Check = ⊥
 TakesSource (Gen number lines) = ⊥
 TakesSource Nbd = ⊥
+TakesSource Vol = Unit {0}
 TakesSource (Plan ups) = Unit {0}
 
 -- a command that reads the source
@@ -51,4 +55,5 @@ ReadsSource Status = ⊥
 ReadsSource Check = ⊥
 ReadsSource (Gen number lines) = ⊥
 ReadsSource Nbd = Unit {0}
+ReadsSource Vol = Unit {0}
 ReadsSource (Plan ups) = Unit {0}

@@ -4,7 +4,7 @@ use Rattle.std.specs.List.{position}
 use Rattle.std.specs.Str.{bytes_eq}
 use Rattle.paraid_trace.specs.LineEvents.{number_of}
 use Rattle.paraid_program.specs.declared.command.Command.{Command}
-use Rattle.paraid_program.specs.declared.command.Command.TheVariants.{Format, Run, Spare, Status, Check, Gen, Nbd, Plan}
+use Rattle.paraid_program.specs.declared.command.Command.TheVariants.{Format, Run, Spare, Status, Check, Gen, Nbd, Vol, Plan}
 use Rattle.paraid_program.specs.declared.command.Choice.{Choice}
 use Rattle.paraid_program.specs.declared.command.Choice.TheVariants.{Number, Lines, Ups, Spares, Wait}
 
@@ -133,6 +133,7 @@ one_word a =
     else if bytes_eq a (codes "status") then Some Status
     else if bytes_eq a (codes "check") then Some Check
     else if bytes_eq a (codes "nbd") then Some Nbd
+    else if bytes_eq a (codes "vol") then Some Vol
     else None
 
 -- the commands of two words

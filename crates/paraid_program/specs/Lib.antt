@@ -18,6 +18,7 @@ pub mod Ends
 pub mod Complete
 pub mod Planning
 pub mod Spares
+pub mod Volumes
 pub mod PlanComes
 pub mod CommandDoes
 pub mod CommandCompletes

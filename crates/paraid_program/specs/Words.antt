@@ -1,7 +1,7 @@
 -- The words that the program takes.
 use Rattle.std.specs.Prelude.{◌≡◌, ℕ, ◌^◌, ◌<◌, ◌≤◌, ◌⊎◌, true, false, List, [], ◌∷◌, ◌++◌, codes, decimal}
 use Rattle.paraid_program.specs.declared.command.Command.{Command}
-use Rattle.paraid_program.specs.declared.command.Command.TheVariants.{Format, Run, Spare, Status, Check, Gen, Nbd, Plan}
+use Rattle.paraid_program.specs.declared.command.Command.TheVariants.{Format, Run, Spare, Status, Check, Gen, Nbd, Vol, Plan}
 
 -- an option with its value, in decimal digits: two words, or one joined by `=`
 abbrev pub IsNumberOption : List ℕ → ℕ → List (List ℕ) → Type 0
@@ -45,8 +45,9 @@ AskFor Status words = words ≡ codes "status" ∷ []
 AskFor Check words = words ≡ codes "check" ∷ []
 AskFor (Gen number lines) words = IsGen number lines words
 AskFor Nbd words = words ≡ codes "nbd" ∷ []
+AskFor Vol words = words ≡ codes "vol" ∷ []
 AskFor (Plan ups) words = IsPlan ups words
 
 -- the line that says which words there are
 abbrev pub usage_line : List ℕ
-usage_line = codes "usage: paraid format [--force] | run | status | check | gen --number N --lines L | nbd | run --spares N [--wait W] | plan --ups U\n"
+usage_line = codes "usage: paraid format [--force] | run | status | check | gen --number N --lines L | nbd | run --spares N [--wait W] | vol | plan --ups U\n"

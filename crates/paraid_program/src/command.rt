@@ -15,6 +15,8 @@ pub enum Command {
     Gen { number: u32, lines: u32 },
     /// Serves one client of the network block service.
     Nbd,
+    /// Answers lines about named volumes.
+    Vol,
     /// Plans the gears of a demand, with at most so many steps up.
     Plan { ups: u16 },
 }

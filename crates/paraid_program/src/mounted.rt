@@ -1,4 +1,4 @@
-//! The commands that mount an array and answer with it: `run`, `gen` and `check`.
+//! The commands that mount an array and answer with it.
 ghost use Rattle.std.specs.Prelude.{◌≡◌, ◌≤◌, ℕ};
 ghost use Rattle.paraid_base.specs.Told.{HasRisen};
 ghost use Rattle.paraid_recover.specs.HeldMoments.{Extends};
@@ -8,6 +8,7 @@ ghost use Rattle.paraid_session.specs.Mount.{IsMountedFromEach};
 ghost use Rattle.paraid_program.specs.CheckCauses.{HasCheckCauses};
 ghost use Rattle.paraid_program.specs.Clients.{IsStatusOfNbd, ServesNbdOrNot};
 ghost use Rattle.paraid_program.specs.Spares.{ServesSpares};
+ghost use Rattle.paraid_program.specs.Volumes.{ServesVolumes};
 ghost use Rattle.paraid_program.specs.Ends.{ChecksArray, CountsArray, IsCheckedStatus, IsStatusOfCheck, IsStatusOfGen, IsStatusOfRun, IsUnheard, MountsAndThen, ServesGenerated, ServesLines, TellsCounts};
 
 use crate::fault::{mount_fault_status, tell_refusal};
@@ -20,7 +21,7 @@ use paraid_recover::MountRefused;
 use paraid_serve::Serves;
 use paraid_serve::ending::{halt_status, last};
 use paraid_serve::top::serve_mounted;
-use paraid_service::{Served, serve_client};
+use paraid_service::{Served, serve_client, serve_volumes};
 use paraid_sparing::serve_mounted as serve_spared;
 use paraid_trace::{Brief, Text, reply};
 use std::alloc::Global;
@@ -219,6 +220,39 @@ pub fn nbd<S: Source, K: Sink, R: Rack, A: Serves, O: Outside<R, A>>(
         }
         Err(MountRefused { fault, rack }) => Ended {
             status: mount_fault_status(fault),
+            rack,
+        },
+    }
+}
+
+/// Mounts and answers each line about volumes.
+pub fn answer_volumes<S: Source, K: Sink, R: Rack, A: Serves, O: Outside<R, A>>(
+    outside: &O,
+    source: &mut S,
+    sink: &mut K,
+    rack: R,
+) -> Ended<R>
+    ensures run { MountsAndThen (R.slot_count rack) (R.slot rack) (R.slot result.rack) (R.told rack)
+        (R.told result.rack) (K.written sink.old) (K.written sink.new) result.status
+        (IsUnheard (S.left source.old) (S.left source.new) (S.faults source.old) (S.faults source.new))
+        (ServesVolumes (R.slot_count rack) (R.slot rack) (R.slot result.rack) (R.told result.rack)
+        (S.left source.old) (S.left source.new) (K.written sink.old) (K.written sink.new)
+        result.status) }
+    ensures slots { R.slot_count result.rack ≡ R.slot_count rack }
+    ensures status { IsStatusOfRun result.status }
+    ensures source { result.status ≡ 3 → HasRisen (S.faults source.old) (S.faults source.new) }
+    ensures sink { result.status ≡ 4 → HasRisen (K.faults sink.old) (K.faults sink.new) }
+{
+    match outside.mount(rack) {
+        Ok(array) => {
+            let Served { status, array } = serve_volumes(source, sink, array);
+            Ended {
+                status,
+                rack: outside.unmount(array),
+            }
+        }
+        Err(MountRefused { fault, rack }) => Ended {
+            status: tell_refusal(sink, fault),
             rack,
         },
     }

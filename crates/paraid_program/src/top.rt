@@ -5,6 +5,7 @@ ghost use Rattle.paraid_program.specs.Clients.{IsStatusOfNbd, ServesNbdOrNot};
 ghost use Rattle.paraid_program.specs.Outcome.{Formats, IsFormatStatus};
 ghost use Rattle.paraid_program.specs.Ends.{ChecksArray, IsStatusOfCheck, IsStatusOfGen, IsStatusOfRun, IsUnheard, MountsAndThen, ServesGenerated, ServesLines};
 ghost use Rattle.paraid_program.specs.Spares.{ServesSpares};
+ghost use Rattle.paraid_program.specs.Volumes.{ServesVolumes};
 ghost use Rattle.paraid_program.specs.Words.{AskFor, usage_line};
 ghost use Rattle.paraid_program.specs.CommandCompletes.{CompletesCommand};
 ghost use Rattle.paraid_program.specs.CommandDoes.{DoesCommand, ReadsSource, TakesSource};
@@ -150,14 +151,38 @@ fn nbd<S: Source, K: Sink, R: Rack>(
     mounted::nbd::<S, K, R, Array<R>, Arrays>(alloc, &arrays, source, sink, rack)
 }
 
+// Mounts one, and answers each line about volumes.
+fn vol<S: Source, K: Sink, R: Rack>(
+    alloc: Global,
+    source: &mut S,
+    sink: &mut K,
+    rack: R,
+) -> Ended<R>
+    ensures run { MountsAndThen (R.slot_count rack) (R.slot rack) (R.slot result.rack) (R.told rack)
+        (R.told result.rack) (K.written sink.old) (K.written sink.new) result.status
+        (IsUnheard (S.left source.old) (S.left source.new) (S.faults source.old) (S.faults source.new))
+        (ServesVolumes (R.slot_count rack) (R.slot rack) (R.slot result.rack) (R.told result.rack)
+        (S.left source.old) (S.left source.new) (K.written sink.old) (K.written sink.new)
+        result.status) }
+    ensures slots { R.slot_count result.rack ≡ R.slot_count rack }
+    ensures status { IsStatusOfRun result.status }
+    ensures end { result.status ≡ 0 → AtEnd (S.left source.new) }
+    ensures source { result.status ≡ 3 → HasRisen (S.faults source.old) (S.faults source.new) }
+    ensures sink { result.status ≡ 4 → HasRisen (K.faults sink.old) (K.faults sink.new) }
+{
+    let arrays = Arrays::new(alloc);
+    mounted::answer_volumes::<S, K, R, Array<R>, Arrays>(&arrays, source, sink, rack)
+}
+
 /// The program: it takes the words of the command line, and does what they ask for.
 ///
 /// `format` and `format --force` read a configuration from the source and make an array of the
 /// disks of the rack. The others mount it: `status` tells its state, `run` answers each line of the
 /// source, also with spares put in, `gen` answers generated lines, `check` counts what is false on the
-/// disks, `nbd` serves one client of the network block service, and `plan` reads a demand and tells the
-/// schedule of gears that costs least for it. Memory is taken before a mount has ended, in a format,
-/// for a client and for a plan. On all other words it tells which there are, and does nothing else.
+/// disks, `nbd` serves one client of the network block service, `vol` answers lines about named
+/// volumes, and `plan` reads a demand and tells the schedule of gears that costs least for it. Memory
+/// is taken before a mount has ended, in a format, for a client and for a plan. On all other words it
+/// tells which there are, and does nothing else.
 ///
 /// The statuses are 0, all was done; 2, the words ask for nothing; 3, the source has failed; 4, the
 /// sink has failed; 5, two disks are lost, and both are named; 6, the disks are no array, for the
@@ -219,11 +244,12 @@ pub fn paraid<S: Source, K: Sink, R: Rack>(
         Some(Command::Check) => check(alloc, sink, rack),
         Some(Command::Gen { number, lines }) => generate(alloc, sink, rack, number, lines),
         Some(Command::Nbd) => nbd(alloc, source, sink, rack),
+        Some(Command::Vol) => vol(alloc, source, sink, rack),
         Some(Command::Plan { ups }) => show_plan(alloc, source, sink, rack, ups),
         None => Ended {
             status: last(
                 sink,
-                b"usage: paraid format [--force] | run | status | check | gen --number N --lines L | nbd | run --spares N [--wait W] | plan --ups U\n",
+                b"usage: paraid format [--force] | run | status | check | gen --number N --lines L | nbd | run --spares N [--wait W] | vol | plan --ups U\n",
                 status::WORDS,
             ),
             rack,

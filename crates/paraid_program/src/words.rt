@@ -168,6 +168,8 @@ fn one_word(a: &[u8]) -> Option<Command>
         Some(Command::Check)
     } else if a == b"nbd".as_slice() {
         Some(Command::Nbd)
+    } else if a == b"vol".as_slice() {
+        Some(Command::Vol)
     } else {
         None
     }

@@ -45,6 +45,7 @@ pub fn serve_volumes<S: Source, K: Sink, A: Serves>(
         → VolumesHeadline (A.slots array) (A.setup array) began (A.told array) (A.told result.array)
         (S.left source.old) (S.left source.new) (K.written sink.old) (K.written sink.new) result.status }
     ensures told { Grows (A.told array) (A.told result.array) }
+    ensures slots { A.slots result.array ≡ A.slots array }
     ensures status { IsServedStatus result.status }
     ensures present { result.status ≡ 0 → IsNotDouble (A.setup array) (A.slot result.array) }
     ensures two { result.status ≡ 5 → NamesTwoLost (A.slot array) (A.slot result.array)

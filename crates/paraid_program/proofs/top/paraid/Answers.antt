@@ -1,17 +1,18 @@
 use Rattle.std.proofs.Common.{◌≡◌, ap, ◌∙◌, Some}
-use Rattle.paraid_program.specs.declared.command.Command.TheVariants.{Format, Run, Spare, Status, Check, Gen, Nbd, Plan}
+use Rattle.paraid_program.specs.declared.command.Command.TheVariants.{Format, Run, Spare, Status, Check, Gen, Nbd, Vol, Plan}
 use Rattle.paraid_program.proofs.CompleteLemmas.{check_comes, gen_comes, run_comes, status_comes}
 use Rattle.paraid_program.proofs.FormatLemmas.{format_comes}
 use Rattle.paraid_program.proofs.PlanLemmas.{plan_comes}
 use Rattle.paraid_program.proofs.SpareLemmas.{spared_comes}
 use Rattle.paraid_program.proofs.NbdComesLemmas.{nbd_comes}
+use Rattle.paraid_program.proofs.VolumeLemmas.{volumes_come}
 use Rattle.paraid_program.proofs.TakenLemmas.{check_not_read, not_read}
 use Rattle.paraid_program.proofs.AskedLemmas.{asks, does_it, nothing_asked}
 use Rattle.paraid_program.specs.CommandDoes.{ReadsSource, TakesSource}
 use Rattle.paraid_program.specs.declared.command.Command.{Command}
 use Rattle.paraid_program.proofs.top.paraid.Given.{Over}
 use Rattle.paraid_program.proofs.top.paraid.Goals as goal
-use Rattle.paraid_program.proofs.top.paraid.Goals.{In-Some-Check, In-Some-Format, In-Some-Gen, In-Some-Nbd, In-Some-Plan, In-Some-Run, In-Some-Spare, In-Some-Status}
+use Rattle.paraid_program.proofs.top.paraid.Goals.{In-Some-Check, In-Some-Format, In-Some-Gen, In-Some-Nbd, In-Some-Plan, In-Some-Run, In-Some-Spare, In-Some-Status, In-Some-Vol}
 
 format_is : (g : Over) (c : In-Some-Format g) → c.read_words.result ≡ Some (Format c.in-Some-Format.force)
 format_is g c = c.in-Some-Format.is ∙ ap Some c.in-Some-Format.field-0-is
@@ -185,3 +186,22 @@ returns-in-Some-Spare-clause-untouched g c none = absurd (none (Spare c.in-Some-
 pub returns-in-Some-Spare-clause-complete : goal.returns-in-Some-Spare-clause-complete
 returns-in-Some-Spare-clause-complete g c = does_it _ _ c.read_words.ensures.exact _ (Spare c.in-Some-Spare.stock c.in-Some-Spare.wait) (spare_is g (goal.at.returns-in-Some-Spare-clause-complete g c).In-Some-Spare)
     (λ h. spared_comes h _ _ _ _ _ _ _ c.run_with_spares.ensures.sink _ _ _ _ c.run_with_spares.ensures.source c.in-Some-Spare.stock c.in-Some-Spare.wait c.run_with_spares.ensures.run)
+
+vol_is : (g : Over) (c : In-Some-Vol g) → c.read_words.result ≡ Some Vol
+vol_is g c = c.in-Some-Vol.is ∙ ap Some c.in-Some-Vol.field-0-is
+
+pub returns-in-Some-Vol-clause-does : goal.returns-in-Some-Vol-clause-does
+returns-in-Some-Vol-clause-does g c = does_it _ _ c.read_words.ensures.exact _ Vol (vol_is g (goal.at.returns-in-Some-Vol-clause-does g c).In-Some-Vol) (c.vol.ensures.run, c.vol.ensures.status)
+
+pub returns-in-Some-Vol-clause-complete : goal.returns-in-Some-Vol-clause-complete
+returns-in-Some-Vol-clause-complete g c = does_it _ _ c.read_words.ensures.exact _ Vol (vol_is g (goal.at.returns-in-Some-Vol-clause-complete g c).In-Some-Vol)
+    (λ h. volumes_come h _ _ _ _ _ _ _ c.vol.ensures.sink _ _ _ _ c.vol.ensures.source c.vol.ensures.run)
+
+pub returns-in-Some-Vol-clause-unread : goal.returns-in-Some-Vol-clause-unread
+returns-in-Some-Vol-clause-unread g c t not asked = absurd (not (does_it _ _ c.read_words.ensures.exact ReadsSource Vol (vol_is g (goal.at.returns-in-Some-Vol-clause-unread g c).In-Some-Vol) tt t asked))
+
+pub returns-in-Some-Vol-clause-words : goal.returns-in-Some-Vol-clause-words
+returns-in-Some-Vol-clause-words g c none = absurd (none Vol (asks _ _ c.read_words.ensures.exact Vol (vol_is g (goal.at.returns-in-Some-Vol-clause-words g c).In-Some-Vol)))
+
+pub returns-in-Some-Vol-clause-untouched : goal.returns-in-Some-Vol-clause-untouched
+returns-in-Some-Vol-clause-untouched g c none = absurd (none Vol (asks _ _ c.read_words.ensures.exact Vol (vol_is g (goal.at.returns-in-Some-Vol-clause-untouched g c).In-Some-Vol)))
