@@ -1,8 +1,8 @@
 //! Runs that are stopped before each of their calls, and runs in which each call of a disk fails: all that is told then.
 
 use crate::changes::without;
-use crate::lines::{add_line, add_word};
-use crate::runs::{Faults, Left, checked, played, stopped, whole};
+use crate::lines::{add_line, add_word, trace_of};
+use crate::runs::{Faults, Left, checked, played, ran, stopped, whole};
 use paraid_base::DiskNo;
 use paraid_memrack::{MemRack, Pick};
 use paraid_rack::Rack;
@@ -260,6 +260,27 @@ pub fn stops_twice(
     for moment in mount..=left.disks.calls() {
         let image = stopped(alloc, &left.disks, moment, pick_at(moment), &[])?;
         see_mount(alloc, &image, out, moment, &mut sights)?;
+    }
+    sights.told(alloc)
+}
+
+/// What the program with these words tells over the last lines, after a stop at each moment of it over the first ones.
+pub fn leaves(
+    alloc: Global,
+    words: &str,
+    first: &str,
+    last: &str,
+    faults: &Faults,
+    disks: &MemRack,
+) -> Option<String> {
+    let (first, last) = (trace_of(alloc, first)?, trace_of(alloc, last)?);
+    let left = ran(alloc, words, first.as_bytes(), faults, disks)?;
+    let none = Faults::none(alloc);
+    let mut sights = Sights::new(alloc);
+    for moment in 0..=left.disks.calls() {
+        let image = stopped(alloc, &left.disks, moment, pick_at(moment), &[])?;
+        let told = ran(alloc, words, last.as_bytes(), &none, &image)?;
+        sights.note_run(alloc, &told, moment)?;
     }
     sights.told(alloc)
 }

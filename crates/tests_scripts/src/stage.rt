@@ -4,7 +4,7 @@ use crate::changes::{byte_at, changed, without};
 use crate::lines::{
     bytes_by_digits, bytes_of, configured, first_byte, first_number, first_word, is_any, trace_of,
 };
-use crate::moments::{Sights, ended, stops, stops_twice};
+use crate::moments::{Sights, ended, leaves, stops, stops_twice};
 use crate::runs::{
     Faults, Left, bare, cut_before, cut_off, ran, restarted, stopped, unended, unlisted, whole,
 };
@@ -123,6 +123,13 @@ fn told_stops(
         return stops(alloc, lines, out, faults, disks);
     }
     stops_twice(alloc, lines, out, faults, disks)
+}
+
+// What these words tell over the lines after the second `<`, after stops in them over those after the first one.
+fn told_leaves(alloc: Global, text: &str, faults: &Faults, disks: &MemRack) -> Option<String> {
+    let (words, lines) = text.split_once(" < ")?;
+    let (first, last) = lines.split_once(" < ")?;
+    leaves(alloc, words, first, last, faults, disks)
 }
 
 // What these words tell, and a check after them.
@@ -318,6 +325,7 @@ impl Stage {
             "places" => places(alloc, rest, faults, disks),
             "made" => counted(alloc, disks, 0),
             "stops" | "again" => told_stops(alloc, word, rest, faults, disks),
+            "leaves" => told_leaves(alloc, rest, faults, disks),
             "each" => self.each(alloc, rest),
             "long" => long(alloc, rest, self.configuration.as_str()),
             "look" => byte_at(alloc, disks, rest),
