@@ -10,6 +10,7 @@ abbrev pub generated_events : ℕ → ℕ → ℕ → List Event
 generated_events number blocks zero = []
 generated_events number blocks (suc i) = generated_events number blocks i ++ generated_event number i blocks ∷ []
 
+-- the first line of a summary
 abbrev pub lines_line : ℕ → Tally → List ℕ
 lines_line count t =
     codes "lines " ++ decimal count ++ codes " reads " ++ decimal t.reads ++ codes " writes " ++ decimal t.writes

@@ -22,8 +22,8 @@ use Rattle.paraid_volume_lines.specs.Lists.{TellsVolumes}
 use Rattle.paraid_volume_lines.specs.Texts.{created_text, deleted_text, fault_text, flushed_text, read_text, written_text}
 use Rattle.paraid_service.specs.LineSteps.{AnswersLine, KeepsFlush, ServesHeld}
 use Rattle.paraid_service.specs.VolumeLines.{IsEventOf, LineStep}
-use Rattle.paraid_service.specs.VolumeForms.{IsReplyTo, MayRefuse}
-use Rattle.paraid_service.specs.VolumeForms.IsReplyTo.{created, deleted, flushed, listed, refused, told, wrote}
+use Rattle.paraid_service.specs.VolumeForms.{IsReplyToLine, MayRefuse}
+use Rattle.paraid_service.specs.VolumeForms.IsReplyToLine.{created, deleted, flushed, listed, refused, told, wrote}
 use Rattle.paraid_service.specs.VolumeLines.LineStep.{lists}
 
 -- ---- a refusal by a halt is told as the halt
@@ -71,23 +71,23 @@ same_none T NoExtents none = refl
 same_none T Names none = refl
 same_none T (Space free) none = refl
 
-pub create_replies : (name : List ℕ) (extents : ℕ) (r : Result ℕ VolFault) → IfErr r (λ fault. vol_halt_in {A = Unit {0}} (Err fault) ≡ None → MayRefuse (create name extents) fault) → vol_halt_in r ≡ None → IsReplyTo (create name extents) (created_text name r)
+pub create_replies : (name : List ℕ) (extents : ℕ) (r : Result ℕ VolFault) → IfErr r (λ fault. vol_halt_in {A = Unit {0}} (Err fault) ≡ None → MayRefuse (create name extents) fault) → vol_halt_in r ≡ None → IsReplyToLine (create name extents) (created_text name r)
 create_replies name extents (Ok id) may none = created name extents id
 create_replies name extents (Err fault) may none = refused (create name extents) fault (may (same_none ℕ fault none))
 
-pub delete_replies : (name : List ℕ) (there : Bool) → IsReplyTo (delete name) (deleted_text name there)
+pub delete_replies : (name : List ℕ) (there : Bool) → IsReplyToLine (delete name) (deleted_text name there)
 delete_replies name true = deleted name
 delete_replies name false = refused (delete name) (NoVolume 0) tt
 
-pub read_replies : (name : List ℕ) (block : ℕ) (r : Result (Unit {0}) VolFault) (bytes : Block) → IfErr r (λ fault. vol_halt_in {A = Unit {0}} (Err fault) ≡ None → MayRefuse (read name block) fault) → vol_halt_in r ≡ None → IsReplyTo (read name block) (read_text name block r bytes)
+pub read_replies : (name : List ℕ) (block : ℕ) (r : Result (Unit {0}) VolFault) (bytes : Block) → IfErr r (λ fault. vol_halt_in {A = Unit {0}} (Err fault) ≡ None → MayRefuse (read name block) fault) → vol_halt_in r ≡ None → IsReplyToLine (read name block) (read_text name block r bytes)
 read_replies name block (Ok done) bytes may none = told name block bytes
 read_replies name block (Err fault) bytes may none = refused (read name block) fault (may none)
 
-pub write_replies : (name : List ℕ) (block : ℕ) (bytes : Block) (r : Result (Unit {0}) VolFault) → IfErr r (λ fault. vol_halt_in {A = Unit {0}} (Err fault) ≡ None → MayRefuse (write name block bytes) fault) → vol_halt_in r ≡ None → IsReplyTo (write name block bytes) (written_text r)
+pub write_replies : (name : List ℕ) (block : ℕ) (bytes : Block) (r : Result (Unit {0}) VolFault) → IfErr r (λ fault. vol_halt_in {A = Unit {0}} (Err fault) ≡ None → MayRefuse (write name block bytes) fault) → vol_halt_in r ≡ None → IsReplyToLine (write name block bytes) (written_text r)
 write_replies name block bytes (Ok done) may none = wrote name block bytes
 write_replies name block bytes (Err fault) may none = refused (write name block bytes) fault (may none)
 
-pub flush_replies : (r : Result ℕ VolFault) → IfErr r (λ fault. vol_halt_in {A = Unit {0}} (Err fault) ≡ None → MayRefuse flush fault) → vol_halt_in r ≡ None → IsReplyTo flush (flushed_text r)
+pub flush_replies : (r : Result ℕ VolFault) → IfErr r (λ fault. vol_halt_in {A = Unit {0}} (Err fault) ≡ None → MayRefuse flush fault) → vol_halt_in r ≡ None → IsReplyToLine flush (flushed_text r)
 flush_replies (Ok number) may none = flushed
 flush_replies (Err fault) may none = refused flush fault (may (same_none ℕ fault none))
 
@@ -96,7 +96,7 @@ module _ {B : Type 0} (g : Ghosts B) where
       → text ≡ said ++ codes "\n" → (line ≡ bad → ⊥) → (line ≡ list → ⊥) → ((own : Halt) → now ≡ Some own → said ≡ halt_text own)
       → (halted_of new ≡ None → (from : SinceHistory B) (start : ℕ) (log : VolLog) → (lived : HasLived (VolumesStandFor (DeviceHolds g.stands g.kept from) old) (g.block_count (device_of old)) start log) → IsTrue (g.tells (device_of new))
       → AnswersLine (VolumesStandFor (DeviceHolds g.stands g.kept from) old) (VolumesStandFor (DeviceHolds g.stands g.kept from) new) (g.block_count (device_of old)) start log lived line said)
-      → (halted_of new ≡ None → line ≡ flush → KeepsFlush g old new × (said ≡ codes "flushed")) → (now ≡ None → IsReplyTo line said)
+      → (halted_of new ≡ None → line ≡ flush → KeepsFlush g old new × (said ≡ codes "flushed")) → (now ≡ None → IsReplyToLine line said)
       → ServesHeld g old new line text halt
   serves old new line now halt said text halted is went keeps printed not_bad not_list says step kept_flush reply = record {
     halted = halted ∙ sym is;
@@ -111,7 +111,7 @@ module _ {B : Type 0} (g : Ghosts B) where
   }
 
   -- a line that calls nothing
-  pub serves_none : (v : Volumes B g) (line : VolLine) (said text : List ℕ) → halted_of v ≡ None → text ≡ said ++ codes "\n" → (line ≡ flush → ⊥) → IsReplyTo line said
+  pub serves_none : (v : Volumes B g) (line : VolLine) (said text : List ℕ) → halted_of v ≡ None → text ≡ said ++ codes "\n" → (line ≡ flush → ⊥) → IsReplyToLine line said
       → ((from : SinceHistory B) (start : ℕ) (log : VolLog) (lived : HasLived (VolumesStandFor (DeviceHolds g.stands g.kept from) v) (g.block_count (device_of v)) start log) → LineStep (g.block_count (device_of v)) (Some lived.state) line said [] (Some lived.state))
       → ServesHeld g v v line text None
   serves_none v line said text going printed not_flush reply step = record {

@@ -32,8 +32,8 @@ use Rattle.paraid_service.specs.Shelves.{OnHeld, OnShelf, OpensShelf, ServesShel
 use Rattle.paraid_service.specs.VolumeLines.{Held, IsEventOf, LineStep}
 use Rattle.paraid_service.specs.VolumeLines.LineStep.{begins, calls}
 use Rattle.paraid_service.specs.VolumeLines.IsCallOf.{flushes}
-use Rattle.paraid_service.specs.VolumeForms.{IsReplyTo, MayRefuse}
-use Rattle.paraid_service.specs.VolumeForms.IsReplyTo.{begun as begun_reply, refused}
+use Rattle.paraid_service.specs.VolumeForms.{IsReplyToLine, MayRefuse}
+use Rattle.paraid_service.specs.VolumeForms.IsReplyToLine.{begun as begun_reply, refused}
 use Rattle.paraid_service.specs.VolumeSessions.{AreFlushesKept, life_start}
 use Rattle.paraid_service.proofs.FlushLemmas.{flush_kept, flush_or_not, flushes_append, flushes_later, no_flush}
 use Rattle.paraid_service.proofs.HeldLemmas.{fault_halts}
@@ -122,7 +122,7 @@ module _ {B : Type 0} (g : Ghosts B) where
   bare_steps blocks line said step first h was None log on = record { more = []; last = None; step = step; on = record { none = append-nil log ∙ on.none; bare = on.bare; holds = on.holds; no_table = on.no_table } }
 
   -- a line that leaves the device
-  pub on_bare : (blocks : B) (line : VolLine) (said text : List ℕ) → text ≡ said ++ codes "\n" → IsReplyTo line said → LineStep (g.block_count blocks) None line said [] None → ServesShelf g (Bare blocks) (Bare blocks) line text None
+  pub on_bare : (blocks : B) (line : VolLine) (said text : List ℕ) → text ≡ said ++ codes "\n" → IsReplyToLine line said → LineStep (g.block_count blocks) None line said [] None → ServesShelf g (Bare blocks) (Bare blocks) line text None
   on_bare blocks line said text printed reply step = record {
     going = λ none. tt;
     went = DeviceGoesOn-none g.block_count g.halts g.halted g.tells blocks;

@@ -12,7 +12,7 @@ use Rattle.paraid_volume.specs.Device.{DeviceGoesOn, DeviceHolds, KeepsMore, Sin
 use Rattle.paraid_volume.specs.Lives.{HasLived, VolLog}
 use Rattle.paraid_volume.specs.Values.{VolumesStandFor, device_of, halted_of}
 use Rattle.paraid_volume_lines.specs.Grammar.{VolLine, bad, flush, list}
-use Rattle.paraid_service.specs.VolumeForms.{IsReplyTo}
+use Rattle.paraid_service.specs.VolumeForms.{IsReplyToLine}
 use Rattle.paraid_service.specs.VolumeLines.{IsEventOf, LineStep}
 
 -- The line was answered with this text, from the state of the life so far, which goes on by the calls of the line.
@@ -38,6 +38,6 @@ pub record ServesHeld {B : Type 0} (g : Ghosts B) (old new : Volumes B g) (line 
   pub step : halt ≡ None → (from : SinceHistory B) (start : ℕ) (log : VolLog)
       → (lived : HasLived (VolumesStandFor (DeviceHolds g.stands g.kept from) old) (g.block_count (device_of old)) start log) → IsTrue (g.tells (device_of new))
       → AnswersLine (VolumesStandFor (DeviceHolds g.stands g.kept from) old) (VolumesStandFor (DeviceHolds g.stands g.kept from) new) (g.block_count (device_of old)) start log lived line said
-  pub reply : halt ≡ None → IsReplyTo line said
+  pub reply : halt ≡ None → IsReplyToLine line said
   pub flushes : halt ≡ None → line ≡ flush → KeepsFlush g old new × (said ≡ codes "flushed")
   pub halts : (own : Halt) → halt ≡ Some own → (said ≡ halt_text own) × (line ≡ bad → ⊥) × (line ≡ list → ⊥)

@@ -17,7 +17,7 @@ use Rattle.paraid_volume_lines.specs.Grammar.{VolLine, bad, list}
 use Rattle.paraid_service.specs.declared.shelf.Shelf.{Shelf}
 use Rattle.paraid_service.specs.declared.shelf.Shelf.TheVariants.{Bare, Held as HeldShelf}
 use Rattle.paraid_service.specs.declared.shelf.Shelved.{Shelved}
-use Rattle.paraid_service.specs.VolumeForms.{IsReplyTo}
+use Rattle.paraid_service.specs.VolumeForms.{IsReplyToLine}
 use Rattle.paraid_service.specs.VolumeLines.{Held, IsEventOf, LineStep}
 use Rattle.paraid_service.specs.VolumeSessions.{AreFlushesKept, life_start}
 
@@ -81,7 +81,7 @@ pub record ServesShelf {B : Type 0} (g : Ghosts B) (old new : Shelf B g) (line :
   pub keeps : KeepsMore g.kept g.tells (IsEventOf line) (device_in old) (device_in new)
   pub said : List ℕ
   pub printed : text ≡ said ++ codes "\n"
-  pub reply : halt ≡ None → IsReplyTo line said
+  pub reply : halt ≡ None → IsReplyToLine line said
   pub halted : g.halted (device_in old) ≡ None → g.halted (device_in new) ≡ halt
   pub step : halt ≡ None → (first : B) (h : History) (was s : Held) (log : VolLog) → OnShelf g first (g.block_count (device_in old)) h was old s log → IsTrue (g.tells (device_in new))
       → StepsShelf (OnShelf g first (g.block_count (device_in old)) h was new) (g.block_count (device_in old)) s line said log

@@ -33,22 +33,22 @@ MayRefuse list NotVolumes = Unit {0}
 MayRefuse line fault = ⊥
 
 -- A line may be answered so, if no halt comes of it.
-pub data IsReplyTo : VolLine → List ℕ → Type 0 where
-  no_task : IsReplyTo bad (codes "bad")
-  begun : (extents size : ℕ) → IsReplyTo init (begun_text extents size)
-  created : (name : List ℕ) (extents id : ℕ) → IsReplyTo (create name extents) (created_text name (Ok id))
-  deleted : (name : List ℕ) → IsReplyTo (delete name) (deleted_text name true)
-  told : (name : List ℕ) (block : ℕ) (bytes : Block) → IsReplyTo (read name block) (read_text name block (Ok tt) bytes)
-  wrote : (name : List ℕ) (block : ℕ) (bytes : Block) → IsReplyTo (write name block bytes) (codes "wrote")
-  flushed : IsReplyTo flush (codes "flushed")
-  listed : (text : List ℕ) → IsReplyTo list (codes "list" ++ text)
-  refused : (line : VolLine) (fault : VolFault) → MayRefuse line fault → IsReplyTo line (fault_text fault)
+pub data IsReplyToLine : VolLine → List ℕ → Type 0 where
+  no_task : IsReplyToLine bad (codes "bad")
+  begun : (extents size : ℕ) → IsReplyToLine init (begun_text extents size)
+  created : (name : List ℕ) (extents id : ℕ) → IsReplyToLine (create name extents) (created_text name (Ok id))
+  deleted : (name : List ℕ) → IsReplyToLine (delete name) (deleted_text name true)
+  told : (name : List ℕ) (block : ℕ) (bytes : Block) → IsReplyToLine (read name block) (read_text name block (Ok tt) bytes)
+  wrote : (name : List ℕ) (block : ℕ) (bytes : Block) → IsReplyToLine (write name block bytes) (codes "wrote")
+  flushed : IsReplyToLine flush (codes "flushed")
+  listed : (text : List ℕ) → IsReplyToLine list (codes "list" ++ text)
+  refused : (line : VolLine) (fault : VolFault) → MayRefuse line fault → IsReplyToLine line (fault_text fault)
 
 -- Lines, one after the other, have answers of such a form, until one is answered by a halt, or from a halt on: then each that asks
 -- for something is.
 pub data FormsLines (begun : Option Halt) : List (List ℕ) → List ℕ → Option Halt → Type 0 where
   none_yet : FormsLines begun [] [] begun
-  one_more : (lines : List (List ℕ)) (line text said : List ℕ) (asked : VolLine) → FormsLines begun lines text None → AsksVolumes line asked → IsReplyTo asked said → FormsLines begun (lines ++ line ∷ []) (text ++ (said ++ codes "\n")) None
+  one_more : (lines : List (List ℕ)) (line text said : List ℕ) (asked : VolLine) → FormsLines begun lines text None → AsksVolumes line asked → IsReplyToLine asked said → FormsLines begun (lines ++ line ∷ []) (text ++ (said ++ codes "\n")) None
   halting : (lines : List (List ℕ)) (line text : List ℕ) (asked : VolLine) (halt : Halt) → FormsLines begun lines text None → AsksVolumes line asked → (asked ≡ bad → ⊥) → (asked ≡ list → ⊥) → FormsLines begun (lines ++ line ∷ []) (text ++ (halt_text halt ++ codes "\n")) (Some halt)
   later : (lines : List (List ℕ)) (line text : List ℕ) (asked : VolLine) (halt : Halt) → FormsLines begun lines text (Some halt) → AsksVolumes line asked → FormsLines begun (lines ++ line ∷ []) (text ++ (halted_text halt asked ++ codes "\n")) (Some halt)
 

@@ -1,6 +1,6 @@
 use Rattle.std.specs.Prelude.{codes}
 use Rattle.paraid_volume_lines.specs.Grammar.{bad}
-use Rattle.paraid_service.specs.VolumeForms.IsReplyTo.{no_task}
+use Rattle.paraid_service.specs.VolumeForms.IsReplyToLine.{no_task}
 use Rattle.paraid_service.specs.VolumeLines.LineStep.{is_bad}
 use Rattle.paraid_service.proofs.HeldLemmas.{serves_none}
 use Rattle.paraid_service.proofs.held.serve_bad.Goals as goal

@@ -2,7 +2,7 @@ use Rattle.std.proofs.Common.{refl}
 use Rattle.paraid_volume_lines.specs.Grammar.{init}
 use Rattle.paraid_volume_lines.specs.Texts.{fault_text}
 use Rattle.paraid_volume.specs.declared.fault.VolFault.TheVariants.{Already}
-use Rattle.paraid_service.specs.VolumeForms.IsReplyTo.{refused}
+use Rattle.paraid_service.specs.VolumeForms.IsReplyToLine.{refused}
 use Rattle.paraid_service.specs.VolumeLines.LineStep.{is_already}
 use Rattle.paraid_service.proofs.HeldLemmas.{serves_none}
 use Rattle.paraid_service.proofs.held.serve_init.Goals as goal

@@ -2,7 +2,7 @@ use Rattle.std.proofs.Common.{arith, refl}
 use Rattle.std.specs.Prelude.{codes}
 use Rattle.paraid_volume_lines.specs.Grammar.{init}
 use Rattle.paraid_volume.specs.declared.fault.VolFault.TheVariants.{Small}
-use Rattle.paraid_service.specs.VolumeForms.IsReplyTo.{refused}
+use Rattle.paraid_service.specs.VolumeForms.IsReplyToLine.{refused}
 use Rattle.paraid_service.specs.VolumeLines.LineStep.{is_small}
 use Rattle.paraid_service.proofs.ShelfLemmas.{on_bare, on_begun, on_refused}
 use Rattle.paraid_service.proofs.shelf.begin_table.Goals as goal

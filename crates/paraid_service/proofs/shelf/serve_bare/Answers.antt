@@ -4,7 +4,7 @@ use Rattle.paraid_volume.specs.declared.fault.VolFault.TheVariants.{NotVolumes}
 use Rattle.paraid_volume_lines.specs.Asked.{line_with}
 use Rattle.paraid_volume_lines.specs.Grammar.{bad}
 use Rattle.paraid_volume_lines.specs.Texts.{fault_text}
-use Rattle.paraid_service.specs.VolumeForms.IsReplyTo.{no_task, refused}
+use Rattle.paraid_service.specs.VolumeForms.IsReplyToLine.{no_task, refused}
 use Rattle.paraid_service.specs.VolumeLines.LineStep.{is_bad, no_table}
 use Rattle.paraid_service.proofs.ShelfLemmas.{on_bare, other_line}
 use Rattle.paraid_service.proofs.shelf.serve_bare.Goals as goal
