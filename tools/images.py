@@ -10,6 +10,7 @@ import errno
 import os
 import stat
 import struct
+import sys
 from dataclasses import dataclass
 from typing import List, Optional, Tuple
 
@@ -365,3 +366,30 @@ def dirty_bytes(folder, meta, batch, power):
         if disk == map_disk and place < LOG + meta.geometry.map_blocks:
             data[BLOCK * (place - LOG) : BLOCK * (place - LOG + 1)] = block
     return bytes(data[: meta.geometry.rows])
+
+
+OUTPUT_FAILED = 4
+
+
+def status_of(main, name):
+    """The status of a tool: what `main` gives for its words, or 4 where the output fails or is closed."""
+    if sys.stdout is None:
+        # (a print to no stream would say nothing of it; one to a stream that is only read fails)
+        sys.stdout = open(os.devnull, encoding="utf-8")
+    if sys.stderr is None:
+        sys.stderr = open(os.devnull, "w", encoding="utf-8")
+    try:
+        status = main(sys.argv[1:])
+        if sys.stdout.writable():
+            sys.stdout.flush()
+        return status
+    except BrokenPipeError:
+        pass
+    except OSError as fault:
+        if fault.filename is not None:
+            raise
+        print(f"{name}: the output: {fault.strerror or 'it is closed'}", file=sys.stderr)
+    # What is left is not written once more as Python ends.
+    sink = os.open(os.devnull, os.O_WRONLY)
+    os.dup2(sink, 1)
+    return OUTPUT_FAILED
