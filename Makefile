@@ -34,6 +34,8 @@ FILES = 755=$(PROGRAM)=$(SBINDIR)/paraid \
 	644=etc/paraid.bash=$(COMPLETIONDIR)/paraid \
 	$(foreach it,$(SAMPLES) $(TEXTS),644=$(it)=$(DOCDIR)/$(notdir $(it)))
 LINKS = $(foreach it,$(COMMANDS),$(SBINDIR)/paraid-$(it))
+# `man paraid-NAME` finds the page that tells of this tool: NAME=PAGE.
+NAMES = $(foreach it,lint locate power state,$(it)=tools) ctl=nbd
 
 .PHONY: help install uninstall list release
 help:
@@ -53,10 +55,13 @@ install:
 		esac; \
 	done
 	@set -e; for it in $(LINKS); do echo "$$it"; ln -srfn "$(DESTDIR)$(LIBDIR)/$${it##*/paraid-}" "$(DESTDIR)$$it"; done
+	@set -e; for it in $(NAMES); do to=$(MANDIR)/man8/paraid-$${it%=*}.8; \
+		echo "$$to"; ln -sfn "paraid-$${it#*=}.8" "$(DESTDIR)$$to"; done
 
 uninstall:
 	@for it in $(FILES); do to=$${it##*=}; rm -f "$(DESTDIR)$$to"; done
 	@rm -f $(foreach it,$(LINKS),"$(DESTDIR)$(it)")
+	@for it in $(NAMES); do rm -f "$(DESTDIR)$(MANDIR)/man8/paraid-$${it%=*}.8"; done
 	@rm -rf "$(DESTDIR)$(LIBDIR)/__pycache__"
 	@for it in $(LIBDIR) $(DOCDIR); do [ ! -d "$(DESTDIR)$$it" ] || rmdir "$(DESTDIR)$$it"; done
 
