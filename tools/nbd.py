@@ -326,11 +326,13 @@ class Control:
 
     def __init__(self, path):
         self.path = path
-        self.take_away()
         self.socket = socket.socket(socket.AF_UNIX, socket.SOCK_STREAM)
         old = os.umask(0o177)  # the user who started nbdkit, and nobody else
         try:
+            self.take_away()
             self.socket.bind(path)
+        except OSError as fault:  # (that of a path that is too long has its text alone)
+            raise RuntimeError(f"control={path} cannot be made: {fault.strerror or fault}") from fault
         finally:
             os.umask(old)
         self.socket.listen()
