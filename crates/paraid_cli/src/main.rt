@@ -4,8 +4,8 @@
 mod edge;
 mod logs;
 
-use paraid_program::read_words;
 use paraid_serve::status;
+use paraid_words::read_words;
 use std::process::ExitCode;
 use std::{env, io};
 

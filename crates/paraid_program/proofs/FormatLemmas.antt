@@ -10,7 +10,7 @@ use Rattle.paraid_program.specs.Complete.Completes.{hindered, no_memory, whole}
 use Rattle.paraid_program.proofs.CompleteLemmas.{told_whole}
 use Rattle.paraid_program.specs.CommandCompletes.{CompletesCommand}
 use Rattle.paraid_program.specs.CommandCompletes.HindersFormat.{claimed, config, disk, few, sink, source}
-use Rattle.paraid_program.specs.declared.command.Command.TheVariants.{Format}
+use Rattle.paraid_words.specs.declared.command.Command.TheVariants.{Format}
 
 module _ (slots : ℕ) (old new : ℕ → Slot) (before after : Option Trail) (lb l : Option (List ℕ)) (faults_before faults counted count : ℕ) (wb w : Option (List ℕ)) (status : ℕ)
     (heard : status ≡ 3 → HasRisen faults_before faults) (sunk : status ≡ 4 → HasRisen counted count) where

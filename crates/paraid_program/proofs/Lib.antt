@@ -1,4 +1,3 @@
-pub mod WordLemmas
 pub mod ReadingLemmas
 pub mod MadeLemmas
 pub mod OutcomeLemmas
@@ -11,7 +10,6 @@ pub mod EndLemmas
 pub mod TellLemmas
 pub mod CheckLemmas
 pub mod CompleteLemmas
-pub mod AskedLemmas
 pub mod TakenLemmas
 pub mod FormatLemmas
 pub mod NbdLemmas

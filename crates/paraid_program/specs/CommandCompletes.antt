@@ -17,8 +17,8 @@ use Rattle.paraid_recover.specs.Mount.{HasOnlyRead}
 use Rattle.paraid_program.specs.Clients.{HindersNbd, IsNbdWhole}
 use Rattle.paraid_program.specs.Complete.{Completes, HeldHistory, Hinders, HindersRun, IsCheckWhole, IsGenWhole, IsRunWhole, IsStatusWhole, TellsLast}
 use Rattle.paraid_program.specs.PlanComes.{HindersPlan, IsPlanUnmade, IsPlanWhole}
-use Rattle.paraid_program.specs.declared.command.Command.{Command}
-use Rattle.paraid_program.specs.declared.command.Command.TheVariants.{Format, Run, Spare, Status, Check, Gen, Nbd, Vol, Plan}
+use Rattle.paraid_words.specs.declared.command.Command.{Command}
+use Rattle.paraid_words.specs.declared.command.Command.TheVariants.{Format, Run, Spare, Status, Check, Gen, Nbd, Vol, Plan}
 
 -- The array that the source describes was made, and its line was told.
 pub record IsFormatWhole (force : Bool) (slots : ℕ) (old new : ℕ → Slot) (before after : Option Trail) (left_before left written_before written : Option (List ℕ)) : Type 0 where

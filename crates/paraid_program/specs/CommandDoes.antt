@@ -9,8 +9,8 @@ use Rattle.paraid_program.specs.Planning.{IsPlanStatus, PlanOutcome}
 use Rattle.paraid_program.specs.Spares.{ServesSpares}
 use Rattle.paraid_program.specs.Volumes.{ServesVolumes}
 use Rattle.paraid_program.specs.Ends.{ChecksArray, IsStatusOfCheck, IsStatusOfGen, IsStatusOfRun, IsUnheard, MountsAndThen, ServesGenerated, ServesLines}
-use Rattle.paraid_program.specs.declared.command.Command.{Command}
-use Rattle.paraid_program.specs.declared.command.Command.TheVariants.{Format, Run, Spare, Status, Check, Gen, Nbd, Vol, Plan}
+use Rattle.paraid_words.specs.declared.command.Command.{Command}
+use Rattle.paraid_words.specs.declared.command.Command.TheVariants.{Format, Run, Spare, Status, Check, Gen, Nbd, Vol, Plan}
 
 -- What the program does on a command: by the number of slots, the slots before and after it, the records
 -- of the rack, what is left of the source, its faults, those of the sink, what was written, and the status.

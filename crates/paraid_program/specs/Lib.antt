@@ -1,5 +1,3 @@
-pub mod Words
-pub mod Commands
 pub mod Lines
 pub mod Reading
 pub mod Outcome

@@ -1,5 +1,4 @@
-//! The program over any source, sink and rack: which command the words of the command line ask for,
-//! and what each of them does.
+//! The program over any source, sink and rack: what each command of `paraid_words` does.
 //!
 //! `format` reads a configuration from a source and makes an array of the disks of a rack; `status`
 //! mounts one and tells its state; `run`, `gen` and `check` mount one and answer with it. Each tells
@@ -11,7 +10,6 @@
 #![tactic(auto)]
 
 mod arrays;
-mod command;
 mod fault;
 mod format;
 mod format_text;
@@ -28,10 +26,8 @@ mod state;
 mod status;
 mod tally;
 mod top;
-mod words;
 
 pub use arrays::Arrays;
-pub use command::{Choice, Command};
 pub use fault::{mount_fault_status, mount_fault_text};
 pub use format::format_array;
 pub use format_text::{config_text, refusal_status, refusal_text};
@@ -46,4 +42,3 @@ pub use state::{status_of, tell_state};
 pub use status::show_state;
 pub use tally::Tally;
 pub use top::paraid;
-pub use words::read_words;

@@ -6,24 +6,23 @@ ghost use Rattle.paraid_program.specs.Outcome.{Formats, IsFormatStatus};
 ghost use Rattle.paraid_program.specs.Ends.{ChecksArray, IsStatusOfCheck, IsStatusOfGen, IsStatusOfRun, IsUnheard, MountsAndThen, ServesGenerated, ServesLines};
 ghost use Rattle.paraid_program.specs.Spares.{ServesSpares};
 ghost use Rattle.paraid_program.specs.Volumes.{ServesVolumes};
-ghost use Rattle.paraid_program.specs.Words.{AskFor, usage_line};
+ghost use Rattle.paraid_words.specs.Words.{AskFor, usage_line};
 ghost use Rattle.paraid_program.specs.CommandCompletes.{CompletesCommand};
 ghost use Rattle.paraid_program.specs.CommandDoes.{DoesCommand, ReadsSource, TakesSource};
-ghost use Rattle.paraid_program.specs.declared.command.Command.{Command as CommandType};
+ghost use Rattle.paraid_words.specs.declared.command.Command.{Command as CommandType};
 
 use crate::arrays::Arrays;
-use crate::command::Command;
 use crate::format::format_array;
 use crate::mounted;
 use crate::outside::Ended;
 use crate::plan::show_plan;
 use crate::status::show_state;
-use crate::words::read_words;
 use paraid_controller::Array;
 use paraid_io::{Sink, Source};
 use paraid_rack::Rack;
 use paraid_serve::ending::last;
 use paraid_serve::status;
+use paraid_words::{Command, read_words};
 use std::alloc::Global;
 
 // Makes an array of the disks of the rack.

@@ -1,5 +1,5 @@
 use Rattle.std.proofs.Common.{◌≡◌, ap, ◌∙◌, Some}
-use Rattle.paraid_program.specs.declared.command.Command.TheVariants.{Format, Run, Spare, Status, Check, Gen, Nbd, Vol, Plan}
+use Rattle.paraid_words.specs.declared.command.Command.TheVariants.{Format, Run, Spare, Status, Check, Gen, Nbd, Vol, Plan}
 use Rattle.paraid_program.proofs.CompleteLemmas.{check_comes, gen_comes, run_comes, status_comes}
 use Rattle.paraid_program.proofs.FormatLemmas.{format_comes}
 use Rattle.paraid_program.proofs.PlanLemmas.{plan_comes}
@@ -7,9 +7,9 @@ use Rattle.paraid_program.proofs.SpareLemmas.{spared_comes}
 use Rattle.paraid_program.proofs.NbdComesLemmas.{nbd_comes}
 use Rattle.paraid_program.proofs.VolumeLemmas.{volumes_come}
 use Rattle.paraid_program.proofs.TakenLemmas.{check_not_read, not_read}
-use Rattle.paraid_program.proofs.AskedLemmas.{asks, does_it, nothing_asked}
+use Rattle.paraid_words.proofs.AskedLemmas.{asks, does_it, nothing_asked}
 use Rattle.paraid_program.specs.CommandDoes.{ReadsSource, TakesSource}
-use Rattle.paraid_program.specs.declared.command.Command.{Command}
+use Rattle.paraid_words.specs.declared.command.Command.{Command}
 use Rattle.paraid_program.proofs.top.paraid.Given.{Over}
 use Rattle.paraid_program.proofs.top.paraid.Goals as goal
 use Rattle.paraid_program.proofs.top.paraid.Goals.{In-Some-Check, In-Some-Format, In-Some-Gen, In-Some-Nbd, In-Some-Plan, In-Some-Run, In-Some-Spare, In-Some-Status, In-Some-Vol}

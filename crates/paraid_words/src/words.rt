@@ -1,8 +1,8 @@
 ghost use Rattle.std.specs.Prelude.{◌≡◌, ◌↔◌, Some, map, string_bytes};
 ghost use Rattle.std.specs.List.{position};
-ghost use Rattle.paraid_program.specs.declared.command.Command.{Command as CommandType};
-ghost use Rattle.paraid_program.specs.Commands.{both as both_of, choice_of, command_of, five_words as five_words_of, four_words as four_words_of, is_equals, joined_of, lines_choice, number_choice, one_word as one_word_of, plan_with as plan_of, both_spares, spares_choice, spares_with, three_spares as three_spares_of, two_spares as two_spares_of, wait_choice, three_options as three_options_of, three_words as three_words_of, two_words as two_words_of, ups_choice};
-ghost use Rattle.paraid_program.specs.Words.{AskFor};
+ghost use Rattle.paraid_words.specs.declared.command.Command.{Command as CommandType};
+ghost use Rattle.paraid_words.specs.Commands.{both as both_of, choice_of, command_of, five_words as five_words_of, four_words as four_words_of, is_equals, joined_of, lines_choice, number_choice, one_word as one_word_of, plan_with as plan_of, both_spares, spares_choice, spares_with, three_spares as three_spares_of, two_spares as two_spares_of, wait_choice, three_options as three_options_of, three_words as three_words_of, two_words as two_words_of, ups_choice};
+ghost use Rattle.paraid_words.specs.Words.{AskFor};
 
 use crate::command::{Choice, Command};
 use paraid_trace::number;

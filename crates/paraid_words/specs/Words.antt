@@ -1,7 +1,7 @@
 -- The words that the program takes.
 use Rattle.std.specs.Prelude.{◌≡◌, ℕ, ◌^◌, ◌<◌, ◌≤◌, ◌⊎◌, true, false, List, [], ◌∷◌, ◌++◌, codes, decimal}
-use Rattle.paraid_program.specs.declared.command.Command.{Command}
-use Rattle.paraid_program.specs.declared.command.Command.TheVariants.{Format, Run, Spare, Status, Check, Gen, Nbd, Vol, Plan}
+use Rattle.paraid_words.specs.declared.command.Command.{Command}
+use Rattle.paraid_words.specs.declared.command.Command.TheVariants.{Format, Run, Spare, Status, Check, Gen, Nbd, Vol, Plan}
 
 -- an option with its value, in decimal digits: two words, or one joined by `=`
 abbrev pub IsNumberOption : List ℕ → ℕ → List (List ℕ) → Type 0

@@ -1,7 +1,7 @@
 -- What the words ask for, by the task that was read from them.
 use Rattle.std.proofs.Common.{◌≡◌, ℕ, List, Option, Some, None, sym, ◌∙◌, subst}
-use Rattle.paraid_program.specs.Words.{AskFor}
-use Rattle.paraid_program.specs.declared.command.Command.{Command}
+use Rattle.paraid_words.specs.Words.{AskFor}
+use Rattle.paraid_words.specs.declared.command.Command.{Command}
 
 same_command : (a b : Command) → Some a ≡ Some b → a ≡ b
 same_command a b e = cc

@@ -3,10 +3,10 @@ use Rattle.std.specs.Prelude.{ℕ, ◌+◌, ◌==◌, ◌&&◌, nat_le, if◌the
 use Rattle.std.specs.List.{position}
 use Rattle.std.specs.Str.{bytes_eq}
 use Rattle.paraid_trace.specs.LineEvents.{number_of}
-use Rattle.paraid_program.specs.declared.command.Command.{Command}
-use Rattle.paraid_program.specs.declared.command.Command.TheVariants.{Format, Run, Spare, Status, Check, Gen, Nbd, Vol, Plan}
-use Rattle.paraid_program.specs.declared.command.Choice.{Choice}
-use Rattle.paraid_program.specs.declared.command.Choice.TheVariants.{Number, Lines, Ups, Spares, Wait}
+use Rattle.paraid_words.specs.declared.command.Command.{Command}
+use Rattle.paraid_words.specs.declared.command.Command.TheVariants.{Format, Run, Spare, Status, Check, Gen, Nbd, Vol, Plan}
+use Rattle.paraid_words.specs.declared.command.Choice.{Choice}
+use Rattle.paraid_words.specs.declared.command.Choice.TheVariants.{Number, Lines, Ups, Spares, Wait}
 
 -- whether a byte is `=`
 abbrev pub is_equals : ℕ → Bool

@@ -1,5 +1,0 @@
-use Rattle.paraid_program.proofs.WordLemmas.{exact}
-use Rattle.paraid_program.proofs.words.read_words.Goals as goal
-
-pub returns : goal.returns
-returns c = record { exact = λ x. exact c.command.result _ x c.command.ensures }
