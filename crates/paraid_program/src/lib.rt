@@ -10,22 +10,27 @@
 #![tactic(auto)]
 
 mod arrays;
+mod checks;
+mod client;
 mod fault;
 mod format;
 mod format_text;
 mod generate;
+mod generated;
 mod law;
 mod lines;
-pub mod mounted;
 pub mod outside;
 mod plan;
 mod read;
 mod refusal;
 mod report;
+mod runs;
+mod spares;
 mod state;
 mod status;
 mod tally;
 mod top;
+mod volumes;
 
 pub use arrays::Arrays;
 pub use fault::{mount_fault_status, mount_fault_text};

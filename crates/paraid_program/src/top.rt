@@ -13,10 +13,10 @@ ghost use Rattle.paraid_words.specs.declared.command.Command.{Command as Command
 
 use crate::arrays::Arrays;
 use crate::format::format_array;
-use crate::mounted;
 use crate::outside::Ended;
 use crate::plan::show_plan;
 use crate::status::show_state;
+use crate::{checks, client, generated, runs, spares, volumes};
 use paraid_controller::Array;
 use paraid_io::{Sink, Source};
 use paraid_rack::Rack;
@@ -67,7 +67,7 @@ fn run<S: Source, K: Sink, R: Rack>(
     ensures sink { result.status ≡ 4 → HasRisen (K.faults sink.old) (K.faults sink.new) }
 {
     let arrays = Arrays::new(alloc);
-    mounted::run::<S, K, R, Array<R>, Arrays>(&arrays, source, sink, rack)
+    runs::run::<S, K, R, Array<R>, Arrays>(&arrays, source, sink, rack)
 }
 
 // Mounts one, and answers each line of the source with spares put in.
@@ -92,7 +92,7 @@ fn run_with_spares<S: Source, K: Sink, R: Rack>(
     ensures sink { result.status ≡ 4 → HasRisen (K.faults sink.old) (K.faults sink.new) }
 {
     let arrays = Arrays::new(alloc);
-    mounted::run_with_spares::<S, K, R, Array<R>, Arrays>(&arrays, source, sink, rack, stock, wait)
+    spares::run_with_spares::<S, K, R, Array<R>, Arrays>(&arrays, source, sink, rack, stock, wait)
 }
 
 // Mounts one, and answers generated lines.
@@ -113,7 +113,7 @@ fn generate<K: Sink, R: Rack>(
     ensures sink { result.status ≡ 4 → HasRisen (K.faults sink.old) (K.faults sink.new) }
 {
     let arrays = Arrays::new(alloc);
-    mounted::generate::<K, R, Array<R>, Arrays>(&arrays, sink, rack, number, lines)
+    generated::generate::<K, R, Array<R>, Arrays>(&arrays, sink, rack, number, lines)
 }
 
 // Mounts one, and counts what is false.
@@ -127,7 +127,7 @@ fn check<K: Sink, R: Rack>(alloc: Global, sink: &mut K, rack: R) -> Ended<R>
     ensures sink { result.status ≡ 4 → HasRisen (K.faults sink.old) (K.faults sink.new) }
 {
     let arrays = Arrays::new(alloc);
-    mounted::check::<K, R, Array<R>, Arrays>(&arrays, sink, rack)
+    checks::check::<K, R, Array<R>, Arrays>(&arrays, sink, rack)
 }
 
 // Mounts one, and serves one client.
@@ -147,7 +147,7 @@ fn nbd<S: Source, K: Sink, R: Rack>(
     ensures sink { result.status ≡ 4 → HasRisen (K.faults sink.old) (K.faults sink.new) }
 {
     let arrays = Arrays::new(alloc);
-    mounted::nbd::<S, K, R, Array<R>, Arrays>(alloc, &arrays, source, sink, rack)
+    client::nbd::<S, K, R, Array<R>, Arrays>(alloc, &arrays, source, sink, rack)
 }
 
 // Mounts one, and answers each line about volumes.
@@ -170,7 +170,7 @@ fn vol<S: Source, K: Sink, R: Rack>(
     ensures sink { result.status ≡ 4 → HasRisen (K.faults sink.old) (K.faults sink.new) }
 {
     let arrays = Arrays::new(alloc);
-    mounted::answer_volumes::<S, K, R, Array<R>, Arrays>(&arrays, source, sink, rack)
+    volumes::answer_volumes::<S, K, R, Array<R>, Arrays>(&arrays, source, sink, rack)
 }
 
 /// The program: it takes the words of the command line, and does what they ask for.

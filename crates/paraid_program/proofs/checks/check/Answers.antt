@@ -2,7 +2,7 @@ use Rattle.std.proofs.Common.{rules, ◌∙◌, sym}
 use Rattle.paraid_program.specs.Ends.MountsAndThen.{mounted, refused}
 use Rattle.paraid_program.proofs.CheckLemmas.{check_is_refused, check_status_of, checks_over}
 use Rattle.paraid_program.proofs.EndLemmas.{began_at_end, begins_at_end, end_moment, end_over}
-use Rattle.paraid_program.proofs.mounted.check.Goals as goal
+use Rattle.paraid_program.proofs.checks.check.Goals as goal
 
 pub returns-in-Err : goal.returns-in-Err
 returns-in-Err g c = record {

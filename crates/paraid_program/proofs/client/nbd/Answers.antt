@@ -3,7 +3,7 @@ use Rattle.paraid_base.proofs.ToldLemmas.{Gives-none, GrowsByBytes-none}
 use Rattle.paraid_program.specs.Clients.ServesNbdOrNot.{mounted, refused}
 use Rattle.paraid_program.proofs.EndLemmas.{began_at_end, begins_at_end, end_moment}
 use Rattle.paraid_program.proofs.NbdLemmas.{nbd_over}
-use Rattle.paraid_program.proofs.mounted.nbd.Goals as goal
+use Rattle.paraid_program.proofs.client.nbd.Goals as goal
 
 pub returns-in-Err-clause-nbd : goal.returns-in-Err-clause-nbd
 returns-in-Err-clause-nbd g c = refused c.in-Err.field-0.fault c.in-Err.ensures.refused c.mount_fault_status.ensures (Gives-none _) (GrowsByBytes-none _)

@@ -1,7 +1,7 @@
 use Rattle.std.proofs.Common.{rules, refl, ◌∙◌, sym}
 use Rattle.paraid_program.specs.Ends.MountsAndThen.{mounted, refused}
 use Rattle.paraid_program.proofs.EndLemmas.{began_at_end, begins_at_end, end_moment, end_over, spared_over, run_is_refused, run_status}
-use Rattle.paraid_program.proofs.mounted.run_with_spares.Goals as goal
+use Rattle.paraid_program.proofs.spares.run_with_spares.Goals as goal
 
 pub returns-in-Err : goal.returns-in-Err
 returns-in-Err g c = record {

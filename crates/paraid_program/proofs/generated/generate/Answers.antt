@@ -1,7 +1,7 @@
 use Rattle.std.proofs.Common.{rules, ◌∙◌, sym}
 use Rattle.paraid_program.specs.Ends.MountsAndThen.{mounted, refused}
 use Rattle.paraid_program.proofs.EndLemmas.{began_at_end, begins_at_end, end_moment, end_over, generated_over, generate_is_refused, generate_status}
-use Rattle.paraid_program.proofs.mounted.generate.Goals as goal
+use Rattle.paraid_program.proofs.generated.generate.Goals as goal
 
 pub returns-in-Err : goal.returns-in-Err
 returns-in-Err g c = record {

@@ -2,7 +2,7 @@ use Rattle.std.proofs.Common.{rules, refl, ◌∙◌}
 use Rattle.paraid_program.specs.Ends.MountsAndThen.{mounted, refused}
 use Rattle.paraid_program.proofs.EndLemmas.{began_at_end, begins_at_end, end_moment, end_over, run_is_refused, run_status}
 use Rattle.paraid_program.proofs.VolumeLemmas.{volumes_over}
-use Rattle.paraid_program.proofs.mounted.answer_volumes.Goals as goal
+use Rattle.paraid_program.proofs.volumes.answer_volumes.Goals as goal
 
 pub returns-in-Err : goal.returns-in-Err
 returns-in-Err g c = record {

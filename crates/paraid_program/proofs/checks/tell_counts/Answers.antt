@@ -5,7 +5,7 @@ use Rattle.paraid_serve.proofs.GrowsLemmas.{told_then}
 use Rattle.paraid_program.specs.Ends.{CountsArray}
 use Rattle.paraid_program.proofs.CheckLemmas.{counted_status, counts_no_halt, halt_names_two, halt_not_whole, halt_tells_wear, halted_status, tells_counts, tells_halt}
 use Rattle.paraid_program.specs.CheckCauses.HasCheckCauses.{counted as counted_caused, halted as halted_caused}
-use Rattle.paraid_program.proofs.mounted.tell_counts.Goals as goal
+use Rattle.paraid_program.proofs.checks.tell_counts.Goals as goal
 
 pub returns-in-Ok : goal.returns-in-Ok
 returns-in-Ok g c = record {

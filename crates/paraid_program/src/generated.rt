@@ -1,0 +1,44 @@
+//! The word `gen`.
+ghost use Rattle.std.specs.Prelude.{◌≡◌, ◌≤◌};
+ghost use Rattle.paraid_base.specs.Told.{HasRisen};
+ghost use Rattle.paraid_program.specs.Ends.{IsStatusOfGen, MountsAndThen, ServesGenerated};
+
+use crate::fault::tell_refusal;
+use crate::generate::serve_generated_mounted;
+use crate::outside::{Ended, Outside};
+use paraid_io::Sink;
+use paraid_rack::Rack;
+use paraid_recover::MountRefused;
+use paraid_serve::Serves;
+
+/// Mounts and answers generated lines.
+pub fn generate<K: Sink, R: Rack, A: Serves, O: Outside<R, A>>(
+    outside: &O,
+    sink: &mut K,
+    rack: R,
+    number: u32,
+    lines: u32,
+) -> Ended<R>
+    requires few { lines ≤ 1000000 }
+    ensures run { MountsAndThen (R.slot_count rack) (R.slot rack) (R.slot result.rack) (R.told rack)
+        (R.told result.rack) (K.written sink.old) (K.written sink.new) result.status (Unit {0})
+        (ServesGenerated (R.slot_count rack) (R.slot rack) (R.slot result.rack) (R.told result.rack)
+        (K.written sink.old) (K.written sink.new) number lines result.status) }
+    ensures slots { R.slot_count result.rack ≡ R.slot_count rack }
+    ensures status { IsStatusOfGen result.status }
+    ensures sink { result.status ≡ 4 → HasRisen (K.faults sink.old) (K.faults sink.new) }
+{
+    match outside.mount(rack) {
+        Ok(mut array) => {
+            let status = serve_generated_mounted(sink, &mut array, number, lines);
+            Ended {
+                status,
+                rack: outside.unmount(array),
+            }
+        }
+        Err(MountRefused { fault, rack }) => Ended {
+            status: tell_refusal(sink, fault),
+            rack,
+        },
+    }
+}

@@ -1,0 +1,48 @@
+//! The word `run` with spare disks.
+ghost use Rattle.std.specs.Prelude.{◌≡◌};
+ghost use Rattle.paraid_base.specs.Told.{HasRisen};
+ghost use Rattle.paraid_program.specs.Spares.{ServesSpares};
+ghost use Rattle.paraid_program.specs.Ends.{IsStatusOfRun, IsUnheard, MountsAndThen};
+
+use crate::fault::tell_refusal;
+use crate::outside::{Ended, Outside};
+use paraid_io::{Sink, Source};
+use paraid_rack::Rack;
+use paraid_recover::MountRefused;
+use paraid_serve::Serves;
+use paraid_sparing::serve_mounted as serve_spared;
+
+/// Mounts and answers each line of the source, with spares put in.
+pub fn run_with_spares<S: Source, K: Sink, R: Rack, A: Serves, O: Outside<R, A>>(
+    outside: &O,
+    source: &mut S,
+    sink: &mut K,
+    rack: R,
+    stock: u8,
+    wait: u32,
+) -> Ended<R>
+    ensures run { MountsAndThen (R.slot_count rack) (R.slot rack) (R.slot result.rack) (R.told rack)
+        (R.told result.rack) (K.written sink.old) (K.written sink.new) result.status
+        (IsUnheard (S.left source.old) (S.left source.new) (S.faults source.old) (S.faults source.new))
+        (ServesSpares (R.slot_count rack) (R.slot rack) (R.slot result.rack) (R.told result.rack)
+        (S.left source.old) (S.left source.new) (K.written sink.old) (K.written sink.new)
+        stock wait result.status) }
+    ensures slots { R.slot_count result.rack ≡ R.slot_count rack }
+    ensures status { IsStatusOfRun result.status }
+    ensures source { result.status ≡ 3 → HasRisen (S.faults source.old) (S.faults source.new) }
+    ensures sink { result.status ≡ 4 → HasRisen (K.faults sink.old) (K.faults sink.new) }
+{
+    match outside.mount(rack) {
+        Ok(mut array) => {
+            let status = serve_spared(source, sink, &mut array, stock, wait);
+            Ended {
+                status,
+                rack: outside.unmount(array),
+            }
+        }
+        Err(MountRefused { fault, rack }) => Ended {
+            status: tell_refusal(sink, fault),
+            rack,
+        },
+    }
+}
