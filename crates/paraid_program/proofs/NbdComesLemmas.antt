@@ -1,5 +1,5 @@
 -- How `nbd` comes out on a rack that held a history.
-use Rattle.std.proofs.Common.{◌≡◌, ℕ, ◌*◌, ◌⊎◌, List, [], ◌∷◌, ◌++◌, Option, Some, None, inl, inr, refl, sym, ap, ◌∙◌, subst, arith, ◌^◌}
+use Rattle.std.proofs.Common.{◌≡◌, ℕ, ◌*◌, List, [], ◌∷◌, ◌++◌, Option, Some, None, inr, refl, sym, ap, ◌∙◌, arith}
 use Rattle.paraid_base.specs.declared.event.Answer.{Answer}
 use Rattle.paraid_base.specs.declared.event.Answer.TheVariants.{Halted}
 use Rattle.paraid_base.specs.declared.event.Event.{Event}
