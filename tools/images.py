@@ -5,9 +5,10 @@ crates/paraid_record. As in the program, a block is a meta only if it is the one
 range: there is no sum to test. A missing image, one that is no file, and a sidecar whose word is
 neither `spinning` nor `parked` are absent disks; a link counts as its file, and one that leads nowhere
 is a disk that is shut. The size of a disk is its image's length divided by 512, rounded down: a label
-may follow the last block, and is not looked at."""
+may follow the last block, of the form of crates/paraid_imgrack."""
 import errno
 import os
+import re
 import stat
 import struct
 import sys
@@ -269,6 +270,19 @@ class Folder:
         whole = len(data) - len(data) % BLOCK
         return data[:whole].ljust(BLOCK * count, b"\0")
 
+    def label(self, disk):
+        """The label behind the last block, None where there is none, or no image that can be read."""
+        try:
+            file = self.opened(disk)
+            length = os.fstat(file).st_size
+            if length % BLOCK != LABEL_SIZE:
+                return None
+            return read_label(os.pread(file, LABEL_SIZE, length - LABEL_SIZE))
+        except PermissionError:
+            raise
+        except OSError:
+            return None
+
     def opened(self, disk):
         if disk not in self.files:
             flags = os.O_RDONLY | os.O_CLOEXEC | os.O_NONBLOCK
@@ -356,6 +370,81 @@ def refusal_by_standing(folder, powers, meta, batch):
         return f"two {down[0]} {down[1]}"
     count = max(meta.epoch, meta.writes)
     return f"worn {count}" if count >= WORN else None
+
+
+@dataclass
+class Label:
+    """What the text behind the blocks of an image says of it."""
+
+    array: str
+    disk: int
+    disks: int
+    generation: int
+    known: List[int]
+
+
+LABEL_SIZE = 384
+LABEL = re.compile(
+    rb"paraid label 1, kept by paraid after the blocks\narray ([0-9a-f]{32})\ndisk ([0-9]) of ([0-9])\n"
+    rb"generation ([0-9]{20})\n" + b"".join(rb"known %d ([0-9]{20})\n" % disk for disk in range(MOST_DISKS))
+    + rb"sum ([0-9a-f]{16})\n")
+SUMMED = 363
+
+
+def read_label(text):
+    """The label that a text is of, None where it is none, as where it was torn."""
+    said = LABEL.fullmatch(text)
+    if said is None:
+        return None
+    total = 0xCBF29CE484222325
+    for byte in text[:SUMMED]:
+        total = (total ^ byte) * 0x100000001B3 % 2**64
+    disk, disks, generation, *known = map(int, said.groups()[1:-1])
+    if int(said[said.lastindex], 16) != total or max(generation, *known) >= 2**64:
+        return None
+    return Label(said[1].decode(), disk, disks, generation, known)
+
+
+def labels_of(folder):
+    """The label of each image, None where it has none or its disk does not spin: a parked one is left alone."""
+    return [folder.label(disk) if folder.power(disk) == "spinning" else None for disk in range(MOST_DISKS)]
+
+
+def named_by(labels):
+    """A label of the array that the images are of: of the first one, where all in its slots are of it, or
+    else of the one that most are of. One in a slot past those of its own array names none."""
+    def within(label):
+        return [other for slot, other in enumerate(labels) if other and slot < label.disks]
+
+    def count(label):
+        return sum(other.array == label.array for other in within(label))
+
+    first = next((label for slot, label in enumerate(labels) if label and slot < label.disks), None)
+    if first is None or all(other.array == first.array for other in within(first)):
+        return first
+    return max([first, *filter(None, labels)], key=count)
+
+
+def misfits_of(labels):
+    """The images that do not belong into their slots, by slots: (`foreign`, `moved` or `old`, and why).
+    A mount refuses each of them."""
+    named, found = named_by(labels), {}
+    if named is None:
+        return found
+    right = [label for slot, label in enumerate(labels)
+             if label and slot < named.disks and label.disk == slot and label.array == named.array]
+    for slot, label in enumerate(labels[: named.disks]):
+        if label is None:
+            continue
+        known = max((other.known[slot] for other in right), default=0)
+        if label.array != named.array:
+            found[slot] = "foreign", "is of another array"
+        elif label.disk != slot:
+            found[slot] = "moved", f"is the image of disk {label.disk}"
+        elif label.generation < known:
+            found[slot] = "old", (f"is an old copy: its label has generation {label.generation},"
+                                  f" where the others know {known}")
+    return found
 
 
 def dirty_bytes(folder, meta, batch, power):
