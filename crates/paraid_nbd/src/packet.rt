@@ -5,10 +5,10 @@ ghost use Rattle.paraid_nbd.specs.Numbers.{number_bytes};
 use byteorder::{BigEndian, ByteOrder};
 use std::marker::Model;
 
-/// The most bytes that are sent at once, beside what is read from the device.
-const CAPACITY: usize = 160;
+/// The most bytes that are sent at once, but for a long read: its head, and then what was read.
+pub(crate) const CAPACITY: usize = 8208;
 
-/// The bytes written so far, at most 160.
+/// The bytes written so far, at most 8,208.
 #[derive(Drop)]
 pub(crate) struct Packet {
     bytes: [u8; CAPACITY],
@@ -20,7 +20,7 @@ impl Model for Packet {
 
     ghost view = { λ p. take p.at p.bytes };
 
-    ghost invariant = { λ p. (p.at ≤ 160) × (length p.bytes ≡ 160) };
+    ghost invariant = { λ p. (p.at ≤ 8208) × (length p.bytes ≡ 8208) };
 }
 
 impl Packet {
@@ -34,7 +34,7 @@ impl Packet {
     }
 
     pub(crate) fn put_bytes(&mut self, bytes: &[u8])
-        requires { length self.old + length bytes.now ≤ 160 }
+        requires { length self.old + length bytes.now ≤ 8208 }
         ensures value { self.new ≡ self.old ++ bytes.now }
         ensures length { length self.new ≡ length self.old + length bytes.now }
     {
@@ -45,7 +45,7 @@ impl Packet {
 
     #[tactic(auto, unfolding(crate::specs::Numbers::number_bytes))]
     pub(crate) fn put_u16(&mut self, value: u16)
-        requires { length self.old + 2 ≤ 160 }
+        requires { length self.old + 2 ≤ 8208 }
         ensures value { self.new ≡ self.old ++ number_bytes 2 value }
         ensures length { length self.new ≡ length self.old + 2 }
     {
@@ -56,7 +56,7 @@ impl Packet {
 
     #[tactic(auto, unfolding(crate::specs::Numbers::number_bytes))]
     pub(crate) fn put_u32(&mut self, value: u32)
-        requires { length self.old + 4 ≤ 160 }
+        requires { length self.old + 4 ≤ 8208 }
         ensures value { self.new ≡ self.old ++ number_bytes 4 value }
         ensures length { length self.new ≡ length self.old + 4 }
     {
@@ -67,7 +67,7 @@ impl Packet {
 
     #[tactic(auto, unfolding(crate::specs::Numbers::number_bytes))]
     pub(crate) fn put_u64(&mut self, value: u64)
-        requires { length self.old + 8 ≤ 160 }
+        requires { length self.old + 8 ≤ 8208 }
         ensures value { self.new ≡ self.old ++ number_bytes 8 value }
         ensures length { length self.new ≡ length self.old + 8 }
     {

@@ -20,6 +20,9 @@ use paraid_blocks::Blocks;
 use paraid_io::{Sink, Source, write_all};
 use std::alloc::Global;
 
+/// The most bytes of a read that are sent together with the head of its reply.
+const AT_ONCE: usize = 8192;
+
 /// Serves one client: the source is what it sends, the sink what it gets.
 pub fn serve_nbd<B: Blocks, S: Source, K: Sink>(
     alloc: Global,
@@ -304,11 +307,26 @@ fn reply<K: Sink>(
     packet.put_u32(REPLY);
     packet.put_u32(error_number(outcome));
     packet.put_u64(request.cookie);
-    send(sink, &packet)?;
     match (request.command, outcome) {
-        (Command::Read, Outcome::Done) => send_bytes(sink, content),
-        _ => Ok(()),
+        (Command::Read, Outcome::Done) => send_read(sink, packet, content),
+        _ => send(sink, &packet),
     }
+}
+
+// Sends the head of a reply and what was read: at once, unless that is long.
+fn send_read<K: Sink>(sink: &mut K, mut packet: Packet, content: &[u8]) -> Result<(), NbdEnd>
+    requires head { length packet ≡ 16 }
+    ensures sends { OnOk result (GrowsByBytes (K.written sink.old) (K.written sink.new) (packet ++ content.now)) }
+    ensures unsent { IfErr result (λ e. IsUnsent (K.written sink.old) (K.written sink.new) (packet ++ content.now)
+        (K.faults sink.old) (K.faults sink.new) e) }
+    ensures later_sink { K.faults sink.old ≤ K.faults sink.new }
+{
+    if content.len() <= AT_ONCE {
+        packet.put_bytes(content);
+        return send(sink, &packet);
+    }
+    send(sink, &packet)?;
+    send_bytes(sink, content)
 }
 
 // Sends bytes of the device.
