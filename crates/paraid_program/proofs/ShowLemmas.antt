@@ -5,6 +5,7 @@ use Rattle.paraid_recover.specs.declared.fault.MountFault.{MountFault}
 use Rattle.paraid_recover.specs.declared.fault.MountFault.TheVariants.{NotFormatted, BadLog, BadMeta, Size, Power, Two as TwoDown, Worn, NoMemory}
 use Rattle.paraid_serve.specs.Ending.{mount_line}
 use Rattle.paraid_program.specs.MountFaults.{mount_fault_status}
+use Rattle.paraid_program.specs.Planning.{IsPlanStatus}
 use Rattle.paraid_program.specs.Showing.{IsShowStatus}
 
 pub length-mount_line : (writes gear : ℕ) → writes < 2 ^ 64 → gear < 2 ^ 64 → length (mount_line writes gear) ≤ 99
@@ -26,3 +27,14 @@ refused_status (Power disk) status is = inr (inr (inr (inl is)))
 refused_status (TwoDown two) status is = inr (inr (inl is))
 refused_status (Worn count) status is = inr (inr (inr (inr (inr is))))
 refused_status NoMemory status is = inr (inr (inr (inr (inl is))))
+
+-- it is one of those of a plan too
+pub refused_plan_status : (fault : MountFault) (status : ℕ) → status ≡ mount_fault_status fault → IsPlanStatus status
+refused_plan_status NotFormatted status is = inr (inr (inr (inr (inl is))))
+refused_plan_status (BadLog disk) status is = inr (inr (inr (inr (inl is))))
+refused_plan_status (BadMeta disk) status is = inr (inr (inr (inr (inl is))))
+refused_plan_status (Size disk found needed) status is = inr (inr (inr (inr (inl is))))
+refused_plan_status (Power disk) status is = inr (inr (inr (inr (inl is))))
+refused_plan_status (TwoDown two) status is = inr (inr (inr (inl is)))
+refused_plan_status (Worn count) status is = inr (inr (inr (inr (inr (inr (inr (inl is)))))))
+refused_plan_status NoMemory status is = inr (inr (inr (inr (inr (inl is)))))

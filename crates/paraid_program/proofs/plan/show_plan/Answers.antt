@@ -1,9 +1,10 @@
-use Rattle.std.proofs.Common.{ℕ, length, subst}
+use Rattle.std.proofs.Common.{ℕ, inl, inr, length, subst}
 use Rattle.paraid_dirty.specs.Table.{is_dirty}
 use Rattle.paraid_program.specs.Planning.PlanOutcome.{refused, served}
 use Rattle.paraid_recover.specs.Mounted.{IsServable}
 use Rattle.paraid_txn.specs.Stores.{disks_of, epoch_of, named_of, store_rack}
 use Rattle.paraid_program.proofs.PlanLemmas.{plan_ended, plan_source}
+use Rattle.paraid_program.proofs.ShowLemmas.{refused_plan_status}
 use Rattle.paraid_program.proofs.plan.show_plan.Goals as goal
 
 pub returns-in-Ok-clause-plans : goal.returns-in-Ok-clause-plans
@@ -29,3 +30,9 @@ returns-in-Ok-clause-end g c zero = plan_ended c.in-Ok.field-0.meta c.args.ups _
 
 pub returns-in-Ok-clause-source : goal.returns-in-Ok-clause-source
 returns-in-Ok-clause-source g c three = plan_source c.in-Ok.field-0.meta c.args.ups _ _ _ _ c.tell_plan-status.result _ _ c.tell_plan-status.ensures.told three
+
+pub returns-clause-status : goal.returns-clause-status
+returns-clause-status g c = elim c.tell_refusal.ensures.tells.whole [
+  | inl four ↦ inr (inr (inl four))
+  | inr all ↦ refused_plan_status c.in-Err.field-0.fault c.tell_refusal.result all.1
+]
