@@ -120,6 +120,12 @@ class Meta:
     burst: int
     period: int
 
+    def setup(self):
+        """What the array is configured to be."""
+        it = self.geometry
+        return (it.disks, it.rows, it.gears, self.rate, self.service, self.up, self.down, self.mode, self.windows,
+                self.ration, self.burst, self.period, self.spinning_mj, self.parked_mj, self.spinup_mj)
+
     def allowance(self):
         """The spin-ups that a disk may have by now."""
         return min(self.ration, self.burst + self.ticks // self.period)
@@ -328,6 +334,17 @@ def standing(sides):
     return min(formed, key=lambda x: (-sides[x].meta.epoch, sides[x].opened, x), default=None)
 
 
+def are_paired(a, b):
+    """Whether what two log disks say fits together: it is the same, or one is a step ahead."""
+    if a.opened == b.opened:
+        return spelling(a.meta) == spelling(b.meta) and a.batch == b.batch
+    ahead, behind = (a.meta, b.meta) if a.opened else (b.meta, a.meta)
+    if spelling(ahead) == spelling(behind):
+        return True
+    return (ahead.epoch == behind.epoch + 1 and ahead.setup() == behind.setup()
+            and (None in (ahead.out, behind.out) or ahead.out == behind.out))
+
+
 def refusal(folder, sides):
     """The line by which the program would refuse to mount these disks, None where it would not."""
     powers = [folder.power(disk) for disk in range(MOST_DISKS)]
@@ -348,9 +365,8 @@ def refusal(folder, sides):
     if named == x:
         return f"badmeta {x}"
     other = sides[1 - x]
-    if sides[x].opened and other.opened and other.kind == "formed" and named not in (0, 1):
-        if spelling(other.meta) != spelling(meta) or other.batch != batch:
-            return f"badlog {1 - x}"
+    if other.kind == "formed" and named != 1 - x and not are_paired(sides[x], other):
+        return f"{'badlog' if sides[x].opened and other.opened else 'badmeta'} {1 - x}"
     return refusal_by_standing(folder, powers, meta, batch)
 
 

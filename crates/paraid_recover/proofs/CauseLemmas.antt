@@ -13,10 +13,10 @@ use Rattle.paraid_image.specs.Sides.{Batch, LogState}
 use Rattle.paraid_image.specs.Standing.{other_log}
 use Rattle.paraid_recover.specs.declared.fault.MountFault.{MountFault}
 use Rattle.paraid_recover.specs.declared.fault.MountFault.TheVariants.{NotFormatted, BadLog, BadMeta, Size, Power, Two as BothMissing, Worn, NoMemory}
-use Rattle.paraid_recover.specs.Examined.{AreHeard, IsRefused, IsRefusedAsHeard, IsRefusedByLogs, IsRefusedBySlots, Logs}
+use Rattle.paraid_recover.specs.Examined.{AreHeard, IsRefused, IsRefusedAsHeard, IsRefusedByLogs, IsRefusedBySlots, Logs, unpaired_fault}
 use Rattle.paraid_recover.specs.Examined.IsRefused.{by_slots, by_loss, as_heard}
 use Rattle.paraid_recover.specs.Examined.IsRefusedAsHeard.{by_logs, by_meta}
-use Rattle.paraid_recover.specs.Examined.IsRefusedByLogs.{by_sides, by_itself, at_odds}
+use Rattle.paraid_recover.specs.Examined.IsRefusedByLogs.{by_sides, by_itself, unpaired}
 use Rattle.paraid_recover.specs.Examined.IsRefusedBySlots.{asleep, few}
 use Rattle.paraid_recover.specs.Order.{IsRefusedBy}
 use Rattle.paraid_recover.specs.Refusals.{AreMissing, IsLeastDisk, is_lacking}
@@ -28,7 +28,7 @@ use Rattle.paraid_recover.specs.Examined.{is_log_parked}
 use Rattle.paraid_recover.specs.Order.{AreAwake, AreEnough, AreSlotsLarge, size_found}
 use Rattle.paraid_recover.specs.Refusals.{is_asleep, is_small}
 use Rattle.paraid_recover.specs.Said.{IsLeastAtFault}
-use Rattle.paraid_recover.proofs.ExactLemmas.{AreAlike, alike, double, is_out-some, lacking_is, logs_or_agreed, loss_or_one, same_standing, sides_or_formed, slots_or_readable}
+use Rattle.paraid_recover.proofs.ExactLemmas.{AreAlike, alike, double, is_out-some, lacking_is, logs_or_agreed, loss_or_one, same_pair, same_standing, sides_or_formed, slots_or_readable}
 
 unique_least : (is : ℕ → Bool) (n d e : ℕ) → IsLeastDisk is n d → IsLeastDisk is n e → d ≡ e
 unique_least is n d e p q = elim (cases_lt d e) [
@@ -161,22 +161,25 @@ logs_one : (a b : Logs) → AreAlike a b → (f g : MountFault) → IsRefusedByL
 logs_one a b same f g (by_sides p) (by_sides q) = sides_one b.sides f g (subst (λ (s : Sides). IsRefusedBySides s f) same.sides p) q
 logs_one a b same f g (by_sides p) (by_itself all y s stands named is) =
     absurd (sides_or_formed b.sides f (subst (λ (s : Sides). IsRefusedBySides s f) same.sides p) all)
-logs_one a b same f g (by_sides p) (at_odds all y s stands live odds is) =
+logs_one a b same f g (by_sides p) (unpaired all y s stands live pair is) =
     absurd (sides_or_formed b.sides f (subst (λ (s : Sides). IsRefusedBySides s f) same.sides p) all)
 logs_one a b same f g (by_itself all x r stands named is) (by_sides q) =
     absurd (sides_or_formed a.sides g (subst (λ (s : Sides). IsRefusedBySides s g) (sym same.sides) q) all)
 logs_one a b same f g (by_itself all x r stands named is) (by_itself more y s also out at) =
     is ∙ ap BadMeta (same_standing a b same x y r s stands also).0 ∙ sym at
-logs_one a b same f g (by_itself all x r stands named is) (at_odds more y s also live odds at) =
+logs_one a b same f g (by_itself all x r stands named is) (unpaired more y s also live pair at) =
     let t = same_standing a b same x y r s stands also in
     absurd (live (ap (λ (z : LogState). named_out z.meta.out) (sym t.1) ∙ named ∙ ap Some t.0))
-logs_one a b same f g (at_odds all x r stands live odds is) (by_sides q) =
+logs_one a b same f g (unpaired all x r stands live pair is) (by_sides q) =
     absurd (sides_or_formed a.sides g (subst (λ (s : Sides). IsRefusedBySides s g) (sym same.sides) q) all)
-logs_one a b same f g (at_odds all x r stands live odds is) (by_itself more y s also out at) =
+logs_one a b same f g (unpaired all x r stands live pair is) (by_itself more y s also out at) =
     let t = same_standing a b same x y r s stands also in
     absurd (live (ap (λ (z : LogState). named_out z.meta.out) t.1 ∙ out ∙ ap Some (sym t.0)))
-logs_one a b same f g (at_odds all x r stands live odds is) (at_odds more y s also spared others at) =
-    is ∙ ap (λ (z : ℕ). BadLog (other_log z)) (same_standing a b same x y r s stands also).0 ∙ sym at
+logs_one a b same f g (unpaired all x r stands live pair is) (unpaired more y s also spared twin at) =
+    let both = same_pair a b same pair twin in
+    is ∙ ap (λ (z : ℕ). unpaired_fault pair.first.opened pair.second.opened (other_log z)) (same_standing a b same x y r s stands also).0
+    ∙ ap (λ (z : LogState). unpaired_fault z.opened pair.second.opened (other_log y)) both.0
+    ∙ ap (λ (z : LogState). unpaired_fault twin.first.opened z.opened (other_log y)) both.1 ∙ sym at
 
 heard_one : (told : Option Trail) (count : ℕ) (slot : ℕ → Slot) (a b : Logs) → AreAlike a b → AreAlike b a → AreHeard told slot b → (f g : MountFault)
     → IsRefusedAsHeard count slot a f → IsRefusedAsHeard count slot b g → f ≡ g

@@ -25,10 +25,10 @@ use Rattle.paraid_image.specs.Standing.{other_log, standing}
 use Rattle.paraid_image.proofs.SidesLemmas.{Says-same, blank_says_nothing}
 use Rattle.paraid_recover.specs.declared.fault.MountFault.{MountFault}
 use Rattle.paraid_recover.specs.declared.fault.MountFault.TheVariants.{NotFormatted, BadLog, BadMeta, Size, Power, Two as BothMissing, Worn, NoMemory}
-use Rattle.paraid_recover.specs.Examined.{AreAtOdds, AreHeard, AreReadable, IsAgreed, IsExamined, IsRefused, IsRefusedByLogs, IsRefusedBySlots, IsStanding, Logs, side_of}
+use Rattle.paraid_recover.specs.Examined.{AreHeard, AreReadable, AreUnpaired, IsAgreed, IsExamined, IsRefused, IsRefusedByLogs, IsRefusedBySlots, IsStanding, Logs, side_of}
 use Rattle.paraid_recover.specs.Examined.IsRefused.{by_slots, by_loss, as_heard}
 use Rattle.paraid_recover.specs.Examined.IsRefusedAsHeard.{by_logs, by_meta}
-use Rattle.paraid_recover.specs.Examined.IsRefusedByLogs.{by_sides, by_itself, at_odds}
+use Rattle.paraid_recover.specs.Examined.IsRefusedByLogs.{by_sides, by_itself, unpaired}
 use Rattle.paraid_recover.specs.Examined.IsRefusedBySlots.{asleep, few}
 use Rattle.paraid_recover.specs.Order.{IsRefusedBy, IsNotRefused}
 use Rattle.paraid_recover.specs.Refusals.{AreMissing, IsLeastDisk, is_lacking}
@@ -112,18 +112,23 @@ module _ (a b : Logs) (same : AreAlike a b) where
       let says : formed s ≡ formed r = sym p.says ∙ side_alike x ∙ ap (side_of b) is ∙ q.says in
       (is, cc)
 
-  odds_alike : AreAtOdds a → AreAtOdds b
-  odds_alike odds = record {
-    first = odds.first;
-    second = odds.second;
-    says_first = sym same.first ∙ odds.says_first;
-    says_second = sym same.second ∙ odds.says_second;
-    first_open = odds.first_open;
-    second_open = odds.second_open;
-    first_live = λ is. odds.first_live (ap standing_out same.sides ∙ is);
-    second_live = λ is. odds.second_live (ap standing_out same.sides ∙ is);
-    apart = odds.apart;
+  unpaired_alike : AreUnpaired a → AreUnpaired b
+  unpaired_alike pair = record {
+    first = pair.first;
+    second = pair.second;
+    says_first = sym same.first ∙ pair.says_first;
+    says_second = sym same.second ∙ pair.says_second;
+    first_live = λ is. pair.first_live (ap standing_out same.sides ∙ is);
+    second_live = λ is. pair.second_live (ap standing_out same.sides ∙ is);
+    apart = pair.apart;
   }
+
+  -- what both say is known
+  pub same_pair : (p : AreUnpaired a) (q : AreUnpaired b) → (p.first ≡ q.first) × (p.second ≡ q.second)
+  same_pair p q =
+      let one : formed p.first ≡ formed q.first = sym p.says_first ∙ same.first ∙ q.says_first in
+      let two : formed p.second ≡ formed q.second = sym p.says_second ∙ same.second ∙ q.says_second in
+      (cc, cc)
 
 -- Logs
 
@@ -143,7 +148,7 @@ logs_or_agreed a b same fault (by_sides refused) x said agreed =
 logs_or_agreed a b same fault (by_itself all y s stands named is) x said agreed =
     let at = same_standing a b same y x s said stands agreed.standing in
     agreed.live (ap (λ (z : LogState). named_out z.meta.out) (sym at.1) ∙ named ∙ ap Some at.0)
-logs_or_agreed a b same fault (at_odds all y s stands live odds is) x said agreed = agreed.paired (odds_alike a b same odds)
+logs_or_agreed a b same fault (unpaired all y s stands live pair is) x said agreed = agreed.paired (unpaired_alike a b same pair)
 
 -- The meta
 

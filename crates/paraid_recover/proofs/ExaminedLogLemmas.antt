@@ -15,15 +15,17 @@ use Rattle.paraid_recover.specs.HeardSides.{IsHeardAt, IsInForm, side_by}
 use Rattle.paraid_image.specs.Out.{is_out}
 use Rattle.paraid_image.specs.Sides.{Batch, IsSide, LogState, Says, Side}
 use Rattle.paraid_image.specs.Sides.Side.{absent, blank, bad, formed}
-use Rattle.paraid_image.specs.Standing.{Stands, is_first, standing}
+use Rattle.paraid_image.specs.Sound.{Pairing}
+use Rattle.paraid_image.specs.Standing.{Stands, is_first, other_log, standing}
 use Rattle.paraid_image.proofs.SidesLemmas.{Says-same}
 use Rattle.paraid_image.proofs.StandingLemmas.{Stands-same, stands-from_sides}
 use Rattle.paraid_txn.specs.Resume.{log_state}
+use Rattle.paraid_recover.specs.declared.fault.MountFault.{MountFault}
 use Rattle.paraid_recover.specs.declared.fault.MountFault.TheVariants.{Worn}
-use Rattle.paraid_recover.specs.Examined.{AreAtOdds, AreHeard, IsRefused, IsRefusedByLogs, IsRefusedBySlots, IsStanding, is_log_parked, logs_of, Logs, side_of}
+use Rattle.paraid_recover.specs.Examined.{AreHeard, AreUnpaired, IsRefused, IsRefusedByLogs, IsRefusedBySlots, IsStanding, is_log_parked, logs_of, Logs, side_of, unpaired_fault}
 use Rattle.paraid_recover.specs.Examined.IsRefused.{by_slots, by_loss, as_heard}
 use Rattle.paraid_recover.specs.Examined.IsRefusedAsHeard.{by_logs, by_meta}
-use Rattle.paraid_recover.specs.Examined.IsRefusedByLogs.{by_sides, by_itself, at_odds}
+use Rattle.paraid_recover.specs.Examined.IsRefusedByLogs.{by_sides, by_itself, unpaired}
 use Rattle.paraid_recover.specs.Examined.IsRefusedBySlots.{asleep, few}
 use Rattle.paraid_recover.specs.Refusals.{IsLeastDisk, meta_wear}
 use Rattle.paraid_recover.specs.Said.{standing_out}
@@ -39,13 +41,6 @@ formed_side (Some (Bad gate_open)) b said is = cc
 formed_side (Some (Formed gate_open meta)) b said is =
     let same : log_state gate_open meta b ≡ said = cc in
     (ap (λ (s : LogState). Some (Formed s.opened s.meta)) same, ap (λ (s : LogState). s.batch) same)
-
--- and so under an open gate
-pub open_side : (h : Option Heard) (b : Batch) (said : LogState) → side_by h b ≡ formed said → said.opened ≡ true
-    → (h ≡ Some (Formed true said.meta)) × (b ≡ said.batch)
-open_side h b said is opened =
-    let f = formed_side h b said is in
-    (f.0 ∙ ap (λ (o : Bool). Some (Formed o said.meta)) opened, f.1)
 
 pub heard_in_range : (h : Option Heard) (b : Batch) (opened : Bool) (m : Meta) → h ≡ Some (Formed opened m) → IsInForm h b → IsInRange m
 heard_in_range h b opened m is form = (subst (λ (k : Option Heard). IsInForm k b) is form).0
@@ -98,33 +93,32 @@ pub not_false : (b : Bool) → not b ≡ false → b ≡ true
 not_false true is = refl
 not_false false is = cc
 
--- At odds
+-- Pairs
 
-module _ (sides : Sides) (a b : Batch) (m n : Meta) (first : sides.first ≡ Some (Formed true m)) (second : sides.second ≡ Some (Formed true n)) where
-  pub are_at_odds : (standing_out sides ≢ Some 0) × (standing_out sides ≢ Some 1) → (m ≡ n → a ≡ b → ⊥) → AreAtOdds (logs_of sides a b)
-  are_at_odds live differ = record {
-    first = log_state true m a;
-    second = log_state true n b;
-    says_first = ap (λ (h : Option Heard). side_by h a) first;
-    says_second = ap (λ (h : Option Heard). side_by h b) second;
-    first_open = refl;
-    second_open = refl;
-    first_live = live.0;
-    second_live = live.1;
-    apart = λ same. differ (ap (λ (s : LogState). s.meta) same) (ap (λ (s : LogState). s.batch) same);
-  }
+module _ (sides : Sides) (a b : Batch) (o p : Bool) (m n : Meta) (first : sides.first ≡ Some (Formed o m)) (second : sides.second ≡ Some (Formed p n)) where
+  pub are_unpaired : (standing_out sides ≢ Some 0) × (standing_out sides ≢ Some 1) → (Pairing (log_state o m a) (log_state p n b) → ⊥)
+      → (disk : ℕ) (fault : MountFault) → fault ≡ unpaired_fault o p disk
+      → (pair : AreUnpaired (logs_of sides a b)) × (fault ≡ unpaired_fault pair.first.opened pair.second.opened disk)
+  are_unpaired live apart disk fault is = (
+    record {
+      first = log_state o m a;
+      second = log_state p n b;
+      says_first = ap (λ (h : Option Heard). side_by h a) first;
+      says_second = ap (λ (h : Option Heard). side_by h b) second;
+      first_live = live.0;
+      second_live = live.1;
+      apart = apart;
+    },
+    is,
+  )
 
-  pub not_at_odds : m ≡ n → a ≡ b → AreAtOdds (logs_of sides a b) → ⊥
-  not_at_odds metas batches odds = odds.apart (sym one ∙ two)
+  pub not_unpaired : Pairing (log_state o m a) (log_state p n b) → AreUnpaired (logs_of sides a b) → ⊥
+  not_unpaired pairing odds =
+      odds.apart (subst (Pairing odds.first) (said_is sides.second b p n odds.second second odds.says_second)
+      (subst (λ (s : LogState). Pairing s (log_state p n b)) (said_is sides.first a o m odds.first first odds.says_first) pairing))
     where
-      said_is : (h : Option Heard) (c : Batch) (k : Meta) (said : LogState) → h ≡ Some (Formed true k) → side_by h c ≡ formed said → log_state true k c ≡ said
-      said_is h c k said is says = let at : formed (log_state true k c) ≡ formed said = sym (ap (λ (j : Option Heard). side_by j c) is) ∙ says in cc
-
-      one : log_state true m a ≡ odds.first
-      one = said_is sides.first a m odds.first first odds.says_first
-
-      two : log_state true m a ≡ odds.second
-      two = ap (λ (k : Meta). log_state true k a) metas ∙ ap (λ (c : Batch). log_state true n c) batches ∙ said_is sides.second b n odds.second second odds.says_second
+      said_is : (h : Option Heard) (c : Batch) (g : Bool) (k : Meta) (said : LogState) → h ≡ Some (Formed g k) → side_by h c ≡ formed said → log_state g k c ≡ said
+      said_is h c g k said is says = let at : formed (log_state g k c) ≡ formed said = sym (ap (λ (j : Option Heard). side_by j c) is) ∙ says in cc
 
 -- Slots
 
@@ -166,10 +160,15 @@ worn_slots : (count : ℕ) (slot : ℕ → Slot) (c : ℕ) → IsRefusedBySlots 
 worn_slots count slot c (asleep x least is) = cc
 worn_slots count slot c (few awake low is) = cc
 
+pub unpaired_worn : (o p : Bool) (d c : ℕ) → Worn c ≡ unpaired_fault o p d → ⊥
+unpaired_worn true true d c is = cc
+unpaired_worn true false d c is = cc
+unpaired_worn false p d c is = cc
+
 worn_logs : (logs : Logs) (c : ℕ) → IsRefusedByLogs logs (Worn c) → ⊥
 worn_logs logs c (by_sides never) = never
 worn_logs logs c (by_itself all x said stands named is) = cc
-worn_logs logs c (at_odds all x said stands live odds is) = cc
+worn_logs logs c (unpaired all x said stands live pair is) = unpaired_worn pair.first.opened pair.second.opened (other_log x) c is
 
 pub worn_stands : (count : ℕ) (old new : ℕ → Slot) (told : Option Trail) (c : ℕ) → IsRefused count old new told (Worn c)
     → (t : Trail) → told ≡ Some t → (x : ℕ) (said : LogState) → Stands (now t) x said → (c ≡ meta_wear said.meta) × (worn_at ≤ c)

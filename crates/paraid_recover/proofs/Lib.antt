@@ -10,6 +10,7 @@ pub mod BothLemmas
 pub mod FailedLemmas
 pub mod WearLemmas
 mod AlikeLemmas
+mod PairingLemmas
 mod CauseLemmas
 mod ExactLemmas
 pub mod ExaminedLogLemmas

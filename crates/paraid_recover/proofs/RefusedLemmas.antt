@@ -1,5 +1,5 @@
 -- The end of a mount that is refused.
-use Rattle.std.proofs.Common.{◌≡◌, ◌≢◌, ℕ, ◌<◌, ◌≤◌, ◌⊎◌, true, false, List, [], ◌∷◌, ◌++◌, Option, Some, None, sym, ap, ◌∙◌, inl, inr, subst, arith, zero, suc}
+use Rattle.std.proofs.Common.{◌≡◌, ◌≢◌, ℕ, ◌-◌, ◌<◌, ◌≤◌, ◌⊎◌, true, false, List, [], ◌∷◌, ◌++◌, Option, Some, None, sym, ap, ◌∙◌, inl, inr, subst, arith, zero, suc}
 use Rattle.std.proofs.lemmas.Bool.{cases_eq, false≢true}
 use Rattle.paraid_base.specs.declared.fault.Two.{Two}
 use Rattle.paraid_base.specs.History.{History}
@@ -24,9 +24,9 @@ use Rattle.paraid_recover.specs.declared.fault.MountFault.TheVariants.{NotFormat
 use Rattle.paraid_recover.specs.Examined.{IsExamined, IsRefused, IsRefusedByLogs, IsRefusedBySlots, Logs}
 use Rattle.paraid_recover.specs.Examined.IsRefused.{by_slots, by_loss, as_heard}
 use Rattle.paraid_recover.specs.Examined.IsRefusedAsHeard.{by_logs, by_meta}
-use Rattle.paraid_recover.specs.Examined.IsRefusedByLogs.{by_sides, by_itself, at_odds}
+use Rattle.paraid_recover.specs.Examined.IsRefusedByLogs.{by_sides, by_itself, unpaired}
 use Rattle.paraid_recover.specs.Examined.IsRefusedBySlots.{asleep, few}
-use Rattle.paraid_recover.proofs.ExaminedLogLemmas.{worn_stands}
+use Rattle.paraid_recover.proofs.ExaminedLogLemmas.{unpaired_worn, worn_stands}
 use Rattle.paraid_recover.proofs.WearLemmas.{refused_for_wear}
 use Rattle.paraid_session.specs.Mount.{IsBase, IsCauseOutsideDisks, Refusal, lacking, no_memory, start_watch, worn}
 use Rattle.paraid_session.specs.Watch.{Down, IsServing, Watch, watch_all}
@@ -73,7 +73,7 @@ slots_worn count slot c (few awake low is) = cc
 logs_worn : (logs : Logs) (c : ℕ) → IsRefusedByLogs logs (Worn c) → ⊥
 logs_worn logs c (by_sides never) = never
 logs_worn logs c (by_itself all x said stands name is) = cc
-logs_worn logs c (at_odds all x said stands live odds is) = cc
+logs_worn logs c (unpaired all x said stands live pair is) = unpaired_worn pair.first.opened pair.second.opened (1 - x) c is
 
 worn_many : (count : ℕ) (old new : ℕ → Slot) (told : Option Trail) (c : ℕ) → IsRefused count old new told (Worn c) → worn_at ≤ c
 worn_many count old new told c (by_slots refused same) = absurd (slots_worn count old c refused)

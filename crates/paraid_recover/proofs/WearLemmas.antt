@@ -23,8 +23,7 @@ use Rattle.paraid_image.specs.Out.{IsDouble, IsMissing, is_out, named_out, out_d
 use Rattle.paraid_image.specs.Rest.{AreSynced}
 use Rattle.paraid_image.specs.Sides.{Batch, IsSide, LogState, Says, Side, targets}
 use Rattle.paraid_image.specs.Sides.Side.{absent, blank, bad, formed}
-use Rattle.paraid_image.specs.Sound.{AreDisks, IsSoundAt, LogOk, Pairing}
-use Rattle.paraid_image.specs.Sound.Pairing.{alike, first_ahead, first_done, second_ahead, second_done}
+use Rattle.paraid_image.specs.Sound.{AreDisks, IsSoundAt, LogOk}
 use Rattle.paraid_image.specs.Standing.{Stands, is_first, standing}
 use Rattle.paraid_image.proofs.AlikeLemmas.{sound_alike}
 use Rattle.paraid_image.proofs.CallLemmas.{decide_some}
@@ -38,7 +37,7 @@ use Rattle.paraid_recover.specs.HeardSides.{AreBothLost, IsHeardAt, side_by}
 use Rattle.paraid_txn.specs.Batches.{names_disk}
 use Rattle.paraid_recover.specs.declared.fault.MountFault.{MountFault}
 use Rattle.paraid_recover.specs.declared.fault.MountFault.TheVariants.{NotFormatted, BadLog, BadMeta, Size, Power, Two as BothMissing, Worn, NoMemory}
-use Rattle.paraid_recover.specs.Examined.{AreAtOdds, IsAgreed, IsRefused, IsRefusedBySlots, Logs, batch_at, side_of}
+use Rattle.paraid_recover.specs.Examined.{AreUnpaired, IsAgreed, IsRefused, IsRefusedBySlots, Logs, batch_at, side_of}
 use Rattle.paraid_recover.specs.Examined.IsRefused.{by_slots, by_loss, as_heard}
 use Rattle.paraid_recover.specs.Examined.IsRefusedAsHeard.{by_logs, by_meta}
 use Rattle.paraid_recover.specs.Examined.IsRefusedBySlots.{asleep, few}
@@ -95,14 +94,6 @@ named_target (w ∷ b) d is = elim (or_cases (w.0.disk == d) (names_disk b d) is
   | inl here ↦ (w.0, Contains-get_or (w.0 ∷ targets b) 0 w.0 (omega arith), same_of w.0.disk d here)
   | inr later ↦ let it = named_target b d later in (it.0, Contains-append_right (w.0 ∷ []) (targets b) it.0 it.1, it.2)
 ]
-
--- two open logs that fit together say the same
-both_open : (a b : LogState) → Pairing a b → a.opened ≡ true → b.opened ≡ true → a ≡ b
-both_open a b (alike is) p q = is
-both_open a b (first_ahead is) p q = absurd (true≢false (sym q ∙ is.closed))
-both_open a b (second_ahead is) p q = absurd (true≢false (sym p ∙ is.closed))
-both_open a b (first_done is) p q = absurd (true≢false (sym q ∙ is.closed))
-both_open a b (second_done is) p q = absurd (true≢false (sym p ∙ is.closed))
 
 -- what stands does not depend on the batches
 batchless : (h k : Option Heard) (a b : Batch) → standing (side_by h []) (side_by k []) ≡ standing (side_by h a) (side_by k b)
@@ -288,13 +279,12 @@ module _ (count : ℕ) (new : ℕ → Slot) (i : Disks) (h : History) (lo : ℕ)
         let it = log.formed y fault.log_disk there (out_present i.power m y there (λ name. fault.live (out_is ∙ name))) in
         not_faulty gate (side_at logs.sides y) it.0.opened it.0.meta (heard_formed y it.0 fault.log_disk it.1) fault.faulty
 
-    paired : AreAtOdds logs → ⊥
-    paired odds =
-        let one : Says i 0 odds.first = subst (IsSide i 0) odds.says_first (side_is 0 (omega arith)) in
-        let two : Says i 1 odds.second = subst (IsSide i 1) odds.says_second (side_is 1 (omega arith)) in
-        odds.apart (both_open odds.first odds.second
-        (log.paired odds.first odds.second one two (out_present i.power m 0 one.present (λ name. odds.first_live (out_is ∙ name))) (out_present i.power m 1 two.present (λ name. odds.second_live (out_is ∙ name))))
-        odds.first_open odds.second_open)
+    paired : AreUnpaired logs → ⊥
+    paired pair =
+        let one : Says i 0 pair.first = subst (IsSide i 0) pair.says_first (side_is 0 (omega arith)) in
+        let two : Says i 1 pair.second = subst (IsSide i 1) pair.says_second (side_is 1 (omega arith)) in
+        pair.apart (log.paired pair.first pair.second one two
+        (out_present i.power m 0 one.present (λ name. pair.first_live (out_is ∙ name))) (out_present i.power m 1 two.present (λ name. pair.second_live (out_is ∙ name))))
 
     says_x : side_of logs x ≡ formed said
     says_x = formed_of i x (side_of logs x) said (side_is x log.stands.log_disk) log.stands.says

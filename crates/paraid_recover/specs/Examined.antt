@@ -1,5 +1,5 @@
 -- Why a mount is refused before a write, and what it goes on with where it is not.
-use Rattle.std.specs.Prelude.{◌≡◌, ◌≢◌, ℕ, ◌<◌, ◌≤◌, Bool, true, Option, Some}
+use Rattle.std.specs.Prelude.{◌≡◌, ◌≢◌, ℕ, ◌<◌, ◌≤◌, ◌&&◌, Bool, Option, Some, if◌then◌else◌}
 use Rattle.std.proofs.Common.{zero, suc}
 use Rattle.paraid_base.specs.declared.fault.Two.{Two}
 use Rattle.paraid_rack.specs.Slots.{Slot, AreSameSlots}
@@ -9,6 +9,7 @@ use Rattle.paraid_recover.specs.HeardSides.{AreBothLost, IsHeardAt, IsHeardBy, I
 use Rattle.paraid_image.specs.Out.{named_out}
 use Rattle.paraid_image.specs.Sides.{Batch, LogState, Side}
 use Rattle.paraid_image.specs.Sides.Side.{formed}
+use Rattle.paraid_image.specs.Sound.{Pairing}
 use Rattle.paraid_image.specs.Standing.{other_log, standing}
 use Rattle.paraid_recover.specs.declared.fault.MountFault.{MountFault}
 use Rattle.paraid_recover.specs.declared.fault.MountFault.TheVariants.{NotFormatted, BadLog, BadMeta, Power, Two as BothMissing}
@@ -51,33 +52,36 @@ pub record IsStanding (logs : Logs) (x : ℕ) (said : LogState) : Type 0 where
   pub stands : standing (side_of logs 0) (side_of logs 1) ≡ Some x
   pub says : side_of logs x ≡ formed said
 
--- both log disks are live and open, and say different things
-pub record AreAtOdds (logs : Logs) : Type 0 where
+-- both log disks are live and well formed, and what they say does not fit together
+pub record AreUnpaired (logs : Logs) : Type 0 where
   pub first : LogState
   pub second : LogState
   pub says_first : side_of logs 0 ≡ formed first
   pub says_second : side_of logs 1 ≡ formed second
-  pub first_open : first.opened ≡ true
-  pub second_open : second.opened ≡ true
   pub first_live : standing_out logs.sides ≢ Some 0
   pub second_live : standing_out logs.sides ≢ Some 1
-  pub apart : first ≢ second
+  pub apart : Pairing first second → ⊥
+
+-- one of them refuses the mount: for its log where both gates are open, else for its meta
+abbrev pub unpaired_fault : Bool → Bool → ℕ → MountFault
+unpaired_fault first_open second_open disk = if first_open && second_open then BadLog disk else BadMeta disk
 
 -- Why a mount is refused by what the log disks say, in the order of the tests: by each alone; by
--- one that stands and names itself out, which no array writes; by two that are at odds.
+-- one that stands and names itself out, which no array writes; by the one of two that are unpaired
+-- which does not stand.
 pub data IsRefusedByLogs (logs : Logs) (fault : MountFault) : Type 0 where
   by_sides : IsRefusedBySides logs.sides fault → IsRefusedByLogs logs fault
   by_itself : AreSidesFormed logs.sides → (x : ℕ) (said : LogState) → IsStanding logs x said
       → named_out said.meta.out ≡ Some x → fault ≡ BadMeta x → IsRefusedByLogs logs fault
-  at_odds : AreSidesFormed logs.sides → (x : ℕ) (said : LogState) → IsStanding logs x said
-      → named_out said.meta.out ≢ Some x → AreAtOdds logs → fault ≡ BadLog (other_log x) → IsRefusedByLogs logs fault
+  unpaired : AreSidesFormed logs.sides → (x : ℕ) (said : LogState) → IsStanding logs x said → named_out said.meta.out ≢ Some x
+      → (pair : AreUnpaired logs) → fault ≡ unpaired_fault pair.first.opened pair.second.opened (other_log x) → IsRefusedByLogs logs fault
 
 -- none of these causes is there, and this stands
 pub record IsAgreed (logs : Logs) (x : ℕ) (said : LogState) : Type 0 where
   pub formed : AreSidesFormed logs.sides
   pub standing : IsStanding logs x said
   pub live : named_out said.meta.out ≢ Some x
-  pub paired : AreAtOdds logs → ⊥
+  pub paired : AreUnpaired logs → ⊥
 
 -- whether this log disk is parked
 abbrev pub is_log_parked : (ℕ → Slot) → ℕ → Bool

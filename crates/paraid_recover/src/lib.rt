@@ -28,6 +28,7 @@ mod making;
 mod map;
 mod marking;
 mod mounting;
+mod pairing;
 mod power;
 mod powers;
 mod reads;

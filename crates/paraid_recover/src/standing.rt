@@ -1,15 +1,16 @@
 //! What stands, where the log disks agree.
-ghost use Rattle.std.specs.Prelude.{◌≡◌, ◌≢◌, ◌⊎◌, Bool, true, false, Some, None, IfSome, IfOk, IfErr, MatchOption};
+ghost use Rattle.std.specs.Prelude.{◌≡◌, ◌≢◌, ◌⊎◌, ◌<◌, Bool, true, false, Some, None, IfSome, IfOk, IfErr, MatchOption};
 ghost use Rattle.paraid_image.specs.Sides.{Batch as BatchValue};
-ghost use Rattle.paraid_recover.specs.Examined.{AreAtOdds, IsAgreed, IsRefusedByLogs, IsStanding, batch_at, logs_of};
+ghost use Rattle.paraid_image.specs.Standing.{other_log};
+ghost use Rattle.paraid_recover.specs.Examined.{AreUnpaired, IsAgreed, IsRefusedByLogs, IsStanding, batch_at, logs_of, unpaired_fault as unpaired_fault_of};
 ghost use Rattle.paraid_recover.specs.Said.{AreSidesFormed};
 ghost use Rattle.paraid_record.specs.declared.meta.Meta.{Meta as MetaType};
 ghost use Rattle.paraid_recover.specs.declared.hearing.Heard.TheVariants.{Formed};
 ghost use Rattle.paraid_recover.specs.HeardSides.{IsInForm};
 ghost use Rattle.paraid_txn.specs.Resume.{log_state as said_by};
 
-use crate::alike::{is_same_batch, is_same_meta};
 use crate::fault::MountFault;
+use crate::pairing::fit_together;
 use crate::sides::{refusal_by_sides, standing_out};
 use crate::{Heard, Sides, choose};
 use paraid_base::DiskNo;
@@ -25,7 +26,7 @@ pub struct Standing {
     pub meta: Meta,
 }
 
-// What stands where this log disk does.
+// What a log disk says, if it is well formed.
 fn standing_by(side: DiskNo, heard: Option<Heard>) -> Option<Standing>
     ensures { MatchOption result
         ((opened : Bool) (meta : MetaType) → heard ≢ Some (Formed opened meta))
@@ -54,22 +55,6 @@ fn standing_of(sides: &Sides) -> Option<Standing>
     }
 }
 
-// The meta of a side that is well formed under an open gate.
-fn open_meta(side: Option<Heard>) -> Option<Meta>
-    ensures { MatchOption result ((meta : MetaType) → side ≢ Some (Formed true meta))
-        (λ meta. side ≡ Some (Formed true meta)) }
-{
-    match side {
-        Some(
-            Heard::Formed {
-                gate_open: true,
-                meta,
-            },
-        ) => Some(meta),
-        _ => None,
-    }
-}
-
 // Whether one of both log disks is named out.
 fn is_log_out(out: Option<DiskNo>) -> bool
     ensures yes { result ≡ true → (out ≡ Some 0) ⊎ (out ≡ Some 1) }
@@ -82,26 +67,42 @@ fn is_log_out(out: Option<DiskNo>) -> bool
     }
 }
 
-// Whether both log disks are live and open and say different things.
-fn are_at_odds(sides: &Sides, first: &Batch, second: &Batch) -> bool
+// Why a mount is refused by the one of two unpaired log disks that does not stand, by both gates.
+fn unpaired_fault(first_open: bool, second_open: bool, side: DiskNo) -> MountFault
+    requires { side < 2 }
+    ensures { result ≡ unpaired_fault_of first_open second_open (other_log side) }
+{
+    let disk = 1 - side;
+    if first_open && second_open {
+        MountFault::BadLog { disk }
+    } else {
+        MountFault::BadMeta { disk }
+    }
+}
+
+// Why a mount is refused where both log disks are live and well formed and are unpaired, and this
+// side stands.
+fn refusal_by_pair(sides: &Sides, first: &Batch, second: &Batch, side: DiskNo) -> Option<MountFault>
     requires first_form { IsInForm sides.now.first first.now }
     requires second_form { IsInForm sides.now.second second.now }
-    ensures yes { result ≡ true → AreAtOdds (logs_of sides.now first.now second.now) }
-    ensures no { result ≡ false → AreAtOdds (logs_of sides.now first.now second.now) → ⊥ }
+    requires side { side < 2 }
+    ensures { MatchOption result (AreUnpaired (logs_of sides.now first.now second.now) → ⊥)
+        (λ fault. (pair : AreUnpaired (logs_of sides.now first.now second.now))
+        × (fault ≡ unpaired_fault_of pair.first.opened pair.second.opened (other_log side))) }
 {
-    let Some(meta) = open_meta(sides.first) else {
-        return false;
+    let Some(a) = standing_by(0, sides.first) else {
+        return None;
     };
-    let Some(other) = open_meta(sides.second) else {
-        return false;
+    let Some(b) = standing_by(1, sides.second) else {
+        return None;
     };
     if is_log_out(standing_out(sides)) {
-        return false;
+        return None;
     }
-    if !is_same_meta(&meta, &other) {
-        return true;
+    if fit_together(&a, first, &b, second) {
+        return None;
     }
-    !is_same_batch(first, second)
+    Some(unpaired_fault(a.gate_open, b.gate_open, side))
 }
 
 // What stands, where no log disk refuses it.
@@ -124,10 +125,8 @@ fn agreed(sides: &Sides, first: &Batch, second: &Batch) -> Result<Standing, Moun
             disk: standing.side,
         });
     }
-    if are_at_odds(sides, first, second) {
-        return Err(MountFault::BadLog {
-            disk: 1 - standing.side,
-        });
+    if let Some(fault) = refusal_by_pair(sides, first, second, standing.side) {
+        return Err(fault);
     }
     Ok(standing)
 }

@@ -1,10 +1,17 @@
 use Rattle.std.proofs.Common.{refl, sym, ◌∙◌}
-use Rattle.paraid_recover.specs.Examined.IsRefusedByLogs.{by_itself, by_sides, at_odds}
-use Rattle.paraid_recover.proofs.ExaminedLogLemmas.{not_named, out_named}
+use Rattle.paraid_recover.specs.Examined.{logs_of, side_of}
+use Rattle.paraid_recover.specs.Examined.IsRefusedByLogs.{by_itself, by_sides, unpaired}
+use Rattle.paraid_recover.proofs.ExaminedLogLemmas.{not_named, out_named, standing_low}
 use Rattle.paraid_recover.proofs.standing.agreed.Goals as goal
 
-pub are_at_odds-requires : goal.are_at_odds-requires
-are_at_odds-requires c = record { first_form = c.requires.first_form; second_form = c.requires.second_form }
+pub refusal_by_pair-requires : goal.refusal_by_pair-requires
+refusal_by_pair-requires c =
+    let logs = logs_of c.args.sides.now c.args.first.now c.args.second.now in
+    record {
+      first_form = c.requires.first_form;
+      second_form = c.requires.second_form;
+      side = standing_low (side_of logs 0) (side_of logs 1) c.in-Some-standing_of.standing.side (c.in-Some-standing_of.ensures.some c.args.first.now c.args.second.now).stands;
+    }
 
 pub returns-in-Some : goal.returns-in-Some
 returns-in-Some c = record { err = by_sides c.in-Some.ensures; ok = tt }
@@ -19,10 +26,10 @@ returns-then-names c = record {
   ok = tt;
 }
 
-pub returns-then-are_at_odds : goal.returns-then-are_at_odds
-returns-then-are_at_odds c = record {
-  err = at_odds c.in_default.ensures _ _ (c.in-Some-standing_of.ensures.some c.args.first.now c.args.second.now)
-      (not_named _ _ (sym c.names.ensures ∙ c.if-names.false)) (c.are_at_odds.ensures.yes c.if-are_at_odds.true) refl;
+pub returns-in-Some-refusal_by_pair : goal.returns-in-Some-refusal_by_pair
+returns-in-Some-refusal_by_pair c = record {
+  err = unpaired c.in_default.ensures _ _ (c.in-Some-standing_of.ensures.some c.args.first.now c.args.second.now)
+      (not_named _ _ (sym c.names.ensures ∙ c.if-names.false)) c.in-Some-refusal_by_pair.ensures.0 c.in-Some-refusal_by_pair.ensures.1;
   ok = tt;
 }
 
@@ -33,6 +40,6 @@ returns c = record {
     formed = c.in_default.ensures;
     standing = c.in-Some-standing_of.ensures.some c.args.first.now c.args.second.now;
     live = not_named _ _ (sym c.names.ensures ∙ c.if-names.false);
-    paired = c.are_at_odds.ensures.no c.if-are_at_odds.false;
+    paired = c.in_default-refusal_by_pair.ensures;
   };
 }
