@@ -197,6 +197,7 @@ steps_counted k j e h lo most s cs steps base w same at =
       };
       base_then = goes.base_then;
       room = goes.room;
+      carried = goes.carried;
       ends = underway_counted j e h lo goes.base_then (watch_all cs w) goes.ends;
     }
 

@@ -1,4 +1,5 @@
 -- Shifts that are asked for, by the parts of their events.
+use Rattle.std.proofs.lemmas.Bool.{false≢true}
 use Rattle.std.proofs.Common.{◌≡◌, ◌≢◌, ℕ, ◌+◌, ◌-◌, ◌*◌, ◌^◌, ◌<◌, ◌≤◌, ◌⊎◌, false, List, [], ◌∷◌, Option, Some, None, refl, sym, ap, ◌∙◌, inl, inr, subst, arith, min}
 use Rattle.std.specs.Prelude.{Contains}
 use Rattle.paraid_base.specs.declared.event.Answer.{Answer}
@@ -8,7 +9,7 @@ use Rattle.paraid_base.specs.declared.event.Event.TheVariants.{Bad, Down as AskD
 use Rattle.paraid_base.specs.declared.fault.Halt.TheVariants.{Two as HaltTwo}
 use Rattle.paraid_base.specs.declared.fault.Two.{Two}
 use Rattle.paraid_base.specs.declared.state.Out.TheVariants.{No}
-use Rattle.paraid_base.specs.declared.state.Phase.TheVariants.{Steady}
+use Rattle.paraid_base.specs.declared.state.Phase.TheVariants.{Steady, Down, Up}
 use Rattle.paraid_base.specs.Gears.{next_higher, next_lower}
 use Rattle.paraid_base.specs.Log.{worn_at}
 use Rattle.paraid_base.specs.States.{named_out}
@@ -26,7 +27,7 @@ use Rattle.paraid_machine.specs.Machine.{IsEventStep, begin, go_down, go_up, out
 use Rattle.paraid_machine.specs.Moves.{after_loss, begun_down, begun_up, first_worn}
 use Rattle.paraid_session.specs.Turn.{GoesOn, IsSecondLossEnergy, IsUnhurt, Point, bounds_at, bounds_of, makes_no_call, point_wear, watch_of}
 use Rattle.paraid_session.specs.Turn.IsSecondLossEnergy.{begun, own}
-use Rattle.paraid_session.specs.Watch.{Watch, first_lost}
+use Rattle.paraid_session.specs.Watch.{Watch, first_lost, watch_all}
 use Rattle.paraid_session.proofs.LayerLemmas.{first_fails}
 use Rattle.paraid_session.specs.Resting.{watch_at}
 use Rattle.paraid_event.proofs.ApartLemmas.{down_not_bad, no_one, up_not_bad}
@@ -37,7 +38,7 @@ use Rattle.paraid_event.specs.Stands.{StandsAt}
 use Rattle.paraid_event.specs.Steps.{GoesInSteps, IsUnderway, LosesInSteps, StepsInEvent}
 use Rattle.paraid_event.specs.Ticks.{IsHaltedWith}
 use Rattle.paraid_event.proofs.BeginLemmas.{down_busy, free, up_busy}
-use Rattle.paraid_event.proofs.SteppedLemmas.{event_underway, steps_lost, steps_turn, steps_turn_by}
+use Rattle.paraid_event.proofs.SteppedLemmas.{event_underway, steps_lost, steps_turn, steps_turn_by, other_base}
 use Rattle.paraid_event.proofs.TickStepLemmas.{first_outcome, later_outcome, no_name}
 
 capped_sum : (a b z y : ℕ) → a ≡ b → y ≡ min (b + z) 18446744073709551615 → min (a + z) 18446744073709551615 ≡ y
@@ -89,13 +90,13 @@ module _ (told : Option Trail) (k : Service) (setup : Setup) (p : Point) (at : S
   -- a shift that is asked for, down or up
   module _ (event : Event) (start : PowerState) (not_bad : event ≢ Bad) (bounds : bounds_of setup p event ≡ bounds_at setup p p.state)
       (step : (loss : Option ℕ) (new : PowerState) → Contains {X = Answer × PowerState} (begin None loss p.state to start) (Shift p.state.gear to, new) → IsEventStep setup p.history p.energy p.state event loss (Shift p.state.gear to) new)
-      (k2 : Service) (synced : AreCopiesSynced k2.meta.setup.geometry.disks k2.copied) (goes_to : GoesToState k2 start) (energy : energy_after setup p.energy p.state (Shift p.state.gear to) ≡ k2.energy) (fits : k2.energy ≤ 18446744073709551615)
+      (moves : start.phase ≢ Steady) (k2 : Service) (synced : AreCopiesSynced k2.meta.setup.geometry.disks k2.copied) (goes_to : GoesToState k2 start) (energy : energy_after setup p.energy p.state (Shift p.state.gear to) ≡ k2.energy) (fits : k2.energy ≤ 18446744073709551615)
       (starts : watch_of p event (Shift p.state.gear to) ≡ w0) (most : ℕ) (few : most ≤ 2 ^ 20) (told_then : Option Trail) where
     begun_by : (cs : List Call) → ((t : Trail) → told_then ≡ Some t → now t ≡ run p.disks cs) → GoesInSteps k k2 p.history p.low most (IsUnderway k2 p.history p.low) p.meta w0 cs → accepted_write event (Shift p.state.gear to) ≡ [] → GoesOn k.slots setup p event (Shift p.state.gear to) (StandsAt told_then k2 setup) p.disks cs
     begun_by cs tells goes none_written = by_name (named_out k2.meta.out) refl
       where
-        turn_to : (new : PowerState) → IsStateOf k2 new → IsEventStep setup p.history p.energy p.state event (first_lost cs) (Shift p.state.gear to) new → GoesOn k.slots setup p event (Shift p.state.gear to) (StandsAt told_then k2 setup) p.disks cs
-        turn_to new state machine = steps_turn told_then k k setup p event p.state at.going not_bad fit bounds ticks_fit at.same_setup refl most few cs k2 goes (Shift p.state.gear to) new starts tells machine state synced energy fits refl (λ a. refl) none_written refl refl (λ e low. stands_made told k setup p at e low)
+        turn_to : (new : PowerState) → IsStateOf k2 new → (first_lost cs ≡ None → new.phase ≢ Steady) → IsEventStep setup p.history p.energy p.state event (first_lost cs) (Shift p.state.gear to) new → GoesOn k.slots setup p event (Shift p.state.gear to) (StandsAt told_then k2 setup) p.disks cs
+        turn_to new state shifts machine = steps_turn told_then k k setup p event p.state at.going not_bad fit bounds ticks_fit at.same_setup refl most few cs k2 goes (Shift p.state.gear to) new starts tells machine state synced energy fits refl (λ a. refl) none_written refl refl refl (λ is first. other_base p.meta k.meta goes.base_then k2.meta p.disks.power (watch_all cs w0).disks.power at.shown goes.ends.shown (sym at.state.out ∙ no_out) (sym at.state.phase ∙ steady) (λ still. shifts first (state.phase ∙ still))) (λ e low. stands_made told k setup p at e low)
 
         none_lost : k2.meta.out ≡ No → (o : Option ℕ) → first_lost cs ≡ o → first_lost cs ≡ None
         none_lost whole None is = is
@@ -109,9 +110,9 @@ module _ (told : Option Trail) (k : Service) (setup : Setup) (p : Point) (at : S
 
         by_name : (n : Option ℕ) → named_out k2.meta.out ≡ n → GoesOn k.slots setup p event (Shift p.state.gear to) (StandsAt told_then k2 setup) p.disks cs
         by_name None none = let whole = no_name k2.meta.out none in
-            turn_to start (goes_to.whole whole) (step (first_lost cs) start (subst (λ (l : Option ℕ). Contains {X = Answer × PowerState} (begin None l p.state to start) (Shift p.state.gear to, start)) (sym (none_lost whole (first_lost cs) refl)) (shift_among p.state to start)))
+            turn_to start (goes_to.whole whole) (λ first. moves) (step (first_lost cs) start (subst (λ (l : Option ℕ). Contains {X = Answer × PowerState} (begin None l p.state to start) (Shift p.state.gear to, start)) (sym (none_lost whole (first_lost cs) refl)) (shift_among p.state to start)))
         by_name (Some d) named =
-            turn_to (after_loss start d) (goes_to.lost d named) (step (first_lost cs) (after_loss start d) (subst (λ (l : Option ℕ). Contains {X = Answer × PowerState} (begin None l p.state to start) (Shift p.state.gear to, after_loss start d)) (sym (lost_named d named)) (lost_among d p.state to start)))
+            turn_to (after_loss start d) (goes_to.lost d named) (λ first. absurd (no_one (sym first ∙ lost_named d named))) (step (first_lost cs) (after_loss start d) (subst (λ (l : Option ℕ). Contains {X = Answer × PowerState} (begin None l p.state to start) (Shift p.state.gear to, after_loss start d)) (sym (lost_named d named)) (lost_among d p.state to start)))
 
     begun_told : accepted_write event (Shift p.state.gear to) ≡ [] → Ran told told_then (StepsInEvent k k2 p.history p.low most) → Ran told told_then (GoesOn k.slots setup p event (Shift p.state.gear to) (StandsAt told_then k2 setup))
     begun_told none_written = asked_parts told_then (StepsInEvent k k2 p.history p.low most) (GoesOn k.slots setup p event (Shift p.state.gear to) (StandsAt told_then k2 setup))
@@ -144,13 +145,13 @@ module _ (told : Option Trail) (k : Service) (setup : Setup) (p : Point) (at : S
   -- A shift up that is asked for begins,
   pub up_asked : next_higher setup.geometry p.state.gear ≡ Some to → (k2 : Service) → AreCopiesSynced k2.meta.setup.geometry.disks k2.copied → GoesToState k2 (begun_up to p.state) → k2.energy ≡ min (k.energy + spin_up_energy setup p.state.gear to) 18446744073709551615
       → (most : ℕ) → most ≤ 2 ^ 20 → (told_then : Option Trail) → Ran told told_then (StepsInEvent k k2 p.history p.low most) → Ran told told_then (GoesOn k.slots setup p AskUp (Shift p.state.gear to) (StandsAt told_then k2 setup))
-  up_asked some k2 synced goes_to energy most few told_then = begun_told AskUp (begun_up to p.state) (λ e. up_not_bad e) refl (up_step some) k2 synced goes_to
+  up_asked some k2 synced goes_to energy most few told_then = begun_told AskUp (begun_up to p.state) (λ e. up_not_bad e) refl (up_step some) (λ up. let z : Up to ≡ Steady = up in cc) k2 synced goes_to
       (capped_sum p.energy k.energy (spin_up_energy setup p.state.gear to) k2.energy at.energy energy) (under_cap k2.energy (k.energy + spin_up_energy setup p.state.gear to) energy) refl most few told_then refl
 
   -- and so does a shift down.
   pub down_asked : next_lower setup.geometry p.state.gear ≡ Some to → to < p.state.gear → first_worn setup p.state to ≡ None → (k2 : Service) → AreCopiesSynced k2.meta.setup.geometry.disks k2.copied → GoesToState k2 (begun_down to p.state) → k2.energy ≡ k.energy
       → (most : ℕ) → most ≤ 2 ^ 20 → (told_then : Option Trail) → Ran told told_then (StepsInEvent k k2 p.history p.low most) → Ran told told_then (GoesOn k.slots setup p AskDown (Shift p.state.gear to) (StandsAt told_then k2 setup))
-  down_asked some lower unworn k2 synced goes_to energy most few told_then = begun_told AskDown (begun_down to p.state) (λ e. down_not_bad e) refl (down_step some unworn) k2 synced goes_to
+  down_asked some lower unworn k2 synced goes_to energy most few told_then = begun_told AskDown (begun_down to p.state) (λ e. down_not_bad e) refl (down_step some unworn) (λ down. let z : Down to ≡ Steady = down in cc) k2 synced goes_to
       (capped_own p.energy k.energy (spin_up_energy setup p.state.gear to) k2.energy at.energy at.fits (no_spin_ups setup.spinup_mj to p.state.gear lower) energy) (let f = at.fits in omega (arith, f, energy)) refl most few told_then refl
 
   own_up : (energy : ℕ) → energy ≡ k.energy → IsSecondLossEnergy setup p AskUp energy
@@ -180,7 +181,7 @@ module _ (told : Option Trail) (k : Service) (setup : Setup) (p : Point) (at : S
     hindered_by cs tells goes = steps_turn_by told_then k k setup p event p.state at.going not_bad fit bounds ticks_fit at.same_setup refl most few cs k2 goes (IsOut e) (after_loss p.state e) starts tells
         (subst (λ (o : Option ℕ). IsEventStep setup p.history p.energy p.state event o (IsOut e) (after_loss p.state e)) (sym failed) step)
         (goes_to.lost e named) synced (capped_own p.energy k.energy 0 k2.energy at.energy at.fits refl same_energy) (let f = at.fits in omega (arith, f, same_energy))
-        (λ quiet none. let z : Some e ≡ None = sym failed ∙ none in cc) (λ a. refl) none_written refl refl (λ x low. stands_made told k setup p at x low)
+        (λ quiet none. let z : Some e ≡ None = sym failed ∙ none in cc) (λ a. refl) none_written refl refl refl (λ is. absurd (false≢true is)) (λ x low. stands_made told k setup p at x low)
       where
         failed : first_lost cs ≡ Some e
         failed = elim (goes.leaves.newly e named) [

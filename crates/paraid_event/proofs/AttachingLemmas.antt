@@ -190,6 +190,7 @@ module _ (k : Service) (h : History) (lo : ℕ) (base : Meta) (w : Watch) (at : 
           let same_disk : d ≡ e = (let z : Attach d (disk_size k.meta.setup.geometry) done ≡ Attach e size made = is in cc) in
           (sym same_size ∙ ap (λ (z : Setup). disk_size z.geometry) setup, ap (λ (x : ℕ). Some x) same_disk);
       awaited = λ is. refl;
+      serving = λ e made is. absurd (let z : Attach d (disk_size k.meta.setup.geometry) done ≡ SpinUp e made = is in cc);
       recorded = λ e made is. absurd (let z : Attach d (disk_size k.meta.setup.geometry) done ≡ SpinUp e made = is in cc);
     }
 

@@ -334,6 +334,7 @@ module _ (told : Option Trail) (k k1 k2 : Service) (setup : Setup) (p : Point) (
             machine = subst (λ (o : Option ℕ). IsEventStep setup p.history p.energy p.state AskDown o (Shift p.state.gear to) s3) (sym (first_append cs ds none_lost)) begun_step;
             moments = each_append (HoldsWhileServing k.slots p.history p.low b) (IsAllowed setup None) w0 cs ds each1 (each2 ds part2);
             once = let a = attach_append cs ds (part_attaches k p.history p.low p.meta w0 mid0 cs part) (part_attaches k2 p.history p.low ends.keeps.base v1 mid2 ds part2) in omega (arith, a);
+            attached = λ is. absurd (false≢true is);
             ups = λ e low.
                 let a = up_append e cs ds in
                 let x = part_ups k p.history p.low p.meta w0 mid0 cs part e in
@@ -342,6 +343,7 @@ module _ (told : Option Trail) (k k1 k2 : Service) (setup : Setup) (p : Point) (
             quiet = λ still none. absurd (false≢true still);
             serving = subst (λ (z : Watch). IsServing z.down) (sym watched) serving3;
             mark = subst (λ (m : ℕ). IsMark m setup begun_point) begins.slots (stands_mark told_then k3 setup begun_point there);
+            carried = λ is none. ap (λ (m : Meta). m.ticks) base3 ∙ sym (same_ticks v3.disks.power k2.meta k3.meta (part_marks k2 p.history p.low ends.keeps.base v1 mid2 ds part2 k3 p.history lo3 ends2)) ∙ sym state3.ticks;
             flushed = λ f. absurd (false≢true f);
             disks = ap (λ (z : Watch). z.disks) (sym (watch_append cs ds w0)) ∙ watched_disks w0 (cs ++ ds);
             history = sym (append-nil p.history);

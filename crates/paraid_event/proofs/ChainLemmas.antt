@@ -1,5 +1,5 @@
 -- At each moment of the calls of an event: what is held, what stands, and that each call is allowed.
-use Rattle.std.proofs.Common.{◌≡◌, ℕ, ◌+◌, ◌<◌, ◌≤◌, ◌⊎◌, false, List, [], ◌∷◌, Option, Some, None, refl, sym, ap, ◌∙◌, inl, inr, subst, arith}
+use Rattle.std.proofs.Common.{Bool, ◌≡◌, ℕ, ◌+◌, ◌<◌, ◌≤◌, ◌⊎◌, false, List, [], ◌∷◌, Option, Some, None, refl, sym, ap, ◌∙◌, inl, inr, subst, arith}
 use Rattle.std.proofs.lemmas.Bool.{false≢true}
 use Rattle.paraid_base.specs.History.{History}
 use Rattle.paraid_base.specs.States.{gone_out, named_out}
@@ -67,6 +67,14 @@ no_attach (Sync d done) is = refl
 no_attach (Park d done) is = absurd is
 no_attach (SpinUp d done) is = absurd is
 no_attach (Attach d size done) is = absurd is
+
+no_spin : (c : Call) → IsTransfer c → (d : ℕ) (done : Bool) → c ≡ SpinUp d done → ⊥
+no_spin (Read e p ok) is d done made = let z : Read e p ok ≡ SpinUp d done = made in cc
+no_spin (Write e p b ok) is d done made = let z : Write e p b ok ≡ SpinUp d done = made in cc
+no_spin (Sync e ok) is d done made = let z : Sync e ok ≡ SpinUp d done = made in cc
+no_spin (Park e ok) is d done made = absurd is
+no_spin (SpinUp e ok) is d done made = absurd is
+no_spin (Attach e size ok) is d done made = absurd is
 
 pub data_transfer : (n : ℕ) (gone : Option ℕ) (c : Call) → IsDataCall n gone c → IsTransferCall n gone c
 data_transfer n out c is = (is.0, is.1, past_transfer c is.2)
@@ -201,6 +209,7 @@ module _ (k : Service) (h : History) (lo : ℕ) (base : Meta) (w : Watch) (at : 
         power = calls.0;
         attach = λ d size done is. absurd (false≢true (sym (no_attach c calls.1.2) ∙ ap is_attach is));
         awaited = λ is. absurd (calls.1.1 (at.awaited (disk_of c) (sym f.awaited ∙ is)));
+        serving = λ d done made. absurd (no_spin c calls.1.2 d done made);
         recorded = recorded.recorded;
       }),
       allowed_each asked (watch c v) cs (follows_step n w v c calls.1.2 f) calls.2,

@@ -42,7 +42,7 @@ use Rattle.paraid_machine.specs.Energy.{energy_of}
 use Rattle.paraid_image.specs.Shown.{accepted_write, with_flush}
 use Rattle.paraid_event.proofs.PointLemmas.{stands_resting}
 use Rattle.paraid_event.proofs.MarksLemmas.{still_named}
-use Rattle.paraid_event.proofs.TurnLemmas.{lost_among, dirty_shown, lost_named, marks, state_after, state_then, turn}
+use Rattle.paraid_event.proofs.TurnLemmas.{lost_among, dirty_shown, lost_named, marks, state_after, state_then, turn, TellsNeither}
 
 -- but for the dirty cells it is the same state
 pub record IsSameBesideDirty (s t : PowerState) : Type 0 where
@@ -177,7 +177,7 @@ module _ (told told_then : Option Trail) (k k_then : Service) (setup : Setup) (p
         turn told k setup p at cs part k_then h_then lo_then ends (Read block) (Value block bytes) told_then (with_one_served (block_read setup block (state_after p.state (first_lost cs))))
         refl refl (λ a. refl) (λ e. read_not_bad e) fit (read_step cs part ends)
         (served_state k k_then (block_read setup block) counts (read_beside setup block) _ (state_then told k setup p at cs part k_then h_then lo_then ends))
-        (same_history ∙ sym (append-nil p.history)) low refl (λ f. absurd (false≢true f)) tells counts.slots counts.copies_synced (capped k_then.energy p.energy k.energy at.energy counts.energy at.fits)
+        (same_history ∙ sym (append-nil p.history)) low refl (λ f. absurd (false≢true f)) tells counts.slots counts.copies_synced (capped k_then.energy p.energy k.energy at.energy counts.energy at.fits) (refl, refl)
 
   -- a write of one to eight blocks
   module _ (pairs : Pairs) (fit : point_wear p < worn_at) (there : All (λ (pair : ℕ × Block). pair.0 < block_count setup) (pairs_of pairs)) (counts : CountsServed k k_then (all_written setup.geometry.disks (blocks_named (pairs_of pairs))))
@@ -196,7 +196,7 @@ module _ (told told_then : Option Trail) (k k_then : Service) (setup : Setup) (p
         turn told k setup p at cs part k_then h_then lo_then ends (Write pairs) (Wrote (length p.history + 1)) told_then (with_one_served (all_written setup.geometry.disks (blocks_named (pairs_of pairs)) (state_after p.state (first_lost cs))))
         refl refl (λ a. refl) (λ e. write_not_bad e) fit (write_step cs part ends)
         (served_state k k_then (all_written setup.geometry.disks (blocks_named (pairs_of pairs))) counts (all_beside setup.geometry.disks (blocks_named (pairs_of pairs))) _ (state_then told k setup p at cs part k_then h_then lo_then ends))
-        longer low refl (λ f. absurd (false≢true f)) tells counts.slots counts.copies_synced (capped k_then.energy p.energy k.energy at.energy counts.energy at.fits)
+        longer low refl (λ f. absurd (false≢true f)) tells counts.slots counts.copies_synced (capped k_then.energy p.energy k.energy at.energy counts.energy at.fits) (refl, refl)
 
   -- a flush, which keeps all writes
   module _ (fit : point_wear p < worn_at) (counts : CountsFlushed k k_then) (same_history : h_then ≡ p.history) (low : length p.history ≤ lo_then) where
@@ -223,7 +223,7 @@ module _ (told told_then : Option Trail) (k k_then : Service) (setup : Setup) (p
         (flushed_state k k_then counts _ (state_then told k setup p at cs part k_then h_then lo_then ends))
         (same_history ∙ sym (append-nil p.history)) (flush_low p.low (length p.history) lo_then short low) refl
         (λ f. dirty_shown told k setup p at cs part k_then h_then lo_then ends (Flushed (length p.history)) Flush (state_after p.state (first_lost cs)) (flushed_state k k_then counts _ (state_then told k setup p at cs part k_then h_then lo_then ends)) counts.nothing_staged)
-        tells counts.slots counts.copies_synced (capped k_then.energy p.energy k.energy at.energy counts.energy at.fits)
+        tells counts.slots counts.copies_synced (capped k_then.energy p.energy k.energy at.energy counts.energy at.fits) (refl, refl)
 
 -- what is asked of the state and of the energy makes no call
 module _ (told : Option Trail) (k : Service) (setup : Setup) (p : Point) (at : StandsAt told k setup p) where
@@ -231,9 +231,9 @@ module _ (told : Option Trail) (k : Service) (setup : Setup) (p : Point) (at : S
   energy_same u k same fits = grind (arith)
 
   pub asked_turn : (event : Event) (answer : Answer) → watch_of p event answer ≡ watch_at p → bounds_of setup p event ≡ bounds_at setup p p.state → ((a : Option ℕ) → awaited_by answer a ≡ a) → event ≢ Bad → (may_halt event ≡ true → point_wear p < worn_at)
-      → IsEventStep setup p.history p.energy p.state event None answer p.state → accepted_write event answer ≡ [] → with_flush p.low answer ≡ p.low → is_flush answer ≡ false → energy_of setup p.state answer ≡ 0
+      → IsEventStep setup p.history p.energy p.state event None answer p.state → accepted_write event answer ≡ [] → with_flush p.low answer ≡ p.low → is_flush answer ≡ false → energy_of setup p.state answer ≡ 0 → TellsNeither answer
       → GoesOn k.slots setup p event answer (StandsAt told k setup) p.disks []
-  asked_turn event answer starts bounds awaits not_bad fit machine none low not_flush no_energy =
+  asked_turn event answer starts bounds awaits not_bad fit machine none low not_flush no_energy neither =
       let rests = stands_resting told k setup p at in (
         p,
         answered at.going not_bad (record {
@@ -241,10 +241,12 @@ module _ (told : Option Trail) (k : Service) (setup : Setup) (p : Point) (at : S
           machine = machine;
           moments = subst (λ (z : Bounds). HoldsWhileServing k.slots p.history p.low z (watch_of p event answer)) (sym bounds) (subst (HoldsWhileServing k.slots p.history p.low (bounds_at setup p p.state)) (sym starts) rests.kept);
           once = omega arith;
+          attached = λ is. absurd (false≢true (sym neither.0 ∙ is));
           ups = λ d low. omega arith;
           quiet = λ quiet none. refl;
           serving = subst (λ (z : Watch). IsServing z.down) (sym starts) (serving_from (named_out p.state.out));
           mark = rests.mark;
+          carried = λ is none. absurd (false≢true (sym neither.1 ∙ is));
           flushed = λ f. absurd (false≢true (sym not_flush ∙ f));
           disks = refl;
           history = sym (append-nil p.history) ∙ ap (λ (more : History). p.history ++ more) (sym none);
@@ -273,7 +275,7 @@ module _ (told : Option Trail) (k : Service) (setup : Setup) (p : Point) (at : S
   no_call event answer goes = Ran-none (GoesOn k.slots setup p event answer (StandsAt told k setup)) (λ s. goes) told
 
   pub state_turn : Ran told told (GoesOn k.slots setup p AskState (IsState (state_status setup (length p.history) p.state) setup.geometry.disks) (StandsAt told k setup))
-  state_turn = no_call AskState _ (asked_turn AskState _ refl refl (λ a. refl) (λ e. state_not_bad e) (λ asked. absurd (false≢true asked)) state_step refl refl refl refl)
+  state_turn = no_call AskState _ (asked_turn AskState _ refl refl (λ a. refl) (λ e. state_not_bad e) (λ asked. absurd (false≢true asked)) state_step refl refl refl refl (refl, refl))
 
   pub energy_turn : Ran told told (GoesOn k.slots setup p AskEnergy (EnergyUsed p.energy) (StandsAt told k setup))
-  energy_turn = no_call AskEnergy _ (asked_turn AskEnergy _ refl refl (λ a. refl) (λ e. energy_not_bad e) (λ asked. absurd (false≢true asked)) energy_step refl refl refl refl)
+  energy_turn = no_call AskEnergy _ (asked_turn AskEnergy _ refl refl (λ a. refl) (λ e. energy_not_bad e) (λ asked. absurd (false≢true asked)) energy_step refl refl refl refl (refl, refl))

@@ -382,6 +382,7 @@ module _ (told : Option Trail) (k k1 k2 k3 : Service) (setup : Setup) (p : Point
             moments = subst (λ (z : Watch). Each (HoldsWhileServing k.slots p.history p.low b) (IsAllowed setup None) z (cs ++ ds)) (sym starts)
                 (each_append (HoldsWhileServing k.slots p.history p.low b) (IsAllowed setup None) w0 cs ds each1 each2);
             once = let a = attach_append cs ds (part_attaches k p.history p.low p.meta w0 mid0 cs part) (part_attaches k2 p.history p.low ends.keeps.base v1 mid2 ds part2) in omega (arith, a);
+            attached = λ is. absurd (false≢true is);
             ups = λ e low.
                 let a = up_append e cs ds in
                 let x = part_ups k p.history p.low p.meta w0 mid0 cs part e in
@@ -389,6 +390,7 @@ module _ (told : Option Trail) (k k1 k2 k3 : Service) (setup : Setup) (p : Point
                 omega (arith, a, x, y);
             quiet = λ still none. absurd (false≢true still);
             serving = subst (λ (z : Watch). IsServing z.down) (sym watched) serving3;
+            carried = λ is none. absurd (false≢true is);
             mark = subst (λ (m : ℕ). IsMark m setup failed_point) takes.slots_then (stands_mark told_then k3 setup failed_point there);
             flushed = λ f. absurd (false≢true f);
             disks = ap (λ (z : Watch). z.disks) (sym (watch_append cs ds w0)) ∙ watched_disks w0 (cs ++ ds);

@@ -27,7 +27,7 @@ use Rattle.paraid_event.proofs.ApartLemmas.{gone_not_fresh, no_one, none_not_fre
 use Rattle.paraid_event.specs.Marks.{ArePoweredByGear, IsMarkedBy, ShowsMeta}
 use Rattle.paraid_event.specs.Parts.{committed_meta}
 use Rattle.paraid_event.specs.Parts.BringsMeta.{commit, nothing}
-use Rattle.paraid_event.specs.Powering.{ServiceRests}
+use Rattle.paraid_event.specs.Powering.{ServiceRests, ArePowerCalls}
 use Rattle.paraid_event.specs.Service.{Service}
 use Rattle.paraid_event.specs.Stands.{ServiceStandsFor}
 use Rattle.paraid_event.specs.Steps.{LosesPowered, LosesShown, PowersFrom, ServesMarked, ServesShown}
@@ -167,9 +167,9 @@ module _ (told told_then : Option Trail) (k k_then : Service) (h : History) (lo 
         by d low not (inl turned_now) = turned_now
         by d low not (inr same) = same.0 ∙ sym ((agrees from was).power d) ∙ before d low (λ named. not (still_named (run (now from) cs).power k.meta k_then.meta marks_end d named)) ∙ same.1
 
-    pub powers_shown : k.batch ≡ [] → k_then.batch ≡ [] → Ran told told_then (EachCall (IsPowerCall k.meta)) → Ran told told_then (CrashTriple P (ServiceRests k h lo) (ServiceRests k_then h lo)) → Ran told told_then (PowersFrom powers k k_then h lo)
+    pub powers_shown : k.batch ≡ [] → k_then.batch ≡ [] → Ran told told_then (ArePowerCalls k.meta) → Ran told told_then (CrashTriple P (ServiceRests k h lo) (ServiceRests k_then h lo)) → Ran told told_then (PowersFrom powers k k_then h lo)
     powers_shown empty empty_then calls stays t tells =
-        let r = both_of (EachCall (IsPowerCall k.meta)) (CrashTriple P (ServiceRests k h lo) (ServiceRests k_then h lo)) told told_then calls stays t tells in
+        let r = both_of (ArePowerCalls k.meta) (CrashTriple P (ServiceRests k h lo) (ServiceRests k_then h lo)) told told_then calls stays t tells in
         let end : now t ≡ run (now r.from) r.calls = ap now r.is ∙ now-extend r.from r.calls in
         record {
           from = r.from;
@@ -177,7 +177,7 @@ module _ (told told_then : Option Trail) (k k_then : Service) (h : History) (lo 
           calls = r.calls;
           is = r.is;
           holds = λ z shows before. let both = r.holds.1.goes (shown_rests k h lo (now r.from) z shows empty) in (
-            record { out = out; is_out = is_out; held = both.0; calls = r.holds.0 },
+            record { out = out; is_out = is_out; held = both.0; calls = r.holds.0.0; serving = r.holds.0.1 },
             record {
               keeps = subst (λ (x : Batch). HoldsBetweenCalls k_then.slots k_then.named k_then.meta k_then.table x k_then.copied h lo (run (now r.from) r.calls)) (sym empty_then) both.1.keeps;
               marks = marked_end t r.from r.calls tells r.was end (never (now r.from));
@@ -204,15 +204,15 @@ module _ (told told_then : Option Trail) (k : Service) (h : History) (lo : ℕ) 
         holds = ((λ z shows. record { out = out; is_out = is_out; held = (r.holds.0.1.goes (starts (now r.from) z shows)).0; brings = nothing r.holds.0.0 }), r.holds.1);
       }
 
-  pub powers_lost_shown : k.batch ≡ [] → Ran told told_then (EachCall (IsPowerCall k.meta)) → Ran told told_then (CrashTriple H (ServiceRests k h lo) H) → Ran told told_then Q
+  pub powers_lost_shown : k.batch ≡ [] → Ran told told_then (ArePowerCalls k.meta) → Ran told told_then (CrashTriple H (ServiceRests k h lo) H) → Ran told told_then Q
       → Ran told told_then (λ s cs. LosesPowered k h lo s cs × Q s cs)
   powers_lost_shown empty calls stays more t tells =
-      let one = both_of (EachCall (IsPowerCall k.meta)) (CrashTriple H (ServiceRests k h lo) H) told told_then calls stays in
+      let one = both_of (ArePowerCalls k.meta) (CrashTriple H (ServiceRests k h lo) H) told told_then calls stays in
       let r = both_of _ Q told told_then one more t tells in
       record {
         from = r.from;
         was = r.was;
         calls = r.calls;
         is = r.is;
-        holds = ((λ z shows. record { out = out; is_out = is_out; held = (r.holds.0.1.goes (shown_rests k h lo (now r.from) z shows empty)).0; calls = r.holds.0.0 }), r.holds.1);
+        holds = ((λ z shows. record { out = out; is_out = is_out; held = (r.holds.0.1.goes (shown_rests k h lo (now r.from) z shows empty)).0; calls = r.holds.0.0.0; serving = r.holds.0.0.1 }), r.holds.1);
       }

@@ -91,7 +91,7 @@ module _ (told told_then : Option Trail) (k k_then : Service) (setup : Setup) (p
         turn_by told k setup p at cs part k_then p.history lo_then ends event (IsOut e) told_then (after_loss p.state e)
         starts bounds (λ a. refl) not_bad fit (subst (λ (o : Option ℕ). IsEventStep setup p.history p.energy p.state event o (IsOut e) (after_loss p.state e)) (sym failed_first) machine)
         state_is (sym (append-nil p.history) ∙ ap (λ (more : _). p.history ++ more) (sym none)) low
-        (λ quiet no_loss. let z : Some e ≡ None = sym failed_first ∙ no_loss in cc) (λ f. absurd (false≢true f)) tells counts.slots counts.copies_synced (capped k_then.energy p.energy k.energy at.energy counts.energy at.fits)
+        (λ quiet no_loss. let z : Some e ≡ None = sym failed_first ∙ no_loss in cc) (λ f. absurd (false≢true f)) tells counts.slots counts.copies_synced (capped k_then.energy p.energy k.energy at.energy counts.energy at.fits) (refl, refl)
 
   abbrev Hinders : Event → Type 0
   Hinders event = Ran told told_then (ServesEvent k k_then p.history p.low p.history lo_then) → Ran told told_then (GoesOn k.slots setup p event (IsOut e) (StandsAt told_then k_then setup))

@@ -1,5 +1,5 @@
 -- Ticks that have nothing to do, and the answers after a halt.
-use Rattle.std.proofs.Common.{◌≡◌, ◌≢◌, ℕ, ◌+◌, ◌^◌, ◌<◌, ◌≤◌, [], length, Option, Some, None, refl, sym, ap, ◌∙◌, subst, arith, min}
+use Rattle.std.proofs.Common.{◌≡◌, ◌≢◌, ℕ, ◌+◌, ◌^◌, ◌<◌, ◌≤◌, [], length, Option, Some, None, refl, sym, ap, ◌∙◌, subst, arith, min, false}
 use Rattle.std.proofs.lemmas.Bool.{false≢true}
 use Rattle.std.proofs.lemmas.List.{append-nil}
 use Rattle.paraid_base.specs.declared.event.Answer.{Answer}
@@ -29,7 +29,7 @@ use Rattle.paraid_core.proofs.MomentLemmas.{base_in_range}
 use Rattle.paraid_machine.specs.Energy.{begun_energy, energy_after, tick_energy}
 use Rattle.paraid_machine.specs.Machine.{IsEventStep, outcomes, report}
 use Rattle.paraid_machine.specs.Moves.{first_worn, state_with_tick}
-use Rattle.paraid_session.specs.Turn.{GoesOn, Point, bounds_at, point_wear}
+use Rattle.paraid_session.specs.Turn.{GoesOn, Point, bounds_at, point_wear, is_begun}
 use Rattle.paraid_session.specs.Turn.IsTurn.{again, answered, bad}
 use Rattle.paraid_session.specs.Watch.{HoldsWhileServing, IsServing, down_from_out}
 use Rattle.paraid_session.specs.Resting.{watch_at}
@@ -100,7 +100,7 @@ module _ (told : Option Trail) (k k_then : Service) (setup : Setup) (p : Point) 
   pub used : k_then.energy ≡ min (k.energy + tick_energy setup p.state) 18446744073709551615
   used = counts.energy p.state at.state ∙ ap (λ (z : Setup). min (k.energy + tick_energy z p.state) 18446744073709551615) at.same_setup
 
-  module _ (event : TickEvent) (no_begin : begun_energy setup p.state.gear event ≡ 0) where
+  module _ (event : TickEvent) (no_begin : begun_energy setup p.state.gear event ≡ 0) (not_begun : is_begun event ≡ false) where
     abbrev answer : Answer
     answer = (report p.state 0 event).0
 
@@ -147,10 +147,12 @@ module _ (told : Option Trail) (k k_then : Service) (setup : Setup) (p : Point) 
         machine = machine;
         moments = kept;
         once = omega arith;
+        attached = λ is. absurd (false≢true is);
         ups = λ d low. omega arith;
         quiet = λ still none. refl;
         serving = serving_from (named_out p.state.out);
         mark = stands_mark told j setup q there;
+        carried = λ is none. absurd (false≢true (sym not_begun ∙ is));
         flushed = λ f. absurd (false≢true f);
         disks = refl;
         history = sym (append-nil p.history);
@@ -169,21 +171,21 @@ module _ (told : Option Trail) (k k_then : Service) (setup : Setup) (p : Point) 
 
   pub steady_turn : p.state.out ≡ No → p.state.phase ≡ PhaseSteady → decision setup p.state.gear s_then.samples ≡ Stay → Ran told told (GoesOn k.slots setup p Tick (report p.state 0 Steady).0 (StandsAt told k_then setup))
   unfolding outcomes
-  steady_turn no_out steady stay = idle_told Steady refl step
+  steady_turn no_out steady stay = idle_told Steady refl refl step
     where
       step : IsEventStep setup p.history p.energy p.state Tick None (report p.state 0 Steady).0 s_then
       step = record { among = rw (no_out, steady, stay) (0, omega arith, refl) }
 
   pub waiting_turn : (d : ℕ) → p.state.out ≡ Gone d → Ran told told (GoesOn k.slots setup p Tick (report p.state 0 Waiting).0 (StandsAt told k_then setup))
   unfolding outcomes
-  waiting_turn d out = idle_told Waiting refl step
+  waiting_turn d out = idle_told Waiting refl refl step
     where
       step : IsEventStep setup p.history p.energy p.state Tick None (report p.state 0 Waiting).0 s_then
       step = record { among = rw out (0, omega arith, refl) }
 
   pub ration_turn : p.state.out ≡ No → p.state.phase ≡ PhaseSteady → (to d : ℕ) → decision setup p.state.gear s_then.samples ≡ DecideDown to → first_worn setup s_then to ≡ Some d → Ran told told (GoesOn k.slots setup p Tick (report p.state 0 (Ration d)).0 (StandsAt told k_then setup))
   unfolding outcomes
-  ration_turn no_out steady to d down worn = idle_told (Ration d) refl step
+  ration_turn no_out steady to d down worn = idle_told (Ration d) refl refl step
     where
       step : IsEventStep setup p.history p.energy p.state Tick None (report p.state 0 (Ration d)).0 s_then
       step = record { among = rw (no_out, steady, down, worn) (0, omega arith, refl) }

@@ -16,6 +16,7 @@ pub mod IdleLemmas
 pub mod HinderedLemmas
 pub mod TakenLemmas
 pub mod BeginLemmas
+pub mod ServingLemmas
 pub mod PowerLemmas
 pub mod UpshiftLemmas
 pub mod FirstLemmas

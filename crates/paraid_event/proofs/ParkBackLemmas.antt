@@ -1,4 +1,5 @@
 -- A disk that has come back is parked, or is lost in that.
+use Rattle.paraid_event.proofs.ServingLemmas.{spins_once}
 use Rattle.std.proofs.Common.{◌≡◌, ◌≢◌, ℕ, ◌<◌, ◌≤◌, ◌⊎◌, Bool, true, false, List, [], ◌∷◌, Option, Some, None, refl, sym, ap, ◌∙◌, inl, inr, subst, arith, if◌then◌else◌}
 use Rattle.std.specs.Prelude.{◌||◌, nat_lt, slice_index}
 use Rattle.std.proofs.lemmas.Bool.{cases_eq, false≢true}
@@ -111,6 +112,7 @@ module _ (k : Service) (h : History) (lo d : ℕ) (base : Meta) (w : Watch) (at 
           is_out = λ e is. inl is;
           held = held;
           calls = (lawful, (at.low, past_gear, past_rise, (λ is. none_named d is)), tt);
+          serving = spins_once (named_out k.meta.out) c;
         }
 
         has : (e : ℕ) → Raises e cs → base.gear ≤ e → e < rising_to base.phase → 1 ≤ slice_index base.spins e
@@ -120,7 +122,7 @@ module _ (k : Service) (h : History) (lo d : ℕ) (base : Meta) (w : Watch) (at 
         pub park_calls : AreStepCalls k h lo 0 base w cs
         park_calls = record {
           moments = λ b asked setup ticks room. power_each k h lo base w at.midway at.shown none_awaited cs part has b setup
-              (let t = at.midway.stands.ticks in omega (arith, ticks, t)) (omega (arith, room)) asked;
+              (let t = at.midway.stands.ticks in omega (arith, ticks, t)) (omega (arith, room)) ((λ e ok made. let z : Park d done ≡ SpinUp e ok = made in cc), tt) asked;
           attaches = power_attaches k.meta w.disks cs part.calls;
         }
 

@@ -44,7 +44,7 @@ use Rattle.paraid_recover.proofs.SpinsLemmas.{each_recorded, one_recorded, servi
 use Rattle.paraid_txn.specs.Uses.{EachCall}
 use Rattle.paraid_event.proofs.ApartLemmas.{no_one}
 use Rattle.paraid_event.specs.Marks.{ArePoweredByGear, IsMarkedBy, ShowsMeta}
-use Rattle.paraid_event.specs.Powering.{AreDisksPowered, EndsPowered}
+use Rattle.paraid_event.specs.Powering.{AreDisksPowered, EndsPowered, SpinsWhileServing}
 use Rattle.paraid_event.specs.Service.{IsStateOf, Service}
 use Rattle.paraid_event.specs.Stands.{IsMidway, ServiceStandsFor}
 use Rattle.paraid_event.proofs.ChainLemmas.{base_names, base_setup, only_base, start_follows_log}
@@ -315,19 +315,20 @@ module _ (k : Service) (h : History) (lo : ℕ) (base : Meta) (w : Watch) (at : 
   recorded_start : AreSpinUpsRecorded base w
   recorded_start serving d low here not = at.stands.recorded d (subst (λ (z : Setup). d < z.geometry.disks) same_setup low) here (λ gone. not (gone_is_named base.out d gone))
 
-  allowed_each : (b : Bounds) (asked : Option ℕ) → base.setup ≡ b.setup → (u : Watch) (ds : List Call) → ((d : ℕ) → u.awaited ≡ Some d → ⊥) → EachCall (IsPowerCall base) u.disks ds
+  allowed_each : (b : Bounds) (asked : Option ℕ) → base.setup ≡ b.setup → (u : Watch) (ds : List Call) → ((d : ℕ) → u.awaited ≡ Some d → ⊥) → EachCall (IsPowerCall base) u.disks ds → SpinsWhileServing u.down ds
       → Each (λ (u : Watch). Unit {0}) (λ (u : Watch) (c : Call). IsSpinUpRecorded u c → IsAllowed b.setup asked u c) u ds
-  allowed_each b asked setup u [] none each = tt
-  allowed_each b asked setup u (c ∷ ds) none each = (
+  allowed_each b asked setup u [] none each spins = tt
+  allowed_each b asked setup u (c ∷ ds) none each spins = (
     tt,
     (λ recorded. record {
       disk = subst (λ (z : Setup). disk_of c < z.geometry.disks) setup (power_disk base c each.1);
       power = each.0;
       attach = λ d size done is. absurd (false≢true (sym (no_attach base c each.1) ∙ ap is_attach is));
       awaited = λ is. absurd (none (disk_of c) is);
+      serving = spins.0;
       recorded = recorded.recorded;
     }),
-    allowed_each b asked setup (watch c u) ds (none_after u.awaited c none) each.2,
+    allowed_each b asked setup (watch c u) ds (none_after u.awaited c none) each.2 spins.1,
   )
 
   module _ (b : Bounds) (setup : k.meta.setup ≡ b.setup) (ticks : base.ticks ≤ b.ticks) (epoch : base.epoch ≤ b.epoch) where
@@ -335,8 +336,8 @@ module _ (k : Service) (h : History) (lo : ℕ) (base : Meta) (w : Watch) (at : 
     within_each = each_recorded base b (same_setup ∙ setup) epoch ticks w cs calls alone_each recorded_start
 
     -- What a session asks of each moment.
-    pub power_each : (asked : Option ℕ) → Each (HoldsWhileServing k.slots h lo b) (IsAllowed b.setup asked) w cs
-    power_each asked =
+    pub power_each : SpinsWhileServing w.down cs → (asked : Option ℕ) → Each (HoldsWhileServing k.slots h lo b) (IsAllowed b.setup asked) w cs
+    power_each spins asked =
         let held = each_held k.slots n part.out h lo w cs (through_map P (IsHeldMissing k.slots n part.out h lo) (λ s is. record {
           held = λ down covers. is.held down
               (λ d low gone. covers d (record { disk = low; is = inl gone }))
@@ -348,7 +349,7 @@ module _ (k : Service) (h : History) (lo : ℕ) (base : Meta) (w : Watch) (at : 
         (each_both (λ (u : Watch). IsHeldWhileServing k.slots u.disks h lo u.down) (λ (u : Watch). StaysWithin b u × Unit {0})
         (λ (u : Watch) (c : Call). Unit {0}) (λ (u : Watch) (c : Call). IsSpinUpRecorded u c × (IsSpinUpRecorded u c → IsAllowed b.setup asked u c)) w cs held
         (each_both (StaysWithin b) (λ (u : Watch). Unit {0}) IsSpinUpRecorded (λ (u : Watch) (c : Call). IsSpinUpRecorded u c → IsAllowed b.setup asked u c) w cs within_each
-        (allowed_each b asked (same_setup ∙ setup) w cs none_awaited calls)))
+        (allowed_each b asked (same_setup ∙ setup) w cs none_awaited calls spins)))
 
   module _ (k_then : Service) (ends : EndsPowered k k_then h lo w.disks cs) where
     disks_are : v.disks ≡ run w.disks cs

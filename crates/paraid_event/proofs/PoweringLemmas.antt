@@ -13,7 +13,7 @@ use Rattle.paraid_core.proofs.CommitLemmas.{both_of}
 use Rattle.paraid_recover.specs.Powers.{IsPowerCall}
 use Rattle.paraid_txn.specs.Uses.{EachCall}
 use Rattle.paraid_event.specs.Marks.{ArePoweredByGear, IsMarkedBy}
-use Rattle.paraid_event.specs.Powering.{AreDisksPowered, PowersInEvent, ServiceRests}
+use Rattle.paraid_event.specs.Powering.{AreDisksPowered, ArePowerCalls, PowersInEvent, ServiceRests}
 use Rattle.paraid_event.specs.Service.{Service}
 use Rattle.paraid_event.specs.Stands.{ServiceStandsFor}
 
@@ -23,7 +23,7 @@ module _ (told told_then : Option Trail) (k : Service) (h : History) (lo : ℕ) 
   P = IsHeldWithOneMissing k.slots k.meta.setup.geometry.disks out h lo
 
   abbrev Calls : Disks → List Call → Type 0
-  Calls = EachCall (IsPowerCall k.meta)
+  Calls = ArePowerCalls k.meta
 
   pub powers_told : (k_then : Service) → k_then.batch ≡ [] → Ran told told_then Calls → Ran told told_then (CrashTriple P (ServiceRests k h lo) (ServiceRests k_then h lo))
       → ((t : Trail) → told_then ≡ Some t → IsMarkedBy (now t).power k.meta k_then.meta) → ((t : Trail) → told_then ≡ Some t → ArePoweredByGear (now t).power k_then.meta) → Ran told told_then (PowersInEvent k k_then h lo)
@@ -36,7 +36,7 @@ module _ (told told_then : Option Trail) (k : Service) (h : History) (lo : ℕ) 
         calls = r.calls;
         is = r.is;
         holds = λ z. let both = r.holds.1.goes (rests r.from r.was z) in (
-          record { out = out; is_out = is_out; held = both.0; calls = r.holds.0 },
+          record { out = out; is_out = is_out; held = both.0; calls = r.holds.0.0; serving = r.holds.0.1 },
           record {
             keeps = subst (λ (x : Batch). HoldsBetweenCalls k_then.slots k_then.named k_then.meta k_then.table x k_then.copied h lo (run (now r.from) r.calls)) (sym nothing) both.1.keeps;
             marks = subst (λ (s : Disks). IsMarkedBy s.power k.meta k_then.meta) end (marked t tells);
@@ -55,5 +55,5 @@ module _ (told told_then : Option Trail) (k : Service) (h : History) (lo : ℕ) 
         was = r.was;
         calls = r.calls;
         is = r.is;
-        holds = ((λ z. record { out = out; is_out = is_out; held = (r.holds.0.1.goes (rests r.from r.was z)).0; calls = r.holds.0.0 }), r.holds.1);
+        holds = ((λ z. record { out = out; is_out = is_out; held = (r.holds.0.1.goes (rests r.from r.was z)).0; calls = r.holds.0.0.0; serving = r.holds.0.0.1 }), r.holds.1);
       }

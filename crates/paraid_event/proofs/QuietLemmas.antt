@@ -55,7 +55,7 @@ module _ (told : Option Trail) (k : Service) (setup : Setup) (p : Point) (at : S
   pub read_missing : (block : ℕ) → block_count setup ≤ block → Stays (Read block) (NoBlock block)
   unfolding outcomes
   read_missing block past = no_call told k setup p at (Read block) (NoBlock block)
-      (asked_turn told k setup p at (Read block) (NoBlock block) refl refl (λ a. refl) (λ e. read_not_bad e) (λ asked. fit) step refl refl refl refl)
+      (asked_turn told k setup p at (Read block) (NoBlock block) refl refl (λ a. refl) (λ e. read_not_bad e) (λ asked. fit) step refl refl refl refl (refl, refl))
     where
       missing : first_missing (block_count setup) (block ∷ []) ≡ Some block
       missing = rw (past_test block (block_count setup) past) refl
@@ -66,7 +66,7 @@ module _ (told : Option Trail) (k : Service) (setup : Setup) (p : Point) (at : S
   pub write_missing : (pairs : Pairs) (block : ℕ) → first_missing (block_count setup) (blocks_named (pairs_of pairs)) ≡ Some block → Stays (Write pairs) (NoBlock block)
   unfolding outcomes
   write_missing pairs block missing = no_call told k setup p at (Write pairs) (NoBlock block)
-      (asked_turn told k setup p at (Write pairs) (NoBlock block) refl refl (λ a. refl) (λ e. write_not_bad e) (λ asked. fit) step refl refl refl refl)
+      (asked_turn told k setup p at (Write pairs) (NoBlock block) refl refl (λ a. refl) (λ e. write_not_bad e) (λ asked. fit) step refl refl refl refl (refl, refl))
     where
       step : IsEventStep setup p.history p.energy p.state (Write pairs) None (NoBlock block) p.state
       step = record { among = rw missing (0, omega arith, refl) }
@@ -74,14 +74,14 @@ module _ (told : Option Trail) (k : Service) (setup : Setup) (p : Point) (at : S
   -- shifts that are refused
   pub up_top : next_higher setup.geometry p.state.gear ≡ None → Stays AskUp Top
   unfolding outcomes
-  up_top none = no_call told k setup p at AskUp Top (asked_turn told k setup p at AskUp Top refl refl (λ a. refl) (λ e. up_not_bad e) (λ asked. fit) step refl refl refl refl)
+  up_top none = no_call told k setup p at AskUp Top (asked_turn told k setup p at AskUp Top refl refl (λ a. refl) (λ e. up_not_bad e) (λ asked. fit) step refl refl refl refl (refl, refl))
     where
       step : IsEventStep setup p.history p.energy p.state AskUp None Top p.state
       step = record { among = rw none (0, omega arith, refl) }
 
   pub down_lowest : next_lower setup.geometry p.state.gear ≡ None → Stays AskDown Lowest
   unfolding outcomes
-  down_lowest none = no_call told k setup p at AskDown Lowest (asked_turn told k setup p at AskDown Lowest refl refl (λ a. refl) (λ e. down_not_bad e) (λ asked. fit) step refl refl refl refl)
+  down_lowest none = no_call told k setup p at AskDown Lowest (asked_turn told k setup p at AskDown Lowest refl refl (λ a. refl) (λ e. down_not_bad e) (λ asked. fit) step refl refl refl refl (refl, refl))
     where
       step : IsEventStep setup p.history p.energy p.state AskDown None Lowest p.state
       step = record { among = rw none (0, omega arith, refl) }
@@ -89,7 +89,7 @@ module _ (told : Option Trail) (k : Service) (setup : Setup) (p : Point) (at : S
   pub up_shifting : (to : ℕ) → next_higher setup.geometry p.state.gear ≡ Some to → p.state.phase ≢ Steady → Stays AskUp (Shifting (phase_to p.state.phase))
   unfolding outcomes
   up_shifting to some not = no_call told k setup p at AskUp (Shifting (phase_to p.state.phase))
-      (asked_turn told k setup p at AskUp (Shifting (phase_to p.state.phase)) refl refl (λ a. refl) (λ e. up_not_bad e) (λ asked. fit) step refl refl refl refl)
+      (asked_turn told k setup p at AskUp (Shifting (phase_to p.state.phase)) refl refl (λ a. refl) (λ e. up_not_bad e) (λ asked. fit) step refl refl refl refl (refl, refl))
     where
       step : IsEventStep setup p.history p.energy p.state AskUp None (Shifting (phase_to p.state.phase)) p.state
       step = record { among = rw (some, shifting_to p.state.phase p.state.out not) (0, omega arith, refl) }
@@ -97,7 +97,7 @@ module _ (told : Option Trail) (k : Service) (setup : Setup) (p : Point) (at : S
   pub down_shifting : (to : ℕ) → next_lower setup.geometry p.state.gear ≡ Some to → p.state.phase ≢ Steady → Stays AskDown (Shifting (phase_to p.state.phase))
   unfolding outcomes
   down_shifting to some not = no_call told k setup p at AskDown (Shifting (phase_to p.state.phase))
-      (asked_turn told k setup p at AskDown (Shifting (phase_to p.state.phase)) refl refl (λ a. refl) (λ e. down_not_bad e) (λ asked. fit) step refl refl refl refl)
+      (asked_turn told k setup p at AskDown (Shifting (phase_to p.state.phase)) refl refl (λ a. refl) (λ e. down_not_bad e) (λ asked. fit) step refl refl refl refl (refl, refl))
     where
       step : IsEventStep setup p.history p.energy p.state AskDown None (Shifting (phase_to p.state.phase)) p.state
       step = record { among = rw (some, shifting_to p.state.phase p.state.out not) (0, omega arith, refl) }
@@ -105,7 +105,7 @@ module _ (told : Option Trail) (k : Service) (setup : Setup) (p : Point) (at : S
   pub up_out : (to d : ℕ) → next_higher setup.geometry p.state.gear ≡ Some to → p.state.phase ≡ Steady → named_out p.state.out ≡ Some d → Stays AskUp (IsOut d)
   unfolding outcomes
   up_out to d some steady out = no_call told k setup p at AskUp (IsOut d)
-      (asked_turn told k setup p at AskUp (IsOut d) refl refl (λ a. refl) (λ e. up_not_bad e) (λ asked. fit) step refl refl refl refl)
+      (asked_turn told k setup p at AskUp (IsOut d) refl refl (λ a. refl) (λ e. up_not_bad e) (λ asked. fit) step refl refl refl refl (refl, refl))
     where
       step : IsEventStep setup p.history p.energy p.state AskUp None (IsOut d) p.state
       step = record { among = rw (some, ap (λ (x : Phase). shift_refusal x p.state.out) steady ∙ shift_named p.state.out d out) (0, omega arith, refl) }
@@ -113,7 +113,7 @@ module _ (told : Option Trail) (k : Service) (setup : Setup) (p : Point) (at : S
   pub down_out : (to d : ℕ) → next_lower setup.geometry p.state.gear ≡ Some to → p.state.phase ≡ Steady → named_out p.state.out ≡ Some d → Stays AskDown (IsOut d)
   unfolding outcomes
   down_out to d some steady out = no_call told k setup p at AskDown (IsOut d)
-      (asked_turn told k setup p at AskDown (IsOut d) refl refl (λ a. refl) (λ e. down_not_bad e) (λ asked. fit) step refl refl refl refl)
+      (asked_turn told k setup p at AskDown (IsOut d) refl refl (λ a. refl) (λ e. down_not_bad e) (λ asked. fit) step refl refl refl refl (refl, refl))
     where
       step : IsEventStep setup p.history p.energy p.state AskDown None (IsOut d) p.state
       step = record { among = rw (some, ap (λ (x : Phase). shift_refusal x p.state.out) steady ∙ shift_named p.state.out d out) (0, omega arith, refl) }
@@ -121,7 +121,7 @@ module _ (told : Option Trail) (k : Service) (setup : Setup) (p : Point) (at : S
   pub down_ration : (to d : ℕ) → next_lower setup.geometry p.state.gear ≡ Some to → p.state.phase ≡ Steady → p.state.out ≡ No → first_worn setup p.state to ≡ Some d → Stays AskDown (RationUsed d)
   unfolding outcomes
   down_ration to d some steady no_out used = no_call told k setup p at AskDown (RationUsed d)
-      (asked_turn told k setup p at AskDown (RationUsed d) refl refl (λ a. refl) (λ e. down_not_bad e) (λ asked. fit) step refl refl refl refl)
+      (asked_turn told k setup p at AskDown (RationUsed d) refl refl (λ a. refl) (λ e. down_not_bad e) (λ asked. fit) step refl refl refl refl (refl, refl))
     where
       free : shift_refusal p.state.phase p.state.out ≡ None
       free = ap (λ (x : Phase). shift_refusal x p.state.out) steady ∙ ap (λ (o : Out). shift_refusal Steady o) no_out
@@ -133,7 +133,7 @@ module _ (told : Option Trail) (k : Service) (setup : Setup) (p : Point) (at : S
   pub fail_no_disk : (d : ℕ) → setup.geometry.disks ≤ d → Stays (Fail d) (NoDisk d)
   unfolding outcomes
   fail_no_disk d past = no_call told k setup p at (Fail d) (NoDisk d)
-      (asked_turn told k setup p at (Fail d) (NoDisk d) refl refl (λ a. refl) (λ e. fail_not_bad e) (λ asked. fit) step refl refl refl refl)
+      (asked_turn told k setup p at (Fail d) (NoDisk d) refl refl (λ a. refl) (λ e. fail_not_bad e) (λ asked. fit) step refl refl refl refl (refl, refl))
     where
       step : IsEventStep setup p.history p.energy p.state (Fail d) None (NoDisk d) p.state
       step = record { among = rw (past_test d setup.geometry.disks past) (0, omega arith, refl) }
@@ -141,7 +141,7 @@ module _ (told : Option Trail) (k : Service) (setup : Setup) (p : Point) (at : S
   pub replace_no_disk : (d : ℕ) → setup.geometry.disks ≤ d → Stays (Replace d) (NoDisk d)
   unfolding outcomes
   replace_no_disk d past = no_call told k setup p at (Replace d) (NoDisk d)
-      (asked_turn told k setup p at (Replace d) (NoDisk d) refl refl (λ a. refl) (λ e. replace_not_bad e) (λ asked. fit) step refl refl refl refl)
+      (asked_turn told k setup p at (Replace d) (NoDisk d) refl refl (λ a. refl) (λ e. replace_not_bad e) (λ asked. fit) step refl refl refl refl (refl, refl))
     where
       step : IsEventStep setup p.history p.energy p.state (Replace d) None (NoDisk d) p.state
       step = record { among = rw (past_test d setup.geometry.disks past) (0, omega arith, refl) }
@@ -154,7 +154,7 @@ module _ (told : Option Trail) (k : Service) (setup : Setup) (p : Point) (at : S
   pub fail_out : (d e : ℕ) → d < setup.geometry.disks → named_out p.state.out ≡ Some e → Stays (Fail d) (IsOut e)
   unfolding outcomes
   fail_out d e low out = no_call told k setup p at (Fail d) (IsOut e)
-      (asked_turn told k setup p at (Fail d) (IsOut e) refl refl (λ a. refl) (λ z. let y : Fail d ≡ Bad = z in cc) (λ asked. fit) step refl refl refl refl)
+      (asked_turn told k setup p at (Fail d) (IsOut e) refl refl (λ a. refl) (λ z. let y : Fail d ≡ Bad = z in cc) (λ asked. fit) step refl refl refl refl (refl, refl))
     where
       step : IsEventStep setup p.history p.energy p.state (Fail d) None (IsOut e) p.state
       step = record { among = rw (below_test d setup.geometry.disks low) (out_taken p.state.out d e out) }
@@ -170,7 +170,7 @@ module _ (told : Option Trail) (k : Service) (setup : Setup) (p : Point) (at : S
   pub replace_not_out : (d : ℕ) → d < setup.geometry.disks → named_out p.state.out ≢ Some d → Stays (Replace d) (NotOut d)
   unfolding outcomes
   replace_not_out d low not = no_call told k setup p at (Replace d) (NotOut d)
-      (asked_turn told k setup p at (Replace d) (NotOut d) refl refl (λ a. refl) (λ z. let y : Replace d ≡ Bad = z in cc) (λ asked. fit) step refl refl refl refl)
+      (asked_turn told k setup p at (Replace d) (NotOut d) refl refl (λ a. refl) (λ z. let y : Replace d ≡ Bad = z in cc) (λ asked. fit) step refl refl refl refl (refl, refl))
     where
       step : IsEventStep setup p.history p.energy p.state (Replace d) None (NotOut d) p.state
       step = record { among = rw (below_test d setup.geometry.disks low) (not_put p.state.out d not) }

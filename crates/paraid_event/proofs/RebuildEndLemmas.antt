@@ -184,6 +184,7 @@ module _ (told : Option Trail) (k k1 : Service) (setup : Setup) (p : Point) (at 
         machine = machine;
         moments = held;
         once = let a = calls.attaches in omega (arith, a);
+        attached = λ is. absurd (false≢true is);
         ups = λ e low.
             let a = used2 e (subst (λ (z : Setup). e < z.geometry.disks) (sym (setup1 told k k1 setup p at d rebuilt is_fresh counts fit bound few)) low) in
             let r = counted_made told k k1 setup p at counts e low in
@@ -191,6 +192,7 @@ module _ (told : Option Trail) (k k1 : Service) (setup : Setup) (p : Point) (at 
             omega (arith, a, r, l);
         quiet = λ still none. absurd (false≢true (sym busy ∙ still));
         serving = serving2;
+        carried = λ is none. absurd (false≢true is);
         mark = subst (λ (m : ℕ). IsMark m setup q) (ended.slots ∙ slots1 told k k1 setup p at d rebuilt is_fresh counts fit bound few) (stands_mark told_then k2 setup q there);
         flushed = λ f. absurd (false≢true f);
         disks = watched_disks w0 cs;

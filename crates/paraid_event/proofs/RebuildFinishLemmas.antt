@@ -133,6 +133,7 @@ record EndsIn (k k_then : Service) (h : History) (lo bound d : ℕ) (base : Meta
   ticks : k_then.meta.ticks ≡ k.meta.ticks
   base_then : Meta
   room : base_then.epoch ≤ base.epoch + bound
+  brought : base_then.ticks ≡ k_then.meta.ticks
   ended : IsEnded k k_then h lo d base_then (watch_all cs w)
   used : (e : ℕ) → e < k.meta.setup.geometry.disks → up_count e cs + made_by k.meta w.disks.power e ≤ slice_index k_then.meta.spins e
 
@@ -159,6 +160,7 @@ ends_gone k back h lo most d gone s cs from base w same at named =
       ticks = goes.ticks;
       base_then = goes.base_then;
       room = goes.room;
+      brought = goes.brought;
       ended = ended_for k back back h lo d goes.base_then (watch_all cs w) goes.slots goes.setup (ended_gone back h lo d goes.base_then (watch_all cs w) goes.ends gone);
       used = goes.used;
     }
@@ -171,6 +173,7 @@ ends_spinning k back h lo most d none_out under s cs from base w same at named =
       ticks = goes.ticks;
       base_then = goes.base_then;
       room = goes.room;
+      brought = goes.brought;
       ended = ended_for k back back h lo d goes.base_then (watch_all cs w) goes.slots goes.setup (ended_spinning back h lo d goes.base_then (watch_all cs w) goes.ends none_out under);
       used = goes.used;
     }
@@ -200,6 +203,7 @@ ends_parked k back k_then h lo most d done nothing none_out past_gear past_rise 
       ticks = ap (λ (m : Meta). m.ticks) meta_is ∙ parked_ticks d done back.meta ∙ goes.ticks;
       base_then = goes.base_then;
       room = let r = goes.room in omega (arith, r);
+      brought = goes.brought ∙ sym (ap (λ (m : Meta). m.ticks) meta_is ∙ parked_ticks d done back.meta);
       ended = subst (IsEnded k k_then h lo d goes.base_then) (sym (watch_append cs (Park d done ∷ []) w))
           (ended_for k back k_then h lo d goes.base_then (watch_all (Park d done ∷ []) v) goes.slots goes.setup
           (ended_parked back h lo d goes.base_then v goes.ends none_out past_gear past_rise done held.lawful held.held k_then slots meta_is keeps));
@@ -246,6 +250,7 @@ ends_steps k k_then h lo bound d named gone s cs from base w same at =
       };
       base_then = it.base_then;
       room = it.room;
+      carried = inr it.brought;
       ends = record {
         midway = it.ended.midway;
         only = subst (λ (o : Option ℕ). IsOnly o (watch_all cs w).down) (sym (ap named_out gone)) it.ended.only;

@@ -34,7 +34,7 @@ use Rattle.paraid_image.proofs.FailedCallLemmas.{failed_is_loss}
 use Rattle.paraid_machine.specs.Energy.{energy_after, tick_energy}
 use Rattle.paraid_machine.specs.Machine.{IsEventStep, outcomes, rebuild, report, tick_by_out}
 use Rattle.paraid_machine.specs.Moves.{after_loss, state_with_tick, units_to_rebuild}
-use Rattle.paraid_session.specs.Turn.{GoesOn, IsMark, IsUnhurt, LosesSecondDisk, Point, bounds_at, makes_no_call, point_wear}
+use Rattle.paraid_session.specs.Turn.{GoesOn, IsMark, IsUnhurt, LosesSecondDisk, Point, bounds_at, makes_no_call, point_wear, tells_begin}
 use Rattle.paraid_session.specs.Turn.IsFirstDown.{out as first_out}
 use Rattle.paraid_session.specs.Turn.IsSecondLossEnergy.{own}
 use Rattle.paraid_session.specs.Turn.IsSecondLossGear.{same}
@@ -305,6 +305,13 @@ module _ (told : Option Trail) (k k1 : Service) (setup : Setup) (p : Point) (at 
           (subst (λ (o : Option ℕ). Contains {X = Answer × PowerState} (rebuild setup o s1 d rebuilt) (answer, s2)) (sym loss) among);
     }
 
+    not_begun : tells_begin answer ≡ false
+    not_begun = by moved
+      where
+        by : (t : Bool) → tells_begin (report p.state (moved_by setup t) (ticks_to setup d t)).0 ≡ false
+        by true = refl
+        by false = refl
+
     busy : makes_no_call answer ≡ false
     busy = by moved
       where
@@ -320,6 +327,7 @@ module _ (told : Option Trail) (k k1 : Service) (setup : Setup) (p : Point) (at 
         machine = machine;
         moments = moments cs goes.calls;
         once = let a = goes.calls.attaches in omega (arith, a);
+        attached = λ is. absurd (false≢true is);
         ups = λ e low.
             let a = goes.leaves.used e (subst (λ (z : Setup). e < z.geometry.disks) (sym setup1) low) in
             let r = counted_made told k k1 setup p at counts e low in
@@ -328,6 +336,7 @@ module _ (told : Option Trail) (k k1 : Service) (setup : Setup) (p : Point) (at 
             omega (arith, a, r, m, l);
         quiet = λ still none. absurd (false≢true (sym busy ∙ still));
         serving = serving2;
+        carried = λ is none. absurd (false≢true (sym not_begun ∙ is));
         mark = subst (λ (m : ℕ). IsMark m setup q) (goes.leaves.slots ∙ slots1) (stands_mark told_then k2 setup q there);
         flushed = λ f. absurd (false≢true f);
         disks = watched_disks w0 cs;

@@ -88,6 +88,7 @@ pub record GoesBack (k back : Service) (h : History) (lo most d : ℕ) (base : M
   pub ticks : back.meta.ticks ≡ k.meta.ticks
   pub base_then : Meta
   pub room : base_then.epoch ≤ base.epoch + most
+  pub brought : base_then.ticks ≡ back.meta.ticks
   pub ends : IsBack back h lo d base_then (watch_all cs w)
   pub used : (e : ℕ) → e < k.meta.setup.geometry.disks → up_count e cs + made_by k.meta w.disks.power e ≤ slice_index back.meta.spins e
 
@@ -101,6 +102,7 @@ back_after i k back h lo most more d base w cs ds first second = record {
   ticks = second.ticks ∙ first.leaves.ticks;
   base_then = second.base_then;
   room = let r = first.room in let s = second.room in omega (arith, r, s);
+  brought = second.brought;
   ends = subst (IsBack back h lo d second.base_then) (sym (watch_append cs ds w)) second.ends;
   used = λ e low.
       let a = first.leaves.used e low in
@@ -301,6 +303,7 @@ module _ (copied : Service) (d u : ℕ) (h : History) (lo : ℕ) (base : Meta) (
         ticks = same_ticks v.disks.power j.meta back.meta marks;
         base_then = moved_keeps.0.base;
         room = let e = ap (λ (m : Meta). m.epoch) base_is in let f = next_epoch in omega (arith, e, f);
+        brought = ap (λ (m : Meta). m.ticks) base_is ∙ sym (same_ticks v.disks.power j.meta back.meta marks);
         used = λ e below_n.
             let a = none_up n (gone_out copied.meta.out) w.disks cs e calls in
             let b = made_most copied.meta w.disks.power e in

@@ -39,7 +39,7 @@ use Rattle.paraid_machine.specs.Energy.{energy_of}
 use Rattle.paraid_machine.specs.Machine.{IsEventStep, outcomes, put_in, quietly, refresh, with_fresh_disk, without_fresh_disk}
 use Rattle.paraid_moves.specs.MoveMetas.{meta_with_out}
 use Rattle.paraid_machine.specs.Moves.{after_loss, without_spin_ups}
-use Rattle.paraid_session.specs.Turn.{GoesOn, IsMark, IsUnhurt, LosesSecondDisk, Point, awaited_by, bounds_at, is_flush, makes_no_call, point_wear, watch_of}
+use Rattle.paraid_session.specs.Turn.{GoesOn, IsMark, IsUnhurt, LosesSecondDisk, Point, awaited_by, bounds_at, is_flush, makes_no_call, point_wear, watch_of, tells_begin}
 use Rattle.paraid_session.specs.Turn.IsFirstDown.{out as first_out}
 use Rattle.paraid_session.specs.Turn.IsSecondLossEnergy.{own}
 use Rattle.paraid_session.specs.Turn.IsSecondLossGear.{same}
@@ -207,7 +207,7 @@ module _ (told : Option Trail) (k : Service) (setup : Setup) (p : Point) (at : S
   -- The event is answered, and the array stands after it.
   module _ (fresh_came : Bool) (kf : Service) (base : Meta) (all : List Call) (vf : Watch) (watched_all : watch_all all w0 ≡ vf) (mid : IsMidway kf p.history p.low base vf) (is_only : IsOnly (Some d) vf.down) (copies : AreCopiesSynced kf.meta.setup.geometry.disks kf.copied)
       (setup_is : kf.meta.setup ≡ setup) (shown : ShowsMeta vf.disks.power base kf.meta) (powered : ArePoweredByGear vf.disks.power kf.meta) (state : IsStateOf kf (state_of p.state d fresh_came))
-      (energy : kf.energy ≡ k.energy) (slots : kf.slots ≡ k.slots) (each : Held w0 all) (once : attach_count all ≤ 1) (none_up : (e : ℕ) → up_count e all ≡ 0) (loss : first_lost all ≡ loss_of d fresh_came) where
+      (energy : kf.energy ≡ k.energy) (slots : kf.slots ≡ k.slots) (each : Held w0 all) (one : attach_count all ≡ 1) (none_up : (e : ℕ) → up_count e all ≡ 0) (loss : first_lost all ≡ loss_of d fresh_came) where
     abbrev answer : Answer
     answer = answer_of d fresh_came
 
@@ -277,6 +277,13 @@ module _ (told : Option Trail) (k : Service) (setup : Setup) (p : Point) (at : S
         by true = refl
         by false = refl
 
+    not_begun : tells_begin answer ≡ false
+    not_begun = by fresh_came
+      where
+        by : (t : Bool) → tells_begin (answer_of d t) ≡ false
+        by true = refl
+        by false = refl
+
     no_flush : is_flush answer ≡ false
     no_flush = by fresh_came
       where
@@ -322,11 +329,13 @@ module _ (told : Option Trail) (k : Service) (setup : Setup) (p : Point) (at : S
         fit = λ asked. fit;
         machine = machine;
         moments = subst (λ (z : Watch). Held z all) (sym watched) each;
-        once = once;
+        once = omega (arith, one);
+        attached = λ is. one;
         ups = λ e low. let z = none_up e in omega (arith, z);
         quiet = λ still none. absurd (false≢true (sym busy ∙ still));
         serving = subst (λ (z : Watch). IsServing z.down) (sym whole) (only_serving (Some d) vf.down is_only);
         mark = subst (λ (m : ℕ). IsMark m setup q) slots (stands_mark told_then kf setup q there);
+        carried = λ is none. absurd (false≢true (sym not_begun ∙ is));
         flushed = λ f. absurd (false≢true (sym no_flush ∙ f));
         disks = ap (λ (z : Watch). z.disks) (sym watched_all) ∙ watched_disks w0 all;
         history = sym (append-nil p.history) ∙ ap (λ (more : History). p.history ++ more) (sym no_write);
@@ -644,7 +653,7 @@ module _ (told : Option Trail) (k : Service) (setup : Setup) (p : Point) (at : S
         all_each : (ds : List Call) → AreEventCalls k3 p.history p.low ends.keeps.base v2.disks ds → Held w0 (cs ++ (attach true ∷ ds))
         all_each ds part3 = each_append (HoldsWhileServing k.slots p.history p.low b) (IsAllowed setup (Some d)) w0 cs (attach true ∷ ds) each1 (fresh_each ds part3)
 
-        all_once : (ds : List Call) → AreEventCalls k3 p.history p.low ends.keeps.base v2.disks ds → attach_count (cs ++ (attach true ∷ ds)) ≤ 1
+        all_once : (ds : List Call) → AreEventCalls k3 p.history p.low ends.keeps.base v2.disks ds → attach_count (cs ++ (attach true ∷ ds)) ≡ 1
         all_once ds part3 =
             let a = attach_after cs (attach true ∷ ds) (part_attaches k1 p.history p.low p.meta w0 mid1 cs part) in
             let c = part_attaches k3 p.history p.low ends.keeps.base v2 mid3 ds part3 in
@@ -662,7 +671,7 @@ module _ (told : Option Trail) (k : Service) (setup : Setup) (p : Point) (at : S
         pub fresh_lost : (two : Two) (ds : List Call) → AreEventCalls k3 p.history p.low ends.keeps.base v2.disks ds → TellsTwo k3 two v2.disks ds
             → LosesSecondDisk k.slots setup p (Replace d) two (cs ++ (attach true ∷ ds)) (record p { disks = run p.disks (cs ++ (attach true ∷ ds)); halt = Some (HaltTwo two) })
         fresh_lost two ds part3 tells = loses_second two (cs ++ (attach true ∷ ds)) first_is (fails_later cs (attach true ∷ ds) two.second (fails_tail (attach true) ds two.second tells.second)) tells.apart
-            (all_each ds part3) (all_once ds part3)
+            (all_each ds part3) (let one = all_once ds part3 in omega (arith, one))
           where
             first_is : two.first ≡ d
             first_is = elim tells.first [

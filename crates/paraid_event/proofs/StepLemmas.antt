@@ -141,6 +141,13 @@ module _ (k j : Service) (h : History) (lo most more : ℕ) (Mid : Meta → Watc
     };
     base_then = second.base_then;
     room = let r = first.room in let s = second.room in omega (arith, r, s);
+    carried = elim second.carried [
+      | inl same ↦ elim first.carried [
+        | inl still ↦ inl (same ∙ still)
+        | inr brought ↦ inr (ap (λ (m : Meta). m.ticks) same ∙ brought ∙ sym second.leaves.ticks)
+      ]
+      | inr brought ↦ inr brought
+    ];
     ends = subst (Ends second.base_then) (sym (watch_append cs ds w)) second.ends;
   }
     where
@@ -209,6 +216,12 @@ module _ (k k_then : Service) (h : History) (lo lo_then : ℕ) (le : lo ≤ lo_t
   pub one_room : ends.keeps.base.epoch ≤ base.epoch + 1
   one_room = elim (part_base k h lo base w mid cs part k_then h lo_then ends one_serving) [ inl old ↦ old_epoch old | inr new ↦ new_epoch new ]
 
+  one_carried : (ends.keeps.base ≡ base) ⊎ (ends.keeps.base.ticks ≡ k_then.meta.ticks)
+  one_carried = elim (part_base k h lo base w mid cs part k_then h lo_then ends one_serving) [
+    | inl old ↦ inl old
+    | inr new ↦ inr (ap (λ (m : Meta). m.ticks) new ∙ sym (same_ticks v.disks.power k.meta k_then.meta marks))
+  ]
+
   module _ (shown : ShowsMeta w.disks.power base k.meta) (powered : ArePoweredByGear w.disks.power k.meta) where
     one_underway : IsUnderway k_then h lo ends.keeps.base v
     one_underway = record {
@@ -220,7 +233,7 @@ module _ (k k_then : Service) (h : History) (lo lo_then : ℕ) (le : lo ≤ lo_t
 
     -- It is a part of an event with at most one commit.
     pub one_goes : GoesInSteps k k_then h lo 1 (IsUnderway k_then h lo) base w cs
-    one_goes = record { calls = one_calls; leaves = one_leaves; base_then = ends.keeps.base; room = one_room; ends = one_underway }
+    one_goes = record { calls = one_calls; leaves = one_leaves; base_then = ends.keeps.base; room = one_room; carried = one_carried; ends = one_underway }
 
     module _ (past : EachCall (IsDataCall k.meta.setup.geometry.disks (gone_out k.meta.out)) w.disks cs) where
       outs : (d : ℕ) → part.out ≡ Some d → (d < k.meta.setup.geometry.disks) × IsIn w.down d
@@ -239,6 +252,7 @@ module _ (k k_then : Service) (h : History) (lo lo_then : ℕ) (le : lo ≤ lo_t
         leaves = one_leaves;
         base_then = ends.keeps.base;
         room = let e = ap (λ (m : Meta). m.epoch) (part_data k h lo base w mid cs part k_then h lo_then ends past one_serving) in omega (arith, e);
+        carried = inl (part_data k h lo base w mid cs part k_then h lo_then ends past one_serving);
         ends = one_underway;
       }
 
@@ -279,6 +293,7 @@ goes_within k k_then h lo most bound le Ends base w cs goes = record {
   leaves = goes.leaves;
   base_then = goes.base_then;
   room = let r = goes.room in omega (arith, r, le);
+  carried = goes.carried;
   ends = goes.ends;
 }
 
@@ -341,6 +356,7 @@ no_steps k h lo s base w same at = record {
   };
   base_then = base;
   room = omega arith;
+  carried = inl refl;
   ends = at;
 }
 

@@ -1,4 +1,5 @@
 -- Marks in memory between the parts of an event, the commits that bring them, and disks that are powered then.
+use Rattle.paraid_event.proofs.ServingLemmas.{spins_only}
 use Rattle.std.proofs.Common.{◌≡◌, ℕ, ◌+◌, ◌<◌, ◌≤◌, ◌⊎◌, Bool, true, false, List, [], ◌∷◌, ◌++◌, Option, Some, None, refl, sym, ap, ◌∙◌, inl, inr, subst, arith}
 use Rattle.std.specs.Prelude.{slice_index}
 use Rattle.paraid_base.specs.declared.fault.Two.{Two}
@@ -99,6 +100,7 @@ mark_after i k j mark h lo most base w cs goes keeps = record {
   leaves = marked_leaves k j mark h lo goes.base_then (watch_all cs w) goes.ends.midway i w cs goes.leaves;
   base_then = goes.base_then;
   room = goes.room;
+  carried = elim goes.carried [ inl same ↦ inl same | inr brought ↦ inr (brought ∙ sym mark.ticks) ];
   ends = record {
     midway = marked_midway k j mark h lo goes.base_then (watch_all cs w) goes.ends.midway keeps;
     only = marked_only k j mark h lo goes.base_then (watch_all cs w) goes.ends.midway goes.ends.only;
@@ -115,6 +117,7 @@ mark_again i k j powers mark h lo most base w cs goes keeps = record {
   leaves = marked_leaves k j mark h lo goes.base_then (watch_all cs w) goes.ends.midway i w cs goes.leaves;
   base_then = goes.base_then;
   room = goes.room;
+  carried = elim goes.carried [ inl same ↦ inl same | inr brought ↦ inr (brought ∙ sym mark.ticks) ];
   ends = record {
     midway = marked_midway k j mark h lo goes.base_then (watch_all cs w) goes.ends.midway keeps;
     only = marked_only k j mark h lo goes.base_then (watch_all cs w) goes.ends.midway goes.ends.only;
@@ -162,6 +165,7 @@ cells_after i k j meta slots named h lo most base w cs goes keeps = record {
   };
   base_then = goes.base_then;
   room = goes.room;
+  carried = elim goes.carried [ inl same ↦ inl same | inr brought ↦ inr (brought ∙ sym (ap (λ (m : Meta). m.ticks) meta)) ];
   ends = cells_underway k j meta slots named h lo goes.base_then (watch_all cs w) goes.ends keeps;
 }
 
@@ -213,6 +217,7 @@ module _ (k k_then : Service) (powers : Meta) (h : History) (lo lo_then : ℕ) (
     leaves = one_leaves k k_then h lo lo_then le slots base w at.midway at.only cs part ends;
     base_then = ends.keeps.base;
     room = one_room k k_then h lo lo_then le slots base w at.midway at.only cs part ends;
+    carried = inr (ap (λ (m : Meta). m.ticks) opened_base ∙ sym (same_ticks v.disks.power k.meta k_then.meta marks));
     ends = record {
       midway = midway;
       only = one_only k k_then h lo lo_then le slots base w at.midway at.only cs part ends;
@@ -232,6 +237,7 @@ module _ (k k_then : Service) (powers : Meta) (h : History) (lo lo_then : ℕ) (
     leaves = one_leaves k k_then h lo lo_then le slots base w at.midway at.only cs part ends;
     base_then = ends.keeps.base;
     room = one_room k k_then h lo lo_then le slots base w at.midway at.only cs part ends;
+    carried = inr (ap (λ (m : Meta). m.ticks) opened_base ∙ sym (same_ticks v.disks.power k.meta k_then.meta marks));
     ends = record {
       midway = midway;
       only = one_only k k_then h lo lo_then le slots base w at.midway at.only cs part ends;
@@ -253,7 +259,7 @@ module _ (k k_then : Service) (h : History) (lo : ℕ) (slots : k_then.slots ≡
 
   pub raised_calls : AreStepCalls k h lo 0 base w cs
   raised_calls = record {
-    moments = λ b asked setup ticks room. power_each k h lo base w mid shown none_awaited cs part (λ e raised. has e) b setup (let t = mid.stands.ticks in omega (arith, ticks, t)) (omega (arith, room)) asked;
+    moments = λ b asked setup ticks room. power_each k h lo base w mid shown none_awaited cs part (λ e raised. has e) b setup (let t = mid.stands.ticks in omega (arith, ticks, t)) (omega (arith, room)) (spins_only (named_out k.meta.out) w.down cs is_only part.serving) asked;
     attaches = power_attaches k.meta w.disks cs part.calls;
   }
 
@@ -297,6 +303,7 @@ module _ (k k_then : Service) (h : History) (lo : ℕ) (slots : k_then.slots ≡
       };
       base_then = base;
       room = omega arith;
+      carried = inl refl;
       ends = record {
         midway = power_stands k h lo base w mid shown none_awaited cs part (λ e raised. has e) k_then ends (only_serving (named_out k_then.meta.out) u.down raised_only);
         only = raised_only;

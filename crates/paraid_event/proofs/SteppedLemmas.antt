@@ -1,5 +1,11 @@
 -- From parts of an event to its turn.
-use Rattle.std.proofs.Common.{true, ◌≡◌, ◌≢◌, ℕ, ◌^◌, ◌<◌, ◌≤◌, false, List, [], ◌++◌, Option, Some, None, refl, sym, ap, ◌∙◌, inl, inr, subst, arith}
+use Rattle.paraid_event.specs.Marks.{ShowsMeta}
+use Rattle.paraid_record.specs.declared.meta.Meta.{Meta}
+use Rattle.paraid_rack.specs.declared.call.Power.{Power}
+use Rattle.paraid_base.specs.declared.state.Out.TheVariants.{No}
+use Rattle.paraid_base.specs.declared.state.Phase.TheVariants.{Steady, Down as PhaseDown, Up as PhaseUp}
+use Rattle.paraid_base.specs.declared.state.Phase.{Phase}
+use Rattle.std.proofs.Common.{true, ◌≡◌, ◌≢◌, ℕ, ◌^◌, ◌<◌, ◌≤◌, false, List, [], ◌++◌, Option, Some, None, refl, sym, ap, ◌∙◌, inl, inr, subst, arith, Bool}
 use Rattle.std.proofs.lemmas.Bool.{false≢true}
 use Rattle.std.proofs.lemmas.List.{append-nil}
 use Rattle.paraid_base.specs.declared.event.Answer.{Answer}
@@ -11,7 +17,7 @@ use Rattle.paraid_base.specs.declared.fault.Two.{Two}
 use Rattle.paraid_base.specs.declared.state.Out.{Out}
 use Rattle.paraid_base.specs.History.{History}
 use Rattle.paraid_base.specs.Log.{worn_at}
-use Rattle.paraid_base.specs.States.{named_out}
+use Rattle.paraid_base.specs.States.{named_out, has_out, phase_beside}
 use Rattle.paraid_rack.specs.declared.call.Call.{Call}
 use Rattle.paraid_rack.specs.Trail.{Trail, now, run}
 use Rattle.paraid_record.specs.declared.meta.Setup.{Setup}
@@ -20,7 +26,7 @@ use Rattle.paraid_image.specs.Shown.{accepted_write, with_flush}
 use Rattle.paraid_core.specs.CoreInvariant.{AreCopiesSynced}
 use Rattle.paraid_machine.specs.Energy.{energy_after}
 use Rattle.paraid_machine.specs.Machine.{IsEventStep}
-use Rattle.paraid_session.specs.Turn.{GoesOn, IsMark, IsSecondLossEnergy, IsUnhurt, Point, awaited_by, bounds_at, bounds_of, is_flush, makes_no_call, point_wear, replaced_by, watch_of}
+use Rattle.paraid_session.specs.Turn.{GoesOn, IsMark, IsSecondLossEnergy, IsUnhurt, Point, awaited_by, bounds_at, bounds_of, is_flush, makes_no_call, point_wear, replaced_by, watch_of, tells_attach, tells_begin}
 use Rattle.paraid_session.specs.Turn.IsFirstDown.{lost, out as was_out}
 use Rattle.paraid_session.specs.Turn.IsSecondLossGear.{same as same_gear}
 use Rattle.paraid_session.specs.Turn.IsTurn.{answered, two as second_loss}
@@ -38,6 +44,21 @@ use Rattle.paraid_event.specs.Ticks.{IsHaltedWith}
 use Rattle.paraid_event.proofs.EndLemmas.{only_from, only_is, only_serving}
 use Rattle.paraid_event.proofs.PointLemmas.{stands_mark}
 use Rattle.paraid_event.proofs.TurnLemmas.{absent_named, fresh_there, out_low}
+
+beside_none : (z : Phase) → phase_beside false z ≡ z
+beside_none Steady = refl
+beside_none (PhaseDown to) = refl
+beside_none (PhaseUp to) = refl
+
+beside_steady : (t : Bool) → phase_beside t Steady ≡ Steady
+beside_steady true = refl
+beside_steady false = refl
+
+-- where the phase was steady and is not so any more, another meta stands
+pub other_base : (base m base_then m_then : Meta) (power power_then : ℕ → Power) → ShowsMeta power base m → ShowsMeta power_then base_then m_then → m.out ≡ No → m.phase ≡ Steady → m_then.phase ≢ Steady → base_then ≢ base
+other_base base m base_then m_then power power_then shown shown_then whole steady moved same =
+    let was : base.phase ≡ Steady = sym (beside_none base.phase) ∙ ap (λ (o : Out). phase_beside (has_out o) base.phase) (sym whole) ∙ shown.phase ∙ steady in
+    moved (sym shown_then.phase ∙ ap (phase_beside (has_out m_then.out)) (ap (λ (z : Meta). z.phase) same ∙ was) ∙ beside_steady (has_out m_then.out))
 
 -- From a point on, of which the array counts `k1` before its parts.
 module _ (told_then : Option Trail) (k k1 : Service) (setup : Setup) (p : Point) (event : Event) (bounded : PowerState) (going : p.halt ≡ None) (not_bad : event ≢ Bad) (fit : point_wear p < worn_at)
@@ -85,7 +106,7 @@ module _ (told_then : Option Trail) (k k1 : Service) (setup : Setup) (p : Point)
   module _ (k2 : Service) (goes : GoesInSteps k1 k2 p.history p.low most (IsUnderway k2 p.history p.low) p.meta w0 cs) (answer : Answer) (new : PowerState) (starts : watch_of p event answer ≡ w0) (tells : (t : Trail) → told_then ≡ Some t → now t ≡ run p.disks cs)
       (machine : IsEventStep setup p.history p.energy p.state event (first_lost cs) answer new) (state : IsStateOf k2 new) (synced : AreCopiesSynced k2.meta.setup.geometry.disks k2.copied)
       (energy : energy_after setup p.energy p.state answer ≡ k2.energy) (fits : k2.energy ≤ 18446744073709551615) (quiet : makes_no_call answer ≡ true → first_lost cs ≡ None → cs ≡ []) (awaits : (a : Option ℕ) → awaited_by answer a ≡ a)
-      (none : accepted_write event answer ≡ []) (low : with_flush p.low answer ≡ p.low) (not_flush : is_flush answer ≡ false)
+      (none : accepted_write event answer ≡ []) (low : with_flush p.low answer ≡ p.low) (not_flush : is_flush answer ≡ false) (no_attach : tells_attach answer ≡ false) (begins : tells_begin answer ≡ true → first_lost cs ≡ None → goes.base_then ≢ p.meta)
       (rest : (d : ℕ) → d < setup.geometry.disks → slice_index p.state.spins d ≤ made_by k1.meta p.disks.power d) where
     abbrev q : Point
     q = record {
@@ -125,6 +146,7 @@ module _ (told_then : Option Trail) (k k1 : Service) (setup : Setup) (p : Point)
         machine = machine;
         moments = subst (λ (u : Watch). Each (HoldsWhileServing k.slots p.history p.low (bounds_of setup p event)) (IsAllowed setup (replaced_by event)) u cs) (sym starts) (each_of goes.calls);
         once = let a = goes.calls.attaches in omega (arith, a);
+        attached = λ is. absurd (false≢true (sym no_attach ∙ is));
         ups = λ d below.
             let a = goes.leaves.used d (subst (λ (z : Setup). d < z.geometry.disks) (sym setup1) below) in
             let r = rest d below in
@@ -133,6 +155,10 @@ module _ (told_then : Option Trail) (k k1 : Service) (setup : Setup) (p : Point)
             omega (arith, a, r, m, l);
         quiet = quiet;
         serving = subst (λ (u : Watch). IsServing (watch_all cs u).down) (sym starts) (only_serving (named_out k2.meta.out) v.down goes.ends.only);
+        carried = λ is first. elim goes.carried [
+          | inl same ↦ absurd (begins is first same)
+          | inr brought ↦ brought ∙ sym state.ticks
+        ];
         mark = subst (λ (n : ℕ). IsMark n setup q) (goes.leaves.slots ∙ slots1) (stands_mark told_then k2 setup q there);
         flushed = λ f. absurd (false≢true (sym not_flush ∙ f));
         disks = watched_disks w0 cs;
@@ -150,10 +176,10 @@ module _ (told_then : Option Trail) (k k1 : Service) (setup : Setup) (p : Point)
   module _ (k2 : Service) (goes : GoesInSteps k1 k2 p.history p.low most (IsUnderway k2 p.history p.low) p.meta w0 cs) (answer : Answer) (new : PowerState) (starts : watch_of p event answer ≡ w0) (tells : (t : Trail) → told_then ≡ Some t → now t ≡ run p.disks cs)
       (machine : IsEventStep setup p.history p.energy p.state event (first_lost cs) answer new) (state : IsStateOf k2 new) (synced : AreCopiesSynced k2.meta.setup.geometry.disks k2.copied)
       (energy : energy_after setup p.energy p.state answer ≡ k2.energy) (fits : k2.energy ≤ 18446744073709551615) (busy : makes_no_call answer ≡ false) (awaits : (a : Option ℕ) → awaited_by answer a ≡ a)
-      (none : accepted_write event answer ≡ []) (low : with_flush p.low answer ≡ p.low) (not_flush : is_flush answer ≡ false)
+      (none : accepted_write event answer ≡ []) (low : with_flush p.low answer ≡ p.low) (not_flush : is_flush answer ≡ false) (no_attach : tells_attach answer ≡ false) (begins : tells_begin answer ≡ true → first_lost cs ≡ None → goes.base_then ≢ p.meta)
       (rest : (d : ℕ) → d < setup.geometry.disks → slice_index p.state.spins d ≤ made_by k1.meta p.disks.power d) where
     pub steps_turn : GoesOn k.slots setup p event answer (StandsAt told_then k2 setup) p.disks cs
-    steps_turn = steps_turn_by k2 goes answer new starts tells machine state synced energy fits (λ still first. absurd (false≢true (sym busy ∙ still))) awaits none low not_flush rest
+    steps_turn = steps_turn_by k2 goes answer new starts tells machine state synced energy fits (λ still first. absurd (false≢true (sym busy ∙ still))) awaits none low not_flush no_attach begins rest
 
 -- From where an array stands an event is underway.
 pub event_underway : (told : Option Trail) (k : Service) (setup : Setup) (p : Point) → StandsAt told k setup p → IsUnderway k p.history p.low p.meta (watch_at p)

@@ -52,7 +52,7 @@ use Rattle.paraid_event.specs.Ticks.{BeginsDownByTick, CountsTick, IsHaltedWith}
 use Rattle.paraid_event.proofs.EndLemmas.{IsOnly, only_is, only_serving}
 use Rattle.paraid_event.proofs.FailLemmas.{same_base}
 use Rattle.paraid_event.proofs.IdleLemmas.{stands_in, state_then, used}
-use Rattle.paraid_event.proofs.MarksLemmas.{marked_setup}
+use Rattle.paraid_event.proofs.MarksLemmas.{marked_setup, same_ticks}
 use Rattle.paraid_event.proofs.PartLemmas.{IsSettled, part_attaches, part_committed, part_each, part_epoch, part_marks, part_only, part_powered, part_stands, part_state}
 use Rattle.paraid_event.proofs.PointLemmas.{stands_mark}
 use Rattle.paraid_event.proofs.TurnLemmas.{absent_named, fresh_there, out_low, state_after}
@@ -314,9 +314,11 @@ module _ (told : Option Trail) (k k1 k2 : Service) (setup : Setup) (p : Point) (
           machine = begun_step;
           moments = each2 ds part;
           once = let a = part_attaches k2 p.history p.low p.meta w0 mid2 ds part in omega (arith, a);
+          attached = λ is. absurd (false≢true is);
           ups = λ e low. let z = part_ups k2 p.history p.low p.meta w0 mid2 ds part e in omega (arith, z);
           quiet = λ still none. absurd (false≢true still);
           serving = serving3;
+          carried = λ is none. ap (λ (m : Meta). m.ticks) base3 ∙ sym (same_ticks v.disks.power k2.meta k3.meta (part_marks k2 p.history p.low p.meta w0 mid2 ds part k3 p.history lo3 ends)) ∙ sym state3.ticks;
           mark = subst (λ (m : ℕ). IsMark m setup begun_point) (begins.slots ∙ ap (λ (z : Service). z.slots) counts.is) (stands_mark told_then k3 setup begun_point there);
           flushed = λ f. absurd (false≢true f);
           disks = watched_disks w0 ds;

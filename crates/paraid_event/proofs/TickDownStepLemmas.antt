@@ -1,5 +1,7 @@
 -- Ticks that begin a shift down, by the parts of their events.
-use Rattle.std.proofs.Common.{false, ◌≡◌, ℕ, ◌-◌, ◌*◌, ◌^◌, ◌<◌, ◌≤◌, [], List, Option, Some, None, refl, sym, ap, subst, arith, min}
+use Rattle.paraid_event.proofs.ApartLemmas.{no_one}
+use Rattle.paraid_event.proofs.SteppedLemmas.{other_base}
+use Rattle.std.proofs.Common.{false, ◌≡◌, ℕ, ◌-◌, ◌*◌, ◌^◌, ◌<◌, ◌≤◌, [], List, Option, Some, None, refl, sym, ap, subst, arith, min, ◌≢◌, ◌∙◌}
 use Rattle.std.specs.Prelude.{◌+◌, Contains}
 use Rattle.paraid_base.specs.declared.event.Answer.{Answer}
 use Rattle.paraid_base.specs.declared.event.Answer.TheVariants.{Halted, Ticked}
@@ -9,7 +11,7 @@ use Rattle.paraid_base.specs.declared.fault.Two.{Two}
 use Rattle.paraid_base.specs.declared.state.Out.{Out}
 use Rattle.paraid_base.specs.declared.state.Out.TheVariants.{No}
 use Rattle.paraid_base.specs.declared.state.Phase.{Phase}
-use Rattle.paraid_base.specs.declared.state.Phase.TheVariants.{Steady}
+use Rattle.paraid_base.specs.declared.state.Phase.TheVariants.{Steady, Down}
 use Rattle.paraid_base.specs.declared.state.TickEvent.TheVariants.{Begun}
 use Rattle.paraid_base.specs.Log.{worn_at}
 use Rattle.paraid_base.specs.States.{named_out}
@@ -26,7 +28,7 @@ use Rattle.paraid_machine.specs.Energy.{begun_energy, tick_energy}
 use Rattle.paraid_machine.specs.Machine.{IsEventStep, begin_by_tick, decide, outcomes, report, shift_down, tick_by_out, tick_by_phase}
 use Rattle.paraid_machine.specs.Moves.{after_loss, begun_down, first_worn, state_with_tick}
 use Rattle.paraid_session.specs.Turn.{GoesOn, IsUnhurt, Point, makes_no_call, point_wear}
-use Rattle.paraid_session.specs.Watch.{Watch, first_lost}
+use Rattle.paraid_session.specs.Watch.{Watch, first_lost, watch_all}
 use Rattle.paraid_session.specs.Resting.{watch_at}
 use Rattle.paraid_event.specs.Moving.{GoesToState}
 use Rattle.paraid_event.specs.Service.{IsStateOf, Service}
@@ -83,15 +85,16 @@ module _ (told : Option Trail) (k k1 : Service) (setup : Setup) (p : Point) (at 
     down_by : (cs : List Call) → ((t : Trail) → told_then ≡ Some t → now t ≡ run p.disks cs) → GoesInSteps k1 k2 p.history p.low most (IsUnderway k2 p.history p.low) p.meta w0 cs → GoesOn k.slots setup p Tick down_answer (StandsAt told_then k2 setup) p.disks cs
     down_by cs tells goes = by_name (named_out k2.meta.out) refl
       where
-        turn_to : (new : PowerState) (loss : Option ℕ) → first_lost cs ≡ loss → IsStateOf k2 new → Contains {X = Answer × PowerState} (begin_by_tick loss (begun_down to s1) to) (report new 0 (Begun to)) → GoesOn k.slots setup p Tick down_answer (StandsAt told_then k2 setup) p.disks cs
-        turn_to new loss first state is = tick_answered told k k1 setup p at counts fit k2 (Begun to) 0 new state synced energy2 most few told_then refl cs goes tells
+        turn_to : (new : PowerState) (loss : Option ℕ) → first_lost cs ≡ loss → IsStateOf k2 new → (first_lost cs ≡ None → new.phase ≢ Steady) → Contains {X = Answer × PowerState} (begin_by_tick loss (begun_down to s1) to) (report new 0 (Begun to)) → GoesOn k.slots setup p Tick down_answer (StandsAt told_then k2 setup) p.disks cs
+        turn_to new loss first state shifts is = tick_answered told k k1 setup p at counts fit k2 (Begun to) 0 new state synced energy2 most few told_then refl cs goes tells
+            (λ begun none. other_base p.meta k.meta goes.base_then k2.meta p.disks.power (watch_all cs w0).disks.power at.shown goes.ends.shown (sym at.state.out ∙ no_out) (sym at.state.phase ∙ steady) (λ still. shifts none (state.phase ∙ still)))
             (lowered_step (first_lost cs) down_answer new (subst (λ (l : Option ℕ). Contains {X = Answer × PowerState} (begin_by_tick l (begun_down to s1) to) (down_answer, new)) (sym first) (down_among loss new state.gear is)))
 
         by_name : (n : Option ℕ) → named_out k2.meta.out ≡ n → GoesOn k.slots setup p Tick down_answer (StandsAt told_then k2 setup) p.disks cs
         by_name None none = let whole = no_name k2.meta.out none in
-            turn_to (begun_down to s1) None (none_lost told k k1 setup p at counts fit k2 most cs goes no_out whole) (goes_to.whole whole) (first_outcome (report (begun_down to s1) 0 (Begun to)) [])
+            turn_to (begun_down to s1) None (none_lost told k k1 setup p at counts fit k2 most cs goes no_out whole) (goes_to.whole whole) (λ first down_now. let z : Down to ≡ Steady = down_now in cc) (first_outcome (report (begun_down to s1) 0 (Begun to)) [])
         by_name (Some d) named =
-            turn_to (after_loss (begun_down to s1) d) (Some d) (lost_named told k k1 setup p at counts fit k2 most cs goes no_out d named) (goes_to.lost d named) (first_outcome (report (after_loss (begun_down to s1) d) 0 (Begun to)) [])
+            turn_to (after_loss (begun_down to s1) d) (Some d) (lost_named told k k1 setup p at counts fit k2 most cs goes no_out d named) (goes_to.lost d named) (λ first. absurd (no_one (sym first ∙ lost_named told k k1 setup p at counts fit k2 most cs goes no_out d named))) (first_outcome (report (after_loss (begun_down to s1) d) 0 (Begun to)) [])
 
     pub down_turn : Ran told told_then (StepsInEvent k1 k2 p.history p.low most) → Ran told told_then (GoesOn k.slots setup p Tick down_answer (StandsAt told_then k2 setup))
     down_turn = tick_parts told k k1 setup p at counts fit told_then (StepsInEvent k1 k2 p.history p.low most) (GoesOn k.slots setup p Tick down_answer (StandsAt told_then k2 setup)) (λ cs steps tells. down_by cs tells (steps p.meta w0 refl (tick_underway told k k1 setup p at counts fit)))

@@ -36,7 +36,7 @@ use Rattle.paraid_core.specs.CoreInvariant.{AreCopiesSynced}
 use Rattle.paraid_machine.specs.Energy.{energy_after}
 use Rattle.paraid_machine.specs.Machine.{IsEventStep, around, around_loss, if_alone}
 use Rattle.paraid_machine.specs.Moves.{after_loss}
-use Rattle.paraid_session.specs.Turn.{AreDirtyShown, GoesOn, IsMark, Point, awaited_by, bounds_at, bounds_of, is_flush, makes_no_call, point_wear, replaced_by, watch_of}
+use Rattle.paraid_session.specs.Turn.{AreDirtyShown, GoesOn, IsMark, Point, awaited_by, bounds_at, bounds_of, is_flush, makes_no_call, point_wear, replaced_by, watch_of, tells_attach, tells_begin}
 use Rattle.paraid_session.specs.Turn.IsTurn.{answered}
 use Rattle.paraid_session.specs.Watch.{Bounds, Down, Each, HoldsWhileServing, IsAllowed, IsHeldWhileServing, IsServing, Watch, attach_count, down_from_out, first_lost, nobody, only, several, watch_all}
 use Rattle.paraid_session.proofs.LayerLemmas.{IsIn, absent_failed, each_map, fails_first, first_fails}
@@ -56,6 +56,10 @@ use Rattle.paraid_event.proofs.ChainLemmas.{base_setup, commit_within, data_tran
 use Rattle.paraid_event.proofs.EndLemmas.{IsOnly, end_base, end_follows, end_stands, failed_absent, fails_below, one_failed, only_is, only_serving, stays_off}
 use Rattle.paraid_event.proofs.PointLemmas.{stands_mark}
 use Rattle.paraid_event.proofs.MarksLemmas.{kept_fill, kept_out, kept_phase, lost_fill, lost_phase, named_state, twice, lost_out, marked_setup, out_named, own_shown, same_gear, same_spins, same_ticks, still_named, still_powered, still_shown}
+
+-- an answer that tells neither an attach nor the begin of a shift
+abbrev pub TellsNeither : Answer → Type 0
+TellsNeither answer = (tells_attach answer ≡ false) × (tells_begin answer ≡ false)
 
 more_held : (slots : ℕ) (s : Disks) (h more : History) (lo : ℕ) (down : Down) → IsHeldWhileServing slots s h lo down → IsHeldWhileServing slots s (h ++ more) lo down
 more_held slots s h more lo nobody held = IsHeld-more slots s h more lo lo None (omega arith) held
@@ -346,9 +350,9 @@ module _ (told : Option Trail) (k : Service) (setup : Setup) (p : Point) (at : S
       pub turn_by : (event : Event) (answer : Answer) (told_then : Option Trail) (s : PowerState) → watch_of p event answer ≡ w → bounds_of setup p event ≡ b → ((a : Option ℕ) → awaited_by answer a ≡ a)
           → event ≢ Bad → point_wear p < worn_at → IsEventStep setup p.history p.energy p.state event (first_lost cs) answer s → IsStateOf k_then s → h_then ≡ p.history ++ accepted_write event answer → with_flush p.low answer ≤ lo_then
           → (makes_no_call answer ≡ true → first_lost cs ≡ None → cs ≡ []) → (is_flush answer ≡ true → AreDirtyShown setup (point_then answer event s))
-          → ((t : Trail) → told_then ≡ Some t → now t ≡ run p.disks cs) → k_then.slots ≡ k.slots → AreCopiesSynced k_then.meta.setup.geometry.disks k_then.copied → k_then.energy ≡ energy_after setup p.energy p.state answer
+          → ((t : Trail) → told_then ≡ Some t → now t ≡ run p.disks cs) → k_then.slots ≡ k.slots → AreCopiesSynced k_then.meta.setup.geometry.disks k_then.copied → k_then.energy ≡ energy_after setup p.energy p.state answer → TellsNeither answer
           → GoesOn k.slots setup p event answer (StandsAt told_then k_then setup) p.disks cs
-      turn_by event answer told_then s starts bounds awaits not_bad fit machine of longer low quiet flushed tells slots copies energy =
+      turn_by event answer told_then s starts bounds awaits not_bad fit machine of longer low quiet flushed tells slots copies energy neither =
           let there = stands_at answer event s told_then of longer low tells copies energy in (
             point_then answer event s,
             answered at.going not_bad (record {
@@ -358,9 +362,11 @@ module _ (told : Option Trail) (k : Service) (setup : Setup) (p : Point) (at : S
                   (subst (λ (z : Watch). Each (HoldsWhileServing k.slots (p.history ++ accepted_write event answer) p.low b) (IsAllowed setup (replaced_by event)) z cs) (sym starts)
                   (more_each k.slots p.history (accepted_write event answer) p.low b (IsAllowed setup (replaced_by event)) w cs (each (replaced_by event) (omega arith))));
               once = once;
+              attached = λ is. absurd (false≢true (sym neither.0 ∙ is));
               ups = λ e low. let z = none_up n (gone_out k.meta.out) p.disks cs e calls in omega (arith, z);
               quiet = quiet;
               serving = subst (λ (z : Watch). IsServing (watch_all cs z).down) (sym starts) serving;
+              carried = λ is no_loss. absurd (false≢true (sym neither.1 ∙ is));
               mark = subst (λ (m : ℕ). IsMark m setup (point_then answer event s)) slots (stands_mark told_then k_then setup (point_then answer event s) there);
               flushed = flushed;
               disks = disks_are;
@@ -378,10 +384,10 @@ module _ (told : Option Trail) (k : Service) (setup : Setup) (p : Point) (at : S
       pub turn : (event : Event) (answer : Answer) (told_then : Option Trail) (s : PowerState) → watch_of p event answer ≡ w → bounds_of setup p event ≡ b → ((a : Option ℕ) → awaited_by answer a ≡ a)
           → event ≢ Bad → point_wear p < worn_at → IsEventStep setup p.history p.energy p.state event (first_lost cs) answer s → IsStateOf k_then s → h_then ≡ p.history ++ accepted_write event answer → with_flush p.low answer ≤ lo_then
           → (makes_no_call answer ≡ false) → (is_flush answer ≡ true → AreDirtyShown setup (point_then answer event s))
-          → ((t : Trail) → told_then ≡ Some t → now t ≡ run p.disks cs) → k_then.slots ≡ k.slots → AreCopiesSynced k_then.meta.setup.geometry.disks k_then.copied → k_then.energy ≡ energy_after setup p.energy p.state answer
+          → ((t : Trail) → told_then ≡ Some t → now t ≡ run p.disks cs) → k_then.slots ≡ k.slots → AreCopiesSynced k_then.meta.setup.geometry.disks k_then.copied → k_then.energy ≡ energy_after setup p.energy p.state answer → TellsNeither answer
           → GoesOn k.slots setup p event answer (StandsAt told_then k_then setup) p.disks cs
-      turn event answer told_then s starts bounds awaits not_bad fit machine of longer low busy flushed tells slots copies energy =
-          turn_by event answer told_then s starts bounds awaits not_bad fit machine of longer low (λ still none. absurd (false≢true (sym busy ∙ still))) flushed tells slots copies energy
+      turn event answer told_then s starts bounds awaits not_bad fit machine of longer low busy flushed tells slots copies energy neither =
+          turn_by event answer told_then s starts bounds awaits not_bad fit machine of longer low (λ still none. absurd (false≢true (sym busy ∙ still))) flushed tells slots copies energy neither
 
 -- What may come of an event that calls the core: a loss counts where no disk is out, or the same again.
 pub lost_among : (s : PowerState) (loss : Option ℕ) (f : PowerState → Answer × PowerState) → ((d e : ℕ) → loss ≡ Some d → named_out s.out ≡ Some e → d ≡ e) → Contains (around loss s f) (f (state_after s loss))

@@ -1,4 +1,5 @@
 -- A shift up that begins: a commit, its mark, a commit of that, and the spin-ups.
+use Rattle.paraid_event.proofs.ServingLemmas.{spins_only}
 use Rattle.std.proofs.Common.{◌≡◌, ◌≢◌, zero, suc, ℕ, ◌+◌, ◌-◌, ◌<◌, ◌≤◌, ◌⊎◌, Bool, true, false, List, [], ◌∷◌, ◌++◌, Option, Some, None, refl, sym, ap, ◌∙◌, inl, inr, subst, arith, min, if◌then◌else◌}
 use Rattle.std.specs.Prelude.{◌&&◌, nat_le, nat_lt, Contains, slice_index, slice_index_or}
 use Rattle.std.proofs.lemmas.Bool.{false≢true}
@@ -382,7 +383,7 @@ module _ (told : Option Trail) (k k1 k2 : Service) (setup : Setup) (p : Point) (
 
             each3 : Each (HoldsWhileServing k.slots p.history p.low b) (IsAllowed setup None) v3 es
             each3 = subst (λ (n : ℕ). Each (HoldsWhileServing n p.history p.low b) (IsAllowed setup None) v3 es) opens.counts.slots
-                (power_each k3 p.history p.low ends2.keeps.base v3 mid3 shown3 none_awaited3 es part3 (λ e raised. has3 e) b setup3 ticks3 epoch3 None)
+                (power_each k3 p.history p.low ends2.keeps.base v3 mid3 shown3 none_awaited3 es part3 (λ e raised. has3 e) b setup3 ticks3 epoch3 (spins_only (named_out k3.meta.out) v3.down es (only3_by (named_out k3.meta.out) (λ e named. named)) part3.serving) None)
               where
                 ticks3 : ends2.keeps.base.ticks ≤ b.ticks
                 ticks3 = let e = ap (λ (m : Meta). m.ticks) base3 in let f = ticks2 in omega (arith, e, f)
@@ -563,6 +564,7 @@ module _ (told : Option Trail) (k k1 k2 : Service) (setup : Setup) (p : Point) (
                   machine = subst (λ (o : Option ℕ). IsEventStep setup p.history p.energy p.state AskUp o (Shift p.state.gear to) s4) (sym (first_append cs (ds ++ es) none_lost)) raised_step;
                   moments = each_all;
                   once = let a = none_attached in omega (arith, a);
+                  attached = λ is. absurd (false≢true is);
                   ups = λ e low.
                       let r = stands_made told k setup p at e low in
                       let a = part_used k p.history p.low p.meta w0 mid0 cs part k1 p.history lo1 ends e in
@@ -577,6 +579,7 @@ module _ (told : Option Trail) (k k1 k2 : Service) (setup : Setup) (p : Point) (
                       omega (arith, r, a, f, b2, c, m, l, x, y);
                   quiet = λ still none. absurd (false≢true still);
                   serving = subst (λ (z : Watch). IsServing z.down) (sym watched) serving4;
+                  carried = λ is none. ap (λ (m : Meta). m.ticks) base3 ∙ sym (same_ticks v3.disks.power k2.meta k3.meta marks3) ∙ sym (same_ticks v4.disks.power k3.meta k4.meta marks4) ∙ sym state4.ticks;
                   mark = subst (λ (m : ℕ). IsMark m setup raised_point) ends_up.counts.slots (stands_mark told_then k4 setup raised_point there);
                   flushed = λ f. absurd (false≢true f);
                   disks = ap (λ (z : Watch). z.disks) (sym watched) ∙ watched_disks w0 all;

@@ -77,6 +77,8 @@ pub record GoesInSteps (k k_then : Service) (h : History) (lo most : ℕ) (Ends 
   pub leaves : LeavesService k k_then w cs
   pub base_then : Meta
   pub room : base_then.epoch ≤ base.epoch + most
+  -- it is the same, or has brought all ticks
+  pub carried : (base_then ≡ base) ⊎ (base_then.ticks ≡ k_then.meta.ticks)
   pub ends : Ends base_then (watch_all cs w)
 
 -- what is told of parts of an event, from wherever it is underway on these disks to where it is so again

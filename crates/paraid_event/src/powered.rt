@@ -8,14 +8,13 @@ ghost use Rattle.paraid_rack.specs.Told.{CrashTriple, Ran};
 ghost use Rattle.paraid_rack.specs.Trail.{Trail, now};
 ghost use Rattle.paraid_record.specs.declared.meta.Meta.{Meta as MetaType};
 ghost use Rattle.paraid_core.specs.CoreInvariant.{IsHeldWithOneMissing};
-ghost use Rattle.paraid_recover.specs.Powers.{IsPowerCall};
 ghost use Rattle.paraid_session.specs.Watch.{Bounds, Each, HoldsWhileServing, IsAllowed, IsServing, Watch, watch_all};
-ghost use Rattle.paraid_txn.specs.Uses.{EachCall};
 ghost use Rattle.paraid_event.specs.Lost.{TellsTwo};
 ghost use Rattle.paraid_event.specs.Marks.{ArePoweredByGear, IsMarkedBy, ShowsMeta};
-ghost use Rattle.paraid_event.specs.Powering.{AreDisksPowered, EndsPowered, PowersInEvent, ServiceRests};
+ghost use Rattle.paraid_event.specs.Powering.{AreDisksPowered, ArePowerCalls, EndsPowered, PowersInEvent, ServiceRests};
 ghost use Rattle.paraid_event.specs.Service.{Service};
 ghost use Rattle.paraid_event.specs.Stands.{IsMidway, ServiceStandsFor};
+ghost use Rattle.paraid_event.specs.Steps.{IsOnly};
 
 /// Where the meta that stands has recorded a spin-up of each disk that comes up, calls by which disks are
 /// spun up or parked are allowed and hold what a session asks, whichever of them fail; and the core stands
@@ -23,6 +22,7 @@ ghost use Rattle.paraid_event.specs.Stands.{IsMidway, ServiceStandsFor};
 pub fn powered_disks_keep_a_session()
     ensures each { (k : Service) (h : History) (lo : ℕ) (base : MetaType) (w : Watch) (b : Bounds)
         (asked : Option ℕ) (cs : List CallType) → IsMidway k h lo base w
+        → IsOnly (named_out k.meta.out) w.down
         → ShowsMeta w.disks.power base k.meta → ((d : ℕ) → w.awaited ≡ Some d → ⊥)
         → ((d : ℕ) → base.gear ≤ d → d < rising_to base.phase → 1 ≤ slice_index base.spins d)
         → k.meta.setup ≡ b.setup → base.ticks ≤ b.ticks → base.epoch ≤ b.epoch
@@ -43,7 +43,7 @@ pub fn a_core_powers_disks_in_an_event()
         → ((d : ℕ) → out ≡ Some d → (k.named ≡ Some d) ⊎ (named_out k.meta.out ≡ Some d))
         → ((t : Trail) → told ≡ Some t → ServiceStandsFor k h lo (now t) → ServiceRests k h lo (now t))
         → k_then.batch ≡ []
-        → Ran told told_then (EachCall (IsPowerCall k.meta))
+        → Ran told told_then (ArePowerCalls k.meta)
         → Ran told told_then (CrashTriple
         (IsHeldWithOneMissing k.slots k.meta.setup.geometry.disks out h lo)
         (ServiceRests k h lo) (ServiceRests k_then h lo))
@@ -54,7 +54,7 @@ pub fn a_core_powers_disks_in_an_event()
         (out : Option ℕ)
         → ((d : ℕ) → out ≡ Some d → (k.named ≡ Some d) ⊎ (named_out k.meta.out ≡ Some d))
         → ((t : Trail) → told ≡ Some t → ServiceStandsFor k h lo (now t) → ServiceRests k h lo (now t))
-        → Ran told told_then (EachCall (IsPowerCall k.meta))
+        → Ran told told_then (ArePowerCalls k.meta)
         → Ran told told_then (CrashTriple
         (IsHeldWithOneMissing k.slots k.meta.setup.geometry.disks out h lo)
         (ServiceRests k h lo)

@@ -14,12 +14,11 @@ ghost use Rattle.paraid_core.specs.Calls.{IsDataCall, IsTransferCall};
 ghost use Rattle.paraid_core.specs.CellCopies.{KeepsCellCopies};
 ghost use Rattle.paraid_core.specs.CoreInvariant.{IsHeldWithOneMissing};
 ghost use Rattle.paraid_core.specs.Lost.{MarksLost};
-ghost use Rattle.paraid_recover.specs.Powers.{IsPowerCall};
 ghost use Rattle.paraid_txn.specs.Commit.{IsOldOrNew};
 ghost use Rattle.paraid_txn.specs.Uses.{EachCall};
 ghost use Rattle.paraid_event.specs.Lost.{TellsTwo};
 ghost use Rattle.paraid_event.specs.Parts.{committed_meta};
-ghost use Rattle.paraid_event.specs.Powering.{ServiceRests};
+ghost use Rattle.paraid_event.specs.Powering.{ArePowerCalls, ServiceRests};
 ghost use Rattle.paraid_event.specs.Service.{Service};
 ghost use Rattle.paraid_event.specs.Stands.{ServiceStandsFor};
 ghost use Rattle.paraid_event.specs.Steps.{LosesPowered, LosesShown, PowersFrom, ServesMarked, ServesShown};
@@ -91,13 +90,13 @@ pub fn a_core_powers_where_its_meta_is_shown()
         → ((slot_then d).power ≡ power_by_gear k_then.meta.gear k_then.meta.phase d)
         ⊎ (((slot_then d).power ≡ (slot d).power) × (power_by_gear powers.gear powers.phase d
         ≡ power_by_gear k_then.meta.gear k_then.meta.phase d)))
-        → k.batch ≡ [] → k_then.batch ≡ [] → Ran told told_then (EachCall (IsPowerCall k.meta))
+        → k.batch ≡ [] → k_then.batch ≡ [] → Ran told told_then (ArePowerCalls k.meta)
         → Ran told told_then (CrashTriple (IsHeldWithOneMissing k.slots k.meta.setup.geometry.disks out h lo)
         (ServiceRests k h lo) (ServiceRests k_then h lo))
         → Ran told told_then (PowersFrom powers k k_then h lo) }
     ensures loses { (told told_then : Option Trail) (k : Service) (two : TwoType) (h : History) (lo : ℕ)
         (out : Option ℕ) → ((d : ℕ) → out ≡ Some d → (k.named ≡ Some d) ⊎ (named_out k.meta.out ≡ Some d))
-        → k.batch ≡ [] → Ran told told_then (EachCall (IsPowerCall k.meta))
+        → k.batch ≡ [] → Ran told told_then (ArePowerCalls k.meta)
         → Ran told told_then (CrashTriple (IsHeldWithOneMissing k.slots k.meta.setup.geometry.disks out h lo)
         (ServiceRests k h lo) (IsHeldWithOneMissing k.slots k.meta.setup.geometry.disks out h lo))
         → Ran told told_then (TellsTwo k two)

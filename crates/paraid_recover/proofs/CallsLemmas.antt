@@ -31,6 +31,7 @@ one_allowed said n w c same none is recorded = record {
     power = is.power;
     attach = λ d size done at. absurd (no_attach c d size done is.attaches at);
     awaited = λ at. absurd (let z : None ≡ Some (disk_of c) = sym none ∙ at in cc);
+    serving = λ d done at. serving;
     recorded = recorded.recorded;
   };
   gone = λ serving at. (is.serving serving).aside (ap gone_out at);

@@ -289,10 +289,12 @@ module _ (slots : ℕ) (s : Disks) (m : Meta) (f : IsFormatted slots s m) (small
       machine = flush_step;
       moments = moments;
       once = omega arith;
+      attached = λ is. absurd (false≢true is);
       ups = λ d low. omega arith;
       quiet = λ is none. absurd (false≢true is);
       serving = rw nobody_is tt;
       mark = calm_mark slots t (next_meta m) (entry ∷ []) 1 calm_next whole_next written_state next_calm;
+      carried = λ is none. absurd (false≢true is);
       flushed = λ is r d low. calm_clean slots t (next_meta m) (entry ∷ []) 1 calm_next whole_next r d low ∙ sym (written_clean r d low);
       disks = refl;
       history = refl;

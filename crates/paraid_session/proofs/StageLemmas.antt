@@ -186,6 +186,7 @@ module _ (slots : ℕ) (s : Disks) (m : Meta) (h : History) (order : IsInOrder s
           power = l.like.power d ∙ order.spinning d (omega (arith, n, low));
           attach = λ e size ok is. let k : Write d p y true ≡ Attach e size ok = is in cc;
           awaited = λ is. let k : None ≡ Some d = sym none ∙ is in cc;
+          serving = λ e ok is. let k : Write d p y true ≡ SpinUp e ok = is in cc;
           recorded = λ e ok is. let k : Write d p y true ≡ SpinUp e ok = is in cc;
         }
 
@@ -197,6 +198,7 @@ module _ (slots : ℕ) (s : Disks) (m : Meta) (h : History) (order : IsInOrder s
           power = l.like.power d ∙ order.spinning d (omega (arith, n, low));
           attach = λ e size ok is. let k : Sync d true ≡ Attach e size ok = is in cc;
           awaited = λ is. let k : None ≡ Some d = sym none ∙ is in cc;
+          serving = λ e ok is. let k : Sync d true ≡ SpinUp e ok = is in cc;
           recorded = λ e ok is. let k : Sync d true ≡ SpinUp e ok = is in cc;
         }
 

@@ -130,10 +130,12 @@ module _ (slots : ℕ) (t : Disks) (m : Meta) (h : History) (lo : ℕ) (calm : I
     machine = write_step m h 0 s;
     moments = kept_first;
     once = omega arith;
+    attached = λ is. absurd (false≢true is);
     ups = λ d low. omega arith;
     quiet = λ q none. refl;
     serving = rw nobody_is tt;
     mark = calm_mark slots t m (h ++ entry ∷ []) lo longer all (after_write m s) (write_calm m s c);
+    carried = λ is none. absurd (false≢true is);
     flushed = λ f. absurd (false≢true f);
     disks = refl;
     history = refl;
@@ -293,6 +295,7 @@ module _ (slots : ℕ) (t : Disks) (m : Meta) (h : History) (lo : ℕ) (calm : I
     power = all.spinning 2 low_two;
     attach = λ d size done e. let k : call ≡ Attach d size done = e in cc;
     awaited = λ e. let k : None ≡ Some 2 = e in cc;
+    serving = λ d done e. let k : call ≡ SpinUp d done = e in cc;
     recorded = λ d done e. let k : call ≡ SpinUp d done = e in cc;
   }
 
@@ -314,10 +317,12 @@ module _ (slots : ℕ) (t : Disks) (m : Meta) (h : History) (lo : ℕ) (calm : I
     machine = lossy_step m h 0 s c.out;
     moments = (kept_first, allowed, kept_then);
     once = omega arith;
+    attached = λ is. absurd (false≢true is);
     ups = λ d low. omega arith;
     quiet = λ q none. absurd (false≢true q);
     serving = rw down_then tt;
     mark = mark_less (h ++ entry ∷ []) longer (after_write m (after_loss s 2)) _ _ gone_state;
+    carried = λ is none. absurd (false≢true is);
     flushed = λ f. absurd (false≢true f);
     disks = refl;
     history = refl;

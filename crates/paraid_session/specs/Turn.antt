@@ -1,14 +1,14 @@
 -- One event of a session: what is answered, and what its calls leave.
 use Rattle.std.specs.Prelude.{◌≡◌, ◌≢◌, ℕ, ◌+◌, ◌-◌, ◌^◌, ◌<◌, ◌≤◌, ◌==◌, min, max, slice_index, Bool, true, false, List, [], ◌++◌, length, Option, Some, None, if◌then◌else◌}
 use Rattle.paraid_base.specs.declared.event.Answer.{Answer}
-use Rattle.paraid_base.specs.declared.event.Answer.TheVariants.{NoBlock, Flushed, Ticked, Top, Lowest, Shifting, Failed, NoDisk, Out as IsOut, NotOut, Ration as RationUsed, State as IsState, Energy as EnergyUsed, Bad as IsBad, Halted}
+use Rattle.paraid_base.specs.declared.event.Answer.TheVariants.{NoBlock, Flushed, Ticked, Shift, Top, Lowest, Shifting, Failed, Replaced, NoFresh, NoDisk, Out as IsOut, NotOut, Ration as RationUsed, State as IsState, Energy as EnergyUsed, Bad as IsBad, Halted}
 use Rattle.paraid_base.specs.declared.event.Event.{Event}
 use Rattle.paraid_base.specs.declared.event.Event.TheVariants.{Tick, Fail, Replace, State as AskState, Energy as AskEnergy, Bad}
 use Rattle.paraid_base.specs.declared.fault.Halt.{Halt}
 use Rattle.paraid_base.specs.declared.fault.Halt.TheVariants.{Two as HaltTwo, Worn}
 use Rattle.paraid_base.specs.declared.fault.Two.{Two}
 use Rattle.paraid_base.specs.declared.state.TickEvent.{TickEvent}
-use Rattle.paraid_base.specs.declared.state.TickEvent.TheVariants.{Steady, Waiting, Ration}
+use Rattle.paraid_base.specs.declared.state.TickEvent.TheVariants.{Steady, Waiting, Begun, Ration}
 use Rattle.paraid_base.specs.History.{History}
 use Rattle.paraid_base.specs.Log.{worn_at}
 use Rattle.paraid_rack.specs.declared.call.Call.{Call}
@@ -61,6 +61,23 @@ pub record IsMark (slots : ℕ) (setup : Setup) (p : Point) : Type 0 where
 -- the disks show the dirty cells of the state too
 abbrev pub AreDirtyShown : Setup → Point → Type 0
 AreDirtyShown setup p = (r d : ℕ) → r < setup.geometry.rows → (state_at p).dirty r d ≡ p.state.dirty r d
+
+-- whether an answer tells that a disk was put in, or that none could be
+abbrev pub tells_attach : Answer → Bool
+tells_attach (Replaced disk) = true
+tells_attach (NoFresh disk) = true
+tells_attach answer = false
+
+-- a tick that begins a shift
+abbrev pub is_begun : TickEvent → Bool
+is_begun (Begun to) = true
+is_begun event = false
+
+-- whether an answer tells that a shift has begun
+abbrev pub tells_begin : Answer → Bool
+tells_begin (Shift gear to) = true
+tells_begin (Ticked report) = is_begun report.event
+tells_begin answer = false
 
 -- whether an answer is that of a flush
 abbrev pub is_flush : Answer → Bool
@@ -153,12 +170,16 @@ pub record IsAnswered (slots : ℕ) (setup : Setup) (p : Point) (event : Event) 
   pub machine : IsEventStep setup p.history p.energy p.state event (first_lost calls) answer q.state
   pub moments : Each (HoldsWhileServing slots q.history p.low (bounds_of setup p event)) (IsAllowed setup (replaced_by event)) (watch_of p event answer) calls
   pub once : attach_count calls ≤ 1
+  -- a disk is told to be in, or not to be, by the one call that attaches it
+  pub attached : tells_attach answer ≡ true → attach_count calls ≡ 1
   -- no disk is spun up more often than the state has recorded of it since
   pub ups : (d : ℕ) → d < setup.geometry.disks → up_count d calls ≤ slice_index q.state.spins d - slice_index p.state.spins d
   pub quiet : makes_no_call answer ≡ true → first_lost calls ≡ None → calls ≡ []
   -- one disk at most is down after it
   pub serving : IsServing (watch_all calls (watch_of p event answer)).down
   pub mark : IsMark slots setup q
+  -- where no call has failed, the commit of a shift that begins has brought all ticks
+  pub carried : tells_begin answer ≡ true → first_lost calls ≡ None → q.meta.ticks ≡ q.state.ticks
   pub flushed : is_flush answer ≡ true → AreDirtyShown setup q
   pub disks : q.disks ≡ run p.disks calls
   pub history : q.history ≡ p.history ++ accepted_write event answer

@@ -107,13 +107,14 @@ pub record HoldsWhileServing (slots : ℕ) (h : History) (lo : ℕ) (b : Bounds)
 
 -- A call is on a disk of the array and lawful by its power. A disk is attached where this one is
 -- asked for, and with the size that it needs; one that was taken out is attached before any other
--- call; and one is spun up where all that may stand has recorded it.
+-- call; and one is spun up where all that may stand has recorded it, and while at most one disk is down.
 pub record IsAllowed (setup : Setup) (asked : Option ℕ) (w : Watch) (call : Call) : Type 0 where
   pub disk : disk_of call < setup.geometry.disks
   pub power : IsLawful w.disks call
   pub attach : (d size : ℕ) (done : Bool) → call ≡ Attach d size done
       → (size ≡ disk_size setup.geometry) × (asked ≡ Some d)
   pub awaited : w.awaited ≡ Some (disk_of call) → is_attach call ≡ true
+  pub serving : (d : ℕ) (done : Bool) → call ≡ SpinUp d done → IsServing w.down
   pub recorded : (d : ℕ) (done : Bool) → call ≡ SpinUp d done → IsServing w.down
       → (x : ℕ) (i : Disks) (said : LogState) → IsLooked w.disks i → Stands i x said
       → w.spun d + 1 ≤ slice_index said.meta.spins d

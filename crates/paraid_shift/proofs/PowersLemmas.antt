@@ -1,5 +1,11 @@
 -- Disks that are parked as a shift ends, as a part of an event.
-use Rattle.std.specs.Prelude.{◌≡◌, ◌≢◌, ℕ, ◌+◌, ◌<◌, ◌≤◌, ◌⊎◌, ◌||◌, nat_lt, if◌then◌else◌, true, false, Bool, List, [], Option, Some, None}
+use Rattle.paraid_core.specs.Calls.{IsOneCall}
+use Rattle.paraid_session.specs.Watch.{Watch, down_from_out, fails_on, nobody}
+use Rattle.paraid_recover.proofs.DownLemmas.{watched_disks}
+use Rattle.paraid_event.proofs.PowerLemmas.{power_below, power_failed}
+use Rattle.paraid_event.proofs.ServingLemmas.{spins_once, spins_then}
+use Rattle.paraid_event.specs.Powering.{ArePowerCalls, SpinsWhileServing}
+use Rattle.std.specs.Prelude.{◌≡◌, ◌≢◌, ℕ, ◌+◌, ◌<◌, ◌≤◌, ◌⊎◌, ◌||◌, nat_lt, if◌then◌else◌, true, false, Bool, List, [], Option, Some, None, ◌++◌}
 use Rattle.std.proofs.Common.{refl, sym, ◌∙◌, ap, subst, arith, inl, inr}
 use Rattle.std.proofs.lemmas.Bool.{cases_Bool, cases_lt}
 use Rattle.std.proofs.lemmas.Bool.Decides.{nat_tests}
@@ -15,8 +21,8 @@ use Rattle.paraid_rack.specs.declared.call.Call.TheVariants.{Attach, Park, Read,
 use Rattle.paraid_rack.specs.Disks.{Disks, is_present}
 use Rattle.paraid_rack.specs.Slots.{Agrees, Slot}
 use Rattle.paraid_rack.specs.Told.{CrashTriple, Ran}
-use Rattle.paraid_rack.specs.Trail.{Trail, now, run}
-use Rattle.paraid_rack.proofs.TrailsLemmas.{now-extend}
+use Rattle.paraid_rack.specs.Trail.{Trail, now, run, extend}
+use Rattle.paraid_rack.proofs.TrailsLemmas.{now-extend, Ran-none, extend-extend}
 use Rattle.paraid_record.specs.declared.meta.Meta.{Meta}
 use Rattle.paraid_record.specs.declared.meta.Setup.{Setup}
 use Rattle.paraid_image.specs.Mark.{meta_after_loss}
@@ -30,7 +36,7 @@ use Rattle.paraid_core.specs.CoreInvariant.{HoldsBetweenCalls, meta_with_lost}
 use Rattle.paraid_core.specs.Cores.{IsCoreHeldSinceCommit, IsCoreReady}
 use Rattle.paraid_core.specs.Steps.{IsMarkedFrom, OnlyTurnsDisks}
 use Rattle.paraid_core.proofs.CommitLemmas.{both_of}
-use Rattle.paraid_core.proofs.KindLemmas.{calls_milder}
+use Rattle.paraid_core.proofs.KindLemmas.{calls_milder, calls_are, calls_then, one_is_each}
 use Rattle.paraid_core.proofs.StepLemmas.{marked_from_setup}
 use Rattle.paraid_event.specs.Marks.{ArePoweredByGear, IsMarkedBy}
 use Rattle.paraid_event.specs.Service.{Service, service_of}
@@ -163,6 +169,53 @@ power_call m n marked (Attach d size done) is = absurd is
 pub power_calls_after : (m n : Meta) → IsMarkedFrom m n → (old new : Option Trail) → Ran old new (EachCall (IsPowerCall n)) → Ran old new (EachCall (IsPowerCall m))
 power_calls_after m n marked old new ran = calls_milder (IsPowerCall n) (IsPowerCall m) (power_call m n marked) old new ran
 
+-- no call
+pub power_calls_none : (m : Meta) (told : Option Trail) → Ran told told (ArePowerCalls m)
+power_calls_none m told = Ran-none (ArePowerCalls m) (λ s. (tt, tt)) told
+
+-- one call
+pub power_calls_one : (call : Bool → Call) (m : Meta) → ((done : Bool) → IsPowerCall m (call done)) → (old new : Option Trail) → Ran old new (IsOneCall call) → Ran old new (ArePowerCalls m)
+power_calls_one call m is old new ran =
+    let Spins : Disks → List Call → Type 0 = (λ s cs. SpinsWhileServing (down_from_out (named_out m.out)) cs) in
+    both_of (EachCall (IsPowerCall m)) Spins old new (one_is_each call (IsPowerCall m) is old new ran)
+    (calls_are (IsOneCall call) Spins (λ s cs one. subst (SpinsWhileServing (down_from_out (named_out m.out))) (sym one.1) (spins_once (named_out m.out) (call one.0))) old new ran)
+
+-- One part after another: a disk that fails in the first is absent after it, so it is the one that is out then.
+module _ {R : Type 0} {g : _} (count : R → ℕ) (slot : R → ℕ → Slot) (told : R → Option Trail) (a b c : Core R g) (agrees : (t : Trail) → told (store_rack b.store) ≡ Some t → Agrees (now t) (slot (store_rack b.store))) (ready : IsCoreReady count slot b) (marked : IsMarkedFrom a.meta b.meta)
+    (first : MakesPowerCalls told a b) (second : MakesPowerCalls told b c) where
+  abbrev SpinsServing : Disks → List Call → Type 0
+  SpinsServing s cs = SpinsWhileServing (down_from_out (named_out a.meta.out)) cs
+
+  failed_out : (from there : Trail) (cs : List Call) (e : ℕ) → told (store_rack b.store) ≡ Some there → now there ≡ run (now from) cs → EachCall (IsPowerCall a.meta) (now from) cs → fails_on e cs ≡ true → named_out b.meta.out ≡ Some e
+  failed_out from there cs e tells is each failed =
+      let w : Watch = record { disks = now from; down = nobody; spun = λ d. 0; awaited = None } in
+      let gone : is_present ((now there).power e) ≡ false = ap (λ (s : Disks). is_present (s.power e)) (is ∙ sym (watched_disks w cs)) ∙ power_failed a.meta w cs e each failed in
+      ready.absent e (subst (λ (z : Setup). e < z.geometry.disks) (sym (marked_from_setup a.meta b.meta marked)) (power_below a.meta (now from) cs e each failed))
+      (sym (ap is_present ((agrees there tells).power e)) ∙ gone)
+
+  spins_both : Ran (told (store_rack a.store)) (told (store_rack c.store)) SpinsServing
+  spins_both t tells =
+      let y = second t tells in
+      let x = first y.from y.was in
+      let from : now y.from ≡ run (now x.from) x.calls = ap now x.is ∙ now-extend x.from x.calls in
+      record {
+        from = x.from;
+        was = x.was;
+        calls = x.calls ++ y.calls;
+        is = y.is ∙ ap (λ (u : Trail). extend u y.calls) x.is ∙ extend-extend x.from x.calls y.calls;
+        holds = spins_then (named_out a.meta.out) (named_out b.meta.out) (now x.from) x.calls y.calls (λ d named. marked_named a.meta b.meta marked d named)
+            (λ e failed. failed_out x.from y.from x.calls e y.was from x.holds.0 failed) x.holds.1 y.holds.1;
+      }
+
+  pub power_calls_then : MakesPowerCalls told a c
+  power_calls_then =
+      both_of (EachCall (IsPowerCall a.meta)) SpinsServing (told (store_rack a.store)) (told (store_rack c.store))
+      (calls_then (IsPowerCall a.meta) (told (store_rack a.store)) (told (store_rack b.store)) (told (store_rack c.store))
+      (calls_are (ArePowerCalls a.meta) (EachCall (IsPowerCall a.meta)) (λ s cs x. x.0) (told (store_rack a.store)) (told (store_rack b.store)) first)
+      (power_calls_after a.meta b.meta marked (told (store_rack b.store)) (told (store_rack c.store))
+      (calls_are (ArePowerCalls b.meta) (EachCall (IsPowerCall b.meta)) (λ s cs x. x.0) (told (store_rack b.store)) (told (store_rack c.store)) second)))
+      spins_both
+
 -- the disks that the new gear needs, and those past the old one, are powered as before
 pub flipped_powers : (m : Meta) (hi d : ℕ) → hi ≡ m.gear → 0 < phase_to m.phase → (d < phase_to m.phase) ⊎ (hi ≤ d) → ((to : ℕ) → m.phase ≡ Down to → to < m.gear) → ((to : ℕ) → m.phase ≡ Up to → m.gear < to)
     → power_by_gear m.gear m.phase d ≡ power_by_gear (phase_to m.phase) Steady d
@@ -218,7 +271,7 @@ module _ {R : Type 0} {g : _} (count : R → ℕ) (slot : R → ℕ → Slot) (t
       → (h : History) (lo : ℕ) (samples : List ℕ) (served energy : ℕ) → Ran (told (store_rack b.store)) (told (store_rack n.store)) (PowersFrom powers (service_of count b samples served energy) (service_of count n samples served energy) h lo)
   parks_are_powers powers hi nothing nothing_then steady calls rests parked others same h lo samples served energy t tells =
       let k = service_of count b samples served energy in
-      let r = both_of (EachCall (IsPowerCall b.meta)) (CrashTriple (IsCoreHeldSinceCommit count b h lo) (RestsInShift count b h lo) (RestsInShift count n h lo)) (told (store_rack b.store)) (told (store_rack n.store)) calls (rests h lo) t tells in
+      let r = both_of (ArePowerCalls b.meta) (CrashTriple (IsCoreHeldSinceCommit count b h lo) (RestsInShift count b h lo) (RestsInShift count n h lo)) (told (store_rack b.store)) (told (store_rack n.store)) calls (rests h lo) t tells in
       let end : now t ≡ run (now r.from) r.calls = ap now r.is ∙ now-extend r.from r.calls in
       record {
         from = r.from;
@@ -227,7 +280,7 @@ module _ {R : Type 0} {g : _} (count : R → ℕ) (slot : R → ℕ → Slot) (t
         is = r.is;
         holds = λ z shows powered.
             let both = r.holds.1.goes (shown_rests k h lo (now r.from) z shows nothing) in (
-              record { out = named_of b.store; is_out = λ d is. inl is; held = both.0; calls = r.holds.0 },
+              record { out = named_of b.store; is_out = λ d is. inl is; held = both.0; calls = r.holds.0.0; serving = r.holds.0.1 },
               record {
                 keeps = subst (λ (x : Batch). HoldsBetweenCalls (count (store_rack n.store)) (named_of n.store) n.meta n.dirty x n.copied h lo (run (now r.from) r.calls)) (sym nothing_then) both.1.keeps;
                 marks = subst (λ (s : Disks). IsMarkedBy s.power b.meta n.meta) end (told_marks t tells);
@@ -264,7 +317,7 @@ module _ {R : Type 0} {g : _} (count : R → ℕ) (slot : R → ℕ → Slot) (t
       → (h : History) (lo : ℕ) (samples : List ℕ) (served energy : ℕ) → Ran (told (store_rack b.store)) (told (store_rack n.store)) (PowersFrom powers (service_of count b samples served energy) (service_of count n samples served energy) h lo)
   turns_are_powers powers hi nothing nothing_then calls rests inside others same h lo samples served energy t tells =
       let k = service_of count b samples served energy in
-      let r = both_of (EachCall (IsPowerCall b.meta)) (CrashTriple (IsCoreHeldSinceCommit count b h lo) (RestsInShift count b h lo) (RestsInShift count n h lo)) (told (store_rack b.store)) (told (store_rack n.store)) calls (rests h lo) t tells in
+      let r = both_of (ArePowerCalls b.meta) (CrashTriple (IsCoreHeldSinceCommit count b h lo) (RestsInShift count b h lo) (RestsInShift count n h lo)) (told (store_rack b.store)) (told (store_rack n.store)) calls (rests h lo) t tells in
       let end : now t ≡ run (now r.from) r.calls = ap now r.is ∙ now-extend r.from r.calls in
       record {
         from = r.from;
@@ -273,7 +326,7 @@ module _ {R : Type 0} {g : _} (count : R → ℕ) (slot : R → ℕ → Slot) (t
         is = r.is;
         holds = λ z shows powered.
             let both = r.holds.1.goes (shown_rests k h lo (now r.from) z shows nothing) in (
-              record { out = named_of b.store; is_out = λ d is. inl is; held = both.0; calls = r.holds.0 },
+              record { out = named_of b.store; is_out = λ d is. inl is; held = both.0; calls = r.holds.0.0; serving = r.holds.0.1 },
               record {
                 keeps = subst (λ (x : Batch). HoldsBetweenCalls (count (store_rack n.store)) (named_of n.store) n.meta n.dirty x n.copied h lo (run (now r.from) r.calls)) (sym nothing_then) both.1.keeps;
                 marks = subst (λ (s : Disks). IsMarkedBy s.power b.meta n.meta) end (told_marks t tells);

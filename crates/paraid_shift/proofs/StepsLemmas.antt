@@ -53,6 +53,7 @@ waits_filled k k_then m fill h lo most s cs steps base w same at =
       leaves = y.leaves;
       base_then = y.base_then;
       room = y.room;
+      carried = y.carried;
       ends = record { midway = y.ends.midway; only = y.ends.only; settled = y.ends.settled; powered = y.ends.powered };
     }
 

@@ -9,8 +9,6 @@ use Rattle.paraid_rack.specs.Told.{Ran}
 use Rattle.paraid_rack.specs.Trail.{Trail, now}
 use Rattle.paraid_record.specs.declared.meta.Meta.{Meta}
 use Rattle.paraid_txn.specs.Stores.{store_rack}
-use Rattle.paraid_txn.specs.Uses.{EachCall}
-use Rattle.paraid_recover.specs.Powers.{IsPowerCall}
 use Rattle.paraid_core.specs.declared.staged.Core.{Core}
 use Rattle.paraid_core.specs.CoreInvariant.{meta_with_lost}
 use Rattle.paraid_base.specs.declared.state.Out.TheVariants.{No}
@@ -20,6 +18,7 @@ use Rattle.paraid_core.specs.Cores.{CoreStandsFor}
 use Rattle.paraid_core.specs.Steps.{IsMarkedFrom}
 use Rattle.paraid_event.specs.Lost.{TellsTwo}
 use Rattle.paraid_event.specs.Parts.{LosesInEvent}
+use Rattle.paraid_event.specs.Powering.{ArePowerCalls}
 use Rattle.paraid_event.specs.Service.{Service, service_of}
 use Rattle.paraid_event.specs.Stands.{ServiceStandsFor}
 use Rattle.paraid_event.specs.Steps.{LosesInSteps, ServesMarked, StepsInEvent, StepsToMark}
@@ -66,9 +65,9 @@ pub record OpensUp {R : Type 0} {g : _} (count : R → ℕ) (told : R → Option
   pub marks : IsMarkedFrom (record (meta_after_begin old.meta (Up to) spins) { epoch = old.meta.epoch + 1 }) new.meta
   pub opens : CommitsMark count told old new (meta_after_begin old.meta (Up to) spins)
 
--- each call is one by which the meta has a disk powered
+-- each call is one by which the meta has a disk powered, and none is spun up where two are down
 abbrev pub MakesPowerCalls : {R : Type 0} {g : _} → (R → Option Trail) → Core R g → Core R g → Type 0
-MakesPowerCalls told old new = Ran (told (store_rack old.store)) (told (store_rack new.store)) (EachCall (IsPowerCall old.meta))
+MakesPowerCalls told old new = Ran (told (store_rack old.store)) (told (store_rack new.store)) (ArePowerCalls old.meta)
 
 -- After disks were powered the meta is as it was, but for the mark of a disk that was lost: it is absent.
 pub record MarksPowered (slot_then : ℕ → Slot) (m m_then : Meta) : Type 0 where

@@ -1,7 +1,6 @@
 use Rattle.std.proofs.lemmas.Bool.{cases_lt}
 use Rattle.paraid_txn.specs.Stores.{store_rack}
-use Rattle.paraid_core.proofs.KindLemmas.{calls_none, calls_then}
-use Rattle.paraid_shift.proofs.PowersLemmas.{power_calls_after, rises_same}
+use Rattle.paraid_shift.proofs.PowersLemmas.{power_calls_none, power_calls_then, rises_same}
 use Rattle.std.proofs.Common.{ℕ, ◌≡◌, ◌<◌, ◌≤◌, ap, arith, inl, inr, ◌∙◌, refl, subst, sym}
 use Rattle.paraid_base.specs.States.{rising_to}
 use Rattle.paraid_record.specs.declared.meta.Meta.{Meta}
@@ -23,7 +22,7 @@ loop-disk-init g c =
       powers = powers_none g.R.Rack.slot_count g.R.Rack.slot g.R.Rack.told a;
       store = same_none a.store;
       table = refl;
-      calls = calls_none _ (g.R.Rack.told (store_rack a.store));
+      calls = power_calls_none a.meta (g.R.Rack.told (store_rack a.store));
       from = (let start = ap (λ (m : Meta). m.gear) c.meta.ensures in omega arith);
       until = λ d low past. (let start = ap (λ (m : Meta). m.gear) c.meta.ensures in omega (arith, low));
       others = λ d place. refl;
@@ -42,7 +41,7 @@ loop-disk-preserved g c =
       powers = powers_then g.R.Rack.slot_count g.R.Rack.slot g.R.Rack.told a b new was.store was.powers one.powers;
       store = same_then a.store b.store new.store was.store all.store;
       table = all.table ∙ was.table;
-      calls = calls_then _ _ _ _ was.calls (power_calls_after a.meta b.meta was.powers.meta _ _ all.calls);
+      calls = power_calls_then g.R.Rack.slot_count g.R.Rack.slot g.R.Rack.told a b new (g.met.R.Rack.agrees (store_rack b.store)) was.rising.ready was.powers.meta was.calls all.calls;
       from = let low = was.from in omega arith;
       until = λ d low past. (let within = all.within in let same = rises_same a.meta b.meta was.powers.meta in omega (arith, past, within, same));
       others = λ d place. all.others d (λ same. elim place [ inl low ↦ (let from = was.from in absurd (omega (arith, low, from, same))) | inr past ↦ absurd (omega (arith, past, same)) ])
@@ -64,7 +63,7 @@ returns-in_err-raise g c =
       table = all.table ∙ was.table;
       slots = all.slots ∙ was.powers.leaves.slots;
       no_fall = no_fall_then g.R.Rack.slot a b new was.powers.leaves.turned.no_fall all.no_fall;
-      calls = calls_then _ _ _ _ was.calls (power_calls_after a.meta b.meta was.powers.meta _ _ all.calls);
+      calls = power_calls_then g.R.Rack.slot_count g.R.Rack.slot g.R.Rack.told a b new (g.met.R.Rack.agrees (store_rack b.store)) was.rising.ready was.powers.meta was.calls all.calls;
       tells = handed (λ two. TellsSecond g.R.Rack.slot g.R.Rack.told a new two) from.result _ from.ensures.1
           (powers_tell g.R.Rack.slot_count g.R.Rack.slot g.R.Rack.told a b new _ was.powers all.no_fall c.in_err-raise.ensures.tells);
       others = none_done _ from.result _ from.ensures.1;

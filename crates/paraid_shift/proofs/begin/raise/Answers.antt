@@ -1,7 +1,5 @@
 use Rattle.paraid_rack.specs.Disks.{is_present}
-use Rattle.paraid_recover.specs.Powers.{IsPowerCall}
-use Rattle.paraid_core.proofs.KindLemmas.{calls_none, one_is_each}
-use Rattle.paraid_shift.proofs.PowersLemmas.{powered_lost, powered_same, spin_is}
+use Rattle.paraid_shift.proofs.PowersLemmas.{power_calls_none, power_calls_one, powered_lost, powered_same, spin_is}
 use Rattle.std.proofs.Common.{◌≡◌, ◌≢◌, ◌∙◌, ℕ, Some, Ok, ap, arith, inl, inr, refl, subst, sym}
 use Rattle.std.proofs.lemmas.Bool.{cases_Bool, cases_eq}
 use Rattle.paraid_image.specs.Out.{named_out}
@@ -57,7 +55,7 @@ returns-then-not-is_down g c =
       table = refl;
       slots = refl;
       no_fall = λ d. le_refl _;
-      calls = calls_none _ (g.R.Rack.told (store_rack a.store));
+      calls = power_calls_none a.meta (g.R.Rack.told (store_rack a.store));
       tells = tt;
       others = λ d apart. refl;
       within = c.requires.rises;
@@ -77,7 +75,7 @@ returns-in_err-spin_up g c =
       table = all.table;
       slots = all.slots;
       no_fall = all.turned.no_fall;
-      calls = one_is_each _ (IsPowerCall a.meta) (λ done. spin_is a.meta c.args.disk done c.requires.disk c.requires.past_gear c.requires.rises (c.is_down.ensures.not_out c.if-not-is_down.false)) _ _ all.calls;
+      calls = power_calls_one _ a.meta (λ done. spin_is a.meta c.args.disk done c.requires.disk c.requires.past_gear c.requires.rises (c.is_down.ensures.not_out c.if-not-is_down.false)) _ _ all.calls;
       tells = handed (λ two. TellsSecond g.R.Rack.slot g.R.Rack.told a new two) from.result _ from.ensures.1 (record { down = c.in_err-spin_up.ensures.two; tells = c.in_err-spin_up.ensures.tells });
       others = all.others;
       within = c.requires.rises;
@@ -135,7 +133,7 @@ returns g c =
       table = all.table;
       slots = all.slots;
       no_fall = all.turned.no_fall;
-      calls = one_is_each _ (IsPowerCall a.meta) (λ done. spin_is a.meta c.args.disk done c.requires.disk c.requires.past_gear c.requires.rises (c.is_down.ensures.not_out c.if-not-is_down.false)) _ _ all.calls;
+      calls = power_calls_one _ a.meta (λ done. spin_is a.meta c.args.disk done c.requires.disk c.requires.past_gear c.requires.rises (c.is_down.ensures.not_out c.if-not-is_down.false)) _ _ all.calls;
       tells = tt;
       others = all.others;
       within = c.requires.rises;

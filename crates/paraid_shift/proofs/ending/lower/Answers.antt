@@ -6,9 +6,7 @@ use Rattle.paraid_core.specs.Fills.{Filled}
 use Rattle.std.proofs.lemmas.Bool.{cases_Bool}
 use Rattle.paraid_image.specs.Out.{named_out}
 use Rattle.paraid_rack.specs.Disks.{is_present}
-use Rattle.paraid_recover.specs.Powers.{IsPowerCall}
-use Rattle.paraid_core.proofs.KindLemmas.{calls_none, one_is_each}
-use Rattle.paraid_shift.proofs.PowersLemmas.{park_is, powered_lost, powered_same}
+use Rattle.paraid_shift.proofs.PowersLemmas.{park_is, power_calls_none, power_calls_one, powered_lost, powered_same}
 use Rattle.std.proofs.Common.{◌∙◌}
 use Rattle.paraid_txn.specs.Stores.{store_rack}
 use Rattle.paraid_core.proofs.StepLemmas.{marked_from_setup, runs_end}
@@ -35,7 +33,7 @@ returns-then-not-is_up g c =
       table = refl;
       slots = refl;
       no_fall = λ d. le_refl _;
-      calls = calls_none _ (g.R.Rack.told (store_rack a.store));
+      calls = power_calls_none a.meta (g.R.Rack.told (store_rack a.store));
       tells = tt;
       parked = c.is_up.ensures.down c.if-not-is_up.true;
       others = λ d apart. refl;
@@ -56,7 +54,7 @@ returns-in_err-park g c =
       table = all.table;
       slots = all.slots;
       no_fall = all.turned.no_fall;
-      calls = one_is_each _ (IsPowerCall a.meta) (λ done. park_is a.meta c.args.disk done c.requires.steady c.requires.disk c.requires.past_gear (c.is_up.ensures.not_out c.if-not-is_up.false)) _ _ all.calls;
+      calls = power_calls_one _ a.meta (λ done. park_is a.meta c.args.disk done c.requires.steady c.requires.disk c.requires.past_gear (c.is_up.ensures.not_out c.if-not-is_up.false)) _ _ all.calls;
       tells = handed (λ two. TellsSecond g.R.Rack.slot g.R.Rack.told a new two) from.result _ from.ensures.1 (record { down = c.in_err-park.ensures.two; tells = c.in_err-park.ensures.tells });
       parked = none_done _ from.result _ from.ensures.1;
       others = all.others;
@@ -107,7 +105,7 @@ returns g c =
       table = all.table;
       slots = all.slots;
       no_fall = all.turned.no_fall;
-      calls = one_is_each _ (IsPowerCall a.meta) (λ done. park_is a.meta c.args.disk done c.requires.steady c.requires.disk c.requires.past_gear (c.is_up.ensures.not_out c.if-not-is_up.false)) _ _ all.calls;
+      calls = power_calls_one _ a.meta (λ done. park_is a.meta c.args.disk done c.requires.steady c.requires.disk c.requires.past_gear (c.is_up.ensures.not_out c.if-not-is_up.false)) _ _ all.calls;
       tells = tt;
       parked = λ not. elim (cases_Bool c.in_ok-park.field-0) [
         | inl ok ↦ done.parked (ap Ok ok)

@@ -4,8 +4,7 @@ use Rattle.std.proofs.lemmas.Bool.{cases_eq, cases_lt}
 use Rattle.paraid_rack.specs.Slots.{Slot}
 use Rattle.paraid_record.specs.declared.meta.Meta.{Meta}
 use Rattle.paraid_txn.specs.Stores.{store_rack}
-use Rattle.paraid_core.proofs.KindLemmas.{calls_none, calls_then}
-use Rattle.paraid_shift.proofs.PowersLemmas.{power_calls_after}
+use Rattle.paraid_shift.proofs.PowersLemmas.{power_calls_none, power_calls_then}
 use Rattle.std.proofs.Common.{◌∙◌, refl}
 use Rattle.paraid_core.proofs.AfterLemmas.{handed}
 use Rattle.paraid_shift.proofs.AnswerLemmas.{none_done}
@@ -29,7 +28,7 @@ loop-disk-init g c =
       powers = powers_none g.R.Rack.slot_count g.R.Rack.slot g.R.Rack.told a;
       store = same_none a.store;
       table = refl;
-      calls = calls_none _ (g.R.Rack.told (store_rack a.store));
+      calls = power_calls_none a.meta (g.R.Rack.told (store_rack a.store));
       from = (let start = ap (λ (m : Meta). m.gear) c.meta.ensures in omega arith);
       until = λ d low past. (let start = ap (λ (m : Meta). m.gear) c.meta.ensures in omega (arith, low));
       parked = λ d low under not. absurd (let start = ap (λ (m : Meta). m.gear) c.meta.ensures in omega arith);
@@ -50,7 +49,7 @@ loop-disk-preserved g c =
       powers = powers_then g.R.Rack.slot_count g.R.Rack.slot g.R.Rack.told a b new was.store was.powers one.powers;
       store = same_then a.store b.store new.store was.store all.store;
       table = all.table ∙ was.table;
-      calls = calls_then _ _ _ _ was.calls (power_calls_after a.meta b.meta was.powers.meta _ _ all.calls);
+      calls = power_calls_then g.R.Rack.slot_count g.R.Rack.slot g.R.Rack.told a b new (g.met.R.Rack.agrees (store_rack b.store)) was.serving.ready was.powers.meta was.calls all.calls;
       from = let low = was.from in omega arith;
       until = λ d low past. (let test = c.loop-disk-test.true in omega (arith, past));
       parked = λ d low under not. elim (cases_eq d c.loop-disk.disk) [
@@ -79,7 +78,7 @@ returns-in_err-lower g c =
       table = all.table ∙ was.table;
       slots = all.slots ∙ was.powers.leaves.slots;
       no_fall = no_fall_then g.R.Rack.slot a b new was.powers.leaves.turned.no_fall all.no_fall;
-      calls = calls_then _ _ _ _ was.calls (power_calls_after a.meta b.meta was.powers.meta _ _ all.calls);
+      calls = power_calls_then g.R.Rack.slot_count g.R.Rack.slot g.R.Rack.told a b new (g.met.R.Rack.agrees (store_rack b.store)) was.serving.ready was.powers.meta was.calls all.calls;
       tells = handed (λ two. TellsSecond g.R.Rack.slot g.R.Rack.told a new two) from.result _ from.ensures.1
           (powers_tell g.R.Rack.slot_count g.R.Rack.slot g.R.Rack.told a b new _ was.powers all.no_fall c.in_err-lower.ensures.tells);
       parked = none_done _ from.result _ from.ensures.1;
