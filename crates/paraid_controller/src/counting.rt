@@ -35,7 +35,7 @@ fn nothing_counted() -> CheckReport
 }
 
 // Whether another disk is out, or one is out otherwise.
-fn is_other(out: Out, before: Out) -> bool
+fn is_another_out(out: Out, before: Out) -> bool
     ensures { result ≡ true → out ≢ before }
 {
     out != before
@@ -87,7 +87,7 @@ pub(crate) fn commit_and_count<R: Rack>(core: &mut Core<R>) -> Result<CheckRepor
 {
     let out = core.out();
     core.commit()?;
-    if is_other(core.out(), out) {
+    if is_another_out(core.out(), out) {
         return Ok(nothing_counted());
     }
     let checked = check(core)?;

@@ -1,9 +1,10 @@
 -- A cell that is copied is marked as clean.
 use Rattle.std.specs.Prelude.{◌≡◌, ◌≢◌, ℕ, ◌+◌, ◌*◌, ◌/◌, ◌<◌, ◌≤◌, Bool, true, false, List, [], ◌∷◌, ◌++◌, length, Option, Some, None}
-use Rattle.std.proofs.Common.{refl, sym, ◌∙◌, ap, arith, inl, inr}
+use Rattle.std.proofs.Common.{suc, zero, refl, sym, ◌∙◌, ap, subst, arith, inl, inr}
 use Rattle.std.proofs.lemmas.Bool.{cases_Bool, false≢true}
 use Rattle.std.proofs.lemmas.Bool.Decides.{nat_tests}
 use Rattle.paraid_base.specs.declared.block.Block.{Block}
+use Rattle.paraid_base.specs.declared.geometry.Geometry.{Geometry}
 use Rattle.paraid_base.specs.declared.state.Out.{Out}
 use Rattle.paraid_base.specs.declared.state.Out.TheVariants.{No}
 use Rattle.paraid_base.specs.History.{History}
@@ -12,6 +13,7 @@ use Rattle.paraid_base.specs.Regions.{disk_size, hard_place_of, map_count, map_p
 use Rattle.paraid_base.specs.Soft.{soft_disk, soft_stripe}
 use Rattle.paraid_dirty.specs.Table.{ShowsBits, is_dirty, table_with_bit}
 use Rattle.paraid_image.specs.Content.{view_by}
+use Rattle.paraid_image.specs.Neutral.{names_place}
 use Rattle.paraid_image.specs.Out.{named_out, out_disk}
 use Rattle.paraid_image.specs.Sides.{Batch, has_place}
 use Rattle.paraid_image.specs.Spot.{View, rising_to}
@@ -31,9 +33,16 @@ use Rattle.paraid_record.specs.Range.{IsInRange}
 use Rattle.paraid_core.specs.CellCopies.{KeepsCellCopies}
 use Rattle.paraid_core.specs.CoreInvariant.{HoldsBetweenCalls}
 use Rattle.paraid_core.specs.Fills.{KeepsFilled}
+use Rattle.paraid_core.specs.Taken.{AreStaged, HasRoomFor, HasRoomForMap}
 use Rattle.paraid_core.proofs.CleanLemmas.{target}
 use Rattle.paraid_core.proofs.LostDiskLemmas.{out_all}
 use Rattle.paraid_core.proofs.WriteLemmas.{contents_laid, laid_there}
+
+both_staged : (g : Geometry) (batch : Batch) (r : ℕ) (map : Block) → (names_place batch 0 (map_place_of g r) ≡ true) × (names_place batch 1 (map_place_of g r) ≡ true)
+    → AreStaged batch ((target 0 (map_place_of g r), map) ∷ (target 1 (map_place_of g r), map) ∷ [])
+both_staged g batch r map named zero low = named.0
+both_staged g batch r map named (suc zero) low = named.1
+both_staged g batch r map named (suc (suc k)) low = absurd (omega arith)
 
 -- two blocks are drafted
 pub map_drafted : (m : Meta) (a b c : Batch) (r : ℕ) (map : Block) → m.out ≡ No → a ≡ [] → b ≡ a ++ (target 0 (map_place_of m.setup.geometry r), map) ∷ [] → c ≡ b ++ (target 1 (map_place_of m.setup.geometry r), map) ∷ []
@@ -42,6 +51,17 @@ map_drafted m a b c r map no_out none first second =
     let unit : ℕ = m.setup.geometry.rows + soft_count m + r / 512 in
     let all : c ≡ (target 0 (map_place_of m.setup.geometry r), map) ∷ (target 1 (map_place_of m.setup.geometry r), map) ∷ [] = rw (second, first, none) refl in
     all ∙ ap (λ (o : Out). target_if (is_written o 0 unit) 0 (map_place_of m.setup.geometry r) map ++ target_if (is_written o 1 unit) 1 (map_place_of m.setup.geometry r) map) (sym no_out)
+
+-- there is room for both, or both stand in the batch already
+pub map_room : (g : Geometry) (batch a b c : Batch) (r : ℕ) (map : Block) → a ≡ [] → b ≡ a ++ (target 0 (map_place_of g r), map) ∷ [] → c ≡ b ++ (target 1 (map_place_of g r), map) ∷ []
+    → HasRoomForMap g batch r → HasRoomFor batch c
+map_room g batch a b c r map none first second room =
+    let both : Batch = (target 0 (map_place_of g r), map) ∷ (target 1 (map_place_of g r), map) ∷ [] in
+    let all : c ≡ both = rw (second, first, none) refl in
+    subst (HasRoomFor batch) (sym all) (elim room [
+      | inl few ↦ inl few
+      | inr named ↦ inr (both_staged g batch r map named)
+    ])
 
 -- where there is no place nothing is seen
 no_place : (s : Disks) (a b : Batch) (x q : ℕ) → has_place s x q ≡ false → contents s a x q ≡ contents s b x q

@@ -1,8 +1,8 @@
 -- Blocks are added to a batch one by one.
-use Rattle.std.specs.Prelude.{◌≡◌, ◌≢◌, ℕ, ◌+◌, ◌<◌, ◌≤◌, ◌==◌, ◌&&◌, true, false, List, [], ◌∷◌, ◌++◌, length, get_or, take, Some, Result, Ok, Err, IfErr, OnOk, All}
+use Rattle.std.specs.Prelude.{◌≡◌, ◌≢◌, ℕ, ◌+◌, ◌<◌, ◌≤◌, ◌⊎◌, ◌==◌, ◌&&◌, ◌||◌, true, false, List, [], ◌∷◌, ◌++◌, length, get_or, take, Some, Result, Ok, Err, IfErr, OnOk, All}
 use Rattle.std.proofs.Common.{suc, zero, refl, sym, ◌∙◌, ap, subst, arith, inl, inr, length-append}
 use Rattle.std.proofs.lemmas.Bool.{cases_Bool, false≢true}
-use Rattle.std.proofs.lemmas.List.{append-nil, append_assoc}
+use Rattle.std.proofs.lemmas.List.{append-nil, append_assoc, length-take-le}
 use Rattle.std.proofs.lemmas.List.Kept.{AllPairs-cons}
 use Rattle.std.proofs.lemmas.Bool.Decides.{nat_tests}
 use Rattle.std.proofs.lemmas.List.Elements.{All-cons, All-nil, All-tail}
@@ -21,7 +21,7 @@ use Rattle.paraid_txn.specs.declared.batch.Full.{Full}
 use Rattle.paraid_image.specs.Neutral.{names_place}
 use Rattle.paraid_txn.specs.Losses.{CanWrite}
 use Rattle.paraid_txn.specs.Batches.{batch_blocks, with_target}
-use Rattle.paraid_core.specs.Taken.{AreApart, IsTakenIn}
+use Rattle.paraid_core.specs.Taken.{AreApart, HasRoomFor, IsTakenIn}
 
 -- the first one of a list
 head : (P : Target → Type 0) (x : Target) (xs : List Target) → All P (x ∷ xs) → P x
@@ -139,12 +139,41 @@ take_next (w ∷ draft) (suc at) l = ap (λ (z : Batch). w ∷ z) (take_next dra
 take_more : (draft : Batch) (at : ℕ) → at < length draft → take (at + 1) draft ≡ take at draft ++ (get_or (targets draft) at no_target, get_or (batch_blocks draft) at zero_block) ∷ []
 take_more draft at l = let e : at + 1 ≡ suc at = omega arith in ap (λ (n : ℕ). take n draft) e ∙ take_next draft at l
 
--- there is room for one target more
+-- what a batch names it names also with one block more
+names_kept : (b : Batch) (t : Target) (x : Block) (d p : ℕ) → names_place b d p ≡ true → names_place (with_target b t x) d p ≡ true
+names_kept [] t x d p is = absurd (false≢true is)
+names_kept (w ∷ b) t x d p is = elim (cases_Bool (w.0.disk == t.disk && w.0.place == t.place)) [
+  | inl same ↦ rw same is
+  | inr other ↦ rw other (elim (cases_Bool (w.0.disk == d && w.0.place == p)) [
+    | inl here ↦ rw here refl
+    | inr off ↦ rw off (names_kept b t x d p (rw off at is))
+  ])
+]
+
+-- there is room for one target more, or it stands there already
 pub added : (m : Meta) (old new : Batch) (t : Target) (b : Block) (r : Result (Unit {0}) Full) → OnOk r (new ≡ with_target old t b)
     → IfErr r (λ (full : Full). (full.count ≡ batch_room) × (length old ≡ batch_room) × (names_place old t.disk t.place ≡ false) × (new ≡ old))
-    → length old < batch_room → AreApart old → IsPlaced m t → IsTakenIn m old ((t, b) ∷ []) new
-added m old new t b (Ok it) is full low apart placed = subst (IsTakenIn m old ((t, b) ∷ [])) (sym is) (one_taken m old t b apart placed)
-added m old new t b (Err e) is full low apart placed = let long = full.1 in absurd (omega arith)
+    → (length old < batch_room) ⊎ (names_place old t.disk t.place ≡ true) → AreApart old → IsPlaced m t → IsTakenIn m old ((t, b) ∷ []) new
+added m old new t b (Ok it) is full room apart placed = subst (IsTakenIn m old ((t, b) ∷ [])) (sym is) (one_taken m old t b apart placed)
+added m old new t b (Err e) is full room apart placed = elim room [
+  | inl low ↦ let long = full.1 in absurd (omega arith)
+  | inr named ↦ absurd (false≢true (sym full.2 ∙ named))
+]
+
+pub added_names : (old new : Batch) (t : Target) (b : Block) (r : Result (Unit {0}) Full) → OnOk r (new ≡ with_target old t b)
+    → IfErr r (λ (full : Full). (full.count ≡ batch_room) × (length old ≡ batch_room) × (names_place old t.disk t.place ≡ false) × (new ≡ old))
+    → (d p : ℕ) → names_place old d p ≡ true → names_place new d p ≡ true
+added_names old new t b (Ok it) is full d p named = subst (λ (z : Batch). names_place z d p ≡ true) (sym is) (names_kept old t b d p named)
+added_names old new t b (Err e) is full d p named = subst (λ (z : Batch). names_place z d p ≡ true) (sym full.3) named
+
+-- there is room for the next block of a draft, or it stands there already
+pub next_room : (m : Meta) (a draft b : Batch) (at : ℕ) (t : Target) → at < length draft → t ≡ get_or (targets draft) at no_target → HasRoomFor a draft
+    → IsTakenIn m a (take at draft) b → ((d p : ℕ) → names_place a d p ≡ true → names_place b d p ≡ true)
+    → (length b < batch_room) ⊎ (names_place b t.disk t.place ≡ true)
+next_room m a draft b at t low is room taken names = elim room [
+  | inl all ↦ inl (let few = taken.room in let long = length-take-le at draft (omega (arith, low)) in omega (arith, all, few, long, low))
+  | inr staged ↦ inr (subst (λ (z : Target). names_place b z.disk z.place ≡ true) (sym is) (names _ _ (staged at low)))
+]
 
 pub draft_more : (m : Meta) (a draft b c : Batch) (at : ℕ) (t : Target) (x : Block) → at < length draft → t ≡ get_or (targets draft) at no_target → x ≡ get_or (batch_blocks draft) at zero_block
     → IsTakenIn m a (take at draft) b → IsTakenIn m b ((t, x) ∷ []) c → IsTakenIn m a (take (at + 1) draft) c

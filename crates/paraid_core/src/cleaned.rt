@@ -3,19 +3,48 @@
 ghost use Rattle.std.specs.Prelude.{◌≡◌, ℕ, ◌+◌, ◌<◌, ◌≤◌, Bool, true, false, [], length};
 ghost use Rattle.paraid_base.specs.declared.state.Out.TheVariants.{No};
 ghost use Rattle.paraid_base.specs.History.{History};
-ghost use Rattle.paraid_base.specs.Log.{batch_room};
 ghost use Rattle.paraid_base.specs.States.{rising_to};
 ghost use Rattle.paraid_core.specs.CellCopies.{CellsCopied};
+ghost use Rattle.paraid_core.specs.Taken.{HasRoomForMap};
 ghost use Rattle.paraid_dirty.specs.Table.{is_dirty, table_with_bit};
+ghost use Rattle.paraid_image.specs.Neutral.{names_place};
 ghost use Rattle.paraid_rack.specs.Told.{CrashTriple, Ran};
 
 use crate::staged::Core;
 use crate::take::take;
 use paraid_base::{Block, DiskNo, MAP_START, Row};
 use paraid_rack::Rack;
+use paraid_record::Target;
+use paraid_txn::Batch;
+
+// Whether a batch has a block for this target.
+fn is_held(batch: &Batch, target: Target) -> bool
+    ensures { result ≡ true → names_place batch.now target.disk target.place ≡ true }
+{
+    for at in 0..batch.count() as usize {
+        if batch.target(at) == target {
+            return true;
+        }
+    }
+    false
+}
 
 impl<R: Rack> Core<R> {
     ghost use Rattle.paraid_core.specs.Cores.{CanCoreServe, IsCoreHeldSinceCommit, IsCoreReady, batch_of, copied_of, core_rack, core_table, draft_of, meta_of, store_of};
+
+    /// Whether the block of the map with the bits of a row can be staged on both log disks: there is room for it, or it is
+    /// staged already.
+    pub fn has_map_room(&self, r: Row) -> bool
+        ensures room { result ≡ true → HasRoomForMap (meta_of self.now).setup.geometry (batch_of self.now) r }
+        ensures few { length (batch_of self.now) ≤ 94 → result ≡ true }
+    {
+        if self.batch.count() <= 94 {
+            return true;
+        }
+        let place = MAP_START + r / 512;
+        is_held(&self.batch, Target { disk: 0, place })
+            && is_held(&self.batch, Target { disk: 1, place })
+    }
 
     /// Marks a dirty cell of a disk that comes up as clean: its bit is cleared, and its block of the map is
     /// staged on both log disks. The cell is copied; the commit asks that each copy is synced.
@@ -27,7 +56,7 @@ impl<R: Rack> Core<R> {
         requires row { r < (meta_of self.old).setup.geometry.rows }
         requires rises { d < rising_to (meta_of self.old).phase }
         requires dirty { is_dirty (core_table self.old) r d ≡ true }
-        requires room { length (batch_of self.old) + 2 ≤ batch_room }
+        requires room { HasRoomForMap (meta_of self.old).setup.geometry (batch_of self.old) r }
         ensures store { store_of self.new ≡ store_of self.old }
         ensures meta { meta_of self.new ≡ meta_of self.old }
         ensures copied { copied_of self.new ≡ copied_of self.old }

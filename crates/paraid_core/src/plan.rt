@@ -17,7 +17,7 @@ use paraid_dirty::DirtyTable;
 use paraid_layout::soft_place;
 use paraid_plan::{Lost, Plan};
 use paraid_rack::Rack;
-use paraid_record::Meta;
+use paraid_record::{Meta, Target};
 use paraid_txn::{Batch, Store};
 use paraid_view::{Draft, read_laid, read_rest, read_value};
 
@@ -85,6 +85,13 @@ pub(crate) fn undo(changes: &mut Changes, dirty: &mut DirtyTable)
 {
     while let Some(change) = changes.pop() {
         turn(dirty, change.row, change.disk, change.was);
+    }
+}
+
+// Marks the disk of a target that is at this place.
+fn mark_at(staged: &mut [bool; 8], place: Place, target: Target) {
+    if target.place == place && target.disk < 8 {
+        staged[target.disk as usize] = true;
     }
 }
 
@@ -162,8 +169,23 @@ impl<R: Rack> Plan for Core<R> {
         self.draft.get(disk, place).is_some() || self.batch.get(disk, place).is_some()
     }
 
+    fn staged_at(&self, place: Place) -> [bool; 8] {
+        let mut staged = [false; 8];
+        for at in 0..self.draft.count() as usize {
+            mark_at(&mut staged, place, self.draft.target(at));
+        }
+        for at in 0..self.batch.count() as usize {
+            mark_at(&mut staged, place, self.batch.target(at));
+        }
+        staged
+    }
+
     fn is_dirty(&self, m: &Meta, r: Row, d: DiskNo) -> bool {
         self.dirty.has(r, d)
+    }
+
+    fn dirty_row(&self, m: &Meta, r: Row) -> u8 {
+        self.dirty.row(r)
     }
 
     fn stage(&mut self, disk: DiskNo, place: Place, block: &Block) {

@@ -1,8 +1,9 @@
 //! What a plan has drafted is added to the batch.
-ghost use Rattle.std.specs.Prelude.{◌≡◌, ℕ, ◌+◌, ◌<◌, ◌≤◌, ◌∷◌, [], length, IsTrue};
+ghost use Rattle.std.specs.Prelude.{◌≡◌, ℕ, ◌+◌, ◌<◌, ◌≤◌, ◌⊎◌, ◌∷◌, [], length, true, IsTrue};
 ghost use Rattle.paraid_base.specs.Log.{batch_room};
 ghost use Rattle.paraid_base.specs.Regions.{disk_size};
-ghost use Rattle.paraid_core.specs.Taken.{AreApart, IsTakenIn};
+ghost use Rattle.paraid_core.specs.Taken.{AreApart, HasRoomFor, IsTakenIn};
+ghost use Rattle.paraid_image.specs.Neutral.{names_place};
 ghost use Rattle.paraid_plan.specs.Placed.{IsPlaced};
 ghost use Rattle.paraid_record.specs.Targets.{IsTargetInRange};
 
@@ -37,9 +38,10 @@ fn is_placed(m: &Meta, size: u32, target: Target) -> bool
 // Adds a block, unless a commit could not take its target.
 fn take_one(batch: &mut Batch, m: &Meta, size: u32, target: Target, block: &Block)
     requires size { size ≡ disk_size m.now.setup.geometry }
-    requires room { length batch.old < batch_room }
+    requires room { (length batch.old < batch_room) ⊎ (names_place batch.old target.disk target.place ≡ true) }
     requires apart { AreApart batch.old }
-    ensures { IsTakenIn m.now batch.old ((target, block.now) ∷ []) batch.new }
+    ensures taken { IsTakenIn m.now batch.old ((target, block.now) ∷ []) batch.new }
+    ensures names { (d p : ℕ) → names_place batch.old d p ≡ true → names_place batch.new d p ≡ true }
 {
     if !is_placed(m, size, target) {
         return;
@@ -47,10 +49,10 @@ fn take_one(batch: &mut Batch, m: &Meta, size: u32, target: Target, block: &Bloc
     let _added = batch.add(target.disk, target.place, block);
 }
 
-/// Adds all that is drafted. What a plan has drafted can be committed; a target that could not be
-/// is left out.
+/// Adds all that is drafted, for which there is room, or which stands in the batch already. What a plan has drafted can
+/// be committed; a target that could not be is left out.
 pub(crate) fn take(batch: &mut Batch, m: &Meta, draft: &Draft)
-    requires room { length batch.old + length draft.now ≤ batch_room }
+    requires room { HasRoomFor batch.old draft.now }
     requires apart { AreApart batch.old }
     ensures { IsTakenIn m.now batch.old draft.now batch.new }
 {

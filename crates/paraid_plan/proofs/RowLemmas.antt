@@ -356,17 +356,17 @@ module _ (m : Meta) (s t u : Desk) (r : ℕ) (ws : Entry) (staged : Bool) (in_ra
 same_disk : (a b : ℕ) → a ≡ b → (a == b) ≡ true
 same_disk a b e = grind (arith, nat_tests)
 
-pub row_from_calls : (m : Meta) (s s1 s2 s3 s4 : Desk) (r p : ℕ) (ws : Entry) (olds olds_then : List (Option Block)) (old fixed : Block) (was : List Bool) (staged : Bool)
+pub row_from_calls : (m : Meta) (s s1 s2 s3 s4 : Desk) (r p : ℕ) (ws : Entry) (olds olds_then : List (Option Block)) (old fixed : Block) (was : ℕ → Bool) (staged : Bool)
     → IsInRange m → r < m.setup.geometry.rows → p ≡ parity_disk m.setup.geometry.disks r → s1 ≡ s
     → AreOldRead m s ws r olds (value (sees m s) r)
     → (needs_new (sees m s) r p ≡ true → xor_upto (value (sees m s) r) m.setup.geometry.disks ≡ zero_block → fixed ≡ new_parity m.setup.geometry.disks ws r (value (sees m s) r))
-    → ((e : ℕ) → e < m.setup.geometry.disks → get_or was e false ≡ s1.dirty r e)
+    → ((e : ℕ) → e < m.setup.geometry.disks → was e ≡ s1.dirty r e)
     → AddsTargets m s1 s2
     → ((row : ℕ → Block) → AreOldRead m s1 ws r olds row → TurnsRow m r s1 s2 row (given_row m.setup.geometry.disks ws r row))
     → ((row : ℕ → Block) → AreOldRead m s1 ws r olds row → AreOldRead m s2 ws r olds_then (given_row m.setup.geometry.disks ws r row))
     → s2.dirty r (parity_disk m.setup.geometry.disks r) ≡ s1.dirty r (parity_disk m.setup.geometry.disks r)
     → ((z : Block) → IsOldOf olds_then p z → old ≡ z) → s3 ≡ cell_desk m s2 r p old fixed
-    → (staged ≡ false → (e : ℕ) → e < m.setup.geometry.disks → s3.dirty r e ≡ get_or was e false)
+    → (staged ≡ false → (e : ℕ) → e < m.setup.geometry.disks → s3.dirty r e ≡ was e)
     → StagesMap m s3 s4 (r / 512) staged
     → StagesBlocks m s s4 (λ c x. if home_row m.setup.geometry.disks c == r then last_of c x ws else x)
 unfolding is_changed

@@ -4,6 +4,7 @@ ghost use Rattle.paraid_base.specs.Log.{log_least};
 ghost use Rattle.paraid_base.specs.Regions.{map_count, disk_size};
 ghost use Rattle.paraid_plan.specs.Desk.{Desk, with_targets, desk_with_bit, sees};
 ghost use Rattle.paraid_plan.specs.WriteTargets.{soft_count, stripe_block_now, target_if};
+ghost use Rattle.paraid_dirty.specs.Bits.{bit_of};
 ghost use Rattle.paraid_dirty.specs.Table.{ShowsBits};
 ghost use Rattle.paraid_record.specs.Range.{IsInRange};
 ghost use Rattle.paraid_image.specs.Out.{named_out as named_out_of};
@@ -92,12 +93,21 @@ pub trait Plan {
     /// Whether a block is staged, so that no disk is asked for it.
     fn is_staged(&self, disk: DiskNo, place: Place) -> bool;
 
+    /// The same of this place of each disk.
+    fn staged_at(&self, place: Place) -> [bool; 8];
+
     /// Whether a cell is dirty.
     fn is_dirty(&self, m: &Meta, r: Row, d: DiskNo) -> bool
         requires serves { serves self.now m.now }
         requires row { r < m.now.setup.geometry.rows }
         requires disk { d < m.now.setup.geometry.disks }
         ensures { result ≡ (desk self.now).dirty r d };
+
+    /// The dirty bits of a row, the lowest for disk 0.
+    fn dirty_row(&self, m: &Meta, r: Row) -> u8
+        requires serves { serves self.now m.now }
+        requires row { r < m.now.setup.geometry.rows }
+        ensures { (d : ℕ) → bit_of result d ≡ (desk self.now).dirty r d };
 
     /// Stages a block.
     fn stage(&mut self, disk: DiskNo, place: Place, block: &Block)

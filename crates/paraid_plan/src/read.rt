@@ -73,6 +73,44 @@ fn add_part(
     add_given(pairs, given, d, sum);
 }
 
+// Reads the old value of a cell, keeps it where that is asked, and adds to the parity what the cell brings to it. It is
+// apart from the test whether a cell is read, since most are not.
+#[inline(never)]
+fn read_wanted<P: Plan>(
+    plan: &mut P,
+    m: &Meta,
+    pairs: &Pairs,
+    given: &[Option<usize>; 8],
+    anew: bool,
+    changed: bool,
+    keeps: bool,
+    r: Row,
+    d: DiskNo,
+    old: &mut [Option<Block>],
+    into: &mut Block,
+    sum: &mut Block,
+) -> Result<(), Lost>
+    requires serves { P.serves plan.old m.now }
+    requires in_range { IsInRange m.now }
+    requires row { r < m.now.setup.geometry.rows }
+    requires disk { d < m.now.setup.geometry.disks }
+    requires given { AreGivenBy pairs.now.bytes m.now.setup.geometry.disks (pairs_of pairs.now) r given.now }
+    requires changed { changed ≡ changed_in m.now.setup.geometry.disks (pairs_of pairs.now) r d }
+    requires kept { keeps ≡ true → d < length old.old }
+    ensures here { OnOk result (P.tells plan.new → keeps ≡ true
+        → IsOldOf old.new d (value_of (sees m.now (P.desk plan.old)) r d)) }
+    ensures others { (x : ℕ) (b : BlockType) → x ≢ d → IsOldOf old.old x b → IsOldOf old.new x b }
+    ensures sum { OnOk result (P.tells plan.new → sum.new ≡ xor sum.old
+        (parity_part m.now.setup.geometry.disks (pairs_of pairs.now) r (value_of (sees m.now (P.desk plan.old)) r) anew d)) }
+    ensures kept { OnOk result (length old.new ≡ length old.old) }
+    ensures reads { Leaves P.Plan (StaysAsWas P.Plan m.now plan.old plan.new) plan.old plan.new result }
+{
+    plan.value(m, r, d, into)?;
+    keep_if(keeps, old, d, into);
+    add_part(pairs, given, anew, changed, d, into, sum);
+    Ok(())
+}
+
 // Reads the old value of a cell, where what is staged of it or the new parity depends on it, and adds
 // to the parity what the cell brings to it. What is read goes into a block that many cells can share.
 fn read_cell<P: Plan>(
@@ -113,10 +151,10 @@ fn read_cell<P: Plan>(
         add_given(pairs, given, d, sum);
         return Ok(());
     }
-    plan.value(m, r, d, into)?;
-    keep_if(both(changed, depends), old, d, into);
-    add_part(pairs, given, anew, changed, d, into, sum);
-    Ok(())
+    let keeps = both(changed, depends);
+    read_wanted(
+        plan, m, pairs, given, anew, changed, keeps, r, d, old, into, sum,
+    )
 }
 
 // The same, unless the cell is the row's parity.

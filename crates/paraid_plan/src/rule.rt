@@ -3,7 +3,7 @@
 ghost use Rattle.std.specs.Prelude.{◌<◌};
 ghost use Rattle.paraid_record.specs.Range.{IsInRange};
 
-use crate::cell::{is_hard, needs_old};
+use crate::cell::{has_soft, is_hard, needs_old};
 use crate::desk::Plan;
 use crate::given::is_changed;
 use paraid_base::{DiskNo, Place, Row};
@@ -49,9 +49,8 @@ fn reads_of_old<P: Plan>(plan: &P, m: &Meta, given: &[Option<usize>; 8], r: Row,
     old
 }
 
-/// Whether the new parity of a row is made of the values of its cells that do not change, and not of
-/// the old values of those that do: where that reads less.
-pub(crate) fn is_made_anew<P: Plan>(
+// Whether the reads of the values that do not change are fewer than those of the old ones that do.
+fn is_anew_in_any_gear<P: Plan>(
     plan: &P,
     m: &Meta,
     given: &[Option<usize>; 8],
@@ -73,4 +72,49 @@ pub(crate) fn is_made_anew<P: Plan>(
         }
     }
     rest < old
+}
+
+// The same where each cell has its value in its hard place and no disk is out: all are at one place of the disks.
+fn is_anew_in_place<P: Plan>(
+    plan: &P,
+    m: &Meta,
+    given: &[Option<usize>; 8],
+    r: Row,
+    p: DiskNo,
+) -> bool
+    requires row { r < m.now.setup.geometry.rows }
+{
+    let staged = plan.staged_at(hard_place(&m.setup.geometry, r));
+    let mut old = 0u8;
+    let mut rest = 0u8;
+    for d in 0..m.setup.geometry.disks {
+        if staged[d as usize] {
+            continue;
+        }
+        if is_changed(given, p, d) {
+            old = old.saturating_add(1);
+        } else {
+            rest = rest.saturating_add(1);
+        }
+    }
+    rest < old
+}
+
+/// Whether the new parity of a row is made of the values of its cells that do not change, and not of
+/// the old values of those that do: where that reads less.
+pub(crate) fn is_made_anew<P: Plan>(
+    plan: &P,
+    m: &Meta,
+    given: &[Option<usize>; 8],
+    r: Row,
+    p: DiskNo,
+) -> bool
+    requires serves { P.serves plan.now m.now }
+    requires in_range { IsInRange m.now }
+    requires row { r < m.now.setup.geometry.rows }
+{
+    if has_soft(m) || m.out.named().is_some() {
+        return is_anew_in_any_gear(plan, m, given, r, p);
+    }
+    is_anew_in_place(plan, m, given, r, p)
 }

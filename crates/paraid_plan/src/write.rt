@@ -6,6 +6,7 @@ ghost use Rattle.paraid_base.specs.Cells.{home_row};
 ghost use Rattle.paraid_base.specs.History.{last_of};
 ghost use Rattle.paraid_base.specs.Pairs.{pairs_of};
 ghost use Rattle.paraid_base.specs.Xor.{zero_block};
+ghost use Rattle.paraid_dirty.specs.Bits.{bit_of};
 ghost use Rattle.paraid_plan.specs.Desk.{Desk, StagesMap};
 ghost use Rattle.paraid_plan.specs.Leaves.{Leaves, WritesCells, WritesRow};
 ghost use Rattle.paraid_plan.specs.RowWrites.{HasRoom, StageAll, count_in_row, count_of_new_row, one_in_row, row_change};
@@ -46,48 +47,20 @@ fn stage_map<P: Plan>(plan: &mut P, m: &Meta, r: Row, staged: bool)
     stage_if(plan, is_written(m.out, 1, unit), 1, MAP_START + j, &block);
 }
 
-// Sets one of the bits.
-fn set_bit(bits: &mut [bool; 8], at: DiskNo, bit: bool)
-    requires { at < 8 }
-    ensures here { get_or bits.new at false ≡ bit }
-    ensures others { (x : ℕ) → x ≢ at → get_or bits.new x false ≡ get_or bits.old x false }
+// Whether two rows of dirty bits are not the same.
+fn is_other(first: u8, second: u8) -> bool
+    ensures { result ≡ false → first ≡ second }
 {
-    bits[at as usize] = bit;
+    first != second
 }
 
-// The dirty bits of a row.
-fn bits_of<P: Plan>(plan: &P, m: &Meta, r: Row) -> [bool; 8]
+// Whether the dirty bits of a row are not what they were.
+fn has_changed<P: Plan>(plan: &P, m: &Meta, r: Row, was: u8) -> bool
     requires serves { P.serves plan.now m.now }
     requires row { r < m.now.setup.geometry.rows }
-    ensures { (e : ℕ) → e < m.now.setup.geometry.disks → get_or result e false ≡ (P.desk plan.now).dirty r e }
+    ensures { result ≡ false → (d : ℕ) → (P.desk plan.now).dirty r d ≡ bit_of was d }
 {
-    let mut bits = [false; 8];
-    for d in 0..m.setup.geometry.disks {
-        set_bit(&mut bits, d, plan.is_dirty(m, r, d));
-    }
-    bits
-}
-
-// Whether two bits are the same.
-fn is_same(first: bool, second: bool) -> bool
-    ensures { result ≡ true → first ≡ second }
-{
-    first == second
-}
-
-// Whether one of the dirty bits of a row is not what it was.
-fn has_changed<P: Plan>(plan: &P, m: &Meta, r: Row, was: &[bool; 8]) -> bool
-    requires serves { P.serves plan.now m.now }
-    requires row { r < m.now.setup.geometry.rows }
-    ensures { result ≡ false → (e : ℕ) → e < m.now.setup.geometry.disks → (P.desk plan.now).dirty r e ≡ get_or was.now e false }
-{
-    for d in 0..m.setup.geometry.disks {
-        let same = is_same(plan.is_dirty(m, r, d), was[d as usize]);
-        if !same {
-            return true;
-        }
-    }
-    false
+    is_other(plan.dirty_row(m, r), was)
 }
 
 // Writes the cell of one pair, unless it lies in another row; its new bytes are the old ones of what
@@ -176,10 +149,10 @@ fn write_row_in<P: Plan>(
     let mut fixed = Block::zero();
     let given = given_cells(&m.setup.geometry, pairs, r);
     read_row(plan, m, pairs, &given, r, p, old, &mut fixed)?;
-    let was = bits_of(plan, m, r);
+    let was = plan.dirty_row(m, r);
     write_pairs(plan, m, pairs, r, old)?;
     write_cell(plan, m, r, p, kept_or(old, p, &fixed), &fixed)?;
-    let staged = has_changed(plan, m, r, &was);
+    let staged = has_changed(plan, m, r, was);
     stage_map(plan, m, r, staged);
     Ok(())
 }

@@ -122,13 +122,13 @@ fn mark_one<R: Rack>(core: &mut Core<R>, group: &Group) -> bool
     ensures copied { KeepsCopied R.slot_count R.told core.old core.new
         (are_copied_before (meta_of core.old) group.now.row group.now.disk) }
 {
-    if core.staged() > 94 {
-        return false;
-    }
     let Some((r, d)) = first_cell(core) else {
         return false;
     };
     if !is_within(group, r, d) {
+        return false;
+    }
+    if !core.has_map_room(r) {
         return false;
     }
     core.mark_cleaned(r, d);

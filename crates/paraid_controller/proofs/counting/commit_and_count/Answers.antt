@@ -56,8 +56,8 @@ returns-in_err-commit g c = record {
   counts = none_done_if _ c.from_residual.result _ c.from_residual.ensures.1;
 }
 
-pub returns-then-is_other : goal.returns-then-is_other
-returns-then-is_other g c = record {
+pub returns-then-is_another_out : goal.returns-then-is_another_out
+returns-then-is_another_out g c = record {
   copied = c.commit.ensures.copied;
   draft = c.commit.ensures.draft ∙ c.requires.no_draft;
   slots = c.commit.ensures.slots;
@@ -81,7 +81,7 @@ returns-then-is_other g c = record {
   counts =
       let done = c.in_ok-commit.ensures in
       subst (λ (r : CheckReport). CountsCommitted g.R.Rack.slot g.R.Rack.told c.args.core.now c.commit.new.self r) (sym c.nothing_counted.ensures)
-      (counts_none g.R.Rack.slot g.R.Rack.told c.args.core.now c.commit.new.self done.nothing c.commit.ensures.table done.marks c.commit.ensures.calls (λ same. c.if-is_other.ensures refl (c.out.ensures ∙ same ∙ sym c.out-out.ensures)));
+      (counts_none g.R.Rack.slot g.R.Rack.told c.args.core.now c.commit.new.self done.nothing c.commit.ensures.table done.marks c.commit.ensures.calls (λ same. c.if-is_another_out.ensures refl (c.out.ensures ∙ same ∙ sym c.out-out.ensures)));
 }
 
 pub check-requires : goal.check-requires

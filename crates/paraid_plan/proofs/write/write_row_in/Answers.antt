@@ -1,6 +1,7 @@
 use Rattle.std.specs.Prelude.{◌==◌, ◌&&◌, ◌≡◌, ℕ, Bool, Some}
 use Rattle.std.proofs.Common.{◌∙◌, ap, refl, subst, arith}
 use Rattle.paraid_base.specs.Pairs.{pairs_of}
+use Rattle.paraid_dirty.specs.Bits.{bit_of}
 use Rattle.paraid_plan.specs.RowBits.{TurnsBits, names_cell}
 use Rattle.paraid_plan.proofs.GrowthLemmas.{row_grows}
 use Rattle.paraid_plan.proofs.LeavesLemmas.{failed}
@@ -53,8 +54,8 @@ stage_map-requires g c =
           omega (arith, a, b, d, room, some));
     }
 
-pub bits_of-was-requires : goal.bits_of-was-requires
-bits_of-was-requires g c =
+pub dirty_row-was-requires : goal.dirty_row-was-requires
+dirty_row-was-requires g c =
     record {
       serves = c.in_ok-read_row.ensures.reads.ok.goes_on;
       row = c.requires.row;
@@ -110,11 +111,11 @@ returns g c =
       ok = record {
         write = λ tells.
             row_from_calls m s read mid cell last
-            c.args.r c.parity_disk-p.result ws c.read_row.new.old c.write_pairs.new.old c.kept_or.result.now c.read_row.new.fixed c.bits_of-was.result c.has_changed-staged.result
+            c.args.r c.parity_disk-p.result ws c.read_row.new.old c.write_pairs.new.old c.kept_or.result.now c.read_row.new.fixed (bit_of c.dirty_row-was.result) c.has_changed-staged.result
             c.requires.in_range c.requires.row p (c.in_ok-read_row.ensures.reads.ok.same (t1 (t2 (t3 tells)))) (c.in_ok-read_row.ensures.old (t1 (t2 (t3 tells)))) (c.in_ok-read_row.ensures.fixed (t1 (t2 (t3 tells))))
-            c.bits_of-was.ensures (c.in_ok-write_pairs.ensures.ok.adds (t2 (t3 tells))) (c.in_ok-write_pairs.ensures.ok.turns (t2 (t3 tells))) (c.in_ok-write_pairs.ensures.ok.reads (t2 (t3 tells))) (c.in_ok-write_pairs.ensures.ok.parity (t2 (t3 tells)))
+            (λ e le. c.dirty_row-was.ensures e) (c.in_ok-write_pairs.ensures.ok.adds (t2 (t3 tells))) (c.in_ok-write_pairs.ensures.ok.turns (t2 (t3 tells))) (c.in_ok-write_pairs.ensures.ok.reads (t2 (t3 tells))) (c.in_ok-write_pairs.ensures.ok.parity (t2 (t3 tells)))
             c.kept_or.ensures (c.in_ok-write_cell.ensures.desk (t3 tells))
-            c.has_changed-staged.ensures c.stage_map.ensures.map;
+            (λ same e le. c.has_changed-staged.ensures same e) c.stage_map.ensures.map;
         bits = bits_then m s.dirty mid.dirty last.dirty (λ q e. q == c.args.r && names_cell n ws c.args.r e) (λ q e. q == c.args.r && e == c.parity_disk-p.result) _
             (λ q e. row_turns n ws c.args.r c.parity_disk-p.result q e p)
             (subst (λ (z : ℕ → ℕ → Bool). TurnsBits m z mid.dirty (λ q e. q == c.args.r && names_cell n ws c.args.r e)) c.in_ok-read_row.ensures.reads.ok.bits c.in_ok-write_pairs.ensures.ok.bits)

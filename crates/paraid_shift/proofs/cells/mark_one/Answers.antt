@@ -3,15 +3,13 @@ use Rattle.paraid_shift.proofs.MovingLemmas.{clean_none_before, core_cell_moves,
 use Rattle.paraid_shift.proofs.ServingLemmas.{serving_marked}
 use Rattle.paraid_shift.proofs.AnswerLemmas.{none_at}
 use Rattle.paraid_record.specs.declared.meta.Meta.{Meta}
-use Rattle.std.specs.Prelude.{◌<◌, ◌≤◌, true, false}
-use Rattle.std.proofs.Common.{ℕ, ◌≡◌, ◌∙◌, ap, arith, refl, sym}
+use Rattle.std.specs.Prelude.{true, false}
+use Rattle.std.proofs.Common.{◌≡◌, ◌∙◌, ap, refl, sym}
+use Rattle.std.proofs.lemmas.Bool.{true≢false}
 use Rattle.paraid_shift.proofs.cells.mark_one.Goals as goal
 
-too_many : (n staged : ℕ) → staged ≡ n → 94 < staged → n ≤ 94 → ⊥
-too_many n staged is past room = omega arith
-
-pub returns-then-staged-gt94 : goal.returns-then-staged-gt94
-returns-then-staged-gt94 g c =
+pub returns-then-not-has_map_room : goal.returns-then-not-has_map_room
+returns-then-not-has_map_room g c =
     let a = c.args.core.now in
     record {
       serving = c.requires.serving;
@@ -19,7 +17,7 @@ returns-then-staged-gt94 g c =
       store = refl;
       moves = λ is. let z : false ≡ true = is in absurd cc;
       idle = λ is. refl;
-      some = λ is room has. too_many _ _ c.staged.ensures c.if-staged-gt94.true room;
+      some = λ is room has. true≢false (sym (c.has_map_room.ensures.few room) ∙ c.if-not-has_map_room.true);
       copied = keeps_none g.R.Rack.slot_count g.R.Rack.slot g.R.Rack.told a _;
     }
 

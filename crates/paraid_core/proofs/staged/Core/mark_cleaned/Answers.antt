@@ -16,7 +16,7 @@ use Rattle.paraid_core.specs.Cores.{IsCoreHeldSinceCommit}
 use Rattle.paraid_core.proofs.AcceptLemmas.{taken_ready}
 use Rattle.paraid_core.proofs.CallLemmas.{keeps_held}
 use Rattle.paraid_core.proofs.CopyCellLemmas.{disk_in}
-use Rattle.paraid_core.proofs.MarkCellLemmas.{cells_marked, map_drafted}
+use Rattle.paraid_core.proofs.MarkCellLemmas.{cells_marked, map_drafted, map_room}
 use Rattle.paraid_core.proofs.staged.Core.mark_cleaned.Goals as goal
 
 pub returns : goal.returns
@@ -53,4 +53,10 @@ pub clear-requires : goal.clear-requires
 clear-requires g c = record {
   row = subst (λ (n : ℕ). c.args.r < n) (sym c.requires.ready.rows_are) c.requires.row;
   disk = let low = disk_in c.args.self.now.meta c.args.d c.requires.ready.in_range c.requires.rises in let high = c.args.self.now.meta.setup.geometry.disks_high in omega (arith, low, high);
+}
+
+pub take-requires : goal.take-requires
+take-requires g c = record {
+  room = map_room c.args.self.now.meta.setup.geometry c.args.self.now.batch c.clear-2.new.self c.push.new.self c.push-2.new.self c.args.r c.map_block.new.into c.clear-2.ensures c.push.ensures c.push-2.ensures c.requires.room;
+  apart = c.requires.ready.apart;
 }

@@ -1,4 +1,4 @@
-use Rattle.std.proofs.Common.{◌≡◌, ℕ, Option, ◌+◌, ◌∙◌, ◌<◌, Some, None, sym, ap, subst, refl, length, arith}
+use Rattle.std.proofs.Common.{◌≡◌, ℕ, Option, ◌+◌, ◌∙◌, ◌<◌, Some, None, sym, ap, subst, refl, length, arith, inl}
 use Rattle.paraid_base.specs.Pairs.{pairs_of}
 use Rattle.paraid_dirty.specs.Table.{is_dirty}
 use Rattle.paraid_image.specs.Out.{named_out, or_else}
@@ -243,6 +243,6 @@ draft_writes-requires g c = record {
 
 pub take-requires : goal.take-requires
 take-requires g c = record {
-  room = let same = ap length c.draft_writes.ensures.leads.batch in let few = not_err c.draft_writes.result _ (sym c.is_err.ensures.value ∙ c.if-is_err.false) c.draft_writes.ensures.few in let room = c.requires.room in omega (arith, same, few, room);
+  room = inl (let same = ap length c.draft_writes.ensures.leads.batch in let few = not_err c.draft_writes.result _ (sym c.is_err.ensures.value ∙ c.if-is_err.false) c.draft_writes.ensures.few in let room = c.requires.room in omega (arith, same, few, room));
   apart = subst AreApart (sym c.draft_writes.ensures.leads.batch) c.requires.ready.apart;
 }
