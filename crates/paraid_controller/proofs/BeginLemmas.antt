@@ -38,7 +38,7 @@ use Rattle.paraid_event.specs.Service.{Service}
 use Rattle.paraid_event.specs.Stands.{StandsAt}
 use Rattle.paraid_event.proofs.FirstLemmas.{first_stands}
 use Rattle.paraid_controller.specs.Begun.{IsMountedCore, StandsAtFirst}
-use Rattle.paraid_controller.proofs.SettledLemmas.{content_at_rest, settled_keeps}
+use Rattle.paraid_controller.proofs.SettledLemmas.{content_at_rest, settled_keeps, witnesses_at_rest}
 
 loss_setup : (m : Meta) (o : Option ℕ) → (with_loss m o).setup ≡ m.setup
 loss_setup m None = refl
@@ -157,7 +157,8 @@ module _ (count_then count : ℕ) (old slot : ℕ → Slot) (named : Option ℕ)
 
       keeps : HoldsBetweenCalls count (named_out standing.out) (with_loss standing (to_mark s.power standing)) table [] copied (take standing.writes first.history) standing.writes s
       keeps =
-          settled_keeps count s standing table copied (take standing.writes first.history) standing.writes mark_at.rest (sym counted) (omega (arith, counted))
+          settled_keeps count s standing table copied (take standing.writes first.history) standing.writes mark_at.rest
+          (witnesses_at_rest count s standing (take standing.writes first.history) standing.writes _ mark_at.rest mark_at.held) mark_at.borne (sym counted) (omega (arith, counted))
           (subst (λ (n : ℕ). ContentOk count s.power s.size (view_by standing s.power (contents s [])) (take standing.writes first.history) n) (sym counted) (content_at_rest count s standing (take standing.writes first.history) standing.writes _ mark_at.rest mark_at.held))
           (λ r d l. first.map r d l ∙ ap (λ (q : Point). (view_by standing q.disks.power (contents q.disks [])).dirty r d) at)
 

@@ -13,7 +13,7 @@ use Rattle.paraid_image.specs.Mark.{marked_gone}
 use Rattle.paraid_image.specs.Out.{named_out, out_disk}
 use Rattle.paraid_image.specs.Rest.{IsAtRest, closed_over}
 use Rattle.paraid_image.specs.Sides.{LogState}
-use Rattle.paraid_image.specs.Sound.{ContentOk}
+use Rattle.paraid_image.specs.Sound.{AreWitnessesTrue, ContentOk}
 use Rattle.paraid_image.specs.Spot.{map_bit, map_disk}
 use Rattle.paraid_image.specs.Standing.{contents}
 use Rattle.paraid_image.proofs.AlikeLemmas.{contents_alike, held_alike, stands_alike}
@@ -23,12 +23,13 @@ use Rattle.paraid_image.proofs.OutLemmas.{missing_is_out}
 use Rattle.paraid_image.proofs.StandingLemmas.{Stands-same}
 use Rattle.paraid_moves.proofs.NextLemmas.{next_gone}
 use Rattle.paraid_moves.proofs.RunLemmas.{copies_at_rest}
-use Rattle.paraid_core.specs.CoreInvariant.{HoldsBetweenCalls}
+use Rattle.paraid_core.specs.CoreInvariant.{HoldsBetweenCalls, IsWitnessBorne}
 use Rattle.paraid_core.proofs.WriteLemmas.{rest_keeps}
 use Rattle.paraid_recover.specs.Mounted.{with_loss}
 use Rattle.paraid_recover.specs.RecoveryMark.{to_mark}
 use Rattle.paraid_recover.proofs.FitLemmas.{marks}
 use Rattle.paraid_recover.proofs.MarkHeldLemmas.{synced_disks}
+use Rattle.paraid_recover.proofs.QuietCallsLemmas.{still_true}
 
 -- At rest the disks hold the writes that the meta counts.
 module _ (slots : ℕ) (s : Disks) (m : Meta) (h : History) (lo : ℕ) (was : Option ℕ) (rest : IsAtRest s m) (held : IsHeld slots s h lo was) where
@@ -52,14 +53,18 @@ module _ (slots : ℕ) (s : Disks) (m : Meta) (h : History) (lo : ℕ) (was : Op
   pub content_at_rest : ContentOk slots s.power s.size (view_by m s.power (contents s [])) h m.writes
   content_at_rest = subst (λ (k : ℕ). ContentOk slots s.power s.size (view_by m s.power (contents s [])) h k) (sym writes) found
 
-module _ (slots : ℕ) (s : Disks) (m : Meta) (table : List (List Bool)) (copied : List Bool) (h : History) (lo : ℕ) (rest : IsAtRest s m) (counted : m.writes ≡ length h) (low : lo ≤ length h)
+  pub witnesses_at_rest : AreWitnessesTrue s (out_disk s.power m)
+  witnesses_at_rest = still_true s (out_disk s.power m) (subst (λ (o : LogState). AreWitnessesTrue (synced_disks s) (out_disk s.power o.meta)) same whole.sound.witnesses)
+
+module _ (slots : ℕ) (s : Disks) (m : Meta) (table : List (List Bool)) (copied : List Bool) (h : History) (lo : ℕ) (rest : IsAtRest s m) (witnesses : AreWitnessesTrue s (out_disk s.power m))
+    (borne : IsWitnessBorne (named_out m.out) s) (counted : m.writes ≡ length h) (low : lo ≤ length h)
     (ok : ContentOk slots s.power s.size (view_by m s.power (contents s [])) h (length h))
     (dirty : (r d : ℕ) → r < 512 * map_count m.setup.geometry → is_dirty table r d ≡ (view_by m s.power (contents s [])).dirty r d) where
   range : IsInRange m
   range = rest.log.stands.says.log.meta.in_range
 
   unmarked : HoldsBetweenCalls slots (named_out m.out) m table [] copied h lo s
-  unmarked = rest_keeps slots m table copied h lo s rest counted low ok dirty
+  unmarked = rest_keeps slots m table copied h lo s rest witnesses borne counted low ok dirty
 
   -- with the mark of a disk that is absent
   module _ (d : ℕ) (below : d < m.setup.geometry.disks) (gone : is_present (s.power d) ≡ false) (only : (e : ℕ) → named_out m.out ≡ Some e → e ≡ d) where
@@ -71,7 +76,7 @@ module _ (slots : ℕ) (s : Disks) (m : Meta) (table : List (List Bool)) (copied
       base = m;
       held = contents s [];
       copies =
-          copies_at_rest slots m h lo s rest
+          copies_at_rest slots m h lo s rest witnesses
           (record {
             low = omega (arith, counted, low);
             high = omega (arith, counted);
@@ -79,6 +84,7 @@ module _ (slots : ℕ) (s : Disks) (m : Meta) (table : List (List Bool)) (copied
           });
       synced = λ x p here synced. rest.synced x p here;
       named_by = refl;
+      borne = borne;
       epoch = refl;
       next = next_gone s m (record (marked_gone m d m.epoch) { epoch = m.epoch + 1 }) refl refl rest d refl only;
       writes = counted;

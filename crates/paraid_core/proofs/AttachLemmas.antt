@@ -45,6 +45,7 @@ use Rattle.paraid_core.specs.CoreInvariant.{AreSlotsReady, CanServe, HoldsBetwee
 use Rattle.paraid_core.specs.Cores.{IsCoreHeldSinceCommit, IsCoreReady}
 use Rattle.paraid_core.specs.Replaced.{CoreCommitted, KeepsCommitted}
 use Rattle.paraid_core.proofs.AfterLemmas.{named_is_out}
+use Rattle.paraid_core.proofs.BorneLemmas.{borne_attached}
 use Rattle.paraid_core.proofs.CallLemmas.{keeps_held}
 use Rattle.paraid_core.proofs.GoneLemmas.{gone_again}
 use Rattle.paraid_core.proofs.LostDiskLemmas.{keeps_failed}
@@ -149,6 +150,7 @@ module _ (slots : ℕ) (named : Option ℕ) (m : Meta) (table : List (List Bool)
     copies = copies_then;
     synced = synced_then;
     named_by = k.named_by;
+    borne = borne_attached named s k.borne t d size at (λ x is. base_names x (k.named_by ∙ is));
     epoch = k.epoch;
     next = next_then;
     writes = k.writes;

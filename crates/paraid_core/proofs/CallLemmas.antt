@@ -25,7 +25,7 @@ use Rattle.paraid_txn.specs.Losses.{OnlyLosesSlots}
 use Rattle.paraid_txn.specs.Stores.{IsSameStore, disks_of, epoch_of, named_of, store_rack}
 use Rattle.paraid_core.specs.declared.staged.Core.{Core}
 use Rattle.paraid_core.specs.Cores.{IsCoreReady, CanCoreServe, CoreStandsFor}
-use Rattle.paraid_core.specs.CoreInvariant.{CanServe, IsHeldWithOneMissing, AreSlotsReady, HoldsBetweenCalls, is_copied, lost_in, meta_with_lost}
+use Rattle.paraid_core.specs.CoreInvariant.{CanServe, IsHeldWithOneMissing, IsWitnessBorne, AreSlotsReady, HoldsBetweenCalls, is_copied, lost_in, meta_with_lost}
 use Rattle.paraid_core.specs.Steps.{IsNamedOrAbsent, IsStillOut, LeavesCore}
 use Rattle.paraid_core.proofs.AfterLemmas.{lost_in_is, marked_setup, ready_after, ready_moved, serve_after}
 use Rattle.paraid_core.proofs.MomentLemmas.{beside, failed_holding}
@@ -199,6 +199,7 @@ module _ (slots : ℕ) (named : Option ℕ) (m : Meta) (table : List (List Bool)
     copies = k.copies;
     synced = synced;
     named_by = k.named_by;
+    borne = k.borne;
     epoch = k.epoch;
     next = k.next;
     writes = k.writes;
@@ -223,14 +224,15 @@ module _ (slots : ℕ) (named : Option ℕ) (m : Meta) (table : List (List Bool)
 
   -- no block, power or size changes
   pub keeps_loose : (copied_then : List Bool) (s : Disks) (loose : ℕ → ℕ → Bool) → (k : HoldsBetweenCalls slots named m table batch copied h lo s) → IsCopying (record s { loose = loose }) k.base k.held
-      → ((x p : ℕ) → IsPresent s x → (x < m.setup.geometry.disks → is_copied copied_then x ≡ false) → loose x p ≡ false)
+      → ((x p : ℕ) → IsPresent s x → (x < m.setup.geometry.disks → is_copied copied_then x ≡ false) → loose x p ≡ false) → IsWitnessBorne named (record s { loose = loose })
       → HoldsBetweenCalls slots named m table batch copied_then h lo (record s { loose = loose })
-  keeps_loose copied_then s loose k copying synced = record {
+  keeps_loose copied_then s loose k copying synced borne = record {
     base = k.base;
     held = k.held;
     copies = record { copying = copying; low = k.copies.low; high = k.copies.high; content = k.copies.content };
     synced = synced;
     named_by = k.named_by;
+    borne = borne;
     epoch = k.epoch;
     next = record {
       epoch = k.next.epoch;
@@ -255,17 +257,18 @@ module _ (slots : ℕ) (named : Option ℕ) (m : Meta) (table : List (List Bool)
       dirty_still r d l = k.dirty r d l ∙ ap (λ (f : Contents). (view_by m s.power f).dirty r d) (sym same_contents)
 
   pub loose_base : (copied_then : List Bool) (s : Disks) (loose : ℕ → ℕ → Bool) (k : HoldsBetweenCalls slots named m table batch copied h lo s) (copying : IsCopying (record s { loose = loose }) k.base k.held)
-      (synced : (x p : ℕ) → IsPresent s x → (x < m.setup.geometry.disks → is_copied copied_then x ≡ false) → loose x p ≡ false) → (keeps_loose copied_then s loose k copying synced).base ≡ k.base
+      (synced : (x p : ℕ) → IsPresent s x → (x < m.setup.geometry.disks → is_copied copied_then x ≡ false) → loose x p ≡ false) (borne : IsWitnessBorne named (record s { loose = loose }))
+      → (keeps_loose copied_then s loose k copying synced borne).base ≡ k.base
   unfolding keeps_loose
-  loose_base copied_then s loose k copying synced = refl
+  loose_base copied_then s loose k copying synced borne = refl
 
   pub keeps_still : (copied_then : List Bool) (s t : Disks) → t.power ≡ s.power → t.size ≡ s.size → t.block ≡ s.block → (k : HoldsBetweenCalls slots named m table batch copied h lo s) → IsCopying t k.base k.held
-      → ((x p : ℕ) → IsPresent t x → (x < m.setup.geometry.disks → is_copied copied_then x ≡ false) → t.loose x p ≡ false)
+      → ((x p : ℕ) → IsPresent t x → (x < m.setup.geometry.disks → is_copied copied_then x ≡ false) → t.loose x p ≡ false) → IsWitnessBorne named t
       → HoldsBetweenCalls slots named m table batch copied_then h lo t
-  keeps_still copied_then s t power size block k copying synced =
+  keeps_still copied_then s t power size block k copying synced borne =
       subst (HoldsBetweenCalls slots named m table batch copied_then h lo) (sym same)
       (keeps_loose copied_then s t.loose k (subst (λ (u : Disks). IsCopying u k.base k.held) same copying)
-      (λ x p here. synced x p (subst (λ (u : Disks). IsPresent u x) (sym same) here)))
+      (λ x p here. synced x p (subst (λ (u : Disks). IsPresent u x) (sym same) here)) (subst (IsWitnessBorne named) same borne))
     where
       same : t ≡ record s { loose = t.loose }
       same = λ i. record { power = power i; size = size i; block = block i; loose = t.loose }

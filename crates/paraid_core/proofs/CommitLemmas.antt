@@ -1,4 +1,5 @@
 -- What a commit leaves of what a core stands for.
+use Rattle.paraid_image.proofs.AlikeLemmas.{stands_alike}
 use Rattle.paraid_image.specs.Mark.{meta_after_loss}
 use Rattle.std.specs.Prelude.{◌≡◌, ◌≢◌, ℕ, ◌+◌, ◌*◌, ◌<◌, ◌≤◌, ◌⊎◌, ◌&&◌, nat_lt, Bool, true, false, List, [], ◌∷◌, ◌++◌, drop, Option, Some, None, length}
 use Rattle.std.proofs.Common.{refl, sym, ◌∙◌, ap, subst, arith, inl, inr}
@@ -27,10 +28,10 @@ use Rattle.paraid_image.specs.Content.{view_by}
 use Rattle.paraid_image.specs.HeldAt.{IsSoundFrom}
 use Rattle.paraid_image.specs.FirstWrites.{HoldsFirstWrites}
 use Rattle.paraid_image.specs.Out.{is_out, named_out, or_else, out_disk}
-use Rattle.paraid_image.specs.Sides.{Batch, LogState, has_place}
-use Rattle.paraid_image.specs.Sound.{ContentOk}
+use Rattle.paraid_image.specs.Sides.{Batch, LogState, has_place, stored_block}
+use Rattle.paraid_image.specs.Sound.{ContentOk, AreWitnessesTrue}
 use Rattle.paraid_image.specs.Spot.{map_bit, map_disk}
-use Rattle.paraid_image.specs.Standing.{Contents, contents}
+use Rattle.paraid_image.specs.Standing.{Contents, contents, Stands}
 use Rattle.paraid_image.proofs.OutLemmas.{missing_is_out, named_below}
 use Rattle.paraid_image.proofs.StandingLemmas.{Stands-same}
 use Rattle.paraid_image.proofs.ViewLemmas.{dirty_without, map_bit_same, map_disk_other}
@@ -39,10 +40,11 @@ use Rattle.paraid_moves.specs.Copying.{HoldsWithCopies}
 use Rattle.paraid_moves.proofs.CopyCommitLemmas.{copying_from_rest}
 use Rattle.paraid_moves.proofs.FailLemmas.{marks_gone}
 use Rattle.paraid_moves.proofs.MoveLemmas.{fits_later}
-use Rattle.paraid_moves.proofs.NextLemmas.{holds_now, next_gone, next_same, rest_now}
+use Rattle.paraid_moves.proofs.NextLemmas.{holds_now, next_gone, next_same, rest_now, witnesses_now}
+use Rattle.paraid_txn.specs.Losses.{CanWrite}
 use Rattle.paraid_core.specs.Fills.{KeepsFilled}
 use Rattle.paraid_core.specs.Replaced.{KeepsCommitted}
-use Rattle.paraid_core.specs.CoreInvariant.{AreCopiesSynced, IsHeldWithOneMissing, HoldsBetweenCalls, meta_with_lost}
+use Rattle.paraid_core.specs.CoreInvariant.{AreCopiesSynced, IsHeldWithOneMissing, IsWitnessBorne, HoldsBetweenCalls, meta_with_lost}
 use Rattle.paraid_core.proofs.AfterLemmas.{down_named}
 pub use Rattle.paraid_core.proofs.LostDiskLemmas.{out_all}
 use Rattle.paraid_core.proofs.ReadsLemmas.{knows_named, through_last}
@@ -97,6 +99,11 @@ both_of Q R old new one two t tells =
 -- what a commit promises of its moments, and of its end, for the meta that stood before
 abbrev pub AtEach : Meta → Batch → Meta → Disks → List Call → Type 0
 AtEach after batch before start calls = IsAtRest start before → IsNext start before after → Through (IsOldOrNew start before after batch) start calls
+
+-- nothing loose makes no difference to witnesses
+still_true : (s : Disks) (o : Option ℕ) → AreWitnessesTrue (record s { loose = λ d p. false }) o → AreWitnessesTrue s o
+unfolding stored_block
+still_true s o holds = holds
 
 abbrev pub AtLast : Meta → Batch → Meta → Disks → List Call → Type 0
 AtLast after batch before start calls = IsAtRest start before → IsNext start before after → IsCommitted start (run start calls) before after batch
@@ -158,6 +165,9 @@ module _ (slots : ℕ) (named : Option ℕ) (m : Meta) (table : List (List Bool)
         let a = k.copies.low in let b = k.copies.high in let c = k.writes in
         record { low = omega arith; high = omega arith; content = staged_then }
 
+    pub began : AreWitnessesTrue s (out_disk s.power k.base)
+    began = witnesses_now slots k.base k.held h lo s k.copies
+
     either_down : (u : Disks) (down : Option ℕ) → ((d : ℕ) → d < m.setup.geometry.disks → is_present (u.power d) ≡ false → down ≡ Some d)
         → ((d : ℕ) → or_else named (named_out m.out) ≡ Some d → down ≡ Some d) → (d : ℕ) → IsEitherMissing u.power k.base after d → down ≡ Some d
     either_down u down absent known d (inl missing) = elim missing.is [
@@ -174,7 +184,7 @@ module _ (slots : ℕ) (named : Option ℕ) (m : Meta) (table : List (List Bool)
         through_map (IsOldOrNew s k.base after batch) P
         (λ u moment. record {
           held = λ down absent known.
-              held_commits slots s k.base after batch h lo (holds_now slots k.base k.held h lo s k.copies) holds_then u down (either_down u down absent known) moment;
+              held_commits slots s k.base after batch h lo (holds_now slots k.base k.held h lo s k.copies) holds_then began u down (either_down u down absent known) moment;
         }) s cs th
 
   pub commit_moments : (old new : Option Trail) → ((before : Meta) → named ≡ named_out before.out → IsWholeOrAbsent old new before after batch)
@@ -214,7 +224,7 @@ module _ (slots : ℕ) (named : Option ℕ) (m : Meta) (table : List (List Bool)
       (alone : (d x : ℕ) → lost ≡ Some d → named_out m.out ≡ Some x → x ≡ d)
       (power : (x : ℕ) → x < m.setup.geometry.disks → lost ≢ Some x → t.power x ≡ s.power x) (size : (x : ℕ) → x < m.setup.geometry.disks → lost ≢ Some x → t.size x ≡ s.size x)
       (absent : (d : ℕ) → d < m.setup.geometry.disks → is_present (s.power d) ≡ false → named_out m.out ≡ Some d)
-      (absent_then : (d : ℕ) → d < m.setup.geometry.disks → is_present (t.power d) ≡ false → named_out (meta_with_lost lost m).out ≡ Some d) where
+      (absent_then : (d : ℕ) → d < m.setup.geometry.disks → is_present (t.power d) ≡ false → named_out (meta_with_lost lost m).out ≡ Some d) (borne_then : IsWitnessBorne (named_out m.out) t) where
     named_by_lost : (o : Option ℕ) → lost ≡ o → (x : ℕ) → named_out m.out ≡ Some x → named_out (meta_with_lost o m).out ≡ Some x
     named_by_lost None is x k = k
     named_by_lost (Some d) is x k = ap Some (sym (alone d x is k))
@@ -247,11 +257,21 @@ module _ (slots : ℕ) (named : Option ℕ) (m : Meta) (table : List (List Bool)
     stands : ImageStandsFor s i after batch
     stands = done.images.whole i image one_missing
 
+    keeps : (y : ℕ) (said : LogState) → Stands i y said → AreWitnessesTrue i (out_disk i.power said.meta)
+    keeps = done.witnesses.whole i image one_missing (began s k)
+
     sound : IsSoundFrom slots i h lo
-    sound = stands_sound slots s i after batch h lo (holds_then s k) stands
+    sound = stands_sound slots s i after batch h lo (holds_then s k) stands (keeps stands.disk stands.said stands.log.stands)
+
+    stands_rest : Stands i rest_then.disk (closed_over after)
+    stands_rest = stands_alike t i rest_then.disk (closed_over after)
+        (record { power = λ d. refl; size = λ d. refl; block = λ d p there. refl; loose = λ d p there. sym (rest_then.synced d p there.present) }) rest_then.log.stands
+
+    true_then : AreWitnessesTrue t (out_disk t.power after)
+    true_then = still_true t (out_disk t.power after) (keeps rest_then.disk (closed_over after) stands_rest)
 
     said_is : sound.sound.said ≡ closed_over after
-    said_is = let c = copying_from_rest t after rest_then i image in (Stands-same i sound.sound.disk c.disk sound.sound.said (closed_over after) sound.sound.log.stands c.log.stands).1
+    said_is = (Stands-same i sound.sound.disk rest_then.disk sound.sound.said (closed_over after) sound.sound.log.stands stands_rest).1
 
     writes_are : sound.k ≡ m.writes
     writes_are = sym sound.sound.log.writes ∙ ap (λ (z : LogState). z.meta.writes) said_is
@@ -269,7 +289,7 @@ module _ (slots : ℕ) (named : Option ℕ) (m : Meta) (table : List (List Bool)
     copies_then : HoldsWithCopies slots after (contents t []) h (length h) t
     copies_then =
         let w = k.writes in
-        record { copying = copying_from_rest t after rest_then; low = omega arith; high = omega arith; content = content }
+        record { copying = copying_from_rest t after rest_then true_then; low = omega arith; high = omega arith; content = content }
 
     next_then : (o : Option ℕ) → lost ≡ o → IsNext t after (record (meta_with_lost o after) { epoch = last + 1 + 1 })
     next_then None is = next_same t after (record after { epoch = last + 1 + 1 }) refl refl rest_then refl
@@ -304,7 +324,7 @@ module _ (slots : ℕ) (named : Option ℕ) (m : Meta) (table : List (List Bool)
     contents_then = contents_by stands.said.batch (ap (λ (z : LogState). z.batch) (Stands_batch)) stands.blocks
       where
         Stands_batch : stands.said ≡ closed_over after
-        Stands_batch = let c = copying_from_rest t after rest_then i image in (Stands-same i stands.disk c.disk stands.said (closed_over after) stands.log.stands c.log.stands).1
+        Stands_batch = (Stands-same i stands.disk rest_then.disk stands.said (closed_over after) stands.log.stands stands_rest).1
 
     was_out : (e : ℕ) → lost ≡ Some e → (named_out m.out ≡ None) ⊎ (named_out m.out ≡ Some e)
     was_out e is = by (named_out m.out) refl
@@ -364,6 +384,7 @@ module _ (slots : ℕ) (named : Option ℕ) (m : Meta) (table : List (List Bool)
       copies = copies_then;
       synced = λ x p here is. done.synced x p here;
       named_by = refl;
+      borne = borne_then;
       epoch = refl;
       next = next_keeps None is;
       writes = k.writes;
@@ -377,6 +398,7 @@ module _ (slots : ℕ) (named : Option ℕ) (m : Meta) (table : List (List Bool)
       copies = copies_then;
       synced = λ x p here is. done.synced x p here;
       named_by = refl;
+      borne = borne_then;
       epoch = refl;
       next = next_keeps (Some d) is;
       writes = k.writes;
@@ -421,12 +443,21 @@ module _ (slots : ℕ) (named : Option ℕ) (m : Meta) (table : List (List Bool)
       (later : (s : Trail) → new ≡ Some s → Agrees (now s) later_slot) (lost : Option ℕ) (known : (x d : ℕ) → named ≡ Some x → named_out (meta_with_lost lost m).out ≡ Some d → x ≡ d) (low : (d : ℕ) → lost ≡ Some d → d < m.setup.geometry.disks)
       (only : IsLostOnly m.setup.geometry.disks lost slot later_slot) (alone : (d x : ℕ) → lost ≡ Some d → named_out m.out ≡ Some x → x ≡ d)
       (absent : (d : ℕ) → d < m.setup.geometry.disks → is_present (slot d).power ≡ false → named_out m.out ≡ Some d)
-      (absent_then : (d : ℕ) → d < m.setup.geometry.disks → is_present (later_slot d).power ≡ false → named_out (meta_with_lost lost m).out ≡ Some d) where
+      (absent_then : (d : ℕ) → d < m.setup.geometry.disks → is_present (later_slot d).power ≡ false → named_out (meta_with_lost lost m).out ≡ Some d)
+      (can_bear : (x : ℕ) → x < 2 → named_out m.out ≡ Some x → CanWrite slot 2 1) where
+    -- the witness against a log disk that is named out then
+    borne_at : (s t : Disks) → Agrees s slot → (k : HoldsBetweenCalls slots named m table batch copied h lo s) → IsCommitted s t k.base after batch → IsWitnessBorne (named_out m.out) t
+    borne_at s t agrees k done x l names =
+        let can = can_bear x l names in
+        done.borne x l names (λ was. k.borne x l (sym k.named_by ∙ was)) (λ here.
+        let there = ap is_present (sym (agrees.power 2)) ∙ here in
+        (agrees.power 2 ∙ can.spins there, subst (λ (z : ℕ). 1 < z) (sym (agrees.size 2)) (can.within there)))
+
     commit_runs : (Q : Disks → Type 0)
         → ((s t : Disks) (k : HoldsBetweenCalls slots named m table batch copied h lo s) → IsCommitted s t k.base after batch → ((d : ℕ) → lost ≡ Some d → t.power d ≡ Absent)
         → ((x : ℕ) → x < m.setup.geometry.disks → lost ≢ Some x → t.power x ≡ s.power x) → ((x : ℕ) → x < m.setup.geometry.disks → lost ≢ Some x → t.size x ≡ s.size x)
         → ((d : ℕ) → d < m.setup.geometry.disks → is_present (s.power d) ≡ false → named_out m.out ≡ Some d)
-        → ((d : ℕ) → d < m.setup.geometry.disks → is_present (t.power d) ≡ false → named_out (meta_with_lost lost m).out ≡ Some d) → Q t)
+        → ((d : ℕ) → d < m.setup.geometry.disks → is_present (t.power d) ≡ false → named_out (meta_with_lost lost m).out ≡ Some d) → IsWitnessBorne (named_out m.out) t → Q t)
         → ((before : Meta) → named ≡ named_out before.out → IsWholeOrAbsent old new before after batch) → ((before : Meta) → named ≡ named_out before.out → EndsCommitted old new before after batch)
         → Ran old new (CrashTriple P (HoldsBetweenCalls slots named m table batch copied h lo) Q)
     commit_runs Q go each last t tells =
@@ -444,12 +475,14 @@ module _ (slots : ℕ) (named : Option ℕ) (m : Meta) (table : List (List Bool)
           holds = record {
             goes = λ k.
                 let at_rest = rest (now r.from) k in
-                let after_it = next (now r.from) k in (
+                let after_it = next (now r.from) k in
+                let done = r.holds.1 k.base (sym k.named_by) at_rest after_it in (
                   commit_through (now r.from) k r.calls (r.holds.0 k.base (sym k.named_by) at_rest after_it),
-                  go (now r.from) (run (now r.from) r.calls) k (r.holds.1 k.base (sym k.named_by) at_rest after_it)
+                  go (now r.from) (run (now r.from) r.calls) k done
                       (λ d is. b.power d ∙ only.gone d is)
                       (λ x lx not. b.power x ∙ only.power x lx not ∙ sym (a.power x)) (λ x lx not. b.size x ∙ only.size x lx not ∙ sym (a.size x))
-                      (λ d ld g. absent d ld (ap is_present (sym (a.power d)) ∙ g)) (λ d ld g. absent_then d ld (ap is_present (sym (b.power d)) ∙ g)),
+                      (λ d ld g. absent d ld (ap is_present (sym (a.power d)) ∙ g)) (λ d ld g. absent_then d ld (ap is_present (sym (b.power d)) ∙ g))
+                      (borne_at (now r.from) (run (now r.from) r.calls) a k done),
                 );
           };
         }
@@ -458,39 +491,39 @@ module _ (slots : ℕ) (named : Option ℕ) (m : Meta) (table : List (List Bool)
         → ((before : Meta) → named ≡ named_out before.out → IsWholeOrAbsent old new before after batch) → ((before : Meta) → named ≡ named_out before.out → EndsCommitted old new before after batch)
         → Ran old new (CrashTriple P (HoldsBetweenCalls slots named m table batch copied h lo) (HoldsBetweenCalls slots_then named_then m_then table batch_then copied h (length h)))
     commit_stands slots_then named_then m_then batch_then es en em eb each last =
-        commit_runs (HoldsBetweenCalls slots_then named_then m_then table batch_then copied h (length h)) (λ s t k done gone power size absent_at absent_now.
+        commit_runs (HoldsBetweenCalls slots_then named_then m_then table batch_then copied h (length h)) (λ s t k done gone power size absent_at absent_now borne_now.
         subst (λ (z : ℕ). HoldsBetweenCalls z named_then m_then table batch_then copied h (length h) t) (sym es)
         (subst (λ (z : Option ℕ). HoldsBetweenCalls slots z m_then table batch_then copied h (length h) t) (sym en)
         (subst (λ (z : Meta). HoldsBetweenCalls slots (named_out m.out) z table batch_then copied h (length h) t) (sym em)
         (subst (λ (z : Batch). HoldsBetweenCalls slots (named_out m.out) (meta_with_lost lost after) table z copied h (length h) t) (sym eb)
-        (keeps_then s t k done lost known low gone alone power size absent_at absent_now))))) each last
+        (keeps_then s t k done lost known low gone alone power size absent_at absent_now borne_now))))) each last
 
     -- with nothing staged over it
     pub commit_filled : (slots_then : ℕ) (named_then : Option ℕ) (m_then : Meta) → slots_then ≡ slots → named_then ≡ named_out m.out → m_then ≡ meta_with_lost lost after
         → ((before : Meta) → named ≡ named_out before.out → IsWholeOrAbsent old new before after batch) → ((before : Meta) → named ≡ named_out before.out → EndsCommitted old new before after batch)
         → Ran old new (CrashTriple P (HoldsBetweenCalls slots named m table batch copied h lo) (KeepsFilled slots_then named_then m_then table copied h (length h) m_then.fill))
     commit_filled slots_then named_then m_then es en em each last =
-        commit_runs (KeepsFilled slots_then named_then m_then table copied h (length h) m_then.fill) (λ s t k done gone power size absent_at absent_now.
+        commit_runs (KeepsFilled slots_then named_then m_then table copied h (length h) m_then.fill) (λ s t k done gone power size absent_at absent_now borne_now.
         subst (λ (z : ℕ). KeepsFilled z named_then m_then table copied h (length h) m_then.fill t) (sym es)
         (subst (λ (z : Option ℕ). KeepsFilled slots z m_then table copied h (length h) m_then.fill t) (sym en)
         (subst (λ (z : Meta). KeepsFilled slots (named_out m.out) z table copied h (length h) z.fill t) (sym em)
-        (filled_then s t k done lost known low gone alone power size absent_at absent_now)))) each last
+        (filled_then s t k done lost known low gone alone power size absent_at absent_now borne_now)))) each last
 
     -- with what it says of the disk that is out
     pub commit_marked : (slots_then : ℕ) (named_then : Option ℕ) (m_then : Meta) → slots_then ≡ slots → named_then ≡ named_out m.out → m_then ≡ meta_with_lost lost after
         → ((before : Meta) → named ≡ named_out before.out → IsWholeOrAbsent old new before after batch) → ((before : Meta) → named ≡ named_out before.out → EndsCommitted old new before after batch)
         → Ran old new (CrashTriple P (HoldsBetweenCalls slots named m table batch copied h lo) (KeepsCommitted slots_then named_then m_then table copied h (length h) m.out))
     commit_marked slots_then named_then m_then es en em each last =
-        commit_runs (KeepsCommitted slots_then named_then m_then table copied h (length h) m.out) (λ s t k done gone power size absent_at absent_now.
+        commit_runs (KeepsCommitted slots_then named_then m_then table copied h (length h) m.out) (λ s t k done gone power size absent_at absent_now borne_now.
         subst (λ (z : ℕ). KeepsCommitted z named_then m_then table copied h (length h) m.out t) (sym es)
         (subst (λ (z : Option ℕ). KeepsCommitted slots z m_then table copied h (length h) m.out t) (sym en)
         (subst (λ (z : Meta). KeepsCommitted slots (named_out m.out) z table copied h (length h) m.out t) (sym em)
-        (marked_then s t k done lost known low gone alone power size absent_at absent_now)))) each last
+        (marked_then s t k done lost known low gone alone power size absent_at absent_now borne_now)))) each last
 
     -- and the disks are at rest under it
     pub commit_rests : ((before : Meta) → named ≡ named_out before.out → IsWholeOrAbsent old new before after batch) → ((before : Meta) → named ≡ named_out before.out → EndsCommitted old new before after batch)
         → Ran old new (λ start calls. HoldsBetweenCalls slots named m table batch copied h lo start → IsAtRest (run start calls) (record m { epoch = m.epoch + 1 }))
     commit_rests each last t tells =
-        let r = commit_runs (λ u. IsAtRest u (record m { epoch = m.epoch + 1 })) (λ s t k done gone power size absent_at absent_now.
-        subst (λ (z : ℕ). IsAtRest t (record m { epoch = z + 1 })) (sym epoch_is) (rest_then s t k done lost known low gone alone power size absent_at absent_now)) each last t tells in
+        let r = commit_runs (λ u. IsAtRest u (record m { epoch = m.epoch + 1 })) (λ s t k done gone power size absent_at absent_now borne_now.
+        subst (λ (z : ℕ). IsAtRest t (record m { epoch = z + 1 })) (sym epoch_is) (rest_then s t k done lost known low gone alone power size absent_at absent_now borne_now)) each last t tells in
         record { from = r.from; was = r.was; calls = r.calls; is = r.is; holds = λ k. (r.holds.goes k).1 }

@@ -30,8 +30,9 @@ use Rattle.paraid_moves.specs.MoveMetas.{view_with_out}
 use Rattle.paraid_moves.proofs.FreePlaceLemmas.{content_laid, dirty_agrees, free_places_agree}
 use Rattle.paraid_moves.proofs.MoveLemmas.{all_in}
 use Rattle.paraid_moves.proofs.RunLemmas.{copies_write}
-use Rattle.paraid_core.specs.CoreInvariant.{HoldsBetweenCalls, is_copied}
+use Rattle.paraid_core.specs.CoreInvariant.{HoldsBetweenCalls, IsWitnessBorne, is_copied}
 use Rattle.paraid_core.specs.Steps.{IsMarkedAt, IsStillOut}
+use Rattle.paraid_core.proofs.BorneLemmas.{borne_written}
 use Rattle.paraid_core.proofs.CallLemmas.{contents_still}
 use Rattle.paraid_core.proofs.LostDiskLemmas.{none_absent, out_all}
 use Rattle.paraid_core.proofs.MomentLemmas.{base_in_range}
@@ -150,6 +151,9 @@ module _ (slots : ℕ) (named : Option ℕ) (m : Meta) (table : List (List Bool)
       | inr apart ↦ ap (λ (l : ℕ → Bool). l q) (with_at_other s.loose e (with_at (s.loose e) p true) x apart) ∙ k.synced x q here (λ l. sym (marks.others x apart) ∙ synced l)
     ]
 
+    pub borne_then : IsWitnessBorne named u
+    borne_then = subst (IsWitnessBorne named) (write_free_is s e p b) (borne_written named s k.borne e p b true (omega arith))
+
     unfoldable pub keeps_free_write : HoldsBetweenCalls slots named m table [] copied_then h lo u
     keeps_free_write = record {
       base = k.base;
@@ -157,6 +161,7 @@ module _ (slots : ℕ) (named : Option ℕ) (m : Meta) (table : List (List Bool)
       copies = copies_then;
       synced = synced_then;
       named_by = k.named_by;
+      borne = borne_then;
       epoch = k.epoch;
       next = record {
         epoch = k.next.epoch;

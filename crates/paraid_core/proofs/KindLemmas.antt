@@ -22,7 +22,7 @@ use Rattle.paraid_record.specs.declared.meta.Setup.{Setup}
 use Rattle.paraid_image.specs.Out.{named_out, or_else}
 use Rattle.paraid_image.specs.Sides.{Batch}
 use Rattle.paraid_txn.specs.Commit.{gone_out}
-use Rattle.paraid_txn.specs.Uses.{EachCall, Uses, UsesLog, UsesTarget}
+use Rattle.paraid_txn.specs.Uses.{EachCall, UsesInCommit, UsesLog, UsesTarget, UsesWitness}
 use Rattle.paraid_view.specs.Reads.{AreArrayReads, AreOffDisk}
 use Rattle.paraid_core.specs.Calls.{IsCopySync, IsDataCall, IsOneCall, IsTransferCall}
 use Rattle.paraid_core.specs.CoreInvariant.{is_copied, meta_with_lost}
@@ -84,8 +84,19 @@ uses_target m batch (Park d done) low is = absurd is
 uses_target m batch (SpinUp d done) low is = absurd is
 uses_target m batch (Attach d size done) low is = absurd is
 
-pub uses_transfer : (m : Meta) (batch : Batch) (c : Call) → Uses m batch c → IsTransferCall m.setup.geometry.disks (gone_out m.out) c
-uses_transfer m batch c is = elim is.1 [ inl log ↦ uses_log m c is.0 log | inr target ↦ uses_target m batch c is.0 target ]
+uses_witness : (m : Meta) (c : Call) → UsesWitness m c → IsTransferCall m.setup.geometry.disks (gone_out m.out) c
+uses_witness m (Read d p done) is = absurd is
+uses_witness m (Write d p b done) is = (subst (λ (x : ℕ). x < m.setup.geometry.disks) (sym is.0) is.1, λ away. is.2 (away ∙ ap Some is.0), tt)
+uses_witness m (Sync d done) is = (subst (λ (x : ℕ). x < m.setup.geometry.disks) (sym is.0) is.1, λ away. is.2 (away ∙ ap Some is.0), tt)
+uses_witness m (Park d done) is = absurd is
+uses_witness m (SpinUp d done) is = absurd is
+uses_witness m (Attach d size done) is = absurd is
+
+pub uses_transfer : (m : Meta) (batch : Batch) (c : Call) → UsesInCommit m batch c → IsTransferCall m.setup.geometry.disks (gone_out m.out) c
+uses_transfer m batch c is = elim is [
+  | inl of ↦ elim of.1 [ inl log ↦ uses_log m c of.0 log | inr target ↦ uses_target m batch c of.0 target ]
+  | inr witness ↦ uses_witness m c witness
+]
 
 -- a call between two commits is one that a commit may make
 pub data_transfer : (n : ℕ) (away : Option ℕ) (c : Call) → IsDataCall n away c → IsTransferCall n away c

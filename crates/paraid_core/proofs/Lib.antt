@@ -20,6 +20,7 @@ pub mod CleanLemmas
 mod BitsLemmas
 pub mod ErrLemmas
 pub mod UnsyncedLemmas
+mod BorneLemmas
 pub mod CallLemmas
 pub mod SettleLemmas
 pub mod StepLemmas

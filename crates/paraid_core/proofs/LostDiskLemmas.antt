@@ -35,6 +35,7 @@ use Rattle.paraid_moves.proofs.RunLemmas.{copies_lost}
 use Rattle.paraid_plan.specs.LossMark.{IsLostDisk}
 use Rattle.paraid_plan.proofs.LostLemmas.{lost_keeps}
 use Rattle.paraid_core.specs.CoreInvariant.{HoldsBetweenCalls, is_copied}
+use Rattle.paraid_core.proofs.BorneLemmas.{borne_failed}
 use Rattle.paraid_core.proofs.MomentLemmas.{base_in_range}
 
 pub lost_in_range : (m : Meta) (d : ℕ) → IsInRange m → d < m.setup.geometry.disks → IsInRange (meta_after_loss m d)
@@ -172,6 +173,7 @@ module _ (slots : ℕ) (named : Option ℕ) (m : Meta) (table : List (List Bool)
     copies = copies_after;
     synced = synced_after;
     named_by = k.named_by;
+    borne = borne_failed named s k.borne c failed;
     epoch = k.epoch;
     next = next_after;
     writes = k.writes;

@@ -154,6 +154,7 @@ module _ (slots : ℕ) (named : Option ℕ) (m : Meta) (table table_then : List 
     copies = k.copies;
     synced = k.synced;
     named_by = k.named_by;
+    borne = k.borne;
     epoch = k.epoch;
     next = k.next;
     writes = k.writes;

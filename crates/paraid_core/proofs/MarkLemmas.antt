@@ -48,6 +48,7 @@ module _ (m : Meta) (gear : ℕ) (phase : Phase) (fill ticks : ℕ) (spins : Lis
     copies = k.copies;
     synced = k.synced;
     named_by = k.named_by;
+    borne = k.borne;
     epoch = k.epoch;
     next = record {
       epoch = k.next.epoch;

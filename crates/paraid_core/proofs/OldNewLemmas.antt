@@ -19,18 +19,22 @@ use Rattle.paraid_image.proofs.CallLemmas.{read_images}
 use Rattle.paraid_image.proofs.FailedCallLemmas.{failed_is_loss}
 use Rattle.paraid_image.proofs.OutLemmas.{missing_is_out, says_in_range}
 use Rattle.paraid_image.proofs.StandingLemmas.{IsWeak-same}
-use Rattle.paraid_txn.specs.Commit.{ImageStandsFor, ImageStandsForEither, IsEitherMissing, IsOldOrNew, IsOneMissing}
+use Rattle.paraid_txn.specs.Commit.{ImageStandsFor, ImageStandsForEither, IsEachImage, IsEitherMissing, IsOldOrNew, IsOneMissing, KeepsWitnesses}
 use Rattle.paraid_view.specs.Reads.{AreArrayReads}
 use Rattle.paraid_core.proofs.ReadsLemmas.{through_last}
 
 -- images among those before
+fewer_images : (before after : Meta) (P : Disks → Type 0) (s t : Disks) → ((i : Disks) → IsImage t i → IsImage s i) → IsEachImage before after P s → IsEachImage before after P t
+fewer_images before after P s t fewer each = record {
+  whole = λ i image one. each.whole i (fewer i image) one;
+  lost = λ i d image one weak. each.lost i d (fewer i image) one weak;
+}
+
 fewer_old_or_new : (start : Disks) (before after : Meta) (batch : Batch) (s t : Disks) → ((i : Disks) → IsImage t i → IsImage s i) → IsOldOrNew start before after batch s → IsOldOrNew start before after batch t
 fewer_old_or_new start before after batch s t fewer it = record {
-  images = record {
-    whole = λ i image one. it.images.whole i (fewer i image) one;
-    lost = λ i d image one weak. it.images.lost i d (fewer i image) one weak;
-  };
+  images = fewer_images before after (ImageStandsForEither start before after batch) s t fewer it.images;
   weak = λ i w image one weak. it.weak i w (fewer i image) one weak;
+  witnesses = fewer_images before after (KeepsWitnesses start before) s t fewer it.witnesses;
 }
 
 -- a read that failed
@@ -92,11 +96,15 @@ module _ (start : Disks) (before after : Meta) (batch : Batch) (same : after.set
   one_then : (j : Disks) → IsImage t j → IsOneMissing j.power before after → IsOneMissing s.power before after
   one_then j e one = record { one = λ x y p q. one.one x y (either_still j e x p) (either_still j e y q) }
 
-  whole_now : (j : Disks) → IsImage t j → IsOneMissing j.power before after → ImageStandsForEither start before after batch j
-  whole_now j e one =
-      subst (ImageStandsForEither start before after batch) (is_lost j e)
-      (it.images.lost (found j) d (found_is j e) (one_then j e one)
+  -- what each image had with a disk lost
+  lost_now : (Q : Disks → Type 0) → IsEachImage before after Q s → (j : Disks) → IsImage t j → IsOneMissing j.power before after → Q j
+  lost_now Q each j e one =
+      subst Q (is_lost j e)
+      (each.lost (found j) d (found_is j e) (one_then j e one)
       (λ w weak. one.one w d (either_still j e w (it.weak (found j) w (found_is j e) (one_then j e one) weak)) (either_here j e)))
+
+  whole_now : (j : Disks) → IsImage t j → IsOneMissing j.power before after → ImageStandsForEither start before after batch j
+  whole_now j e one = lost_now (ImageStandsForEither start before after batch) it.images j e one
 
   weak_by : (j : Disks) → IsImage t j → (m : Meta) (b : Batch) → m.setup ≡ before.setup → ImageStandsFor start j m b → IsWeak j d
   weak_by j e m b shape stands =
@@ -128,16 +136,19 @@ module _ (start : Disks) (before after : Meta) (batch : Batch) (same : after.set
         | inr apart ↦ with_at_other j.size d 0 x apart
       ]
 
+  failed_images : (Q : Disks → Type 0) → IsEachImage before after Q s → IsEachImage before after Q t
+  failed_images Q each = record {
+    whole = λ j image one. lost_now Q each j image one;
+    lost = λ j f image one weak.
+        let here : d ≡ f = weak d (weak_here j image one) in
+        subst (λ (y : ℕ). Q (lose y j)) here (subst Q (sym (lost_again j image)) (lost_now Q each j image one));
+  }
+
   pub failed_old_or_new : IsOldOrNew start before after batch t
   failed_old_or_new = record {
-    images = record {
-      whole = λ j image one. whole_now j image one;
-      lost = λ j f image one weak.
-          let here : d ≡ f = weak d (weak_here j image one) in
-          subst (λ (y : ℕ). ImageStandsForEither start before after batch (lose y j)) here
-          (subst (ImageStandsForEither start before after batch) (sym (lost_again j image)) (whole_now j image one));
-    };
+    images = failed_images (ImageStandsForEither start before after batch) it.images;
     weak = λ j w image one weak. subst (IsEitherMissing j.power before after) (IsWeak-same j d w (weak_here j image one) weak) (either_here j image);
+    witnesses = failed_images (KeepsWitnesses start before) it.witnesses;
   }
 
 reads_old_or_new : (start : Disks) (before after : Meta) (batch : Batch) → after.setup ≡ before.setup → (s : Disks) (cs : List Call) → AreArrayReads before.setup.geometry.disks s cs

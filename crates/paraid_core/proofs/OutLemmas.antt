@@ -118,6 +118,7 @@ module _ (m : Meta) (named : Option ℕ) (d : ℕ) (in_range : IsInRange m) (low
       copies = k.copies;
       synced = k.synced;
       named_by = k.named_by;
+      borne = k.borne;
       epoch = k.epoch;
       next = next_after;
       writes = k.writes;

@@ -36,6 +36,7 @@ use Rattle.paraid_core.specs.declared.staged.Core.{Core}
 use Rattle.paraid_core.specs.CoreInvariant.{AreSlotsReady, CanServe, HoldsBetweenCalls}
 use Rattle.paraid_core.specs.Cores.{IsCoreHeldSinceCommit}
 use Rattle.paraid_core.specs.Fills.{Filled, KeepsFilled}
+use Rattle.paraid_core.proofs.BorneLemmas.{borne_turned}
 use Rattle.paraid_core.proofs.CallLemmas.{failed_held, keeps_held}
 use Rattle.paraid_core.proofs.SettleLemmas.{self_at}
 
@@ -94,6 +95,7 @@ module _ (slots : ℕ) (named : Option ℕ) (m : Meta) (table : List (List Bool)
         (λ n is. not_out (kf.shift.fresh d n is)) k.copies);
     synced = λ x p present synced. k.synced x p (sym (there x) ∙ present) synced;
     named_by = k.named_by;
+    borne = borne_turned named s k.borne u turned;
     epoch = k.epoch;
     next = record {
       epoch = k.next.epoch;

@@ -46,6 +46,25 @@ none_some d is = cc
 pub some_is : (d e : ℕ) → Some d ≡ Some e → d ≡ e
 some_is d e is = cc
 
+-- where disk 2 is not named out, a witness can be written
+module _ (count : ℕ) (slot : ℕ → Slot) (last array : ℕ) (named : Option ℕ) (m : Meta) (rows : ℕ) (batch : Batch) (ready : AreSlotsReady count slot last array named m rows batch) where
+  low_two : 2 < m.gear
+  low_two = let g = m.setup.geometry.gears_low m.gear ready.in_range.gear in omega arith
+
+  pub can_write_witness : named_out m.out ≢ Some 2 → CanWrite slot 2 1
+  can_write_witness not = record {
+    spins = λ here. ready.spins 2 low_two not;
+    within = λ here. let large = ready.large 2 low_two not in omega arith;
+  }
+
+  -- so it is where a log disk comes in again
+  pub can_take_back : (x : ℕ) → x < 2 → named ≡ Some x → named_out m.out ≢ Some x → CanWrite slot 2 1
+  can_take_back x low was not = can_write_witness (λ is. let same = ready.one x 2 was is in absurd (omega arith))
+
+  -- and where one is named out
+  pub can_bear : (x : ℕ) → x < 2 → named_out m.out ≡ Some x → CanWrite slot 2 1
+  can_bear x low names = can_write_witness (λ is. let same = some_is x 2 (sym names ∙ is) in absurd (omega arith))
+
 module _ (count : ℕ) (slot new : ℕ → Slot) (last array : ℕ) (named : Option ℕ) (m : Meta) (rows : ℕ) (batch : Batch) (ready : AreSlotsReady count slot last array named m rows batch)
     (in_array : (t : Target) → IsTargetInRange m.setup.geometry t → t.disk < m.setup.geometry.disks) where
   abbrev n : ℕ

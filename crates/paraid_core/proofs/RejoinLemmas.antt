@@ -116,6 +116,7 @@ module _ (slots : ℕ) (named : Option ℕ) (m : Meta) (table : List (List Bool)
       copies = k.copies;
       synced = k.synced;
       named_by = k.named_by;
+      borne = k.borne;
       epoch = k.epoch;
       next = next_then;
       writes = k.writes;

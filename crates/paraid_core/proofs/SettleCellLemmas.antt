@@ -18,10 +18,11 @@ use Rattle.paraid_moves.proofs.CopyCommitLemmas.{copying_sync}
 use Rattle.paraid_txn.specs.Stores.{named_of, store_rack}
 use Rattle.paraid_core.specs.declared.staged.Core.{Core}
 use Rattle.paraid_core.specs.CellCopies.{CellsCopied, KeepsCellCopies, StaysCopied}
-use Rattle.paraid_core.specs.CoreInvariant.{HoldsBetweenCalls, is_copied}
+use Rattle.paraid_core.specs.CoreInvariant.{HoldsBetweenCalls, IsWitnessBorne, is_copied}
 use Rattle.paraid_core.specs.Cores.{IsCoreHeldSinceCommit}
 use Rattle.paraid_core.specs.Fills.{IsShiftCommitted}
 use Rattle.paraid_core.specs.Steps.{IsCleared, LeavesCore}
+use Rattle.paraid_core.proofs.BorneLemmas.{borne_synced}
 use Rattle.paraid_core.proofs.CallLemmas.{contents_still, keeps_held, keeps_loose, keeps_marked, loose_base, marked_base}
 use Rattle.paraid_core.proofs.SettleLemmas.{place_synced, self_at}
 use Rattle.paraid_core.proofs.StepLemmas.{runs_then, unmarked}
@@ -51,10 +52,13 @@ module _ (slots : ℕ) (named : Option ℕ) (m : Meta) (table : List (List Bool)
         ap (λ (t : Disks). t.loose x p) (sym step_is)
         ∙ place_synced slots named m table batch copied copied_then h lo s d cleared kc.keeps x p (subst (λ (t : Disks). IsPresent t x) (sym step_is) here) copies_synced
 
+    borne : IsWitnessBorne named (record s { loose = dry })
+    borne = subst (IsWitnessBorne named) step_is (borne_synced named s kc.keeps.borne d true)
+
     cells_dry : KeepsCellCopies slots named m table batch copied_then h lo cells (record s { loose = dry })
     cells_dry = record {
-      keeps = keeps_loose slots named m table batch copied h lo copied_then s dry kc.keeps copying places;
-      shift = subst (λ (b : Meta). IsShiftCommitted b m) (sym (loose_base slots named m table batch copied h lo copied_then s dry kc.keeps copying places)) kc.shift;
+      keeps = keeps_loose slots named m table batch copied h lo copied_then s dry kc.keeps copying places borne;
+      shift = subst (λ (b : Meta). IsShiftCommitted b m) (sym (loose_base slots named m table batch copied h lo copied_then s dry kc.keeps copying places borne)) kc.shift;
       stored = subst (λ (f : Contents). AreCellsCopied (view_by m s.power f) cells) (sym (contents_still slots named m table batch copied h lo s dry)) kc.stored;
     }
 

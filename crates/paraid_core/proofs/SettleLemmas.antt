@@ -24,10 +24,11 @@ use Rattle.paraid_moves.specs.MoveMetas.{AreStripesCopied, view_with_out}
 use Rattle.paraid_moves.proofs.CopyCommitLemmas.{copying_sync}
 use Rattle.paraid_txn.specs.Stores.{named_of, store_rack}
 use Rattle.paraid_core.specs.declared.staged.Core.{Core}
-use Rattle.paraid_core.specs.CoreInvariant.{HoldsBetweenCalls, is_copied}
+use Rattle.paraid_core.specs.CoreInvariant.{HoldsBetweenCalls, IsWitnessBorne, is_copied}
 use Rattle.paraid_core.specs.Cores.{IsCoreHeldSinceCommit}
 use Rattle.paraid_core.specs.Fills.{Filled, IsShiftCommitted, KeepsFilled}
 use Rattle.paraid_core.specs.Steps.{IsCleared}
+use Rattle.paraid_core.proofs.BorneLemmas.{borne_synced}
 use Rattle.paraid_core.proofs.CallLemmas.{contents_still, keeps_held, keeps_loose, keeps_marked, keeps_still, loose_base, marked_base}
 use Rattle.paraid_core.proofs.LostDiskLemmas.{keeps_failed}
 
@@ -61,7 +62,7 @@ module _ (slots : ℕ) (named : Option ℕ) (m : Meta) (table : List (List Bool)
 
   synced : HoldsBetweenCalls slots named m table batch copied_then h lo (step (Sync d true) s)
   unfolding step
-  synced = keeps_still slots named m table batch copied h lo copied_then s (step (Sync d true) s) (self_at s.power d) (self_at s.size d) refl k (copying_sync s k.base k.held d k.copies.copying) place_synced
+  synced = keeps_still slots named m table batch copied h lo copied_then s (step (Sync d true) s) (self_at s.power d) (self_at s.size d) refl k (copying_sync s k.base k.held d k.copies.copying) place_synced (borne_synced named s k.borne d true)
 
   pub keeps_synced : (done : Bool) → done ≡ true → HoldsBetweenCalls slots named m table batch copied_then h lo (step (Sync d done) s)
   keeps_synced done is = subst (λ (b : Bool). HoldsBetweenCalls slots named m table batch copied_then h lo (step (Sync d b) s)) (sym is) synced
@@ -124,10 +125,13 @@ module _ (slots : ℕ) (named : Option ℕ) (m : Meta) (table : List (List Bool)
         ap (λ (t : Disks). t.loose x p) (sym step_is)
         ∙ place_synced slots named m table [] copied copied_then h lo s d cleared kf.keeps x p (subst (λ (t : Disks). IsPresent t x) (sym step_is) here) copies_synced
 
+    borne : IsWitnessBorne named (record s { loose = dry })
+    borne = subst (IsWitnessBorne named) step_is (borne_synced named s kf.keeps.borne d true)
+
     filled_dry : KeepsFilled slots named m table copied_then h lo end (record s { loose = dry })
     filled_dry = record {
-      keeps = keeps_loose slots named m table [] copied h lo copied_then s dry kf.keeps copying places;
-      shift = subst (λ (b : Meta). IsShiftCommitted b m) (sym (loose_base slots named m table [] copied h lo copied_then s dry kf.keeps copying places)) kf.shift;
+      keeps = keeps_loose slots named m table [] copied h lo copied_then s dry kf.keeps copying places borne;
+      shift = subst (λ (b : Meta). IsShiftCommitted b m) (sym (loose_base slots named m table [] copied h lo copied_then s dry kf.keeps copying places borne)) kf.shift;
       filled = subst (λ (f : Contents). AreStripesCopied (view_with_out m None f) end) (sym (contents_still slots named m table [] copied h lo s dry)) kf.filled;
     }
 

@@ -17,11 +17,12 @@ use Rattle.paraid_moves.specs.Copying.{IsCopying}
 use Rattle.paraid_moves.proofs.CopyCommitLemmas.{copying_sync}
 use Rattle.paraid_txn.specs.Stores.{named_of, store_rack}
 use Rattle.paraid_core.specs.declared.staged.Core.{Core}
-use Rattle.paraid_core.specs.CoreInvariant.{HoldsBetweenCalls, is_copied, meta_with_lost}
+use Rattle.paraid_core.specs.CoreInvariant.{HoldsBetweenCalls, IsWitnessBorne, is_copied, meta_with_lost}
 use Rattle.paraid_core.specs.Cores.{IsCoreHeldSinceCommit}
 use Rattle.paraid_core.specs.Fills.{IsShiftCommitted}
 use Rattle.paraid_core.specs.Steps.{IsCleared, IsMarkedFrom, LeavesCore}
 use Rattle.paraid_core.specs.Units.{KeepsRebuilt, StaysRebuilt, UnitsRebuilt}
+use Rattle.paraid_core.proofs.BorneLemmas.{borne_synced}
 use Rattle.paraid_core.proofs.CallLemmas.{contents_still, keeps_held, keeps_loose, keeps_marked, loose_base, marked_base}
 use Rattle.paraid_core.proofs.SettleLemmas.{place_synced, self_at}
 use Rattle.paraid_core.proofs.StepLemmas.{runs_none, runs_then}
@@ -50,10 +51,13 @@ module _ (slots : ℕ) (named : Option ℕ) (m : Meta) (table : List (List Bool)
         ap (λ (t : Disks). t.loose x p) (sym step_is)
         ∙ place_synced slots named m table [] copied copied_then h lo s d cleared kr.keeps x p (subst (λ (t : Disks). IsPresent t x) (sym step_is) here) copies_synced
 
+    borne : IsWitnessBorne named (record s { loose = dry })
+    borne = subst (IsWitnessBorne named) step_is (borne_synced named s kr.keeps.borne d true)
+
     units_dry : KeepsRebuilt slots named m table copied_then h lo end (record s { loose = dry })
     units_dry = record {
-      keeps = keeps_loose slots named m table [] copied h lo copied_then s dry kr.keeps copying places;
-      shift = subst (λ (b : Meta). IsShiftCommitted b m) (sym (loose_base slots named m table [] copied h lo copied_then s dry kr.keeps copying places)) kr.shift;
+      keeps = keeps_loose slots named m table [] copied h lo copied_then s dry kr.keeps copying places borne;
+      shift = subst (λ (b : Meta). IsShiftCommitted b m) (sym (loose_base slots named m table [] copied h lo copied_then s dry kr.keeps copying places borne)) kr.shift;
       rebuilt = λ e units is. subst (λ (f : Contents). AreRebuilt (view_by m s.power f) e end) (sym (contents_still slots named m table [] copied h lo s dry)) (kr.rebuilt e units (record { is = is.is; present = is.present }));
     }
 

@@ -16,7 +16,7 @@ use Rattle.paraid_image.specs.Out.{named_out, or_else}
 use Rattle.paraid_image.specs.Sides.{Batch}
 use Rattle.paraid_image.proofs.OutLemmas.{named_below}
 use Rattle.paraid_txn.specs.Stores.{named_of, store_rack}
-use Rattle.paraid_txn.specs.Uses.{EachCall, Uses}
+use Rattle.paraid_txn.specs.Uses.{EachCall, UsesInCommit}
 use Rattle.paraid_core.specs.declared.staged.Core.{Core}
 use Rattle.paraid_core.specs.Cores.{IsCoreHeld, IsCoreHeldSinceCommit, IsCoreReady}
 use Rattle.paraid_core.specs.CoreInvariant.{IsHeldWithOneMissing}
@@ -35,14 +35,14 @@ power_away power e done d gone = elim (cases_eq d e) [
     by false is = refl
 
 -- no call of a commit brings a disk back
-uses_away : (m : Meta) (batch : Batch) (c : Call) (s : Disks) (d : ℕ) → Uses m batch c → is_present (s.power d) ≡ false → is_present ((step c s).power d) ≡ false
+uses_away : (m : Meta) (batch : Batch) (c : Call) (s : Disks) (d : ℕ) → UsesInCommit m batch c → is_present (s.power d) ≡ false → is_present ((step c s).power d) ≡ false
 unfolding step
 uses_away m batch (Read e p done) s d uses gone = power_away s.power e done d gone
 uses_away m batch (Write e p b done) s d uses gone = power_away s.power e done d gone
 uses_away m batch (Sync e done) s d uses gone = power_away s.power e done d gone
-uses_away m batch (Park e done) s d uses gone = elim uses.1 [ inl never ↦ absurd never | inr never ↦ absurd never ]
-uses_away m batch (SpinUp e done) s d uses gone = elim uses.1 [ inl never ↦ absurd never | inr never ↦ absurd never ]
-uses_away m batch (Attach e size done) s d uses gone = elim uses.1 [ inl never ↦ absurd never | inr never ↦ absurd never ]
+uses_away m batch (Park e done) s d uses gone = elim uses [ inl of ↦ elim of.1 [ inl never ↦ absurd never | inr never ↦ absurd never ] | inr never ↦ absurd never ]
+uses_away m batch (SpinUp e done) s d uses gone = elim uses [ inl of ↦ elim of.1 [ inl never ↦ absurd never | inr never ↦ absurd never ] | inr never ↦ absurd never ]
+uses_away m batch (Attach e size done) s d uses gone = elim uses [ inl of ↦ elim of.1 [ inl never ↦ absurd never | inr never ↦ absurd never ] | inr never ↦ absurd never ]
 
 module _ (slots n : ℕ) (named out : Option ℕ) (h : History) (lo : ℕ) (below : (d : ℕ) → out ≡ Some d → d < n) where
   abbrev Beside : Disks → Type 0
@@ -64,16 +64,16 @@ module _ (slots n : ℕ) (named out : Option ℕ) (h : History) (lo : ℕ) (belo
       by down absent known d None names is = elim (away d is) [ inl same ↦ known d same | inr gone ↦ absent d (below d is) gone ]
 
   module _ (m : Meta) (batch : Batch) where
-    through_since : (s : Disks) (cs : List Call) → IsAway s → EachCall (Uses m batch) s cs → Through Beside s cs → Through Since s cs
+    through_since : (s : Disks) (cs : List Call) → IsAway s → EachCall (UsesInCommit m batch) s cs → Through Beside s cs → Through Since s cs
     through_since s [] away each p = since_at s away p
     through_since s (c ∷ cs) away each p = (
       since_at s away p.0,
       through_since (step c s) cs (λ d is. elim (away d is) [ inl same ↦ inl same | inr gone ↦ inr (uses_away m batch c s d each.1 gone) ]) each.2 p.1,
     )
 
-    pub runs_since : (old new : Option Trail) (A B : Disks → Type 0) → ((t : Trail) → old ≡ Some t → IsAway (now t)) → Ran old new (EachCall (Uses m batch)) → Ran old new (CrashTriple Beside A B) → Ran old new (CrashTriple Since A B)
+    pub runs_since : (old new : Option Trail) (A B : Disks → Type 0) → ((t : Trail) → old ≡ Some t → IsAway (now t)) → Ran old new (EachCall (UsesInCommit m batch)) → Ran old new (CrashTriple Beside A B) → Ran old new (CrashTriple Since A B)
     runs_since old new A B away calls ran t tells =
-        let r = both_of (CrashTriple Beside A B) (EachCall (Uses m batch)) old new ran calls t tells in
+        let r = both_of (CrashTriple Beside A B) (EachCall (UsesInCommit m batch)) old new ran calls t tells in
         record {
           from = r.from;
           was = r.was;
@@ -84,7 +84,7 @@ module _ (slots n : ℕ) (named out : Option ℕ) (h : History) (lo : ℕ) (belo
 
 -- of a core
 module _ {R : Type 0} {g : _} (count : R → ℕ) (slot : R → ℕ → Slot) (told : R → Option Trail) (old : Core R g) (ready : IsCoreReady count slot old) (absent : IsNamedOrAbsent slot old)
-    (agrees : (t : Trail) → told (store_rack old.store) ≡ Some t → Agrees (now t) (slot (store_rack old.store))) (told_then : Option Trail) (calls : Ran (told (store_rack old.store)) told_then (EachCall (Uses old.meta old.batch)))
+    (agrees : (t : Trail) → told (store_rack old.store) ≡ Some t → Agrees (now t) (slot (store_rack old.store))) (told_then : Option Trail) (calls : Ran (told (store_rack old.store)) told_then (EachCall (UsesInCommit old.meta old.batch)))
     (h : History) (lo : ℕ) where
   pub core_since : (A B : Disks → Type 0) → Ran (told (store_rack old.store)) told_then (CrashTriple (IsCoreHeld count old h lo) A B)
       → Ran (told (store_rack old.store)) told_then (CrashTriple (IsCoreHeldSinceCommit count old h lo) A B)

@@ -48,7 +48,8 @@ use Rattle.paraid_core.specs.declared.staged.Core.{Core}
 use Rattle.paraid_core.specs.Fills.{Filled, Filling, IsFilling, KeepsFilled, member}
 use Rattle.paraid_core.specs.Cores.{IsCoreHeldSinceCommit}
 use Rattle.paraid_core.specs.Steps.{IsMarkedAt, LeavesCore}
-use Rattle.paraid_core.specs.CoreInvariant.{IsHeldWithOneMissing, HoldsBetweenCalls, is_copied}
+use Rattle.paraid_core.specs.CoreInvariant.{IsHeldWithOneMissing, IsWitnessBorne, HoldsBetweenCalls, is_copied}
+use Rattle.paraid_core.proofs.BorneLemmas.{borne_written}
 use Rattle.paraid_core.proofs.CallLemmas.{contents_still, failed_held, keeps_held, keeps_marked}
 use Rattle.paraid_core.proofs.LostDiskLemmas.{keeps_failed, out_all}
 use Rattle.paraid_core.proofs.SettleLemmas.{self_at}
@@ -152,6 +153,9 @@ module _ (slots : ℕ) (named : Option ℕ) (m : Meta) (table : List (List Bool)
     | inr apart ↦ ap (λ (l : ℕ → Bool). l q) (with_at_other s.loose e (with_at (s.loose e) p true) x apart) ∙ k.synced x q here (λ l. sym (marks.others x apart) ∙ synced l)
   ]
 
+  borne_then : IsWitnessBorne named u
+  borne_then = subst (IsWitnessBorne named) step_is (borne_written named s k.borne e p b true (omega arith))
+
   keeps_then : HoldsBetweenCalls slots named m table [] copied_then h lo u
   keeps_then = record {
     base = k.base;
@@ -159,6 +163,7 @@ module _ (slots : ℕ) (named : Option ℕ) (m : Meta) (table : List (List Bool)
     copies = copies_then;
     synced = synced_then;
     named_by = k.named_by;
+    borne = borne_then;
     epoch = k.epoch;
     next = record {
       epoch = k.next.epoch;

@@ -71,6 +71,7 @@ keeps_bits slots named m m_then table table_then batch batch_then copied copied_
       copies = k.copies;
       synced = k.synced;
       named_by = k.named_by;
+      borne = k.borne;
       epoch = k.epoch;
       next = k.next;
       writes = k.writes;

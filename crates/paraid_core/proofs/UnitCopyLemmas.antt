@@ -39,10 +39,11 @@ use Rattle.paraid_moves.proofs.RunLemmas.{copies_write}
 use Rattle.paraid_moves.proofs.UnitLemmas.{map_rebuilt, row_passed, row_rebuilt, stripe_rebuilt}
 use Rattle.paraid_core.specs.declared.units.RebuildUnit.{RebuildUnit}
 use Rattle.paraid_core.specs.declared.units.RebuildUnit.TheVariants.{Row, Stripe, MapBlock}
-use Rattle.paraid_core.specs.CoreInvariant.{HoldsBetweenCalls, is_copied}
+use Rattle.paraid_core.specs.CoreInvariant.{HoldsBetweenCalls, IsWitnessBorne, is_copied}
 use Rattle.paraid_core.specs.Fills.{KeepsFilled}
 use Rattle.paraid_core.specs.Steps.{IsMarkedAt}
 use Rattle.paraid_core.specs.Units.{IsRebuilding, IsUnitNumber, KeepsRebuilt, rebuilt_block, rebuilt_place}
+use Rattle.paraid_core.proofs.BorneLemmas.{borne_written}
 use Rattle.paraid_core.proofs.CallLemmas.{contents_still}
 use Rattle.paraid_core.proofs.FreeWriteLemmas.{write_free_is}
 
@@ -175,6 +176,9 @@ module _ (slots : ℕ) (named : Option ℕ) (m : Meta) (table : List (List Bool)
   unfolding stored_block
   gate_still x = stored_else s d p b x 0 (λ is. λ here. absurd (omega arith))
 
+  borne_then : IsWitnessBorne named u
+  borne_then = subst (IsWitnessBorne named) (write_free_is s d p b) (borne_written named s k.borne d p b true (omega arith))
+
   unfoldable keeps_unit : HoldsBetweenCalls slots named m table [] copied_then h lo u
   keeps_unit = record {
     base = k.base;
@@ -182,6 +186,7 @@ module _ (slots : ℕ) (named : Option ℕ) (m : Meta) (table : List (List Bool)
     copies = copies_then;
     synced = synced_then;
     named_by = k.named_by;
+    borne = borne_then;
     epoch = k.epoch;
     next = record {
       epoch = k.next.epoch;

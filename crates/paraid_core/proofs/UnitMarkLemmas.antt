@@ -92,6 +92,7 @@ module _ (m : Meta) (d end : ℕ) (fresh : IsRebuilding m d) where
       copies = k.copies;
       synced = k.synced;
       named_by = k.named_by;
+      borne = k.borne;
       epoch = k.epoch;
       next = record {
         epoch = k.next.epoch;

@@ -203,6 +203,7 @@ module _ (slots : ℕ) (named : Option ℕ) (m : Meta) (table table_then : List 
     copies = copies_more slots k.base k.held h entry lo s k.copies;
     synced = k.synced;
     named_by = k.named_by;
+    borne = k.borne;
     epoch = k.epoch;
     next = record { epoch = k.next.epoch; setup = k.next.setup; out = k.next.out; comes_in = k.next.comes_in; fresh_shut = λ d u fresh l. k.next.fresh_shut d u (record { is = fresh.is; present = fresh.present }) l };
     writes = (let e = k.writes in let longer = length-append h (entry ∷ []) in omega arith);
@@ -216,17 +217,18 @@ taken_write_keeps slots named m table table_then batch batch_then copied h lo s 
     write_taken slots named m table table_then batch batch_then copied h lo s before later entry in_range absent k begins stage taken
 
 pub rest_keeps : RestKeeps
-rest_keeps slots m table copied h lo s rest writes low ok dirty = record {
+rest_keeps slots m table copied h lo s rest witnesses borne writes low ok dirty = record {
   base = m;
   held = contents s [];
   copies = record {
-    copying = copying_from_rest s m rest;
+    copying = copying_from_rest s m rest witnesses;
     low = omega arith;
     high = omega arith;
     content = subst (λ (n : ℕ). ContentOk slots s.power s.size (view_by m s.power (contents s [])) h n) (sym writes) ok;
   };
   synced = λ x p here copies_synced. rest.synced x p here;
   named_by = refl;
+  borne = borne;
   epoch = refl;
   next = next_same s m (record m { epoch = m.epoch + 1 }) refl refl rest refl;
   writes = writes;
@@ -245,6 +247,7 @@ all_kept slots named m table batch copied h lo s none z = (
     copies = record { copying = z.copies.copying; low = (let all = z.brought none in let long = z.writes in omega (arith, all, long)); high = z.copies.high; content = z.copies.content };
     synced = z.synced;
     named_by = z.named_by;
+    borne = z.borne;
     epoch = z.epoch;
     next = z.next;
     writes = z.writes;

@@ -6,6 +6,7 @@ use Rattle.paraid_base.specs.History.{History}
 use Rattle.paraid_base.specs.Regions.{disk_size, map_count}
 use Rattle.paraid_dirty.specs.Table.{is_dirty}
 use Rattle.paraid_moves.specs.Copying.{HoldsWithCopies}
+use Rattle.paraid_rack.specs.Atoms.{IsSure}
 use Rattle.paraid_rack.specs.declared.call.Power.TheVariants.{Spinning}
 use Rattle.paraid_rack.specs.Disks.{Disks, IsPresent, is_present}
 use Rattle.paraid_rack.specs.Slots.{Slot}
@@ -17,7 +18,7 @@ use Rattle.paraid_image.specs.Content.{view_by}
 use Rattle.paraid_image.specs.HeldAt.{IsHeld}
 use Rattle.paraid_image.specs.Out.{named_out}
 use Rattle.paraid_txn.specs.Ready.{AreTargetsReady}
-use Rattle.paraid_image.specs.Sides.{Batch, targets}
+use Rattle.paraid_image.specs.Sides.{Batch, is_open, targets}
 use Rattle.paraid_image.specs.Sound.{ContentOk}
 use Rattle.paraid_image.specs.Spot.{rising_to}
 use Rattle.paraid_image.specs.Standing.{Contents, contents}
@@ -37,6 +38,10 @@ is_copied copied d = slice_index_or copied d false
 abbrev pub AreCopiesSynced : ℕ → List Bool → Type 0
 AreCopiesSynced n copied = (d : ℕ) → d < n → is_copied copied d ≡ false
 
+-- the witness against a log disk that is named out is borne, and kept
+abbrev pub IsWitnessBorne : Option ℕ → Disks → Type 0
+IsWitnessBorne named s = (x : ℕ) → x < 2 → named ≡ Some x → IsSure s 2 x (λ b. is_open b ≡ true)
+
 -- What the disks hold between two calls, where `named` is the disk that the meta of the last commit
 -- names out: the contents of that commit, `base` and `held`, which hold a first part of the writes;
 -- and with all that is staged laid over, contents that hold all of them under the core's meta. Where nothing
@@ -48,6 +53,7 @@ pub record HoldsBetweenCalls (slots : ℕ) (named : Option ℕ) (m : Meta) (tabl
   pub copies : HoldsWithCopies slots base held h lo s
   pub synced : (x p : ℕ) → IsPresent s x → (x < m.setup.geometry.disks → is_copied copied x ≡ false) → s.loose x p ≡ false
   pub named_by : named_out base.out ≡ named
+  pub borne : IsWitnessBorne named s
   pub epoch : m.epoch ≡ base.epoch
   pub next : IsNext s base (record m { epoch = m.epoch + 1 })
   pub writes : m.writes ≡ length h

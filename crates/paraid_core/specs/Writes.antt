@@ -11,11 +11,11 @@ use Rattle.paraid_record.specs.declared.meta.Meta.{Meta}
 use Rattle.paraid_record.specs.Range.{IsInRange}
 use Rattle.paraid_image.specs.Rest.{IsAtRest}
 use Rattle.paraid_image.specs.Content.{view_by}
-use Rattle.paraid_image.specs.Out.{named_out}
+use Rattle.paraid_image.specs.Out.{named_out, out_disk}
 use Rattle.paraid_image.specs.Sides.{Batch}
-use Rattle.paraid_image.specs.Sound.{ContentOk}
+use Rattle.paraid_image.specs.Sound.{ContentOk, AreWitnessesTrue}
 use Rattle.paraid_image.specs.Standing.{contents, overlaid_block}
-use Rattle.paraid_core.specs.CoreInvariant.{HoldsBetweenCalls}
+use Rattle.paraid_core.specs.CoreInvariant.{HoldsBetweenCalls, IsWitnessBorne}
 
 -- the desk of a plan that begins over these disks
 pub record IsFirstDesk (m : Meta) (batch : Batch) (s : Disks) (desk : Desk) : Type 0 where
@@ -37,9 +37,11 @@ TakenWriteKeeps = (slots : ℕ) (named : Option ℕ) (m : Meta) (table table_the
     → IsFirstDesk m batch s before → StageAll m before after entry → IsTaken m batch batch_then table_then after
     → HoldsBetweenCalls slots named (record m { writes = m.writes + 1 }) table_then batch_then copied (h ++ entry ∷ []) lo s
 
--- After a mount, with nothing staged: what a core stands for as it begins.
+-- After a mount, with nothing staged: what a core stands for as it begins. The witnesses are true, and one is borne
+-- against a log disk that is named out.
 abbrev pub RestKeeps : Type 0
-RestKeeps = (slots : ℕ) (m : Meta) (table : List (List Bool)) (copied : List Bool) (h : History) (lo : ℕ) (s : Disks) → IsAtRest s m → m.writes ≡ length h → lo ≤ length h
+RestKeeps = (slots : ℕ) (m : Meta) (table : List (List Bool)) (copied : List Bool) (h : History) (lo : ℕ) (s : Disks) → IsAtRest s m → AreWitnessesTrue s (out_disk s.power m) → IsWitnessBorne (named_out m.out) s
+    → m.writes ≡ length h → lo ≤ length h
     → ContentOk slots s.power s.size (view_by m s.power (contents s [])) h (length h)
     → ((r d : ℕ) → r < 512 * map_count m.setup.geometry → is_dirty table r d ≡ (view_by m s.power (contents s [])).dirty r d)
     → HoldsBetweenCalls slots (named_out m.out) m table [] copied h lo s

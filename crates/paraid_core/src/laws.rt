@@ -26,7 +26,8 @@ pub fn a_taken_write_is_accepted()
     ensures { TakenWriteKeeps }
 {}
 
-/// A core that begins at a rest with nothing staged stands for what its disks hold.
+/// A core that begins at a rest with nothing staged stands for what its disks hold, where each witness is true and one
+/// against a log disk that is named out is borne.
 pub fn a_rest_is_stood_for()
     ensures { RestKeeps }
 {}

@@ -60,6 +60,7 @@ module _ (told : Option Trail) (k : Service) (setup : Setup) (p : Point) (at : S
     counted_ticks = ticks_are;
     shown = state_shown p.disks.power p.meta k.meta _ k p.state refl at.shown at.state;
     powers = λ d power low is. powers_of k p.state p.disks.power at.powered at.state d power (subst (λ (z : Setup). d < z.geometry.disks) (sym at.same_setup) low) is;
+    borne = λ x low names. at.stands.keeps.borne x low (sym at.stands.keeps.named_by ∙ ap (λ (m : Meta). named_out m.out) base_is ∙ names);
   }
 
   within : (x : ℕ) (i : Disks) (said : LogState) → IsLooked p.disks i → Stands i x said → IsWithinBounds (bounds_at setup p p.state) p.spun i said.meta

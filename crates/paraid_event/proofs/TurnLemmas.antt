@@ -79,6 +79,7 @@ keeps_less k h lo less s le z = record {
   copies = record { copying = z.copies.copying; low = let l = z.copies.low in omega (arith, l, le); high = z.copies.high; content = z.copies.content };
   synced = z.synced;
   named_by = z.named_by;
+  borne = z.borne;
   epoch = z.epoch;
   next = z.next;
   writes = z.writes;

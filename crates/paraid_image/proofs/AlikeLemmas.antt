@@ -80,6 +80,7 @@ module _ (j : Disks) (f : ℕ → ℕ → Block) (l : ℕ → ℕ → Bool) (sam
     said = s.said;
     log = log_now s.disk s.said k s.log;
     content = subst (λ (g : Contents). ContentOk slots j.power j.size (view_by s.said.meta j.power g) h k) (sym (contents_now s.said.batch)) s.content;
+    witnesses = λ y low opened. s.witnesses y low (ap is_open (sym (stored_same 2 y)) ∙ opened);
   }
 
 -- what holds of disks holds of disks that are alike, if it goes from blocks to blocks

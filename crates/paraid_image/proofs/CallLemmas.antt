@@ -13,12 +13,13 @@ use Rattle.paraid_rack.proofs.AtomsLemmas.{at_case, with_at_other, with_at_same,
 use Rattle.paraid_record.specs.declared.meta.Meta.{Meta}
 use Rattle.paraid_image.specs.HeldAt.{IsHeld, MayLose}
 use Rattle.paraid_image.specs.Neutral.{IsNeutral, names_place, overwrite}
-use Rattle.paraid_image.specs.Neutral.IsNeutral.{nowhere, no_log, shut, meta_under_open_gate, unused, target}
+use Rattle.paraid_image.specs.Neutral.IsNeutral.{nowhere, no_log, witness, shut, meta_under_open_gate, unused, target}
 use Rattle.paraid_image.specs.Out.{named_out, or_else, out_disk, first_absent}
 use Rattle.paraid_image.specs.Out.IsWeak.{out}
 use Rattle.paraid_image.specs.Sides.{LogState, Says, has_place, is_open, stored_block}
 use Rattle.paraid_image.specs.Standing.{Stands, other_log}
-use Rattle.paraid_image.proofs.NeutralLemmas.{IsLogKept, Keeps, KeepsLog, keeps_no_log, keeps_nowhere, keeps_meta_under_open_gate, keeps_shut, keeps_target, keeps_unused, overwritten_else, overwritten_here, says_back, says_forth, stands_back, target_past, weak_forth, with_blocks, written}
+use Rattle.paraid_image.proofs.NeutralLemmas.{IsLogKept, Keeps, KeepsLog, keeps_no_log, keeps_nowhere, keeps_meta_under_open_gate, keeps_shut, keeps_target, keeps_unused, keeps_witness, overwritten_else, overwritten_here, says_back, says_forth, stands_back, target_past, weak_forth, with_blocks, written}
+use Rattle.paraid_image.proofs.OutLemmas.{first_absent_is}
 use Rattle.paraid_image.proofs.SidesLemmas.{Says-same}
 
 -- where there are no more images, what is held is held
@@ -171,20 +172,44 @@ lost_names i e d p x said may s is others y other t =
           ]
     ]
 
+-- with the disk lost that is out, it is out still
+lost_out : (i : Disks) (e p x : ℕ) (said : LogState) → MayLose i e → Stands i x said → x ≢ p → out_disk i.power said.meta ≡ Some p → p < 2
+    → (y : ℕ) (other : LogState) → Stands (lose e i) y other → out_disk (lose e i).power other.meta ≡ Some p
+lost_out i e p x said may s apart is low y other t =
+    let weak = may.weak p (out x said s is) in
+    let says = says_of_lost i e y other t.says in
+    let away = says_not_lost i e y other t.says in
+    let log_disk = s.log_disk in
+    let log_disk_too = t.log_disk in
+    let at : y ≡ x = elim (cases_eq y p) [
+      | inl here ↦ absurd (away (here ∙ weak))
+      | inr not ↦ omega arith
+    ] in
+    let same : other ≡ said = Says-same i x other said (subst (λ (z : ℕ). Says i z other) at says) s.says in
+    split (named_out other.meta.out) refl (ap (λ (z : LogState). out_disk i.power z.meta) same ∙ is) weak
+  where
+    split : (o : Option ℕ) → named_out other.meta.out ≡ o → or_else (named_out other.meta.out) (first_absent i.power other.meta.setup.geometry.disks) ≡ Some p → p ≡ e
+        → out_disk (lose e i).power other.meta ≡ Some p
+    split (Some q) named o weak = out_named (lose e i).power other.meta p (named ∙ sym (ap (λ z. or_else z (first_absent i.power other.meta.setup.geometry.disks)) named) ∙ o)
+    split None named o weak =
+        let absent = (first_absent_is i.power other.meta.setup.geometry.disks p (sym (ap (λ z. or_else z (first_absent i.power other.meta.setup.geometry.disks)) named) ∙ o)).1 in
+        absurd (false≢true (sym absent ∙ ap (λ (z : ℕ). is_present (i.power z)) weak ∙ may.present))
+
 -- a neutral place is neutral with a disk lost
 pub keeps_lost : (i : Disks) (e d p : ℕ) (b : Block) → MayLose i e → IsNeutral i d p → Keeps (lose e i) (written i d p b)
 keeps_lost i e d p b may (nowhere none) = elim (cases_eq d e) [
   | inl is ↦ keeps_nowhere (lose e i) d p b (place_lost i e d p is)
   | inr not ↦ keeps_nowhere (lose e i) d p b (place_kept i e d p not ∙ none)
 ]
-keeps_lost i e d p b may (no_log far l) = keeps_no_log (lose e i) d p b far l
+keeps_lost i e d p b may (no_log far l off) = keeps_no_log (lose e i) d p b far l off
+keeps_lost i e d p b may (witness x said s apart is second l) = keeps_witness (lose e i) d p b second l (lost_out i e p x said may s apart is l)
 keeps_lost i e d p b may (shut closed far l) = elim (cases_eq d e) [
   | inl is ↦ keeps_shut (lose e i) d p b (ap is_open (stored_lost i e d 0 is) ∙ zeroed_closed) far l
   | inr not ↦ keeps_shut (lose e i) d p b (ap is_open (stored_kept i e d 0 not) ∙ closed) far l
 ]
-keeps_lost i e d p b may (meta_under_open_gate opened one) = elim (cases_eq d e) [
+keeps_lost i e d p b may (meta_under_open_gate log_disk opened one) = elim (cases_eq d e) [
   | inl is ↦ keeps_nowhere (lose e i) d p b (place_lost i e d p is)
-  | inr not ↦ keeps_meta_under_open_gate (lose e i) d p b (ap is_open (stored_kept i e d 0 not) ∙ opened) one
+  | inr not ↦ keeps_meta_under_open_gate (lose e i) d p b log_disk (ap is_open (stored_kept i e d 0 not) ∙ opened) one
 ]
 keeps_lost i e d p b may (unused said s opened past l) = elim (cases_eq d e) [
   | inl is ↦ keeps_nowhere (lose e i) d p b (place_lost i e d p is)

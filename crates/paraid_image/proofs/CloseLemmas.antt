@@ -268,7 +268,15 @@ module _ (slots : ℕ) (i : Disks) (h : History) (k x : ℕ) (said : LogState) (
   }
 
   pub IsSoundAt-closed : IsSoundAt slots now h k
-  IsSoundAt-closed = record { disk = by_standing.0; said = shut; log = log_now by_standing.0 by_standing.1 by_standing.2; content = content }
+  IsSoundAt-closed = record {
+    disk = by_standing.0;
+    said = shut;
+    log = log_now by_standing.0 by_standing.1 by_standing.2;
+    content = content;
+    witnesses = λ z l is.
+        let log_disk = low in
+        ap (out_disk i.power) (sym meta_is) ∙ sound.witnesses z l (ap is_open (sym (stored_else i x 0 b 2 z (λ here at. absurd (omega arith)))) ∙ is);
+  }
 
   -- where no disk is out, every log disk says this meta
   then_meta : (z : ℕ) (o : LogState) → z < 2 → Says i z o → out_disk i.power said.meta ≡ None → o.meta ≡ said.meta

@@ -33,7 +33,7 @@ module _ (slots : ℕ) (h : History) (lo k : ℕ) where
         k = s.k;
         low = omega arith;
         high = (let l = length-take-le s.k h s.high in omega (arith, l));
-        sound = record { disk = s.sound.disk; said = s.sound.said; log = s.sound.log; content = content_cut slots i.power i.size _ h s.k s.sound.content };
+        sound = record { disk = s.sound.disk; said = s.sound.said; log = s.sound.log; content = content_cut slots i.power i.size _ h s.k s.sound.content; witnesses = s.sound.witnesses };
       })
 
   pub held_cut : (s : Disks) (down : Option ℕ) → ((i : Disks) (x : ℕ) (said : LogState) → IsImage s i → Stands i x said → said.meta.writes ≡ k)

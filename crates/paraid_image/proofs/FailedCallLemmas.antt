@@ -75,6 +75,7 @@ keeps_others i d f same = keeps_by (lose d i) f
       rest = λ opened said says q low high. stored_same i d f same x q;
     })
     (λ x said s. contents_same i d f said same)
+    (λ x l. ap is_open (stored_same i d f same 2 x))
 
 module _ (slots : ℕ) (s t : Disks) (h : History) (lo : ℕ) (down : Option ℕ) (d : ℕ) (loss : IsLoss s t d) (present : IsPresent s d)
     (within : (i : Disks) (x : ℕ) (said : LogState) → IsImage s i → x < 2 → Says i x said → d < said.meta.setup.geometry.disks)

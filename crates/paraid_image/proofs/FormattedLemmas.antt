@@ -230,6 +230,9 @@ module _ (slots : ℕ) (s : Disks) (m : Meta) (f : IsFormatted slots s m) where
     log = log;
     content = subst (λ (o : Option ℕ). ContentOk slots s.power s.size (record { meta = m; dirty = map_bit g (block (map_disk o)); out = o; block = block }) [] 0)
         (sym none_out) content;
+    witnesses = λ x l opened.
+        let low = g.disks_low in
+        absurd (false≢true (sym (f.no_witness x l) ∙ sym (ap is_open (stored_is 2 x (omega arith) (omega arith))) ∙ opened));
   }
 
   is_sound : IsSoundFrom slots s [] 0

@@ -22,12 +22,12 @@ use Rattle.paraid_image.specs.Free.{IsFree, IsShiftTo}
 use Rattle.paraid_image.specs.Free.IsFree.{dirty_cell, unfilled, gone, row, stripe, map_block}
 use Rattle.paraid_image.specs.Neutral.{overwrite}
 use Rattle.paraid_image.specs.Out.{named_out, out_disk}
-use Rattle.paraid_image.specs.Sides.{LogState, stored_block}
+use Rattle.paraid_image.specs.Sides.{LogState, is_open, stored_block}
 use Rattle.paraid_image.specs.Sound.{IsFresh, IsSoundAt, stripes_on}
 use Rattle.paraid_image.specs.Spot.{View}
 use Rattle.paraid_image.specs.Standing.{Contents, Stands, contents}
 use Rattle.paraid_image.proofs.AgreeLemmas.{AgreeSeen, content_agrees, stripes_gear}
-use Rattle.paraid_image.proofs.NeutralLemmas.{KeepsLog, contents_else, keeps_log_by, log_forth, log_kept_past, written}
+use Rattle.paraid_image.proofs.NeutralLemmas.{KeepsLog, contents_else, keeps_log_by, log_forth, log_kept_past, stored_else, written}
 use Rattle.paraid_image.proofs.OutLemmas.{says_in_range}
 use Rattle.paraid_image.proofs.StandingLemmas.{Stands-same}
 use Rattle.paraid_image.proofs.CallLemmas.{out_named}
@@ -194,4 +194,7 @@ IsSoundAt-free slots i d p b h k x said stands free s =
       log = log_forth i (written i d p b) (free_log i d p b (free_past (view_of i s.said) d p now_free)) s.disk s.said k s.log;
       content = content_agrees s.said.meta (out_disk i.power s.said.meta) (contents i s.said.batch) after i.power in_range
           (λ e u fresh. named e (ap named_out fresh.is)) agree slots i.size h k s.content;
+      witnesses = λ y l opened.
+          let far = free_past (view_of i s.said) d p now_free in
+          s.witnesses y l (ap is_open (sym (stored_else i d p b 2 y (λ at here. absurd (omega arith)))) ∙ opened);
     }

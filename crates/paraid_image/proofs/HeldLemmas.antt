@@ -28,6 +28,7 @@ IsSoundAt-more slots i h more k l s = record {
   said = s.said;
   log = s.log;
   content = ContentOk-more slots i.power i.size _ h more k l s.content;
+  witnesses = s.witnesses;
 }
 
 IsSoundFrom-more : (slots : ℕ) (i : Disks) (h more : History) (lo less : ℕ) → less ≤ lo → IsSoundFrom slots i h lo → IsSoundFrom slots i (h ++ more) less

@@ -1,5 +1,5 @@
 -- Any bytes in a neutral place leave what an image stands for as it is.
-use Rattle.std.specs.Prelude.{◌≡◌, ◌≢◌, ℕ, ◌+◌, ◌<◌, ◌≤◌, ◌==◌, ◌&&◌, ◌||◌, nat_lt, Bool, true, false, not, [], ◌∷◌, All, length, if◌then◌else◌, ◌⊎◌}
+use Rattle.std.specs.Prelude.{◌≡◌, ◌≢◌, ℕ, ◌+◌, ◌<◌, ◌≤◌, ◌==◌, ◌&&◌, ◌||◌, nat_lt, Bool, true, false, not, [], ◌∷◌, All, Some, length, if◌then◌else◌, ◌⊎◌}
 use Rattle.std.proofs.Common.{refl, sym, ◌∙◌, ap, subst, arith, inl, inr, suc}
 use Rattle.std.proofs.lemmas.Bool.{cases_Bool, cases_eq, false≢true}
 use Rattle.std.proofs.lemmas.Bool.Decides.{nat_tests}
@@ -15,11 +15,11 @@ use Rattle.paraid_record.specs.Targets.{IsTargetInRange, no_target}
 use Rattle.paraid_image.specs.Content.{view_by}
 use Rattle.paraid_image.specs.HeldAt.{IsSoundFrom}
 use Rattle.paraid_image.specs.Neutral.{IsNeutral, names_place, overwrite}
-use Rattle.paraid_image.specs.Neutral.IsNeutral.{nowhere, no_log, shut, meta_under_open_gate, unused, target}
-use Rattle.paraid_image.specs.Out.{IsWeak}
+use Rattle.paraid_image.specs.Neutral.IsNeutral.{nowhere, no_log, witness, shut, meta_under_open_gate, unused, target}
+use Rattle.paraid_image.specs.Out.{IsWeak, out_disk}
 use Rattle.paraid_image.specs.Out.IsWeak.{out, named}
 use Rattle.paraid_image.specs.Sides.{AreBlocksLogged, Batch, LogState, Says, SaysBy, Spells, has_place, is_open, stored_block, targets}
-use Rattle.paraid_image.specs.Sound.{ContentOk, LogOk, IsSoundAt}
+use Rattle.paraid_image.specs.Sound.{AreWitnessesTrue, ContentOk, LogOk, IsSoundAt}
 use Rattle.paraid_image.specs.Standing.{Contents, Stands, contents, overlaid_block, other_log}
 use Rattle.paraid_image.proofs.SidesLemmas.{Says-same}
 use Rattle.paraid_image.proofs.StandingLemmas.{Stands-same}
@@ -144,10 +144,16 @@ pub record KeepsLog (i : Disks) (f : ℕ → ℕ → Block) : Type 0 where
   pub back : (x : ℕ) (said : LogState) → x < 2 → Says (with_blocks i f) x said → Says i x said
   pub gate : (x : ℕ) → x < 2 → is_open (stored_block (with_blocks i f) x 0) ≡ is_open (stored_block i x 0)
 
--- and the contents too
+-- and the contents and the witnesses too
 pub record Keeps (i : Disks) (f : ℕ → ℕ → Block) : Type 0 where
   pub log : KeepsLog i f
   pub contents : (x : ℕ) (said : LogState) → Stands i x said → contents (with_blocks i f) said.batch ≡ contents i said.batch
+  pub witnesses : (x : ℕ) (said : LogState) → Stands i x said → AreWitnessesTrue i (out_disk i.power said.meta)
+      → AreWitnessesTrue (with_blocks i f) (out_disk i.power said.meta)
+
+-- the places of the witnesses are open where they were
+abbrev pub SameWitnesses : Disks → (ℕ → ℕ → Block) → Type 0
+SameWitnesses i f = (x : ℕ) → x < 2 → is_open (stored_block (with_blocks i f) 2 x) ≡ is_open (stored_block i 2 x)
 
 module _ (i : Disks) (f : ℕ → ℕ → Block) (keeps : KeepsLog i f) where
   abbrev new : Disks
@@ -196,6 +202,7 @@ module _ (i : Disks) (f : ℕ → ℕ → Block) (keeps : Keeps i f) where
     log = log_forth i f keeps.log s.disk s.said k s.log;
     content = subst (λ (g : Contents). ContentOk slots i.power i.size (view_by s.said.meta i.power g) h k)
         (sym (keeps.contents s.disk s.said s.log.stands)) s.content;
+    witnesses = keeps.witnesses s.disk s.said s.log.stands s.witnesses;
   }
 
   pub is_sound_forth : (slots : ℕ) (h : History) (lo : ℕ) → IsSoundFrom slots i h lo → IsSoundFrom slots (with_blocks i f) h lo
@@ -209,8 +216,13 @@ keeps_log_by i f kept = record {
 }
 
 pub keeps_by : (i : Disks) (f : ℕ → ℕ → Block) → ((x : ℕ) → x < 2 → IsLogKept i (with_blocks i f) x)
-    → ((x : ℕ) (said : LogState) → Stands i x said → contents (with_blocks i f) said.batch ≡ contents i said.batch) → Keeps i f
-keeps_by i f kept same = record { log = keeps_log_by i f kept; contents = same }
+    → ((x : ℕ) (said : LogState) → Stands i x said → contents (with_blocks i f) said.batch ≡ contents i said.batch)
+    → SameWitnesses i f → Keeps i f
+keeps_by i f kept same seen = record {
+  log = keeps_log_by i f kept;
+  contents = same;
+  witnesses = λ x said s true y l opened. true y l (sym (seen y l) ∙ opened);
+}
 
 -- a write of the log leaves the contents
 pub contents_log : (i : Disks) (d p : ℕ) (b : Block) → p < log_least → (x : ℕ) (said : LogState) → Stands i x said → contents (overwrite i d p b) said.batch ≡ contents i said.batch
@@ -226,16 +238,31 @@ keeps_nowhere i d p b none = keeps_by i (written i d p b)
     })
     (λ x said s. contents_over i d p b said.batch (λ y q is at past there.
     let not_there : has_place i y q ≡ false = rw (is, at) none in absurd (false≢true (sym not_there ∙ there))))
+    (λ x l. ap is_open (stored_else i d p b 2 x (λ is at. none)))
 
-pub keeps_no_log : (i : Disks) (d p : ℕ) (b : Block) → 2 ≤ d → p < log_least → Keeps i (written i d p b)
-keeps_no_log i d p b far l = keeps_by i (written i d p b)
-    (λ x low. record {
-      power = refl;
-      gate = ap is_open (stored_else i d p b x 0 (λ is at. absurd (omega arith)));
-      meta = λ closed. stored_else i d p b x 1 (λ is at. absurd (omega arith));
-      rest = λ opened said says q lower high. stored_else i d p b x q (λ is at. absurd (omega arith));
-    })
-    (contents_log i d p b l)
+no_log_kept : (i : Disks) (d p : ℕ) (b : Block) → 2 ≤ d → (x : ℕ) → x < 2 → IsLogKept i (overwrite i d p b) x
+no_log_kept i d p b far x low = record {
+  power = refl;
+  gate = ap is_open (stored_else i d p b x 0 (λ is at. absurd (omega arith)));
+  meta = λ closed. stored_else i d p b x 1 (λ is at. absurd (omega arith));
+  rest = λ opened said says q lower high. stored_else i d p b x q (λ is at. absurd (omega arith));
+}
+
+pub keeps_no_log : (i : Disks) (d p : ℕ) (b : Block) → 2 ≤ d → p < log_least → (d ≡ 2 → 2 ≤ p) → Keeps i (written i d p b)
+keeps_no_log i d p b far l off = keeps_by i (written i d p b) (no_log_kept i d p b far) (contents_log i d p b l)
+    (λ x low. ap is_open (stored_else i d p b 2 x (λ is at. let past = off (sym is) in absurd (omega arith))))
+
+-- a place of a witness may hold anything where it is true by all that stands
+pub keeps_witness : (i : Disks) (d p : ℕ) (b : Block) → d ≡ 2 → p < 2
+    → ((x : ℕ) (said : LogState) → Stands i x said → out_disk i.power said.meta ≡ Some p) → Keeps i (written i d p b)
+keeps_witness i d p b second l is_out = record {
+  log = keeps_log_by i (written i d p b) (no_log_kept i d p b (omega arith));
+  contents = contents_log i d p b (omega arith);
+  witnesses = λ x said s true y low opened. elim (cases_eq y p) [
+    | inl here ↦ is_out x said s ∙ ap Some (sym here)
+    | inr off ↦ true y low (ap is_open (sym (stored_else i d p b 2 y (λ is at. absurd (off at)))) ∙ opened)
+  ];
+}
 
 pub keeps_shut : (i : Disks) (d p : ℕ) (b : Block) → is_open (stored_block i d 0) ≡ false → 2 ≤ p → p < log_least → Keeps i (written i d p b)
 keeps_shut i d p b closed far l = keeps_by i (written i d p b)
@@ -247,9 +274,10 @@ keeps_shut i d p b closed far l = keeps_by i (written i d p b)
           absurd (false≢true (sym closed ∙ ap (λ (y : ℕ). is_open (stored_block i y 0)) (sym is) ∙ opened)));
     })
     (contents_log i d p b l)
+    (λ x low. ap is_open (stored_else i d p b 2 x (λ is at. absurd (omega arith))))
 
-pub keeps_meta_under_open_gate : (i : Disks) (d p : ℕ) (b : Block) → is_open (stored_block i d 0) ≡ true → p ≡ 1 → Keeps i (written i d p b)
-keeps_meta_under_open_gate i d p b opened one = keeps_by i (written i d p b)
+pub keeps_meta_under_open_gate : (i : Disks) (d p : ℕ) (b : Block) → d < 2 → is_open (stored_block i d 0) ≡ true → p ≡ 1 → Keeps i (written i d p b)
+keeps_meta_under_open_gate i d p b log_disk opened one = keeps_by i (written i d p b)
     (λ x low. record {
       power = refl;
       gate = ap is_open (stored_else i d p b x 0 (λ is at. absurd (omega arith)));
@@ -258,6 +286,7 @@ keeps_meta_under_open_gate i d p b opened one = keeps_by i (written i d p b)
       rest = λ opened_too said says q lower high. stored_else i d p b x q (λ is at. absurd (omega arith));
     })
     (contents_log i d p b (omega arith))
+    (λ x low. ap is_open (stored_else i d p b 2 x (λ is at. absurd (omega arith))))
 
 -- the disk that is written says the same before and after
 unused_forth : (i : Disks) (d p : ℕ) (b : Block) (said : LogState) → Says i d said → said.opened ≡ true → body_place (length said.batch) ≤ p → Says (overwrite i d p b) d said
@@ -288,6 +317,7 @@ keeps_unused i d p b said s opened past l =
           absurd (omega arith));
     })
     (contents_log i d p b l)
+    (λ x low. ap is_open (stored_else i d p b 2 x (λ is at. absurd (omega arith))))
 
 -- a gate is only open or closed
 gate_written : (i : Disks) (d : ℕ) (b : Block) → is_open b ≡ is_open (stored_block i d 0) → is_open (stored_block (overwrite i d 0 b) d 0) ≡ is_open (stored_block i d 0)
@@ -300,14 +330,21 @@ pub keeps_gate : (i : Disks) (d : ℕ) (b : Block) → is_open b ≡ is_open (st
 keeps_gate i d b same = keeps_by i (written i d 0 b)
     (λ x l. record {
       power = refl;
-      gate = elim (cases_eq x d) [
-        | inl is ↦ ap (λ (z : ℕ). is_open (stored_block (overwrite i d 0 b) z 0)) is ∙ gate_written i d b same ∙ ap (λ (z : ℕ). is_open (stored_block i z 0)) (sym is)
-        | inr not ↦ ap is_open (stored_else i d 0 b x 0 (λ is at. absurd (not is)))
-      ];
+      gate = gate_same x;
       meta = λ closed. stored_else i d 0 b x 1 (λ is at. absurd (omega arith));
       rest = λ opened said says q low high. stored_else i d 0 b x q (λ is at. absurd (omega arith));
     })
     (contents_log i d 0 b (omega arith))
+    (λ x l. elim (cases_eq x 0) [
+      | inl first ↦ subst (λ (z : ℕ). is_open (stored_block (overwrite i d 0 b) 2 z) ≡ is_open (stored_block i 2 z)) (sym first) (gate_same 2)
+      | inr not ↦ ap is_open (stored_else i d 0 b 2 x (λ is at. absurd (not at)))
+    ])
+  where
+    gate_same : (x : ℕ) → is_open (stored_block (overwrite i d 0 b) x 0) ≡ is_open (stored_block i x 0)
+    gate_same x = elim (cases_eq x d) [
+      | inl is ↦ ap (λ (z : ℕ). is_open (stored_block (overwrite i d 0 b) z 0)) is ∙ gate_written i d b same ∙ ap (λ (z : ℕ). is_open (stored_block i z 0)) (sym is)
+      | inr not ↦ ap is_open (stored_else i d 0 b x 0 (λ is at. absurd (not is)))
+    ]
 
 -- targets
 
@@ -321,7 +358,7 @@ overlaid_block-named (w ∷ batch) d p b c h = elim (cases_Bool (w.0.disk == d &
 named_place : (d e p q : ℕ) → (d == e && p == q) ≡ true → p ≡ q
 named_place d e p q h = grind (arith, nat_tests)
 
-named_past : (g : Geometry) (batch : Batch) (d p : ℕ) → All (IsTargetInRange g) (targets batch) → names_place batch d p ≡ true → log_least ≤ p
+pub named_past : (g : Geometry) (batch : Batch) (d p : ℕ) → All (IsTargetInRange g) (targets batch) → names_place batch d p ≡ true → log_least ≤ p
 named_past g [] d p all h = absurd (false≢true h)
 named_past g (w ∷ batch) d p all h = elim (cases_Bool (w.0.disk == d && w.0.place == p)) [
   | inl is ↦ let at = named_place w.0.disk d w.0.place p is in let low = (all 0 no_target (omega arith)).past_log in omega arith
@@ -354,12 +391,15 @@ pub keeps_target : (i : Disks) (d p : ℕ) (b : Block) → log_least ≤ p
 keeps_target i d p b far all = keeps_by i (written i d p b) (λ x low. log_kept_past i d p b far x)
     (λ x said s. contents_over i d p b said.batch (λ y q is at past there.
     overlaid_block-named said.batch y q b (i.block y q) (rw (is, at) (all x said s))))
+    (λ x low. ap is_open (stored_else i d p b 2 x (λ is at. absurd (omega arith))))
 
 pub keeps_neutral : (i : Disks) (d p : ℕ) (b : Block) → IsNeutral i d p → Keeps i (written i d p b)
 keeps_neutral i d p b (nowhere none) = keeps_nowhere i d p b none
-keeps_neutral i d p b (no_log far l) = keeps_no_log i d p b far l
+keeps_neutral i d p b (no_log far l off) = keeps_no_log i d p b far l off
+keeps_neutral i d p b (witness x said s apart is second l) = keeps_witness i d p b second l
+    (λ y other t. ap (λ (z : LogState). out_disk i.power z.meta) ((Stands-same i y x other said t s).1) ∙ is)
 keeps_neutral i d p b (shut closed far l) = keeps_shut i d p b closed far l
-keeps_neutral i d p b (meta_under_open_gate opened one) = keeps_meta_under_open_gate i d p b opened one
+keeps_neutral i d p b (meta_under_open_gate log_disk opened one) = keeps_meta_under_open_gate i d p b log_disk opened one
 keeps_neutral i d p b (unused said s opened past l) = keeps_unused i d p b said s opened past l
 keeps_neutral i d p b (target x said s is others) =
     keeps_target i d p b (target_past said.opened (stored_block i x) said.meta said.batch d p s.says.log is)

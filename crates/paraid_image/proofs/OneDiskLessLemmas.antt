@@ -15,13 +15,13 @@ use Rattle.paraid_image.specs.Content.{view_by, view_of}
 use Rattle.paraid_image.specs.HeldAt.{MayLose}
 use Rattle.paraid_image.specs.Out.{IsMissing, named_out, out_disk}
 use Rattle.paraid_image.specs.Out.IsWeak.{out}
-use Rattle.paraid_image.specs.Sides.{Batch, LogState, Says, stored_block}
-use Rattle.paraid_image.specs.Sound.{AreDisks, ContentOk, IsFresh, LogOk, IsSoundAt}
+use Rattle.paraid_image.specs.Sides.{Batch, LogState, Says, is_open, stored_block}
+use Rattle.paraid_image.specs.Sound.{AreDisks, AreWitnessesTrue, ContentOk, IsFresh, LogOk, IsSoundAt}
 use Rattle.paraid_image.specs.Spot.{map_bit, map_disk}
 use Rattle.paraid_image.specs.Standing.{Contents, Stands, contents, overlaid_block, other_log}
 use Rattle.paraid_image.proofs.OutLemmas.{missing_is_out, says_in_range}
 use Rattle.paraid_image.proofs.StandingLemmas.{Stands-same}
-use Rattle.paraid_image.proofs.CallLemmas.{lose_kept, out_named, place_kept, says_not_lost, says_of_lost}
+use Rattle.paraid_image.proofs.CallLemmas.{lose_kept, out_named, place_kept, says_not_lost, says_of_lost, stored_kept, stored_lost, zeroed_closed}
 use Rattle.paraid_image.proofs.NeutralLemmas.{says_forth}
 use Rattle.paraid_image.proofs.ViewLemmas.{content_without, dirty_without}
 
@@ -201,6 +201,9 @@ module _ (slots : ℕ) (i : Disks) (h : History) (k : ℕ) (d x : ℕ) (said : L
   content : ContentOk slots i.power i.size (view_of i said) h k
   content = subst (λ (z : LogState). ContentOk slots i.power i.size (view_of i z) h k) same.1 sound.content
 
+  witnesses : AreWitnessesTrue i (out_disk i.power said.meta)
+  witnesses = subst (λ (z : LogState). AreWitnessesTrue i (out_disk i.power z.meta)) same.1 sound.witnesses
+
   below : d < said.meta.setup.geometry.disks
   below =
       let is = (Stands-same i may.standing x may.said said may.stands stands).1 in
@@ -221,6 +224,10 @@ module _ (slots : ℕ) (i : Disks) (h : History) (k : ℕ) (d x : ℕ) (said : L
         said = said;
         log = log_lost slots i h k d x said ok content below out_is now.0 now.1;
         content = content_lost slots i h k d said.meta said.batch in_range ok.single content below out_is;
+        witnesses = λ y low opened.
+            let away : 2 ≢ d = (λ is. false≢true (sym (ap is_open (stored_lost i d 2 y is) ∙ zeroed_closed) ∙ opened)) in
+            let was = witnesses y low (ap is_open (sym (stored_kept i d 2 y away)) ∙ opened) in
+            out_now slots i h k d said.meta said.batch in_range ok.single content below out_is ∙ ap Some (sym (out_is y was));
       }
 
   pub dirty_still : (r e : ℕ) → r < 512 * map_count said.meta.setup.geometry → (view_of (lose d i) said).dirty r e ≡ (view_of i said).dirty r e

@@ -179,7 +179,13 @@ module _ (slots : ℕ) (i : Disks) (h : History) (k x : ℕ) (new : LogState) (b
       (sym (contents_over i x 0 b new.batch (λ z q is at past there. absurd (omega arith)))) next.content
 
   pub IsSoundAt-opened : IsSoundAt slots now h k
-  IsSoundAt-opened = record { disk = by_standing.0; said = new; log = log_now by_standing.0 by_standing.1 by_standing.2; content = content }
+  IsSoundAt-opened = record {
+    disk = by_standing.0;
+    said = new;
+    log = log_now by_standing.0 by_standing.1 by_standing.2;
+    content = content;
+    witnesses = λ z l is. let log_disk = low in next.witnesses z l (ap is_open (sym (stored_else i x 0 b 2 z (λ here at. absurd (omega arith)))) ∙ is);
+  }
 
 -- opening the gate, as the image is and with a disk lost
 turns_opened : (slots : ℕ) (i : Disks) (h : History) (k lo : ℕ) (down : Option ℕ) (x : ℕ) (new : LogState) → CanOpen slots i x new h k lo down

@@ -158,6 +158,7 @@ module _ (i : Disks) (q : ℕ → Power) (same : (x : ℕ) → is_present (q x) 
           said = s.sound.said;
           log = log_now s.sound.disk s.k s.sound.said no_more s.sound.log;
           content = content_now slots s.k h s.sound.said no_more s.sound.content;
+          witnesses = λ y l opened. out_same s.sound.said.meta ∙ s.sound.witnesses y l (ap is_open (sym (stored_same 2 y)) ∙ opened);
         };
       }
 

@@ -1,7 +1,7 @@
 -- A disk that is out and gone may become another one.
 use Rattle.std.specs.Prelude.{◌≡◌, ◌≢◌, ℕ, ◌&&◌, nat_lt, Bool, true, false, Option, Some, None, if◌then◌else◌}
 use Rattle.std.proofs.Common.{refl, sym, ◌∙◌, ap, subst, inl, inr}
-use Rattle.std.proofs.lemmas.Bool.{cases_Bool, cases_eq}
+use Rattle.std.proofs.lemmas.Bool.{cases_Bool, cases_eq, false≢true}
 use Rattle.paraid_base.specs.declared.block.Block.{Block}
 use Rattle.paraid_base.specs.declared.state.Out.TheVariants.{Gone, Fresh}
 use Rattle.paraid_base.specs.History.{History}
@@ -25,7 +25,7 @@ use Rattle.paraid_image.proofs.NeutralLemmas.{IsLogKept, says_back, says_forth}
 use Rattle.paraid_image.proofs.OutLemmas.{says_in_range}
 use Rattle.paraid_image.proofs.SidesLemmas.{blank_says_nothing}
 use Rattle.paraid_image.proofs.StandingLemmas.{IsWeak-same}
-use Rattle.paraid_image.proofs.CallLemmas.{out_named, says_not_lost, zeroed_closed}
+use Rattle.paraid_image.proofs.CallLemmas.{out_named, says_not_lost, stored_lost, zeroed_closed}
 use Rattle.paraid_image.proofs.ViewLemmas.{content_without, dirty_without}
 
 module _ (slots : ℕ) (i j : Disks) (h : History) (k d : ℕ) (power : (x : ℕ) → x ≢ d → j.power x ≡ i.power x) (size : (x : ℕ) → x ≢ d → j.size x ≡ i.size x)
@@ -154,8 +154,17 @@ module _ (slots : ℕ) (i j : Disks) (h : History) (k d : ℕ) (power : (x : ℕ
       (says_in_range said.opened (stored_block i z) said.meta said.batch sound.log.stands.says.log)
       slots i.power j.power i.size j.size h k (no_fresh j.power) ready sound.content)
 
-  pub IsSoundAt-swapped : IsSoundAt slots j h k
-  IsSoundAt-swapped = record { disk = z; said = said; log = log_now; content = content_now }
+  pub IsSoundAt-swapped : ((p : ℕ) → is_open (stored_block j d p) ≡ false) → IsSoundAt slots j h k
+  IsSoundAt-swapped zeroed = record {
+    disk = z;
+    said = said;
+    log = log_now;
+    content = content_now;
+    witnesses = λ y l opened. elim (cases_eq 2 d) [
+      | inl is ↦ absurd (false≢true (sym (zeroed y) ∙ ap (λ (x : ℕ). is_open (stored_block j x y)) (sym is) ∙ opened))
+      | inr not ↦ out_now ∙ sym out_then ∙ sound.witnesses y l (ap is_open (sym (stored_same 2 y not)) ∙ opened)
+    ];
+  }
 
   pub weak_swapped : IsWeak j d
   weak_swapped = out z said stands_now out_now
@@ -240,12 +249,15 @@ module _ (slots : ℕ) (s : Disks) (h : History) (lo : ℕ) (down : Option ℕ) 
   spins : (j : Disks) → IsImage t j → j.power d ≢ Parked
   spins j e parked = let w : Spinning ≡ Parked = sym (attached_power s d size) ∙ sym (e.power d) ∙ parked in cc
 
+  zeroed : (j : Disks) → IsImage t j → (p : ℕ) → is_open (stored_block j d p) ≡ false
+  zeroed j e p = let at = attached_block s d size p in ap is_open (stored_zero j d p (e.block d p at.0 ∙ at.1)) ∙ zeroed_closed
+
   now : (j : Disks) → IsImage t j → IsSoundFrom slots j h lo
   now j e = record {
     k = (was j e).k;
     low = (was j e).low;
     high = (was j e).high;
-    sound = IsSoundAt-swapped slots (before j) j h (was j e).k d (powers j e) (sizes j e) (blocks j) (silent j e) (spins j e) (was j e).sound (is_gone j e);
+    sound = IsSoundAt-swapped slots (before j) j h (was j e).k d (powers j e) (sizes j e) (blocks j) (silent j e) (spins j e) (was j e).sound (is_gone j e) (zeroed j e);
   }
 
   weak_now : (j : Disks) → IsImage t j → IsWeak j d
@@ -262,7 +274,8 @@ module _ (slots : ℕ) (s : Disks) (h : History) (lo : ℕ) (down : Option ℕ) 
     sound = IsSoundAt-swapped slots (before j) (lose d j) h (was j e).k d
         (λ x not. with_at_other j.power d Absent x not ∙ powers j e x not)
         (λ x not. with_at_other j.size d 0 x not ∙ sizes j e x not)
-        (blocks j) (λ said says. says_not_lost j d d said says refl) (lost_absent j) (was j e).sound (is_gone j e);
+        (blocks j) (λ said says. says_not_lost j d d said says refl) (lost_absent j) (was j e).sound (is_gone j e)
+        (λ p. ap is_open (stored_lost j d d p refl) ∙ zeroed_closed);
   }
 
   weak_then : (j : Disks) (e : IsImage t j) → IsWeak (before j) d

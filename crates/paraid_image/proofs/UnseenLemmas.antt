@@ -1,6 +1,6 @@
 -- A write of a place that is not seen leaves what is held.
 use Rattle.std.specs.Prelude.{◌≡◌, ◌≢◌, ℕ, ◌<◌, ◌⊎◌, true, false, Option, Some, None}
-use Rattle.std.proofs.Common.{refl, sym, ◌∙◌, subst, arith, inl, inr}
+use Rattle.std.proofs.Common.{refl, sym, ◌∙◌, ap, subst, arith, inl, inr}
 use Rattle.std.proofs.lemmas.Bool.{cases_eq, false≢true}
 use Rattle.paraid_base.specs.declared.block.Block.{Block}
 use Rattle.paraid_base.specs.History.{History}
@@ -12,6 +12,7 @@ use Rattle.paraid_image.specs.Free.IsFree.{dirty_cell, unfilled, gone, row, stri
 use Rattle.paraid_image.specs.Free.IsUnseen.{neutral, free}
 use Rattle.paraid_image.specs.HeldAt.{IsHeld, IsSoundFrom, MayLose}
 use Rattle.paraid_image.specs.Neutral.{overwrite}
+use Rattle.paraid_image.specs.Neutral.IsNeutral.{witness}
 use Rattle.paraid_image.specs.Out.{IsWeak, first_absent, named_out, or_else, out_disk}
 use Rattle.paraid_image.specs.Out.IsWeak.{out}
 use Rattle.paraid_image.specs.Sides.{LogState, Says}
@@ -153,3 +154,14 @@ unseen_write_holds slots s h lo down d p b unseen held =
       weak = λ j w e weak. held.weak (before j) w (image j e)
           (weak_back (before j) (written (before j) d p (j.block d p)) ((keeps j e).log) w (subst (λ (k : Disks). IsWeak k w) (sym (is j)) weak));
     }
+
+-- the place of the witness against the disk that is out is not seen
+pub witness_holds : (slots : ℕ) (s : Disks) (h : History) (lo : ℕ) (down : Option ℕ) (x : ℕ) (b : Block) → x < 2
+    → ((i : Disks) (y : ℕ) (said : LogState) → IsImage s i → Stands i y said → out_disk i.power said.meta ≡ Some x)
+    → IsHeld slots s h lo down → IsHeld slots (step (Write 2 x b true) s) h lo down
+witness_holds slots s h lo down x b low is_out held =
+    unseen_write_holds slots s h lo down 2 x b (λ i e.
+    let it = held.whole i e in
+    let log = it.sound.log in
+    let is = is_out i it.sound.disk it.sound.said e log.stands in
+    neutral (witness it.sound.disk it.sound.said log.stands (λ at. standing_not_out i it.sound.disk it.sound.said it.k log (is ∙ ap Some (sym at))) is refl low)) held

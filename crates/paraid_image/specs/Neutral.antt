@@ -3,7 +3,7 @@ use Rattle.std.specs.Prelude.{◌≡◌, ◌≢◌, ℕ, ◌<◌, ◌≤◌, ◌
 use Rattle.paraid_base.specs.declared.block.Block.{Block}
 use Rattle.paraid_base.specs.Log.{body_place, log_least}
 use Rattle.paraid_rack.specs.Disks.{Disks, with_at}
-use Rattle.paraid_image.specs.Out.{named_out}
+use Rattle.paraid_image.specs.Out.{named_out, out_disk}
 use Rattle.paraid_image.specs.Sides.{Batch, LogState, Says, has_place, is_open, stored_block}
 use Rattle.paraid_image.specs.Standing.{Stands, other_log}
 
@@ -20,12 +20,15 @@ names_place (w ∷ batch) d p = (w.0.disk == d && w.0.place == p) || names_place
 pub data IsNeutral (i : Disks) (d p : ℕ) : Type 0 where
   -- there is no such place
   nowhere : has_place i d p ≡ false → IsNeutral i d p
-  -- the log of a disk that is no log disk
-  no_log : 2 ≤ d → p < log_least → IsNeutral i d p
+  -- the log of a disk that is no log disk, but for the places of witnesses
+  no_log : 2 ≤ d → p < log_least → (d ≡ 2 → 2 ≤ p) → IsNeutral i d p
+  -- the place of a witness against the log disk that is out
+  witness : (x : ℕ) (said : LogState) → Stands i x said → x ≢ p → out_disk i.power said.meta ≡ Some p → d ≡ 2 → p < 2
+      → IsNeutral i d p
   -- the places of the batch under a closed gate
   shut : is_open (stored_block i d 0) ≡ false → 2 ≤ p → p < log_least → IsNeutral i d p
   -- the meta beside that of the batch under an open gate
-  meta_under_open_gate : is_open (stored_block i d 0) ≡ true → p ≡ 1 → IsNeutral i d p
+  meta_under_open_gate : d < 2 → is_open (stored_block i d 0) ≡ true → p ≡ 1 → IsNeutral i d p
   -- a place of the batch that has no target
   unused : (said : LogState) → Says i d said → said.opened ≡ true → body_place (length said.batch) ≤ p → p < log_least
       → IsNeutral i d p

@@ -10,7 +10,7 @@ use Rattle.paraid_image.specs.HeldAt.{MayLose}
 use Rattle.paraid_image.specs.Neutral.{overwrite}
 use Rattle.paraid_image.specs.Out.{IsMissing, IsWeak, named_out, out_disk}
 use Rattle.paraid_image.specs.Sides.{LogState, Says, SaysOpen, has_place, is_open, stored_block, targets}
-use Rattle.paraid_image.specs.Sound.{ContentOk, IsAhead, IsFresh}
+use Rattle.paraid_image.specs.Sound.{AreWitnessesTrue, ContentOk, IsAhead, IsFresh}
 use Rattle.paraid_image.specs.Standing.{contents, other_log}
 
 -- What the other log disk says besides: this too, or only what has a lower epoch.
@@ -40,6 +40,7 @@ pub record IsLoggedNext (slots : ℕ) (i : Disks) (x : ℕ) (new : LogState) (h 
   pub paired : (o : LogState) → Says i (other_log x) o → out_disk i.power new.meta ≢ Some (other_log x)
       → (o ≡ new) ⊎ IsAhead new o
   pub content : ContentOk slots i.power i.size (view_by new.meta i.power (contents i new.batch)) h k
+  pub witnesses : AreWitnessesTrue i (out_disk i.power new.meta)
 
 -- With its gate open the image holds what the batch brings, as it is and with a disk lost. Where
 -- log disk `x` itself can be lost then, it can be lost before.

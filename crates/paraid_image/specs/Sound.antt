@@ -162,9 +162,14 @@ pub record ContentOk (slots : ℕ) (power : ℕ → Power) (size : ℕ → ℕ) 
   pub kept : IsWellKept slots power size v
   pub blocks : AreBlocks v (after h k)
 
+-- Place `x` of disk 2 bears witness against log disk `x`: it is open only where `x` is out.
+abbrev pub AreWitnessesTrue : Disks → Option ℕ → Type 0
+AreWitnessesTrue i out = (x : ℕ) → x < 2 → is_open (stored_block i 2 x) ≡ true → out ≡ Some x
+
 -- An image of `slots` slots holds the first `k` writes of `h`.
 pub record IsSoundAt (slots : ℕ) (i : Disks) (h : History) (k : ℕ) : Type 0 where
   pub disk : ℕ
   pub said : LogState
   pub log : LogOk i disk said k
   pub content : ContentOk slots i.power i.size (view_of i said) h k
+  pub witnesses : AreWitnessesTrue i (out_disk i.power said.meta)

@@ -26,7 +26,7 @@ ghost use Rattle.paraid_image.specs.HeldAt.{IsHeldAt, IsHeld, MayLose};
 ghost use Rattle.paraid_image.specs.LostDisk.{IsLoss};
 ghost use Rattle.paraid_image.specs.Neutral.{IsNeutral, overwrite};
 ghost use Rattle.paraid_image.specs.Open.{CanOpen, IsLoggedNext};
-ghost use Rattle.paraid_image.specs.Out.{IsDouble, IsMissing, IsWeak, is_out};
+ghost use Rattle.paraid_image.specs.Out.{IsDouble, IsMissing, IsWeak, is_out, out_disk};
 ghost use Rattle.paraid_image.specs.Sides.{Batch, IsSide, LogState, Says, Side, is_open};
 ghost use Rattle.paraid_image.specs.Sound.{ContentOk, IsSoundAt};
 ghost use Rattle.paraid_image.specs.Spot.{View, spot_of};
@@ -143,6 +143,15 @@ pub fn unseen_calls_leave_what_is_held()
     ensures write { (slots : ℕ) (s : Disks) (h : History) (lo : ℕ) (down : Option ℕ) (d p : ℕ)
         (b : BlockType) → ((i : Disks) → IsImage s i → IsUnseen i d p)
         → IsHeld slots s h lo down → IsHeld slots (step (Write d p b true) s) h lo down }
+{}
+
+/// Any bytes may be written into the place of the witness against the log disk that is out.
+pub fn a_witness_can_be_borne()
+    ensures { (slots : ℕ) (s : Disks) (h : History) (lo : ℕ) (down : Option ℕ) (x : ℕ)
+        (b : BlockType) → x < 2
+        → ((i : Disks) (y : ℕ) (said : LogState) → IsImage s i → Stands i y said
+        → out_disk i.power said.meta ≡ Some x)
+        → IsHeld slots s h lo down → IsHeld slots (step (Write 2 x b true) s) h lo down }
 {}
 
 /// A failed call loses its disk and changes nothing else. Where no other disk is weak, what is

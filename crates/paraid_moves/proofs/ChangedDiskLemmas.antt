@@ -48,7 +48,7 @@ without_there f d x q apart = let t : (x == d) ≡ false = grind (arith, nat_tes
 -- One disk of an image has changed: it says nothing, holds nothing, and is the one that is out.
 module _ (i j : Disks) (m : Meta) (f : Contents) (d : ℕ) (c : IsCopyImage i m f)
     (power : (x : ℕ) → x ≢ d → j.power x ≡ i.power x) (size : (x : ℕ) → x ≢ d → j.size x ≡ i.size x) (block : (x q : ℕ) → x ≢ d → j.block x q ≡ i.block x q)
-    (silent : (o : LogState) → Says j d o → ⊥) (empty : (q : ℕ) → contents j [] d q ≡ zero_block)
+    (silent : (o : LogState) → Says j d o → ⊥) (shut : (q : ℕ) → is_open (stored_block j d q) ≡ false) (empty : (q : ℕ) → contents j [] d q ≡ zero_block)
     (was_missing : (e : ℕ) → IsMissing i.power m e → e ≡ d) (missing : (e : ℕ) → IsMissing j.power m e → e ≡ d) (out_now : out_disk j.power m ≡ Some d)
     (no_fresh : (e u : ℕ) → IsFresh j.power m e u → ⊥)
     (mirrored : (x : ℕ) → x < map_count m.setup.geometry → out_disk i.power m ≡ None → f 0 (map_block_place m.setup.geometry x) ≡ f 1 (map_block_place m.setup.geometry x)) where
@@ -165,6 +165,12 @@ module _ (i j : Disks) (m : Meta) (f : Contents) (d : ℕ) (c : IsCopyImage i m 
     disk = stands_now.0;
     log = log_now;
     gates = record { closed = λ y other low says not. c.gates.closed y other low (says_then y other says) not };
+    witnesses = λ y low opened. elim (cases_eq 2 d) [
+      | inl is ↦ absurd (false≢true (sym (shut y) ∙ ap (λ (x : ℕ). is_open (stored_block j x y)) (sym is) ∙ opened))
+      | inr not ↦
+          let was = c.witnesses y low (ap is_open (sym (stored_same 2 y not)) ∙ opened) in
+          out_now ∙ ap Some (sym (was_missing y (out_missing i.power m y in_range was)))
+    ];
     only = λ x q. elim (cases_eq x d) [
       | inl is ↦ inr (ap (λ (y : ℕ). contents j [] y q) is ∙ empty q ∙ sym (without_here f d x q is))
       | inr apart ↦ elim (c.only x q) [
@@ -179,6 +185,11 @@ absent_missing : (power : ℕ → Power) (m : Meta) (d : ℕ) → IsInRange m �
     → ((e : ℕ) → IsMissing power m e → e ≡ d) → out_disk power m ≡ Some d
 absent_missing power m d range ld none missing =
     missing_is_out power m d range (λ e x p q. missing e p ∙ sym (missing x q)) (record { disk = ld; is = inl none }) none
+
+-- an absent disk stores nothing
+shut_there : (j : Disks) (d q : ℕ) → is_present (j.power d) ≡ false → is_open (stored_block j d q) ≡ false
+unfolding stored_block
+shut_there j d q absent = ap (λ (b : Bool). is_open (if b && nat_lt q (j.size d) then j.block d q else zero_block)) absent ∙ zeroed_closed
 
 -- A disk is lost in a failed call, and no other one was missing.
 module _ (s t : Disks) (m : Meta) (f : Contents) (d : ℕ) (loss : IsLoss s t d) (ld : d < m.setup.geometry.disks)
@@ -222,6 +233,7 @@ module _ (s t : Disks) (m : Meta) (f : Contents) (d : ℕ) (loss : IsLoss s t d)
       (λ x apart. e.size x ∙ loss.size x ∙ with_at_other s.size d 0 x apart)
       (λ x q apart. sym (block_there j x q apart))
       (λ o says. false≢true (sym gone ∙ says.present))
+      (λ q. shut_there j d q gone)
       (λ q. contents_none j [] d q (ap (λ (b : Bool). b && nat_lt q (j.size d)) gone))
       others_there lost_is
       (absent_missing j.power m d c.log.stands.says.log.meta.in_range ld gone lost_is)
@@ -351,6 +363,7 @@ copying_attached s t m f d size attached is_gone others_there copying = λ j e.
     (λ x apart. e.size x ∙ attached.sizes x apart)
     (λ x q apart. sym (block_there j x q apart))
     (λ o says. blank_says_nothing j d o (ap is_open (stored_zero j d 0 (zeros 0)) ∙ zeroed_closed) (stored_zero j d 1 (zeros 1)) says)
+    (λ q. ap is_open (stored_zero j d q (zeros q)) ∙ zeroed_closed)
     (λ q. contents_zero j d q (zeros q))
     others_there missing (out_named j.power m d name)
     (λ x u fresh. let z : Gone d ≡ Fresh x u = sym is_gone ∙ fresh.is in cc)

@@ -19,12 +19,12 @@ use Rattle.paraid_image.specs.Neutral.{overwrite}
 use Rattle.paraid_image.specs.Out.{IsMissing, IsWeak, named_out, out_disk}
 use Rattle.paraid_image.specs.Out.IsWeak.{out, named}
 use Rattle.paraid_image.specs.Sides.{LogState, Says, has_place, is_open, stored_block}
-use Rattle.paraid_image.specs.Sound.{ContentOk, LogOk, IsSoundAt}
+use Rattle.paraid_image.specs.Sound.{AreWitnessesTrue, ContentOk, LogOk, IsSoundAt}
 use Rattle.paraid_image.specs.Standing.{Contents, contents, other_log}
 use Rattle.paraid_image.proofs.AgreeLemmas.{content_agrees}
 use Rattle.paraid_image.proofs.FreeLemmas.{free_log, free_past}
 use Rattle.paraid_image.proofs.OneDiskLessLemmas.{IsSoundAt-lost}
-use Rattle.paraid_image.proofs.NeutralLemmas.{IsLogKept, contents_else, log_forth, past_log, says_back, says_forth, where_there, written}
+use Rattle.paraid_image.proofs.NeutralLemmas.{stored_else, IsLogKept, contents_else, log_forth, past_log, says_back, says_forth, where_there, written}
 use Rattle.paraid_image.proofs.OutLemmas.{missing_is_out, out_present}
 use Rattle.paraid_image.proofs.StandingLemmas.{Stands-same}
 use Rattle.paraid_image.proofs.SidesLemmas.{Says-same}
@@ -130,7 +130,7 @@ module _ (i : Disks) (m : Meta) (f : Contents) (c : IsCopyImage i m f) where
         (free_places_agree (view_by m i.power f) i.power (contents i []) in_range named_is_out c.only) slots i.size h m.writes ok
 
     pub copies_sound : IsSoundAt slots i h m.writes
-    copies_sound = record { disk = c.disk; said = said; log = c.log; content = copies_hold }
+    copies_sound = record { disk = c.disk; said = said; log = c.log; content = copies_hold; witnesses = c.witnesses }
 
     pub copies_sound_lost : (d : ℕ) → MayLose i d → IsSoundAt slots (lose d i) h m.writes
     copies_sound_lost d may = IsSoundAt-lost slots i h m.writes d c.disk said copies_sound c.log.stands (spare d may) may
@@ -171,6 +171,9 @@ image_written i m f d p b free c =
       disk = c.disk;
       log = log_forth i (written i d p b) keeps c.disk (closed_over m) m.writes c.log;
       gates = record { closed = λ y other low says not. c.gates.closed y other low (keeps.back y other low says) not };
+      witnesses = λ y low opened.
+          let far = free_past (view_by m i.power f) d p free in
+          c.witnesses y low (ap is_open (sym (stored_else i d p b 2 y (λ at here. absurd (omega arith)))) ∙ opened);
       only = λ x q. elim (same_or_apart x q d p) [
         | inl at ↦ inl (subst (λ (y : ℕ). IsFree (view_by m i.power f) y q) (sym at.0) (subst (IsFree (view_by m i.power f) d) (sym at.1) free))
         | inr apart ↦ elim (c.only x q) [
@@ -223,8 +226,8 @@ module _ (s i : Disks) (synced : AreSynced s) (e : IsImage s i) where
     rest = λ opened o says q low high. stored_same x q;
   }
 
-pub copying_from_rest : (s : Disks) (m : Meta) → IsAtRest s m → IsCopying s m (contents s [])
-copying_from_rest s m rest = λ i e.
+pub copying_from_rest : (s : Disks) (m : Meta) → IsAtRest s m → AreWitnessesTrue s (out_disk s.power m) → IsCopying s m (contents s [])
+copying_from_rest s m rest witnesses = λ i e.
     let forth : (x : ℕ) (o : LogState) → x < 2 → Says s x o → Says i x o = (λ x o l. says_forth s i x o (log_kept s i rest.synced e x)) in
     let back : (x : ℕ) (o : LogState) → x < 2 → Says i x o → Says s x o = (λ x o l. says_back s i x o (log_kept s i rest.synced e x)) in
     record {
@@ -235,6 +238,8 @@ copying_from_rest s m rest = λ i e.
             let was = back y other low says in
             sym was.gate ∙ rest.shut y low was.present not;
       };
+      witnesses = λ y low opened.
+          ap (λ (p : ℕ → Power). out_disk p m) (powers_are s i e) ∙ witnesses y low (ap is_open (sym (stored_same s i rest.synced e 2 y)) ∙ opened);
       only = λ x q. inr (contents_same s i rest.synced e x q);
     }
 

@@ -21,7 +21,7 @@ use Rattle.paraid_moves.specs.Copying.{HoldsWithCopies}
 use Rattle.paraid_moves.specs.Groups.{IsOneDown}
 use Rattle.paraid_moves.specs.MoveMetas.{AreStripesCopied, HoldUnder, IsAs, filled_to}
 use Rattle.paraid_moves.proofs.MoveLemmas.{all_in, fits_later, marks_stripes}
-use Rattle.paraid_moves.proofs.NextLemmas.{content_now, holds_now, next_same, rest_now}
+use Rattle.paraid_moves.proofs.NextLemmas.{content_now, holds_now, next_same, rest_now, witnesses_now}
 
 module _ (slots : ℕ) (m t : Meta) (f : Contents) (h : History) (lo : ℕ) (batch : Batch) (old new : Option Trail) (first last : Trail)
     (was : old ≡ Some first) (tells : new ≡ Some last) (copies : HoldsWithCopies slots m f h lo (now first)) (synced : AreSynced (now first))
@@ -43,7 +43,7 @@ module _ (slots : ℕ) (m t : Meta) (f : Contents) (h : History) (lo : ℕ) (bat
       } in
       let moment = subst (λ (q : Trail). IsAtRest (now q) m → IsNext (now q) m t → (j : ℕ) → moments q ≤ j → j ≤ moments last
       → IsOldOrNew (now q) m t batch (disks last j)) same p.3 rest next k from to in
-      held_commits slots s m t batch h lo (holds_now slots m f h lo s copies) marked (disks last k) down one_down moment
+      held_commits slots s m t batch h lo (holds_now slots m f h lo s copies) marked (witnesses_now slots m f h lo s copies) (disks last k) down one_down moment
 
 -- So it is with a group of stripes, whose marks go by an empty batch.
 pub stripes_group_holds : (slots : ℕ) (m t : Meta) (f : Contents) (h : History) (lo end : ℕ) (old new : Option Trail) (first last : Trail)

@@ -9,9 +9,9 @@ use Rattle.paraid_image.specs.Rest.{IsAtRest, AreSynced}
 use Rattle.paraid_txn.specs.Commit.{IsNext}
 use Rattle.paraid_image.specs.Content.{view_by}
 use Rattle.paraid_image.specs.FirstWrites.{HoldsFirstWrites}
-use Rattle.paraid_image.specs.Out.{named_out}
+use Rattle.paraid_image.specs.Out.{named_out, out_disk}
 use Rattle.paraid_image.specs.Sides.{is_open, stored_block}
-use Rattle.paraid_image.specs.Sound.{ContentOk}
+use Rattle.paraid_image.specs.Sound.{AreWitnessesTrue, ContentOk}
 use Rattle.paraid_image.specs.Standing.{Contents, contents}
 use Rattle.paraid_moves.specs.Copying.{HoldsWithCopies}
 use Rattle.paraid_moves.proofs.CopyCommitLemmas.{copies_hold, rest_from_copying}
@@ -82,6 +82,13 @@ module _ (slots : ℕ) (m : Meta) (f : Contents) (h : History) (lo : ℕ) (s : D
 
   pub holds_now : HoldsFirstWrites slots s m [] h lo
   holds_now = record { low = c.low; high = c.high; content = content_now }
+
+  -- and its witnesses are true
+  pub witnesses_now : AreWitnessesTrue s (out_disk s.power m)
+  unfolding stored_block
+  witnesses_now =
+      let e : IsImage s i = record { power = λ d. refl; size = λ d. refl; block = λ d p not. refl; loose = λ d p. refl } in
+      (c.copying i e).witnesses
 
   -- where they are synced, the next commit can begin
   pub rest_now : AreSynced s → IsAtRest s m

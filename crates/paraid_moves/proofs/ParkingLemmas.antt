@@ -125,6 +125,7 @@ module _ (i : Disks) (q : ℕ → Power) (same : AreTurned i.power q) where
     disk = c.disk;
     log = log_now c.disk m.writes m c.log;
     gates = record { closed = λ y other low says not. c.gates.closed y other low (says_then y other says) not };
+    witnesses = λ y low opened. out_turned i.power q m same ∙ c.witnesses y low (ap is_open (sym (stored_turned 2 y)) ∙ opened);
     only = λ x p. elim (c.only x p) [
       | inl free ↦ inl (free_now m f x p free)
       | inr is ↦ inr (contents_turned x p ∙ is)

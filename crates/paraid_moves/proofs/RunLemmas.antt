@@ -21,7 +21,7 @@ use Rattle.paraid_image.specs.Calls.{disk_of, is_done}
 use Rattle.paraid_image.specs.FirstWrites.{HoldsFirstWrites}
 use Rattle.paraid_image.specs.Out.{out_disk}
 use Rattle.paraid_image.specs.Rest.{IsAtRest}
-use Rattle.paraid_image.specs.Sound.{ContentOk}
+use Rattle.paraid_image.specs.Sound.{AreWitnessesTrue, ContentOk}
 use Rattle.paraid_image.specs.Standing.{Contents, contents}
 use Rattle.paraid_image.proofs.FailedCallLemmas.{failed_is_loss}
 use Rattle.paraid_moves.specs.Copying.{CanCopy, CanLose, HoldsWithCopies, IsHeldByCopies, IsCopying, without_disk}
@@ -103,5 +103,6 @@ pub copy_failed : (slots : ℕ) (m : Meta) (f : Contents) (h : History) (lo : �
     → GrowsByCall old new (Write d p b done) → Ran old new (CrashTriple (IsHeldByCopies slots m h lo) (CanLose slots m f h lo d) (HoldsWithCopies slots m (without_disk f d) h lo))
 copy_failed slots m f h lo {old} {new} {d} {p} {b} is range grows = copy_lost_ran slots m f h lo range (subst (λ (x : Bool). GrowsByCall old new (Write d p b x)) is grows)
 
-pub copies_at_rest : (slots : ℕ) (m : Meta) (h : History) (lo : ℕ) (s : Disks) → IsAtRest s m → HoldsFirstWrites slots s m [] h lo → HoldsWithCopies slots m (contents s []) h lo s
-copies_at_rest slots m h lo s rest holds = record { copying = copying_from_rest s m rest; low = holds.low; high = holds.high; content = holds.content }
+pub copies_at_rest : (slots : ℕ) (m : Meta) (h : History) (lo : ℕ) (s : Disks) → IsAtRest s m → AreWitnessesTrue s (out_disk s.power m) → HoldsFirstWrites slots s m [] h lo
+    → HoldsWithCopies slots m (contents s []) h lo s
+copies_at_rest slots m h lo s rest witnesses holds = record { copying = copying_from_rest s m rest witnesses; low = holds.low; high = holds.high; content = holds.content }

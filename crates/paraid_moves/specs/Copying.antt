@@ -9,7 +9,7 @@ use Rattle.paraid_image.specs.Content.{view_by}
 use Rattle.paraid_image.specs.Free.{AreSidesClosed, IsFree}
 use Rattle.paraid_image.specs.HeldAt.{IsHeld}
 use Rattle.paraid_image.specs.Out.{IsMissing, out_disk}
-use Rattle.paraid_image.specs.Sound.{ContentOk, LogOk}
+use Rattle.paraid_image.specs.Sound.{AreWitnessesTrue, ContentOk, LogOk}
 use Rattle.paraid_image.specs.Standing.{Contents, contents}
 
 -- This meta stands by closed gates, and past the log the blocks are these but for free places.
@@ -17,6 +17,7 @@ pub record IsCopyImage (i : Disks) (m : Meta) (f : Contents) : Type 0 where
   pub disk : ℕ
   pub log : LogOk i disk (closed_over m) m.writes
   pub gates : AreSidesClosed i (closed_over m)
+  pub witnesses : AreWitnessesTrue i (out_disk i.power m)
   pub only : (x q : ℕ) → IsFree (view_by m i.power f) x q ⊎ (contents i [] x q ≡ f x q)
 
 -- so it is in all that a stop may leave

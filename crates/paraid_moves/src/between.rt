@@ -20,16 +20,18 @@ ghost use Rattle.paraid_image.specs.FirstWrites.{HoldsFirstWrites};
 ghost use Rattle.paraid_image.specs.Out.{out_disk};
 ghost use Rattle.paraid_image.specs.Rest.{IsAtRest, AreSynced};
 ghost use Rattle.paraid_image.specs.Sides.{has_place};
-ghost use Rattle.paraid_image.specs.Sound.{AreRebuilt, AreRowsZero, AreStripesZero, stripes_on};
+ghost use Rattle.paraid_image.specs.Sound.{AreRebuilt, AreRowsZero, AreStripesZero, AreWitnessesTrue, stripes_on};
 ghost use Rattle.paraid_image.specs.Spot.{rising_to};
 ghost use Rattle.paraid_image.specs.Standing.{Contents, contents, other_log};
 ghost use Rattle.paraid_image.specs.Value.{stripe_rest, value};
 ghost use Rattle.paraid_moves.specs.Copying.{CanCopy, CanLose, HoldsWithCopies, without_disk};
 ghost use Rattle.paraid_moves.specs.MoveMetas.{AreCellsCopied, view_with_out};
 
-/// Between two commits, before any copy, the disks hold what their blocks past the log are.
+/// Between two commits, before any copy, the disks hold what their blocks past the log are, where the
+/// witnesses are true.
 pub fn copies_begin_at_a_rest()
     ensures { (slots : ℕ) (m : MetaType) (h : History) (lo : ℕ) (s : Disks) → IsAtRest s m
+        → AreWitnessesTrue s (out_disk s.power m)
         → HoldsFirstWrites slots s m [] h lo → HoldsWithCopies slots m (contents s []) h lo s }
 {}
 

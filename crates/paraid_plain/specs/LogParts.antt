@@ -1,5 +1,5 @@
 -- The parts of what is asked of the log disks.
-use Rattle.std.specs.Prelude.{◌≡◌, ◌≢◌, ℕ, ◌<◌, false, Option, Some, Contains, get_or}
+use Rattle.std.specs.Prelude.{◌≡◌, ◌≢◌, ℕ, ◌<◌, true, false, Option, Some, Contains, get_or}
 use Rattle.paraid_base.specs.declared.state.Out.{Out}
 use Rattle.paraid_base.specs.Log.{body_place}
 use Rattle.paraid_rack.specs.declared.call.Power.{Power}
@@ -55,3 +55,7 @@ AreOutAlike a b = (d e : ℕ) → named_out a ≡ Some d → named_out b ≡ Som
 abbrev pub IsSameTarget : Image → Statement → Statement → ℕ → Type 0
 IsSameTarget image a b k = (get_or a.targets.list k no_target ≡ get_or b.targets.list k no_target)
     × (stored_block (disks_in image) a.disk (body_place k) ≡ stored_block (disks_in image) b.disk (body_place k))
+
+-- where there is a witness against log disk `x`, it is out
+abbrev pub IsWitnessTrue : Disks → Option ℕ → ℕ → Type 0
+IsWitnessTrue i out x = is_open (stored_block i 2 x) ≡ true → out ≡ Some x

@@ -24,6 +24,7 @@ mod statement;
 mod stripes;
 mod value;
 mod view;
+mod witness;
 
 pub use history::block_after;
 pub use image::{Image, ImageSlot};

@@ -21,7 +21,7 @@ use Rattle.paraid_rack.specs.Trail.{Trail, extend, moments, now}
 use Rattle.paraid_rack.proofs.TrailsLemmas.{extend-extend}
 use Rattle.paraid_record.specs.declared.meta.Setup.{Setup}
 use Rattle.paraid_recover.specs.Mount.{HasOnlyRead, IsCauseOfRefusal}
-use Rattle.paraid_recover.specs.Mount.IsCauseOfRefusal.{examined, no_memory as for_memory, two_down}
+use Rattle.paraid_recover.specs.Mount.IsCauseOfRefusal.{examined, no_memory as for_memory, two_down, witnessed}
 use Rattle.paraid_scrub.specs.Counts.{no_faults}
 use Rattle.paraid_scrub.specs.declared.kind.CheckReport.{CheckReport}
 use Rattle.paraid_session.specs.Mount.{FromRunStart, IsBegun, IsCauseOutsideDisks, IsMountRefused, IsMounted, IsMountedFromEach, IsRefusedFromEach, IsWornOut, start_watch}
@@ -75,6 +75,7 @@ told_whole before after line code status e all = record {
 only_read : (slots : ℕ) (old new : ℕ → Slot) (before after : Option Trail) → IsCauseOfRefusal slots old new before after NoMemory → HasOnlyRead before after
 only_read slots old new before after (for_memory is only) = only
 only_read slots old new before after (examined is only) = only
+only_read slots old new before after (witnessed read mid x said pair calls exam low is refuses) = absurd (let z : NoMemory ≡ TwoDown pair = is in cc)
 only_read slots old new before after (two_down read x then pair it agrees exam is beside gone) = absurd (let z : NoMemory ≡ TwoDown pair = is in cc)
 
 module _ {slots : ℕ} {before after : Option Trail} (h : HeldHistory slots before after) where

@@ -1,8 +1,9 @@
 -- What is held once an interrupted commit was ended, and once an absent disk was marked then.
-use Rattle.std.specs.Prelude.{◌≡◌, ℕ, ◌<◌, ◌≤◌, false, Option, Some, take}
-use Rattle.std.proofs.Common.{refl, sym, ◌∙◌, ap, subst, arith, inl, inr}
+use Rattle.std.specs.Prelude.{◌≡◌, ℕ, ◌<◌, ◌≤◌, true, false, Option, Some, take}
+use Rattle.std.proofs.Common.{refl, sym, ◌∙◌, ap, subst, arith, inl, inr, length-append}
 use Rattle.std.proofs.lemmas.Bool.{cases_lt}
 use Rattle.paraid_base.specs.History.{History}
+use Rattle.paraid_rack.specs.declared.call.Power.TheVariants.{Spinning}
 use Rattle.paraid_rack.specs.Disks.{Disks, is_present}
 use Rattle.paraid_rack.specs.Trail.{Trail, disks, extend, moments, now}
 use Rattle.paraid_record.specs.declared.meta.Meta.{Meta}
@@ -15,6 +16,7 @@ use Rattle.paraid_image.proofs.CallLemmas.{out_named}
 use Rattle.paraid_txn.specs.Commit.{EndsCommitted, IsEitherMissing, IsNext}
 use Rattle.paraid_txn.specs.Resume.{IsBroken, EndsAsCommitted}
 use Rattle.paraid_txn.proofs.RanLemmas.{commits_now, settles_now}
+use Rattle.paraid_recover.specs.Bearing.{EndsBorne, IsNewlyNamed}
 use Rattle.paraid_recover.specs.HeldMoments.{EndsHeld, Extends, IsAbsentOne, IsAbsentSince, KeepsHeld, RecoversHeld}
 use Rattle.paraid_recover.proofs.RecoverLemmas.{disks_before, disks_last, middle}
 use Rattle.paraid_recover.proofs.HeldAtRestLemmas.{rest_held}
@@ -140,4 +142,25 @@ ends_marked slots x said after batch old mid new d low only names setup gone nex
           ] in
           let rest = committed.rest (record { one = λ a b p q. some_same down a b (missing a p) (missing b q) }) in
           (rest, at_end slots (now t) after h lo down rest end),
+    )
+
+-- and witness is borne against it, where it is a log disk that was not named out before
+pub borne_marked : (slots x : ℕ) (said : LogState) (after : Meta) (batch : Batch) (old mid new : Option Trail) → ((s : Disks) → IsAtRest s said.meta → IsNext s said.meta after)
+    → ((u : Trail) → mid ≡ Some u → (y : ℕ) → IsNewlyNamed (named_out said.meta.out) (named_out after.out) y → is_present ((now u).power 2) ≡ true → ((now u).power 2 ≡ Spinning) × (1 < (now u).size 2))
+    → Extends mid new → EndsHeld slots x said said.meta old mid → EndsCommitted mid new said.meta after batch
+    → EndsBorne (IsNewlyNamed (named_out said.meta.out) (named_out after.out)) slots x said old new
+borne_marked slots x said after batch old mid new next can second ends commits t tells =
+    let c = commits_now mid new said.meta after batch commits t tells in
+    let s = ends c.0 c.1 in
+    let e = second t tells in
+    let mid_same : e.from ≡ c.0 = (let z : Some e.from ≡ Some c.0 = sym e.was ∙ c.1 in cc) in
+    let longer : t ≡ extend c.0 e.calls = e.is ∙ ap (λ (u : Trail). extend u e.calls) mid_same in
+    let long : moments c.0 ≤ moments t = (let l = ap moments longer ∙ length-append c.0.calls e.calls in omega arith) in (
+      s.0,
+      s.1,
+      λ h lo was down broken held absent weak y newly.
+          let absent_since : IsAbsentSince said.meta.setup.geometry.disks c.0 (moments s.0) (moments c.0) down = λ j b from to l off.
+          absent j b from (omega arith) l (ap (λ (u : Disks). is_present (u.power b)) (ap (λ (u : Trail). disks u j) longer ∙ disks_before c.0 e.calls j to) ∙ off) in
+          let rest = (s.2 h lo was down broken held absent_since weak).0 in
+          (c.2 rest (next (now c.0) rest)).borne y newly.0.1 newly.0.0 (λ named. absurd (newly.1 named)) (can c.0 c.1 y newly),
     )

@@ -55,11 +55,11 @@ uses_calls {old} {new} {x} low ran = ran_milder (EachCall (ReadsLog x)) (EachCal
     uses (SpinUp d done) is = absurd is
     uses (Attach d size done) is = absurd is
 
-pub logs_calls : {old new : Option Trail} {x : ℕ} → x < 2 → Ran old new (EachCall (ReadsLog x)) → Ran old new (EachCall ReadsLogs)
+pub logs_calls : {old new : Option Trail} {x : ℕ} → x < 3 → Ran old new (EachCall (ReadsLog x)) → Ran old new (EachCall ReadsLogs)
 logs_calls {old} {new} {x} low ran = ran_milder (EachCall (ReadsLog x)) (EachCall ReadsLogs) (EachCall-milder (ReadsLog x) ReadsLogs are) ran
   where
     are : (c : Call) → ReadsLog x c → ReadsLogs c
-    are (Read d p done) is = (subst (λ (k : ℕ). k < 2) (sym is.0) low, is.1)
+    are (Read d p done) is = ((let at = is.0 in omega arith), is.1)
     are (Write d p b done) is = absurd is
     are (Sync d done) is = absurd is
     are (Park d done) is = absurd is

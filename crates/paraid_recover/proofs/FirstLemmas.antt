@@ -18,6 +18,9 @@ use Rattle.paraid_image.specs.HeldAt.{IsHeld}
 use Rattle.paraid_image.specs.Out.{first_absent, named_out, or_else, out_disk}
 use Rattle.paraid_image.specs.Power.{gone_of, initial_state, out_after, out_state, phase_beside, power_beside, power_by_gear, state_by}
 use Rattle.paraid_image.specs.Rest.{IsAtRest, closed_over}
+use Rattle.paraid_rack.specs.Atoms.{IsSure}
+use Rattle.paraid_image.specs.Sides.{is_open}
+use Rattle.paraid_recover.specs.Bearing.{IsNamedLog}
 use Rattle.paraid_recover.specs.RecoveryMark.{to_mark, to_mark_by}
 use Rattle.paraid_recover.specs.Mounted.{IsServable, with_loss}
 use Rattle.paraid_recover.proofs.ServableLemmas.{power_beside as gear_beside}
@@ -139,8 +142,9 @@ module _ (slots : ℕ) (s : Disks) (count last array : ℕ) (slot : ℕ → Slot
 
   -- At the end of a mount the disks are as a session marks them.
   pub mark_at_end : (h : History) (spun : ℕ → ℕ) → IsAtRest s standing → IsHeld slots s (take standing.writes h) standing.writes (out_disk s.power standing)
-      → IsMark slots standing.setup (first_point s standing h spun)
-  mark_at_end h spun rest held = record {
+      → ((x : ℕ) → IsNamedLog (named_out standing.out) x → IsSure s 2 x (λ b. is_open b ≡ true)) → IsMark slots standing.setup (first_point s standing h spun)
+  mark_at_end h spun rest held borne = record {
+    borne = λ x low names. borne x (names, low);
     held = subst (λ (o : Option ℕ). IsHeld slots s (take standing.writes h) standing.writes o) (sym (named_shown s standing)) held;
     rest = rest;
     same_setup = refl;

@@ -61,6 +61,7 @@ module _ (slots : ℕ) (setup : Setup) (b : Block) (is : b.bytes ≡ meta_bytes 
     large = λ d low. (let s = two.size d ∙ one.size d ∙ attached.size_is d low in omega (arith, s));
     closed = λ x low. ap is_open (block_at x 0 (λ at. absurd (omega arith)) ∙ attached.zeros x 0 (let few = setup.geometry.disks_low in omega arith)) ∙ closed_zeros;
     meta = λ x low. ap (λ (c : Block). c.bytes) (meta_at x low) ∙ is;
+    no_witness = λ x low. ap is_open (two.block 2 x (λ at. absurd (omega arith)) ∙ one.block 2 x (λ at. absurd (omega arith)) ∙ attached.zeros 2 x (let few = setup.geometry.disks_low in omega arith)) ∙ closed_zeros;
     zeros = λ d p low high far. block_at d p (λ at. absurd (omega arith)) ∙ attached.zeros d p low;
     synced = loose_at synced;
   }

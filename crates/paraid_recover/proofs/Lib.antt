@@ -36,12 +36,15 @@ pub mod ServableLemmas
 pub mod FitLemmas
 pub mod OneMarkedLemmas
 pub mod TurnsLemmas
+pub mod BearingLemmas
+pub mod BearerLemmas
 pub mod PowersLemmas
 pub mod MapLemmas
 pub mod MarkHeldLemmas
 pub mod RecoverLemmas
 pub mod HeldAtRestLemmas
 pub mod QuietCallsLemmas
+pub mod WitnessLemmas
 pub mod EndsLemmas
 pub mod RenewLemmas
 pub mod MountCallsLemmas

@@ -7,15 +7,16 @@ use Rattle.paraid_rack.specs.Alike.{IsAlike}
 use Rattle.paraid_rack.specs.Disks.{Disks, is_present}
 use Rattle.paraid_record.specs.declared.meta.Meta.{Meta}
 use Rattle.paraid_record.specs.Range.{IsInRange}
+use Rattle.paraid_recover.proofs.QuietCallsLemmas.{still_true}
 use Rattle.paraid_image.specs.Rest.{IsAtRest, closed_over}
 use Rattle.paraid_txn.specs.Commit.{IsEitherMissing, IsNext, IsOldOrNew}
 use Rattle.paraid_image.specs.Content.{view_by, view_of}
 use Rattle.paraid_image.specs.HeldAt.{IsHeld, IsSoundFrom}
 use Rattle.paraid_image.specs.FirstWrites.{HoldsFirstWrites}
 use Rattle.paraid_image.specs.Mark.{marked_gone}
-use Rattle.paraid_image.specs.Out.{named_out}
+use Rattle.paraid_image.specs.Out.{named_out, out_disk}
 use Rattle.paraid_image.specs.Sides.{LogState}
-use Rattle.paraid_image.specs.Sound.{ContentOk}
+use Rattle.paraid_image.specs.Sound.{ContentOk, AreWitnessesTrue}
 use Rattle.paraid_image.specs.Standing.{contents}
 use Rattle.paraid_image.proofs.AlikeLemmas.{contents_alike, held_alike, stands_alike}
 use Rattle.paraid_moves.proofs.MoveLemmas.{fits_later}
@@ -69,6 +70,9 @@ module _ (slots : ℕ) (s : Disks) (m : Meta) (d epoch : ℕ) (h : History) (lo 
     content = subst (λ (k : ℕ). ContentOk slots s.power s.size (view_by m s.power (contents s [])) h k) (sym writes) content;
   }
 
+  witnesses : AreWitnessesTrue s (out_disk s.power m)
+  witnesses = still_true s (out_disk s.power m) (subst (λ (o : LogState). AreWitnessesTrue (synced_disks s) (out_disk s.power o.meta)) same whole.sound.witnesses)
+
   pub mark_held : (t : Disks) (down : Option ℕ) → ((e : ℕ) → e < m.setup.geometry.disks → is_present (t.power e) ≡ false → down ≡ Some e) → down ≡ Some d
       → IsOldOrNew s m (marked_gone (of_version_two m) d epoch) [] t → IsHeld slots t h lo down
   mark_held t down downs is moment =
@@ -81,7 +85,7 @@ module _ (slots : ℕ) (s : Disks) (m : Meta) (d epoch : ℕ) (h : History) (lo 
             (λ e u fresh. let z : Gone d ≡ Fresh e u = fresh.is in cc)
             (content_marked slots s.power s.size m d epoch (contents s []) h m.writes range rest.log.single low gone old.content);
       } in
-      held_commits slots s m (marked_gone (of_version_two m) d epoch) [] h lo old new t down one_down moment
+      held_commits slots s m (marked_gone (of_version_two m) d epoch) [] h lo old new witnesses t down one_down moment
     where
       one_down : (e : ℕ) → IsEitherMissing t.power m (marked_gone (of_version_two m) d epoch) e → down ≡ Some e
       one_down e (inl p) = elim p.is [ inl off ↦ downs e p.disk off | inr name ↦ is ∙ ap (λ (y : ℕ). Some y) (sym (only e name)) ]

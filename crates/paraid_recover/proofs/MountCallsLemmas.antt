@@ -18,7 +18,7 @@ use Rattle.paraid_image.specs.Mark.{marked_gone}
 use Rattle.paraid_image.specs.Out.{or_else}
 use Rattle.paraid_image.specs.Sides.{Batch}
 use Rattle.paraid_recover.specs.HeardSides.{ReadsLogs}
-use Rattle.paraid_txn.specs.Uses.{EachCall, Uses, UsesLog, UsesSync, UsesTarget}
+use Rattle.paraid_txn.specs.Uses.{EachCall, Uses, UsesInCommit, UsesLog, UsesSync, UsesTarget, UsesWitness}
 use Rattle.paraid_txn.proofs.CommitPartLemmas.{EachCall-milder, ran_milder}
 use Rattle.paraid_recover.specs.Map.{ReadsMap, ReadsMapOf}
 use Rattle.paraid_recover.specs.MountCalls.{IsMountCall, OnlyMountCalls}
@@ -29,7 +29,7 @@ use Rattle.paraid_recover.proofs.FitLemmas.{gone_named}
 low_place : (p : ℕ) → p < log_least → nat_lt p log_least ≡ true
 low_place p l = grind (arith, nat_tests)
 
-pub reads_mount : (n : ℕ) (gone : Option ℕ) (c : Call) → 2 ≤ n → ReadsLogs c → IsMountCall n gone c
+pub reads_mount : (n : ℕ) (gone : Option ℕ) (c : Call) → 3 ≤ n → ReadsLogs c → IsMountCall n gone c
 reads_mount n skip (Read d p done) two is = record { disk = omega (arith, is.0, two); attaches = refl; aside = λ at. low_place p is.1 }
 reads_mount n skip (Write d p b done) two is = absurd is
 reads_mount n skip (Sync d done) two is = absurd is
@@ -62,13 +62,25 @@ commit_mount m batch c is = elim is.1 [
   | inr target ↦ apart_mount m.setup.geometry.disks (gone_out m.out) c is.0 (target_apart m.out batch c target)
 ]
 
+-- also with the witness that it sets
+witness_mount : (m : Meta) (c : Call) → UsesWitness m c → IsMountCall m.setup.geometry.disks (gone_out m.out) c
+witness_mount m (Read d p done) is = absurd is
+witness_mount m (Write d p b done) is = apart_mount m.setup.geometry.disks (gone_out m.out) (Write d p b done) (let at = is.0 in let low = is.1 in omega arith) (refl, λ gone. is.2 (gone ∙ ap Some is.0))
+witness_mount m (Sync d done) is = apart_mount m.setup.geometry.disks (gone_out m.out) (Sync d done) (let at = is.0 in let low = is.1 in omega arith) (refl, λ gone. is.2 (gone ∙ ap Some is.0))
+witness_mount m (Park d done) is = absurd is
+witness_mount m (SpinUp d done) is = absurd is
+witness_mount m (Attach d size done) is = absurd is
+
+whole_mount : (m : Meta) (batch : Batch) (c : Call) → UsesInCommit m batch c → IsMountCall m.setup.geometry.disks (gone_out m.out) c
+whole_mount m batch c is = elim is [ inl uses ↦ commit_mount m batch c uses | inr witness ↦ witness_mount m c witness ]
+
 -- so it is where fewer disks are gone
 fewer_gone : (n : ℕ) (gone more : Option ℕ) (c : Call) → ((d : ℕ) → gone ≡ Some d → more ≡ Some d) → IsMountCall n more c → IsMountCall n gone c
 fewer_gone n skip more c fewer it = record { disk = it.disk; attaches = it.attaches; aside = λ at. it.aside (fewer (disk_of c) at) }
 
 -- where no disk was gone, the commit that marks one is on any
-pub mark_mount : (m : Meta) (batch : Batch) (c : Call) → Uses m batch c → IsMountCall m.setup.geometry.disks None c
-mark_mount m batch c is = fewer_gone m.setup.geometry.disks None (gone_out m.out) c (λ d at. (let z : None ≡ Some d = at in cc)) (commit_mount m batch c is)
+pub mark_mount : (m : Meta) (batch : Batch) (c : Call) → UsesInCommit m batch c → IsMountCall m.setup.geometry.disks None c
+mark_mount m batch c is = fewer_gone m.setup.geometry.disks None (gone_out m.out) c (λ d at. (let z : None ≡ Some d = at in cc)) (whole_mount m batch c is)
 
 pub sync_mount : (n : ℕ) (gone : Option ℕ) (c : Call) → UsesSync n gone c → IsMountCall n gone c
 sync_mount n skip (Read d p done) is = absurd is
@@ -137,7 +149,7 @@ module _ (m : Meta) (old new : Option Trail) where
   two_disks = let l = m.setup.geometry.disks_low in omega arith
 
   pub read_calls : Ran old new (EachCall ReadsLogs) → OnlyMountCalls m old new
-  read_calls ran = calls_milder ReadsLogs allowed old new (λ c is. reads_mount n (gone_out m.out) c two_disks is) ran
+  read_calls ran = calls_milder ReadsLogs allowed old new (λ c is. reads_mount n (gone_out m.out) c (let l = m.setup.geometry.disks_low in omega arith) is) ran
 
   pub resume_calls : (batch : Batch) → Ran old new (EachCall (Uses m batch)) → OnlyMountCalls m old new
   resume_calls batch ran = calls_milder (Uses m batch) allowed old new (commit_mount m batch) ran
@@ -152,14 +164,14 @@ module _ (m : Meta) (old new : Option Trail) where
       calls_milder (UsesSync n (gone_out m.out)) allowed old new (sync_mount n (gone_out m.out))
       (subst (λ (o : Option ℕ). Ran old new (EachCall (UsesSync n o))) is (subst (λ (x : ℕ). Ran old new (EachCall (UsesSync x skip))) count ran))
 
-  pub renew_calls : Ran old new (EachCall (Uses (of_version_two m) [])) → OnlyMountCalls m old new
-  renew_calls ran = calls_milder (Uses (of_version_two m) []) allowed old new (commit_mount (of_version_two m) []) ran
+  pub renew_calls : Ran old new (EachCall (UsesInCommit (of_version_two m) [])) → OnlyMountCalls m old new
+  renew_calls ran = calls_milder (UsesInCommit (of_version_two m) []) allowed old new (whole_mount (of_version_two m) []) ran
 
-  pub mark_calls : (d epoch : ℕ) → ((e : ℕ) → named_out m.out ≡ Some e → e ≡ d) → Ran old new (EachCall (Uses (marked_gone (of_version_two m) d epoch) [])) → OnlyMountCalls m old new
+  pub mark_calls : (d epoch : ℕ) → ((e : ℕ) → named_out m.out ≡ Some e → e ≡ d) → Ran old new (EachCall (UsesInCommit (marked_gone (of_version_two m) d epoch) [])) → OnlyMountCalls m old new
   mark_calls d epoch only ran =
       let next = marked_gone (of_version_two m) d epoch in
-      calls_milder (Uses next []) allowed old new
-      (λ c uses. fewer_gone n (gone_out m.out) (Some d) c (λ e gone. ap Some (sym (only e (gone_named m.out e gone)))) (commit_mount next [] c uses)) ran
+      calls_milder (UsesInCommit next []) allowed old new
+      (λ c uses. fewer_gone n (gone_out m.out) (Some d) c (λ e gone. ap Some (sym (only e (gone_named m.out e gone)))) (whole_mount next [] c uses)) ran
 
   renewed_turn : (b : Bool) (c : Call) → IsPowerCall (renewed_by b m) c → allowed c
   renewed_turn false c is = power_mount m c is

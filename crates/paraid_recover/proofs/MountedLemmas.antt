@@ -1,5 +1,5 @@
 -- A mount is what a session asks of it, from each rack on which a run begins.
-use Rattle.std.proofs.Common.{◌≡◌, ◌≢◌, ℕ, ◌*◌, ◌<◌, ◌≤◌, Bool, List, [], ◌++◌, Option, Some, None, refl, sym, ap, ◌∙◌, subst, drop, take, arith, length, inl}
+use Rattle.std.proofs.Common.{true, ◌≡◌, ◌≢◌, ℕ, ◌*◌, ◌<◌, ◌≤◌, Bool, List, [], ◌++◌, Option, Some, None, refl, sym, ap, ◌∙◌, subst, drop, take, arith, length, inl}
 use Rattle.std.proofs.lemmas.List.{length-take-le}
 use Rattle.paraid_base.specs.declared.fault.Two.{Two}
 use Rattle.paraid_base.specs.History.{History}
@@ -18,16 +18,18 @@ use Rattle.paraid_image.specs.Out.{IsWeak, named_out, out_disk}
 use Rattle.paraid_image.specs.Power.{initial_state}
 use Rattle.paraid_image.specs.Rest.{IsAtRest, closed_over}
 use Rattle.paraid_image.specs.RunStart.{IsRunStart}
-use Rattle.paraid_image.specs.Sides.{LogState}
+use Rattle.paraid_image.specs.Sides.{LogState, is_open}
 use Rattle.paraid_image.specs.Spins.{first_used}
 use Rattle.paraid_image.specs.Standing.{Stands, contents}
+use Rattle.paraid_rack.specs.Atoms.{IsSure}
+use Rattle.paraid_recover.specs.Bearing.{IsNamedLog}
 use Rattle.paraid_recover.specs.declared.fault.MountFault.{MountFault}
 use Rattle.paraid_recover.specs.declared.fault.MountFault.TheVariants.{Two as BothMissing}
 use Rattle.paraid_recover.specs.Examined.{IsExamined, IsRefused}
 use Rattle.paraid_recover.proofs.DirtyKeptLemmas.{shown_dirty}
 use Rattle.paraid_recover.specs.HeldMoments.{Extends, IsAbsentSince}
 use Rattle.paraid_recover.specs.Mount.{HasMounted, HasOnlyRead, HasRecovered, IsCauseOfRefusal}
-use Rattle.paraid_recover.specs.Mount.IsCauseOfRefusal.{examined, no_memory, two_down}
+use Rattle.paraid_recover.specs.Mount.IsCauseOfRefusal.{examined, no_memory, two_down, witnessed}
 use Rattle.paraid_recover.specs.MountCalls.{IsMountCall}
 use Rattle.paraid_recover.specs.Mounted.{IsServable, with_loss}
 use Rattle.paraid_session.specs.Mount.{IsMountRefused, IsMounted, IsMountedFromEach, IsRefusedFromEach, Refusal, start_watch}
@@ -42,7 +44,8 @@ use Rattle.paraid_recover.proofs.BasedLemmas.{next_marked}
 use Rattle.paraid_recover.proofs.DownLemmas.{watched_disks}
 use Rattle.paraid_recover.proofs.PartsLemmas.{at_end, mounted, refused, writes_between}
 use Rattle.paraid_recover.proofs.PiecesLemmas.{reads_parts}
-use Rattle.paraid_recover.proofs.RefusedLemmas.{after_reads, second_down, without_memory}
+use Rattle.paraid_recover.proofs.RefusedLemmas.{after_reads, second_down, without_memory, witness_ends}
+use Rattle.paraid_recover.specs.Witness.{IsWitnessRefusal}
 use Rattle.paraid_recover.proofs.StartServedLemmas.{absent_end, beside_end, broken_end, ends_served, held_end, weak_end}
 use Rattle.paraid_recover.proofs.ToldLemmas.{IsToldOf, began_calls, began_disks, ran_at, same_trail, told_of, told_parts}
 use Rattle.paraid_txn.specs.Losses.{AreGoneSince, IsOutOfCommit}
@@ -136,6 +139,14 @@ module _ (count : ℕ) (old_slot new_slot : ℕ → Slot) (named : Option ℕ) (
           → (r d : ℕ) → r < then_said.meta.setup.geometry.rows → (initial_state (now t) (closed_over standing)).dirty r d ≡ (initial_state (now u) then_said).dirty r d)
           (same_trail it.settled.recovered.read e.0 told.read e.1 told.reads) (e.2 h lo one one)) broken held absent weak
 
+      -- witness is borne against the log disk that is named out
+      witness : (y : ℕ) → IsNamedLog named y → IsSure (now t) 2 y (λ b. is_open b ≡ true)
+      witness =
+          let e = it.marked slots t tells in
+          (subst (λ (u : Trail). IsBroken (now u) side then_said → IsHeld slots (now u) h lo one → IsAbsentSince then_said.meta.setup.geometry.disks t (moments u) (moments t) one
+          → ((w : ℕ) → IsWeak (now u) w → one ≡ Some w) → (y : ℕ) → IsNamedLog named y → IsSure (now t) 2 y (λ b. is_open b ≡ true))
+          (same_trail it.settled.recovered.read e.0 told.read e.1 told.reads) (e.2 h lo one one)) broken held absent weak
+
       ends : EndsServed slots s said h calls standing
       ends =
           let k = it.settled.mark_is t tells in
@@ -145,6 +156,7 @@ module _ (count : ℕ) (old_slot new_slot : ℕ → Slot) (named : Option ℕ) (
           k.2 (subst (λ (u : Trail). moments u ≤ k.2) same k.3) k.4 k.5 refl at_rest.0 cells at_rest.1
           new_count last array rows new_slot named (agrees t tells)
           (subst (λ (n : Meta). IsServable new_count new_slot last array named n rows) (it.settled.is ∙ ap (with_loss standing) (it.settled.lost_is t tells)) servable)
+          (λ y name. witness y (it.under.named_by ∙ name.0, name.1))
 
       -- the table is the map that is shown
       shown_map : (r d : ℕ) → r < 512 * map_count standing.setup.geometry → dirty r d ≡ (view_by standing (now t).power (contents (now t) [])).dirty r d
@@ -241,11 +253,24 @@ module _ (count : ℕ) (old_slot new_slot : ℕ → Slot) (old new : Option Trai
       told.read read_end it.read told.reads old_slot read new_slot (agrees_old told.began told.was) (now t) (ap now whole ∙ now-extend told.began (told.rs ++ told.ls)) (agrees_new t tells)
       count exam two gone apart (refusal_by_fault fault) (ap refusal_by_fault fault_is))) start stands
 
+  by_witness : (read : Option Trail) (mid : ℕ → Slot) (side : ℕ) (two : Two) → Ran old new (EachCall ReadsLogs) → side < 2 → fault ≡ BothMissing two
+      → IsWitnessRefusal side mid new_slot new two → IsRefusedFromEach count began new (refusal_by_fault fault)
+  by_witness read mid side two all low fault_is refuses t tells h lo down x said start stands =
+      let c = all t tells in
+      from_moment (Refuses h lo down x said (refusal_by_fault fault)) t c.from c.calls began c.is (at_start c.from c.was)
+      (λ start_then stands_then.
+      let b = some_base count (now c.from) h lo down start_then x said stands_then in
+      let parts = reads_parts count (now c.from) h lo down start_then x said stands_then b.0 c.calls c.holds b.1 b.2 in
+      refused count (now c.from) x said h lo down c.calls start_then stands_then parts (refusal_by_fault fault)
+      (witness_ends count (now c.from) h lo down start_then x said stands_then parts.base c.calls c.holds parts.ticks parts.is_base t (ap now c.is ∙ now-extend c.from c.calls) new tells mid new_slot (agrees_new t tells)
+      side low two refuses (refusal_by_fault fault) (ap refusal_by_fault fault_is))) start stands
+
   -- A mount that is refused.
   pub refused_from_each : IsCauseOfRefusal count old_slot new_slot old new fault → IsRefusedFromEach count began new (refusal_by_fault fault)
   refused_from_each (no_memory is only) = subst (IsRefusedFromEach count began new) (sym (ap refusal_by_fault is)) (by_memory only)
   refused_from_each (examined is only) = by_reads only is
   refused_from_each (two_down read x then two it agrees exam is beside gone) = by_loss read x then two it exam is beside.apart gone
+  refused_from_each (witnessed read mid x said two calls exam low is refuses) = by_witness read mid x two calls low is refuses
 
 -- where no call is made only reads are told
 pub no_calls : (told : Option Trail) → HasOnlyRead told told
@@ -265,3 +290,4 @@ pub refused_extends : (count : ℕ) (old_slot new_slot : ℕ → Slot) (old new 
 refused_extends count old_slot new_slot old new fault (no_memory is only) = ran_extends _ old new only.calls
 refused_extends count old_slot new_slot old new fault (examined is only) = ran_extends _ old new only.calls
 refused_extends count old_slot new_slot old new fault (two_down read x then two it agrees exam is beside gone) = ran_extends _ old new it.calls
+refused_extends count old_slot new_slot old new fault (witnessed read mid x said two calls exam low is refuses) = ran_extends _ old new calls

@@ -1,6 +1,6 @@
 -- Once an absent disk is marked, it alone is out; and the mark writes nothing but the log.
 use Rattle.std.specs.Prelude.{◌≡◌, ◌≢◌, ℕ, ◌<◌, [], Option, Some, None, Result, Ok, Err, IfOk, OnOk}
-use Rattle.std.proofs.Common.{sym, ◌∙◌, inl, inr}
+use Rattle.std.proofs.Common.{arith, sym, ◌∙◌, inl, inr}
 use Rattle.std.proofs.lemmas.Bool.{false≢true}
 use Rattle.paraid_base.specs.declared.fault.Two.{Two}
 use Rattle.paraid_rack.specs.declared.call.Call.{Call}
@@ -11,7 +11,7 @@ use Rattle.paraid_record.specs.declared.meta.Meta.{Meta}
 use Rattle.paraid_image.proofs.CallLemmas.{decide_some}
 use Rattle.paraid_txn.specs.Losses.{IsAlone, IsOneOut, IsOutOfCommit, IsWell}
 use Rattle.paraid_txn.specs.Losses.IsOutOfCommit.{is_absent, was_named, is_named}
-use Rattle.paraid_txn.specs.Uses.{Uses}
+use Rattle.paraid_txn.specs.Uses.{Uses, UsesInCommit, UsesWitness}
 use Rattle.paraid_recover.specs.Quiet.{IsInLog}
 
 module _ (n : ℕ) (named : Option ℕ) (disk : ℕ) (old new : ℕ → Slot) (low : disk < n) (gone : (old disk).power ≡ Absent) where
@@ -35,10 +35,22 @@ module _ (n : ℕ) (named : Option ℕ) (disk : ℕ) (old new : ℕ → Slot) (l
   one_marked (Err two) well alone = tt
 
 -- a commit that brings nothing writes nothing but the log
-pub in_log : (m : Meta) (c : Call) → Uses m [] c → IsInLog m.setup.geometry.disks c
-in_log m (Read d p done) uses = uses.0
-in_log m (Write d p b done) uses = (uses.0, elim uses.1 [ inl log ↦ log.1 | inr target ↦ absurd (false≢true target.1) ])
-in_log m (Sync d done) uses = uses.0
-in_log m (Park d done) uses = elim uses.1 [ inl log ↦ log | inr target ↦ target ]
-in_log m (SpinUp d done) uses = elim uses.1 [ inl log ↦ log | inr target ↦ target ]
-in_log m (Attach d size done) uses = elim uses.1 [ inl log ↦ log | inr target ↦ target ]
+uses_log : (m : Meta) (c : Call) → Uses m [] c → IsInLog m.setup.geometry.disks c
+uses_log m (Read d p done) uses = uses.0
+uses_log m (Write d p b done) uses = (uses.0, elim uses.1 [ inl log ↦ log.1 | inr target ↦ absurd (false≢true target.1) ])
+uses_log m (Sync d done) uses = uses.0
+uses_log m (Park d done) uses = elim uses.1 [ inl log ↦ log | inr target ↦ target ]
+uses_log m (SpinUp d done) uses = elim uses.1 [ inl log ↦ log | inr target ↦ target ]
+uses_log m (Attach d size done) uses = elim uses.1 [ inl log ↦ log | inr target ↦ target ]
+
+-- nor does the witness that it sets
+witness_log : (m : Meta) (c : Call) → UsesWitness m c → IsInLog m.setup.geometry.disks c
+witness_log m (Read d p done) uses = absurd uses
+witness_log m (Write d p b done) uses = let at = uses.0 in let low = uses.1 in let first = uses.3 in (omega arith, omega arith)
+witness_log m (Sync d done) uses = let at = uses.0 in let low = uses.1 in omega arith
+witness_log m (Park d done) uses = uses
+witness_log m (SpinUp d done) uses = uses
+witness_log m (Attach d size done) uses = uses
+
+pub in_log : (m : Meta) (c : Call) → UsesInCommit m [] c → IsInLog m.setup.geometry.disks c
+in_log m c uses = elim uses [ inl log ↦ uses_log m c log | inr witness ↦ witness_log m c witness ]

@@ -120,7 +120,7 @@ module _ (slots : ℕ) (s : Disks) (x : ℕ) (said : LogState) (h : History) (lo
         high = between.1;
         history = refl;
         mark = subst (λ (z : Setup). IsMark slots z (first_point (run s calls) standing h (watch_all calls w).spun)) ends.setup
-            (mark_at_end slots (run s calls) ends.count ends.last ends.array ends.slot ends.named standing ends.rows ends.agrees ends.servable h (watch_all calls w).spun ends.rest ends.held);
+            (mark_at_end slots (run s calls) ends.count ends.last ends.array ends.slot ends.named standing ends.rows ends.agrees ends.servable h (watch_all calls w).spun ends.rest ends.held ends.borne);
         writes = refl;
         ticks = state_ticks (run s calls) standing;
         dirty = λ r d low. refl;

@@ -20,8 +20,8 @@ use Rattle.paraid_image.specs.HeldAt.{IsHeld}
 use Rattle.paraid_image.specs.Out.{IsMissing, IsWeak, first_absent, named_out, or_else, out_disk}
 use Rattle.paraid_image.specs.Out.IsWeak.{out as out_weak}
 use Rattle.paraid_image.specs.Rest.{IsAtRest, AreSynced, closed_over}
-use Rattle.paraid_image.specs.Sides.{LogState}
-use Rattle.paraid_image.specs.Sound.{ContentOk}
+use Rattle.paraid_image.specs.Sides.{LogState, stored_block}
+use Rattle.paraid_image.specs.Sound.{ContentOk, AreWitnessesTrue}
 use Rattle.paraid_image.specs.Standing.{Contents, contents}
 use Rattle.paraid_image.proofs.OutLemmas.{first_absent_is}
 use Rattle.paraid_image.proofs.CallLemmas.{out_named}
@@ -46,6 +46,11 @@ same_contents : (s : Disks) → contents (record s { loose = λ d p. false }) []
 unfolding contents
 same_contents s = refl
 
+-- nothing loose makes no difference to witnesses
+pub still_true : (s : Disks) (o : Option ℕ) → AreWitnessesTrue (record s { loose = λ d p. false }) o → AreWitnessesTrue s o
+unfolding stored_block
+still_true s o holds = holds
+
 pub resting_from : (slots : ℕ) (s : Disks) (m : Meta) (h : History) (lo : ℕ) (down : Option ℕ) → IsAtRest s m → IsHeld slots s h lo down → Resting slots m h lo s
 resting_from slots s m h lo down rest held =
     let i : Disks = record s { loose = λ d p. false } in
@@ -59,7 +64,7 @@ resting_from slots s m h lo down rest held =
       synced = rest.synced;
       f = contents s [];
       copies = record {
-        copying = copying_from_rest s m rest;
+        copying = copying_from_rest s m rest (still_true s (out_disk s.power m) (subst (λ (o : LogState). AreWitnessesTrue i (out_disk i.power o.meta)) said it.sound.witnesses));
         low = omega arith;
         high = omega arith;
         content = subst (λ (f : Contents). ContentOk slots s.power s.size (view_by m s.power f) h m.writes) (same_contents s)

@@ -17,8 +17,8 @@ use Rattle.paraid_image.specs.HeldAt.{IsHeld}
 use Rattle.paraid_image.specs.Out.{named_out}
 use Rattle.paraid_image.specs.Rest.{AreSynced}
 use Rattle.paraid_image.specs.RunStart.{IsRunStart}
-use Rattle.paraid_image.specs.Sides.{Batch, LogState}
-use Rattle.paraid_image.specs.Standing.{Stands}
+use Rattle.paraid_image.specs.Sides.{Batch, LogState, is_open, stored_block}
+use Rattle.paraid_image.specs.Standing.{Stands, other_log}
 use Rattle.paraid_recover.specs.declared.fault.MountFault.{MountFault}
 use Rattle.paraid_recover.specs.declared.fault.MountFault.TheVariants.{NotFormatted, BadLog, BadMeta, Size, Power as Asleep, Two as BothMissing, Worn, NoMemory}
 use Rattle.paraid_recover.specs.Examined.{IsExamined, IsRefused, IsRefusedByLogs, IsRefusedBySlots, Logs}
@@ -41,6 +41,9 @@ use Rattle.paraid_recover.proofs.ForeseenLemmas.{named_down}
 use Rattle.paraid_recover.proofs.StartReadsLemmas.{reads_synced}
 use Rattle.paraid_recover.proofs.ReadWithinLemmas.{beside, held}
 use Rattle.paraid_recover.proofs.SetupLemmas.{setup_kept}
+use Rattle.paraid_recover.specs.Witness.{IsWitnessRefusal}
+use Rattle.paraid_recover.specs.Witness.IsWitnessRefusal.{opened as witness_open, lost as witness_lost}
+use Rattle.paraid_recover.proofs.WitnessLemmas.{not_witnessed}
 use Rattle.paraid_recover.proofs.StoryLemmas.{down_append, serving_before}
 use Rattle.paraid_txn.specs.Losses.{AreGoneSince, IsGoneSince, IsOutOfCommit}
 use Rattle.paraid_txn.specs.Losses.IsOutOfCommit.{is_absent, is_named, was_named}
@@ -187,5 +190,31 @@ module _ (slots : ℕ) (s : Disks) (h : History) (lo : ℕ) (down : Option ℕ) 
   second_down why is = record {
     synced = λ serving. absurd (two_are_down serving);
     cause = λ serving. absurd (two_are_down serving);
+    worn_out = λ k worn_is. absurd (let z : lacking ≡ worn k = sym is ∙ worn_is in cc);
+  }
+
+-- by the witness
+module _ (slots : ℕ) (s : Disks) (h : History) (lo : ℕ) (down : Option ℕ) (start : IsRunStart slots s h lo down) (x : ℕ) (said : LogState) (stood : Stands s x said)
+    (base : ℕ → ℕ) (rs : List Call) (each : EachCall ReadsLogs s rs) (ticks : ℕ) (is_base : IsBase s x said base ticks) (t : Trail) (t_is : now t ≡ run s rs) (told : Option Trail) (tells : told ≡ Some t)
+    (old new : ℕ → Slot) (agrees : Agrees (now t) new) (side : ℕ) (low : side < 2) (two : Two) where
+  gone_at : (d : ℕ) → d < 3 → (new d).power ≡ Absent → IsIn (watch_all rs (start_watch s down base)).down d
+  gone_at d near off =
+      let many = said.meta.setup.geometry.disks_low in
+      in_absent (start_watch s down base) rs d (λ gone. weak_in slots s h lo down start d (absent_weak slots s h lo down start.synced start.held x said stood d (omega arith) gone))
+      (ap (λ (u : Disks). is_present (u.power d)) (sym t_is) ∙ ap is_present (agrees.power d) ∙ absent_now (new d).power off)
+
+  refuses_none : IsWitnessRefusal side old new told two → IsServing (watch_all rs (start_watch s down base)).down → ⊥
+  refuses_none (witness_open gone other stands shown is) serving =
+      not_witnessed slots (run s rs) h lo (beside slots s h lo down start x said stood base ticks is_base rs each serving).0 (reads_synced s rs each start.synced)
+      (held slots s h lo down start x said stood base ticks is_base rs each serving) side other
+      (subst (λ (u : Disks). Stands u side other) t_is (stands t tells)) (ap (λ (u : Disks). is_open (stored_block u 2 side)) (sym t_is) ∙ shown t tells)
+  refuses_none (witness_lost gone failed is) serving =
+      let same : other_log side ≡ 2 = several_in (watch_all rs (start_watch s down base)).down (other_log side) 2 serving (gone_at (other_log side) (omega arith) gone) (gone_at 2 (omega arith) failed.gone) in
+      absurd (omega arith)
+
+  pub witness_ends : IsWitnessRefusal side old new told two → (why : Refusal) → why ≡ lacking → EndsRefused s down base rs why
+  witness_ends refuses why is = record {
+    synced = λ serving. absurd (refuses_none refuses serving);
+    cause = λ serving. absurd (refuses_none refuses serving);
     worn_out = λ k worn_is. absurd (let z : lacking ≡ worn k = sym is ∙ worn_is in cc);
   }

@@ -10,6 +10,7 @@ use Rattle.paraid_rack.specs.Trail.{Trail, disks, moments, now}
 use Rattle.paraid_record.specs.declared.meta.Meta.{Meta}
 use Rattle.paraid_record.specs.declared.meta.Setup.{Setup}
 use Rattle.paraid_record.specs.Range.{IsInRange, IsOutInRange, IsVersionInRange}
+use Rattle.paraid_moves.proofs.NextLemmas.{witnesses_now}
 use Rattle.paraid_image.specs.FirstWrites.{HoldsFirstWrites}
 use Rattle.paraid_image.specs.HeldAt.{IsHeld}
 use Rattle.paraid_image.specs.Out.{IsWeak, named_out}
@@ -134,7 +135,7 @@ module _ (slots : ℕ) (s : Disks) (m : Meta) (h : History) (lo : ℕ) (down : O
   }
 
   pub renew_held : (t : Disks) → ((d : ℕ) → IsEitherMissing t.power m (after m) d → down ≡ Some d) → IsOldOrNew s m (after m) [] t → IsHeld slots t h lo down
-  renew_held t one moment = held_commits slots s m (after m) [] h lo before_holds after_holds t down one moment
+  renew_held t one moment = held_commits slots s m (after m) [] h lo before_holds after_holds (let r = resting_from slots s m h lo down rest held in witnesses_now slots m r.f h lo s r.copies) t down one moment
 
 -- The commit after a recovery.
 module _ (slots x : ℕ) (said : LogState) (old mid new : Option Trail) (holds : RecoversHeld slots x said old mid) (ends : EndsHeld slots x said said.meta old mid)

@@ -60,7 +60,7 @@ reads_synced s (SpinUp d done ∷ cs) each synced = absurd each.1
 reads_synced s (Attach d size done ∷ cs) each synced = absurd each.1
 
 module _ (slots : ℕ) (h : History) (lo : ℕ) (down : Option ℕ) where
-  one_read : (s : Disks) (d p : ℕ) (done : Bool) → d < 2 → s.power d ≡ Spinning → (is_present ((step (Read d p done) s).power d) ≡ false → down ≡ Some d) → IsHeld slots s h lo down → IsHeld slots (step (Read d p done) s) h lo down
+  one_read : (s : Disks) (d p : ℕ) (done : Bool) → d < 3 → s.power d ≡ Spinning → (is_present ((step (Read d p done) s).power d) ≡ false → down ≡ Some d) → IsHeld slots s h lo down → IsHeld slots (step (Read d p done) s) h lo down
   one_read s d p true low spins absent held = IsHeld-fewer slots s (step (Read d p true) s) h lo down (read_images s d p) held
   one_read s d p false low spins absent held =
       let at = absent (lost_now s d p) in
@@ -69,7 +69,7 @@ module _ (slots : ℕ) (h : History) (lo : ℕ) (down : Option ℕ) where
       (λ i x said image log says. let n = said.meta.setup.geometry.disks_low in omega arith)
       (λ i w image weak. let z : Some w ≡ Some d = sym (held.weak i w image weak) ∙ at in cc) held)
 
-  step_held : (s : Disks) (c : Call) → EachCall ReadsLogs s (c ∷ []) → ((d : ℕ) → d < 2 → is_present ((step c s).power d) ≡ false → down ≡ Some d) → IsHeld slots s h lo down → IsHeld slots (step c s) h lo down
+  step_held : (s : Disks) (c : Call) → EachCall ReadsLogs s (c ∷ []) → ((d : ℕ) → d < 3 → is_present ((step c s).power d) ≡ false → down ≡ Some d) → IsHeld slots s h lo down → IsHeld slots (step c s) h lo down
   step_held s (Read d p done) each absent held = one_read s d p done each.1.0 each.0 (absent d each.1.0) held
   step_held s (Write d p b done) each absent held = absurd each.1
   step_held s (Sync d done) each absent held = absurd each.1
@@ -78,7 +78,7 @@ module _ (slots : ℕ) (h : History) (lo : ℕ) (down : Option ℕ) where
   step_held s (Attach d size done) each absent held = absurd each.1
 
   -- what is held is held in reads of the log disks
-  pub reads_held : (s : Disks) (cs : List Call) (k : ℕ) → EachCall ReadsLogs s cs → IsAbsentUpTo 2 s cs k down → IsHeld slots s h lo down → IsHeld slots (run s (take k cs)) h lo down
+  pub reads_held : (s : Disks) (cs : List Call) (k : ℕ) → EachCall ReadsLogs s cs → IsAbsentUpTo 3 s cs k down → IsHeld slots s h lo down → IsHeld slots (run s (take k cs)) h lo down
   reads_held s cs zero each absent held = held
   reads_held s [] (suc k) each absent held = held
   reads_held s (c ∷ cs) (suc k) each absent held =
@@ -124,11 +124,11 @@ module _ (slots n side : ℕ) (said : LogState) (from read t : Trail) (rs ls : L
       weak = λ i w image is. weak w (weak_alike i s w (IsAlike-sym s i (synced_alike s i start.synced image)) is);
     }
 
-    held_in_reads : (k : ℕ) (down : Option ℕ) → 2 ≤ n → k ≤ length rs → IsAbsentUpTo n s (rs ++ ls) k down → ((w : ℕ) → IsWeak s w → down ≡ Some w) → IsHeld slots (run s (take k rs)) h lo down
+    held_in_reads : (k : ℕ) (down : Option ℕ) → 3 ≤ n → k ≤ length rs → IsAbsentUpTo n s (rs ++ ls) k down → ((w : ℕ) → IsWeak s w → down ≡ Some w) → IsHeld slots (run s (take k rs)) h lo down
     held_in_reads k down two le absent weak = reads_held slots h lo down s rs k each
         (λ j d j_le low off. absent j d j_le (omega arith) (ap (λ (u : Disks). is_present (u.power d)) (in_reads j (omega arith)) ∙ off)) (start_beside down weak)
 
-    pub reads_after : (k : ℕ) → 2 ≤ n → k ≤ length rs → HoldsAfter slots n s h lo (rs ++ ls) k
+    pub reads_after : (k : ℕ) → 3 ≤ n → k ≤ length rs → HoldsAfter slots n s h lo (rs ++ ls) k
     reads_after k two le = record { held = λ down absent weak. subst (λ (u : Disks). IsHeld slots u h lo down) (sym (in_reads k le)) (held_in_reads k down two le absent weak) }
 
     later_held : (i : ℕ) (down : Option ℕ) → n ≡ said.meta.setup.geometry.disks → length rs + i ≤ length (rs ++ ls) → IsAbsentUpTo n s (rs ++ ls) (length rs + i) down → ((w : ℕ) → IsWeak s w → down ≡ Some w)
@@ -151,7 +151,7 @@ module _ (slots n side : ℕ) (said : LogState) (from read t : Trail) (rs ls : L
         (weak_down slots (now read) h lo down synced held))
 
     -- At each moment from the entry on what was held is held.
-    pub holds_after : (k : ℕ) → 2 ≤ n → k ≤ length (rs ++ ls) → (length rs < k → n ≡ said.meta.setup.geometry.disks) → HoldsAfter slots n s h lo (rs ++ ls) k
+    pub holds_after : (k : ℕ) → 3 ≤ n → k ≤ length (rs ++ ls) → (length rs < k → n ≡ said.meta.setup.geometry.disks) → HoldsAfter slots n s h lo (rs ++ ls) k
     holds_after k two le same = elim (cases_lt (length rs) k) [
       | inr short ↦ reads_after k two (omega (arith, short))
       | inl long ↦

@@ -20,9 +20,11 @@ use Rattle.paraid_image.specs.Out.{IsMissing, IsWeak, first_absent, named_out, o
 use Rattle.paraid_image.specs.Power.{gone_of, initial_state, out_after, out_state}
 use Rattle.paraid_image.specs.Rest.{IsAtRest, closed_over}
 use Rattle.paraid_image.specs.RunStart.{IsRunStart}
-use Rattle.paraid_image.specs.Sides.{LogState}
+use Rattle.paraid_image.specs.Sides.{LogState, is_open}
 use Rattle.paraid_image.specs.Standing.{Stands}
 use Rattle.paraid_image.proofs.OutLemmas.{missing_is_out, named_below}
+use Rattle.paraid_rack.specs.Atoms.{IsSure}
+use Rattle.paraid_recover.specs.Bearing.{IsNamedLog}
 use Rattle.paraid_recover.specs.HeldMoments.{IsAbsentSince}
 use Rattle.paraid_recover.specs.MountCalls.{IsMountCall}
 use Rattle.paraid_recover.specs.Mounted.{IsServable, with_loss}
@@ -237,8 +239,9 @@ module _ (slots : ℕ) (from read t : Trail) (rs ls : List Call) (read_is : read
       -- What is asked of the end of a mount that is served.
       pub ends_served : IsHeld slots (now t) (take standing.writes h) standing.writes (out_disk (now t).power standing)
           → (count last array rows : ℕ) (slot : ℕ → Slot) (named : Option ℕ) → Agrees (now t) slot → IsServable count slot last array named (with_loss standing (to_mark (now t).power standing)) rows
-          → EndsServed slots s said h calls standing
-      ends_served held count last array rows slot named agrees servable = record {
+          → ((y : ℕ) → IsNamedLog (named_out standing.out) y → IsSure (now t) 2 y (λ b. is_open b ≡ true)) → EndsServed slots s said h calls standing
+      ends_served held count last array rows slot named agrees servable borne = record {
+        borne = subst (λ (v : Disks). (y : ℕ) → IsNamedLog (named_out standing.out) y → IsSure v 2 y (λ b. is_open b ≡ true)) end_is borne;
         setup = ap (λ (y : Meta). y.setup) standing_is ∙ mark_setup then_said.meta mark ∙ setup_end;
         rest = subst (λ (v : Disks). IsAtRest v standing) end_is rest;
         held = subst (λ (v : Disks). IsHeld slots v (take standing.writes h) standing.writes (out_disk v.power standing)) end_is held;

@@ -101,7 +101,7 @@ module _ (slots : ℕ) (from read t : Trail) (rs ls : List Call) (read_is : read
       weak = λ j v image is. weak_start v (weak_alike j s v (IsAlike-sym s j (synced_alike s j start.synced image)) is);
     }
 
-    absent_reads : IsAbsentUpTo 2 s rs (length rs) beside
+    absent_reads : IsAbsentUpTo 3 s rs (length rs) beside
     absent_reads j d le low off =
         let many = said.meta.setup.geometry.disks_low in
         absent_to j d (omega arith) (omega arith) (ap (λ (cs : List Call). is_present ((run s cs).power d)) (take-append-le j rs ls le) ∙ off)

@@ -83,7 +83,7 @@ turn_loose m (Park d done) s e p turn = refl
 turn_loose m (SpinUp d done) s e p turn = refl
 turn_loose m (Attach d size done) s e p turn = absurd turn
 
-absent_stays : (m : Meta) (c : Call) (s : Disks) (e : ℕ) → IsPowerCall m c → IsLawful s c → is_present (s.power e) ≡ false → is_present ((step c s).power e) ≡ false
+pub absent_stays : (m : Meta) (c : Call) (s : Disks) (e : ℕ) → IsPowerCall m c → IsLawful s c → is_present (s.power e) ≡ false → is_present ((step c s).power e) ≡ false
 absent_stays m c s e turn lawful off = elim (cases_eq e (disk_of c)) [
   | inl is ↦ absurd (false≢true (sym (ap (λ (k : ℕ). is_present (s.power k)) (sym is) ∙ off) ∙ turn_present m c s turn lawful))
   | inr apart ↦ ap is_present (turn_other m c s e turn apart) ∙ off

@@ -99,9 +99,9 @@ abbrev pub IsHeardBy : Option Heard → Power → Type 0
 IsHeardBy None power = power ≡ Absent
 IsHeardBy (Some heard) power = power ≡ Spinning
 
--- a read of the log of a log disk
+-- a read of the log of a log disk, or of a witness
 abbrev pub ReadsLogs : Call → Type 0
-ReadsLogs (Read d p done) = (d < 2) × (p < log_most)
+ReadsLogs (Read d p done) = (d < 3) × (p < log_most)
 ReadsLogs (Write d p b done) = ⊥
 ReadsLogs (Sync d done) = ⊥
 ReadsLogs (Park d done) = ⊥

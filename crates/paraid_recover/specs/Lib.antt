@@ -18,6 +18,7 @@ pub mod Powers
 pub mod Mounted
 pub mod EndOfMount
 pub mod StandingMetas
+pub mod Bearing
 pub mod Mount
 pub mod MountCalls
 pub mod StartCalls
@@ -26,3 +27,4 @@ pub mod FirstPoint
 pub mod RecordedSpins
 pub mod StartParts
 pub mod StartRefusals
+pub mod Witness

@@ -1,15 +1,16 @@
 -- What a mount promises: what is told of it, and why it is refused.
-use Rattle.std.specs.Prelude.{◌≡◌, ℕ, ◌≤◌, Bool, Option, Some, None}
+use Rattle.std.specs.Prelude.{◌≡◌, ℕ, ◌<◌, ◌≤◌, Bool, false, Option, Some, None}
 use Rattle.paraid_base.specs.declared.fault.Two.{Two}
 use Rattle.paraid_rack.specs.Slots.{Agrees, Slot}
 use Rattle.paraid_rack.specs.Told.{Ran}
 use Rattle.paraid_rack.specs.Trail.{Trail, now}
 use Rattle.paraid_record.specs.declared.meta.Meta.{Meta}
 use Rattle.paraid_image.specs.Out.{named_out}
-use Rattle.paraid_image.specs.Sides.{LogState}
-use Rattle.paraid_image.specs.Standing.{Stands}
+use Rattle.paraid_image.specs.Sides.{LogState, is_open, stored_block}
+use Rattle.paraid_image.specs.Standing.{Stands, other_log}
 use Rattle.paraid_recover.specs.declared.fault.MountFault.{MountFault}
 use Rattle.paraid_recover.specs.declared.fault.MountFault.TheVariants.{NoMemory, Two as BothMissing}
+use Rattle.paraid_recover.specs.Bearing.{EndsBorne, IsBorneAgainst, IsNamedLog}
 use Rattle.paraid_recover.specs.Examined.{IsExamined, IsRefused}
 use Rattle.paraid_recover.specs.HeardSides.{IsReadLosing, IsReadOnly, ReadsLogs}
 use Rattle.paraid_txn.specs.Losses.{AreGoneSince, IsOutOfCommit, AreTwoDownBeside}
@@ -20,6 +21,8 @@ use Rattle.paraid_recover.specs.Map.{HasMapAtEnd}
 use Rattle.paraid_recover.specs.Mounted.{IsStandingWithLoss, with_loss}
 use Rattle.paraid_recover.specs.MountCalls.{OnlyMountCalls}
 use Rattle.paraid_recover.specs.RecoveryMark.{with_mark}
+use Rattle.paraid_recover.specs.Witness.{IsWitnessRefusal}
+use Rattle.paraid_rack.specs.declared.call.Power.TheVariants.{Absent, Spinning}
 use Rattle.paraid_recover.specs.StandingMetas.{StandsThroughMount}
 
 -- What is told of a mount that is not refused before a write: the log disks were read, and log disk
@@ -72,6 +75,13 @@ pub record HasMounted (count : ℕ) (old new : ℕ → Slot) (named : Option ℕ
   pub examined : IsExamined count old read settled.recovered.read side said
   pub later : (d : ℕ) → (old d).faults ≤ (new d).faults
   pub map : HasMapAtEnd old new m dirty told_new
+  -- no witness is borne against a log disk that stands alone
+  pub unwitnessed : (read (other_log side)).power ≡ Absent → (read 2).power ≡ Spinning → (t : Trail) → settled.recovered.read ≡ Some t
+      → is_open (stored_block (now t) 2 side) ≡ false
+  -- witness is borne against the log disk that was named out
+  pub borne : IsBorneAgainst (named_out said.meta.out) told_new
+  -- and where a history was held, against the one that the meta that stands at the end names out
+  pub marked : (slots : ℕ) → EndsBorne (IsNamedLog named) slots side said settled.recovered.read told_new
 
 -- Only reads of the log disks are told.
 pub record HasOnlyRead (old new : Option Trail) : Type 0 where
@@ -83,6 +93,10 @@ pub record HasOnlyRead (old new : Option Trail) : Type 0 where
 pub data IsCauseOfRefusal (count : ℕ) (old new : ℕ → Slot) (told_old told_new : Option Trail) (fault : MountFault) : Type 0 where
   no_memory : fault ≡ NoMemory → HasOnlyRead told_old told_new → IsCauseOfRefusal count old new told_old told_new fault
   examined : IsRefused count old new told_new fault → HasOnlyRead told_old told_new → IsCauseOfRefusal count old new told_old told_new fault
+  -- it is refused by the witness, after reads alone
+  witnessed : (read : Option Trail) (mid : ℕ → Slot) (side : ℕ) (said : LogState) (two : Two) → Ran told_old told_new (EachCall ReadsLogs)
+      → IsExamined count old mid read side said → side < 2 → fault ≡ BothMissing two → IsWitnessRefusal side mid new told_new two
+      → IsCauseOfRefusal count old new told_old told_new fault
   -- the first was out after the reads, by what stands then, or has failed since; then the second has;
   -- one that failed is absent since
   two_down : (read : ℕ → Slot) (side : ℕ) (said : LogState) (two : Two) (recovered : HasRecovered side said told_old told_new)

@@ -1,17 +1,19 @@
 -- What the steps of a mount have to say, so that it is one that a session asks for.
-use Rattle.std.specs.Prelude.{◌≡◌, ℕ, ◌≤◌, List, length, take, Option}
+use Rattle.std.specs.Prelude.{◌≡◌, ℕ, ◌≤◌, true, List, length, take, Option}
 use Rattle.paraid_base.specs.History.{History}
 use Rattle.paraid_base.specs.States.{gone_out}
 use Rattle.paraid_rack.specs.declared.call.Call.{Call}
+use Rattle.paraid_rack.specs.Atoms.{IsSure}
 use Rattle.paraid_rack.specs.Disks.{Disks}
 use Rattle.paraid_rack.specs.Slots.{Agrees, Slot}
 use Rattle.paraid_rack.specs.Trail.{run}
 use Rattle.paraid_record.specs.declared.meta.Meta.{Meta}
 use Rattle.paraid_image.specs.HeldAt.{IsHeld}
-use Rattle.paraid_image.specs.Out.{out_disk}
+use Rattle.paraid_image.specs.Out.{named_out, out_disk}
 use Rattle.paraid_image.specs.Power.{initial_state}
 use Rattle.paraid_image.specs.Rest.{AreSynced, IsAtRest, closed_over}
-use Rattle.paraid_image.specs.Sides.{LogState}
+use Rattle.paraid_image.specs.Sides.{LogState, is_open}
+use Rattle.paraid_recover.specs.Bearing.{IsNamedLog}
 use Rattle.paraid_recover.specs.Mounted.{IsServable, with_loss}
 use Rattle.paraid_recover.specs.RecoveryMark.{to_mark}
 use Rattle.paraid_session.specs.Mount.{BeginsSession, IsBase, IsCauseOutsideDisks, IsWornOut, Refusal, down_after_mount, mount_bounds, start_watch, worn}
@@ -45,6 +47,7 @@ pub record EndsServed (slots : ℕ) (s : Disks) (said : LogState) (h : History) 
   pub rows : ℕ
   pub agrees : Agrees (run s calls) slot
   pub servable : IsServable count slot last array named (with_loss standing (to_mark (run s calls).power standing)) rows
+  pub borne : (y : ℕ) → IsNamedLog (named_out standing.out) y → IsSure (run s calls) 2 y (λ b. is_open b ≡ true)
   pub begins : BeginsSession s said calls standing.writes (initial_state (run s calls) (closed_over standing))
 
 -- Of the end of a mount that is refused: while one disk at most is down nothing is loose, and the

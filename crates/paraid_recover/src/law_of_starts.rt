@@ -4,6 +4,7 @@ ghost use Rattle.paraid_base.specs.declared.state.Out.TheVariants.{Gone};
 ghost use Rattle.paraid_base.specs.History.{History};
 ghost use Rattle.paraid_base.specs.States.{gone_out};
 ghost use Rattle.paraid_rack.specs.declared.call.Call.{Call as CallType};
+ghost use Rattle.paraid_rack.specs.Atoms.{IsSure};
 ghost use Rattle.paraid_rack.specs.Disks.{Disks, IsImage, IsPresent, is_present, lose};
 ghost use Rattle.paraid_rack.specs.Slots.{Agrees, Slot};
 ghost use Rattle.paraid_rack.specs.Told.{Ran, Through};
@@ -15,7 +16,8 @@ ghost use Rattle.paraid_image.specs.Out.{IsWeak, named_out, out_disk};
 ghost use Rattle.paraid_image.specs.Power.{initial_state, out_state};
 ghost use Rattle.paraid_image.specs.Rest.{IsAtRest, closed_over};
 ghost use Rattle.paraid_image.specs.RunStart.{IsRunStart};
-ghost use Rattle.paraid_image.specs.Sides.{Batch, LogState, Says};
+ghost use Rattle.paraid_image.specs.Sides.{Batch, LogState, Says, is_open};
+ghost use Rattle.paraid_recover.specs.Bearing.{IsNamedLog};
 ghost use Rattle.paraid_image.specs.Standing.{Stands, other_log};
 ghost use Rattle.paraid_recover.specs.HeldMoments.{IsAbsentSince, RestsBeside};
 ghost use Rattle.paraid_recover.specs.Mounted.{IsServable, with_loss};
@@ -34,18 +36,18 @@ ghost use Rattle.paraid_recover.specs.StandingMetas.{StandsForeseen};
 ghost use Rattle.paraid_recover.specs.StartParts.{AreMountCalls, EndsRefused, EndsServed};
 ghost use Rattle.paraid_recover.specs.RecordedSpins.{AreSpinUpsRecorded, HasRecord, IsStill, IsWithinBoundsAt, OnlyStands, StaysWithin, StaysWithinAt};
 ghost use Rattle.paraid_txn.specs.Resume.{IsBroken};
-ghost use Rattle.paraid_txn.specs.Uses.{EachCall, Uses, UsesSync};
+ghost use Rattle.paraid_txn.specs.Uses.{EachCall, Uses, UsesInCommit, UsesSync};
 
 /// The calls of each part of a mount are such as a mount may make; and they are all that a session
 /// allows, where each spin-up is recorded.
 pub fn calls_of_a_mount_are_allowed()
-    ensures reads { (n : ℕ) (gone : Option ℕ) (c : CallType) → 2 ≤ n → ReadsLogs c
+    ensures reads { (n : ℕ) (gone : Option ℕ) (c : CallType) → 3 ≤ n → ReadsLogs c
         → IsMountCall n gone c }
     ensures resumes { (m : MetaType) (batch : Batch) (c : CallType) → Uses m batch c
         → IsMountCall m.setup.geometry.disks (gone_out m.out) c }
     ensures syncs { (n : ℕ) (gone : Option ℕ) (c : CallType) → UsesSync n gone c
         → IsMountCall n gone c }
-    ensures marks { (m : MetaType) (batch : Batch) (c : CallType) → Uses m batch c
+    ensures marks { (m : MetaType) (batch : Batch) (c : CallType) → UsesInCommit m batch c
         → IsMountCall m.setup.geometry.disks None c }
     ensures powers { (m : MetaType) (c : CallType) → IsPowerCall m c
         → IsMountCall m.setup.geometry.disks (gone_out m.out) c }
@@ -80,7 +82,7 @@ pub fn reads_hold_what_was_held()
         → IsAbsentSince said.meta.setup.geometry.disks t (moments read) m down
         → ((w : ℕ) → IsWeak (now read) w → down ≡ Some w) → IsHeld slots (disks t m) h lo down)
         → (h : History) (lo : ℕ) (down : Option ℕ) → IsRunStart slots (now from) h lo down
-        → (k : ℕ) → 2 ≤ n → k ≤ length (rs ++ ls)
+        → (k : ℕ) → 3 ≤ n → k ≤ length (rs ++ ls)
         → (length rs < k → n ≡ said.meta.setup.geometry.disks)
         → HoldsAfter slots n (now from) h lo (rs ++ ls) k }
 {}
@@ -102,6 +104,7 @@ pub fn a_mount_ends_at_a_mark()
         → IsServable count slot last array named
         (with_loss standing (to_mark s.power standing)) rows → IsAtRest s standing
         → IsHeld slots s (take standing.writes h) standing.writes (out_disk s.power standing)
+        → ((x : ℕ) → IsNamedLog (named_out standing.out) x → IsSure s 2 x (λ b. is_open b ≡ true))
         → IsMark slots standing.setup (first_point s standing h spun) }
 {}
 

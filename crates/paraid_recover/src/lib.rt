@@ -39,6 +39,7 @@ mod sizes;
 mod standing;
 mod starting;
 mod wear;
+mod witness;
 
 pub use both::{Sides, hear_both, hear_if_there};
 pub use choosing::choose;
@@ -79,3 +80,4 @@ pub use sizes::first_small;
 pub use standing::Standing;
 pub use starting::mount;
 pub use wear::worn_count;
+pub use witness::heed;

@@ -8,7 +8,7 @@ ghost use Rattle.paraid_image.specs.Rest.{IsAtRest};
 ghost use Rattle.paraid_txn.specs.Commit.{EndsCommitted, IsWholeOrAbsent};
 ghost use Rattle.paraid_rack.specs.Told.{Ran};
 ghost use Rattle.paraid_txn.specs.Losses.{AreGoneSince, StaySynced, AreFailedOrWell, IsOneOut, IsOutOfCommit, OnlyLosesSlots, AreTwoDownBeside};
-ghost use Rattle.paraid_txn.specs.Uses.{EachCall, Uses};
+ghost use Rattle.paraid_txn.specs.Uses.{EachCall, UsesInCommit};
 ghost use Rattle.paraid_image.specs.Mark.{marked_gone as marked_of};
 ghost use Rattle.paraid_image.specs.Out.{named_out as named_of};
 ghost use Rattle.paraid_recover.specs.RecoveryMark.{of_version_two};
@@ -74,7 +74,7 @@ pub fn mark<R: Rack>(
         (disks_of store.old) (named_by store.old) (Some disk))
         (R.slot (store_rack store.old)) (R.slot (store_rack store.new))) }
     ensures calls { Ran (R.told (store_rack store.old)) (R.told (store_rack store.new))
-        (EachCall (Uses (marked_of (of_version_two meta.now) disk meta.now.epoch) [])) }
+        (EachCall (UsesInCommit (marked_of (of_version_two meta.now) disk meta.now.epoch) [])) }
     ensures one { OnOk result (IsOneOut (disks_of store.old) (named_by store.old)
         (R.slot (store_rack store.old))
         → IsOneOut (disks_of store.old) (Some disk) (R.slot (store_rack store.new))) }

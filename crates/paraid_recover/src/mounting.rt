@@ -16,6 +16,7 @@ ghost use Rattle.paraid_record.specs.Range.{IsInRange};
 ghost use Rattle.paraid_rack.specs.Trail.{Trail};
 ghost use Rattle.paraid_image.specs.Out.{named_out as named_of};
 ghost use Rattle.paraid_image.specs.Sides.{LogState};
+ghost use Rattle.paraid_recover.specs.Bearing.{EndsBorne, IsBorneAgainst, IsNamedLog};
 ghost use Rattle.paraid_recover.specs.EndOfMount.{IsMarkAtEnd, IsMarkAtMoment, KeepsDirty};
 ghost use Rattle.paraid_recover.specs.HeldMoments.{EndsHeld, IsOutAtEnd, Recovers, RecoversHeld, ShowsAtEnd};
 ghost use Rattle.paraid_recover.specs.Map.{HasMap, HasMapAtEnd, IsNarrow};
@@ -38,6 +39,7 @@ use crate::marking::marked;
 use crate::powers::power_disks;
 use crate::recovery::{mark_out, unmarked};
 use crate::standing::Standing;
+use crate::witness::heed;
 use paraid_base::Two;
 use paraid_dirty::DirtyTable;
 use paraid_rack::Rack;
@@ -46,7 +48,8 @@ use paraid_txn::{Batch, Store};
 use std::alloc::Global;
 
 // After an interrupted commit was ended: the map is read, all disks are synced, an absent disk is
-// marked, and a meta of version 1 is brought to version 2. It gives the meta that stands then.
+// marked, a meta of version 1 is brought to version 2, and witness is borne against a log disk that
+// was named out. It gives the meta that stands then.
 fn settle<R: Rack>(
     store: &mut Store<R>,
     nothing: &Batch,
@@ -100,6 +103,14 @@ fn settle<R: Rack>(
         → EndsHeld slots x said m old (R.told (store_rack store.new))) }
     ensures map { IfOk result (λ m. HasMap meta.now.setup.geometry (store_out R.slot store.old)
         (R.slot (store_rack store.new)) (is_dirty table.new) (R.told (store_rack store.old))
+        (R.told (store_rack store.new))) }
+    // witness is borne against the log disk that the meta named out
+    ensures borne { IfOk result (λ m. IsBorneAgainst (named_of meta.now.out)
+        (R.told (store_rack store.new))) }
+    // and so it is where a history was held, against the one that is named out then
+    ensures marked { IfOk result (λ m. (slots x : ℕ) (said : LogState) (old : Option Trail)
+        → said.meta ≡ meta.now → Recovers slots x said old (R.told (store_rack store.old))
+        → EndsBorne (IsNamedLog (named_by store.new)) slots x said old
         (R.told (store_rack store.new))) }
 {
     if let Err(two) = read_map(store, meta, table) {
@@ -197,6 +208,12 @@ fn raise<R: Rack>(
     ensures out { IfOk result (λ m. (d : ℕ) → named_of m.out ≡ Some d
         → (named_of meta.now.out ≡ Some d)
         ⊎ ((R.slot (store_rack store.new) d).power ≡ Absent)) }
+    ensures borne { IfOk result (λ m. IsBorneAgainst (named_of meta.now.out)
+        (R.told (store_rack store.new))) }
+    ensures marked { IfOk result (λ m. (slots x : ℕ) (said : LogState) (old : Option Trail)
+        → said.meta ≡ meta.now → Recovers slots x said old (R.told (store_rack store.old))
+        → EndsBorne (IsNamedLog (named_by store.new)) slots x said old
+        (R.told (store_rack store.new))) }
 {
     let standing = match settle(store, nothing, meta, table) {
         Ok(standing) => standing,
@@ -288,6 +305,11 @@ fn bring_up<R: Rack>(
         × IsStandingWithLoss (R.slot (store_rack it.store)) (named_by it.store) stands it.meta) }
     ensures map { IfOk result (λ it. HasMapAtEnd (R.slot rack) (R.slot (store_rack it.store)) it.meta
         (is_dirty it.dirty) (R.told (store_rack it.store))) }
+    ensures borne { IfOk result (λ it. IsBorneAgainst (named_of standing.now.meta.out)
+        (R.told (store_rack it.store))) }
+    ensures marked { IfOk result (λ it. (slots : ℕ) → EndsBorne (IsNamedLog (named_by it.store))
+        slots standing.now.side (log_state standing.now.gate_open standing.now.meta batch)
+        (R.told rack) (R.told (store_rack it.store))) }
 {
     let meta = &standing.meta;
     let mut store = match Store::resume(rack, standing.side, standing.gate_open, &batch, meta) {
@@ -316,9 +338,10 @@ fn bring_up<R: Rack>(
     }
 }
 
-/// Mounts an array: it examines what both log disks say, ends a commit that was interrupted, reads
-/// the dirty map, syncs all disks, marks an absent one and powers the others by the gear. A meta of
-/// version 1 comes to version 2, by the commit that marks a disk or by one of its own.
+/// Mounts an array: it examines what both log disks say, heeds a witness against the one that stands
+/// alone, ends a commit that was interrupted, reads the dirty map, syncs all disks, marks an absent
+/// one, bears witness against a log disk that was named out, and powers the others by the gear. A
+/// meta of version 1 comes to version 2, by the commit that marks a disk or by one of its own.
 ///
 /// The memory for the dirty table is taken after reads alone and before the first write, that for
 /// the batch of the second log disk before all. What was in `batch` is dropped. A disk that fails
@@ -359,6 +382,12 @@ pub fn mount<R: Rack>(alloc: Global, batch: Batch, rack: R) -> Result<Mounted<R>
             rack,
         });
     };
+    if let Err(two) = heed(&mut rack, standing.side) {
+        return Err(MountRefused {
+            fault: MountFault::Two(two),
+            rack,
+        });
+    }
     match bring_up(rack, &standing, batch, dirty) {
         Ok(mounted) => Ok(mounted),
         Err(refused) => Err(refused),

@@ -5,6 +5,7 @@ ghost use Rattle.paraid_base.specs.Log.{worn_at};
 ghost use Rattle.paraid_rack.specs.declared.call.Power.TheVariants.{Absent};
 ghost use Rattle.paraid_rack.specs.Told.{Ran};
 ghost use Rattle.paraid_rack.specs.Trail.{Trail};
+ghost use Rattle.paraid_recover.specs.Bearing.{CanBear, EndsBorne, IsBorneAgainst, IsNamedLog, IsNewlyNamed};
 ghost use Rattle.paraid_recover.specs.HeldMoments.{EndsHeld, Recovers, RecoversHeld};
 ghost use Rattle.paraid_recover.specs.MountCalls.{OnlyMountCalls};
 ghost use Rattle.paraid_recover.specs.Quiet.{IsInLog};
@@ -19,6 +20,7 @@ ghost use Rattle.paraid_txn.specs.Stores.{disks_of, epoch_of, named_of as named_
 ghost use Rattle.paraid_txn.specs.Uses.{EachCall};
 
 use crate::marking::{mark, next_marked};
+use crate::witness::bear_named;
 use paraid_base::{DiskNo, Out, Two};
 use paraid_rack::{Power, Rack};
 use paraid_record::Meta;
@@ -102,12 +104,9 @@ fn renew<R: Rack>(store: &mut Store<R>, nothing: &Batch, meta: &Meta) -> Result<
     Ok(next)
 }
 
-/// Marks a disk that is absent where no other disk is named out, and gives the meta that stands then.
-/// Where there is none to mark, a meta of version 1 is brought to version 2 by a commit of its own.
-///
-/// It is the last step of a recovery: the commit that was interrupted was ended, and only reads and
-/// syncs were made since.
-pub fn mark_out<R: Rack>(store: &mut Store<R>, nothing: &Batch, meta: &Meta) -> Result<Meta, Two>
+// Marks a disk that is absent where no other disk is named out, and gives the meta that stands then.
+// Where there is none to mark, a meta of version 1 is brought to version 2 by a commit of its own.
+fn mark_or_renew<R: Rack>(store: &mut Store<R>, nothing: &Batch, meta: &Meta) -> Result<Meta, Two>
     requires empty { nothing.now ≡ [] }
     requires fresh { meta.now.epoch < worn_at }
     requires in_range { IsInRange meta.now }
@@ -116,6 +115,7 @@ pub fn mark_out<R: Rack>(store: &mut Store<R>, nothing: &Batch, meta: &Meta) -> 
     requires named { named_by store.old ≡ named_of meta.now.out }
     requires epoch { epoch_of store.old ≡ meta.now.epoch }
     requires log { IsLogReady (named_of meta.now.out) (R.slot (store_rack store.old)) }
+    requires witness { named_of meta.now.out ≢ Some 2 → CanBear (R.slot (store_rack store.old)) }
     ensures slots { R.slot_count (store_rack store.new) ≡ R.slot_count (store_rack store.old) }
     ensures disks { disks_of store.new ≡ disks_of store.old }
     ensures given { IfOk result (λ m. m ≡ with_mark meta.now
@@ -151,6 +151,11 @@ pub fn mark_out<R: Rack>(store: &mut Store<R>, nothing: &Batch, meta: &Meta) -> 
     ensures ends { IfOk result (λ m. (slots x : ℕ) (said : LogState) (old : Option Trail)
         → said.meta ≡ meta.now → Recovers slots x said old (R.told (store_rack store.old))
         → EndsHeld slots x said m old (R.told (store_rack store.new))) }
+    // witness is borne against a log disk that is named out then, and was not before
+    ensures marked { IfOk result (λ m. (slots x : ℕ) (said : LogState) (old : Option Trail)
+        → said.meta ≡ meta.now → Recovers slots x said old (R.told (store_rack store.old))
+        → EndsBorne (IsNewlyNamed (named_of meta.now.out) (named_by store.new)) slots x said old
+        (R.told (store_rack store.new))) }
 {
     let Some(disk) = unmarked(store, meta) else {
         return renew(store, nothing, meta);
@@ -160,4 +165,72 @@ pub fn mark_out<R: Rack>(store: &mut Store<R>, nothing: &Batch, meta: &Meta) -> 
         epoch: store.epoch(),
         ..next_marked(meta, disk)
     })
+}
+
+/// Marks a disk that is absent where no other disk is named out, and gives the meta that stands then.
+/// Where there is none to mark, a meta of version 1 is brought to version 2 by a commit of its own.
+/// Then witness is borne against a log disk that the meta before named out.
+///
+/// It is the last step of a recovery: the commit that was interrupted was ended, and only reads and
+/// syncs were made since.
+pub fn mark_out<R: Rack>(store: &mut Store<R>, nothing: &Batch, meta: &Meta) -> Result<Meta, Two>
+    requires empty { nothing.now ≡ [] }
+    requires fresh { meta.now.epoch < worn_at }
+    requires in_range { IsInRange meta.now }
+    requires exists { meta.now.setup.geometry.disks ≤ R.slot_count (store_rack store.old) }
+    requires disks { disks_of store.old ≡ meta.now.setup.geometry.disks }
+    requires named { named_by store.old ≡ named_of meta.now.out }
+    requires epoch { epoch_of store.old ≡ meta.now.epoch }
+    requires log { IsLogReady (named_of meta.now.out) (R.slot (store_rack store.old)) }
+    requires witness { named_of meta.now.out ≢ Some 2 → CanBear (R.slot (store_rack store.old)) }
+    ensures slots { R.slot_count (store_rack store.new) ≡ R.slot_count (store_rack store.old) }
+    ensures disks { disks_of store.new ≡ disks_of store.old }
+    ensures given { IfOk result (λ m. m ≡ with_mark meta.now
+        (to_mark (λ d. (R.slot (store_rack store.old) d).power) meta.now)) }
+    ensures epoch { IfOk result (λ m. m.epoch ≡ epoch_of store.new) }
+    ensures named { IfOk result (λ m. named_of m.out ≡ named_by store.new) }
+    ensures powers { OnlyLosesSlots (R.slot (store_rack store.old)) (R.slot (store_rack store.new)) }
+    ensures each { AreFailedOrWell (R.slot (store_rack store.old)) (R.slot (store_rack store.new)) }
+    ensures synced { IfOk result (λ m. StaySynced (R.slot (store_rack store.old))
+        (R.slot (store_rack store.new))) }
+    ensures one { IfOk result (λ m. IsOneOut (disks_of store.old) (named_by store.old)
+        (R.slot (store_rack store.old))
+        → IsOneOut (disks_of store.old) (named_of m.out) (R.slot (store_rack store.new))) }
+    ensures calls { Ran (R.told (store_rack store.old)) (R.told (store_rack store.new))
+        (EachCall (IsInLog (disks_of store.old))) }
+    ensures allowed { OnlyMountCalls meta.now (R.told (store_rack store.old))
+        (R.told (store_rack store.new)) }
+    ensures two { IfErr result (AreTwoDownBeside (IsOutOfCommit (λ e. (R.slot (store_rack store.old) e).power)
+        (disks_of store.old) (named_by store.old)
+        (to_mark (λ d. (R.slot (store_rack store.old) d).power) meta.now))
+        (R.slot (store_rack store.old)) (R.slot (store_rack store.new))) }
+    ensures gone { IfErr result (AreGoneSince (IsOutOfCommit (λ e. (R.slot (store_rack store.old) e).power)
+        (disks_of store.old) (named_by store.old)
+        (to_mark (λ d. (R.slot (store_rack store.old) d).power) meta.now))
+        (R.slot (store_rack store.old)) (R.slot (store_rack store.new))) }
+    ensures holds { (slots x : ℕ) (said : LogState) (old : Option Trail) → said.meta ≡ meta.now
+        → Recovers slots x said old (R.told (store_rack store.old))
+        → RecoversHeld slots x said old (R.told (store_rack store.new)) }
+    ensures metas { (slots x : ℕ) (said : LogState) (old : Option Trail) → said.meta ≡ meta.now
+        → Recovers slots x said old (R.told (store_rack store.old))
+        → StandsInMoments slots x said old (R.told (store_rack store.old))
+        → StandsInMoments slots x said old (R.told (store_rack store.new)) }
+    ensures ends { IfOk result (λ m. (slots x : ℕ) (said : LogState) (old : Option Trail)
+        → said.meta ≡ meta.now → Recovers slots x said old (R.told (store_rack store.old))
+        → EndsHeld slots x said m old (R.told (store_rack store.new))) }
+    ensures borne { IfOk result (λ m. IsBorneAgainst (named_of meta.now.out)
+        (R.told (store_rack store.new))) }
+    ensures marked { IfOk result (λ m. (slots x : ℕ) (said : LogState) (old : Option Trail)
+        → said.meta ≡ meta.now → Recovers slots x said old (R.told (store_rack store.old))
+        → EndsBorne (IsNamedLog (named_by store.new)) slots x said old
+        (R.told (store_rack store.new))) }
+{
+    let stands = match mark_or_renew(store, nothing, meta) {
+        Ok(stands) => stands,
+        Err(two) => return Err(two),
+    };
+    match bear_named(store, meta) {
+        Ok(()) => Ok(stands),
+        Err(two) => Err(two),
+    }
 }

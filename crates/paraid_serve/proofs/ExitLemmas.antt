@@ -41,6 +41,7 @@ halted_mark slots setup p halt m = record {
   counted_ticks = m.counted_ticks;
   shown = m.shown;
   powers = m.powers;
+  borne = m.borne;
 }
 
 none_some : (o : Option Halt) (h : Halt) → o ≡ None → o ≡ Some h → ⊥

@@ -176,6 +176,7 @@ module _ (slots : ℕ) (s : Disks) (m : Meta) (f : IsFormatted slots s m) (small
     };
     old_range = f.in_range;
     new_range = next_range m small f.writes f.in_range;
+    no_witness = f.no_witness;
   }
 
   -- the state after the write

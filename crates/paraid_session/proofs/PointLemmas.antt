@@ -125,6 +125,7 @@ module _ (slots : ℕ) (t : Disks) (m : Meta) (h : History) (lo : ℕ) (calm : I
     counted_ticks = omega (arith, c.ticks);
     shown = shown s c;
     powers = powers s c;
+    borne = λ x low names. let k : None ≡ Some x = sym (ap named_out calm.no_out) ∙ names in cc;
   }
 
   strong : (w : ℕ) → IsWeak t w → ⊥

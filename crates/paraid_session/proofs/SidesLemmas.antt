@@ -2,7 +2,7 @@
 -- disks are in order.
 use Rattle.std.proofs.Common.{◌≡◌, ◌≢◌, ℕ, ◌+◌, ◌<◌, ◌≤◌, ◌⊎◌, Bool, true, false, [], length, Option, Some, None, refl, sym, ap, ◌∙◌, inl, inr, subst, arith, if◌then◌else◌}
 use Rattle.std.specs.Prelude.{◌==◌, ◌&&◌, ◌||◌, Contains, nat_lt}
-use Rattle.std.proofs.lemmas.Bool.{and_from, cases_eq, false≢true}
+use Rattle.std.proofs.lemmas.Bool.{and_from, cases_Bool, cases_eq, false≢true}
 use Rattle.std.proofs.lemmas.Bool.Decides.{nat_tests}
 use Rattle.paraid_base.specs.declared.block.Block.{Block}
 use Rattle.paraid_base.specs.declared.state.Out.TheVariants.{No, Fresh}
@@ -30,6 +30,7 @@ use Rattle.paraid_image.specs.Sound.Pairing.{alike, first_ahead, second_done}
 use Rattle.paraid_image.specs.Standing.{Stands, contents, is_first, other_log}
 use Rattle.paraid_session.specs.Course.{next_meta}
 use Rattle.paraid_image.proofs.AlikeLemmas.{sound_alike}
+use Rattle.paraid_image.proofs.CallLemmas.{zeroed_closed}
 use Rattle.paraid_image.proofs.OneDiskLessLemmas.{IsSoundAt-lost}
 use Rattle.paraid_image.proofs.OutLemmas.{first_absent_is}
 use Rattle.paraid_image.proofs.SidesLemmas.{Says-same}
@@ -44,6 +45,7 @@ pub record IsLike (s i : Disks) : Type 0 where
   pub power : (d : ℕ) → i.power d ≡ s.power d
   pub size : (d : ℕ) → i.size d ≡ s.size d
   pub block : (d p : ℕ) → log_least ≤ p → i.block d p ≡ s.block d p
+  pub witness : (p : ℕ) → p < 2 → i.block 2 p ≡ s.block 2 p
 
 -- what the two log disks may say at once
 pub data Fits (m : Meta) (a b : LogState) : Type 0 where
@@ -52,6 +54,11 @@ pub data Fits (m : Meta) (a b : LogState) : Type 0 where
   both : a ≡ open_next m → b ≡ open_next m → Fits m a b
   done : a ≡ closed_over (next_meta m) → b ≡ open_next m → Fits m a b
   new : a ≡ closed_over (next_meta m) → b ≡ closed_over (next_meta m) → Fits m a b
+
+-- where a block is shut, so is what is stored
+shut_stored : (i : Disks) (d p : ℕ) → is_open (i.block d p) ≡ false → is_open (stored_block i d p) ≡ false
+unfolding stored_block
+shut_stored i d p shut = elim (cases_Bool (has_place i d p)) [ inl there ↦ rw there shut | inr none ↦ rw none zeroed_closed ]
 
 nothing : (t : Target) → Contains [] t → ⊥
 nothing t inside = let none = inside.1 in omega arith
@@ -90,6 +97,7 @@ pub record IsInOrder (slots : ℕ) (s : Disks) (m : Meta) (h : History) : Type 0
   pub new_content : ContentOk slots s.power s.size (view_by (next_meta m) s.power (contents s [])) h 1
   pub old_range : IsInRange m
   pub new_range : IsInRange (next_meta m)
+  pub no_witness : (p : ℕ) → p < 2 → is_open (s.block 2 p) ≡ false
 
 module _ (slots : ℕ) (s : Disks) (m : Meta) (h : History) (order : IsInOrder slots s m h) where
   many : 3 ≤ m.setup.geometry.disks
@@ -163,6 +171,9 @@ module _ (slots : ℕ) (s : Disks) (m : Meta) (h : History) (order : IsInOrder s
         let size : i.size ≡ s.size = λ t. λ d. like.size d t in
         rw (like_contents s i like, power, size) c
 
+    no_witness : (p : ℕ) → p < 2 → is_open (stored_block i 2 p) ≡ false
+    no_witness p low = shut_stored i 2 p (ap is_open (like.witness p low) ∙ order.no_witness p low)
+
     module _ (a b : LogState) (first : Says i 0 a) (last : Says i 1 b) (fits : Fits m a b) where
       log_of : (z : LogState) (k : ℕ) → z ≡ a → z.batch ≡ [] → z.meta.writes ≡ k → named_out z.meta.out ≡ named_out m.out → z.meta.setup ≡ m.setup → is_first z b ≡ true → Pairing z b → LogOk i 0 z k
       log_of z k is batch writes out_same setup wins pair =
@@ -197,7 +208,7 @@ module _ (slots : ℕ) (s : Disks) (m : Meta) (h : History) (order : IsInOrder s
 
       abbrev sound_of : (z : LogState) (k : ℕ) → z ≡ a → z.batch ≡ [] → z.meta.writes ≡ k → named_out z.meta.out ≡ named_out m.out → z.meta.setup ≡ m.setup → is_first z b ≡ true → Pairing z b
           → ContentOk slots i.power i.size (view_of i z) h k → IsSoundAt slots i h k
-      sound_of z k is batch writes out_same setup wins pair c = record { disk = 0; said = z; log = log_of z k is batch writes out_same setup wins pair; content = c }
+      sound_of z k is batch writes out_same setup wins pair c = record { disk = 0; said = z; log = log_of z k is batch writes out_same setup wins pair; content = c; witnesses = λ p low opened. absurd (false≢true (sym (no_witness p low) ∙ opened)) }
 
       one_write : (next_meta m).writes ≡ 1
       one_write = ap (λ (n : ℕ). n + 1) order.writes
@@ -275,7 +286,7 @@ module _ (slots : ℕ) (s : Disks) (m : Meta) (h : History) (order : IsInOrder s
     copied = record i { block = λ e p. if e == 0 && nat_lt p log_least then i.block 1 p else i.block e p }
 
     pub copied_like : IsLike s copied
-    copied_like = record { power = like.power; size = like.size; block = λ d p high. if_high d p (i.block 1 p) (i.block d p) high ∙ like.block d p high }
+    copied_like = record { power = like.power; size = like.size; block = λ d p high. if_high d p (i.block 1 p) (i.block d p) high ∙ like.block d p high; witness = λ p low. if_apart 2 p (i.block 1 p) (i.block 2 p) (λ is. absurd (omega arith)) ∙ like.witness p low }
 
     copied_lost : (k : ℕ) → IsSoundAt slots (lose 0 copied) h k → IsSoundAt slots (lose 0 i) h k
     copied_lost k sound = sound_alike slots (lose 0 copied) (lose 0 i) h k (record {

@@ -43,6 +43,7 @@ logged_write s t d p b log_disk low l = record {
     size = λ e. at_case (λ (n : ℕ). n ≡ s.size e) t.size d (t.size d) e (λ is. ap t.size (sym is) ∙ l.like.size e) (λ not. l.like.size e);
     block = λ e q high. at_case (λ (g : ℕ → Block). g q ≡ s.block e q) t.block d (with_at (t.block d) p b) e
         (λ is. with_at_other (t.block d) p b q (λ same. omega (arith, high, low, same)) ∙ ap (λ (k : ℕ). t.block k q) (sym is) ∙ l.like.block e q high) (λ not. l.like.block e q high);
+    witness = λ q first. at_case (λ (g : ℕ → Block). g q ≡ s.block 2 q) t.block d (with_at (t.block d) p b) 2 (λ is. absurd (omega (arith, is, log_disk))) (λ not. l.like.witness q first);
   };
   synced = λ e q high. at_case (λ (g : ℕ → Bool). g q ≡ false) t.loose d (with_at (t.loose d) p true) e
       (λ is. with_at_other (t.loose d) p true q (λ same. omega (arith, high, low, same)) ∙ l.synced d q high) (λ not. l.synced e q high);
@@ -57,6 +58,7 @@ logged_sync s t d log_disk l = record {
     power = λ e. at_case (λ (w : Power). w ≡ s.power e) t.power d (t.power d) e (λ is. ap t.power (sym is) ∙ l.like.power e) (λ not. l.like.power e);
     size = λ e. at_case (λ (n : ℕ). n ≡ s.size e) t.size d (t.size d) e (λ is. ap t.size (sym is) ∙ l.like.size e) (λ not. l.like.size e);
     block = l.like.block;
+    witness = l.like.witness;
   };
   synced = λ e q high. at_case (λ (g : ℕ → Bool). g q ≡ false) t.loose d (λ p. false) e (λ is. refl) (λ not. l.synced e q high);
   others = λ e q high. at_case (λ (g : ℕ → Bool). g q ≡ false) t.loose d (λ p. false) e (λ is. refl) (λ not. l.others e q high);
@@ -67,6 +69,7 @@ image_like s t i l image = record {
   power = λ d. image.power d ∙ l.like.power d;
   size = λ d. image.size d ∙ l.like.size d;
   block = λ d p high. image.block d p (l.synced d p high) ∙ l.like.block d p high;
+  witness = λ p low. image.block 2 p (l.others 2 p (omega arith)) ∙ l.like.witness p low;
 }
 
 -- how far log disk `x` is
@@ -266,7 +269,7 @@ module _ (slots : ℕ) (s : Disks) (m : Meta) (h : History) (order : IsInOrder s
   t18 = step (Sync 1 true) t17
 
   logged0 : IsLogged s t0
-  logged0 = record { like = record { power = λ d. refl; size = λ d. refl; block = λ d p high. refl }; synced = λ d p high. f.synced d p; others = λ d p high. f.synced d p }
+  logged0 = record { like = record { power = λ d. refl; size = λ d. refl; block = λ d p high. refl; witness = λ p low. refl }; synced = λ d p high. f.synced d p; others = λ d p high. f.synced d p }
 
   logged1 : IsLogged s t1
   logged1 = logged_write s t0 0 2 b1 (omega arith) (omega arith) logged0

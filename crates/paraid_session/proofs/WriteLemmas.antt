@@ -257,6 +257,7 @@ module _ (slots : ℕ) (t : Disks) (m : Meta) (h : History) (lo : ℕ) (calm : I
       counted_ticks = omega (arith, c.ticks);
       shown = shown_less q c;
       powers = powers_less q c;
+      borne = λ x low names. let k : None ≡ Some x = sym (ap named_out calm.no_out) ∙ names in cc;
     }
 
   -- what a stop leaves then is an entry

@@ -13,6 +13,7 @@ use Rattle.paraid_base.specs.History.{History}
 use Rattle.paraid_base.specs.Log.{worn_at}
 use Rattle.paraid_rack.specs.declared.call.Call.{Call}
 use Rattle.paraid_rack.specs.declared.call.Power.{Power}
+use Rattle.paraid_rack.specs.Atoms.{IsSure}
 use Rattle.paraid_rack.specs.Disks.{Disks}
 use Rattle.paraid_rack.specs.Trail.{run}
 use Rattle.paraid_record.specs.declared.meta.Meta.{Meta}
@@ -21,6 +22,7 @@ use Rattle.paraid_image.specs.Rest.{IsAtRest, closed_over}
 use Rattle.paraid_image.specs.HeldAt.{IsHeld}
 use Rattle.paraid_image.specs.Out.{named_out}
 use Rattle.paraid_image.specs.Power.{PowerState, initial_state, power_of}
+use Rattle.paraid_image.specs.Sides.{is_open}
 use Rattle.paraid_image.specs.Shown.{IsShown, with_flush, accepted_write}
 use Rattle.paraid_machine.specs.Energy.{energy_after, tick_energy}
 use Rattle.paraid_machine.specs.Machine.{IsEventStep}
@@ -48,7 +50,8 @@ abbrev pub state_at : Point → PowerState
 state_at p = initial_state p.disks (closed_over p.meta)
 
 -- What holds between two events: each stop leaves the writes; the disks are at rest under the meta
--- that stands, and show the state; and they are powered as the state says.
+-- that stands, and show the state; they are powered as the state says; and disk 2 bears witness
+-- against a log disk that the meta names out.
 pub record IsMark (slots : ℕ) (setup : Setup) (p : Point) : Type 0 where
   pub held : IsHeld slots p.disks p.history p.low (named_out p.state.out)
   pub rest : IsAtRest p.disks p.meta
@@ -57,6 +60,7 @@ pub record IsMark (slots : ℕ) (setup : Setup) (p : Point) : Type 0 where
   pub shown : IsShown p.state (state_at p)
   pub powers : (d : ℕ) (power : Power) → d < setup.geometry.disks → power_of p.state d ≡ Some power
       → p.disks.power d ≡ power
+  pub borne : (x : ℕ) → x < 2 → named_out p.meta.out ≡ Some x → IsSure p.disks 2 x (λ b. is_open b ≡ true)
 
 -- the disks show the dirty cells of the state too
 abbrev pub AreDirtyShown : Setup → Point → Type 0

@@ -295,6 +295,7 @@ module _ (slots : ℕ) (named : Option ℕ) (m : Meta) (table : List (List Bool)
           copies = record { copying = k.copies.copying; low = (let low = k.copies.low in omega arith); high = k.copies.high; content = k.copies.content };
           synced = k.synced;
           named_by = k.named_by;
+          borne = k.borne;
           epoch = k.epoch;
           next = k.next;
           writes = k.writes;

@@ -1,5 +1,5 @@
 -- The promise of a commit, from its stages.
-use Rattle.std.specs.Prelude.{◌≡◌, ◌≢◌, ◌⊎◌, ℕ, ◌<◌, ◌≤◌, Bool, false, Option, Some, None}
+use Rattle.std.specs.Prelude.{◌≡◌, ◌≢◌, ◌⊎◌, ℕ, ◌<◌, ◌≤◌, Bool, true, false, [], Option, Some, None}
 use Rattle.std.proofs.Common.{refl, sym, ◌∙◌, ap, subst, arith, inl, inr}
 use Rattle.std.proofs.lemmas.Bool.{cases_Bool, cases_eq, false≢true}
 use Rattle.paraid_base.specs.Log.{log_least}
@@ -7,24 +7,28 @@ use Rattle.paraid_rack.specs.declared.call.Power.{Power}
 use Rattle.paraid_rack.specs.declared.call.Power.TheVariants.{Absent}
 use Rattle.paraid_rack.specs.Atoms.{IsLeftByStop}
 use Rattle.paraid_rack.specs.Disks.{Disks, IsPresent, is_present, lose}
-use Rattle.paraid_rack.proofs.AtomsLemmas.{at_use, image_left, lost_left, with_at_other, with_at_same}
+use Rattle.paraid_rack.proofs.AtomsLemmas.{at_use, image_left, lost_apart, lost_left, with_at_other, with_at_same}
 use Rattle.paraid_record.specs.declared.meta.Meta.{Meta}
 use Rattle.paraid_record.specs.Range.{IsInRange}
 use Rattle.paraid_image.specs.Rest.{AreLogGatesClosed, IsAtRest, AreSynced, closed_over}
-use Rattle.paraid_txn.specs.Commit.{IsCommitted, IsEachImage, IsEitherMissing, IsOldOrNew, IsOneMissing, ImageStandsFor, ImageStandsForEither}
+use Rattle.paraid_txn.specs.Commit.{IsCommitted, KeepsWitnesses, LeavesBorne, IsEachImage, IsEitherMissing, IsOldOrNew, IsOneMissing, ImageStandsFor, ImageStandsForEither}
 use Rattle.paraid_image.specs.Out.{IsMissing, IsWeak, first_absent, named_out, or_else, out_disk}
 use Rattle.paraid_image.specs.Out.IsWeak.{out as out_weak, named as named_weak}
-use Rattle.paraid_image.specs.Sides.{LogState, Says, SaysBy, is_open, stored_block}
+use Rattle.paraid_image.specs.Sides.{Batch, LogState, Says, SaysBy, is_open, stored_block}
 use Rattle.paraid_image.specs.Sound.{LogOk}
-use Rattle.paraid_txn.specs.CommitStages.{CloseStage, IsEarlyImage, IsLiveLog, Job, IsLateImage, HoldsLate, LogStage, HoldsWhole, job_named, open_with}
+use Rattle.paraid_txn.specs.CommitStages.{BeganTrue, CloseStage, FirstStage, IsEarlyImage, IsLiveLog, IsTrueWitness, Job, KeepsSlotsAndLogs, IsLateImage, HoldsLate, LogStage, HoldsWhole, HoldsWitnesses, job_named, open_with}
+use Rattle.paraid_txn.specs.CommitStages.IsTrueWitness.{by_both, by_new, by_old}
 use Rattle.paraid_image.specs.Standing.{Stands, other_log}
 use Rattle.paraid_image.proofs.OutLemmas.{first_absent_finds, named_below, out_missing}
 use Rattle.paraid_image.proofs.SidesLemmas.{Says-same}
 use Rattle.paraid_image.proofs.StandingLemmas.{Stands-same}
-use Rattle.paraid_txn.proofs.SpokenLemmas.{IsBegun, before_in_range, begun_brought, joining_shut, stands_alone}
+use Rattle.paraid_txn.proofs.SpokenLemmas.{IsBegun, after_epoch, aside_said, before_in_range, begun_brought, joining_second, joining_shut, live_says_old, stands_alone, start_epoch}
 use Rattle.paraid_txn.proofs.CommitImagesLemmas.{IsPaired, aside_old, early_for_new, early_for_old, early_joining, early_other, early_stands, late_for, late_other, late_stands}
-use Rattle.paraid_image.proofs.CallLemmas.{decide_some, out_named, says_of_lost}
-use Rattle.paraid_txn.proofs.WholeLemmas.{closing_late, closing_whole, stored_here}
+use Rattle.paraid_image.proofs.CallLemmas.{decide_some, lose_kept, out_named, says_of_lost, stored_kept, stored_lost, zeroed_closed}
+use Rattle.paraid_image.proofs.HeldLemmas.{image_of_synced}
+use Rattle.paraid_image.proofs.NeutralLemmas.{says_forth}
+use Rattle.paraid_txn.proofs.WholeLemmas.{closing_late, closing_whole, left_kept, stored_here}
+use Rattle.paraid_txn.proofs.WitnessLemmas.{missing_out, missing_still}
 
 -- where a disk is absent, some disk is out
 pub absent_out : (power : ℕ → Power) (m : Meta) (e : ℕ) → e < m.setup.geometry.disks → is_present (power e) ≡ false → (w : ℕ) × (out_disk power m ≡ Some w)
@@ -43,6 +47,14 @@ closed_said i z said m says shut is =
 pub decide_out : (o : Option ℕ) → ((w : ℕ) × (o ≡ Some w)) ⊎ (o ≡ None)
 decide_out (Some w) = inl (w, refl)
 decide_out None = inr refl
+
+-- a stop may leave the disks as they are
+left_all : (s : Disks) → IsLeftByStop s s
+left_all s = record { present = λ d here. here; power = λ d here. refl; size = λ d here. refl; block = λ d p synced. refl }
+
+-- what is missing is missing in what a stop leaves
+pub missing_left : (s i : Disks) (m : Meta) (d : ℕ) → IsLeftByStop s i → IsMissing s.power m d → IsMissing i.power m d
+missing_left s i m d left missing = missing_still s.power i.power m d left.present missing
 
 module _ (j : Job) (before : Meta) (begun : IsBegun j before) where
   same_disks : j.meta.setup.geometry.disks ≡ before.setup.geometry.disks
@@ -347,6 +359,9 @@ module _ (j : Job) (before : Meta) (begun : IsBegun j before) where
         late_lost i (aside i left) (late i left) one d weak (aside (lose d i) left_too) (late (lose d i) left_too);
   }
 
+  either_images : (s : Disks) → IsEachImage before j.meta New s → IsEachImage before j.meta Either s
+  either_images s new = record { whole = λ i image one. inr (new.whole i image one); lost = λ i d image one weak. inr (new.lost i d image one weak) }
+
   early_images : (s : Disks) → ((i : Disks) → IsLeftByStop s i → IsEarlyImage j i) → ((i : Disks) → IsLeftByStop s i → LeftAside i) → IsEachImage before j.meta Either s
   early_images s early aside = record {
     whole = λ i image one. let left = image_left s i image in early_whole i (aside i left) (early i left) one;
@@ -356,17 +371,116 @@ module _ (j : Job) (before : Meta) (begun : IsBegun j before) where
         early_lost i (aside i left) (early i left) one d weak (aside (lose d i) left_too) (early (lose d i) left_too);
   }
 
-  pub whole_images : (s : Disks) → HoldsWhole j s → IsOldOrNew j.start before j.meta j.batch s
-  whole_images s w = elim w.either [
-    | inl early ↦ record {
-      images = early_images s early w.aside;
-      weak = λ i d image one weak. let left = image_left s i image in early_weak i (w.aside i left) (early i left) one d weak;
-    }
-    | inr late ↦
-        let new = late_images s late w.aside in
+  -- The witnesses
+
+  -- each live log disk is closed as it was
+  abbrev IsStillShut : Disks → Type 0
+  IsStillShut i = (x : ℕ) → IsLiveLog j x → IsPresent i x → (is_open (i.block x 0) ≡ false) × (i.block x 1 ≡ j.start.block x 1)
+
+  -- then none says the new meta
+  old_epoch : (i : Disks) (kept : KeepsSlotsAndLogs j i) (aside : LeftAside i) → IsStillShut i → (z : ℕ) (o : LogState) → z < 2 → Says i z o → o.meta.epoch ≤ before.epoch
+  old_epoch i kept aside shut z o low says = elim (decide_some (job_named j) z) [
+    | inl is ↦ start_epoch j before begun z o low is (aside_said j i kept z says.present (λ p lt. aside z p low is lt says.present) o says)
+    | inr not ↦
+        let live : IsLiveLog j z = (low, not) in
+        let s = shut z live says.present in
+        elim (decide_some (named_out before.out) z) [
+          | inl was ↦ after_epoch (other_log z) (closed_over before) o (joining_second j before begun i kept z live says.present was s.0 s.1 o says)
+          | inr in_it ↦
+              let same = ap (λ (u : LogState). u.meta.epoch) (Says-same i z o (closed_over before) says (live_says_old j before begun i kept z live says.present in_it s.0 s.1)) in
+              omega arith
+        ]
+  ]
+
+  -- why a witness is true in an image that stands
+  abbrev IsBorne : Disks → ℕ → Type 0
+  IsBorne i p = (IsMissing i.power before p × IsMissing i.power j.meta p)
+      ⊎ ((IsMissing i.power before p × IsStillShut i) ⊎ (IsMissing i.power j.meta p × New i))
+
+  module _ (i : Disks) (y : ℕ) (said : LogState) (stands : Stands i y said) where
+    out_by : (m : Meta) (batch : Batch) → IsOneOf m → ImageStandsFor j.start i m batch → (p : ℕ) → IsMissing i.power m p → out_disk i.power said.meta ≡ Some p
+    out_by m batch one_of for p missing =
+        let same = (Stands-same i y for.disk said for.said stands for.log.stands).1 in
+        let is : said.meta ≡ m = ap (λ (o : LogState). o.meta) same ∙ for.meta in
+        let back = λ (d : ℕ) (gone : IsMissing i.power m d). subst (λ (n : Meta). IsMissing i.power n d) (sym for.meta) gone in
+        ap (λ (n : Meta). out_disk i.power n) is
+        ∙ missing_out i.power m p (in_range m one_of) (λ d e a b. for.log.single d e (back d a) (back e b)) missing
+
+    borne_out : KeepsSlotsAndLogs j i → LeftAside i → Either i → (p : ℕ) → IsBorne i p → out_disk i.power said.meta ≡ Some p
+    borne_out kept aside (inl for) p (inl both) = out_by before [] (inl refl) for p both.0
+    borne_out kept aside (inr for) p (inl both) = out_by j.meta j.batch (inr refl) for p both.1
+    borne_out kept aside (inl for) p (inr (inl was)) = out_by before [] (inl refl) for p was.0
+    borne_out kept aside (inr for) p (inr (inl was)) =
+        let low = old_epoch i kept aside was.1 for.disk for.said for.log.stands.log_disk for.log.stands.says in
+        let is : for.said.meta.epoch ≡ j.meta.epoch = ap (λ (m : Meta). m.epoch) for.meta in
+        let next = begun.next.epoch in
+        absurd (omega arith)
+    borne_out kept aside e p (inr (inr now_is)) = out_by j.meta j.batch (inr refl) now_is.1 p now_is.0
+
+  borne_by : (i k : Disks) → IsLeftByStop i k → ((x p : ℕ) → k.block x p ≡ i.block x p) → (IsLateImage j i → New k) → (p : ℕ) → IsTrueWitness j before i p → IsBorne k p
+  borne_by i k left same late p (by_both a b) = inl (missing_left i k before p left a, missing_left i k j.meta p left b)
+  borne_by i k left same late p (by_old a shut) = inr (inl (
+    missing_left i k before p left a,
+    λ x live here.
+        let s = shut x live (left.present x here) in
+        (ap is_open (same x 0) ∙ s.0, same x 1 ∙ s.1),
+  ))
+  borne_by i k left same late p (by_new b is) = inr (inr (missing_left i k j.meta p left b, late is))
+
+  -- an image that the batch is laid on is so with a disk lost
+  late_still : (i : Disks) (d : ℕ) → IsLeftByStop i (lose d i) → IsLateImage j i → IsLateImage j (lose d i)
+  late_still i d left is = record {
+    kept = left_kept j i (lose d i) is.kept left;
+    sides = λ x live here. elim (is.sides x live (left.present x here)) [
+      | inl opened ↦ inl (forth x here (open_with j) opened)
+      | inr closed ↦ inr (forth x here (closed_over j.meta) closed)
+    ];
+    held = λ e p gets here far. is.held e p gets (left.present e here) far;
+    done = λ x e p live here says gets there far. is.done x e p live (left.present x here) (says_of_lost i d x (closed_over j.meta) says) gets (left.present e there) far;
+  }
+    where
+      forth : (x : ℕ) → IsPresent (lose d i) x → (o : LogState) → Says i x o → Says (lose d i) x o
+      forth x here o says = says_forth i (lose d i) x o (lose_kept i d x (lost_apart i d x here)) says
+
+  -- a place that is open with a disk lost was so before
+  was_open : (i : Disks) (d p : ℕ) → is_open (stored_block (lose d i) 2 p) ≡ true → is_open (stored_block i 2 p) ≡ true
+  was_open i d p opened = elim (cases_eq 2 d) [
+    | inl is ↦ absurd (false≢true (sym zeroed_closed ∙ ap is_open (sym (stored_lost i d 2 p is)) ∙ opened))
+    | inr apart ↦ ap is_open (sym (stored_kept i d 2 p apart)) ∙ opened
+  ]
+
+  -- so the witnesses of each image are true
+  witness_images : (s : Disks) → ((i : Disks) → IsLeftByStop s i → KeepsSlotsAndLogs j i) → ((i : Disks) → IsLeftByStop s i → LeftAside i)
+      → IsEachImage before j.meta Either s → (BeganTrue j before → HoldsWitnesses j before s) → IsEachImage before j.meta (KeepsWitnesses j.start before) s
+  witness_images s kept aside images holds = record {
+    whole = λ i image one began y said stands p low opened.
+        let left = image_left s i image in
+        borne_out i y said stands (kept i left) (aside i left) (images.whole i image one) p
+        (borne_by i i (left_all i) (λ x q. refl) (λ late. late_whole i (aside i left) late one) p (holds began i left p low opened));
+    lost = λ i d image one weak began y said stands p low opened.
+        let left = image_left s i image in
+        let left_too = lost_left s i d image in
+        let again = lost_left i i d (image_of_synced i image.loose) in
+        borne_out (lose d i) y said stands (kept (lose d i) left_too) (aside (lose d i) left_too) (images.lost i d image one weak) p
+        (borne_by i (lose d i) again (λ x q. refl) (λ late. late_lost i (aside i left) late one d weak (aside (lose d i) left_too) (late_still i d again late)) p
+        (holds began i left p low (was_open i d p opened)));
+  }
+
+  pub whole_images : (s : Disks) → HoldsWhole j s → (BeganTrue j before → HoldsWitnesses j before s) → IsOldOrNew j.start before j.meta j.batch s
+  whole_images s w holds = elim w.either [
+    | inl early ↦
+        let images = early_images s early w.aside in
         record {
-          images = record { whole = λ i image one. inr (new.whole i image one); lost = λ i d image one weak. inr (new.lost i d image one weak) };
+          images = images;
+          weak = λ i d image one weak. let left = image_left s i image in early_weak i (w.aside i left) (early i left) one d weak;
+          witnesses = witness_images s (λ i left. (early i left).kept) w.aside images holds;
+        }
+    | inr late ↦
+        let images = either_images s (late_images s late w.aside) in
+        record {
+          images = images;
           weak = λ i d image one weak. let left = image_left s i image in late_weak i (w.aside i left) (late i left) one d weak;
+          witnesses = witness_images s (λ i left. (late i left).kept) w.aside images holds;
         }
   ]
 
@@ -396,10 +510,22 @@ module _ (j : Job) (before : Meta) (begun : IsBegun j before) where
         | inr not ↦ begun.rest.shut x live.0 here not
       ]
 
+  pub first_stage : LogStage j 0 j.start → FirstStage j before j.start
+  first_stage stage = record {
+    stage = stage;
+    setup = begun.next.setup;
+    out = begun.next.out;
+    single = begun.rest.log.single;
+    old = λ began p low. elim (cases_Bool (is_open (stored_block j.start 2 p))) [
+      | inl opened ↦ inr (out_missing j.start.power before p (before_in_range j before begun) (began p low opened))
+      | inr shut ↦ inl (record { holds = λ here. (begun.rest.synced 2 p here, λ lt. ap is_open (sym (stored_here j.start 2 p here lt)) ∙ shut) })
+    ];
+  }
+
   -- the last stage is what a commit promises at its end
   module _ (s : Disks) (c : CloseStage j 2 s) where
     self_left : IsLeftByStop s s
-    self_left = record { present = λ d here. here; power = λ d here. refl; size = λ d here. refl; block = λ d p synced. refl }
+    self_left = left_all s
 
     all_shut : AreLogGatesClosed s j.meta
     all_shut x low here not =
@@ -426,10 +552,15 @@ module _ (j : Job) (before : Meta) (begun : IsBegun j before) where
           shut = all_shut;
         }
 
-    pub is_committed : IsCommitted j.start s before j.meta j.batch
-    is_committed = record {
-      images = late_images s (closing_late j begun.good 2 s c.core) whole.aside;
-      synced = all_synced;
-      shut = all_shut;
-      rest = at_rest;
-    }
+    pub is_committed : (BeganTrue j before → HoldsWitnesses j before s) → LeavesBorne j.start s before j.meta → IsCommitted j.start s before j.meta j.batch
+    is_committed holds leaves =
+        let late = closing_late j begun.good 2 s c.core in
+        let images = late_images s late whole.aside in
+        record {
+          images = images;
+          synced = all_synced;
+          shut = all_shut;
+          rest = at_rest;
+          witnesses = witness_images s (λ i left. (late i left).kept) whole.aside (either_images s images) holds;
+          borne = leaves;
+        }

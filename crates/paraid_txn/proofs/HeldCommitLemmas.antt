@@ -8,20 +8,21 @@ use Rattle.paraid_rack.specs.Disks.{Disks, IsImage, IsPresent, is_present, lose}
 use Rattle.paraid_rack.proofs.AtomsLemmas.{with_at_other, with_at_same}
 use Rattle.paraid_record.specs.declared.meta.Meta.{Meta}
 use Rattle.paraid_record.specs.Range.{IsInRange}
-use Rattle.paraid_txn.specs.Commit.{IsEitherMissing, IsOldOrNew, IsOneMissing, ImageStandsFor, ImageStandsForEither}
+use Rattle.paraid_txn.specs.Commit.{IsEitherMissing, IsOldOrNew, KeepsWitnesses, IsOneMissing, ImageStandsFor, ImageStandsForEither}
 use Rattle.paraid_image.specs.Content.{view_of}
 use Rattle.paraid_image.specs.HeldAt.{IsHeld, IsSoundFrom}
 use Rattle.paraid_image.specs.FirstWrites.{HoldsFirstWrites}
-use Rattle.paraid_image.specs.Out.{IsMissing, first_absent}
+use Rattle.paraid_image.specs.Out.{IsMissing, first_absent, out_disk}
 use Rattle.paraid_image.specs.Sides.{Batch}
-use Rattle.paraid_image.specs.Sound.{ContentOk}
+use Rattle.paraid_image.specs.Sound.{AreWitnessesTrue, ContentOk}
 use Rattle.paraid_image.proofs.OutLemmas.{out_missing, first_absent_finds, first_absent_is, says_in_range}
 use Rattle.paraid_txn.proofs.HeldResumeLemmas.{transfer}
 use Rattle.paraid_image.proofs.OneDiskLessLemmas.{content_lost, contents_kept}
 use Rattle.paraid_txn.proofs.MeansLemmas.{absent_power}
 
 -- an image that stands for what the start does holds what that holds, with the disks that are lost in it
-module _ (slots : ℕ) (s0 i : Disks) (m : Meta) (batch : Batch) (h : History) (lo : ℕ) (holds : HoldsFirstWrites slots s0 m batch h lo) (for : ImageStandsFor s0 i m batch) where
+module _ (slots : ℕ) (s0 i : Disks) (m : Meta) (batch : Batch) (h : History) (lo : ℕ) (holds : HoldsFirstWrites slots s0 m batch h lo) (for : ImageStandsFor s0 i m batch)
+    (witnesses : AreWitnessesTrue i (out_disk i.power for.said.meta)) where
   range : IsInRange m
   range = subst IsInRange for.meta (says_in_range for.said.opened _ for.said.meta for.said.batch for.log.stands.says.log)
 
@@ -77,11 +78,17 @@ module _ (slots : ℕ) (s0 i : Disks) (m : Meta) (batch : Batch) (h : History) (
     k = m.writes;
     low = holds.low;
     high = holds.high;
-    sound = record { disk = for.disk; said = for.said; log = for.log; content = content_now };
+    sound = record {
+      disk = for.disk;
+      said = for.said;
+      log = for.log;
+      content = content_now;
+      witnesses = witnesses;
+    };
   }
 
 module _ (slots : ℕ) (s0 : Disks) (before after : Meta) (batch : Batch) (h : History) (lo : ℕ) (old : HoldsFirstWrites slots s0 before [] h lo) (new : HoldsFirstWrites slots s0 after batch h lo)
-    (s : Disks) (down : Option ℕ) (one_down : (d : ℕ) → IsEitherMissing s.power before after d → down ≡ Some d) (moment : IsOldOrNew s0 before after batch s) where
+    (began : AreWitnessesTrue s0 (out_disk s0.power before)) (s : Disks) (down : Option ℕ) (one_down : (d : ℕ) → IsEitherMissing s.power before after d → down ≡ Some d) (moment : IsOldOrNew s0 before after batch s) where
   missing_at : (i : Disks) (m : Meta) (d : ℕ) → IsImage s i → IsMissing i.power m d → IsMissing s.power m d
   missing_at i m d image missing = record {
     disk = missing.disk;
@@ -95,13 +102,13 @@ module _ (slots : ℕ) (s0 : Disks) (before after : Meta) (batch : Batch) (h : H
   one : (i : Disks) → IsImage s i → IsOneMissing i.power before after
   one i image = record { one = λ d e p q. let z : Some d ≡ Some e = sym (down_at i d image p) ∙ down_at i e image q in cc }
 
-  sound_of : (i : Disks) → ImageStandsForEither s0 before after batch i → IsSoundFrom slots i h lo
-  sound_of i (inl for) = stands_sound slots s0 i before [] h lo old for
-  sound_of i (inr for) = stands_sound slots s0 i after batch h lo new for
+  sound_of : (i : Disks) → ImageStandsForEither s0 before after batch i → KeepsWitnesses s0 before i → IsSoundFrom slots i h lo
+  sound_of i (inl for) keeps = stands_sound slots s0 i before [] h lo old for (keeps began for.disk for.said for.log.stands)
+  sound_of i (inr for) keeps = stands_sound slots s0 i after batch h lo new for (keeps began for.disk for.said for.log.stands)
 
   pub held_commits : IsHeld slots s h lo down
   held_commits = record {
-    whole = λ i image. sound_of i (moment.images.whole i image (one i image));
-    lost = λ i d image may. sound_of (lose d i) (moment.images.lost i d image (one i image) may.weak);
+    whole = λ i image. sound_of i (moment.images.whole i image (one i image)) (moment.witnesses.whole i image (one i image));
+    lost = λ i d image may. sound_of (lose d i) (moment.images.lost i d image (one i image) may.weak) (moment.witnesses.lost i d image (one i image) may.weak);
     weak = λ i w image weak. down_at i w image (moment.weak i w image (one i image) weak);
   }

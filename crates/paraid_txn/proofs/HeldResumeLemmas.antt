@@ -20,7 +20,7 @@ use Rattle.paraid_image.specs.Out.{IsMissing, IsWeak, first_absent, named_out, o
 use Rattle.paraid_image.specs.Out.IsWeak.{out as out_weak, named as named_weak}
 use Rattle.paraid_txn.specs.Resume.{IsFallback, ImageStandsForBroken}
 use Rattle.paraid_image.specs.Sides.{Batch, LogState, Says, has_place, stored_block}
-use Rattle.paraid_image.specs.Sound.{ContentOk, LogOk}
+use Rattle.paraid_image.specs.Sound.{AreWitnessesTrue, ContentOk, LogOk}
 use Rattle.paraid_image.specs.Standing.{contents, overlaid_block, other_log}
 use Rattle.paraid_txn.proofs.CommitLemmas.{absent_out, decide_out}
 use Rattle.paraid_image.proofs.OutLemmas.{out_missing, first_absent_finds, first_absent_is, missing_is_out, says_in_range}
@@ -29,6 +29,7 @@ use Rattle.paraid_rack.proofs.AlikeLemmas.{IsAlike-sym, lose_alike}
 use Rattle.paraid_image.proofs.AlikeLemmas.{sound_alike, stands_alike, weak_alike}
 use Rattle.paraid_image.proofs.OneDiskLessLemmas.{content_lost, contents_kept}
 use Rattle.paraid_txn.proofs.MeansLemmas.{absent_power, means_same}
+use Rattle.paraid_txn.proofs.WitnessLemmas.{true_still}
 use Rattle.paraid_image.proofs.NeutralLemmas.{says_forth}
 use Rattle.paraid_image.proofs.SidesLemmas.{Says-same}
 use Rattle.paraid_txn.proofs.SpokenLemmas.{other_other, stands_alone}
@@ -109,6 +110,9 @@ module _ (slots : ℕ) (s0 : Disks) (x : ℕ) (said : LogState) (h : History) (l
   content : ContentOk slots s0.power s0.size (view_of s0 said) h at_first.k
   content = subst (λ (o : LogState). ContentOk slots s0.power s0.size (view_of s0 o) h at_first.k) same_said at_first.sound.content
 
+  witnesses : AreWitnessesTrue s0 (out_disk s0.power said.meta)
+  witnesses = subst (λ (o : LogState). AreWitnessesTrue s0 (out_disk s0.power o.meta)) same_said at_first.sound.witnesses
+
   writes : said.meta.writes ≡ at_first.k
   writes = ap (λ (o : LogState). o.meta.writes) (sym same_said) ∙ at_first.sound.log.writes
 
@@ -122,7 +126,7 @@ module _ (slots : ℕ) (s0 : Disks) (x : ℕ) (said : LogState) (h : History) (l
   x_low = let n = said.meta.setup.geometry.disks_low in let l = log.stands.log_disk in omega arith
 
   module _ (i : Disks) (present : (d : ℕ) → IsPresent i d → IsPresent s0 d) (power : (d : ℕ) → IsPresent i d → i.power d ≡ s0.power d)
-      (size : (d : ℕ) → IsPresent i d → i.size d ≡ s0.size d) where
+      (size : (d : ℕ) → IsPresent i d → i.size d ≡ s0.size d) (block : (p : ℕ) → p < 2 → IsPresent i 2 → i.block 2 p ≡ s0.block 2 p) where
     still_gone : (e : ℕ) → is_present (s0.power e) ≡ false → is_present (i.power e) ≡ false
     still_gone e gone = elim (cases_Bool (is_present (i.power e))) [ inl here ↦ absurd (false≢true (sym gone ∙ present e here)) | inr off ↦ off ]
 
@@ -184,7 +188,13 @@ module _ (slots : ℕ) (s0 : Disks) (x : ℕ) (said : LogState) (h : History) (l
         k = at_first.k;
         low = at_first.low;
         high = at_first.high;
-        sound = record { disk = for.disk; said = for.said; log = subst (LogOk i for.disk for.said) writes for.log; content = content_now };
+        sound = record {
+          disk = for.disk;
+          said = for.said;
+          log = subst (LogOk i for.disk for.said) writes for.log;
+          content = content_now;
+          witnesses = subst (λ (n : Meta). AreWitnessesTrue i (out_disk i.power n)) (sym for.meta) (true_still s0 i present size block said.meta range single witnesses);
+        };
       }
 
     -- one that stands for what was left without it
@@ -223,7 +233,17 @@ module _ (slots : ℕ) (s0 : Disks) (x : ℕ) (said : LogState) (h : History) (l
         k = without.k;
         low = without.low;
         high = without.high;
-        sound = record { disk = for_old.disk; said = for_old.said; log = subst (LogOk i for_old.disk for_old.said) without.sound.log.writes for_old.log; content = content_old };
+        sound = record {
+          disk = for_old.disk;
+          said = for_old.said;
+          log = subst (LogOk i for_old.disk for_old.said) without.sound.log.writes for_old.log;
+          content = content_old;
+          witnesses = subst (λ (n : Meta). AreWitnessesTrue i (out_disk i.power n)) (sym for_old.meta)
+              (true_still (lose x s0) i
+              (λ d here. ap is_present (with_at_other s0.power x Absent d (away_x d here)) ∙ present d here)
+              (λ d here. size d here ∙ sym (with_at_other s0.size x 0 d (away_x d here)))
+              block o.meta old_range old_single without.sound.witnesses);
+        };
       }
 
   -- the log disk that stands can be lost where no other disk is weak
@@ -269,8 +289,8 @@ module _ (slots : ℕ) (s0 : Disks) (x : ℕ) (said : LogState) (h : History) (l
     held_whole i image =
         let r = resumed i image in
         elim r.stands [
-          | inl for ↦ sound_new i r.kept.present r.kept.power r.kept.size for
-          | inr f ↦ sound_old i r.kept.present r.kept.power r.kept.size f (without_x (gone_weak i image f.gone))
+          | inl for ↦ sound_new i r.kept.present r.kept.power r.kept.size r.witnesses for
+          | inr f ↦ sound_old i r.kept.present r.kept.power r.kept.size r.witnesses f (without_x (gone_weak i image f.gone))
         ]
 
     -- where it is the one that is lost, each disk that was weak is weak
@@ -327,7 +347,7 @@ module _ (slots : ℕ) (s0 : Disks) (x : ℕ) (said : LogState) (h : History) (l
       was_weak w (out_weak z v st e) =
           let same = (Stands-same s0 z x v said st log.stands).1 in
           let o : out_disk s0.power said.meta ≡ Some w = ap (λ (u : LogState). out_disk s0.power u.meta) (sym same) ∙ e in
-          absurd (no_missing w (still_missing i r.kept.present r.kept.power r.kept.size w (out_missing s0.power said.meta w range o)))
+          absurd (no_missing w (still_missing i r.kept.present r.kept.power r.kept.size r.witnesses w (out_missing s0.power said.meta w range o)))
       was_weak w (named_weak z v p st none q e) =
           let same = Stands-same s0 z x v said st log.stands in
           let p_says : Says s0 (other_log x) p = subst (λ (u : ℕ). Says s0 (other_log u) p) same.0 q in
@@ -349,8 +369,8 @@ module _ (slots : ℕ) (s0 : Disks) (x : ℕ) (said : LogState) (h : History) (l
     held_lost i d image may =
         let r = images.lost i d image (one i image) may.weak in
         elim r.stands [
-          | inl for ↦ sound_new (lose d i) r.kept.present r.kept.power r.kept.size for
-          | inr f ↦ sound_old (lose d i) r.kept.present r.kept.power r.kept.size f (without_x (λ w weak. elim (cases_Bool (is_present (i.power x))) [
+          | inl for ↦ sound_new (lose d i) r.kept.present r.kept.power r.kept.size r.witnesses for
+          | inr f ↦ sound_old (lose d i) r.kept.present r.kept.power r.kept.size r.witnesses f (without_x (λ w weak. elim (cases_Bool (is_present (i.power x))) [
             | inr gone ↦ gone_weak i image gone w weak
             | inl here ↦
                 let is : x ≡ d = at_use (λ (p : Power). is_present p ≡ false) (x ≡ d) i.power d Absent x (λ same now. same) (λ apart now. absurd (false≢true (sym now ∙ here))) f.gone in
@@ -387,7 +407,7 @@ module _ (slots : ℕ) (s0 : Disks) (x : ℕ) (said : LogState) (h : History) (l
                 was_none r for none_now = elim (decide_out (out_disk s0.power said.meta)) [
                   | inr none ↦ none
                   | inl e ↦
-                      let missing = still_missing i r.kept.present r.kept.power r.kept.size e.0 (out_missing s0.power said.meta e.0 range e.1) in
+                      let missing = still_missing i r.kept.present r.kept.power r.kept.size r.witnesses e.0 (out_missing s0.power said.meta e.0 range e.1) in
                       let is : out_disk i.power said.meta ≡ Some e.0 = elim missing.is [
                         | inr name ↦ out_named i.power said.meta e.0 name
                         | inl gone ↦ missing_is_out i.power said.meta e.0 range
@@ -401,8 +421,8 @@ module _ (slots : ℕ) (s0 : Disks) (x : ℕ) (said : LogState) (h : History) (l
                 let for = f.stands without.sound.disk without.sound.said without.k without.sound.log in
                 let same = (Stands-same i z for.disk v for.said st for.log.stands).1 in
                 let o : out_disk i.power without.sound.said.meta ≡ Some w = ap (λ (n : Meta). out_disk i.power n) (sym for.meta) ∙ ap (λ (u : LogState). out_disk i.power u.meta) (sym same) ∙ e in
-                let missing = out_missing i.power without.sound.said.meta w (old_range i r.kept.present r.kept.power r.kept.size f without) o in
-                down_x ∙ ap (λ (u : ℕ). Some u) (old_single i r.kept.present r.kept.power r.kept.size f without x w (old_missing i r.kept.present r.kept.power r.kept.size f without) missing)
+                let missing = out_missing i.power without.sound.said.meta w (old_range i r.kept.present r.kept.power r.kept.size r.witnesses f without) o in
+                down_x ∙ ap (λ (u : ℕ). Some u) (old_single i r.kept.present r.kept.power r.kept.size r.witnesses f without x w (old_missing i r.kept.present r.kept.power r.kept.size r.witnesses f without) missing)
             old_by r f without down_x (named_weak z v o st none q e) =
                 let for = f.stands without.sound.disk without.sound.said without.k without.sound.log in
                 let n = v.meta.setup.geometry.disks_low in

@@ -3,6 +3,10 @@ pub mod SpokenLemmas
 pub mod CommitImagesLemmas
 pub mod CommitLemmas
 pub mod RanLemmas
+pub mod WitnessLemmas
+pub mod WitnessCallLemmas
+pub mod WitnessStagesLemmas
+pub mod BorneLemmas
 pub mod StoreLemmas
 pub mod DownLemmas
 pub mod CommitPartLemmas

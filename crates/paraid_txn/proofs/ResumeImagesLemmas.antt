@@ -8,7 +8,7 @@ use Rattle.paraid_rack.specs.declared.call.Power.{Power}
 use Rattle.paraid_rack.specs.declared.call.Power.TheVariants.{Absent, Spinning}
 use Rattle.paraid_rack.specs.Atoms.{IsLeftByStop}
 use Rattle.paraid_rack.specs.Disks.{Disks, IsImage, IsPresent, is_present, lose}
-use Rattle.paraid_rack.proofs.AtomsLemmas.{at_use, image_left, lost_left, with_at_other, with_at_same}
+use Rattle.paraid_rack.proofs.AtomsLemmas.{left_sure, at_use, image_left, lost_left, with_at_other, with_at_same}
 use Rattle.paraid_record.specs.declared.meta.Meta.{Meta}
 use Rattle.paraid_record.specs.declared.targets.Target.{Target}
 use Rattle.paraid_record.specs.Range.{IsInRange}
@@ -23,6 +23,7 @@ use Rattle.paraid_image.specs.Sound.Pairing.{alike, first_ahead, second_ahead, f
 use Rattle.paraid_txn.specs.CommitStages.{CloseStage, KeepsSlotsAndLogs, IsLiveLog, IsSpelled, Job, IsLateImage, job_gone, job_named, open_with}
 use Rattle.paraid_image.specs.Standing.{Stands, contents, overlaid_block, other_log, stands_before}
 use Rattle.paraid_txn.proofs.CommitLemmas.{closed_said}
+use Rattle.paraid_txn.proofs.WitnessLemmas.{AreWitnessesKept}
 use Rattle.paraid_image.proofs.NeutralLemmas.{says_forth}
 use Rattle.paraid_image.proofs.OpenLemmas.{greater_before}
 use Rattle.paraid_image.proofs.OutLemmas.{missing_is_out, says_in_range, out_present}
@@ -520,7 +521,7 @@ module _ (j : Job) (good : IsSpelled j) (names : job_named j ≡ named_out j.met
 module _ (s0 : Disks) (x : ℕ) (low : x < 2) (m : Meta) (batch : Batch) (range : IsInRange m) (s : Disks)
     (each : (i : Disks) → IsLeftByStop s i → IsSingle i m → ImageStandsFor s0 i m batch ⊎ IsFallback s0 x i)
     (metas : (i : Disks) → IsLeftByStop s i → (z : ℕ) (o : LogState) → z < 2 → Says i z o → (w : ℕ) × (p : LogState) × (w < 2) × Says s0 w p × (o.meta ≡ p.meta))
-    (keeps : (i : Disks) → IsLeftByStop s i → KeepsSlots s0 i) where
+    (keeps : (i : Disks) → IsLeftByStop s i → KeepsSlots s0 i) (witnesses : AreWitnessesKept s0 s) where
   abbrev Meant : Disks → Type 0
   Meant i = ImageStandsFor s0 i m batch ⊎ IsFallback s0 x i
 
@@ -581,6 +582,7 @@ module _ (s0 : Disks) (x : ℕ) (low : x < 2) (m : Meta) (batch : Batch) (range 
           stands = turn i (each i left (λ d e p q. one.one d e (inl p) (inl q)));
           metas = λ z o lz says. metas i left z o lz says;
           kept = keeps i left;
+          witnesses = λ p lp here. left_sure (witnesses p lp) left here;
         };
     lost = λ i d image one weak.
         let left = image_left s i image in
@@ -589,6 +591,7 @@ module _ (s0 : Disks) (x : ℕ) (low : x < 2) (m : Meta) (batch : Batch) (range 
           stands = turn (lose d i) (meant_lost i d image single weak (each i left single));
           metas = λ z o lz says. metas (lose d i) (lost_left s i d image) z o lz says;
           kept = keeps (lose d i) (lost_left s i d image);
+          witnesses = λ p lp here. left_sure (witnesses p lp) (lost_left s i d image) here;
         };
   }
     where

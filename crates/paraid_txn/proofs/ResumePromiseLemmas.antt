@@ -19,7 +19,9 @@ use Rattle.paraid_txn.specs.CommitStages.{CloseStage, IsLiveLog, IsSpelled, Job,
 use Rattle.paraid_image.specs.Standing.{other_log}
 use Rattle.paraid_txn.proofs.ClosedLemmas.{shut_each, shut_ends, shut_metas, shut_stands}
 use Rattle.paraid_txn.proofs.ResumeImagesLemmas.{is_alike, meant_images, open_ends, open_stands, resuming_each, resuming_keeps, resuming_metas}
-use Rattle.paraid_txn.proofs.RanLemmas.{Through-end, ran_from, ran_given, through_milder}
+use Rattle.paraid_txn.proofs.RanLemmas.{Through-end, ran_from, ran_given}
+use Rattle.paraid_txn.specs.Uses.{EachCall, Uses}
+use Rattle.paraid_txn.proofs.WitnessLemmas.{kept_and, same_calls}
 use Rattle.paraid_image.proofs.OutLemmas.{out_present}
 use Rattle.paraid_txn.proofs.StoreLemmas.{IsStartReady}
 use Rattle.paraid_txn.proofs.WholeLemmas.{stored_here}
@@ -75,9 +77,9 @@ module _ (m : Meta) (batch : Batch) (spelled list : Block) (x : ℕ) (good : (st
     other = λ l here. absurd (none_there (other_log x) here);
   }
 
-  pub open_resumes : ((start : Disks) → LeadsResume (it start) x → Ran old new (CrashTriple (HoldsThroughResume (it start) x) (AreDisksSame (it start)) (HoldsThroughResume (it start) x)))
+  pub open_resumes : Ran old new (EachCall (Uses m batch)) → ((start : Disks) → LeadsResume (it start) x → Ran old new (CrashTriple (HoldsThroughResume (it start) x) (AreDisksSame (it start)) (HoldsThroughResume (it start) x)))
       → StandsWhileResumed old new x (log_state true m batch)
-  open_resumes ran t tells =
+  open_resumes each ran t tells =
       let r = ran_given (λ start. HoldsThroughResume (it start) x) (λ start. AreDisksSame (it start)) (λ start. HoldsThroughResume (it start) x) (λ start. LeadsResume (it start) x) no_disks none_leads old new ran t tells in
       let j = it (now r.from) in
       let g = good (now r.from) in
@@ -89,14 +91,15 @@ module _ (m : Meta) (batch : Batch) (spelled list : Block) (x : ℕ) (good : (st
         is = r.is;
         holds = λ broken.
             let lead = leads r.from r.was broken in
-            through_milder (HoldsThroughResume j x) (IsEachImage m m (ImageStandsForBroken (now r.from) x (log_state true m batch)))
-            (λ s now_is.
+            kept_and m batch g.in_range.each (now r.from) broken.synced r.calls (same_calls (Uses m batch) old new each t tells r.from r.calls r.was r.is)
+            (HoldsThroughResume j x) (IsEachImage m m (ImageStandsForBroken (now r.from) x (log_state true m batch)))
+            (λ s now_is witnesses.
             meant_images (now r.from) x low m batch g.meta.in_range s
             (λ i left single. resuming_each j g refl x lead broken.log spins s now_is i left single)
             (λ i left. resuming_metas j g refl x lead broken.log spins s now_is i left)
-            (λ i left. resuming_keeps j g refl x lead broken.log spins s now_is i left)
+            (λ i left. resuming_keeps j g refl x lead broken.log spins s now_is i left) witnesses
             (log_state true m batch) refl refl)
-            (now r.from) r.calls (r.holds lead (same r.from r.was broken.synced)).0;
+            (r.holds lead (same r.from r.was broken.synced)).0;
       }
 
   pub open_settles : ((start : Disks) → LeadsResume (it start) x → Ran old new (CrashTriple (HoldsThroughResume (it start) x) (AreDisksSame (it start)) (CloseStage (it start) 2)))
@@ -133,9 +136,9 @@ module _ (m : Meta) (batch : Batch) (spelled list : Block) (x : ℕ) (good : (st
     heard_is : log_state false m batch ≡ log_state false m []
     heard_is = ap (log_state false m) empty
 
-    pub closed_resumes : ((start : Disks) → Ran old new (CrashTriple (HoldsThroughShut (it start) (other_log x)) (AreDisksSame (it start)) (HoldsThroughShut (it start) (other_log x))))
+    pub closed_resumes : Ran old new (EachCall (Uses m batch)) → ((start : Disks) → Ran old new (CrashTriple (HoldsThroughShut (it start) (other_log x)) (AreDisksSame (it start)) (HoldsThroughShut (it start) (other_log x))))
         → StandsWhileResumed old new x (log_state false m batch)
-    closed_resumes ran t tells =
+    closed_resumes each ran t tells =
         let r = ran_from (λ start. HoldsThroughShut (it start) (other_log x)) (λ start. AreDisksSame (it start)) (λ start. HoldsThroughShut (it start) (other_log x)) old new ran t tells in
         let j = it (now r.from) in
         let g = good (now r.from) in
@@ -146,14 +149,15 @@ module _ (m : Meta) (batch : Batch) (spelled list : Block) (x : ℕ) (good : (st
           is = r.is;
           holds = λ broken.
               let log = subst (λ v. IsBroken (now r.from) x v) heard_is broken in
-              through_milder (HoldsThroughShut j (other_log x)) (IsEachImage m m (ImageStandsForBroken (now r.from) x (log_state false m batch)))
-              (λ s now_is.
+              kept_and m batch g.in_range.each (now r.from) broken.synced r.calls (same_calls (Uses m batch) old new each t tells r.from r.calls r.was r.is)
+              (HoldsThroughShut j (other_log x)) (IsEachImage m m (ImageStandsForBroken (now r.from) x (log_state false m batch)))
+              (λ s now_is witnesses.
               meant_images (now r.from) x low m [] g.meta.in_range s
               (λ i left single. shut_each j g refl x (live (now r.from)) (large r.from r.was) log.log i (now_is.each i left) single)
               (λ i left. shut_metas j g refl x (live (now r.from)) (large r.from r.was) log.log i (now_is.each i left))
-              (λ i left. let k = (now_is.each i left).kept in record { present = k.present; power = k.power; size = k.size })
+              (λ i left. let k = (now_is.each i left).kept in record { present = k.present; power = k.power; size = k.size }) witnesses
               (log_state false m batch) refl empty)
-              (now r.from) r.calls (r.holds (same r.from r.was broken.synced)).0;
+              (r.holds (same r.from r.was broken.synced)).0;
         }
 
     pub closed_settles : ((start : Disks) → Ran old new (CrashTriple (HoldsThroughShut (it start) (other_log x)) (AreDisksSame (it start)) (ShutEnd (it start) (other_log x))))

@@ -35,7 +35,7 @@ pub record Reads (s s' : Disks) : Type 1 where
   pub keeps : Keeps s s'
   pub sure : (d p : ℕ) (Q : Block → Type 0) → IsSure s d p Q → IsSure s' d p Q
 
-read_step : (s : Disks) (d0 p0 : ℕ) (done : Bool) → Reads s (step (Read d0 p0 done) s)
+pub read_step : (s : Disks) (d0 p0 : ℕ) (done : Bool) → Reads s (step (Read d0 p0 done) s)
 unfolding step
 read_step s d0 p0 done = record {
   keeps = record { present = sync_present s d0 done; power = sync_power s d0 done; size = sync_size s d0 done };

@@ -17,8 +17,11 @@ use Rattle.paraid_txn.specs.Losses.{CanWrite}
 use Rattle.paraid_image.specs.Out.{named_out}
 use Rattle.paraid_txn.specs.Ready.{AreTargetsReady, IsLogReady}
 use Rattle.paraid_image.specs.Sides.{Batch, targets}
-use Rattle.paraid_txn.specs.CommitStages.{CloseStage, IsSpelled, Job, LogStage, HoldsWhole, job}
-use Rattle.paraid_txn.proofs.CommitLemmas.{is_committed, start_log, whole_images}
+use Rattle.paraid_txn.specs.CommitStages.{FirstStage, HoldsWitnessed, IsSpelled, Job, LastStage, LogStage, job}
+use Rattle.paraid_txn.specs.Witness.{KeepsBorne}
+use Rattle.paraid_txn.proofs.BorneLemmas.{leaves_borne}
+use Rattle.paraid_txn.proofs.WitnessCallLemmas.{told_calls}
+use Rattle.paraid_txn.proofs.CommitLemmas.{first_stage, is_committed, start_log, whole_images}
 use Rattle.paraid_txn.proofs.RanLemmas.{ran_from, through_milder}
 use Rattle.paraid_txn.proofs.SpokenLemmas.{IsBegun}
 use Rattle.paraid_txn.proofs.CommitImagesLemmas.{all_contained}
@@ -66,27 +69,36 @@ module _ (meta : Meta) (batch : Batch) (spelled list : Block) (turn : ℕ) (good
   first : (s : Trail) (is : old ≡ Some s) (rest : IsAtRest (now s) before) (next : IsNext (now s) before meta) → LogStage (it (now s)) 0 (now s)
   first s is rest next = start_log (it (now s)) before (begun s is rest next) (λ x live. (ready s is).large x live.0 live.1)
 
-  pub whole_or_absent : ((start : Disks) → Ran old new (CrashTriple (HoldsWhole (it start)) (LogStage (it start) 0) (HoldsWhole (it start)))) → IsWholeOrAbsent old new before meta batch
+  begins : (s : Trail) (is : old ≡ Some s) (rest : IsAtRest (now s) before) (next : IsNext (now s) before meta) → FirstStage (it (now s)) before (now s)
+  begins s is rest next = first_stage (it (now s)) before (begun s is rest next) (first s is rest next)
+
+  pub whole_or_absent : ((start : Disks) → Ran old new (CrashTriple (HoldsWitnessed (it start) before) (FirstStage (it start) before) (HoldsWitnessed (it start) before)))
+      → IsWholeOrAbsent old new before meta batch
   whole_or_absent ran t tells =
-      let r = ran_from (λ start. HoldsWhole (it start)) (λ start. LogStage (it start) 0) (λ start. HoldsWhole (it start)) old new ran t tells in
+      let r = ran_from (λ start. HoldsWitnessed (it start) before) (λ start. FirstStage (it start) before) (λ start. HoldsWitnessed (it start) before) old new ran t tells in
       record {
         from = r.from;
         was = r.was;
         calls = r.calls;
         is = r.is;
         holds = λ rest next.
-            through_milder (HoldsWhole (it (now r.from))) (IsOldOrNew (now r.from) before meta batch)
-            (whole_images (it (now r.from)) before (begun r.from r.was rest next)) (now r.from) r.calls (r.holds (first r.from r.was rest next)).0;
+            through_milder (HoldsWitnessed (it (now r.from)) before) (IsOldOrNew (now r.from) before meta batch)
+            (λ s moment. whole_images (it (now r.from)) before (begun r.from r.was rest next) s moment.whole moment.witnesses)
+            (now r.from) r.calls (r.holds (begins r.from r.was rest next)).0;
       }
 
-  pub commits : ((start : Disks) → Ran old new (CrashTriple (HoldsWhole (it start)) (LogStage (it start) 0) (CloseStage (it start) 2))) → EndsCommitted old new before meta batch
-  commits ran t tells =
-      let r = ran_from (λ start. HoldsWhole (it start)) (λ start. LogStage (it start) 0) (λ start. CloseStage (it start) 2) old new ran t tells in
+  pub commits : (was : Option ℕ) → was ≡ named_out before.out → KeepsBorne old new meta was (named_out meta.out)
+      → ((start : Disks) → Ran old new (CrashTriple (HoldsWitnessed (it start) before) (FirstStage (it start) before) (LastStage (it start) before)))
+      → EndsCommitted old new before meta batch
+  commits was named keeps ran t tells =
+      let r = ran_from (λ start. HoldsWitnessed (it start) before) (λ start. FirstStage (it start) before) (λ start. LastStage (it start) before) old new ran t tells in
       record {
         from = r.from;
         was = r.was;
         calls = r.calls;
         is = r.is;
         holds = λ rest next.
-            is_committed (it (now r.from)) before (begun r.from r.was rest next) (run (now r.from) r.calls) (r.holds (first r.from r.was rest next)).1;
+            let last = (r.holds (begins r.from r.was rest next)).1 in
+            is_committed (it (now r.from)) before (begun r.from r.was rest next) (run (now r.from) r.calls) last.stage last.witnesses
+            (leaves_borne before meta was (now r.from) (run (now r.from) r.calls) named next (λ b. ((told_calls keeps tells r.was r.is).goes b).1));
       }

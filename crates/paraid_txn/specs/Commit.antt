@@ -4,16 +4,18 @@ use Rattle.std.specs.Prelude.{◌≡◌, ◌≢◌, ℕ, ◌+◌, ◌<◌, ◌�
 use Rattle.paraid_base.specs.declared.state.Out.TheVariants.{Fresh}
 use Rattle.paraid_base.specs.Log.{map_start}
 pub use Rattle.paraid_base.specs.States.{gone_out}
+use Rattle.paraid_rack.specs.Atoms.{IsSure}
 use Rattle.paraid_rack.specs.declared.call.Power.{Power}
-use Rattle.paraid_rack.specs.Disks.{Disks, IsImage, IsPresent, lose}
+use Rattle.paraid_rack.specs.declared.call.Power.TheVariants.{Spinning}
+use Rattle.paraid_rack.specs.Disks.{Disks, IsImage, IsPresent, is_present, lose}
 use Rattle.paraid_rack.specs.Told.{Ran, Through}
 use Rattle.paraid_rack.specs.Trail.{Trail, run}
 use Rattle.paraid_record.specs.declared.meta.Meta.{Meta}
-use Rattle.paraid_image.specs.Out.{IsMissing, IsWeak, named_out}
+use Rattle.paraid_image.specs.Out.{IsMissing, IsWeak, named_out, out_disk}
 use Rattle.paraid_image.specs.Sides.{Batch, LogState, has_place, is_open, stored_block}
 use Rattle.paraid_image.specs.Rest.{AreLogGatesClosed, IsAtRest, AreSynced}
-use Rattle.paraid_image.specs.Sound.{IsFresh, LogOk}
-use Rattle.paraid_image.specs.Standing.{contents}
+use Rattle.paraid_image.specs.Sound.{AreWitnessesTrue, IsFresh, LogOk}
+use Rattle.paraid_image.specs.Standing.{Stands, contents}
 
 -- Each disk that is there has the power and the size that it had at the start.
 pub record KeepsSlots (start i : Disks) : Type 0 where
@@ -53,12 +55,19 @@ pub record IsEachImage (before after : Meta) (P : Disks → Type 0) (s : Disks) 
   pub lost : (i : Disks) (d : ℕ) → IsImage s i → IsOneMissing i.power before after
       → ((w : ℕ) → IsWeak i w → w ≡ d) → P (lose d i)
 
--- So each image of `s` stands for what `start` held or for that with batch and meta laid over; and
--- its weak disk is absent or named out by one of the two metas.
+-- Where the witnesses at the start are true by the meta before, those of an image are true by what
+-- stands in it.
+abbrev pub KeepsWitnesses : Disks → Meta → Disks → Type 0
+KeepsWitnesses start before i = AreWitnessesTrue start (out_disk start.power before)
+    → (y : ℕ) (said : LogState) → Stands i y said → AreWitnessesTrue i (out_disk i.power said.meta)
+
+-- So each image of `s` stands for what `start` held or for that with batch and meta laid over; its
+-- weak disk is absent or named out by one of the two metas, and its witnesses are true.
 pub record IsOldOrNew (start : Disks) (before after : Meta) (batch : Batch) (s : Disks) : Type 0 where
   pub images : IsEachImage before after (ImageStandsForEither start before after batch) s
   pub weak : (i : Disks) (w : ℕ) → IsImage s i → IsOneMissing i.power before after → IsWeak i w
       → IsEitherMissing i.power before after w
+  pub witnesses : IsEachImage before after (KeepsWitnesses start before) s
 
 -- This meta can be the next one. A log disk that comes in again by it was being rebuilt, and one
 -- that is to be rebuilt has its gate closed.
@@ -78,13 +87,24 @@ IsWholeOrAbsent old new before after batch = Ran old new (λ start calls.
     IsAtRest start before → IsNext start before after
     → Through (IsOldOrNew start before after batch) start calls)
 
+-- The witness is borne against a log disk that the meta after names, if it was where the meta before
+-- named it, and disk 2 could be written.
+abbrev pub LeavesBorne : Disks → Disks → Meta → Meta → Type 0
+LeavesBorne start end before after = (x : ℕ) → x < 2 → named_out after.out ≡ Some x
+    → (named_out before.out ≡ Some x → IsSure start 2 x (λ b. is_open b ≡ true))
+    → (is_present (start.power 2) ≡ true → (start.power 2 ≡ Spinning) × (1 < start.size 2))
+    → IsSure end 2 x (λ b. is_open b ≡ true)
+
 -- What a commit that ends leaves: only the new contents, nothing loose, the gates closed; and where
--- at most one disk is out, a rest under the new meta.
+-- at most one disk is out, a rest under the new meta. The witnesses are true, and the one against a
+-- log disk that is named out is borne.
 pub record IsCommitted (start end : Disks) (before after : Meta) (batch : Batch) : Type 0 where
   pub images : IsEachImage before after (λ i. ImageStandsFor start i after batch) end
   pub synced : AreSynced end
   pub shut : AreLogGatesClosed end after
   pub rest : IsOneMissing end.power before after → IsAtRest end after
+  pub witnesses : IsEachImage before after (KeepsWitnesses start before) end
+  pub borne : LeavesBorne start end before after
 
 -- so it is after these calls, if they began at a rest
 abbrev pub EndsCommitted : Option Trail → Option Trail → Meta → Meta → Batch → Type 0

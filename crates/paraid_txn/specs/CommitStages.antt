@@ -11,8 +11,9 @@ use Rattle.paraid_record.specs.Targets.{AreTargets, targets_bytes}
 use Rattle.paraid_image.specs.Rest.{closed_over}
 use Rattle.paraid_txn.specs.Commit.{gone_out}
 use Rattle.paraid_image.specs.Neutral.{names_place}
-use Rattle.paraid_image.specs.Out.{named_out}
-use Rattle.paraid_image.specs.Sides.{Batch, LogState, Says, Spells, is_open, targets}
+use Rattle.paraid_image.specs.Out.{IsMissing, named_out, out_disk}
+use Rattle.paraid_image.specs.Sides.{Batch, LogState, Says, Spells, is_open, stored_block, targets}
+use Rattle.paraid_image.specs.Sound.{AreWitnessesTrue}
 use Rattle.paraid_txn.specs.Batches.{batch_blocks}
 use Rattle.paraid_image.specs.Standing.{overlaid_block, other_log}
 
@@ -294,3 +295,60 @@ pub record HoldsWhole (j : Job) (s : Disks) : Type 0 where
   pub either : ((i : Disks) → IsLeftByStop s i → IsEarlyImage j i) ⊎ ((i : Disks) → IsLeftByStop s i → IsLateImage j i)
   pub aside : (i : Disks) → IsLeftByStop s i → (y p : ℕ) → y < 2 → job_named j ≡ Some y → p < job_map_start j → IsPresent i y
       → i.block y p ≡ j.start.block y p
+
+-- A witness that an image bears is true by each meta that may stand in it: its log disk is out by
+-- both; or by the one before, and no log disk says the new one yet; or by the new one, and each says
+-- it.
+pub data IsTrueWitness (j : Job) (before : Meta) (i : Disks) (p : ℕ) : Type 0 where
+  by_both : IsMissing i.power before p → IsMissing i.power j.meta p → IsTrueWitness j before i p
+  by_old : IsMissing i.power before p
+      → ((x : ℕ) → IsLiveLog j x → IsPresent i x → (is_open (i.block x 0) ≡ false) × (i.block x 1 ≡ j.start.block x 1))
+      → IsTrueWitness j before i p
+  by_new : IsMissing i.power j.meta p → IsLateImage j i → IsTrueWitness j before i p
+
+-- so are all that a stop may leave, with any slots lost
+abbrev pub HoldsWitnesses : Job → Meta → Disks → Type 0
+HoldsWitnesses j before s = (i : Disks) → IsLeftByStop s i → (p : ℕ) → p < 2 → is_open (stored_block i 2 p) ≡ true
+    → IsTrueWitness j before i p
+
+-- The place of a witness is surely closed, if it is there.
+abbrev pub IsWitnessClosed : Job → Disks → ℕ → Type 0
+IsWitnessClosed j s p = IsSure s 2 p (λ b. p < j.start.size 2 → is_open b ≡ false)
+
+-- Each witness is surely closed, or its log disk is out by both metas: the five steps may begin.
+abbrev pub AreWitnessesSettled : Job → Meta → Disks → Type 0
+AreWitnessesSettled j before s = (p : ℕ) → p < 2
+    → IsWitnessClosed j s p ⊎ (IsMissing s.power before p × IsMissing s.power j.meta p)
+
+-- the witnesses were true as the commit began
+abbrev pub BeganTrue : Job → Meta → Type 0
+BeganTrue j before = AreWitnessesTrue j.start (out_disk j.start.power before)
+
+-- what holds at every moment of a commit, of all that a stop may leave there, and of its witnesses
+pub record HoldsWitnessed (j : Job) (before : Meta) (s : Disks) : Type 0 where
+  pub whole : HoldsWhole j s
+  pub witnesses : BeganTrue j before → HoldsWitnesses j before s
+
+-- As a commit begins: at most one disk is missing by the meta before, and where the witnesses are
+-- true, each is surely closed or its log disk is out by that meta.
+pub record FirstStage (j : Job) (before : Meta) (s : Disks) : Type 0 where
+  pub stage : LogStage j 0 s
+  pub setup : j.meta.setup ≡ before.setup
+  pub out : (d e : ℕ) → named_out j.meta.out ≡ Some d → named_out before.out ≡ Some e → d ≡ e
+  pub single : (d e : ℕ) → IsMissing s.power before d → IsMissing s.power before e → d ≡ e
+  pub old : BeganTrue j before → (p : ℕ) → p < 2 → IsWitnessClosed j s p ⊎ IsMissing s.power before p
+
+-- as its five steps begin
+pub record SettledStage (j : Job) (before : Meta) (s : Disks) : Type 0 where
+  pub stage : LogStage j 0 s
+  pub settled : BeganTrue j before → AreWitnessesSettled j before s
+
+-- as they end
+pub record LaidStage (j : Job) (before : Meta) (s : Disks) : Type 0 where
+  pub stage : CloseStage j 2 s
+  pub settled : BeganTrue j before → AreWitnessesSettled j before s
+
+-- and with the last witness
+pub record LastStage (j : Job) (before : Meta) (s : Disks) : Type 0 where
+  pub stage : CloseStage j 2 s
+  pub witnesses : BeganTrue j before → HoldsWitnesses j before s

@@ -9,3 +9,4 @@ pub mod PutSynced
 pub mod CommitStages
 pub mod Ready
 pub mod Resume
+pub mod Witness

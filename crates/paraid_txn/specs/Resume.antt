@@ -40,6 +40,7 @@ pub record ImageStandsForBroken (s : Disks) (x : ℕ) (said : LogState) (i : Dis
   pub stands : ImageStandsFor s i said.meta said.batch ⊎ IsFallback s x i
   pub metas : (y : ℕ) (o : LogState) → y < 2 → Says i y o → (z : ℕ) × (p : LogState) × (z < 2) × Says s z p × (o.meta ≡ p.meta)
   pub kept : KeepsSlots s i
+  pub witnesses : (p : ℕ) → p < 2 → IsPresent i 2 → i.block 2 p ≡ s.block 2 p
 
 -- The calls from the one record to the other leave that at each moment.
 abbrev pub StandsWhileResumed : Option Trail → Option Trail → ℕ → LogState → Type 0

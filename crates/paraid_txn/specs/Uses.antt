@@ -43,6 +43,19 @@ UsesTarget skip batch (Attach d size done) = ⊥
 abbrev pub Uses : Meta → Batch → Call → Type 0
 Uses m batch c = (disk_of c < m.setup.geometry.disks) × (UsesLog (named_out m.out) c ⊎ UsesTarget (gone_out m.out) batch c)
 
+-- a write of a witness on disk 2, or a sync of that disk, where it is one of the array and not gone
+abbrev pub UsesWitness : Meta → Call → Type 0
+UsesWitness m (Read d p done) = ⊥
+UsesWitness m (Write d p b done) = (d ≡ 2) × (2 < m.setup.geometry.disks) × (gone_out m.out ≢ Some 2) × (p < 2)
+UsesWitness m (Sync d done) = (d ≡ 2) × (2 < m.setup.geometry.disks) × (gone_out m.out ≢ Some 2)
+UsesWitness m (Park d done) = ⊥
+UsesWitness m (SpinUp d done) = ⊥
+UsesWitness m (Attach d size done) = ⊥
+
+-- a call of a commit, or of the witness that it bears or takes back
+abbrev pub UsesInCommit : Meta → Batch → Call → Type 0
+UsesInCommit m batch c = Uses m batch c ⊎ UsesWitness m c
+
 -- the one call, done or failed, on a disk that is not skipped
 abbrev pub IsThisCall : Option ℕ → ℕ → (Bool → Call) → Call → Type 0
 IsThisCall skip disk call c = (skip ≢ Some disk) × (done : Bool) × (c ≡ call done)

@@ -21,22 +21,29 @@
 //! 5. On each log disk the gate is closed, and synced. The meta at place 1 is that of the batch,
 //!    and the targets hold what the batch would lay.
 //!
+//! Before them the witness on disk 2 against a log disk that comes in again is taken back; or, if no
+//! log disk was named out, it is borne against one that is absent. After them it is borne against one
+//! that was lost in them or is the first time named out. Against one that was named out it is borne
+//! as the commit begins.
+//!
 //! A log disk that the meta names out is left alone, and so are the targets on a disk that is gone.
 //! A disk that fails is left out of the rest.
 ghost use Rattle.std.specs.Prelude.{◌≡◌, ◌≢◌, ℕ, ◌+◌, ◌<◌, ◌≤◌, true, false, length, Some, None, OnOk, OnErr, IfErr, IfOk, All, AllPairs, ◌-◌};
 ghost use Rattle.paraid_base.specs.declared.fault.Two.{Two as TwoType};
 ghost use Rattle.paraid_base.specs.Log.{batch_room, log_least};
 ghost use Rattle.paraid_record.specs.declared.targets.Target.{Target as TargetType};
-ghost use Rattle.paraid_rack.specs.Disks.{Disks};
 ghost use Rattle.paraid_rack.specs.Told.{Ran};
 ghost use Rattle.paraid_txn.specs.CommitPart.{CommitPart, SyncedPart};
 ghost use Rattle.paraid_txn.specs.CrashSpecification.{CrashSpecification};
-ghost use Rattle.paraid_txn.specs.Losses.{AreGoneSince, StaySynced, StaySyncedBut, AreFailedOrWell, IsAlone, IsOnlyOut, IsSyncedAt, IsLostNow, IsOutOfCommit, OnlyLosesSlots, AreTwoDownBeside, IsWell};
-ghost use Rattle.paraid_txn.specs.Uses.{EachCall, Uses, UsesLog, UsesTarget};
+ghost use Rattle.paraid_txn.specs.Losses.{AreGoneSince, CanWrite, StaySynced, StaySyncedBut, AreFailedOrWell, IsAlone, IsOnlyOut, IsSyncedAt, IsLostNow, IsOutOfCommit, OnlyLosesSlots, AreTwoDownBeside, IsWell};
+ghost use Rattle.paraid_txn.specs.Uses.{EachCall, Uses, UsesInCommit, UsesLog, UsesTarget, UsesWitness};
 ghost use Rattle.paraid_txn.specs.Ready.{AreTargetsReady, CanCommit, IsLogReady};
 ghost use Rattle.paraid_image.specs.Sides.{is_open, targets};
+ghost use Rattle.paraid_rack.specs.Disks.{Disks, is_present};
+ghost use Rattle.paraid_rack.specs.declared.call.Power.TheVariants.{Absent};
+ghost use Rattle.paraid_txn.specs.Witness.{IsNoSecond, KeepsBorne, MaySetAny, SetsAfter, SetsBefore};
 ghost use Rattle.paraid_txn.specs.Batches.{names_disk};
-ghost use Rattle.paraid_txn.specs.CommitStages.{CloseStage, HoldsEarly, IsSpelled, Job, HoldsLate, LayIn, LogStage, LogIn, MarkStage, OpenStage, SyncIn, HoldsWhole, job_gone, job, job_named};
+ghost use Rattle.paraid_txn.specs.CommitStages.{CloseStage, FirstStage, HoldsEarly, HoldsWitnessed, LastStage, IsSpelled, Job, HoldsLate, LayIn, LogStage, LogIn, MarkStage, OpenStage, SyncIn, HoldsWhole, job_gone, job, job_named};
 ghost use Rattle.paraid_txn.specs.Commit.{EndsCommitted, IsWholeOrAbsent, gone_out as gone_of};
 ghost use Rattle.paraid_image.specs.Lost.{BearsLoss, TellsLosses};
 ghost use Rattle.paraid_image.specs.Out.{named_out as named_of, or_else};
@@ -46,9 +53,11 @@ ghost use Rattle.paraid_record.specs.Range.{IsInRange};
 ghost use Rattle.paraid_record.specs.Targets.{AreTargets, targets_bytes};
 
 use crate::batch::Batch;
+use crate::bearing::{Bearing, Witness};
 use crate::calls::{put, put_synced, sync_slot};
 use crate::losses::Losses;
 use crate::store::{Store, find_absent, out_first};
+use crate::witness::{borne_against, first_witness, last_witness, set_witness};
 use paraid_base::{Block, DiskNo, FIRST_BODY, FIRST_LIST, Two};
 use paraid_rack::Rack;
 use paraid_record::{Meta, write_meta, write_targets};
@@ -342,6 +351,108 @@ fn run<R: Rack>(
     finish(rack, losses, named, spelled)
 }
 
+// Sets a witness, if one is to be set.
+fn set_if_any<R: Rack>(
+    rack: &mut R,
+    losses: &mut Losses,
+    meta: &Meta,
+    witness: Option<Witness>,
+) -> Result<(), Two>
+    requires exists { 2 < R.slot_count rack.old }
+    ensures leaves { SyncedPart R.Rack (UsesWitness meta.now) losses.old losses.new rack.old rack.new
+        result }
+    ensures told { Ran (R.told rack.old) (R.told rack.new)
+        (λ s cs. MaySetAny (R.slot rack.old) (gone_of meta.now.out) witness cs) }
+{
+    let Some(witness) = witness else {
+        return Ok(());
+    };
+    set_witness(rack, losses, meta, witness)
+}
+
+// What is set before the steps. It answers against which disk witness is borne then, if it is a log
+// disk.
+fn bear_before<R: Rack>(
+    rack: &mut R,
+    losses: &mut Losses,
+    meta: &Meta,
+    out: Bearing,
+) -> Result<Option<DiskNo>, Two>
+    requires exists { 2 < R.slot_count rack.old }
+    requires absent { (d : ℕ) → out.absent ≡ Some d → is_present (R.slot rack.old d).power ≡ false }
+    requires witness { (x : ℕ) → x < 2 → out.named ≡ Some x → named_of meta.now.out ≢ Some x
+        → CanWrite (R.slot rack.old) 2 1 }
+    ensures leaves { SyncedPart R.Rack (UsesWitness meta.now) losses.old losses.new rack.old rack.new
+        result }
+    ensures told { Ran (R.told rack.old) (R.told rack.new) (SetsBefore meta.now out.named) }
+    ensures borne { IfOk result (λ borne. KeepsBorne (R.told rack.old) (R.told rack.new) meta.now out.named borne) }
+{
+    let witness = first_witness(out.absent, out.named, meta.out.named());
+    set_if_any(rack, losses, meta, witness)?;
+    Ok(borne_against(out.named, witness))
+}
+
+// What is set after them, unless two disks are down, by the disk against which witness is borne.
+fn bear_after<R: Rack>(
+    rack: &mut R,
+    losses: &mut Losses,
+    meta: &Meta,
+    borne: Option<DiskNo>,
+) -> Result<(), Two>
+    requires exists { 2 < R.slot_count rack.old }
+    requires lost { (d : ℕ) → losses.old.lost ≡ Some d → (R.slot rack.old d).power ≡ Absent }
+    ensures leaves { SyncedPart R.Rack (UsesWitness meta.now) losses.old losses.new rack.old rack.new
+        result }
+    ensures told { Ran (R.told rack.old) (R.told rack.new) (SetsAfter meta.now) }
+    ensures borne { IsNoSecond losses.new.lost meta.now
+        → KeepsBorne (R.told rack.old) (R.told rack.new) meta.now borne (named_of meta.now.out) }
+{
+    let named = meta.out.named();
+    if find_second(losses.lost, named).is_some() {
+        return Ok(());
+    }
+    let witness = last_witness(losses.lost, named, borne);
+    set_if_any(rack, losses, meta, witness)
+}
+
+// The five steps, with the witness that is set before them and the one that is set after them.
+fn run_witnessed<R: Rack>(
+    rack: &mut R,
+    losses: &mut Losses,
+    meta: &Meta,
+    batch: &Batch,
+    list: &Block,
+    spelled: &Block,
+    first: DiskNo,
+    out: Bearing,
+) -> Result<(), Two>
+    requires log_disk { first < 2 }
+    requires exists { meta.now.setup.geometry.disks ≤ R.slot_count rack.old }
+    requires log { IsLogReady (named_of meta.now.out) (R.slot rack.old) }
+    requires ready { AreTargetsReady (gone_of meta.now.out) (R.slot_count rack.old)
+        (R.slot rack.old) (targets batch.now) }
+    requires in_range { AreTargets meta.now.setup.geometry (targets batch.now) }
+    requires absent { (d : ℕ) → out.absent ≡ Some d → is_present (R.slot rack.old d).power ≡ false }
+    requires witness { (x : ℕ) → x < 2 → out.named ≡ Some x → named_of meta.now.out ≢ Some x
+        → CanWrite (R.slot rack.old) 2 1 }
+    requires none_lost { losses.old.lost ≡ None }
+    ensures leaves { SyncedPart R.Rack (UsesInCommit meta.now batch.now) losses.old losses.new rack.old rack.new
+        result }
+    ensures crash { (start : Disks) (before : MetaType)
+        → IsSpelled (job start meta.now batch.now spelled.now list.now first)
+        → out.named ≡ named_of before.out
+        → CrashSpecification (HoldsWitnessed (job start meta.now batch.now spelled.now list.now first) before)
+        (FirstStage (job start meta.now batch.now spelled.now list.now first) before)
+        (LastStage (job start meta.now batch.now spelled.now list.now first) before)
+        (R.told rack.old) (R.told rack.new) result }
+    ensures borne { OnOk result (IsNoSecond losses.new.lost meta.now
+        → KeepsBorne (R.told rack.old) (R.told rack.new) meta.now out.named (named_of meta.now.out)) }
+{
+    let borne = bear_before(rack, losses, meta, out)?;
+    run(rack, losses, meta, batch, list, spelled, first)?;
+    bear_after(rack, losses, meta, borne)
+}
+
 // The log disk whose gate opens first: one that comes in again, by who was named out and who is.
 fn opens_first(was: Option<DiskNo>, now: Option<DiskNo>) -> DiskNo
     ensures log_disk { result < 2 }
@@ -396,8 +507,11 @@ impl<R: Rack> Store<R> {
     /// A log disk that was being rebuilt comes in again where the meta given names none out; its
     /// gate is opened first.
     pub fn commit(&mut self, batch: &Batch, meta: &Meta) -> Result<Option<DiskNo>, Two>
-        requires { CanCommit (epoch_of self.old) (disks_of self.old)
+        requires can { CanCommit (epoch_of self.old) (disks_of self.old)
             (R.slot_count (store_rack self.old)) (R.slot (store_rack self.old)) batch.now meta.now }
+        // Where a log disk comes in again, disk 2 can be written.
+        requires witness { (x : ℕ) → x < 2 → named_by self.old ≡ Some x → named_of meta.now.out ≢ Some x
+            → CanWrite (R.slot (store_rack self.old)) 2 1 }
 
         ensures slots { R.slot_count (store_rack self.new) ≡ R.slot_count (store_rack self.old) }
         ensures disks { disks_of self.new ≡ disks_of self.old }
@@ -436,7 +550,7 @@ impl<R: Rack> Store<R> {
 
         // Which calls are made.
         ensures calls { Ran (R.told (store_rack self.old)) (R.told (store_rack self.new))
-            (EachCall (Uses meta.now batch.now)) }
+            (EachCall (UsesInCommit meta.now batch.now)) }
 
         // At each moment the old contents or the new ones; at the end only these.
         ensures any_moment { (before : MetaType) → named_by self.old ≡ named_of before.out
@@ -459,7 +573,7 @@ impl<R: Rack> Store<R> {
             lost: None,
         };
         let first = opens_first(self.named, named);
-        run(
+        run_witnessed(
             &mut self.rack,
             &mut losses,
             &next,
@@ -467,6 +581,10 @@ impl<R: Rack> Store<R> {
             &list,
             &spelled,
             first,
+            Bearing {
+                absent,
+                named: self.named,
+            },
         )?;
         if let Some(two) = find_second(losses.lost, named) {
             return Err(two);

@@ -9,8 +9,9 @@ ghost use Rattle.paraid_txn.specs.Commit.{IsEachImage, IsEitherMissing, IsOldOrN
 ghost use Rattle.paraid_txn.specs.Resume.{IsBroken, ImageStandsForBroken};
 ghost use Rattle.paraid_image.specs.HeldAt.{IsHeld};
 ghost use Rattle.paraid_image.specs.FirstWrites.{HoldsFirstWrites};
-ghost use Rattle.paraid_image.specs.Out.{IsWeak};
+ghost use Rattle.paraid_image.specs.Out.{IsWeak, out_disk};
 ghost use Rattle.paraid_image.specs.Sides.{Batch, LogState};
+ghost use Rattle.paraid_image.specs.Sound.{AreWitnessesTrue};
 
 /// What a stop in a commit leaves can be resumed, also where a log disk comes in again by it.
 pub fn a_stop_in_a_commit_can_be_resumed()
@@ -33,10 +34,11 @@ pub fn an_ended_commit_leaves_what_is_held()
 {}
 
 /// A commit leaves what is held, where what the batch brings holds a first part of the history too,
-/// and each disk that is absent or named out by one of the two metas is the one that is down.
+/// the witnesses were true, and each disk that is absent or named out by one of the two metas is the one that is down.
 pub fn a_commit_leaves_what_is_held()
     ensures { (slots : ℕ) (s t : Disks) (before after : MetaType) (batch : Batch) (h : History)
         (lo : ℕ) (down : Option ℕ) → HoldsFirstWrites slots s before [] h lo → HoldsFirstWrites slots s after batch h lo
+        → AreWitnessesTrue s (out_disk s.power before)
         → ((d : ℕ) → IsEitherMissing t.power before after d → down ≡ Some d)
         → IsOldOrNew s before after batch t → IsHeld slots t h lo down }
 {}

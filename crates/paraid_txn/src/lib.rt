@@ -7,6 +7,7 @@
 #![tactic(auto)]
 
 mod batch;
+mod bearing;
 mod calls;
 mod commit;
 pub mod laws;
@@ -15,6 +16,7 @@ mod ready;
 mod resume;
 mod store;
 mod sync;
+mod witness;
 
 pub use batch::{Batch, Full};
 pub use resume::ResumeRefused;

@@ -228,7 +228,7 @@ fn one_write() -> [Pairs; 1] {
 }
 
 /// Changes of the formatted array.
-const FORMATTED: [Row; 27] = [
+const FORMATTED: [Row; 33] = [
     ([NO; 3], 0, true),
     ([NO; 3], 1, false),
     // A data byte and a parity byte; both together are another value.
@@ -266,6 +266,13 @@ const FORMATTED: [Row; 27] = [
     // The standing disk is named out.
     ([MetaByte(OUT, 0), NO, NO], 0, false),
     ([MetaByte(OUT, 1), NO, NO], 0, true),
+    // A witness is open against a log disk that is in, that is out, and that is absent; and one is closed.
+    ([Byte(2, 0, 0, 1), NO, NO], 0, false),
+    ([Byte(2, 1, 511, 1), NO, NO], 0, true),
+    ([Byte(2, 1, 0, 1), MetaByte(OUT, 1), NO], 0, true),
+    ([Byte(2, 0, 0, 1), MetaByte(OUT, 1), NO], 0, false),
+    ([Byte(2, 0, 0, 1), Powered(0, Power::Absent), NO], 0, true),
+    ([Byte(2, 0, 0, 1), Powered(1, Power::Absent), NO], 0, false),
 ];
 
 #[test]
@@ -407,7 +414,7 @@ const IN_A_SHIFT_UP: [Row; 4] = [
 ];
 
 /// Changes in a rebuild of disk 1.
-const IN_A_REBUILD: [Row; 9] = [
+const IN_A_REBUILD: [Row; 11] = [
     ([NO; 3], 0, true),
     // A rebuilt row, one that is not, the map, and the gate of a fresh log disk.
     ([Byte(1, 101, 0, 1), NO, NO], 0, false),
@@ -418,6 +425,9 @@ const IN_A_REBUILD: [Row; 9] = [
     ([Short(1), NO, NO], 0, false),
     ([MetaByte(OUT, 2), Powered(2, Power::Parked), NO], 0, false),
     ([Powered(1, Power::Absent), NO, NO], 0, true),
+    // A witness against the log disk that is rebuilt, and against the other one.
+    ([Byte(2, 1, 0, 1), NO, NO], 0, true),
+    ([Byte(2, 0, 0, 1), NO, NO], 0, false),
 ];
 
 /// A stripe of a fresh disk below the gear, before and after it is rebuilt.

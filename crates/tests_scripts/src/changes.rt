@@ -71,6 +71,27 @@ fn spot_of(text: &str) -> (Place, usize, &str) {
     (place, at as usize, rest)
 }
 
+// Puts all blocks of a disk of the others into that slot.
+fn fill_from(disks: &mut MemRack, others: &MemRack, disk: DiskNo) -> Option<()> {
+    if disk >= others.slots() || others.power(disk) != Power::Spinning {
+        return None;
+    }
+    let size = others.size(disk);
+    attach(disks, disk, size)?;
+    for place in 0..size {
+        let block = block_at(others, disk, place)?;
+        put(disks, disk, place, &block)?;
+    }
+    Some(())
+}
+
+/// The disks with this one as it is among the others.
+pub fn put_back(alloc: Global, disks: &MemRack, others: &MemRack, disk: DiskNo) -> Option<MemRack> {
+    let mut disks = restarted(alloc, disks, &[])?;
+    fill_from(&mut disks, others, disk)?;
+    restarted(alloc, &disks, &[])
+}
+
 fn set_byte(disks: &mut MemRack, disk: DiskNo, text: &str) -> Option<()> {
     let (place, at, rest) = spot_of(text);
     let (byte, _rest) = first_byte(rest);

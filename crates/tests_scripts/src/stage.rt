@@ -1,6 +1,6 @@
 //! The disks, the configuration and the faults to come, and what each line of the script makes of them.
 
-use crate::changes::{byte_at, changed, without};
+use crate::changes::{byte_at, changed, put_back, without};
 use crate::lines::{
     bytes_by_digits, bytes_of, configured, first_byte, first_number, first_word, is_any, trace_of,
 };
@@ -18,6 +18,8 @@ use std::alloc::Global;
 pub struct Stage {
     configuration: String,
     disks: MemRack,
+    /// All disks as they were when they were last set aside.
+    kept: MemRack,
     /// Those of the next command that runs the program.
     faults: Faults,
 }
@@ -37,7 +39,7 @@ fn kind_of(word: &str) -> Kind {
         Kind::Remark
     } else if is_any(word, "config set unset add pad") {
         Kind::Configure
-    } else if is_any(word, "bare array lose") {
+    } else if is_any(word, "bare array lose keep back") {
         Kind::Make
     } else if is_any(word, "park fresh fill byte") {
         Kind::Change
@@ -154,10 +156,12 @@ impl Stage {
     pub fn new(alloc: Global) -> Option<Stage> {
         let configuration = configured(alloc, "", "config", "")?;
         let disks = bare(alloc, 5)?;
+        let kept = bare(alloc, 5)?;
         let faults = Faults::none(alloc);
         Some(Stage {
             configuration,
             disks,
+            kept,
             faults,
         })
     }
@@ -182,9 +186,14 @@ impl Stage {
     }
 
     fn make(&mut self, alloc: Global, word: &str, rest: &str) -> Option<()> {
+        if word == "keep" {
+            self.kept = restarted(alloc, &self.disks, &[])?;
+            return Some(());
+        }
         self.disks = match word {
             "bare" => bare(alloc, slots_of(rest))?,
             "array" => array(alloc, self.configuration.as_str(), slots_of(rest))?,
+            "back" => put_back(alloc, &self.disks, &self.kept, first_byte(rest).0)?,
             _ => without(alloc, &self.disks, first_byte(rest).0)?,
         };
         Some(())

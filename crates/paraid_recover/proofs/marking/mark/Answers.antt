@@ -2,7 +2,7 @@ use Rattle.std.specs.Prelude.{◌≡◌, ◌+◌, ℕ, [], Option, Some, IfErr, 
 use Rattle.paraid_rack.specs.Told.{Ran}
 use Rattle.paraid_image.specs.Out.{named_out}
 use Rattle.paraid_txn.specs.Losses.{AreGoneSince, IsAlone, IsOutOfCommit, AreTwoDownBeside}
-use Rattle.paraid_txn.specs.Uses.{EachCall, Uses}
+use Rattle.paraid_txn.specs.Uses.{EachCall, UsesInCommit}
 use Rattle.std.proofs.Common.{arith, ap, subst, sym, ◌∙◌}
 use Rattle.paraid_txn.specs.Ready.{CanCommit}
 use Rattle.paraid_rack.specs.Disks.{is_present}
@@ -35,9 +35,13 @@ each g c =
     (c.commit.ensures.any_moment c.args.meta.now c.requires.named))
 
 pub commit-requires : goal.commit-requires
-commit-requires g c =
-    subst (λ (n : Meta). CanCommit c.args.store.now.epoch c.args.store.now.disks (g.R.Rack.slot_count c.args.store.now.rack) (g.R.Rack.slot c.args.store.now.rack) c.args.batch.now n) (sym c.next_marked-next.ensures)
-    c.requires.can
+commit-requires g c = record {
+  can =
+      subst (λ (n : Meta). CanCommit c.args.store.now.epoch c.args.store.now.disks (g.R.Rack.slot_count c.args.store.now.rack) (g.R.Rack.slot c.args.store.now.rack) c.args.batch.now n) (sym c.next_marked-next.ensures)
+      c.requires.can;
+  witness = λ x low was not.
+      absurd (not (ap (λ (n : Meta). named_out n.out) c.next_marked-next.ensures ∙ ap Some (sym (c.requires.only x (sym c.requires.named ∙ was)))));
+}
 
 pub returns : goal.returns
 returns g c = record {
@@ -55,8 +59,8 @@ returns g c = record {
       subst (λ (o : Option ℕ). IfErr c.commit.result (AreGoneSince (IsOutOfCommit (λ e. (g.R.Rack.slot c.args.store.now.rack e).power) c.args.store.now.disks c.args.store.now.named o)
       (g.R.Rack.slot c.args.store.now.rack) (g.R.Rack.slot c.commit.new.self.rack))) (ap (λ (n : Meta). named_out n.out) c.next_marked-next.ensures) c.commit.ensures.gone;
   calls =
-      subst (λ (b : Batch). Ran (g.R.Rack.told c.args.store.now.rack) (g.R.Rack.told c.commit.new.self.rack) (EachCall (Uses (marked_gone (of_version_two c.args.meta.now) c.args.disk c.args.meta.now.epoch) b))) c.requires.empty
-      (subst (λ (n : Meta). Ran (g.R.Rack.told c.args.store.now.rack) (g.R.Rack.told c.commit.new.self.rack) (EachCall (Uses n c.args.batch.now))) c.next_marked-next.ensures c.commit.ensures.calls);
+      subst (λ (b : Batch). Ran (g.R.Rack.told c.args.store.now.rack) (g.R.Rack.told c.commit.new.self.rack) (EachCall (UsesInCommit (marked_gone (of_version_two c.args.meta.now) c.args.disk c.args.meta.now.epoch) b))) c.requires.empty
+      (subst (λ (n : Meta). Ran (g.R.Rack.told c.args.store.now.rack) (g.R.Rack.told c.commit.new.self.rack) (EachCall (UsesInCommit n c.args.batch.now))) c.next_marked-next.ensures c.commit.ensures.calls);
   one =
       let at = goal.at.returns g c in
       let named = ap (λ (n : Meta). named_out n.out) c.next_marked-next.ensures in

@@ -156,6 +156,8 @@ returns-in-Err g c = record {
       resumes_held slots c.args.standing.now.side (said g at) (g.R.Rack.told c.args.rack) (g.R.Rack.told c.in-Err.refused.rack) c.in-Err.ensures.refused;
   ends = tt;
   map = tt;
+  borne = tt;
+  marked = tt;
 }
 
 pub returns-in-Err-raise : goal.returns-in-Err-raise
@@ -197,6 +199,8 @@ returns-in-Err-raise g c = record {
       (c.raise.ensures.holds slots c.args.standing.now.side s (g.R.Rack.told c.args.rack) refl (resumed g at slots));
   ends = tt;
   map = tt;
+  borne = tt;
+  marked = tt;
 }
 
 pub returns-in-Ok-raise : goal.returns-in-Ok-raise
@@ -253,4 +257,8 @@ returns-in-Ok-raise g c = record {
       (map_served _ _ _ _ _ b e meta m (store_out g.R.Rack.slot c.in-Ok.store) table (g.R.Rack.told (store_rack c.in-Ok.store)) told c.in-Ok-raise.ensures.servable
       (ap (λ (x : Meta). x.setup) it.2 ∙ loss_setup it.0 it.1 ∙ it.3) c.in-Ok-raise.ensures.map (g.met.R.Rack.agrees (store_rack c.raise.new.store)) out_is c.raise.ensures.absent
       (λ d name. c.in-Ok-raise.ensures.servable.stays d (it.9.named_by ∙ it.4 d name)) c.in-Ok-raise.ensures.out c.raise.ensures.failed);
+  borne = c.in-Ok-raise.ensures.borne;
+  marked = λ slots.
+      let at = (goal.at.returns-in-Ok-raise g c).After-raise in
+      c.in-Ok-raise.ensures.marked slots c.args.standing.now.side (log_state c.args.standing.now.gate_open c.args.standing.now.meta c.args.batch) (g.R.Rack.told c.args.rack) refl (resumed g at slots);
 }

@@ -16,12 +16,14 @@ use Rattle.paraid_image.specs.Sides.{LogState}
 use Rattle.paraid_txn.specs.Losses.{AreGoneSince, IsOutOfCommit, IsWell, AreTwoDownBeside}
 use Rattle.paraid_txn.specs.Uses.{EachCall}
 use Rattle.paraid_txn.specs.Stores.{store_out, store_rack}
+use Rattle.paraid_recover.specs.Bearing.{EndsBorne, IsNamedLog}
 use Rattle.paraid_recover.specs.HeldMoments.{EndsHeld, IsOutAtEnd, Recovers, RecoversHeld}
 use Rattle.paraid_recover.specs.MountCalls.{OnlyMountCalls}
 use Rattle.paraid_recover.specs.RecoveryMark.{to_mark, with_mark}
 use Rattle.paraid_recover.specs.Mounted.{IsServable, with_loss}
 use Rattle.paraid_dirty.specs.Table.{is_dirty}
 use Rattle.paraid_recover.specs.Powers.{IsPowerCall, IsPowerChanged}
+use Rattle.paraid_recover.proofs.BearerLemmas.{borne_turned, marked_turned}
 use Rattle.paraid_recover.proofs.FarLemmas.{far_ran, map_on, turn_far}
 use Rattle.paraid_recover.proofs.MapServedLemmas.{named_or_absent}
 use Rattle.paraid_recover.proofs.MarkMomentLemmas.{mark_by_slots, mark_sooner}
@@ -162,6 +164,8 @@ returns-in-Err g c = record {
   ends = tt;
   map = tt;
   out = tt;
+  borne = tt;
+  marked = tt;
 }
 
 pub returns-in-Err-power_disks : goal.returns-in-Err-power_disks
@@ -204,6 +208,8 @@ returns-in-Err-power_disks g c = record {
   ends = tt;
   map = tt;
   out = tt;
+  borne = tt;
+  marked = tt;
 }
 
 pub returns : goal.returns
@@ -270,4 +276,8 @@ returns g c = record {
       let e = g.R.Rack.slot (store_rack c.power_disks.new.store) in
       named_or_absent c.args.meta.now c.in-Ok.standing given.0 b e given.1 c.in-Ok.ensures.fit.in_range (λ x is. (given.2 x is).0) (λ x. (c.power_disks.ensures.turned x).there) d
       (ap (λ (x : Meta). named_out x.out) (sym c.with_loss.ensures) ∙ name);
+  borne = borne_turned (named_out c.args.meta.now.out) c.in-Ok.standing (g.R.Rack.told (store_rack c.settle.new.store)) (g.R.Rack.told (store_rack c.power_disks.new.store)) c.power_disks.ensures.calls c.in-Ok.ensures.borne;
+  marked = λ slots x said old is r.
+      marked_turned (IsNamedLog c.power_disks.new.store.named) slots x said c.in-Ok.standing old (g.R.Rack.told (store_rack c.settle.new.store)) (g.R.Rack.told (store_rack c.power_disks.new.store)) c.power_disks.ensures.calls
+      (subst (λ (o : Option ℕ). EndsBorne (IsNamedLog o) slots x said old (g.R.Rack.told (store_rack c.settle.new.store))) (sym c.in_default.ensures.same.named) (c.in-Ok.ensures.marked slots x said old is r));
 }

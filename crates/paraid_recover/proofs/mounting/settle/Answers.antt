@@ -14,6 +14,7 @@ use Rattle.paraid_view.proofs.TwoLemmas.{left_spared}
 use Rattle.paraid_recover.specs.EndOfMount.{IsMarkAtMoment}
 use Rattle.paraid_recover.specs.HeldMoments.{Recovers}
 use Rattle.paraid_recover.specs.Mounted.{AreAllSynced}
+use Rattle.paraid_recover.proofs.BearerLemmas.{bears_fit}
 use Rattle.paraid_recover.proofs.SyncedLemmas.{log_kept, marked_synced, sync_kept}
 use Rattle.paraid_recover.proofs.MarkMomentLemmas.{mark_before, mark_by_slots, mark_later}
 use Rattle.paraid_recover.specs.MountCalls.{OnlyMountCalls}
@@ -285,6 +286,8 @@ returns-in-Ok g c = record {
       (map_on geometry out slot_1 slot_2 dirty told_0 told_1 told_2 (stays_absent slot_1 slot_2 0 (none_comes slot_1 slot_2 c.sync_all.ensures.powers)) (far_ran (IsReadOrSync n_1) told_1 told_2 (quiet_far n_1) (quiet_syncs n_1 _ told_1 told_2 c.sync_all.ensures.calls))
       (map_read geometry out c.in_default.field-0 slot_1 dirty told_0 told_1 (far_ran (IsReadOrSync n_0) told_0 told_1 (quiet_far n_0) (quiet_reads n_0 told_0 told_1 c.in_default.ensures.read.calls))
       (λ e is. (c.in_default.ensures.alone e is).1) (λ e is. (c.in_default.ensures.read.left.failed e is).absent) c.in_default.ensures.shows));
+  borne = c.in-Ok.ensures.borne;
+  marked = λ slots x said old is r. c.in-Ok.ensures.marked slots x said old is (synced_recovers g (goal.at.returns-in-Ok g c).After-sync_all slots x said old is r);
 }
 
 pub returns-in-Err-mark_out : goal.returns-in-Err-mark_out
@@ -330,6 +333,8 @@ returns-in-Err-mark_out g c = record {
       c.mark_out.ensures.metas slots x said old is (synced_recovers g at slots x said old is r) (synced_metas g at slots x said old is r metas);
   ends = tt;
   map = tt;
+  borne = tt;
+  marked = tt;
 }
 
 pub returns-in-Err-sync_all : goal.returns-in-Err-sync_all
@@ -371,6 +376,8 @@ returns-in-Err-sync_all g c = record {
   metas = synced_metas g (goal.at.returns-in-Err-sync_all g c).After-sync_all;
   ends = tt;
   map = tt;
+  borne = tt;
+  marked = tt;
 }
 
 pub returns-in-Err : goal.returns-in-Err
@@ -406,6 +413,8 @@ returns-in-Err g c = record {
       read_metas g (goal.at.returns-in-Err g c).After-read_map slots x said old is (quiet_reads c.args.store.now.disks _ _ c.in-Err.ensures.two.calls) r metas;
   ends = tt;
   map = tt;
+  borne = tt;
+  marked = tt;
 }
 
 pub mark_out-requires : goal.mark_out-requires
@@ -425,4 +434,7 @@ mark_out-requires g c =
       epoch = c.sync_all.ensures.same.epoch ∙ read.same.epoch ∙ c.requires.epoch;
       log = log_kept a d (spared_both a b d (left_spared c.in_default.field-0 a b read.left) c.sync_all.ensures.powers) (named_out m.out)
           (log_ready (g.R.Rack.slot_count (store_rack c.args.store.now)) a m c.requires.fit);
+      witness = λ apart.
+          bears_fit (g.R.Rack.slot_count (store_rack c.args.store.now)) a d m c.read_map.new.store.disks c.gone.result c.requires.fit (spared_both a b d (left_spared c.in_default.field-0 a b read.left) c.sync_all.ensures.powers)
+          (read.same.disks ∙ c.requires.disks) c.gone.ensures c.in_default-sync_all.ensures.synced apart;
     }

@@ -1,209 +1,244 @@
-use Rattle.std.specs.Prelude.{◌≡◌, ℕ, ◌+◌, ◌<◌, false, [], None, Some, All, IfErr, IfOk, Option}
-use Rattle.std.proofs.Common.{arith, ap, inr, refl, sym, subst, ◌∙◌}
-use Rattle.paraid_rack.specs.Disks.{Disks, is_present}
+use Rattle.std.specs.Prelude.{◌≡◌, ◌≤◌, ℕ, true, false, Option, Some}
+use Rattle.std.proofs.Common.{ap, arith, inl, inr, refl, subst, sym, ◌∙◌}
+use Rattle.paraid_rack.specs.Slots.{Slot}
+use Rattle.paraid_rack.specs.Told.{Ran}
 use Rattle.paraid_rack.specs.Trail.{Trail, now}
 use Rattle.paraid_record.specs.declared.meta.Meta.{Meta}
-use Rattle.paraid_record.specs.Targets.{IsTargetInRange}
-use Rattle.paraid_image.specs.Mark.{marked_gone}
+use Rattle.paraid_record.specs.declared.meta.Setup.{Setup}
 use Rattle.paraid_image.specs.Out.{named_out}
-use Rattle.paraid_image.specs.Sides.{Batch, LogState, targets}
-use Rattle.paraid_image.proofs.MarkLemmas.{marked_in_range}
-use Rattle.paraid_image.specs.Rest.{IsAtRest}
-use Rattle.paraid_txn.specs.Commit.{EndsCommitted, IsNext, IsWholeOrAbsent}
-use Rattle.paraid_txn.specs.Losses.{AreGoneSince, IsOneOut, IsOutOfCommit, AreTwoDownBeside}
-use Rattle.paraid_rack.specs.Told.{Ran}
-use Rattle.paraid_txn.specs.Uses.{EachCall, Uses}
-use Rattle.paraid_txn.proofs.CommitPartLemmas.{EachCall-milder, ran_milder}
-use Rattle.paraid_txn.proofs.SyncLemmas.{raised}
-use Rattle.paraid_recover.specs.Quiet.{IsInLog}
-use Rattle.paraid_recover.specs.RecoveryMark.{to_mark}
-use Rattle.paraid_recover.proofs.RaisedLemmas.{none_done_if}
-use Rattle.paraid_recover.proofs.OneMarkedLemmas.{in_log}
-use Rattle.paraid_recover.specs.HeldMoments.{EndsHeld, KeepsHeld, Recovers, RecoversHeld}
+use Rattle.paraid_rack.specs.Atoms.{IsSure}
+use Rattle.paraid_image.specs.Sides.{LogState, is_open}
+use Rattle.paraid_txn.specs.Losses.{AreFailedOrWell, IsSyncedAt, OnlyLosesSlots}
+use Rattle.paraid_txn.specs.Stores.{store_rack}
+use Rattle.paraid_txn.specs.Uses.{EachCall}
+use Rattle.paraid_recover.specs.Bearing.{BearsAgainst, EndsBorne, IsBorneAgainst, IsNamedLog}
+use Rattle.paraid_recover.specs.HeldMoments.{EndsHeld, Recovers, RecoversHeld}
 use Rattle.paraid_recover.specs.MountCalls.{OnlyMountCalls}
-use Rattle.paraid_recover.specs.RecoveryMark.{of_version_two, with_mark}
-use Rattle.paraid_recover.proofs.MountCallsLemmas.{mark_calls}
+use Rattle.paraid_recover.specs.Quiet.{IsInLog}
+use Rattle.paraid_recover.specs.RecoveryMark.{to_mark, with_mark}
 use Rattle.paraid_recover.specs.StandingMetas.{StandsInMoments}
-use Rattle.paraid_recover.proofs.CommitMetasLemmas.{committed_metas}
-use Rattle.paraid_recover.proofs.EndsLemmas.{ends_marked, then_marked}
-use Rattle.paraid_recover.proofs.RecoverLemmas.{none_ready}
-use Rattle.paraid_recover.proofs.RenewLemmas.{in_version_two}
-use Rattle.paraid_recover.proofs.HeldAtRestLemmas.{next_marked}
+use Rattle.paraid_recover.specs.StandingMetas.StandsForeseen.{marked}
+use Rattle.paraid_recover.proofs.BearerLemmas.{bearer_calls, bearer_clean, bearer_each, bearer_gone, bearer_log, bearer_one, bearer_synced, bearer_two, borne_sure, can_bear, log_named, not_second, one_named, second_kept}
+use Rattle.paraid_recover.proofs.BearingLemmas.{bearing_ends, bearing_holds, bearing_metas}
+use Rattle.paraid_recover.proofs.FitLemmas.{each_then, marks, spared_both}
+use Rattle.paraid_recover.proofs.MountCallsLemmas.{calls_then, mount_then}
+use Rattle.paraid_recover.proofs.ServableLemmas.{disks_marked, names_stay}
 use Rattle.paraid_recover.proofs.recovery.mark_out.Given.{Over}
 use Rattle.paraid_recover.proofs.recovery.mark_out.Goals as goal
-use Rattle.paraid_recover.proofs.recovery.mark_out.Goals.{After-mark}
+use Rattle.paraid_recover.proofs.recovery.mark_out.Goals.{After-bear_named, In-Ok-bear_named}
 
-pub unmarked-requires : goal.unmarked-requires
-unmarked-requires g c = record { named = c.requires.named; in_range = c.requires.in_range; exists = c.requires.exists; disks = c.requires.disks }
+pub mark_or_renew-requires : goal.mark_or_renew-requires
+mark_or_renew-requires g c = record {
+  empty = c.requires.empty;
+  fresh = c.requires.fresh;
+  in_range = c.requires.in_range;
+  exists = c.requires.exists;
+  disks = c.requires.disks;
+  named = c.requires.named;
+  epoch = c.requires.epoch;
+  log = c.requires.log;
+  witness = c.requires.witness;
+}
 
-pub mark-requires : goal.mark-requires
-mark-requires g c =
-    let m = c.args.meta.now in
-    let d = c.in-Some.disk in
-    let only : (e : ℕ) → named_out m.out ≡ Some e → e ≡ d = λ e. c.unmarked.ensures.only d e c.in-Some.is in
-    let below = c.unmarked.ensures.low d c.in-Some.is in
-    let same = c.requires.disks in
-    let epoch = c.requires.epoch in
-    let fresh = c.requires.fresh in
+pub bear_named-requires : goal.bear_named-requires
+bear_named-requires g c =
+    let low = c.args.meta.now.setup.geometry.disks_low in
+    let all = c.requires.exists in
+    let same = c.mark_or_renew.ensures.slots in
     record {
-      empty = c.requires.empty;
-      only = only;
-      low = (omega arith);
-      epoch = epoch;
-      named = c.requires.named;
-      absent = c.unmarked.ensures.absent d c.in-Some.is;
-      can = record {
-        in_range = marked_in_range (of_version_two m) d m.epoch (in_version_two m m.epoch c.requires.in_range c.requires.in_range.counters.first c.requires.in_range.counters.epoch_fits) (omega arith) c.requires.in_range.counters.first (omega arith);
-        epoch = omega arith;
-        array = sym same;
-        each = subst (λ (b : Batch). All (IsTargetInRange m.setup.geometry) (targets b)) (sym c.requires.empty) (λ k t lt. absurd (omega arith));
-        log = record { can = λ x l not. c.requires.log.can x l (λ e. not (ap (λ (y : ℕ). Some y) (sym (only x e)))) };
-        ready = none_ready _ c.requires.empty _ _ _;
-      };
+      exists = omega arith;
+      ready = λ x named. can_bear (g.R.Rack.slot (store_rack c.args.store.now)) (g.R.Rack.slot (store_rack c.mark_or_renew.new.store)) c.mark_or_renew.ensures.powers c.in-Ok.ensures.synced (c.requires.witness (not_second (named_out c.args.meta.now.out) x named));
     }
 
--- the disk that is marked
-low : (g : Over) (c : After-mark g) → c.in-Some.disk < c.args.meta.now.setup.geometry.disks
-low g c = let below = c.unmarked.ensures.low c.in-Some.disk c.in-Some.is in let same = c.requires.disks in omega arith
+pub returns-in-Err : goal.returns-in-Err
+returns-in-Err g c = record {
+  slots = c.mark_or_renew.ensures.slots;
+  disks = c.mark_or_renew.ensures.disks;
+  given = tt;
+  epoch = tt;
+  named = tt;
+  powers = c.mark_or_renew.ensures.powers;
+  each = c.mark_or_renew.ensures.each;
+  synced = tt;
+  one = tt;
+  calls = c.mark_or_renew.ensures.calls;
+  allowed = c.mark_or_renew.ensures.allowed;
+  two = c.in-Err.ensures.two;
+  gone = c.in-Err.ensures.gone;
+  holds = c.mark_or_renew.ensures.holds;
+  metas = c.mark_or_renew.ensures.metas;
+  ends = tt;
+  borne = tt;
+  marked = tt;
+}
 
-gone : (g : Over) (c : After-mark g) (t : Trail) → g.R.Rack.told c.args.store.now.rack ≡ Some t → is_present ((now t).power c.in-Some.disk) ≡ false
-gone g c t tells = ap is_present ((g.met.R.Rack.agrees _ t tells).power c.in-Some.disk ∙ c.unmarked.ensures.absent c.in-Some.disk c.in-Some.is)
+abbrev told_0 : (g : Over) (c : After-bear_named g) → Option Trail
+told_0 g c = g.R.Rack.told (store_rack c.args.store.now)
 
-holds : (g : Over) (c : After-mark g) (slots x : ℕ) (said : LogState) (old : Option Trail) → said.meta ≡ c.args.meta.now → Recovers slots x said old (g.R.Rack.told c.args.store.now.rack)
-    → RecoversHeld slots x said old (g.R.Rack.told c.mark.new.store.rack)
-holds g c slots x said old is recovers =
-    let d = c.in-Some.disk in
-    then_marked slots x said old (g.R.Rack.told c.args.store.now.rack) (g.R.Rack.told c.mark.new.store.rack) d
-    (subst (λ (m : Meta). d < m.setup.geometry.disks) (sym is) (low g c))
-    (λ e names. c.unmarked.ensures.only d e c.in-Some.is (ap (λ (m : Meta). named_out m.out) (sym is) ∙ names)) (gone g c) c.mark.ensures.grows recovers.holds recovers.ends
-    (subst (λ (m : Meta). KeepsHeld (λ s. IsAtRest s m) slots m.setup.geometry.disks (g.R.Rack.told c.args.store.now.rack) (g.R.Rack.told c.mark.new.store.rack)) (sym is) (c.mark.ensures.held slots))
+abbrev told_1 : (g : Over) (c : After-bear_named g) → Option Trail
+told_1 g c = g.R.Rack.told (store_rack c.mark_or_renew.new.store)
 
--- the meta that is given
-epoch : (g : Over) (c : After-mark g) (e : ℕ) → e ≡ c.args.store.now.epoch + 1 → e ≡ c.args.meta.now.epoch + 1
-epoch g c e is = is ∙ ap (λ (k : ℕ). k + 1) c.requires.epoch
+abbrev told_2 : (g : Over) (c : After-bear_named g) → Option Trail
+told_2 g c = g.R.Rack.told (store_rack c.bear_named.new.store)
 
--- the calls of the mark
-log_calls : (g : Over) (c : After-mark g) → Ran (g.R.Rack.told c.args.store.now.rack) (g.R.Rack.told c.mark.new.store.rack) (EachCall (IsInLog c.args.store.now.disks))
+abbrev slot_0 : (g : Over) (c : After-bear_named g) → ℕ → Slot
+slot_0 g c = g.R.Rack.slot (store_rack c.args.store.now)
+
+abbrev slot_1 : (g : Over) (c : After-bear_named g) → ℕ → Slot
+slot_1 g c = g.R.Rack.slot (store_rack c.mark_or_renew.new.store)
+
+abbrev slot_2 : (g : Over) (c : After-bear_named g) → ℕ → Slot
+slot_2 g c = g.R.Rack.slot (store_rack c.bear_named.new.store)
+
+abbrev mark : (g : Over) (c : After-bear_named g) → Option ℕ
+mark g c = to_mark (λ d. (slot_0 g c d).power) c.args.meta.now
+
+ran : (g : Over) (c : After-bear_named g) → Ran (told_1 g c) (told_2 g c) (EachCall (BearsAgainst (named_out c.args.meta.now.out)))
+ran g c = c.bear_named.ensures.borne.part.calls
+
+log_calls : (g : Over) (c : After-bear_named g) → Ran (told_0 g c) (told_2 g c) (EachCall (IsInLog c.args.store.now.disks))
 log_calls g c =
-    let next = marked_gone (of_version_two c.args.meta.now) c.in-Some.disk c.args.meta.now.epoch in
-    ran_milder (EachCall (Uses next [])) (EachCall (IsInLog c.args.store.now.disks))
-    (EachCall-milder (Uses next []) (IsInLog c.args.store.now.disks) (λ call uses. subst (λ (n : ℕ). IsInLog n call) (sym c.requires.disks) (in_log next call uses))) c.mark.ensures.calls
+    let n = c.args.store.now.disks in
+    let enough : 3 ≤ n = (let low = c.args.meta.now.setup.geometry.disks_low in let same = c.requires.disks in omega arith) in
+    calls_then (IsInLog n) (told_0 g c) (told_1 g c) (told_2 g c) c.mark_or_renew.ensures.calls (bearer_log (named_out c.args.meta.now.out) n (told_1 g c) (told_2 g c) enough (ran g c))
 
--- which a mount may make
-allowed : (g : Over) (c : After-mark g) → OnlyMountCalls c.args.meta.now (g.R.Rack.told c.args.store.now.rack) (g.R.Rack.told c.mark.new.store.rack)
-allowed g c =
-    mark_calls c.args.meta.now (g.R.Rack.told c.args.store.now.rack) (g.R.Rack.told c.mark.new.store.rack) c.in-Some.disk c.args.meta.now.epoch
-    (λ e. c.unmarked.ensures.only c.in-Some.disk e c.in-Some.is) c.mark.ensures.calls
+allowed : (g : Over) (c : After-bear_named g) → OnlyMountCalls c.args.meta.now (told_0 g c) (told_2 g c)
+allowed g c = mount_then c.args.meta.now (told_0 g c) (told_1 g c) (told_2 g c) c.mark_or_renew.ensures.allowed (bearer_calls c.args.meta.now (told_1 g c) (told_2 g c) (ran g c))
 
--- which meta stands in the mark
-metas : (g : Over) (c : After-mark g) (slots x : ℕ) (said : LogState) (old : Option Trail) → said.meta ≡ c.args.meta.now → Recovers slots x said old (g.R.Rack.told c.args.store.now.rack)
-    → StandsInMoments slots x said old (g.R.Rack.told c.args.store.now.rack) → StandsInMoments slots x said old (g.R.Rack.told c.mark.new.store.rack)
-metas g c slots x said old is recovers before =
-    let d = c.in-Some.disk in
-    let mid = g.R.Rack.told c.args.store.now.rack in
-    let new = g.R.Rack.told c.mark.new.store.rack in
-    let after : Meta → Meta = λ m. marked_gone (of_version_two m) d (m.epoch + 1) in
-    committed_metas slots x said old mid new (after said.meta) (Some d) refl refl
-    (λ t tells e name. let same : d ≡ e = (let z : Some d ≡ Some e = name in cc) in
-    inr (subst (λ (k : ℕ). (k < said.meta.setup.geometry.disks) × (is_present ((now t).power k) ≡ false)) same
-    (subst (λ (m : Meta). d < m.setup.geometry.disks) (sym is) (low g c), gone g c t tells)))
-    (next_marked said.meta d (λ e names. c.unmarked.ensures.only d e c.in-Some.is (ap (λ (m : Meta). named_out m.out) (sym is) ∙ names)))
-    before recovers.ends (subst (λ (m : Meta). IsWholeOrAbsent mid new m (after m) []) (sym is) c.mark.ensures.moments)
+powers : (g : Over) (c : After-bear_named g) → OnlyLosesSlots (slot_0 g c) (slot_2 g c)
+powers g c = spared_both (slot_0 g c) (slot_1 g c) (slot_2 g c) c.mark_or_renew.ensures.powers c.bear_named.ensures.borne.part.powers
 
-pub returns-in_err-mark : goal.returns-in_err-mark
-returns-in_err-mark g c = record {
-  slots = c.mark.ensures.slots;
-  disks = c.mark.ensures.disks;
-  given = none_done_if _ c.from_residual.result _ c.from_residual.ensures.1;
-  epoch = none_done_if _ c.from_residual.result _ c.from_residual.ensures.1;
-  named = none_done_if _ c.from_residual.result _ c.from_residual.ensures.1;
-  powers = c.mark.ensures.powers;
-  each = c.mark.ensures.each;
-  synced = none_done_if _ c.from_residual.result _ c.from_residual.ensures.1;
-  one = none_done_if _ c.from_residual.result _ c.from_residual.ensures.1;
-  calls = log_calls g (goal.at.returns-in_err-mark g c).After-mark;
-  allowed = allowed g (goal.at.returns-in_err-mark g c).After-mark;
-  two =
-      raised _ _ _ c.from_residual.ensures.1
-      (subst (λ (o : Option ℕ). AreTwoDownBeside (IsOutOfCommit (λ e. (g.R.Rack.slot c.args.store.now.rack e).power) c.args.store.now.disks c.args.store.now.named o)
-      (g.R.Rack.slot c.args.store.now.rack) (g.R.Rack.slot c.mark.new.store.rack) c.in_err-mark.field-0.0) (sym c.in-Some.is ∙ c.unmarked.ensures.value) c.in_err-mark.ensures.two);
-  gone =
-      raised _ _ _ c.from_residual.ensures.1
-      (subst (λ (o : Option ℕ). AreGoneSince (IsOutOfCommit (λ e. (g.R.Rack.slot c.args.store.now.rack e).power) c.args.store.now.disks c.args.store.now.named o)
-      (g.R.Rack.slot c.args.store.now.rack) (g.R.Rack.slot c.mark.new.store.rack) c.in_err-mark.field-0.0) (sym c.in-Some.is ∙ c.unmarked.ensures.value) c.in_err-mark.ensures.gone);
-  holds = holds g (goal.at.returns-in_err-mark g c).After-mark;
-  metas = metas g (goal.at.returns-in_err-mark g c).After-mark;
-  ends = none_done_if _ c.from_residual.result _ c.from_residual.ensures.1;
-}
+each : (g : Over) (c : After-bear_named g) → AreFailedOrWell (slot_1 g c) (slot_2 g c) → AreFailedOrWell (slot_0 g c) (slot_2 g c)
+each g c after = each_then (slot_0 g c) (slot_1 g c) (slot_2 g c) c.mark_or_renew.ensures.each after c.mark_or_renew.ensures.powers.no_fall c.bear_named.ensures.borne.part.powers.no_fall
 
-pub returns : goal.returns
-returns g c = record {
-  slots = c.mark.ensures.slots;
-  disks = c.mark.ensures.disks;
-  given =
-      let at = goal.at.returns g c in
-      let d = c.in-Some.disk in
-      let m = c.args.meta.now in
-      let given : record c.next_marked.result { epoch = c.epoch.result } ≡ marked_gone (of_version_two m) d (m.epoch + 1) =
-      ap (λ (n : Meta). record n { epoch = c.epoch.result }) c.next_marked.ensures ∙ ap (λ (e : ℕ). marked_gone (of_version_two m) d e) (epoch g at.After-mark c.epoch.result (c.epoch.ensures ∙ c.in_ok-mark.ensures.epoch)) in
-      given ∙ sym (ap (with_mark m) (sym c.unmarked.ensures.value ∙ c.in-Some.is));
-  epoch = c.epoch.ensures;
-  named = ap (λ (n : Meta). named_out n.out) c.next_marked.ensures ∙ sym c.in_ok-mark.ensures.named;
-  powers = c.mark.ensures.powers;
-  each = c.mark.ensures.each;
-  synced = c.in_ok-mark.ensures.synced;
-  one = λ one.
-      subst (λ (o : Option ℕ). IsOneOut c.args.store.now.disks o (g.R.Rack.slot c.mark.new.store.rack)) (sym (ap (λ (n : Meta). named_out n.out) c.next_marked.ensures)) (c.in_ok-mark.ensures.one one);
-  calls = log_calls g (goal.at.returns g c).After-mark;
-  allowed = allowed g (goal.at.returns g c).After-mark;
-  two = tt;
-  gone = tt;
-  holds = holds g (goal.at.returns g c).After-mark;
-  metas = metas g (goal.at.returns g c).After-mark;
-  ends = λ slots x said old is recovers.
-      let at = goal.at.returns g c in
-      let d = c.in-Some.disk in
-      let m = c.args.meta.now in
-      let given : record c.next_marked.result { epoch = c.epoch.result } ≡ marked_gone (of_version_two m) d (m.epoch + 1) =
-      ap (λ (n : Meta). record n { epoch = c.epoch.result }) c.next_marked.ensures ∙ ap (λ (e : ℕ). marked_gone (of_version_two m) d e) (epoch g at.After-mark c.epoch.result (c.epoch.ensures ∙ c.in_ok-mark.ensures.epoch)) in
-      let only : (e : ℕ) → named_out m.out ≡ Some e → e ≡ d = λ e. c.unmarked.ensures.only d e c.in-Some.is in
-      let new = g.R.Rack.told c.mark.new.store.rack in
-      let mid = g.R.Rack.told c.args.store.now.rack in
-      subst (λ (n : Meta). EndsHeld slots x said n old new) (sym given)
-      (ends_marked slots x said (marked_gone (of_version_two m) d (m.epoch + 1)) c.args.nothing.now old mid new d
-      (subst (λ (n : Meta). d < n.setup.geometry.disks) (sym is) (low g at.After-mark))
-      (λ e names. only e (ap (λ (n : Meta). named_out n.out) (sym is) ∙ names)) refl (ap (λ (n : Meta). n.setup) (sym is)) (gone g at.After-mark)
-      (subst (λ (n : Meta). (s : Disks) → IsAtRest s n → IsNext s n (marked_gone (of_version_two m) d (m.epoch + 1))) (sym is) (next_marked m d only))
-      recovers.grows c.mark.ensures.grows (holds g at.After-mark slots x said old is recovers) recovers.ends
-      (subst (λ (n : Meta). EndsCommitted mid new n (marked_gone (of_version_two m) d (m.epoch + 1)) c.args.nothing.now) (sym is) c.in_ok-mark.ensures.committed));
-}
+-- the meta that stands
+same_disks : (g : Over) (c : After-bear_named g) (said : LogState) → said.meta ≡ c.args.meta.now → c.in-Ok.stands.setup.geometry.disks ≡ said.meta.setup.geometry.disks
+same_disks g c said is =
+    ap (λ (m : Meta). m.setup.geometry.disks) c.in-Ok.ensures.given ∙ ap (λ (s : Setup). s.geometry.disks) (disks_marked c.args.meta.now (mark g c)) ∙ ap (λ (m : Meta). m.setup.geometry.disks) (sym is)
 
--- none is to be marked
-pub renew-requires : goal.renew-requires
-renew-requires g c = c.requires
+names : (g : Over) (c : After-bear_named g) (y : ℕ) → named_out c.args.meta.now.out ≡ Some y → named_out c.in-Ok.stands.out ≡ Some y
+names g c y name =
+    ap (λ (m : Meta). named_out m.out) c.in-Ok.ensures.given
+    ∙ names_stay c.args.meta.now (mark g c) (λ d is. (marks (λ e. (slot_0 g c e).power) c.args.meta.now d c.requires.in_range is).2) y name
 
-pub returns-in_default : goal.returns-in_default
-returns-in_default g c =
-    let m = c.args.meta.now in
-    let a = g.R.Rack.slot c.args.store.now.rack in
-    let b = g.R.Rack.slot c.renew.new.store.rack in
-    let none : None ≡ to_mark (λ e. (a e).power) m = sym c.in_default.is ∙ c.unmarked.ensures.value in
-    let out : Option ℕ → ℕ → Type 0 = λ o. IsOutOfCommit (λ e. (a e).power) c.args.store.now.disks c.args.store.now.named o in
+names_said : (g : Over) (c : After-bear_named g) (said : LogState) → said.meta ≡ c.args.meta.now → (y : ℕ) → named_out c.args.meta.now.out ≡ Some y → named_out said.meta.out ≡ Some y
+names_said g c said is y name = ap (λ (m : Meta). named_out m.out) is ∙ name
+
+holds : (g : Over) (c : After-bear_named g) (slots x : ℕ) (said : LogState) (old : Option Trail) → said.meta ≡ c.args.meta.now → Recovers slots x said old (told_0 g c) → RecoversHeld slots x said old (told_2 g c)
+holds g c slots x said old is r =
+    bearing_holds slots x said c.in-Ok.stands (named_out c.args.meta.now.out) old (told_1 g c) (told_2 g c) (same_disks g c said is) (names g c) (names_said g c said is) (ran g c)
+    (c.mark_or_renew.ensures.holds slots x said old is r) (c.in-Ok.ensures.ends slots x said old is r)
+
+metas : (g : Over) (c : After-bear_named g) (slots x : ℕ) (said : LogState) (old : Option Trail) → said.meta ≡ c.args.meta.now → Recovers slots x said old (told_0 g c)
+    → StandsInMoments slots x said old (told_0 g c) → StandsInMoments slots x said old (told_2 g c)
+metas g c slots x said old is r before =
+    bearing_metas slots x said c.in-Ok.stands (named_out c.args.meta.now.out) old (told_1 g c) (told_2 g c) (same_disks g c said is) (names g c) (names_said g c said is) (ran g c)
+    (c.mark_or_renew.ensures.holds slots x said old is r) (c.in-Ok.ensures.ends slots x said old is r)
+    (λ s i. marked (mark g c) (c.in-Ok.ensures.given ∙ ap (λ (m : Meta). with_mark m (mark g c)) (sym is))) (c.mark_or_renew.ensures.metas slots x said old is r before)
+
+pub returns-in-Err-bear_named : goal.returns-in-Err-bear_named
+returns-in-Err-bear_named g c =
+    let at = (goal.at.returns-in-Err-bear_named g c).After-bear_named in
+    let part = c.in-Err-bear_named.ensures.borne.part in
+    let o = named_out c.args.meta.now.out in
     record {
-      slots = c.renew.ensures.slots;
-      disks = c.renew.ensures.disks;
-      given = subst (λ (o : Option ℕ). IfOk c.renew.result (λ n. n ≡ with_mark m o)) none c.renew.ensures.given;
-      epoch = c.renew.ensures.epoch;
-      named = c.renew.ensures.named;
-      powers = c.renew.ensures.powers;
-      each = c.renew.ensures.each;
-      synced = c.renew.ensures.synced;
-      one = c.renew.ensures.one;
-      calls = c.renew.ensures.calls;
-      allowed = c.renew.ensures.allowed;
-      two = subst (λ (o : Option ℕ). IfErr c.renew.result (AreTwoDownBeside (out o) a b)) none c.renew.ensures.two;
-      gone = subst (λ (o : Option ℕ). IfErr c.renew.result (AreGoneSince (out o) a b)) none c.renew.ensures.gone;
-      holds = c.renew.ensures.holds;
-      metas = c.renew.ensures.metas;
-      ends = c.renew.ensures.ends;
+      slots = part.slots ∙ c.mark_or_renew.ensures.slots;
+      disks = part.same.disks ∙ c.mark_or_renew.ensures.disks;
+      given = tt;
+      epoch = tt;
+      named = tt;
+      powers = powers g at;
+      each = each g at (bearer_each g.R.Rack o c.mark_or_renew.new.store c.bear_named.new.store false part);
+      synced = tt;
+      one = tt;
+      calls = log_calls g at;
+      allowed = allowed g at;
+      two = bearer_two g.R.Rack o c.mark_or_renew.new.store c.bear_named.new.store (slot_0 g at) c.args.store.now.disks c.args.store.now.named (mark g at) c.in-Err-bear_named.two c.requires.named
+          c.in-Err-bear_named.ensures.two part c.mark_or_renew.ensures.powers;
+      gone = bearer_gone g.R.Rack o c.mark_or_renew.new.store c.bear_named.new.store (slot_0 g at) c.args.store.now.disks c.args.store.now.named (mark g at) c.in-Err-bear_named.two c.requires.named
+          c.in-Err-bear_named.ensures.two part c.mark_or_renew.ensures.powers;
+      holds = holds g at;
+      metas = metas g at;
+      ends = tt;
+      borne = tt;
+      marked = tt;
+    }
+
+-- where witness is borne, disk 2 has nothing unsynced
+synced : (g : Over) (c : In-Ok-bear_named g) (x : ℕ) → IsNamedLog (named_out c.args.meta.now.out) x → IsSyncedAt (g.R.Rack.slot (store_rack c.bear_named.new.store)) 2
+synced g c x named =
+    bearer_clean g.R.Rack (named_out c.args.meta.now.out) c.mark_or_renew.new.store c.bear_named.new.store c.in-Ok-bear_named.ensures.borne
+    (can_bear (g.R.Rack.slot (store_rack c.args.store.now)) (g.R.Rack.slot (store_rack c.mark_or_renew.new.store)) c.mark_or_renew.ensures.powers c.in-Ok.ensures.synced (c.requires.witness (not_second (named_out c.args.meta.now.out) x named)))
+
+ends : (g : Over) (c : In-Ok-bear_named g) (slots x : ℕ) (said : LogState) (old : Option Trail) → said.meta ≡ c.args.meta.now → Recovers slots x said old (g.R.Rack.told (store_rack c.args.store.now))
+    → EndsHeld slots x said c.in-Ok.stands old (g.R.Rack.told (store_rack c.bear_named.new.store))
+ends g c slots x said old is r =
+    let at = (goal.at.In-Ok-bear_named g c).After-bear_named in
+    let before = c.in-Ok.ensures.ends slots x said old is r in
+    elim (log_named (named_out c.args.meta.now.out)) [
+      | inl it ↦
+          bearing_ends slots x said c.in-Ok.stands (named_out c.args.meta.now.out) old (told_1 g at) (told_2 g at) (same_disks g at said is) (names g at) (names_said g at said is) (ran g at)
+          (c.mark_or_renew.ensures.holds slots x said old is r) before
+          (second_kept (told_2 g at) (slot_2 g at) (g.met.R.Rack.agrees (store_rack c.bear_named.new.store)) (synced g c it.0 it.1))
+      | inr none ↦ subst (λ (t : Option Trail). EndsHeld slots x said c.in-Ok.stands old t) (sym (c.in-Ok-bear_named.ensures.borne.part.still none)) before
+    ]
+
+-- witness is borne against the log disk that the meta before named out
+borne : (g : Over) (c : In-Ok-bear_named g) → IsBorneAgainst (named_out c.args.meta.now.out) (g.R.Rack.told (store_rack c.bear_named.new.store))
+borne g c x named t tells =
+    let new = c.bear_named.new.store in
+    borne_sure (named_out c.args.meta.now.out) (g.R.Rack.told (store_rack new)) (g.R.Rack.slot (store_rack new)) (g.met.R.Rack.agrees (store_rack new)) (synced g c x named) (c.in-Ok-bear_named.ensures.borne.borne refl)
+    x named t tells
+
+-- and against the one that is named out then
+marked_borne : (g : Over) (c : In-Ok-bear_named g) (slots x : ℕ) (said : LogState) (old : Option Trail) → said.meta ≡ c.args.meta.now → Recovers slots x said old (g.R.Rack.told (store_rack c.args.store.now))
+    → EndsBorne (IsNamedLog c.bear_named.new.store.named) slots x said old (g.R.Rack.told (store_rack c.bear_named.new.store))
+marked_borne g c slots x said old is r =
+    let at = (goal.at.In-Ok-bear_named g c).After-bear_named in
+    let part = c.in-Ok-bear_named.ensures.borne.part in
+    elim (log_named (named_out c.args.meta.now.out)) [
+      | inl it ↦ λ t tells.
+          let e = ends g c slots x said old is r t tells in (
+            e.0,
+            e.1,
+            λ h lo was down broken held absent weak y named.
+                let same = one_named c.bear_named.new.store.named it.0 y (part.same.named ∙ sym c.in-Ok.ensures.named ∙ names g at it.0 it.1.0) named.0 in
+                subst (λ (k : ℕ). IsSure (now t) 2 k (λ b. is_open b ≡ true)) same (borne g c it.0 it.1 t tells),
+          )
+      | inr none ↦ λ t tells.
+          let e = c.in-Ok.ensures.marked slots x said old is r t (sym (part.still none) ∙ tells) in (
+            e.0,
+            e.1,
+            λ h lo was down broken held absent weak y named. e.2 h lo was down broken held absent weak y ((sym part.same.named ∙ named.0, named.1), λ before. none y (before, named.1)),
+          )
+    ]
+
+pub returns-in-Ok-bear_named : goal.returns-in-Ok-bear_named
+returns-in-Ok-bear_named g c =
+    let ok = (goal.at.returns-in-Ok-bear_named g c).In-Ok-bear_named in
+    let at = (goal.at.returns-in-Ok-bear_named g c).After-bear_named in
+    let it = c.in-Ok-bear_named.ensures.borne in
+    let part = it.part in
+    let o = named_out c.args.meta.now.out in
+    let mid = c.mark_or_renew.new.store in
+    let new = c.bear_named.new.store in
+    record {
+      slots = part.slots ∙ c.mark_or_renew.ensures.slots;
+      disks = part.same.disks ∙ c.mark_or_renew.ensures.disks;
+      given = c.in-Ok.ensures.given;
+      epoch = c.in-Ok.ensures.epoch ∙ sym part.same.epoch;
+      named = c.in-Ok.ensures.named ∙ sym part.same.named;
+      powers = powers g at;
+      each = each g at (bearer_each g.R.Rack o mid new true part);
+      synced = bearer_synced g.R.Rack o mid new (slot_0 g at) it c.in-Ok.ensures.synced;
+      one = λ one. bearer_one g.R.Rack o mid new c.args.store.now.disks (named_out c.in-Ok.stands.out) part (c.in-Ok.ensures.one one);
+      calls = log_calls g at;
+      allowed = allowed g at;
+      two = tt;
+      gone = tt;
+      holds = holds g at;
+      metas = metas g at;
+      ends = ends g ok;
+      borne = borne g ok;
+      marked = marked_borne g ok;
     }

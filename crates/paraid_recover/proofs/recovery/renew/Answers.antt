@@ -7,7 +7,7 @@ use Rattle.paraid_record.specs.declared.meta.Meta.{Meta}
 use Rattle.paraid_image.specs.Sides.{Batch, LogState}
 use Rattle.paraid_txn.specs.Commit.{EndsCommitted, IsWholeOrAbsent}
 use Rattle.paraid_txn.specs.Losses.{AreGoneSince, IsAlone, IsOneOut, IsOutOfCommit, AreTwoDownBeside}
-use Rattle.paraid_txn.specs.Uses.{EachCall, Uses}
+use Rattle.paraid_txn.specs.Uses.{EachCall, UsesInCommit}
 use Rattle.paraid_txn.proofs.CommitPartLemmas.{EachCall-milder, ran_milder}
 use Rattle.paraid_txn.proofs.SyncLemmas.{raised}
 use Rattle.paraid_recover.specs.HeldMoments.{EndsHeld, Recovers, RecoversHeld}
@@ -49,14 +49,14 @@ holds g c slots x said old is recovers = renew_recovers slots x said old (told_0
 log_calls : (g : Over) (c : After-commit g) → Ran (told_0 g c) (told_1 g c) (EachCall (IsInLog c.args.store.now.disks))
 log_calls g c =
     let next = of_version_two c.args.meta.now in
-    ran_milder (EachCall (Uses next [])) (EachCall (IsInLog c.args.store.now.disks))
-    (EachCall-milder (Uses next []) (IsInLog c.args.store.now.disks) (λ call uses. subst (λ (n : ℕ). IsInLog n call) (sym c.requires.disks) (in_log next call uses)))
-    (subst (λ (b : Batch). Ran (told_0 g c) (told_1 g c) (EachCall (Uses next b))) c.requires.empty c.commit.ensures.calls)
+    ran_milder (EachCall (UsesInCommit next [])) (EachCall (IsInLog c.args.store.now.disks))
+    (EachCall-milder (UsesInCommit next []) (IsInLog c.args.store.now.disks) (λ call uses. subst (λ (n : ℕ). IsInLog n call) (sym c.requires.disks) (in_log next call uses)))
+    (subst (λ (b : Batch). Ran (told_0 g c) (told_1 g c) (EachCall (UsesInCommit next b))) c.requires.empty c.commit.ensures.calls)
 
 -- which a mount may make
 allowed : (g : Over) (c : After-commit g) → OnlyMountCalls c.args.meta.now (told_0 g c) (told_1 g c)
 allowed g c =
-    renew_calls c.args.meta.now (told_0 g c) (told_1 g c) (subst (λ (b : Batch). Ran (told_0 g c) (told_1 g c) (EachCall (Uses (of_version_two c.args.meta.now) b))) c.requires.empty c.commit.ensures.calls)
+    renew_calls c.args.meta.now (told_0 g c) (told_1 g c) (subst (λ (b : Batch). Ran (told_0 g c) (told_1 g c) (EachCall (UsesInCommit (of_version_two c.args.meta.now) b))) c.requires.empty c.commit.ensures.calls)
 
 pub returns-then-meta-ne1 : goal.returns-then-meta-ne1
 returns-then-meta-ne1 g c = record {

@@ -31,7 +31,7 @@ returns-then-gate_open g c = record {
   moments =
       let at = goal.at.returns-then-gate_open g c in
       subst (λ (o : Bool). StandsWhileResumed (g.R.Rack.told c.args.rack.now) (g.R.Rack.told c.resume_open.new.rack) c.args.side (log_state o c.args.meta.now c.args.batch.now)) (sym c.if-gate_open.true)
-      (open_resumes _ _ _ _ _ (good g at.After-spell_meta-spelled) c.requires.log_disk c.requires.in_array _ _ (ready g at.After-spell_meta-spelled)
+      (open_resumes _ _ _ _ _ (good g at.After-spell_meta-spelled) c.requires.log_disk c.requires.in_array _ _ (ready g at.After-spell_meta-spelled) c.resume_open.ensures.leaves.part.calls
       (λ start leads. (c.resume_open.ensures.crash _ (good g at.After-spell_meta-spelled start) refl refl refl refl refl leads).moments));
   done =
       let at = goal.at.returns-then-gate_open g c in
@@ -54,6 +54,7 @@ returns g c = record {
       let at = goal.at.returns g c in
       subst (λ (o : Bool). StandsWhileResumed (g.R.Rack.told c.args.rack.now) (g.R.Rack.told c.resume_closed.new.rack) c.args.side (log_state o c.args.meta.now c.args.batch.now)) (sym c.if-gate_open.false)
       (closed_resumes _ _ _ _ _ (good g at.After-spell_meta-spelled) c.requires.log_disk c.requires.in_array _ _ (ready g at.After-spell_meta-spelled) (c.requires.empty c.if-gate_open.false)
+      (SyncedPart_as (CommitPart_logs c.args.meta.now c.args.batch.now c.named.ensures) c.resume_closed.ensures.leaves).part.calls
       (λ start. (c.resume_closed.ensures.crash _ (good g at.After-spell_meta-spelled start) (sym c.named.ensures) refl).moments));
   done =
       let at = goal.at.returns g c in

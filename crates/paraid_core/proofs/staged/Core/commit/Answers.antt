@@ -22,7 +22,7 @@ use Rattle.paraid_core.proofs.AfterLemmas.{commit_lost_only, handed, lost_in_low
 use Rattle.paraid_core.specs.Cleaning.{is_cleaned}
 use Rattle.paraid_core.proofs.CleanLemmas.{cleans_marked}
 use Rattle.paraid_core.proofs.ChainLemmas.{down_marked, marked_epoch, marked_out}
-use Rattle.paraid_core.proofs.ReadyLemmas.{IsLostOnly, some_is}
+use Rattle.paraid_core.proofs.ReadyLemmas.{IsLostOnly, can_bear, some_is}
 use Rattle.paraid_core.proofs.SinceLemmas.{core_since, core_since_end}
 use Rattle.paraid_core.proofs.KindLemmas.{calls_milder, uses_transfer}
 use Rattle.paraid_core.proofs.LostMarkLemmas.{marks_commit}
@@ -161,7 +161,7 @@ module _ (g : Over) (c : After-lose g) (put : IsPutOut (record c.args.self.now.m
       let old = c.args.self.now in
       commit_stands (g.R.Rack.slot_count (store_rack old.store)) (named_of old.store) old.meta old.dirty old.batch old.copied c.requires.copies_synced h lo (epoch_of old.store) c.requires.ready.epoch_is c.requires.ready.in_range c.requires.ready.one
       _ _ slot then (g.met.R.Rack.agrees (store_rack old.store)) (g.met.R.Rack.agrees (store_rack c.commit.new.self)) lost known (λ d is. lost_in_low old.meta c.in_ok-lost.lost d is) only alone
-      c.requires.ready.absent absent_then _ _ _ _ c.commit.ensures.slots c.in_ok-lost.ensures.named meta_is c.clear.ensures c.commit.ensures.any_moment
+      c.requires.ready.absent absent_then (can_bear _ _ _ _ _ _ _ _ c.requires.ready) _ _ _ _ c.commit.ensures.slots c.in_ok-lost.ensures.named meta_is c.clear.ensures c.commit.ensures.any_moment
       c.in_ok-lost.ensures.committed
 
   filled_then : (h : History) (lo : ℕ) → Ran (g.R.Rack.told (store_rack c.args.self.now.store)) (g.R.Rack.told (store_rack c.commit.new.self)) (CrashTriple (IsCoreHeld g.R.Rack.slot_count c.args.self.now h lo) (CoreStandsFor g.R.Rack.slot_count c.args.self.now h lo)
@@ -170,7 +170,7 @@ module _ (g : Over) (c : After-lose g) (put : IsPutOut (record c.args.self.now.m
       let old = c.args.self.now in
       commit_filled (g.R.Rack.slot_count (store_rack old.store)) (named_of old.store) old.meta old.dirty old.batch old.copied c.requires.copies_synced h lo (epoch_of old.store) c.requires.ready.epoch_is c.requires.ready.in_range c.requires.ready.one
       _ _ slot then (g.met.R.Rack.agrees (store_rack old.store)) (g.met.R.Rack.agrees (store_rack c.commit.new.self)) lost known (λ d is. lost_in_low old.meta c.in_ok-lost.lost d is) only alone
-      c.requires.ready.absent absent_then _ _ _ c.commit.ensures.slots c.in_ok-lost.ensures.named meta_is c.commit.ensures.any_moment
+      c.requires.ready.absent absent_then (can_bear _ _ _ _ _ _ _ _ c.requires.ready) _ _ _ c.commit.ensures.slots c.in_ok-lost.ensures.named meta_is c.commit.ensures.any_moment
       c.in_ok-lost.ensures.committed
 
   absent_after : (d : ℕ) → named_out c.lose.new.meta.out ≡ Some d → (named_of c.commit.new.self ≡ Some d) ⊎ (is_present (then d).power ≡ false)
@@ -227,7 +227,7 @@ returns g c = record {
       let old = c.args.self.now in
       commit_rests (g.R.Rack.slot_count (store_rack old.store)) (named_of old.store) old.meta old.dirty old.batch old.copied c.requires.copies_synced h lo (epoch_of old.store) c.requires.ready.epoch_is c.requires.ready.in_range c.requires.ready.one
       _ _ (slot g c put) (then g c put) (g.met.R.Rack.agrees (store_rack old.store)) (g.met.R.Rack.agrees (store_rack c.commit.new.self)) (lost g c put) (known g c put) (λ d is. lost_in_low old.meta c.in_ok-lost.lost d is) (only g c put) (alone g c put)
-      c.requires.ready.absent (absent_then g c put) c.commit.ensures.any_moment c.in_ok-lost.ensures.committed) (puts g c);
+      c.requires.ready.absent (absent_then g c put) (can_bear _ _ _ _ _ _ _ _ c.requires.ready) c.commit.ensures.any_moment c.in_ok-lost.ensures.committed) (puts g c);
   marks = on_ok_weaker c.lose.result (λ put. let m = c.args.self.now.meta in
       let low : (d : ℕ) → c.in_ok-lost.lost ≡ Some d → d < m.setup.geometry.disks = (λ d is. subst (λ (z : ℕ). d < z) (sym c.requires.ready.array_is) (c.in_ok-lost.ensures.alone d is).below) in
       let last = epoch_of c.args.self.now.store in
@@ -254,7 +254,7 @@ returns g c = record {
       core_since g.R.Rack.slot_count g.R.Rack.slot g.R.Rack.told old c.requires.ready absent (g.met.R.Rack.agrees (store_rack old.store)) _ c.commit.ensures.calls h lo _ _
       (commit_marked (g.R.Rack.slot_count (store_rack old.store)) (named_of old.store) old.meta old.dirty old.batch old.copied c.requires.copies_synced h lo (epoch_of old.store) c.requires.ready.epoch_is c.requires.ready.in_range c.requires.ready.one
       _ _ (slot g c put) (then g c put) (g.met.R.Rack.agrees (store_rack old.store)) (g.met.R.Rack.agrees (store_rack c.commit.new.self)) (lost g c put) (known g c put) (λ d is. lost_in_low old.meta c.in_ok-lost.lost d is) (only g c put) (alone g c put)
-      c.requires.ready.absent (absent_then g c put) _ _ _ c.commit.ensures.slots c.in_ok-lost.ensures.named (meta_is g c put) c.commit.ensures.any_moment
+      c.requires.ready.absent (absent_then g c put) (can_bear _ _ _ _ _ _ _ _ c.requires.ready) _ _ _ c.commit.ensures.slots c.in_ok-lost.ensures.named (meta_is g c put) c.commit.ensures.any_moment
       c.in_ok-lost.ensures.committed)) (puts g c);
   absent = on_ok_weaker c.lose.result (λ put. absent_after g c put) (puts g c);
 }

@@ -6,7 +6,6 @@ use Rattle.paraid_view.proofs.TwoLemmas.{left_spared, spared_then}
 use Rattle.paraid_core.specs.declared.staged.Core.{Core}
 use Rattle.paraid_core.specs.Cores.{CoreStandsFor}
 use Rattle.paraid_core.specs.CellCopies.{CellsCopied, CopyingCell, copied_with}
-use Rattle.paraid_core.proofs.AfterLemmas.{handed}
 use Rattle.paraid_core.proofs.FillLemmas.{gather_lost_leaves, gathered_leaves, can_read_whole}
 use Rattle.paraid_core.proofs.CopyCellLemmas.{cell_gathered, cell_lost, cell_reads_held, disk_in}
 use Rattle.paraid_core.proofs.StepLemmas.{held_runs_then, leaves_then, runs_then, two_then}
@@ -16,11 +15,9 @@ use Rattle.paraid_core.proofs.KindLemmas.{calls_then, calls_whole}
 use Rattle.paraid_core.proofs.LostMarkLemmas.{loses_read, lost_after, marks_read, marks_then}
 use Rattle.paraid_core.proofs.ReadyLemmas.{some_is}
 use Rattle.paraid_core.proofs.OrderLemmas.{tells_unhurt}
-use Rattle.paraid_rack.specs.Told.{Ran}
 use Rattle.paraid_image.specs.Out.{named_out}
-use Rattle.paraid_image.specs.Lost.{TellsLosses}
 use Rattle.paraid_core.proofs.OrderLemmas.{lose_tells}
-use Rattle.paraid_core.proofs.ErrLemmas.{done_not_dropped, none_done, none_done_as, two_lost}
+use Rattle.paraid_core.proofs.ErrLemmas.{two_lost}
 use Rattle.paraid_core.proofs.staged.Core.sync_cell.Goals as goal
 
 pub returns-in_default : goal.returns-in_default

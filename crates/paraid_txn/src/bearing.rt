@@ -1,0 +1,20 @@
+//! What a commit knows of the witnesses.
+ghost use Rattle.std.specs.Prelude.{◌<◌};
+
+use paraid_base::DiskNo;
+
+/// Which witness a commit sets, and how.
+#[derive(Clone, Copy)]
+pub(crate) struct Witness {
+    pub disk: DiskNo,
+    pub opened: bool,
+    ghost log_disk: { disk < 2 },
+}
+
+/// Who is out as a commit begins: the disk that is absent, if one is, and the one that the last meta
+/// names out. Witness is borne against a log disk that it names.
+#[derive(Clone, Copy)]
+pub(crate) struct Bearing {
+    pub absent: Option<DiskNo>,
+    pub named: Option<DiskNo>,
+}

@@ -1,0 +1,159 @@
+//! The witnesses that disk 2 bears against the log disks. Its place `x` is open, as a gate is, where
+//! log disk `x` was out: then a mount that finds the other log disk absent refuses what log disk `x`
+//! says. Disk 2 spins in every gear, and a log disk that is out gets no word of its own.
+ghost use Rattle.std.specs.Prelude.{◌≡◌, ◌≢◌, ℕ, ◌<◌, ◌⊎◌, true, false, Some, None, Ok, IfSome};
+ghost use Rattle.paraid_rack.specs.declared.call.Power.TheVariants.{Absent, Spinning};
+ghost use Rattle.paraid_rack.specs.Told.{Ran};
+ghost use Rattle.paraid_txn.specs.Commit.{gone_out as gone_of};
+ghost use Rattle.paraid_txn.specs.CommitPart.{SyncedPart};
+ghost use Rattle.paraid_txn.specs.Losses.{CanWrite};
+ghost use Rattle.paraid_txn.specs.Uses.{UsesWitness};
+ghost use Rattle.paraid_image.specs.Out.{or_else};
+ghost use Rattle.paraid_image.specs.Sides.{is_open};
+ghost use Rattle.paraid_record.specs.declared.meta.Meta.{Meta as MetaType};
+ghost use Rattle.paraid_txn.specs.Witness.{CannotSet, IsFirstWitness, IsLastWitness, MaySetWitness, SetsWitness, borne_then};
+
+use crate::bearing::Witness;
+use crate::calls::{put, sync_slot};
+use crate::commit::gate;
+use crate::losses::Losses;
+use paraid_base::{Block, DiskNo, Place, Two};
+use paraid_rack::{Power, Rack};
+use paraid_record::Meta;
+
+/// The disk that bears witness against log disks.
+const BEARER: DiskNo = 2;
+
+// The witness against this disk is borne, if it is a log disk.
+fn against(out: Option<DiskNo>) -> Option<Witness>
+    ensures some { IfSome result (λ w. (out ≡ Some w.disk) × (w.opened ≡ true)) }
+    ensures none { result ≡ None → (x : ℕ) → x < 2 → out ≢ Some x }
+{
+    match out {
+        Some(disk) if disk < 2 => Some(Witness { disk, opened: true }),
+        _ => None,
+    }
+}
+
+/// The log disk that comes in again: it was named out, and is so no longer.
+pub(crate) fn joining(was: Option<DiskNo>, now: Option<DiskNo>) -> Option<DiskNo>
+    ensures some { (x : ℕ) → result ≡ Some x → (x < 2) × (was ≡ Some x) × (now ≢ Some x) }
+    ensures none { result ≡ None → (x : ℕ) → x < 2 → was ≡ Some x → now ≡ Some x }
+{
+    match was {
+        Some(disk) if disk < 2 && now != Some(disk) => Some(disk),
+        _ => None,
+    }
+}
+
+/// What is set before the steps of a commit: the witness against a log disk that comes in again is
+/// taken back; and it is borne against one that is absent, unless a log disk was named out.
+pub(crate) fn first_witness(
+    absent: Option<DiskNo>,
+    was: Option<DiskNo>,
+    now: Option<DiskNo>,
+) -> Option<Witness>
+    ensures { IsFirstWitness absent was now result }
+{
+    if let Some(disk) = joining(was, now) {
+        return Some(Witness {
+            disk,
+            opened: false,
+        });
+    }
+    if against(was).is_some() {
+        return None; // it has been
+    }
+    against(absent)
+}
+
+/// Against which disk witness is borne, if it is a log disk: one against which it was set, or else the
+/// one that was named out.
+pub(crate) fn borne_against(was: Option<DiskNo>, set: Option<Witness>) -> Option<DiskNo>
+    ensures { result ≡ borne_then was set }
+{
+    match set {
+        Some(witness) if witness.opened => Some(witness.disk),
+        Some(_) => None,
+        None => was,
+    }
+}
+
+// The disk that was lost, or else the one that is named out.
+fn out_last(lost: Option<DiskNo>, now: Option<DiskNo>) -> Option<DiskNo>
+    ensures { result ≡ or_else lost now }
+{
+    match lost {
+        Some(disk) => Some(disk),
+        None => now,
+    }
+}
+
+/// What is set after them: the witness against a log disk that was lost in them, or is named out,
+/// unless it is borne against it.
+pub(crate) fn last_witness(
+    lost: Option<DiskNo>,
+    now: Option<DiskNo>,
+    borne: Option<DiskNo>,
+) -> Option<Witness>
+    ensures { IsLastWitness lost now borne result }
+{
+    let out = out_last(lost, now);
+    if out == borne {
+        return None;
+    }
+    against(out)
+}
+
+// Whether the disk that bears witness can be written there.
+fn can_bear<R: Rack>(rack: &R, skip: Option<DiskNo>, place: Place) -> bool
+    requires { 2 < R.slot_count rack.now }
+    ensures can { result ≡ true → (skip ≢ Some 2) × ((R.slot rack.now 2).power ≡ Spinning)
+        × (place < (R.slot rack.now 2).size) }
+    ensures cannot { result ≡ false → CannotSet (R.slot rack.now) skip place }
+{
+    skip != Some(BEARER) && rack.power(BEARER) == Power::Spinning && place < rack.size(BEARER)
+}
+
+// Writes the place of a witness and makes disk 2 keep it.
+fn write_witness<R: Rack>(
+    rack: &mut R,
+    losses: &mut Losses,
+    skip: Option<DiskNo>,
+    place: Place,
+    block: &Block,
+) -> Result<(), Two>
+    requires exists { 2 < R.slot_count rack.old }
+    requires low { place < 2 }
+    requires unskipped { skip ≢ Some 2 }
+    requires spinning { (R.slot rack.old 2).power ≡ Spinning }
+    requires within { place < (R.slot rack.old 2).size }
+    ensures leaves { (m : MetaType) → gone_of m.out ≡ skip
+        → SyncedPart R.Rack (UsesWitness m) losses.old losses.new rack.old rack.new result }
+    ensures told { Ran (R.told rack.old) (R.told rack.new) (λ s cs. SetsWitness place (is_open block.now) cs) }
+{
+    put(rack, losses, skip, BEARER, place, block)?;
+    sync_slot(rack, losses, skip, BEARER) // before a step that counts on it
+}
+
+/// Sets a witness on disk 2. Nothing is done where that disk is gone, or cannot be written.
+pub(crate) fn set_witness<R: Rack>(
+    rack: &mut R,
+    losses: &mut Losses,
+    meta: &Meta,
+    witness: Witness,
+) -> Result<(), Two>
+    requires exists { 2 < R.slot_count rack.old }
+    ensures leaves { SyncedPart R.Rack (UsesWitness meta.now) losses.old losses.new rack.old rack.new
+        result }
+    ensures told { Ran (R.told rack.old) (R.told rack.new)
+        (λ s cs. MaySetWitness (R.slot rack.old) (gone_of meta.now.out) witness.disk witness.opened cs) }
+{
+    let skip = meta.out.gone();
+    let place = u32::from(witness.disk);
+    if !can_bear(rack, skip, place) {
+        return Ok(());
+    }
+    let block = gate(witness.opened);
+    write_witness(rack, losses, skip, place, &block)
+}
