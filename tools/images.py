@@ -1,4 +1,4 @@
-"""The images of an array, only read: where each thing lies on them, and what its log disks say.
+"""The images of an array, only read: where each thing lies on them, and what its log disks say, and disk 2 of them.
 
 tools/state and tools/locate stand on this. Places and forms are those of docs/ARCHITECTURE.md and of
 crates/paraid_record. As in the program, a block is a meta only if it is the one spelling of a meta in
@@ -21,6 +21,8 @@ ZERO = bytes(BLOCK)
 MOST_DISKS = 8
 WORN = 2**62
 LONGEST_WORD = 64
+# The disk whose places 0 and 1 bear witness against log disks 0 and 1.
+BEARER = 2
 AWAY = ("absent", "shut")
 OF_DEVICE = (errno.EIO, errno.ENXIO, errno.ENODEV, errno.EBADMSG, errno.EUCLEAN, errno.EREMOTEIO, errno.ENOMEDIUM)
 
@@ -367,7 +369,34 @@ def refusal(folder, sides):
     other = sides[1 - x]
     if other.kind == "formed" and named != 1 - x and not are_paired(sides[x], other):
         return f"{'badlog' if sides[x].opened and other.opened else 'badmeta'} {1 - x}"
-    return refusal_by_standing(folder, powers, meta, batch)
+    return refusal_by_standing(folder, powers, meta, batch) or refusal_by_witness(folder, powers, x)
+
+
+def witnesses(folder):
+    """The log disks against which disk 2 bears witness: each was taken out, and an image of it from then is old.
+    None are known where disk 2 does not spin or cannot be read."""
+    if folder.power(BEARER) != "spinning":
+        return []
+    try:
+        return [x for x in (0, 1) if folder.read(BEARER, x)[0] != 0]
+    except PermissionError:
+        raise
+    except OSError:
+        return []
+
+
+def refusal_by_witness(folder, powers, x):
+    """Log disk `x` stands. Without the other one it is not served where it was taken out before."""
+    other = 1 - x
+    if powers[other] != "absent" or powers[BEARER] == "absent":
+        return None
+    try:
+        opened = folder.read(BEARER, x)[0] != 0
+    except PermissionError:
+        raise
+    except OSError:
+        return f"two {other} {BEARER}"
+    return f"two {x} {other}" if opened else None
 
 
 def refusal_by_standing(folder, powers, meta, batch):
