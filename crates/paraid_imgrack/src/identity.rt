@@ -1,5 +1,6 @@
 //! Which array the labels of some images name, and which images do not belong into their slots.
 ghost use Rattle.std.specs.Prelude.{◌≡◌, ◌≤◌, ◌<◌, true, slice_index, None};
+ghost use Rattle.paraid_base.specs.Told.{HasRisen};
 
 use crate::label::Label;
 use paraid_base::DiskNo;
@@ -43,8 +44,10 @@ impl Display for Misfit {
 pub(crate) struct Identity {
     pub(crate) array: [u8; 16],
     pub(crate) disks: u8,
-    /// The number of this load.
+    /// What the label of an image gets now. Each load has a greater one, and each disk that is attached.
     pub(crate) generation: u64,
+    /// The images that spin have not got it yet.
+    pub(crate) is_new: bool,
     /// The generation that each disk's image has at least.
     pub(crate) known: [u64; 8],
     /// The generation that the label of each image has now, 0 where none was read or written.
@@ -60,6 +63,7 @@ impl Identity {
             array,
             disks,
             generation: 1,
+            is_new: true,
             known: [0; 8],
             seen: [0; 8],
             has_news: false,
@@ -170,13 +174,26 @@ impl Identity {
         false
     }
 
-    /// Whether the image of a slot has the label of this load.
+    /// Whether the image of a slot has a label of this generation.
     pub(crate) fn is_marked(&self, disk: usize) -> bool {
         disk < 8 && self.seen[disk] == self.generation
     }
 
-    /// The image of a slot has the label of this load, and its disk keeps it.
-    pub(crate) fn mark(&mut self, disk: usize) {
+    /// What gets a label from now on is newer than each image that has one, and those that spin are to
+    /// get one again.
+    pub(crate) fn renew(&mut self)
+        ensures newer { HasRisen self.old.generation self.new.generation }
+        ensures again { self.new.is_new ≡ true }
+    {
+        self.generation = self.generation.saturating_add(1);
+        self.is_new = true;
+    }
+
+    /// The image of a slot has a label of this generation, and its disk keeps it.
+    pub(crate) fn mark(&mut self, disk: usize)
+        ensures newer { self.new.generation ≡ self.old.generation }
+        ensures again { self.new.is_new ≡ self.old.is_new }
+    {
         if disk < 8 {
             self.known[disk] = self.generation;
             self.seen[disk] = self.generation;

@@ -1,5 +1,6 @@
 //! One disk of the rack: a call on it is done, or it leaves the disk absent and counted as failed.
-ghost use Rattle.std.specs.Prelude.{◌≡◌, ◌≢◌, ◌*◌, ◌/◌, min, true, false, IfOk};
+ghost use Rattle.std.specs.Prelude.{◌≡◌, ◌≢◌, ◌*◌, ◌/◌, min, true, false, IfOk, IfSome, OnOk};
+ghost use Rattle.paraid_base.specs.Told.{HasRisen};
 ghost use Rattle.paraid_imgrack.specs.declared.tail.Tail.TheVariants.{Other};
 ghost use Rattle.paraid_rack.specs.declared.call.Power.TheVariants.{Spinning, Parked, Absent};
 
@@ -271,6 +272,8 @@ impl Image {
         Ok(())
     }
 
+    /// The image is newer than each that has a label, also than the one that it replaces. The others
+    /// know it from the next sync on.
     pub(crate) fn attach<F: Files<File = File>>(
         &mut self,
         files: &F,
@@ -278,9 +281,13 @@ impl Image {
         disk: DiskNo,
         size: u32,
     ) -> Result<(), Failed>
-        ensures { Becomes (image_slot self.old) (image_slot self.new)
+        ensures slot { Becomes (image_slot self.old) (image_slot self.new)
             (record (image_slot self.old) { power = Spinning; size = size; unsynced = false })
             (image_slot self.old).unsynced (is_ok result) }
+        ensures newer { OnOk result (IfSome identity.old (λ old. IfSome identity.new
+            (λ new. HasRisen old.generation new.generation))) }
+        ensures again { OnOk result (IfSome identity.old (λ old. IfSome identity.new
+            (λ new. new.is_new ≡ true))) }
     {
         self.file = None; // and its lock
         match make_image(files, &self.names, size) {
@@ -288,10 +295,11 @@ impl Image {
             Err(_) => return Err(self.fail(files)),
         }
         self.tail = Tail::Room;
-        if let Some(identity) = identity
-            && !mark_image(&self.file, size, &Tail::Room, identity, disk)
-        {
-            return Err(self.fail(files));
+        if let Some(identity) = identity {
+            identity.renew();
+            if !mark_image(&self.file, size, &Tail::Room, identity, disk) {
+                return Err(self.fail(files));
+            }
         }
         self.power = Power::Spinning;
         self.size = size;
@@ -455,14 +463,17 @@ fn put_label(file: &Option<File>, size: u32, tail: &Tail, label: &Label) -> io::
     }
 }
 
-/// Gives an image the label of this load, where it can have one; false if its device failed.
+/// Gives an image the label of this generation, where it can have one; false if its device failed.
 fn mark_image(
     file: &Option<File>,
     size: u32,
     tail: &Tail,
     identity: &mut Identity,
     disk: DiskNo,
-) -> bool {
+) -> bool
+    ensures newer { identity.new.generation ≡ identity.old.generation }
+    ensures again { identity.new.is_new ≡ identity.old.is_new }
+{
     if disk >= identity.disks {
         return true;
     }

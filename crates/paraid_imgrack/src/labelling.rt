@@ -1,4 +1,5 @@
-//! The labels of all images: they are read before the first call, and each load gets a new number.
+//! The labels of all images: they are read before the first call, and each load gives them a new
+//! generation, and so does each disk that is attached.
 ghost use Rattle.std.specs.Prelude.{◌≡◌, map};
 ghost use Rattle.paraid_imgrack.specs.Images.{image_slot};
 
@@ -41,7 +42,6 @@ impl<F: Files<File = File> + Drop> ImageRack<F> {
             return true;
         };
         self.identity = Some(identity);
-        self.is_new = true;
         self.fits(&identity, &labels)
     }
 
@@ -58,41 +58,40 @@ impl<F: Files<File = File> + Drop> ImageRack<F> {
     pub fn label_array(&mut self) {
         if let Some(array) = draw(&self.files) {
             self.identity = Some(Identity::new(array, self.count_attached()));
-            self.is_new = true;
-            self.begin_load();
+            self.renew_labels();
         }
     }
 
-    /// Each image that spins gets the number of this load, and once all have it, what is known of
-    /// the others. It is done once.
+    /// Each image that spins gets the new generation, and once all have it, what is known of the
+    /// others. It is done once in a load, and once for each disk that is attached since.
     ///
     /// So no label knows more than what the disks keep, and a stop between two leaves none refused.
-    pub(crate) fn begin_load(&mut self)
-        ensures { map image_slot self.new.images.items ≡ map image_slot self.old.images.items }
-    {
-        if self.is_new {
-            self.is_new = false;
-            self.mark_images();
-            self.end_load();
-        }
-    }
-
-    fn mark_images(&mut self)
+    pub(crate) fn renew_labels(&mut self)
         ensures { map image_slot self.new.images.items ≡ map image_slot self.old.images.items }
     {
         let Some(identity) = self.identity else {
             return;
         };
-        let mut next = identity;
+        if identity.is_new {
+            self.mark_images(&identity);
+            self.end_load();
+        }
+    }
+
+    fn mark_images(&mut self, identity: &Identity)
+        ensures { map image_slot self.new.images.items ≡ map image_slot self.old.images.items }
+    {
+        let mut next = *identity;
+        next.is_new = false;
         for disk in 0..self.images.len() {
-            if self.mark_image(disk, &identity) {
+            if self.mark_image(disk, identity) {
                 next.mark(disk);
             }
         }
         self.identity = Some(next);
     }
 
-    /// Whether the image in a slot of the array has the label of this load from now on.
+    /// Whether the image in a slot of the array has the label of this generation from now on.
     fn mark_image(&mut self, disk: usize, identity: &Identity) -> bool
         ensures { map image_slot self.new.images.items ≡ map image_slot self.old.images.items }
     {

@@ -24,8 +24,6 @@ pub struct ImageRack<F> {
     pub(crate) images: Vec<Image>,
     /// What the labels say, once they were read.
     pub(crate) identity: Option<Identity>,
-    /// The labels do not have the number of this load yet.
-    pub(crate) is_new: bool,
     ghost few: { length images.items ≤ 8 },
 }
 
@@ -54,7 +52,6 @@ impl<F: Files<File = File> + Drop> ImageRack<F> {
             files,
             images,
             identity: None,
-            is_new: false,
         })
     }
 
@@ -135,7 +132,7 @@ impl<F: Files<File = File> + Drop> Rack for ImageRack<F> {
     }
 
     fn sync(&mut self, disk: DiskNo) -> Result<(), Failed> {
-        self.begin_load();
+        self.renew_labels();
         self.images[disk as usize].sync(&self.files)
     }
 

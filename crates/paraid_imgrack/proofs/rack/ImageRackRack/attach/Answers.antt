@@ -10,6 +10,6 @@ pub returns : goal.returns
 returns g c = record {
   slots = length-set _ _ _;
   slot = touched_at c.args.self.now.images.items c.args.disk c.index_mut.result.now _
-      (λ (s : Slot). record s { power = Spinning; size = c.args.size; unsynced = false }) (λ (s : Slot). s.unsynced) _ c.requires.exists c.index_mut.ensures.value c.attach.ensures;
+      (λ (s : Slot). record s { power = Spinning; size = c.args.size; unsynced = false }) (λ (s : Slot). s.unsynced) _ c.requires.exists c.index_mut.ensures.value c.attach.ensures.slot;
   told = λ t e. nothing_told t e;
 }
