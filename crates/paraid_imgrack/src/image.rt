@@ -53,6 +53,8 @@ pub(crate) struct Image {
     tail: Tail,
     /// Why the disk was not spun up.
     pub(crate) misfit: Option<Misfit>,
+    /// The error of the first call that failed.
+    pub(crate) cause: Option<io::Error>,
     /// The disk was attached since the load.
     pub(crate) attached: bool,
     // What a read is given, before it is a block.
@@ -93,6 +95,7 @@ impl Image {
                 hindrance: None,
                 tail: Tail::Other,
                 misfit: None,
+                cause: None,
                 attached: false,
                 buffer: [0; BLOCK_SIZE],
             }),
@@ -115,6 +118,7 @@ impl Image {
             hindrance,
             tail: Tail::Other,
             misfit: None,
+            cause: None,
             attached: false,
             buffer: [0; BLOCK_SIZE],
         }
@@ -141,7 +145,8 @@ impl Image {
         }
         match put_label(&self.file, self.size, &self.tail, label) {
             Ok(given) => given,
-            Err(_) => {
+            Err(error) => {
+                self.cause = self.cause.or(Some(error));
                 self.file = None;
                 false
             }
@@ -191,7 +196,7 @@ impl Image {
     {
         match read_block(&self.file, place, &mut self.buffer, into) {
             Ok(()) => Ok(()),
-            Err(_) => Err(self.fail(files)),
+            Err(error) => Err(self.fail_by(files, error)),
         }
     }
 
@@ -209,7 +214,7 @@ impl Image {
         self.unsynced = true;
         match write_bytes(&self.file, first, bytes) {
             Ok(()) => Ok(()),
-            Err(_) => Err(self.fail(files)),
+            Err(error) => Err(self.fail_by(files, error)),
         }
     }
 
@@ -220,7 +225,7 @@ impl Image {
     {
         match sync_blocks(&self.file) {
             Ok(()) => self.unsynced = false,
-            Err(_) => return Err(self.fail(files)),
+            Err(error) => return Err(self.fail_by(files, error)),
         }
         Ok(())
     }
@@ -249,10 +254,11 @@ impl Image {
         if let Some(identity) = identity {
             self.tail = tail_of(&self.file, self.size);
             self.misfit = identity.late_misfit_of(&label_in(&self.tail), disk);
-            if self.misfit.is_some()
-                || !mark_image(&self.file, self.size, &self.tail, identity, disk)
-            {
+            if self.misfit.is_some() {
                 return Err(self.fail(files));
+            }
+            if let Err(error) = mark_image(&self.file, self.size, &self.tail, identity, disk) {
+                return Err(self.fail_by(files, error));
             }
         }
         self.switch(files, Power::Spinning)
@@ -267,7 +273,7 @@ impl Image {
     {
         match self.names.store(files, power) {
             Ok(()) => self.power = power,
-            Err(_) => return Err(self.fail(files)),
+            Err(error) => return Err(self.fail_by(files, error)),
         }
         Ok(())
     }
@@ -292,13 +298,13 @@ impl Image {
         self.file = None; // and its lock
         match make_image(files, &self.names, size) {
             Ok(file) => self.file = Some(file),
-            Err(_) => return Err(self.fail(files)),
+            Err(error) => return Err(self.fail_by(files, error)),
         }
         self.tail = Tail::Room;
         if let Some(identity) = identity {
             identity.renew();
-            if !mark_image(&self.file, size, &Tail::Room, identity, disk) {
-                return Err(self.fail(files));
+            if let Err(error) = mark_image(&self.file, size, &Tail::Room, identity, disk) {
+                return Err(self.fail_by(files, error));
             }
         }
         self.power = Power::Spinning;
@@ -306,6 +312,14 @@ impl Image {
         self.unsynced = false;
         self.attached = true;
         Ok(())
+    }
+
+    /// There is no disk from now on, and why is kept, unless a call has failed before.
+    fn fail_by<F: Files<File = File>>(&mut self, files: &F, error: io::Error) -> Failed
+        ensures { IsFailedSlot (image_slot self.old) (image_slot self.new) }
+    {
+        self.cause = self.cause.or(Some(error));
+        self.fail(files)
     }
 
     /// There is no disk from now on, and one more fault.
@@ -463,26 +477,21 @@ fn put_label(file: &Option<File>, size: u32, tail: &Tail, label: &Label) -> io::
     }
 }
 
-/// Gives an image the label of this generation, where it can have one; false if its device failed.
+/// Gives an image the label of this generation, where it can have one. Its error is one of the device.
 fn mark_image(
     file: &Option<File>,
     size: u32,
     tail: &Tail,
     identity: &mut Identity,
     disk: DiskNo,
-) -> bool
+) -> io::Result<()>
     ensures newer { identity.new.generation ≡ identity.old.generation }
     ensures again { identity.new.is_new ≡ identity.old.is_new }
 {
-    if disk >= identity.disks {
-        return true;
+    if disk < identity.disks && put_label(file, size, tail, &identity.label(disk))? {
+        identity.mark(disk as usize);
     }
-    match put_label(file, size, tail, &identity.label(disk)) {
-        Ok(true) => identity.mark(disk as usize),
-        Ok(false) => (),
-        Err(_) => return false,
-    }
-    true
+    Ok(())
 }
 
 /// With this a meta begins.

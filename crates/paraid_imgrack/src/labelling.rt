@@ -9,7 +9,7 @@ use crate::rack::ImageRack;
 use paraid_base::DiskNo;
 use paraid_rack::Power;
 use std::fs::{self, File, Files};
-use std::io::Read;
+use std::io::{self, Read};
 
 /// Sixteen bytes that nobody has drawn before.
 fn draw<F: Files<File = File>>(files: &F) -> Option<[u8; 16]> {
@@ -54,6 +54,15 @@ impl<F: Files<File = File> + Drop> ImageRack<F> {
         }
     }
 
+    /// Why the first call on a disk failed that did, as the system tells it.
+    pub fn cause(&self, disk: DiskNo) -> Option<io::Error> {
+        if (disk as usize) < self.images.len() {
+            self.images[disk as usize].cause
+        } else {
+            None
+        }
+    }
+
     /// Gives the images that were attached since the load the labels of a new array.
     pub fn label_array(&mut self) {
         if let Some(array) = draw(&self.files) {
@@ -69,22 +78,29 @@ impl<F: Files<File = File> + Drop> ImageRack<F> {
     pub(crate) fn renew_labels(&mut self)
         ensures { map image_slot self.new.images.items ≡ map image_slot self.old.images.items }
     {
-        let Some(identity) = self.identity else {
-            return;
-        };
-        if identity.is_new {
-            self.mark_images(&identity);
+        if self.are_labels_due() {
+            self.mark_images();
             self.end_load();
         }
     }
 
-    fn mark_images(&mut self, identity: &Identity)
+    fn are_labels_due(&self) -> bool {
+        match &self.identity {
+            Some(identity) => identity.is_new,
+            None => false,
+        }
+    }
+
+    fn mark_images(&mut self)
         ensures { map image_slot self.new.images.items ≡ map image_slot self.old.images.items }
     {
-        let mut next = *identity;
+        let Some(identity) = self.identity else {
+            return;
+        };
+        let mut next = identity;
         next.is_new = false;
         for disk in 0..self.images.len() {
-            if self.mark_image(disk, identity) {
+            if self.mark_image(disk, &identity) {
                 next.mark(disk);
             }
         }
