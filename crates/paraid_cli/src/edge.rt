@@ -142,6 +142,7 @@ fn work_there<H: Host>(rt: &H, words: &Vec<String>, command: &Command) -> u8 {
         _ => rack.end_load(),
     }
     let _ = tell_misfits(rt, &rack);
+    tell_causes(rt, &rack);
     status
 }
 
@@ -211,6 +212,15 @@ fn tell_misfits<H: Host>(rt: &H, rack: &ImageRack<&H>) -> Option<u8> {
         }
     }
     first
+}
+
+/// Tells why disks have failed.
+fn tell_causes<H: Host>(rt: &H, rack: &ImageRack<&H>) {
+    for disk in 0..SLOTS {
+        if let Some(cause) = rack.cause(disk) {
+            let _ = eprintln!(rt; "paraid: disk-{disk}.img failed: {cause}");
+        }
+    }
 }
 
 /// The last line of a command that is refused for an image.
