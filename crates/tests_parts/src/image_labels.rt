@@ -54,20 +54,22 @@ enum Deed {
     Load,
     /// One works with them, and parks disk 2.
     Park,
+    /// One attaches disk 1 anew. A copy of it is made before, after the labels were written.
+    Replace,
     /// The label of disk 2 gets the number of another array.
     Rename,
     /// The label of disk 0 is cut away.
     Strip,
 }
 
-use Deed::{Copy, Load, Look, Park, Rename, Restore, Strip, Swap};
+use Deed::{Copy, Load, Look, Park, Rename, Replace, Restore, Strip, Swap};
 
 /// A deed, and why each image then does not belong into its slot.
 type Row = (Deed, [Option<Misfit>; 3]);
 
 const FIT: [Option<Misfit>; 3] = [None, None, None];
 
-const ROWS: [Row; 13] = [
+const ROWS: [Row; 16] = [
     (Look, FIT),
     (
         Swap,
@@ -90,6 +92,19 @@ const ROWS: [Row; 13] = [
             Some(Misfit::Old {
                 generation: 1,
                 known: 2,
+            }),
+            None,
+        ],
+    ),
+    (Restore, FIT),
+    (Replace, FIT),
+    (
+        Restore,
+        [
+            None,
+            Some(Misfit::Old {
+                generation: 3,
+                known: 4,
             }),
             None,
         ],
@@ -128,18 +143,30 @@ fn loaded<H: Files<File = File> + AllocGlobal + Abort>(host: &H) -> ImageRack<&H
         .expect(host, "there is memory")
 }
 
+fn sync_all<H: Files<File = File> + AllocGlobal + Abort>(rack: &mut ImageRack<&H>) -> bool {
+    let mut done = true;
+    for disk in 0..3 {
+        done = done && make(rack, disk, Step::Sync) == DONE;
+    }
+    done
+}
+
 /// One command works with the disks, and parks disk 2 where that is asked.
 fn work<H: Files<File = File> + AllocGlobal + Abort>(host: &H, parks: bool) -> bool {
     let mut rack = loaded(host);
-    let fits = rack.has_fitting_images();
-    let mut done = true;
-    for disk in 0..3 {
-        done = done && make(&mut rack, disk, Step::Sync) == DONE;
-    }
-    if parks {
-        done = done && make(&mut rack, 2, Step::Park) == DONE;
-    }
-    fits && done
+    rack.has_fitting_images()
+        && sync_all::<H>(&mut rack)
+        && (!parks || make(&mut rack, 2, Step::Park) == DONE)
+}
+
+/// One command works with the disks, and attaches disk 1 anew, of which a copy is made before.
+fn replace<H: Files<File = File> + AllocGlobal + Abort>(host: &H) -> bool {
+    let mut rack = loaded(host);
+    rack.has_fitting_images()
+        && sync_all::<H>(&mut rack)
+        && copy(host)
+        && make(&mut rack, 1, Step::Attach(4)) == DONE
+        && sync_all::<H>(&mut rack)
 }
 
 /// The image of disk 2 gets the label of another array.
@@ -179,6 +206,7 @@ fn act<H: Files<File = File> + AllocGlobal + Abort>(host: &H, deed: Deed) -> boo
         Restore => swap(host, image(1), SPARE),
         Load => work(host, false),
         Park => work(host, true),
+        Replace => replace(host),
         Rename => relabel(host),
         Strip => strip(host),
     }
