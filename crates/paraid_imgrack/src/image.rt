@@ -432,18 +432,21 @@ fn read_block(
     Ok(())
 }
 
+// The `?` here and below moves an error where there is one, and nothing where there is none.
 fn write_bytes(file: &Option<File>, first: Place, bytes: &[u8]) -> io::Result<()> {
     let Some(file) = file else {
         return Err(not_open());
     };
-    file.write_all_at(bytes, offset(first))
+    file.write_all_at(bytes, offset(first))?;
+    Ok(())
 }
 
 fn sync_blocks(file: &Option<File>) -> io::Result<()> {
-    match file {
-        Some(file) => file.sync_data(),
-        None => Err(not_open()),
-    }
+    let Some(file) = file else {
+        return Err(not_open());
+    };
+    file.sync_data()?;
+    Ok(())
 }
 
 fn tail_of(file: &Option<File>, size: u32) -> Tail {
