@@ -90,6 +90,28 @@ Repeats-period block p low high h = record { each = each }
     each : (k : ℕ) → k < 512 → slice_index block.bytes k ≡ slice_index (take p block.bytes) (k % length (take p block.bytes))
     each k lt = rw front (place k lt ∙ sym (get_or-take p block.bytes (k % p) 0 (mod_below k p low)))
 
+-- 1 is a period where all bytes are the first one, and only there
+pub one_byte_tested : (bytes : List ℕ) (test : Bool) → length bytes ≡ 512 → (test ≡ true → (k : ℕ) → k < 512 → get_or bytes k 0 ≡ get_or bytes 0 0)
+    → (((k : ℕ) → k < 512 → get_or bytes k 0 ≡ get_or bytes 0 0) → test ≡ true) → test ≡ is_period bytes 1
+one_byte_tested bytes test size same one = elim (cases_Bool (is_period bytes 1)) [
+  | inl yes' ↦ one (λ k lt. reduced bytes 1 (suc k) k (omega arith) yes' (omega arith) lt ∙ ap (λ i. get_or bytes i 0) (omega arith)) ∙ sym yes'
+  | inr no' ↦ elim (cases_Bool test) [
+    | inl passes ↦ absurd (both_ways _ no' (period (same passes)))
+    | inr fails ↦ fails ∙ sym no'
+  ]
+]
+  where
+    front : length (take (512 - 1) bytes) ≡ 512 - 1
+    front = length-take-le (512 - 1) bytes (omega (arith, size))
+
+    each : ((k : ℕ) → k < 512 → get_or bytes k 0 ≡ get_or bytes 0 0) → (k : ℕ) → k < length (take (512 - 1) bytes) → get_or (drop 1 bytes) k 0 ≡ get_or (take (512 - 1) bytes) k 0
+    each all k lt =
+        let below : k < 512 - 1 = omega (arith, lt, front) in
+        get_or-drop 1 bytes k 0 ∙ all (1 + k) (omega arith) ∙ sym (all k (omega arith)) ∙ sym (get_or-take (512 - 1) bytes k 0 below)
+
+    period : ((k : ℕ) → k < 512 → get_or bytes k 0 ≡ get_or bytes 0 0) → is_period bytes 1 ≡ true
+    period all = (bytes_eq-Decides (drop 1 bytes) (take (512 - 1) bytes)).1 (same_list _ _ (omega (arith, size, front, length-drop 1 bytes)) (each all))
+
 -- the length of a list that repeats to the block is a period
 pub period-from_Repeats : (block : Block) (other : List ℕ) → 0 < length other → length other ≤ 512 → Repeats other block → is_period block.bytes (length other) ≡ true
 period-from_Repeats block other some high h =

@@ -1,5 +1,6 @@
 -- Blocks that repeat a list of bytes
-use Rattle.std.proofs.Common.{◌≡◌, ℕ, zero, suc, ◌%◌, ◌<◌, List, [], ◌∷◌, length, get_or, refl, sym, ◌∙◌, arith}
+use Rattle.std.proofs.Common.{◌≡◌, ℕ, zero, suc, ◌%◌, ◌<◌, List, [], ◌∷◌, length, get_or, replicate, refl, sym, ap, ◌∙◌, arith}
+use Rattle.std.proofs.lemmas.List.{get_or-replicate}
 use Rattle.std.specs.Prelude.{slice_index}
 use Rattle.paraid_base.specs.declared.block.Block.{Block}
 use Rattle.paraid_base.proofs.XorLemmas.{same_block}
@@ -51,3 +52,18 @@ repeating_block-bytes pattern bytes whole h =
     same_list bytes (list_upto (byte_of pattern) 512) (whole ∙ sym (length-listed (byte_of pattern) 512)) (λ k lt.
     let below : k < 512 = omega (arith, length-listed (byte_of pattern) 512) in
     h k below ∙ sym (get_or-listed (byte_of pattern) 512 k below))
+
+-- a block of one byte is the repetition of that byte
+pub one_byte_repeats : (pattern : List ℕ) (block : Block) → length pattern ≡ 1 → block.bytes ≡ replicate 512 (get_or pattern 0 0) → block ≡ repeating_block pattern
+one_byte_repeats pattern block size is = repeating_block-from_places pattern block (λ k lt.
+    let here = ap (λ (l : List ℕ). get_or l k 0) is ∙ get_or-replicate 512 k (get_or pattern 0 0) 0 lt in
+    let near : k % length pattern ≡ 0 = ap (λ n. k % n) size ∙ omega arith in
+    let there = ap (λ i. get_or pattern i 0) near in
+    let small = block.small k in
+    omega (arith, here, there, small))
+
+-- a byte, repeated, is a list of bytes
+pub replicate_small : (n byte : ℕ) → byte < 256 → (k : ℕ) → slice_index (replicate n byte) k < 256
+replicate_small zero byte small k = omega arith
+replicate_small (suc n) byte small zero = small
+replicate_small (suc n) byte small (suc k) = replicate_small n byte small k

@@ -1,4 +1,4 @@
-ghost use Rattle.std.specs.Prelude.{◌≡◌, ◌/◌, ◌*◌, ◌<◌, ◌≤◌, length, take, Ok, None, IsErr, unwrap_or};
+ghost use Rattle.std.specs.Prelude.{◌≡◌, ◌/◌, ◌*◌, ◌<◌, ◌≤◌, length, replicate, take, Ok, None, IsErr, unwrap_or};
 ghost use Rattle.hex.specs.Hex.{decode_pairs, hex_digit_value};
 ghost use Rattle.paraid_trace.specs.LineEvents.{block_from_digits};
 ghost use Rattle.paraid_trace.specs.Asked.{if_read};
@@ -11,6 +11,9 @@ use paraid_base::{BLOCK_SIZE, Block};
 pub fn block(digits: &[u8], into: &mut Block) -> bool
     ensures { block_from_digits digits.now ≡ if_read result into.new }
 {
+    if digits.len() == 2 {
+        return one_byte(digits, into);
+    }
     if digits.len() < 2 {
         return false;
     }
@@ -25,6 +28,26 @@ pub fn block(digits: &[u8], into: &mut Block) -> bool
     repeat(&mut bytes, length);
     into.bytes = bytes;
     true
+}
+
+// Reads two digits as the byte that the block repeats.
+fn one_byte(digits: &[u8], into: &mut Block) -> bool
+    requires { length digits.now ≡ 2 }
+    ensures { block_from_digits digits.now ≡ if_read result into.new }
+{
+    let mut pattern = [0; 1];
+    if !decoded(digits, &mut pattern) {
+        return false;
+    }
+    fill(into, pattern[0]);
+    true
+}
+
+// Gives each place of the block this byte.
+fn fill(into: &mut Block, byte: u8)
+    ensures { into.new.bytes ≡ replicate 512 byte }
+{
+    into.bytes = [byte; BLOCK_SIZE];
 }
 
 // Reads the digits as the bytes that the block repeats.

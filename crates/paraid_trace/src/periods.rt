@@ -44,11 +44,27 @@ fn next_place(bytes: &[u8], p: usize) -> usize
     }
 }
 
+// Whether 512 bytes are all the same. It looks at each, so that many are compared at once.
+fn is_one_byte(bytes: &[u8]) -> bool
+    requires { length bytes.now ≡ 512 }
+    ensures { result ≡ is_period_of bytes.now 1 }
+{
+    let first = bytes[0];
+    let mut is_one = true;
+    for at in 0..BLOCK_SIZE {
+        is_one = is_one & (bytes[at] == first);
+    }
+    is_one
+}
+
 // Whether each of 512 bytes, from place `p` on, is the one `p` places before it.
 fn is_period(bytes: &[u8], p: usize) -> bool
     requires size { length bytes.now ≡ 512 }
     requires within { p < 512 }
     ensures { result ≡ is_period_of bytes.now p }
 {
+    if p == 1 {
+        return is_one_byte(bytes);
+    }
     bytes[p..] == bytes[..BLOCK_SIZE - p]
 }
