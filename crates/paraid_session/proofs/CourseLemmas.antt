@@ -43,7 +43,7 @@ use Rattle.paraid_session.specs.Watch.{Down, Each, IsAllowed, HoldsWhileServing,
 use Rattle.paraid_session.proofs.CalmLemmas.{IsCalm, says_meta}
 use Rattle.paraid_session.proofs.PointLemmas.{IsCalmState, IsWhole, calm_mark, calm_more, calm_mounts, calm_state, point}
 use Rattle.paraid_session.proofs.SidesLemmas.{IsInOrder}
-use Rattle.paraid_session.proofs.StageLemmas.{IsLogged, IsNew, all_synced, commit_calls, each0, logged18, new_first, new_last, says_new, stage18, stage_held, t18}
+use Rattle.paraid_session.proofs.StageLemmas.{IsLogged, New, all_synced, commit_calls, committed, each_stage, logged_first, logged_last, new_first, new_last, says_new, stage_held, stage_last, stages}
 use Rattle.paraid_session.proofs.WriteLemmas.{after_write, entry, lossy_entry, lossy_point, lossy_turn, next_mount, next_point, write_turn}
 
 -- the meta of the commit is in range too
@@ -203,28 +203,28 @@ module _ (slots : ℕ) (s : Disks) (m : Meta) (f : IsFormatted slots s m) (small
   module _ (b1 b3 go gc : Block) (meta_is : b1.bytes ≡ meta_bytes (next_meta m)) (list_is : b3.bytes ≡ targets_bytes []) (open_is : is_open go ≡ true) (closed_is : is_open gc ≡ false) where
     -- the disks after the commit
     abbrev pub t : Disks
-    t = t18 slots s m (entry ∷ []) order f b1 b3 go gc meta_is list_is open_is closed_is
+    t = committed slots s m (entry ∷ []) order f b1 b3 go gc meta_is list_is open_is closed_is
 
     logged : IsLogged s t
-    logged = logged18 slots s m (entry ∷ []) order f b1 b3 go gc meta_is list_is open_is closed_is
+    logged = logged_last slots s m (entry ∷ []) order f b1 b3 go gc meta_is list_is open_is closed_is
 
     synced : (d p : ℕ) → t.loose d p ≡ false
     synced = all_synced slots s m (entry ∷ []) order f b1 b3 go gc meta_is list_is open_is closed_is
 
-    new_at : (x : ℕ) → x < 2 → IsNew m t x
+    new_at : (x : ℕ) → x < 2 → New m t x
     new_at x low = elim (cases_eq x 0) [
-      | inl zero_is ↦ subst (IsNew m t) (sym zero_is) (new_first slots s m (entry ∷ []) order f b1 b3 go gc meta_is list_is open_is closed_is)
-      | inr apart ↦ let one_is : 1 ≡ x = omega (arith, low, apart) in subst (IsNew m t) one_is (new_last slots s m (entry ∷ []) order f b1 b3 go gc meta_is list_is open_is closed_is)
+      | inl zero_is ↦ subst (New m t) (sym zero_is) (new_first slots s m (entry ∷ []) order f b1 b3 go gc meta_is list_is open_is closed_is)
+      | inr apart ↦ let one_is : 1 ≡ x = omega (arith, low, apart) in subst (New m t) one_is (new_last slots s m (entry ∷ []) order f b1 b3 go gc meta_is list_is open_is closed_is)
     ]
 
     says_at : (i : Disks) (x : ℕ) → IsImage t i → x < 2 → Says i x (closed_over (next_meta m))
-    says_at i x image low = says_new slots s m (entry ∷ []) order t i x logged image low (new_at x low)
+    says_at i x image low = says_new slots s m (entry ∷ []) order t logged i image x low (new_at x low)
 
     only_new : (i : Disks) (x : ℕ) (z : LogState) → IsImage t i → x < 2 → Says i x z → z ≡ closed_over (next_meta m)
     only_new i x z image low says = Says-same i x z (closed_over (next_meta m)) says (says_at i x image low)
 
     held_zero : IsHeld slots t (entry ∷ []) 0 None
-    held_zero = stage_held slots s m (entry ∷ []) order t (stage18 slots s m (entry ∷ []) order f b1 b3 go gc meta_is list_is open_is closed_is)
+    held_zero = stage_held slots s m (entry ∷ []) order t (stage_last slots s m (entry ∷ []) order f b1 b3 go gc meta_is list_is open_is closed_is)
 
     one_write : (z : LogState) → z ≡ closed_over (next_meta m) → 1 ≤ z.meta.writes
     one_write z is = rw is (omega arith)
@@ -281,7 +281,7 @@ module _ (slots : ℕ) (s : Disks) (m : Meta) (f : IsFormatted slots s m) (small
 
     moments : Each (HoldsWhileServing slots (entry ∷ []) 0 (bounds_of m.setup p Flush)) (IsAllowed m.setup None) (watched (down_from_out (named_out written_state.out))) (commit_calls b1 b3 go gc)
     moments = subst (λ (down : Down). Each (HoldsWhileServing slots (entry ∷ []) 0 (bounds_of m.setup p Flush)) (IsAllowed m.setup None) (watched down) (commit_calls b1 b3 go gc)) (sym nobody_is)
-        (each0 slots s m (entry ∷ []) order f b1 b3 go gc meta_is list_is open_is closed_is f.phase (bounds_of m.setup p Flush) refl (omega arith) (omega (arith, written_calm.ticks)))
+        (each_stage slots s m (entry ∷ []) order f.phase (bounds_of m.setup p Flush) refl (omega arith) (omega (arith, written_calm.ticks)) s (commit_calls b1 b3 go gc) (logged_first slots s m (entry ∷ []) order f b1 b3 go gc meta_is list_is open_is closed_is) (stages slots s m (entry ∷ []) order f b1 b3 go gc meta_is list_is open_is closed_is))
 
     -- The flush keeps the write.
     pub flush_turn : IsTurn slots m.setup p Flush (Flushed 1) (commit_calls b1 b3 go gc) q
