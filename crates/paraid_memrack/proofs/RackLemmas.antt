@@ -86,6 +86,12 @@ unfolding told_by
 told_calls true start calls t is = ap (λ (u : Trail). u.calls) (sym (some_same is))
 told_calls false start calls t is = absurd (none_some is)
 
+-- where the list is whole, it is told
+pub all_told : (tells : Bool) (start : List Start) (calls shown : List Call) → tells ≡ true → shown ≡ calls → (t : Trail) × (told_by tells start calls ≡ Some t) × (t.calls ≡ shown)
+unfolding told_by
+all_told true start calls shown is same = (record { start = map beginning_of start; calls = calls }, refl, sym same)
+all_told false start calls shown is same = absurd (false≢true is)
+
 -- the call is not planned, and is done
 pub not_planned : (r p : Bool) → r ≡ p → r ≡ false → true ≡ not p
 not_planned r p is bad = ap not (sym bad ∙ is)

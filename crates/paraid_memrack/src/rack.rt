@@ -1,4 +1,4 @@
-ghost use Rattle.std.specs.Prelude.{◌≡◌, ◌≢◌, ℕ, ◌<◌, ◌≤◌, ◌^◌, length, true, false, not, Option, Some, [], OnOk, IfOk, is_ok, replicate, map, slice_get, slice_set, IsSome, IsTrue};
+ghost use Rattle.std.specs.Prelude.{◌≡◌, ◌≢◌, ℕ, ◌<◌, ◌≤◌, ◌^◌, length, true, false, not, Option, Some, [], OnOk, IfOk, IfSome, is_ok, replicate, map, slice_get, slice_set, IsSome, IsTrue};
 ghost use Rattle.paraid_rack.specs.Slots.{Slot, ChangesOneSlot, AreSlots, Agrees};
 ghost use Rattle.paraid_rack.specs.declared.call.Power.TheVariants.{Absent};
 ghost use Rattle.paraid_rack.specs.Trail.{Trail, now};
@@ -141,6 +141,18 @@ impl MemRack {
         ensures told { (t : Trail) → told_of self.now ≡ Some t → t.calls ≡ listed_calls self.now }
     {
         self.log.calls.len() as u32
+    }
+
+    /// All calls, while each of them is listed and so told.
+    pub fn told_calls(&self) -> Option<&[Call]>
+        ensures { IfSome result (λ calls. (t : Trail) × (told_of self.now ≡ Some t)
+            × (t.calls ≡ calls.now)) }
+    {
+        if self.log.tells {
+            Some(&self.log.calls)
+        } else {
+            None
+        }
     }
 
     /// A listed call, by its number from 0.
