@@ -16,6 +16,14 @@ module _ {A E : Type 0} where
   if_ok P Q (Ok a) f p = f a p
   if_ok P Q (Err e) f p = tt
 
+  pub if_both : (P Q S : A → Type 0) (r : Result A E) → ((a : A) → P a → Q a → S a) → IfOk r P → IfOk r Q → IfOk r S
+  if_both P Q S (Ok a) f p q = f a p q
+  if_both P Q S (Err e) f p q = tt
+
+  pub if_three : (P Q S T : A → Type 0) (r : Result A E) → ((a : A) → P a → Q a → S a → T a) → IfOk r P → IfOk r Q → IfOk r S → IfOk r T
+  if_three P Q S T (Ok a) f p q s = f a p q s
+  if_three P Q S T (Err e) f p q s = tt
+
   -- what is known of each answer
   pub if_done : (P : Type 0) (Q : A → Type 0) (r : Result A E) → ((a : A) → P → Q a) → OnOk r P → IfOk r Q
   if_done P Q (Ok a) f p = f a p

@@ -4,3 +4,4 @@ pub mod DiskRefusals
 pub mod TickAnswers
 pub mod Turns
 pub mod TickTurns
+pub mod Events

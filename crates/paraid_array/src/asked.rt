@@ -7,10 +7,9 @@ ghost use Rattle.paraid_core.specs.Cores.{core_down, core_rack, meta_of};
 ghost use Rattle.paraid_array.specs.declared.fault.ShiftFault.{ShiftFault as ShiftFaultType};
 ghost use Rattle.paraid_array.specs.declared.asked.Asked.TheVariants.{Refused};
 ghost use Rattle.paraid_array.specs.Refusals.{HasBegunOrLost, HasMarkedDown, HasMarkedUp, IsDownRefused, IsShiftStateOf, IsUpRefused, MayGoDown, MayGoUp};
-ghost use Rattle.paraid_array.specs.Service.{IsOutKnown};
+ghost use Rattle.paraid_array.specs.Service.{IsOutKnown, MakesCalls};
 ghost use Rattle.paraid_array.specs.Turns.{CoreGoesOn, CoreHalts, asked_answer};
 ghost use Rattle.paraid_image.specs.Power.{PowerState};
-ghost use Rattle.paraid_recover.specs.HeldMoments.{Extends};
 ghost use Rattle.paraid_shift.specs.Serving.{IsCoreServing, LeavesArray};
 ghost use Rattle.paraid_txn.specs.Losses.{AreTwoDown};
 
@@ -52,11 +51,9 @@ pub fn down<R: Rack>(core: &mut Core<R>) -> Result<Asked, Two>
     ensures halts { IfErr result (λ two. CoreHalts R.slot_count R.told core.old core.new AskDown two) }
     // With a disk out nothing changes.
     ensures out { (meta_of core.old).out ≢ No → core.new ≡ core.old }
-    ensures slots { R.slot_count (core_rack core.new) ≡ R.slot_count (core_rack core.old) }
-    ensures no_fall { (d : ℕ) → (R.slot (core_rack core.old) d).faults ≤ (R.slot (core_rack core.new) d).faults }
+    ensures calls { MakesCalls R.slot_count R.slot R.told core.old core.new }
     ensures two { IfErr result (AreTwoDown (core_down core.old)
         (R.slot (core_rack core.old)) (R.slot (core_rack core.new))) }
-    ensures told { Extends (R.told (core_rack core.old)) (R.told (core_rack core.new)) }
 {
     if let Err(fault) = gear_below(core.meta()) {
         return Ok(Asked::Refused(fault));
@@ -92,11 +89,9 @@ pub fn up<R: Rack>(core: &mut Core<R>) -> Result<Asked, Two>
     ensures halts { IfErr result (λ two. CoreHalts R.slot_count R.told core.old core.new AskUp two) }
     // With a disk out nothing changes.
     ensures out { (meta_of core.old).out ≢ No → core.new ≡ core.old }
-    ensures slots { R.slot_count (core_rack core.new) ≡ R.slot_count (core_rack core.old) }
-    ensures no_fall { (d : ℕ) → (R.slot (core_rack core.old) d).faults ≤ (R.slot (core_rack core.new) d).faults }
+    ensures calls { MakesCalls R.slot_count R.slot R.told core.old core.new }
     ensures two { IfErr result (AreTwoDown (core_down core.old)
         (R.slot (core_rack core.old)) (R.slot (core_rack core.new))) }
-    ensures told { Extends (R.told (core_rack core.old)) (R.told (core_rack core.new)) }
 {
     if let Err(fault) = gear_above(core.meta()) {
         return Ok(Asked::Refused(fault));

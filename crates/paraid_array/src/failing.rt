@@ -1,19 +1,19 @@
 //! A disk is taken out.
-ghost use Rattle.std.specs.Prelude.{◌≡◌, ℕ, ◌+◌, ◌^◌, ◌<◌, ◌≤◌, ◌⊎◌, [], None, Ok, Some, OnOk, IfErr, IfOk, IfSome};
+ghost use Rattle.std.specs.Prelude.{◌≡◌, ℕ, ◌+◌, ◌^◌, ◌<◌, ◌≤◌, ◌⊎◌, [], None, Ok, Some, OnOk, IfErr, IfOk};
 ghost use Rattle.paraid_base.specs.declared.event.Event.TheVariants.{Fail as FailEvent};
 ghost use Rattle.paraid_base.specs.declared.state.Out.TheVariants.{Gone};
 ghost use Rattle.paraid_base.specs.Log.{worn_at};
-ghost use Rattle.paraid_base.specs.Told.{HasRisen};
 ghost use Rattle.paraid_core.specs.Cores.{batch_of, core_down, core_rack, core_table, meta_of};
 ghost use Rattle.paraid_core.specs.Down.{IsDownAfter};
-ghost use Rattle.paraid_core.specs.Steps.{AreUnsyncedCopied, IsMarkedFrom};
-ghost use Rattle.paraid_array.specs.declared.fault.FailFault.TheVariants.{NoDisk, Out as OutFault};
-ghost use Rattle.paraid_array.specs.DiskRefusals.{HasMarkedTaken, IsFailRefused};
-ghost use Rattle.paraid_array.specs.Service.{IsInService, IsOutKnown};
+ghost use Rattle.paraid_core.specs.Steps.{IsMarkedFrom};
+ghost use Rattle.paraid_array.specs.declared.fault.FailFault.TheVariants.{NoDisk};
+ghost use Rattle.paraid_array.specs.DiskRefusals.{HasMarkedTaken};
+ghost use Rattle.paraid_array.specs.Service.{IsInService, IsOutKnown, MakesCalls};
 ghost use Rattle.paraid_array.specs.Turns.{CanMarkTaken, CoreCommits, CoreCommitsTaken, CoreGoesOn, CoreHalts, CoreLosesCommit, CoreLosesTaken, fail_answer};
 ghost use Rattle.paraid_recover.specs.HeldMoments.{Extends};
-ghost use Rattle.paraid_txn.specs.Losses.{AreTwoDown, AreTwoDownBeside, OnlyLosesSlots};
-ghost use Rattle.paraid_image.specs.Mark.{meta_after_loss};
+ghost use Rattle.paraid_txn.specs.Losses.{AreTwoDownBeside, OnlyLosesSlots};
+ghost use Rattle.paraid_rebuild.specs.Rebuilds.{SparesSlots};
+ghost use Rattle.paraid_array.specs.Events.{CommitsGone, RefusesFail, StaysInService};
 ghost use Rattle.paraid_image.specs.Out.{named_out};
 
 use crate::fault::FailFault;
@@ -26,25 +26,18 @@ use paraid_rack::Rack;
 fn commit_writes<R: Rack>(core: &mut Core<R>) -> Result<(), Two>
     requires service { IsInService R.slot_count R.slot core.old }
     requires epoch { (meta_of core.old).epoch < worn_at }
-    ensures service { OnOk result (IsInService R.slot_count R.slot core.new) }
-    ensures known { OnOk result (IsOutKnown R.slot core.old → IsOutKnown R.slot core.new) }
-    ensures unsynced { OnOk result (AreUnsyncedCopied R.slot core.old → AreUnsyncedCopied R.slot core.new) }
+    ensures stays { OnOk result (StaysInService core.old core.new) }
     ensures nothing { OnOk result (batch_of core.new ≡ []) }
     ensures idle { batch_of core.old ≡ [] → core.new ≡ core.old }
     ensures table { core_table core.new ≡ core_table core.old }
-    ensures slots { R.slot_count (core_rack core.new) ≡ R.slot_count (core_rack core.old) }
-    ensures spared { OnlyLosesSlots (R.slot (core_rack core.old)) (R.slot (core_rack core.new)) }
+    ensures keeps { SparesSlots core.old core.new result }
     ensures down { OnOk result (IsDownAfter (core_down core.old) (core_down core.new)
         (R.slot (core_rack core.old)) (R.slot (core_rack core.new))) }
-    ensures setup { OnOk result ((meta_of core.new).setup ≡ (meta_of core.old).setup) }
     ensures meta { OnOk result (IsMarkedFrom (record (meta_of core.old) { epoch = (meta_of core.new).epoch })
         (meta_of core.new)) }
-    ensures writes { OnOk result ((meta_of core.new).writes ≡ (meta_of core.old).writes) }
     ensures epoch { OnOk result ((meta_of core.new).epoch ≤ (meta_of core.old).epoch + 1) }
     ensures commits { OnOk result (CoreCommits R.slot_count R.told core.old core.new) }
     ensures loses { IfErr result (λ two. CoreLosesCommit R.slot_count R.told core.old core.new two) }
-    ensures two { IfErr result (AreTwoDown (core_down core.old)
-        (R.slot (core_rack core.old)) (R.slot (core_rack core.new))) }
     ensures told { Extends (R.told (core_rack core.old)) (R.told (core_rack core.new)) }
 {
     if core.staged() == 0 {
@@ -60,17 +53,11 @@ fn mark_gone<R: Rack>(core: &mut Core<R>, disk: DiskNo) -> Result<(), Two>
     requires epoch { (meta_of core.old).epoch < 2 ^ 63 }
     requires disk { disk < (meta_of core.old).setup.geometry.disks }
     requires alone { (x : ℕ) → named_out (meta_of core.old).out ≡ Some x → x ≡ disk }
-    ensures service { OnOk result (IsInService R.slot_count R.slot core.new) }
-    ensures setup { OnOk result ((meta_of core.new).setup ≡ (meta_of core.old).setup) }
-    ensures meta { OnOk result (meta_of core.new
-        ≡ record (meta_after_loss (meta_of core.old) disk) { epoch = (meta_of core.new).epoch }) }
-    ensures writes { OnOk result ((meta_of core.new).writes ≡ (meta_of core.old).writes) }
-    ensures unsynced { OnOk result (AreUnsyncedCopied R.slot core.old → AreUnsyncedCopied R.slot core.new) }
+    ensures stays { OnOk result (StaysInService core.old core.new) }
+    ensures taken { OnOk result (CommitsGone core.old core.new disk) }
     ensures known { OnOk result (IsOutKnown R.slot core.new) }
-    ensures gone { OnOk result ((meta_of core.new).out ≡ Gone disk) }
     ensures table { core_table core.new ≡ core_table core.old }
     ensures slots { R.slot_count (core_rack core.new) ≡ R.slot_count (core_rack core.old) }
-    ensures epoch { OnOk result ((meta_of core.new).epoch ≡ (meta_of core.old).epoch + 1) }
     // In an event the mark is one in memory, and is committed.
     ensures marks { CanMarkTaken R.slot_count R.told core.old disk }
     ensures commits { OnOk result (CoreCommitsTaken R.slot_count R.told core.old core.new disk) }
@@ -90,25 +77,13 @@ fn mark_gone<R: Rack>(core: &mut Core<R>, disk: DiskNo) -> Result<(), Two>
 pub fn take_out<R: Rack>(core: &mut Core<R>, disk: DiskNo) -> Result<Option<FailFault>, Two>
     requires service { IsInService R.slot_count R.slot core.old }
     requires epoch { (meta_of core.old).epoch < worn_at }
-    ensures service { OnOk result (IsInService R.slot_count R.slot core.new) }
-    ensures setup { OnOk result ((meta_of core.new).setup ≡ (meta_of core.old).setup) }
+    ensures stays { OnOk result (StaysInService core.old core.new) }
     ensures marks { IfOk result (HasMarkedTaken (meta_of core.old) (meta_of core.new) disk) }
-    ensures writes { OnOk result ((meta_of core.new).writes ≡ (meta_of core.old).writes) }
-    ensures unsynced { OnOk result (AreUnsyncedCopied R.slot core.old → AreUnsyncedCopied R.slot core.new) }
-    ensures known { OnOk result (IsOutKnown R.slot core.old → IsOutKnown R.slot core.new) }
     // Where there is no such disk, or one is out, that is the answer, and nothing has changed.
-    ensures no_disk { (meta_of core.old).setup.geometry.disks ≤ disk
-        → (result ≡ Ok (Some (NoDisk disk))) × (core.new ≡ core.old) }
-    ensures out { (d : ℕ) → disk < (meta_of core.old).setup.geometry.disks
-        → named_out (meta_of core.old).out ≡ Some d → (result ≡ Ok (Some (OutFault d))) × (core.new ≡ core.old) }
-    ensures refused { IfOk result (λ refusal. IfSome refusal
-        (IsFailRefused (meta_of core.old) (meta_of core.new) disk)) }
-    // Where none was out, the other disk that is named has failed in the call.
-    ensures lost { IfOk result (λ refusal. (e : ℕ) → refusal ≡ Some (OutFault e) → named_out (meta_of core.old).out ≡ None
-        → HasRisen (R.slot (core_rack core.old) e).faults (R.slot (core_rack core.new) e).faults) }
+    ensures refuses { RefusesFail core.old core.new disk result }
     ensures taken { result ≡ Ok None → (disk < (meta_of core.old).setup.geometry.disks)
         × (named_out (meta_of core.old).out ≡ None) × ((meta_of core.new).out ≡ Gone disk) }
-    ensures slots { R.slot_count (core_rack core.new) ≡ R.slot_count (core_rack core.old) }
+    ensures calls { MakesCalls R.slot_count R.slot R.told core.old core.new }
     ensures table { core_table core.new ≡ core_table core.old }
     ensures epoch { OnOk result ((meta_of core.new).epoch ≤ (meta_of core.old).epoch + 2) }
     // Where nothing is staged, the mark is the only commit.
@@ -117,11 +92,9 @@ pub fn take_out<R: Rack>(core: &mut Core<R>, disk: DiskNo) -> Result<Option<Fail
     ensures turn { IfOk result (λ refusal. CoreGoesOn R.slot_count R.told core.old core.new
         (FailEvent disk) (fail_answer disk refusal)) }
     ensures halts { IfErr result (λ two. CoreHalts R.slot_count R.told core.old core.new (FailEvent disk) two) }
-    ensures no_fall { (d : ℕ) → (R.slot (core_rack core.old) d).faults ≤ (R.slot (core_rack core.new) d).faults }
     // The first of two disks may be the one that is taken out.
     ensures two { IfErr result (AreTwoDownBeside (λ d. (core_down core.old ≡ Some d) ⊎ (d ≡ disk))
         (R.slot (core_rack core.old)) (R.slot (core_rack core.new))) }
-    ensures told { Extends (R.told (core_rack core.old)) (R.told (core_rack core.new)) }
 {
     if disk >= core.meta().setup.geometry.disks {
         return Ok(Some(FailFault::NoDisk { disk }));

@@ -7,7 +7,6 @@ ghost use Rattle.paraid_base.specs.Log.{worn_at};
 ghost use Rattle.paraid_base.specs.States.{rebuilt_count};
 ghost use Rattle.paraid_base.specs.Told.{HasRisen};
 ghost use Rattle.paraid_core.specs.Cores.{batch_of, core_down, core_rack, core_table, meta_of, store_of};
-ghost use Rattle.paraid_core.specs.Units.{IsRebuilding};
 ghost use Rattle.paraid_array.specs.Service.{IsOutKnown, LeavesInService, MakesCalls};
 ghost use Rattle.paraid_array.specs.TickAnswers.{TellsRebuild, units_unbuilt};
 ghost use Rattle.paraid_array.specs.TickTurns.{CoreComesBack, CoreLosesComing, CoreParksBack};
@@ -21,6 +20,7 @@ ghost use Rattle.paraid_rack.specs.Told.{Ran};
 ghost use Rattle.paraid_record.specs.Range.{rebuild_units as units_of_rebuild};
 ghost use Rattle.paraid_shift.specs.Serving.{IsCoreServing};
 ghost use Rattle.paraid_txn.specs.Losses.{AreTwoDown, IsLostNow};
+ghost use Rattle.paraid_rebuild.specs.Rebuilds.{CanRebuild};
 ghost use Rattle.paraid_txn.specs.Stores.{named_of};
 
 use paraid_base::{DiskNo, TickEvent, Two};
@@ -60,12 +60,9 @@ fn park_back<R: Rack>(core: &mut Core<R>, disk: DiskNo) -> Result<bool, Two>
 
 // Copies the units that are left, and takes the disk into the array again. False where it was lost in that.
 fn come_back<R: Rack>(core: &mut Core<R>, disk: DiskNo) -> Result<bool, Two>
-    requires serving { IsCoreServing R.slot_count R.slot core.old }
+    requires can { CanRebuild core.old disk }
     requires nothing { batch_of core.old ≡ [] }
-    requires fresh { IsRebuilding (meta_of core.old) disk }
     requires disk { disk < (meta_of core.old).setup.geometry.disks }
-    requires named { named_of (store_of core.old) ≡ Some disk }
-    requires spins { (R.slot (core_rack core.old) disk).power ≡ Spinning }
     requires epoch { (meta_of core.old).epoch < 2 ^ 63 }
     ensures serves { OnOk result (LeavesInService R.slot_count R.slot core.old core.new) }
     ensures few { OnOk result ((meta_of core.new).epoch ≤ (meta_of core.old).epoch + 1) }
@@ -92,11 +89,8 @@ fn come_back<R: Rack>(core: &mut Core<R>, disk: DiskNo) -> Result<bool, Two>
 // Commits what is staged, copies the units that are left, and takes the disk into the array again. False where it was lost
 // in that: it is gone, which no commit has brought to the disks yet.
 fn rejoin_disk<R: Rack>(core: &mut Core<R>, disk: DiskNo) -> Result<bool, Two>
-    requires serving { IsCoreServing R.slot_count R.slot core.old }
-    requires fresh { IsRebuilding (meta_of core.old) disk }
+    requires can { CanRebuild core.old disk }
     requires disk { disk < (meta_of core.old).setup.geometry.disks }
-    requires named { named_of (store_of core.old) ≡ Some disk }
-    requires spins { (R.slot (core_rack core.old) disk).power ≡ Spinning }
     requires epoch { (meta_of core.old).epoch + 1 < 2 ^ 63 }
     ensures serves { OnOk result (LeavesInService R.slot_count R.slot core.old core.new) }
     ensures few { OnOk result ((meta_of core.new).epoch ≤ (meta_of core.old).epoch + 2) }
@@ -134,11 +128,8 @@ fn rejoin_disk<R: Rack>(core: &mut Core<R>, disk: DiskNo) -> Result<bool, Two>
 // The last tick of a rebuild: what is staged is committed first. False where the disk was lost in it: that it is gone is
 // committed.
 fn end_rebuild<R: Rack>(core: &mut Core<R>, disk: DiskNo) -> Result<bool, Two>
-    requires serving { IsCoreServing R.slot_count R.slot core.old }
-    requires fresh { IsRebuilding (meta_of core.old) disk }
+    requires can { CanRebuild core.old disk }
     requires disk { disk < (meta_of core.old).setup.geometry.disks }
-    requires named { named_of (store_of core.old) ≡ Some disk }
-    requires spins { (R.slot (core_rack core.old) disk).power ≡ Spinning }
     requires epoch { (meta_of core.old).epoch + 2 < 2 ^ 63 }
     ensures serves { OnOk result (LeavesInService R.slot_count R.slot core.old core.new) }
     ensures back { result ≡ Ok true → (meta_of core.new).out ≡ No }
@@ -170,10 +161,7 @@ fn end_rebuild<R: Rack>(core: &mut Core<R>, disk: DiskNo) -> Result<bool, Two>
 
 // Another tick of it: the units below `end` are moved. False where the disk was lost in that.
 fn move_units<R: Rack>(core: &mut Core<R>, disk: DiskNo, end: u32) -> Result<bool, Two>
-    requires serving { IsCoreServing R.slot_count R.slot core.old }
-    requires fresh { IsRebuilding (meta_of core.old) disk }
-    requires named { named_of (store_of core.old) ≡ Some disk }
-    requires spins { (R.slot (core_rack core.old) disk).power ≡ Spinning }
+    requires can { CanRebuild core.old disk }
     requires from { rebuilt_count (meta_of core.old).out ≤ end }
     requires limit { end ≤ units_of_rebuild (meta_of core.old).setup.geometry (meta_of core.old).gear disk }
     requires epoch { (meta_of core.old).epoch + 2 < 2 ^ 63 }

@@ -1,15 +1,14 @@
 //! When a shift may begin, and those that a tick begins or moves.
-ghost use Rattle.std.specs.Prelude.{◌≡◌, ◌≢◌, ℕ, ◌<◌, ◌≤◌, [], List, Ok, Some, OnOk, IfOk, IfErr, slice_index};
+ghost use Rattle.std.specs.Prelude.{◌≡◌, ◌≢◌, ℕ, ◌<◌, ◌≤◌, List, Ok, Some, OnOk, IfOk, IfErr, slice_index};
 ghost use Rattle.paraid_base.specs.declared.state.Out.TheVariants.{Fresh, Gone, No};
-ghost use Rattle.paraid_base.specs.declared.state.TickEvent.TheVariants.{Gone as GoneInTick, Ration as WornInTick, Rebuilt, Waiting};
+ghost use Rattle.paraid_base.specs.declared.state.TickEvent.TheVariants.{Ration as WornInTick, Waiting};
 ghost use Rattle.paraid_base.specs.Log.{worn_at};
-ghost use Rattle.paraid_base.specs.Told.{HasRisen};
 ghost use Rattle.paraid_base.specs.declared.state.Phase.TheVariants.{Steady};
-ghost use Rattle.paraid_core.specs.Cores.{core_down, core_rack, meta_of, store_of};
+ghost use Rattle.paraid_core.specs.Cores.{core_down, core_rack, meta_of};
 ghost use Rattle.paraid_array.specs.declared.fault.ShiftFault.TheVariants.{Ration as Worn};
 ghost use Rattle.paraid_array.specs.Refusals.{IsDownRefused, IsHinderedBy, IsShiftStateOf, IsUpRefused, MayGoDown, MayGoUp};
-ghost use Rattle.paraid_array.specs.Service.{IsOutKnown, LeavesInService, MakesCalls};
-ghost use Rattle.paraid_array.specs.TickAnswers.{IsIdleTick, MarksMove, TellsDecision, TellsMove, TellsRebuild, TellsRest};
+ghost use Rattle.paraid_array.specs.Service.{LeavesInService, MakesCalls};
+ghost use Rattle.paraid_array.specs.TickAnswers.{IsIdleTick, MarksMove, TellsDecision, TellsMove, TellsRest};
 ghost use Rattle.paraid_array.specs.TickTurns.{AreUnitsOfTick};
 ghost use Rattle.paraid_array.specs.Turns.{CoreTickHalts, CoreTicks};
 ghost use Rattle.paraid_gear.specs.Decision.{decision};
@@ -17,11 +16,10 @@ ghost use Rattle.paraid_gear.specs.ThreeWindows.{HoldLastSamples, lengths_of};
 ghost use Rattle.paraid_gear.specs.declared.windows.Windows.{Windows as WindowsType};
 ghost use Rattle.paraid_image.specs.Power.{PowerState};
 ghost use Rattle.paraid_machine.specs.Moves.{units_by};
-ghost use Rattle.paraid_recover.specs.HeldMoments.{Extends};
 ghost use Rattle.paraid_record.specs.Range.{AreNextGears, IsInRange, allowed_spins};
-ghost use Rattle.paraid_shift.specs.Serving.{IsCoreServing, LeavesArray};
+ghost use Rattle.paraid_shift.specs.Serving.{IsCoreServing};
+ghost use Rattle.paraid_array.specs.Events.{ServesKnown, TicksAtRest, TicksRebuild, TicksShift};
 ghost use Rattle.paraid_txn.specs.Losses.{AreTwoDown};
-ghost use Rattle.paraid_txn.specs.Stores.{named_of};
 
 use crate::fault::ShiftFault;
 use crate::rebuilding::rebuild;
@@ -202,48 +200,23 @@ fn decide<R: Rack>(core: &mut Core<R>, windows: &Windows) -> Result<TickEvent, T
 
 /// What a tick does that has counted itself. With a disk out it waits, or rebuilds it.
 pub fn advance<R: Rack>(core: &mut Core<R>, windows: &Windows) -> Result<(u32, TickEvent), Two>
-    requires serving { IsCoreServing R.slot_count R.slot core.old }
+    requires service { ServesKnown core.old }
     requires epoch { (meta_of core.old).epoch < worn_at }
-    requires known { IsOutKnown R.slot core.old }
     requires lengths { lengths_of windows.now ≡ (meta_of core.old).setup.windows }
-    ensures serving { OnOk result (IsCoreServing R.slot_count R.slot core.new) }
-    ensures leaves { OnOk result (LeavesArray R.slot_count R.slot core.old core.new) }
-    ensures known { OnOk result (IsOutKnown R.slot core.new) }
+    ensures serves { OnOk result (LeavesInService R.slot_count R.slot core.old core.new) }
     // It is a tick of a session, whether it ends or a second disk is lost in it.
     ensures turn { IfOk result (λ done. CoreTicks R.slot_count R.told windows.now core.old core.new
         (record { gear = (meta_of core.new).gear; moved = done.0; event = done.1 })) }
     ensures halts { IfErr result (λ two. CoreTickHalts R.slot_count R.told windows.now core.old core.new two) }
     // With a disk gone it waits, and nothing changes.
     ensures waits { (d : ℕ) → (meta_of core.old).out ≡ Gone d → (result ≡ Ok (0, Waiting)) × (core.new ≡ core.old) }
-    ensures rebuilds { IfOk result (λ done. (d u : ℕ) → (meta_of core.old).out ≡ Fresh d u
-        → TellsRebuild (meta_of core.old) (meta_of core.new) d u done.0 done.1) }
+    ensures rebuilds { IfOk result (λ done. TicksRebuild core.old core.new done.0 done.1) }
     // At rest it begins the shift that the samples ask for, unless a disk is worn.
-    ensures decides { IfOk result (λ done. (meta_of core.old).out ≡ No → (meta_of core.old).phase ≡ Steady
-        → (samples : List ℕ) → HoldLastSamples windows.now samples
-        → (s : PowerState) → IsShiftStateOf (meta_of core.old) s
-        → (done.0 ≡ 0) × TellsDecision (meta_of core.old).setup s (decision (meta_of core.old).setup s.gear samples) done.1) }
-    ensures idle { IfOk result (λ done. (meta_of core.old).out ≡ No → (meta_of core.old).phase ≡ Steady
-        → IsIdleTick done.1 → core.new ≡ core.old) }
-    // What it tells whatever the samples are.
-    ensures rests { IfOk result (λ done. (meta_of core.old).out ≡ No → (meta_of core.old).phase ≡ Steady
-        → (done.0 ≡ 0) × TellsRest (meta_of core.old) (meta_of core.new) done.1) }
-    ensures moves { IfOk result (λ done. (meta_of core.old).out ≡ No → (meta_of core.old).phase ≢ Steady
-        → TellsMove (meta_of core.new) done.1) }
-    ensures marks { IfOk result (λ done. (meta_of core.old).out ≡ No → (meta_of core.old).phase ≢ Steady
-        → MarksMove (meta_of core.old) (meta_of core.new) done.1) }
-    // Of a disk that is out: one that is told as rebuilt is back, and one that is told as gone has failed in the tick and is
-    // named out by its last commit.
-    ensures back { IfOk result (λ done. (d u : ℕ) → (meta_of core.old).out ≡ Fresh d u → done.1 ≡ Rebuilt d
-        → (meta_of core.new).out ≡ No) }
-    ensures failed { IfOk result (λ done. (d u : ℕ) → (meta_of core.old).out ≡ Fresh d u → done.1 ≡ GoneInTick d
-        → HasRisen (R.slot (core_rack core.old) d).faults (R.slot (core_rack core.new) d).faults) }
-    ensures committed { IfOk result (λ done. (d u : ℕ) → (meta_of core.old).out ≡ Fresh d u → done.1 ≡ GoneInTick d
-        → named_of (store_of core.new) ≡ Some d) }
-    ensures slots { R.slot_count (core_rack core.new) ≡ R.slot_count (core_rack core.old) }
-    ensures no_fall { (d : ℕ) → (R.slot (core_rack core.old) d).faults ≤ (R.slot (core_rack core.new) d).faults }
+    ensures decides { IfOk result (λ done. TicksAtRest windows.now core.old core.new done.0 done.1) }
+    ensures moves { IfOk result (λ done. TicksShift core.old core.new done.1) }
+    ensures calls { MakesCalls R.slot_count R.slot R.told core.old core.new }
     ensures two { IfErr result (AreTwoDown (core_down core.old)
         (R.slot (core_rack core.old)) (R.slot (core_rack core.new))) }
-    ensures told { Extends (R.told (core_rack core.old)) (R.told (core_rack core.new)) }
 {
     match core.out() {
         Out::Gone { .. } => return Ok((0, TickEvent::Waiting)),

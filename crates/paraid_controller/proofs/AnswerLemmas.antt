@@ -2,14 +2,11 @@
 use Rattle.std.proofs.Common.{◌≡◌, ℕ, true, Option, Some, None, refl, arith}
 use Rattle.std.specs.Prelude.{◌==◌, IfSome}
 use Rattle.std.proofs.lemmas.Bool.Decides.{nat_tests}
-use Rattle.paraid_base.specs.declared.event.Event.TheVariants.{Fail, Replace}
 use Rattle.paraid_image.specs.Power.{PowerState}
 use Rattle.paraid_machine.specs.Energy.{energy_of}
 use Rattle.paraid_record.specs.declared.meta.Meta.{Meta}
 use Rattle.paraid_record.specs.declared.meta.Setup.{Setup}
-use Rattle.paraid_serve.specs.Form.{is_answer_to}
 use Rattle.paraid_session.specs.Turn.{halt_told}
-use Rattle.paraid_trace.specs.Replies.{HasFewDisks}
 use Rattle.paraid_array.specs.declared.asked.Asked.{Asked}
 use Rattle.paraid_array.specs.declared.asked.Asked.TheVariants.{Begun, Refused}
 use Rattle.paraid_array.specs.declared.fault.FailFault.{FailFault}
@@ -31,20 +28,10 @@ module _ (d : ℕ) (m m_then : Meta) where
   fail_going (Some (FailNoDisk e)) w = refl
   fail_going (Some (FailOut e)) w = refl
 
-  pub fail_kind : (r : Option FailFault) → IfSome r (IsFailRefused m m_then d) → is_answer_to (Fail d) (fail_answer d r) ≡ true
-  fail_kind None w = same_test d d refl
-  fail_kind (Some (FailNoDisk e)) w = same_test e d w.0
-  fail_kind (Some (FailOut e)) w = refl
-
 pub fail_uses : (setup : Setup) (s : PowerState) (d : ℕ) (r : Option FailFault) → energy_of setup s (fail_answer d r) ≡ 0
 fail_uses setup s d None = refl
 fail_uses setup s d (Some (FailNoDisk e)) = refl
 fail_uses setup s d (Some (FailOut e)) = refl
-
-pub fail_few : (d : ℕ) (r : Option FailFault) → HasFewDisks (fail_answer d r)
-fail_few d None = tt
-fail_few d (Some (FailNoDisk e)) = tt
-fail_few d (Some (FailOut e)) = tt
 
 -- one that is replaced
 module _ (d : ℕ) (m : Meta) where
@@ -54,23 +41,11 @@ module _ (d : ℕ) (m : Meta) where
   replace_going (Some (NotOut e)) w = refl
   replace_going (Some (NoFresh e)) w = refl
 
-  pub replace_kind : (r : Option ReplaceFault) → IfSome r (IsReplaceRefused m d) → is_answer_to (Replace d) (replace_answer d r) ≡ true
-  replace_kind None w = same_test d d refl
-  replace_kind (Some (ReplaceNoDisk e)) w = same_test e d w.0
-  replace_kind (Some (NotOut e)) w = same_test e d w.0
-  replace_kind (Some (NoFresh e)) w = same_test e d w.0
-
 pub replace_uses : (setup : Setup) (s : PowerState) (d : ℕ) (r : Option ReplaceFault) → energy_of setup s (replace_answer d r) ≡ 0
 replace_uses setup s d None = refl
 replace_uses setup s d (Some (ReplaceNoDisk e)) = refl
 replace_uses setup s d (Some (NotOut e)) = refl
 replace_uses setup s d (Some (NoFresh e)) = refl
-
-pub replace_few : (d : ℕ) (r : Option ReplaceFault) → HasFewDisks (replace_answer d r)
-replace_few d None = tt
-replace_few d (Some (ReplaceNoDisk e)) = tt
-replace_few d (Some (NotOut e)) = tt
-replace_few d (Some (NoFresh e)) = tt
 
 -- a shift that is asked for
 pub asked_uses : (setup : Setup) (s : PowerState) (gear : ℕ) (x : Asked) → energy_of setup s (asked_answer gear x) ≡ asked_energy setup gear x
@@ -80,11 +55,3 @@ asked_uses setup s gear (Refused Lowest) = refl
 asked_uses setup s gear (Refused (Shifting to)) = refl
 asked_uses setup s gear (Refused (ShiftOut d)) = refl
 asked_uses setup s gear (Refused (Ration d)) = refl
-
-pub asked_few : (gear : ℕ) (x : Asked) → HasFewDisks (asked_answer gear x)
-asked_few gear (Begun to) = tt
-asked_few gear (Refused Top) = tt
-asked_few gear (Refused Lowest) = tt
-asked_few gear (Refused (Shifting to)) = tt
-asked_few gear (Refused (ShiftOut d)) = tt
-asked_few gear (Refused (Ration d)) = tt

@@ -1,62 +1,34 @@
 -- What an array answers to an event.
-use Rattle.std.specs.Prelude.{◌≡◌, ◌≢◌, ℕ, true, false, Option, Some, None, Result, Ok, Err, OnOk, IfErr}
-use Rattle.std.proofs.Common.{refl, sym, subst, ◌∙◌}
-use Rattle.paraid_base.specs.BlockAnswers.{answer_to_flush, flush_halt_of}
+use Rattle.std.specs.Prelude.{◌≡◌, ◌≢◌, ℕ, true, false, Option, Result, Ok, Err, OnOk, IfErr}
+use Rattle.std.proofs.Common.{refl, sym, subst}
 use Rattle.paraid_base.specs.declared.event.Answer.{Answer}
 use Rattle.paraid_base.specs.declared.event.Answer.TheVariants.{Flushed, Halted}
 use Rattle.paraid_base.specs.declared.event.Event.{Event}
-use Rattle.paraid_base.specs.declared.event.Event.TheVariants.{Bad, Down, Energy, Fail, Flush, Read, Replace, State, Tick, Up, Write}
+use Rattle.paraid_base.specs.declared.event.Event.TheVariants.{Bad, Flush}
 use Rattle.paraid_base.specs.declared.fault.Halt.{Halt}
 use Rattle.paraid_base.specs.declared.pairs.Pairs.{Pairs}
 use Rattle.paraid_rack.specs.Slots.{Slot}
 use Rattle.paraid_rack.specs.Trail.{Trail}
-use Rattle.paraid_core.specs.Cores.{core_rack}
 use Rattle.paraid_scrub.specs.declared.kind.CheckReport.{CheckReport}
 use Rattle.paraid_serve.specs.Causes.{HasCause}
-use Rattle.paraid_serve.specs.Form.{is_answer_to}
-use Rattle.paraid_session.specs.Turn.{halt_told, may_halt}
-use Rattle.paraid_session.proofs.FaultLemmas.{same_counts}
+use Rattle.paraid_session.specs.Turn.{may_halt}
 use Rattle.paraid_trace.specs.Asked.{event_with}
 use Rattle.paraid_trace.specs.declared.asked.Asked.{Asked}
-use Rattle.paraid_trace.specs.Replies.{HasFewDisks}
 use Rattle.paraid_array.proofs.ToldLemmas.{extends_none}
 use Rattle.paraid_controller.specs.declared.array.Array.{Array}
-use Rattle.paraid_controller.specs.Arrays.{AnswersEvent, GoesOnByEvent, halt_of_array, shown_of_array, told_of_array}
+use Rattle.paraid_controller.specs.Arrays.{AnswersEvent, GoesOnByEvent, shown_of_array, told_of_array}
 use Rattle.paraid_controller.specs.Checked.{answer_to_check}
-use Rattle.paraid_controller.specs.Lasting.{halt_of_end}
-use Rattle.paraid_controller.proofs.LossLemmas.{going_lost}
-use Rattle.paraid_controller.proofs.StandLemmas.{none_ended}
 
 -- what may halt the array is a line of its own, and may be answered so
 pub may_not_bad : (event : Event) → may_halt event ≡ true → event ≢ Bad
 may_not_bad event asked is = let z : false ≡ true = subst (λ (e : Event). may_halt e ≡ true) is asked in cc
 
-pub halted_kind : (event : Event) (halt : Halt) → may_halt event ≡ true → is_answer_to event (Halted halt) ≡ true
-halted_kind (Read block) halt asked = refl
-halted_kind (Write pairs) halt asked = refl
-halted_kind Flush halt asked = refl
-halted_kind Tick halt asked = refl
-halted_kind Up halt asked = refl
-halted_kind Down halt asked = refl
-halted_kind (Fail disk) halt asked = refl
-halted_kind (Replace disk) halt asked = refl
-halted_kind State halt asked = refl
-halted_kind Energy halt asked = refl
-halted_kind Bad halt asked = let z : false ≡ true = asked in absurd cc
-
 -- with no call, and it serves on
-pub quiet_answers : {R : Type 0} {g : _} (count : R → ℕ) (slot : R → ℕ → Slot) (told : R → Option Trail) (a : Array R g) (event : Event) (answer : Answer) → halt_of_end a.ended ≡ None → GoesOnByEvent count told a a event answer → halt_told answer ≡ None
-    → is_answer_to event answer ≡ true → HasFewDisks answer → HasCause (shown_of_array slot a) event answer (shown_of_array slot a) → AnswersEvent count slot told a a event answer
-quiet_answers count slot told a event answer going turn no_halt kind few cause = record {
+pub quiet_answers : {R : Type 0} {g : _} (count : R → ℕ) (slot : R → ℕ → Slot) (told : R → Option Trail) (a : Array R g) (event : Event) (answer : Answer) → GoesOnByEvent count told a a event answer → HasCause (shown_of_array slot a) event answer (shown_of_array slot a) → AnswersEvent count slot told a a event answer
+quiet_answers count slot told a event answer turn cause = record {
   turn = turn;
   grows = extends_none (told_of_array told a);
   slots = refl;
-  setup = refl;
-  halt = going ∙ sym no_halt;
-  two = going_lost _ event _ _ a.ended (none_ended a.ended going);
-  later = same_counts (slot (core_rack a.core));
-  kind = kind;
-  few = few;
   cause = cause;
 }
 
@@ -64,11 +36,6 @@ quiet_answers count slot told a event answer going turn no_halt kind few cause =
 pub asked_answers : {R : Type 0} {g : _} (count : R → ℕ) (slot : R → ℕ → Slot) (told : R → Option Trail) (a b : Array R g) (x y : Asked) (pairs : Pairs) (answer : Answer) → x ≡ y → AnswersEvent count slot told a b (event_with y pairs) answer
     → AnswersEvent count slot told a b (event_with x pairs) answer
 asked_answers count slot told a b x y pairs answer same it = subst (λ (z : Asked). AnswersEvent count slot told a b (event_with z pairs) answer) (sym same) it
-
--- the halt of a flush
-pub flush_halts : (r : Result ℕ Halt) → halt_told (answer_to_flush r) ≡ flush_halt_of r
-flush_halts (Ok writes) = refl
-flush_halts (Err halt) = refl
 
 -- a check is a flush
 module _ {R : Type 0} {g : _} (count : R → ℕ) (slot : R → ℕ → Slot) (told : R → Option Trail) (a b : Array R g) (writes : ℕ) where
@@ -79,11 +46,3 @@ module _ {R : Type 0} {g : _} (count : R → ℕ) (slot : R → ℕ → Slot) (t
   pub check_ended : (r : Result CheckReport Halt) → AnswersEvent count slot told a b Flush (answer_to_check writes r) → IfErr r (λ halt. GoesOnByEvent count told a b Flush (Halted halt))
   check_ended (Ok report) it = tt
   check_ended (Err halt) it = it.turn
-
-  pub check_going : (r : Result CheckReport Halt) → AnswersEvent count slot told a b Flush (answer_to_check writes r) → OnOk r (halt_of_array b ≡ None)
-  check_going (Ok report) it = it.halt
-  check_going (Err halt) it = tt
-
-  pub check_halt : (r : Result CheckReport Halt) → AnswersEvent count slot told a b Flush (answer_to_check writes r) → IfErr r (λ halt. halt_of_array b ≡ Some halt)
-  check_halt (Ok report) it = tt
-  check_halt (Err halt) it = it.halt

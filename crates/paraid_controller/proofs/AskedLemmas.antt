@@ -11,7 +11,6 @@ use Rattle.paraid_image.specs.Power.{PowerState}
 use Rattle.paraid_machine.specs.Moves.{first_worn}
 use Rattle.paraid_record.specs.declared.meta.Meta.{Meta}
 use Rattle.paraid_record.specs.declared.meta.Setup.{Setup}
-use Rattle.paraid_serve.specs.Form.{is_answer_to}
 use Rattle.paraid_session.specs.Turn.{halt_told}
 use Rattle.paraid_array.specs.declared.asked.Asked.{Asked}
 use Rattle.paraid_array.specs.declared.asked.Asked.TheVariants.{Begun, Refused}
@@ -109,7 +108,7 @@ module _ (m m_then : Meta) (x : Asked) where
     | inr goes ↦ begun_down m_then goes.0 x (begins goes.0 (state_of m) (is_state m) goes.1)
   ]
 
--- no halt is told, and the answer is of its kind
+-- no halt is told
 pub up_going : (gear : ℕ) (x : Asked) → MayTellUp x → halt_told (asked_answer gear x) ≡ None
 up_going gear (Begun to) w = refl
 up_going gear (Refused Top) w = refl
@@ -118,14 +117,6 @@ up_going gear (Refused (Shifting to)) w = refl
 up_going gear (Refused (Out d)) w = refl
 up_going gear (Refused (Ration d)) w = absurd w
 
-pub up_kind : (gear : ℕ) (x : Asked) → MayTellUp x → is_answer_to AskUp (asked_answer gear x) ≡ true
-up_kind gear (Begun to) w = refl
-up_kind gear (Refused Top) w = refl
-up_kind gear (Refused Lowest) w = absurd w
-up_kind gear (Refused (Shifting to)) w = refl
-up_kind gear (Refused (Out d)) w = refl
-up_kind gear (Refused (Ration d)) w = absurd w
-
 pub down_going : (gear : ℕ) (x : Asked) → MayTellDown x → halt_told (asked_answer gear x) ≡ None
 down_going gear (Begun to) w = refl
 down_going gear (Refused Top) w = absurd w
@@ -133,11 +124,3 @@ down_going gear (Refused Lowest) w = refl
 down_going gear (Refused (Shifting to)) w = refl
 down_going gear (Refused (Out d)) w = refl
 down_going gear (Refused (Ration d)) w = refl
-
-pub down_kind : (gear : ℕ) (x : Asked) → MayTellDown x → is_answer_to AskDown (asked_answer gear x) ≡ true
-down_kind gear (Begun to) w = refl
-down_kind gear (Refused Top) w = absurd w
-down_kind gear (Refused Lowest) w = refl
-down_kind gear (Refused (Shifting to)) w = refl
-down_kind gear (Refused (Out d)) w = refl
-down_kind gear (Refused (Ration d)) w = refl

@@ -22,7 +22,8 @@ use Rattle.paraid_base.specs.Told.{HasRisen}
 use Rattle.paraid_base.specs.declared.state.GearReport.{GearReport}
 use Rattle.paraid_base.specs.declared.state.TickEvent.{TickEvent}
 use Rattle.paraid_base.specs.declared.state.TickEvent.TheVariants.{Begun as TickBegun, Flipped, Gone as GoneAgain, Lost, Moving, Ration as TickRation, Rebuilt, Steady as TickSteady, Waiting}
-use Rattle.paraid_array.specs.TickAnswers.{HasTickedDown, HasTickedUp, IsIdleTick, MarksMove, TellsMove, TellsRebuild, TellsRest, units_unbuilt}
+use Rattle.paraid_array.proofs.DecisionLemmas.{decided_down, decided_up}
+use Rattle.paraid_array.specs.TickAnswers.{HasTickedDown, HasTickedUp, IsIdleTick, MarksMove, TellsDecision, TellsMove, TellsRebuild, TellsRest, TellsWorn, units_unbuilt}
 use Rattle.paraid_controller.proofs.CountedLemmas.{with_tick}
 use Rattle.paraid_machine.specs.Energy.{begun_energy, energy_after, tick_energy}
 use Rattle.paraid_image.specs.Out.{is_out, named_out, or_else}
@@ -40,9 +41,12 @@ use Rattle.paraid_image.specs.Mark.{meta_after_loss}
 use Rattle.paraid_moves.specs.MoveMetas.{meta_after_begin}
 use Rattle.paraid_rebuild.specs.Replacing.{IsReplacedFrom}
 use Rattle.paraid_core.specs.declared.staged.Core.{Core}
-use Rattle.paraid_serve.specs.Causes.{Accepts, Begins, Decides, Does, DoesShift, HasCause, HasFailed, IsAsBefore, IsUnchanged, KeepsEnergy, MovesBy, MovesOn, Rebuilds, Replaces, Shown, Takes, TicksBy, down_refusal, meta_marked, missing_answer, quiet_answer, shown_ticked, spins_up, state_shown, up_refusal, wear_shown}
+use Rattle.paraid_serve.specs.Causes.{Accepts, Begins, Counts, Decides, Does, DoesShift, GoesDown, HasCause, HasCounted, HasFailed, IsAsBefore, IsUnchanged, KeepsEnergy, MovesBy, MovesOn, Rebuilds, Replaces, Shown, Takes, TicksBy, UsesOwn, decision_shown, down_refusal, gear_after, meta_marked, missing_answer, quiet_answer, shown_ticked, spins_up, state_shown, up_refusal, wear_shown}
 use Rattle.paraid_serve.specs.Causes.HasReason.{done as reason_done, quiet as reason_quiet, two as reason_two, worn as reason_worn}
 use Rattle.paraid_serve.specs.Lost.{HaltsByTwoLost}
+use Rattle.paraid_serve.proofs.OwedLemmas.{no_halt_done, no_halt_quiet}
+use Rattle.paraid_controller.specs.Laws.{gear_going}
+use Rattle.paraid_controller.specs.declared.ended.Ended.{Ended}
 use Rattle.paraid_array.specs.DiskRefusals.{HasMarkedTaken, IsFailRefused, IsReplaceRefused}
 use Rattle.paraid_array.specs.Refusals.{HasBegunOrLost, HasMarkedDown, HasMarkedUp, IsDownRefused, IsShiftStateOf, IsUpRefused, MayGoDown, MayGoUp, fault_answer}
 use Rattle.paraid_array.specs.Turns.{asked_answer, fail_answer, replace_answer}
@@ -64,7 +68,11 @@ use Rattle.paraid_session.specs.Faults.{HaveNotFallen}
 use Rattle.paraid_session.specs.Turn.{halt_told, may_halt}
 use Rattle.paraid_controller.specs.declared.array.Array.{Array}
 use Rattle.paraid_controller.specs.Arrays.{shown_of_array}
-use Rattle.paraid_controller.specs.Lasting.{halt_of_end}
+use Rattle.paraid_controller.specs.Lasting.{gear_of_end, halt_of_end, samples_held}
+use Rattle.paraid_controller.proofs.SampleLemmas.{next_apart}
+use Rattle.paraid_gear.specs.ThreeWindows.{sample_of}
+use Rattle.paraid_gear.specs.declared.decision.Decision.{Decision}
+use Rattle.paraid_gear.specs.declared.decision.Decision.TheVariants.{Down as DecideDown, Stay, Up as DecideUp}
 
 below_max : (a b : ℕ) → a < worn_at → b < worn_at → max a b < worn_at
 below_max a b x y = grind (arith)
@@ -80,14 +88,20 @@ takes_question x event going not = record { going = going; fit = λ asked. let z
 pub unchanged : (x : Shown) → IsUnchanged x x
 unchanged x = record { meta = refl; dirty = refl; slot = refl; energy = λ fits. refl }
 
+-- the gear that is told where no halt is
+told_gear : (x y : Shown) (answer : Answer) → y.halt ≡ halt_told answer → (y.halt ≡ None → y.gear ≡ y.meta.gear) → halt_told answer ≡ None → y.gear ≡ gear_after (halt_told answer) x y
+told_gear x y answer halt gear none = subst (λ (h : Option Halt). y.gear ≡ gear_after h x y) (sym none) (gear (halt ∙ none))
+
 module _ {R : Type 0} {g : _} (slot : R → ℕ → Slot) (a : Array R g) where
   -- with no call
   pub quiet_cause : (event : Event) (answer : Answer) → halt_of_end a.ended ≡ None → halt_told answer ≡ None → Takes (shown_of_array slot a) event → quiet_answer (shown_of_array slot a) event ≡ Some answer
-      → HasCause (shown_of_array slot a) event answer (shown_of_array slot a)
-  quiet_cause event answer going no_halt takes is = record {
+      → Counts answer (shown_of_array slot a) (shown_of_array slot a) → HasCause (shown_of_array slot a) event answer (shown_of_array slot a)
+  quiet_cause event answer going no_halt takes is counts = record {
     reason = reason_quiet takes is (unchanged (shown_of_array slot a));
     setup = refl;
     halt = λ not. going ∙ sym no_halt;
+    gear = λ not. told_gear (shown_of_array slot a) (shown_of_array slot a) answer (going ∙ sym no_halt) (gear_going a.ended a.core.meta.gear) no_halt;
+    counts = counts;
     later = same_counts (slot (core_rack a.core));
   }
 
@@ -108,16 +122,16 @@ accepted x y count marks writes energy = record {
 
 -- The event was served, or two disks were lost in it.
 module _ (x y : Shown) (event : Event) (takes : Takes x event) (busy : quiet_answer x event ≡ None) (setup : y.setup ≡ x.setup) (later : HaveNotFallen x.slot y.slot) where
-  pub done_cause : (answer : Answer) → y.halt ≡ halt_told answer → Does x event answer y → HasCause x event answer y
-  done_cause answer halt does = record { reason = reason_done takes busy does; setup = setup; halt = λ not. halt; later = later }
+  pub done_cause : (answer : Answer) → y.halt ≡ halt_told answer → (y.halt ≡ None → y.gear ≡ y.meta.gear) → Counts answer x y → Does x event answer y → HasCause x event answer y
+  done_cause answer halt gear counts does = record { reason = reason_done takes busy does; setup = setup; halt = λ not. halt; gear = λ not. told_gear x y answer halt gear (no_halt_done x y event answer does); counts = counts; later = later }
 
-  pub two_cause : (pair : Two) → y.halt ≡ Some (HaltTwo pair) → HaltsByTwoLost (named_out x.meta.out) event x.slot y.slot (Some (HaltTwo pair)) → HasCause x event (Halted (HaltTwo pair)) y
-  two_cause pair halt lost = record { reason = reason_two pair takes busy refl (lost pair refl); setup = setup; halt = λ not. halt; later = later }
+  pub two_cause : may_halt event ≡ true → y.gear ≡ x.gear → UsesOwn event x y → (pair : Two) → y.halt ≡ Some (HaltTwo pair) → HaltsByTwoLost (named_out x.meta.out) event x.slot y.slot (Some (HaltTwo pair)) → HasCause x event (Halted (HaltTwo pair)) y
+  two_cause asked gear used pair halt lost = record { reason = reason_two pair takes asked busy refl (lost pair refl) used; setup = setup; halt = λ not. halt; gear = λ not. gear; counts = tt; later = later }
 
 -- it is worn
-pub worn_cause : (x y : Shown) (event : Event) (count : ℕ) → x.halt ≡ None → may_halt event ≡ true → worn_at ≤ count → count ≡ wear_shown x → IsUnchanged x y → y.setup ≡ x.setup → y.halt ≡ Some (Worn count)
+pub worn_cause : (x y : Shown) (event : Event) (count : ℕ) → x.halt ≡ None → may_halt event ≡ true → worn_at ≤ count → count ≡ wear_shown x → IsUnchanged x y → y.setup ≡ x.setup → y.halt ≡ Some (Worn count) → y.gear ≡ x.gear
     → HaveNotFallen x.slot y.slot → HasCause x event (Halted (Worn count)) y
-worn_cause x y event count going asked many is same setup halt later = record { reason = reason_worn count going asked many is refl same; setup = setup; halt = λ not. halt; later = later }
+worn_cause x y event count going asked many is same setup halt gear later = record { reason = reason_worn count going asked many is refl same; setup = setup; halt = λ not. halt; gear = λ not. gear; counts = tt; later = later }
 
 below_count : (a b : ℕ) → a < b → nat_lt a b ≡ true
 below_count a b l = grind (arith, nat_tests)
@@ -163,13 +177,13 @@ accepts_none x = record {
   energy = λ fits. refl;
 }
 
--- what is seen of an array over this core, with so much energy used
-abbrev pub shown_with : {R : Type 0} {g : _} → (R → ℕ → Slot) → Setup → Core R g → ℕ → Option Halt → Shown
-shown_with slot setup core sum halt = record { setup = setup; meta = core.meta; dirty = is_dirty core.dirty; slot = slot (core_rack core); energy = sum; halt = halt }
+-- what is seen of an array over this core, with so much energy used, with these samples and so many requests
+abbrev pub shown_with : {R : Type 0} {g : _} → (R → ℕ → Slot) → Setup → Core R g → ℕ → List ℕ → ℕ → Option Ended → Shown
+shown_with slot setup core sum samples served ended = record { setup = setup; meta = core.meta; dirty = is_dirty core.dirty; slot = slot (core_rack core); gear = gear_of_end ended core.meta.gear; energy = sum; samples = samples; served = served; halt = halt_of_end ended }
 
 -- with the core as it was nothing has changed
-module _ {R : Type 0} {g : _} (slot : R → ℕ → Slot) (a : Array R g) (new : Core R g) (sum : ℕ) (same : new ≡ a.core) (energy : KeepsEnergy (shown_of_array slot a) (shown_with slot a.setup new sum (halt_of_end a.ended))) where
-  pub unchanged_core : IsUnchanged (shown_of_array slot a) (shown_with slot a.setup new sum (halt_of_end a.ended))
+module _ {R : Type 0} {g : _} (slot : R → ℕ → Slot) (a : Array R g) (new : Core R g) (sum : ℕ) (same : new ≡ a.core) (energy : KeepsEnergy (shown_of_array slot a) (shown_with slot a.setup new sum (samples_held a.windows) (sample_of a.served) a.ended)) where
+  pub unchanged_core : IsUnchanged (shown_of_array slot a) (shown_with slot a.setup new sum (samples_held a.windows) (sample_of a.served) a.ended)
   unchanged_core = record {
     meta = ap (λ (c : Core R g). c.meta) same;
     dirty = ap (λ (c : Core R g). is_dirty c.dirty) same;
@@ -178,9 +192,9 @@ module _ {R : Type 0} {g : _} (slot : R → ℕ → Slot) (a : Array R g) (new :
   }
 
 -- nothing was done for the event
-pub still_cause : (x y : Shown) (event : Event) (answer : Answer) → Takes x event → quiet_answer x event ≡ Some answer → IsUnchanged x y → y.setup ≡ x.setup → y.halt ≡ halt_told answer → HaveNotFallen x.slot y.slot
+pub still_cause : (x y : Shown) (event : Event) (answer : Answer) → Takes x event → quiet_answer x event ≡ Some answer → IsUnchanged x y → y.setup ≡ x.setup → y.halt ≡ halt_told answer → (y.halt ≡ None → y.gear ≡ y.meta.gear) → Counts answer x y → HaveNotFallen x.slot y.slot
     → HasCause x event answer y
-still_cause x y event answer takes is same setup halt later = record { reason = reason_quiet takes is same; setup = setup; halt = λ not. halt; later = later }
+still_cause x y event answer takes is same setup halt gear counts later = record { reason = reason_quiet takes is same; setup = setup; halt = λ not. halt; gear = λ not. told_gear x y answer halt gear (no_halt_quiet x event answer is); counts = counts; later = later }
 
 -- why the disk that is out, or none, refuses
 no_refusal : (o : Out) → named_out o ≡ None → out_refusal o ≡ None
@@ -216,7 +230,7 @@ module _ {R : Type 0} {g : _} (slot : R → ℕ → Slot) (a : Array R g) (new :
   low : d < a.core.meta.setup.geometry.disks → d < a.setup.geometry.disks
   low under = subst (λ (z : Setup). d < z.geometry.disks) same_setup under
 
-  still : new ≡ a.core → IsUnchanged (shown_of_array slot a) (shown_with slot a.setup new sum (halt_of_end a.ended))
+  still : new ≡ a.core → IsUnchanged (shown_of_array slot a) (shown_with slot a.setup new sum (samples_held a.windows) (sample_of a.served) a.ended)
   still same = unchanged_core slot a new sum same (λ fits. energy)
 
   quietly_past : d < a.setup.geometry.disks → quiet_answer (shown_of_array slot a) (Fail d) ≡ out_refusal a.core.meta.out
@@ -226,18 +240,18 @@ module _ {R : Type 0} {g : _} (slot : R → ℕ → Slot) (a : Array R g) (new :
       → (r ≡ None → (d < a.core.meta.setup.geometry.disks) × (named_out a.core.meta.out ≡ None) × (new.meta.out ≡ Gone d))
       → HasMarkedTaken a.core.meta new.meta d r
       → ((e : ℕ) → r ≡ Some (FailOut e) → named_out a.core.meta.out ≡ None → HasRisen (slot (core_rack a.core) e).faults (slot (core_rack new) e).faults)
-      → HasCause (shown_of_array slot a) (Fail d) (fail_answer d r) (shown_with slot a.setup new sum (halt_of_end a.ended))
+      → HasCause (shown_of_array slot a) (Fail d) (fail_answer d r) (shown_with slot a.setup new sum (samples_held a.windows) (sample_of a.served) a.ended)
   fail_cause None going why taken marks lost =
       let t = taken refl in
-      done_cause (shown_of_array slot a) (shown_with slot a.setup new sum (halt_of_end a.ended)) (Fail d) takes (quietly_past (low t.0) ∙ no_refusal a.core.meta.out t.1) refl later (Failed d) going
+      done_cause (shown_of_array slot a) (shown_with slot a.setup new sum (samples_held a.windows) (sample_of a.served) a.ended) (Fail d) takes (quietly_past (low t.0) ∙ no_refusal a.core.meta.out t.1) refl later (Failed d) going (gear_going a.ended new.meta.gear) (record { samples = refl; served = refl })
       (refl, record { is = marks; energy = λ fits. energy })
   fail_cause (Some (FailNoDisk e)) going why taken marks lost =
-      still_cause (shown_of_array slot a) (shown_with slot a.setup new sum (halt_of_end a.ended)) (Fail d) (NoDisk e) takes
-      (past_disks d a.setup.geometry.disks (out_refusal a.core.meta.out) (Some (NoDisk d)) (high why.1) ∙ ap (λ (z : ℕ). Some (NoDisk z)) (sym why.0)) (still (no_disk why.1)) refl going later
+      still_cause (shown_of_array slot a) (shown_with slot a.setup new sum (samples_held a.windows) (sample_of a.served) a.ended) (Fail d) (NoDisk e) takes
+      (past_disks d a.setup.geometry.disks (out_refusal a.core.meta.out) (Some (NoDisk d)) (high why.1) ∙ ap (λ (z : ℕ). Some (NoDisk z)) (sym why.0)) (still (no_disk why.1)) refl going (gear_going a.ended new.meta.gear) (record { samples = refl; served = refl }) later
   fail_cause (Some (FailOut e)) going why taken marks lost = elim why.1 [
-    | inl was ↦ still_cause (shown_of_array slot a) (shown_with slot a.setup new sum (halt_of_end a.ended)) (Fail d) (IsOut e) takes
-        (quietly_past (low why.0) ∙ out_refuses a.core.meta.out e was) (still (out e why.0 was)) refl going later
-    | inr now ↦ done_cause (shown_of_array slot a) (shown_with slot a.setup new sum (halt_of_end a.ended)) (Fail d) takes (quietly_past (low why.0) ∙ no_refusal a.core.meta.out now.0) refl later (IsOut e) going
+    | inl was ↦ still_cause (shown_of_array slot a) (shown_with slot a.setup new sum (samples_held a.windows) (sample_of a.served) a.ended) (Fail d) (IsOut e) takes
+        (quietly_past (low why.0) ∙ out_refuses a.core.meta.out e was) (still (out e why.0 was)) refl going (gear_going a.ended new.meta.gear) (record { samples = refl; served = refl }) later
+    | inr now ↦ done_cause (shown_of_array slot a) (shown_with slot a.setup new sum (samples_held a.windows) (sample_of a.served) a.ended) (Fail d) takes (quietly_past (low why.0) ∙ no_refusal a.core.meta.out now.0) refl later (IsOut e) going (gear_going a.ended new.meta.gear) (record { samples = refl; served = refl })
         (now.2, record { none = now.0; failed = lost e refl now.0; marks = record { is = lost_meta a.core.meta new.meta marks.0 e now.0 now.1 marks.1.lost marks.1.is; energy = λ fits. energy } })
   ]
 
@@ -249,7 +263,7 @@ module _ {R : Type 0} {g : _} (slot : R → ℕ → Slot) (a : Array R g) (new :
   low_replace : d < a.core.meta.setup.geometry.disks → d < a.setup.geometry.disks
   low_replace under = subst (λ (z : Setup). d < z.geometry.disks) same_setup under
 
-  still_replace : new ≡ a.core → IsUnchanged (shown_of_array slot a) (shown_with slot a.setup new sum (halt_of_end a.ended))
+  still_replace : new ≡ a.core → IsUnchanged (shown_of_array slot a) (shown_with slot a.setup new sum (samples_held a.windows) (sample_of a.served) a.ended)
   still_replace same = unchanged_core slot a new sum same (λ fits. energy)
 
   out_test : (o : Option ℕ) → o ≡ Some d → is_out o d ≡ true
@@ -267,7 +281,7 @@ module _ {R : Type 0} {g : _} (slot : R → ℕ → Slot) (a : Array R g) (new :
   is_busy under is = low_disks d a.setup.geometry.disks (if is_out (named_out a.core.meta.out) d then None else Some (NotOut d)) (Some (NoDisk d)) (low_replace under)
       ∙ ap (λ (t : Bool). if t then None else Some (NotOut d)) (out_test (named_out a.core.meta.out) is)
 
-  replaces : (commits : ℕ) (state : Out) → IsReplacedFrom a.core.meta new.meta d commits state → Replaces (shown_of_array slot a) (shown_with slot a.setup new sum (halt_of_end a.ended)) d state
+  replaces : (commits : ℕ) (state : Out) → IsReplacedFrom a.core.meta new.meta d commits state → Replaces (shown_of_array slot a) (shown_with slot a.setup new sum (samples_held a.windows) (sample_of a.served) a.ended) d state
   replaces commits state it = record {
     writes = writes;
     energy = λ fits. energy;
@@ -279,23 +293,23 @@ module _ {R : Type 0} {g : _} (slot : R → ℕ → Slot) (a : Array R g) (new :
   pub replace_cause : (r : Option ReplaceFault) → halt_of_end a.ended ≡ None → IfSome r (IsReplaceRefused a.core.meta d)
       → (r ≡ None → (d < a.core.meta.setup.geometry.disks) × (named_out a.core.meta.out ≡ Some d) × IsReplacedFrom a.core.meta new.meta d 2 (Fresh d 0))
       → (r ≡ Some (NoFresh d) → HasRisen (slot (core_rack a.core) d).faults (slot (core_rack new) d).faults × (IsReplacedFrom a.core.meta new.meta d 1 (Gone d) ⊎ IsReplacedFrom a.core.meta new.meta d 2 (Gone d)))
-      → HasCause (shown_of_array slot a) (Replace d) (replace_answer d r) (shown_with slot a.setup new sum (halt_of_end a.ended))
+      → HasCause (shown_of_array slot a) (Replace d) (replace_answer d r) (shown_with slot a.setup new sum (samples_held a.windows) (sample_of a.served) a.ended)
   replace_cause None going why there gone =
       let t = there refl in
-      done_cause (shown_of_array slot a) (shown_with slot a.setup new sum (halt_of_end a.ended)) (Replace d) takes (is_busy t.0 t.1) refl later (Replaced d) going
+      done_cause (shown_of_array slot a) (shown_with slot a.setup new sum (samples_held a.windows) (sample_of a.served) a.ended) (Replace d) takes (is_busy t.0 t.1) refl later (Replaced d) going (gear_going a.ended new.meta.gear) (record { samples = refl; served = refl })
       (refl, replaces 2 (Fresh d 0) t.2)
   replace_cause (Some (ReplaceNoDisk e)) going why there gone =
-      still_cause (shown_of_array slot a) (shown_with slot a.setup new sum (halt_of_end a.ended)) (Replace d) (NoDisk e) takes
+      still_cause (shown_of_array slot a) (shown_with slot a.setup new sum (samples_held a.windows) (sample_of a.served) a.ended) (Replace d) (NoDisk e) takes
       (past_disks d a.setup.geometry.disks (if is_out (named_out a.core.meta.out) d then None else Some (NotOut d)) (Some (NoDisk d)) (subst (λ (z : Setup). z.geometry.disks ≤ d) same_setup why.1) ∙ ap (λ (z : ℕ). Some (NoDisk z)) (sym why.0))
-      (still_replace (no_disk why.1)) refl going later
+      (still_replace (no_disk why.1)) refl going (gear_going a.ended new.meta.gear) (record { samples = refl; served = refl }) later
   replace_cause (Some (ReplaceNotOut e)) going why there gone =
-      still_cause (shown_of_array slot a) (shown_with slot a.setup new sum (halt_of_end a.ended)) (Replace d) (NotOut e) takes
+      still_cause (shown_of_array slot a) (shown_with slot a.setup new sum (samples_held a.windows) (sample_of a.served) a.ended) (Replace d) (NotOut e) takes
       (low_disks d a.setup.geometry.disks (if is_out (named_out a.core.meta.out) d then None else Some (NotOut d)) (Some (NoDisk d)) (low_replace why.1)
       ∙ ap (λ (t : Bool). if t then None else Some (NotOut d)) (in_test (named_out a.core.meta.out) why.2) ∙ ap (λ (z : ℕ). Some (NotOut z)) (sym why.0))
-      (still_replace (in_place why.1 why.2)) refl going later
+      (still_replace (in_place why.1 why.2)) refl going (gear_going a.ended new.meta.gear) (record { samples = refl; served = refl }) later
   replace_cause (Some (NoFresh e)) going why there gone =
       let t = gone (ap (λ (z : ℕ). Some (NoFresh z)) why.0) in
-      done_cause (shown_of_array slot a) (shown_with slot a.setup new sum (halt_of_end a.ended)) (Replace d) takes (is_busy why.1 why.2) refl later (NoFreshAnswer e) going
+      done_cause (shown_of_array slot a) (shown_with slot a.setup new sum (samples_held a.windows) (sample_of a.served) a.ended) (Replace d) takes (is_busy why.1 why.2) refl later (NoFreshAnswer e) going (gear_going a.ended new.meta.gear) (record { samples = refl; served = refl })
       (why.0, t.0, elim t.1 [ inl once ↦ replaces 1 (Gone d) once | inr twice ↦ replaces 2 (Gone d) twice ])
 
 -- why a shift is refused by the machine, and the disks and phases that refuse it
@@ -362,27 +376,39 @@ asked_going : (gear : ℕ) (x : Asked) → halt_told (asked_answer gear x) ≡ N
 asked_going gear (Begun to) = refl
 asked_going gear (Refused f) = fault_going f
 
+-- neither counts a sample or a request
+fault_counts : (f : ShiftFault) (x y : Shown) → HasCounted y x.samples x.served → Counts (fault_answer f) x y
+fault_counts Top x y same = same
+fault_counts Lowest x y same = same
+fault_counts (Shifting to) x y same = same
+fault_counts (ShiftOut d) x y same = same
+fault_counts (Ration d) x y same = same
+
+asked_counts : (gear : ℕ) (asked : Asked) (x y : Shown) → HasCounted y x.samples x.served → Counts (asked_answer gear asked) x y
+asked_counts gear (Begun to) x y same = same
+asked_counts gear (Refused f) x y same = fault_counts f x y same
+
 -- a shift that is asked for, by the clauses of its call
 module _ {R : Type 0} {g : _} (slot : R → ℕ → Slot) (a : Array R g) (new : Core R g) (sum : ℕ) (same_setup : a.core.meta.setup ≡ a.setup) (going : halt_of_end a.ended ≡ None)
     (later : HaveNotFallen (slot (core_rack a.core)) (slot (core_rack new))) (writes : new.meta.writes ≡ a.core.meta.writes) (x : Asked)
     (energy : sum ≡ min (a.energy + asked_energy a.setup a.core.meta.gear x) 18446744073709551615)
     (failed : named_out a.core.meta.out ≡ None → (d : ℕ) → named_out new.meta.out ≡ Some d → HasRisen (slot (core_rack a.core) d).faults (slot (core_rack new) d).faults) where
-  uses_nothing : asked_energy a.setup a.core.meta.gear x ≡ 0 → KeepsEnergy (shown_of_array slot a) (shown_with slot a.setup new sum (halt_of_end a.ended))
+  uses_nothing : asked_energy a.setup a.core.meta.gear x ≡ 0 → KeepsEnergy (shown_of_array slot a) (shown_with slot a.setup new sum (samples_held a.windows) (sample_of a.served) a.ended)
   uses_nothing none fits = energy ∙ ap (λ (n : ℕ). min (a.energy + n) 18446744073709551615) none ∙ sym (by a.energy fits)
     where
       by : (n : ℕ) → n ≤ 18446744073709551615 → n ≡ min (n + 0) 18446744073709551615
       by n l = grind (arith)
 
   refused_cause : (event : Event) → Takes (shown_of_array slot a) event → (f : ShiftFault) → x ≡ Refused f → new ≡ a.core → quiet_answer (shown_of_array slot a) event ≡ Some (fault_answer f)
-      → HasCause (shown_of_array slot a) event (asked_answer a.core.meta.gear x) (shown_with slot a.setup new sum (halt_of_end a.ended))
+      → HasCause (shown_of_array slot a) event (asked_answer a.core.meta.gear x) (shown_with slot a.setup new sum (samples_held a.windows) (sample_of a.served) a.ended)
   refused_cause event takes f is same quiet =
-      subst (λ (z : Answer). HasCause (shown_of_array slot a) event z (shown_with slot a.setup new sum (halt_of_end a.ended))) (sym (ap (asked_answer a.core.meta.gear) is))
-      (still_cause (shown_of_array slot a) (shown_with slot a.setup new sum (halt_of_end a.ended)) event (fault_answer f) takes quiet (unchanged_core slot a new sum same (uses_nothing (ap (asked_energy a.setup a.core.meta.gear) is))) refl (going ∙ sym (fault_going f)) later)
+      subst (λ (z : Answer). HasCause (shown_of_array slot a) event z (shown_with slot a.setup new sum (samples_held a.windows) (sample_of a.served) a.ended)) (sym (ap (asked_answer a.core.meta.gear) is))
+      (still_cause (shown_of_array slot a) (shown_with slot a.setup new sum (samples_held a.windows) (sample_of a.served) a.ended) event (fault_answer f) takes quiet (unchanged_core slot a new sum same (uses_nothing (ap (asked_energy a.setup a.core.meta.gear) is))) refl (going ∙ sym (fault_going f)) (gear_going a.ended new.meta.gear) (fault_counts f (shown_of_array slot a) (shown_with slot a.setup new sum (samples_held a.windows) (sample_of a.served) a.ended) (record { samples = refl; served = refl })) later)
 
   -- what has begun by the meta
   begins_by : (m : Meta) (phase : Phase) (spins : List ℕ) (epoch : ℕ) (raised : ℕ → ℕ) → IsMarkedFrom (record (meta_after_begin m phase spins) { epoch = epoch }) new.meta → named_out a.core.meta.out ≡ None
       → (e : ℕ) → m ≡ record a.core.meta { epoch = e } → ((d : ℕ) → slice_index spins d ≡ slice_index a.core.meta.spins d + raised d)
-      → Begins (shown_of_array slot a) (shown_with slot a.setup new sum (halt_of_end a.ended)) phase raised
+      → Begins (shown_of_array slot a) (shown_with slot a.setup new sum (samples_held a.windows) (sample_of a.served) a.ended) phase raised
   begins_by m phase spins epoch raised marked none e same counts = record {
     lost = marked.lost;
     is = begun_meta marked.lost a.core.meta new.meta phase spins epoch (marked.is ∙ ap (λ (z : Meta). meta_with_lost marked.lost (record (meta_after_begin z phase spins) { epoch = epoch })) same);
@@ -392,12 +418,12 @@ module _ {R : Type 0} {g : _} (slot : R → ℕ → Slot) (a : Array R g) (new :
 
   begun_does : (next : Option ℕ) (B : ℕ → Type 0) (to : ℕ) → next ≡ Some to → named_out a.core.meta.out ≡ None → (y : Asked) → x ≡ y → HasBegunOrLost new.meta to y
       → ((t : ℕ) → y ≡ Begun t → B t) → ((f : ShiftFault) → y ≡ Refused f → (e : ℕ) × IsMarkedFrom (record a.core.meta { epoch = e }) new.meta)
-      → DoesShift next B (shown_of_array slot a) (shown_with slot a.setup new sum (halt_of_end a.ended)) (asked_answer a.core.meta.gear y)
+      → DoesShift next B (shown_of_array slot a) (shown_with slot a.setup new sum (samples_held a.windows) (sample_of a.served) a.ended) (asked_answer a.core.meta.gear y)
   begun_does next B to is none (Begun t) same why begun stopped =
       (begun t refl, refl, is ∙ ap (λ (n : ℕ). Some n) (sym why), writes, energy ∙ ap (λ (z : Asked). min (a.energy + asked_energy a.setup a.core.meta.gear z) 18446744073709551615) same)
   begun_does next B to is none (Refused f) same why begun stopped =
       let marked = stopped f refl in
-      subst (λ (z : ShiftFault). DoesShift next B (shown_of_array slot a) (shown_with slot a.setup new sum (halt_of_end a.ended)) (fault_answer z)) (sym why.1)
+      subst (λ (z : ShiftFault). DoesShift next B (shown_of_array slot a) (shown_with slot a.setup new sum (samples_held a.windows) (sample_of a.served) a.ended) (fault_answer z)) (sym why.1)
       (record {
         none = none;
         failed = failed none why.0 why.2;
@@ -407,13 +433,13 @@ module _ {R : Type 0} {g : _} (slot : R → ℕ → Slot) (a : Array R g) (new :
         };
       })
 
-  up_begins : named_out a.core.meta.out ≡ None → HasMarkedUp a.core.meta new.meta x → (t : ℕ) → x ≡ Begun t → Begins (shown_of_array slot a) (shown_with slot a.setup new sum (halt_of_end a.ended)) (UpPhase t) (spins_up a.core.meta.gear t)
+  up_begins : named_out a.core.meta.out ≡ None → HasMarkedUp a.core.meta new.meta x → (t : ℕ) → x ≡ Begun t → Begins (shown_of_array slot a) (shown_with slot a.setup new sum (samples_held a.windows) (sample_of a.served) a.ended) (UpPhase t) (spins_up a.core.meta.gear t)
   up_begins none marks t is =
       let w : HasMarkedUp a.core.meta new.meta (Begun t) = subst (HasMarkedUp a.core.meta new.meta) is marks in
       begins_by (record a.core.meta { epoch = w.0 }) (UpPhase t) w.1.spins (w.0 + 1) (spins_up a.core.meta.gear t) w.1.is none w.0 refl
       (λ d. raised_by a.core.meta.gear t d (slice_index w.1.spins d) (slice_index a.core.meta.spins d) (w.1.raised d) (w.1.others d))
 
-  down_begins : named_out a.core.meta.out ≡ None → HasMarkedDown a.core.meta new.meta x → (t : ℕ) → x ≡ Begun t → Begins (shown_of_array slot a) (shown_with slot a.setup new sum (halt_of_end a.ended)) (DownPhase t) (λ d. 0)
+  down_begins : named_out a.core.meta.out ≡ None → HasMarkedDown a.core.meta new.meta x → (t : ℕ) → x ≡ Begun t → Begins (shown_of_array slot a) (shown_with slot a.setup new sum (samples_held a.windows) (sample_of a.served) a.ended) (DownPhase t) (λ d. 0)
   down_begins none marks t is =
       let w : HasMarkedDown a.core.meta new.meta (Begun t) = subst (HasMarkedDown a.core.meta new.meta) is marks in
       begins_by a.core.meta (DownPhase t) a.core.meta.spins w.0 (λ d. 0) w.1 none a.core.meta.epoch refl (λ d. plus_none (slice_index a.core.meta.spins d))
@@ -425,7 +451,7 @@ module _ {R : Type 0} {g : _} (slot : R → ℕ → Slot) (a : Array R g) (new :
   down_stops marks f is = subst (HasMarkedDown a.core.meta new.meta) is marks
 
   pub up_cause : Takes (shown_of_array slot a) UpEvent → ((f : ShiftFault) (s : PowerState) → IsShiftStateOf a.core.meta s → IsUpRefused a.core.meta.setup s f → ◌≡◌ {A = Result Asked Two} (Ok x) (Ok (Refused f)) × (new ≡ a.core))
-      → ((to : ℕ) (s : PowerState) → IsShiftStateOf a.core.meta s → MayGoUp a.core.meta.setup s to → HasBegunOrLost new.meta to x) → HasMarkedUp a.core.meta new.meta x → HasCause (shown_of_array slot a) UpEvent (asked_answer a.core.meta.gear x) (shown_with slot a.setup new sum (halt_of_end a.ended))
+      → ((to : ℕ) (s : PowerState) → IsShiftStateOf a.core.meta s → MayGoUp a.core.meta.setup s to → HasBegunOrLost new.meta to x) → HasMarkedUp a.core.meta new.meta x → HasCause (shown_of_array slot a) UpEvent (asked_answer a.core.meta.gear x) (shown_with slot a.setup new sum (samples_held a.windows) (sample_of a.served) a.ended)
   up_cause takes refused begins marks =
       let s : PowerState = state_shown (shown_of_array slot a) in
       let of : IsShiftStateOf a.core.meta s = record { gear = refl; phase = refl; out = refl; spins = refl; ticks = refl } in
@@ -434,13 +460,14 @@ module _ {R : Type 0} {g : _} (slot : R → ℕ → Slot) (a : Array R g) (new :
             let both = refused why.0 s of (subst (λ (z : Setup). IsUpRefused z s why.0) (sym same_setup) why.1) in
             refused_cause UpEvent takes why.0 (same_asked x why.0 both.0) both.1 why.2
         | inr goes ↦
-            done_cause (shown_of_array slot a) (shown_with slot a.setup new sum (halt_of_end a.ended)) UpEvent takes goes.2 refl later (asked_answer a.core.meta.gear x) (going ∙ sym (asked_going a.core.meta.gear x))
-            (begun_does (next_higher a.setup.geometry a.core.meta.gear) (λ to. Begins (shown_of_array slot a) (shown_with slot a.setup new sum (halt_of_end a.ended)) (UpPhase to) (spins_up a.core.meta.gear to)) goes.0 goes.1.next (no_out a.core.meta.out goes.1.at_ease.whole) x refl (begins goes.0 s of (subst (λ (z : Setup). MayGoUp z s goes.0) (sym same_setup) goes.1))
+            done_cause (shown_of_array slot a) (shown_with slot a.setup new sum (samples_held a.windows) (sample_of a.served) a.ended) UpEvent takes goes.2 refl later (asked_answer a.core.meta.gear x) (going ∙ sym (asked_going a.core.meta.gear x)) (gear_going a.ended new.meta.gear)
+            (asked_counts a.core.meta.gear x (shown_of_array slot a) (shown_with slot a.setup new sum (samples_held a.windows) (sample_of a.served) a.ended) (record { samples = refl; served = refl }))
+            (begun_does (next_higher a.setup.geometry a.core.meta.gear) (λ to. Begins (shown_of_array slot a) (shown_with slot a.setup new sum (samples_held a.windows) (sample_of a.served) a.ended) (UpPhase to) (spins_up a.core.meta.gear to)) goes.0 goes.1.next (no_out a.core.meta.out goes.1.at_ease.whole) x refl (begins goes.0 s of (subst (λ (z : Setup). MayGoUp z s goes.0) (sym same_setup) goes.1))
             (up_begins (no_out a.core.meta.out goes.1.at_ease.whole) marks) (up_stops marks))
       ]
 
   pub down_cause : Takes (shown_of_array slot a) DownEvent → ((f : ShiftFault) (s : PowerState) → IsShiftStateOf a.core.meta s → IsDownRefused a.core.meta.setup s f → ◌≡◌ {A = Result Asked Two} (Ok x) (Ok (Refused f)) × (new ≡ a.core))
-      → ((to : ℕ) (s : PowerState) → IsShiftStateOf a.core.meta s → MayGoDown a.core.meta.setup s to → HasBegunOrLost new.meta to x) → HasMarkedDown a.core.meta new.meta x → HasCause (shown_of_array slot a) DownEvent (asked_answer a.core.meta.gear x) (shown_with slot a.setup new sum (halt_of_end a.ended))
+      → ((to : ℕ) (s : PowerState) → IsShiftStateOf a.core.meta s → MayGoDown a.core.meta.setup s to → HasBegunOrLost new.meta to x) → HasMarkedDown a.core.meta new.meta x → HasCause (shown_of_array slot a) DownEvent (asked_answer a.core.meta.gear x) (shown_with slot a.setup new sum (samples_held a.windows) (sample_of a.served) a.ended)
   down_cause takes refused begins marks =
       let s : PowerState = state_shown (shown_of_array slot a) in
       let of : IsShiftStateOf a.core.meta s = record { gear = refl; phase = refl; out = refl; spins = refl; ticks = refl } in
@@ -449,8 +476,9 @@ module _ {R : Type 0} {g : _} (slot : R → ℕ → Slot) (a : Array R g) (new :
             let both = refused why.0 s of (subst (λ (z : Setup). IsDownRefused z s why.0) (sym same_setup) why.1) in
             refused_cause DownEvent takes why.0 (same_asked x why.0 both.0) both.1 why.2
         | inr goes ↦
-            done_cause (shown_of_array slot a) (shown_with slot a.setup new sum (halt_of_end a.ended)) DownEvent takes goes.2 refl later (asked_answer a.core.meta.gear x) (going ∙ sym (asked_going a.core.meta.gear x))
-            (begun_does (next_lower a.setup.geometry a.core.meta.gear) (λ to. Begins (shown_of_array slot a) (shown_with slot a.setup new sum (halt_of_end a.ended)) (DownPhase to) (λ d. 0)) goes.0 goes.1.next (no_out a.core.meta.out goes.1.at_ease.whole) x refl (begins goes.0 s of (subst (λ (z : Setup). MayGoDown z s goes.0) (sym same_setup) goes.1))
+            done_cause (shown_of_array slot a) (shown_with slot a.setup new sum (samples_held a.windows) (sample_of a.served) a.ended) DownEvent takes goes.2 refl later (asked_answer a.core.meta.gear x) (going ∙ sym (asked_going a.core.meta.gear x)) (gear_going a.ended new.meta.gear)
+            (asked_counts a.core.meta.gear x (shown_of_array slot a) (shown_with slot a.setup new sum (samples_held a.windows) (sample_of a.served) a.ended) (record { samples = refl; served = refl }))
+            (begun_does (next_lower a.setup.geometry a.core.meta.gear) (λ to. Begins (shown_of_array slot a) (shown_with slot a.setup new sum (samples_held a.windows) (sample_of a.served) a.ended) (DownPhase to) (λ d. 0)) goes.0 goes.1.next (no_out a.core.meta.out goes.1.at_ease.whole) x refl (begins goes.0 s of (subst (λ (z : Setup). MayGoDown z s goes.0) (sym same_setup) goes.1))
             (down_begins (no_out a.core.meta.out goes.1.at_ease.whole) marks) (down_stops marks))
       ]
 
@@ -525,14 +553,18 @@ begins_from x y phase spins epoch raised marked failed counts = record {
 two_sums : (used own begun most : ℕ) → min (min (used + own) most + begun) most ≡ min (used + (own + begun)) most
 two_sums used own begun most = grind (arith)
 
+-- what a shift sees of an array as it has counted a tick
+pub ticked_state : {R : Type 0} {g : _} (slot : R → ℕ → Slot) (a : Array R g) → IsShiftStateOf (with_tick a.core.meta) (state_shown (shown_ticked (shown_of_array slot a)))
+ticked_state slot a = record { gear = refl; phase = refl; out = refl; spins = refl; ticks = refl }
+
 -- A tick, by the clauses of what it does after it has counted itself.
-module _ {R : Type 0} {g : _} (slot : R → ℕ → Slot) (a : Array R g) (new : Core R g) (sum : ℕ) (same_setup : a.core.meta.setup ≡ a.setup) (count : ℕ) (event : TickEvent)
+module _ {R : Type 0} {g : _} (slot : R → ℕ → Slot) (a : Array R g) (new : Core R g) (sum : ℕ) (kept : List ℕ) (same_setup : a.core.meta.setup ≡ a.setup) (count : ℕ) (event : TickEvent)
     (failed : named_out a.core.meta.out ≡ None → (d : ℕ) → named_out new.meta.out ≡ Some d → HasRisen (slot (core_rack a.core) d).faults (slot (core_rack new) d).faults) where
   old_shown : Shown
   old_shown = shown_of_array slot a
 
   new_shown : Shown
-  new_shown = shown_with slot a.setup new sum (halt_of_end a.ended)
+  new_shown = shown_with slot a.setup new sum kept 0 a.ended
 
   abbrev rebuild_left : ℕ → ℕ → ℕ
   rebuild_left d u = units_to_rebuild a.setup (state_shown (shown_of_array slot a)) d u
@@ -546,7 +578,7 @@ module _ {R : Type 0} {g : _} (slot : R → ℕ → Slot) (a : Array R g) (new :
   -- one that rebuilds disk `d`
   pub rebuild_by : (d u : ℕ) (e : TickEvent) → event ≡ e → TellsRebuild (with_tick a.core.meta) new.meta d u count e
       → (e ≡ GoneAgain d → HasRisen (slot (core_rack a.core) d).faults (slot (core_rack new) d).faults)
-      → Rebuilds (units_to_rebuild a.setup (state_shown (shown_of_array slot a)) d u) d u (shown_of_array slot a) (shown_with slot a.setup new sum (halt_of_end a.ended)) count e
+      → Rebuilds (units_to_rebuild a.setup (state_shown (shown_of_array slot a)) d u) d u (shown_of_array slot a) (shown_with slot a.setup new sum kept 0 a.ended) count e
   rebuild_by d u TickSteady is w gone = w
   rebuild_by d u Waiting is w gone = w
   rebuild_by d u Moving is w gone = (w.0 ∙ rate_is, subst (λ (r : ℕ). r < rebuild_left d u) rate_is (subst (λ (l : ℕ). a.core.meta.setup.rate < l) (left_is d u) w.1), w.2)
@@ -557,7 +589,7 @@ module _ {R : Type 0} {g : _} (slot : R → ℕ → Slot) (a : Array R g) (new :
   rebuild_by d u (Lost e) is w gone = w
   rebuild_by d u (TickRation e) is w gone = w
 
-  pub moves_by : (e : TickEvent) → named_out a.core.meta.out ≡ None → TellsMove new.meta e → MarksMove (with_tick a.core.meta) new.meta e → MovesOn (shown_of_array slot a) (shown_with slot a.setup new sum (halt_of_end a.ended)) e
+  pub moves_by : (e : TickEvent) → named_out a.core.meta.out ≡ None → TellsMove new.meta e → MarksMove (with_tick a.core.meta) new.meta e → MovesOn (shown_of_array slot a) (shown_with slot a.setup new sum kept 0 a.ended) e
   moves_by TickSteady none w marks = w
   moves_by Waiting none w marks = w
   moves_by Moving none w marks = (w, marks.0, marks.1, marks.2)
@@ -568,58 +600,71 @@ module _ {R : Type 0} {g : _} (slot : R → ℕ → Slot) (a : Array R g) (new :
   moves_by (Lost d) none w marks = (w, failed none d w)
   moves_by (TickRation e) none w marks = w
 
-  -- what a shift sees of it as it has counted itself
-  ticked_state : IsShiftStateOf (with_tick a.core.meta) (state_shown (shown_ticked (shown_of_array slot a)))
-  ticked_state = record { gear = refl; phase = refl; out = refl; spins = refl; ticks = refl }
-
   begins_up : (to : ℕ) → named_out a.core.meta.out ≡ None → HasTickedUp (with_tick a.core.meta) new.meta to
-      → (next_higher a.setup.geometry a.core.meta.gear ≡ Some to) × Begins (shown_ticked (shown_of_array slot a)) (shown_with slot a.setup new sum (halt_of_end a.ended)) (UpPhase to) (spins_up a.core.meta.gear to)
+      → (next_higher a.setup.geometry a.core.meta.gear ≡ Some to) × Begins (shown_ticked (shown_of_array slot a)) (shown_with slot a.setup new sum kept 0 a.ended) (UpPhase to) (spins_up a.core.meta.gear to)
   begins_up to none w =
-      let may = subst (λ (z : Setup). MayGoUp z (state_shown (shown_ticked (shown_of_array slot a))) to) same_setup (w.could (state_shown (shown_ticked (shown_of_array slot a))) ticked_state) in (
+      let may = subst (λ (z : Setup). MayGoUp z (state_shown (shown_ticked (shown_of_array slot a))) to) same_setup (w.could (state_shown (shown_ticked (shown_of_array slot a))) (ticked_state slot a)) in (
         may.next,
-        begins_from (shown_ticked (shown_of_array slot a)) (shown_with slot a.setup new sum (halt_of_end a.ended)) (UpPhase to) w.begun.spins (a.core.meta.epoch + 1) (spins_up a.core.meta.gear to) w.begun.is (failed none)
+        begins_from (shown_ticked (shown_of_array slot a)) (shown_with slot a.setup new sum kept 0 a.ended) (UpPhase to) w.begun.spins (a.core.meta.epoch + 1) (spins_up a.core.meta.gear to) w.begun.is (failed none)
             (λ d. raised_by a.core.meta.gear to d (slice_index w.begun.spins d) (slice_index a.core.meta.spins d) (w.begun.raised d) (w.begun.others d)),
       )
 
   begins_down : (to : ℕ) → named_out a.core.meta.out ≡ None → HasTickedDown (with_tick a.core.meta) new.meta to
-      → (next_lower a.setup.geometry a.core.meta.gear ≡ Some to) × (first_worn a.setup (state_shown (shown_ticked (shown_of_array slot a))) to ≡ None) × Begins (shown_ticked (shown_of_array slot a)) (shown_with slot a.setup new sum (halt_of_end a.ended)) (DownPhase to) (λ d. 0)
+      → (next_lower a.setup.geometry a.core.meta.gear ≡ Some to) × (first_worn a.setup (state_shown (shown_ticked (shown_of_array slot a))) to ≡ None) × Begins (shown_ticked (shown_of_array slot a)) (shown_with slot a.setup new sum kept 0 a.ended) (DownPhase to) (λ d. 0)
   begins_down to none w =
-      let may = subst (λ (z : Setup). MayGoDown z (state_shown (shown_ticked (shown_of_array slot a))) to) same_setup (w.could (state_shown (shown_ticked (shown_of_array slot a))) ticked_state) in (
+      let may = subst (λ (z : Setup). MayGoDown z (state_shown (shown_ticked (shown_of_array slot a))) to) same_setup (w.could (state_shown (shown_ticked (shown_of_array slot a))) (ticked_state slot a)) in (
         may.next,
         may.unworn,
-        begins_from (shown_ticked (shown_of_array slot a)) (shown_with slot a.setup new sum (halt_of_end a.ended)) (DownPhase to) a.core.meta.spins (a.core.meta.epoch + 1) (λ d. 0) w.begun (failed none)
+        begins_from (shown_ticked (shown_of_array slot a)) (shown_with slot a.setup new sum kept 0 a.ended) (DownPhase to) a.core.meta.spins (a.core.meta.epoch + 1) (λ d. 0) w.begun (failed none)
             (λ d. plus_none (slice_index a.core.meta.spins d)),
       )
 
-  tells_worn : (d : ℕ) → ((s : PowerState) → IsShiftStateOf (with_tick a.core.meta) s → IsDownRefused a.core.meta.setup s (Ration d)) → IsAsBefore (shown_ticked (shown_of_array slot a)) (shown_with slot a.setup new sum (halt_of_end a.ended))
-      → (to : ℕ) × (next_lower a.setup.geometry a.core.meta.gear ≡ Some to) × (first_worn a.setup (state_shown (shown_ticked (shown_of_array slot a))) to ≡ Some d) × IsAsBefore (shown_ticked (shown_of_array slot a)) (shown_with slot a.setup new sum (halt_of_end a.ended))
+  tells_worn : (d : ℕ) → ((s : PowerState) → IsShiftStateOf (with_tick a.core.meta) s → IsDownRefused a.core.meta.setup s (Ration d)) → IsAsBefore (shown_ticked (shown_of_array slot a)) (shown_with slot a.setup new sum kept 0 a.ended)
+      → (to : ℕ) × (next_lower a.setup.geometry a.core.meta.gear ≡ Some to) × (first_worn a.setup (state_shown (shown_ticked (shown_of_array slot a))) to ≡ Some d) × IsAsBefore (shown_ticked (shown_of_array slot a)) (shown_with slot a.setup new sum kept 0 a.ended)
   tells_worn d w same =
-      let why = subst (λ (z : Setup). IsDownRefused z (state_shown (shown_ticked (shown_of_array slot a))) (Ration d)) same_setup (w (state_shown (shown_ticked (shown_of_array slot a))) ticked_state) in
+      let why = subst (λ (z : Setup). IsDownRefused z (state_shown (shown_ticked (shown_of_array slot a))) (Ration d)) same_setup (w (state_shown (shown_ticked (shown_of_array slot a))) (ticked_state slot a)) in
       (why.0, why.1, why.3, same)
 
+  -- one that begins a shift to the next higher gear begins none to the next lower one
+  begun_up_only : (to : ℕ) → named_out a.core.meta.out ≡ None → next_higher a.setup.geometry a.core.meta.gear ≡ Some to → HasTickedUp (with_tick a.core.meta) new.meta to ⊎ HasTickedDown (with_tick a.core.meta) new.meta to
+      → Begins (shown_ticked (shown_of_array slot a)) (shown_with slot a.setup new sum kept 0 a.ended) (UpPhase to) (spins_up a.core.meta.gear to)
+  begun_up_only to none next w = elim w [
+    | inl up ↦ (begins_up to none up).1
+    | inr down ↦ absurd (next_apart a.setup.geometry a.core.meta.gear to next (begins_down to none down).0)
+  ]
+
+  begun_down_only : (to : ℕ) → named_out a.core.meta.out ≡ None → next_lower a.setup.geometry a.core.meta.gear ≡ Some to → HasTickedUp (with_tick a.core.meta) new.meta to ⊎ HasTickedDown (with_tick a.core.meta) new.meta to
+      → Begins (shown_ticked (shown_of_array slot a)) (shown_with slot a.setup new sum kept 0 a.ended) (DownPhase to) (λ d. 0)
+  begun_down_only to none next w = elim w [
+    | inl up ↦ absurd (next_apart a.setup.geometry a.core.meta.gear to (begins_up to none up).0 next)
+    | inr down ↦ (begins_down to none down).2
+  ]
+
+  -- what the samples ask for
+  abbrev asked_for : Decision
+  asked_for = decision_shown (shown_ticked (shown_of_array slot a))
+
   -- one of an array at rest
-  decides_by : (e : TickEvent) → named_out a.core.meta.out ≡ None → TellsRest (with_tick a.core.meta) new.meta e → (IsIdleTick e → IsAsBefore (shown_ticked (shown_of_array slot a)) (shown_with slot a.setup new sum (halt_of_end a.ended)))
-      → Decides (shown_ticked (shown_of_array slot a)) (shown_with slot a.setup new sum (halt_of_end a.ended)) e
-  decides_by TickSteady none w idle = idle tt
-  decides_by Waiting none w idle = w
-  decides_by Moving none w idle = w
-  decides_by Flipped none w idle = w
-  decides_by (TickBegun to) none w idle = elim w [ inl up ↦ inl (begins_up to none up) | inr down ↦ inr (begins_down to none down) ]
-  decides_by (Rebuilt e) none w idle = w
-  decides_by (GoneAgain e) none w idle = w
-  decides_by (Lost d) none w idle = w
-  decides_by (TickRation d) none w idle = tells_worn d w (idle tt)
+  decides_by : (made : Decision) → asked_for ≡ made → (e : TickEvent) → named_out a.core.meta.out ≡ None → TellsDecision a.setup (state_shown (shown_ticked (shown_of_array slot a))) made e → TellsRest (with_tick a.core.meta) new.meta e
+      → (IsIdleTick e → IsAsBefore (shown_ticked (shown_of_array slot a)) (shown_with slot a.setup new sum kept 0 a.ended)) → Decides made (shown_ticked (shown_of_array slot a)) (shown_with slot a.setup new sum kept 0 a.ended) e
+  decides_by Stay is e none tells w idle = (tells, idle (subst IsIdleTick (sym tells) tt))
+  decides_by (DecideUp to) is e none tells w idle = (tells, begun_up_only to none (decided_up a.setup a.core.meta.gear (shown_ticked (shown_of_array slot a)).samples to is) (subst (TellsRest (with_tick a.core.meta) new.meta) tells w))
+  decides_by (DecideDown to) is e none tells w idle = by (first_worn a.setup (state_shown (shown_ticked (shown_of_array slot a))) to) tells
+    where
+      by : (worn : Option ℕ) → TellsWorn worn to e → GoesDown worn to (shown_ticked (shown_of_array slot a)) (shown_with slot a.setup new sum kept 0 a.ended) e
+      by None tells = (tells, begun_down_only to none (decided_down a.setup a.core.meta.gear (shown_ticked (shown_of_array slot a)).samples to is) (subst (TellsRest (with_tick a.core.meta) new.meta) tells w))
+      by (Some d) tells = (tells, idle (subst IsIdleTick (sym tells) tt))
 
   abbrev IsIdleCore : Type 0
   IsIdleCore = (new.meta ≡ with_tick a.core.meta) × (new.dirty ≡ a.core.dirty) × (slot (core_rack new) ≡ slot (core_rack a.core))
 
-  idle_is : IsIdleCore → IsAsBefore (shown_ticked (shown_of_array slot a)) (shown_with slot a.setup new sum (halt_of_end a.ended))
+  idle_is : IsIdleCore → IsAsBefore (shown_ticked (shown_of_array slot a)) (shown_with slot a.setup new sum kept 0 a.ended)
   idle_is same = record { meta = same.0; dirty = ap is_dirty same.1; slot = same.2 }
 
   shifts_by : (phase : Phase) → a.core.meta.phase ≡ phase → named_out a.core.meta.out ≡ None → (a.core.meta.phase ≢ Steady → TellsMove new.meta event × MarksMove (with_tick a.core.meta) new.meta event)
-      → (a.core.meta.phase ≡ Steady → (count ≡ 0) × TellsRest (with_tick a.core.meta) new.meta event) → (a.core.meta.phase ≡ Steady → IsIdleTick event → IsIdleCore)
-      → MovesBy phase (shown_of_array slot a) (shown_with slot a.setup new sum (halt_of_end a.ended)) count event
-  shifts_by Steady is none moves rests idle = let w = rests is in (w.0, decides_by event none w.1 (λ e. idle_is (idle is e)))
+      → (a.core.meta.phase ≡ Steady → (count ≡ 0) × TellsRest (with_tick a.core.meta) new.meta event × TellsDecision a.setup (state_shown (shown_ticked (shown_of_array slot a))) (decision_shown (shown_ticked (shown_of_array slot a))) event) → (a.core.meta.phase ≡ Steady → IsIdleTick event → IsIdleCore)
+      → MovesBy phase (shown_of_array slot a) (shown_with slot a.setup new sum kept 0 a.ended) count event
+  shifts_by Steady is none moves rests idle = let w = rests is in (w.0, decides_by asked_for refl event none w.2 w.1 (λ e. idle_is (idle is e)))
   shifts_by (DownPhase to) is none moves rests idle = let w = moves (λ z. let y : Steady ≡ DownPhase to = sym z ∙ is in cc) in moves_by event none w.0 w.1
   shifts_by (UpPhase to) is none moves rests idle = let w = moves (λ z. let y : Steady ≡ UpPhase to = sym z ∙ is in cc) in moves_by event none w.0 w.1
 
@@ -628,9 +673,9 @@ module _ {R : Type 0} {g : _} (slot : R → ℕ → Slot) (a : Array R g) (new :
       → ((d u : ℕ) → a.core.meta.out ≡ Fresh d u → TellsRebuild (with_tick a.core.meta) new.meta d u count event)
       → ((d u : ℕ) → a.core.meta.out ≡ Fresh d u → event ≡ GoneAgain d → HasRisen (slot (core_rack a.core) d).faults (slot (core_rack new) d).faults)
       → (a.core.meta.out ≡ No → a.core.meta.phase ≢ Steady → TellsMove new.meta event × MarksMove (with_tick a.core.meta) new.meta event)
-      → (a.core.meta.out ≡ No → a.core.meta.phase ≡ Steady → (count ≡ 0) × TellsRest (with_tick a.core.meta) new.meta event)
+      → (a.core.meta.out ≡ No → a.core.meta.phase ≡ Steady → (count ≡ 0) × TellsRest (with_tick a.core.meta) new.meta event × TellsDecision a.setup (state_shown (shown_ticked (shown_of_array slot a))) (decision_shown (shown_ticked (shown_of_array slot a))) event)
       → (a.core.meta.out ≡ No → a.core.meta.phase ≡ Steady → IsIdleTick event → (new.meta ≡ with_tick a.core.meta) × (new.dirty ≡ a.core.dirty) × (slot (core_rack new) ≡ slot (core_rack a.core)))
-      → TicksBy out (shown_of_array slot a) (shown_with slot a.setup new sum (halt_of_end a.ended)) count event
+      → TicksBy out (shown_of_array slot a) (shown_with slot a.setup new sum kept 0 a.ended) count event
   ticks_by No is waits rebuilds gone moves rests idle = shifts_by a.core.meta.phase refl (ap named_out is) (moves is) (rests is) (idle is)
   ticks_by (Gone d) is waits rebuilds gone moves rests idle = waits d is
   ticks_by (Fresh d u) is waits rebuilds gone moves rests idle = rebuild_by d u event refl (rebuilds d u is) (gone d u is)

@@ -19,3 +19,4 @@ pub mod CountLemmas
 pub mod SettledLemmas
 pub mod BeginLemmas
 pub mod CauseLemmas
+pub mod SampleLemmas

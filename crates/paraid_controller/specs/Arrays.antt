@@ -4,7 +4,6 @@ use Rattle.paraid_base.specs.declared.event.Answer.{Answer}
 use Rattle.paraid_base.specs.declared.event.Event.{Event}
 use Rattle.paraid_base.specs.declared.fault.Halt.{Halt}
 use Rattle.paraid_dirty.specs.Table.{is_dirty}
-use Rattle.paraid_image.specs.Out.{named_out}
 use Rattle.paraid_image.specs.Power.{PowerState}
 use Rattle.paraid_gear.specs.ThreeWindows.{HoldLastSamples, sample_of}
 use Rattle.paraid_rack.specs.Slots.{Slot}
@@ -16,17 +15,13 @@ use Rattle.paraid_core.specs.declared.staged.Core.{Core}
 use Rattle.paraid_core.specs.Cores.{core_rack}
 use Rattle.paraid_recover.specs.HeldMoments.{Extends}
 use Rattle.paraid_serve.specs.Causes.{HasCause, Shown}
-use Rattle.paraid_serve.specs.Form.{is_answer_to}
-use Rattle.paraid_serve.specs.Lost.{HaltsByTwoLost}
-use Rattle.paraid_session.specs.Faults.{HaveNotFallen}
-use Rattle.paraid_session.specs.Turn.{GoesOn, Point, halt_told}
-use Rattle.paraid_trace.specs.Replies.{HasFewDisks}
+use Rattle.paraid_session.specs.Turn.{GoesOn, Point}
 use Rattle.paraid_event.specs.Counts.{with_counts_of}
 use Rattle.paraid_event.specs.Service.{IsStateOf, service_of}
 use Rattle.paraid_event.specs.Stands.{StandsAt}
 use Rattle.paraid_controller.specs.declared.array.Array.{Array}
 use Rattle.paraid_controller.specs.declared.ended.Ended.{Ended}
-use Rattle.paraid_controller.specs.Lasting.{halt_of_end}
+use Rattle.paraid_controller.specs.Lasting.{gear_of_end, halt_of_end, samples_held}
 
 -- its core
 abbrev pub core_of_array : {R : Type 0} {g : _} → Array R g → Core R g
@@ -60,10 +55,6 @@ dirty_of_array array = is_dirty array.core.dirty
 abbrev pub HasNothingStaged : {R : Type 0} {g : _} → Array R g → Type 0
 HasNothingStaged array = array.core.batch ≡ []
 
--- the disk that is out
-abbrev pub down_of_array : {R : Type 0} {g : _} → Array R g → Option ℕ
-down_of_array array = named_out array.core.meta.out
-
 -- what has ended its service
 abbrev pub end_of_array : {R : Type 0} {g : _} → Array R g → Option Ended
 end_of_array array = array.ended
@@ -76,6 +67,20 @@ halt_of_array array = halt_of_end array.ended
 abbrev pub energy_of_array : {R : Type 0} {g : _} → Array R g → ℕ
 energy_of_array array = array.energy
 
+-- the last samples, as many as its longest window has
+abbrev pub samples_of_array : {R : Type 0} {g : _} → Array R g → List ℕ
+samples_of_array array = samples_held array.windows
+
+-- the requests since the last tick, no more than a sample may have
+abbrev pub served_of_array : {R : Type 0} {g : _} → Array R g → ℕ
+served_of_array array = sample_of array.served
+
+-- Nothing is counted yet: no energy is used, no sample is taken, and no request was heard.
+pub record CountsNothing {R : Type 0} {g : _} (array : Array R g) : Type 0 where
+  pub energy : ◌≡◌ {A = ℕ} (energy_of_array array) 0
+  pub samples : samples_of_array array ≡ []
+  pub requests : ◌≡◌ {A = ℕ} (served_of_array array) 0
+
 -- what is seen of it over every rack
 abbrev pub shown_of_array : {R : Type 0} {g : _} → (R → ℕ → Slot) → Array R g → Shown
 shown_of_array slot array = record {
@@ -83,7 +88,10 @@ shown_of_array slot array = record {
   meta = array.core.meta;
   dirty = is_dirty array.core.dirty;
   slot = slot (core_rack array.core);
+  gear = gear_of_end array.ended array.core.meta.gear;
   energy = array.energy;
+  samples = samples_held array.windows;
+  served = sample_of array.served;
   halt = halt_of_end array.ended;
 }
 
@@ -113,18 +121,11 @@ GoesOnByEvent count told old new event answer = (p : Point) → ArrayStandsAt co
     → Ran (told_of_array told old) (told_of_array told new)
     (GoesOn (count (core_rack old.core)) old.setup p event answer (ArrayStandsAt count told new))
 
--- So the array answers an event, over the same slots and with the same setup: what is told is longer by its calls, no count of
--- faults has fallen, and the answer is of the event's kind and tells the halt, if the event ends its service.
+-- So the array answers an event, over the same slots: what is told is longer by its calls, and the answer has its cause.
 pub record AnswersEvent {R : Type 0} {g : _} (count : R → ℕ) (slot : R → ℕ → Slot) (told : R → Option Trail) (old new : Array R g) (event : Event) (answer : Answer) : Type 0 where
   pub turn : GoesOnByEvent count told old new event answer
   pub grows : Extends (told_of_array told old) (told_of_array told new)
   pub slots : new.slots ≡ old.slots
-  pub setup : new.setup ≡ old.setup
-  pub halt : halt_of_array new ≡ halt_told answer
-  pub two : HaltsByTwoLost (down_of_array old) event (slot_of_array slot old) (slot_of_array slot new) (halt_of_array new)
-  pub later : HaveNotFallen (slot_of_array slot old) (slot_of_array slot new)
-  pub kind : is_answer_to event answer ≡ true
-  pub few : HasFewDisks answer
   pub cause : HasCause (shown_of_array slot old) event answer (shown_of_array slot new)
 
 -- The dirty cells are then those that this change makes of each state that the array showed, by its meta as it is then.

@@ -1,8 +1,9 @@
 -- What an array keeps between two events, over every rack: while there is no halt, and after one.
-use Rattle.std.specs.Prelude.{◌≡◌, ◌≢◌, ℕ, ◌≤◌, max, false, List, Option, Some, None}
+use Rattle.std.specs.Prelude.{◌≡◌, ◌≢◌, ℕ, ◌≤◌, max, false, nat_lt, List, length, Option, Some, None, if◌then◌else◌}
 use Rattle.paraid_base.specs.declared.fault.Halt.{Halt}
 use Rattle.paraid_base.specs.declared.fault.Halt.TheVariants.{Worn}
 use Rattle.paraid_base.specs.Log.{worn_at}
+use Rattle.paraid_gear.specs.declared.windows.Windows.{Windows}
 use Rattle.paraid_rack.specs.declared.call.Power.TheVariants.{Spinning}
 use Rattle.paraid_rack.specs.Disks.{is_present}
 use Rattle.paraid_rack.specs.Slots.{Slot}
@@ -31,6 +32,19 @@ abbrev pub halt_of_end : Option Ended → Option Halt
 halt_of_end None = None
 halt_of_end (Some ended) = Some ended.halt
 
+-- the gear that is told: this one, or after a halt the one before it
+abbrev pub gear_of_end : Option Ended → ℕ → ℕ
+gear_of_end None now = now
+gear_of_end (Some ended) now = ended.gear
+
 -- A halt that tells wear tells the greater of the commits and the writes that this meta counts, and that is 2^62 or more.
 abbrev pub TellsItsWear : Meta → Option Halt → Type 0
 TellsItsWear m halt = (count : ℕ) → halt ≡ Some (Worn count) → (worn_at ≤ count) × (count ≡ max m.epoch m.writes)
+
+-- the longer of two lists
+abbrev pub longer : List ℕ → List ℕ → List ℕ
+longer xs ys = if nat_lt (length xs) (length ys) then ys else xs
+
+-- the samples of the longest window
+abbrev pub samples_held : Windows → List ℕ
+samples_held windows = longer windows.first.samples (longer windows.second.samples windows.third.samples)

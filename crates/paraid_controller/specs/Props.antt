@@ -7,6 +7,8 @@ use Rattle.paraid_base.specs.declared.state.Out.{Out}
 use Rattle.paraid_base.specs.declared.state.Out.TheVariants.{No, Gone, Fresh}
 use Rattle.paraid_base.specs.declared.state.Phase.{Phase}
 use Rattle.paraid_base.specs.declared.state.Phase.TheVariants.{Steady, Down, Up}
+use Rattle.paraid_gear.specs.ThreeWindows.{HoldLastSamples}
+use Rattle.paraid_gear.specs.declared.windows.Windows.{Windows}
 use Rattle.paraid_rack.specs.Slots.{Slot}
 use Rattle.paraid_record.specs.declared.meta.Meta.{Meta}
 use Rattle.paraid_record.specs.declared.meta.Setup.{Setup}
@@ -35,3 +37,7 @@ while_prop once = hlevel once
 -- that a halt by wear has its number has one proof (a fact)
 pub TellsItsWear-prop : (m : Meta) (halt : Option Halt) → IsProp (TellsItsWear m halt)
 TellsItsWear-prop m halt = hlevel props
+
+-- that windows hold the last of some samples has one proof (a fact)
+pub HoldLastSamples-prop : (windows : Windows) (samples : List ℕ) → IsProp (HoldLastSamples windows samples)
+HoldLastSamples-prop windows samples = hlevel props

@@ -1,9 +1,9 @@
 //! An array in service: a core, and what is counted of its events.
 ghost use Rattle.std.specs.Prelude.{◌≡◌, None};
 ghost use Rattle.paraid_core.specs.Cores.{core_rack};
-ghost use Rattle.paraid_gear.specs.ThreeWindows.{lengths_of};
-ghost use Rattle.paraid_controller.specs.Lasting.{IsArrayServing, TellsItsWear, halt_of_end};
-ghost use Rattle.paraid_controller.specs.Props.{IsArrayServing-prop, TellsItsWear-prop, while_prop};
+ghost use Rattle.paraid_gear.specs.ThreeWindows.{HoldLastSamples, lengths_of};
+ghost use Rattle.paraid_controller.specs.Lasting.{IsArrayServing, TellsItsWear, halt_of_end, samples_held};
+ghost use Rattle.paraid_controller.specs.Props.{HoldLastSamples-prop, IsArrayServing-prop, TellsItsWear-prop, while_prop};
 
 use crate::ended::Ended;
 use paraid_core::Core;
@@ -26,6 +26,7 @@ pub struct Array<R: Rack> {
     ghost serving: { ended ≡ None → IsArrayServing R.slot_count R.slot core (lengths_of windows) setup slots } by { while_prop (IsArrayServing-prop R.slot_count R.slot core (lengths_of windows) setup slots) },
     ghost counted: { R.slot_count (core_rack core) ≡ slots },
     ghost worn: { TellsItsWear core.meta (halt_of_end ended) } by { TellsItsWear-prop core.meta (halt_of_end ended) },
+    ghost sampled: { HoldLastSamples windows (samples_held windows) } by { HoldLastSamples-prop windows (samples_held windows) },
 }
 
 impl<R: Rack> Array<R> {
@@ -35,19 +36,22 @@ impl<R: Rack> Array<R> {
     ghost use Rattle.paraid_event.specs.Stands.{StandsAt};
     ghost use Rattle.paraid_gear.specs.ThreeWindows.{HoldLastSamples};
     ghost use Rattle.paraid_session.specs.Turn.{Point};
-    ghost use Rattle.paraid_controller.specs.Arrays.{ArrayStandsAt, core_of_array, energy_of_array, halt_of_array, setup_of_array, slots_of_array};
+    ghost use Rattle.paraid_controller.specs.Arrays.{ArrayStandsAt, core_of_array, energy_of_array, halt_of_array, samples_of_array, served_of_array, setup_of_array, slots_of_array};
 
     /// Takes over a core as a mount leaves it, over so many slots, with windows of the lengths of its setup that hold no
     /// sample.
-    pub fn new(core: Core<R>, windows: Windows, slots: u8) -> Array<R>
+    pub(crate) fn new(core: Core<R>, windows: Windows, slots: u8) -> Array<R>
         requires serving { IsArrayServing R.slot_count R.slot core (lengths_of windows) (meta_of core).setup slots }
+        requires none { HoldLastSamples windows [] }
         ensures core { core_of_array result ≡ core }
         ensures setup { setup_of_array result ≡ (meta_of core).setup }
         ensures slots { slots_of_array result ≡ slots }
         ensures going { halt_of_array result ≡ None }
         ensures energy { energy_of_array result ≡ 0 }
+        ensures samples { samples_of_array result ≡ [] }
+        ensures served { served_of_array result ≡ 0 }
         // It stands where its core does.
-        ensures stands { (p : Point) → HoldLastSamples windows []
+        ensures stands { (p : Point)
             → StandsAt (R.told (core_rack core)) (service_of R.slot_count core [] 0 0) (meta_of core).setup p
             → ArrayStandsAt R.slot_count R.told result p }
     {

@@ -1,22 +1,15 @@
 //! A mount that gives a core in service.
 ghost use Rattle.std.specs.Prelude.{◌≡◌, ℕ, ◌≤◌, [], Some, IfErr, IfOk};
-ghost use Rattle.paraid_core.specs.Begin.{IsPoweredBy};
 ghost use Rattle.paraid_core.specs.CoreInvariant.{AreCopiesSynced};
-ghost use Rattle.paraid_core.specs.Cores.{CanCoreServe, IsCoreReady, batch_of, copied_of, core_rack, core_table, draft_of, meta_of, store_of};
-ghost use Rattle.paraid_core.specs.Steps.{IsNamedOrAbsent};
-ghost use Rattle.paraid_core.specs.Units.{IsRebuilding};
+ghost use Rattle.paraid_core.specs.Cores.{batch_of, copied_of, core_rack, core_table, draft_of, meta_of, store_of};
 ghost use Rattle.paraid_gear.specs.ThreeWindows.{HoldLastSamples, lengths_of};
-ghost use Rattle.paraid_rack.specs.declared.call.Power.TheVariants.{Spinning};
 ghost use Rattle.paraid_rack.specs.Trail.{Trail, moments};
 ghost use Rattle.paraid_record.specs.Range.{IsInRange};
 ghost use Rattle.paraid_recover.specs.HeldMoments.{Extends};
 ghost use Rattle.paraid_recover.specs.Mount.{IsCauseOfRefusal};
-ghost use Rattle.paraid_recover.specs.Mounted.{AreAllSynced};
-ghost use Rattle.paraid_controller.specs.Begun.{IsMountedCore, StandsBegun};
+ghost use Rattle.paraid_controller.specs.Begun.{IsBegunCore, IsMountedCore, StandsBegun};
 ghost use Rattle.paraid_session.specs.Mount.{IsMountedFromEach, IsRefusedFromEach};
-ghost use Rattle.paraid_shift.specs.Serving.{AreAllLarge, IsCoreServing};
 ghost use Rattle.paraid_recover.specs.StartRefusals.{refusal_by_fault};
-ghost use Rattle.paraid_txn.specs.Stores.{named_of};
 
 use paraid_base::NoMemory;
 use paraid_core::{Changes, Core, a_powered_array_can_begin};
@@ -90,27 +83,8 @@ fn begin<R: Rack>(mounted: Mounted<R>, memory: Memory) -> Begun<R>
 /// first call.
 pub fn mount_core<R: Rack>(alloc: Global, rack: R) -> Result<Begun<R>, MountRefused<R>>
     ensures slots { IfOk result (λ it. R.slot_count (core_rack it.core) ≡ R.slot_count rack) }
-    ensures ready { IfOk result (λ it. IsCoreReady R.slot_count R.slot it.core) }
-    ensures serves { IfOk result (λ it. CanCoreServe R.slot it.core) }
-    ensures nothing { IfOk result (λ it. batch_of it.core ≡ []) }
-    ensures draft { IfOk result (λ it. draft_of it.core ≡ []) }
-    ensures copies_synced { IfOk result (λ it.
-        AreCopiesSynced (meta_of it.core).setup.geometry.disks (copied_of it.core)) }
-    ensures large { IfOk result (λ it.
-        AreAllLarge (R.slot (core_rack it.core)) (meta_of it.core)) }
-    // a disk that is gone gets no sync
-    ensures synced { IfOk result (λ it.
-        AreAllSynced (meta_of it.core) (R.slot (core_rack it.core))) }
-    ensures serving { IfOk result (λ it. IsCoreServing R.slot_count R.slot it.core) }
-    ensures powered { IfOk result (λ it. IsPoweredBy (R.slot_count (core_rack it.core))
-        (R.slot (core_rack it.core)) (named_of (store_of it.core)) (meta_of it.core)) }
-    // the disk that is out is the one that the last commit named, or it is absent; one that is being
-    // rebuilt was named, and spins
-    ensures absent { IfOk result (λ it. IsNamedOrAbsent R.slot it.core) }
-    ensures named { IfOk result (λ it. (d : ℕ) → IsRebuilding (meta_of it.core) d
-        → named_of (store_of it.core) ≡ Some d) }
-    ensures spins { IfOk result (λ it. (d : ℕ) → IsRebuilding (meta_of it.core) d
-        → (R.slot (core_rack it.core) d).power ≡ Spinning) }
+    // It can go through each event. Nothing is staged, and nothing is unsynced; a disk that is gone gets no sync.
+    ensures begun { IfOk result (λ it. IsBegunCore it.core) }
     ensures lengths { IfOk result (λ it. lengths_of it.windows ≡ (meta_of it.core).setup.windows) }
     ensures none { IfOk result (λ it. HoldLastSamples it.windows []) }
     ensures later { IfOk result (λ it. (d : ℕ) → (R.slot rack d).faults

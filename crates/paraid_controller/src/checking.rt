@@ -8,8 +8,6 @@ ghost use Rattle.paraid_rack.specs.Told.{Ran};
 ghost use Rattle.paraid_recover.specs.HeldMoments.{Extends};
 ghost use Rattle.paraid_scrub.specs.Counts.{AreWithinMembers, no_faults};
 ghost use Rattle.paraid_serve.specs.Causes.{HasCause};
-ghost use Rattle.paraid_serve.specs.Lost.{HaltsByTwoLost};
-ghost use Rattle.paraid_session.specs.Faults.{HaveNotFallen};
 ghost use Rattle.paraid_session.specs.Turn.{GoesOn, Point};
 
 use crate::Array;
@@ -21,7 +19,7 @@ use paraid_scrub::{CheckReport, check};
 
 impl<R: Rack> Array<R> {
     ghost use Rattle.paraid_controller.specs.Checked.{CountsCommitted, CountsDisks, answer_to_check};
-    ghost use Rattle.paraid_controller.specs.Arrays.{AnswersEvent, ArrayStandsAt, core_of_array, down_of_array, end_of_array, halt_of_array, setup_of_array, shown_of_array, slot_of_array, slots_of_array, told_of_array};
+    ghost use Rattle.paraid_controller.specs.Arrays.{AnswersEvent, ArrayStandsAt, core_of_array, end_of_array, halt_of_array, setup_of_array, shown_of_array, slots_of_array, told_of_array};
 
     // Commits all that is staged, and counts what is false.
     fn commit_and_check(&mut self) -> Result<CheckReport, Halt>
@@ -106,12 +104,6 @@ impl<R: Rack> Array<R> {
             (ArrayStandsAt R.slot_count R.told self.new))) }
         ensures told { Extends (told_of_array R.told self.old) (told_of_array R.told self.new) }
         ensures slots { slots_of_array self.new ≡ slots_of_array self.old }
-        ensures setup { setup_of_array self.new ≡ setup_of_array self.old }
-        ensures going { OnOk result (halt_of_array self.new ≡ None) }
-        ensures halt { IfErr result (λ halt. halt_of_array self.new ≡ Some halt) }
-        ensures two { HaltsByTwoLost (down_of_array self.old) FlushEvent
-            (slot_of_array R.slot self.old) (slot_of_array R.slot self.new) (halt_of_array self.new) }
-        ensures later { HaveNotFallen (slot_of_array R.slot self.old) (slot_of_array R.slot self.new) }
         // Over every rack it is a flush with its cause.
         ensures cause { HasCause (shown_of_array R.slot self.old) FlushEvent
             (answer_to_check (meta_of (core_of_array self.old)).writes result) (shown_of_array R.slot self.new) }

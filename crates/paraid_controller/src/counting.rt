@@ -1,20 +1,15 @@
 //! A commit of all that is staged, and a count of what is false after it.
-ghost use Rattle.std.specs.Prelude.{◌≡◌, ◌≢◌, ℕ, ◌<◌, ◌≤◌, ◌^◌, true, [], length, Some, OnOk, IfErr, IfOk, IsSome};
+ghost use Rattle.std.specs.Prelude.{◌≡◌, ◌≢◌, ℕ, ◌<◌, true, length, Some, OnOk, IfOk, IsSome};
 ghost use Rattle.paraid_base.specs.History.{History};
 ghost use Rattle.paraid_core.specs.Calls.{CommitsWhole, MakesTransferCalls};
-ghost use Rattle.paraid_core.specs.CoreInvariant.{AreCopiesSynced};
-ghost use Rattle.paraid_core.specs.Cores.{CanCoreServe, CoreStandsFor, IsCoreHeld, IsCoreReady, batch_of, copied_of, core_down, core_rack, core_table, draft_of, meta_of, store_of};
-ghost use Rattle.paraid_core.specs.Lost.{CoreMarksLost, CoreTellsLosses};
-ghost use Rattle.paraid_core.specs.Steps.{AreUnsyncedCopied};
-ghost use Rattle.paraid_core.specs.Units.{IsRebuilding};
+ghost use Rattle.paraid_core.specs.Cores.{CoreStandsFor, IsCoreHeld, copied_of, core_rack, meta_of};
+ghost use Rattle.paraid_core.specs.Lost.{CoreTellsLosses};
 ghost use Rattle.paraid_image.specs.Out.{named_out};
-ghost use Rattle.paraid_rack.specs.declared.call.Power.TheVariants.{Spinning};
 ghost use Rattle.paraid_rack.specs.Told.{CrashTriple, Ran};
 ghost use Rattle.paraid_rack.specs.Trail.{Trail, now};
 ghost use Rattle.paraid_scrub.specs.Counts.{no_faults};
-ghost use Rattle.paraid_txn.specs.Losses.{AreTwoDown};
-ghost use Rattle.paraid_txn.specs.Stores.{named_of};
-ghost use Rattle.paraid_controller.specs.Checked.{CountsCommitted};
+ghost use Rattle.paraid_shift.specs.Parts.{KeepsRack};
+ghost use Rattle.paraid_controller.specs.Checked.{CanBeCounted, CountsCommitted, LeavesCounted};
 
 use paraid_base::{Out, Two};
 use paraid_core::Core;
@@ -43,30 +38,11 @@ fn is_another_out(out: Out, before: Out) -> bool
 
 /// Commits all that is staged, and counts what is false then. Where a disk is lost in the commit nothing is counted.
 pub(crate) fn commit_and_count<R: Rack>(core: &mut Core<R>) -> Result<CheckReport, Two>
-    requires ready { IsCoreReady R.slot_count R.slot core.old }
-    requires serves { CanCoreServe R.slot core.old }
-    // the disk that is being rebuilt spins
-    requires fresh { (d : ℕ) → IsRebuilding (meta_of core.old) d
-        → (R.slot (core_rack core.old) d).power ≡ Spinning }
-    requires no_draft { draft_of core.old ≡ [] }
-    requires epoch { (meta_of core.old).epoch < 2 ^ 63 }
-    requires copies_synced { AreCopiesSynced (meta_of core.old).setup.geometry.disks (copied_of core.old) }
+    requires can { CanBeCounted core.old }
     ensures copied { copied_of core.new ≡ copied_of core.old }
-    ensures draft { OnOk result (draft_of core.new ≡ []) }
-    ensures slots { R.slot_count (core_rack core.new) ≡ R.slot_count (core_rack core.old) }
-    ensures table { OnOk result (core_table core.new ≡ core_table core.old) }
-    ensures nothing { OnOk result (batch_of core.new ≡ []) }
-    ensures ready { OnOk result (IsCoreReady R.slot_count R.slot core.new) }
-    ensures serves { OnOk result (CanCoreServe R.slot core.new) }
-    ensures setup { OnOk result ((meta_of core.new).setup ≡ (meta_of core.old).setup) }
-    ensures writes { OnOk result ((meta_of core.new).writes ≡ (meta_of core.old).writes) }
-    ensures unsynced { OnOk result (AreUnsyncedCopied R.slot core.old → AreUnsyncedCopied R.slot core.new) }
-    ensures named { OnOk result (named_of (store_of core.new) ≡ named_out (meta_of core.old).out) }
-    ensures marks { OnOk result (CoreMarksLost R.slot core.old core.new) }
-    ensures two { IfErr result (AreTwoDown (core_down core.old)
-        (R.slot (core_rack core.old)) (R.slot (core_rack core.new))) }
-    ensures tells { IfErr result (CoreTellsLosses R.told (named_out (meta_of core.old).out) core.old core.new) }
-    ensures no_fall { (d : ℕ) → (R.slot (core_rack core.old) d).faults ≤ (R.slot (core_rack core.new) d).faults }
+    ensures leaves { OnOk result (LeavesCounted core.old core.new) }
+    ensures rack { KeepsRack core.old core.new
+        (CoreTellsLosses R.told (named_out (meta_of core.old).out) core.old core.new) result }
     ensures calls { MakesTransferCalls R.told core.old core.new }
     ensures whole { CommitsWhole R.slot_count R.told core.old core.new }
     // Each stop leaves what it left before or all writes, and at the end all writes.

@@ -6,7 +6,7 @@ ghost use Rattle.paraid_recover.specs.Mount.{IsCauseOfRefusal};
 ghost use Rattle.paraid_controller.specs.Begun.{IsMountedCore};
 ghost use Rattle.paraid_session.specs.Mount.{IsMountedFromEach, IsRefusedFromEach};
 ghost use Rattle.paraid_recover.specs.StartRefusals.{refusal_by_fault};
-ghost use Rattle.paraid_controller.specs.Arrays.{ArrayStandsAt, HasNothingStaged, core_of_array, energy_of_array, halt_of_array, meta_of_array, setup_of_array, slot_of_array, slots_of_array, told_of_array};
+ghost use Rattle.paraid_controller.specs.Arrays.{ArrayStandsAt, CountsNothing, HasNothingStaged, core_of_array, halt_of_array, meta_of_array, setup_of_array, slot_of_array, slots_of_array, told_of_array};
 
 use crate::Array;
 use crate::begin::{Begun, mount_core};
@@ -25,7 +25,7 @@ pub fn mount_array<R: Rack>(alloc: Global, rack: R) -> Result<Array<R>, MountRef
         ≤ (R.slot refused.rack d).faults) }
     ensures nothing { IfOk result HasNothingStaged }
     ensures setup { IfOk result (λ array. setup_of_array array ≡ (meta_of_array array).setup) }
-    ensures energy { IfOk result (λ array. energy_of_array array ≡ 0) }
+    ensures counts { IfOk result CountsNothing }
     // Held or not, it serves what stood on the disks.
     ensures served { IfOk result (λ array. IsMountedCore R.slot R.told (R.slot_count rack)
         (R.slot rack) (R.told rack) (core_of_array array)) }

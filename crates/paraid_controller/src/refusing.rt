@@ -5,7 +5,6 @@ ghost use Rattle.paraid_base.specs.declared.event.Event.{Event as EventType};
 ghost use Rattle.paraid_base.specs.declared.event.Event.TheVariants.{Energy as AskEnergy, State as AskState};
 ghost use Rattle.paraid_base.specs.declared.fault.Halt.TheVariants.{Worn};
 ghost use Rattle.paraid_base.specs.Log.{worn_at};
-ghost use Rattle.paraid_image.specs.Out.{named_out};
 ghost use Rattle.paraid_machine.specs.Machine.{block_count, state_status};
 ghost use Rattle.paraid_session.specs.Turn.{Point, may_halt};
 ghost use Rattle.paraid_trace.specs.Answered.{answer_of, answer_with};
@@ -19,7 +18,7 @@ use paraid_trace::{Answered, Beside, Brief};
 
 impl<R: Rack> Array<R> {
     ghost use Rattle.paraid_controller.specs.Lasting.{TellsItsWear};
-    ghost use Rattle.paraid_controller.specs.Arrays.{AnswersEvent, ArrayStandsAt, core_of_array, down_of_array, halt_of_array, setup_of_array, shown_of_array};
+    ghost use Rattle.paraid_controller.specs.Arrays.{AnswersEvent, ArrayStandsAt, core_of_array, halt_of_array, setup_of_array, shown_of_array};
     ghost use Rattle.paraid_serve.specs.Causes.{state_shown};
 
     /// The halt that each event gives from now on, if it has halted.
@@ -36,7 +35,8 @@ impl<R: Rack> Array<R> {
     /// Its gear, after a halt that before it.
     pub fn gear(&self) -> u8
         ensures point { (p : Point) → ArrayStandsAt R.slot_count R.told self.now p → result ≡ p.state.gear }
-        ensures shown { halt_of_array self.now ≡ None → result ≡ (meta_of (core_of_array self.now)).gear }
+        // Over every rack it is what is seen.
+        ensures shown { result ≡ (shown_of_array R.slot self.now).gear }
     {
         match self.ended {
             Some(ended) => ended.gear,
@@ -65,7 +65,6 @@ impl<R: Rack> Array<R> {
         requires going { halt_of_array self.now ≡ None }
         ensures point { (p : Point) → ArrayStandsAt R.slot_count R.told self.now p
             → result ≡ state_status (setup_of_array self.now) (length p.history) p.state }
-        ensures down { named_out result.out ≡ down_of_array self.now }
         // Over every rack it is that of the meta and the dirty cells.
         ensures shown { result ≡ state_status (setup_of_array self.now) (meta_of (core_of_array self.now)).writes
             (state_shown (shown_of_array R.slot self.now)) }

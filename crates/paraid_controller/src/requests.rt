@@ -20,7 +20,8 @@ const MOST: u32 = 1048576;
 
 // One request more, of which no more are counted than a sample may have.
 fn one_more(served: u32) -> u32
-    ensures { (n : ℕ) → served ≡ sample_of n → result ≡ sample_of (n + 1) }
+    ensures more { (n : ℕ) → served ≡ sample_of n → result ≡ sample_of (n + 1) }
+    ensures cut { sample_of result ≡ sample_of (sample_of served + 1) }
 {
     if served < MOST { served + 1 } else { served }
 }

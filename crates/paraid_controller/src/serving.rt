@@ -11,7 +11,7 @@ use paraid_serve::Serves;
 use paraid_trace::{Answered, Asked, Beside, Brief};
 
 impl<R: Rack> Array<R> {
-    ghost use Rattle.paraid_controller.specs.Arrays.{AnswersEvent, down_of_array, halt_of_array, setup_of_array, slot_of_array, slots_of_array, told_of_array};
+    ghost use Rattle.paraid_controller.specs.Arrays.{AnswersEvent, halt_of_array};
 
     // The answer to a flush.
     fn flush_told(&mut self) -> Brief
@@ -63,7 +63,7 @@ impl<R: Rack> Array<R> {
 }
 
 impl<R: Rack> Serves for Array<R> {
-    ghost use Rattle.paraid_controller.specs.Arrays.{ArrayStandsAt, down_of_array, halt_of_array, setup_of_array, shown_of_array, slot_of_array, slots_of_array, told_of_array};
+    ghost use Rattle.paraid_controller.specs.Arrays.{ArrayStandsAt, halt_of_array, setup_of_array, shown_of_array, slot_of_array, slots_of_array, told_of_array};
     ghost use Rattle.paraid_controller.specs.Laws.{absent_out, going_end, halt_at, not_double, shown_as};
     ghost use Rattle.paraid_gear.specs.ThreeWindows.{lengths_of};
 
@@ -76,8 +76,6 @@ impl<R: Rack> Serves for Array<R> {
     ghost slot = { slot_of_array R.slot };
 
     ghost halted = { halt_of_array };
-
-    ghost down = { down_of_array };
 
     ghost shown = { shown_of_array R.slot };
 

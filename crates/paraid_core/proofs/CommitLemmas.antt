@@ -449,9 +449,9 @@ module _ (slots : ℕ) (named : Option ℕ) (m : Meta) (table : List (List Bool)
     borne_at : (s t : Disks) → Agrees s slot → (k : HoldsBetweenCalls slots named m table batch copied h lo s) → IsCommitted s t k.base after batch → IsWitnessBorne (named_out m.out) t
     borne_at s t agrees k done x l names =
         let can = can_bear x l names in
-        done.borne x l names (λ was. k.borne x l (sym k.named_by ∙ was)) (λ here.
+        done.borne (λ here.
         let there = ap is_present (sym (agrees.power 2)) ∙ here in
-        (agrees.power 2 ∙ can.spins there, subst (λ (z : ℕ). 1 < z) (sym (agrees.size 2)) (can.within there)))
+        (agrees.power 2 ∙ can.spins there, subst (λ (z : ℕ). 1 < z) (sym (agrees.size 2)) (can.within there))) x l names
 
     commit_runs : (Q : Disks → Type 0)
         → ((s t : Disks) (k : HoldsBetweenCalls slots named m table batch copied h lo s) → IsCommitted s t k.base after batch → ((d : ℕ) → lost ≡ Some d → t.power d ≡ Absent)

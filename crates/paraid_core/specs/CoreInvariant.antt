@@ -6,19 +6,19 @@ use Rattle.paraid_base.specs.History.{History}
 use Rattle.paraid_base.specs.Regions.{disk_size, map_count}
 use Rattle.paraid_dirty.specs.Table.{is_dirty}
 use Rattle.paraid_moves.specs.Copying.{HoldsWithCopies}
-use Rattle.paraid_rack.specs.Atoms.{IsSure}
 use Rattle.paraid_rack.specs.declared.call.Power.TheVariants.{Spinning}
 use Rattle.paraid_rack.specs.Disks.{Disks, IsPresent, is_present}
 use Rattle.paraid_rack.specs.Slots.{Slot}
 use Rattle.paraid_record.specs.declared.meta.Meta.{Meta}
 use Rattle.paraid_record.specs.Range.{IsInRange}
 use Rattle.paraid_record.specs.Targets.{IsTargetInRange}
+pub use Rattle.paraid_txn.specs.Borne.{IsWitnessBorne}
 use Rattle.paraid_txn.specs.Commit.{IsNext, gone_out}
 use Rattle.paraid_image.specs.Content.{view_by}
 use Rattle.paraid_image.specs.HeldAt.{IsHeld}
 use Rattle.paraid_image.specs.Out.{named_out}
 use Rattle.paraid_txn.specs.Ready.{AreTargetsReady}
-use Rattle.paraid_image.specs.Sides.{Batch, is_open, targets}
+use Rattle.paraid_image.specs.Sides.{Batch, targets}
 use Rattle.paraid_image.specs.Sound.{ContentOk}
 use Rattle.paraid_image.specs.Spot.{rising_to}
 use Rattle.paraid_image.specs.Standing.{Contents, contents}
@@ -37,10 +37,6 @@ is_copied copied d = slice_index_or copied d false
 -- no copy on one of the first `n` disks is unsynced
 abbrev pub AreCopiesSynced : ℕ → List Bool → Type 0
 AreCopiesSynced n copied = (d : ℕ) → d < n → is_copied copied d ≡ false
-
--- the witness against a log disk that is named out is borne, and kept
-abbrev pub IsWitnessBorne : Option ℕ → Disks → Type 0
-IsWitnessBorne named s = (x : ℕ) → x < 2 → named ≡ Some x → IsSure s 2 x (λ b. is_open b ≡ true)
 
 -- What the disks hold between two calls, where `named` is the disk that the meta of the last commit
 -- names out: the contents of that commit, `base` and `held`, which hold a first part of the writes;

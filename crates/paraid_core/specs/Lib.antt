@@ -17,3 +17,10 @@ pub mod Replaced
 pub mod Units
 pub mod Stood
 pub mod Lost
+pub mod Answers
+pub mod Serving
+pub mod Committing
+pub mod Copying
+pub mod Marking
+pub mod Turning
+pub mod Gathering

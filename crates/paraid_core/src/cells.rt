@@ -1,20 +1,14 @@
 //! Dirty cells of the disks that come up in a shift up are copied past the log to their hard places.
-ghost use Rattle.std.specs.Prelude.{◌≡◌, ℕ, ◌<◌, ◌≤◌, List, Option, Bool, true, false, [], OnOk, IfErr, Ok};
-ghost use Rattle.paraid_base.specs.declared.state.Out.TheVariants.{No};
+ghost use Rattle.std.specs.Prelude.{◌≡◌, ℕ, List, Option, Bool, false, [], Ok};
 ghost use Rattle.paraid_base.specs.History.{History};
-ghost use Rattle.paraid_base.specs.States.{rising_to};
 ghost use Rattle.paraid_core.specs.CellCopies.{CellsCopied, CopyingCell, KeepsCellCopies, copied_with};
 ghost use Rattle.paraid_core.specs.Fills.{KeepsFilled};
-ghost use Rattle.paraid_core.specs.Steps.{LeavesCore};
-ghost use Rattle.paraid_dirty.specs.Table.{is_dirty};
-ghost use Rattle.paraid_image.specs.Mark.{meta_after_loss};
 ghost use Rattle.paraid_rack.specs.Disks.{Disks};
-ghost use Rattle.paraid_rack.specs.Told.{Ran, CrashTriple};
 ghost use Rattle.paraid_record.specs.declared.meta.Meta.{Meta as MetaType};
-ghost use Rattle.paraid_txn.specs.Losses.{IsLostNow, OnlyLosesSlots, AreTwoDown};
-ghost use Rattle.paraid_core.specs.Calls.{MakesDataCalls};
-ghost use Rattle.paraid_image.specs.Out.{named_out as named_out_of};
-ghost use Rattle.paraid_core.specs.Lost.{CoreLosesDisk, CoreMarksLost, CoreTellsLosses};
+ghost use Rattle.paraid_core.specs.Lost.{CoreLosesDisk};
+ghost use Rattle.paraid_core.specs.Answers.{LosesGiven};
+ghost use Rattle.paraid_core.specs.Copying.{CanSyncCell, CopiesOrLoses, CopiesPastLog};
+ghost use Rattle.paraid_core.specs.Serving.{IsCoreInService};
 
 use crate::fill::mark;
 use crate::staged::{Core, put_out};
@@ -24,46 +18,18 @@ use paraid_rack::Rack;
 use paraid_view::read_value;
 
 impl<R: Rack> Core<R> {
-    ghost use Rattle.paraid_core.specs.Cores.{IsCoreHeldSinceCommit, IsCoreReady, CanCoreServe, CoreStandsFor, batch_of, core_down, draft_of, meta_of, core_rack, core_table};
+    ghost use Rattle.paraid_core.specs.Cores.{draft_of};
 
     // Writes the value of a dirty cell of a disk that comes up to its hard place. False where the
     // disk was lost.
     fn write_cell(&mut self, r: Row, disk: DiskNo, block: &Block) -> Result<bool, Two>
-        requires ready { IsCoreReady R.slot_count R.slot self.old }
-        requires serves { CanCoreServe R.slot self.old }
-        requires whole { (meta_of self.old).out ≡ No }
-        requires row { r < (meta_of self.old).setup.geometry.rows }
-        requires past_gear { (meta_of self.old).gear ≤ disk }
-        requires rises { disk < rising_to (meta_of self.old).phase }
-        requires dirty { is_dirty (core_table self.old) r disk ≡ true }
-        requires nothing { batch_of self.old ≡ [] }
-        ensures leaves { OnOk result (LeavesCore R.slot_count R.slot self.old self.new) }
-        ensures same { result ≡ Ok true → meta_of self.new ≡ meta_of self.old }
-        ensures slots { R.slot_count (core_rack self.new) ≡ R.slot_count (core_rack self.old) }
-        ensures spared { OnlyLosesSlots (R.slot (core_rack self.old)) (R.slot (core_rack self.new)) }
-        ensures two { IfErr result (AreTwoDown (core_down self.old)
-            (R.slot (core_rack self.old)) (R.slot (core_rack self.new))) }
-        ensures tells { IfErr result (CoreTellsLosses R.told (named_out_of (meta_of self.old).out) self.old self.new) }
-        ensures calls { MakesDataCalls R.told self.old self.new }
-        ensures marks { OnOk result (CoreMarksLost R.slot self.old self.new) }
-        ensures copied { result ≡ Ok true → (h : History) (lo : ℕ) (cells : ℕ → ℕ → Bool)
-            → Ran (R.told (core_rack self.old)) (R.told (core_rack self.new))
-            (CrashTriple (IsCoreHeldSinceCommit R.slot_count self.old h lo)
-            (CopyingCell R.slot_count self.old h lo cells r disk block.now)
-            (CellsCopied R.slot_count self.new h lo (copied_with cells r disk))) }
-        // The disk has failed, and is gone.
-        ensures gone { result ≡ Ok false → meta_of self.new ≡ meta_after_loss (meta_of self.old) disk }
-        ensures failed { result ≡ Ok false → IsLostNow (R.slot (core_rack self.old)) (R.slot (core_rack self.new)) disk }
-        ensures lost { result ≡ Ok false → (h : History) (lo : ℕ) (cells : ℕ → ℕ → Bool)
-            → Ran (R.told (core_rack self.old)) (R.told (core_rack self.new))
-            (CrashTriple (IsCoreHeldSinceCommit R.slot_count self.old h lo)
-            (CopyingCell R.slot_count self.old h lo cells r disk block.now)
-            (CoreStandsFor R.slot_count self.new h lo)) }
-        ensures moments { (h : History) (lo : ℕ) (cells : ℕ → ℕ → Bool)
-            → Ran (R.told (core_rack self.old)) (R.told (core_rack self.new))
-            (CrashTriple (IsCoreHeldSinceCommit R.slot_count self.old h lo)
-            (CopyingCell R.slot_count self.old h lo cells r disk block.now)
-            (IsCoreHeldSinceCommit R.slot_count self.old h lo)) }
+        requires serving { IsCoreInService self.old }
+        requires cell { CanSyncCell self.old r disk }
+        ensures copies { CopiesPastLog self.old self.new result }
+        ensures held { (cells : ℕ → ℕ → Bool) → CopiesOrLoses self.old self.new result
+            (λ h lo. CopyingCell R.slot_count self.old h lo cells r disk block.now)
+            (λ h lo. CellsCopied R.slot_count self.new h lo (copied_with cells r disk)) }
+        ensures loses { LosesGiven disk self.old self.new result }
     {
         let place = hard_place(&self.meta.setup.geometry, r);
         let answer = self.store.write_free(disk, place, block);
@@ -79,42 +45,16 @@ impl<R: Rack> Core<R> {
     ///
     /// True once the cell is copied. False where a disk was lost: that disk is out from then on.
     pub fn sync_cell(&mut self, r: Row, disk: DiskNo) -> Result<bool, Two>
-        requires ready { IsCoreReady R.slot_count R.slot self.old }
-        requires serves { CanCoreServe R.slot self.old }
+        requires serving { IsCoreInService self.old }
         requires no_draft { draft_of self.old ≡ [] }
-        requires whole { (meta_of self.old).out ≡ No }
-        requires row { r < (meta_of self.old).setup.geometry.rows }
-        requires past_gear { (meta_of self.old).gear ≤ disk }
-        requires rises { disk < rising_to (meta_of self.old).phase }
-        requires dirty { is_dirty (core_table self.old) r disk ≡ true }
-        requires nothing { batch_of self.old ≡ [] }
-        ensures leaves { OnOk result (LeavesCore R.slot_count R.slot self.old self.new) }
-        ensures same { result ≡ Ok true → meta_of self.new ≡ meta_of self.old }
-        ensures slots { R.slot_count (core_rack self.new) ≡ R.slot_count (core_rack self.old) }
-        ensures spared { OnlyLosesSlots (R.slot (core_rack self.old)) (R.slot (core_rack self.new)) }
-        ensures two { IfErr result (AreTwoDown (core_down self.old)
-            (R.slot (core_rack self.old)) (R.slot (core_rack self.new))) }
-        ensures tells { IfErr result (CoreTellsLosses R.told (named_out_of (meta_of self.old).out) self.old self.new) }
-        ensures calls { MakesDataCalls R.told self.old self.new }
-        ensures marks { OnOk result (CoreMarksLost R.slot self.old self.new) }
+        requires cell { CanSyncCell self.old r disk }
+        ensures copies { CopiesPastLog self.old self.new result }
         // The cells before it stay copied, and this one is.
-        ensures copied { result ≡ Ok true → (h : History) (lo : ℕ) (cells : ℕ → ℕ → Bool)
-            → Ran (R.told (core_rack self.old)) (R.told (core_rack self.new))
-            (CrashTriple (IsCoreHeldSinceCommit R.slot_count self.old h lo)
-            (CellsCopied R.slot_count self.old h lo cells)
-            (CellsCopied R.slot_count self.new h lo (copied_with cells r disk))) }
+        ensures held { (cells : ℕ → ℕ → Bool) → CopiesOrLoses self.old self.new result
+            (λ h lo. CellsCopied R.slot_count self.old h lo cells)
+            (λ h lo. CellsCopied R.slot_count self.new h lo (copied_with cells r disk)) }
         // A disk of the array has failed, and is gone.
         ensures failed { result ≡ Ok false → CoreLosesDisk R.slot self.old self.new }
-        ensures lost { result ≡ Ok false → (h : History) (lo : ℕ) (cells : ℕ → ℕ → Bool)
-            → Ran (R.told (core_rack self.old)) (R.told (core_rack self.new))
-            (CrashTriple (IsCoreHeldSinceCommit R.slot_count self.old h lo)
-            (CellsCopied R.slot_count self.old h lo cells)
-            (CoreStandsFor R.slot_count self.new h lo)) }
-        ensures moments { (h : History) (lo : ℕ) (cells : ℕ → ℕ → Bool)
-            → Ran (R.told (core_rack self.old)) (R.told (core_rack self.new))
-            (CrashTriple (IsCoreHeldSinceCommit R.slot_count self.old h lo)
-            (CellsCopied R.slot_count self.old h lo cells)
-            (IsCoreHeldSinceCommit R.slot_count self.old h lo)) }
     {
         let mut value = Block::zero();
         let Err(lost) = read_value(

@@ -1,6 +1,6 @@
 //! The read of a block, which in access mode brings a dirty cell back to its hard place.
 ghost use Rattle.paraid_record.specs.Modes.{is_access as is_access_in};
-ghost use Rattle.std.specs.Prelude.{◌≡◌, ℕ, ◌+◌, ◌^◌, ◌<◌, ◌≤◌, [], length, None, OnOk, IfErr, IsSome, Some, true, false, if◌then◌else◌};
+ghost use Rattle.std.specs.Prelude.{◌≡◌, ℕ, ◌+◌, ◌<◌, ◌≤◌, [], length, None, OnOk, IsSome, Some, false, if◌then◌else◌};
 ghost use Rattle.paraid_base.specs.Cells.{home_disk, home_row};
 ghost use Rattle.paraid_base.specs.History.{History, after_all as held_by};
 ghost use Rattle.paraid_base.specs.Log.{batch_room};
@@ -12,12 +12,9 @@ ghost use Rattle.paraid_image.specs.Standing.{contents};
 ghost use Rattle.paraid_image.specs.Value.{value as value_of};
 ghost use Rattle.paraid_rack.specs.Told.{Ran, CrashTriple};
 ghost use Rattle.paraid_rack.specs.Trail.{Trail, now};
-ghost use Rattle.paraid_txn.specs.Losses.{StaySynced, OnlyLosesSlots, AreTwoDown};
-ghost use Rattle.paraid_core.specs.Steps.{AreUnsyncedCopied};
 ghost use Rattle.paraid_core.specs.Cleaning.{CleansCell, cleaning as cleaning_in, is_cleaned, read_commits_first};
-ghost use Rattle.paraid_core.specs.Calls.{MakesTransferCalls, CommitsWhole, MakesDataCalls, RestsCommitted};
-ghost use Rattle.paraid_core.specs.Lost.{CoreMarksLost, CoreTellsLosses};
-ghost use Rattle.paraid_txn.specs.Stores.{named_of};
+ghost use Rattle.paraid_core.specs.Marking.{OnlyStages};
+ghost use Rattle.paraid_core.specs.Serving.{CanBeCommitted, IsCoreInService, MayCommit};
 
 use crate::staged::Core;
 use crate::take::take;
@@ -36,9 +33,7 @@ fn is_access(mode: Mode) -> bool
 }
 
 impl<R: Rack> Core<R> {
-    ghost use Rattle.paraid_core.specs.Down.{IsDownAfter};
-    ghost use Rattle.paraid_core.specs.CoreInvariant.{AreCopiesSynced};
-    ghost use Rattle.paraid_core.specs.Cores.{IsCoreHeld, IsCoreReady, CanCoreServe, CoreStandsFor, batch_of, copied_of, core_block_count, core_down, draft_of, meta_of, core_rack, store_of, core_table};
+    ghost use Rattle.paraid_core.specs.Cores.{IsCoreHeld, CoreStandsFor, batch_of, core_block_count, draft_of, meta_of, core_rack, core_table};
 
     // Whether a read of this cell cleans it.
     fn cleans(&self, r: Row, d: DiskNo) -> bool
@@ -55,23 +50,17 @@ impl<R: Rack> Core<R> {
 
     // Stages the value of a cell for its hard place, and makes it clean.
     fn clean(&mut self, r: Row, d: DiskNo, value: &Block)
-        requires ready { IsCoreReady R.slot_count R.slot self.old }
-        requires serves { CanCoreServe R.slot self.old }
+        requires serving { IsCoreInService self.old }
         requires row { r < (meta_of self.old).setup.geometry.rows }
         requires disk { d < (meta_of self.old).setup.geometry.disks }
         requires rises { d < rising_to_of (meta_of self.old).phase }
         requires whole { named_out_of (meta_of self.old).out ≡ None }
         requires room { length (batch_of self.old) + 3 ≤ batch_room }
-        ensures store { store_of self.new ≡ store_of self.old }
-        ensures meta { meta_of self.new ≡ meta_of self.old }
-        ensures copied { copied_of self.new ≡ copied_of self.old }
-        ensures draft { draft_of self.new ≡ [] }
+        ensures stages { OnlyStages self.old self.new }
         ensures staged { length (batch_of self.new) ≤ length (batch_of self.old) + 3 }
         ensures cleaned { is_dirty (core_table self.new) r d ≡ false }
         ensures bits { (q e : ℕ) → is_dirty (core_table self.new) q e
             ≡ table_with_bit (is_dirty (core_table self.old)) r d false q e }
-        ensures ready { IsCoreReady R.slot_count R.slot self.new }
-        ensures serves { CanCoreServe R.slot self.new }
         ensures stands { (h : History) (lo : ℕ) (t : Trail) → R.told (core_rack self.old) ≡ Some t
             → value.now ≡ value_of (view_by (meta_of self.old) (now t).power
             (contents (now t) (batch_of self.old))) r d
@@ -104,8 +93,7 @@ impl<R: Rack> Core<R> {
     // Cleans a cell if there was room kept for it, and it can still be cleaned.
     #[tactic(auto, using(crate::proofs::BitsLemmas::cell_kept, crate::proofs::BitsLemmas::cell_cleaned))]
     fn clean_in_room(&mut self, room: u8, r: Row, d: DiskNo, value: &Block)
-        requires ready { IsCoreReady R.slot_count R.slot self.old }
-        requires serves { CanCoreServe R.slot self.old }
+        requires serving { IsCoreInService self.old }
         requires no_draft { draft_of self.old ≡ [] }
         requires row { r < (meta_of self.old).setup.geometry.rows }
         requires disk { d < (meta_of self.old).setup.geometry.disks }
@@ -115,13 +103,8 @@ impl<R: Rack> Core<R> {
         ensures bits { CleansCell (meta_of self.new) (core_table self.old) (core_table self.new) r d }
         ensures nothing { room < 3 → (batch_of self.new ≡ batch_of self.old)
             × (core_table self.new ≡ core_table self.old) }
-        ensures store { store_of self.new ≡ store_of self.old }
-        ensures meta { meta_of self.new ≡ meta_of self.old }
-        ensures copied { copied_of self.new ≡ copied_of self.old }
-        ensures draft { draft_of self.new ≡ [] }
+        ensures stages { OnlyStages self.old self.new }
         ensures staged { length (batch_of self.new) ≤ length (batch_of self.old) + room }
-        ensures ready { IsCoreReady R.slot_count R.slot self.new }
-        ensures serves { CanCoreServe R.slot self.new }
         ensures stands { (h : History) (lo : ℕ) (t : Trail) → R.told (core_rack self.old) ≡ Some t
             → value.now ≡ value_of (view_by (meta_of self.old) (now t).power
             (contents (now t) (batch_of self.old))) r d
@@ -144,22 +127,16 @@ impl<R: Rack> Core<R> {
     /// hard place on a disk that comes up, and makes the cell clean. It first commits what is staged,
     /// where that leaves no room for this.
     pub fn read(&mut self, block: BlockNo, into: &mut Block) -> Result<(), Two>
-        requires ready { IsCoreReady R.slot_count R.slot self.old }
-        requires serves { CanCoreServe R.slot self.old }
+        requires serving { IsCoreInService self.old }
         requires block { block < core_block_count self.old }
         requires no_draft { draft_of self.old ≡ [] }
-        requires epoch { (meta_of self.old).epoch < 2 ^ 63 }
-        requires synced { AreCopiesSynced (meta_of self.old).setup.geometry.disks (copied_of self.old) }
+        requires committable { CanBeCommitted self.old }
 
         ensures draft { draft_of self.new ≡ [] }
-        ensures copied { copied_of self.new ≡ copied_of self.old }
-        ensures slots { R.slot_count (core_rack self.new) ≡ R.slot_count (core_rack self.old) }
-        ensures ready { OnOk result (IsCoreReady R.slot_count R.slot self.new) }
-        ensures serves { OnOk result (CanCoreServe R.slot self.new) }
-        ensures setup { OnOk result ((meta_of self.new).setup ≡ (meta_of self.old).setup) }
+        ensures commits { MayCommit
+            (read_commits_first (meta_of self.old) (core_table self.old) (batch_of self.old) block)
+            self.old self.new result }
         ensures writes { OnOk result ((meta_of self.new).writes ≡ (meta_of self.old).writes) }
-        ensures epoch { OnOk result ((meta_of self.new).epoch ≡ (meta_of self.old).epoch
-            + (if read_commits_first (meta_of self.old) (core_table self.old) (batch_of self.old) block then 1 else 0)) }
         ensures cleaned { OnOk result (is_cleaned (meta_of self.new) (core_table self.new)
             (home_row (meta_of self.old).setup.geometry.disks block)
             (home_disk (meta_of self.old).setup.geometry.disks block) ≡ false) }
@@ -171,31 +148,7 @@ impl<R: Rack> Core<R> {
             (home_row (meta_of self.old).setup.geometry.disks block)
             (home_disk (meta_of self.old).setup.geometry.disks block) ≡ false
             → (batch_of self.new ≡ batch_of self.old) × (core_table self.new ≡ core_table self.old)) }
-        ensures spared { OnlyLosesSlots (R.slot (core_rack self.old)) (R.slot (core_rack self.new)) }
-        ensures still_synced { OnOk result (StaySynced (R.slot (core_rack self.old)) (R.slot (core_rack self.new))) }
-        ensures unsynced { OnOk result (AreUnsyncedCopied R.slot self.old → AreUnsyncedCopied R.slot self.new) }
-        ensures two { IfErr result (AreTwoDown (core_down self.old)
-            (R.slot (core_rack self.old)) (R.slot (core_rack self.new))) }
-        ensures tells { IfErr result (CoreTellsLosses R.told (named_out_of (meta_of self.old).out) self.old self.new) }
-        ensures calls { MakesTransferCalls R.told self.old self.new }
-        // Where it commits first, one of two metas stands at each moment; else it writes nothing in the log.
-        ensures kept { read_commits_first (meta_of self.old) (core_table self.old) (batch_of self.old) block ≡ false → MakesDataCalls R.told self.old self.new }
-        ensures whole { read_commits_first (meta_of self.old) (core_table self.old) (batch_of self.old) block ≡ true
-            → CommitsWhole R.slot_count R.told self.old self.new }
-        ensures rest { OnOk result (read_commits_first (meta_of self.old) (core_table self.old) (batch_of self.old) block ≡ true
-            → RestsCommitted R.slot_count R.told self.old self.new) }
-        ensures names { OnOk result (named_of (store_of self.new)
-            ≡ (if read_commits_first (meta_of self.old) (core_table self.old) (batch_of self.old) block then named_out_of (meta_of self.old).out else named_of (store_of self.old))) }
-        // A disk that failed is marked as out and absent, and no other one has failed.
-        ensures marks { OnOk result (CoreMarksLost R.slot self.old self.new) }
-        ensures down { OnOk result (IsDownAfter (core_down self.old) (core_down self.new)
-            (R.slot (core_rack self.old)) (R.slot (core_rack self.new))) }
 
-        // Each stop leaves what it left before, and where it commits first, all writes.
-        ensures moments { (h : History) (lo : ℕ)
-            → Ran (R.told (core_rack self.old)) (R.told (core_rack self.new))
-            (CrashTriple (IsCoreHeld R.slot_count self.old h lo) (CoreStandsFor R.slot_count self.old h lo)
-            (IsCoreHeld R.slot_count self.old h lo)) }
         ensures stands { OnOk result ((h : History) (lo : ℕ)
             → Ran (R.told (core_rack self.old)) (R.told (core_rack self.new))
             (CrashTriple (IsCoreHeld R.slot_count self.old h lo) (CoreStandsFor R.slot_count self.old h lo)

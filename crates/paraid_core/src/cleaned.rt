@@ -9,6 +9,8 @@ ghost use Rattle.paraid_core.specs.Taken.{HasRoomForMap};
 ghost use Rattle.paraid_dirty.specs.Table.{is_dirty, table_with_bit};
 ghost use Rattle.paraid_image.specs.Neutral.{names_place};
 ghost use Rattle.paraid_rack.specs.Told.{CrashTriple, Ran};
+ghost use Rattle.paraid_core.specs.Marking.{OnlyStages};
+ghost use Rattle.paraid_core.specs.Serving.{IsCoreInService};
 
 use crate::staged::Core;
 use crate::take::take;
@@ -30,7 +32,7 @@ fn is_held(batch: &Batch, target: Target) -> bool
 }
 
 impl<R: Rack> Core<R> {
-    ghost use Rattle.paraid_core.specs.Cores.{CanCoreServe, IsCoreHeldSinceCommit, IsCoreReady, batch_of, copied_of, core_rack, core_table, draft_of, meta_of, store_of};
+    ghost use Rattle.paraid_core.specs.Cores.{IsCoreHeldSinceCommit, batch_of, core_rack, core_table, draft_of, meta_of};
 
     /// Whether the block of the map with the bits of a row can be staged on both log disks: there is room for it, or it is
     /// staged already.
@@ -49,23 +51,17 @@ impl<R: Rack> Core<R> {
     /// Marks a dirty cell of a disk that comes up as clean: its bit is cleared, and its block of the map is
     /// staged on both log disks. The cell is copied; the commit asks that each copy is synced.
     pub fn mark_cleaned(&mut self, r: Row, d: DiskNo)
-        requires ready { IsCoreReady R.slot_count R.slot self.old }
-        requires serves { CanCoreServe R.slot self.old }
+        requires serving { IsCoreInService self.old }
         requires no_draft { draft_of self.old ≡ [] }
         requires whole { (meta_of self.old).out ≡ No }
         requires row { r < (meta_of self.old).setup.geometry.rows }
         requires rises { d < rising_to (meta_of self.old).phase }
         requires dirty { is_dirty (core_table self.old) r d ≡ true }
         requires room { HasRoomForMap (meta_of self.old).setup.geometry (batch_of self.old) r }
-        ensures store { store_of self.new ≡ store_of self.old }
-        ensures meta { meta_of self.new ≡ meta_of self.old }
-        ensures copied { copied_of self.new ≡ copied_of self.old }
-        ensures draft { draft_of self.new ≡ [] }
+        ensures stages { OnlyStages self.old self.new }
         ensures staged { length (batch_of self.new) ≤ length (batch_of self.old) + 2 }
         ensures table { (q e : ℕ) → is_dirty (core_table self.new) q e
             ≡ table_with_bit (is_dirty (core_table self.old)) r d false q e }
-        ensures ready { IsCoreReady R.slot_count R.slot self.new }
-        ensures serves { CanCoreServe R.slot self.new }
         ensures marked { (h : History) (lo : ℕ) (cells : ℕ → ℕ → Bool) → cells r d ≡ true
             → Ran (R.told (core_rack self.old)) (R.told (core_rack self.new))
             (CrashTriple (IsCoreHeldSinceCommit R.slot_count self.old h lo)

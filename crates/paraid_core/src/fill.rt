@@ -1,22 +1,18 @@
 //! Stripes of the region of the new gear are copied past the log.
-ghost use Rattle.std.specs.Prelude.{◌≡◌, ◌≢◌, ℕ, ◌+◌, ◌<◌, ◌≤◌, true, false, [], None, OnOk, IfErr, Ok, Some};
-ghost use Rattle.paraid_base.specs.declared.block.Block.{Block as BlockType};
-ghost use Rattle.paraid_base.specs.declared.state.Out.TheVariants.{No};
+ghost use Rattle.std.specs.Prelude.{◌≡◌, ◌≢◌, ℕ, ◌+◌, ◌<◌, true, false, [], Ok};
 ghost use Rattle.paraid_base.specs.History.{History};
 ghost use Rattle.paraid_base.specs.Regions.{soft_place_of};
-ghost use Rattle.paraid_base.specs.Soft.{stripe_count};
 ghost use Rattle.paraid_base.specs.States.{phase_to};
 ghost use Rattle.paraid_core.specs.Fills.{Filled, Filling, member};
 ghost use Rattle.paraid_core.specs.CoreInvariant.{is_copied};
-ghost use Rattle.paraid_core.specs.Steps.{IsHeldStill, IsStillOut, LeavesCore, StandsStill};
-ghost use Rattle.paraid_image.specs.Mark.{meta_after_loss};
+ghost use Rattle.paraid_core.specs.Steps.{IsStillOut, StandsStill};
 ghost use Rattle.paraid_rack.specs.declared.call.Power.TheVariants.{Spinning};
 ghost use Rattle.paraid_rack.specs.Told.{Ran, CrashTriple};
-ghost use Rattle.paraid_txn.specs.Losses.{IsLostNow, OnlyLosesSlots, AreTwoDown};
 ghost use Rattle.paraid_txn.specs.Stores.{named_of};
-ghost use Rattle.paraid_core.specs.Calls.{MakesDataCalls};
-ghost use Rattle.paraid_image.specs.Out.{named_out as named_out_of};
-ghost use Rattle.paraid_core.specs.Lost.{CoreLosesDisk, CoreMarksLost, CoreTellsLosses};
+ghost use Rattle.paraid_core.specs.Lost.{CoreLosesDisk};
+ghost use Rattle.paraid_core.specs.Answers.{LosesGiven};
+ghost use Rattle.paraid_core.specs.Copying.{CanFillStripe, CopiesOrLoses, CopiesPastLog};
+ghost use Rattle.paraid_core.specs.Serving.{IsCoreInService};
 
 use crate::gather::gather;
 use crate::staged::{Core, put_out};
@@ -42,7 +38,7 @@ fn block_of(blocks: &[Block; 8], at: DiskNo) -> &Block
 }
 
 impl<R: Rack> Core<R> {
-    ghost use Rattle.paraid_core.specs.Cores.{IsCoreHeldSinceCommit, IsCoreReady, CanCoreServe, CoreStandsFor, batch_of, copied_of, core_down, draft_of, meta_of, core_rack, store_of, core_table};
+    ghost use Rattle.paraid_core.specs.Cores.{IsCoreHeldSinceCommit, IsCoreReady, draft_of, meta_of, core_rack, store_of};
 
     // Writes block `disk` of stripe `s` into its place in the region of the new gear. False where
     // the disk was lost.
@@ -55,38 +51,21 @@ impl<R: Rack> Core<R> {
     ) -> Result<bool, Two>
         requires ready { IsCoreReady R.slot_count R.slot self.old }
         requires still { IsStillOut (named_of (store_of self.old)) (meta_of self.old) }
-        requires whole { (meta_of self.old).out ≡ No }
-        requires shifts { 0 < phase_to (meta_of self.old).phase }
-        requires region { phase_to (meta_of self.old).phase < (meta_of self.old).setup.geometry.disks }
-        requires from { (meta_of self.old).fill ≤ s }
-        requires stripe { s < stripe_count (meta_of self.old).setup.geometry.disks
-            (meta_of self.old).setup.geometry.rows (phase_to (meta_of self.old).phase) }
-        requires nothing { batch_of self.old ≡ [] }
+        requires fills { CanFillStripe self.old s }
         requires disk { disk < (meta_of self.old).setup.geometry.disks }
         requires spins { (R.slot (core_rack self.old) disk).power ≡ Spinning }
         requires place { place ≡ soft_place_of (meta_of self.old).setup.geometry
             (phase_to (meta_of self.old).phase) s }
         requires within { place < (R.slot (core_rack self.old) disk).size }
-        ensures leaves { OnOk result (LeavesCore R.slot_count R.slot self.old self.new) }
-        ensures same { result ≡ Ok true → meta_of self.new ≡ meta_of self.old }
-        ensures slots { R.slot_count (core_rack self.new) ≡ R.slot_count (core_rack self.old) }
-        ensures spared { OnlyLosesSlots (R.slot (core_rack self.old)) (R.slot (core_rack self.new)) }
-        ensures two { IfErr result (AreTwoDown (core_down self.old)
-            (R.slot (core_rack self.old)) (R.slot (core_rack self.new))) }
-        ensures tells { IfErr result (CoreTellsLosses R.told (named_out_of (meta_of self.old).out) self.old self.new) }
-        ensures calls { MakesDataCalls R.told self.old self.new }
-        ensures marks { OnOk result (CoreMarksLost R.slot self.old self.new) }
+        ensures copies { CopiesPastLog self.old self.new result }
         ensures written { result ≡ Ok true → (h : History) (lo : ℕ) (blocks : _)
             → block.now ≡ member blocks disk
             → Ran (R.told (core_rack self.old)) (R.told (core_rack self.new))
             (CrashTriple (IsCoreHeldSinceCommit R.slot_count self.old h lo)
             (Filling R.slot_count self.old h lo s blocks disk)
             (Filling R.slot_count self.new h lo s blocks (disk + 1))) }
-        // The disk has failed, and is gone.
-        ensures gone { result ≡ Ok false → meta_of self.new ≡ meta_after_loss (meta_of self.old) disk }
-        ensures failed { result ≡ Ok false → IsLostNow (R.slot (core_rack self.old)) (R.slot (core_rack self.new)) disk }
-        ensures lost { result ≡ Ok false → (h : History) (lo : ℕ) → Ran (R.told (core_rack self.old)) (R.told (core_rack self.new))
-            (CrashTriple (IsCoreHeldSinceCommit R.slot_count self.old h lo) (CoreStandsFor R.slot_count self.old h lo) (CoreStandsFor R.slot_count self.new h lo)) }
+        ensures loses { LosesGiven disk self.old self.new result }
+        ensures lost { result ≡ Ok false → StandsStill R.slot_count R.told self.old self.new }
         ensures moments { (h : History) (lo : ℕ) → Ran (R.told (core_rack self.old)) (R.told (core_rack self.new))
             (CrashTriple (IsCoreHeldSinceCommit R.slot_count self.old h lo) (Filled R.slot_count self.old h lo s)
             (IsCoreHeldSinceCommit R.slot_count self.old h lo)) }
@@ -101,41 +80,14 @@ impl<R: Rack> Core<R> {
 
     // Writes the blocks of stripe `s` in ascending order of disks. False where a disk was lost.
     fn write_members(&mut self, s: u32, blocks: &[Block; 8]) -> Result<bool, Two>
-        requires ready { IsCoreReady R.slot_count R.slot self.old }
-        requires serves { CanCoreServe R.slot self.old }
-        requires whole { (meta_of self.old).out ≡ No }
-        requires shifts { 0 < phase_to (meta_of self.old).phase }
-        requires region { phase_to (meta_of self.old).phase < (meta_of self.old).setup.geometry.disks }
-        requires from { (meta_of self.old).fill ≤ s }
-        requires stripe { s < stripe_count (meta_of self.old).setup.geometry.disks
-            (meta_of self.old).setup.geometry.rows (phase_to (meta_of self.old).phase) }
-        requires nothing { batch_of self.old ≡ [] }
-        ensures leaves { OnOk result (LeavesCore R.slot_count R.slot self.old self.new) }
-        ensures same { result ≡ Ok true → meta_of self.new ≡ meta_of self.old }
-        ensures slots { R.slot_count (core_rack self.new) ≡ R.slot_count (core_rack self.old) }
-        ensures spared { OnlyLosesSlots (R.slot (core_rack self.old)) (R.slot (core_rack self.new)) }
-        ensures two { IfErr result (AreTwoDown (core_down self.old)
-            (R.slot (core_rack self.old)) (R.slot (core_rack self.new))) }
-        ensures tells { IfErr result (CoreTellsLosses R.told (named_out_of (meta_of self.old).out) self.old self.new) }
-        ensures calls { MakesDataCalls R.told self.old self.new }
-        ensures marks { OnOk result (CoreMarksLost R.slot self.old self.new) }
-        ensures filled { result ≡ Ok true → (h : History) (lo : ℕ)
-            → Ran (R.told (core_rack self.old)) (R.told (core_rack self.new))
-            (CrashTriple (IsCoreHeldSinceCommit R.slot_count self.old h lo)
-            (Filling R.slot_count self.old h lo s blocks.now 0)
-            (Filled R.slot_count self.new h lo (s + 1))) }
+        requires serving { IsCoreInService self.old }
+        requires fills { CanFillStripe self.old s }
+        ensures copies { CopiesPastLog self.old self.new result }
+        ensures held { CopiesOrLoses self.old self.new result
+            (λ h lo. Filling R.slot_count self.old h lo s blocks.now 0)
+            (λ h lo. Filled R.slot_count self.new h lo (s + 1)) }
         // A disk of the array has failed, and is gone.
         ensures failed { result ≡ Ok false → CoreLosesDisk R.slot self.old self.new }
-        ensures lost { result ≡ Ok false → (h : History) (lo : ℕ)
-            → Ran (R.told (core_rack self.old)) (R.told (core_rack self.new))
-            (CrashTriple (IsCoreHeldSinceCommit R.slot_count self.old h lo)
-            (Filling R.slot_count self.old h lo s blocks.now 0)
-            (CoreStandsFor R.slot_count self.new h lo)) }
-        ensures moments { (h : History) (lo : ℕ)
-            → Ran (R.told (core_rack self.old)) (R.told (core_rack self.new))
-            (CrashTriple (IsCoreHeldSinceCommit R.slot_count self.old h lo)
-            (Filling R.slot_count self.old h lo s blocks.now 0)
-            (IsCoreHeldSinceCommit R.slot_count self.old h lo)) }
     {
         let to = self.meta.phase.to();
         let place = soft_place(&self.meta.setup.geometry, to, s);
@@ -155,40 +107,15 @@ impl<R: Rack> Core<R> {
     /// order of disks. True once the stripe is copied. False where a disk was lost: that disk is out
     /// from then on, and the stripe does not count.
     pub fn fill_stripe(&mut self, s: u32) -> Result<bool, Two>
-        requires ready { IsCoreReady R.slot_count R.slot self.old }
-        requires serves { CanCoreServe R.slot self.old }
+        requires serving { IsCoreInService self.old }
         requires no_draft { draft_of self.old ≡ [] }
-        requires whole { (meta_of self.old).out ≡ No }
-        requires shifts { 0 < phase_to (meta_of self.old).phase }
-        requires region { phase_to (meta_of self.old).phase < (meta_of self.old).setup.geometry.disks }
-        requires from { (meta_of self.old).fill ≤ s }
-        requires stripe { s < stripe_count (meta_of self.old).setup.geometry.disks
-            (meta_of self.old).setup.geometry.rows (phase_to (meta_of self.old).phase) }
-        requires nothing { batch_of self.old ≡ [] }
-        ensures leaves { OnOk result (LeavesCore R.slot_count R.slot self.old self.new) }
-        ensures same { result ≡ Ok true → meta_of self.new ≡ meta_of self.old }
-        ensures slots { R.slot_count (core_rack self.new) ≡ R.slot_count (core_rack self.old) }
-        ensures spared { OnlyLosesSlots (R.slot (core_rack self.old)) (R.slot (core_rack self.new)) }
-        ensures two { IfErr result (AreTwoDown (core_down self.old)
-            (R.slot (core_rack self.old)) (R.slot (core_rack self.new))) }
-        ensures tells { IfErr result (CoreTellsLosses R.told (named_out_of (meta_of self.old).out) self.old self.new) }
-        ensures calls { MakesDataCalls R.told self.old self.new }
-        ensures marks { OnOk result (CoreMarksLost R.slot self.old self.new) }
-        // The stripes before it stay copied, and this one is.
-        ensures filled { result ≡ Ok true → (h : History) (lo : ℕ)
-            → Ran (R.told (core_rack self.old)) (R.told (core_rack self.new))
-            (CrashTriple (IsCoreHeldSinceCommit R.slot_count self.old h lo) (Filled R.slot_count self.old h lo s)
-            (Filled R.slot_count self.new h lo (s + 1))) }
+        requires fills { CanFillStripe self.old s }
+        ensures copies { CopiesPastLog self.old self.new result }
+        ensures held { CopiesOrLoses self.old self.new result
+            (λ h lo. Filled R.slot_count self.old h lo s)
+            (λ h lo. Filled R.slot_count self.new h lo (s + 1)) }
         // A disk of the array has failed, and is gone.
         ensures failed { result ≡ Ok false → CoreLosesDisk R.slot self.old self.new }
-        ensures lost { result ≡ Ok false → (h : History) (lo : ℕ)
-            → Ran (R.told (core_rack self.old)) (R.told (core_rack self.new))
-            (CrashTriple (IsCoreHeldSinceCommit R.slot_count self.old h lo) (Filled R.slot_count self.old h lo s)
-            (CoreStandsFor R.slot_count self.new h lo)) }
-        ensures moments { (h : History) (lo : ℕ)
-            → Ran (R.told (core_rack self.old)) (R.told (core_rack self.new))
-            (CrashTriple (IsCoreHeldSinceCommit R.slot_count self.old h lo) (Filled R.slot_count self.old h lo s)
-            (IsCoreHeldSinceCommit R.slot_count self.old h lo)) }
     {
         let mut blocks = [
             Block::zero(),

@@ -1,15 +1,14 @@
 //! The blocks of a stripe of the region of the new gear, read by the values of its cells.
-ghost use Rattle.std.specs.Prelude.{◌≡◌, ◌≢◌, ℕ, ◌+◌, ◌-◌, ◌<◌, ◌≤◌, ◌++◌, None, Some, OnOk, IfErr, IsSome, length};
-ghost use Rattle.paraid_base.specs.Regions.{IsGear};
+ghost use Rattle.std.specs.Prelude.{◌≡◌, ◌≢◌, ℕ, ◌+◌, ◌-◌, ◌<◌, ◌++◌, None, OnOk, IfErr, IsSome};
 ghost use Rattle.paraid_base.specs.Skips.{place_among};
-ghost use Rattle.paraid_base.specs.Soft.{soft_parity_disk, stripe_count};
+ghost use Rattle.paraid_base.specs.Soft.{soft_parity_disk};
 ghost use Rattle.paraid_base.specs.Sums.{without, xor_upto};
 ghost use Rattle.paraid_core.specs.Fills.{member};
 ghost use Rattle.paraid_image.specs.Standing.{Contents};
 ghost use Rattle.paraid_moves.specs.MoveMetas.{copies, copied_block};
-ghost use Rattle.paraid_record.specs.Range.{IsInRange};
 ghost use Rattle.paraid_txn.specs.Stores.{disks_of, store_rack};
-ghost use Rattle.paraid_view.specs.Reads.{CanRead, HaveRead, ShowsContents, lost_by, seen_by};
+ghost use Rattle.paraid_view.specs.Reads.{HaveRead, ShowsContents, lost_by, seen_by};
+ghost use Rattle.paraid_core.specs.Gathering.{CanGather};
 
 use paraid_base::{Block, DiskNo};
 use paraid_dirty::DirtyTable;
@@ -55,16 +54,9 @@ fn read_copy<R: Rack>(
     disk: DiskNo,
     into: &mut Block,
 ) -> Result<(), DiskNo>
-    requires in_range { IsInRange meta.now }
-    requires gear { IsGear meta.now.setup.geometry to }
-    requires region { to < meta.now.setup.geometry.disks }
-    requires stripe { s < stripe_count meta.now.setup.geometry.disks meta.now.setup.geometry.rows to }
+    requires gathers { CanGather store.old meta.now dirty.now to s }
     requires disk { disk < to }
     requires apart { disk ≢ soft_parity_disk to s }
-    requires rows { length dirty.now ≡ meta.now.setup.geometry.rows }
-    requires array { meta.now.setup.geometry.disks ≡ disks_of store.old }
-    requires ready { CanRead (R.slot_count (store_rack store.old)) (R.slot (store_rack store.old))
-        meta.now None }
     ensures read { HaveRead R.slot_count R.slot R.told (disks_of store.old) (lost_by result)
         store.old store.new }
     ensures below { IfErr result (λ e. e < disks_of store.old) }
@@ -94,15 +86,8 @@ fn gather_one<R: Rack>(
     blocks: &mut [Block; 8],
     sum: &mut Block,
 ) -> Result<(), DiskNo>
-    requires in_range { IsInRange meta.now }
-    requires gear { IsGear meta.now.setup.geometry to }
-    requires region { to < meta.now.setup.geometry.disks }
-    requires stripe { s < stripe_count meta.now.setup.geometry.disks meta.now.setup.geometry.rows to }
+    requires gathers { CanGather store.old meta.now dirty.now to s }
     requires disk { disk < to }
-    requires rows { length dirty.now ≡ meta.now.setup.geometry.rows }
-    requires array { meta.now.setup.geometry.disks ≡ disks_of store.old }
-    requires ready { CanRead (R.slot_count (store_rack store.old)) (R.slot (store_rack store.old))
-        meta.now None }
     ensures read { HaveRead R.slot_count R.slot R.told (disks_of store.old) (lost_by result)
         store.old store.new }
     ensures below { IfErr result (λ e. e < disks_of store.old) }
@@ -138,14 +123,7 @@ pub(crate) fn gather<R: Rack>(
     s: u32,
     blocks: &mut [Block; 8],
 ) -> Result<(), DiskNo>
-    requires in_range { IsInRange meta.now }
-    requires gear { IsGear meta.now.setup.geometry to }
-    requires region { to < meta.now.setup.geometry.disks }
-    requires stripe { s < stripe_count meta.now.setup.geometry.disks meta.now.setup.geometry.rows to }
-    requires rows { length dirty.now ≡ meta.now.setup.geometry.rows }
-    requires array { meta.now.setup.geometry.disks ≡ disks_of store.old }
-    requires ready { CanRead (R.slot_count (store_rack store.old)) (R.slot (store_rack store.old))
-        meta.now None }
+    requires gathers { CanGather store.old meta.now dirty.now to s }
     ensures read { HaveRead R.slot_count R.slot R.told (disks_of store.old) (lost_by result)
         store.old store.new }
     ensures below { IfErr result (λ e. e < disks_of store.old) }

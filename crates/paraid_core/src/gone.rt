@@ -2,8 +2,8 @@
 //! to the disks. No call is made.
 ghost use Rattle.std.specs.Prelude.{◌≡◌, ◌≢◌, ℕ, ◌<◌, length, slice_index};
 ghost use Rattle.paraid_base.specs.declared.state.Out.TheVariants.{Gone};
-ghost use Rattle.paraid_base.specs.History.{History};
-ghost use Rattle.paraid_rack.specs.Told.{CrashTriple, Ran};
+ghost use Rattle.paraid_core.specs.Marking.{OnlyMarks};
+ghost use Rattle.paraid_core.specs.Steps.{StandsStill};
 
 use crate::staged::Core;
 use paraid_base::DiskNo;
@@ -20,7 +20,7 @@ fn forget(spins: &mut [u16; 8], disk: DiskNo)
 }
 
 impl<R: Rack> Core<R> {
-    ghost use Rattle.paraid_core.specs.Cores.{CanCoreServe, CoreStandsFor, IsCoreHeldSinceCommit, IsCoreReady, batch_of, copied_of, core_rack, core_table, draft_of, meta_of, store_of};
+    ghost use Rattle.paraid_core.specs.Cores.{CanCoreServe, IsCoreReady, meta_of};
 
     /// Forgets the spin-ups of the disk that is gone.
     pub fn clear_spins(&mut self, disk: DiskNo)
@@ -30,17 +30,9 @@ impl<R: Rack> Core<R> {
         ensures cleared { slice_index (meta_of self.new).spins disk ≡ 0 }
         ensures others { (e : ℕ) → e ≢ disk
             → slice_index (meta_of self.new).spins e ≡ slice_index (meta_of self.old).spins e }
-        ensures store { store_of self.new ≡ store_of self.old }
-        ensures table { core_table self.new ≡ core_table self.old }
-        ensures batch { batch_of self.new ≡ batch_of self.old }
-        ensures copied { copied_of self.new ≡ copied_of self.old }
-        ensures draft { draft_of self.new ≡ draft_of self.old }
-        ensures ready { IsCoreReady R.slot_count R.slot self.new }
+        ensures marks { OnlyMarks self.old self.new }
         ensures serves { CanCoreServe R.slot self.old → CanCoreServe R.slot self.new }
-        ensures stands { (h : History) (lo : ℕ)
-            → Ran (R.told (core_rack self.old)) (R.told (core_rack self.new))
-            (CrashTriple (IsCoreHeldSinceCommit R.slot_count self.old h lo)
-            (CoreStandsFor R.slot_count self.old h lo) (CoreStandsFor R.slot_count self.new h lo)) }
+        ensures stands { StandsStill R.slot_count R.told self.old self.new }
     {
         forget(&mut self.meta.spins, disk);
     }

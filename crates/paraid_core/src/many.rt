@@ -1,5 +1,5 @@
 //! The write of one to eight blocks as one entry, which first commits what leaves no room for it.
-ghost use Rattle.std.specs.Prelude.{◌≡◌, ℕ, ◌+◌, ◌*◌, ◌^◌, ◌<◌, ◌≤◌, ◌∷◌, ◌++◌, [], length, Some, All, OnOk, IfErr, if◌then◌else◌, false, true};
+ghost use Rattle.std.specs.Prelude.{◌≡◌, ℕ, ◌+◌, ◌*◌, ◌^◌, ◌<◌, ◌≤◌, ◌∷◌, ◌++◌, [], length, Some, All, OnOk, if◌then◌else◌, false};
 ghost use Rattle.paraid_base.specs.declared.block.Block.{Block as BlockType};
 ghost use Rattle.paraid_base.specs.History.{History};
 ghost use Rattle.paraid_base.specs.Log.{batch_room};
@@ -8,10 +8,7 @@ ghost use Rattle.paraid_dirty.specs.Table.{is_dirty};
 ghost use Rattle.paraid_plan.specs.WrittenBits.{bits_after_block, bits_after_writes};
 ghost use Rattle.paraid_rack.specs.Told.{Ran, CrashTriple};
 ghost use Rattle.paraid_txn.specs.Commit.{gone_out as gone_out_of};
-ghost use Rattle.paraid_txn.specs.Losses.{StaySynced, OnlyLosesSlots, AreTwoDown};
-ghost use Rattle.paraid_core.specs.Calls.{MakesDataCalls, MakesTransferCalls, CommitsWhole, RestsCommitted};
-ghost use Rattle.paraid_core.specs.Lost.{CoreMarksLost, CoreTellsLosses, MakesReads};
-ghost use Rattle.paraid_image.specs.Out.{named_out as named_out_of};
+ghost use Rattle.paraid_core.specs.Serving.{CanBeCommitted, IsCoreInService, KeepsCells, MayCommit, ReadsAlone};
 
 use crate::staged::Core;
 use paraid_base::{BATCH_ROOM, Block, BlockNo, Pairs, Two};
@@ -21,62 +18,29 @@ use paraid_rack::Rack;
 const ROOM: u8 = BATCH_ROOM as u8;
 
 impl<R: Rack> Core<R> {
-    ghost use Rattle.paraid_core.specs.Cores.{IsCoreHeld, IsCoreHeldSinceCommit, IsCoreReady, CanCoreServe, CoreStandsFor, batch_of, copied_of, core_block_count, core_down, draft_of, meta_of, core_rack, core_table, store_of};
-    ghost use Rattle.paraid_core.specs.Cleaning.{is_cleaned};
+    ghost use Rattle.paraid_core.specs.Cores.{IsCoreHeld, IsCoreHeldSinceCommit, CoreStandsFor, batch_of, core_block_count, core_down, draft_of, meta_of, core_rack, core_table, store_of};
     ghost use Rattle.paraid_core.specs.Steps.{AreUnsyncedCopied};
-    ghost use Rattle.paraid_core.specs.Down.{IsDownAfter};
     ghost use Rattle.paraid_core.specs.Room.{commits_first};
-    ghost use Rattle.paraid_core.specs.CoreInvariant.{AreCopiesSynced};
     ghost use Rattle.paraid_txn.specs.Stores.{named_of};
 
     // Commits where more is staged than leaves room for so many targets.
     pub(crate) fn make_room(&mut self, targets: u8) -> Result<(), Two>
         requires few { targets ≤ 80 }
-        requires ready { IsCoreReady R.slot_count R.slot self.old }
-        requires serves { CanCoreServe R.slot self.old }
-        requires epoch { (meta_of self.old).epoch < 2 ^ 63 }
-        requires copies_synced { AreCopiesSynced (meta_of self.old).setup.geometry.disks (copied_of self.old) }
+        requires serving { IsCoreInService self.old }
+        requires committable { CanBeCommitted self.old }
 
-        ensures draft { draft_of self.new ≡ draft_of self.old }
-        ensures table { core_table self.new ≡ core_table self.old }
-        ensures copied { copied_of self.new ≡ copied_of self.old }
-        ensures slots { R.slot_count (core_rack self.new) ≡ R.slot_count (core_rack self.old) }
-        ensures ready { OnOk result (IsCoreReady R.slot_count R.slot self.new) }
-        ensures serves { OnOk result (CanCoreServe R.slot self.new) }
+        ensures cells { KeepsCells self.old self.new result }
+        ensures commits { MayCommit (commits_first (batch_of self.old) targets) self.old self.new result }
         ensures room { OnOk result (length (batch_of self.new) + targets ≤ batch_room) }
         ensures staged { OnOk result (length (batch_of self.new)
             ≤ (if commits_first (batch_of self.old) targets then 0 else length (batch_of self.old))) }
-        ensures cleans_less { OnOk result ((r d : ℕ)
-            → is_cleaned (meta_of self.old) (core_table self.old) r d ≡ false
-            → is_cleaned (meta_of self.new) (core_table self.new) r d ≡ false) }
         ensures nothing { OnOk result (targets ≡ 0 → (batch_of self.new ≡ batch_of self.old)
             × (core_table self.new ≡ core_table self.old)) }
-        ensures setup { OnOk result ((meta_of self.new).setup ≡ (meta_of self.old).setup) }
-        ensures writes { OnOk result ((meta_of self.new).writes ≡ (meta_of self.old).writes) }
-        ensures epoch { OnOk result ((meta_of self.new).epoch ≡ (meta_of self.old).epoch
-            + (if commits_first (batch_of self.old) targets then 1 else 0)) }
-        ensures spared { OnlyLosesSlots (R.slot (core_rack self.old)) (R.slot (core_rack self.new)) }
-        ensures still_synced { OnOk result (StaySynced (R.slot (core_rack self.old)) (R.slot (core_rack self.new))) }
-        ensures unsynced { OnOk result (AreUnsyncedCopied R.slot self.old → AreUnsyncedCopied R.slot self.new) }
-        ensures two { IfErr result (AreTwoDown (core_down self.old)
-            (R.slot (core_rack self.old)) (R.slot (core_rack self.new))) }
-        ensures tells { IfErr result (CoreTellsLosses R.told (named_out_of (meta_of self.old).out) self.old self.new) }
-        ensures calls { MakesTransferCalls R.told self.old self.new }
         ensures idle { commits_first (batch_of self.old) targets ≡ false → R.told (core_rack self.new) ≡ R.told (core_rack self.old) }
-        ensures whole { commits_first (batch_of self.old) targets ≡ true → CommitsWhole R.slot_count R.told self.old self.new }
-        ensures marks { OnOk result (CoreMarksLost R.slot self.old self.new) }
-        ensures names { OnOk result (named_of (store_of self.new)
-            ≡ (if commits_first (batch_of self.old) targets then named_out_of (meta_of self.old).out else named_of (store_of self.old))) }
-        ensures down { OnOk result (IsDownAfter (core_down self.old) (core_down self.new)
-            (R.slot (core_rack self.old)) (R.slot (core_rack self.new))) }
         ensures named { OnOk result ((d : ℕ) → named_of (store_of self.new) ≡ Some d
             → core_down self.old ≡ Some d) }
         ensures gone { OnOk result ((d : ℕ) → gone_out_of (meta_of self.old).out ≡ Some d
             → gone_out_of (meta_of self.new).out ≡ Some d) }
-        ensures moments { (h : History) (lo : ℕ)
-            → Ran (R.told (core_rack self.old)) (R.told (core_rack self.new))
-            (CrashTriple (IsCoreHeld R.slot_count self.old h lo) (CoreStandsFor R.slot_count self.old h lo)
-            (IsCoreHeld R.slot_count self.old h lo)) }
         ensures stands { OnOk result ((h : History) (lo : ℕ)
             → Ran (R.told (core_rack self.old)) (R.told (core_rack self.new))
             (CrashTriple (IsCoreHeld R.slot_count self.old h lo) (CoreStandsFor R.slot_count self.old h lo)
@@ -91,40 +55,19 @@ impl<R: Rack> Core<R> {
 
     // Plans the write, and where a disk fails in that plans it once more without this disk.
     fn write_whole(&mut self, pairs: &Pairs) -> Result<(), Two>
-        requires ready { IsCoreReady R.slot_count R.slot self.old }
-        requires serves { CanCoreServe R.slot self.old }
+        requires serving { IsCoreInService self.old }
         requires blocks { All (λ (pair : ℕ × BlockType). pair.0 < core_block_count self.old) (pairs_of pairs.now) }
         requires room { length (batch_of self.old) + 10 * pairs.now.count ≤ batch_room }
         requires fits { (meta_of self.old).writes + 1 < 2 ^ 64 }
 
         ensures draft { draft_of self.new ≡ [] }
-        ensures copied { copied_of self.new ≡ copied_of self.old }
-        ensures slots { R.slot_count (core_rack self.new) ≡ R.slot_count (core_rack self.old) }
-        ensures ready { OnOk result (IsCoreReady R.slot_count R.slot self.new) }
-        ensures serves { OnOk result (CanCoreServe R.slot self.new) }
+        ensures reads { ReadsAlone self.old self.new result }
         ensures staged { OnOk result (length (batch_of self.new)
             ≤ length (batch_of self.old) + 10 * pairs.now.count) }
         ensures bits { OnOk result (is_dirty (core_table self.new)
             ≡ bits_after_writes (meta_of self.new) (pairs_of pairs.now) (is_dirty (core_table self.old))) }
-        ensures setup { OnOk result ((meta_of self.new).setup ≡ (meta_of self.old).setup) }
         ensures writes { OnOk result ((meta_of self.new).writes ≡ (meta_of self.old).writes + 1) }
-        ensures epoch { OnOk result ((meta_of self.new).epoch ≡ (meta_of self.old).epoch) }
-        ensures spared { OnlyLosesSlots (R.slot (core_rack self.old)) (R.slot (core_rack self.new)) }
-        ensures still_synced { StaySynced (R.slot (core_rack self.old)) (R.slot (core_rack self.new)) }
         ensures unsynced { OnOk result (AreUnsyncedCopied R.slot self.old → AreUnsyncedCopied R.slot self.new) }
-        ensures two { IfErr result (AreTwoDown (core_down self.old)
-            (R.slot (core_rack self.old)) (R.slot (core_rack self.new))) }
-        ensures tells { IfErr result (CoreTellsLosses R.told (named_out_of (meta_of self.old).out) self.old self.new) }
-        ensures calls { MakesDataCalls R.told self.old self.new }
-        ensures reads { MakesReads R.told self.old self.new }
-        ensures marks { OnOk result (CoreMarksLost R.slot self.old self.new) }
-        ensures named { OnOk result (named_of (store_of self.new) ≡ named_of (store_of self.old)) }
-        ensures down { OnOk result (IsDownAfter (core_down self.old) (core_down self.new)
-            (R.slot (core_rack self.old)) (R.slot (core_rack self.new))) }
-        ensures moments { (h : History) (lo : ℕ)
-            → Ran (R.told (core_rack self.old)) (R.told (core_rack self.new))
-            (CrashTriple (IsCoreHeldSinceCommit R.slot_count self.old h lo) (CoreStandsFor R.slot_count self.old h lo)
-            (IsCoreHeldSinceCommit R.slot_count self.old h lo)) }
         ensures stands { OnOk result ((h : History) (lo : ℕ)
             → Ran (R.told (core_rack self.old)) (R.told (core_rack self.new))
             (CrashTriple (IsCoreHeldSinceCommit R.slot_count self.old h lo) (CoreStandsFor R.slot_count self.old h lo)
@@ -144,53 +87,21 @@ impl<R: Rack> Core<R> {
     ///
     /// It first commits what is staged, where that leaves no room for ten targets for each pair.
     pub fn write_many(&mut self, pairs: &Pairs) -> Result<(), Two>
-        requires ready { IsCoreReady R.slot_count R.slot self.old }
-        requires serves { CanCoreServe R.slot self.old }
+        requires serving { IsCoreInService self.old }
         requires blocks { All (λ (pair : ℕ × BlockType). pair.0 < core_block_count self.old) (pairs_of pairs.now) }
-        requires epoch { (meta_of self.old).epoch < 2 ^ 63 }
-        requires copies_synced { AreCopiesSynced (meta_of self.old).setup.geometry.disks (copied_of self.old) }
+        requires committable { CanBeCommitted self.old }
         requires fits { (meta_of self.old).writes + 1 < 2 ^ 64 }
 
         ensures draft { OnOk result (draft_of self.new ≡ []) }
-        ensures copied { copied_of self.new ≡ copied_of self.old }
-        ensures slots { R.slot_count (core_rack self.new) ≡ R.slot_count (core_rack self.old) }
-        ensures ready { OnOk result (IsCoreReady R.slot_count R.slot self.new) }
-        ensures serves { OnOk result (CanCoreServe R.slot self.new) }
+        ensures commits { MayCommit (commits_first (batch_of self.old) (10 * pairs.now.count)) self.old self.new result }
         ensures staged { OnOk result (length (batch_of self.new)
             ≤ (if commits_first (batch_of self.old) (10 * pairs.now.count) then 0 else length (batch_of self.old))
             + 10 * pairs.now.count) }
         // The dirty cells are those that the writes leave by the meta after them.
         ensures bits { OnOk result (is_dirty (core_table self.new)
             ≡ bits_after_writes (meta_of self.new) (pairs_of pairs.now) (is_dirty (core_table self.old))) }
-        ensures setup { OnOk result ((meta_of self.new).setup ≡ (meta_of self.old).setup) }
         ensures writes { OnOk result ((meta_of self.new).writes ≡ (meta_of self.old).writes + 1) }
-        ensures epoch { OnOk result ((meta_of self.new).epoch ≡ (meta_of self.old).epoch
-            + (if commits_first (batch_of self.old) (10 * pairs.now.count) then 1 else 0)) }
-        ensures spared { OnlyLosesSlots (R.slot (core_rack self.old)) (R.slot (core_rack self.new)) }
-        ensures still_synced { OnOk result (StaySynced (R.slot (core_rack self.old)) (R.slot (core_rack self.new))) }
-        ensures unsynced { OnOk result (AreUnsyncedCopied R.slot self.old → AreUnsyncedCopied R.slot self.new) }
-        ensures two { IfErr result (AreTwoDown (core_down self.old)
-            (R.slot (core_rack self.old)) (R.slot (core_rack self.new))) }
-        ensures tells { IfErr result (CoreTellsLosses R.told (named_out_of (meta_of self.old).out) self.old self.new) }
-        ensures calls { MakesTransferCalls R.told self.old self.new }
-        // Where it commits first, one of two metas stands at each moment; else it writes nothing in the log.
-        ensures kept { commits_first (batch_of self.old) (10 * pairs.now.count) ≡ false → MakesDataCalls R.told self.old self.new }
-        ensures whole { commits_first (batch_of self.old) (10 * pairs.now.count) ≡ true
-            → CommitsWhole R.slot_count R.told self.old self.new }
-        ensures rest { OnOk result (commits_first (batch_of self.old) (10 * pairs.now.count) ≡ true
-            → RestsCommitted R.slot_count R.told self.old self.new) }
-        ensures names { OnOk result (named_of (store_of self.new)
-            ≡ (if commits_first (batch_of self.old) (10 * pairs.now.count) then named_out_of (meta_of self.old).out else named_of (store_of self.old))) }
-        // A disk that failed is marked as out and absent, and no other one has failed.
-        ensures marks { OnOk result (CoreMarksLost R.slot self.old self.new) }
-        ensures down { OnOk result (IsDownAfter (core_down self.old) (core_down self.new)
-            (R.slot (core_rack self.old)) (R.slot (core_rack self.new))) }
 
-        // Each stop leaves what it left before, and where it commits first, all writes before this one.
-        ensures moments { (h : History) (lo : ℕ)
-            → Ran (R.told (core_rack self.old)) (R.told (core_rack self.new))
-            (CrashTriple (IsCoreHeld R.slot_count self.old h lo) (CoreStandsFor R.slot_count self.old h lo)
-            (IsCoreHeld R.slot_count self.old h lo)) }
         ensures stands { OnOk result ((h : History) (lo : ℕ)
             → Ran (R.told (core_rack self.old)) (R.told (core_rack self.new))
             (CrashTriple (IsCoreHeld R.slot_count self.old h lo) (CoreStandsFor R.slot_count self.old h lo)
@@ -204,49 +115,18 @@ impl<R: Rack> Core<R> {
 
     /// Writes one block.
     pub fn write(&mut self, block: BlockNo, bytes: &Block) -> Result<(), Two>
-        requires ready { IsCoreReady R.slot_count R.slot self.old }
-        requires serves { CanCoreServe R.slot self.old }
+        requires serving { IsCoreInService self.old }
         requires block { block < core_block_count self.old }
-        requires epoch { (meta_of self.old).epoch < 2 ^ 63 }
-        requires copies_synced { AreCopiesSynced (meta_of self.old).setup.geometry.disks (copied_of self.old) }
+        requires committable { CanBeCommitted self.old }
         requires fits { (meta_of self.old).writes + 1 < 2 ^ 64 }
 
         ensures draft { OnOk result (draft_of self.new ≡ []) }
-        ensures copied { copied_of self.new ≡ copied_of self.old }
-        ensures slots { R.slot_count (core_rack self.new) ≡ R.slot_count (core_rack self.old) }
-        ensures ready { OnOk result (IsCoreReady R.slot_count R.slot self.new) }
-        ensures serves { OnOk result (CanCoreServe R.slot self.new) }
+        ensures commits { MayCommit (commits_first (batch_of self.old) 10) self.old self.new result }
         ensures staged { OnOk result (length (batch_of self.new)
             ≤ (if commits_first (batch_of self.old) 10 then 0 else length (batch_of self.old)) + 10) }
         ensures bits { OnOk result (is_dirty (core_table self.new)
             ≡ bits_after_block (meta_of self.new) block (is_dirty (core_table self.old))) }
-        ensures setup { OnOk result ((meta_of self.new).setup ≡ (meta_of self.old).setup) }
         ensures writes { OnOk result ((meta_of self.new).writes ≡ (meta_of self.old).writes + 1) }
-        ensures epoch { OnOk result ((meta_of self.new).epoch ≡ (meta_of self.old).epoch
-            + (if commits_first (batch_of self.old) 10 then 1 else 0)) }
-        ensures spared { OnlyLosesSlots (R.slot (core_rack self.old)) (R.slot (core_rack self.new)) }
-        ensures still_synced { OnOk result (StaySynced (R.slot (core_rack self.old)) (R.slot (core_rack self.new))) }
-        ensures unsynced { OnOk result (AreUnsyncedCopied R.slot self.old → AreUnsyncedCopied R.slot self.new) }
-        ensures two { IfErr result (AreTwoDown (core_down self.old)
-            (R.slot (core_rack self.old)) (R.slot (core_rack self.new))) }
-        ensures tells { IfErr result (CoreTellsLosses R.told (named_out_of (meta_of self.old).out) self.old self.new) }
-        ensures calls { MakesTransferCalls R.told self.old self.new }
-        // Where it commits first, one of two metas stands at each moment; else it writes nothing in the log.
-        ensures kept { commits_first (batch_of self.old) 10 ≡ false → MakesDataCalls R.told self.old self.new }
-        ensures whole { commits_first (batch_of self.old) 10 ≡ true
-            → CommitsWhole R.slot_count R.told self.old self.new }
-        ensures rest { OnOk result (commits_first (batch_of self.old) 10 ≡ true
-            → RestsCommitted R.slot_count R.told self.old self.new) }
-        ensures names { OnOk result (named_of (store_of self.new)
-            ≡ (if commits_first (batch_of self.old) 10 then named_out_of (meta_of self.old).out else named_of (store_of self.old))) }
-        // A disk that failed is marked as out and absent, and no other one has failed.
-        ensures marks { OnOk result (CoreMarksLost R.slot self.old self.new) }
-        ensures down { OnOk result (IsDownAfter (core_down self.old) (core_down self.new)
-            (R.slot (core_rack self.old)) (R.slot (core_rack self.new))) }
-        ensures moments { (h : History) (lo : ℕ)
-            → Ran (R.told (core_rack self.old)) (R.told (core_rack self.new))
-            (CrashTriple (IsCoreHeld R.slot_count self.old h lo) (CoreStandsFor R.slot_count self.old h lo)
-            (IsCoreHeld R.slot_count self.old h lo)) }
         ensures stands { OnOk result ((h : History) (lo : ℕ)
             → Ran (R.told (core_rack self.old)) (R.told (core_rack self.new))
             (CrashTriple (IsCoreHeld R.slot_count self.old h lo) (CoreStandsFor R.slot_count self.old h lo)

@@ -1,5 +1,5 @@
 //! Marks of a shift: they are staged, and the next commit brings them to the disks. No call is made.
-ghost use Rattle.std.specs.Prelude.{◌≡◌, ◌≢◌, ℕ, ◌+◌, ◌<◌, ◌≤◌, ◌⊎◌, false, [], Some, length, min, slice_index};
+ghost use Rattle.std.specs.Prelude.{◌≡◌, ℕ, ◌+◌, ◌<◌, ◌≤◌, ◌⊎◌, false, [], Some, length, min, slice_index};
 ghost use Rattle.paraid_base.specs.declared.state.Out.TheVariants.{No};
 ghost use Rattle.paraid_base.specs.declared.state.Phase.TheVariants.{Down, Steady, Up};
 ghost use Rattle.paraid_base.specs.History.{History};
@@ -7,7 +7,7 @@ ghost use Rattle.paraid_base.specs.Soft.{stripe_count};
 ghost use Rattle.paraid_base.specs.States.{phase_to};
 ghost use Rattle.paraid_core.specs.CoreInvariant.{AreCopiesSynced};
 ghost use Rattle.paraid_core.specs.Fills.{Filled};
-ghost use Rattle.paraid_core.specs.Steps.{IsStillOut};
+ghost use Rattle.paraid_core.specs.Steps.{IsStillOut, StandsStill};
 ghost use Rattle.paraid_image.specs.Mark.{meta_after_loss};
 ghost use Rattle.paraid_image.specs.Out.{named_out as named_out_of};
 ghost use Rattle.paraid_txn.specs.Stores.{named_of};
@@ -15,6 +15,8 @@ ghost use Rattle.paraid_dirty.specs.Table.{is_dirty};
 ghost use Rattle.paraid_moves.specs.MoveMetas.{filled_to, meta_after_begin, meta_flipped_to};
 ghost use Rattle.paraid_rack.specs.Told.{CrashTriple, Ran};
 ghost use Rattle.paraid_record.specs.Range.{AreNextGears, allowed_spins, fill_limit};
+ghost use Rattle.paraid_core.specs.Marking.{OnlyMarks};
+ghost use Rattle.paraid_core.specs.Serving.{IsCoreInService};
 
 use crate::staged::Core;
 use paraid_base::{DiskNo, Out, Phase};
@@ -35,7 +37,7 @@ fn count_spins(spins: &mut [u16; 8], lo: u8, hi: u8)
 }
 
 impl<R: Rack> Core<R> {
-    ghost use Rattle.paraid_core.specs.Cores.{CanCoreServe, CoreStandsFor, IsCoreHeldSinceCommit, IsCoreReady, batch_of, copied_of, core_rack, core_table, draft_of, meta_of, store_of};
+    ghost use Rattle.paraid_core.specs.Cores.{CanCoreServe, CoreStandsFor, IsCoreHeldSinceCommit, IsCoreReady, batch_of, copied_of, core_rack, core_table, meta_of, store_of};
 
     /// Marks the stripes below `end` as filled. They are copied, and each copy is synced.
     pub fn mark_filled(&mut self, end: u32)
@@ -45,12 +47,7 @@ impl<R: Rack> Core<R> {
         requires limit { end ≤ fill_limit (meta_of self.old).setup.geometry (meta_of self.old).phase }
         requires copies_synced { AreCopiesSynced (meta_of self.old).setup.geometry.disks (copied_of self.old) }
         ensures meta { meta_of self.new ≡ filled_to (meta_of self.old) end }
-        ensures store { store_of self.new ≡ store_of self.old }
-        ensures table { core_table self.new ≡ core_table self.old }
-        ensures batch { batch_of self.new ≡ batch_of self.old }
-        ensures copied { copied_of self.new ≡ copied_of self.old }
-        ensures draft { draft_of self.new ≡ draft_of self.old }
-        ensures ready { IsCoreReady R.slot_count R.slot self.new }
+        ensures marks { OnlyMarks self.old self.new }
         ensures serves { CanCoreServe R.slot self.old → CanCoreServe R.slot self.new }
         ensures stands { (h : History) (lo : ℕ)
             → Ran (R.told (core_rack self.old)) (R.told (core_rack self.new))
@@ -62,25 +59,16 @@ impl<R: Rack> Core<R> {
 
     /// Begins a shift down to the next lower gear.
     pub fn begin_down(&mut self, to: u8)
-        requires ready { IsCoreReady R.slot_count R.slot self.old }
-        requires serves { CanCoreServe R.slot self.old }
+        requires serving { IsCoreInService self.old }
         requires whole { (meta_of self.old).out ≡ No }
         requires steady { (meta_of self.old).phase ≡ Steady }
         requires next { AreNextGears (meta_of self.old).setup.geometry to (meta_of self.old).gear }
         requires spared { (d : ℕ) → to ≤ d → d < (meta_of self.old).gear
             → slice_index (meta_of self.old).spins d < allowed_spins (meta_of self.old) }
         ensures meta { meta_of self.new ≡ meta_after_begin (meta_of self.old) (Down to) (meta_of self.old).spins }
-        ensures store { store_of self.new ≡ store_of self.old }
-        ensures table { core_table self.new ≡ core_table self.old }
-        ensures batch { batch_of self.new ≡ batch_of self.old }
-        ensures copied { copied_of self.new ≡ copied_of self.old }
-        ensures draft { draft_of self.new ≡ draft_of self.old }
-        ensures ready { IsCoreReady R.slot_count R.slot self.new }
+        ensures marks { OnlyMarks self.old self.new }
         ensures serves { CanCoreServe R.slot self.new }
-        ensures stands { (h : History) (lo : ℕ)
-            → Ran (R.told (core_rack self.old)) (R.told (core_rack self.new))
-            (CrashTriple (IsCoreHeldSinceCommit R.slot_count self.old h lo)
-            (CoreStandsFor R.slot_count self.old h lo) (CoreStandsFor R.slot_count self.new h lo)) }
+        ensures stands { StandsStill R.slot_count R.told self.old self.new }
     {
         self.meta.phase = Phase::Down { to };
         self.meta.fill = 0;
@@ -98,16 +86,8 @@ impl<R: Rack> Core<R> {
             → slice_index (meta_of self.new).spins d ≡ slice_index (meta_of self.old).spins d + 1 }
         ensures others { (d : ℕ) → (d < (meta_of self.old).gear) ⊎ (to ≤ d)
             → slice_index (meta_of self.new).spins d ≡ slice_index (meta_of self.old).spins d }
-        ensures store { store_of self.new ≡ store_of self.old }
-        ensures table { core_table self.new ≡ core_table self.old }
-        ensures batch { batch_of self.new ≡ batch_of self.old }
-        ensures copied { copied_of self.new ≡ copied_of self.old }
-        ensures draft { draft_of self.new ≡ draft_of self.old }
-        ensures ready { IsCoreReady R.slot_count R.slot self.new }
-        ensures stands { (h : History) (lo : ℕ)
-            → Ran (R.told (core_rack self.old)) (R.told (core_rack self.new))
-            (CrashTriple (IsCoreHeldSinceCommit R.slot_count self.old h lo)
-            (CoreStandsFor R.slot_count self.old h lo) (CoreStandsFor R.slot_count self.new h lo)) }
+        ensures marks { OnlyMarks self.old self.new }
+        ensures stands { StandsStill R.slot_count R.told self.old self.new }
     {
         count_spins(&mut self.meta.spins, self.meta.gear, to);
         self.meta.phase = Phase::Up { to };
@@ -117,8 +97,7 @@ impl<R: Rack> Core<R> {
     /// Ends a shift of which no unit is left: all stripes are filled, and no cell of a disk that
     /// comes up is dirty.
     pub fn flip(&mut self)
-        requires ready { IsCoreReady R.slot_count R.slot self.old }
-        requires serves { CanCoreServe R.slot self.old }
+        requires serving { IsCoreInService self.old }
         requires whole { (meta_of self.old).out ≡ No }
         requires shifts { 0 < phase_to (meta_of self.old).phase }
         requires filled { (meta_of self.old).fill ≡ stripe_count (meta_of self.old).setup.geometry.disks
@@ -126,17 +105,9 @@ impl<R: Rack> Core<R> {
         requires clean { (r d : ℕ) → r < (meta_of self.old).setup.geometry.rows → (meta_of self.old).gear ≤ d
             → d < phase_to (meta_of self.old).phase → is_dirty (core_table self.old) r d ≡ false }
         ensures meta { meta_of self.new ≡ meta_flipped_to (meta_of self.old) (phase_to (meta_of self.old).phase) }
-        ensures store { store_of self.new ≡ store_of self.old }
-        ensures table { core_table self.new ≡ core_table self.old }
-        ensures batch { batch_of self.new ≡ batch_of self.old }
-        ensures copied { copied_of self.new ≡ copied_of self.old }
-        ensures draft { draft_of self.new ≡ draft_of self.old }
-        ensures ready { IsCoreReady R.slot_count R.slot self.new }
+        ensures marks { OnlyMarks self.old self.new }
         ensures serves { CanCoreServe R.slot self.new }
-        ensures stands { (h : History) (lo : ℕ)
-            → Ran (R.told (core_rack self.old)) (R.told (core_rack self.new))
-            (CrashTriple (IsCoreHeldSinceCommit R.slot_count self.old h lo)
-            (CoreStandsFor R.slot_count self.old h lo) (CoreStandsFor R.slot_count self.new h lo)) }
+        ensures stands { StandsStill R.slot_count R.told self.old self.new }
     {
         self.meta.gear = self.meta.phase.to();
         self.meta.phase = Phase::Steady;
@@ -150,17 +121,9 @@ impl<R: Rack> Core<R> {
         requires disk { disk < (meta_of self.old).setup.geometry.disks }
         requires alone { (x : ℕ) → named_out_of (meta_of self.old).out ≡ Some x → x ≡ disk }
         ensures meta { meta_of self.new ≡ meta_after_loss (meta_of self.old) disk }
-        ensures store { store_of self.new ≡ store_of self.old }
-        ensures table { core_table self.new ≡ core_table self.old }
-        ensures batch { batch_of self.new ≡ batch_of self.old }
-        ensures copied { copied_of self.new ≡ copied_of self.old }
-        ensures draft { draft_of self.new ≡ draft_of self.old }
-        ensures ready { IsCoreReady R.slot_count R.slot self.new }
+        ensures marks { OnlyMarks self.old self.new }
         ensures serves { CanCoreServe R.slot self.old → CanCoreServe R.slot self.new }
-        ensures stands { (h : History) (lo : ℕ)
-            → Ran (R.told (core_rack self.old)) (R.told (core_rack self.new))
-            (CrashTriple (IsCoreHeldSinceCommit R.slot_count self.old h lo)
-            (CoreStandsFor R.slot_count self.old h lo) (CoreStandsFor R.slot_count self.new h lo)) }
+        ensures stands { StandsStill R.slot_count R.told self.old self.new }
     {
         self.meta.phase = self.meta.phase.beside(true);
         self.meta.fill = 0;
@@ -172,17 +135,9 @@ impl<R: Rack> Core<R> {
         requires ready { IsCoreReady R.slot_count R.slot self.old }
         ensures meta { meta_of self.new ≡ record (meta_of self.old)
             { ticks = min ((meta_of self.old).ticks + 1) 18446744073709551615 } }
-        ensures store { store_of self.new ≡ store_of self.old }
-        ensures table { core_table self.new ≡ core_table self.old }
-        ensures batch { batch_of self.new ≡ batch_of self.old }
-        ensures copied { copied_of self.new ≡ copied_of self.old }
-        ensures draft { draft_of self.new ≡ draft_of self.old }
-        ensures ready { IsCoreReady R.slot_count R.slot self.new }
+        ensures marks { OnlyMarks self.old self.new }
         ensures serves { CanCoreServe R.slot self.old → CanCoreServe R.slot self.new }
-        ensures stands { (h : History) (lo : ℕ)
-            → Ran (R.told (core_rack self.old)) (R.told (core_rack self.new))
-            (CrashTriple (IsCoreHeldSinceCommit R.slot_count self.old h lo)
-            (CoreStandsFor R.slot_count self.old h lo) (CoreStandsFor R.slot_count self.new h lo)) }
+        ensures stands { StandsStill R.slot_count R.told self.old self.new }
         // Copies can begin after it where they could before.
         ensures filled { (h : History) (lo : ℕ)
             → Ran (R.told (core_rack self.old)) (R.told (core_rack self.new))

@@ -1,17 +1,13 @@
 //! Copies past the log are made to last: each disk to which copies went is synced once.
-ghost use Rattle.std.specs.Prelude.{◌≡◌, ◌≢◌, ℕ, ◌<◌, ◌≤◌, true, false, OnOk, IfErr};
-ghost use Rattle.paraid_core.specs.CellCopies.{StaysCopied};
+ghost use Rattle.std.specs.Prelude.{◌≡◌, ◌≢◌, ℕ, ◌<◌, true, false, OnOk};
 ghost use Rattle.paraid_core.specs.CoreInvariant.{AreCopiesSynced, is_copied};
-ghost use Rattle.paraid_core.specs.Fills.{StaysFilled};
-ghost use Rattle.paraid_core.specs.Units.{StaysRebuilt};
-ghost use Rattle.paraid_core.specs.Steps.{IsHeldStill, IsCleared, IsStillOut, LeavesCore, StandsStill};
+ghost use Rattle.paraid_core.specs.Steps.{IsCleared, IsStillOut};
 ghost use Rattle.paraid_rack.specs.declared.call.Power.TheVariants.{Spinning};
-ghost use Rattle.paraid_txn.specs.Losses.{StaySynced, IsSyncedAt, OnlyLosesSlots, AreTwoDown};
+ghost use Rattle.paraid_txn.specs.Losses.{IsSyncedAt};
 ghost use Rattle.paraid_txn.specs.Stores.{named_of};
 ghost use Rattle.paraid_core.specs.Calls.{MakesCopySyncs, MakesOneCall};
 ghost use Rattle.paraid_rack.specs.declared.call.Call.TheVariants.{Sync};
-ghost use Rattle.paraid_image.specs.Out.{named_out as named_out_of};
-ghost use Rattle.paraid_core.specs.Lost.{CoreMarksLost, CoreTellsLosses};
+ghost use Rattle.paraid_core.specs.Copying.{LeavesCopies};
 
 use crate::staged::{Core, lose};
 use paraid_base::{DiskNo, Two};
@@ -30,7 +26,7 @@ fn is_spinning(power: Power) -> bool
 }
 
 impl<R: Rack> Core<R> {
-    ghost use Rattle.paraid_core.specs.Cores.{IsCoreReady, copied_of, core_down, meta_of, core_rack, store_of};
+    ghost use Rattle.paraid_core.specs.Cores.{IsCoreReady, copied_of, meta_of, core_rack, store_of};
 
     // Syncs a disk that spins.
     fn sync_disk(&mut self, disk: DiskNo) -> Result<(), Two>
@@ -38,22 +34,10 @@ impl<R: Rack> Core<R> {
         requires still { IsStillOut (named_of (store_of self.old)) (meta_of self.old) }
         requires disk { disk < (meta_of self.old).setup.geometry.disks }
         requires spins { (R.slot (core_rack self.old) disk).power ≡ Spinning }
-        ensures leaves { OnOk result (LeavesCore R.slot_count R.slot self.old self.new) }
-        ensures slots { R.slot_count (core_rack self.new) ≡ R.slot_count (core_rack self.old) }
-        ensures spared { OnlyLosesSlots (R.slot (core_rack self.old)) (R.slot (core_rack self.new)) }
-        ensures still_synced { StaySynced (R.slot (core_rack self.old)) (R.slot (core_rack self.new)) }
+        ensures keeps { LeavesCopies self.old self.new result }
         ensures synced { OnOk result (IsSyncedAt (R.slot (core_rack self.new)) disk) }
         ensures cleared { IsCleared (copied_of self.old) (copied_of self.new) disk }
-        ensures two { IfErr result (AreTwoDown (core_down self.old)
-            (R.slot (core_rack self.old)) (R.slot (core_rack self.new))) }
-        ensures tells { IfErr result (CoreTellsLosses R.told (named_out_of (meta_of self.old).out) self.old self.new) }
         ensures calls { MakesOneCall R.told (λ done. Sync disk done) self.old self.new }
-        ensures marks { OnOk result (CoreMarksLost R.slot self.old self.new) }
-        ensures moments { IsHeldStill R.slot_count R.told self.old self.new }
-        ensures stands { OnOk result (StandsStill R.slot_count R.told self.old self.new) }
-        ensures filled { OnOk result (StaysFilled R.slot_count R.told self.old self.new) }
-        ensures cells { OnOk result (StaysCopied R.slot_count R.told self.old self.new) }
-        ensures rebuilt { OnOk result (StaysRebuilt R.slot_count R.told self.old self.new) }
     {
         let answer = self.store.sync(disk);
         self.copied[disk as usize] = false;
@@ -68,23 +52,11 @@ impl<R: Rack> Core<R> {
         requires ready { IsCoreReady R.slot_count R.slot self.old }
         requires still { IsStillOut (named_of (store_of self.old)) (meta_of self.old) }
         requires disk { disk < (meta_of self.old).setup.geometry.disks }
-        ensures leaves { OnOk result (LeavesCore R.slot_count R.slot self.old self.new) }
-        ensures slots { R.slot_count (core_rack self.new) ≡ R.slot_count (core_rack self.old) }
-        ensures spared { OnlyLosesSlots (R.slot (core_rack self.old)) (R.slot (core_rack self.new)) }
-        ensures still_synced { StaySynced (R.slot (core_rack self.old)) (R.slot (core_rack self.new)) }
+        ensures keeps { LeavesCopies self.old self.new result }
         ensures synced { OnOk result (is_copied (copied_of self.old) disk ≡ true
             → IsSyncedAt (R.slot (core_rack self.new)) disk) }
         ensures cleared { OnOk result (IsCleared (copied_of self.old) (copied_of self.new) disk) }
-        ensures two { IfErr result (AreTwoDown (core_down self.old)
-            (R.slot (core_rack self.old)) (R.slot (core_rack self.new))) }
-        ensures tells { IfErr result (CoreTellsLosses R.told (named_out_of (meta_of self.old).out) self.old self.new) }
         ensures calls { MakesCopySyncs R.told self.old self.new }
-        ensures marks { OnOk result (CoreMarksLost R.slot self.old self.new) }
-        ensures moments { IsHeldStill R.slot_count R.told self.old self.new }
-        ensures stands { OnOk result (StandsStill R.slot_count R.told self.old self.new) }
-        ensures filled { OnOk result (StaysFilled R.slot_count R.told self.old self.new) }
-        ensures cells { OnOk result (StaysCopied R.slot_count R.told self.old self.new) }
-        ensures rebuilt { OnOk result (StaysRebuilt R.slot_count R.told self.old self.new) }
     {
         if !self.copied[disk as usize] {
             return Ok(());
@@ -101,25 +73,12 @@ impl<R: Rack> Core<R> {
     pub fn settle(&mut self) -> Result<(), Two>
         requires ready { IsCoreReady R.slot_count R.slot self.old }
         requires still { IsStillOut (named_of (store_of self.old)) (meta_of self.old) }
-        ensures leaves { OnOk result (LeavesCore R.slot_count R.slot self.old self.new) }
-        ensures slots { R.slot_count (core_rack self.new) ≡ R.slot_count (core_rack self.old) }
-        ensures spared { OnlyLosesSlots (R.slot (core_rack self.old)) (R.slot (core_rack self.new)) }
-        ensures still_synced { StaySynced (R.slot (core_rack self.old)) (R.slot (core_rack self.new)) }
+        ensures keeps { LeavesCopies self.old self.new result }
         ensures synced { OnOk result ((d : ℕ) → d < (meta_of self.old).setup.geometry.disks
             → is_copied (copied_of self.old) d ≡ true → IsSyncedAt (R.slot (core_rack self.new)) d) }
         ensures copies_synced { OnOk result (AreCopiesSynced (meta_of self.old).setup.geometry.disks
             (copied_of self.new)) }
-        ensures two { IfErr result (AreTwoDown (core_down self.old)
-            (R.slot (core_rack self.old)) (R.slot (core_rack self.new))) }
-        ensures tells { IfErr result (CoreTellsLosses R.told (named_out_of (meta_of self.old).out) self.old self.new) }
         ensures calls { MakesCopySyncs R.told self.old self.new }
-        ensures marks { OnOk result (CoreMarksLost R.slot self.old self.new) }
-        // Each stop leaves what it left before, and the writes are as before.
-        ensures moments { IsHeldStill R.slot_count R.told self.old self.new }
-        ensures stands { OnOk result (StandsStill R.slot_count R.told self.old self.new) }
-        ensures filled { OnOk result (StaysFilled R.slot_count R.told self.old self.new) }
-        ensures cells { OnOk result (StaysCopied R.slot_count R.told self.old self.new) }
-        ensures rebuilt { OnOk result (StaysRebuilt R.slot_count R.told self.old self.new) }
     {
         for disk in 0..self.meta.setup.geometry.disks {
             self.settle_one(disk)?;

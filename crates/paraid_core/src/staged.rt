@@ -1,18 +1,14 @@
-ghost use Rattle.std.specs.Prelude.{◌≡◌, ◌≢◌, ℕ, ◌+◌, ◌-◌, ◌^◌, ◌<◌, ◌≤◌, [], length, Option, Some, None, Ok, OnOk, IfErr, IsSome, true, false};
+ghost use Rattle.std.specs.Prelude.{◌≡◌, ◌≢◌, ℕ, ◌<◌, [], length, Some, Ok, OnOk, IfErr, IsSome, true};
 ghost use Rattle.paraid_base.specs.History.{History, after_all as held_by};
-ghost use Rattle.paraid_rack.specs.Told.{Ran, CrashTriple};
 ghost use Rattle.paraid_rack.specs.Trail.{Trail, now};
-ghost use Rattle.paraid_record.specs.Range.{IsInRange};
-ghost use Rattle.paraid_txn.specs.Losses.{StaySynced, OnlyLosesSlots, AreTwoDown};
-ghost use Rattle.paraid_txn.specs.Stores.{IsSameStore, disks_of, epoch_of, named_of, store_rack};
+ghost use Rattle.paraid_txn.specs.Losses.{StaySynced};
 ghost use Rattle.paraid_core.specs.Steps.{AreUnsyncedCopied};
-ghost use Rattle.paraid_core.specs.Fills.{Filled};
-ghost use Rattle.paraid_core.specs.Replaced.{CoreCommitted, HaveComeUp};
-ghost use Rattle.paraid_core.specs.Steps.{IsMarkedFrom, IsNamedOrAbsent, IsPutOut};
+ghost use Rattle.paraid_core.specs.Replaced.{HaveComeUp};
+ghost use Rattle.paraid_core.specs.Steps.{IsPutOut};
 ghost use Rattle.paraid_core.specs.CoreInvariant.{AreCopiesSynced, lost_in, meta_with_lost};
 ghost use Rattle.paraid_image.specs.Out.{named_out as named_out_of};
-ghost use Rattle.paraid_core.specs.Calls.{CommitsWhole, MakesDataCalls, MakesTransferCalls, RestsCommitted};
-ghost use Rattle.paraid_core.specs.Lost.{CoreMarksLost, CoreTellsLosses, MakesReads};
+ghost use Rattle.paraid_core.specs.Committing.{CommitsMeta, CommitsStaged, StandsCommitted, StandsSinceCommit};
+ghost use Rattle.paraid_core.specs.Serving.{CanBeCommitted, IsCoreInService, KeepsCells, StagesNothing, StaysReady};
 
 use crate::changes::Changes;
 use paraid_base::{Block, BlockNo, DiskNo, Out, Two};
@@ -78,9 +74,7 @@ pub(crate) fn put_out(meta: &mut Meta, disk: DiskNo) -> Result<bool, Two>
 }
 
 impl<R: Rack> Core<R> {
-    ghost use Rattle.paraid_core.specs.Cores.{IsCoreHeld, IsCoreHeldSinceCommit, IsCoreReady, CanCoreServe, CoreStandsFor, batch_of, copied_of, core_block_count, core_down, draft_of, meta_of, core_rack, store_of, core_table};
-    ghost use Rattle.paraid_core.specs.Cleaning.{is_cleaned};
-    ghost use Rattle.paraid_core.specs.Down.{IsDownAfter};
+    ghost use Rattle.paraid_core.specs.Cores.{IsCoreReady, CanCoreServe, CoreStandsFor, batch_of, copied_of, core_block_count, core_down, draft_of, meta_of, core_rack, store_of, core_table};
 
     /// Takes over an array with this staged, and a draft for the plans of its writes. It makes no
     /// call of the rack.
@@ -157,56 +151,12 @@ impl<R: Rack> Core<R> {
     /// Reads a block: the bytes last written to it, or zeros. What is staged stays as it is; a disk
     /// that fails in the read is out from then on.
     pub fn read_only(&mut self, block: BlockNo, into: &mut Block) -> Result<(), Two>
-        requires ready { IsCoreReady R.slot_count R.slot self.old }
-        requires serves { CanCoreServe R.slot self.old }
+        requires serving { IsCoreInService self.old }
         requires block { block < core_block_count self.old }
         requires no_draft { draft_of self.old ≡ [] }
 
-        ensures draft { draft_of self.new ≡ draft_of self.old }
-        ensures copied { copied_of self.new ≡ copied_of self.old }
-        ensures slots { R.slot_count (core_rack self.new) ≡ R.slot_count (core_rack self.old) }
-        ensures ready { OnOk result (IsCoreReady R.slot_count R.slot self.new) }
-        ensures serves { OnOk result (CanCoreServe R.slot self.new) }
-        ensures batch { batch_of self.new ≡ batch_of self.old }
-        ensures table { core_table self.new ≡ core_table self.old }
-        ensures cleans_less { OnOk result ((r d : ℕ)
-            → is_cleaned (meta_of self.old) (core_table self.old) r d ≡ false
-            → is_cleaned (meta_of self.new) (core_table self.new) r d ≡ false) }
-        ensures setup { OnOk result ((meta_of self.new).setup ≡ (meta_of self.old).setup) }
-        ensures writes { OnOk result ((meta_of self.new).writes ≡ (meta_of self.old).writes) }
-        ensures epoch { OnOk result ((meta_of self.new).epoch ≡ (meta_of self.old).epoch) }
-        ensures down { OnOk result (IsDownAfter (core_down self.old) (core_down self.new)
-            (R.slot (core_rack self.old)) (R.slot (core_rack self.new))) }
-        ensures spared { OnlyLosesSlots (R.slot (core_rack self.old)) (R.slot (core_rack self.new)) }
-        ensures still_synced { StaySynced (R.slot (core_rack self.old)) (R.slot (core_rack self.new)) }
-        ensures two { IfErr result (AreTwoDown (core_down self.old)
-            (R.slot (core_rack self.old)) (R.slot (core_rack self.new))) }
-        ensures tells { IfErr result (CoreTellsLosses R.told (named_out_of (meta_of self.old).out) self.old self.new) }
-        // No call is on a disk that is gone, or writes in the log.
-        ensures calls { MakesDataCalls R.told self.old self.new }
-        ensures reads { MakesReads R.told self.old self.new }
-        // A disk that failed is marked as out and absent, and no other one has failed.
-        ensures marks { OnOk result (CoreMarksLost R.slot self.old self.new) }
-        ensures named { named_of (store_of self.new) ≡ named_of (store_of self.old) }
+        ensures reads { StagesNothing self.old self.new result }
 
-        // Each stop leaves what it left before, and the writes are as before.
-        ensures moments { (h : History) (lo : ℕ)
-            → Ran (R.told (core_rack self.old)) (R.told (core_rack self.new))
-            (CrashTriple (IsCoreHeld R.slot_count self.old h lo) (CoreStandsFor R.slot_count self.old h lo)
-            (IsCoreHeld R.slot_count self.old h lo)) }
-        ensures stands { OnOk result ((h : History) (lo : ℕ)
-            → Ran (R.told (core_rack self.old)) (R.told (core_rack self.new))
-            (CrashTriple (IsCoreHeld R.slot_count self.old h lo) (CoreStandsFor R.slot_count self.old h lo)
-            (CoreStandsFor R.slot_count self.new h lo))) }
-        // A disk that failed since the last commit takes nothing away.
-        ensures moments_since { (h : History) (lo : ℕ)
-            → Ran (R.told (core_rack self.old)) (R.told (core_rack self.new))
-            (CrashTriple (IsCoreHeldSinceCommit R.slot_count self.old h lo) (CoreStandsFor R.slot_count self.old h lo)
-            (IsCoreHeldSinceCommit R.slot_count self.old h lo)) }
-        ensures since { OnOk result ((h : History) (lo : ℕ)
-            → Ran (R.told (core_rack self.old)) (R.told (core_rack self.new))
-            (CrashTriple (IsCoreHeldSinceCommit R.slot_count self.old h lo) (CoreStandsFor R.slot_count self.old h lo)
-            (CoreStandsFor R.slot_count self.new h lo))) }
         ensures value { OnOk result ((h : History) (lo : ℕ) (t : Trail)
             → R.told (core_rack self.old) ≡ Some t → CoreStandsFor R.slot_count self.old h lo (now t)
             → IsSome (R.told (core_rack self.new)) → into.new ≡ held_by h block) }
@@ -220,80 +170,22 @@ impl<R: Rack> Core<R> {
     /// staged comes back in it; then no other one can be lost.
     pub fn commit(&mut self) -> Result<(), Two>
         requires ready { IsCoreReady R.slot_count R.slot self.old }
-        requires epoch { (meta_of self.old).epoch < 2 ^ 63 }
-        // each copy is synced
-        requires copies_synced { AreCopiesSynced (meta_of self.old).setup.geometry.disks (copied_of self.old) }
+        requires committable { CanBeCommitted self.old }
 
-        ensures draft { draft_of self.new ≡ draft_of self.old }
-        ensures table { core_table self.new ≡ core_table self.old }
-        ensures copied { copied_of self.new ≡ copied_of self.old }
-        ensures slots { R.slot_count (core_rack self.new) ≡ R.slot_count (core_rack self.old) }
-        ensures ready { OnOk result (IsCoreReady R.slot_count R.slot self.new) }
+        ensures cells { KeepsCells self.old self.new result }
+        ensures stays { StaysReady (core_down self.old) self.old self.new result }
         ensures serves { OnOk result (CanCoreServe R.slot self.old → CanCoreServe R.slot self.new) }
         // So it can after a commit in which a disk comes back.
         ensures serves_again { OnOk result (HaveComeUp (R.slot (core_rack self.old)) (meta_of self.old)
             → CanCoreServe R.slot self.new) }
-        ensures setup { OnOk result ((meta_of self.new).setup ≡ (meta_of self.old).setup) }
-        ensures writes { OnOk result ((meta_of self.new).writes ≡ (meta_of self.old).writes) }
-        // It is that of the next epoch, with the marks of a disk that was lost, if one was.
-        ensures meta { OnOk result (IsMarkedFrom (record (meta_of self.old)
-            { epoch = (meta_of self.old).epoch + 1 }) (meta_of self.new)) }
-        ensures spared { OnlyLosesSlots (R.slot (core_rack self.old)) (R.slot (core_rack self.new)) }
+        ensures meta { CommitsMeta self.old self.new result }
         ensures still_synced { OnOk result (StaySynced (R.slot (core_rack self.old)) (R.slot (core_rack self.new))) }
         ensures unsynced { OnOk result (AreUnsyncedCopied R.slot self.old → AreUnsyncedCopied R.slot self.new) }
-        ensures two { IfErr result (AreTwoDown (core_down self.old)
-            (R.slot (core_rack self.old)) (R.slot (core_rack self.new))) }
-        ensures tells { IfErr result (CoreTellsLosses R.told (core_down self.old) self.old self.new) }
-        ensures calls { MakesTransferCalls R.told self.old self.new }
-        ensures whole { CommitsWhole R.slot_count R.told self.old self.new }
-        ensures rest { OnOk result (RestsCommitted R.slot_count R.told self.old self.new) }
-        // A disk that failed is marked as out and absent, and no other one has failed.
-        ensures marks { OnOk result (CoreMarksLost R.slot self.old self.new) }
-        ensures epoch { OnOk result ((meta_of self.new).epoch ≡ (meta_of self.old).epoch + 1) }
-        ensures cleans_less { OnOk result ((r d : ℕ)
-            → is_cleaned (meta_of self.old) (core_table self.old) r d ≡ false
-            → is_cleaned (meta_of self.new) (core_table self.new) r d ≡ false) }
+        ensures brings { CommitsStaged self.old self.new result }
         ensures nothing { OnOk result (batch_of self.new ≡ []) }
-        ensures named { OnOk result (named_of (store_of self.new) ≡ named_out_of (meta_of self.old).out) }
-        // Where a disk was out by the last commit, no other one is out after this one, also where it comes back.
-        ensures alone { OnOk result ((x d : ℕ) → named_of (store_of self.old) ≡ Some x
-            → named_out_of (meta_of self.new).out ≡ Some d → x ≡ d) }
-        ensures down { OnOk result (IsDownAfter (core_down self.old) (core_down self.new)
-            (R.slot (core_rack self.old)) (R.slot (core_rack self.new))) }
 
-        // Each stop leaves what it left before or all writes, and at the end all writes.
-        ensures moments { (h : History) (lo : ℕ)
-            → Ran (R.told (core_rack self.old)) (R.told (core_rack self.new))
-            (CrashTriple (IsCoreHeld R.slot_count self.old h lo) (CoreStandsFor R.slot_count self.old h lo)
-            (IsCoreHeld R.slot_count self.old h lo)) }
-        ensures stands { OnOk result ((h : History) (lo : ℕ)
-            → Ran (R.told (core_rack self.old)) (R.told (core_rack self.new))
-            (CrashTriple (IsCoreHeld R.slot_count self.old h lo) (CoreStandsFor R.slot_count self.old h lo)
-            (CoreStandsFor R.slot_count self.new h (length h)))) }
-        // Nothing is staged over it.
-        ensures filled { OnOk result ((h : History) (lo : ℕ)
-            → Ran (R.told (core_rack self.old)) (R.told (core_rack self.new))
-            (CrashTriple (IsCoreHeld R.slot_count self.old h lo) (CoreStandsFor R.slot_count self.old h lo)
-            (Filled R.slot_count self.new h (length h) (meta_of self.new).fill))) }
-        // The same where a disk that was lost since the last commit is absent: it takes nothing away.
-        ensures moments_since { IsNamedOrAbsent R.slot self.old → (h : History) (lo : ℕ)
-            → Ran (R.told (core_rack self.old)) (R.told (core_rack self.new))
-            (CrashTriple (IsCoreHeldSinceCommit R.slot_count self.old h lo) (CoreStandsFor R.slot_count self.old h lo)
-            (IsCoreHeldSinceCommit R.slot_count self.old h lo)) }
-        ensures since { OnOk result (IsNamedOrAbsent R.slot self.old → (h : History) (lo : ℕ)
-            → Ran (R.told (core_rack self.old)) (R.told (core_rack self.new))
-            (CrashTriple (IsCoreHeldSinceCommit R.slot_count self.old h lo) (CoreStandsFor R.slot_count self.old h lo)
-            (CoreStandsFor R.slot_count self.new h (length h)))) }
-        ensures filled_since { OnOk result (IsNamedOrAbsent R.slot self.old → (h : History) (lo : ℕ)
-            → Ran (R.told (core_rack self.old)) (R.told (core_rack self.new))
-            (CrashTriple (IsCoreHeldSinceCommit R.slot_count self.old h lo) (CoreStandsFor R.slot_count self.old h lo)
-            (Filled R.slot_count self.new h (length h) (meta_of self.new).fill))) }
-        // What it says of the disk that is out is on the disks.
-        ensures committed { OnOk result (IsNamedOrAbsent R.slot self.old → (h : History) (lo : ℕ)
-            → Ran (R.told (core_rack self.old)) (R.told (core_rack self.new))
-            (CrashTriple (IsCoreHeldSinceCommit R.slot_count self.old h lo) (CoreStandsFor R.slot_count self.old h lo)
-            (CoreCommitted R.slot_count self.new h (length h) (meta_of self.old).out))) }
-        ensures absent { OnOk result (IsNamedOrAbsent R.slot self.new) }
+        ensures held { StandsCommitted self.old self.new result }
+        ensures held_since { StandsSinceCommit self.old self.new result }
     {
         let lost = self.store.commit(&self.batch, &self.meta)?;
         self.meta.epoch = self.store.epoch();

@@ -3,11 +3,11 @@ ghost use Rattle.std.specs.Prelude.{◌≡◌, ◌≢◌, ℕ, ◌+◌, ◌<◌,
 ghost use Rattle.paraid_base.specs.declared.state.Out.TheVariants.{Fresh};
 ghost use Rattle.paraid_base.specs.History.{History};
 ghost use Rattle.paraid_base.specs.Log.{log_least};
-ghost use Rattle.paraid_base.specs.Regions.{disk_size, map_count};
+ghost use Rattle.paraid_base.specs.Regions.{disk_size};
 ghost use Rattle.paraid_base.specs.States.{gone_out, has_out, rebuilt_count};
 ghost use Rattle.paraid_core.specs.CoreInvariant.{AreCopiesSynced};
 ghost use Rattle.paraid_core.specs.Fills.{KeepsFilled};
-ghost use Rattle.paraid_core.specs.Steps.{IsStillOut, LeavesCore};
+ghost use Rattle.paraid_core.specs.Steps.{IsStillOut};
 ghost use Rattle.paraid_core.specs.Units.{CopyingUnit, IsRebuilding, IsUnitNumber, KeepsRebuilt, UnitsRebuilt, rebuilt_block, rebuilt_place};
 ghost use Rattle.paraid_dirty.specs.Table.{is_dirty};
 ghost use Rattle.paraid_image.specs.Mark.{meta_after_loss};
@@ -19,12 +19,14 @@ ghost use Rattle.paraid_rack.specs.Disks.{Disks};
 ghost use Rattle.paraid_rack.specs.Told.{Ran, CrashTriple};
 ghost use Rattle.paraid_record.specs.declared.meta.Meta.{Meta as MetaType};
 ghost use Rattle.paraid_record.specs.Range.{IsInRange, rebuild_units as units_of_rebuild};
-ghost use Rattle.paraid_txn.specs.Losses.{IsLostNow, OnlyLosesSlots, AreTwoDown};
+ghost use Rattle.paraid_txn.specs.Losses.{IsLostNow};
 ghost use Rattle.paraid_txn.specs.Stores.{disks_of, named_of, store_rack as rack_of_store};
 ghost use Rattle.paraid_view.specs.Reads.{CanRead, HaveRead, ShowsContents, lost_by, seen_by};
 ghost use Rattle.paraid_core.specs.declared.units.RebuildUnit.TheVariants.{Row as RowUnit};
-ghost use Rattle.paraid_core.specs.Calls.{MakesDataCalls};
-ghost use Rattle.paraid_core.specs.Lost.{CoreMarksLost, CoreTellsLosses};
+ghost use Rattle.paraid_core.specs.Answers.{LosesGiven};
+ghost use Rattle.paraid_core.specs.Copying.{CopiesOrLoses, CopiesPastLog};
+ghost use Rattle.paraid_core.specs.Marking.{OnlyMarks};
+ghost use Rattle.paraid_core.specs.Serving.{IsCoreInService};
 
 use crate::fill::mark;
 use crate::staged::{Core, put_out};
@@ -160,7 +162,7 @@ fn read_unit<R: Rack>(
 }
 
 impl<R: Rack> Core<R> {
-    ghost use Rattle.paraid_core.specs.Cores.{IsCoreHeldSinceCommit, IsCoreReady, CanCoreServe, CoreStandsFor, batch_of, copied_of, core_down, core_table, draft_of, meta_of, core_rack, store_of};
+    ghost use Rattle.paraid_core.specs.Cores.{IsCoreHeldSinceCommit, IsCoreReady, CanCoreServe, CoreStandsFor, batch_of, copied_of, core_table, draft_of, meta_of, core_rack, store_of};
 
     // Writes what a unit stores to its place of the disk that is rebuilt. False where that disk was lost.
     fn write_unit(
@@ -177,34 +179,12 @@ impl<R: Rack> Core<R> {
         requires from { rebuilt_count (meta_of self.old).out ≤ number }
         requires spins { (R.slot (core_rack self.old) disk).power ≡ Spinning }
         requires nothing { batch_of self.old ≡ [] }
-        ensures leaves { OnOk result (LeavesCore R.slot_count R.slot self.old self.new) }
-        ensures same { result ≡ Ok true → meta_of self.new ≡ meta_of self.old }
+        ensures copies { CopiesPastLog self.old self.new result }
         ensures spins { result ≡ Ok true → (R.slot (core_rack self.new) disk).power ≡ Spinning }
-        ensures slots { R.slot_count (core_rack self.new) ≡ R.slot_count (core_rack self.old) }
-        ensures spared { OnlyLosesSlots (R.slot (core_rack self.old)) (R.slot (core_rack self.new)) }
-        ensures two { IfErr result (AreTwoDown (core_down self.old)
-            (R.slot (core_rack self.old)) (R.slot (core_rack self.new))) }
-        ensures tells { IfErr result (CoreTellsLosses R.told (named_out_of (meta_of self.old).out) self.old self.new) }
-        ensures calls { MakesDataCalls R.told self.old self.new }
-        ensures marks { OnOk result (CoreMarksLost R.slot self.old self.new) }
-        ensures copied { result ≡ Ok true → (h : History) (lo : ℕ)
-            → Ran (R.told (core_rack self.old)) (R.told (core_rack self.new))
-            (CrashTriple (IsCoreHeldSinceCommit R.slot_count self.old h lo)
-            (CopyingUnit R.slot_count self.old h lo number disk unit block.now)
-            (UnitsRebuilt R.slot_count self.new h lo (number + 1))) }
-        // It has failed, and is gone.
-        ensures gone { result ≡ Ok false → meta_of self.new ≡ meta_after_loss (meta_of self.old) disk }
-        ensures failed { result ≡ Ok false → IsLostNow (R.slot (core_rack self.old)) (R.slot (core_rack self.new)) disk }
-        ensures lost { result ≡ Ok false → (h : History) (lo : ℕ)
-            → Ran (R.told (core_rack self.old)) (R.told (core_rack self.new))
-            (CrashTriple (IsCoreHeldSinceCommit R.slot_count self.old h lo)
-            (CopyingUnit R.slot_count self.old h lo number disk unit block.now)
-            (CoreStandsFor R.slot_count self.new h lo)) }
-        ensures moments { (h : History) (lo : ℕ)
-            → Ran (R.told (core_rack self.old)) (R.told (core_rack self.new))
-            (CrashTriple (IsCoreHeldSinceCommit R.slot_count self.old h lo)
-            (CopyingUnit R.slot_count self.old h lo number disk unit block.now)
-            (IsCoreHeldSinceCommit R.slot_count self.old h lo)) }
+        ensures held { CopiesOrLoses self.old self.new result
+            (λ h lo. CopyingUnit R.slot_count self.old h lo number disk unit block.now)
+            (λ h lo. UnitsRebuilt R.slot_count self.new h lo (number + 1)) }
+        ensures loses { LosesGiven disk self.old self.new result }
     {
         let place = place_of_unit(&self.meta, disk, number, unit);
         let answer = self.store.write_free(disk, place, block);
@@ -217,42 +197,19 @@ impl<R: Rack> Core<R> {
 
     // Reads what a unit stores, and writes it.
     fn copy_unit(&mut self, disk: DiskNo, number: u32, unit: RebuildUnit) -> Result<bool, Two>
-        requires ready { IsCoreReady R.slot_count R.slot self.old }
-        requires serves { CanCoreServe R.slot self.old }
+        requires serving { IsCoreInService self.old }
         requires no_draft { draft_of self.old ≡ [] }
         requires fresh { IsRebuilding (meta_of self.old) disk }
         requires unit { IsUnitNumber (meta_of self.old) disk number unit }
         requires from { rebuilt_count (meta_of self.old).out ≤ number }
         requires spins { (R.slot (core_rack self.old) disk).power ≡ Spinning }
         requires nothing { batch_of self.old ≡ [] }
-        ensures leaves { OnOk result (LeavesCore R.slot_count R.slot self.old self.new) }
-        ensures same { result ≡ Ok true → meta_of self.new ≡ meta_of self.old }
+        ensures copies { CopiesPastLog self.old self.new result }
         ensures spins { result ≡ Ok true → (R.slot (core_rack self.new) disk).power ≡ Spinning }
-        ensures slots { R.slot_count (core_rack self.new) ≡ R.slot_count (core_rack self.old) }
-        ensures spared { OnlyLosesSlots (R.slot (core_rack self.old)) (R.slot (core_rack self.new)) }
-        ensures two { IfErr result (AreTwoDown (core_down self.old)
-            (R.slot (core_rack self.old)) (R.slot (core_rack self.new))) }
-        ensures tells { IfErr result (CoreTellsLosses R.told (named_out_of (meta_of self.old).out) self.old self.new) }
-        ensures calls { MakesDataCalls R.told self.old self.new }
-        ensures marks { OnOk result (CoreMarksLost R.slot self.old self.new) }
-        ensures copied { result ≡ Ok true → (h : History) (lo : ℕ)
-            → Ran (R.told (core_rack self.old)) (R.told (core_rack self.new))
-            (CrashTriple (IsCoreHeldSinceCommit R.slot_count self.old h lo)
-            (UnitsRebuilt R.slot_count self.old h lo number)
-            (UnitsRebuilt R.slot_count self.new h lo (number + 1))) }
-        // It has failed, and is gone.
-        ensures gone { result ≡ Ok false → meta_of self.new ≡ meta_after_loss (meta_of self.old) disk }
-        ensures failed { result ≡ Ok false → IsLostNow (R.slot (core_rack self.old)) (R.slot (core_rack self.new)) disk }
-        ensures lost { result ≡ Ok false → (h : History) (lo : ℕ)
-            → Ran (R.told (core_rack self.old)) (R.told (core_rack self.new))
-            (CrashTriple (IsCoreHeldSinceCommit R.slot_count self.old h lo)
-            (UnitsRebuilt R.slot_count self.old h lo number)
-            (CoreStandsFor R.slot_count self.new h lo)) }
-        ensures moments { (h : History) (lo : ℕ)
-            → Ran (R.told (core_rack self.old)) (R.told (core_rack self.new))
-            (CrashTriple (IsCoreHeldSinceCommit R.slot_count self.old h lo)
-            (UnitsRebuilt R.slot_count self.old h lo number)
-            (IsCoreHeldSinceCommit R.slot_count self.old h lo)) }
+        ensures held { CopiesOrLoses self.old self.new result
+            (λ h lo. UnitsRebuilt R.slot_count self.old h lo number)
+            (λ h lo. UnitsRebuilt R.slot_count self.new h lo (number + 1)) }
+        ensures loses { LosesGiven disk self.old self.new result }
     {
         let mut block = Block::zero();
         let Err(second) = read_unit(
@@ -279,8 +236,7 @@ impl<R: Rack> Core<R> {
     ///
     /// True once the unit is copied. False where the disk that is rebuilt was lost: it is gone from then on.
     pub fn rebuild_unit(&mut self, number: u32) -> Result<bool, Two>
-        requires ready { IsCoreReady R.slot_count R.slot self.old }
-        requires serves { CanCoreServe R.slot self.old }
+        requires serving { IsCoreInService self.old }
         requires no_draft { draft_of self.old ≡ [] }
         requires out { has_out (meta_of self.old).out ≡ true }
         requires back { gone_out (meta_of self.old).out ≡ None }
@@ -290,42 +246,21 @@ impl<R: Rack> Core<R> {
         requires spins { (d : ℕ) → named_out_of (meta_of self.old).out ≡ Some d
             → (R.slot (core_rack self.old) d).power ≡ Spinning }
         requires nothing { batch_of self.old ≡ [] }
-        ensures leaves { OnOk result (LeavesCore R.slot_count R.slot self.old self.new) }
-        ensures same { result ≡ Ok true → meta_of self.new ≡ meta_of self.old }
+        ensures copies { CopiesPastLog self.old self.new result }
         ensures spins { result ≡ Ok true → (d : ℕ) → named_out_of (meta_of self.old).out ≡ Some d
             → (R.slot (core_rack self.new) d).power ≡ Spinning }
-        ensures slots { R.slot_count (core_rack self.new) ≡ R.slot_count (core_rack self.old) }
-        ensures spared { OnlyLosesSlots (R.slot (core_rack self.old)) (R.slot (core_rack self.new)) }
-        ensures two { IfErr result (AreTwoDown (core_down self.old)
-            (R.slot (core_rack self.old)) (R.slot (core_rack self.new))) }
-        ensures tells { IfErr result (CoreTellsLosses R.told (named_out_of (meta_of self.old).out) self.old self.new) }
-        ensures calls { MakesDataCalls R.told self.old self.new }
-        ensures marks { OnOk result (CoreMarksLost R.slot self.old self.new) }
         // No call is made for the dirty cell of a disk from the gear on.
         ensures passed { (d : ℕ) → named_out_of (meta_of self.old).out ≡ Some d → (meta_of self.old).gear ≤ d
             → number < (meta_of self.old).setup.geometry.rows → is_dirty (core_table self.old) number d ≡ true
             → core_rack self.new ≡ core_rack self.old }
-        // The units before it stay copied, and this one is.
-        ensures copied { result ≡ Ok true → (h : History) (lo : ℕ)
-            → Ran (R.told (core_rack self.old)) (R.told (core_rack self.new))
-            (CrashTriple (IsCoreHeldSinceCommit R.slot_count self.old h lo)
-            (UnitsRebuilt R.slot_count self.old h lo number)
-            (UnitsRebuilt R.slot_count self.new h lo (number + 1))) }
+        ensures held { CopiesOrLoses self.old self.new result
+            (λ h lo. UnitsRebuilt R.slot_count self.old h lo number)
+            (λ h lo. UnitsRebuilt R.slot_count self.new h lo (number + 1)) }
         // The disk that is rebuilt has failed, and is gone.
         ensures gone { result ≡ Ok false → (d : ℕ) → named_out_of (meta_of self.old).out ≡ Some d
             → meta_of self.new ≡ meta_after_loss (meta_of self.old) d }
         ensures failed { result ≡ Ok false → (d : ℕ) → named_out_of (meta_of self.old).out ≡ Some d
             → IsLostNow (R.slot (core_rack self.old)) (R.slot (core_rack self.new)) d }
-        ensures lost { result ≡ Ok false → (h : History) (lo : ℕ)
-            → Ran (R.told (core_rack self.old)) (R.told (core_rack self.new))
-            (CrashTriple (IsCoreHeldSinceCommit R.slot_count self.old h lo)
-            (UnitsRebuilt R.slot_count self.old h lo number)
-            (CoreStandsFor R.slot_count self.new h lo)) }
-        ensures moments { (h : History) (lo : ℕ)
-            → Ran (R.told (core_rack self.old)) (R.told (core_rack self.new))
-            (CrashTriple (IsCoreHeldSinceCommit R.slot_count self.old h lo)
-            (UnitsRebuilt R.slot_count self.old h lo number)
-            (IsCoreHeldSinceCommit R.slot_count self.old h lo)) }
     {
         let disk = fresh_disk(self.meta.out);
         let unit = unit_of(&self.meta, disk, number);
@@ -346,12 +281,7 @@ impl<R: Rack> Core<R> {
         requires copies_synced { AreCopiesSynced (meta_of self.old).setup.geometry.disks (copied_of self.old) }
         ensures meta { (d : ℕ) → named_out_of (meta_of self.old).out ≡ Some d
             → meta_of self.new ≡ meta_with_out (meta_of self.old) (Fresh d end) }
-        ensures store { store_of self.new ≡ store_of self.old }
-        ensures table { core_table self.new ≡ core_table self.old }
-        ensures batch { batch_of self.new ≡ batch_of self.old }
-        ensures copied { copied_of self.new ≡ copied_of self.old }
-        ensures draft { draft_of self.new ≡ draft_of self.old }
-        ensures ready { IsCoreReady R.slot_count R.slot self.new }
+        ensures marks { OnlyMarks self.old self.new }
         ensures serves { CanCoreServe R.slot self.old → CanCoreServe R.slot self.new }
         ensures stands { (h : History) (lo : ℕ)
             → Ran (R.told (core_rack self.old)) (R.told (core_rack self.new))

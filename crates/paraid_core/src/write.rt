@@ -8,10 +8,7 @@ ghost use Rattle.paraid_dirty.specs.Table.{is_dirty};
 ghost use Rattle.paraid_plan.specs.RowWrites.{StageAll};
 ghost use Rattle.paraid_plan.specs.WrittenBits.{bits_after_writes};
 ghost use Rattle.paraid_rack.specs.Told.{Ran, CrashTriple};
-ghost use Rattle.paraid_txn.specs.Losses.{StaySynced, OnlyLosesSlots, AreTwoDown};
-ghost use Rattle.paraid_core.specs.Calls.{MakesDataCalls};
-ghost use Rattle.paraid_image.specs.Out.{named_out as named_out_of};
-ghost use Rattle.paraid_core.specs.Lost.{CoreMarksLost, CoreTellsLosses, MakesReads};
+ghost use Rattle.paraid_core.specs.Serving.{IsCoreInService, ReadsAlone};
 
 use crate::plan::undo;
 use crate::staged::{Core, lose};
@@ -21,15 +18,13 @@ use paraid_plan::{Lost, write_blocks};
 use paraid_rack::Rack;
 
 impl<R: Rack> Core<R> {
-    ghost use Rattle.paraid_core.specs.Cores.{IsCoreHeld, IsCoreHeldSinceCommit, IsCoreReady, CanCoreServe, CoreStandsFor, batch_of, copied_of, core_block_count, core_down, draft_of, failed_of, meta_of, core_rack, core_table, store_of};
-    ghost use Rattle.paraid_core.specs.Down.{HasLostOne, IsDownAfter};
-    ghost use Rattle.paraid_txn.specs.Stores.{named_of};
+    ghost use Rattle.paraid_core.specs.Cores.{IsCoreHeld, IsCoreHeldSinceCommit, CoreStandsFor, batch_of, core_block_count, core_down, draft_of, failed_of, meta_of, core_rack, core_table};
+    ghost use Rattle.paraid_core.specs.Down.{HasLostOne};
     ghost use Rattle.paraid_core.specs.Plans.{LeadsTo, ServesPlan, without_draft, desk_of};
 
     // Plans the write of these pairs, over all that is staged.
     fn draft_writes(&mut self, pairs: &Pairs) -> Result<(), Lost>
-        requires ready { IsCoreReady R.slot_count R.slot self.old }
-        requires serves { CanCoreServe R.slot self.old }
+        requires serving { IsCoreInService self.old }
         requires blocks { All (λ (pair : ℕ × BlockType). pair.0 < core_block_count self.old) (pairs_of pairs.now) }
         ensures leads { LeadsTo R.slot_count R.slot R.told (without_draft self.old) self.new }
         ensures whole { OnOk result (ServesPlan R.slot_count R.slot self.new (meta_of self.old)) }
@@ -53,27 +48,13 @@ impl<R: Rack> Core<R> {
     /// True once all of them are staged. False where none is: a disk that failed while the plan was
     /// made is out from then on, and the plan can be made anew.
     pub fn try_write(&mut self, pairs: &Pairs) -> Result<bool, Two>
-        requires ready { IsCoreReady R.slot_count R.slot self.old }
-        requires serves { CanCoreServe R.slot self.old }
+        requires serving { IsCoreInService self.old }
         requires blocks { All (λ (pair : ℕ × BlockType). pair.0 < core_block_count self.old) (pairs_of pairs.now) }
         requires room { length (batch_of self.old) + 10 * pairs.now.count ≤ batch_room }
         requires fits { (meta_of self.old).writes + 1 < 2 ^ 64 }
 
         ensures draft { draft_of self.new ≡ [] }
-        ensures copied { copied_of self.new ≡ copied_of self.old }
-        ensures slots { R.slot_count (core_rack self.new) ≡ R.slot_count (core_rack self.old) }
-        ensures ready { OnOk result (IsCoreReady R.slot_count R.slot self.new) }
-        ensures serves { OnOk result (CanCoreServe R.slot self.new) }
-        ensures spared { OnlyLosesSlots (R.slot (core_rack self.old)) (R.slot (core_rack self.new)) }
-        ensures still_synced { StaySynced (R.slot (core_rack self.old)) (R.slot (core_rack self.new)) }
-        ensures two { IfErr result (AreTwoDown (core_down self.old)
-            (R.slot (core_rack self.old)) (R.slot (core_rack self.new))) }
-        ensures tells { IfErr result (CoreTellsLosses R.told (named_out_of (meta_of self.old).out) self.old self.new) }
-        // No call is on a disk that is gone, or writes in the log.
-        ensures calls { MakesDataCalls R.told self.old self.new }
-        ensures reads { MakesReads R.told self.old self.new }
-        // A disk that failed is marked as out and absent, and no other one has failed.
-        ensures marks { OnOk result (CoreMarksLost R.slot self.old self.new) }
+        ensures reads { ReadsAlone self.old self.new result }
         ensures room { IfOk result (λ done. length (batch_of self.new)
             ≤ length (batch_of self.old) + (if done then 10 * pairs.now.count else 0)) }
         ensures dropped { IfOk result (λ done. done ≡ false → batch_of self.new ≡ batch_of self.old) }
@@ -82,11 +63,6 @@ impl<R: Rack> Core<R> {
             else is_dirty (core_table self.old))) }
         ensures writes { IfOk result (λ done. (meta_of self.new).writes
             ≡ (meta_of self.old).writes + (if done then 1 else 0)) }
-        ensures epoch { OnOk result ((meta_of self.new).epoch ≡ (meta_of self.old).epoch) }
-        ensures setup { OnOk result ((meta_of self.new).setup ≡ (meta_of self.old).setup) }
-        ensures named { named_of (store_of self.new) ≡ named_of (store_of self.old) }
-        ensures down { OnOk result (IsDownAfter (core_down self.old) (core_down self.new)
-            (R.slot (core_rack self.old)) (R.slot (core_rack self.new))) }
         // It is false only where no disk was down, and one has failed.
         ensures lost { IfOk result (λ done. done ≡ false → HasLostOne (core_down self.old) (core_down self.new)
             (R.slot (core_rack self.old)) (R.slot (core_rack self.new))) }
@@ -100,11 +76,6 @@ impl<R: Rack> Core<R> {
             → Ran (R.told (core_rack self.old)) (R.told (core_rack self.new))
             (CrashTriple (IsCoreHeld R.slot_count self.old h lo) (CoreStandsFor R.slot_count self.old h lo)
             (CoreStandsFor R.slot_count self.new (if done then h ++ pairs_of pairs.now ∷ [] else h) lo))) }
-        // A disk that failed since the last commit takes nothing away.
-        ensures moments_since { (h : History) (lo : ℕ)
-            → Ran (R.told (core_rack self.old)) (R.told (core_rack self.new))
-            (CrashTriple (IsCoreHeldSinceCommit R.slot_count self.old h lo) (CoreStandsFor R.slot_count self.old h lo)
-            (IsCoreHeldSinceCommit R.slot_count self.old h lo)) }
         ensures since { IfOk result (λ done. (h : History) (lo : ℕ)
             → Ran (R.told (core_rack self.old)) (R.told (core_rack self.new))
             (CrashTriple (IsCoreHeldSinceCommit R.slot_count self.old h lo) (CoreStandsFor R.slot_count self.old h lo)

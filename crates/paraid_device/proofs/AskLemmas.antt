@@ -7,15 +7,15 @@ use Rattle.paraid_base.specs.declared.event.Event.{Event}
 use Rattle.paraid_base.specs.declared.event.Event.TheVariants.{Bad}
 use Rattle.paraid_base.specs.declared.fault.Halt.{Halt}
 use Rattle.paraid_rack.specs.Told.{Ran}
-use Rattle.paraid_session.specs.Faults.{HaveNotFallen}
-use Rattle.paraid_session.specs.Turn.{GoesOn, Point, halt_told}
+use Rattle.paraid_image.specs.Out.{named_out}
+use Rattle.paraid_session.specs.Turn.{GoesOn, Point}
 use Rattle.paraid_serve.specs.declared.serves.Serves.{Ghosts}
 use Rattle.paraid_serve.specs.Calls.{Grows}
-use Rattle.paraid_serve.specs.Causes.{HasCause}
-use Rattle.paraid_serve.specs.Lost.{HaltsByTwoLost}
+use Rattle.paraid_serve.specs.Causes.{HasCause, Shows}
 use Rattle.paraid_serve.proofs.FormLemmas.{again_cause}
 use Rattle.paraid_serve.proofs.GrowsLemmas.{grows_none}
 use Rattle.paraid_serve.proofs.HaltLemmas.{served_more}
+use Rattle.paraid_serve.proofs.OwedLemmas.{halt_owed, later_owed, setup_owed, two_owed}
 use Rattle.paraid_serve.proofs.StretchLemmas.{again_turn}
 use Rattle.paraid_device.specs.Asking.{AsksArray}
 
@@ -38,15 +38,17 @@ module _ {A : Type 0} (g : Ghosts A) where
 
   -- one that serves answers
   pub asks_served : (a b : A) (event : Event) (answer : Answer) → g.halted a ≡ None → ((p : Point) → g.stands a p → Ran (g.told a) (g.told b) (GoesOn (g.slots a) (g.setup a) p event answer (g.stands b)))
-      → Grows (g.told a) (g.told b) → g.slots b ≡ g.slots a → g.setup b ≡ g.setup a → g.halted b ≡ halt_told answer
-      → HaltsByTwoLost (g.down a) event (g.slot a) (g.slot b) (g.halted b) → HaveNotFallen (g.slot a) (g.slot b) → HasCause (g.shown a) event answer (g.shown b) → AsksArray g a b event answer
-  asks_served a b event answer going turn grows slots setup halt two later cause = record {
+      → Grows (g.told a) (g.told b) → g.slots b ≡ g.slots a → event ≢ Bad
+      → Shows (g.shown a) (g.setup a) (g.slot a) (g.halted a) → Shows (g.shown b) (g.setup b) (g.slot b) (g.halted b) → HasCause (g.shown a) event answer (g.shown b) → AsksArray g a b event answer
+  asks_served a b event answer going turn grows slots good shows_a shows_b cause = record {
     turn = turn;
     grows = grows;
     same_slots = slots;
-    same_setup = setup;
-    halt = halt;
+    same_setup = setup_owed g a b shows_a shows_b event answer cause;
+    halt = halt_owed g a b shows_a shows_b event answer cause good;
     again = no_halt_yet (g.halted a) (g.halted b) going;
     cause = cause;
-    since = λ start s. served_more start (g.slot a) (g.slot b) (g.halted a) (g.halted b) (g.down a) event two later s;
+    since = λ start s.
+        served_more start (g.slot a) (g.slot b) (g.halted a) (g.halted b) (named_out (g.shown a).meta.out) event (two_owed g a b shows_a shows_b event answer cause good going)
+        (later_owed g a b shows_a shows_b event answer cause) s;
   }

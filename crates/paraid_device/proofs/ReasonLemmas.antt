@@ -34,7 +34,7 @@ goes_on old new event answer good none (again halt was apart is same) = absurd (
 goes_on old new event answer good none (worn count going may many wear is same) = absurd (no_halt_in answer (Worn count) is none)
 goes_on old new event answer good none (quiet takes is same) = by_quiet is
 goes_on old new event answer good none (done takes busy does) = by_done busy does
-goes_on old new event answer good none (two pair takes busy is lost) = absurd (no_halt_in answer (HaltTwo pair) is none)
+goes_on old new event answer good none (two pair takes asked busy is lost used) = absurd (no_halt_in answer (HaltTwo pair) is none)
 goes_on old new event answer good none (bad is told same) = absurd (good is)
 
 read_good : (block : ℕ) → Read block ≢ Bad

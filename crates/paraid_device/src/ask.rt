@@ -5,11 +5,23 @@ ghost use Rattle.paraid_base.specs.declared.event.Answer.TheVariants.{Wrote};
 ghost use Rattle.paraid_trace.specs.Answered.{answer_with};
 ghost use Rattle.paraid_trace.specs.declared.answered.Beside.{Beside as BesideType};
 ghost use Rattle.paraid_trace.specs.Asked.{event_with};
+ghost use Rattle.paraid_session.specs.Turn.{halt_told};
 ghost use Rattle.paraid_device.specs.Asking.{AsksArray, answer_asked};
 
 use paraid_base::{Halt, Pairs};
 use paraid_serve::Serves;
 use paraid_trace::{Answered, Asked, Beside, Brief};
+
+// One event of an array that has not halted.
+fn ask_going<A: Serves>(array: &mut A, asked: Asked, pairs: &Pairs, beside: &mut Beside) -> Answered
+    requires going { A.halted array.old ≡ None }
+    requires event { event_with asked pairs.now ≢ BadEvent }
+    ensures halt { A.halted array.new ≡ halt_told (answer_with result beside.new) }
+    ensures asks { AsksArray A.Serves array.old array.new (event_with asked pairs.now)
+        (answer_with result beside.new) }
+{
+    array.serve(asked, pairs, beside)
+}
 
 /// Asks the array for something that may be done, unless it has halted. `halt` is the array's.
 pub(crate) fn ask<A: Serves>(
@@ -29,7 +41,7 @@ pub(crate) fn ask<A: Serves>(
     if let Some(halt) = *halt {
         return Err(halt);
     }
-    let answered = array.serve(asked, pairs, beside);
+    let answered = ask_going(array, asked, pairs, beside);
     if let Answered::Brief(Brief::Halted(now)) = answered {
         *halt = Some(now);
         return Err(now);

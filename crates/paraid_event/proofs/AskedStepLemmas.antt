@@ -40,6 +40,7 @@ use Rattle.paraid_event.specs.Ticks.{IsHaltedWith}
 use Rattle.paraid_event.proofs.BeginLemmas.{down_busy, free, up_busy}
 use Rattle.paraid_event.proofs.SteppedLemmas.{event_underway, steps_lost, steps_turn, steps_turn_by, other_base}
 use Rattle.paraid_event.proofs.TickStepLemmas.{first_outcome, later_outcome, no_name}
+use Rattle.paraid_event.proofs.PreludeLemmas.{some_trail}
 
 capped_sum : (a b z y : ℕ) → a ≡ b → y ≡ min (b + z) 18446744073709551615 → min (a + z) 18446744073709551615 ≡ y
 capped_sum a b z y equal is = grind (arith)
@@ -55,9 +56,6 @@ no_spin_ups mj to gear l = let e : to - gear ≡ 0 = omega (arith, l) in rw e (z
   where
     zero_times : (a : ℕ) → a * 0 ≡ 0
     zero_times a = grind (arith)
-
-some_trail : (a b : Trail) → Some a ≡ Some b → a ≡ b
-some_trail a b e = cc
 
 -- what may come of a shift that nothing refuses
 shift_among : (s : PowerState) (to : ℕ) (start : PowerState) → Contains {X = Answer × PowerState} (begin None None s to start) (Shift s.gear to, start)

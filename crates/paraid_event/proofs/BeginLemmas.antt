@@ -18,10 +18,8 @@ use Rattle.paraid_base.specs.States.{has_out, named_out, phase_beside, rising_to
 use Rattle.paraid_dirty.specs.Table.{is_dirty}
 use Rattle.paraid_rack.specs.declared.call.Call.{Call}
 use Rattle.paraid_rack.specs.declared.call.Power.{Power}
-use Rattle.paraid_rack.specs.Disks.{Disks}
 use Rattle.paraid_rack.specs.Told.{Ran}
-use Rattle.paraid_rack.specs.Trail.{Trail, extend, now, run}
-use Rattle.paraid_rack.proofs.TrailsLemmas.{extend-extend, now-extend}
+use Rattle.paraid_rack.specs.Trail.{Trail, now, run}
 use Rattle.paraid_record.specs.declared.meta.Meta.{Meta}
 use Rattle.paraid_record.specs.declared.meta.Setup.{Setup}
 use Rattle.paraid_image.specs.Calls.{disk_of, is_done}
@@ -51,12 +49,13 @@ use Rattle.paraid_event.proofs.UsedLemmas.{part_ups}
 use Rattle.paraid_event.specs.Service.{IsStateOf, Service}
 use Rattle.paraid_event.specs.Stands.{IsMidway, ServiceStandsFor, StandsAt, StandsIn}
 use Rattle.paraid_event.proofs.EndLemmas.{IsOnly, fails_tail, only_is, only_serving}
-use Rattle.paraid_event.proofs.FailLemmas.{attach_append, same_base, watch_append}
+use Rattle.paraid_event.proofs.FailLemmas.{attach_append, watch_append}
 use Rattle.paraid_event.proofs.LostLemmas.{capped_own, loses_told, one_outcome}
 use Rattle.paraid_event.proofs.MarksLemmas.{marked_setup, same_ticks}
-use Rattle.paraid_event.proofs.PartLemmas.{IsSettled, part_attaches, part_base, part_committed, part_each, part_epoch, part_failed, part_marks, part_only, part_powered, part_stands, part_state}
+use Rattle.paraid_event.proofs.PartLemmas.{IsSettled, part_attaches, part_committed, part_each, part_epoch, part_failed, part_marks, part_only, part_powered, part_stands, part_state, part_room}
 use Rattle.paraid_event.proofs.PointLemmas.{stands_mark}
 use Rattle.paraid_event.proofs.TurnLemmas.{absent_named, fresh_there, out_low, state_after}
+use Rattle.paraid_event.proofs.PreludeLemmas.{after_mark, same_base}
 
 -- where none failed in the first of some calls, the first that failed is that of the others
 pub first_append : (cs ds : List Call) → first_lost cs ≡ None → first_lost (cs ++ ds) ≡ first_lost ds
@@ -87,9 +86,6 @@ no_spin_ups mj to gear l = let e : to - gear ≡ 0 = omega (arith, l) in rw e (z
   where
     zero_times : (a : ℕ) → a * 0 ≡ 0
     zero_times a = grind (arith)
-
-some_trail : (a b : Trail) → Some a ≡ Some b → a ≡ b
-some_trail a b e = cc
 
 module _ (told : Option Trail) (k k1 k2 : Service) (setup : Setup) (p : Point) (at : StandsAt told k setup p) (to : ℕ) (shift : MarksShiftDown k k1 k2 to) (some : next_lower setup.geometry p.state.gear ≡ Some to)
     (steady : p.state.phase ≡ Steady) (no_out : p.state.out ≡ No) (unworn : first_worn setup p.state to ≡ None) (lo1 : ℕ) (le1 : p.low ≤ lo1) where
@@ -221,14 +217,8 @@ module _ (told : Option Trail) (k k1 k2 : Service) (setup : Setup) (p : Point) (
           ticks2 : k2.meta.ticks ≤ b.ticks
           ticks2 = let e = ap (λ (m : Meta). m.ticks) meta2 in let f = same_ticks v1.disks.power k.meta k1.meta marks1 in let g = ticks_fit in omega (arith, e, f, g)
 
-          old_epoch : ends.keeps.base ≡ p.meta → ends.keeps.base.epoch ≤ p.meta.epoch + 1
-          old_epoch is = let e = ap (λ (m : Meta). m.epoch) is in omega (arith, e)
-
-          new_epoch : ends.keeps.base ≡ committed_meta k → ends.keeps.base.epoch ≤ p.meta.epoch + 1
-          new_epoch is = let e = ap (λ (m : Meta). m.epoch) is in let f = at.stands.keeps.epoch in let g = ap (λ (m : Meta). m.epoch) at.stands.is_base in omega (arith, e, f, g)
-
           epoch1 : ends.keeps.base.epoch ≤ p.meta.epoch + 1
-          epoch1 = elim (part_base k p.history p.low p.meta w0 mid0 cs part k1 p.history lo1 ends serving1) [ inl old ↦ old_epoch old | inr new ↦ new_epoch new ]
+          epoch1 = part_room k p.history p.low p.meta w0 mid0 cs part k1 p.history lo1 ends serving1
 
           epoch2 : ends.keeps.base.epoch + 1 ≤ b.epoch
           epoch2 = let e = epoch1 in omega (arith, e)
@@ -358,27 +348,11 @@ module _ (told : Option Trail) (k k1 k2 : Service) (setup : Setup) (p : Point) (
 
   pub begun_told : (k3 : Service) → BeginsDown k k1 k2 k3 to → to < p.state.gear → (lo3 : ℕ) → p.low ≤ lo3 → point_wear p < worn_at → (mid told_then : Option Trail) → Ran told mid (ServesEvent k k1 p.history p.low p.history lo1) → ((t : Trail) → mid ≡ Some t → ServiceStandsFor k1 p.history p.low (now t) → ServiceStandsFor k2 p.history p.low (now t))
       → Ran mid told_then (ServesEvent k2 k3 p.history p.low p.history lo3) → Ran told told_then (GoesOn k.slots setup p AskDown (Shift p.state.gear to) (StandsAt told_then k3 setup))
-  begun_told k3 begins lower lo3 le3 fit mid told_then first marks second t tells =
-      let r2 = second t tells in
-      let r1 = first r2.from r2.was in
-      let from : now r1.from ≡ p.disks = at.disks r1.from r1.was in
-      let holds1 = subst (λ (s : Disks). ServesEvent k k1 p.history p.low p.history lo1 s r1.calls) from r1.holds at.stands.keeps in
-      let part1 = subst (λ (m : Meta). AreEventCalls k p.history p.low m p.disks r1.calls) at.stands.is_base holds1.0 in
-      let ends1 = holds1.1 in
-      let here : now r2.from ≡ (watch_all r1.calls w0).disks = ap now r1.is ∙ now-extend r1.from r1.calls ∙ ap (λ (s : Disks). run s r1.calls) from ∙ sym (watched_disks w0 r1.calls) in
-      let m1 = mid1 r1.calls part1 ends1 in
-      let keeps = subst (ServiceStandsFor k2 p.history p.low) here (marks r2.from r2.was (subst (ServiceStandsFor k1 p.history p.low) (sym here) m1.stands.keeps)) in
-      let same_meta : keeps.base ≡ ends1.keeps.base = same_base k1 k2 p.history p.history p.low p.low (watch_all r1.calls w0).disks m1.stands.keeps keeps ∙ m1.stands.is_base in
-      let holds2 = subst (λ (s : Disks). ServesEvent k2 k3 p.history p.low p.history lo3 s r2.calls) here r2.holds keeps in
-      let part2 = subst (λ (m : Meta). AreEventCalls k2 p.history p.low m (watch_all r1.calls w0).disks r2.calls) same_meta holds2.0 in
-      let end : now t ≡ (watch_all r2.calls (watch_all r1.calls w0)).disks = ap now r2.is ∙ now-extend r2.from r2.calls ∙ ap (λ (s : Disks). run s r2.calls) here ∙ sym (watched_disks (watch_all r1.calls w0) r2.calls) in
-      record {
-        from = r1.from;
-        was = r1.was;
-        calls = r1.calls ++ r2.calls;
-        is = r2.is ∙ ap (λ (u : Trail). extend u r2.calls) r1.is ∙ extend-extend r1.from r1.calls r2.calls;
-        holds = begun_turn r1.calls part1 ends1 keeps k3 begins lower lo3 le3 r2.calls part2 holds2.1 fit told_then (λ u u_tells. ap now (some_trail u t (sym u_tells ∙ tells)) ∙ end);
-      }
+  begun_told k3 begins lower lo3 le3 fit mid told_then first marks second =
+      after_mark told k k1 k2 setup p at (down_from_out (named_out p.state.out)) lo1 p.low mid1 mid told_then (ServesEvent k2 k3 p.history p.low p.history lo3) (GoesOn k.slots setup p AskDown (Shift p.state.gear to) (StandsAt told_then k3 setup)) first marks second
+      (λ cs part ends keeps same_meta ds holds end.
+      let served = holds keeps in
+      begun_turn cs part ends keeps k3 begins lower lo3 le3 ds (subst (λ (m : Meta). AreEventCalls k2 p.history p.low m (watch_all cs w0).disks ds) same_meta served.0) served.1 fit told_then end)
 
 fails_later : (cs ds : List Call) (e : ℕ) → fails_on e ds ≡ true → fails_on e (cs ++ ds) ≡ true
 fails_later [] ds e is = is
@@ -447,27 +421,12 @@ module _ (told : Option Trail) (k k1 k2 : Service) (setup : Setup) (p : Point) (
 
   pub begun_loses : (mid told_then : Option Trail) → Ran told mid (ServesEvent k k1 p.history p.low p.history lo1) → ((t : Trail) → mid ≡ Some t → ServiceStandsFor k1 p.history p.low (now t) → ServiceStandsFor k2 p.history p.low (now t))
       → Ran mid told_then (λ s cs. LosesInEvent k2 p.history p.low s cs × TellsTwo k2 two s cs) → Ran told told_then (GoesOn k.slots setup p AskDown (Halted (HaltTwo two)) (IsHaltedFrom p (HaltTwo two)))
-  begun_loses mid told_then first marks second t tells =
-      let r2 = second t tells in
-      let r1 = first r2.from r2.was in
-      let from : now r1.from ≡ p.disks = at.disks r1.from r1.was in
-      let holds1 = subst (λ (s : Disks). ServesEvent k k1 p.history p.low p.history lo1 s r1.calls) from r1.holds at.stands.keeps in
-      let part1 = subst (λ (m : Meta). AreEventCalls k p.history p.low m p.disks r1.calls) at.stands.is_base holds1.0 in
-      let ends1 = holds1.1 in
-      let here : now r2.from ≡ (watch_all r1.calls w_first).disks = ap now r1.is ∙ now-extend r1.from r1.calls ∙ ap (λ (s : Disks). run s r1.calls) from ∙ sym (watched_disks w_first r1.calls) in
-      let m1 = mid1 told k k1 k2 setup p at to shift some steady no_out unworn lo1 le1 r1.calls part1 ends1 in
-      let keeps = subst (ServiceStandsFor k2 p.history p.low) here (marks r2.from r2.was (subst (ServiceStandsFor k1 p.history p.low) (sym here) m1.stands.keeps)) in
-      let same_meta : keeps.base ≡ ends1.keeps.base = same_base k1 k2 p.history p.history p.low p.low (watch_all r1.calls w_first).disks m1.stands.keeps keeps ∙ m1.stands.is_base in
-      let holds2 = subst (λ (s : Disks). LosesInEvent k2 p.history p.low s r2.calls × TellsTwo k2 two s r2.calls) here r2.holds in
-      let part2 = subst (λ (m : Meta). AreEventCalls k2 p.history p.low m (watch_all r1.calls w_first).disks r2.calls) same_meta (holds2.0 keeps) in
-      record {
-        from = r1.from;
-        was = r1.was;
-        calls = r1.calls ++ r2.calls;
-        is = r2.is ∙ ap (λ (u : Trail). extend u r2.calls) r1.is ∙ extend-extend r1.from r1.calls r2.calls;
-        holds = (
-          record p { disks = run p.disks (r1.calls ++ r2.calls); halt = Some (HaltTwo two) },
-          second_loss two at.going (λ e. down_not_bad e) refl (loses_marked r1.calls part1 ends1 keeps r2.calls part2 holds2.1),
-          refl,
-        );
-      }
+  begun_loses mid told_then first marks second =
+      after_mark told k k1 k2 setup p at (down_from_out (named_out p.state.out)) lo1 p.low (mid1 told k k1 k2 setup p at to shift some steady no_out unworn lo1 le1) mid told_then
+      (λ s cs. LosesInEvent k2 p.history p.low s cs × TellsTwo k2 two s cs) (GoesOn k.slots setup p AskDown (Halted (HaltTwo two)) (IsHaltedFrom p (HaltTwo two))) first marks second
+      (λ cs part ends keeps same_meta ds holds end. (
+        record p { disks = run p.disks (cs ++ ds); halt = Some (HaltTwo two) },
+        second_loss two at.going (λ e. down_not_bad e) refl
+            (loses_marked cs part ends keeps ds (subst (λ (m : Meta). AreEventCalls k2 p.history p.low m (watch_all cs w_first).disks ds) same_meta (holds.0 keeps)) holds.1),
+        refl,
+      ))

@@ -17,19 +17,14 @@ use Rattle.paraid_base.specs.States.{gone_out, named_out, phase_beside, rising_t
 use Rattle.paraid_dirty.specs.Table.{is_dirty}
 use Rattle.paraid_rack.specs.declared.call.Call.{Call}
 use Rattle.paraid_rack.specs.declared.call.Power.{Power}
-use Rattle.paraid_rack.specs.Disks.{Disks}
 use Rattle.paraid_rack.specs.Told.{Ran}
-use Rattle.paraid_rack.specs.Trail.{Trail, extend, now, run}
-use Rattle.paraid_rack.proofs.TrailsLemmas.{extend-extend, now-extend}
+use Rattle.paraid_rack.specs.Trail.{Trail, now}
 use Rattle.paraid_record.specs.declared.meta.Meta.{Meta}
 use Rattle.paraid_record.specs.declared.meta.Setup.{Setup}
 use Rattle.paraid_image.specs.Calls.{is_attach}
 use Rattle.paraid_image.specs.Mark.{meta_after_loss}
 use Rattle.paraid_image.specs.Power.{PowerState, power_by_gear}
-use Rattle.paraid_image.specs.Rest.{closed_over}
-use Rattle.paraid_image.specs.Sides.{LogState}
 use Rattle.paraid_image.specs.Spins.{first_used}
-use Rattle.paraid_image.proofs.StandingLemmas.{Stands-same}
 use Rattle.paraid_machine.specs.Machine.{IsEventStep, outcomes, take_out}
 use Rattle.paraid_machine.specs.Moves.{after_loss}
 use Rattle.paraid_session.specs.Turn.{GoesOn, IsMark, Point, bounds_at, point_wear, watch_of}
@@ -46,11 +41,12 @@ use Rattle.paraid_event.proofs.UpLemmas.{up_append}
 use Rattle.paraid_event.proofs.UsedLemmas.{part_ups}
 use Rattle.paraid_event.specs.Service.{IsStateOf, Service}
 use Rattle.paraid_event.specs.Stands.{IsMidway, ServiceStandsFor, StandsAt, StandsIn}
-use Rattle.paraid_event.proofs.EndLemmas.{IsOnly, fails_head, fails_split, fails_tail, only_is, only_serving, self_image}
+use Rattle.paraid_event.proofs.EndLemmas.{IsOnly, fails_head, fails_split, fails_tail, only_is, only_serving}
 use Rattle.paraid_event.proofs.MarksLemmas.{gone_is_named, kept_fill, kept_out, kept_phase, lost_fill, lost_out, lost_phase, marked_setup, same_gear, same_spins, same_ticks, still_named, twice}
-use Rattle.paraid_event.proofs.PartLemmas.{IsSettled, part_attaches, part_base, part_committed, part_each, part_epoch, part_failed, part_marks, part_only, part_powered, part_stands}
+use Rattle.paraid_event.proofs.PartLemmas.{IsSettled, part_attaches, part_committed, part_each, part_epoch, part_failed, part_marks, part_only, part_powered, part_stands, part_room}
 use Rattle.paraid_event.proofs.PointLemmas.{stands_mark}
 use Rattle.paraid_event.proofs.TurnLemmas.{absent_named, fresh_there, out_low}
+use Rattle.paraid_event.proofs.PreludeLemmas.{after_mark, same_base}
 
 pub watch_append : (cs ds : List Call) (w : Watch) → watch_all (cs ++ ds) w ≡ watch_all ds (watch_all cs w)
 watch_append [] ds w = refl
@@ -73,14 +69,6 @@ fails_append (c ∷ cs) ds e is = elim (fails_split c (cs ++ ds) e is) [
     | inr second ↦ inr second
   ]
 ]
-
--- one meta stands
-pub same_base : (k j : Service) (g h : History) (lo low : ℕ) (s : Disks) (y : ServiceStandsFor k g lo s) (z : ServiceStandsFor j h low s) → z.base ≡ y.base
-same_base k j g h lo low s y z =
-    let i : Disks = record s { loose = λ d p. false } in
-    let a = y.copies.copying i (self_image s) in
-    let b = z.copies.copying i (self_image s) in
-    ap (λ (o : LogState). o.meta) (Stands-same i b.disk a.disk (closed_over z.base) (closed_over y.base) b.log.stands a.log.stands).1
 
 rising_beside : (phase : Phase) → rising_to (phase_beside true phase) ≡ rising_to phase
 rising_beside Steady = refl
@@ -125,9 +113,6 @@ one_or_same o d e alone is = ap (λ (x : ℕ). Some x) (sym (alone is))
 
 capped_same : (e u k : ℕ) → u ≡ k → e ≡ k → k ≤ 18446744073709551615 → e ≡ min (u + 0) 18446744073709551615
 capped_same e u k same is fits = grind (arith)
-
-some_trail : (a b : Trail) → Some a ≡ Some b → a ≡ b
-some_trail a b e = cc
 
 module _ (told : Option Trail) (k k1 k2 k3 : Service) (setup : Setup) (p : Point) (at : StandsAt told k setup p) (d : ℕ) (takes : TakesOut k k1 k2 k3 d) (below : d < setup.geometry.disks) (no_out : p.state.out ≡ No) (lo1 lo3 : ℕ) (le1 : p.low ≤ lo1) (le3 : p.low ≤ lo3) where
   abbrev w0 : Watch
@@ -332,14 +317,8 @@ module _ (told : Option Trail) (k k1 k2 k3 : Service) (setup : Setup) (p : Point
             ticks2 : k2.meta.ticks ≤ b.ticks
             ticks2 = let e = ap (λ (m : Meta). m.ticks) meta2 in let f = same_ticks v1.disks.power k.meta k1.meta marks1 in let g = ticks_fit in omega (arith, e, f, g)
 
-            old_epoch : ends.keeps.base ≡ p.meta → ends.keeps.base.epoch ≤ p.meta.epoch + 1
-            old_epoch is = let e = ap (λ (m : Meta). m.epoch) is in omega (arith, e)
-
-            new_epoch : ends.keeps.base ≡ committed_meta k → ends.keeps.base.epoch ≤ p.meta.epoch + 1
-            new_epoch is = let e = ap (λ (m : Meta). m.epoch) is in let f = at.stands.keeps.epoch in let g = ap (λ (m : Meta). m.epoch) at.stands.is_base in omega (arith, e, f, g)
-
             epoch1 : ends.keeps.base.epoch ≤ p.meta.epoch + 1
-            epoch1 = elim (part_base k p.history p.low p.meta w0 mid0 cs part k1 p.history lo1 ends (only_serving (Some d) v1.down only1)) [ inl old ↦ old_epoch old | inr new ↦ new_epoch new ]
+            epoch1 = part_room k p.history p.low p.meta w0 mid0 cs part k1 p.history lo1 ends (only_serving (Some d) v1.down only1)
 
             epoch2 : ends.keeps.base.epoch + 1 ≤ b.epoch
             epoch2 = let e = epoch1 in omega (arith, e)
@@ -407,24 +386,8 @@ module _ (told : Option Trail) (k k1 k2 k3 : Service) (setup : Setup) (p : Point
   -- what is told from one record to the next, to the one after it
   pub failed_told : point_wear p < worn_at → (mid told_then : Option Trail) → Ran told mid (ServesEvent k k1 p.history p.low p.history lo1) → ((t : Trail) → mid ≡ Some t → ServiceStandsFor k1 p.history p.low (now t) → ServiceStandsFor k2 p.history p.low (now t))
       → Ran mid told_then (ServesEvent k2 k3 p.history p.low p.history lo3) → Ran told told_then (GoesOn k.slots setup p (Fail d) (Failed d) (StandsAt told_then k3 setup))
-  failed_told fit mid told_then first marks second t tells =
-      let r2 = second t tells in
-      let r1 = first r2.from r2.was in
-      let from : now r1.from ≡ p.disks = at.disks r1.from r1.was in
-      let holds1 = subst (λ (s : Disks). ServesEvent k k1 p.history p.low p.history lo1 s r1.calls) from r1.holds at.stands.keeps in
-      let part1 = subst (λ (m : Meta). AreEventCalls k p.history p.low m p.disks r1.calls) at.stands.is_base holds1.0 in
-      let ends1 = holds1.1 in
-      let here : now r2.from ≡ (watch_all r1.calls w0).disks = ap now r1.is ∙ now-extend r1.from r1.calls ∙ ap (λ (s : Disks). run s r1.calls) from ∙ sym (watched_disks w0 r1.calls) in
-      let m1 = mid1 r1.calls part1 ends1 in
-      let keeps = subst (ServiceStandsFor k2 p.history p.low) here (marks r2.from r2.was (subst (ServiceStandsFor k1 p.history p.low) (sym here) m1.stands.keeps)) in
-      let same_meta : keeps.base ≡ ends1.keeps.base = same_base k1 k2 p.history p.history p.low p.low (watch_all r1.calls w0).disks m1.stands.keeps keeps ∙ m1.stands.is_base in
-      let holds2 = subst (λ (s : Disks). ServesEvent k2 k3 p.history p.low p.history lo3 s r2.calls) here r2.holds keeps in
-      let part2 = subst (λ (m : Meta). AreEventCalls k2 p.history p.low m (watch_all r1.calls w0).disks r2.calls) same_meta holds2.0 in
-      let end : now t ≡ (watch_all r2.calls (watch_all r1.calls w0)).disks = ap now r2.is ∙ now-extend r2.from r2.calls ∙ ap (λ (s : Disks). run s r2.calls) here ∙ sym (watched_disks (watch_all r1.calls w0) r2.calls) in
-      record {
-        from = r1.from;
-        was = r1.was;
-        calls = r1.calls ++ r2.calls;
-        is = r2.is ∙ ap (λ (u : Trail). extend u r2.calls) r1.is ∙ extend-extend r1.from r1.calls r2.calls;
-        holds = failed_turn r1.calls part1 ends1 keeps r2.calls part2 holds2.1 fit told_then (λ u u_tells. ap now (some_trail u t (sym u_tells ∙ tells)) ∙ end);
-      }
+  failed_told fit mid told_then first marks second =
+      after_mark told k k1 k2 setup p at (only d) lo1 p.low mid1 mid told_then (ServesEvent k2 k3 p.history p.low p.history lo3) (GoesOn k.slots setup p (Fail d) (Failed d) (StandsAt told_then k3 setup)) first marks second
+      (λ cs part ends keeps same_meta ds holds end.
+      let served = holds keeps in
+      failed_turn cs part ends keeps ds (subst (λ (m : Meta). AreEventCalls k2 p.history p.low m (watch_all cs w0).disks ds) same_meta served.0) served.1 fit told_then end)

@@ -22,7 +22,6 @@ use Rattle.paraid_core.specs.Lost.{MarksLost}
 use Rattle.paraid_core.proofs.CommitLemmas.{both_of}
 use Rattle.paraid_txn.specs.Commit.{IsOldOrNew}
 use Rattle.paraid_txn.specs.Uses.{EachCall}
-use Rattle.paraid_recover.specs.Powers.{IsPowerCall}
 use Rattle.paraid_event.proofs.ApartLemmas.{gone_not_fresh, no_one, none_not_fresh}
 use Rattle.paraid_event.specs.Marks.{ArePoweredByGear, IsMarkedBy, ShowsMeta}
 use Rattle.paraid_event.specs.Parts.{committed_meta}

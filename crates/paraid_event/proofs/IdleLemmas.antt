@@ -38,9 +38,9 @@ use Rattle.paraid_event.proofs.ApartLemmas.{tick_not_bad}
 use Rattle.paraid_event.specs.Service.{IsStateOf, Service}
 use Rattle.paraid_event.specs.Stands.{ServiceStandsFor, StandsAt, StandsIn}
 use Rattle.paraid_event.specs.Ticks.{CountsTick, ticked}
-use Rattle.paraid_event.proofs.FailLemmas.{same_base}
 use Rattle.paraid_event.proofs.PointLemmas.{rest, stands_mark, stands_resting}
 use Rattle.paraid_event.proofs.TurnLemmas.{out_low}
+use Rattle.paraid_event.proofs.PreludeLemmas.{same_base}
 
 within_count : (a b : ℕ) → a ≤ b → a < 2 ^ 64 → a ≤ min (b + 1) 18446744073709551615
 within_count a b l f = grind (arith)

@@ -10,6 +10,7 @@ pub mod GivenLemmas
 pub mod LostLemmas
 pub mod QuietLemmas
 pub mod PartLemmas
+pub mod PreludeLemmas
 pub mod FailLemmas
 pub mod SlotsLemmas
 pub mod IdleLemmas

@@ -99,6 +99,13 @@ module _ (k : Service) (h : History) (lo : ℕ) (base : Meta) (w : Watch) (at : 
     part_base serving = subst (λ (m : Meta). (m ≡ base) ⊎ (m ≡ committed_meta k)) (moved_keeps lo_then (omega arith)).1
         (end_base k k_then h h_then lo lo_then base w at.stands cs part_calls part_marks (moved_keeps lo_then (omega arith)).0 part.brings serving)
 
+    -- with one commit at most
+    pub part_room : IsServing v.down → ends.keeps.base.epoch ≤ base.epoch + 1
+    part_room serving = elim (part_base serving) [
+      | inl old ↦ let e = ap (λ (m : Meta). m.epoch) old in omega (arith, e)
+      | inr new ↦ let e = ap (λ (m : Meta). m.epoch) new in let f = at.stands.keeps.epoch in let g = ap (λ (m : Meta). m.epoch) at.stands.is_base in omega (arith, e, f, g)
+    ]
+
     -- that of before, after calls between two commits
     pub part_data : EachCall (IsDataCall n (gone_out k.meta.out)) w.disks cs → IsServing v.down → ends.keeps.base ≡ base
     part_data past serving = sym (moved_keeps lo_then (omega arith)).1

@@ -10,8 +10,6 @@ use Rattle.paraid_rack.proofs.TrailsLemmas.{now-extend}
 use Rattle.paraid_image.specs.Sides.{Batch}
 use Rattle.paraid_core.specs.CoreInvariant.{HoldsBetweenCalls, IsHeldWithOneMissing}
 use Rattle.paraid_core.proofs.CommitLemmas.{both_of}
-use Rattle.paraid_recover.specs.Powers.{IsPowerCall}
-use Rattle.paraid_txn.specs.Uses.{EachCall}
 use Rattle.paraid_event.specs.Marks.{ArePoweredByGear, IsMarkedBy}
 use Rattle.paraid_event.specs.Powering.{AreDisksPowered, ArePowerCalls, PowersInEvent, ServiceRests}
 use Rattle.paraid_event.specs.Service.{Service}

@@ -48,11 +48,12 @@ use Rattle.paraid_event.proofs.EndLemmas.{fails_split}
 use Rattle.paraid_event.proofs.FailLemmas.{watch_append}
 use Rattle.paraid_event.proofs.ParkBackLemmas.{IsEnded, ended_gone, ended_parked, ended_spinning, lost_by, park_calls}
 use Rattle.paraid_event.proofs.RebuildEndLemmas.{back_state, ended_turn, failed_low}
-use Rattle.paraid_event.proofs.RebuildTickLemmas.{failed_off, none_first, out1, rebuild_loses, some_trail, underway1}
+use Rattle.paraid_event.proofs.RebuildTickLemmas.{failed_off, none_first, out1, rebuild_loses, underway1}
 use Rattle.paraid_event.proofs.RejoinLemmas.{GoesBack, back_after, calls_then, rejoin_calls, rejoined}
 use Rattle.paraid_event.proofs.ShownLemmas.{shown_rests}
 use Rattle.paraid_event.proofs.StepLemmas.{data_steps, fails_later, follow, goes_bound, lose_then, ran_both, ran_then}
 use Rattle.paraid_event.proofs.StepMarkLemmas.{fresh_of}
+use Rattle.paraid_event.proofs.PreludeLemmas.{some_trail}
 
 -- the units that are left are copied, and the core stands with the disk back too
 copies_goes : (j copied joined : Service) → copied.slots ≡ j.slots → (h : History) (lo : ℕ) (s : Disks) (cs : List Call) → CopiesRest j copied joined h lo s cs → (base : Meta) (w : Watch) → w.disks ≡ s → IsUnderway j h lo base w

@@ -58,6 +58,7 @@ use Rattle.paraid_event.proofs.IdleLemmas.{stands_in, state_then, used}
 use Rattle.paraid_event.proofs.LostLemmas.{one_outcome}
 use Rattle.paraid_event.proofs.PointLemmas.{stands_mark}
 use Rattle.paraid_event.proofs.TurnLemmas.{absent_named, fresh_there, out_low}
+use Rattle.paraid_event.proofs.PreludeLemmas.{some_trail}
 
 -- a disk that is absent stays so, while none is attached
 off_at : (p : ℕ → Power) (e x : ℕ) (left was : Power) → p e ≡ was → (is_present was ≡ false → is_present left ≡ false) → is_present (p x) ≡ false → is_present (with_at p e left x) ≡ false
@@ -110,9 +111,6 @@ less_min a b l = grind (arith)
 
 apart_test : (a b : ℕ) → a < b → (a == b) ≡ false
 apart_test a b l = grind (arith, nat_tests)
-
-pub some_trail : (a b : Trail) → Some a ≡ Some b → a ≡ b
-some_trail a b e = cc
 
 -- so it is answered: units are moved, or the disk is gone again
 abbrev ticks_to : Setup → ℕ → Bool → TickEvent

@@ -41,9 +41,10 @@ use Rattle.paraid_event.specs.Stands.{IsMidway, IsRecordedBy, ServiceStandsFor, 
 use Rattle.paraid_event.specs.Steps.{AreStepCalls, GoesInSteps, IsOnly, IsUnderway, made_by}
 use Rattle.paraid_event.proofs.ChainLemmas.{Follows, FollowsLog, commit_within_by, data_transfer, data_within, follows_log_step, kept_end, next_stands, no_attach, only_base, start_follows_log, transfer_each}
 use Rattle.paraid_event.proofs.EndLemmas.{end_follows, failed_absent, fails_below, only_end, only_serving, self_image, stays_off, through_last}
-use Rattle.paraid_event.proofs.FailLemmas.{attach_append, same_base, watch_append}
+use Rattle.paraid_event.proofs.FailLemmas.{attach_append, watch_append}
 use Rattle.paraid_event.proofs.MarksLemmas.{marked_gear, marked_setup, marked_used, out_named, same_ticks, still_shown, same_spins}
 use Rattle.paraid_event.proofs.TurnLemmas.{moved_less}
+use Rattle.paraid_event.proofs.PreludeLemmas.{same_base}
 
 beside_none : (phase : Phase) → phase_beside false phase ≡ phase
 beside_none Steady = refl

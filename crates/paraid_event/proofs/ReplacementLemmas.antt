@@ -62,12 +62,13 @@ use Rattle.paraid_event.specs.Stands.{IsMidway, ServiceStandsFor, StandsAt, Stan
 use Rattle.paraid_event.proofs.AttachingLemmas.{attach_each, attach_only, attach_powered, attach_rests, attach_spins, attach_stands, each_end, fails_beside, forgotten}
 use Rattle.paraid_event.proofs.BeginLemmas.{first_append}
 use Rattle.paraid_event.proofs.EndLemmas.{IsOnly, failed_absent, fails_tail, only_is, only_serving}
-use Rattle.paraid_event.proofs.FailLemmas.{same_base, watch_append}
+use Rattle.paraid_event.proofs.FailLemmas.{watch_append}
 use Rattle.paraid_event.proofs.LostLemmas.{capped_own, one_outcome}
 use Rattle.paraid_event.proofs.MarksLemmas.{gone_is_named, kept_fill, kept_out, kept_phase, lost_fill, lost_out, lost_phase, marked_setup, same_gear, same_ticks, still_named}
 use Rattle.paraid_event.proofs.PartLemmas.{IsSettled, part_attaches, part_calls, part_committed, part_each, part_epoch, part_failed, part_marks, part_only, part_powered, part_stands, part_state}
 use Rattle.paraid_event.proofs.PointLemmas.{stands_mark}
 use Rattle.paraid_event.proofs.TurnLemmas.{absent_named, fresh_there, out_low, state_after}
+use Rattle.paraid_event.proofs.PreludeLemmas.{same_base}
 
 rising_beside : (phase : Phase) → rising_to (phase_beside true phase) ≡ rising_to phase
 rising_beside Steady = refl
@@ -97,9 +98,6 @@ attach_after (c ∷ cs) ds none = by (is_attach c) none (λ rest. attach_after c
         → (if t then attach_count (cs ++ ds) + 1 else attach_count (cs ++ ds)) ≡ attach_count ds
     by true z f = absurd (omega (arith, z))
     by false z f = f z
-
-some_trail : (a b : Trail) → Some a ≡ Some b → a ≡ b
-some_trail a b e = cc
 
 -- so it is answered, with a fresh disk or with none
 abbrev pub answer_of : ℕ → Bool → Answer

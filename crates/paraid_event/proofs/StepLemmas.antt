@@ -21,7 +21,7 @@ use Rattle.paraid_txn.specs.Uses.{EachCall}
 use Rattle.paraid_event.proofs.ApartLemmas.{no_one}
 use Rattle.paraid_event.specs.Lost.{TellsTwo}
 use Rattle.paraid_event.specs.Marks.{ArePoweredByGear, IsMarkedBy, ShowsMeta}
-use Rattle.paraid_event.specs.Parts.{AreEventCalls, EndsEvent, LosesInEvent, committed_meta}
+use Rattle.paraid_event.specs.Parts.{AreEventCalls, EndsEvent, LosesInEvent}
 use Rattle.paraid_session.specs.Ups.{up_count}
 use Rattle.paraid_event.proofs.UpLemmas.{up_append}
 use Rattle.paraid_event.proofs.UsedLemmas.{part_used}
@@ -34,7 +34,7 @@ use Rattle.paraid_event.proofs.ChainLemmas.{data_within, transfer_each}
 use Rattle.paraid_event.proofs.EndLemmas.{fails_tail, only_serving}
 use Rattle.paraid_event.proofs.FailLemmas.{attach_append, fails_append, watch_append}
 use Rattle.paraid_event.proofs.MarksLemmas.{newly_named, same_ticks, still_named}
-use Rattle.paraid_event.proofs.PartLemmas.{part_attaches, part_awaited, part_base, part_calls, part_data, part_each, part_failed, part_marks, part_only, part_powered, part_setup, part_shown, part_stands}
+use Rattle.paraid_event.proofs.PartLemmas.{part_attaches, part_awaited, part_base, part_calls, part_data, part_each, part_failed, part_marks, part_only, part_powered, part_setup, part_shown, part_stands, part_room}
 
 -- the first call that failed of some calls is that of those and others
 pub first_before : (cs ds : List Call) (e : ℕ) → first_lost cs ≡ Some e → first_lost (cs ++ ds) ≡ Some e
@@ -207,14 +207,8 @@ module _ (k k_then : Service) (h : History) (lo lo_then : ℕ) (le : lo ≤ lo_t
     attaches = part_attaches k h lo base w mid cs part;
   }
 
-  old_epoch : ends.keeps.base ≡ base → ends.keeps.base.epoch ≤ base.epoch + 1
-  old_epoch is = let e = ap (λ (m : Meta). m.epoch) is in omega (arith, e)
-
-  new_epoch : ends.keeps.base ≡ committed_meta k → ends.keeps.base.epoch ≤ base.epoch + 1
-  new_epoch is = let e = ap (λ (m : Meta). m.epoch) is in let f = mid.stands.keeps.epoch in let g = ap (λ (m : Meta). m.epoch) mid.stands.is_base in omega (arith, e, f, g)
-
   pub one_room : ends.keeps.base.epoch ≤ base.epoch + 1
-  one_room = elim (part_base k h lo base w mid cs part k_then h lo_then ends one_serving) [ inl old ↦ old_epoch old | inr new ↦ new_epoch new ]
+  one_room = part_room k h lo base w mid cs part k_then h lo_then ends one_serving
 
   one_carried : (ends.keeps.base ≡ base) ⊎ (ends.keeps.base.ticks ≡ k_then.meta.ticks)
   one_carried = elim (part_base k h lo base w mid cs part k_then h lo_then ends one_serving) [

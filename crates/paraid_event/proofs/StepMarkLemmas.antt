@@ -29,12 +29,12 @@ use Rattle.paraid_event.specs.Service.{Service}
 use Rattle.paraid_event.specs.Stands.{IsMidway, ServiceStandsFor}
 use Rattle.paraid_event.specs.Steps.{AreStepCalls, AwaitsCommit, GoesInSteps, IsOnly, IsUnderway, LeavesService, LosesInSteps, LosesPowered, MarksInMemory, PowersFrom, ServesAndMarks, ServesMarked, StepsInEvent, StepsToMark, made_by}
 use Rattle.paraid_event.proofs.EndLemmas.{end_follows, only_serving}
-use Rattle.paraid_event.proofs.FailLemmas.{same_base}
 use Rattle.paraid_event.proofs.MarksLemmas.{newly_named, same_ticks, still_named}
 use Rattle.paraid_event.proofs.PartLemmas.{part_attaches, part_calls, part_committed, part_each, part_epoch, part_marks, part_powered}
 use Rattle.paraid_event.proofs.PowerLemmas.{power_attaches, power_each, power_marks, power_named, power_only, power_powered, power_setup, power_shown, power_stands}
 use Rattle.paraid_event.proofs.ShownLemmas.{shown_shift}
 use Rattle.paraid_event.proofs.StepLemmas.{both_go, both_lose, data_steps, one_calls, one_leaves, one_midway, one_only, one_room, one_serving, only_grows}
+use Rattle.paraid_event.proofs.PreludeLemmas.{same_base}
 
 -- the disk that is being rebuilt by a meta with a mark was so before it
 pub fresh_of : (o : Out) (d : ℕ) → named_out o ≡ Some d → gone_out o ≡ None → (u : ℕ) × (o ≡ Fresh d u)

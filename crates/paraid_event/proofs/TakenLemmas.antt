@@ -17,8 +17,7 @@ use Rattle.paraid_base.specs.States.{named_out}
 use Rattle.paraid_rack.specs.declared.call.Call.{Call}
 use Rattle.paraid_rack.specs.Disks.{Disks, is_present, step}
 use Rattle.paraid_rack.specs.Told.{Ran, Through}
-use Rattle.paraid_rack.specs.Trail.{Trail, extend, now, run}
-use Rattle.paraid_rack.proofs.TrailsLemmas.{extend-extend, now-extend}
+use Rattle.paraid_rack.specs.Trail.{Trail, now, run}
 use Rattle.paraid_record.specs.declared.meta.Meta.{Meta}
 use Rattle.paraid_record.specs.declared.meta.Setup.{Setup}
 use Rattle.paraid_image.specs.Calls.{disk_of, is_done}
@@ -41,14 +40,15 @@ use Rattle.paraid_recover.proofs.DownLemmas.{in_stays, watched_disks}
 use Rattle.paraid_event.proofs.ApartLemmas.{fail_not_bad, no_one}
 use Rattle.paraid_event.specs.Lost.{IsHaltedFrom, TellsTwo}
 use Rattle.paraid_event.specs.Marked.{MarksTakenOut}
-use Rattle.paraid_event.specs.Parts.{AreEventCalls, EndsEvent, LosesInEvent, ServesEvent, committed_meta}
+use Rattle.paraid_event.specs.Parts.{AreEventCalls, EndsEvent, LosesInEvent, ServesEvent}
 use Rattle.paraid_event.specs.Service.{Service}
 use Rattle.paraid_event.specs.Stands.{IsMidway, ServiceStandsFor, StandsAt}
 use Rattle.paraid_event.proofs.EndLemmas.{IsOnly, fails_tail, only_serving}
-use Rattle.paraid_event.proofs.FailLemmas.{attach_append, same_base, taken_midway}
+use Rattle.paraid_event.proofs.FailLemmas.{attach_append, taken_midway}
 use Rattle.paraid_event.proofs.MarksLemmas.{marked_setup, same_ticks}
-use Rattle.paraid_event.proofs.PartLemmas.{part_attaches, part_base, part_each, part_failed, part_marks, part_only, part_stands}
+use Rattle.paraid_event.proofs.PartLemmas.{part_attaches, part_each, part_failed, part_marks, part_only, part_stands, part_room}
 use Rattle.paraid_event.proofs.TurnLemmas.{absent_named, each, fresh_there, once, out_low}
+use Rattle.paraid_event.proofs.PreludeLemmas.{after_mark}
 
 -- the calls before the first one that fails
 run_append : (s : Disks) (cs ds : List Call) → run s (cs ++ ds) ≡ run (run s cs) ds
@@ -277,14 +277,8 @@ module _ (told : Option Trail) (k : Service) (setup : Setup) (p : Point) (at : S
                   let g = ticks_fit in
                   omega (arith, e, f, g)
 
-              old_epoch : ends.keeps.base ≡ p.meta → ends.keeps.base.epoch ≤ p.meta.epoch + 1
-              old_epoch is = let e = ap (λ (m : Meta). m.epoch) is in omega (arith, e)
-
-              new_epoch : ends.keeps.base ≡ committed_meta k → ends.keeps.base.epoch ≤ p.meta.epoch + 1
-              new_epoch is = let e = ap (λ (m : Meta). m.epoch) is in let f = at.stands.keeps.epoch in let g = ap (λ (m : Meta). m.epoch) at.stands.is_base in omega (arith, e, f, g)
-
               epoch1 : ends.keeps.base.epoch ≤ p.meta.epoch + 1
-              epoch1 = elim (part_base k p.history p.low p.meta w0 mid0 cs part k1 p.history all ends (only_serving (Some d) v1.down only1)) [ inl old ↦ old_epoch old | inr new ↦ new_epoch new ]
+              epoch1 = part_room k p.history p.low p.meta w0 mid0 cs part k1 p.history all ends (only_serving (Some d) v1.down only1)
 
               epoch2 : ends.keeps.base.epoch + 1 ≤ b.epoch
               epoch2 = let e = epoch1 in omega (arith, e)
@@ -326,27 +320,12 @@ module _ (told : Option Trail) (k : Service) (setup : Setup) (p : Point) (at : S
 
     pub marked_lost : (mid told_then : Option Trail) → Ran told mid (ServesEvent k k1 p.history p.low p.history all) → ((t : Trail) → mid ≡ Some t → ServiceStandsFor k1 p.history all (now t) → ServiceStandsFor k2 p.history all (now t))
         → Ran mid told_then (λ s cs. LosesInEvent k2 p.history all s cs × TellsTwo k2 two s cs) → Ran told told_then (GoesOn k.slots setup p (Fail d) (Halted (HaltTwo two)) (IsHaltedFrom p (HaltTwo two)))
-    marked_lost mid told_then first_ran mark second_ran t tells =
-        let r2 = second_ran t tells in
-        let r1 = first_ran r2.from r2.was in
-        let from : now r1.from ≡ p.disks = at.disks r1.from r1.was in
-        let holds1 = subst (λ (s : Disks). ServesEvent k k1 p.history p.low p.history all s r1.calls) from r1.holds at.stands.keeps in
-        let part1 = subst (λ (m : Meta). AreEventCalls k p.history p.low m p.disks r1.calls) at.stands.is_base holds1.0 in
-        let ends1 = holds1.1 in
-        let here : now r2.from ≡ (watch_all r1.calls w0).disks = ap now r1.is ∙ now-extend r1.from r1.calls ∙ ap (λ (s : Disks). run s r1.calls) from ∙ sym (watched_disks w0 r1.calls) in
-        let m1 = mid1 r1.calls part1 ends1 in
-        let keeps = subst (ServiceStandsFor k2 p.history all) here (mark r2.from r2.was (subst (ServiceStandsFor k1 p.history all) (sym here) m1.stands.keeps)) in
-        let same_meta : keeps.base ≡ ends1.keeps.base = same_base k1 k2 p.history p.history all all (watch_all r1.calls w0).disks m1.stands.keeps keeps ∙ m1.stands.is_base in
-        let holds2 = subst (λ (s : Disks). LosesInEvent k2 p.history all s r2.calls × TellsTwo k2 two s r2.calls) here r2.holds in
-        let part2 = subst (λ (m : Meta). AreEventCalls k2 p.history all m (watch_all r1.calls w0).disks r2.calls) same_meta (holds2.0 keeps) in
-        record {
-          from = r1.from;
-          was = r1.was;
-          calls = r1.calls ++ r2.calls;
-          is = r2.is ∙ ap (λ (u : Trail). extend u r2.calls) r1.is ∙ extend-extend r1.from r1.calls r2.calls;
-          holds = (
-            record p { disks = run p.disks (r1.calls ++ r2.calls); halt = Some (HaltTwo two) },
-            second_loss two at.going (λ e. fail_not_bad e) refl (marked_turn r1.calls part1 ends1 keeps r2.calls part2 holds2.1),
-            refl,
-          );
-        }
+    marked_lost mid told_then first_ran mark second_ran =
+        after_mark told k k1 k2 setup p at (only d) all all mid1 mid told_then (λ s cs. LosesInEvent k2 p.history all s cs × TellsTwo k2 two s cs) (GoesOn k.slots setup p (Fail d) (Halted (HaltTwo two)) (IsHaltedFrom p (HaltTwo two)))
+        first_ran mark second_ran
+        (λ cs part ends keeps same_meta ds holds end. (
+          record p { disks = run p.disks (cs ++ ds); halt = Some (HaltTwo two) },
+          second_loss two at.going (λ e. fail_not_bad e) refl
+              (marked_turn cs part ends keeps ds (subst (λ (m : Meta). AreEventCalls k2 p.history all m (watch_all cs w0).disks ds) same_meta (holds.0 keeps)) holds.1),
+          refl,
+        ))

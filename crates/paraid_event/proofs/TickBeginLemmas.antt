@@ -50,12 +50,12 @@ use Rattle.paraid_event.specs.Service.{IsStateOf, Service}
 use Rattle.paraid_event.specs.Stands.{IsMidway, ServiceStandsFor, StandsAt, StandsIn}
 use Rattle.paraid_event.specs.Ticks.{BeginsDownByTick, CountsTick, IsHaltedWith}
 use Rattle.paraid_event.proofs.EndLemmas.{IsOnly, only_is, only_serving}
-use Rattle.paraid_event.proofs.FailLemmas.{same_base}
 use Rattle.paraid_event.proofs.IdleLemmas.{stands_in, state_then, used}
 use Rattle.paraid_event.proofs.MarksLemmas.{marked_setup, same_ticks}
 use Rattle.paraid_event.proofs.PartLemmas.{IsSettled, part_attaches, part_committed, part_each, part_epoch, part_marks, part_only, part_powered, part_stands, part_state}
 use Rattle.paraid_event.proofs.PointLemmas.{stands_mark}
 use Rattle.paraid_event.proofs.TurnLemmas.{absent_named, fresh_there, out_low, state_after}
+use Rattle.paraid_event.proofs.PreludeLemmas.{same_base, some_trail}
 
 only_more : (o : Option ℕ) (down : DownDisks) → IsOnly None down → IsOnly o down
 only_more o nobody is = tt
@@ -86,9 +86,6 @@ one_outcome outcome answer new is = by is.0 is.1 is.2
     by : (x : ℕ) → x < 1 → slice_index_or (outcome ∷ []) x (answer, new) ≡ (answer, new) → outcome.0 ≡ answer
     by zero low at = ap (λ (z : Answer × PowerState). z.0) at
     by (suc x) low at = absurd (omega arith)
-
-some_trail : (a b : Trail) → Some a ≡ Some b → a ≡ b
-some_trail a b e = cc
 
 module _ (told : Option Trail) (k k1 k2 : Service) (setup : Setup) (p : Point) (at : StandsAt told k setup p) (to : ℕ) (counts : CountsTick k k1) (mark : k2 ≡ record k1 { meta = meta_after_begin k1.meta (Down to) k1.meta.spins }) (fit : point_wear p < worn_at) (lower : to < p.state.gear)
     (steady : p.state.phase ≡ Steady) (no_out : p.state.out ≡ No) (down : decision setup p.state.gear (state_with_tick p.state).samples ≡ DecideDown to) (unworn : first_worn setup (state_with_tick p.state) to ≡ None) where

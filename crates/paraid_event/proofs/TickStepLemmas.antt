@@ -45,6 +45,7 @@ use Rattle.paraid_event.proofs.EndLemmas.{only_from}
 use Rattle.paraid_event.proofs.IdleLemmas.{stands_in, state_then, used}
 use Rattle.paraid_event.proofs.SteppedLemmas.{steps_lost, steps_turn, other_base}
 use Rattle.paraid_event.proofs.TurnLemmas.{absent_named, fresh_there, out_low}
+use Rattle.paraid_event.proofs.PreludeLemmas.{some_trail}
 
 -- units leave the gear of the state as it is
 units_gear : (setup : Setup) (count : ℕ) (s : PowerState) → (after_units setup count s).gear ≡ s.gear
@@ -91,9 +92,6 @@ under_cap x a is = grind (arith)
 
 capped_none : (x y a : ℕ) → x ≡ min a 18446744073709551615 → y ≡ x → y ≡ min (x + 0) 18446744073709551615
 capped_none x y a is same = grind (arith)
-
-some_trail : (a b : Trail) → Some a ≡ Some b → a ≡ b
-some_trail a b e = cc
 
 pub no_name : (o : Out) → named_out o ≡ None → o ≡ No
 no_name No none = refl

@@ -22,8 +22,7 @@ use Rattle.paraid_rack.specs.declared.call.Call.{Call}
 use Rattle.paraid_rack.specs.declared.call.Power.{Power}
 use Rattle.paraid_rack.specs.Disks.{Disks, is_parked, is_present}
 use Rattle.paraid_rack.specs.Told.{Ran}
-use Rattle.paraid_rack.specs.Trail.{Trail, extend, now, run}
-use Rattle.paraid_rack.proofs.TrailsLemmas.{extend-extend, now-extend}
+use Rattle.paraid_rack.specs.Trail.{Trail, now, run}
 use Rattle.paraid_record.specs.declared.meta.Meta.{Meta}
 use Rattle.paraid_record.specs.declared.meta.Setup.{Setup}
 use Rattle.paraid_image.specs.Calls.{disk_of, is_done}
@@ -56,12 +55,13 @@ use Rattle.paraid_event.specs.Upshift.{EndsShiftUp, MarksShiftUp, OpensShiftUp}
 use Rattle.paraid_event.specs.Lost.{IsHaltedFrom, TellsTwo}
 use Rattle.paraid_event.proofs.BeginLemmas.{first_append}
 use Rattle.paraid_event.proofs.EndLemmas.{IsOnly, failed_absent, fails_tail, only_is, only_serving}
-use Rattle.paraid_event.proofs.FailLemmas.{attach_append, same_base, watch_append}
+use Rattle.paraid_event.proofs.FailLemmas.{attach_append, watch_append}
 use Rattle.paraid_event.proofs.MarksLemmas.{marked_setup, newly_named, same_ticks, still_named}
-use Rattle.paraid_event.proofs.PartLemmas.{IsSettled, part_attaches, part_awaited, part_base, part_calls, part_committed, part_each, part_epoch, part_failed, part_marks, part_only, part_stands, part_state}
+use Rattle.paraid_event.proofs.PartLemmas.{IsSettled, part_attaches, part_awaited, part_calls, part_committed, part_each, part_epoch, part_failed, part_marks, part_only, part_stands, part_state, part_room}
 use Rattle.paraid_event.proofs.PointLemmas.{stands_mark}
 use Rattle.paraid_event.proofs.PowerLemmas.{power_attaches, power_each, power_marks, power_named, power_only, power_powered, power_setup, power_shown, power_stands, power_state, power_there, settled_by}
 use Rattle.paraid_event.proofs.TurnLemmas.{absent_named, fresh_there, out_low, state_after}
+use Rattle.paraid_event.proofs.PreludeLemmas.{after_mark, both_parts, BothParts, same_base}
 
 -- the first call that failed of some calls is that of those and others
 first_before : (cs ds : List Call) (e : ℕ) → first_lost cs ≡ Some e → first_lost (cs ++ ds) ≡ Some e
@@ -119,9 +119,6 @@ one_outcome outcome answer new is = by is.0 is.1 is.2
 fails_later : (cs ds : List Call) (e : ℕ) → fails_on e ds ≡ true → fails_on e (cs ++ ds) ≡ true
 fails_later [] ds e is = is
 fails_later (c ∷ cs) ds e is = fails_tail c (cs ++ ds) e (fails_later cs ds e is)
-
-some_trail : (a b : Trail) → Some a ≡ Some b → a ≡ b
-some_trail a b e = cc
 
 module _ (told : Option Trail) (k k1 k2 : Service) (setup : Setup) (p : Point) (at : StandsAt told k setup p) (to : ℕ) (up : MarksShiftUp k k1 k2 to) (some : next_higher setup.geometry p.state.gear ≡ Some to)
     (steady : p.state.phase ≡ Steady) (no_out : p.state.out ≡ No) (lo1 : ℕ) (le1 : p.low ≤ lo1) (fit : point_wear p < worn_at) where
@@ -217,14 +214,8 @@ module _ (told : Option Trail) (k k1 k2 : Service) (setup : Setup) (p : Point) (
     state1 = subst (λ (o : Option ℕ). IsStateOf (record k1 { table = k.table; samples = k.samples; served = k.served }) (state_after p.state o)) none_lost
         (part_state k p.history p.low p.meta w0 mid0 cs part k1 p.history lo1 ends p.state at.state settled0)
 
-    old_epoch : ends.keeps.base ≡ p.meta → ends.keeps.base.epoch ≤ p.meta.epoch + 1
-    old_epoch is = let e = ap (λ (m : Meta). m.epoch) is in omega (arith, e)
-
-    new_epoch : ends.keeps.base ≡ committed_meta k → ends.keeps.base.epoch ≤ p.meta.epoch + 1
-    new_epoch is = let e = ap (λ (m : Meta). m.epoch) is in let f = at.stands.keeps.epoch in let g = ap (λ (m : Meta). m.epoch) at.stands.is_base in omega (arith, e, f, g)
-
     epoch1 : ends.keeps.base.epoch ≤ p.meta.epoch + 1
-    epoch1 = elim (part_base k p.history p.low p.meta w0 mid0 cs part k1 p.history lo1 ends serving1) [ inl old ↦ old_epoch old | inr new ↦ new_epoch new ]
+    epoch1 = part_room k p.history p.low p.meta w0 mid0 cs part k1 p.history lo1 ends serving1
 
     module _ (keeps : ServiceStandsFor k2 p.history p.low v1.disks) where
       abbrev meta_up : Meta
@@ -595,92 +586,56 @@ module _ (told : Option Trail) (k k1 k2 : Service) (setup : Setup) (p : Point) (
 
   pub raised_told : (k3 k4 : Service) (opens : OpensShiftUp k k2 k3) (ends_up : EndsShiftUp k k4 to) (lo3 : ℕ) (le3 : p.low ≤ lo3) → (mid opened told_then : Option Trail) → Ran told mid (ServesEvent k k1 p.history p.low p.history lo1) → ((t : Trail) → mid ≡ Some t → ServiceStandsFor k1 p.history p.low (now t) → ServiceStandsFor k2 p.history p.low (now t))
       → Ran mid opened (ServesEvent k2 k3 p.history p.low p.history lo3) → Ran opened told_then (PowersInEvent k3 k4 p.history p.low) → Ran told told_then (GoesOn k.slots setup p AskUp (Shift p.state.gear to) (StandsAt told_then k4 setup))
-  raised_told k3 k4 opens ends_up lo3 le3 mid opened told_then first marks second third t tells =
-      let r3 = third t tells in
-      let r2 = second r3.from r3.was in
-      let r1 = first r2.from r2.was in
-      let from : now r1.from ≡ p.disks = at.disks r1.from r1.was in
-      let holds1 = subst (λ (s : Disks). ServesEvent k k1 p.history p.low p.history lo1 s r1.calls) from r1.holds at.stands.keeps in
-      let part1 = subst (λ (m : Meta). AreEventCalls k p.history p.low m p.disks r1.calls) at.stands.is_base holds1.0 in
-      let ends1 = holds1.1 in
-      let here : now r2.from ≡ (watch_all r1.calls w0).disks = ap now r1.is ∙ now-extend r1.from r1.calls ∙ ap (λ (s : Disks). run s r1.calls) from ∙ sym (watched_disks w0 r1.calls) in
-      let m1 = mid1 r1.calls part1 ends1 in
-      let keeps = subst (ServiceStandsFor k2 p.history p.low) here (marks r2.from r2.was (subst (ServiceStandsFor k1 p.history p.low) (sym here) m1.stands.keeps)) in
-      let same_meta : keeps.base ≡ ends1.keeps.base = same_base k1 k2 p.history p.history p.low p.low (watch_all r1.calls w0).disks m1.stands.keeps keeps ∙ m1.stands.is_base in
-      let holds2 = subst (λ (s : Disks). ServesEvent k2 k3 p.history p.low p.history lo3 s r2.calls) here r2.holds keeps in
-      let part2 = subst (λ (m : Meta). AreEventCalls k2 p.history p.low m (watch_all r1.calls w0).disks r2.calls) same_meta holds2.0 in
-      let ends2 = holds2.1 in
-      let there : now r3.from ≡ (watch_all r2.calls (watch_all r1.calls w0)).disks = ap now r2.is ∙ now-extend r2.from r2.calls ∙ ap (λ (s : Disks). run s r2.calls) here ∙ sym (watched_disks (watch_all r1.calls w0) r2.calls) in
-      let m3 = mid3 r1.calls part1 ends1 keeps r2.calls part2 k3 lo3 le3 opens ends2 in
-      let holds3 = subst (λ (s : Disks). PowersInEvent k3 k4 p.history p.low s r3.calls) there r3.holds m3.stands.keeps in
-      let end : now t ≡ (watch_all r3.calls (watch_all r2.calls (watch_all r1.calls w0))).disks = ap now r3.is ∙ now-extend r3.from r3.calls ∙ ap (λ (s : Disks). run s r3.calls) there ∙ sym (watched_disks (watch_all r2.calls (watch_all r1.calls w0)) r3.calls) in
-      record {
-        from = r1.from;
-        was = r1.was;
-        calls = r1.calls ++ (r2.calls ++ r3.calls);
-        is = r3.is ∙ ap (λ (u : Trail). extend u r3.calls) r2.is ∙ extend-extend r2.from r2.calls r3.calls ∙ ap (λ (u : Trail). extend u (r2.calls ++ r3.calls)) r1.is ∙ extend-extend r1.from r1.calls (r2.calls ++ r3.calls);
-        holds = raised_turn r1.calls part1 ends1 keeps r2.calls part2 k3 lo3 le3 opens ends2 r3.calls holds3.0 k4 ends_up holds3.1 told_then (λ u u_tells. ap now (some_trail u t (sym u_tells ∙ tells)) ∙ end);
-      }
+  raised_told k3 k4 opens ends_up lo3 le3 mid opened told_then first marks second third =
+      after_mark told k k1 k2 setup p at (down_from_out (named_out p.state.out)) lo1 p.low mid1 mid told_then
+      (BothParts (ServesEvent k2 k3 p.history p.low p.history lo3) (PowersInEvent k3 k4 p.history p.low)) (GoesOn k.slots setup p AskUp (Shift p.state.gear to) (StandsAt told_then k4 setup)) first marks
+      (both_parts mid opened told_then (ServesEvent k2 k3 p.history p.low p.history lo3) (PowersInEvent k3 k4 p.history p.low) second third)
+      (λ cs part ends keeps same_meta all parts end.
+      let ds = parts.first in
+      let es = parts.later in
+      let v = watch_all ds (watch_all cs w0) in
+      let served = parts.holds keeps in
+      let part2 = subst (λ (m : Meta). AreEventCalls k2 p.history p.low m (watch_all cs w0).disks ds) same_meta served.0 in
+      let m3 = mid3 cs part ends keeps ds part2 k3 lo3 le3 opens served.1 in
+      let holds3 = subst (λ (s : Disks). PowersInEvent k3 k4 p.history p.low s es) (sym (watched_disks (watch_all cs w0) ds)) parts.then_holds m3.stands.keeps in
+      let last : watch_all all (watch_all cs w0) ≡ watch_all es v = ap (λ (l : List Call). watch_all l (watch_all cs w0)) parts.split ∙ watch_append ds es (watch_all cs w0) in
+      subst (λ (l : List Call). GoesOn k.slots setup p AskUp (Shift p.state.gear to) (StandsAt told_then k4 setup) p.disks (cs ++ l)) (sym parts.split)
+      (raised_turn cs part ends keeps ds part2 k3 lo3 le3 opens served.1 es holds3.0 k4 ends_up holds3.1 told_then (λ u u_tells. end u u_tells ∙ ap (λ (z : Watch). z.disks) last)))
 
   abbrev Ends : Two → Option Trail → Type 0
   Ends two told_then = Ran told told_then (GoesOn k.slots setup p AskUp (Halted (HaltTwo two)) (IsHaltedFrom p (HaltTwo two)))
 
   pub opened_told : (two : Two) (mid told_then : Option Trail) → Ran told mid (ServesEvent k k1 p.history p.low p.history lo1) → ((t : Trail) → mid ≡ Some t → ServiceStandsFor k1 p.history p.low (now t) → ServiceStandsFor k2 p.history p.low (now t))
       → Ran mid told_then (λ s cs. LosesInEvent k2 p.history p.low s cs × TellsTwo k2 two s cs) → Ends two told_then
-  opened_told two mid told_then first marks second t tells =
-      let r2 = second t tells in
-      let r1 = first r2.from r2.was in
-      let from : now r1.from ≡ p.disks = at.disks r1.from r1.was in
-      let holds1 = subst (λ (s : Disks). ServesEvent k k1 p.history p.low p.history lo1 s r1.calls) from r1.holds at.stands.keeps in
-      let part1 = subst (λ (m : Meta). AreEventCalls k p.history p.low m p.disks r1.calls) at.stands.is_base holds1.0 in
-      let ends1 = holds1.1 in
-      let here : now r2.from ≡ (watch_all r1.calls w0).disks = ap now r1.is ∙ now-extend r1.from r1.calls ∙ ap (λ (s : Disks). run s r1.calls) from ∙ sym (watched_disks w0 r1.calls) in
-      let m1 = mid1 r1.calls part1 ends1 in
-      let keeps = subst (ServiceStandsFor k2 p.history p.low) here (marks r2.from r2.was (subst (ServiceStandsFor k1 p.history p.low) (sym here) m1.stands.keeps)) in
-      let same_meta : keeps.base ≡ ends1.keeps.base = same_base k1 k2 p.history p.history p.low p.low (watch_all r1.calls w0).disks m1.stands.keeps keeps ∙ m1.stands.is_base in
-      let holds2 = subst (λ (s : Disks). LosesInEvent k2 p.history p.low s r2.calls × TellsTwo k2 two s r2.calls) here r2.holds in
-      let part2 = subst (λ (m : Meta). AreEventCalls k2 p.history p.low m (watch_all r1.calls w0).disks r2.calls) same_meta (holds2.0 keeps) in
-      record {
-        from = r1.from;
-        was = r1.was;
-        calls = r1.calls ++ r2.calls;
-        is = r2.is ∙ ap (λ (u : Trail). extend u r2.calls) r1.is ∙ extend-extend r1.from r1.calls r2.calls;
-        holds = (
-          record p { disks = run p.disks (r1.calls ++ r2.calls); halt = Some (HaltTwo two) },
-          second_loss two at.going (λ e. up_not_bad e) refl (opened_lost r1.calls part1 ends1 keeps r2.calls part2 two holds2.1),
-          refl,
-        );
-      }
+  opened_told two mid told_then first marks second =
+      after_mark told k k1 k2 setup p at (down_from_out (named_out p.state.out)) lo1 p.low mid1 mid told_then
+      (λ s cs. LosesInEvent k2 p.history p.low s cs × TellsTwo k2 two s cs) (GoesOn k.slots setup p AskUp (Halted (HaltTwo two)) (IsHaltedFrom p (HaltTwo two))) first marks second
+      (λ cs part ends keeps same_meta ds holds end. (
+        record p { disks = run p.disks (cs ++ ds); halt = Some (HaltTwo two) },
+        second_loss two at.going (λ e. up_not_bad e) refl
+            (opened_lost cs part ends keeps ds (subst (λ (m : Meta). AreEventCalls k2 p.history p.low m (watch_all cs w0).disks ds) same_meta (holds.0 keeps)) two holds.1),
+        refl,
+      ))
 
   pub spun_told : (two : Two) (k3 : Service) (opens : OpensShiftUp k k2 k3) (lo3 : ℕ) (le3 : p.low ≤ lo3) (mid opened told_then : Option Trail) → Ran told mid (ServesEvent k k1 p.history p.low p.history lo1)
       → ((t : Trail) → mid ≡ Some t → ServiceStandsFor k1 p.history p.low (now t) → ServiceStandsFor k2 p.history p.low (now t)) → Ran mid opened (ServesEvent k2 k3 p.history p.low p.history lo3)
       → Ran opened told_then (λ s cs. (ServiceStandsFor k3 p.history p.low s → AreDisksPowered k3 p.history p.low s cs) × TellsTwo k3 two s cs) → Ends two told_then
-  spun_told two k3 opens lo3 le3 mid opened told_then first marks second third t tells =
-      let r3 = third t tells in
-      let r2 = second r3.from r3.was in
-      let r1 = first r2.from r2.was in
-      let from : now r1.from ≡ p.disks = at.disks r1.from r1.was in
-      let holds1 = subst (λ (s : Disks). ServesEvent k k1 p.history p.low p.history lo1 s r1.calls) from r1.holds at.stands.keeps in
-      let part1 = subst (λ (m : Meta). AreEventCalls k p.history p.low m p.disks r1.calls) at.stands.is_base holds1.0 in
-      let ends1 = holds1.1 in
-      let here : now r2.from ≡ (watch_all r1.calls w0).disks = ap now r1.is ∙ now-extend r1.from r1.calls ∙ ap (λ (s : Disks). run s r1.calls) from ∙ sym (watched_disks w0 r1.calls) in
-      let m1 = mid1 r1.calls part1 ends1 in
-      let keeps = subst (ServiceStandsFor k2 p.history p.low) here (marks r2.from r2.was (subst (ServiceStandsFor k1 p.history p.low) (sym here) m1.stands.keeps)) in
-      let same_meta : keeps.base ≡ ends1.keeps.base = same_base k1 k2 p.history p.history p.low p.low (watch_all r1.calls w0).disks m1.stands.keeps keeps ∙ m1.stands.is_base in
-      let holds2 = subst (λ (s : Disks). ServesEvent k2 k3 p.history p.low p.history lo3 s r2.calls) here r2.holds keeps in
-      let part2 = subst (λ (m : Meta). AreEventCalls k2 p.history p.low m (watch_all r1.calls w0).disks r2.calls) same_meta holds2.0 in
-      let ends2 = holds2.1 in
-      let there : now r3.from ≡ (watch_all r2.calls (watch_all r1.calls w0)).disks = ap now r2.is ∙ now-extend r2.from r2.calls ∙ ap (λ (s : Disks). run s r2.calls) here ∙ sym (watched_disks (watch_all r1.calls w0) r2.calls) in
-      let m3 = mid3 r1.calls part1 ends1 keeps r2.calls part2 k3 lo3 le3 opens ends2 in
-      let holds3 = subst (λ (s : Disks). (ServiceStandsFor k3 p.history p.low s → AreDisksPowered k3 p.history p.low s r3.calls) × TellsTwo k3 two s r3.calls) there r3.holds in
-      record {
-        from = r1.from;
-        was = r1.was;
-        calls = r1.calls ++ (r2.calls ++ r3.calls);
-        is = r3.is ∙ ap (λ (u : Trail). extend u r3.calls) r2.is ∙ extend-extend r2.from r2.calls r3.calls ∙ ap (λ (u : Trail). extend u (r2.calls ++ r3.calls)) r1.is ∙ extend-extend r1.from r1.calls (r2.calls ++ r3.calls);
-        holds = (
-          record p { disks = run p.disks (r1.calls ++ (r2.calls ++ r3.calls)); halt = Some (HaltTwo two) },
-          second_loss two at.going (λ e. up_not_bad e) refl (raised_lost r1.calls part1 ends1 keeps r2.calls part2 k3 lo3 le3 opens ends2 r3.calls (holds3.0 m3.stands.keeps) two holds3.1),
-          refl,
-        );
-      }
+  spun_told two k3 opens lo3 le3 mid opened told_then first marks second third =
+      after_mark told k k1 k2 setup p at (down_from_out (named_out p.state.out)) lo1 p.low mid1 mid told_then (BothParts (ServesEvent k2 k3 p.history p.low p.history lo3) LosesSpun)
+      (GoesOn k.slots setup p AskUp (Halted (HaltTwo two)) (IsHaltedFrom p (HaltTwo two))) first marks
+      (both_parts mid opened told_then (ServesEvent k2 k3 p.history p.low p.history lo3) LosesSpun second third)
+      (λ cs part ends keeps same_meta all parts end.
+      let ds = parts.first in
+      let es = parts.later in
+      let served = parts.holds keeps in
+      let part2 = subst (λ (m : Meta). AreEventCalls k2 p.history p.low m (watch_all cs w0).disks ds) same_meta served.0 in
+      let m3 = mid3 cs part ends keeps ds part2 k3 lo3 le3 opens served.1 in
+      let holds3 = subst (λ (s : Disks). LosesSpun s es) (sym (watched_disks (watch_all cs w0) ds)) parts.then_holds in
+      subst (λ (l : List Call). GoesOn k.slots setup p AskUp (Halted (HaltTwo two)) (IsHaltedFrom p (HaltTwo two)) p.disks (cs ++ l)) (sym parts.split) (
+        record p { disks = run p.disks (cs ++ (ds ++ es)); halt = Some (HaltTwo two) },
+        second_loss two at.going (λ e. up_not_bad e) refl (raised_lost cs part ends keeps ds part2 k3 lo3 le3 opens served.1 es (holds3.0 m3.stands.keeps) two holds3.1),
+        refl,
+      ))
+    where
+      LosesSpun : Disks → List Call → Type 0
+      LosesSpun s cs = (ServiceStandsFor k3 p.history p.low s → AreDisksPowered k3 p.history p.low s cs) × TellsTwo k3 two s cs

@@ -20,7 +20,11 @@ use Rattle.paraid_rack.specs.Slots.{Slot}
 use Rattle.paraid_rack.specs.Trail.{Trail, extend, moments, now}
 use Rattle.paraid_rack.proofs.TrailsLemmas.{extend-extend}
 use Rattle.paraid_record.specs.declared.meta.Setup.{Setup}
-use Rattle.paraid_recover.specs.Mount.{HasOnlyRead, IsCauseOfRefusal}
+use Rattle.paraid_recover.specs.Examined.{IsRefused}
+use Rattle.paraid_recover.specs.Examined.IsRefused.{as_heard, by_loss, by_slots}
+use Rattle.paraid_recover.specs.HeardSides.{IsOneLost}
+use Rattle.paraid_recover.specs.HeardSides.IsOneLost.{none as none_lost}
+use Rattle.paraid_recover.specs.Mount.{IsCauseOfRefusal, IsUnstarted}
 use Rattle.paraid_recover.specs.Mount.IsCauseOfRefusal.{examined, no_memory as for_memory, two_down, witnessed}
 use Rattle.paraid_scrub.specs.Counts.{no_faults}
 use Rattle.paraid_scrub.specs.declared.kind.CheckReport.{CheckReport}
@@ -71,12 +75,18 @@ told_whole before after line code status e all = record {
   grows = subst (λ (x : List ℕ). GrowsByBytes before after x) (take_all e.count line (omega (arith, all))) e.grows;
 }
 
+-- what the reads of the log disks find refuses none for want of memory
+lost_without_memory : (slots : ℕ) (old new : ℕ → Slot) (after : Option Trail) → IsRefused slots old new after NoMemory → IsOneLost old new
+lost_without_memory slots old new after (by_slots why same) = none_lost same
+lost_without_memory slots old new after (by_loss readable pair both is) = absurd (let z : NoMemory ≡ TwoDown pair = is in cc)
+lost_without_memory slots old new after (as_heard readable away logs heard why) = away
+
 -- only reads are made where there is no memory
-only_read : (slots : ℕ) (old new : ℕ → Slot) (before after : Option Trail) → IsCauseOfRefusal slots old new before after NoMemory → HasOnlyRead before after
-only_read slots old new before after (for_memory is only) = only
-only_read slots old new before after (examined is only) = only
-only_read slots old new before after (witnessed read mid x said pair calls exam low is refuses) = absurd (let z : NoMemory ≡ TwoDown pair = is in cc)
-only_read slots old new before after (two_down read x then pair it agrees exam is beside gone) = absurd (let z : NoMemory ≡ TwoDown pair = is in cc)
+unstarted : (slots : ℕ) (old new : ℕ → Slot) (before after : Option Trail) → IsCauseOfRefusal slots old new before after NoMemory → IsUnstarted old new before after
+unstarted slots old new before after (for_memory is it) = it
+unstarted slots old new before after (examined is only) = record { lost = lost_without_memory slots old new after is; only = only }
+unstarted slots old new before after (witnessed read mid x said pair calls exam low is refuses) = absurd (let z : NoMemory ≡ TwoDown pair = is in cc)
+unstarted slots old new before after (two_down read x then pair it agrees exam is beside gone) = absurd (let z : NoMemory ≡ TwoDown pair = is in cc)
 
 module _ {slots : ℕ} {before after : Option Trail} (h : HeldHistory slots before after) where
   -- what holds from each entry holds from this one
@@ -90,7 +100,7 @@ module _ {slots : ℕ} {before after : Option Trail} (h : HeldHistory slots befo
 
   module _ (old new : ℕ → Slot) (counted count : ℕ) (wb w : Option (List ℕ)) (status : ℕ) (Whole Hindered : Type 0) (hinder : Hinders h old new counted count wb w status → Hindered) (sunk : status ≡ 4 → HasRisen counted count) where
     abbrev Comes : Type 0
-    Comes = Completes Whole (HasOnlyRead before after) Hindered status
+    Comes = Completes Whole (IsUnstarted old new before after) Hindered status
 
     pub sink_failed : status ≡ 4 → Comes
     sink_failed four = hindered (hinder (sink four (sunk four)))
@@ -105,7 +115,7 @@ module _ {slots : ℕ} {before after : Option Trail} (h : HeldHistory slots befo
       by_kind (Power disk) cause is many outside = absurd outside
       by_kind (TwoDown pair) cause is many outside = absurd outside
       by_kind (Worn number) cause is many outside = hindered (hinder (worn_before is calls split number (many number refl)))
-      by_kind NoMemory cause is many outside = no_memory is (only_read slots old new before after cause)
+      by_kind NoMemory cause is many outside = no_memory is (unstarted slots old new before after cause)
 
       by_fault : (fault : MountFault) → IsCauseOfRefusal slots old new before after fault → status ≡ mount_fault_status fault
           → IsMountRefused slots (now h.first) h.side h.said h.history h.low h.down calls (refusal_by_fault fault) → Comes
@@ -174,7 +184,7 @@ module _ {slots : ℕ} {before after : Option Trail} (h : HeldHistory slots befo
   -- A run.
   module _ (heard_faults faults : ℕ) (lb l : Option (List ℕ)) (heard : status ≡ 3 → HasRisen heard_faults faults) where
     abbrev RunComes : Type 0
-    RunComes = Completes (IsRunWhole l wb w) (HasOnlyRead before after) (HindersRun h old new heard_faults faults counted count lb l wb w status) status
+    RunComes = Completes (IsRunWhole l wb w) (IsUnstarted old new before after) (HindersRun h old new heard_faults faults counted count lb l wb w status) status
 
     module _ (array : ServedArray) (began : ℕ) (middle : Option Trail) (stood : IsServedBy slots old array.slot before middle array.meta array.dirty) (begins : BeginsAt before middle after began)
         (served : ServesLines slots old new after lb l wb w status array began middle) where
@@ -205,7 +215,7 @@ module _ {slots : ℕ} {before after : Option Trail} (h : HeldHistory slots befo
   -- Generated lines.
   module _ (number lines : ℕ) where
     abbrev GenComes : Type 0
-    GenComes = Completes (IsGenWhole wb w) (HasOnlyRead before after) (Hinders h old new counted count wb w status) status
+    GenComes = Completes (IsGenWhole wb w) (IsUnstarted old new before after) (Hinders h old new counted count wb w status) status
 
     module _ (array : ServedArray) (began : ℕ) (middle : Option Trail) (stood : IsServedBy slots old array.slot before middle array.meta array.dirty) (begins : BeginsAt before middle after began)
         (served : ServesGenerated slots old new after wb w number lines status array began middle) where
@@ -234,7 +244,7 @@ module _ {slots : ℕ} {before after : Option Trail} (h : HeldHistory slots befo
 
   -- A check.
   abbrev CheckComes : Type 0
-  CheckComes = Completes (IsCheckWhole wb w) (HasOnlyRead before after) (Hinders h old new counted count wb w status) status
+  CheckComes = Completes (IsCheckWhole wb w) (IsUnstarted old new before after) (Hinders h old new counted count wb w status) status
 
   module _ (array : ServedArray) (began : ℕ) (middle : Option Trail) (stood : IsServedBy slots old array.slot before middle array.meta array.dirty) (begins : BeginsAt before middle after began) (over : IsEndOver array.meta.setup old new wb w status) where
     check_from : (P : Point → Type 0) → IsMountedFromEach slots array.meta.setup began middle P
@@ -267,7 +277,7 @@ module _ {slots : ℕ} {before after : Option Trail} (h : HeldHistory slots befo
 
   -- The state.
   abbrev StatusComes : Type 0
-  StatusComes = Completes (IsStatusWhole wb w) (HasOnlyRead before after) (Hinders h old new counted count wb w status) status
+  StatusComes = Completes (IsStatusWhole wb w) (IsUnstarted old new before after) (Hinders h old new counted count wb w status) status
 
   status_by : (code : ℕ) (lines : List ℕ) → ShowOutcome slots old new before after code lines → (e : EndsWithLine wb w lines code status) → (status ≡ 4) ⊎ ((e.count ≡ length lines) × (status ≡ code)) → StatusComes
   status_by code lines outcome e (inl four) = hindered (sink four (sunk four))

@@ -1,5 +1,5 @@
 -- From the causes of generated lines to those of the whole text of `gen`.
-use Rattle.std.proofs.Common.{◌≡◌, ℕ, ◌+◌, true, List, [], ◌∷◌, ◌++◌, length, take, drop, Option, None, refl, sym, ap, ◌∙◌, inl, inr, arith, subst, take-append-drop, add-one}
+use Rattle.std.proofs.Common.{◌≡◌, ℕ, ◌+◌, List, [], ◌∷◌, ◌++◌, length, take, drop, Option, refl, sym, ap, ◌∙◌, inl, inr, arith, subst, take-append-drop, add-one}
 use Rattle.std.proofs.lemmas.List.{append_assoc, take_all}
 use Rattle.paraid_base.specs.declared.event.Answer.{Answer}
 use Rattle.paraid_base.specs.declared.event.Answer.TheVariants.{Flushed, Halted}
@@ -9,9 +9,8 @@ use Rattle.paraid_base.specs.declared.fault.Halt.{Halt}
 use Rattle.paraid_machine.specs.Machine.{block_count}
 use Rattle.paraid_serve.specs.Causes.{HasCause, HaveCauses, Shown}
 use Rattle.paraid_serve.specs.Ending.{EndsWithLine, end_line, halt_line, mount_line, status_of_halt}
-use Rattle.paraid_serve.specs.Form.{AreAnswersTo, is_answer_to}
 use Rattle.paraid_serve.specs.Output.{first_line}
-use Rattle.paraid_serve.proofs.FormLemmas.{causes_push, kinds_push}
+use Rattle.paraid_serve.proofs.FormLemmas.{causes_push}
 use Rattle.paraid_trace.specs.Generated.{generated_event}
 use Rattle.paraid_program.specs.declared.tally.Tally.{Tally}
 use Rattle.paraid_program.specs.GenCauses.{CountsCauses, GenCaused, HasGenCauses, TellsGenerated, tally_over}
@@ -20,39 +19,37 @@ use Rattle.paraid_program.specs.GenCauses.HasGenCauses.{at_first_line, before_fl
 use Rattle.paraid_program.specs.GenEvents.{generated_events, summary}
 use Rattle.paraid_program.specs.Tally.{empty_tally, tally_with_answer, tally_with_event}
 
-tally_over-push : (t : Tally) (events : List Event) (answers : List Answer) (event : Event) (answer : Answer) → AreAnswersTo events answers
+tally_over-push : (t : Tally) (events : List Event) (answers : List Answer) (event : Event) (answer : Answer) (x y : Shown) → HaveCauses x events answers y
     → tally_over t (events ++ event ∷ []) (answers ++ answer ∷ []) ≡ tally_with_answer (tally_with_event (tally_over t events answers) event) answer
-tally_over-push t [] [] event answer all = refl
-tally_over-push t [] (a ∷ answers) event answer all = absurd all
-tally_over-push t (e ∷ events) [] event answer all = absurd all
-tally_over-push t (e ∷ events) (a ∷ answers) event answer all = tally_over-push (tally_with_answer (tally_with_event t e) a) events answers event answer all.1
+tally_over-push t [] [] event answer x y all = refl
+tally_over-push t [] (a ∷ answers) event answer x y all = absurd all
+tally_over-push t (e ∷ events) [] event answer x y all = absurd all
+tally_over-push t (e ∷ events) (a ∷ answers) event answer x y all = tally_over-push (tally_with_answer (tally_with_event t e) a) events answers event answer all.0 y all.2
 
 pub causes_none : (x : Shown) (number : ℕ) → CountsCauses x number 0 empty_tally x
-causes_none x number = record { answers = []; kinds = tt; causes = refl; counted = refl }
+causes_none x number = record { answers = []; causes = refl; counted = refl }
 
 pub causes_more : {x mid : Shown} {number i : ℕ} {tally : Tally} (c : CountsCauses x number i tally mid)
-    → (event : Event) (answer : Answer) (y : Shown) (blocks : ℕ) (new : Tally) → blocks ≡ block_count x.setup → event ≡ generated_event number i blocks → is_answer_to event answer ≡ true → HasCause mid event answer y
+    → (event : Event) (answer : Answer) (y : Shown) (blocks : ℕ) (new : Tally) → blocks ≡ block_count x.setup → event ≡ generated_event number i blocks → HasCause mid event answer y
     → new ≡ tally_with_answer (tally_with_event tally event) answer → CountsCauses x number (i + 1) new y
-causes_more {x} {mid} {number} {i} {tally} c event answer y blocks new count is kind cause counts =
+causes_more {x} {mid} {number} {i} {tally} c event answer y blocks new count is cause counts =
     let before = generated_events number (block_count x.setup) i in
     let asked : before ++ event ∷ [] ≡ generated_events number (block_count x.setup) (i + 1) = ap (λ (e : Event). before ++ e ∷ []) (is ∙ ap (generated_event number i) count) ∙ rw add-one refl in
     record {
       answers = c.answers ++ answer ∷ [];
-      kinds = subst (λ (es : List Event). AreAnswersTo es (c.answers ++ answer ∷ [])) asked (kinds_push before c.answers event answer c.kinds kind);
       causes = subst (λ (es : List Event). HaveCauses x es (c.answers ++ answer ∷ []) y) asked (causes_push x mid y before c.answers event answer c.causes cause);
-      counted = counts ∙ ap (λ (t : Tally). tally_with_answer (tally_with_event t event) answer) c.counted ∙ sym (tally_over-push empty_tally before c.answers event answer c.kinds)
+      counted = counts ∙ ap (λ (t : Tally). tally_with_answer (tally_with_event t event) answer) c.counted ∙ sym (tally_over-push empty_tally before c.answers event answer x mid c.causes)
           ∙ ap (λ (es : List Event). tally_over empty_tally es (c.answers ++ answer ∷ [])) asked;
     }
 
 -- the lines before the flush
-pub tells_generated : (x mid : Shown) (number count : ℕ) (tally : Tally) (writes gear gear_now energy : ℕ) → mount_line writes gear ≡ first_line x → CountsCauses x number count tally mid → (mid.halt ≡ None → gear_now ≡ mid.meta.gear) → energy ≡ mid.energy
+pub tells_generated : (x mid : Shown) (number count : ℕ) (tally : Tally) (writes gear gear_now energy : ℕ) → mount_line writes gear ≡ first_line x → CountsCauses x number count tally mid → gear_now ≡ mid.gear → energy ≡ mid.energy
     → TellsGenerated x number count (mount_line writes gear ++ summary count tally gear_now energy) mid
-tells_generated x mid number count tally writes gear gear_now energy shows counts in_gear used = record {
+tells_generated x mid number count tally writes gear gear_now energy shows counts geared used = record {
   tally = tally;
   counts = counts;
-  gear = gear_now;
-  in_gear = in_gear;
-  is = ap (λ (l : List ℕ). l ++ summary count tally gear_now energy) shows ∙ ap (λ (n : ℕ). first_line x ++ summary count tally gear_now n) used;
+  is = ap (λ (l : List ℕ). l ++ summary count tally gear_now energy) shows ∙ ap (λ (n : ℕ). first_line x ++ summary count tally n energy) geared
+      ∙ ap (λ (n : ℕ). first_line x ++ summary count tally mid.gear n) used;
 }
 
 -- the last line, or a first part of it

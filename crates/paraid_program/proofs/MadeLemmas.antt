@@ -26,7 +26,7 @@ empty_array slots setup s f = record {
 pub becomes_empty : (slots : ℕ) (setup : Setup) (told told_now : Option Trail) → RanBetween told told_now (BecomesFormatted slots (first_meta setup)) → RanBetween told told_now (BecomesEmpty slots setup)
 becomes_empty slots setup told told_now led t tells =
     let l = led t tells in
-    (l.0, l.1, λ synced. empty_array slots setup (now t) (l.2 synced))
+    (l.0, l.1, record { stops = λ i e. empty_array slots setup i (l.2.stops i e); whole = λ synced. empty_array slots setup (now t) (l.2.whole synced) })
 
 -- the slots of a rack with a fresh disk in each of the first
 module _ (slots count size : ℕ) (old new : ℕ → Slot) (fresh : (d : ℕ) → d < count → new d ≡ fresh_slot size (old d)) where

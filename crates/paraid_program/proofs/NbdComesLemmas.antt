@@ -15,7 +15,7 @@ use Rattle.paraid_rack.specs.declared.call.Call.{Call}
 use Rattle.paraid_rack.specs.Slots.{Slot}
 use Rattle.paraid_rack.specs.Trail.{Trail, extend, now}
 use Rattle.paraid_record.specs.declared.meta.Setup.{Setup}
-use Rattle.paraid_recover.specs.Mount.{HasOnlyRead}
+use Rattle.paraid_recover.specs.Mount.{IsUnstarted}
 use Rattle.paraid_serve.specs.Calls.{IsNotDouble}
 use Rattle.paraid_serve.specs.Stretch.{EndsStretch, Turn}
 use Rattle.paraid_serve.proofs.StretchLemmas.{some_is}
@@ -90,7 +90,7 @@ module _ {slots : ℕ} {before after : Option Trail} (h : HeldHistory slots befo
   Hindered = HindersNbd h old new lb l f z wb w counted count status
 
   abbrev Comes : Type 0
-  Comes = Completes Whole (HasOnlyRead before after) Hindered status
+  Comes = Completes Whole (IsUnstarted old new before after) Hindered status
 
   -- a client that was broken off
   by_client : (setup : Setup) (end : NbdEnd) → broken_status end ≡ Some status → TakesClient (512 * block_count setup) lb l wb w f z counted count end → Hindered

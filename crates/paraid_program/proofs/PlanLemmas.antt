@@ -8,7 +8,7 @@ use Rattle.paraid_planning.specs.declared.unplanned.Unplanned.TheVariants.{Sourc
 use Rattle.paraid_rack.specs.Slots.{Slot}
 use Rattle.paraid_rack.specs.Trail.{Trail}
 use Rattle.paraid_record.specs.declared.meta.Meta.{Meta}
-use Rattle.paraid_recover.specs.Mount.{HasOnlyRead}
+use Rattle.paraid_recover.specs.Mount.{IsUnstarted}
 use Rattle.paraid_serve.specs.Ending.{EndsWithLine, mount_line}
 use Rattle.paraid_program.specs.Complete.{Completes, HeldHistory, TellsLast}
 use Rattle.paraid_program.specs.Complete.Completes.{hindered, no_memory, whole}
@@ -59,7 +59,7 @@ module _ {slots : ℕ} {before after : Option Trail} (h : HeldHistory slots befo
 
   pub plan_comes : (ups : ℕ) → PlanOutcome slots old new before after lb l heard_faults faults wb w ups status → PlanComes
   plan_comes ups (served meta dirty stood t) = by_lines meta dirty stood ups t.code t.lines t.outcome t.ends t.ends.whole
-  plan_comes ups (refused fault cause each ends) = less (IsPlanWhole l wb w) (HasOnlyRead before after) (IsPlanUnmade slots old new before after) Hindered status inl
+  plan_comes ups (refused fault cause each ends) = less (IsPlanWhole l wb w) (IsUnstarted old new before after) (IsPlanUnmade slots old new before after) Hindered status inl
       (refused_comes h old new counted count wb w status (IsPlanWhole l wb w) Hindered (λ z. other (run_other z)) sunk fault cause each ends.count _ ends.whole)
 
 not_planned : (cause : Unplanned) (status : ℕ) → status ≡ unplanned_status cause → status ≡ 0 → ⊥

@@ -6,7 +6,7 @@ use Rattle.paraid_base.specs.Told.{GrowsByBytes, HasRisen}
 use Rattle.paraid_rack.specs.declared.call.Call.{Call}
 use Rattle.paraid_rack.specs.Slots.{Slot}
 use Rattle.paraid_rack.specs.Trail.{Trail, extend, now}
-use Rattle.paraid_recover.specs.Mount.{HasOnlyRead}
+use Rattle.paraid_recover.specs.Mount.{IsUnstarted}
 use Rattle.paraid_serve.specs.Ending.{end_line}
 use Rattle.paraid_serve.specs.Output.{begins_with}
 use Rattle.paraid_serve.specs.Stretch.{turn_with}
@@ -32,7 +32,7 @@ module _ {slots : ℕ} {before after : Option Trail} (h : HeldHistory slots befo
   Hindered = HindersRun h old new heard_faults faults counted count lb l wb w status
 
   abbrev SparedComes : Type 0
-  SparedComes = Completes (IsRunWhole l wb w) (HasOnlyRead before after) Hindered status
+  SparedComes = Completes (IsRunWhole l wb w) (IsUnstarted old new before after) Hindered status
 
   module _ (array : ServedArray) (began : ℕ) (middle : Option Trail) (stood : IsServedBy slots old array.slot before middle array.meta array.dirty) (begins : BeginsAt before middle after began)
       (served : ServesSpares slots old new after lb l wb w stock wait status array began middle) where

@@ -10,7 +10,7 @@ use Rattle.paraid_rack.specs.Slots.{Slot}
 use Rattle.paraid_rack.specs.Trail.{Trail, extend, now}
 use Rattle.paraid_rack.proofs.TrailsLemmas.{extend-extend}
 use Rattle.paraid_record.specs.declared.meta.Setup.{Setup}
-use Rattle.paraid_recover.specs.Mount.{HasOnlyRead}
+use Rattle.paraid_recover.specs.Mount.{IsUnstarted}
 use Rattle.paraid_recover.proofs.ToldLemmas.{same_trail}
 use Rattle.paraid_serve.specs.Output.{begins_with}
 use Rattle.paraid_serve.specs.Stretch.{EndsStretch, Stretch, Turn, TurnsLead, turn_calls, turn_events}
@@ -95,7 +95,7 @@ module _ {slots : ℕ} {before after : Option Trail} (h : HeldHistory slots befo
   Hindered = HindersRun h old new heard_faults faults counted count lb l wb w status
 
   abbrev VolumesCome : Type 0
-  VolumesCome = Completes (IsRunWhole l wb w) (HasOnlyRead before after) Hindered status
+  VolumesCome = Completes (IsRunWhole l wb w) (IsUnstarted old new before after) Hindered status
 
   module _ (array : ServedArray) (began : ℕ) (middle : Option Trail) (stood : IsServedBy slots old array.slot before middle array.meta array.dirty) (begins : BeginsAt before middle after began)
       (served : ServesVolumes slots old new after lb l wb w status array began middle) where

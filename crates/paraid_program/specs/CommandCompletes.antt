@@ -13,7 +13,7 @@ use Rattle.paraid_rack.specs.Slots.{Slot}
 use Rattle.paraid_rack.specs.Told.{Ran}
 use Rattle.paraid_rack.specs.Trail.{Trail}
 use Rattle.paraid_record.specs.declared.meta.Setup.{Setup}
-use Rattle.paraid_recover.specs.Mount.{HasOnlyRead}
+use Rattle.paraid_recover.specs.Mount.{IsUnstarted}
 use Rattle.paraid_program.specs.Clients.{HindersNbd, IsNbdWhole}
 use Rattle.paraid_program.specs.Complete.{Completes, HeldHistory, Hinders, HindersRun, IsCheckWhole, IsGenWhole, IsRunWhole, IsStatusWhole, TellsLast}
 use Rattle.paraid_program.specs.PlanComes.{HindersPlan, IsPlanUnmade, IsPlanWhole}
@@ -52,25 +52,25 @@ CompletesCommand slots old new before after left_before left faults_before fault
     Completes (IsFormatWhole force slots old new before after left_before left written_before written) (IsUntouched old new before after)
     (HindersFormat force slots old new before after left_before left faults_before faults counted count status) status
 CompletesCommand slots old new before after left_before left faults_before faults counted count written_before written status Run =
-    (h : HeldHistory slots before after) → Completes (IsRunWhole left written_before written) (HasOnlyRead before after)
+    (h : HeldHistory slots before after) → Completes (IsRunWhole left written_before written) (IsUnstarted old new before after)
     (HindersRun h old new faults_before faults counted count left_before left written_before written status) status
 CompletesCommand slots old new before after left_before left faults_before faults counted count written_before written status (Spare stock wait) =
-    (h : HeldHistory slots before after) → Completes (IsRunWhole left written_before written) (HasOnlyRead before after)
+    (h : HeldHistory slots before after) → Completes (IsRunWhole left written_before written) (IsUnstarted old new before after)
     (HindersRun h old new faults_before faults counted count left_before left written_before written status) status
 CompletesCommand slots old new before after left_before left faults_before faults counted count written_before written status Status =
-    (h : HeldHistory slots before after) → Completes (IsStatusWhole written_before written) (HasOnlyRead before after)
+    (h : HeldHistory slots before after) → Completes (IsStatusWhole written_before written) (IsUnstarted old new before after)
     (Hinders h old new counted count written_before written status) status
 CompletesCommand slots old new before after left_before left faults_before faults counted count written_before written status Check =
-    (h : HeldHistory slots before after) → Completes (IsCheckWhole written_before written) (HasOnlyRead before after)
+    (h : HeldHistory slots before after) → Completes (IsCheckWhole written_before written) (IsUnstarted old new before after)
     (Hinders h old new counted count written_before written status) status
 CompletesCommand slots old new before after left_before left faults_before faults counted count written_before written status (Gen number lines) =
-    (h : HeldHistory slots before after) → Completes (IsGenWhole written_before written) (HasOnlyRead before after)
+    (h : HeldHistory slots before after) → Completes (IsGenWhole written_before written) (IsUnstarted old new before after)
     (Hinders h old new counted count written_before written status) status
 CompletesCommand slots old new before after left_before left faults_before faults counted count written_before written status Nbd =
-    (h : HeldHistory slots before after) → Completes (IsNbdWhole left_before left faults_before faults written_before written counted count) (HasOnlyRead before after)
+    (h : HeldHistory slots before after) → Completes (IsNbdWhole left_before left faults_before faults written_before written counted count) (IsUnstarted old new before after)
     (HindersNbd h old new left_before left faults_before faults written_before written counted count status) status
 CompletesCommand slots old new before after left_before left faults_before faults counted count written_before written status Vol =
-    (h : HeldHistory slots before after) → Completes (IsRunWhole left written_before written) (HasOnlyRead before after)
+    (h : HeldHistory slots before after) → Completes (IsRunWhole left written_before written) (IsUnstarted old new before after)
     (HindersRun h old new faults_before faults counted count left_before left written_before written status) status
 CompletesCommand slots old new before after left_before left faults_before faults counted count written_before written status (Plan ups) =
     (h : HeldHistory slots before after) → Completes (IsPlanWhole left written_before written) (IsPlanUnmade slots old new before after)

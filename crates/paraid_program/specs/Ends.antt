@@ -51,9 +51,9 @@ pub record ServedArray : Type 0 where
   pub dirty : ℕ → ℕ → Bool
   pub slot : ℕ → Slot
 
--- what is seen of it as its service begins
+-- what is seen of it as its service begins: no energy was used, and nothing was counted
 abbrev pub shown_served : ServedArray → Shown
-shown_served array = record { setup = array.meta.setup; meta = array.meta; dirty = array.dirty; slot = array.slot; energy = 0; halt = None }
+shown_served array = record { setup = array.meta.setup; meta = array.meta; dirty = array.dirty; slot = array.slot; gear = array.meta.gear; energy = 0; samples = []; served = 0; halt = None }
 
 -- the source is as it was: nothing was read of it
 abbrev pub IsUnheard : Option (List ℕ) → Option (List ℕ) → ℕ → ℕ → Type 0

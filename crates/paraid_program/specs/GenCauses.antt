@@ -1,5 +1,5 @@
 -- Why `gen` tells what it tells, whatever the rack holds: each line is answered with its cause, and counted by its answer.
-use Rattle.std.specs.Prelude.{◌≡◌, ℕ, List, [], ◌∷◌, ◌++◌, None}
+use Rattle.std.specs.Prelude.{◌≡◌, ℕ, List, [], ◌∷◌, ◌++◌}
 use Rattle.paraid_base.specs.declared.event.Answer.{Answer}
 use Rattle.paraid_base.specs.declared.event.Answer.TheVariants.{Flushed, Halted}
 use Rattle.paraid_base.specs.declared.event.Event.{Event}
@@ -8,7 +8,6 @@ use Rattle.paraid_base.specs.declared.fault.Halt.{Halt}
 use Rattle.paraid_machine.specs.Machine.{block_count}
 use Rattle.paraid_serve.specs.Causes.{HasCause, HaveCauses, Shown}
 use Rattle.paraid_serve.specs.Ending.{end_line, halt_line, status_of_halt}
-use Rattle.paraid_serve.specs.Form.{AreAnswersTo}
 use Rattle.paraid_serve.specs.Output.{first_line}
 use Rattle.paraid_program.specs.declared.tally.Tally.{Tally}
 use Rattle.paraid_program.specs.GenEvents.{generated_events, summary}
@@ -23,17 +22,15 @@ tally_over t (event ∷ events) (answer ∷ answers) = tally_over (tally_with_an
 -- So many lines of the trace of a number were answered, each with its cause, and counted so.
 pub record CountsCauses (old : Shown) (number count : ℕ) (tally : Tally) (new : Shown) : Type 0 where
   pub answers : List Answer
-  pub kinds : AreAnswersTo (generated_events number (block_count old.setup) count) answers
   pub causes : HaveCauses old (generated_events number (block_count old.setup) count) answers new
   pub counted : tally ≡ tally_over empty_tally (generated_events number (block_count old.setup) count) answers
 
--- The lines before the last one: that of the mount, and the summary. While there is no halt the gear is that of the meta.
+-- The lines before the last one: that of the mount, and the summary, with the gear that is seen then: that of the meta, or after a
+-- halt the one before it.
 pub record TellsGenerated (old : Shown) (number count : ℕ) (text : List ℕ) (new : Shown) : Type 0 where
   pub tally : Tally
   pub counts : CountsCauses old number count tally new
-  pub gear : ℕ
-  pub in_gear : new.halt ≡ None → gear ≡ new.meta.gear
-  pub is : text ≡ first_line old ++ summary count tally gear new.energy
+  pub is : text ≡ first_line old ++ summary count tally new.gear new.energy
 
 -- The whole text of `gen` by its status, with the cause of the flush at the end.
 pub data GenCaused (old new : Shown) (number count : ℕ) : ℕ → List ℕ → Type 0 where

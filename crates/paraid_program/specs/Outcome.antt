@@ -14,7 +14,7 @@ use Rattle.paraid_recover.specs.declared.format_fault.FormatFault.{FormatFault}
 use Rattle.paraid_recover.specs.declared.format_fault.FormatFault.TheVariants.{AlreadyFormatted, Disk}
 use Rattle.paraid_image.specs.RunStart.{IsRunStart}
 use Rattle.paraid_image.specs.Formatted.{IsFormatted}
-use Rattle.paraid_rack.specs.Disks.{Disks}
+use Rattle.paraid_rack.specs.Disks.{Disks, IsImage}
 use Rattle.paraid_rack.specs.Slots.{Slot}
 use Rattle.paraid_rack.specs.Told.{Ran}
 use Rattle.paraid_rack.specs.Trail.{Trail, now}
@@ -34,9 +34,11 @@ pub record IsEmptyArray (slots : ℕ) (setup : Setup) (s : Disks) : Type 0 where
   pub formatted : IsFormatted slots s (first_meta setup)
   pub entry : IsRunStart slots s [] 0 None
 
--- Where nothing was loose past the disks of the array, they are now those of one that holds no write.
-abbrev pub BecomesEmpty : ℕ → Setup → Disks → Disks → Type 0
-BecomesEmpty slots setup start s = ((d p : ℕ) → setup.geometry.disks ≤ d → start.loose d p ≡ false) → IsEmptyArray slots setup s
+-- The disks are now those of an array that holds no write: what each stop leaves is so, and a run can begin there, whatever is
+-- loose in slots past the array's disks; and where nothing was loose there, the disks are so as they are.
+pub record BecomesEmpty (slots : ℕ) (setup : Setup) (start s : Disks) : Type 0 where
+  pub stops : (i : Disks) → IsImage s i → IsEmptyArray slots setup i
+  pub whole : ((d p : ℕ) → setup.geometry.disks ≤ d → start.loose d p ≡ false) → IsEmptyArray slots setup s
 
 -- a new array was made of the first slots
 pub record IsArrayMade (force : Bool) (slots : ℕ) (old new : ℕ → Slot) (told told_now : Option Trail) (setup : Setup) : Type 0 where

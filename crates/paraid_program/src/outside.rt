@@ -1,4 +1,4 @@
-ghost use Rattle.std.specs.Prelude.{◌≡◌, ℕ, length, None, Some, IfErr, IfOk, IsSome, OnOk};
+ghost use Rattle.std.specs.Prelude.{◌≡◌, ℕ, length, None, IfErr, IfOk, IsSome, OnOk};
 ghost use Rattle.paraid_base.specs.declared.event.Answer.TheVariants.{Flushed, Halted};
 ghost use Rattle.paraid_base.specs.declared.event.Event.TheVariants.{Flush as FlushEvent};
 ghost use Rattle.paraid_controller.specs.Checked.{answer_to_check};
@@ -6,7 +6,6 @@ ghost use Rattle.paraid_rack.specs.Told.{Ran};
 ghost use Rattle.paraid_recover.specs.HeldMoments.{Extends};
 ghost use Rattle.paraid_scrub.specs.Counts.{AreWithinMembers, no_faults};
 ghost use Rattle.paraid_serve.specs.Causes.{HasCause};
-ghost use Rattle.paraid_serve.specs.Lost.{HaltsByTwoLost};
 ghost use Rattle.paraid_session.specs.Faults.{HaveNotFallen};
 ghost use Rattle.paraid_session.specs.Mount.{IsMountedFromEach};
 ghost use Rattle.paraid_session.specs.Turn.{GoesOn, Point};
@@ -62,12 +61,6 @@ pub trait Outside<R: Rack, A: Serves> {
             (A.setup array.old) p FlushEvent (Halted halt) (A.stands array.new))) }
         ensures told { Extends (A.told array.old) (A.told array.new) }
         ensures slots { A.slots array.new ≡ A.slots array.old }
-        ensures setup { A.setup array.new ≡ A.setup array.old }
-        ensures going { OnOk result (A.halted array.new ≡ None) }
-        ensures halt { IfErr result (λ halt. A.halted array.new ≡ Some halt) }
-        ensures two { HaltsByTwoLost (A.down array.old) FlushEvent (A.slot array.old)
-            (A.slot array.new) (A.halted array.new) }
-        ensures later { HaveNotFallen (A.slot array.old) (A.slot array.new) }
         // Over every rack it is a flush with its cause.
         ensures cause { HasCause (A.shown array.old) FlushEvent
             (answer_to_check (A.shown array.old).meta.writes result) (A.shown array.new) }

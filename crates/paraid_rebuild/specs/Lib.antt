@@ -1,1 +1,2 @@
+pub mod Rebuilds
 pub mod Replacing

@@ -1,24 +1,19 @@
 //! A disk that is out is replaced: that it is gone is committed, with all that is staged; then a fresh disk is attached
 //! in its place, and that it is there is committed.
-ghost use Rattle.std.specs.Prelude.{◌≡◌, ◌≢◌, ℕ, ◌+◌, ◌^◌, ◌<◌, ◌≤◌, ◌⊎◌, true, false, List, [], length, Ok, None, Some, OnOk, IfErr};
+ghost use Rattle.std.specs.Prelude.{◌≡◌, ◌≢◌, ℕ, ◌+◌, ◌^◌, ◌<◌, ◌⊎◌, true, false, List, length, Ok, None, Some, OnOk, IfErr};
 ghost use Rattle.paraid_base.specs.declared.state.Out.TheVariants.{Fresh, Gone};
 ghost use Rattle.paraid_base.specs.History.{History};
-ghost use Rattle.paraid_base.specs.Regions.{disk_size};
 ghost use Rattle.paraid_base.specs.States.{gone_out};
-ghost use Rattle.paraid_base.specs.Told.{HasRisen};
-ghost use Rattle.paraid_core.specs.Cores.{CoreStandsFor, IsCoreHeld, batch_of, core_down, core_rack, core_table, meta_of, store_of};
+ghost use Rattle.paraid_core.specs.Cores.{CoreStandsFor, IsCoreHeld, core_rack, core_table, meta_of};
 ghost use Rattle.paraid_core.specs.Replaced.{CoreCommitted};
 ghost use Rattle.paraid_core.specs.Steps.{IsNamedOrAbsent};
 ghost use Rattle.paraid_event.specs.Replacements.{BringsFresh, CommitsReplaced, LosesReplaced, ReplacesDisk};
 ghost use Rattle.paraid_event.specs.Service.{Service, service_of};
 ghost use Rattle.paraid_image.specs.Out.{named_out};
-ghost use Rattle.paraid_rack.specs.declared.call.Power.TheVariants.{Spinning};
 ghost use Rattle.paraid_rack.specs.Told.{CrashTriple, Ran};
+ghost use Rattle.paraid_rebuild.specs.Rebuilds.{HasCommitted, HasFreshDisk, KeepsCounts, LacksFreshDisk, SparesSlots};
 ghost use Rattle.paraid_rebuild.specs.Replacing.{IsReplacedFrom, LeavesArrayBut, LosesFresh};
-ghost use Rattle.paraid_session.specs.Faults.{HaveNotFallen};
 ghost use Rattle.paraid_shift.specs.Serving.{IsCoreServing};
-ghost use Rattle.paraid_txn.specs.Losses.{AreTwoDown, OnlyLosesSlots};
-ghost use Rattle.paraid_txn.specs.Stores.{named_of};
 
 use paraid_base::{DiskNo, Two};
 use paraid_core::Core;
@@ -38,15 +33,10 @@ fn commit_gone<R: Rack>(core: &mut Core<R>, disk: DiskNo) -> Result<(), Two>
     requires absent { IsNamedOrAbsent R.slot core.old }
     requires epoch { (meta_of core.old).epoch < 2 ^ 63 }
     requires out { named_out (meta_of core.old).out ≡ Some disk }
-    ensures serving { OnOk result (IsCoreServing R.slot_count R.slot core.new) }
-    ensures nothing { OnOk result (batch_of core.new ≡ []) }
+    ensures serves { OnOk result (HasCommitted core.new (Some disk)) }
     ensures meta { OnOk result (IsReplacedFrom (meta_of core.old) (meta_of core.new) disk 1 (Gone disk)) }
     ensures table { core_table core.new ≡ core_table core.old }
-    ensures named { OnOk result (named_of (store_of core.new) ≡ Some disk) }
-    ensures slots { R.slot_count (core_rack core.new) ≡ R.slot_count (core_rack core.old) }
-    ensures spared { OnlyLosesSlots (R.slot (core_rack core.old)) (R.slot (core_rack core.new)) }
-    ensures two { IfErr result (AreTwoDown (core_down core.old)
-        (R.slot (core_rack core.old)) (R.slot (core_rack core.new))) }
+    ensures keeps { SparesSlots core.old core.new result }
     ensures moments { (h : History) (lo : ℕ) → Ran (R.told (core_rack core.old)) (R.told (core_rack core.new))
         (CrashTriple (IsCoreHeld R.slot_count core.old h lo) (CoreStandsFor R.slot_count core.old h lo)
         (IsCoreHeld R.slot_count core.old h lo)) }
@@ -71,30 +61,17 @@ fn commit_gone<R: Rack>(core: &mut Core<R>, disk: DiskNo) -> Result<(), Two>
 
 // Attaches a fresh disk in the place of the one that is gone, and commits that it is there. True where it is.
 fn bring_fresh<R: Rack>(core: &mut Core<R>, disk: DiskNo) -> Result<bool, Two>
-    requires serving { IsCoreServing R.slot_count R.slot core.old }
-    requires epoch { (meta_of core.old).epoch < 2 ^ 63 }
+    requires committed { HasCommitted core.old (Some disk) }
     requires gone { (meta_of core.old).out ≡ Gone disk }
-    requires named { named_of (store_of core.old) ≡ Some disk }
-    requires nothing { batch_of core.old ≡ [] }
-    ensures serving { OnOk result (IsCoreServing R.slot_count R.slot core.new) }
-    ensures absent { OnOk result (IsNamedOrAbsent R.slot core.new) }
-    ensures nothing { OnOk result (batch_of core.new ≡ []) }
+    requires epoch { (meta_of core.old).epoch < 2 ^ 63 }
+    ensures serves { OnOk result (HasCommitted core.new (Some disk)) }
     ensures leaves { OnOk result (LeavesArrayBut R.slot_count R.slot core.old core.new disk) }
-    ensures fresh { result ≡ Ok true → meta_of core.new ≡ record (meta_of core.old)
-        { epoch = (meta_of core.old).epoch + 1; out = Fresh disk 0 } }
-    ensures gone { result ≡ Ok false → (meta_of core.new ≡ meta_of core.old)
-        ⊎ (meta_of core.new ≡ record (meta_of core.old) { epoch = (meta_of core.old).epoch + 1 }) }
-    ensures risen { result ≡ Ok false
-        → HasRisen (R.slot (core_rack core.old) disk).faults (R.slot (core_rack core.new) disk).faults }
-    ensures spins { result ≡ Ok true → (R.slot (core_rack core.new) disk).power ≡ Spinning }
-    ensures size { result ≡ Ok true
-        → (R.slot (core_rack core.new) disk).size ≡ disk_size (meta_of core.old).setup.geometry }
+    ensures there { result ≡ Ok true → HasFreshDisk core.old core.new disk (meta_of core.new
+        ≡ record (meta_of core.old) { epoch = (meta_of core.old).epoch + 1; out = Fresh disk 0 }) }
+    ensures lacks { result ≡ Ok false → LacksFreshDisk core.old core.new disk ((meta_of core.new ≡ meta_of core.old)
+        ⊎ (meta_of core.new ≡ record (meta_of core.old) { epoch = (meta_of core.old).epoch + 1 })) }
     ensures table { core_table core.new ≡ core_table core.old }
-    ensures named { OnOk result (named_of (store_of core.new) ≡ Some disk) }
-    ensures slots { R.slot_count (core_rack core.new) ≡ R.slot_count (core_rack core.old) }
-    ensures later { HaveNotFallen (R.slot (core_rack core.old)) (R.slot (core_rack core.new)) }
-    ensures two { IfErr result (AreTwoDown (core_down core.old)
-        (R.slot (core_rack core.old)) (R.slot (core_rack core.new))) }
+    ensures keeps { KeepsCounts core.old core.new result }
     ensures moments { (h : History) (lo : ℕ) → Ran (R.told (core_rack core.old)) (R.told (core_rack core.new))
         (CrashTriple (IsCoreHeld R.slot_count core.old h lo) (CoreCommitted R.slot_count core.old h lo (Gone disk))
         (IsCoreHeld R.slot_count core.old h lo)) }
@@ -132,26 +109,16 @@ pub fn begin<R: Rack>(core: &mut Core<R>, disk: DiskNo) -> Result<bool, Two>
     requires absent { IsNamedOrAbsent R.slot core.old }
     requires epoch { (meta_of core.old).epoch + 1 < 2 ^ 63 }
     requires out { named_out (meta_of core.old).out ≡ Some disk }
-    ensures serving { OnOk result (IsCoreServing R.slot_count R.slot core.new) }
-    ensures absent { OnOk result (IsNamedOrAbsent R.slot core.new) }
-    ensures nothing { OnOk result (batch_of core.new ≡ []) }
+    ensures serves { OnOk result (HasCommitted core.new (Some disk)) }
     ensures leaves { OnOk result (LeavesArrayBut R.slot_count R.slot core.old core.new disk) }
-    // What the new meta is, with a fresh disk or without.
-    ensures fresh { result ≡ Ok true → IsReplacedFrom (meta_of core.old) (meta_of core.new) disk 2 (Fresh disk 0) }
-    ensures gone { result ≡ Ok false → IsReplacedFrom (meta_of core.old) (meta_of core.new) disk 1 (Gone disk)
-        ⊎ IsReplacedFrom (meta_of core.old) (meta_of core.new) disk 2 (Gone disk) }
-    // No fresh disk is there only where the slot has failed.
-    ensures risen { result ≡ Ok false
-        → HasRisen (R.slot (core_rack core.old) disk).faults (R.slot (core_rack core.new) disk).faults }
-    ensures spins { result ≡ Ok true → (R.slot (core_rack core.new) disk).power ≡ Spinning }
-    ensures size { result ≡ Ok true
-        → (R.slot (core_rack core.new) disk).size ≡ disk_size (meta_of core.old).setup.geometry }
+    // What the new meta is, with a fresh disk or without. None is there only where the slot has failed.
+    ensures there { result ≡ Ok true → HasFreshDisk core.old core.new disk
+        (IsReplacedFrom (meta_of core.old) (meta_of core.new) disk 2 (Fresh disk 0)) }
+    ensures lacks { result ≡ Ok false → LacksFreshDisk core.old core.new disk
+        (IsReplacedFrom (meta_of core.old) (meta_of core.new) disk 1 (Gone disk)
+        ⊎ IsReplacedFrom (meta_of core.old) (meta_of core.new) disk 2 (Gone disk)) }
     ensures table { core_table core.new ≡ core_table core.old }
-    ensures named { OnOk result (named_of (store_of core.new) ≡ Some disk) }
-    ensures slots { R.slot_count (core_rack core.new) ≡ R.slot_count (core_rack core.old) }
-    ensures later { HaveNotFallen (R.slot (core_rack core.old)) (R.slot (core_rack core.new)) }
-    ensures two { IfErr result (AreTwoDown (core_down core.old)
-        (R.slot (core_rack core.old)) (R.slot (core_rack core.new))) }
+    ensures keeps { KeepsCounts core.old core.new result }
     // Each stop leaves what it left before, and at the end all writes.
     ensures moments { (h : History) (lo : ℕ) → Ran (R.told (core_rack core.old)) (R.told (core_rack core.new))
         (CrashTriple (IsCoreHeld R.slot_count core.old h lo) (CoreStandsFor R.slot_count core.old h lo)

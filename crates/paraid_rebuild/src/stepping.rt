@@ -1,20 +1,15 @@
 //! A step of a rebuild: what is staged is committed first, then units are copied and marked by a commit.
-ghost use Rattle.std.specs.Prelude.{◌≡◌, ℕ, ◌+◌, ◌^◌, ◌<◌, ◌≤◌, true, false, List, [], Ok, Some, OnOk, IfErr};
+ghost use Rattle.std.specs.Prelude.{◌≡◌, ℕ, ◌+◌, ◌^◌, ◌<◌, ◌≤◌, true, false, [], Ok, Some, OnOk};
 ghost use Rattle.paraid_base.specs.declared.state.Out.TheVariants.{Fresh, Gone};
 ghost use Rattle.paraid_base.specs.History.{History};
 ghost use Rattle.paraid_base.specs.States.{rebuilt_count};
-ghost use Rattle.paraid_base.specs.Told.{HasRisen};
-ghost use Rattle.paraid_core.specs.Cores.{CoreStandsFor, IsCoreHeldSinceCommit, batch_of, core_down, core_rack, core_table, meta_of, store_of};
+ghost use Rattle.paraid_core.specs.Cores.{CoreStandsFor, IsCoreHeldSinceCommit, batch_of, core_rack, core_table, meta_of, store_of};
 ghost use Rattle.paraid_core.specs.Steps.{IsNamedOrAbsent};
-ghost use Rattle.paraid_core.specs.Units.{IsRebuilding};
-ghost use Rattle.paraid_event.specs.Service.{service_of};
-ghost use Rattle.paraid_event.specs.Steps.{LosesInSteps, StepsInEvent};
 ghost use Rattle.paraid_image.specs.Mark.{meta_after_loss};
-ghost use Rattle.paraid_rack.specs.declared.call.Power.TheVariants.{Absent, Spinning};
 ghost use Rattle.paraid_rack.specs.Told.{CrashTriple, Ran};
+ghost use Rattle.paraid_rebuild.specs.Rebuilds.{CanRebuild, HasCommitted, HoldsFromRest, IsEventPart, KeepsDisk, LosesAgain, ServesLater, SparesSlots};
 ghost use Rattle.paraid_record.specs.Range.{rebuild_units};
-ghost use Rattle.paraid_shift.specs.Serving.{IsHeldFromRest, IsHeldInShift, IsCoreServing, RestsInShift, StandsInShift};
-ghost use Rattle.paraid_txn.specs.Losses.{AreTwoDown, OnlyLosesSlots};
+ghost use Rattle.paraid_shift.specs.Serving.{IsHeldInShift, IsCoreServing, RestsInShift, StandsInShift};
 ghost use Rattle.paraid_txn.specs.Stores.{named_of};
 
 use crate::ending::mark_units;
@@ -33,42 +28,23 @@ fn is_clear<R: Rack>(core: &Core<R>) -> bool
 
 /// Commits what is staged, if anything is. False where the disk that is rebuilt was lost in it.
 pub fn commit_staged<R: Rack>(core: &mut Core<R>, disk: DiskNo) -> Result<bool, Two>
-    requires serving { IsCoreServing R.slot_count R.slot core.old }
-    requires fresh { IsRebuilding (meta_of core.old) disk }
-    requires named { named_of (store_of core.old) ≡ Some disk }
-    requires spins { (R.slot (core_rack core.old) disk).power ≡ Spinning }
+    requires can { CanRebuild core.old disk }
     requires epoch { (meta_of core.old).epoch < 2 ^ 63 }
-    ensures serving { OnOk result (IsCoreServing R.slot_count R.slot core.new) }
-    ensures nothing { OnOk result (batch_of core.new ≡ []) }
+    ensures serves { OnOk result (ServesLater core.old core.new 1) }
     ensures named { OnOk result (named_of (store_of core.new) ≡ Some disk) }
-    ensures slots { R.slot_count (core_rack core.new) ≡ R.slot_count (core_rack core.old) }
-    ensures few { OnOk result ((meta_of core.new).epoch ≤ (meta_of core.old).epoch + 1) }
-    ensures same { result ≡ Ok true → meta_of core.new ≡ record (meta_of core.old) { epoch = (meta_of core.new).epoch } }
-    ensures spins { result ≡ Ok true → (R.slot (core_rack core.new) disk).power ≡ Spinning }
+    ensures same { result ≡ Ok true → KeepsDisk core.new disk
+        (record (meta_of core.old) { epoch = (meta_of core.new).epoch }) }
     // The disk has failed, and is gone.
-    ensures gone { result ≡ Ok false → meta_of core.new
-        ≡ record (meta_after_loss (meta_of core.old) disk) { epoch = (meta_of core.old).epoch + 1 } }
-    ensures failed { result ≡ Ok false
-        → HasRisen (R.slot (core_rack core.old) disk).faults (R.slot (core_rack core.new) disk).faults }
-    ensures away { result ≡ Ok false → (R.slot (core_rack core.new) disk).power ≡ Absent }
+    ensures lost { result ≡ Ok false → LosesAgain core.old core.new disk ((meta_of core.old).epoch + 1) }
     ensures table { core_table core.new ≡ core_table core.old }
-    ensures spared { OnlyLosesSlots (R.slot (core_rack core.old)) (R.slot (core_rack core.new)) }
-    ensures two { IfErr result (AreTwoDown (core_down core.old)
-        (R.slot (core_rack core.old)) (R.slot (core_rack core.new))) }
+    ensures keeps { SparesSlots core.old core.new result }
     ensures moments { IsHeldInShift R.slot_count R.told core.old core.new }
     ensures rests { OnOk result ((h : History) (lo : ℕ)
         → Ran (R.told (core_rack core.old)) (R.told (core_rack core.new))
         (CrashTriple (IsCoreHeldSinceCommit R.slot_count core.old h lo) (StandsInShift R.slot_count core.old h lo)
         (RestsInShift R.slot_count core.new h lo))) }
-    // In an event it is a part with at most one commit.
-    ensures event { OnOk result ((samples : List ℕ) (served energy : ℕ) (h : History) (lo : ℕ)
-        → Ran (R.told (core_rack core.old)) (R.told (core_rack core.new))
-        (StepsInEvent (service_of R.slot_count core.old samples served energy)
-        (service_of R.slot_count core.new samples served energy) h lo 1)) }
-    // So it is where a second disk is lost in it.
-    ensures loses { IfErr result (λ two. (samples : List ℕ) (served energy : ℕ) (h : History) (lo : ℕ)
-        → Ran (R.told (core_rack core.old)) (R.told (core_rack core.new))
-        (LosesInSteps (service_of R.slot_count core.old samples served energy) h lo 1 two)) }
+    // In an event it is a part with at most one commit, also where a second disk is lost in it.
+    ensures in_event { IsEventPart core.old core.new 1 result }
 {
     if is_clear(core) {
         return Ok(true);
@@ -83,17 +59,11 @@ pub fn commit_lost<R: Rack>(core: &mut Core<R>, disk: DiskNo) -> Result<(), Two>
     requires out { (meta_of core.old).out ≡ Gone disk }
     requires absent { IsNamedOrAbsent R.slot core.old }
     requires epoch { (meta_of core.old).epoch < 2 ^ 63 }
-    ensures serving { OnOk result (IsCoreServing R.slot_count R.slot core.new) }
-    ensures nothing { OnOk result (batch_of core.new ≡ []) }
-    ensures absent { OnOk result (IsNamedOrAbsent R.slot core.new) }
-    ensures named { OnOk result (named_of (store_of core.new) ≡ Some disk) }
-    ensures slots { R.slot_count (core_rack core.new) ≡ R.slot_count (core_rack core.old) }
+    ensures serves { OnOk result (HasCommitted core.new (Some disk)) }
     ensures gone { OnOk result (meta_of core.new
         ≡ record (meta_after_loss (meta_of core.old) disk) { epoch = (meta_of core.old).epoch + 1 }) }
     ensures table { core_table core.new ≡ core_table core.old }
-    ensures spared { OnlyLosesSlots (R.slot (core_rack core.old)) (R.slot (core_rack core.new)) }
-    ensures two { IfErr result (AreTwoDown (core_down core.old)
-        (R.slot (core_rack core.old)) (R.slot (core_rack core.new))) }
+    ensures keeps { SparesSlots core.old core.new result }
     ensures moments { (h : History) (lo : ℕ) → Ran (R.told (core_rack core.old)) (R.told (core_rack core.new))
         (CrashTriple (IsCoreHeldSinceCommit R.slot_count core.old h lo) (CoreStandsFor R.slot_count core.old h lo)
         (IsCoreHeldSinceCommit R.slot_count core.old h lo)) }
@@ -101,13 +71,7 @@ pub fn commit_lost<R: Rack>(core: &mut Core<R>, disk: DiskNo) -> Result<(), Two>
         → Ran (R.told (core_rack core.old)) (R.told (core_rack core.new))
         (CrashTriple (IsCoreHeldSinceCommit R.slot_count core.old h lo) (CoreStandsFor R.slot_count core.old h lo)
         (RestsInShift R.slot_count core.new h lo))) }
-    ensures event { OnOk result ((samples : List ℕ) (served energy : ℕ) (h : History) (lo : ℕ)
-        → Ran (R.told (core_rack core.old)) (R.told (core_rack core.new))
-        (StepsInEvent (service_of R.slot_count core.old samples served energy)
-        (service_of R.slot_count core.new samples served energy) h lo 1)) }
-    ensures loses { IfErr result (λ two. (samples : List ℕ) (served energy : ℕ) (h : History) (lo : ℕ)
-        → Ran (R.told (core_rack core.old)) (R.told (core_rack core.new))
-        (LosesInSteps (service_of R.slot_count core.old samples served energy) h lo 1 two)) }
+    ensures in_event { IsEventPart core.old core.new 1 result }
 {
     core.mark_out(disk);
     core.commit()?;
@@ -116,48 +80,20 @@ pub fn commit_lost<R: Rack>(core: &mut Core<R>, disk: DiskNo) -> Result<(), Two>
 
 // Copies the units below `end` that are not rebuilt, and marks them by a commit. False where the disk was lost.
 fn advance<R: Rack>(core: &mut Core<R>, disk: DiskNo, end: u32) -> Result<bool, Two>
-    requires serving { IsCoreServing R.slot_count R.slot core.old }
+    requires can { CanRebuild core.old disk }
     requires nothing { batch_of core.old ≡ [] }
-    requires fresh { IsRebuilding (meta_of core.old) disk }
-    requires named { named_of (store_of core.old) ≡ Some disk }
-    requires spins { (R.slot (core_rack core.old) disk).power ≡ Spinning }
     requires from { rebuilt_count (meta_of core.old).out ≤ end }
     requires limit { end ≤ rebuild_units (meta_of core.old).setup.geometry (meta_of core.old).gear disk }
     requires epoch { (meta_of core.old).epoch < 2 ^ 63 }
-    ensures serving { OnOk result (IsCoreServing R.slot_count R.slot core.new) }
-    ensures nothing { OnOk result (batch_of core.new ≡ []) }
+    ensures serves { OnOk result (ServesLater core.old core.new 1) }
     ensures named { OnOk result (named_of (store_of core.new) ≡ Some disk) }
-    ensures slots { R.slot_count (core_rack core.new) ≡ R.slot_count (core_rack core.old) }
-    ensures few { OnOk result ((meta_of core.new).epoch ≤ (meta_of core.old).epoch + 1) }
-    ensures moved { result ≡ Ok true → meta_of core.new ≡ record (meta_of core.old)
-        { epoch = (meta_of core.new).epoch; out = Fresh disk end } }
-    ensures spins { result ≡ Ok true → (R.slot (core_rack core.new) disk).power ≡ Spinning }
+    ensures moved { result ≡ Ok true → KeepsDisk core.new disk (record (meta_of core.old)
+        { epoch = (meta_of core.new).epoch; out = Fresh disk end }) }
     // The disk has failed, and is gone.
-    ensures gone { result ≡ Ok false → meta_of core.new
-        ≡ record (meta_after_loss (meta_of core.old) disk) { epoch = (meta_of core.new).epoch } }
-    ensures failed { result ≡ Ok false
-        → HasRisen (R.slot (core_rack core.old) disk).faults (R.slot (core_rack core.new) disk).faults }
-    ensures away { result ≡ Ok false → (R.slot (core_rack core.new) disk).power ≡ Absent }
-    ensures table { OnOk result (core_table core.new ≡ core_table core.old) }
-    ensures spared { OnlyLosesSlots (R.slot (core_rack core.old)) (R.slot (core_rack core.new)) }
-    ensures two { IfErr result (AreTwoDown (core_down core.old)
-        (R.slot (core_rack core.old)) (R.slot (core_rack core.new))) }
-    ensures moments { IsHeldFromRest R.slot_count R.told core.old core.new }
-    ensures stands { OnOk result ((h : History) (lo : ℕ)
-        → Ran (R.told (core_rack core.old)) (R.told (core_rack core.new))
-        (CrashTriple (IsCoreHeldSinceCommit R.slot_count core.old h lo) (RestsInShift R.slot_count core.old h lo)
-        (CoreStandsFor R.slot_count core.new h lo))) }
-    ensures rests { result ≡ Ok true → (h : History) (lo : ℕ)
-        → Ran (R.told (core_rack core.old)) (R.told (core_rack core.new))
-        (CrashTriple (IsCoreHeldSinceCommit R.slot_count core.old h lo) (RestsInShift R.slot_count core.old h lo)
-        (RestsInShift R.slot_count core.new h lo)) }
-    ensures event { OnOk result ((samples : List ℕ) (served energy : ℕ) (h : History) (lo : ℕ)
-        → Ran (R.told (core_rack core.old)) (R.told (core_rack core.new))
-        (StepsInEvent (service_of R.slot_count core.old samples served energy)
-        (service_of R.slot_count core.new samples served energy) h lo 1)) }
-    ensures loses { IfErr result (λ two. (samples : List ℕ) (served energy : ℕ) (h : History) (lo : ℕ)
-        → Ran (R.told (core_rack core.old)) (R.told (core_rack core.new))
-        (LosesInSteps (service_of R.slot_count core.old samples served energy) h lo 1 two)) }
+    ensures lost { result ≡ Ok false → LosesAgain core.old core.new disk (meta_of core.new).epoch }
+    ensures keeps { SparesSlots core.old core.new result }
+    ensures stops { HoldsFromRest core.old core.new result }
+    ensures in_event { IsEventPart core.old core.new 1 result }
 {
     let first = core.out().rebuilt();
     let copied = move_units(core, disk, first, end)?;
@@ -169,31 +105,17 @@ fn advance<R: Rack>(core: &mut Core<R>, disk: DiskNo, end: u32) -> Result<bool, 
 
 // The same after a commit of what is staged, if anything is.
 fn go_on<R: Rack>(core: &mut Core<R>, disk: DiskNo, end: u32) -> Result<bool, Two>
-    requires serving { IsCoreServing R.slot_count R.slot core.old }
-    requires fresh { IsRebuilding (meta_of core.old) disk }
-    requires named { named_of (store_of core.old) ≡ Some disk }
-    requires spins { (R.slot (core_rack core.old) disk).power ≡ Spinning }
+    requires can { CanRebuild core.old disk }
     requires from { rebuilt_count (meta_of core.old).out ≤ end }
     requires limit { end ≤ rebuild_units (meta_of core.old).setup.geometry (meta_of core.old).gear disk }
     requires epoch { (meta_of core.old).epoch + 1 < 2 ^ 63 }
-    ensures serving { OnOk result (IsCoreServing R.slot_count R.slot core.new) }
-    ensures nothing { OnOk result (batch_of core.new ≡ []) }
+    ensures serves { OnOk result (ServesLater core.old core.new 2) }
     ensures named { OnOk result (named_of (store_of core.new) ≡ Some disk) }
-    ensures slots { R.slot_count (core_rack core.new) ≡ R.slot_count (core_rack core.old) }
-    ensures few { OnOk result ((meta_of core.new).epoch ≤ (meta_of core.old).epoch + 2) }
-    ensures moved { result ≡ Ok true → meta_of core.new ≡ record (meta_of core.old)
-        { epoch = (meta_of core.new).epoch; out = Fresh disk end } }
-    ensures spins { result ≡ Ok true → (R.slot (core_rack core.new) disk).power ≡ Spinning }
+    ensures moved { result ≡ Ok true → KeepsDisk core.new disk (record (meta_of core.old)
+        { epoch = (meta_of core.new).epoch; out = Fresh disk end }) }
     // The disk has failed, and is gone.
-    ensures gone { result ≡ Ok false → meta_of core.new
-        ≡ record (meta_after_loss (meta_of core.old) disk) { epoch = (meta_of core.new).epoch } }
-    ensures failed { result ≡ Ok false
-        → HasRisen (R.slot (core_rack core.old) disk).faults (R.slot (core_rack core.new) disk).faults }
-    ensures away { result ≡ Ok false → (R.slot (core_rack core.new) disk).power ≡ Absent }
-    ensures table { OnOk result (core_table core.new ≡ core_table core.old) }
-    ensures spared { OnlyLosesSlots (R.slot (core_rack core.old)) (R.slot (core_rack core.new)) }
-    ensures two { IfErr result (AreTwoDown (core_down core.old)
-        (R.slot (core_rack core.old)) (R.slot (core_rack core.new))) }
+    ensures lost { result ≡ Ok false → LosesAgain core.old core.new disk (meta_of core.new).epoch }
+    ensures keeps { SparesSlots core.old core.new result }
     ensures moments { IsHeldInShift R.slot_count R.told core.old core.new }
     ensures stands { OnOk result ((h : History) (lo : ℕ)
         → Ran (R.told (core_rack core.old)) (R.told (core_rack core.new))
@@ -203,13 +125,7 @@ fn go_on<R: Rack>(core: &mut Core<R>, disk: DiskNo, end: u32) -> Result<bool, Tw
         → Ran (R.told (core_rack core.old)) (R.told (core_rack core.new))
         (CrashTriple (IsCoreHeldSinceCommit R.slot_count core.old h lo) (StandsInShift R.slot_count core.old h lo)
         (RestsInShift R.slot_count core.new h lo)) }
-    ensures event { OnOk result ((samples : List ℕ) (served energy : ℕ) (h : History) (lo : ℕ)
-        → Ran (R.told (core_rack core.old)) (R.told (core_rack core.new))
-        (StepsInEvent (service_of R.slot_count core.old samples served energy)
-        (service_of R.slot_count core.new samples served energy) h lo 2)) }
-    ensures loses { IfErr result (λ two. (samples : List ℕ) (served energy : ℕ) (h : History) (lo : ℕ)
-        → Ran (R.told (core_rack core.old)) (R.told (core_rack core.new))
-        (LosesInSteps (service_of R.slot_count core.old samples served energy) h lo 2 two)) }
+    ensures in_event { IsEventPart core.old core.new 2 result }
 {
     let there = commit_staged(core, disk)?;
     if !there {
@@ -223,47 +139,26 @@ fn go_on<R: Rack>(core: &mut Core<R>, disk: DiskNo, end: u32) -> Result<bool, Tw
 ///
 /// True once they are. False where the disk was lost again.
 pub fn step<R: Rack>(core: &mut Core<R>, disk: DiskNo, end: u32) -> Result<bool, Two>
-    requires serving { IsCoreServing R.slot_count R.slot core.old }
-    requires fresh { IsRebuilding (meta_of core.old) disk }
-    requires named { named_of (store_of core.old) ≡ Some disk }
-    requires spins { (R.slot (core_rack core.old) disk).power ≡ Spinning }
+    requires can { CanRebuild core.old disk }
     requires from { rebuilt_count (meta_of core.old).out ≤ end }
     requires limit { end ≤ rebuild_units (meta_of core.old).setup.geometry (meta_of core.old).gear disk }
     requires epoch { (meta_of core.old).epoch + 2 < 2 ^ 63 }
-    ensures serving { OnOk result (IsCoreServing R.slot_count R.slot core.new) }
-    ensures nothing { OnOk result (batch_of core.new ≡ []) }
+    ensures serves { OnOk result (ServesLater core.old core.new 3) }
     ensures absent { OnOk result (IsNamedOrAbsent R.slot core.new) }
     ensures named { OnOk result (named_of (store_of core.new) ≡ Some disk) }
-    ensures slots { R.slot_count (core_rack core.new) ≡ R.slot_count (core_rack core.old) }
-    ensures few { OnOk result ((meta_of core.new).epoch ≤ (meta_of core.old).epoch + 3) }
-    ensures moved { result ≡ Ok true → meta_of core.new ≡ record (meta_of core.old)
-        { epoch = (meta_of core.new).epoch; out = Fresh disk end } }
-    ensures spins { result ≡ Ok true → (R.slot (core_rack core.new) disk).power ≡ Spinning }
+    ensures moved { result ≡ Ok true → KeepsDisk core.new disk (record (meta_of core.old)
+        { epoch = (meta_of core.new).epoch; out = Fresh disk end }) }
     // False only where the disk has failed: that it is gone is committed.
-    ensures gone { result ≡ Ok false → meta_of core.new
-        ≡ record (meta_after_loss (meta_of core.old) disk) { epoch = (meta_of core.new).epoch } }
-    ensures failed { result ≡ Ok false
-        → HasRisen (R.slot (core_rack core.old) disk).faults (R.slot (core_rack core.new) disk).faults }
-    ensures away { result ≡ Ok false → (R.slot (core_rack core.new) disk).power ≡ Absent }
-    ensures table { OnOk result (core_table core.new ≡ core_table core.old) }
-    ensures spared { OnlyLosesSlots (R.slot (core_rack core.old)) (R.slot (core_rack core.new)) }
-    ensures two { IfErr result (AreTwoDown (core_down core.old)
-        (R.slot (core_rack core.old)) (R.slot (core_rack core.new))) }
+    ensures lost { result ≡ Ok false → LosesAgain core.old core.new disk (meta_of core.new).epoch }
+    ensures keeps { SparesSlots core.old core.new result }
     ensures moments { IsHeldInShift R.slot_count R.told core.old core.new }
     // Each stop leaves what it left before, and the writes are as they were, with nothing staged.
     ensures rests { OnOk result ((h : History) (lo : ℕ)
         → Ran (R.told (core_rack core.old)) (R.told (core_rack core.new))
         (CrashTriple (IsCoreHeldSinceCommit R.slot_count core.old h lo) (StandsInShift R.slot_count core.old h lo)
         (RestsInShift R.slot_count core.new h lo))) }
-    // In an event these are parts with at most three commits.
-    ensures event { OnOk result ((samples : List ℕ) (served energy : ℕ) (h : History) (lo : ℕ)
-        → Ran (R.told (core_rack core.old)) (R.told (core_rack core.new))
-        (StepsInEvent (service_of R.slot_count core.old samples served energy)
-        (service_of R.slot_count core.new samples served energy) h lo 3)) }
-    // So they are where a second disk is lost in it.
-    ensures loses { IfErr result (λ two. (samples : List ℕ) (served energy : ℕ) (h : History) (lo : ℕ)
-        → Ran (R.told (core_rack core.old)) (R.told (core_rack core.new))
-        (LosesInSteps (service_of R.slot_count core.old samples served energy) h lo 3 two)) }
+    // In an event these are parts with at most three commits, also where a second disk is lost in them.
+    ensures in_event { IsEventPart core.old core.new 3 result }
 {
     let moved = go_on(core, disk, end)?;
     if moved {

@@ -162,5 +162,5 @@ borne_marked slots x said after batch old mid new next can second ends commits t
           let absent_since : IsAbsentSince said.meta.setup.geometry.disks c.0 (moments s.0) (moments c.0) down = λ j b from to l off.
           absent j b from (omega arith) l (ap (λ (u : Disks). is_present (u.power b)) (ap (λ (u : Trail). disks u j) longer ∙ disks_before c.0 e.calls j to) ∙ off) in
           let rest = (s.2 h lo was down broken held absent_since weak).0 in
-          (c.2 rest (next (now c.0) rest)).borne y newly.0.1 newly.0.0 (λ named. absurd (newly.1 named)) (can c.0 c.1 y newly),
+          (c.2 rest (next (now c.0) rest)).borne (can c.0 c.1 y newly) y newly.0.1 newly.0.0,
     )

@@ -6,11 +6,12 @@ use Rattle.std.proofs.lemmas.Bool.{cases_eq, cases_lt}
 use Rattle.paraid_base.specs.declared.block.Block.{Block}
 use Rattle.paraid_base.specs.Regions.{disk_size}
 use Rattle.paraid_base.specs.Xor.{zero_block}
-use Rattle.paraid_rack.specs.Disks.{Disks}
+use Rattle.paraid_rack.specs.Disks.{Disks, IsImage}
 use Rattle.paraid_rack.specs.Slots.{Slot}
 use Rattle.paraid_record.specs.declared.meta.Setup.{Setup}
 use Rattle.paraid_record.specs.Meta.{meta_bytes}
 use Rattle.paraid_record.specs.Range.{IsInRange}
+use Rattle.paraid_image.specs.Formatted.{IsFormatted}
 use Rattle.paraid_image.specs.Sides.{is_open}
 use Rattle.paraid_recover.specs.Attached.{AreFreshDisks, BecomesFormatted, IsMetaWritten, fresh_slot}
 use Rattle.paraid_recover.specs.Calls.{AreAttaches, AreFormatCalls, AreMetaCalls, AreMakingCalls}
@@ -37,33 +38,51 @@ module _ (slots : ℕ) (setup : Setup) (b : Block) (is : b.bytes ≡ meta_bytes 
   meta_at (suc zero) low = two.here
   meta_at (suc (suc x)) low = absurd (omega arith)
 
-  loose_at : ((d p : ℕ) → n ≤ d → start.loose d p ≡ false) → (d p : ℕ) → end.loose d p ≡ false
-  loose_at synced d p = elim (cases_eq d 1) [
+  synced_at : (d p : ℕ) → d < n → end.loose d p ≡ false
+  synced_at d p low = elim (cases_eq d 1) [
     | inl at ↦ ap (λ (x : ℕ). end.loose x p) at ∙ two.synced p
     | inr apart ↦ two.loose d p apart ∙ elim (cases_eq d 0) [
       | inl at ↦ ap (λ (x : ℕ). second.loose x p) at ∙ one.synced p
-      | inr far ↦ one.loose d p far ∙ elim (cases_lt d n) [
-        | inl low ↦ attached.synced d p low
-        | inr high ↦ attached.others d p high ∙ synced d p high
-      ]
+      | inr far ↦ one.loose d p far ∙ attached.synced d p low
     ]
   ]
 
+  loose_past : (d p : ℕ) → n ≤ d → end.loose d p ≡ start.loose d p
+  loose_past d p high =
+      let few = setup.geometry.disks_low in
+      two.loose d p (λ at. omega arith) ∙ one.loose d p (λ at. omega arith) ∙ attached.others d p high
+
+  loose_at : ((d p : ℕ) → n ≤ d → start.loose d p ≡ false) → (d p : ℕ) → end.loose d p ≡ false
+  loose_at synced d p = elim (cases_lt d n) [
+    | inl low ↦ synced_at d p low
+    | inr high ↦ loose_past d p high ∙ synced d p high
+  ]
+
+  -- disks with what stands here on those of the array, and nothing loose
+  formatted_as : (i : Disks) → ((d : ℕ) → i.power d ≡ end.power d) → ((d : ℕ) → i.size d ≡ end.size d)
+      → ((d p : ℕ) → d < n → i.block d p ≡ end.block d p) → ((d p : ℕ) → i.loose d p ≡ false) → IsFormatted slots i (first_meta setup)
+  formatted_as i power size block loose =
+      let few = setup.geometry.disks_low in
+      record {
+        in_range = range;
+        writes = refl;
+        gear = refl;
+        phase = refl;
+        out = refl;
+        enough = enough;
+        spinning = λ d low. power d ∙ two.power d ∙ one.power d ∙ attached.power d low;
+        large = λ d low. (let s = size d ∙ two.size d ∙ one.size d ∙ attached.size_is d low in omega (arith, s));
+        closed = λ x low. ap is_open (block x 0 (omega arith) ∙ block_at x 0 (λ at. absurd (omega arith)) ∙ attached.zeros x 0 (omega arith)) ∙ closed_zeros;
+        meta = λ x low. ap (λ (c : Block). c.bytes) (block x 1 (omega arith) ∙ meta_at x low) ∙ is;
+        no_witness = λ x low. ap is_open (block 2 x (omega arith) ∙ two.block 2 x (λ at. absurd (omega arith)) ∙ one.block 2 x (λ at. absurd (omega arith)) ∙ attached.zeros 2 x (omega arith)) ∙ closed_zeros;
+        zeros = λ d p low high far. block d p low ∙ block_at d p (λ at. absurd (omega arith)) ∙ attached.zeros d p low;
+        synced = loose;
+      }
+
   pub formatted : BecomesFormatted slots (first_meta setup) start end
-  formatted synced = record {
-    in_range = range;
-    writes = refl;
-    gear = refl;
-    phase = refl;
-    out = refl;
-    enough = enough;
-    spinning = λ d low. two.power d ∙ one.power d ∙ attached.power d low;
-    large = λ d low. (let s = two.size d ∙ one.size d ∙ attached.size_is d low in omega (arith, s));
-    closed = λ x low. ap is_open (block_at x 0 (λ at. absurd (omega arith)) ∙ attached.zeros x 0 (let few = setup.geometry.disks_low in omega arith)) ∙ closed_zeros;
-    meta = λ x low. ap (λ (c : Block). c.bytes) (meta_at x low) ∙ is;
-    no_witness = λ x low. ap is_open (two.block 2 x (λ at. absurd (omega arith)) ∙ one.block 2 x (λ at. absurd (omega arith)) ∙ attached.zeros 2 x (let few = setup.geometry.disks_low in omega arith)) ∙ closed_zeros;
-    zeros = λ d p low high far. block_at d p (λ at. absurd (omega arith)) ∙ attached.zeros d p low;
-    synced = loose_at synced;
+  formatted = record {
+    stops = λ i e. formatted_as i e.power e.size (λ d p low. e.block d p (synced_at d p low)) e.loose;
+    whole = λ synced. formatted_as end (λ d. refl) (λ d. refl) (λ d p low. refl) (loose_at synced);
   }
 
 -- the calls of the parts

@@ -38,6 +38,7 @@ pub mod OneMarkedLemmas
 pub mod TurnsLemmas
 pub mod BearingLemmas
 pub mod BearerLemmas
+pub mod NotedLemmas
 pub mod PowersLemmas
 pub mod MapLemmas
 pub mod MarkHeldLemmas

@@ -28,7 +28,7 @@ use Rattle.paraid_recover.specs.declared.fault.MountFault.TheVariants.{Two as Bo
 use Rattle.paraid_recover.specs.Examined.{IsExamined, IsRefused}
 use Rattle.paraid_recover.proofs.DirtyKeptLemmas.{shown_dirty}
 use Rattle.paraid_recover.specs.HeldMoments.{Extends, IsAbsentSince}
-use Rattle.paraid_recover.specs.Mount.{HasMounted, HasOnlyRead, HasRecovered, IsCauseOfRefusal}
+use Rattle.paraid_recover.specs.Mount.{HasMounted, HasOnlyRead, HasRecovered, IsCauseOfRefusal, IsUnstarted}
 use Rattle.paraid_recover.specs.Mount.IsCauseOfRefusal.{examined, no_memory, two_down, witnessed}
 use Rattle.paraid_recover.specs.MountCalls.{IsMountCall}
 use Rattle.paraid_recover.specs.Mounted.{IsServable, with_loss}
@@ -36,6 +36,7 @@ use Rattle.paraid_session.specs.Mount.{IsMountRefused, IsMounted, IsMountedFromE
 use Rattle.paraid_session.specs.Mount.Refusal.{no_memory as for_memory}
 use Rattle.paraid_session.specs.Watch.{IsServing, Watch, watch_all}
 use Rattle.paraid_recover.specs.HeardSides.{AmongOne, AmongTwo, ReadsLogs}
+use Rattle.paraid_recover.specs.HeardSides.IsOneLost.{none as none_lost}
 use Rattle.paraid_recover.specs.FirstPoint.{IsFirstPoint, first_point}
 use Rattle.paraid_recover.specs.StartParts.{AreMountCalls, EndsServed}
 use Rattle.paraid_recover.specs.StartRefusals.{refusal_by_fault}
@@ -267,7 +268,7 @@ module _ (count : ℕ) (old_slot new_slot : ℕ → Slot) (old new : Option Trai
 
   -- A mount that is refused.
   pub refused_from_each : IsCauseOfRefusal count old_slot new_slot old new fault → IsRefusedFromEach count began new (refusal_by_fault fault)
-  refused_from_each (no_memory is only) = subst (IsRefusedFromEach count began new) (sym (ap refusal_by_fault is)) (by_memory only)
+  refused_from_each (no_memory is unstarted) = subst (IsRefusedFromEach count began new) (sym (ap refusal_by_fault is)) (by_memory unstarted.only)
   refused_from_each (examined is only) = by_reads only is
   refused_from_each (two_down read x then two it agrees exam is beside gone) = by_loss read x then two it exam is beside.apart gone
   refused_from_each (witnessed read mid x said two calls exam low is refuses) = by_witness read mid x two calls low is refuses
@@ -279,6 +280,9 @@ no_calls told = record {
   quiet = λ start. Ran-none (CrashTriple (AmongTwo start) (λ s. s ≡ start) (AmongTwo start)) (λ s. record { goes = λ is. (inl (inl is), inl (inl is)) }) told;
 }
 
+pub unstarted_here : (slot : ℕ → Slot) (told : Option Trail) → IsUnstarted slot slot told told
+unstarted_here slot told = record { lost = none_lost (λ d. refl); only = no_calls told }
+
 -- the record of a mount is longer by some calls
 pub ran_extends : (Q : Disks → List Call → Type 0) (old new : Option Trail) → Ran old new Q → Extends old new
 ran_extends Q old new ran t tells = let r = ran t tells in record { from = r.from; was = r.was; calls = r.calls; is = r.is; holds = tt }
@@ -287,7 +291,7 @@ pub mounted_extends : (count : ℕ) (old_slot new_slot : ℕ → Slot) (named : 
 mounted_extends count old_slot new_slot named m dirty old new it = ran_extends _ old new it.settled.recovered.calls
 
 pub refused_extends : (count : ℕ) (old_slot new_slot : ℕ → Slot) (old new : Option Trail) (fault : MountFault) → IsCauseOfRefusal count old_slot new_slot old new fault → Extends old new
-refused_extends count old_slot new_slot old new fault (no_memory is only) = ran_extends _ old new only.calls
+refused_extends count old_slot new_slot old new fault (no_memory is unstarted) = ran_extends _ old new unstarted.only.calls
 refused_extends count old_slot new_slot old new fault (examined is only) = ran_extends _ old new only.calls
 refused_extends count old_slot new_slot old new fault (two_down read x then two it agrees exam is beside gone) = ran_extends _ old new it.calls
 refused_extends count old_slot new_slot old new fault (witnessed read mid x said two calls exam low is refuses) = ran_extends _ old new calls

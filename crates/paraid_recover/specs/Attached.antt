@@ -3,7 +3,7 @@ use Rattle.std.specs.Prelude.{◌≡◌, ◌≢◌, ℕ, ◌<◌, ◌≤◌, fal
 use Rattle.paraid_base.specs.declared.block.Block.{Block}
 use Rattle.paraid_base.specs.Xor.{zero_block}
 use Rattle.paraid_rack.specs.declared.call.Power.TheVariants.{Spinning}
-use Rattle.paraid_rack.specs.Disks.{Disks}
+use Rattle.paraid_rack.specs.Disks.{Disks, IsImage}
 use Rattle.paraid_rack.specs.Slots.{Slot}
 use Rattle.paraid_record.specs.declared.meta.Meta.{Meta}
 use Rattle.paraid_image.specs.Formatted.{IsFormatted}
@@ -29,7 +29,9 @@ pub record IsMetaWritten (x : ℕ) (b : Block) (start s : Disks) : Type 0 where
   pub synced : (p : ℕ) → s.loose x p ≡ false
   pub loose : (d p : ℕ) → d ≢ x → s.loose d p ≡ start.loose d p
 
--- where nothing is loose past the array's disks, the disks are now those of an array without a write
-abbrev pub BecomesFormatted : ℕ → Meta → Disks → Disks → Type 0
-BecomesFormatted slots m start s =
-    ((d p : ℕ) → m.setup.geometry.disks ≤ d → start.loose d p ≡ false) → IsFormatted slots s m
+-- The disks are now those of an array without a write: what each stop leaves is so, whatever is
+-- loose in slots past the array's disks; and where nothing was loose there, the disks are so as
+-- they are.
+pub record BecomesFormatted (slots : ℕ) (m : Meta) (start s : Disks) : Type 0 where
+  pub stops : (i : Disks) → IsImage s i → IsFormatted slots i m
+  pub whole : ((d p : ℕ) → m.setup.geometry.disks ≤ d → start.loose d p ≡ false) → IsFormatted slots s m

@@ -28,3 +28,4 @@ pub mod RecordedSpins
 pub mod StartParts
 pub mod StartRefusals
 pub mod Witness
+pub mod Steps

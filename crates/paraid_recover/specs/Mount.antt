@@ -12,7 +12,7 @@ use Rattle.paraid_recover.specs.declared.fault.MountFault.{MountFault}
 use Rattle.paraid_recover.specs.declared.fault.MountFault.TheVariants.{NoMemory, Two as BothMissing}
 use Rattle.paraid_recover.specs.Bearing.{EndsBorne, IsBorneAgainst, IsNamedLog}
 use Rattle.paraid_recover.specs.Examined.{IsExamined, IsRefused}
-use Rattle.paraid_recover.specs.HeardSides.{IsReadLosing, IsReadOnly, ReadsLogs}
+use Rattle.paraid_recover.specs.HeardSides.{IsOneLost, IsReadLosing, IsReadOnly, ReadsLogs}
 use Rattle.paraid_txn.specs.Losses.{AreGoneSince, IsOutOfCommit, AreTwoDownBeside}
 use Rattle.paraid_txn.specs.Uses.{EachCall}
 use Rattle.paraid_recover.specs.EndOfMount.{IsMarkAtEnd, IsMarkAtMoment, KeepsDirty}
@@ -88,10 +88,16 @@ pub record HasOnlyRead (old new : Option Trail) : Type 0 where
   pub calls : Ran old new (EachCall ReadsLogs)
   pub quiet : IsReadLosing old new
 
+-- No mount was begun: only reads of the log disks were made. No slot has changed; or one log disk that
+-- spun has failed in them, and no other slot has changed.
+pub record IsUnstarted (old new : ℕ → Slot) (told_old told_new : Option Trail) : Type 0 where
+  pub lost : IsOneLost old new
+  pub only : HasOnlyRead told_old told_new
+
 -- Why a mount is refused: for want of memory or by what the reads of the log disks found, after
 -- these reads alone; or because a second disk is down.
 pub data IsCauseOfRefusal (count : ℕ) (old new : ℕ → Slot) (told_old told_new : Option Trail) (fault : MountFault) : Type 0 where
-  no_memory : fault ≡ NoMemory → HasOnlyRead told_old told_new → IsCauseOfRefusal count old new told_old told_new fault
+  no_memory : fault ≡ NoMemory → IsUnstarted old new told_old told_new → IsCauseOfRefusal count old new told_old told_new fault
   examined : IsRefused count old new told_new fault → HasOnlyRead told_old told_new → IsCauseOfRefusal count old new told_old told_new fault
   -- it is refused by the witness, after reads alone
   witnessed : (read : Option Trail) (mid : ℕ → Slot) (side : ℕ) (said : LogState) (two : Two) → Ran told_old told_new (EachCall ReadsLogs)

@@ -1,11 +1,10 @@
 //! What both log disks say.
-ghost use Rattle.std.specs.Prelude.{◌≡◌, ◌≢◌, ℕ, ◌<◌, ◌≤◌, [], Some, OnOk, IfErr, IfOk, None, Ok, is_ok};
+ghost use Rattle.std.specs.Prelude.{◌≡◌, ◌≢◌, ◌<◌, ◌≤◌, [], Some, OnOk, IfErr, IfOk, None, Ok, is_ok};
 ghost use Rattle.paraid_rack.specs.declared.call.Power.TheVariants.{Absent, Parked, Spinning};
 ghost use Rattle.paraid_rack.specs.Trail.{Trail, now};
-ghost use Rattle.paraid_rack.specs.Told.{Ran};
-ghost use Rattle.paraid_recover.specs.HeardSides.{AreBothLost, AtMost, HasReadLog, IsHeardAt, IsHeardBy, IsInForm, IsOneLost, IsReadLosing, IsReadOnly, ReadsLogs, gone_pair as gone_pair_of};
-ghost use Rattle.paraid_txn.specs.Uses.{EachCall, UsesLog};
-ghost use Rattle.paraid_txn.specs.Losses.{AreFailedOrWell, OnlyLosesSlots, AreTwoDownBeside};
+ghost use Rattle.paraid_recover.specs.HeardSides.{AreBothLost, HasReadLog, IsHeardAt, IsHeardBy, IsInForm, IsOneLost, IsReadLosing, IsReadOnly, gone_pair as gone_pair_of};
+ghost use Rattle.paraid_recover.specs.Steps.{HasHeard, HasReadLogs};
+ghost use Rattle.paraid_txn.specs.Losses.{AreTwoDownBeside};
 
 use crate::hearing::{Heard, hear};
 use paraid_base::{DiskNo, Failed, Two};
@@ -72,25 +71,14 @@ pub fn hear_both<R: Rack>(
     requires second { (R.slot rack.old 1).power ≢ Parked }
     requires first_empty { first_batch.old ≡ [] }
     requires second_empty { second_batch.old ≡ [] }
-    ensures slots { R.slot_count rack.new ≡ R.slot_count rack.old }
-    ensures first { IfOk result (λ it. (t : Trail) → R.told rack.new ≡ Some t
-        → IsHeardAt (now t) 0 it.first first_batch.new) }
-    ensures second { IfOk result (λ it. (t : Trail) → R.told rack.new ≡ Some t
-        → IsHeardAt (now t) 1 it.second second_batch.new) }
-    ensures first_form { IfOk result (λ it. IsInForm it.first first_batch.new) }
-    ensures second_form { IfOk result (λ it. IsInForm it.second second_batch.new) }
-    ensures first_power { IfOk result (λ it. IsHeardBy it.first (R.slot rack.new 0).power) }
-    ensures second_power { IfOk result (λ it. IsHeardBy it.second (R.slot rack.new 1).power) }
+    ensures leaves { HasReadLogs R.Rack rack.old rack.new }
+    ensures first { IfOk result (λ it. HasHeard R.Rack rack.new 0 it.first first_batch.new) }
+    ensures second { IfOk result (λ it. HasHeard R.Rack rack.new 1 it.second second_batch.new) }
     ensures one { OnOk result (IsOneLost (R.slot rack.old) (R.slot rack.new)) }
     ensures both { IfErr result (AreBothLost (R.slot rack.old) (R.slot rack.new)) }
-    ensures reads { Ran (R.told rack.old) (R.told rack.new) (EachCall ReadsLogs) }
-    ensures few { Ran (R.told rack.old) (R.told rack.new) (AtMost 198) }
     ensures two { IfErr result (λ two. two ≡ gone_pair_of (R.slot rack.old 1).power) }
     ensures cause { IfErr result (AreTwoDownBeside (λ e. (R.slot rack.old e).power ≡ Absent)
         (R.slot rack.old) (R.slot rack.new)) }
-    ensures powers { OnlyLosesSlots (R.slot rack.old) (R.slot rack.new) }
-    ensures each { AreFailedOrWell (R.slot rack.old) (R.slot rack.new) }
-    ensures calls { Ran (R.told rack.old) (R.told rack.new) (EachCall (UsesLog None)) }
     ensures moments { IfOk result (λ it. IsReadOnly (R.told rack.old) (R.told rack.new)) }
     ensures refused { IfErr result (λ two. IsReadLosing (R.told rack.old) (R.told rack.new)) }
 {

@@ -96,8 +96,8 @@ fn test<R: Rack>(force: bool, rack: &mut R) -> Result<(), FormatFault>
 /// whether a log disk belongs to an array; a fresh disk in each slot; the first meta on disk 0 and
 /// then on disk 1, each synced.
 ///
-/// After Ok the disks are those of an array that holds no write, if nothing was loose in the slots
-/// past them.
+/// After Ok each stop leaves the disks of an array of this setup that holds no write, whatever is
+/// loose in the slots past them. Where nothing is, the disks are so as they are.
 pub fn format<R: Rack>(setup: &Setup, force: bool, rack: &mut R) -> Result<(), FormatFault>
     requires { IsSetupInRange setup.now }
     ensures slots { R.slot_count rack.new ≡ R.slot_count rack.old }

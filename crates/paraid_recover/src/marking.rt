@@ -1,17 +1,16 @@
 //! A disk that is absent is marked gone.
-ghost use Rattle.std.specs.Prelude.{◌≡◌, ◌≢◌, ℕ, ◌+◌, ◌-◌, ◌^◌, ◌<◌, ◌≤◌, [], true, false, Some, OnOk, IfErr, IfOk};
+ghost use Rattle.std.specs.Prelude.{◌≡◌, ℕ, ◌+◌, ◌-◌, ◌<◌, [], true, Some, OnOk};
 ghost use Rattle.paraid_rack.specs.declared.call.Power.TheVariants.{Absent};
-ghost use Rattle.paraid_rack.specs.Disks.{Disks};
 ghost use Rattle.paraid_recover.specs.HeldMoments.{Extends, KeepsHeld};
-ghost use Rattle.paraid_record.specs.Range.{IsInRange};
 ghost use Rattle.paraid_image.specs.Rest.{IsAtRest};
 ghost use Rattle.paraid_txn.specs.Commit.{EndsCommitted, IsWholeOrAbsent};
 ghost use Rattle.paraid_rack.specs.Told.{Ran};
-ghost use Rattle.paraid_txn.specs.Losses.{AreGoneSince, StaySynced, AreFailedOrWell, IsOneOut, IsOutOfCommit, OnlyLosesSlots, AreTwoDownBeside};
+ghost use Rattle.paraid_txn.specs.Losses.{IsOutOfCommit};
 ghost use Rattle.paraid_txn.specs.Uses.{EachCall, UsesInCommit};
 ghost use Rattle.paraid_image.specs.Mark.{marked_gone as marked_of};
 ghost use Rattle.paraid_image.specs.Out.{named_out as named_of};
 ghost use Rattle.paraid_recover.specs.RecoveryMark.{of_version_two};
+ghost use Rattle.paraid_recover.specs.Steps.{HasMarked, KeepsStore};
 ghost use Rattle.paraid_txn.specs.Ready.{CanCommit};
 ghost use Rattle.paraid_txn.specs.Stores.{disks_of, epoch_of, named_of as named_by, store_rack};
 
@@ -59,25 +58,11 @@ pub fn mark<R: Rack>(
     requires can { CanCommit (epoch_of store.old) (disks_of store.old)
         (R.slot_count (store_rack store.old)) (R.slot (store_rack store.old)) batch.now
         (marked_of (of_version_two meta.now) disk meta.now.epoch) }
-    ensures powers { OnlyLosesSlots (R.slot (store_rack store.old)) (R.slot (store_rack store.new)) }
-    ensures synced { OnOk result
-        (StaySynced (R.slot (store_rack store.old)) (R.slot (store_rack store.new))) }
-    ensures epoch { OnOk result (epoch_of store.new ≡ epoch_of store.old + 1) }
-    ensures slots { R.slot_count (store_rack store.new) ≡ R.slot_count (store_rack store.old) }
-    ensures disks { disks_of store.new ≡ disks_of store.old }
-    ensures named { OnOk result (named_by store.new ≡ Some disk) }
-    ensures each { AreFailedOrWell (R.slot (store_rack store.old)) (R.slot (store_rack store.new)) }
-    ensures two { IfErr result (AreTwoDownBeside (IsOutOfCommit (λ e. (R.slot (store_rack store.old) e).power)
-        (disks_of store.old) (named_by store.old) (Some disk))
-        (R.slot (store_rack store.old)) (R.slot (store_rack store.new))) }
-    ensures gone { IfErr result (AreGoneSince (IsOutOfCommit (λ e. (R.slot (store_rack store.old) e).power)
-        (disks_of store.old) (named_by store.old) (Some disk))
-        (R.slot (store_rack store.old)) (R.slot (store_rack store.new))) }
+    ensures kept { KeepsStore (IsOutOfCommit (λ e. (R.slot (store_rack store.old) e).power)
+        (disks_of store.old) (named_by store.old) (Some disk)) store.old store.new result }
+    ensures marked { HasMarked disk store.old store.new result }
     ensures calls { Ran (R.told (store_rack store.old)) (R.told (store_rack store.new))
         (EachCall (UsesInCommit (marked_of (of_version_two meta.now) disk meta.now.epoch) [])) }
-    ensures one { OnOk result (IsOneOut (disks_of store.old) (named_by store.old)
-        (R.slot (store_rack store.old))
-        → IsOneOut (disks_of store.old) (Some disk) (R.slot (store_rack store.new))) }
     ensures grows { Extends (R.told (store_rack store.old)) (R.told (store_rack store.new)) }
     ensures held { (slots : ℕ) → KeepsHeld (λ s. IsAtRest s meta.now) slots
         meta.now.setup.geometry.disks (R.told (store_rack store.old)) (R.told (store_rack store.new)) }

@@ -1,12 +1,8 @@
 //! A mount: an array of the disks that a rack brings, or why there is none.
-ghost use Rattle.std.specs.Prelude.{◌≡◌, ◌≢◌, ℕ, ◌<◌, ◌≤◌, ◌⊎◌, [], false, length, Option, Some, None, OnOk, IfErr, IfOk};
+ghost use Rattle.std.specs.Prelude.{◌≡◌, ℕ, ◌<◌, ◌≤◌, ◌⊎◌, [], false, length, Option, Some, None, IfErr, IfOk};
 ghost use Rattle.paraid_dirty.specs.Table.{is_dirty};
 ghost use Rattle.paraid_base.specs.declared.fault.Two.{Two as TwoType};
 ghost use Rattle.paraid_base.specs.Log.{worn_at};
-ghost use Rattle.paraid_base.specs.Told.{HasRisen};
-ghost use Rattle.paraid_recover.specs.Examined.{IsExamined};
-ghost use Rattle.paraid_rack.specs.Slots.{Slot};
-ghost use Rattle.paraid_recover.specs.HeardSides.{IsReadOnly};
 ghost use Rattle.paraid_recover.specs.declared.fault.MountFault.TheVariants.{Two as BothMissing};
 ghost use Rattle.paraid_txn.specs.Resume.{CanResume, log_state};
 ghost use Rattle.paraid_rack.specs.declared.call.Power.TheVariants.{Absent};
@@ -18,18 +14,17 @@ ghost use Rattle.paraid_image.specs.Out.{named_out as named_of};
 ghost use Rattle.paraid_image.specs.Sides.{LogState};
 ghost use Rattle.paraid_recover.specs.Bearing.{EndsBorne, IsBorneAgainst, IsNamedLog};
 ghost use Rattle.paraid_recover.specs.EndOfMount.{IsMarkAtEnd, IsMarkAtMoment, KeepsDirty};
-ghost use Rattle.paraid_recover.specs.HeldMoments.{EndsHeld, IsOutAtEnd, Recovers, RecoversHeld, ShowsAtEnd};
+ghost use Rattle.paraid_recover.specs.HeldMoments.{EndsHeld, IsOutAtEnd, Recovers, ShowsAtEnd};
 ghost use Rattle.paraid_recover.specs.Map.{HasMap, HasMapAtEnd, IsNarrow};
-ghost use Rattle.paraid_recover.specs.MountCalls.{OnlyMountCalls};
 ghost use Rattle.paraid_recover.specs.RecoveryMark.{to_mark, with_mark};
-ghost use Rattle.paraid_recover.specs.StandingMetas.{StandsInMoments, StandsThroughMount};
 ghost use Rattle.paraid_recover.specs.Powers.{IsPowerCall};
 ghost use Rattle.paraid_recover.specs.Quiet.{IsStill};
 ghost use Rattle.paraid_rack.specs.Told.{Ran};
 ghost use Rattle.paraid_txn.specs.Uses.{EachCall};
 ghost use Rattle.paraid_recover.specs.Mount.{HasMounted, IsCauseOfRefusal};
-ghost use Rattle.paraid_recover.specs.Mounted.{AreAllSynced, IsFit, IsServable, IsStandingWithLoss, with_loss as with_loss_of};
-ghost use Rattle.paraid_txn.specs.Losses.{AreFailedOrWell, AreGoneSince, IsOutOfCommit, OnlyLosesSlots, AreTwoDownBeside};
+ghost use Rattle.paraid_recover.specs.Mounted.{IsFit, IsServable, IsStandingWithLoss, with_loss as with_loss_of};
+ghost use Rattle.paraid_recover.specs.Steps.{CanSettle, HasStood, KeepsPowered, KeepsStore, MountsOn, RecoversOn};
+ghost use Rattle.paraid_txn.specs.Losses.{AreGoneSince, IsOutOfCommit, AreTwoDownBeside};
 ghost use Rattle.paraid_txn.specs.Stores.{disks_of, epoch_of, named_of as named_by, store_out, store_rack};
 
 use crate::examining::examine;
@@ -57,47 +52,20 @@ fn settle<R: Rack>(
     table: &mut DirtyTable,
 ) -> Result<Meta, Two>
     requires empty { nothing.now ≡ [] }
-    requires fit { IsFit (R.slot_count (store_rack store.old)) (R.slot (store_rack store.old)) meta.now }
-    requires few { meta.now.epoch < worn_at }
-    requires disks { disks_of store.old ≡ meta.now.setup.geometry.disks }
-    requires named { named_by store.old ≡ named_of meta.now.out }
-    requires epoch { epoch_of store.old ≡ meta.now.epoch }
-    requires rows { length table.old ≡ meta.now.setup.geometry.rows }
-    requires narrow { IsNarrow (is_dirty table.old) }
+    requires can { CanSettle store.old meta.now table.old }
     ensures rows { length table.new ≡ length table.old }
     ensures narrow { IsNarrow (is_dirty table.new) }
-    ensures slots { R.slot_count (store_rack store.new) ≡ R.slot_count (store_rack store.old) }
-    ensures disks { disks_of store.new ≡ disks_of store.old }
-    ensures epoch { IfOk result (λ m. m.epoch ≡ epoch_of store.new) }
-    ensures named { IfOk result (λ m. named_of m.out ≡ named_by store.new) }
-    ensures version { IfOk result (λ m. m.version ≡ 2) }
+    ensures kept { KeepsStore (IsOutOfCommit (λ e. (R.slot (store_rack store.old) e).power)
+        meta.now.setup.geometry.disks (named_of meta.now.out) None) store.old store.new result }
+    ensures recovers { RecoversOn meta.now store.old store.new }
+    ensures stood { IfOk result (HasStood store.new) }
     ensures given { IfOk result (λ m. (lost : Option ℕ) × (m ≡ with_mark meta.now lost)
         × ((d : ℕ) → lost ≡ Some d → (is_present (R.slot (store_rack store.new) d).power ≡ false)
         × (d < meta.now.setup.geometry.disks))
         × ((d : ℕ) → lost ≡ Some d → (e : ℕ) → named_of meta.now.out ≡ Some e → e ≡ d)
         × IsMarkAtMoment meta.now lost (R.told (store_rack store.old)) (R.told (store_rack store.new))) }
-    ensures fit { IfOk result (IsFit (R.slot_count (store_rack store.new))
-        (R.slot (store_rack store.new))) }
-    ensures synced { IfOk result (λ m. AreAllSynced m (R.slot (store_rack store.new))) }
-    ensures powers { OnlyLosesSlots (R.slot (store_rack store.old)) (R.slot (store_rack store.new)) }
-    ensures each { AreFailedOrWell (R.slot (store_rack store.old)) (R.slot (store_rack store.new)) }
-    ensures two { IfErr result (AreTwoDownBeside (IsOutOfCommit (λ e. (R.slot (store_rack store.old) e).power)
-        meta.now.setup.geometry.disks (named_of meta.now.out) None)
-        (R.slot (store_rack store.old)) (R.slot (store_rack store.new))) }
-    ensures gone { IfErr result (AreGoneSince (IsOutOfCommit (λ e. (R.slot (store_rack store.old) e).power)
-        meta.now.setup.geometry.disks (named_of meta.now.out) None)
-        (R.slot (store_rack store.old)) (R.slot (store_rack store.new))) }
     ensures still { Ran (R.told (store_rack store.old)) (R.told (store_rack store.new))
         (EachCall IsStill) }
-    ensures allowed { OnlyMountCalls meta.now (R.told (store_rack store.old))
-        (R.told (store_rack store.new)) }
-    ensures holds { (slots x : ℕ) (said : LogState) (old : Option Trail) → said.meta ≡ meta.now
-        → Recovers slots x said old (R.told (store_rack store.old))
-        → RecoversHeld slots x said old (R.told (store_rack store.new)) }
-    ensures metas { (slots x : ℕ) (said : LogState) (old : Option Trail) → said.meta ≡ meta.now
-        → Recovers slots x said old (R.told (store_rack store.old))
-        → StandsInMoments slots x said old (R.told (store_rack store.old))
-        → StandsInMoments slots x said old (R.told (store_rack store.new)) }
     ensures ends { IfOk result (λ m. (slots x : ℕ) (said : LogState) (old : Option Trail)
         → said.meta ≡ meta.now → Recovers slots x said old (R.told (store_rack store.old))
         → EndsHeld slots x said m old (R.told (store_rack store.new))) }
@@ -149,32 +117,15 @@ fn raise<R: Rack>(
     table: &mut DirtyTable,
 ) -> Result<Meta, Two>
     requires empty { nothing.now ≡ [] }
-    requires fit { IsFit (R.slot_count (store_rack store.old)) (R.slot (store_rack store.old)) meta.now }
-    requires few { meta.now.epoch < worn_at }
-    requires disks { disks_of store.old ≡ meta.now.setup.geometry.disks }
-    requires named { named_by store.old ≡ named_of meta.now.out }
-    requires epoch { epoch_of store.old ≡ meta.now.epoch }
-    requires rows { length table.old ≡ meta.now.setup.geometry.rows }
-    requires narrow { IsNarrow (is_dirty table.old) }
+    requires can { CanSettle store.old meta.now table.old }
     ensures rows { length table.new ≡ length table.old }
     ensures narrow { IsNarrow (is_dirty table.new) }
-    ensures slots { R.slot_count (store_rack store.new) ≡ R.slot_count (store_rack store.old) }
+    ensures kept { KeepsPowered (IsOutOfCommit (λ e. (R.slot (store_rack store.old) e).power)
+        meta.now.setup.geometry.disks (named_of meta.now.out) None) store.old store.new result }
+    ensures recovers { RecoversOn meta.now store.old store.new }
     ensures servable { IfOk result (λ m. IsServable (R.slot_count (store_rack store.new))
         (R.slot (store_rack store.new)) (epoch_of store.new) (disks_of store.new)
         (named_by store.new) m (length table.new)) }
-    ensures two { IfErr result (AreTwoDownBeside (IsOutOfCommit (λ e. (R.slot (store_rack store.old) e).power)
-        meta.now.setup.geometry.disks (named_of meta.now.out) None)
-        (R.slot (store_rack store.old)) (R.slot (store_rack store.new))) }
-    ensures gone { IfErr result (AreGoneSince (IsOutOfCommit (λ e. (R.slot (store_rack store.old) e).power)
-        meta.now.setup.geometry.disks (named_of meta.now.out) None)
-        (R.slot (store_rack store.old)) (R.slot (store_rack store.new))) }
-    ensures later { (d : ℕ) → (R.slot (store_rack store.old) d).faults
-        ≤ (R.slot (store_rack store.new) d).faults }
-    ensures failed { (d : ℕ) → (R.slot (store_rack store.new) d).power ≡ Absent
-        → ((R.slot (store_rack store.old) d).power ≡ Absent)
-        ⊎ HasRisen (R.slot (store_rack store.old) d).faults (R.slot (store_rack store.new) d).faults }
-    ensures allowed { OnlyMountCalls meta.now (R.told (store_rack store.old))
-        (R.told (store_rack store.new)) }
     ensures split { (mid : Option Trail) × Ran (R.told (store_rack store.old)) mid (EachCall IsStill)
         × ((R.told (store_rack store.new) ≡ mid) ⊎ ((mark : Option ℕ)
         × ((slots x : ℕ) (said : LogState) (old : Option Trail) → said.meta ≡ meta.now
@@ -183,15 +134,6 @@ fn raise<R: Rack>(
         × ((said : LogState) → said.meta ≡ meta.now
         → IsOutAtEnd said (with_mark meta.now mark) mid)
         × Ran mid (R.told (store_rack store.new)) (EachCall (IsPowerCall (with_mark meta.now mark))))) }
-    ensures holds { (slots x : ℕ) (said : LogState) (old : Option Trail) → said.meta ≡ meta.now
-        → Recovers slots x said old (R.told (store_rack store.old))
-        → RecoversHeld slots x said old (R.told (store_rack store.new)) }
-    ensures metas { (slots x : ℕ) (said : LogState) (old : Option Trail) → said.meta ≡ meta.now
-        → Recovers slots x said old (R.told (store_rack store.old))
-        → StandsInMoments slots x said old (R.told (store_rack store.old))
-        → StandsInMoments slots x said old (R.told (store_rack store.new)) }
-    ensures absent { (d : ℕ) → (R.slot (store_rack store.old) d).power ≡ Absent
-        → (R.slot (store_rack store.new) d).power ≡ Absent }
     ensures ends { IfOk result (λ m. (standing : MetaType) × (lost : Option ℕ)
         × (m ≡ with_loss_of standing lost) × (standing.setup ≡ meta.now.setup)
         × ((d : ℕ) → named_of meta.now.out ≡ Some d → named_of standing.out ≡ Some d)
@@ -254,9 +196,10 @@ fn bring_up<R: Rack>(
     requires few { standing.now.meta.epoch < worn_at }
     requires rows { length dirty ≡ standing.now.meta.setup.geometry.rows }
     requires narrow { IsNarrow (is_dirty dirty) }
-    ensures slots { IfOk result (λ it. R.slot_count (store_rack it.store) ≡ R.slot_count rack) }
-    ensures refused_slots { IfErr result (λ refused. R.slot_count refused.rack
-        ≡ R.slot_count rack) }
+    ensures mounts { IfOk result (λ it. MountsOn R.Rack standing.now.side
+        (log_state standing.now.gate_open standing.now.meta batch) rack (store_rack it.store)) }
+    ensures refused { IfErr result (λ refused. MountsOn R.Rack standing.now.side
+        (log_state standing.now.gate_open standing.now.meta batch) rack refused.rack) }
     ensures servable { IfOk result (λ it. IsServable (R.slot_count (store_rack it.store))
         (R.slot (store_rack it.store)) (epoch_of it.store) (disks_of it.store)
         (named_by it.store) it.meta (length it.dirty)) }
@@ -268,26 +211,6 @@ fn bring_up<R: Rack>(
         × AreGoneSince (IsOutOfCommit (λ e. (R.slot rack e).power)
         standing.now.meta.setup.geometry.disks (named_of standing.now.meta.out) None)
         (R.slot rack) (R.slot refused.rack) two) }
-    ensures later { IfOk result (λ it. (d : ℕ) → (R.slot rack d).faults
-        ≤ (R.slot (store_rack it.store) d).faults) }
-    ensures refused_later { IfErr result (λ refused. (d : ℕ) → (R.slot rack d).faults
-        ≤ (R.slot refused.rack d).faults) }
-    ensures allowed { IfOk result (λ it. OnlyMountCalls standing.now.meta (R.told rack)
-        (R.told (store_rack it.store))) }
-    ensures refused_allowed { IfErr result (λ refused. OnlyMountCalls standing.now.meta
-        (R.told rack) (R.told refused.rack)) }
-    ensures metas { IfOk result (λ it. StandsThroughMount standing.now.side
-        (log_state standing.now.gate_open standing.now.meta batch) (R.told rack)
-        (R.told (store_rack it.store))) }
-    ensures refused_metas { IfErr result (λ refused. StandsThroughMount standing.now.side
-        (log_state standing.now.gate_open standing.now.meta batch) (R.told rack)
-        (R.told refused.rack)) }
-    ensures holds { IfOk result (λ it. (slots : ℕ) → RecoversHeld slots standing.now.side
-        (log_state standing.now.gate_open standing.now.meta batch) (R.told rack)
-        (R.told (store_rack it.store))) }
-    ensures refused { IfErr result (λ refused. (slots : ℕ) → RecoversHeld slots
-        standing.now.side (log_state standing.now.gate_open standing.now.meta batch)
-        (R.told rack) (R.told refused.rack)) }
     ensures ends { IfOk result (λ it. (stands : MetaType) × (lost : Option ℕ)
         × (it.meta ≡ with_loss_of stands lost) × (stands.version ≡ 2)
         × ((mark : Option ℕ) × (stands ≡ with_mark standing.now.meta mark)

@@ -1,21 +1,18 @@
 //! Before the array is served a disk that is absent is marked gone, and a meta of version 1 is
 //! brought to version 2.
-ghost use Rattle.std.specs.Prelude.{◌≡◌, ◌≢◌, ℕ, ◌-◌, ◌<◌, ◌≤◌, [], true, false, Option, Some, None, OnOk, IfErr, IfOk};
-ghost use Rattle.paraid_base.specs.Log.{worn_at};
+ghost use Rattle.std.specs.Prelude.{◌≡◌, ◌≢◌, ℕ, ◌-◌, ◌<◌, ◌≤◌, [], Option, Some, None, IfOk};
 ghost use Rattle.paraid_rack.specs.declared.call.Power.TheVariants.{Absent};
 ghost use Rattle.paraid_rack.specs.Told.{Ran};
 ghost use Rattle.paraid_rack.specs.Trail.{Trail};
 ghost use Rattle.paraid_recover.specs.Bearing.{CanBear, EndsBorne, IsBorneAgainst, IsNamedLog, IsNewlyNamed};
-ghost use Rattle.paraid_recover.specs.HeldMoments.{EndsHeld, Recovers, RecoversHeld};
-ghost use Rattle.paraid_recover.specs.MountCalls.{OnlyMountCalls};
+ghost use Rattle.paraid_recover.specs.HeldMoments.{EndsHeld, Recovers};
 ghost use Rattle.paraid_recover.specs.Quiet.{IsInLog};
 ghost use Rattle.paraid_recover.specs.RecoveryMark.{renewed as renewed_of, to_mark, with_mark};
-ghost use Rattle.paraid_recover.specs.StandingMetas.{StandsInMoments};
 ghost use Rattle.paraid_record.specs.Range.{IsInRange};
 ghost use Rattle.paraid_image.specs.Out.{named_out as named_of};
 ghost use Rattle.paraid_image.specs.Sides.{LogState};
-ghost use Rattle.paraid_txn.specs.Losses.{AreGoneSince, StaySynced, AreFailedOrWell, IsOneOut, IsOutOfCommit, OnlyLosesSlots, AreTwoDownBeside};
-ghost use Rattle.paraid_txn.specs.Ready.{IsLogReady};
+ghost use Rattle.paraid_recover.specs.Steps.{CanMarkOut, KeepsStore, RecoversOn};
+ghost use Rattle.paraid_txn.specs.Losses.{StaySynced, IsOneOut, IsOutOfCommit};
 ghost use Rattle.paraid_txn.specs.Stores.{disks_of, epoch_of, named_of as named_by, store_rack};
 ghost use Rattle.paraid_txn.specs.Uses.{EachCall};
 
@@ -52,20 +49,13 @@ pub(crate) fn unmarked<R: Rack>(store: &Store<R>, meta: &Meta) -> Option<DiskNo>
 // marked. It gives the meta that stands then.
 fn renew<R: Rack>(store: &mut Store<R>, nothing: &Batch, meta: &Meta) -> Result<Meta, Two>
     requires empty { nothing.now ≡ [] }
-    requires fresh { meta.now.epoch < worn_at }
-    requires in_range { IsInRange meta.now }
-    requires exists { meta.now.setup.geometry.disks ≤ R.slot_count (store_rack store.old) }
-    requires disks { disks_of store.old ≡ meta.now.setup.geometry.disks }
-    requires named { named_by store.old ≡ named_of meta.now.out }
-    requires epoch { epoch_of store.old ≡ meta.now.epoch }
-    requires log { IsLogReady (named_of meta.now.out) (R.slot (store_rack store.old)) }
-    ensures slots { R.slot_count (store_rack store.new) ≡ R.slot_count (store_rack store.old) }
-    ensures disks { disks_of store.new ≡ disks_of store.old }
+    requires can { CanMarkOut store.old meta.now }
+    ensures kept { KeepsStore (IsOutOfCommit (λ e. (R.slot (store_rack store.old) e).power)
+        (disks_of store.old) (named_by store.old) None) store.old store.new result }
+    ensures recovers { RecoversOn meta.now store.old store.new }
     ensures given { IfOk result (λ m. m ≡ renewed_of meta.now) }
     ensures epoch { IfOk result (λ m. m.epoch ≡ epoch_of store.new) }
     ensures named { IfOk result (λ m. named_of m.out ≡ named_by store.new) }
-    ensures powers { OnlyLosesSlots (R.slot (store_rack store.old)) (R.slot (store_rack store.new)) }
-    ensures each { AreFailedOrWell (R.slot (store_rack store.old)) (R.slot (store_rack store.new)) }
     ensures synced { IfOk result (λ m. StaySynced (R.slot (store_rack store.old))
         (R.slot (store_rack store.new))) }
     ensures one { IfOk result (λ m. IsOneOut (disks_of store.old) (named_by store.old)
@@ -73,21 +63,6 @@ fn renew<R: Rack>(store: &mut Store<R>, nothing: &Batch, meta: &Meta) -> Result<
         → IsOneOut (disks_of store.old) (named_of m.out) (R.slot (store_rack store.new))) }
     ensures calls { Ran (R.told (store_rack store.old)) (R.told (store_rack store.new))
         (EachCall (IsInLog (disks_of store.old))) }
-    ensures allowed { OnlyMountCalls meta.now (R.told (store_rack store.old))
-        (R.told (store_rack store.new)) }
-    ensures two { IfErr result (AreTwoDownBeside (IsOutOfCommit (λ e. (R.slot (store_rack store.old) e).power)
-        (disks_of store.old) (named_by store.old) None)
-        (R.slot (store_rack store.old)) (R.slot (store_rack store.new))) }
-    ensures gone { IfErr result (AreGoneSince (IsOutOfCommit (λ e. (R.slot (store_rack store.old) e).power)
-        (disks_of store.old) (named_by store.old) None)
-        (R.slot (store_rack store.old)) (R.slot (store_rack store.new))) }
-    ensures holds { (slots x : ℕ) (said : LogState) (old : Option Trail) → said.meta ≡ meta.now
-        → Recovers slots x said old (R.told (store_rack store.old))
-        → RecoversHeld slots x said old (R.told (store_rack store.new)) }
-    ensures metas { (slots x : ℕ) (said : LogState) (old : Option Trail) → said.meta ≡ meta.now
-        → Recovers slots x said old (R.told (store_rack store.old))
-        → StandsInMoments slots x said old (R.told (store_rack store.old))
-        → StandsInMoments slots x said old (R.told (store_rack store.new)) }
     ensures ends { IfOk result (λ m. (slots x : ℕ) (said : LogState) (old : Option Trail)
         → said.meta ≡ meta.now → Recovers slots x said old (R.told (store_rack store.old))
         → EndsHeld slots x said m old (R.told (store_rack store.new))) }
@@ -108,22 +83,16 @@ fn renew<R: Rack>(store: &mut Store<R>, nothing: &Batch, meta: &Meta) -> Result<
 // Where there is none to mark, a meta of version 1 is brought to version 2 by a commit of its own.
 fn mark_or_renew<R: Rack>(store: &mut Store<R>, nothing: &Batch, meta: &Meta) -> Result<Meta, Two>
     requires empty { nothing.now ≡ [] }
-    requires fresh { meta.now.epoch < worn_at }
-    requires in_range { IsInRange meta.now }
-    requires exists { meta.now.setup.geometry.disks ≤ R.slot_count (store_rack store.old) }
-    requires disks { disks_of store.old ≡ meta.now.setup.geometry.disks }
-    requires named { named_by store.old ≡ named_of meta.now.out }
-    requires epoch { epoch_of store.old ≡ meta.now.epoch }
-    requires log { IsLogReady (named_of meta.now.out) (R.slot (store_rack store.old)) }
+    requires can { CanMarkOut store.old meta.now }
     requires witness { named_of meta.now.out ≢ Some 2 → CanBear (R.slot (store_rack store.old)) }
-    ensures slots { R.slot_count (store_rack store.new) ≡ R.slot_count (store_rack store.old) }
-    ensures disks { disks_of store.new ≡ disks_of store.old }
+    ensures kept { KeepsStore (IsOutOfCommit (λ e. (R.slot (store_rack store.old) e).power)
+        (disks_of store.old) (named_by store.old)
+        (to_mark (λ d. (R.slot (store_rack store.old) d).power) meta.now)) store.old store.new result }
+    ensures recovers { RecoversOn meta.now store.old store.new }
     ensures given { IfOk result (λ m. m ≡ with_mark meta.now
         (to_mark (λ d. (R.slot (store_rack store.old) d).power) meta.now)) }
     ensures epoch { IfOk result (λ m. m.epoch ≡ epoch_of store.new) }
     ensures named { IfOk result (λ m. named_of m.out ≡ named_by store.new) }
-    ensures powers { OnlyLosesSlots (R.slot (store_rack store.old)) (R.slot (store_rack store.new)) }
-    ensures each { AreFailedOrWell (R.slot (store_rack store.old)) (R.slot (store_rack store.new)) }
     ensures synced { IfOk result (λ m. StaySynced (R.slot (store_rack store.old))
         (R.slot (store_rack store.new))) }
     ensures one { IfOk result (λ m. IsOneOut (disks_of store.old) (named_by store.old)
@@ -131,23 +100,6 @@ fn mark_or_renew<R: Rack>(store: &mut Store<R>, nothing: &Batch, meta: &Meta) ->
         → IsOneOut (disks_of store.old) (named_of m.out) (R.slot (store_rack store.new))) }
     ensures calls { Ran (R.told (store_rack store.old)) (R.told (store_rack store.new))
         (EachCall (IsInLog (disks_of store.old))) }
-    ensures allowed { OnlyMountCalls meta.now (R.told (store_rack store.old))
-        (R.told (store_rack store.new)) }
-    ensures two { IfErr result (AreTwoDownBeside (IsOutOfCommit (λ e. (R.slot (store_rack store.old) e).power)
-        (disks_of store.old) (named_by store.old)
-        (to_mark (λ d. (R.slot (store_rack store.old) d).power) meta.now))
-        (R.slot (store_rack store.old)) (R.slot (store_rack store.new))) }
-    ensures gone { IfErr result (AreGoneSince (IsOutOfCommit (λ e. (R.slot (store_rack store.old) e).power)
-        (disks_of store.old) (named_by store.old)
-        (to_mark (λ d. (R.slot (store_rack store.old) d).power) meta.now))
-        (R.slot (store_rack store.old)) (R.slot (store_rack store.new))) }
-    ensures holds { (slots x : ℕ) (said : LogState) (old : Option Trail) → said.meta ≡ meta.now
-        → Recovers slots x said old (R.told (store_rack store.old))
-        → RecoversHeld slots x said old (R.told (store_rack store.new)) }
-    ensures metas { (slots x : ℕ) (said : LogState) (old : Option Trail) → said.meta ≡ meta.now
-        → Recovers slots x said old (R.told (store_rack store.old))
-        → StandsInMoments slots x said old (R.told (store_rack store.old))
-        → StandsInMoments slots x said old (R.told (store_rack store.new)) }
     ensures ends { IfOk result (λ m. (slots x : ℕ) (said : LogState) (old : Option Trail)
         → said.meta ≡ meta.now → Recovers slots x said old (R.told (store_rack store.old))
         → EndsHeld slots x said m old (R.told (store_rack store.new))) }
@@ -175,22 +127,16 @@ fn mark_or_renew<R: Rack>(store: &mut Store<R>, nothing: &Batch, meta: &Meta) ->
 /// syncs were made since.
 pub fn mark_out<R: Rack>(store: &mut Store<R>, nothing: &Batch, meta: &Meta) -> Result<Meta, Two>
     requires empty { nothing.now ≡ [] }
-    requires fresh { meta.now.epoch < worn_at }
-    requires in_range { IsInRange meta.now }
-    requires exists { meta.now.setup.geometry.disks ≤ R.slot_count (store_rack store.old) }
-    requires disks { disks_of store.old ≡ meta.now.setup.geometry.disks }
-    requires named { named_by store.old ≡ named_of meta.now.out }
-    requires epoch { epoch_of store.old ≡ meta.now.epoch }
-    requires log { IsLogReady (named_of meta.now.out) (R.slot (store_rack store.old)) }
+    requires can { CanMarkOut store.old meta.now }
     requires witness { named_of meta.now.out ≢ Some 2 → CanBear (R.slot (store_rack store.old)) }
-    ensures slots { R.slot_count (store_rack store.new) ≡ R.slot_count (store_rack store.old) }
-    ensures disks { disks_of store.new ≡ disks_of store.old }
+    ensures kept { KeepsStore (IsOutOfCommit (λ e. (R.slot (store_rack store.old) e).power)
+        (disks_of store.old) (named_by store.old)
+        (to_mark (λ d. (R.slot (store_rack store.old) d).power) meta.now)) store.old store.new result }
+    ensures recovers { RecoversOn meta.now store.old store.new }
     ensures given { IfOk result (λ m. m ≡ with_mark meta.now
         (to_mark (λ d. (R.slot (store_rack store.old) d).power) meta.now)) }
     ensures epoch { IfOk result (λ m. m.epoch ≡ epoch_of store.new) }
     ensures named { IfOk result (λ m. named_of m.out ≡ named_by store.new) }
-    ensures powers { OnlyLosesSlots (R.slot (store_rack store.old)) (R.slot (store_rack store.new)) }
-    ensures each { AreFailedOrWell (R.slot (store_rack store.old)) (R.slot (store_rack store.new)) }
     ensures synced { IfOk result (λ m. StaySynced (R.slot (store_rack store.old))
         (R.slot (store_rack store.new))) }
     ensures one { IfOk result (λ m. IsOneOut (disks_of store.old) (named_by store.old)
@@ -198,23 +144,6 @@ pub fn mark_out<R: Rack>(store: &mut Store<R>, nothing: &Batch, meta: &Meta) -> 
         → IsOneOut (disks_of store.old) (named_of m.out) (R.slot (store_rack store.new))) }
     ensures calls { Ran (R.told (store_rack store.old)) (R.told (store_rack store.new))
         (EachCall (IsInLog (disks_of store.old))) }
-    ensures allowed { OnlyMountCalls meta.now (R.told (store_rack store.old))
-        (R.told (store_rack store.new)) }
-    ensures two { IfErr result (AreTwoDownBeside (IsOutOfCommit (λ e. (R.slot (store_rack store.old) e).power)
-        (disks_of store.old) (named_by store.old)
-        (to_mark (λ d. (R.slot (store_rack store.old) d).power) meta.now))
-        (R.slot (store_rack store.old)) (R.slot (store_rack store.new))) }
-    ensures gone { IfErr result (AreGoneSince (IsOutOfCommit (λ e. (R.slot (store_rack store.old) e).power)
-        (disks_of store.old) (named_by store.old)
-        (to_mark (λ d. (R.slot (store_rack store.old) d).power) meta.now))
-        (R.slot (store_rack store.old)) (R.slot (store_rack store.new))) }
-    ensures holds { (slots x : ℕ) (said : LogState) (old : Option Trail) → said.meta ≡ meta.now
-        → Recovers slots x said old (R.told (store_rack store.old))
-        → RecoversHeld slots x said old (R.told (store_rack store.new)) }
-    ensures metas { (slots x : ℕ) (said : LogState) (old : Option Trail) → said.meta ≡ meta.now
-        → Recovers slots x said old (R.told (store_rack store.old))
-        → StandsInMoments slots x said old (R.told (store_rack store.old))
-        → StandsInMoments slots x said old (R.told (store_rack store.new)) }
     ensures ends { IfOk result (λ m. (slots x : ℕ) (said : LogState) (old : Option Trail)
         → said.meta ≡ meta.now → Recovers slots x said old (R.told (store_rack store.old))
         → EndsHeld slots x said m old (R.told (store_rack store.new))) }

@@ -110,8 +110,28 @@ fn bear<R: Rack>(store: &mut Store<R>, disk: DiskNo) -> Result<(), Two>
     }
 }
 
+// The same, unless the store knows that it is borne; it knows so then.
+fn bear_once<R: Rack>(store: &mut Store<R>, disk: DiskNo) -> Result<(), Two>
+    requires log_disk { disk < 2 }
+    requires exists { 2 < R.slot_count (store_rack store.old) }
+    requires ready { CanBear (R.slot (store_rack store.old)) }
+    ensures borne { HasBorne R.Rack (Some disk) store.old store.new (is_ok result) }
+    ensures two { IfErr result (λ two. two ≡ record { first = disk; second = 2 }) }
+{
+    if store.knows_borne(disk) {
+        return Ok(());
+    }
+    match bear(store, disk) {
+        Ok(()) => {
+            store.note_borne(disk);
+            Ok(())
+        }
+        Err(two) => Err(two),
+    }
+}
+
 /// Where the meta names out a log disk, the place of the witness against it on disk 2 is read, and
-/// opened if it is closed.
+/// opened if it is closed; unless the store knows that it is open.
 pub fn bear_named<R: Rack>(store: &mut Store<R>, meta: &Meta) -> Result<(), Two>
     requires exists { 2 < R.slot_count (store_rack store.old) }
     requires ready { (x : ℕ) → IsNamedLog (named_of meta.now.out) x
@@ -126,5 +146,5 @@ pub fn bear_named<R: Rack>(store: &mut Store<R>, meta: &Meta) -> Result<(), Two>
     if disk >= 2 {
         return Ok(());
     }
-    bear(store, disk)
+    bear_once(store, disk)
 }

@@ -1,22 +1,26 @@
 -- What a check sees of a core, and what its reads leave of it.
-use Rattle.std.specs.Prelude.{◌≡◌, ℕ, ◌<◌, [], Option, Some}
+use Rattle.std.specs.Prelude.{◌≡◌, ℕ, ◌<◌, [], Option, Some, Result, IfErr}
 use Rattle.paraid_base.specs.declared.fault.Two.{Two}
+use Rattle.paraid_base.specs.History.{History}
 use Rattle.paraid_dirty.specs.Table.{is_dirty}
 use Rattle.paraid_rack.specs.declared.call.Power.TheVariants.{Spinning}
 use Rattle.paraid_rack.specs.Disks.{Disks}
+use Rattle.paraid_rack.specs.declared.rack.Rack.{Ghosts}
 use Rattle.paraid_rack.specs.Slots.{Slot}
+use Rattle.paraid_rack.specs.Told.{CrashTriple, Ran}
 use Rattle.paraid_rack.specs.Trail.{Trail, now}
 use Rattle.paraid_image.specs.Content.{view_by}
 use Rattle.paraid_image.specs.Out.{named_out}
 use Rattle.paraid_image.specs.Spot.{View}
 use Rattle.paraid_image.specs.Standing.{contents}
 use Rattle.paraid_txn.specs.Losses.{AreTwoDown, OnlyLosesSlots, StaySynced}
-use Rattle.paraid_txn.specs.Stores.{store_rack}
+use Rattle.paraid_txn.specs.Stores.{named_of, store_rack}
 use Rattle.paraid_core.specs.declared.staged.Core.{Core}
 use Rattle.paraid_core.specs.Calls.{MakesDataCalls}
-use Rattle.paraid_core.specs.Cores.{CanCoreServe, IsCoreReady, core_down}
+use Rattle.paraid_core.specs.Cores.{CanCoreServe, CoreStandsFor, IsCoreHeld, IsCoreReady, core_down}
+use Rattle.paraid_core.specs.Down.{IsDownAfter}
 use Rattle.paraid_core.specs.Lost.{CoreLosesDisk, CoreMarksLost, CoreTellsLosses, MakesReads}
-use Rattle.paraid_core.specs.Steps.{IsHeldStill, LeavesCore, StandsStill}
+use Rattle.paraid_core.specs.Steps.{AreUnsyncedCopied, IsHeldStill, LeavesCore, StandsStill}
 use Rattle.paraid_core.specs.Units.{IsRebuilding}
 use Rattle.paraid_scrub.specs.declared.ending.Ending.{Ending}
 use Rattle.paraid_scrub.specs.declared.ending.Ending.TheVariants.{Lost, Two as LostTwo}
@@ -83,3 +87,38 @@ pub record LooksTillTwo {R : Type 0} {g : _} (count : R → ℕ) (slot : R → �
 abbrev pub LooksTill : {R : Type 0} {g : _} → (R → ℕ) → (R → ℕ → Slot) → (R → Option Trail) → Core R g → Core R g → Ending → Type 0
 LooksTill count slot told old new Lost = LooksTillLost count slot told old new
 LooksTill count slot told old new (LostTwo two) = LooksTillTwo count slot told old new two
+
+-- Whatever becomes of a check: it makes reads alone, and each stop leaves what it left before. The rack has as many slots, a
+-- slot changes only as it becomes absent, and nothing becomes unsynced. Where two disks are down, it is told which was lost
+-- first.
+pub record LeavesChecked {R A : Type 0} {g : Ghosts R} (old new : Core R g) (result : Result A Two) : Type 0 where
+  pub slots : g.slot_count (store_rack new.store) ≡ g.slot_count (store_rack old.store)
+  pub spared : OnlyLosesSlots (g.slot (store_rack old.store)) (g.slot (store_rack new.store))
+  pub still_synced : StaySynced (g.slot (store_rack old.store)) (g.slot (store_rack new.store))
+  pub copied : new.copied ≡ old.copied
+  pub two : IfErr result (AreTwoDown (core_down old) (g.slot (store_rack old.store)) (g.slot (store_rack new.store)))
+  pub tells : IfErr result (CoreTellsLosses g.told (named_out old.meta.out) old new)
+  pub calls : MakesDataCalls g.told old new
+  pub reads : MakesReads g.told old new
+  pub moments : (h : History) (lo : ℕ) → Ran (g.told (store_rack old.store)) (g.told (store_rack new.store))
+      (CrashTriple (IsCoreHeld g.slot_count old h lo) (CoreStandsFor g.slot_count old h lo) (IsCoreHeld g.slot_count old h lo))
+  pub moments_since : IsHeldStill g.slot_count g.told old new
+
+-- A check that made its counts, all or a first part of them: the core serves on as it was, but for the mark of a disk that was
+-- lost, and the writes are as they were.
+pub record ServesChecked {R : Type 0} {g : Ghosts R} (old new : Core R g) : Type 0 where
+  pub draft : new.draft ≡ old.draft
+  pub batch : new.batch ≡ old.batch
+  pub table : new.dirty ≡ old.dirty
+  pub named : named_of new.store ≡ named_of old.store
+  pub ready : IsCoreReady g.slot_count g.slot new
+  pub serves : CanCoreServe g.slot new
+  pub setup : new.meta.setup ≡ old.meta.setup
+  pub writes : new.meta.writes ≡ old.meta.writes
+  pub epoch : new.meta.epoch ≡ old.meta.epoch
+  pub down : IsDownAfter (core_down old) (core_down new) (g.slot (store_rack old.store)) (g.slot (store_rack new.store))
+  pub marks : CoreMarksLost g.slot old new
+  pub unsynced : AreUnsyncedCopied g.slot old → AreUnsyncedCopied g.slot new
+  pub stands : (h : History) (lo : ℕ) → Ran (g.told (store_rack old.store)) (g.told (store_rack new.store))
+      (CrashTriple (IsCoreHeld g.slot_count old h lo) (CoreStandsFor g.slot_count old h lo) (CoreStandsFor g.slot_count new h lo))
+  pub since : StandsStill g.slot_count g.told old new

@@ -1,29 +1,19 @@
 //! A check of a core.
-ghost use Rattle.std.specs.Prelude.{◌≡◌, ℕ, [], OnOk, IfOk, IfErr, Some, IsSome, IsTrue, true, false};
+ghost use Rattle.std.specs.Prelude.{◌≡◌, ℕ, OnOk, IfOk, Some, IsSome, IsTrue, true, false};
 ghost use Rattle.paraid_base.specs.History.{History};
-ghost use Rattle.paraid_rack.specs.declared.call.Power.TheVariants.{Spinning};
-ghost use Rattle.paraid_rack.specs.Told.{Ran, CrashTriple};
 ghost use Rattle.paraid_rack.specs.Trail.{Trail, now};
 ghost use Rattle.paraid_record.specs.declared.meta.Meta.{Meta as MetaType};
-ghost use Rattle.paraid_record.specs.Range.{IsInRange};
 ghost use Rattle.paraid_image.specs.Content.{view_by};
-ghost use Rattle.paraid_image.specs.Out.{named_out as named_out_of};
 ghost use Rattle.paraid_image.specs.Sound.{ContentOk};
 ghost use Rattle.paraid_image.specs.Standing.{Contents};
 ghost use Rattle.paraid_rack.specs.declared.call.Power.{Power as PowerType};
 ghost use Rattle.paraid_rack.specs.Disks.{is_present};
 ghost use Rattle.paraid_base.specs.declared.state.Out.TheVariants.{Fresh};
-ghost use Rattle.paraid_txn.specs.Losses.{AreTwoDown, OnlyLosesSlots, StaySynced};
-ghost use Rattle.paraid_txn.specs.Stores.{named_of};
-ghost use Rattle.paraid_core.specs.Calls.{MakesDataCalls};
-ghost use Rattle.paraid_core.specs.Cores.{CanCoreServe, CoreStandsFor, IsCoreHeld, IsCoreHeldSinceCommit, IsCoreReady, batch_of, copied_of, core_down, core_rack, core_table, draft_of, meta_of, store_of};
-ghost use Rattle.paraid_core.specs.Down.{IsDownAfter};
-ghost use Rattle.paraid_core.specs.Lost.{CoreLosesDisk, CoreMarksLost, CoreTellsLosses, MakesReads};
-ghost use Rattle.paraid_core.specs.Steps.{AreUnsyncedCopied};
-ghost use Rattle.paraid_core.specs.Units.{IsRebuilding};
+ghost use Rattle.paraid_core.specs.Cores.{CoreStandsFor, core_rack, meta_of};
+ghost use Rattle.paraid_core.specs.Lost.{CoreLosesDisk};
 ghost use Rattle.paraid_scrub.specs.Counts.{AreCounts, AreWithinMembers, all_members, no_faults};
 ghost use Rattle.paraid_scrub.specs.declared.kind.CheckReport.{CheckReport as ReportType};
-ghost use Rattle.paraid_scrub.specs.Cores.{HasMapBits, core_view};
+ghost use Rattle.paraid_scrub.specs.Cores.{CanBeChecked, HasMapBits, LeavesChecked, ServesChecked, core_view};
 
 use crate::ending::Ending;
 use crate::five::{Checked, count_all};
@@ -87,46 +77,9 @@ impl<R: Rack> Stored for Core<R> {
 /// the rebuilt units and the blocks of the map, each in ascending order. Only reads follow. A disk that is lost inside
 /// ends it with the counts so far.
 pub fn check<R: Rack>(core: &mut Core<R>) -> Result<Checked, Two>
-    requires ready { IsCoreReady R.slot_count R.slot core.old }
-    requires serves { CanCoreServe R.slot core.old }
-    requires no_draft { draft_of core.old ≡ [] }
-    requires nothing { batch_of core.old ≡ [] }
-    requires fresh { (d : ℕ) → IsRebuilding (meta_of core.old) d → (R.slot (core_rack core.old) d).power ≡ Spinning }
-
-    ensures draft { OnOk result (draft_of core.new ≡ draft_of core.old) }
-    ensures slots { R.slot_count (core_rack core.new) ≡ R.slot_count (core_rack core.old) }
-    ensures batch { OnOk result (batch_of core.new ≡ batch_of core.old) }
-    ensures table { OnOk result (core_table core.new ≡ core_table core.old) }
-    ensures named { OnOk result (named_of (store_of core.new) ≡ named_of (store_of core.old)) }
-    ensures copied { copied_of core.new ≡ copied_of core.old }
-    ensures ready { OnOk result (IsCoreReady R.slot_count R.slot core.new) }
-    ensures serves { OnOk result (CanCoreServe R.slot core.new) }
-    ensures setup { OnOk result ((meta_of core.new).setup ≡ (meta_of core.old).setup) }
-    ensures writes { OnOk result ((meta_of core.new).writes ≡ (meta_of core.old).writes) }
-    ensures epoch { OnOk result ((meta_of core.new).epoch ≡ (meta_of core.old).epoch) }
-    ensures down { OnOk result (IsDownAfter (core_down core.old) (core_down core.new)
-        (R.slot (core_rack core.old)) (R.slot (core_rack core.new))) }
-    ensures spared { OnlyLosesSlots (R.slot (core_rack core.old)) (R.slot (core_rack core.new)) }
-    ensures still_synced { StaySynced (R.slot (core_rack core.old)) (R.slot (core_rack core.new)) }
-    ensures two { IfErr result (AreTwoDown (core_down core.old) (R.slot (core_rack core.old)) (R.slot (core_rack core.new))) }
-    ensures tells { IfErr result (CoreTellsLosses R.told (named_out_of (meta_of core.old).out) core.old core.new) }
-    ensures calls { MakesDataCalls R.told core.old core.new }
-    ensures reads { MakesReads R.told core.old core.new }
-    ensures marks { OnOk result (CoreMarksLost R.slot core.old core.new) }
-    ensures unsynced { OnOk result (AreUnsyncedCopied R.slot core.old → AreUnsyncedCopied R.slot core.new) }
-    ensures moments { (h : History) (lo : ℕ) → Ran (R.told (core_rack core.old)) (R.told (core_rack core.new))
-        (CrashTriple (IsCoreHeld R.slot_count core.old h lo) (CoreStandsFor R.slot_count core.old h lo)
-        (IsCoreHeld R.slot_count core.old h lo)) }
-    ensures stands { OnOk result ((h : History) (lo : ℕ) → Ran (R.told (core_rack core.old)) (R.told (core_rack core.new))
-        (CrashTriple (IsCoreHeld R.slot_count core.old h lo) (CoreStandsFor R.slot_count core.old h lo)
-        (CoreStandsFor R.slot_count core.new h lo))) }
-    ensures moments_since { (h : History) (lo : ℕ) → Ran (R.told (core_rack core.old)) (R.told (core_rack core.new))
-        (CrashTriple (IsCoreHeldSinceCommit R.slot_count core.old h lo) (CoreStandsFor R.slot_count core.old h lo)
-        (IsCoreHeldSinceCommit R.slot_count core.old h lo)) }
-    ensures since { OnOk result ((h : History) (lo : ℕ) → Ran (R.told (core_rack core.old)) (R.told (core_rack core.new))
-        (CrashTriple (IsCoreHeldSinceCommit R.slot_count core.old h lo) (CoreStandsFor R.slot_count core.old h lo)
-        (CoreStandsFor R.slot_count core.new h lo))) }
-
+    requires can { CanBeChecked R.slot_count R.slot core.old }
+    ensures leaves { LeavesChecked core.old core.new result }
+    ensures serves { OnOk result (ServesChecked core.old core.new) }
     // The counts by the view of the core as the counting begins. No history is asked for: an array changed by hand is counted too.
     ensures counts { IfOk result (λ checked. (t : Trail) → R.told (core_rack core.old) ≡ Some t → IsSome (R.told (core_rack core.new))
         → HasMapBits core.old (core_view core.old (now t))

@@ -27,7 +27,7 @@ value_missing None b bytes is = let z : None ≡ Some (Value b bytes) = is in cc
 value_missing (Some x) b bytes is = let z : NoBlock x ≡ Value b bytes = cc in cc
 
 -- what is missing of one block
-missing_one : (count block b : ℕ) → missing_answer (first_missing count (block ∷ [])) ≡ Some (NoBlock b) → (b ≡ block) × (count ≤ block)
+pub missing_one : (count block b : ℕ) → missing_answer (first_missing count (block ∷ [])) ≡ Some (NoBlock b) → (b ≡ block) × (count ≤ block)
 missing_one count block b is = by (nat_lt block count) refl
   where
     by : (t : Bool) → nat_lt block count ≡ t → (b ≡ block) × (count ≤ block)
@@ -50,7 +50,7 @@ read_missing old new block b it = by it.reason
     by (worn count none asked many wear is same) = let z : NoBlock b ≡ Halted (Worn count) = is in absurd cc
     by (quiet takes is same) = missing_one (block_count old.setup) block b is
     by (done takes busy does) = absurd does
-    by (two pair takes busy is lost) = let z : NoBlock b ≡ Halted (HaltTwo pair) = is in absurd cc
+    by (two pair takes asked busy is lost used) = let z : NoBlock b ≡ Halted (HaltTwo pair) = is in absurd cc
     by (bad is answer same) = let z : Read block ≡ Bad = is in absurd cc
 
 pub read_there : (old new : Shown) (block b : ℕ) (bytes : Block) → HasCause old (Read block) (Value b bytes) new → block < block_count old.setup
@@ -61,7 +61,7 @@ read_there old new block b bytes it = by it.reason
     by (worn count none asked many wear is same) = let z : Value b bytes ≡ Halted (Worn count) = is in absurd cc
     by (quiet takes is same) = absurd (value_missing (first_missing (block_count old.setup) (block ∷ [])) b bytes is)
     by (done takes busy does) = none_missing (block_count old.setup) block busy
-    by (two pair takes busy is lost) = let z : Value b bytes ≡ Halted (HaltTwo pair) = is in absurd cc
+    by (two pair takes asked busy is lost used) = let z : Value b bytes ≡ Halted (HaltTwo pair) = is in absurd cc
     by (bad is answer same) = let z : Read block ≡ Bad = is in absurd cc
 
 -- and after a halt each event is answered by it, with nothing changed
@@ -76,7 +76,7 @@ halted_again old new event answer halt good was it = by it.reason
     by (worn count none asked many wear is same) = gone none
     by (quiet takes is same) = gone takes.going
     by (done takes busy does) = gone takes.going
-    by (two pair takes busy is lost) = gone takes.going
+    by (two pair takes asked busy is lost used) = gone takes.going
     by (bad is told same) = absurd (good is)
 
 -- the setup never changes in a run

@@ -13,24 +13,11 @@ use Rattle.paraid_trace.specs.declared.asked.Asked.TheVariants.{Read as AskRead,
 use Rattle.paraid_trace.specs.LineEvents.{event_of}
 use Rattle.paraid_trace.specs.Replies.{reply_of}
 use Rattle.paraid_serve.specs.Causes.{HasCause, HaveCauses, Shown}
-use Rattle.paraid_serve.specs.Form.{AreAnswersTo, HasAnswers, is_answer_to, texts}
+use Rattle.paraid_serve.specs.Form.{HasAnswers, texts}
 use Rattle.paraid_serve.specs.Causes.HasReason.{again as reason_again, bad as reason_bad}
 use Rattle.paraid_session.proofs.FaultLemmas.{same_counts}
 use Rattle.paraid_serve.specs.Stretch.{events_in}
 use Rattle.paraid_serve.proofs.StretchLemmas.{events_in-push}
-
-pub halted_kind : (event : Event) (halt : Halt) → event ≢ Bad → is_answer_to event (Halted halt) ≡ true
-halted_kind (Read block) halt not = refl
-halted_kind (Write pairs) halt not = refl
-halted_kind Flush halt not = refl
-halted_kind Tick halt not = refl
-halted_kind Up halt not = refl
-halted_kind Down halt not = refl
-halted_kind (Fail disk) halt not = refl
-halted_kind (Replace disk) halt not = refl
-halted_kind AskState halt not = refl
-halted_kind AskEnergy halt not = refl
-halted_kind Bad halt not = absurd (not refl)
 
 -- what is asked for is no event only where that is said
 pub not_bad : (a : Asked) (p : Pairs) → (a ≡ AskBad → ⊥) → event_with a p ≢ Bad
@@ -46,22 +33,16 @@ not_bad AskTellState p good e = cc
 not_bad AskTellEnergy p good e = cc
 not_bad AskBad p good e = absurd (good refl)
 
-pub kinds_push : (events : List Event) (answers : List Answer) (event : Event) (answer : Answer) → AreAnswersTo events answers → is_answer_to event answer ≡ true → AreAnswersTo (events ++ event ∷ []) (answers ++ answer ∷ [])
-kinds_push [] [] event answer all is = (is, tt)
-kinds_push [] (a ∷ answers) event answer all is = absurd all
-kinds_push (e ∷ events) [] event answer all is = absurd all
-kinds_push (e ∷ events) (a ∷ answers) event answer all is = (all.0, kinds_push events answers event answer all.1 is)
-
 texts_push : (answers : List Answer) (answer : Answer) → texts (answers ++ answer ∷ []) ≡ texts answers ++ reply_of answer
 texts_push [] answer = append-nil (reply_of answer)
 texts_push (a ∷ answers) answer = ap (λ (l : List ℕ). reply_of a ++ l) (texts_push answers answer) ∙ sym (append_assoc (reply_of a) (texts answers) (reply_of answer))
 
 -- with nothing done
 pub bad_cause : (x : Shown) → HasCause x Bad IsBad x
-bad_cause x = record { reason = reason_bad refl refl refl; setup = refl; halt = λ not. absurd (not refl); later = same_counts x.slot }
+bad_cause x = record { reason = reason_bad refl refl refl; setup = refl; halt = λ not. absurd (not refl); gear = λ not. absurd (not refl); counts = record { samples = refl; served = refl }; later = same_counts x.slot }
 
 pub again_cause : (x : Shown) (event : Event) (halt : Halt) → event ≢ Bad → x.halt ≡ Some halt → HasCause x event (Halted halt) x
-again_cause x event halt good is = record { reason = reason_again halt is good refl refl; setup = refl; halt = λ not. is; later = same_counts x.slot }
+again_cause x event halt good is = record { reason = reason_again halt is good refl refl; setup = refl; halt = λ not. is; gear = λ not. refl; counts = tt; later = same_counts x.slot }
 
 pub causes_push : (old mid new : Shown) (events : List Event) (answers : List Answer) (event : Event) (answer : Answer) → HaveCauses old events answers mid → HasCause mid event answer new
     → HaveCauses old (events ++ event ∷ []) (answers ++ answer ∷ []) new
@@ -71,14 +52,12 @@ causes_push old mid new (e ∷ events) [] event answer all is = absurd all
 causes_push old mid new (e ∷ events) (a ∷ answers) event answer all is = (all.0, all.1, causes_push all.0 mid new events answers event answer all.2 is)
 
 pub no_answers : (x : Shown) → HasAnswers x [] [] x
-no_answers x = record { answers = []; kinds = tt; causes = refl; is = refl }
+no_answers x = record { answers = []; causes = refl; is = refl }
 
-pub answers_push : (old mid new : Shown) (lines : List (List ℕ)) (text line : List ℕ) (event : Event) (answer : Answer) → event ≡ event_of line → is_answer_to event answer ≡ true → HasCause mid event answer new → HasAnswers old lines text mid
+pub answers_push : (old mid new : Shown) (lines : List (List ℕ)) (text line : List ℕ) (event : Event) (answer : Answer) → event ≡ event_of line → HasCause mid event answer new → HasAnswers old lines text mid
     → HasAnswers old (lines ++ line ∷ []) (text ++ reply_of answer) new
-answers_push old mid new lines text line event answer same kind cause h = record {
+answers_push old mid new lines text line event answer same cause h = record {
   answers = h.answers ++ answer ∷ [];
-  kinds = subst (λ (es : List Event). AreAnswersTo es (h.answers ++ answer ∷ [])) (sym (events_in-push lines line))
-      (kinds_push (events_in lines) h.answers (event_of line) answer h.kinds (subst (λ (e : Event). is_answer_to e answer ≡ true) same kind));
   causes = subst (λ (es : List Event). HaveCauses old es (h.answers ++ answer ∷ []) new) (sym (events_in-push lines line))
       (causes_push old mid new (events_in lines) h.answers (event_of line) answer h.causes (subst (λ (e : Event). HasCause mid e answer new) same cause));
   is = ap (λ x. x ++ reply_of answer) h.is ∙ sym (texts_push h.answers answer);

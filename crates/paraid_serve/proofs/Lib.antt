@@ -11,3 +11,4 @@ pub mod OutcomeLemmas
 pub mod CauseLemmas
 pub mod StatusLemmas
 pub mod CauseLaws
+pub mod OwedLemmas

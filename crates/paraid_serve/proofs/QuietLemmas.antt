@@ -16,7 +16,7 @@ use Rattle.paraid_session.specs.Turn.{GoesOn, IsMark, IsTurn, Point, bounds_at, 
 use Rattle.paraid_session.specs.Turn.IsTurn.{answered}
 use Rattle.paraid_session.specs.Watch.{HoldsWhileServing, IsServing, down_from_out}
 
-used_nothing : (n : ℕ) → n ≤ 18446744073709551615 → n ≡ min (n + 0) 18446744073709551615
+pub used_nothing : (n : ℕ) → n ≤ 18446744073709551615 → n ≡ min (n + 0) 18446744073709551615
 used_nothing n small = grind (arith)
 
 state_step : (setup : Setup) (p : Point) → IsEventStep setup p.history p.energy p.state AskState None (IsState (state_status setup (length p.history) p.state) setup.geometry.disks) p.state

@@ -19,7 +19,7 @@ use Rattle.paraid_trace.specs.LineEvents.{event_of}
 use Rattle.paraid_trace.specs.Replies.{reply_of}
 use Rattle.paraid_serve.specs.Heard.{HearsLine, IsNextLine}
 use Rattle.paraid_serve.specs.Causes.{HasCause, Shown}
-use Rattle.paraid_serve.specs.Form.{HasAnswers, is_answer_to}
+use Rattle.paraid_serve.specs.Form.{HasAnswers}
 use Rattle.paraid_serve.specs.Session.{ServesSession}
 use Rattle.paraid_serve.proofs.FormLemmas.{answers_push, no_answers}
 use Rattle.paraid_serve.specs.Stretch.{EndsStretch, Stretch, events_in, replies, turn_with}
@@ -139,11 +139,11 @@ module _ {seen seen_now : Shown} {slots : ℕ} {setup : Setup} {first : Point �
         stands = more.stands;
       }
 
-  pub sofar_more : {event : Event} (h : HearsLine left after old new (Ok (Some event))) → new.fault ≡ None → (answer : Answer) → is_answer_to event answer ≡ true → (seen_later : Shown) → HasCause seen_now event answer seen_later → (later : Option Trail) (wrote : Option (List ℕ)) (new_stood : Point → Type 0) (slots_now : ℕ) (setup_now : Setup) → slots_now ≡ slots → setup_now ≡ setup
+  pub sofar_more : {event : Event} (h : HearsLine left after old new (Ok (Some event))) → new.fault ≡ None → (answer : Answer) → (seen_later : Shown) → HasCause seen_now event answer seen_later → (later : Option Trail) (wrote : Option (List ℕ)) (new_stood : Point → Type 0) (slots_now : ℕ) (setup_now : Setup) → slots_now ≡ slots → setup_now ≡ setup
       → (IsSome later → IsSome now) → ((q : Point) → stood q → Ran now later (GoesOn slots_now setup_now q event answer new_stood))
       → GrowsByBytes written wrote (reply_of answer)
       → Sofar seen seen_later slots setup first left_before after written_before wrote start later new_stood new
-  sofar_more {event} h fault answer kind seen_later cause later wrote new_stood slots_now setup_now same_slots same_setup tells goes grew =
+  sofar_more {event} h fault answer seen_later cause later wrote new_stood slots_now setup_now same_slots same_setup tells goes grew =
       let line : List ℕ = h.says.0 in
       let n : IsNextLine (old.rest ++ h.got) line new = h.says.2 in
       record {
@@ -159,7 +159,7 @@ module _ {seen seen_now : Shown} {slots : ℕ} {setup : Setup} {first : Point �
         limit = h.limit;
         count = omega (arith, s.count, h.taken, length-append s.bytes h.got);
         grows = GrowsByBytes-then written_before written wrote s.text (reply_of answer) s.grows grew;
-        form = answers_push seen seen_now seen_later s.answered s.text line event answer h.says.1 kind cause s.form;
+        form = answers_push seen seen_now seen_later s.answered s.text line event answer h.says.1 cause s.form;
         tells = λ t. s.tells (tells t);
         said = one_more h answer later new_stood slots_now setup_now same_slots same_setup tells goes;
       }
@@ -260,10 +260,10 @@ module _ {seen seen_now : Shown} {slots : ℕ} {setup : Setup} {first : Point �
   }
 
   -- an answer could not be written
-  pub ends_at_sink : {event : Event} (h : HearsLine left after old new (Ok (Some event))) → (answer : Answer) → is_answer_to event answer ≡ true → (seen_later : Shown) → HasCause seen_now event answer seen_later → (later : Option Trail) (wrote : Option (List ℕ)) (new_stood : Point → Type 0) (slots_now : ℕ) (setup_now : Setup) → slots_now ≡ slots → setup_now ≡ setup
+  pub ends_at_sink : {event : Event} (h : HearsLine left after old new (Ok (Some event))) → (answer : Answer) → (seen_later : Shown) → HasCause seen_now event answer seen_later → (later : Option Trail) (wrote : Option (List ℕ)) (new_stood : Point → Type 0) (slots_now : ℕ) (setup_now : Setup) → slots_now ≡ slots → setup_now ≡ setup
       → (IsSome later → IsSome now) → ((q : Point) → stood q → Ran now later (GoesOn slots_now setup_now q event answer new_stood))
       → (n : ℕ) → GrowsByBytes written wrote (take n (reply_of answer)) → ServesSession seen seen_later slots setup first start later left_before after written_before wrote (Err Sink)
-  ends_at_sink {event} h answer kind seen_later cause later wrote new_stood slots_now setup_now same_slots same_setup tells goes n grew =
+  ends_at_sink {event} h answer seen_later cause later wrote new_stood slots_now setup_now same_slots same_setup tells goes n grew =
       let line : List ℕ = h.says.0 in
       let next_line : IsNextLine (old.rest ++ h.got) line new = h.says.2 in
       let cut : lines_of (s.bytes ++ h.got) ≡ (s.answered ++ line ∷ []) ++ lines_of new.rest = s.lines h.got h.ended_before ∙ ap (λ x. s.answered ++ lines_of x) (sym (append-nil (old.rest ++ h.got))) ∙ ap (λ x. s.answered ++ x) (next_line.lines [] (λ e. refl)) ∙ ap (λ x. s.answered ++ line ∷ lines_of x) (append-nil new.rest) ∙ sym (append_assoc s.answered (line ∷ []) (lines_of new.rest)) in
@@ -282,7 +282,6 @@ module _ {seen seen_now : Shown} {slots : ℕ} {setup : Setup} {first : Point �
           mid = seen_now;
           told = s.form;
           answer = answer;
-          kind = subst (λ (e : Event). is_answer_to e answer ≡ true) h.says.1 kind;
           cause = subst (λ (e : Event). HasCause seen_now e answer seen_later) h.says.1 cause;
           count = n;
           cut = refl;

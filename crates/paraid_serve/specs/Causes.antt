@@ -1,5 +1,6 @@
 -- Why an array answers an event so, whatever its rack holds: by its meta before and after, and by the counts of its slots.
-use Rattle.std.specs.Prelude.{◌≡◌, ◌≢◌, ℕ, ◌+◌, ◌<◌, ◌≤◌, ◌⊎◌, ◌&&◌, nat_le, nat_lt, max, min, Bool, true, List, [], ◌∷◌, Option, Some, None, slice_index, if◌then◌else◌}
+use Rattle.std.specs.Prelude.{◌≡◌, ◌≢◌, ℕ, ◌+◌, ◌<◌, ◌≤◌, ◌⊎◌, ◌&&◌, nat_le, nat_lt, max, min, Bool, true, List, [], ◌∷◌, ◌++◌, Option, Some, None, slice_index, if◌then◌else◌}
+use Rattle.circular_buffer.specs.Buffer.{keep_last}
 use Rattle.paraid_base.specs.declared.event.Answer.{Answer}
 use Rattle.paraid_base.specs.declared.event.Answer.TheVariants.{Value, NoBlock, Wrote, Flushed, Ticked, Shift, Top, Lowest, Failed, Replaced, NoDisk, Out as IsOut, NotOut, NoFresh, State as IsState, Energy as EnergyUsed, Bad as IsBad, Halted}
 use Rattle.paraid_base.specs.declared.event.Event.{Event}
@@ -19,6 +20,10 @@ use Rattle.paraid_base.specs.Log.{worn_at}
 use Rattle.paraid_base.specs.Pairs.{pairs_of}
 use Rattle.paraid_base.specs.States.{phase_to}
 use Rattle.paraid_base.specs.Told.{HasRisen}
+use Rattle.paraid_gear.specs.declared.decision.Decision.{Decision}
+use Rattle.paraid_gear.specs.declared.decision.Decision.TheVariants.{Down as DecideDown, Stay, Up as DecideUp}
+use Rattle.paraid_gear.specs.Decision.{decision}
+use Rattle.paraid_gear.specs.ThreeWindows.{sample_of}
 use Rattle.paraid_image.specs.Mark.{meta_after_loss}
 use Rattle.paraid_image.specs.Out.{is_out, named_out}
 use Rattle.paraid_image.specs.Power.{PowerState}
@@ -29,26 +34,31 @@ use Rattle.paraid_rack.specs.Slots.{Slot}
 use Rattle.paraid_record.specs.declared.meta.Meta.{Meta}
 use Rattle.paraid_record.specs.declared.meta.Setup.{Setup}
 use Rattle.paraid_session.specs.Faults.{HaveNotFallen}
-use Rattle.paraid_session.specs.Turn.{halt_told, may_halt}
+use Rattle.paraid_session.specs.Turn.{halt_told, may_halt, own_energy}
 use Rattle.paraid_serve.specs.Lost.{AreTwoLost}
 
 -- What is seen of an array: what it is configured to be; the meta under which it serves, and its dirty cells; the slots of its
--- rack; the energy that it has used; and the halt that has come.
+-- rack; the gear that it tells; the energy that it has used; the last samples, as many as its longest window has; the requests since the last tick, no
+-- more than a sample may have; and the halt that has come.
 pub record Shown : Type 0 where
   pub setup : Setup
   pub meta : Meta
   pub dirty : ℕ → ℕ → Bool
   pub slot : ℕ → Slot
+  pub gear : ℕ
   pub energy : ℕ
+  pub samples : List ℕ
+  pub served : ℕ
   pub halt : Option Halt
 
--- it is seen with this setup, these slots and this halt
+-- It is seen with this setup, these slots and this halt. While there is none it tells the gear of its meta.
 pub record Shows (x : Shown) (own : Setup) (slots : ℕ → Slot) (ended : Option Halt) : Type 0 where
   pub setup : x.setup ≡ own
   pub slot : x.slot ≡ slots
   pub halt : x.halt ≡ ended
+  pub gear : x.halt ≡ None → x.gear ≡ x.meta.gear
 
--- the state that its events see, but for the samples
+-- the state that its events see, with what it has of the samples and the requests
 abbrev pub state_shown : Shown → PowerState
 state_shown x = record {
   gear = x.meta.gear;
@@ -58,8 +68,8 @@ state_shown x = record {
   out = x.meta.out;
   spins = x.meta.spins;
   ticks = x.meta.ticks;
-  samples = [];
-  served = 0;
+  samples = x.samples;
+  served = x.served;
 }
 
 -- the first of these blocks that there is not is answered
@@ -111,6 +121,10 @@ pub record IsUnchanged (old new : Shown) : Type 0 where
   pub dirty : new.dirty ≡ old.dirty
   pub slot : new.slot ≡ old.slot
   pub energy : KeepsEnergy old new
+
+-- a tick used its own energy, and no other event used any
+abbrev pub UsesOwn : Event → Shown → Shown → Type 0
+UsesOwn event old new = old.energy ≤ 18446744073709551615 → new.energy ≡ min (old.energy + own_energy old.setup (state_shown old) event) 18446744073709551615
 
 -- disk `d` has failed in the event
 abbrev pub HasFailed : Shown → Shown → ℕ → Type 0
@@ -210,9 +224,32 @@ MovesOn old new Flipped = (new.meta.phase ≡ IsSteady) × (new.meta.gear ≡ ph
 MovesOn old new (Lost d) = (named_out new.meta.out ≡ Some d) × HasFailed old new d
 MovesOn old new event = ⊥
 
--- it has counted one tick more
+-- the length of the longest of these windows
+abbrev pub longest : List ℕ → ℕ
+longest [] = 0
+longest (span ∷ spans) = max span (longest spans)
+
+-- It has counted one tick more. What it has served since the last one is a sample, and the longest window keeps the last ones.
 abbrev pub shown_ticked : Shown → Shown
-shown_ticked x = record x { meta = record x.meta { ticks = min (x.meta.ticks + 1) 18446744073709551615 } }
+shown_ticked x = record x {
+  meta = record x.meta { ticks = min (x.meta.ticks + 1) 18446744073709551615 };
+  samples = keep_last (longest x.setup.windows) (x.samples ++ x.served ∷ []);
+  served = 0;
+}
+
+-- these samples are kept, and so many requests are counted
+pub record HasCounted (x : Shown) (kept : List ℕ) (requests : ℕ) : Type 0 where
+  pub samples : x.samples ≡ kept
+  pub served : x.served ≡ requests
+
+-- How samples and requests are counted, by the answer: a read or write that is served is one request more, a tick makes a sample
+-- of them, and nothing else counts. After a halt no tick decides.
+abbrev pub Counts : Answer → Shown → Shown → Type 0
+Counts (Value block bytes) old new = HasCounted new old.samples (sample_of (old.served + 1))
+Counts (Wrote number) old new = HasCounted new old.samples (sample_of (old.served + 1))
+Counts (Ticked report) old new = HasCounted new (shown_ticked old).samples 0
+Counts (Halted halt) old new = Unit {0}
+Counts answer old new = HasCounted new old.samples old.served
 
 -- nothing has changed but the energy
 pub record IsAsBefore (old new : Shown) : Type 0 where
@@ -220,20 +257,25 @@ pub record IsAsBefore (old new : Shown) : Type 0 where
   pub dirty : new.dirty ≡ old.dirty
   pub slot : new.slot ≡ old.slot
 
--- A tick at rest, as it has counted itself, begins a shift to the next gear, or nothing; it tells the first worn disk of those
--- that a shift down would park. Which of these it does the samples decide.
-abbrev pub Decides : Shown → Shown → TickEvent → Type 0
-Decides old new Steady = IsAsBefore old new
-Decides old new (Begun to) =
-    ((next_higher old.setup.geometry old.meta.gear ≡ Some to) × Begins old new (IsUp to) (spins_up old.meta.gear to))
-    ⊎ ((next_lower old.setup.geometry old.meta.gear ≡ Some to) × (first_worn old.setup (state_shown old) to ≡ None) × Begins old new (IsDown to) (λ d. 0))
-Decides old new (Ration d) = (to : ℕ) × (next_lower old.setup.geometry old.meta.gear ≡ Some to) × (first_worn old.setup (state_shown old) to ≡ Some d) × IsAsBefore old new
-Decides old new event = ⊥
+-- A shift down that is asked for begins, unless it would park a worn disk: then the first one is told, and nothing changes.
+abbrev pub GoesDown : Option ℕ → ℕ → Shown → Shown → TickEvent → Type 0
+GoesDown None to old new event = (event ≡ Begun to) × Begins old new (IsDown to) (λ d. 0)
+GoesDown (Some d) to old new event = (event ≡ Ration d) × IsAsBefore old new
 
--- a tick with no disk out: at rest it moves nothing, and may begin a shift; and a shift under way
+-- A tick at rest, as it has counted itself, does what its samples ask for: nothing, or it begins a shift to the next gear.
+abbrev pub Decides : Decision → Shown → Shown → TickEvent → Type 0
+Decides Stay old new event = (event ≡ Steady) × IsAsBefore old new
+Decides (DecideUp to) old new event = (event ≡ Begun to) × Begins old new (IsUp to) (spins_up old.meta.gear to)
+Decides (DecideDown to) old new event = GoesDown (first_worn old.setup (state_shown old) to) to old new event
+
+-- what its samples ask for
+abbrev pub decision_shown : Shown → Decision
+decision_shown x = decision x.setup x.meta.gear x.samples
+
+-- a tick with no disk out: at rest it moves nothing, and does what the samples ask for; and a shift under way
 -- moves on
 abbrev pub MovesBy : Phase → Shown → Shown → ℕ → TickEvent → Type 0
-MovesBy IsSteady old new count event = (count ≡ 0) × Decides (shown_ticked old) new event
+MovesBy IsSteady old new count event = (count ≡ 0) × Decides (decision_shown (shown_ticked old)) (shown_ticked old) new event
 MovesBy (IsDown to) old new count event = MovesOn old new event
 MovesBy (IsUp to) old new count event = MovesOn old new event
 
@@ -283,16 +325,23 @@ pub data HasReason (old : Shown) (event : Event) (answer : Answer) (new : Shown)
   -- the event is served
   done : Takes old event → quiet_answer old event ≡ None → Does old event answer new → HasReason old event answer new
   -- two disks were lost in it
-  two : (pair : Two) → Takes old event → quiet_answer old event ≡ None → answer ≡ Halted (HaltTwo pair)
-      → AreTwoLost (named_out old.meta.out) event old.slot new.slot pair → HasReason old event answer new
+  two : (pair : Two) → Takes old event → may_halt event ≡ true → quiet_answer old event ≡ None → answer ≡ Halted (HaltTwo pair)
+      → AreTwoLost (named_out old.meta.out) event old.slot new.slot pair → UsesOwn event old new → HasReason old event answer new
   -- it is no event
   bad : event ≡ Bad → answer ≡ IsBad → new ≡ old → HasReason old event answer new
+
+-- the gear that is told after an answer: that of the meta, or after a halt the one before the event
+abbrev pub gear_after : Option Halt → Shown → Shown → ℕ
+gear_after None old new = new.meta.gear
+gear_after (Some halt) old new = old.gear
 
 -- The event found an array so, is answered so, and leaves it so.
 pub record HasCause (old : Shown) (event : Event) (answer : Answer) (new : Shown) : Type 0 where
   pub reason : HasReason old event answer new
   pub setup : new.setup ≡ old.setup
   pub halt : event ≢ Bad → new.halt ≡ halt_told answer
+  pub gear : event ≢ Bad → new.gear ≡ gear_after (halt_told answer) old new
+  pub counts : Counts answer old new
   pub later : HaveNotFallen old.slot new.slot
 
 -- Each event is answered with a cause, one after the other.

@@ -2,6 +2,7 @@ pub mod Heard
 pub mod Ending
 pub mod Calls
 pub mod Stretch
+pub mod Kinds
 pub mod Form
 pub mod Session
 pub mod Output

@@ -1,4 +1,4 @@
-ghost use Rattle.std.specs.Prelude.{◌≡◌, ◌≢◌, ℕ, true, None, Some, IfErr, OnOk};
+ghost use Rattle.std.specs.Prelude.{◌≡◌, ◌≢◌, ℕ, None, Some, IfErr, OnOk};
 ghost use Rattle.paraid_base.specs.BlockAnswers.{answer_to_flush, flush_halt_of};
 ghost use Rattle.paraid_base.specs.declared.event.Event.TheVariants.{Flush as FlushEvent, Write as WriteEvent};
 ghost use Rattle.paraid_base.specs.declared.pairs.Pairs.{Pairs as PairsType};
@@ -10,7 +10,6 @@ ghost use Rattle.paraid_trace.specs.declared.answered.Beside.{Beside as BesideTy
 ghost use Rattle.paraid_trace.specs.Replies.{HasFewDisks};
 ghost use Rattle.paraid_serve.specs.Calls.{Grows};
 ghost use Rattle.paraid_serve.specs.Causes.{HasCause};
-ghost use Rattle.paraid_serve.specs.Form.{is_answer_to};
 ghost use Rattle.paraid_serve.specs.Lost.{HasServedSince, HaltsByWear};
 ghost use Rattle.paraid_session.specs.Turn.{GoesOn, Point, halt_told};
 
@@ -79,7 +78,6 @@ pub fn answer<A: Serves>(
     ensures halt { halt.new ≡ A.halted array.new }
     ensures since { (start : ℕ → Slot) → HasServedSince start (A.slot array.old) (A.halted array.old)
         → HasServedSince start (A.slot array.new) (A.halted array.new) }
-    ensures kind { is_answer_to (event_with asked pairs.now) (answer_with result beside.new) ≡ true }
     ensures few { HasFewDisks (answer_with result beside.new) }
     ensures cause { HasCause (A.shown array.old) (event_with asked pairs.now)
         (answer_with result beside.new) (A.shown array.new) }
@@ -106,8 +104,6 @@ pub fn answer_event<A: Serves>(array: &mut A, halt: &mut Option<Halt>, event: &E
     ensures halt { halt.new ≡ A.halted array.new }
     ensures since { (start : ℕ → Slot) → HasServedSince start (A.slot array.old) (A.halted array.old)
         → HasServedSince start (A.slot array.new) (A.halted array.new) }
-    ensures kind { is_answer_to event.now result ≡ true }
-    ensures few { HasFewDisks result }
     ensures cause { HasCause (A.shown array.old) event.now result (A.shown array.new) }
 {
     let mut beside = Beside::new();

@@ -5,6 +5,7 @@
 pub mod answer;
 pub mod ending;
 pub mod hear;
+pub mod laws;
 pub mod run;
 mod serves;
 pub mod status;

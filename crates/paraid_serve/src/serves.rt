@@ -1,5 +1,5 @@
-ghost use Rattle.std.specs.Prelude.{◌≡◌, ◌≢◌, ◌<◌, ℕ, true, None, Option, length};
-ghost use Rattle.paraid_base.specs.BlockAnswers.{answer_to_flush, flush_halt_of};
+ghost use Rattle.std.specs.Prelude.{◌≡◌, ◌≢◌, ◌<◌, ℕ, None, Option, length};
+ghost use Rattle.paraid_base.specs.BlockAnswers.{answer_to_flush};
 ghost use Rattle.paraid_base.specs.declared.event.Event.TheVariants.{Flush as FlushEvent, Bad as BadEvent};
 ghost use Rattle.paraid_base.specs.declared.fault.Halt.{Halt as HaltType};
 ghost use Rattle.paraid_image.specs.Out.{named_out};
@@ -10,13 +10,10 @@ ghost use Rattle.paraid_rack.specs.Trail.{Trail};
 ghost use Rattle.paraid_record.specs.declared.meta.Setup.{Setup};
 ghost use Rattle.paraid_trace.specs.Answered.{answer_with};
 ghost use Rattle.paraid_trace.specs.Asked.{event_with};
-ghost use Rattle.paraid_trace.specs.Replies.{HasFewDisks};
 ghost use Rattle.paraid_serve.specs.Calls.{Grows, IsAbsentOut, IsNotDouble};
 ghost use Rattle.paraid_serve.specs.Causes.{HasCause, Shown, Shows, state_shown};
-ghost use Rattle.paraid_serve.specs.Form.{is_answer_to};
-ghost use Rattle.paraid_serve.specs.Lost.{HaltsByTwoLost, HaltsByWear};
-ghost use Rattle.paraid_session.specs.Faults.{HaveNotFallen};
-ghost use Rattle.paraid_session.specs.Turn.{GoesOn, Point, halt_told};
+ghost use Rattle.paraid_serve.specs.Lost.{HaltsByWear};
+ghost use Rattle.paraid_session.specs.Turn.{GoesOn, Point};
 
 use paraid_base::{Halt, Pairs, Status};
 use paraid_trace::{Answered, Asked, Beside};
@@ -38,9 +35,6 @@ pub trait Serves {
     /// The halt that has ended its service.
     ghost halted: { Self → Option HaltType };
 
-    /// The disk that is out, while there is no halt.
-    ghost down: { Self → Option ℕ };
-
     /// What is seen of it, whatever its rack holds.
     ghost shown: { Self → Shown };
 
@@ -57,13 +51,6 @@ pub trait Serves {
             (answer_with result beside.new) (stands self.new)) }
         ensures told { Grows (told self.old) (told self.new) }
         ensures slots { slots self.new ≡ slots self.old }
-        ensures setup { setup self.new ≡ setup self.old }
-        ensures halt { halted self.new ≡ halt_told (answer_with result beside.new) }
-        ensures two { HaltsByTwoLost (down self.old) (event_with asked pairs.now) (slot self.old) (slot self.new)
-            (halted self.new) }
-        ensures later { HaveNotFallen (slot self.old) (slot self.new) }
-        ensures kind { is_answer_to (event_with asked pairs.now) (answer_with result beside.new) ≡ true }
-        ensures few { HasFewDisks (answer_with result beside.new) }
         ensures cause { HasCause (shown self.old) (event_with asked pairs.now)
             (answer_with result beside.new) (shown self.new) };
 
@@ -75,11 +62,6 @@ pub trait Serves {
             (stands self.new)) }
         ensures told { Grows (told self.old) (told self.new) }
         ensures slots { slots self.new ≡ slots self.old }
-        ensures setup { setup self.new ≡ setup self.old }
-        ensures halt { halted self.new ≡ flush_halt_of result }
-        ensures two { HaltsByTwoLost (down self.old) FlushEvent (slot self.old) (slot self.new)
-            (halted self.new) }
-        ensures later { HaveNotFallen (slot self.old) (slot self.new) }
         ensures cause { HasCause (shown self.old) FlushEvent (answer_to_flush result) (shown self.new) };
 
     /// How many writes it has accepted, while there is no halt.
@@ -88,10 +70,10 @@ pub trait Serves {
             → result ≡ length p.history }
         ensures shown { result ≡ (shown self.now).meta.writes };
 
-    /// Its gear.
+    /// Its gear, after a halt the one before it.
     fn gear(&self) -> u8
         ensures point { (p : Point) → stands self.now p → result ≡ p.state.gear }
-        ensures shown { halted self.now ≡ None → result ≡ (shown self.now).meta.gear };
+        ensures shown { result ≡ (shown self.now).gear };
 
     /// The number of its blocks.
     fn blocks(&self) -> u32
@@ -102,7 +84,6 @@ pub trait Serves {
     fn status(&self) -> Status
         ensures point { halted self.now ≡ None → (p : Point) → stands self.now p
             → result ≡ state_status (setup self.now) (length p.history) p.state }
-        ensures down { halted self.now ≡ None → named_out result.out ≡ down self.now }
         ensures shown { halted self.now ≡ None → result ≡ state_status (setup self.now)
             (shown self.now).meta.writes (state_shown (shown self.now)) };
 
@@ -118,13 +99,14 @@ pub trait Serves {
     /// While there is no halt, at most one of its disks is absent.
     ghost serves: { (x : Self) → halted x ≡ None → IsNotDouble (setup x) (slot x) };
 
-    /// And that is the one that is out.
-    ghost absent: { (x : Self) → halted x ≡ None → IsAbsentOut (setup x) (down x) (slot x) };
+    /// And that is the one that its meta names out.
+    ghost absent: { (x : Self) → halted x ≡ None
+        → IsAbsentOut (setup x) (named_out (shown x).meta.out) (slot x) };
 
     /// It halts by wear only after 2^62 commits or writes, or more.
     ghost worn: { (x : Self) → HaltsByWear (halted x) };
 
-    /// What is seen has its setup, its slots and its halt.
+    /// What is seen has its setup, its slots, its halt and its gear.
     ghost shows: { (x : Self) → Shows (shown x) (setup x) (slot x) (halted x) };
 
     /// A point tells the halt.

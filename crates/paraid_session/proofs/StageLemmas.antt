@@ -259,12 +259,16 @@ module _ (slots : ℕ) (s : Disks) (m : Meta) (h : History) (order : IsInOrder s
     -- each moment and each call of calls on the log, by its stages
     pub each_stage : (t : Disks) (calls : List Call) → IsLogged s t → AreStages m t calls → Each (HoldsWhileServing slots h 0 b) (IsAllowed m.setup None) (watched t) calls
     each_stage t [] l sides = stage_kept (watched t) (record { logged = l; sides = sides }) refl (λ d. refl)
-    each_stage t (call ∷ calls) l (sides, writes d p y low small, rest) =
-        (stage_kept (watched t) (record { logged = l; sides = sides }) refl (λ d. refl), allowed_log (watched t) (Write d p y true) (writes d p y low small) l refl,
-        each_stage (step (Write d p y true) t) calls (logged_write s t d p y low small l) rest)
-    each_stage t (call ∷ calls) l (sides, syncs d low, rest) =
-        (stage_kept (watched t) (record { logged = l; sides = sides }) refl (λ d. refl), allowed_log (watched t) (Sync d true) (syncs d low) l refl,
-        each_stage (step (Sync d true) t) calls (logged_sync s t d low l) rest)
+    each_stage t (call ∷ calls) l (sides, writes d p y low small, rest) = (
+      stage_kept (watched t) (record { logged = l; sides = sides }) refl (λ d. refl),
+      allowed_log (watched t) (Write d p y true) (writes d p y low small) l refl,
+      each_stage (step (Write d p y true) t) calls (logged_write s t d p y low small l) rest,
+    )
+    each_stage t (call ∷ calls) l (sides, syncs d low, rest) = (
+      stage_kept (watched t) (record { logged = l; sides = sides }) refl (λ d. refl),
+      allowed_log (watched t) (Sync d true) (syncs d low) l refl,
+      each_stage (step (Sync d true) t) calls (logged_sync s t d low l) rest,
+    )
 
 -- after calls on the log nothing else is changed
 logged_after : (s : Disks) (m : Meta) (t : Disks) (calls : List Call) → IsLogged s t → AreStages m t calls → IsLogged s (run t calls)
@@ -307,26 +311,79 @@ module _ (slots : ℕ) (s : Disks) (m : Meta) (h : History) (order : IsInOrder s
   -- the stages of the commit, and what each call is
   pub stages : AreStages m s (commit_calls b1 b3 go gc)
   unfolding step with_at
-  stages =
-      (before (old (f.synced 0 0) (f.closed 0 zero_low) (f.synced 0 1) (f.meta 0 zero_low)) (old (f.synced 1 0) (f.closed 1 one_low) (f.synced 1 1) (f.meta 1 one_low)), writes 0 _ _ zero_low (omega arith),
-      (before (old (f.synced 0 0) (f.closed 0 zero_low) (f.synced 0 1) (f.meta 0 zero_low)) (old (f.synced 1 0) (f.closed 1 one_low) (f.synced 1 1) (f.meta 1 one_low)), writes 0 _ _ zero_low (omega arith),
-      (before (old (f.synced 0 0) (f.closed 0 zero_low) (f.synced 0 1) (f.meta 0 zero_low)) (old (f.synced 1 0) (f.closed 1 one_low) (f.synced 1 1) (f.meta 1 one_low)), syncs 0 zero_low,
-      (before (old refl (f.closed 0 zero_low) refl (f.meta 0 zero_low)) (old (f.synced 1 0) (f.closed 1 one_low) (f.synced 1 1) (f.meta 1 one_low)), writes 1 _ _ one_low (omega arith),
-      (before (old refl (f.closed 0 zero_low) refl (f.meta 0 zero_low)) (old (f.synced 1 0) (f.closed 1 one_low) (f.synced 1 1) (f.meta 1 one_low)), writes 1 _ _ one_low (omega arith),
-      (before (old refl (f.closed 0 zero_low) refl (f.meta 0 zero_low)) (old (f.synced 1 0) (f.closed 1 one_low) (f.synced 1 1) (f.meta 1 one_low)), syncs 1 one_low,
-      (before (old refl (f.closed 0 zero_low) refl (f.meta 0 zero_low)) (old refl (f.closed 1 one_low) refl (f.meta 1 one_low)), writes 0 _ _ zero_low (omega arith),
-      (first_opens (opening refl (f.meta 0 zero_low) refl meta_is refl list_is) (old refl (f.closed 1 one_low) refl (f.meta 1 one_low)), syncs 0 zero_low,
-      (first_open (opened refl open_is refl meta_is refl list_is) (old refl (f.closed 1 one_low) refl (f.meta 1 one_low)), writes 1 _ _ one_low (omega arith),
-      (last_opens (opened refl open_is refl meta_is refl list_is) (opening refl (f.meta 1 one_low) refl meta_is refl list_is), syncs 1 one_low,
-      (open_both (opened refl open_is refl meta_is refl list_is) (opened refl open_is refl meta_is refl list_is), writes 0 _ _ zero_low (omega arith),
-      (open_both (opened refl open_is refl meta_is refl list_is) (opened refl open_is refl meta_is refl list_is), syncs 0 zero_low,
-      (open_both (opened refl open_is refl meta_is refl list_is) (opened refl open_is refl meta_is refl list_is), writes 1 _ _ one_low (omega arith),
-      (open_both (opened refl open_is refl meta_is refl list_is) (opened refl open_is refl meta_is refl list_is), syncs 1 one_low,
-      (open_both (opened refl open_is refl meta_is refl list_is) (opened refl open_is refl meta_is refl list_is), writes 0 _ _ zero_low (omega arith),
-      (first_closes (closing refl meta_is refl meta_is refl list_is) (opened refl open_is refl meta_is refl list_is), syncs 0 zero_low,
-      (first_closed (new refl closed_is refl meta_is) (opened refl open_is refl meta_is refl list_is), writes 1 _ _ one_low (omega arith),
-      (last_closes (new refl closed_is refl meta_is) (closing refl meta_is refl meta_is refl list_is), syncs 1 one_low,
-      after (new refl closed_is refl meta_is) (new refl closed_is refl meta_is)))))))))))))))))))
+  stages = (
+    before (old (f.synced 0 0) (f.closed 0 zero_low) (f.synced 0 1) (f.meta 0 zero_low)) (old (f.synced 1 0) (f.closed 1 one_low) (f.synced 1 1) (f.meta 1 one_low)),
+    writes 0 _ _ zero_low (omega arith),
+    (
+      before (old (f.synced 0 0) (f.closed 0 zero_low) (f.synced 0 1) (f.meta 0 zero_low)) (old (f.synced 1 0) (f.closed 1 one_low) (f.synced 1 1) (f.meta 1 one_low)),
+      writes 0 _ _ zero_low (omega arith),
+      (
+        before (old (f.synced 0 0) (f.closed 0 zero_low) (f.synced 0 1) (f.meta 0 zero_low)) (old (f.synced 1 0) (f.closed 1 one_low) (f.synced 1 1) (f.meta 1 one_low)),
+        syncs 0 zero_low,
+        (
+          before (old refl (f.closed 0 zero_low) refl (f.meta 0 zero_low)) (old (f.synced 1 0) (f.closed 1 one_low) (f.synced 1 1) (f.meta 1 one_low)),
+          writes 1 _ _ one_low (omega arith),
+          (
+            before (old refl (f.closed 0 zero_low) refl (f.meta 0 zero_low)) (old (f.synced 1 0) (f.closed 1 one_low) (f.synced 1 1) (f.meta 1 one_low)),
+            writes 1 _ _ one_low (omega arith),
+            (
+              before (old refl (f.closed 0 zero_low) refl (f.meta 0 zero_low)) (old (f.synced 1 0) (f.closed 1 one_low) (f.synced 1 1) (f.meta 1 one_low)),
+              syncs 1 one_low,
+              (
+                before (old refl (f.closed 0 zero_low) refl (f.meta 0 zero_low)) (old refl (f.closed 1 one_low) refl (f.meta 1 one_low)),
+                writes 0 _ _ zero_low (omega arith),
+                (
+                  first_opens (opening refl (f.meta 0 zero_low) refl meta_is refl list_is) (old refl (f.closed 1 one_low) refl (f.meta 1 one_low)),
+                  syncs 0 zero_low,
+                  (
+                    first_open (opened refl open_is refl meta_is refl list_is) (old refl (f.closed 1 one_low) refl (f.meta 1 one_low)),
+                    writes 1 _ _ one_low (omega arith),
+                    (
+                      last_opens (opened refl open_is refl meta_is refl list_is) (opening refl (f.meta 1 one_low) refl meta_is refl list_is),
+                      syncs 1 one_low,
+                      (
+                        open_both (opened refl open_is refl meta_is refl list_is) (opened refl open_is refl meta_is refl list_is),
+                        writes 0 _ _ zero_low (omega arith),
+                        (
+                          open_both (opened refl open_is refl meta_is refl list_is) (opened refl open_is refl meta_is refl list_is),
+                          syncs 0 zero_low,
+                          (
+                            open_both (opened refl open_is refl meta_is refl list_is) (opened refl open_is refl meta_is refl list_is),
+                            writes 1 _ _ one_low (omega arith),
+                            (
+                              open_both (opened refl open_is refl meta_is refl list_is) (opened refl open_is refl meta_is refl list_is),
+                              syncs 1 one_low,
+                              (
+                                open_both (opened refl open_is refl meta_is refl list_is) (opened refl open_is refl meta_is refl list_is),
+                                writes 0 _ _ zero_low (omega arith),
+                                (
+                                  first_closes (closing refl meta_is refl meta_is refl list_is) (opened refl open_is refl meta_is refl list_is),
+                                  syncs 0 zero_low,
+                                  (
+                                    first_closed (new refl closed_is refl meta_is) (opened refl open_is refl meta_is refl list_is),
+                                    writes 1 _ _ one_low (omega arith),
+                                    (
+                                      last_closes (new refl closed_is refl meta_is) (closing refl meta_is refl meta_is refl list_is),
+                                      syncs 1 one_low,
+                                      after (new refl closed_is refl meta_is) (new refl closed_is refl meta_is),
+                                    ),
+                                  ),
+                                ),
+                              ),
+                            ),
+                          ),
+                        ),
+                      ),
+                    ),
+                  ),
+                ),
+              ),
+            ),
+          ),
+        ),
+      ),
+    ),
+  )
 
   pub logged_last : IsLogged s committed
   logged_last = logged_after s m s (commit_calls b1 b3 go gc) logged_first stages

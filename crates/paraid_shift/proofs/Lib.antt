@@ -9,3 +9,4 @@ pub mod OutcomeLemmas
 pub mod LossLemmas
 pub mod WaitLemmas
 pub mod AnswerLemmas
+pub mod PartLemmas

@@ -1,7 +1,6 @@
 -- Calls of a core in a shift, one after the other, by what each leaves and tells.
 use Rattle.std.specs.Prelude.{◌≡◌, ℕ, ◌+◌, ◌<◌, ◌≤◌, [], ◌∷◌, length, ◌⊎◌, false, List, Option, Some, None}
 use Rattle.std.proofs.Common.{refl, sym, ◌∙◌, ap, subst, arith}
-use Rattle.paraid_base.specs.declared.fault.Two.{Two}
 use Rattle.paraid_base.specs.declared.state.Out.TheVariants.{No}
 use Rattle.paraid_txn.specs.Commit.{gone_out}
 use Rattle.paraid_rack.specs.Slots.{Slot}
@@ -20,13 +19,11 @@ use Rattle.paraid_core.specs.Lost.{CoreMarksLost, MarksLost}
 use Rattle.paraid_core.specs.Steps.{IsMarkedFrom, IsNamedOrAbsent, IsStillOut}
 use Rattle.paraid_core.proofs.ChainLemmas.{marked_epoch}
 use Rattle.paraid_core.proofs.StepLemmas.{runs_none}
-use Rattle.paraid_shift.specs.Outcomes.{CommitsStaged, LosesInCommit, LosesSecond, MarksGroup, PowersDisks, ServesOn, TellsSecond}
+use Rattle.paraid_shift.specs.Outcomes.{CommitsInEvent, MarksGroup, PowersDisks, ServesOn}
 use Rattle.paraid_shift.specs.Serving.{IsCoreServing, LeavesArray, RestsInShift}
-use Rattle.paraid_shift.specs.Steps.{CoreStepsInEvent}
-use Rattle.paraid_shift.proofs.LossLemmas.{core_bears_none, core_bears_then, core_tells_after}
-use Rattle.paraid_shift.proofs.MovedLossLemmas.{core_loses_then, core_loses_within}
+use Rattle.paraid_shift.proofs.LossLemmas.{core_bears_none, core_bears_then}
 use Rattle.paraid_shift.proofs.PowersLemmas.{powered_none, powered_then}
-use Rattle.paraid_shift.proofs.ServingLemmas.{array_marked, chain, leaves_array_none, leaves_array_then, marked_none, marked_then, none_away, none_known, two_array}
+use Rattle.paraid_shift.proofs.ServingLemmas.{array_marked, chain, leaves_array_none, leaves_array_then, marked_none, marked_then, none_known}
 
 pub staged_none : {A : Type 0} (batch : List A) (count : ℕ) → count ≡ length batch → count ≡ 0 → batch ≡ []
 staged_none [] count is none = refl
@@ -80,22 +77,11 @@ module _ {R : Type 0} {g : _} (count : R → ℕ) (slot : R → ℕ → Slot) wh
 
   module _ (told : R → Option Trail) where
     -- a commit is one
-    pub serves_committed : (a b : Core R g) → CommitsStaged count slot told a b → ServesOn count slot a b 1
+    pub serves_committed : (a b : Core R g) → CommitsInEvent count slot told a b → ServesOn count slot a b 1
     serves_committed a b k = record { serving = k.serving; leaves = k.leaves; absent = λ q. k.absent; epoch = next_low a.meta.epoch b.meta.epoch k.epoch }
 
     pub serves_group : (a b : Core R g) (most units n : ℕ) → MarksGroup count slot told a b most units → ServesOn count slot a b n
     serves_group a b most units n k = record { serving = k.serving; leaves = k.leaves; absent = k.absent; epoch = marked_low a.meta b.meta n k.meta }
-
-    -- a second disk is lost in the later one of two calls
-    pub second_then : (a b c : Core R g) (n m bound : ℕ) (two : Two) → n + m ≤ bound → LeavesArray count slot a b → CoreStepsInEvent count told a b n
-        → ((d : ℕ) → (slot (store_rack b.store) d).faults ≤ (slot (store_rack c.store) d).faults) → LosesSecond count slot told b c m two → LosesSecond count slot told a c bound two
-    second_then a b c n m bound two le leaves steps no_fall k = record {
-      down = two_array count slot a b c leaves no_fall two k.down;
-      loses = core_loses_within count told a c (n + m) bound two le (core_loses_then count told a b c n m two steps k.loses);
-    }
-
-    pub second_within : (a b : Core R g) (n bound : ℕ) (two : Two) → n ≤ bound → LosesSecond count slot told a b n two → LosesSecond count slot told a b bound two
-    second_within a b n bound two le k = record { down = k.down; loses = core_loses_within count told a b n bound two le k.loses }
 
     -- disks were powered one after the other
     pub powers_none : (a : Core R g) → PowersDisks count slot told a a
@@ -118,17 +104,6 @@ module _ {R : Type 0} {g : _} (count : R → ℕ) (slot : R → ℕ → Slot) wh
       rests = λ h lo.
           chain count told a b first.leaves.slots first.leaves.setup store.named (RestsInShift count a h lo) (RestsInShift count b h lo) (RestsInShift count c h lo) h lo _ (first.rests h lo) (second.rests h lo);
     }
-
-    -- a second disk is lost after some were powered
-    pub powers_tell : (a b c : Core R g) (two : Two) → PowersDisks count slot told a b → ((d : ℕ) → (slot (store_rack b.store) d).faults ≤ (slot (store_rack c.store) d).faults) → TellsSecond slot told b c two → TellsSecond slot told a c two
-    powers_tell a b c two first no_fall k = record {
-      down = two_array count slot a b c first.leaves no_fall two k.down;
-      tells = core_tells_after count slot told a b c two first.bears k.tells;
-    }
-
-    -- or in a commit, with no disk out before it
-    pub second_committed : (a b : Core R g) (two : Two) → a.meta.out ≡ No → LosesInCommit count slot told a b two → LosesSecond count slot told a b 1 two
-    second_committed a b two whole k = record { down = k.down; loses = k.loses (none_away slot a whole) }
 
 -- marks: no call is made, and the meta is as it was
 module _ {R : Type 0} {g : _} (a b c : Core R g) (store : c.store ≡ b.store) (meta : c.meta ≡ b.meta) where

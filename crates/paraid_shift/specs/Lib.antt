@@ -3,3 +3,4 @@ pub mod Units
 pub mod Steps
 pub mod Losing
 pub mod Outcomes
+pub mod Parts

@@ -4,16 +4,14 @@ use Rattle.paraid_base.specs.declared.fault.Two.{Two}
 use Rattle.paraid_base.specs.declared.state.Out.TheVariants.{No}
 use Rattle.paraid_base.specs.declared.state.Phase.TheVariants.{Steady}
 use Rattle.paraid_base.specs.History.{History}
-use Rattle.paraid_base.specs.States.{named_out, phase_to}
+use Rattle.paraid_base.specs.States.{phase_to}
 use Rattle.paraid_rack.specs.Slots.{Slot}
 use Rattle.paraid_rack.specs.Told.{CrashTriple, Ran}
 use Rattle.paraid_rack.specs.Trail.{Trail}
 use Rattle.paraid_moves.specs.MoveMetas.{filled_to, meta_flipped_to}
-use Rattle.paraid_txn.specs.Losses.{AreTwoDown}
 use Rattle.paraid_txn.specs.Stores.{named_of, store_rack}
 use Rattle.paraid_core.specs.declared.staged.Core.{Core}
-use Rattle.paraid_core.specs.Cores.{CoreStandsFor, IsCoreHeldSinceCommit, core_down}
-use Rattle.paraid_core.specs.Lost.{CoreTellsLosses}
+use Rattle.paraid_core.specs.Cores.{CoreStandsFor, IsCoreHeldSinceCommit}
 use Rattle.paraid_core.specs.Steps.{IsMarkedFrom, IsNamedOrAbsent}
 use Rattle.paraid_shift.specs.Losing.{CoreBearsLoss}
 use Rattle.paraid_shift.specs.Serving.{HasBegunUp, IsComingUp, IsCoreServing, LeavesArray, RestsInShift, StaysAtRest}
@@ -68,8 +66,8 @@ pub record MarksStripes {R : Type 0} {g : _} (count : R → ℕ) (slot : R → �
   pub gone : done ≡ false → new.meta.out ≢ No
   pub steps : done ≡ false → CoreStepsInEvent count told old new 0
 
--- What is staged is committed: a disk may be lost in it, and no unit is moved.
-pub record CommitsStaged {R : Type 0} {g : _} (count : R → ℕ) (slot : R → ℕ → Slot) (told : R → Option Trail) (old new : Core R g) : Type 0 where
+-- What is staged is committed in an event: a disk may be lost in it, and no unit is moved.
+pub record CommitsInEvent {R : Type 0} {g : _} (count : R → ℕ) (slot : R → ℕ → Slot) (told : R → Option Trail) (old new : Core R g) : Type 0 where
   pub serving : IsCoreServing count slot new
   pub leaves : LeavesArray count slot old new
   pub nothing : new.batch ≡ []
@@ -80,21 +78,11 @@ pub record CommitsStaged {R : Type 0} {g : _} (count : R → ℕ) (slot : R → 
   pub steps : IsNamedOrAbsent slot old → CoreStepsInEvent count told old new 1
   pub marked : IsNamedOrAbsent slot old → CoreServesMarked count told old new
 
--- A second disk is lost in a call: these two are down, and it is so told, with at most so many commits.
-pub record LosesSecond {R : Type 0} {g : _} (count : R → ℕ) (slot : R → ℕ → Slot) (told : R → Option Trail) (old new : Core R g) (most : ℕ) (two : Two) : Type 0 where
-  pub down : AreTwoDown (core_down old) (slot (store_rack old.store)) (slot (store_rack new.store)) two
-  pub loses : CoreLosesInSteps count told old new most two
-
--- The same in a commit, wherever the disk that was lost before is absent.
+-- A second disk is lost in a commit, wherever the disk that was lost before is absent: it is so told, and what is told of
+-- marks that the commit was to bring.
 pub record LosesInCommit {R : Type 0} {g : _} (count : R → ℕ) (slot : R → ℕ → Slot) (told : R → Option Trail) (old new : Core R g) (two : Two) : Type 0 where
-  pub down : AreTwoDown (core_down old) (slot (store_rack old.store)) (slot (store_rack new.store)) two
   pub loses : IsNamedOrAbsent slot old → CoreLosesInSteps count told old new 1 two
   pub marked : IsNamedOrAbsent slot old → CoreLosesInEvent count told old new two
-
--- A second disk is lost in a call that commits nothing: these two are down, and it is told which was lost first.
-pub record TellsSecond {R : Type 0} {g : _} (slot : R → ℕ → Slot) (told : R → Option Trail) (old new : Core R g) (two : Two) : Type 0 where
-  pub down : AreTwoDown (core_down old) (slot (store_rack old.store)) (slot (store_rack new.store)) two
-  pub tells : CoreTellsLosses told (named_out old.meta.out) old new two
 
 -- Disks were powered with nothing staged: one that was lost in it is marked, and the rest is as it was.
 pub record PowersDisks {R : Type 0} {g : _} (count : R → ℕ) (slot : R → ℕ → Slot) (told : R → Option Trail) (old new : Core R g) : Type 0 where

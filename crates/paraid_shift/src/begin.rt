@@ -1,24 +1,23 @@
 //! A shift begins: its phase is committed, with each spin-up counted, and then the disks that a shift up needs are
 //! spun up.
-ghost use Rattle.std.specs.Prelude.{◌≡◌, ◌≢◌, ℕ, ◌+◌, ◌^◌, ◌<◌, ◌≤◌, ◌⊎◌, true, false, [], Some, OnOk, IfErr, length, slice_index};
-ghost use Rattle.paraid_base.specs.declared.state.Out.TheVariants.{No};
-ghost use Rattle.paraid_base.specs.declared.state.Phase.TheVariants.{Down, Steady, Up};
+ghost use Rattle.std.specs.Prelude.{◌≡◌, ◌≢◌, ℕ, ◌+◌, ◌<◌, ◌≤◌, ◌⊎◌, true, false, [], Some, OnOk, length, slice_index};
+ghost use Rattle.paraid_base.specs.declared.state.Phase.TheVariants.{Down};
 ghost use Rattle.paraid_base.specs.History.{History};
 ghost use Rattle.paraid_base.specs.States.{rising_to};
-ghost use Rattle.paraid_core.specs.Cores.{CoreStandsFor, IsCoreHeldSinceCommit, IsCoreReady, batch_of, core_down, core_rack, core_table, meta_of, store_of};
+ghost use Rattle.paraid_core.specs.Cores.{CoreStandsFor, IsCoreHeldSinceCommit, IsCoreReady, batch_of, core_rack, meta_of, store_of};
 ghost use Rattle.paraid_core.specs.Lost.{CoreTellsLosses};
-ghost use Rattle.paraid_core.specs.Steps.{IsHeldStill, IsMarkedFrom, IsNamedOrAbsent};
+ghost use Rattle.paraid_core.specs.Steps.{IsMarkedFrom};
 ghost use Rattle.paraid_image.specs.Out.{named_out};
 ghost use Rattle.paraid_moves.specs.MoveMetas.{meta_after_begin};
 ghost use Rattle.paraid_rack.specs.declared.call.Power.TheVariants.{Parked, Spinning};
 ghost use Rattle.paraid_rack.specs.Told.{CrashTriple, Ran};
 ghost use Rattle.paraid_record.specs.Range.{AreNextGears, allowed_spins};
-ghost use Rattle.paraid_shift.specs.Losing.{CoreBearsLoss, LosesUp};
-ghost use Rattle.paraid_shift.specs.Outcomes.{CommitsUp, PowersDisks, TellsSecond};
-ghost use Rattle.paraid_shift.specs.Serving.{HasBegunUp, IsComingUp, IsHeldFromRest, IsCoreServing, LeavesArray, RestsInShift, StaysAtRest};
-ghost use Rattle.paraid_shift.specs.Steps.{CoreLosesInSteps, CoreStepsInEvent, MakesPowerCalls, MarksPowered, OpensUp};
-ghost use Rattle.paraid_txn.specs.Losses.{AreTwoDown, OnlyLosesSlots};
-ghost use Rattle.paraid_txn.specs.Stores.{IsSameStore, named_of};
+ghost use Rattle.paraid_shift.specs.Losing.{LosesUp};
+ghost use Rattle.paraid_shift.specs.Outcomes.{CommitsUp};
+ghost use Rattle.paraid_shift.specs.Parts.{CanBeginShift, KeepsContents, KeepsRack, ServesShifted, SparesRack, TurnsDisks};
+ghost use Rattle.paraid_shift.specs.Serving.{HasBegunUp, IsComingUp, IsCoreServing, RestsInShift};
+ghost use Rattle.paraid_shift.specs.Steps.{CoreLosesInSteps, CoreStepsInEvent};
+ghost use Rattle.paraid_txn.specs.Stores.{IsSameStore};
 
 use paraid_base::{DiskNo, Two};
 use paraid_core::Core;
@@ -26,27 +25,16 @@ use paraid_rack::{Power, Rack};
 
 /// Begins a shift down to the next lower gear, by one commit with all that is staged.
 pub fn begin_down<R: Rack>(core: &mut Core<R>, to: u8) -> Result<(), Two>
-    requires serving { IsCoreServing R.slot_count R.slot core.old }
-    requires epoch { (meta_of core.old).epoch < 2 ^ 63 }
-    requires whole { (meta_of core.old).out ≡ No }
-    requires steady { (meta_of core.old).phase ≡ Steady }
+    requires can { CanBeginShift core.old }
     requires next { AreNextGears (meta_of core.old).setup.geometry to (meta_of core.old).gear }
     requires spared { (d : ℕ) → to ≤ d → d < (meta_of core.old).gear
         → slice_index (meta_of core.old).spins d < allowed_spins (meta_of core.old) }
-    ensures serving { OnOk result (IsCoreServing R.slot_count R.slot core.new) }
-    ensures absent { OnOk result (IsNamedOrAbsent R.slot core.new) }
-    ensures leaves { OnOk result (LeavesArray R.slot_count R.slot core.old core.new) }
+    ensures shifted { OnOk result (ServesShifted core.old core.new) }
     ensures meta { OnOk result (IsMarkedFrom (record (meta_after_begin (meta_of core.old) (Down to) (meta_of core.old).spins)
         { epoch = (meta_of core.old).epoch + 1 }) (meta_of core.new)) }
-    ensures table { core_table core.new ≡ core_table core.old }
-    ensures nothing { OnOk result (batch_of core.new ≡ []) }
+    ensures keeps { KeepsContents core.old core.new }
     ensures steps { OnOk result (CoreStepsInEvent R.slot_count R.told core.old core.new 1) }
-    ensures loses { IfErr result (λ two. CoreLosesInSteps R.slot_count R.told core.old core.new 1 two) }
-    ensures slots { R.slot_count (core_rack core.new) ≡ R.slot_count (core_rack core.old) }
-    ensures spared { OnlyLosesSlots (R.slot (core_rack core.old)) (R.slot (core_rack core.new)) }
-    ensures two { IfErr result (AreTwoDown (core_down core.old)
-        (R.slot (core_rack core.old)) (R.slot (core_rack core.new))) }
-    ensures moments { IsHeldStill R.slot_count R.told core.old core.new }
+    ensures rack { SparesRack core.old core.new (CoreLosesInSteps R.slot_count R.told core.old core.new 1) result }
     ensures rests { OnOk result ((h : History) (lo : ℕ)
         → Ran (R.told (core_rack core.old)) (R.told (core_rack core.new))
         (CrashTriple (IsCoreHeldSinceCommit R.slot_count core.old h lo) (CoreStandsFor R.slot_count core.old h lo)
@@ -83,16 +71,12 @@ fn raise<R: Rack>(core: &mut Core<R>, disk: DiskNo) -> Result<(), Two>
     requires past_gear { (meta_of core.old).gear ≤ disk }
     requires rises { disk < rising_to (meta_of core.old).phase }
     ensures rising { OnOk result (IsComingUp R.slot_count R.slot core.new (disk + 1)) }
-    ensures powers { OnOk result (PowersDisks R.slot_count R.slot R.told core.old core.new) }
+    ensures turns { TurnsDisks core.old core.new result }
+    ensures rack { KeepsRack core.old core.new
+        (CoreTellsLosses R.told (named_out (meta_of core.old).out) core.old core.new) result }
     ensures store { IsSameStore (store_of core.old) (store_of core.new) }
-    ensures table { core_table core.new ≡ core_table core.old }
-    ensures slots { R.slot_count (core_rack core.new) ≡ R.slot_count (core_rack core.old) }
-    ensures no_fall { (d : ℕ) → (R.slot (core_rack core.old) d).faults ≤ (R.slot (core_rack core.new) d).faults }
-    ensures calls { MakesPowerCalls R.told core.old core.new }
-    ensures tells { IfErr result (λ two. TellsSecond R.slot R.told core.old core.new two) }
     ensures others { (d : ℕ) → d ≢ disk → R.slot (core_rack core.new) d ≡ R.slot (core_rack core.old) d }
     ensures within { disk < rising_to (meta_of core.old).phase }
-    ensures moments { IsHeldFromRest R.slot_count R.told core.old core.new }
 {
     if !is_down(core, disk) {
         return Ok(());
@@ -107,15 +91,11 @@ fn bring_up<R: Rack>(core: &mut Core<R>) -> Result<(), Two>
     requires rising { IsComingUp R.slot_count R.slot core.old (meta_of core.old).gear }
     ensures serving { OnOk result (IsCoreServing R.slot_count R.slot core.new) }
     ensures nothing { OnOk result (batch_of core.new ≡ []) }
-    ensures powers { OnOk result (PowersDisks R.slot_count R.slot R.told core.old core.new) }
-    ensures table { core_table core.new ≡ core_table core.old }
-    ensures slots { R.slot_count (core_rack core.new) ≡ R.slot_count (core_rack core.old) }
-    ensures no_fall { (d : ℕ) → (R.slot (core_rack core.old) d).faults ≤ (R.slot (core_rack core.new) d).faults }
-    ensures calls { MakesPowerCalls R.told core.old core.new }
-    ensures tells { IfErr result (λ two. TellsSecond R.slot R.told core.old core.new two) }
+    ensures turns { TurnsDisks core.old core.new result }
+    ensures rack { KeepsRack core.old core.new
+        (CoreTellsLosses R.told (named_out (meta_of core.old).out) core.old core.new) result }
     ensures others { OnOk result ((d : ℕ) → (d < (meta_of core.old).gear) ⊎ (rising_to (meta_of core.old).phase ≤ d)
         → R.slot (core_rack core.new) d ≡ R.slot (core_rack core.old) d) }
-    ensures moments { IsHeldFromRest R.slot_count R.told core.old core.new }
 {
     let gear = core.meta().gear;
     for disk in gear..core.meta().phase.rising_to() {
@@ -126,19 +106,11 @@ fn bring_up<R: Rack>(core: &mut Core<R>) -> Result<(), Two>
 
 // Commits the phase of a shift up, with the spin-ups counted.
 fn commit_up<R: Rack>(core: &mut Core<R>, to: u8) -> Result<(), Two>
-    requires serving { IsCoreServing R.slot_count R.slot core.old }
-    requires epoch { (meta_of core.old).epoch < 2 ^ 63 }
-    requires whole { (meta_of core.old).out ≡ No }
-    requires steady { (meta_of core.old).phase ≡ Steady }
+    requires can { CanBeginShift core.old }
     requires next { AreNextGears (meta_of core.old).setup.geometry (meta_of core.old).gear to }
     ensures begun { OnOk result (CommitsUp R.slot_count R.slot R.told core.old core.new to) }
-    ensures table { core_table core.new ≡ core_table core.old }
-    ensures slots { R.slot_count (core_rack core.new) ≡ R.slot_count (core_rack core.old) }
-    ensures spared { OnlyLosesSlots (R.slot (core_rack core.old)) (R.slot (core_rack core.new)) }
-    ensures loses { IfErr result (λ two. LosesUp R.slot_count R.told core.old core.new to two) }
-    ensures two { IfErr result (AreTwoDown (core_down core.old)
-        (R.slot (core_rack core.old)) (R.slot (core_rack core.new))) }
-    ensures moments { IsHeldStill R.slot_count R.told core.old core.new }
+    ensures keeps { KeepsContents core.old core.new }
+    ensures rack { SparesRack core.old core.new (LosesUp R.slot_count R.told core.old core.new to) result }
 {
     core.begin_up(to);
     core.commit()?;
@@ -148,24 +120,13 @@ fn commit_up<R: Rack>(core: &mut Core<R>, to: u8) -> Result<(), Two>
 /// Begins a shift up to the next higher gear: by one commit with all that is staged, in which a spin-up is counted for
 /// each disk that comes up; then they are spun up in ascending order.
 pub fn begin_up<R: Rack>(core: &mut Core<R>, to: u8) -> Result<(), Two>
-    requires serving { IsCoreServing R.slot_count R.slot core.old }
-    requires epoch { (meta_of core.old).epoch < 2 ^ 63 }
-    requires whole { (meta_of core.old).out ≡ No }
-    requires steady { (meta_of core.old).phase ≡ Steady }
+    requires can { CanBeginShift core.old }
     requires next { AreNextGears (meta_of core.old).setup.geometry (meta_of core.old).gear to }
-    ensures serving { OnOk result (IsCoreServing R.slot_count R.slot core.new) }
-    ensures absent { OnOk result (IsNamedOrAbsent R.slot core.new) }
-    ensures leaves { OnOk result (LeavesArray R.slot_count R.slot core.old core.new) }
+    ensures shifted { OnOk result (ServesShifted core.old core.new) }
     ensures meta { OnOk result (HasBegunUp (meta_of core.old) (meta_of core.new) to) }
-    ensures table { core_table core.new ≡ core_table core.old }
-    ensures nothing { OnOk result (batch_of core.new ≡ []) }
-    ensures slots { R.slot_count (core_rack core.new) ≡ R.slot_count (core_rack core.old) }
-    ensures no_fall { (d : ℕ) → (R.slot (core_rack core.old) d).faults ≤ (R.slot (core_rack core.new) d).faults }
+    ensures keeps { KeepsContents core.old core.new }
     ensures steps { OnOk result (CoreStepsInEvent R.slot_count R.told core.old core.new 1) }
-    ensures loses { IfErr result (λ two. CoreLosesInSteps R.slot_count R.told core.old core.new 1 two) }
-    ensures two { IfErr result (AreTwoDown (core_down core.old)
-        (R.slot (core_rack core.old)) (R.slot (core_rack core.new))) }
-    ensures moments { IsHeldStill R.slot_count R.told core.old core.new }
+    ensures rack { KeepsRack core.old core.new (CoreLosesInSteps R.slot_count R.told core.old core.new 1) result }
     ensures rests { OnOk result ((h : History) (lo : ℕ)
         → Ran (R.told (core_rack core.old)) (R.told (core_rack core.new))
         (CrashTriple (IsCoreHeldSinceCommit R.slot_count core.old h lo) (CoreStandsFor R.slot_count core.old h lo)

@@ -1,16 +1,14 @@
 //! Dirty cells of the disks that come up are copied past the log, made to last and marked as clean.
-ghost use Rattle.std.specs.Prelude.{◌≡◌, ◌≢◌, ℕ, ◌+◌, ◌-◌, ◌^◌, ◌<◌, ◌≤◌, ◌⊎◌, [], true, false, length, OnOk, IfOk, IfErr, IfNone, IfSome};
+ghost use Rattle.std.specs.Prelude.{◌≡◌, ◌≢◌, ◌+◌, ◌-◌, ◌^◌, ◌<◌, ◌≤◌, ◌⊎◌, true, false, length, OnOk, IfOk, IfNone, IfSome};
 ghost use Rattle.paraid_base.specs.declared.state.Out.TheVariants.{No};
-ghost use Rattle.paraid_core.specs.Cores.{CanCoreServe, IsCoreReady, batch_of, core_down, core_rack, core_table, draft_of, meta_of, store_of};
-ghost use Rattle.paraid_core.specs.Steps.{IsMarkedFrom, IsNamedOrAbsent, LeavesCore};
-ghost use Rattle.paraid_core.specs.Calls.{MakesDataCalls};
-ghost use Rattle.paraid_core.specs.Lost.{CoreMarksLost, CoreTellsLosses};
+ghost use Rattle.paraid_core.specs.Cores.{batch_of, core_table, meta_of, store_of};
+ghost use Rattle.paraid_core.specs.Lost.{CoreTellsLosses};
 ghost use Rattle.paraid_image.specs.Out.{named_out};
-ghost use Rattle.paraid_shift.specs.Outcomes.{LosesSecond, MarksGroup, TellsSecond};
-ghost use Rattle.paraid_shift.specs.Serving.{CopiesFromRest, IsCoreServing, IsHeldFromRest, KeepsCopied, LeavesArray, StandsFromRest};
+ghost use Rattle.paraid_shift.specs.Outcomes.{MarksGroup};
+ghost use Rattle.paraid_shift.specs.Parts.{CanMoveUnits, CopiesUnits, SparesRack};
+ghost use Rattle.paraid_shift.specs.Serving.{CopiesFromRest, IsCoreServing, KeepsCopied};
 ghost use Rattle.paraid_shift.specs.Steps.{CoreLosesInSteps};
-ghost use Rattle.paraid_shift.specs.Units.{AreCellsDone, CoreCountsMoved, HasDirtyBefore, IsGroupOf, are_copied_before};
-ghost use Rattle.paraid_txn.specs.Losses.{AreTwoDown, OnlyLosesSlots};
+ghost use Rattle.paraid_shift.specs.Units.{CoreCountsMoved, HasDirtyBefore, IsGroupOf, are_copied_before};
 
 use crate::units::{first_cell, next_cell};
 use paraid_base::{BATCH_ROOM, DiskNo, Out, Row, Two};
@@ -56,24 +54,15 @@ fn with_cell(group: Group, r: Row, d: DiskNo) -> Option<Group>
 
 // Copies dirty cells of the disks that come up, in their order and at most `most`. None where a disk was lost.
 fn copy_cells<R: Rack>(core: &mut Core<R>, most: u32) -> Result<Option<Group>, Two>
-    requires ready { IsCoreReady R.slot_count R.slot core.old }
-    requires serves { CanCoreServe R.slot core.old }
-    requires no_draft { draft_of core.old ≡ [] }
-    requires whole { (meta_of core.old).out ≡ No }
-    requires nothing { batch_of core.old ≡ [] }
-    ensures leaves { OnOk result (LeavesCore R.slot_count R.slot core.old core.new) }
+    requires can { CanMoveUnits core.old }
+    ensures copies { CopiesUnits core.old core.new result }
+    ensures rack { SparesRack core.old core.new
+        (CoreTellsLosses R.told (named_out (meta_of core.old).out) core.old core.new) result }
     ensures group { IfOk result (λ group. IfSome group (λ it.
         IsGroupOf (meta_of core.old) (core_table core.old) most it.count it.row it.disk)) }
     ensures lost { IfOk result (λ group. IfNone group ((meta_of core.new).out ≢ No)) }
-    ensures slots { R.slot_count (core_rack core.new) ≡ R.slot_count (core_rack core.old) }
-    ensures spared { OnlyLosesSlots (R.slot (core_rack core.old)) (R.slot (core_rack core.new)) }
-    ensures tells { IfErr result (λ two. TellsSecond R.slot R.told core.old core.new two) }
-    ensures calls { MakesDataCalls R.told core.old core.new }
-    ensures marks { OnOk result (CoreMarksLost R.slot core.old core.new) }
     ensures copied { IfOk result (λ group. IfSome group (λ it. CopiesFromRest R.slot_count R.told core.old core.new
         (are_copied_before (meta_of core.old) it.row it.disk))) }
-    ensures stands { OnOk result (StandsFromRest R.slot_count R.told core.old core.new) }
-    ensures moments { IsHeldFromRest R.slot_count R.told core.old core.new }
 {
     let mut group = Group {
         count: 0,
@@ -161,13 +150,9 @@ fn mark_cells<R: Rack>(core: &mut Core<R>, group: &Group) -> u32
 /// Copies a group of dirty cells of the disks that come up, at most `most`, makes them last and marks them; the marks
 /// are staged. It gives how many were marked, none where a disk was lost.
 pub(crate) fn move_group<R: Rack>(core: &mut Core<R>, most: u32) -> Result<u32, Two>
-    requires serving { IsCoreServing R.slot_count R.slot core.old }
-    requires whole { (meta_of core.old).out ≡ No }
-    requires nothing { batch_of core.old ≡ [] }
+    requires can { CanMoveUnits core.old }
     ensures marks { IfOk result (λ count. MarksGroup R.slot_count R.slot R.told core.old core.new most count) }
-    ensures slots { R.slot_count (core_rack core.new) ≡ R.slot_count (core_rack core.old) }
-    ensures spared { OnlyLosesSlots (R.slot (core_rack core.old)) (R.slot (core_rack core.new)) }
-    ensures loses { IfErr result (λ two. LosesSecond R.slot_count R.slot R.told core.old core.new 1 two) }
+    ensures rack { SparesRack core.old core.new (CoreLosesInSteps R.slot_count R.told core.old core.new 1) result }
 {
     let copied = copy_group(core, most)?;
     let Some(group) = copied else {
@@ -178,24 +163,17 @@ pub(crate) fn move_group<R: Rack>(core: &mut Core<R>, most: u32) -> Result<u32, 
 
 // Copies a group and makes it last. None where a disk was lost.
 fn copy_group<R: Rack>(core: &mut Core<R>, most: u32) -> Result<Option<Group>, Two>
-    requires serving { IsCoreServing R.slot_count R.slot core.old }
-    requires whole { (meta_of core.old).out ≡ No }
-    requires nothing { batch_of core.old ≡ [] }
+    requires can { CanMoveUnits core.old }
     ensures serving { OnOk result (IsCoreServing R.slot_count R.slot core.new) }
-    ensures leaves { OnOk result (LeavesCore R.slot_count R.slot core.old core.new) }
+    ensures copies { CopiesUnits core.old core.new result }
+    ensures rack { SparesRack core.old core.new
+        (CoreTellsLosses R.told (named_out (meta_of core.old).out) core.old core.new) result }
     ensures whole { IfOk result (λ group. IfSome group (λ it. (meta_of core.new).out ≡ No)) }
     ensures group { IfOk result (λ group. IfSome group (λ it.
         IsGroupOf (meta_of core.new) (core_table core.new) most it.count it.row it.disk)) }
     ensures lost { IfOk result (λ group. IfNone group ((meta_of core.new).out ≢ No)) }
-    ensures slots { R.slot_count (core_rack core.new) ≡ R.slot_count (core_rack core.old) }
-    ensures spared { OnlyLosesSlots (R.slot (core_rack core.old)) (R.slot (core_rack core.new)) }
-    ensures tells { IfErr result (λ two. TellsSecond R.slot R.told core.old core.new two) }
-    ensures calls { MakesDataCalls R.told core.old core.new }
-    ensures marks { OnOk result (CoreMarksLost R.slot core.old core.new) }
     ensures copied { IfOk result (λ group. IfSome group (λ it. CopiesFromRest R.slot_count R.told core.old core.new
         (are_copied_before (meta_of core.old) it.row it.disk))) }
-    ensures stands { OnOk result (StandsFromRest R.slot_count R.told core.old core.new) }
-    ensures moments { IsHeldFromRest R.slot_count R.told core.old core.new }
 {
     let copied = copy_cells(core, most)?;
     core.settle()?;

@@ -1,24 +1,21 @@
 //! A shift ends: the new gear is committed, and after a shift down the disks that it does not need are parked.
-ghost use Rattle.std.specs.Prelude.{◌≡◌, ◌≢◌, ℕ, ◌+◌, ◌^◌, ◌<◌, ◌≤◌, ◌⊎◌, [], true, false, Some, OnOk, IfErr};
-ghost use Rattle.paraid_base.specs.declared.state.Out.TheVariants.{No};
+ghost use Rattle.std.specs.Prelude.{◌≡◌, ◌≢◌, ℕ, ◌+◌, ◌<◌, ◌≤◌, ◌⊎◌, [], true, false, Some, OnOk};
 ghost use Rattle.paraid_base.specs.declared.state.Phase.TheVariants.{Steady};
 ghost use Rattle.paraid_base.specs.History.{History};
-ghost use Rattle.paraid_base.specs.Soft.{stripe_count};
 ghost use Rattle.paraid_base.specs.States.{phase_to};
-ghost use Rattle.paraid_core.specs.Cores.{CoreStandsFor, IsCoreHeldSinceCommit, IsCoreReady, batch_of, core_down, core_rack, core_table, meta_of, store_of};
+ghost use Rattle.paraid_core.specs.Cores.{CoreStandsFor, IsCoreHeldSinceCommit, IsCoreReady, batch_of, core_rack, meta_of, store_of};
 ghost use Rattle.paraid_core.specs.Lost.{CoreTellsLosses};
-ghost use Rattle.paraid_core.specs.Steps.{IsHeldStill, IsMarkedFrom, IsNamedOrAbsent};
-ghost use Rattle.paraid_dirty.specs.Table.{is_dirty};
+ghost use Rattle.paraid_core.specs.Steps.{IsMarkedFrom};
 ghost use Rattle.paraid_image.specs.Out.{named_out};
 ghost use Rattle.paraid_moves.specs.MoveMetas.{meta_flipped_to};
 ghost use Rattle.paraid_rack.specs.declared.call.Power.TheVariants.{Parked, Spinning};
 ghost use Rattle.paraid_rack.specs.Told.{CrashTriple, Ran};
-ghost use Rattle.paraid_shift.specs.Losing.{CoreBearsLoss, LosesMark};
-ghost use Rattle.paraid_shift.specs.Outcomes.{CommitsGear, PowersDisks, TellsSecond};
-ghost use Rattle.paraid_shift.specs.Serving.{IsHeldFromRest, IsCoreServing, LeavesArray, RestsInShift, StaysAtRest};
-ghost use Rattle.paraid_shift.specs.Steps.{CommitsMark, EndsInSteps, EndsLosing, MakesPowerCalls, MarksPowered};
-ghost use Rattle.paraid_txn.specs.Losses.{AreTwoDown, OnlyLosesSlots};
-ghost use Rattle.paraid_txn.specs.Stores.{IsSameStore, named_of};
+ghost use Rattle.paraid_shift.specs.Losing.{LosesMark};
+ghost use Rattle.paraid_shift.specs.Outcomes.{CommitsGear};
+ghost use Rattle.paraid_shift.specs.Parts.{CanEndShift, KeepsContents, KeepsRack, ServesShifted, SparesRack, TurnsDisks};
+ghost use Rattle.paraid_shift.specs.Serving.{IsCoreServing, RestsInShift};
+ghost use Rattle.paraid_shift.specs.Steps.{EndsInSteps, EndsLosing};
+ghost use Rattle.paraid_txn.specs.Stores.{IsSameStore};
 
 use paraid_base::{DiskNo, Two};
 use paraid_core::Core;
@@ -52,17 +49,13 @@ fn lower<R: Rack>(core: &mut Core<R>, disk: DiskNo) -> Result<(), Two>
     requires nothing { batch_of core.old ≡ [] }
     ensures serving { OnOk result (IsCoreServing R.slot_count R.slot core.new) }
     ensures nothing { OnOk result (batch_of core.new ≡ []) }
-    ensures powers { OnOk result (PowersDisks R.slot_count R.slot R.told core.old core.new) }
+    ensures turns { TurnsDisks core.old core.new result }
+    ensures rack { KeepsRack core.old core.new
+        (CoreTellsLosses R.told (named_out (meta_of core.old).out) core.old core.new) result }
     ensures store { IsSameStore (store_of core.old) (store_of core.new) }
-    ensures table { core_table core.new ≡ core_table core.old }
-    ensures slots { R.slot_count (core_rack core.new) ≡ R.slot_count (core_rack core.old) }
-    ensures no_fall { (d : ℕ) → (R.slot (core_rack core.old) d).faults ≤ (R.slot (core_rack core.new) d).faults }
-    ensures calls { MakesPowerCalls R.told core.old core.new }
-    ensures tells { IfErr result (λ two. TellsSecond R.slot R.told core.old core.new two) }
     ensures parked { OnOk result (named_out (meta_of core.new).out ≢ Some disk
         → (R.slot (core_rack core.new) disk).power ≡ Parked) }
     ensures others { (d : ℕ) → d ≢ disk → R.slot (core_rack core.new) d ≡ R.slot (core_rack core.old) d }
-    ensures moments { IsHeldFromRest R.slot_count R.told core.old core.new }
 {
     if !is_up(core, disk) {
         return Ok(());
@@ -79,17 +72,13 @@ fn park_down<R: Rack>(core: &mut Core<R>, hi: u8) -> Result<(), Two>
     requires nothing { batch_of core.old ≡ [] }
     ensures serving { OnOk result (IsCoreServing R.slot_count R.slot core.new) }
     ensures nothing { OnOk result (batch_of core.new ≡ []) }
-    ensures powers { OnOk result (PowersDisks R.slot_count R.slot R.told core.old core.new) }
-    ensures table { core_table core.new ≡ core_table core.old }
-    ensures slots { R.slot_count (core_rack core.new) ≡ R.slot_count (core_rack core.old) }
-    ensures no_fall { (d : ℕ) → (R.slot (core_rack core.old) d).faults ≤ (R.slot (core_rack core.new) d).faults }
-    ensures calls { MakesPowerCalls R.told core.old core.new }
-    ensures tells { IfErr result (λ two. TellsSecond R.slot R.told core.old core.new two) }
+    ensures turns { TurnsDisks core.old core.new result }
+    ensures rack { KeepsRack core.old core.new
+        (CoreTellsLosses R.told (named_out (meta_of core.old).out) core.old core.new) result }
     ensures parked { OnOk result ((d : ℕ) → (meta_of core.old).gear ≤ d → d < hi
         → named_out (meta_of core.new).out ≢ Some d → (R.slot (core_rack core.new) d).power ≡ Parked) }
     ensures others { OnOk result ((d : ℕ) → (d < (meta_of core.old).gear) ⊎ (hi ≤ d)
         → R.slot (core_rack core.new) d ≡ R.slot (core_rack core.old) d) }
-    ensures moments { IsHeldFromRest R.slot_count R.told core.old core.new }
 {
     for disk in core.meta().gear..hi {
         lower(core, disk)?;
@@ -99,23 +88,11 @@ fn park_down<R: Rack>(core: &mut Core<R>, hi: u8) -> Result<(), Two>
 
 // Commits the gear to which the shift has gone.
 fn commit_gear<R: Rack>(core: &mut Core<R>) -> Result<(), Two>
-    requires serving { IsCoreServing R.slot_count R.slot core.old }
-    requires epoch { (meta_of core.old).epoch < 2 ^ 63 }
-    requires whole { (meta_of core.old).out ≡ No }
-    requires shifts { 0 < phase_to (meta_of core.old).phase }
-    requires filled { (meta_of core.old).fill ≡ stripe_count (meta_of core.old).setup.geometry.disks
-        (meta_of core.old).setup.geometry.rows (phase_to (meta_of core.old).phase) }
-    requires clean { (r d : ℕ) → r < (meta_of core.old).setup.geometry.rows → (meta_of core.old).gear ≤ d
-        → d < phase_to (meta_of core.old).phase → is_dirty (core_table core.old) r d ≡ false }
+    requires can { CanEndShift core.old }
     ensures ended { OnOk result (CommitsGear R.slot_count R.slot R.told core.old core.new) }
-    ensures table { core_table core.new ≡ core_table core.old }
-    ensures slots { R.slot_count (core_rack core.new) ≡ R.slot_count (core_rack core.old) }
-    ensures spared { OnlyLosesSlots (R.slot (core_rack core.old)) (R.slot (core_rack core.new)) }
-    ensures loses { IfErr result (λ two. LosesMark R.slot_count R.told core.old core.new
-        (meta_flipped_to (meta_of core.old) (phase_to (meta_of core.old).phase)) two) }
-    ensures two { IfErr result (AreTwoDown (core_down core.old)
-        (R.slot (core_rack core.old)) (R.slot (core_rack core.new))) }
-    ensures moments { IsHeldStill R.slot_count R.told core.old core.new }
+    ensures keeps { KeepsContents core.old core.new }
+    ensures rack { SparesRack core.old core.new (LosesMark R.slot_count R.told core.old core.new
+        (meta_flipped_to (meta_of core.old) (phase_to (meta_of core.old).phase))) result }
 {
     core.flip();
     core.commit()?;
@@ -125,30 +102,15 @@ fn commit_gear<R: Rack>(core: &mut Core<R>) -> Result<(), Two>
 /// Ends a shift of which no unit is left: by one commit with all that is staged, after which the disks that a shift
 /// down leaves are parked in ascending order.
 pub fn flip<R: Rack>(core: &mut Core<R>) -> Result<(), Two>
-    requires serving { IsCoreServing R.slot_count R.slot core.old }
-    requires epoch { (meta_of core.old).epoch < 2 ^ 63 }
-    requires whole { (meta_of core.old).out ≡ No }
-    requires shifts { 0 < phase_to (meta_of core.old).phase }
-    requires filled { (meta_of core.old).fill ≡ stripe_count (meta_of core.old).setup.geometry.disks
-        (meta_of core.old).setup.geometry.rows (phase_to (meta_of core.old).phase) }
-    requires clean { (r d : ℕ) → r < (meta_of core.old).setup.geometry.rows → (meta_of core.old).gear ≤ d
-        → d < phase_to (meta_of core.old).phase → is_dirty (core_table core.old) r d ≡ false }
-    ensures serving { OnOk result (IsCoreServing R.slot_count R.slot core.new) }
-    ensures nothing { OnOk result (batch_of core.new ≡ []) }
-    ensures absent { OnOk result (IsNamedOrAbsent R.slot core.new) }
-    ensures leaves { OnOk result (LeavesArray R.slot_count R.slot core.old core.new) }
+    requires can { CanEndShift core.old }
+    ensures shifted { OnOk result (ServesShifted core.old core.new) }
     ensures meta { OnOk result (IsMarkedFrom (record (meta_flipped_to (meta_of core.old) (phase_to (meta_of core.old).phase))
         { epoch = (meta_of core.old).epoch + 1 }) (meta_of core.new)) }
-    ensures table { core_table core.new ≡ core_table core.old }
-    ensures slots { R.slot_count (core_rack core.new) ≡ R.slot_count (core_rack core.old) }
-    ensures no_fall { (d : ℕ) → (R.slot (core_rack core.old) d).faults ≤ (R.slot (core_rack core.new) d).faults }
+    ensures keeps { KeepsContents core.old core.new }
     // Wherever the last marks of the shift wait in memory, they are brought with one commit more, and the event is
     // underway again.
     ensures steps { OnOk result (EndsInSteps R.slot_count R.told core.old core.new) }
-    ensures loses { IfErr result (λ two. EndsLosing R.slot_count R.told core.old core.new two) }
-    ensures two { IfErr result (AreTwoDown (core_down core.old)
-        (R.slot (core_rack core.old)) (R.slot (core_rack core.new))) }
-    ensures moments { IsHeldStill R.slot_count R.told core.old core.new }
+    ensures rack { KeepsRack core.old core.new (EndsLosing R.slot_count R.told core.old core.new) result }
     ensures rests { OnOk result ((h : History) (lo : ℕ)
         → Ran (R.told (core_rack core.old)) (R.told (core_rack core.new))
         (CrashTriple (IsCoreHeldSinceCommit R.slot_count core.old h lo) (CoreStandsFor R.slot_count core.old h lo)

@@ -1,16 +1,16 @@
 //! A step of a shift: units are copied past the log, made to last, marked and committed.
-ghost use Rattle.std.specs.Prelude.{◌≡◌, ◌≢◌, ℕ, ◌+◌, ◌-◌, ◌^◌, ◌<◌, ◌≤◌, ◌⊎◌, [], true, false, OnOk, IfOk, IfErr};
+ghost use Rattle.std.specs.Prelude.{◌≡◌, ◌≢◌, ◌+◌, ◌-◌, ◌^◌, ◌<◌, ◌≤◌, ◌⊎◌, [], true, OnOk, IfOk};
 ghost use Rattle.paraid_base.specs.declared.state.Out.TheVariants.{No};
 ghost use Rattle.paraid_base.specs.Soft.{stripe_count};
 ghost use Rattle.paraid_base.specs.States.{phase_to};
 ghost use Rattle.paraid_image.specs.Out.{named_out};
-ghost use Rattle.paraid_core.specs.Cores.{IsCoreReady, batch_of, core_down, core_rack, core_table, meta_of};
+ghost use Rattle.paraid_core.specs.Cores.{IsCoreReady, batch_of, core_table, meta_of};
 ghost use Rattle.paraid_core.specs.Steps.{IsMarkedFrom, IsNamedOrAbsent};
-ghost use Rattle.paraid_shift.specs.Outcomes.{CommitsStaged, LosesInCommit, LosesSecond, MovesGroup, StepsOn};
-ghost use Rattle.paraid_shift.specs.Serving.{IsCoreServing, LeavesArray};
-ghost use Rattle.paraid_shift.specs.Steps.{CoreLosesInEvent, CoreLosesInSteps, CoreServesMarked, CoreStepsInEvent, StepsOrWaits};
+ghost use Rattle.paraid_shift.specs.Outcomes.{CommitsInEvent, LosesInCommit, MovesGroup, ServesOn, StepsOn};
+ghost use Rattle.paraid_shift.specs.Parts.{AreStripesToFill, CanMoveUnits, KeepsRack, SparesRack};
+ghost use Rattle.paraid_shift.specs.Serving.{IsCoreServing};
+ghost use Rattle.paraid_shift.specs.Steps.{CoreLosesInSteps, CoreStepsInEvent, StepsOrWaits};
 ghost use Rattle.paraid_shift.specs.Units.{AreCellsDone, AreCoreUnitsLeft, AreUnitsDone, CoreCountsMoved, MovesUpTo};
-ghost use Rattle.paraid_txn.specs.Losses.{AreTwoDown, OnlyLosesSlots};
 
 use crate::cells::move_group;
 use crate::stripes::move_stripes;
@@ -31,11 +31,9 @@ pub struct Moved {
 fn commit<R: Rack>(core: &mut Core<R>) -> Result<(), Two>
     requires serving { IsCoreServing R.slot_count R.slot core.old }
     requires epoch { (meta_of core.old).epoch < 2 ^ 63 }
-    ensures commits { OnOk result (CommitsStaged R.slot_count R.slot R.told core.old core.new) }
+    ensures commits { OnOk result (CommitsInEvent R.slot_count R.slot R.told core.old core.new) }
     ensures table { core_table core.new ≡ core_table core.old }
-    ensures slots { R.slot_count (core_rack core.new) ≡ R.slot_count (core_rack core.old) }
-    ensures spared { OnlyLosesSlots (R.slot (core_rack core.old)) (R.slot (core_rack core.new)) }
-    ensures loses { IfErr result (λ two. LosesInCommit R.slot_count R.slot R.told core.old core.new two) }
+    ensures rack { SparesRack core.old core.new (LosesInCommit R.slot_count R.slot R.told core.old core.new) result }
 {
     core.commit()?;
     Ok(())
@@ -45,23 +43,16 @@ fn commit<R: Rack>(core: &mut Core<R>) -> Result<(), Two>
 pub fn commit_staged<R: Rack>(core: &mut Core<R>) -> Result<(), Two>
     requires serving { IsCoreServing R.slot_count R.slot core.old }
     requires epoch { (meta_of core.old).epoch < 2 ^ 63 }
-    ensures serving { OnOk result (IsCoreServing R.slot_count R.slot core.new) }
-    ensures leaves { OnOk result (LeavesArray R.slot_count R.slot core.old core.new) }
+    ensures serves { OnOk result (ServesOn R.slot_count R.slot core.old core.new 1) }
     ensures nothing { OnOk result (batch_of core.new ≡ []) }
-    ensures absent { OnOk result (IsNamedOrAbsent R.slot core.old → IsNamedOrAbsent R.slot core.new) }
-    ensures epoch { OnOk result ((meta_of core.new).epoch ≤ (meta_of core.old).epoch + 1) }
     ensures meta { OnOk result (IsMarkedFrom (record (meta_of core.old) { epoch = (meta_of core.new).epoch })
         (meta_of core.new)) }
     ensures table { core_table core.new ≡ core_table core.old }
     ensures moves { OnOk result ((meta_of core.old).out ≡ No → CoreCountsMoved R.slot_count core.old core.new 0) }
     ensures steps { OnOk result (IsNamedOrAbsent R.slot core.old
         → CoreStepsInEvent R.slot_count R.told core.old core.new 1) }
-    ensures slots { R.slot_count (core_rack core.new) ≡ R.slot_count (core_rack core.old) }
-    ensures no_fall { (d : ℕ) → (R.slot (core_rack core.old) d).faults ≤ (R.slot (core_rack core.new) d).faults }
-    ensures two { IfErr result (AreTwoDown (core_down core.old)
-        (R.slot (core_rack core.old)) (R.slot (core_rack core.new))) }
-    ensures loses { IfErr result (λ two. IsNamedOrAbsent R.slot core.old
-        → CoreLosesInSteps R.slot_count R.told core.old core.new 1 two) }
+    ensures rack { KeepsRack core.old core.new (λ two. IsNamedOrAbsent R.slot core.old
+        → CoreLosesInSteps R.slot_count R.told core.old core.new 1 two) result }
 {
     if core.staged() == 0 {
         return Ok(());
@@ -82,16 +73,12 @@ fn has_ended<R: Rack>(core: &Core<R>) -> bool
 
 // Moves a group of cells, at most `most`, and commits it, unless the shift ends with it. It gives how many they were.
 fn step_group<R: Rack>(core: &mut Core<R>, most: u32) -> Result<u32, Two>
-    requires serving { IsCoreServing R.slot_count R.slot core.old }
-    requires whole { (meta_of core.old).out ≡ No }
-    requires nothing { batch_of core.old ≡ [] }
+    requires can { CanMoveUnits core.old }
     requires epoch { (meta_of core.old).epoch < 2 ^ 63 }
     ensures steps { IfOk result (λ count. StepsOn R.slot_count R.slot core.old core.new most 1 count
         (MovesGroup R.slot_count core.old core.new most count)
         (CoreStepsInEvent R.slot_count R.told core.old core.new 1)) }
-    ensures slots { R.slot_count (core_rack core.new) ≡ R.slot_count (core_rack core.old) }
-    ensures no_fall { (d : ℕ) → (R.slot (core_rack core.old) d).faults ≤ (R.slot (core_rack core.new) d).faults }
-    ensures loses { IfErr result (λ two. LosesSecond R.slot_count R.slot R.told core.old core.new 1 two) }
+    ensures rack { KeepsRack core.old core.new (CoreLosesInSteps R.slot_count R.told core.old core.new 1) result }
 {
     let count = move_group(core, most)?;
     if count == 0 {
@@ -106,16 +93,12 @@ fn step_group<R: Rack>(core: &mut Core<R>, most: u32) -> Result<u32, Two>
 
 // Moves dirty cells of the disks that come up, group by group and at most `most`. It gives how many they were.
 fn step_cells<R: Rack>(core: &mut Core<R>, most: u32) -> Result<u32, Two>
-    requires serving { IsCoreServing R.slot_count R.slot core.old }
-    requires whole { (meta_of core.old).out ≡ No }
-    requires nothing { batch_of core.old ≡ [] }
+    requires can { CanMoveUnits core.old }
     requires epoch { (meta_of core.old).epoch + most < 2 ^ 63 }
     ensures steps { IfOk result (λ count. StepsOn R.slot_count R.slot core.old core.new most most count
         (MovesUpTo R.slot_count core.old core.new (AreCellsDone (meta_of core.new) (core_table core.new)) most count)
         (CoreStepsInEvent R.slot_count R.told core.old core.new most)) }
-    ensures slots { R.slot_count (core_rack core.new) ≡ R.slot_count (core_rack core.old) }
-    ensures no_fall { (d : ℕ) → (R.slot (core_rack core.old) d).faults ≤ (R.slot (core_rack core.new) d).faults }
-    ensures loses { IfErr result (λ two. LosesSecond R.slot_count R.slot R.told core.old core.new most two) }
+    ensures rack { KeepsRack core.old core.new (CoreLosesInSteps R.slot_count R.told core.old core.new most) result }
 {
     let mut moved = 0;
     for at in 0..most {
@@ -139,11 +122,7 @@ fn next_end<R: Rack>(core: &Core<R>, most: u32) -> u32
     requires ready { IsCoreReady R.slot_count R.slot core.now }
     ensures from { (meta_of core.now).fill ≤ result }
     ensures few { result ≤ (meta_of core.now).fill + most }
-    ensures shifts { (meta_of core.now).fill < result → 0 < phase_to (meta_of core.now).phase }
-    ensures region { (meta_of core.now).fill < result
-        → phase_to (meta_of core.now).phase < (meta_of core.now).setup.geometry.disks }
-    ensures stripe { (meta_of core.now).fill < result → result ≤ stripe_count (meta_of core.now).setup.geometry.disks
-        (meta_of core.now).setup.geometry.rows (phase_to (meta_of core.now).phase) }
+    ensures some { (meta_of core.now).fill < result → AreStripesToFill (meta_of core.now) result }
     ensures all { (result ≡ (meta_of core.now).fill + most) ⊎ (result ≡ stripe_count (meta_of core.now).setup.geometry.disks
         (meta_of core.now).setup.geometry.rows (phase_to (meta_of core.now).phase)) }
 {
@@ -158,17 +137,13 @@ fn next_end<R: Rack>(core: &Core<R>, most: u32) -> u32
 // Fills the next stripes, at most `most`, and commits that, unless the shift ends with them. It gives how many they
 // were, none where a disk was lost.
 fn step_stripes<R: Rack>(core: &mut Core<R>, most: u32) -> Result<u32, Two>
-    requires serving { IsCoreServing R.slot_count R.slot core.old }
-    requires whole { (meta_of core.old).out ≡ No }
-    requires nothing { batch_of core.old ≡ [] }
+    requires can { CanMoveUnits core.old }
     requires clean { 0 < most → AreCellsDone (meta_of core.old) (core_table core.old) }
     requires epoch { (meta_of core.old).epoch < 2 ^ 63 }
     ensures steps { IfOk result (λ count. StepsOn R.slot_count R.slot core.old core.new most 1 count
         (MovesUpTo R.slot_count core.old core.new (AreUnitsDone (meta_of core.new) (core_table core.new)) most count)
         (StepsOrWaits R.slot_count R.told core.old core.new 1)) }
-    ensures slots { R.slot_count (core_rack core.new) ≡ R.slot_count (core_rack core.old) }
-    ensures no_fall { (d : ℕ) → (R.slot (core_rack core.old) d).faults ≤ (R.slot (core_rack core.new) d).faults }
-    ensures loses { IfErr result (λ two. LosesSecond R.slot_count R.slot R.told core.old core.new 1 two) }
+    ensures rack { KeepsRack core.old core.new (CoreLosesInSteps R.slot_count R.told core.old core.new 1) result }
 {
     let from = core.meta().fill;
     let end = next_end(core, most);
@@ -188,16 +163,12 @@ fn step_stripes<R: Rack>(core: &mut Core<R>, most: u32) -> Result<u32, Two>
 
 // Moves the next units, at most `most`: cells and then stripes, while no disk is out.
 fn step_units<R: Rack>(core: &mut Core<R>, most: u32) -> Result<u32, Two>
-    requires serving { IsCoreServing R.slot_count R.slot core.old }
-    requires whole { (meta_of core.old).out ≡ No }
-    requires nothing { batch_of core.old ≡ [] }
+    requires can { CanMoveUnits core.old }
     requires epoch { (meta_of core.old).epoch + most < 2 ^ 63 }
     ensures steps { IfOk result (λ count. StepsOn R.slot_count R.slot core.old core.new most (most + 1) count
         (MovesUpTo R.slot_count core.old core.new (AreUnitsDone (meta_of core.new) (core_table core.new)) most count)
         (StepsOrWaits R.slot_count R.told core.old core.new (most + 1))) }
-    ensures slots { R.slot_count (core_rack core.new) ≡ R.slot_count (core_rack core.old) }
-    ensures no_fall { (d : ℕ) → (R.slot (core_rack core.old) d).faults ≤ (R.slot (core_rack core.new) d).faults }
-    ensures loses { IfErr result (λ two. LosesSecond R.slot_count R.slot R.told core.old core.new (most + 1) two) }
+    ensures rack { KeepsRack core.old core.new (CoreLosesInSteps R.slot_count R.told core.old core.new (most + 1)) result }
 {
     let cells = step_cells(core, most)?;
     let Out::No = core.out() else {
@@ -220,9 +191,7 @@ fn step_whole<R: Rack>(core: &mut Core<R>, most: u32) -> Result<u32, Two>
         (AreUnitsDone (meta_of core.new) (core_table core.new)) most count)
         (StepsOrWaits R.slot_count R.told core.old core.new (most + 1))) }
     ensures idle { IfOk result (λ count. (meta_of core.old).out ≢ No → (count ≡ 0) × (core.new ≡ core.old)) }
-    ensures slots { R.slot_count (core_rack core.new) ≡ R.slot_count (core_rack core.old) }
-    ensures no_fall { (d : ℕ) → (R.slot (core_rack core.old) d).faults ≤ (R.slot (core_rack core.new) d).faults }
-    ensures loses { IfErr result (λ two. LosesSecond R.slot_count R.slot R.told core.old core.new (most + 1) two) }
+    ensures rack { KeepsRack core.old core.new (CoreLosesInSteps R.slot_count R.told core.old core.new (most + 1)) result }
 {
     let Out::No = core.out() else {
         return Ok(0);
@@ -248,9 +217,7 @@ pub fn units_left<R: Rack>(core: &Core<R>) -> u32
 pub fn step<R: Rack>(core: &mut Core<R>, units: u32) -> Result<Moved, Two>
     requires serving { IsCoreServing R.slot_count R.slot core.old }
     requires epoch { (meta_of core.old).epoch < 2 ^ 63 - 2 ^ 32 - 2 }
-    ensures serving { OnOk result (IsCoreServing R.slot_count R.slot core.new) }
-    ensures leaves { OnOk result (LeavesArray R.slot_count R.slot core.old core.new) }
-    ensures absent { OnOk result (IsNamedOrAbsent R.slot core.old → IsNamedOrAbsent R.slot core.new) }
+    ensures serves { OnOk result (ServesOn R.slot_count R.slot core.old core.new (units + 2)) }
     ensures few { IfOk result (λ moved. moved.units ≤ units) }
     // The units moved are the next ones by the state of the machine; where no disk was lost they are as many as were
     // asked for, or no unit is left.
@@ -260,15 +227,10 @@ pub fn step<R: Rack>(core: &mut Core<R>, units: u32) -> Result<Moved, Two>
     ensures steps { OnOk result (IsNamedOrAbsent R.slot core.old
         → StepsOrWaits R.slot_count R.told core.old core.new (units + 2)) }
     ensures left { IfOk result (λ moved. AreCoreUnitsLeft R.slot_count core.new moved.left) }
-    ensures epoch { OnOk result ((meta_of core.new).epoch ≤ (meta_of core.old).epoch + units + 2) }
     ensures lost { IfOk result (λ moved. moved.lost ≡ named_out (meta_of core.new).out) }
-    ensures slots { R.slot_count (core_rack core.new) ≡ R.slot_count (core_rack core.old) }
-    ensures no_fall { (d : ℕ) → (R.slot (core_rack core.old) d).faults ≤ (R.slot (core_rack core.new) d).faults }
-    ensures two { IfErr result (AreTwoDown (core_down core.old)
-        (R.slot (core_rack core.old)) (R.slot (core_rack core.new))) }
     // Where a second disk is lost, so it is told, with what led there.
-    ensures loses { IfErr result (λ two. IsNamedOrAbsent R.slot core.old
-        → CoreLosesInSteps R.slot_count R.told core.old core.new (units + 2) two) }
+    ensures rack { KeepsRack core.old core.new (λ two. IsNamedOrAbsent R.slot core.old
+        → CoreLosesInSteps R.slot_count R.told core.old core.new (units + 2) two) result }
 {
     commit_staged(core)?;
     let count = step_whole(core, units)?;

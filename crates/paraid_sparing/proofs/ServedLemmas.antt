@@ -1,9 +1,9 @@
 -- From the events of a line to the line.
-use Rattle.std.proofs.Common.{◌≡◌, ℕ, ◌-◌, ◌<◌, true, List, [], ◌∷◌, ◌++◌, Option, Some, None, refl, sym, ap, ◌∙◌, subst}
+use Rattle.std.proofs.Common.{◌≡◌, ℕ, ◌-◌, List, [], ◌∷◌, ◌++◌, Option, Some, None, refl, sym, ap, ◌∙◌, subst}
 use Rattle.std.proofs.lemmas.List.{append-nil}
 use Rattle.paraid_base.specs.declared.event.Answer.{Answer}
 use Rattle.paraid_base.specs.declared.event.Event.{Event}
-use Rattle.paraid_base.specs.declared.event.Event.TheVariants.{Replace, Tick}
+use Rattle.paraid_base.specs.declared.event.Event.TheVariants.{Replace}
 use Rattle.paraid_rack.specs.declared.call.Call.{Call}
 use Rattle.paraid_rack.specs.Told.{Came, Ran}
 use Rattle.paraid_rack.specs.Trail.{Trail, extend}
@@ -13,9 +13,6 @@ use Rattle.paraid_serve.specs.Calls.{Grows}
 use Rattle.paraid_serve.specs.Stretch.{turn_with}
 use Rattle.paraid_session.specs.Turn.{GoesOn, Point}
 use Rattle.paraid_spare.specs.declared.pool.Pool.{Pool}
-use Rattle.paraid_serve.specs.Form.{is_answer_to}
-use Rattle.paraid_sparing.specs.Form.{TellsLine}
-use Rattle.paraid_sparing.specs.Form.TellsLine.{alone as form_alone, spared as form_spared}
 use Rattle.paraid_sparing.specs.Serving.{Keeps, ServesLine}
 use Rattle.paraid_sparing.specs.Sparing.{Stock, due_before, spare_line, stock_after, used}
 use Rattle.paraid_sparing.specs.Sparing.AnswersLine.{alone, spared}
@@ -73,11 +70,3 @@ module _ (slots : ℕ) (setup : Setup) (wait : ℕ) (p : Point) (k : Stock) (eve
           keeps = kept q two.holds.2;
         });
       }
-
--- the form of a line
-pub told_alone : (event : Event) (before after : ℕ) (line text : List ℕ) (answer : Answer) → is_answer_to event answer ≡ true → line ≡ [] → text ≡ reply_of answer → after ≡ before → TellsLine event before (line ++ text) after
-told_alone event before after line text answer kind empty is same = rw (empty, is, same) (form_alone answer kind)
-
-pub told_spared : (event : Event) (before after : ℕ) (line : List ℕ) (d : ℕ) (text : List ℕ) (spare answer : Answer) → event ≡ Tick → 0 < before → is_answer_to (Replace d) spare ≡ true → is_answer_to event answer ≡ true
-    → line ≡ spare_line spare (before - 1) → text ≡ reply_of answer → after ≡ before - 1 → TellsLine event before (line ++ text) after
-told_spared event before after line d text spare answer tick some kind_s kind_a line_is text_is same = rw (line_is, text_is, same) (form_spared d spare answer tick some kind_s kind_a)

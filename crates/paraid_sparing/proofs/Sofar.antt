@@ -26,9 +26,6 @@ use Rattle.paraid_serve.proofs.Sofar.{heard_end, heard_in_time}
 use Rattle.paraid_serve.proofs.StretchLemmas.{More, events_in-push, some_told, stretch_more, stretch_none}
 use Rattle.paraid_session.specs.Turn.{GoesOn, Point}
 use Rattle.paraid_spare.specs.declared.pool.Pool.{Pool}
-use Rattle.paraid_spare.specs.Pools.{left_of}
-use Rattle.paraid_sparing.specs.Form.{TellsLine, TellsLines}
-use Rattle.paraid_sparing.specs.Form.TellsLines.{more as line_more, none as no_lines}
 use Rattle.paraid_sparing.specs.Serving.{Keeps, ServesLine}
 use Rattle.paraid_sparing.specs.Session.{EndsSpared, ServesSpared, Spared}
 use Rattle.paraid_sparing.specs.Sparing.{AnswersLine, AnswersTrace, Stock, spun_by}
@@ -83,7 +80,6 @@ pub record Sofar (seen seen_now : Shown) (slots : ℕ) (setup : Setup) (wait : �
   pub limit : reader.taken ≤ 2 ^ 40
   pub count : reader.taken ≡ length bytes
   pub grows : GrowsByBytes written_before written text
-  pub form : TellsLines k.left answered text (left_of pool)
   pub causes : CausesLines wait seen k answered text seen_now pool
   pub tells : IsSome now → IsSome start
   pub said : IsSome now → (p : Point) → first p → Said slots setup wait start now p k answered text stood pool
@@ -103,7 +99,6 @@ sofar_start seen slots setup wait k left written start stood pool keeps = record
   limit = omega arith;
   count = refl;
   grows = GrowsByBytes-none written;
-  form = subst (λ (n : ℕ). TellsLines k.left [] [] n) (sym keeps.left) no_lines;
   causes = causes_none wait seen k pool keeps;
   tells = λ t. t;
   said = λ t p at_p. record { part = record { put_in = []; all = stretch_none slots setup start p t; stock = k; answers = no_line; counts = λ one d low fresh. trace_counts slots setup wait p k [] [] [] p k no_line one d low fresh }; stands = at_p; keeps = keeps };
@@ -162,10 +157,7 @@ said_more {slots} {setup} {wait} {start} {now} {p} {k} {lines} {text} {stood} {p
 module _ {seen seen_now : Shown} {slots : ℕ} {setup : Setup} {wait : ℕ} {k : Stock} {first : Point → Type 0} {left_before left after written_before written : Option (List ℕ)} {start now : Option Trail} {stood : Point → Type 0} {pool : Pool} {old new : Reading} (s : Sofar seen seen_now slots setup wait k first left_before left written_before written start now stood pool old) where
   -- one line more
   module _ {event : Event} (h : HearsLine left after old new (Ok (Some event))) (later : Option Trail) (told : List ℕ) (new_stood : Point → Type 0) (new_pool : Pool) (slots_now : ℕ) (setup_now : Setup) (same_slots : slots_now ≡ slots) (same_setup : setup_now ≡ setup) (tells : IsSome later → IsSome now)
-      (goes : (q : Point) (w : ℕ) (j : Stock) → stood q → Keeps pool w j → Ran now later (ServesLine slots_now setup_now w q j event told new_stood new_pool)) (kind : TellsLine event (left_of pool) told (left_of new_pool)) (seen_later : Shown) (caused : (w : ℕ) (j : Stock) → Keeps pool w j → CausesLine w seen_now j event told seen_later new_pool) where
-    told_more : TellsLines k.left (s.answered ++ h.says.0 ∷ []) (s.text ++ told) (left_of new_pool)
-    told_more = line_more s.answered s.text (left_of pool) s.form h.says.0 told (left_of new_pool) (subst (λ (e : Event). TellsLine e (left_of pool) told (left_of new_pool)) h.says.1 kind)
-
+      (goes : (q : Point) (w : ℕ) (j : Stock) → stood q → Keeps pool w j → Ran now later (ServesLine slots_now setup_now w q j event told new_stood new_pool)) (seen_later : Shown) (caused : (w : ℕ) (j : Stock) → Keeps pool w j → CausesLine w seen_now j event told seen_later new_pool) where
     caused_more : CausesLines wait seen k (s.answered ++ h.says.0 ∷ []) (s.text ++ told) seen_later new_pool
     caused_more = causes_push wait seen seen_now seen_later k s.answered s.text pool event h.says.0 told new_pool h.says.1 s.causes caused
 
@@ -189,7 +181,6 @@ module _ {seen seen_now : Shown} {slots : ℕ} {setup : Setup} {wait : ℕ} {k :
           limit = h.limit;
           count = omega (arith, s.count, h.taken, length-append s.bytes h.got);
           grows = GrowsByBytes-then written_before written wrote s.text told s.grows grew;
-          form = told_more;
           causes = caused_more;
           tells = λ t. s.tells (tells t);
           said = says;
@@ -207,13 +198,6 @@ module _ {seen seen_now : Shown} {slots : ℕ} {setup : Setup} {wait : ℕ} {k :
           given = Gives-then left_before left after s.bytes h.got s.given h.given;
           grows = GrowsByBytes-then written_before written wrote s.text (take n told) s.grows grew;
           full = tt;
-          form = (
-            s.answered ++ line ∷ [],
-            lines_of new.rest,
-            drop n told,
-            cut,
-            subst (λ (x : List ℕ). TellsLines k.left (s.answered ++ line ∷ []) x (left_of new_pool)) (ap (λ x. s.text ++ x) (sym (take-append-drop n told)) ∙ sym (append_assoc s.text (take n told) (drop n told))) told_more,
-          );
           causes = causes_cut wait seen seen_now seen_later k (s.bytes ++ h.got) s.answered (lines_of new.rest) s.text pool event line told n new_pool cut h.says.1 s.causes caused;
           answered = λ t p f. (
             s.answered ++ line ∷ [],
@@ -263,7 +247,6 @@ module _ {seen seen_now : Shown} {slots : ℕ} {setup : Setup} {wait : ℕ} {k :
       given = Gives-then left_before left after s.bytes h.got s.given h.given;
       grows = s.grows;
       full = all_taken h;
-      form = subst (λ (ls : List (List ℕ)). TellsLines k.left ls s.text (left_of pool)) (all_lines h) s.form;
       causes = flush_caused (Flushed writes) seen_later cause;
       answered = flushed (Flushed writes) refl goes;
     }
@@ -275,7 +258,6 @@ module _ {seen seen_now : Shown} {slots : ℕ} {setup : Setup} {wait : ℕ} {k :
       given = Gives-then left_before left after s.bytes h.got s.given h.given;
       grows = s.grows;
       full = all_taken h;
-      form = subst (λ (ls : List (List ℕ)). TellsLines k.left ls s.text (left_of pool)) (all_lines h) s.form;
       causes = flush_caused (Halted halt) seen_later cause;
       answered = flushed (Halted halt) refl goes;
     }
@@ -293,7 +275,6 @@ module _ {seen seen_now : Shown} {slots : ℕ} {setup : Setup} {wait : ℕ} {k :
     given = Gives-then left_before left after s.bytes h.got s.given h.given;
     grows = s.grows;
     full = tt;
-    form = subst (λ (ls : List (List ℕ)). TellsLines k.left ls s.text (left_of pool)) (fault_lines h) s.form;
     causes = subst (λ (ls : List (List ℕ)). CausesLines wait seen k ls s.text seen_now pool) (fault_lines h) s.causes;
     answered = faulted h;
   }
@@ -305,7 +286,6 @@ module _ {seen seen_now : Shown} {slots : ℕ} {setup : Setup} {wait : ℕ} {k :
     given = Gives-then left_before left after s.bytes h.got s.given h.given;
     grows = s.grows;
     full = omega (arith, s.count, h.taken, length-append s.bytes h.got, full);
-    form = subst (λ (ls : List (List ℕ)). TellsLines k.left ls s.text (left_of pool)) (fault_lines h) s.form;
     causes = subst (λ (ls : List (List ℕ)). CausesLines wait seen k ls s.text seen_now pool) (fault_lines h) s.causes;
     answered = faulted h;
   }

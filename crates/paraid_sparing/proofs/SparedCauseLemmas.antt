@@ -1,5 +1,5 @@
 -- From the causes of a line to those of all lines and of the whole text.
-use Rattle.std.proofs.Common.{◌≡◌, ℕ, ◌-◌, true, List, [], ◌∷◌, ◌++◌, length, take, drop, codes, Option, Some, None, refl, sym, ap, ◌∙◌, inl, inr, arith, subst, take-append-drop}
+use Rattle.std.proofs.Common.{◌≡◌, ℕ, ◌-◌, List, [], ◌∷◌, ◌++◌, length, take, drop, codes, Option, Some, None, refl, sym, ap, ◌∙◌, inl, inr, arith, subst, take-append-drop}
 use Rattle.std.proofs.lemmas.List.{append_assoc, take_all}
 use Rattle.paraid_base.specs.declared.event.Answer.{Answer}
 use Rattle.paraid_base.specs.declared.event.Answer.TheVariants.{Flushed, Halted}
@@ -9,7 +9,6 @@ use Rattle.paraid_base.specs.declared.fault.Halt.{Halt}
 use Rattle.paraid_io.specs.Lines.{lines_of, whole_lines}
 use Rattle.paraid_serve.specs.Causes.{HasCause, Shown}
 use Rattle.paraid_serve.specs.Ending.{EndsWithLine, end_line, halt_line, status_of_halt}
-use Rattle.paraid_serve.specs.Form.{is_answer_to}
 use Rattle.paraid_serve.specs.Output.{first_line}
 use Rattle.paraid_spare.specs.Pools.{left_of, spins_of}
 use Rattle.paraid_spare.specs.declared.pool.Pool.{Pool}
@@ -25,7 +24,7 @@ use Rattle.paraid_sparing.proofs.TextLemmas.{line_alike}
 use Rattle.paraid_trace.specs.LineEvents.{event_of}
 use Rattle.paraid_trace.specs.Replies.{reply_of}
 
-module _ (wait : ℕ) (x : Shown) (k : Stock) (event : Event) (line text : List ℕ) (answer : Answer) (y : Shown) (pool : Pool) (halt : Option Halt) (shows : y.halt ≡ halt) (told : text ≡ reply_of answer) (kind : is_answer_to event answer ≡ true) where
+module _ (wait : ℕ) (x : Shown) (k : Stock) (event : Event) (line text : List ℕ) (answer : Answer) (y : Shown) (pool : Pool) (halt : Option Halt) (shows : y.halt ≡ halt) (told : text ≡ reply_of answer) where
   kept : (j : Stock) → Keeps pool wait (stock_when j answer halt y.meta.out) → Keeps pool wait (stock_shown j answer y)
   kept j keeps = subst (λ (h : Option Halt). Keeps pool wait (stock_when j answer h y.meta.out)) (sym shows) keeps
 
@@ -33,16 +32,16 @@ module _ (wait : ℕ) (x : Shown) (k : Stock) (event : Event) (line text : List 
       → CausesLine wait x k event (line ++ text) y pool
   causes_alone before was empty none cause keeps = rw (empty, told) (record {
     stock = stock_shown k answer y;
-    line = alone answer y (ap (λ (h : Option Halt). due_when wait k h x.meta.out event) was ∙ none) kind cause;
+    line = alone answer y (ap (λ (h : Option Halt). due_when wait k h x.meta.out event) was ∙ none) cause;
     keeps = kept k keeps;
   })
 
   pub causes_spared : (before : Option Halt) (d left : ℕ) (spare : Answer) (mid : Shown) → x.halt ≡ before → left ≡ k.left → line ≡ spare_line spare (left - 1) → due_when wait k before x.meta.out event ≡ Some d
-      → is_answer_to (Replace d) spare ≡ true → HasCause x (Replace d) spare mid → HasCause mid event answer y → Keeps pool wait (stock_when (used k) answer halt y.meta.out)
+      → HasCause x (Replace d) spare mid → HasCause mid event answer y → Keeps pool wait (stock_when (used k) answer halt y.meta.out)
       → CausesLine wait x k event (line ++ text) y pool
-  causes_spared before d left spare mid was same line_is due spare_kind first second keeps = rw (line_is, told, same) (record {
+  causes_spared before d left spare mid was same line_is due first second keeps = rw (line_is, told, same) (record {
     stock = stock_shown (used k) answer y;
-    line = spared d spare answer mid y (ap (λ (h : Option Halt). due_when wait k h x.meta.out event) was ∙ due) spare_kind first kind second;
+    line = spared d spare answer mid y (ap (λ (h : Option Halt). due_when wait k h x.meta.out event) was ∙ due) first second;
     keeps = kept (used k) keeps;
   })
 
@@ -57,24 +56,26 @@ causes_push wait x mid y k lines text pool event line told new_pool is so_far go
 
 -- a line whose text was written in part
 pub causes_cut : (wait : ℕ) (x mid y : Shown) (k : Stock) (bytes : List ℕ) (lines more : List (List ℕ)) (text : List ℕ) (pool : Pool) (event : Event) (line told : List ℕ) (n : ℕ) (new_pool : Pool) → lines_of bytes ≡ (lines ++ line ∷ []) ++ more → event ≡ event_of line
-    → CausesLines wait x k lines text mid pool → ((w : ℕ) (j : Stock) → Keeps pool w j → CausesLine w mid j event told y new_pool) → BeginsCauses wait x k bytes (text ++ take n told) y
+    → CausesLines wait x k lines text mid pool → ((w : ℕ) (j : Stock) → Keeps pool w j → CausesLine w mid j event told y new_pool) → (b : BeginsCauses wait x k bytes (text ++ take n told) y) × Keeps new_pool wait b.i
 causes_cut wait x mid y k bytes lines more text pool event line told n new_pool split is so_far goes =
-    let l = subst (λ (e : Event). CausesLine wait mid so_far.stock e told y new_pool) is (goes wait so_far.stock so_far.keeps) in
-    record {
-      before = lines;
-      line = line;
-      more = more;
-      split = split;
-      front = text;
-      mid = mid;
-      j = so_far.stock;
-      all = so_far.all;
-      told = told;
-      i = l.stock;
-      last = l.line;
-      count = n;
-      cut = refl;
-    }
+    let l = subst (λ (e : Event). CausesLine wait mid so_far.stock e told y new_pool) is (goes wait so_far.stock so_far.keeps) in (
+      record {
+        before = lines;
+        line = line;
+        more = more;
+        split = split;
+        front = text;
+        mid = mid;
+        j = so_far.stock;
+        all = so_far.all;
+        told = told;
+        i = l.stock;
+        last = l.line;
+        count = n;
+        cut = refl;
+      },
+      l.keeps,
+    )
 
 -- the line of a pool is that of the stock that it keeps
 pool_line : (pool : Pool) (wait : ℕ) (j : Stock) (x : Shown) (disks : ℕ) → Keeps pool wait j → disks ≡ x.setup.geometry.disks → spares_line (left_of pool) (spins_of pool) disks ≡ stock_line_shown j x

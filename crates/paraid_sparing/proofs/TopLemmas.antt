@@ -30,10 +30,6 @@ use Rattle.paraid_spare.specs.Pools.{left_of, spins_of}
 use Rattle.paraid_spare.specs.declared.pool.Pool.{Pool}
 use Rattle.paraid_sparing.specs.Output.{FollowsSpared, SparedHeadline, SparedRun, SparedText, WritesSpared, stock_line}
 use Rattle.paraid_sparing.specs.Texts.{spares_line}
-use Rattle.paraid_sparing.specs.Form.{HasSparedForm, SparedForm}
-use Rattle.paraid_sparing.specs.Form.HasSparedForm.{answers as form_answers, last_line as form_last_line, whole as form_whole}
-use Rattle.paraid_sparing.specs.Form.SparedForm.{done as form_done, halted as form_halted, source as form_source, too_long as form_too_long}
-use Rattle.paraid_sparing.specs.Form.TellsLines.{none as no_lines}
 use Rattle.paraid_sparing.specs.Output.SparedText.{done, halted, source, too_long}
 use Rattle.paraid_sparing.specs.Output.WritesSpared.{answers, last_line, whole}
 use Rattle.paraid_sparing.specs.Serving.{Keeps}
@@ -53,18 +49,6 @@ wrote_last slots setup wait start now p k bytes text line before after code stat
       (ap (λ x. text ++ x) (sym (take-append-drop e.count line)) ∙ sym (append_assoc text (take e.count line) (drop e.count line)))
   | inr all ↦ whole (subst (λ (n : ℕ). SparedText slots setup wait start now p k bytes n (text ++ take e.count line)) (sym all.1)
       (subst (λ (x : List ℕ). SparedText slots setup wait start now p k bytes code (text ++ x)) (sym (taken e.count line all.0)) out))
-]
-  where
-    taken : (n : ℕ) (line : List ℕ) → n ≡ length line → take n line ≡ line
-    taken n line is = take_all n line (omega (arith, is))
-
--- and its form
-form_last : (stock : ℕ) (bytes text line : List ℕ) (before after : Option (List ℕ)) (code status : ℕ) → SparedForm stock bytes code (text ++ line) → (e : EndsWithLine before after line code status) → HasSparedForm stock bytes status (text ++ take e.count line)
-form_last stock bytes text line before after code status out e = elim e.whole [
-  | inl four ↦ form_last_line four code (text ++ line) (drop e.count line) out
-      (ap (λ x. text ++ x) (sym (take-append-drop e.count line)) ∙ sym (append_assoc text (take e.count line) (drop e.count line)))
-  | inr all ↦ form_whole (subst (λ (n : ℕ). SparedForm stock bytes n (text ++ take e.count line)) (sym all.1)
-      (subst (λ (x : List ℕ). SparedForm stock bytes code (text ++ x)) (sym (taken e.count line all.0)) out))
 ]
   where
     taken : (n : ℕ) (line : List ℕ) → n ≡ length line → take n line ≡ line
@@ -100,16 +84,15 @@ module _ (seen seen_now : Shown) (slots : ℕ) (setup : Setup) (wait : ℕ) (k :
       → GrowsByBytes first second (mount_line writes gear) → (s : ServesSpared seen seen_now slots setup wait k stood start now left_before left second third pool result) → EndsWithLine third last_text line code status
       → (IsSome now → (p : Point) → stood p → SparedText slots setup wait start now p k s.bytes code ((begins_with p ++ s.text) ++ line))
       → (code ≡ 10 → length s.bytes ≡ 2 ^ 40) → (IsWholeStatus code → (length s.bytes < 2 ^ 40) × AtEnd left)
-      → SparedForm k.left s.bytes code ((mount_line writes gear ++ s.text) ++ line) → CausedText wait seen k seen_now s.bytes code ((mount_line writes gear ++ s.text) ++ line)
+      → CausedText wait seen k seen_now s.bytes code ((mount_line writes gear ++ s.text) ++ line)
       → SparedRun seen seen_now slots setup wait k stood start now left_before left first last_text status
-  finish result line code status head s end out full all form caused = record {
+  finish result line code status head s end out full all caused = record {
     bytes = s.bytes;
     text = (mount_line writes gear ++ s.text) ++ take end.count line;
     given = s.given;
     grows = GrowsByBytes-then first third last_text (mount_line writes gear ++ s.text) (take end.count line) (GrowsByBytes-then first second third (mount_line writes gear) s.text head s.grows) end.grows;
     full = λ ten. full (the_code status code (length line) end.count 10 end.whole ten (λ e. absurd (omega (arith, e))));
     all = λ is. all (whole_code status code (length line) end.count end.whole is);
-    form = form_last k.left s.bytes (mount_line writes gear ++ s.text) line third last_text code status form end;
     causes = last_caused wait seen k seen_now s.bytes (mount_line writes gear ++ s.text) line third last_text code status caused end;
     wrote = λ t p at_p. subst (λ (x : List ℕ). WritesSpared slots setup wait start now p k s.bytes status ((x ++ s.text) ++ take end.count line)) (sym (head_is p at_p))
         (wrote_last slots setup wait start now p k s.bytes (begins_with p ++ s.text) line third last_text code status (out t p at_p) end);
@@ -121,7 +104,7 @@ module _ (seen seen_now : Shown) (slots : ℕ) (setup : Setup) (wait : ℕ) (k :
     done_run count s end = finish (Ok count) (spares_line (left_of pool) (spins_of pool) disks ++ end_line count) 0 status head s end
         (λ t p at_p. let a = s.answered t p at_p in
         subst (λ (x : List ℕ). SparedText slots setup wait start now p k s.bytes 0 ((begins_with p ++ s.text) ++ (x ++ end_line count))) (sym (pool_line pool wait a.0.lines.stock setup disks a.1 same)) (done count s.text a.0))
-        (λ e. absurd (omega (arith, e))) (λ is. s.full) (form_done writes gear count (left_of pool) disks (spins_of pool) s.text s.form)
+        (λ e. absurd (omega (arith, e))) (λ is. s.full)
         (done_caused wait seen k seen_now s.bytes pool disks seen_disks (mount_line writes gear) shows count s.text s.causes)
 
     pub halted_run : (halt : Halt) → ServesSpared seen seen_now slots setup wait k stood start now left_before left second third pool (Err (Halts halt)) → EndsWithLine third last_text (spares_line (left_of pool) (spins_of pool) disks ++ halt_line halt) (status_of_halt halt) status
@@ -129,7 +112,7 @@ module _ (seen seen_now : Shown) (slots : ℕ) (setup : Setup) (wait : ℕ) (k :
     halted_run halt s end = finish (Err (Halts halt)) (spares_line (left_of pool) (spins_of pool) disks ++ halt_line halt) (status_of_halt halt) status head s end
         (λ t p at_p. let a = s.answered t p at_p in
         subst (λ (x : List ℕ). SparedText slots setup wait start now p k s.bytes (status_of_halt halt) ((begins_with p ++ s.text) ++ (x ++ halt_line halt))) (sym (pool_line pool wait a.0.lines.stock setup disks a.1 same)) (halted halt s.text a.0))
-        (λ e. absurd (not_ten halt e)) (λ is. s.full) (form_halted writes gear halt (left_of pool) disks (spins_of pool) s.text s.form)
+        (λ e. absurd (not_ten halt e)) (λ is. s.full)
         (halted_caused wait seen k seen_now s.bytes pool disks seen_disks (mount_line writes gear) shows halt s.text s.causes)
       where
         not_ten : (h : Halt) → status_of_halt h ≢ 10
@@ -140,13 +123,13 @@ module _ (seen seen_now : Shown) (slots : ℕ) (setup : Setup) (wait : ℕ) (k :
     pub source_run : ServesSpared seen seen_now slots setup wait k stood start now left_before left second third pool (Err Source) → EndsWithLine third last_text (codes "source\n") 3 status
         → SparedRun seen seen_now slots setup wait k stood start now left_before left first last_text status
     source_run s end = finish (Err Source) (codes "source\n") 3 status head s end (λ t p at_p. source s.text (s.answered t p at_p))
-        (λ e. absurd (omega (arith, e))) (λ is. absurd (partly 3 (λ e. omega (arith, e)) (λ e. omega (arith, e)) (λ e. omega (arith, e)) is)) (form_source writes gear (left_of pool) s.text s.form)
+        (λ e. absurd (omega (arith, e))) (λ is. absurd (partly 3 (λ e. omega (arith, e)) (λ e. omega (arith, e)) (λ e. omega (arith, e)) is))
         (source_caused wait seen k seen_now s.bytes pool (mount_line writes gear) shows s.text s.causes)
 
     pub too_long_run : ServesSpared seen seen_now slots setup wait k stood start now left_before left second third pool (Err TooLong) → EndsWithLine third last_text (codes "toolong\n") 10 status
         → SparedRun seen seen_now slots setup wait k stood start now left_before left first last_text status
     too_long_run s end = finish (Err TooLong) (codes "toolong\n") 10 status head s end (λ t p at_p. too_long s.full s.text (s.answered t p at_p))
-        (λ e. s.full) (λ is. absurd (partly 10 (λ e. omega (arith, e)) (λ e. omega (arith, e)) (λ e. omega (arith, e)) is)) (form_too_long writes gear (left_of pool) s.text s.form)
+        (λ e. s.full) (λ is. absurd (partly 10 (λ e. omega (arith, e)) (λ e. omega (arith, e)) (λ e. omega (arith, e)) is))
         (too_long_caused wait seen k seen_now s.bytes pool (mount_line writes gear) shows s.text s.causes)
 
   -- the sink failed within an answer
@@ -158,8 +141,7 @@ module _ (seen seen_now : Shown) (slots : ℕ) (setup : Setup) (wait : ℕ) (k :
     grows = GrowsByBytes-then first second third (mount_line writes gear) s.text head s.grows;
     full = λ e. absurd (omega (arith, e));
     all = λ is. absurd (partly 4 (λ e. omega (arith, e)) (λ e. omega (arith, e)) (λ e. omega (arith, e)) is);
-    form = form_answers refl writes gear (left_of pool) s.form.0 s.form.1 (s.text ++ s.form.2) s.form.2 s.form.3 s.form.4 (sym (append_assoc (mount_line writes gear) s.text s.form.2));
-    causes = sink_caused wait seen k seen_now s.bytes pool (mount_line writes gear) shows s.text s.causes;
+    causes = sink_caused wait seen k seen_now s.bytes pool (mount_line writes gear) shows s.text s.causes.0;
     wrote = λ t p at_p.
         let a = s.answered t p at_p in
         answers refl a.0 a.1 (s.text ++ a.2) a.2 a.3 a.4 (sym (append_assoc (begins_with p) s.text a.2) ∙ ap (λ x. (x ++ s.text) ++ a.2) (sym (head_is p at_p)));
@@ -175,7 +157,6 @@ no_mount_run seen slots setup wait k stood told left first second writes gear co
   grows = part.2;
   full = λ e. absurd (omega (arith, e));
   all = λ is. absurd (partly 4 (λ e. omega (arith, e)) (λ e. omega (arith, e)) (λ e. omega (arith, e)) is);
-  form = form_answers refl writes gear k.left [] [] [] (drop part.0 (mount_line writes gear)) refl no_lines (append-nil (mount_line writes gear) ∙ sym (take-append-drop part.0 (mount_line writes gear)));
   causes = first_caused wait seen k (mount_line writes gear) part.0 shows;
   wrote = λ t p at_p. answers refl [] [] [] (drop part.0 (mount_line writes gear)) refl (record { put_in = []; all = stretch_none slots setup told p t; stock = k; answers = no_line; counts = λ one d low fresh. trace_counts slots setup wait p k [] [] [] p k no_line one d low fresh })
       (append-nil (begins_with p) ∙ sym (ap (λ (w : ℕ). mount_line w gear) (counts p at_p) ∙ ap (λ (g : ℕ). mount_line (length p.history) g) (in_gear p at_p)) ∙ sym (take-append-drop part.0 (mount_line writes gear)));
@@ -237,7 +218,6 @@ headline seen seen_now slots setup wait k began stood start final left_before le
   grows = r.grows;
   full = r.full;
   all = r.all;
-  form = r.form;
   causes = r.causes;
   said = λ t. IsMountedFromEach-follows slots setup began start stood (FollowsSpared slots setup wait k start final r.bytes status r.text)
       (λ p mark here at_p. record {

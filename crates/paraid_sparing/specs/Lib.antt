@@ -1,7 +1,6 @@
 pub mod Sparing
 pub mod Serving
 pub mod Texts
-pub mod Form
 pub mod SparedCauses
 pub mod Session
 pub mod Output

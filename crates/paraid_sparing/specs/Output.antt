@@ -15,7 +15,6 @@ use Rattle.paraid_serve.specs.Stretch.{Stretch, events_in}
 use Rattle.paraid_session.specs.Mount.{IsMountedFromEach}
 use Rattle.paraid_session.specs.Turn.{Point}
 use Rattle.paraid_sparing.specs.Session.{EndsSpared, Spared}
-use Rattle.paraid_sparing.specs.Form.{HasSparedForm}
 use Rattle.paraid_sparing.specs.SparedCauses.{HasSparedCauses}
 use Rattle.paraid_sparing.specs.Sparing.{Stock}
 use Rattle.paraid_sparing.specs.Texts.{spares_line}
@@ -56,7 +55,6 @@ pub record SparedRun (seen seen_now : Shown) (slots : ℕ) (setup : Setup) (wait
   pub grows : GrowsByBytes written_before written text
   pub full : status ≡ 10 → length bytes ≡ 2 ^ 40
   pub all : IsWholeStatus status → (length bytes < 2 ^ 40) × AtEnd left
-  pub form : HasSparedForm k.left bytes status text
   pub causes : HasSparedCauses wait seen k seen_now bytes status text
   pub wrote : IsSome final → (p : Point) → stood p → WritesSpared slots setup wait start final p k bytes status text
 
@@ -74,6 +72,5 @@ pub record SparedHeadline (seen seen_now : Shown) (slots : ℕ) (setup : Setup) 
   pub grows : GrowsByBytes written_before written text
   pub full : status ≡ 10 → length bytes ≡ 2 ^ 40
   pub all : IsWholeStatus status → (length bytes < 2 ^ 40) × AtEnd left
-  pub form : HasSparedForm k.left bytes status text
   pub causes : HasSparedCauses wait seen k seen_now bytes status text
   pub said : IsSome final → IsMountedFromEach slots setup began start (FollowsSpared slots setup wait k start final bytes status text)

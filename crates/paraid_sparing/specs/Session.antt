@@ -16,8 +16,7 @@ use Rattle.paraid_serve.specs.Session.{IsAllTaken}
 use Rattle.paraid_serve.specs.Stretch.{Stretch, events_in, turn_calls, turn_with}
 use Rattle.paraid_session.specs.Turn.{Point}
 use Rattle.paraid_spare.specs.declared.pool.Pool.{Pool}
-use Rattle.paraid_spare.specs.Pools.{left_of, slot_spin_ups}
-use Rattle.paraid_sparing.specs.Form.{HaveSparedForm}
+use Rattle.paraid_spare.specs.Pools.{slot_spin_ups}
 use Rattle.paraid_sparing.specs.Serving.{Keeps}
 use Rattle.paraid_sparing.specs.SparedCauses.{HaveSparedCauses}
 use Rattle.paraid_sparing.specs.Sparing.{AnswersTrace, Stock}
@@ -66,6 +65,5 @@ pub record ServesSpared (seen seen_now : Shown) (slots : ℕ) (setup : Setup) (w
   pub given : Gives left_before left bytes
   pub grows : GrowsByBytes written_before written text
   pub full : IsAllTaken result bytes left
-  pub form : HaveSparedForm k.left (left_of pool) result bytes text
   pub causes : HaveSparedCauses wait seen k pool result bytes text seen_now
   pub answered : IsSome now → (p : Point) → stood p → AreLinesSpared slots setup wait start now p k pool result bytes text

@@ -1,5 +1,5 @@
 -- Why a run with spares tells what it tells, whatever the rack holds: a spare exactly where one is due, and each answer by its cause.
-use Rattle.std.specs.Prelude.{◌≡◌, ℕ, ◌-◌, true, List, [], ◌∷◌, ◌++◌, codes, take, Option, Some, None, Result, Ok, Err, if◌then◌else◌}
+use Rattle.std.specs.Prelude.{◌≡◌, ℕ, ◌-◌, List, [], ◌∷◌, ◌++◌, codes, take, Option, Some, None, Result, Ok, Err, if◌then◌else◌}
 use Rattle.paraid_base.specs.declared.event.Answer.{Answer}
 use Rattle.paraid_base.specs.declared.event.Answer.TheVariants.{Flushed, Halted}
 use Rattle.paraid_base.specs.declared.event.Event.{Event}
@@ -12,7 +12,6 @@ use Rattle.paraid_serve.specs.declared.stop.Stop.{Stop}
 use Rattle.paraid_serve.specs.declared.stop.Stop.TheVariants.{Source, TooLong, Sink, Halt as Halts}
 use Rattle.paraid_serve.specs.Causes.{HasCause, Shown}
 use Rattle.paraid_serve.specs.Ending.{end_line, halt_line, status_of_halt}
-use Rattle.paraid_serve.specs.Form.{is_answer_to}
 use Rattle.paraid_serve.specs.Output.{first_line}
 use Rattle.paraid_spare.specs.declared.pool.Pool.{Pool}
 use Rattle.paraid_sparing.specs.Serving.{Keeps}
@@ -44,10 +43,10 @@ stock_shown k answer x = stock_when k answer x.halt x.meta.out
 -- A line is told so: by the answer to its event alone where no spare is due before it, and else after what came of the spare. Each
 -- answer has its cause.
 pub data HasLineCauses (wait : ℕ) (old : Shown) (k : Stock) (event : Event) : List ℕ → Shown → Stock → Type 0 where
-  alone : (answer : Answer) (new : Shown) → due_shown wait k old event ≡ None → is_answer_to event answer ≡ true → HasCause old event answer new
+  alone : (answer : Answer) (new : Shown) → due_shown wait k old event ≡ None → HasCause old event answer new
       → HasLineCauses wait old k event (reply_of answer) new (stock_shown k answer new)
   spared : (d : ℕ) (spare answer : Answer) (mid new : Shown) → due_shown wait k old event ≡ Some d
-      → is_answer_to (Replace d) spare ≡ true → HasCause old (Replace d) spare mid → is_answer_to event answer ≡ true → HasCause mid event answer new
+      → HasCause old (Replace d) spare mid → HasCause mid event answer new
       → HasLineCauses wait old k event (spare_line spare (k.left - 1) ++ reply_of answer) new (stock_shown (used k) answer new)
 
 -- these lines are, one after the other
@@ -91,13 +90,14 @@ pub record BeginsCauses (wait : ℕ) (old : Shown) (k : Stock) (bytes text : Lis
   pub count : ℕ
   pub cut : text ≡ front ++ take count told
 
--- the causes of what was written for the lines, by how the session ended; all lines are followed by a flush
+-- the causes of what was written for the lines, by how the session ended, and the pool keeps the stock after them; all lines are
+-- followed by a flush
 abbrev pub HaveSparedCauses : ℕ → Shown → Stock → Pool → Result ℕ Stop → List ℕ → List ℕ → Shown → Type 0
 HaveSparedCauses wait old k pool (Ok writes) bytes text new = CausesFlush wait old k (lines_of bytes) text (Flushed writes) new pool
 HaveSparedCauses wait old k pool (Err (Halts halt)) bytes text new = CausesFlush wait old k (lines_of bytes) text (Halted halt) new pool
 HaveSparedCauses wait old k pool (Err Source) bytes text new = CausesLines wait old k (whole_lines bytes) text new pool
 HaveSparedCauses wait old k pool (Err TooLong) bytes text new = CausesLines wait old k (whole_lines bytes) text new pool
-HaveSparedCauses wait old k pool (Err Sink) bytes text new = BeginsCauses wait old k bytes text new
+HaveSparedCauses wait old k pool (Err Sink) bytes text new = (b : BeginsCauses wait old k bytes text new) × Keeps pool wait b.i
 
 -- the line of the spares that are left, of the array that was seen so first
 abbrev pub stock_line_shown : Stock → Shown → List ℕ

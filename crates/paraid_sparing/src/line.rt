@@ -1,15 +1,13 @@
 //! One line of a trace: the spare that is due before it, and its own event.
-ghost use Rattle.std.specs.Prelude.{◌≡◌, ◌<◌, ◌-◌, ◌++◌, ℕ, true};
+ghost use Rattle.std.specs.Prelude.{◌≡◌, ◌<◌, ◌-◌, ◌++◌, ℕ};
 ghost use Rattle.paraid_base.specs.declared.event.Event.TheVariants.{Replace as ReplaceEvent};
 ghost use Rattle.paraid_rack.specs.Slots.{Slot};
 ghost use Rattle.paraid_rack.specs.Told.{Ran};
 ghost use Rattle.paraid_serve.specs.Calls.{Grows};
 ghost use Rattle.paraid_serve.specs.Causes.{HasCause};
-ghost use Rattle.paraid_serve.specs.Form.{is_answer_to};
 ghost use Rattle.paraid_serve.specs.Lost.{HasServedSince};
 ghost use Rattle.paraid_session.specs.Turn.{GoesOn, Point};
 ghost use Rattle.paraid_spare.specs.Pools.{left_of};
-ghost use Rattle.paraid_sparing.specs.Form.{TellsLine};
 ghost use Rattle.paraid_sparing.specs.Sparing.{Stock, spare_line, stock_after, used};
 ghost use Rattle.paraid_sparing.specs.SparedCauses.{CausesLine, stock_when};
 ghost use Rattle.paraid_sparing.specs.Serving.{Keeps, ServesLine};
@@ -48,8 +46,6 @@ fn put_in<A: Serves>(
         → HasServedSince start (A.slot array.new) (A.halted array.new) }
     ensures keeps { (wait : ℕ) (k : Stock) → Keeps pool.old wait k → Keeps pool.new wait (used k) }
     ensures line { line.new ≡ spare_line (answer_with result beside.new) (left_of pool.old - 1) }
-    ensures left { left_of pool.new ≡ left_of pool.old - 1 }
-    ensures kind { is_answer_to (ReplaceEvent disk) (answer_with result beside.new) ≡ true }
     ensures cause { HasCause (A.shown array.old) (ReplaceEvent disk) (answer_with result beside.new)
         (A.shown array.new) }
 {
@@ -91,8 +87,6 @@ fn answer_alone<A: Serves>(
     ensures keeps { (q : Point) (wait : ℕ) (k : Stock) → A.stands array.new q → Keeps pool.old wait k
         → Keeps pool.new wait (stock_after k (answer_with result beside.new) q) }
     ensures text { text.new ≡ reply_of (answer_with result beside.new) }
-    ensures left { left_of pool.new ≡ left_of pool.old }
-    ensures kind { is_answer_to (event_with asked pairs.now) (answer_with result beside.new) ≡ true }
     ensures cause { HasCause (A.shown array.old) (event_with asked pairs.now)
         (answer_with result beside.new) (A.shown array.new) }
     ensures stock { (wait : ℕ) (k : Stock) → Keeps pool.old wait k
@@ -123,8 +117,6 @@ pub fn answer_line<A: Serves>(
     // Over every rack a spare is put in exactly where one is due, and each answer has its cause.
     ensures causes { (wait : ℕ) (k : Stock) → Keeps pool.old wait k → CausesLine wait (A.shown array.old) k
         (event_with asked pairs.now) (line.new ++ text.new) (A.shown array.new) pool.new }
-    ensures form { TellsLine (event_with asked pairs.now) (left_of pool.old) (line.new ++ text.new)
-        (left_of pool.new) }
     ensures told { Grows (A.told array.old) (A.told array.new) }
     ensures slots { A.slots array.new ≡ A.slots array.old }
     ensures setup { A.setup array.new ≡ A.setup array.old }

@@ -1,6 +1,5 @@
 //! What a pool hears of the events of a session.
 ghost use Rattle.std.specs.Prelude.{◌≡◌, ◌<◌, ◌≤◌, ℕ, None, IfSome};
-ghost use Rattle.paraid_base.specs.declared.event.Event.TheVariants.{Tick as TickEventType};
 ghost use Rattle.paraid_base.specs.declared.pairs.Pairs.{Pairs as PairsType};
 ghost use Rattle.paraid_base.specs.States.{gone_out};
 ghost use Rattle.paraid_session.specs.Turn.{Point};
@@ -43,7 +42,6 @@ pub(crate) fn due<A: Serves>(
     ensures shown { (wait : ℕ) (k : Stock) (pairs : PairsType) → Keeps pool.now wait k → result
         ≡ due_when wait k (A.halted array.now) (A.shown array.now).meta.out (event_with asked pairs) }
     ensures left { IfSome result (λ d. 0 < left_of pool.now) }
-    ensures tick { (pairs : PairsType) → IfSome result (λ d. event_with asked pairs ≡ TickEventType) }
 {
     let Asked::Tick = asked else {
         return None;
@@ -169,7 +167,6 @@ fn count_wait<A: Serves>(array: &A, halt: Option<Halt>, pool: &mut Pool, answere
 // Follows an event of the trace that was answered so.
 pub(crate) fn follow<A: Serves>(array: &A, halt: Option<Halt>, pool: &mut Pool, answered: &Answered)
     requires halt { halt ≡ A.halted array.now }
-    ensures left { left_of pool.new ≡ left_of pool.old }
     ensures keeps { (p : Point) (wait : ℕ) (k : Stock) (beside : BesideType) → A.stands array.now p
         → Keeps pool.old wait k
         → Keeps pool.new wait (stock_after k (answer_with answered.now beside) p) }

@@ -39,12 +39,12 @@ fn one_byte(digits: &[u8], into: &mut Block) -> bool
     if !decoded(digits, &mut pattern) {
         return false;
     }
-    fill(into, pattern[0]);
+    fill_with(into, pattern[0]);
     true
 }
 
 // Gives each place of the block this byte.
-fn fill(into: &mut Block, byte: u8)
+fn fill_with(into: &mut Block, byte: u8)
     ensures { into.new.bytes ≡ replicate 512 byte }
 {
     into.bytes = [byte; BLOCK_SIZE];

@@ -552,7 +552,7 @@ module _ (j : Job) (before : Meta) (begun : IsBegun j before) where
           shut = all_shut;
         }
 
-    pub is_committed : (BeganTrue j before → HoldsWitnesses j before s) → LeavesBorne j.start s before j.meta → IsCommitted j.start s before j.meta j.batch
+    pub is_committed : (BeganTrue j before → HoldsWitnesses j before s) → LeavesBorne j.start s (named_out j.meta.out) → IsCommitted j.start s before j.meta j.batch
     is_committed holds leaves =
         let late = closing_late j begun.good 2 s c.core in
         let images = late_images s late whole.aside in

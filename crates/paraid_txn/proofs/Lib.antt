@@ -6,7 +6,9 @@ pub mod RanLemmas
 pub mod WitnessLemmas
 pub mod WitnessCallLemmas
 pub mod WitnessStagesLemmas
+pub mod KnownLemmas
 pub mod BorneLemmas
+pub mod OnceLemmas
 pub mod StoreLemmas
 pub mod DownLemmas
 pub mod CommitPartLemmas

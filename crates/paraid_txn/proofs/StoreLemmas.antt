@@ -12,14 +12,12 @@ use Rattle.paraid_record.specs.declared.meta.Meta.{Meta}
 use Rattle.paraid_record.specs.declared.targets.Target.{Target}
 use Rattle.paraid_record.specs.Range.{IsInRange}
 use Rattle.paraid_image.specs.Rest.{IsAtRest}
-use Rattle.paraid_txn.specs.Commit.{EndsCommitted, IsNext, IsOldOrNew, IsWholeOrAbsent, gone_out}
+use Rattle.paraid_txn.specs.Commit.{EndsCommitted, IsNext, IsOldOrNew, IsWholeOrAbsent, LeavesBorne, gone_out}
 use Rattle.paraid_txn.specs.Losses.{CanWrite}
 use Rattle.paraid_image.specs.Out.{named_out}
 use Rattle.paraid_txn.specs.Ready.{AreTargetsReady, IsLogReady}
 use Rattle.paraid_image.specs.Sides.{Batch, targets}
 use Rattle.paraid_txn.specs.CommitStages.{FirstStage, HoldsWitnessed, IsSpelled, Job, LastStage, LogStage, job}
-use Rattle.paraid_txn.specs.Witness.{KeepsBorne}
-use Rattle.paraid_txn.proofs.BorneLemmas.{leaves_borne}
 use Rattle.paraid_txn.proofs.WitnessCallLemmas.{told_calls}
 use Rattle.paraid_txn.proofs.CommitLemmas.{first_stage, is_committed, start_log, whole_images}
 use Rattle.paraid_txn.proofs.RanLemmas.{ran_from, through_milder}
@@ -87,10 +85,10 @@ module _ (meta : Meta) (batch : Batch) (spelled list : Block) (turn : ℕ) (good
             (now r.from) r.calls (r.holds (begins r.from r.was rest next)).0;
       }
 
-  pub commits : (was : Option ℕ) → was ≡ named_out before.out → KeepsBorne old new meta was (named_out meta.out)
+  pub commits : Ran old new (λ s cs. LeavesBorne s (run s cs) (named_out meta.out))
       → ((start : Disks) → Ran old new (CrashTriple (HoldsWitnessed (it start) before) (FirstStage (it start) before) (LastStage (it start) before)))
       → EndsCommitted old new before meta batch
-  commits was named keeps ran t tells =
+  commits leaves ran t tells =
       let r = ran_from (λ start. HoldsWitnessed (it start) before) (λ start. FirstStage (it start) before) (λ start. LastStage (it start) before) old new ran t tells in
       record {
         from = r.from;
@@ -100,5 +98,5 @@ module _ (meta : Meta) (batch : Batch) (spelled list : Block) (turn : ℕ) (good
         holds = λ rest next.
             let last = (r.holds (begins r.from r.was rest next)).1 in
             is_committed (it (now r.from)) before (begun r.from r.was rest next) (run (now r.from) r.calls) last.stage last.witnesses
-            (leaves_borne before meta was (now r.from) (run (now r.from) r.calls) named next (λ b. ((told_calls keeps tells r.was r.is).goes b).1));
+            (told_calls leaves tells r.was r.is);
       }

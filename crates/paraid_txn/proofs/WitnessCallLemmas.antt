@@ -140,10 +140,10 @@ is_gone slot s agree d gone = ap is_present (agree.power d) ∙ gone
 none_joins : (m : Meta) (was now : Option ℕ) → now ≡ named_out m.out → NoneJoins was now → NoneJoins was (named_out m.out)
 none_joins m was now names joins x low is = sym names ∙ joins x low is
 
-module _ (m : Meta) (slot : ℕ → Slot) (absent was now : Option ℕ) (gone : (d : ℕ) → absent ≡ Some d → is_present (slot d).power ≡ false)
+module _ (m : Meta) (slot : ℕ → Slot) (absent was now borne : Option ℕ) (gone : (d : ℕ) → absent ≡ Some d → is_present (slot d).power ≡ false)
     (can : (x : ℕ) → x < 2 → was ≡ Some x → named_out m.out ≢ Some x → CanWrite slot 2 1) (names : now ≡ named_out m.out) where
   closing : (w : Witness) (s : Disks) (cs : List Call) → Agrees s slot → w.opened ≡ false → was ≡ Some w.disk → now ≢ Some w.disk
-      → MaySetWitness slot (gone_out m.out) w.disk w.opened cs → SetsBefore m was s cs
+      → MaySetWitness slot (gone_out m.out) w.disk w.opened cs → SetsBefore m was borne s cs
   closing w s cs agree closed is not (cannot why nothing) =
       let not_then : named_out m.out ≢ Some w.disk = λ e. not (names ∙ e) in
       cannot_close w.disk w.log_disk is not_then (elim (cannot_is slot (gone_out m.out) w.disk w.log_disk (can w.disk w.log_disk is not_then) why) [
@@ -153,39 +153,39 @@ module _ (m : Meta) (slot : ℕ → Slot) (absent was now : Option ℕ) (gone : 
   closing w s cs agree closed is not (sets it) =
       closes w.disk w.log_disk is (λ e. not (names ∙ e)) (subst (λ (o : Bool). SetsWitness w.disk o cs) closed it)
 
-  bearing : (w : Witness) (s : Disks) (cs : List Call) → Agrees s slot → w.opened ≡ true → IsNoLog was → absent ≡ Some w.disk
-      → MaySetWitness slot (gone_out m.out) w.disk w.opened cs → SetsBefore m was s cs
-  bearing w s cs agree opened none off (cannot why nothing) = none_before (λ x low is. absurd (none x low is)) nothing
-  bearing w s cs agree opened none off (sets it) =
-      bears w.disk w.log_disk (is_gone slot s agree w.disk (gone w.disk off)) (λ x low is. absurd (none x low is))
+  bearing : (w : Witness) (s : Disks) (cs : List Call) → Agrees s slot → w.opened ≡ true → NoneJoins was now → borne ≡ None → absent ≡ Some w.disk
+      → MaySetWitness slot (gone_out m.out) w.disk w.opened cs → SetsBefore m was borne s cs
+  bearing w s cs agree opened joins none off (cannot why nothing) = none_before (none_joins m was now names joins) nothing
+  bearing w s cs agree opened joins none off (sets it) =
+      bears w.disk w.log_disk none (is_gone slot s agree w.disk (gone w.disk off)) (none_joins m was now names joins)
       (subst (λ (o : Bool). SetsWitness w.disk o cs) opened it)
 
-  before_by : (witness : Option Witness) (s : Disks) (cs : List Call) → IsFirstWitness absent was now witness → Agrees s slot
-      → MaySetAny slot (gone_out m.out) witness cs → SetsBefore m was s cs
+  before_by : (witness : Option Witness) (s : Disks) (cs : List Call) → IsFirstWitness absent was now borne witness → Agrees s slot
+      → MaySetAny slot (gone_out m.out) witness cs → SetsBefore m was borne s cs
   before_by None s cs first agree set = none_before (none_joins m was now names first.0) set
   before_by (Some w) s cs (inl it) agree set = closing w s cs agree it.0 it.1 it.2 set
-  before_by (Some w) s cs (inr it) agree set = bearing w s cs agree it.0 it.1 it.2 set
+  before_by (Some w) s cs (inr it) agree set = bearing w s cs agree it.0 it.1 it.2 it.3 set
 
 -- what is told of the first witness
 pub tells_before : (m : Meta) {slot : ℕ → Slot} {old new : Option Trail} → ((t : Trail) → old ≡ Some t → Agrees (now t) slot)
-    → (absent was named : Option ℕ) (witness : Option Witness) → IsFirstWitness absent was named witness
+    → (absent was named borne : Option ℕ) (witness : Option Witness) → IsFirstWitness absent was named borne witness
     → ((d : ℕ) → absent ≡ Some d → is_present (slot d).power ≡ false)
     → ((x : ℕ) → x < 2 → was ≡ Some x → named_out m.out ≢ Some x → CanWrite slot 2 1) → named ≡ named_out m.out
-    → Ran old new (λ s cs. MaySetAny slot (gone_out m.out) witness cs) → Ran old new (SetsBefore m was)
-tells_before m {slot} agrees out was named witness first gone can names ran =
-    ran_agreed agrees (λ s cs agree set. before_by m slot out was named gone can names witness s cs first agree set) ran
+    → Ran old new (λ s cs. MaySetAny slot (gone_out m.out) witness cs) → Ran old new (SetsBefore m was borne)
+tells_before m {slot} agrees out was named borne witness first gone can names ran =
+    ran_agreed agrees (λ s cs agree set. before_by m slot out was named borne gone can names witness s cs first agree set) ran
 
 -- the disk that was lost, or else the one that is named out
 lost_or : (lost now : Option ℕ) (d : ℕ) → or_else lost now ≡ Some d → (lost ≡ Some d) ⊎ (now ≡ Some d)
 lost_or None now d is = inr is
 lost_or (Some e) now d is = inl is
 
-module _ (m : Meta) (slot : ℕ → Slot) (lost now : Option ℕ) (gone : (d : ℕ) → lost ≡ Some d → (slot d).power ≡ Absent) (names : now ≡ named_out m.out) where
-  after_one : (w : Witness) (s : Disks) (cs : List Call) → Agrees s slot → w.opened ≡ true → or_else lost now ≡ Some w.disk
-      → MaySetWitness slot (gone_out m.out) w.disk w.opened cs → SetsAfter m s cs
-  after_one w s cs agree opened out (cannot why nothing) = none_after nothing
-  after_one w s cs agree opened out (sets it) =
-      bears_after w.disk w.log_disk (record {
+module _ (m : Meta) (slot : ℕ → Slot) (lost now borne : Option ℕ) (gone : (d : ℕ) → lost ≡ Some d → (slot d).power ≡ Absent) (names : now ≡ named_out m.out) where
+  after_one : (w : Witness) (s : Disks) (cs : List Call) → Agrees s slot → w.opened ≡ true → or_else lost now ≡ Some w.disk → borne ≢ Some w.disk
+      → MaySetWitness slot (gone_out m.out) w.disk w.opened cs → SetsAfter m borne s cs
+  after_one w s cs agree opened out not (cannot why nothing) = none_after nothing
+  after_one w s cs agree opened out not (sets it) =
+      bears_after w.disk w.log_disk not (record {
         disk = let low = w.log_disk in let many = m.setup.geometry.disks_low in omega arith;
         is = elim (lost_or lost now w.disk out) [
           | inl off ↦ inl (is_gone slot s agree w.disk (ap is_present (gone w.disk off)))
@@ -193,18 +193,18 @@ module _ (m : Meta) (slot : ℕ → Slot) (lost now : Option ℕ) (gone : (d : �
         ];
       }) (subst (λ (o : Bool). SetsWitness w.disk o cs) opened it)
 
-  after_by : (borne : Option ℕ) (witness : Option Witness) (s : Disks) (cs : List Call) → IsLastWitness lost now borne witness → Agrees s slot
-      → MaySetAny slot (gone_out m.out) witness cs → SetsAfter m s cs
-  after_by borne None s cs last agree set = none_after set
-  after_by borne (Some w) s cs last agree set = after_one w s cs agree last.0 last.1 set
+  after_by : (witness : Option Witness) (s : Disks) (cs : List Call) → IsLastWitness lost now borne witness → Agrees s slot
+      → MaySetAny slot (gone_out m.out) witness cs → SetsAfter m borne s cs
+  after_by None s cs last agree set = none_after set
+  after_by (Some w) s cs last agree set = after_one w s cs agree last.0 last.1 last.2 set
 
 -- what is told of the last one
 pub tells_after : (m : Meta) {slot : ℕ → Slot} {old new : Option Trail} → ((t : Trail) → old ≡ Some t → Agrees (now t) slot)
     → (lost named borne : Option ℕ) (witness : Option Witness) → IsLastWitness lost named borne witness
     → ((d : ℕ) → lost ≡ Some d → (slot d).power ≡ Absent) → named ≡ named_out m.out
-    → Ran old new (λ s cs. MaySetAny slot (gone_out m.out) witness cs) → Ran old new (SetsAfter m)
+    → Ran old new (λ s cs. MaySetAny slot (gone_out m.out) witness cs) → Ran old new (SetsAfter m borne)
 tells_after m {slot} agrees lost named borne witness last gone names ran =
-    ran_agreed agrees (λ s cs agree set. after_by m slot lost named gone names borne witness s cs last agree set) ran
+    ran_agreed agrees (λ s cs agree set. after_by m slot lost named borne gone names witness s cs last agree set) ran
 
 -- each call of a commit is on a disk of the array
 pub uses_below : (m : Meta) (batch : Batch) (c : Call) → UsesInCommit m batch c → disk_of c < m.setup.geometry.disks

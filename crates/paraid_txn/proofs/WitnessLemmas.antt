@@ -31,7 +31,7 @@ abbrev pub AreWitnessesKept : Disks → Disks → Type 0
 AreWitnessesKept start s = (p : ℕ) → p < 2 → IsSure s 2 p (λ b. b ≡ start.block 2 p)
 
 module _ (m : Meta) (batch : Batch) (past : All (IsTargetInRange m.setup.geometry) (targets batch)) (q : ℕ) (low : q < 2) (Q : Block → Type 0) where
-  apart : (d p : ℕ) (b : Block) (done : Bool) → Uses m batch (Write d p b done) → 2 ≡ d → q ≢ p
+  pub apart : (d p : ℕ) (b : Block) (done : Bool) → Uses m batch (Write d p b done) → 2 ≡ d → q ≢ p
   apart d p b done uses is at = elim uses.1 [
     | inl log ↦ let l = log.0.0 in omega arith
     | inr target ↦ let far = named_past m.setup.geometry batch d p past target.1 in omega arith

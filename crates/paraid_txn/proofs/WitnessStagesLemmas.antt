@@ -375,22 +375,22 @@ module _ (j : Job) (good : IsSpelled j) (before : Meta) where
     no_call : (cs : List Call) → cs ≡ [] → (Began → AreWitnessesSettled j before s) → Through Moment s cs × SettledStage j before (run s cs)
     no_call cs same settled = subst (λ (l : List Call). Through Moment s l × SettledStage j before (run s l)) (sym same) (first_holds s a, record { stage = a.stage; settled = settled })
 
-    sets_first : (cs : List Call) → SetsBefore j.meta was s cs → Through Moment s cs × SettledStage j before (run s cs)
-    sets_first cs (closes x low is not set) = closes_first x low is cs set
-    sets_first cs (cannot_close x low is not (inl gone) same) =
+    sets_first : (borne : Option ℕ) (cs : List Call) → SetsBefore j.meta was borne s cs → Through Moment s cs × SettledStage j before (run s cs)
+    sets_first borne cs (closes x low is not set) = closes_first x low is cs set
+    sets_first borne cs (cannot_close x low is not (inl gone) same) =
         no_call cs same (λ began p below. inl (record { holds = λ here. absurd (false≢true (sym gone ∙ here)) }))
-    sets_first cs (cannot_close x low is not (inr gone) same) =
+    sets_first borne cs (cannot_close x low is not (inr gone) same) =
         let at : ◌≡◌ {A = ℕ} 2 x = a.out 2 x (gone_named j.meta.out 2 gone) (sym named ∙ is) in
         absurd (omega (arith, at, low))
-    sets_first cs (bears_before x low gone none set) =
+    sets_first borne cs (bears_before x low unknown gone none set) =
         bears_first none x low (record { disk = (let n = before.setup.geometry.disks_low in omega arith); is = inl gone }) cs set
-    sets_first cs (none_before none same) = no_call cs same (settled_first none)
+    sets_first borne cs (none_before none same) = no_call cs same (settled_first none)
 
-  pub sets_before : {was : Option ℕ} {old new : Option Trail} → was ≡ named_out before.out → Ran old new (SetsBefore j.meta was)
+  pub sets_before : {was borne : Option ℕ} {old new : Option Trail} → was ≡ named_out before.out → Ran old new (SetsBefore j.meta was borne)
       → Ran old new (CrashTriple Moment (FirstStage j before) (SettledStage j before))
-  sets_before {was} named ran t tells =
+  sets_before {was} {borne} named ran t tells =
       let r = ran t tells in
-      record { from = r.from; was = r.was; calls = r.calls; is = r.is; holds = record { goes = λ a. sets_first was named (now r.from) a r.calls r.holds } }
+      record { from = r.from; was = r.was; calls = r.calls; is = r.is; holds = record { goes = λ a. sets_first was named (now r.from) a borne r.calls r.holds } }
 
   -- After them
 
@@ -404,8 +404,8 @@ module _ (j : Job) (good : IsSpelled j) (before : Meta) where
     laid_stays : (x : ℕ) (u v : Disks) → Bears u v → LaidCore x u → LaidCore x v
     laid_stays x u v w core = (close_bears j u v w core.0, missing_still u.power v.power j.meta x w.keeps.present core.1)
 
-    sets_last : (cs : List Call) → SetsAfter j.meta s cs → Through Moment s cs × LastStage j before (run s cs)
-    sets_last cs (bears_after x low missing set) =
+    sets_last : (borne : Option ℕ) (cs : List Call) → SetsAfter j.meta borne s cs → Through Moment s cs × LastStage j before (run s cs)
+    sets_last borne cs (bears_after x low unknown missing set) =
         let r = sets x low true (LaidCore x) (λ u core. close_whole u core.0) (laid_stays x) (laid_true x) s cs set (a.stage.core, missing) a.stage.synced
         (λ began p below apart. a.settled began p below) in (
           r.0,
@@ -414,10 +414,10 @@ module _ (j : Job) (good : IsSpelled j) (before : Meta) where
             witnesses = (set_moment x low true (LaidCore x) (λ u core. close_whole u core.0) (laid_stays x) (laid_true x) (run s cs) r.1).witnesses;
           },
         )
-    sets_last cs (none_after same) = subst (λ (l : List Call). Through Moment s l × LastStage j before (run s l)) (sym same)
+    sets_last borne cs (none_after same) = subst (λ (l : List Call). Through Moment s l × LastStage j before (run s l)) (sym same)
         (laid_holds s a, record { stage = a.stage; witnesses = (laid_holds s a).witnesses })
 
-  pub sets_after : {old new : Option Trail} → Ran old new (SetsAfter j.meta) → Ran old new (CrashTriple Moment (LaidStage j before) (LastStage j before))
-  sets_after ran t tells =
+  pub sets_after : {borne : Option ℕ} {old new : Option Trail} → Ran old new (SetsAfter j.meta borne) → Ran old new (CrashTriple Moment (LaidStage j before) (LastStage j before))
+  sets_after {borne} ran t tells =
       let r = ran t tells in
-      record { from = r.from; was = r.was; calls = r.calls; is = r.is; holds = record { goes = λ a. sets_last (now r.from) a r.calls r.holds } }
+      record { from = r.from; was = r.was; calls = r.calls; is = r.is; holds = record { goes = λ a. sets_last (now r.from) a borne r.calls r.holds } }

@@ -4,7 +4,6 @@ use Rattle.std.specs.Prelude.{◌≡◌, ◌≢◌, ℕ, ◌+◌, ◌<◌, ◌�
 use Rattle.paraid_base.specs.declared.state.Out.TheVariants.{Fresh}
 use Rattle.paraid_base.specs.Log.{map_start}
 pub use Rattle.paraid_base.specs.States.{gone_out}
-use Rattle.paraid_rack.specs.Atoms.{IsSure}
 use Rattle.paraid_rack.specs.declared.call.Power.{Power}
 use Rattle.paraid_rack.specs.declared.call.Power.TheVariants.{Spinning}
 use Rattle.paraid_rack.specs.Disks.{Disks, IsImage, IsPresent, is_present, lose}
@@ -16,6 +15,7 @@ use Rattle.paraid_image.specs.Sides.{Batch, LogState, has_place, is_open, stored
 use Rattle.paraid_image.specs.Rest.{AreLogGatesClosed, IsAtRest, AreSynced}
 use Rattle.paraid_image.specs.Sound.{AreWitnessesTrue, IsFresh, LogOk}
 use Rattle.paraid_image.specs.Standing.{Stands, contents}
+use Rattle.paraid_txn.specs.Borne.{IsWitnessBorne}
 
 -- Each disk that is there has the power and the size that it had at the start.
 pub record KeepsSlots (start i : Disks) : Type 0 where
@@ -87,13 +87,11 @@ IsWholeOrAbsent old new before after batch = Ran old new (λ start calls.
     IsAtRest start before → IsNext start before after
     → Through (IsOldOrNew start before after batch) start calls)
 
--- The witness is borne against a log disk that the meta after names, if it was where the meta before
--- named it, and disk 2 could be written.
-abbrev pub LeavesBorne : Disks → Disks → Meta → Meta → Type 0
-LeavesBorne start end before after = (x : ℕ) → x < 2 → named_out after.out ≡ Some x
-    → (named_out before.out ≡ Some x → IsSure start 2 x (λ b. is_open b ≡ true))
-    → (is_present (start.power 2) ≡ true → (start.power 2 ≡ Spinning) × (1 < start.size 2))
-    → IsSure end 2 x (λ b. is_open b ≡ true)
+-- The witness is borne at the end against this disk, if it is a log disk, and if disk 2 could be
+-- written or was absent.
+abbrev pub LeavesBorne : Disks → Disks → Option ℕ → Type 0
+LeavesBorne start end against = (is_present (start.power 2) ≡ true → (start.power 2 ≡ Spinning) × (1 < start.size 2))
+    → IsWitnessBorne against end
 
 -- What a commit that ends leaves: only the new contents, nothing loose, the gates closed; and where
 -- at most one disk is out, a rest under the new meta. The witnesses are true, and the one against a
@@ -104,7 +102,7 @@ pub record IsCommitted (start end : Disks) (before after : Meta) (batch : Batch)
   pub shut : AreLogGatesClosed end after
   pub rest : IsOneMissing end.power before after → IsAtRest end after
   pub witnesses : IsEachImage before after (KeepsWitnesses start before) end
-  pub borne : LeavesBorne start end before after
+  pub borne : LeavesBorne start end (named_out after.out)
 
 -- so it is after these calls, if they began at a rest
 abbrev pub EndsCommitted : Option Trail → Option Trail → Meta → Meta → Batch → Type 0

@@ -1,3 +1,4 @@
+pub mod Borne
 pub mod Batches
 pub mod Losses
 pub mod Stores

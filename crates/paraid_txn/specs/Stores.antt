@@ -20,6 +20,10 @@ epoch_of store = store.epoch
 abbrev pub named_of : {R : Type 0} {g : _} → Store R g → Option ℕ
 named_of store = store.named
 
+-- the log disk against which witness is borne, as far as it knows
+abbrev pub borne_of : {R : Type 0} {g : _} → Store R g → Option ℕ
+borne_of store = store.borne
+
 -- the disk that is out: the one that the last meta names, or else the least absent one
 abbrev pub store_out : {R : Type 0} {g : _} → (R → ℕ → Slot) → Store R g → Option ℕ
 store_out slot store = or_else store.named (first_absent (λ d. (slot store.rack d).power) store.disks)

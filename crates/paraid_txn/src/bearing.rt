@@ -3,6 +3,9 @@ ghost use Rattle.std.specs.Prelude.{◌<◌};
 
 use paraid_base::DiskNo;
 
+/// The disk that bears witness against log disks.
+pub(crate) const BEARER: DiskNo = 2;
+
 /// Which witness a commit sets, and how.
 #[derive(Clone, Copy)]
 pub(crate) struct Witness {
@@ -12,9 +15,10 @@ pub(crate) struct Witness {
 }
 
 /// Who is out as a commit begins: the disk that is absent, if one is, and the one that the last meta
-/// names out. Witness is borne against a log disk that it names.
+/// names out; and the log disk against which witness is borne, as far as it is known.
 #[derive(Clone, Copy)]
 pub(crate) struct Bearing {
     pub absent: Option<DiskNo>,
     pub named: Option<DiskNo>,
+    pub borne: Option<DiskNo>,
 }

@@ -21,14 +21,13 @@
 //! 5. On each log disk the gate is closed, and synced. The meta at place 1 is that of the batch,
 //!    and the targets hold what the batch would lay.
 //!
-//! Before them the witness on disk 2 against a log disk that comes in again is taken back; or, if no
-//! log disk was named out, it is borne against one that is absent. After them it is borne against one
-//! that was lost in them or is the first time named out. Against one that was named out it is borne
-//! as the commit begins.
+//! Before them the witness on disk 2 against a log disk that comes in again is taken back; or, if none
+//! is borne, one is borne against a log disk that is absent. After them one is borne against a log
+//! disk that was lost in them or is named out, unless it is borne already.
 //!
 //! A log disk that the meta names out is left alone, and so are the targets on a disk that is gone.
 //! A disk that fails is left out of the rest.
-ghost use Rattle.std.specs.Prelude.{◌≡◌, ◌≢◌, ℕ, ◌+◌, ◌<◌, ◌≤◌, true, false, length, Some, None, OnOk, OnErr, IfErr, IfOk, All, AllPairs, ◌-◌};
+ghost use Rattle.std.specs.Prelude.{◌≡◌, ◌≢◌, ◌⊎◌, ℕ, ◌+◌, ◌<◌, ◌≤◌, true, false, length, Some, None, OnOk, OnErr, IfErr, IfOk, All, AllPairs, ◌-◌};
 ghost use Rattle.paraid_base.specs.declared.fault.Two.{Two as TwoType};
 ghost use Rattle.paraid_base.specs.Log.{batch_room, log_least};
 ghost use Rattle.paraid_record.specs.declared.targets.Target.{Target as TargetType};
@@ -41,10 +40,13 @@ ghost use Rattle.paraid_txn.specs.Ready.{AreTargetsReady, CanCommit, IsLogReady}
 ghost use Rattle.paraid_image.specs.Sides.{is_open, targets};
 ghost use Rattle.paraid_rack.specs.Disks.{Disks, is_present};
 ghost use Rattle.paraid_rack.specs.declared.call.Power.TheVariants.{Absent};
-ghost use Rattle.paraid_txn.specs.Witness.{IsNoSecond, KeepsBorne, MaySetAny, SetsAfter, SetsBefore};
+ghost use Rattle.paraid_rack.specs.Trail.{run};
+ghost use Rattle.paraid_txn.specs.Borne.{IsBorneNow};
+ghost use Rattle.paraid_txn.specs.Witness.{BearsAtEnd, CannotSet, IsKnown, IsNoSecond, KeepsBorne, LeavePlace, MaySetAny, NoneJoins, SetsAfter, SetsBefore};
+ghost use Rattle.paraid_txn.specs.declared.bearing.Witness.{Witness as WitnessType};
 ghost use Rattle.paraid_txn.specs.Batches.{names_disk};
 ghost use Rattle.paraid_txn.specs.CommitStages.{CloseStage, FirstStage, HoldsEarly, HoldsWitnessed, LastStage, IsSpelled, Job, HoldsLate, LayIn, LogStage, LogIn, MarkStage, OpenStage, SyncIn, HoldsWhole, job_gone, job, job_named};
-ghost use Rattle.paraid_txn.specs.Commit.{EndsCommitted, IsWholeOrAbsent, gone_out as gone_of};
+ghost use Rattle.paraid_txn.specs.Commit.{EndsCommitted, IsWholeOrAbsent, LeavesBorne, gone_out as gone_of};
 ghost use Rattle.paraid_image.specs.Lost.{BearsLoss, TellsLosses};
 ghost use Rattle.paraid_image.specs.Out.{named_out as named_of, or_else};
 ghost use Rattle.paraid_record.specs.declared.meta.Meta.{Meta as MetaType};
@@ -57,7 +59,7 @@ use crate::bearing::{Bearing, Witness};
 use crate::calls::{put, put_synced, sync_slot};
 use crate::losses::Losses;
 use crate::store::{Store, find_absent, out_first};
-use crate::witness::{borne_against, first_witness, last_witness, set_witness};
+use crate::witness::{first_witness, last_witness, set_witness};
 use paraid_base::{Block, DiskNo, FIRST_BODY, FIRST_LIST, Two};
 use paraid_rack::Rack;
 use paraid_record::{Meta, write_meta, write_targets};
@@ -351,27 +353,32 @@ fn run<R: Rack>(
     finish(rack, losses, named, spelled)
 }
 
-// Sets a witness, if one is to be set.
+// Sets a witness, if one is to be set. It answers against which log disk witness is borne then.
 fn set_if_any<R: Rack>(
     rack: &mut R,
     losses: &mut Losses,
     meta: &Meta,
     witness: Option<Witness>,
-) -> Result<(), Two>
+    borne: Option<DiskNo>,
+) -> Result<Option<DiskNo>, Two>
     requires exists { 2 < R.slot_count rack.old }
     ensures leaves { SyncedPart R.Rack (UsesWitness meta.now) losses.old losses.new rack.old rack.new
         result }
     ensures told { Ran (R.told rack.old) (R.told rack.new)
         (λ s cs. MaySetAny (R.slot rack.old) (gone_of meta.now.out) witness cs) }
+    ensures known { IfOk result (λ then. IsBorneNow borne (R.told rack.old)
+        → IsBorneNow then (R.told rack.new)) }
+    ensures none { witness ≡ None → IfOk result (λ then. then ≡ borne) }
+    ensures opens { (w : WitnessType) → witness ≡ Some w → w.opened ≡ true → IfOk result (λ then.
+        (then ≡ Some w.disk) ⊎ CannotSet (R.slot rack.old) (gone_of meta.now.out) w.disk) }
 {
     let Some(witness) = witness else {
-        return Ok(());
+        return Ok(borne);
     };
     set_witness(rack, losses, meta, witness)
 }
 
-// What is set before the steps. It answers against which disk witness is borne then, if it is a log
-// disk.
+// What is set before the steps. It answers against which log disk witness is borne then.
 fn bear_before<R: Rack>(
     rack: &mut R,
     losses: &mut Losses,
@@ -384,38 +391,47 @@ fn bear_before<R: Rack>(
         → CanWrite (R.slot rack.old) 2 1 }
     ensures leaves { SyncedPart R.Rack (UsesWitness meta.now) losses.old losses.new rack.old rack.new
         result }
-    ensures told { Ran (R.told rack.old) (R.told rack.new) (SetsBefore meta.now out.named) }
-    ensures borne { IfOk result (λ borne. KeepsBorne (R.told rack.old) (R.told rack.new) meta.now out.named borne) }
+    ensures told { Ran (R.told rack.old) (R.told rack.new) (SetsBefore meta.now out.named out.borne) }
+    ensures known { IfOk result (λ borne. IsBorneNow out.borne (R.told rack.old)
+        → IsBorneNow borne (R.told rack.new)) }
+    ensures borne { IfOk result (λ borne. KeepsBorne (R.told rack.old) (R.told rack.new) meta.now out.borne borne) }
+    ensures stays { NoneJoins out.named (named_of meta.now.out) → (x : ℕ) → out.borne ≡ Some x
+        → IfOk result (λ borne. borne ≡ Some x) }
 {
-    let witness = first_witness(out.absent, out.named, meta.out.named());
-    set_if_any(rack, losses, meta, witness)?;
-    Ok(borne_against(out.named, witness))
+    let witness = first_witness(out, meta.out.named());
+    set_if_any(rack, losses, meta, witness, out.borne)
 }
 
-// What is set after them, unless two disks are down, by the disk against which witness is borne.
+// What is set after them, unless two disks are down, by the log disk against which witness is borne.
+// It answers against which one it is then.
 fn bear_after<R: Rack>(
     rack: &mut R,
     losses: &mut Losses,
     meta: &Meta,
     borne: Option<DiskNo>,
-) -> Result<(), Two>
+) -> Result<Option<DiskNo>, Two>
     requires exists { 2 < R.slot_count rack.old }
     requires lost { (d : ℕ) → losses.old.lost ≡ Some d → (R.slot rack.old d).power ≡ Absent }
     ensures leaves { SyncedPart R.Rack (UsesWitness meta.now) losses.old losses.new rack.old rack.new
         result }
-    ensures told { Ran (R.told rack.old) (R.told rack.new) (SetsAfter meta.now) }
-    ensures borne { IsNoSecond losses.new.lost meta.now
-        → KeepsBorne (R.told rack.old) (R.told rack.new) meta.now borne (named_of meta.now.out) }
+    ensures told { Ran (R.told rack.old) (R.told rack.new) (SetsAfter meta.now borne) }
+    ensures known { IfOk result (λ then. IsBorneNow borne (R.told rack.old)
+        → IsBorneNow then (R.told rack.new)) }
+    ensures borne { OnOk result (BearsAtEnd (R.told rack.old) (R.told rack.new) meta.now borne
+        losses.new.lost) }
+    ensures knows { IfOk result (λ then. IsNoSecond losses.new.lost meta.now
+        → IsKnown (R.slot rack.new) (or_else losses.new.lost (named_of meta.now.out)) then) }
 {
     let named = meta.out.named();
     if find_second(losses.lost, named).is_some() {
-        return Ok(());
+        return Ok(borne);
     }
     let witness = last_witness(losses.lost, named, borne);
-    set_if_any(rack, losses, meta, witness)
+    set_if_any(rack, losses, meta, witness, borne)
 }
 
-// The five steps, with the witness that is set before them and the one that is set after them.
+// The five steps, with the witness that is set before them and the one that is set after them. It
+// answers against which log disk witness is borne then.
 fn run_witnessed<R: Rack>(
     rack: &mut R,
     losses: &mut Losses,
@@ -425,7 +441,7 @@ fn run_witnessed<R: Rack>(
     spelled: &Block,
     first: DiskNo,
     out: Bearing,
-) -> Result<(), Two>
+) -> Result<Option<DiskNo>, Two>
     requires log_disk { first < 2 }
     requires exists { meta.now.setup.geometry.disks ≤ R.slot_count rack.old }
     requires log { IsLogReady (named_of meta.now.out) (R.slot rack.old) }
@@ -445,8 +461,14 @@ fn run_witnessed<R: Rack>(
         (FirstStage (job start meta.now batch.now spelled.now list.now first) before)
         (LastStage (job start meta.now batch.now spelled.now list.now first) before)
         (R.told rack.old) (R.told rack.new) result }
-    ensures borne { OnOk result (IsNoSecond losses.new.lost meta.now
-        → KeepsBorne (R.told rack.old) (R.told rack.new) meta.now out.named (named_of meta.now.out)) }
+    ensures known { IfOk result (λ borne. IsBorneNow out.borne (R.told rack.old)
+        → IsBorneNow borne (R.told rack.new)) }
+    ensures borne { OnOk result (BearsAtEnd (R.told rack.old) (R.told rack.new) meta.now out.borne
+        losses.new.lost) }
+    ensures knows { IfOk result (λ borne. IsNoSecond losses.new.lost meta.now
+        → IsKnown (R.slot rack.new) (or_else losses.new.lost (named_of meta.now.out)) borne) }
+    ensures once { NoneJoins out.named (named_of meta.now.out) → (x : ℕ) → x < 2 → out.borne ≡ Some x
+        → Ran (R.told rack.old) (R.told rack.new) (λ s cs. LeavePlace 2 x cs) }
 {
     let borne = bear_before(rack, losses, meta, out)?;
     run(rack, losses, meta, batch, list, spelled, first)?;
@@ -495,7 +517,7 @@ pub fn spell_meta(meta: &Meta) -> Block
 }
 
 impl<R: Rack> Store<R> {
-    ghost use Rattle.paraid_txn.specs.Stores.{disks_of, epoch_of, named_of as named_by, store_rack};
+    ghost use Rattle.paraid_txn.specs.Stores.{borne_of, disks_of, epoch_of, named_of as named_by, store_rack};
 
     /// Lays a batch and the next meta over what the disks hold: whole or not at all, whatever
     /// stops it and whatever one disk is lost.
@@ -552,6 +574,15 @@ impl<R: Rack> Store<R> {
         ensures calls { Ran (R.told (store_rack self.old)) (R.told (store_rack self.new))
             (EachCall (UsesInCommit meta.now batch.now)) }
 
+        // Witness is borne at its end against a log disk that it lost, or that is named out, and that is
+        // known; and the place of one that is known is not written.
+        ensures bears_witness { IfOk result (λ lost. Ran (R.told (store_rack self.old)) (R.told (store_rack self.new))
+            (λ start calls. LeavesBorne start (run start calls) (or_else lost (named_of meta.now.out)))) }
+        ensures knows { IfOk result (λ lost. IsKnown (R.slot (store_rack self.new)) (or_else lost (named_of meta.now.out))
+            (borne_of self.new)) }
+        ensures once { NoneJoins (named_by self.old) (named_of meta.now.out) → (x : ℕ) → x < 2 → borne_of self.old ≡ Some x
+            → Ran (R.told (store_rack self.old)) (R.told (store_rack self.new)) (λ start calls. LeavePlace 2 x calls) }
+
         // At each moment the old contents or the new ones; at the end only these.
         ensures any_moment { (before : MetaType) → named_by self.old ≡ named_of before.out
             → IsWholeOrAbsent (R.told (store_rack self.old)) (R.told (store_rack self.new)) before
@@ -573,7 +604,9 @@ impl<R: Rack> Store<R> {
             lost: None,
         };
         let first = opens_first(self.named, named);
-        run_witnessed(
+        let borne = self.borne;
+        self.borne = None; // unless it ends
+        let borne = run_witnessed(
             &mut self.rack,
             &mut losses,
             &next,
@@ -584,6 +617,7 @@ impl<R: Rack> Store<R> {
             Bearing {
                 absent,
                 named: self.named,
+                borne,
             },
         )?;
         if let Some(two) = find_second(losses.lost, named) {
@@ -591,6 +625,7 @@ impl<R: Rack> Store<R> {
         }
         self.epoch = next.epoch;
         self.named = named;
+        self.borne = borne;
         Ok(losses.lost)
     }
 }

@@ -5,9 +5,11 @@ ghost use Rattle.paraid_rack.specs.declared.call.Power.TheVariants.{Absent, Park
 ghost use Rattle.paraid_rack.specs.Slots.{ChangesOneSlot};
 ghost use Rattle.paraid_rack.specs.Told.{GrowsByCall};
 ghost use Rattle.paraid_rack.specs.Trail.{Trail, now};
+ghost use Rattle.paraid_txn.specs.Borne.{IsBorneNow, IsBorneNow-prop};
 ghost use Rattle.paraid_txn.specs.Losses.{IsLostBy};
 ghost use Rattle.paraid_image.specs.Out.{first_absent as first_absent_of, named_out as named_of_out, or_else};
 
+use crate::bearing::BEARER;
 use paraid_base::{Block, DiskNo, Failed, Place, Two};
 use paraid_rack::{Power, Rack};
 use paraid_record::Meta;
@@ -21,8 +23,8 @@ pub enum Lost {
     Two(Two),
 }
 
-/// Owns the rack of an array, and knows the epoch of its last commit and the disk that the last
-/// meta names out.
+/// Owns the rack of an array, and knows the epoch of its last commit, the disk that the last meta
+/// names out, and a log disk against which disk 2 bears witness.
 ///
 /// It takes no memory. The array's number of disks is that of the meta with which it was made.
 #[derive(Drop)]
@@ -31,7 +33,9 @@ pub struct Store<R: Rack> {
     pub(crate) disks: u8,
     pub(crate) epoch: u64,
     pub(crate) named: Option<DiskNo>,
+    pub(crate) borne: Option<DiskNo>,
     ghost exists: { disks ≤ R.slot_count rack },
+    ghost known: { IsBorneNow borne (R.told rack) } by { IsBorneNow-prop borne (R.told rack) },
 }
 
 // The least absent slot of the first ones.
@@ -78,8 +82,28 @@ fn loss_of(out: Option<DiskNo>, disk: DiskNo) -> Lost
     }
 }
 
+// The witness that is borne where this place is written: none, if that is the place of one.
+fn borne_beside(borne: Option<DiskNo>, disk: DiskNo, place: Place) -> Option<DiskNo>
+    ensures { (x : ℕ) → result ≡ Some x → (borne ≡ Some x) × ((2 ≡ disk) → x < 2 → x ≢ place) }
+{
+    if disk == BEARER && place < 2 {
+        return None;
+    }
+    borne
+}
+
+// The witness that is borne where this disk is a fresh one: none, if that disk bore it.
+fn borne_without(borne: Option<DiskNo>, disk: DiskNo) -> Option<DiskNo>
+    ensures { (x : ℕ) → result ≡ Some x → (borne ≡ Some x) × (2 ≢ disk) }
+{
+    if disk == BEARER {
+        return None;
+    }
+    borne
+}
+
 impl<R: Rack> Store<R> {
-    ghost use Rattle.paraid_txn.specs.Stores.{IsSameStore, disks_of, epoch_of, named_of, store_out, store_rack};
+    ghost use Rattle.paraid_txn.specs.Stores.{IsSameStore, borne_of, disks_of, epoch_of, named_of, store_out, store_rack};
 
     /// Takes over a rack whose last meta is this one. It makes no call of the rack.
     pub fn adopt(rack: R, meta: &Meta) -> Store<R>
@@ -88,13 +112,32 @@ impl<R: Rack> Store<R> {
         ensures disks { disks_of result ≡ meta.now.setup.geometry.disks }
         ensures epoch { epoch_of result ≡ meta.now.epoch }
         ensures named { named_of result ≡ named_of_out meta.now.out }
+        ensures borne { borne_of result ≡ None }
     {
         Store {
             rack,
             disks: meta.setup.geometry.disks,
             epoch: meta.epoch,
             named: meta.out.named(),
+            borne: None,
         }
+    }
+
+    /// Takes it as known that disk 2 bears witness against this log disk. It makes no call.
+    pub fn note_borne(&mut self, disk: DiskNo)
+        requires borne { IsBorneNow (Some disk) (R.told (store_rack self.old)) }
+        ensures rack { store_rack self.new ≡ store_rack self.old }
+        ensures same { IsSameStore self.old self.new }
+        ensures borne { borne_of self.new ≡ Some disk }
+    {
+        self.borne = Some(disk);
+    }
+
+    /// Whether it knows that disk 2 bears witness against this disk.
+    pub fn knows_borne(&self, disk: DiskNo) -> bool
+        ensures { result ≡ true → IsBorneNow (Some disk) (R.told (store_rack self.now)) }
+    {
+        self.borne == Some(disk)
     }
 
     /// The least absent slot of the first ones.
@@ -198,6 +241,7 @@ impl<R: Rack> Store<R> {
             (R.slot (store_rack self.old)) (R.slot (store_rack self.new))) }
     {
         let out = self.out();
+        self.borne = borne_beside(self.borne, disk, place);
         let Ok(()) = self.rack.write(disk, place, block) else {
             return Err(loss_of(out, disk));
         };
@@ -260,6 +304,7 @@ impl<R: Rack> Store<R> {
             (R.slot (store_rack self.old)) (R.slot (store_rack self.new))) }
     {
         let out = self.out();
+        self.borne = borne_without(self.borne, disk);
         let Ok(()) = self.rack.attach(disk, size) else {
             return Err(loss_of(out, disk));
         };

@@ -1,9 +1,10 @@
 //! The witnesses that disk 2 bears against the log disks. Its place `x` is open, as a gate is, where
 //! log disk `x` was out: then a mount that finds the other log disk absent refuses what log disk `x`
 //! says. Disk 2 spins in every gear, and a log disk that is out gets no word of its own.
-ghost use Rattle.std.specs.Prelude.{◌≡◌, ◌≢◌, ℕ, ◌<◌, ◌⊎◌, true, false, Some, None, Ok, IfSome};
+ghost use Rattle.std.specs.Prelude.{◌≡◌, ◌≢◌, ℕ, ◌<◌, ◌⊎◌, true, false, Some, None, Ok, IfOk, IfSome};
 ghost use Rattle.paraid_rack.specs.declared.call.Power.TheVariants.{Absent, Spinning};
 ghost use Rattle.paraid_rack.specs.Told.{Ran};
+ghost use Rattle.paraid_txn.specs.Borne.{IsBorneNow};
 ghost use Rattle.paraid_txn.specs.Commit.{gone_out as gone_of};
 ghost use Rattle.paraid_txn.specs.CommitPart.{SyncedPart};
 ghost use Rattle.paraid_txn.specs.Losses.{CanWrite};
@@ -11,18 +12,15 @@ ghost use Rattle.paraid_txn.specs.Uses.{UsesWitness};
 ghost use Rattle.paraid_image.specs.Out.{or_else};
 ghost use Rattle.paraid_image.specs.Sides.{is_open};
 ghost use Rattle.paraid_record.specs.declared.meta.Meta.{Meta as MetaType};
-ghost use Rattle.paraid_txn.specs.Witness.{CannotSet, IsFirstWitness, IsLastWitness, MaySetWitness, SetsWitness, borne_then};
+ghost use Rattle.paraid_txn.specs.Witness.{CannotSet, IsFirstWitness, IsLastWitness, MaySetWitness, SetsWitness};
 
-use crate::bearing::Witness;
+use crate::bearing::{BEARER, Bearing, Witness};
 use crate::calls::{put, sync_slot};
 use crate::commit::gate;
 use crate::losses::Losses;
 use paraid_base::{Block, DiskNo, Place, Two};
 use paraid_rack::{Power, Rack};
 use paraid_record::Meta;
-
-/// The disk that bears witness against log disks.
-const BEARER: DiskNo = 2;
 
 // The witness against this disk is borne, if it is a log disk.
 fn against(out: Option<DiskNo>) -> Option<Witness>
@@ -47,36 +45,20 @@ pub(crate) fn joining(was: Option<DiskNo>, now: Option<DiskNo>) -> Option<DiskNo
 }
 
 /// What is set before the steps of a commit: the witness against a log disk that comes in again is
-/// taken back; and it is borne against one that is absent, unless a log disk was named out.
-pub(crate) fn first_witness(
-    absent: Option<DiskNo>,
-    was: Option<DiskNo>,
-    now: Option<DiskNo>,
-) -> Option<Witness>
-    ensures { IsFirstWitness absent was now result }
+/// taken back; or, if none is borne, one is borne against a log disk that is absent.
+pub(crate) fn first_witness(out: Bearing, now: Option<DiskNo>) -> Option<Witness>
+    ensures { IsFirstWitness out.absent out.named now out.borne result }
 {
-    if let Some(disk) = joining(was, now) {
+    if let Some(disk) = joining(out.named, now) {
         return Some(Witness {
             disk,
             opened: false,
         });
     }
-    if against(was).is_some() {
-        return None; // it has been
+    if out.borne.is_some() {
+        return None;
     }
-    against(absent)
-}
-
-/// Against which disk witness is borne, if it is a log disk: one against which it was set, or else the
-/// one that was named out.
-pub(crate) fn borne_against(was: Option<DiskNo>, set: Option<Witness>) -> Option<DiskNo>
-    ensures { result ≡ borne_then was set }
-{
-    match set {
-        Some(witness) if witness.opened => Some(witness.disk),
-        Some(_) => None,
-        None => was,
-    }
+    against(out.absent)
 }
 
 // The disk that was lost, or else the one that is named out.
@@ -136,24 +118,40 @@ fn write_witness<R: Rack>(
     sync_slot(rack, losses, skip, BEARER) // before a step that counts on it
 }
 
-/// Sets a witness on disk 2. Nothing is done where that disk is gone, or cannot be written.
+// The log disk against which witness is borne by this one, once it is set.
+fn borne_by(witness: Witness) -> Option<DiskNo>
+    ensures is { (x : ℕ) → result ≡ Some x → (witness.disk ≡ x) × (witness.opened ≡ true) }
+    ensures opened { witness.opened ≡ true → result ≡ Some witness.disk }
+{
+    if witness.opened {
+        return Some(witness.disk);
+    }
+    None
+}
+
+/// Sets a witness on disk 2. Nothing is done where that disk is gone, or cannot be written. It answers
+/// against which log disk witness is borne then, as far as it knows.
 pub(crate) fn set_witness<R: Rack>(
     rack: &mut R,
     losses: &mut Losses,
     meta: &Meta,
     witness: Witness,
-) -> Result<(), Two>
+) -> Result<Option<DiskNo>, Two>
     requires exists { 2 < R.slot_count rack.old }
     ensures leaves { SyncedPart R.Rack (UsesWitness meta.now) losses.old losses.new rack.old rack.new
         result }
     ensures told { Ran (R.told rack.old) (R.told rack.new)
         (λ s cs. MaySetWitness (R.slot rack.old) (gone_of meta.now.out) witness.disk witness.opened cs) }
+    ensures known { IfOk result (λ borne. IsBorneNow borne (R.told rack.new)) }
+    ensures opens { witness.opened ≡ true → IfOk result (λ borne. (borne ≡ Some witness.disk)
+        ⊎ CannotSet (R.slot rack.old) (gone_of meta.now.out) witness.disk) }
 {
     let skip = meta.out.gone();
     let place = u32::from(witness.disk);
     if !can_bear(rack, skip, place) {
-        return Ok(());
+        return Ok(None);
     }
     let block = gate(witness.opened);
-    write_witness(rack, losses, skip, place, &block)
+    write_witness(rack, losses, skip, place, &block)?;
+    Ok(borne_by(witness))
 }

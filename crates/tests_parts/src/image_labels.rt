@@ -160,7 +160,7 @@ fn work<H: Files<File = File> + AllocGlobal + Abort>(host: &H, parks: bool) -> b
 }
 
 /// One command works with the disks, and attaches disk 1 anew, of which a copy is made before.
-fn replace<H: Files<File = File> + AllocGlobal + Abort>(host: &H) -> bool {
+fn replace_one<H: Files<File = File> + AllocGlobal + Abort>(host: &H) -> bool {
     let mut rack = loaded(host);
     rack.has_fitting_images()
         && sync_all::<H>(&mut rack)
@@ -206,7 +206,7 @@ fn act<H: Files<File = File> + AllocGlobal + Abort>(host: &H, deed: Deed) -> boo
         Restore => swap(host, image(1), SPARE),
         Load => work(host, false),
         Park => work(host, true),
-        Replace => replace(host),
+        Replace => replace_one(host),
         Rename => relabel(host),
         Strip => strip(host),
     }

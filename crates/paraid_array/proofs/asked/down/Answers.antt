@@ -43,10 +43,12 @@ returns-in-Err g c =
       turn = down_stays g.R.Rack.slot_count g.R.Rack.told a c.in-Err.fault (subst (λ (z : Meta). (s : PowerState) → IsShiftStateOf z s → IsDownRefused z.setup s c.in-Err.fault) c.meta.ensures c.in-Err.ensures.refused);
       halts = tt;
       out = λ not. refl;
-      slots = refl;
-      no_fall = λ d. omega arith;
+      calls = record {
+        slots = refl;
+        no_fall = λ d. omega arith;
+        grows = extends_none (g.R.Rack.told (store_rack a.store));
+      };
       two = tt;
-      told = extends_none (g.R.Rack.told (store_rack a.store));
     }
 
 pub commit_staged-requires : goal.commit_staged-requires
@@ -58,7 +60,7 @@ returns-in_err-commit_staged g c =
     let m = c.commit_staged.new.core in
     let steady = subst (λ (z : Meta). z.phase ≡ Steady) c.meta.ensures c.in_default.ensures.steady in
     let whole = subst (λ (z : Meta). z.out ≡ No) c.meta.ensures c.in_default.ensures.whole in
-    let loses = c.in_err-commit_staged.ensures.loses (none_away g.R.Rack.slot a whole) in
+    let loses = c.in_err-commit_staged.ensures.rack.loses (none_away g.R.Rack.slot a whole) in
     record {
       serving = none_done _ c.from_residual.result _ c.from_residual.ensures.1;
       leaves = none_done _ c.from_residual.result _ c.from_residual.ensures.1;
@@ -75,24 +77,28 @@ returns-in_err-commit_staged g c =
           (down_halts g.R.Rack.slot_count g.R.Rack.told a steady whole m c.in_default.field-0 _ 1 (omega arith) loses
           (subst (λ (z : Meta). (s : PowerState) → IsShiftStateOf z s → MayGoDown z.setup s c.in_default.field-0) c.meta.ensures c.in_default.ensures.may));
       out = λ not. absurd (not whole);
-      slots = c.commit_staged.ensures.slots;
-      no_fall = c.commit_staged.ensures.no_fall;
-      two = handed _ c.from_residual.result _ c.from_residual.ensures.1 c.in_err-commit_staged.ensures.two;
-      told = extends_core g.R.Rack.told a m _ (loses [] 0 [] 0 0);
+      calls = record {
+        slots = c.commit_staged.ensures.rack.slots;
+        no_fall = c.commit_staged.ensures.rack.no_fall;
+        grows = extends_core g.R.Rack.told a m _ (loses [] 0 [] 0 0);
+      };
+      two = handed _ c.from_residual.result _ c.from_residual.ensures.1 c.in_err-commit_staged.ensures.rack.two;
     }
 
 pub gear_below-requires-2 : goal.gear_below-requires-2
-gear_below-requires-2 g c = record { in_range = subst (λ (z : Meta). IsInRange z) (sym c.meta-2.ensures) c.in_ok-commit_staged.ensures.serving.ready.in_range }
+gear_below-requires-2 g c = record { in_range = subst (λ (z : Meta). IsInRange z) (sym c.meta-2.ensures) c.in_ok-commit_staged.ensures.serves.serving.ready.in_range }
 
 pub begin_down-requires : goal.begin_down-requires
 begin_down-requires g c = record {
-  serving = c.in_ok-commit_staged.ensures.serving;
-  epoch =
-      let e = c.requires.epoch in
-      let f = c.in_ok-commit_staged.ensures.epoch in
-      omega (arith, e, f);
-  whole = subst (λ (z : Meta). z.out ≡ No) c.meta-2.ensures c.in-Ok.ensures.whole;
-  steady = subst (λ (z : Meta). z.phase ≡ Steady) c.meta-2.ensures c.in-Ok.ensures.steady;
+  can = record {
+    serving = c.in_ok-commit_staged.ensures.serves.serving;
+    epoch =
+        let e = c.requires.epoch in
+        let f = c.in_ok-commit_staged.ensures.serves.epoch in
+        omega (arith, e, f);
+    whole = subst (λ (z : Meta). z.out ≡ No) c.meta-2.ensures c.in-Ok.ensures.whole;
+    steady = subst (λ (z : Meta). z.phase ≡ Steady) c.meta-2.ensures c.in-Ok.ensures.steady;
+  };
   next = subst (λ (z : Meta). AreNextGears z.setup.geometry c.in-Ok.to z.gear) c.meta-2.ensures c.in-Ok.ensures.next;
   spared = subst (λ (z : Meta). (d : ℕ) → c.in-Ok.to ≤ d → d < z.gear → slice_index z.spins d < allowed_spins z) c.meta-2.ensures c.in-Ok.ensures.spared;
 }
@@ -119,13 +125,15 @@ returns-in_err-begin_down-in-Ok g c =
       halts =
           handed _ c.from_residual-in_err-begin_down-in-Ok.result _ c.from_residual-in_err-begin_down-in-Ok.ensures.1
           (down_halts g.R.Rack.slot_count g.R.Rack.told a steady whole b c.in_default.field-0 _ (1 + 1) (omega arith)
-          (core_loses_then g.R.Rack.slot_count g.R.Rack.told a m b 1 1 _ steps c.in_err-begin_down-in-Ok.ensures.loses)
+          (core_loses_then g.R.Rack.slot_count g.R.Rack.told a m b 1 1 _ steps c.in_err-begin_down-in-Ok.ensures.rack.loses)
           (subst (λ (z : Meta). (s : PowerState) → IsShiftStateOf z s → MayGoDown z.setup s c.in_default.field-0) c.meta.ensures c.in_default.ensures.may));
       out = λ not. absurd (not whole);
-      slots = c.begin_down.ensures.slots ∙ c.commit_staged.ensures.slots;
-      no_fall = no_fall_then (g.R.Rack.slot (store_rack a.store)) (g.R.Rack.slot (store_rack m.store)) (g.R.Rack.slot (store_rack b.store)) c.commit_staged.ensures.no_fall c.begin_down.ensures.spared.no_fall;
-      two = handed _ c.from_residual-in_err-begin_down-in-Ok.result _ c.from_residual-in_err-begin_down-in-Ok.ensures.1 (two_array g.R.Rack.slot_count g.R.Rack.slot a m b c.in_ok-commit_staged.ensures.leaves c.begin_down.ensures.spared.no_fall _ c.in_err-begin_down-in-Ok.ensures.two);
-      told = extends_cores g.R.Rack.told a m b (extends_core g.R.Rack.told a m _ (steps [] 0 [] 0 0)) (extends_core g.R.Rack.told m b _ (c.begin_down.ensures.moments [] 0));
+      calls = record {
+        slots = c.begin_down.ensures.rack.slots ∙ c.commit_staged.ensures.rack.slots;
+        no_fall = no_fall_then (g.R.Rack.slot (store_rack a.store)) (g.R.Rack.slot (store_rack m.store)) (g.R.Rack.slot (store_rack b.store)) c.commit_staged.ensures.rack.no_fall c.begin_down.ensures.rack.spared.no_fall;
+        grows = extends_cores g.R.Rack.told a m b (extends_core g.R.Rack.told a m _ (steps [] 0 [] 0 0)) (extends_core g.R.Rack.told m b _ (c.begin_down.ensures.keeps.moments [] 0));
+      };
+      two = handed _ c.from_residual-in_err-begin_down-in-Ok.result _ c.from_residual-in_err-begin_down-in-Ok.ensures.1 (two_array g.R.Rack.slot_count g.R.Rack.slot a m b c.in_ok-commit_staged.ensures.serves.leaves c.begin_down.ensures.rack.spared.no_fall _ c.in_err-begin_down-in-Ok.ensures.rack.two);
     }
 
 pub returns-in_ok-begin_down-in-Ok : goal.returns-in_ok-begin_down-in-Ok
@@ -142,28 +150,30 @@ returns-in_ok-begin_down-in-Ok g c =
     let steps = staged.steps (none_away g.R.Rack.slot a whole) in
     let done = c.in_ok-begin_down-in-Ok.ensures in
     record {
-      serving = done.serving;
-      leaves = leaves_array_then g.R.Rack.slot_count g.R.Rack.slot a m b staged.leaves done.leaves;
+      serving = done.shifted.serving;
+      leaves = leaves_array_then g.R.Rack.slot_count g.R.Rack.slot a m b staged.serves.leaves done.shifted.leaves;
       refused = λ fault s of why.
           let is = subst (λ (z : Meta). IsShiftStateOf z s) (sym c.meta.ensures) of in
           absurd (down_may_not c.meta.result.now.setup s c.in_default.field-0 fault (c.in_default.ensures.may s is) (subst (λ (z : Meta). IsDownRefused z.setup s fault) (sym c.meta.ensures) why));
       begins = λ goal s of could. down_same a.meta m.meta m.meta.epoch staged.meta steady whole still s of goal to could may;
       marks = (m.meta.epoch + 1, subst (λ (z : Meta). IsMarkedFrom (record (meta_after_begin z (Down to) z.spins) { epoch = z.epoch + 1 }) b.meta) (unmarked a.meta m.meta m.meta.epoch staged.meta whole still) done.meta);
-      known = λ before. known_marked g.R.Rack.slot b (record (meta_after_begin m.meta (Down to) m.meta.spins) { epoch = m.meta.epoch + 1 }) still done.meta done.absent;
+      known = λ before. known_marked g.R.Rack.slot b (record (meta_after_begin m.meta (Down to) m.meta.spins) { epoch = m.meta.epoch + 1 }) still done.meta done.shifted.absent;
       epoch =
           let e = ap (λ (z : Meta). z.epoch) (marked_then (meta_after_begin m.meta (Down to) m.meta.spins) b.meta (m.meta.epoch + 1) done.meta) in
-          let f = staged.epoch in
+          let f = staged.serves.epoch in
           omega (arith, e, f);
       turn =
           down_begun g.R.Rack.slot_count g.R.Rack.told a steady whole m m.meta.epoch staged.meta c.commit_staged.ensures.table steps g.R.Rack.slot b to
-          still done.steps c.begin_down.ensures.table done.serving.copies_synced
+          still done.steps c.begin_down.ensures.keeps.table done.shifted.serving.copies_synced
           may (subst (λ (z : Meta). to < z.gear) c.meta-2.ensures c.in-Ok.ensures.next.below) done.meta;
       halts = tt;
       out = λ not. absurd (not whole);
-      slots = c.begin_down.ensures.slots ∙ c.commit_staged.ensures.slots;
-      no_fall = no_fall_then (g.R.Rack.slot (store_rack a.store)) (g.R.Rack.slot (store_rack m.store)) (g.R.Rack.slot (store_rack b.store)) c.commit_staged.ensures.no_fall c.begin_down.ensures.spared.no_fall;
+      calls = record {
+        slots = c.begin_down.ensures.rack.slots ∙ c.commit_staged.ensures.rack.slots;
+        no_fall = no_fall_then (g.R.Rack.slot (store_rack a.store)) (g.R.Rack.slot (store_rack m.store)) (g.R.Rack.slot (store_rack b.store)) c.commit_staged.ensures.rack.no_fall c.begin_down.ensures.rack.spared.no_fall;
+        grows = extends_cores g.R.Rack.told a m b (extends_core g.R.Rack.told a m _ (steps [] 0 [] 0 0)) (extends_core g.R.Rack.told m b _ (c.begin_down.ensures.keeps.moments [] 0));
+      };
       two = tt;
-      told = extends_cores g.R.Rack.told a m b (extends_core g.R.Rack.told a m _ (steps [] 0 [] 0 0)) (extends_core g.R.Rack.told m b _ (c.begin_down.ensures.moments [] 0));
     }
 
 pub returns-in-Err-gear_below : goal.returns-in-Err-gear_below
@@ -177,20 +187,22 @@ returns-in-Err-gear_below g c =
     let could = subst (λ (z : Meta). (s : PowerState) → IsShiftStateOf z s → MayGoDown z.setup s c.in_default.field-0) c.meta.ensures c.in_default.ensures.may in
     let why = subst (λ (z : Meta). (s : PowerState) → IsShiftStateOf z s → IsDownRefused z.setup s c.in-Err-gear_below.fault) c.meta-2.ensures c.in-Err-gear_below.ensures.refused in
     record {
-      serving = staged.serving;
-      leaves = staged.leaves;
+      serving = staged.serves.serving;
+      leaves = staged.serves.leaves;
       refused = λ fault s of was.
           let is = subst (λ (z : Meta). IsShiftStateOf z s) (sym c.meta.ensures) of in
           absurd (down_may_not c.meta.result.now.setup s c.in_default.field-0 fault (c.in_default.ensures.may s is) (subst (λ (z : Meta). IsDownRefused z.setup s fault) (sym c.meta.ensures) was));
       begins = λ to s of may. down_lost a.meta m.meta m.meta.epoch staged.meta steady whole c.in_default.field-0 c.in-Err-gear_below.fault could why;
       marks = (m.meta.epoch, staged.meta);
-      known = λ before. known_marked g.R.Rack.slot m (record a.meta { epoch = m.meta.epoch }) whole staged.meta (staged.absent before.absent);
-      epoch = let e = staged.epoch in omega (arith, e);
-      turn = down_stopped g.R.Rack.slot_count g.R.Rack.told a steady whole m m.meta.epoch staged.meta c.commit_staged.ensures.table steps c.in_default.field-0 c.in-Err-gear_below.fault staged.serving.copies_synced could why;
+      known = λ before. known_marked g.R.Rack.slot m (record a.meta { epoch = m.meta.epoch }) whole staged.meta (staged.serves.absent before.absent);
+      epoch = let e = staged.serves.epoch in omega (arith, e);
+      turn = down_stopped g.R.Rack.slot_count g.R.Rack.told a steady whole m m.meta.epoch staged.meta c.commit_staged.ensures.table steps c.in_default.field-0 c.in-Err-gear_below.fault staged.serves.serving.copies_synced could why;
       halts = tt;
       out = λ not. absurd (not whole);
-      slots = c.commit_staged.ensures.slots;
-      no_fall = c.commit_staged.ensures.no_fall;
+      calls = record {
+        slots = c.commit_staged.ensures.rack.slots;
+        no_fall = c.commit_staged.ensures.rack.no_fall;
+        grows = extends_core g.R.Rack.told a m _ (steps [] 0 [] 0 0);
+      };
       two = tt;
-      told = extends_core g.R.Rack.told a m _ (steps [] 0 [] 0 0);
     }

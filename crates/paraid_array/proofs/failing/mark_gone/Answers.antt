@@ -25,9 +25,11 @@ pub commit-requires : goal.commit-requires
 commit-requires g c =
     let marks = c.mark_out.ensures in
     record {
-      ready = marks.ready;
-      epoch = subst (λ (m : Meta). m.epoch < 2 ^ 63) (sym marks.meta) c.requires.epoch;
-      copies_synced = copies_kept c.args.core.now c.mark_out.new.self (ap (λ (m : Meta). m.setup) marks.meta) marks.copied c.requires.service.copies_synced;
+      ready = marks.marks.ready;
+      committable = record {
+        epoch = subst (λ (m : Meta). m.epoch < 2 ^ 63) (sym marks.meta) c.requires.epoch;
+        copies_synced = copies_kept c.args.core.now c.mark_out.new.self (ap (λ (m : Meta). m.setup) marks.meta) marks.marks.staged.copied c.requires.service.copies_synced;
+      };
     }
 
 pub returns-in_err-commit : goal.returns-in_err-commit
@@ -37,25 +39,20 @@ returns-in_err-commit g c =
     let new = c.commit.new.self in
     let marks = c.mark_out.ensures in
     record {
-      service = none_done _ c.from_residual.result _ c.from_residual.ensures.1;
-      setup = none_done _ c.from_residual.result _ c.from_residual.ensures.1;
-      meta = none_done _ c.from_residual.result _ c.from_residual.ensures.1;
-      writes = none_done _ c.from_residual.result _ c.from_residual.ensures.1;
-      unsynced = none_done _ c.from_residual.result _ c.from_residual.ensures.1;
+      stays = none_done _ c.from_residual.result _ c.from_residual.ensures.1;
+      taken = none_done _ c.from_residual.result _ c.from_residual.ensures.1;
       known = none_done _ c.from_residual.result _ c.from_residual.ensures.1;
-      gone = none_done _ c.from_residual.result _ c.from_residual.ensures.1;
-      table = c.commit.ensures.table ∙ marks.table;
-      slots = c.commit.ensures.slots ∙ ap (λ (z : _). g.R.Rack.slot_count (store_rack z)) marks.store;
-      epoch = none_done _ c.from_residual.result _ c.from_residual.ensures.1;
-      marks = can_mark g.R.Rack.slot_count g.R.Rack.slot g.R.Rack.told g.met.R.Rack.agrees a b c.args.disk marks.store marks.meta marks.table marks.batch marks.copied marks.stands;
+      table = c.commit.ensures.cells.table ∙ marks.marks.staged.table;
+      slots = c.commit.ensures.stays.losses.slots ∙ ap (λ (z : _). g.R.Rack.slot_count (store_rack z)) marks.marks.store;
+      marks = can_mark g.R.Rack.slot_count g.R.Rack.slot g.R.Rack.told g.met.R.Rack.agrees a b c.args.disk marks.marks.store marks.meta marks.marks.staged.table marks.marks.staged.batch marks.marks.staged.copied marks.stands;
       commits = none_done _ c.from_residual.result _ c.from_residual.ensures.1;
       loses =
           handed _ c.from_residual.result _ c.from_residual.ensures.1
-          (taken_lost g.R.Rack.slot_count g.R.Rack.slot g.R.Rack.told g.met.R.Rack.agrees a b c.args.disk marks.store marks.meta marks.table marks.batch marks.copied
-          new c.commit.ensures.calls c.commit.ensures.whole c.commit.ensures.moments (marks.serves c.requires.service.serves) _ c.in_err-commit.ensures.tells);
-      spared = subst (λ (z : _). OnlyLosesSlots (g.R.Rack.slot (store_rack z)) (g.R.Rack.slot (store_rack new.store))) marks.store c.commit.ensures.spared;
-      two = handed _ c.from_residual.result _ c.from_residual.ensures.1 (two_taken g.R.Rack.slot a b new c.args.disk _ marks.store (ap (λ (m : Meta). named_out m.out) marks.meta) c.in_err-commit.ensures.two);
-      told = extends_store g.R.Rack.told a b new marks.store (extends_core g.R.Rack.told b new _ c.commit.ensures.calls);
+          (taken_lost g.R.Rack.slot_count g.R.Rack.slot g.R.Rack.told g.met.R.Rack.agrees a b c.args.disk marks.marks.store marks.meta marks.marks.staged.table marks.marks.staged.batch marks.marks.staged.copied
+          new c.commit.ensures.brings.calls c.commit.ensures.brings.whole c.commit.ensures.held.moments (marks.serves c.requires.service.serves) _ c.in_err-commit.ensures.stays.losses.tells);
+      spared = subst (λ (z : _). OnlyLosesSlots (g.R.Rack.slot (store_rack z)) (g.R.Rack.slot (store_rack new.store))) marks.marks.store c.commit.ensures.stays.losses.spared;
+      two = handed _ c.from_residual.result _ c.from_residual.ensures.1 (two_taken g.R.Rack.slot a b new c.args.disk _ marks.marks.store (ap (λ (m : Meta). named_out m.out) marks.meta) c.in_err-commit.ensures.stays.losses.two);
+      told = extends_store g.R.Rack.told a b new marks.marks.store (extends_core g.R.Rack.told b new _ c.commit.ensures.brings.calls);
     }
 
 pub returns : goal.returns
@@ -66,33 +63,38 @@ returns g c =
     let new = c.commit.new.self in
     let marks = c.mark_out.ensures in
     let done = c.in_ok-commit.ensures in
-    let gone = gone_marked (record b.meta { epoch = b.meta.epoch + 1 }) new.meta c.args.disk (ap (λ (m : Meta). m.out) marks.meta) done.meta in
+    let gone = gone_marked (record b.meta { epoch = b.meta.epoch + 1 }) new.meta c.args.disk (ap (λ (m : Meta). m.out) marks.meta) done.meta.meta in
     record {
-      service =
-          service_then g.R.Rack.slot_count g.R.Rack.slot b new
-          (record {
-            ready = marks.ready;
-            serves = marks.serves q.serves;
-            draft = marks.draft ∙ q.draft;
-            copies_synced = copies_kept a b (ap (λ (m : Meta). m.setup) marks.meta) marks.copied q.copies_synced;
-            large = large_marked g.R.Rack.slot a b marks.store (ap (λ (m : Meta). m.setup) marks.meta) c.args.disk (ap (λ (m : Meta). named_out m.out) marks.meta) c.requires.alone q.large;
-          })
-          done.marks done.setup done.ready (done.serves (marks.serves q.serves)) (done.draft ∙ marks.draft ∙ q.draft) done.copied;
-      setup = done.setup ∙ ap (λ (m : Meta). m.setup) marks.meta;
-      meta = marked_taken a.meta b.meta new.meta c.args.disk (b.meta.epoch + 1) marks.meta done.meta;
-      writes = done.writes ∙ ap (λ (m : Meta). m.writes) marks.meta;
-      unsynced = λ before. done.unsynced (unsynced_marked g.R.Rack.slot a b c.args.disk marks.store marks.meta marks.copied c.requires.alone before);
-      known = known_gone g.R.Rack.slot new c.args.disk gone done.absent;
-      gone = gone;
-      table = c.commit.ensures.table ∙ marks.table;
-      slots = c.commit.ensures.slots ∙ ap (λ (z : _). g.R.Rack.slot_count (store_rack z)) marks.store;
-      epoch = done.epoch ∙ ap (λ (m : Meta). m.epoch + 1) marks.meta;
-      marks = can_mark g.R.Rack.slot_count g.R.Rack.slot g.R.Rack.told g.met.R.Rack.agrees a b c.args.disk marks.store marks.meta marks.table marks.batch marks.copied marks.stands;
+      stays = record {
+        service =
+            service_then g.R.Rack.slot_count g.R.Rack.slot b new
+            (record {
+              ready = marks.marks.ready;
+              serves = marks.serves q.serves;
+              draft = marks.marks.staged.draft ∙ q.draft;
+              copies_synced = copies_kept a b (ap (λ (m : Meta). m.setup) marks.meta) marks.marks.staged.copied q.copies_synced;
+              large = large_marked g.R.Rack.slot a b marks.marks.store (ap (λ (m : Meta). m.setup) marks.meta) c.args.disk (ap (λ (m : Meta). named_out m.out) marks.meta) c.requires.alone q.large;
+            })
+            done.stays.losses.marks done.stays.setup done.stays.ready (done.serves (marks.serves q.serves)) (done.cells.draft ∙ marks.marks.staged.draft ∙ q.draft) done.stays.copied;
+        setup = done.stays.setup ∙ ap (λ (m : Meta). m.setup) marks.meta;
+        writes = done.cells.writes ∙ ap (λ (m : Meta). m.writes) marks.meta;
+        unsynced = λ before. done.unsynced (unsynced_marked g.R.Rack.slot a b c.args.disk marks.marks.store marks.meta marks.marks.staged.copied c.requires.alone before);
+        known = λ before. known_gone g.R.Rack.slot new c.args.disk gone done.meta.absent;
+      };
+      taken = record {
+        meta = marked_taken a.meta b.meta new.meta c.args.disk (b.meta.epoch + 1) marks.meta done.meta.meta;
+        gone = gone;
+        epoch = done.meta.epoch ∙ ap (λ (m : Meta). m.epoch + 1) marks.meta;
+      };
+      known = known_gone g.R.Rack.slot new c.args.disk gone done.meta.absent;
+      table = c.commit.ensures.cells.table ∙ marks.marks.staged.table;
+      slots = c.commit.ensures.stays.losses.slots ∙ ap (λ (z : _). g.R.Rack.slot_count (store_rack z)) marks.marks.store;
+      marks = can_mark g.R.Rack.slot_count g.R.Rack.slot g.R.Rack.told g.met.R.Rack.agrees a b c.args.disk marks.marks.store marks.meta marks.marks.staged.table marks.marks.staged.batch marks.marks.staged.copied marks.stands;
       commits =
-          commits_taken g.R.Rack.slot_count g.R.Rack.slot g.R.Rack.told g.met.R.Rack.agrees a b c.args.disk marks.store marks.meta marks.table marks.batch marks.copied
-          new c.commit.ensures.calls c.commit.ensures.whole done.stands done.marks done.ready done.setup;
+          commits_taken g.R.Rack.slot_count g.R.Rack.slot g.R.Rack.told g.met.R.Rack.agrees a b c.args.disk marks.marks.store marks.meta marks.marks.staged.table marks.marks.staged.batch marks.marks.staged.copied
+          new c.commit.ensures.brings.calls c.commit.ensures.brings.whole done.held.stands done.stays.losses.marks done.stays.ready done.stays.setup;
       loses = tt;
-      spared = subst (λ (z : _). OnlyLosesSlots (g.R.Rack.slot (store_rack z)) (g.R.Rack.slot (store_rack new.store))) marks.store c.commit.ensures.spared;
+      spared = subst (λ (z : _). OnlyLosesSlots (g.R.Rack.slot (store_rack z)) (g.R.Rack.slot (store_rack new.store))) marks.marks.store c.commit.ensures.stays.losses.spared;
       two = tt;
-      told = extends_store g.R.Rack.told a b new marks.store (extends_core g.R.Rack.told b new _ c.commit.ensures.calls);
+      told = extends_store g.R.Rack.told a b new marks.marks.store (extends_core g.R.Rack.told b new _ c.commit.ensures.brings.calls);
     }

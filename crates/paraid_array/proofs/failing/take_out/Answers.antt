@@ -39,26 +39,32 @@ returns-then-disk-meta g c =
     let a = c.args.core.now in
     let past = subst (λ (m : Meta). m.setup.geometry.disks ≤ c.args.disk) c.meta.ensures c.if-disk-meta.true in
     record {
-      service = c.requires.service;
-      setup = refl;
+      stays = record {
+        service = c.requires.service;
+        setup = refl;
+        writes = refl;
+        unsynced = λ unsynced. unsynced;
+        known = λ known. known;
+      };
       marks = (a.meta.epoch, none_marked a.meta);
-      writes = refl;
-      unsynced = λ unsynced. unsynced;
-      known = λ known. known;
-      no_disk = λ is. (refl, refl);
-      out = λ d below is. not_below c.args.disk a.meta.setup.geometry.disks below past;
-      refused = (refl, past);
-      lost = λ e is none. let z : Some (NoDisk c.args.disk) ≡ Some (OutFault e) = is in cc;
+      refuses = record {
+        no_disk = λ is. (refl, refl);
+        out = λ d below is. not_below c.args.disk a.meta.setup.geometry.disks below past;
+        refused = (refl, past);
+        lost = λ e is none. let z : Some (NoDisk c.args.disk) ≡ Some (OutFault e) = is in cc;
+      };
       taken = λ is. refused_not_done _ _ refl is;
-      slots = refl;
+      calls = record {
+        slots = refl;
+        no_fall = λ d. omega arith;
+        grows = extends_none (g.R.Rack.told (store_rack a.store));
+      };
       table = refl;
       epoch = omega arith;
       alone = λ none. omega arith;
       turn = fail_missing g.R.Rack.slot_count g.R.Rack.told a c.args.disk past;
       halts = tt;
-      no_fall = λ d. omega arith;
       two = tt;
-      told = extends_none (g.R.Rack.told (store_rack a.store));
     }
 
 pub returns-in-Some : goal.returns-in-Some
@@ -67,26 +73,32 @@ returns-in-Some g c =
     let below = subst (λ (m : Meta). c.args.disk < m.setup.geometry.disks) c.meta.ensures c.if-disk-meta.false in
     let named = sym (c.named.ensures ∙ ap named_out c.out.ensures) ∙ c.in-Some.is in
     record {
-      service = c.requires.service;
-      setup = refl;
+      stays = record {
+        service = c.requires.service;
+        setup = refl;
+        writes = refl;
+        unsynced = λ unsynced. unsynced;
+        known = λ known. known;
+      };
       marks = (a.meta.epoch, none_marked a.meta);
-      writes = refl;
-      unsynced = λ unsynced. unsynced;
-      known = λ known. known;
-      no_disk = λ past. not_below c.args.disk a.meta.setup.geometry.disks below past;
-      out = λ d low is. (ap (λ (e : ℕ). Ok (Some (OutFault e))) (one_only (named_out a.meta.out) d d is refl c.in-Some.out named), refl);
-      refused = (below, inl named);
-      lost = λ e is none. none_known (named_out a.meta.out) c.in-Some.out none named;
+      refuses = record {
+        no_disk = λ past. not_below c.args.disk a.meta.setup.geometry.disks below past;
+        out = λ d low is. (ap (λ (e : ℕ). Ok (Some (OutFault e))) (one_only (named_out a.meta.out) d d is refl c.in-Some.out named), refl);
+        refused = (below, inl named);
+        lost = λ e is none. none_known (named_out a.meta.out) c.in-Some.out none named;
+      };
       taken = λ is. refused_not_done _ _ refl is;
-      slots = refl;
+      calls = record {
+        slots = refl;
+        no_fall = λ d. omega arith;
+        grows = extends_none (g.R.Rack.told (store_rack a.store));
+      };
       table = refl;
       epoch = omega arith;
       alone = λ none. omega arith;
       turn = fail_beside g.R.Rack.slot_count g.R.Rack.told a c.args.disk c.in-Some.out below named;
       halts = tt;
-      no_fall = λ d. omega arith;
       two = tt;
-      told = extends_none (g.R.Rack.told (store_rack a.store));
     }
 
 pub commit_writes-requires : goal.commit_writes-requires
@@ -99,26 +111,26 @@ returns-in_err-commit_writes g c =
     let below = subst (λ (m : Meta). c.args.disk < m.setup.geometry.disks) c.meta.ensures c.if-disk-meta.false in
     let none = sym (c.named.ensures ∙ ap named_out c.out.ensures) ∙ c.in_default.is in
     record {
-      service = none_done _ c.from_residual.result _ c.from_residual.ensures.1;
-      setup = none_done _ c.from_residual.result _ c.from_residual.ensures.1;
+      stays = none_done _ c.from_residual.result _ c.from_residual.ensures.1;
       marks = none_done_if _ c.from_residual.result _ c.from_residual.ensures.1;
-      writes = none_done _ c.from_residual.result _ c.from_residual.ensures.1;
-      unsynced = none_done _ c.from_residual.result _ c.from_residual.ensures.1;
-      known = none_done _ c.from_residual.result _ c.from_residual.ensures.1;
-      no_disk = λ past. not_below c.args.disk a.meta.setup.geometry.disks below past;
-      out = λ d low is. none_known (named_out a.meta.out) d none is;
-      refused = none_done_if _ c.from_residual.result _ c.from_residual.ensures.1;
-      lost = none_done_if _ c.from_residual.result _ c.from_residual.ensures.1;
+      refuses = record {
+        no_disk = λ past. not_below c.args.disk a.meta.setup.geometry.disks below past;
+        out = λ d low is. none_known (named_out a.meta.out) d none is;
+        refused = none_done_if _ c.from_residual.result _ c.from_residual.ensures.1;
+        lost = none_done_if _ c.from_residual.result _ c.from_residual.ensures.1;
+      };
       taken = λ is. none_done_as _ c.from_residual.result _ _ c.from_residual.ensures.1 is;
-      slots = c.commit_writes.ensures.slots;
+      calls = record {
+        slots = c.commit_writes.ensures.keeps.slots;
+        no_fall = c.commit_writes.ensures.keeps.spared.no_fall;
+        grows = c.commit_writes.ensures.told;
+      };
       table = c.commit_writes.ensures.table;
       epoch = none_done _ c.from_residual.result _ c.from_residual.ensures.1;
       alone = λ empty. none_done _ c.from_residual.result _ c.from_residual.ensures.1;
       turn = none_done_if _ c.from_residual.result _ c.from_residual.ensures.1;
       halts = handed _ c.from_residual.result _ c.from_residual.ensures.1 (staged_halts g.R.Rack.slot_count g.R.Rack.told a c.args.disk below none b _ c.in_err-commit_writes.ensures.loses);
-      no_fall = c.commit_writes.ensures.spared.no_fall;
-      two = handed _ c.from_residual.result _ c.from_residual.ensures.1 (two_or (core_down a) c.args.disk _ _ _ c.in_err-commit_writes.ensures.two);
-      told = c.commit_writes.ensures.told;
+      two = handed _ c.from_residual.result _ c.from_residual.ensures.1 (two_or (core_down a) c.args.disk _ _ _ c.in_err-commit_writes.ensures.keeps.two);
     }
 
 pub returns-then-out-disk : goal.returns-then-out-disk
@@ -130,31 +142,31 @@ returns-then-out-disk g c =
     let named = sym (c.named-2.ensures ∙ ap named_out c.out-2.ensures) ∙ c.in-Some-named.is in
     let done = c.in_ok-commit_writes.ensures in
     record {
-      service = done.service;
-      setup = done.setup;
+      stays = done.stays;
       marks = (b.meta.epoch, done.meta);
-      writes = done.writes;
-      unsynced = done.unsynced;
-      known = done.known;
-      no_disk = λ past. not_below c.args.disk a.meta.setup.geometry.disks below past;
-      out = λ d low is. none_known (named_out a.meta.out) d none is;
-      refused = (below, inr (none, named, c.if-out-disk.true));
-      lost = λ e is empty.
-          let same : c.in-Some-named.out ≡ e = let z : Some (OutFault c.in-Some-named.out) ≡ Some (OutFault e) = is in cc in
-          fails_newly (g.R.Rack.slot (store_rack a.store)) (g.R.Rack.slot (store_rack b.store)) (named_out a.meta.out) (named_out b.meta.out) (named_of a.store) (named_of b.store) c.requires.service.serves.stays done.service.serves.stays done.down none e
-          (named ∙ ap (λ (x : ℕ). Some x) same);
+      refuses = record {
+        no_disk = λ past. not_below c.args.disk a.meta.setup.geometry.disks below past;
+        out = λ d low is. none_known (named_out a.meta.out) d none is;
+        refused = (below, inr (none, named, c.if-out-disk.true));
+        lost = λ e is empty.
+            let same : c.in-Some-named.out ≡ e = let z : Some (OutFault c.in-Some-named.out) ≡ Some (OutFault e) = is in cc in
+            fails_newly (g.R.Rack.slot (store_rack a.store)) (g.R.Rack.slot (store_rack b.store)) (named_out a.meta.out) (named_out b.meta.out) (named_of a.store) (named_of b.store) c.requires.service.serves.stays done.stays.service.serves.stays done.down none e
+            (named ∙ ap (λ (x : ℕ). Some x) same);
+      };
       taken = λ is. refused_not_done _ _ refl is;
-      slots = c.commit_writes.ensures.slots;
+      calls = record {
+        slots = c.commit_writes.ensures.keeps.slots;
+        no_fall = c.commit_writes.ensures.keeps.spared.no_fall;
+        grows = c.commit_writes.ensures.told;
+      };
       table = c.commit_writes.ensures.table;
       epoch = let e = done.epoch in omega (arith, e);
       alone = λ empty. done.epoch;
       turn =
-          beside_turn g.R.Rack.slot_count g.R.Rack.told a c.args.disk below none b c.in-Some-named.out (λ same. c.if-out-disk.true (sym same)) named done.commits c.commit_writes.ensures.slots c.commit_writes.ensures.table
-          done.service.copies_synced done.nothing;
+          beside_turn g.R.Rack.slot_count g.R.Rack.told a c.args.disk below none b c.in-Some-named.out (λ same. c.if-out-disk.true (sym same)) named done.commits c.commit_writes.ensures.keeps.slots c.commit_writes.ensures.table
+          done.stays.service.copies_synced done.nothing;
       halts = tt;
-      no_fall = c.commit_writes.ensures.spared.no_fall;
       two = tt;
-      told = c.commit_writes.ensures.told;
     }
 
 pub mark_gone-requires : goal.mark_gone-requires
@@ -163,11 +175,11 @@ mark_gone-requires g c =
     let staged = c.in_ok-commit_writes.ensures in
     let names = c.named-2.ensures ∙ ap named_out c.out-2.ensures in
     record {
-      service = staged.service;
+      service = staged.stays.service;
       epoch =
           let e = c.requires.epoch in
           let f = staged.epoch in omega (arith, e, f);
-      disk = subst (λ (z : Setup). c.args.disk < z.geometry.disks) (sym staged.setup) (subst (λ (m : Meta). c.args.disk < m.setup.geometry.disks) c.meta.ensures c.if-disk-meta.false);
+      disk = subst (λ (z : Setup). c.args.disk < z.geometry.disks) (sym staged.stays.setup) (subst (λ (m : Meta). c.args.disk < m.setup.geometry.disks) c.meta.ensures c.if-disk-meta.false);
       alone = elim c.match-named-2.branch [
         | in-Some-named+else-out-disk w ↦ one_only (named_out m.meta.out) w.in-Some-named.out c.args.disk (sym names ∙ w.in-Some-named.is) w.if-out-disk.false
         | in_default-named w ↦ none_only (named_out m.meta.out) c.args.disk (sym names ∙ w.in_default-named.is)
@@ -187,30 +199,30 @@ returns-in_err-mark_gone g c =
       | in_default-named w ↦ none_only (named_out m.meta.out) c.args.disk (sym names ∙ w.in_default-named.is)
     ] in
     record {
-      service = none_done _ c.from_residual-in_err-mark_gone.result _ c.from_residual-in_err-mark_gone.ensures.1;
-      setup = none_done _ c.from_residual-in_err-mark_gone.result _ c.from_residual-in_err-mark_gone.ensures.1;
+      stays = none_done _ c.from_residual-in_err-mark_gone.result _ c.from_residual-in_err-mark_gone.ensures.1;
       marks = none_done_if _ c.from_residual-in_err-mark_gone.result _ c.from_residual-in_err-mark_gone.ensures.1;
-      writes = none_done _ c.from_residual-in_err-mark_gone.result _ c.from_residual-in_err-mark_gone.ensures.1;
-      unsynced = none_done _ c.from_residual-in_err-mark_gone.result _ c.from_residual-in_err-mark_gone.ensures.1;
-      known = none_done _ c.from_residual-in_err-mark_gone.result _ c.from_residual-in_err-mark_gone.ensures.1;
-      no_disk = λ past. not_below c.args.disk a.meta.setup.geometry.disks below past;
-      out = λ d low is. none_known (named_out a.meta.out) d none is;
-      refused = none_done_if _ c.from_residual-in_err-mark_gone.result _ c.from_residual-in_err-mark_gone.ensures.1;
-      lost = none_done_if _ c.from_residual-in_err-mark_gone.result _ c.from_residual-in_err-mark_gone.ensures.1;
+      refuses = record {
+        no_disk = λ past. not_below c.args.disk a.meta.setup.geometry.disks below past;
+        out = λ d low is. none_known (named_out a.meta.out) d none is;
+        refused = none_done_if _ c.from_residual-in_err-mark_gone.result _ c.from_residual-in_err-mark_gone.ensures.1;
+        lost = none_done_if _ c.from_residual-in_err-mark_gone.result _ c.from_residual-in_err-mark_gone.ensures.1;
+      };
       taken = λ is. none_done_as _ c.from_residual-in_err-mark_gone.result _ _ c.from_residual-in_err-mark_gone.ensures.1 is;
-      slots = c.mark_gone.ensures.slots ∙ c.commit_writes.ensures.slots;
+      calls = record {
+        slots = c.mark_gone.ensures.slots ∙ c.commit_writes.ensures.keeps.slots;
+        no_fall = no_fall_then (g.R.Rack.slot (store_rack a.store)) (g.R.Rack.slot (store_rack m.store)) (g.R.Rack.slot (store_rack b.store)) c.commit_writes.ensures.keeps.spared.no_fall c.mark_gone.ensures.spared.no_fall;
+        grows = extends_cores g.R.Rack.told a m b c.commit_writes.ensures.told c.mark_gone.ensures.told;
+      };
       table = c.mark_gone.ensures.table ∙ c.commit_writes.ensures.table;
       epoch = none_done _ c.from_residual-in_err-mark_gone.result _ c.from_residual-in_err-mark_gone.ensures.1;
       alone = λ empty. none_done _ c.from_residual-in_err-mark_gone.result _ c.from_residual-in_err-mark_gone.ensures.1;
       turn = none_done_if _ c.from_residual-in_err-mark_gone.result _ c.from_residual-in_err-mark_gone.ensures.1;
       halts =
           handed _ c.from_residual-in_err-mark_gone.result _ c.from_residual-in_err-mark_gone.ensures.1
-          (marked_halts g.R.Rack.slot_count g.R.Rack.told a c.args.disk below none m b c.in_ok-commit_writes.ensures.commits c.mark_gone.ensures.marks alone c.commit_writes.ensures.slots _ c.in_err-mark_gone.ensures.loses);
-      no_fall = no_fall_then (g.R.Rack.slot (store_rack a.store)) (g.R.Rack.slot (store_rack m.store)) (g.R.Rack.slot (store_rack b.store)) c.commit_writes.ensures.spared.no_fall c.mark_gone.ensures.spared.no_fall;
+          (marked_halts g.R.Rack.slot_count g.R.Rack.told a c.args.disk below none m b c.in_ok-commit_writes.ensures.commits c.mark_gone.ensures.marks alone c.commit_writes.ensures.keeps.slots _ c.in_err-mark_gone.ensures.loses);
       two =
           handed _ c.from_residual-in_err-mark_gone.result _ c.from_residual-in_err-mark_gone.ensures.1
-          (two_taken_then (core_down a) (core_down m) c.args.disk _ _ _ _ c.in_ok-commit_writes.ensures.down c.commit_writes.ensures.spared.no_fall c.mark_gone.ensures.spared.no_fall c.in_err-mark_gone.ensures.two);
-      told = extends_cores g.R.Rack.told a m b c.commit_writes.ensures.told c.mark_gone.ensures.told;
+          (two_taken_then (core_down a) (core_down m) c.args.disk _ _ _ _ c.in_ok-commit_writes.ensures.down c.commit_writes.ensures.keeps.spared.no_fall c.mark_gone.ensures.spared.no_fall c.in_err-mark_gone.ensures.two);
     }
 
 pub returns : goal.returns
@@ -228,29 +240,35 @@ returns g c =
     let staged = c.in_ok-commit_writes.ensures in
     let done = c.in_ok-mark_gone.ensures in
     record {
-      service = done.service;
-      setup = done.setup ∙ staged.setup;
-      marks = taken_then a.meta m.meta b.meta c.args.disk m.meta.epoch staged.meta alone done.meta;
-      writes = done.writes ∙ staged.writes;
-      unsynced = λ before. done.unsynced (staged.unsynced before);
-      known = λ before. done.known;
-      no_disk = λ past. not_below c.args.disk a.meta.setup.geometry.disks below past;
-      out = λ d low is. none_known (named_out a.meta.out) d none is;
-      refused = tt;
-      lost = λ e is none. let z : None ≡ Some (OutFault e) = is in cc;
-      taken = λ is. (below, none, done.gone);
-      slots = c.mark_gone.ensures.slots ∙ c.commit_writes.ensures.slots;
+      stays = record {
+        service = done.stays.service;
+        setup = done.stays.setup ∙ staged.stays.setup;
+        writes = done.stays.writes ∙ staged.stays.writes;
+        unsynced = λ before. done.stays.unsynced (staged.stays.unsynced before);
+        known = λ before. done.known;
+      };
+      marks = taken_then a.meta m.meta b.meta c.args.disk m.meta.epoch staged.meta alone done.taken.meta;
+      refuses = record {
+        no_disk = λ past. not_below c.args.disk a.meta.setup.geometry.disks below past;
+        out = λ d low is. none_known (named_out a.meta.out) d none is;
+        refused = tt;
+        lost = λ e is none. let z : None ≡ Some (OutFault e) = is in cc;
+      };
+      taken = λ is. (below, none, done.taken.gone);
+      calls = record {
+        slots = c.mark_gone.ensures.slots ∙ c.commit_writes.ensures.keeps.slots;
+        no_fall = no_fall_then (g.R.Rack.slot (store_rack a.store)) (g.R.Rack.slot (store_rack m.store)) (g.R.Rack.slot (store_rack b.store)) c.commit_writes.ensures.keeps.spared.no_fall c.mark_gone.ensures.spared.no_fall;
+        grows = extends_cores g.R.Rack.told a m b c.commit_writes.ensures.told c.mark_gone.ensures.told;
+      };
       table = c.mark_gone.ensures.table ∙ c.commit_writes.ensures.table;
-      epoch = let e = done.epoch in let f = staged.epoch in omega (arith, e, f);
+      epoch = let e = done.taken.epoch in let f = staged.epoch in omega (arith, e, f);
       alone = λ empty.
-          let e = done.epoch in
+          let e = done.taken.epoch in
           let f = ap (λ (z : _). z.meta.epoch) (c.commit_writes.ensures.idle empty) in
           omega (arith, e, f);
       turn =
-          taken_turn g.R.Rack.slot_count g.R.Rack.told a c.args.disk below none m b staged.commits c.mark_gone.ensures.marks alone c.commit_writes.ensures.slots
-          done.commits done.epoch (c.mark_gone.ensures.slots ∙ c.commit_writes.ensures.slots) (c.mark_gone.ensures.table ∙ c.commit_writes.ensures.table) done.service.copies_synced;
+          taken_turn g.R.Rack.slot_count g.R.Rack.told a c.args.disk below none m b staged.commits c.mark_gone.ensures.marks alone c.commit_writes.ensures.keeps.slots
+          done.commits done.taken.epoch (c.mark_gone.ensures.slots ∙ c.commit_writes.ensures.keeps.slots) (c.mark_gone.ensures.table ∙ c.commit_writes.ensures.table) done.stays.service.copies_synced;
       halts = tt;
-      no_fall = no_fall_then (g.R.Rack.slot (store_rack a.store)) (g.R.Rack.slot (store_rack m.store)) (g.R.Rack.slot (store_rack b.store)) c.commit_writes.ensures.spared.no_fall c.mark_gone.ensures.spared.no_fall;
       two = tt;
-      told = extends_cores g.R.Rack.told a m b c.commit_writes.ensures.told c.mark_gone.ensures.told;
     }

@@ -28,11 +28,8 @@ commit_lost-requires g c = record {
 
 pub rejoin_disk-requires : goal.rejoin_disk-requires
 rejoin_disk-requires g c = record {
-  serving = c.requires.serving;
-  fresh = c.requires.fresh;
+  can = c.requires.can;
   disk = c.requires.disk;
-  named = c.requires.named;
-  spins = c.requires.spins;
   epoch = let e = c.requires.epoch in omega (arith, e);
 }
 
@@ -79,9 +76,9 @@ returns-in_err-commit_lost g c =
           (λ rebuilt windows fresh k setup p samples served energy held at fit counts.
           part_halts g.R.Rack.slot_count g.R.Rack.told a k setup p samples served energy at fit counts new c.args.disk rebuilt fresh 3 _ (omega arith)
           (lost_then (g.R.Rack.told (store_rack a.store)) (g.R.Rack.told (store_rack b.store)) (g.R.Rack.told (store_rack new.store)) (service_of g.R.Rack.slot_count a samples served energy) (service_of g.R.Rack.slot_count b samples served energy)
-          p.history p.low 2 1 _ (c.in_ok-back.ensures.event (ap Ok c.if-back.false) samples served energy p.history p.low) (c.in_err-commit_lost.ensures.loses samples served energy p.history p.low)));
-      calls = calls_then g.R.Rack.slot_count g.R.Rack.slot g.R.Rack.told a b new c.rejoin_disk.ensures.calls (calls_told g.R.Rack.slot_count g.R.Rack.slot g.R.Rack.told b new _ c.commit_lost.ensures.slots c.commit_lost.ensures.spared.no_fall (c.commit_lost.ensures.moments [] 0));
-      two = handed _ c.from_residual-in_err-commit_lost.result _ c.from_residual-in_err-commit_lost.ensures.1 (two_array g.R.Rack.slot_count g.R.Rack.slot a b new c.in_ok-back.ensures.serves.leaves c.commit_lost.ensures.spared.no_fall _ c.in_err-commit_lost.ensures.two);
+          p.history p.low 2 1 _ (c.in_ok-back.ensures.event (ap Ok c.if-back.false) samples served energy p.history p.low) (c.in_err-commit_lost.ensures.in_event.loses samples served energy p.history p.low)));
+      calls = calls_then g.R.Rack.slot_count g.R.Rack.slot g.R.Rack.told a b new c.rejoin_disk.ensures.calls (calls_told g.R.Rack.slot_count g.R.Rack.slot g.R.Rack.told b new _ c.commit_lost.ensures.keeps.slots c.commit_lost.ensures.keeps.spared.no_fall (c.commit_lost.ensures.moments [] 0));
+      two = handed _ c.from_residual-in_err-commit_lost.result _ c.from_residual-in_err-commit_lost.ensures.1 (two_array g.R.Rack.slot_count g.R.Rack.slot a b new c.in_ok-back.ensures.serves.leaves c.commit_lost.ensures.keeps.spared.no_fall _ c.in_err-commit_lost.ensures.keeps.two);
     }
 
 pub returns : goal.returns
@@ -94,24 +91,24 @@ returns g c =
     let done = c.in_ok-commit_lost.ensures in
     record {
       serves = record {
-        serving = done.serving;
+        serving = done.serves.serving;
         leaves =
             leaves_array_then g.R.Rack.slot_count g.R.Rack.slot a b new lost.serves.leaves
-            (leaves_out g.R.Rack.slot_count g.R.Rack.slot b new c.args.disk lost.serves.serving.ready done.serving.ready (ap (λ (m : Meta). named_out m.out) (lost.marked is)) (ap (λ (m : Meta). named_out m.out) done.gone)
-            c.commit_lost.ensures.slots (ap (λ (m : Meta). m.setup) done.gone) (ap (λ (m : Meta). m.writes) done.gone) c.commit_lost.ensures.spared);
-        known = known_gone g.R.Rack.slot new c.args.disk (ap (λ (m : Meta). m.out) done.gone) done.absent;
+            (leaves_out g.R.Rack.slot_count g.R.Rack.slot b new c.args.disk lost.serves.serving.ready done.serves.serving.ready (ap (λ (m : Meta). named_out m.out) (lost.marked is)) (ap (λ (m : Meta). named_out m.out) done.gone)
+            c.commit_lost.ensures.keeps.slots (ap (λ (m : Meta). m.setup) done.gone) (ap (λ (m : Meta). m.writes) done.gone) c.commit_lost.ensures.keeps.spared);
+        known = known_gone g.R.Rack.slot new c.args.disk (ap (λ (m : Meta). m.out) done.gone) done.serves.absent;
       };
       back = λ was. done_not_dropped _ _ was refl;
       gone = λ was. ap (λ (m : Meta). m.out) done.gone;
-      committed = λ was. done.named;
-      failed = λ was. HasRisen-later _ _ _ (lost.lost is).risen (c.commit_lost.ensures.spared.no_fall c.args.disk);
+      committed = λ was. done.serves.named;
+      failed = λ was. HasRisen-later _ _ _ (lost.lost is).risen (c.commit_lost.ensures.keeps.spared.no_fall c.args.disk);
       turn = λ rebuilt windows fresh few k setup p samples served energy held at fit counts.
-          rebuild_gone g.R.Rack.slot_count g.R.Rack.told a k setup p samples served energy at fit counts new c.args.disk rebuilt fresh (c.commit_lost.ensures.slots ∙ lost.serves.leaves.slots) (c.commit_lost.ensures.table ∙ lost.table) done.serving.copies_synced
+          rebuild_gone g.R.Rack.slot_count g.R.Rack.told a k setup p samples served energy at fit counts new c.args.disk rebuilt fresh (c.commit_lost.ensures.keeps.slots ∙ lost.serves.leaves.slots) (c.commit_lost.ensures.table ∙ lost.table) done.serves.serving.copies_synced
           (g.R.Rack.slot (store_rack new.store)) 3 (g.met.R.Rack.agrees (store_rack new.store))
-          (stays_away (g.R.Rack.slot (store_rack b.store)) (g.R.Rack.slot (store_rack new.store)) c.commit_lost.ensures.spared c.args.disk (lost.lost is).absent) (again a.meta b.meta new.meta c.args.disk (lost.marked is) done.gone) (omega arith)
+          (stays_away (g.R.Rack.slot (store_rack b.store)) (g.R.Rack.slot (store_rack new.store)) c.commit_lost.ensures.keeps.spared c.args.disk (lost.lost is).absent) (again a.meta b.meta new.meta c.args.disk (lost.marked is) done.gone) (omega arith)
           (steps_then (g.R.Rack.told (store_rack a.store)) (g.R.Rack.told (store_rack b.store)) (g.R.Rack.told (store_rack new.store)) (service_of g.R.Rack.slot_count a samples served energy) (service_of g.R.Rack.slot_count b samples served energy)
-          (service_of g.R.Rack.slot_count new samples served energy) p.history p.low 2 1 (lost.event is samples served energy p.history p.low) (done.event samples served energy p.history p.low));
+          (service_of g.R.Rack.slot_count new samples served energy) p.history p.low 2 1 (lost.event is samples served energy p.history p.low) (done.in_event.event samples served energy p.history p.low));
       halts = tt;
-      calls = calls_then g.R.Rack.slot_count g.R.Rack.slot g.R.Rack.told a b new c.rejoin_disk.ensures.calls (calls_told g.R.Rack.slot_count g.R.Rack.slot g.R.Rack.told b new _ c.commit_lost.ensures.slots c.commit_lost.ensures.spared.no_fall (c.commit_lost.ensures.moments [] 0));
+      calls = calls_then g.R.Rack.slot_count g.R.Rack.slot g.R.Rack.told a b new c.rejoin_disk.ensures.calls (calls_told g.R.Rack.slot_count g.R.Rack.slot g.R.Rack.told b new _ c.commit_lost.ensures.keeps.slots c.commit_lost.ensures.keeps.spared.no_fall (c.commit_lost.ensures.moments [] 0));
       two = tt;
     }

@@ -10,10 +10,7 @@ use Rattle.paraid_array.proofs.rebuilding.move_units.Goals as goal
 
 pub step-requires : goal.step-requires
 step-requires g c = record {
-  serving = c.requires.serving;
-  fresh = c.requires.fresh;
-  named = c.requires.named;
-  spins = c.requires.spins;
+  can = c.requires.can;
   from = c.requires.from;
   limit = c.requires.limit;
   epoch = c.requires.epoch;
@@ -30,37 +27,37 @@ returns g c =
       serves =
           either_way _ r
           (λ is.
-          let meta = done.moved is in
-          let serving = of_done _ r true done.serving is in
+          let meta = (done.moved is).meta in
+          let serving = (of_done _ r true done.serves is).serving in
           record {
             serving = serving;
-            leaves = leaves_out g.R.Rack.slot_count g.R.Rack.slot a b d c.requires.serving.ready serving.ready (ap named_out c.requires.fresh) (ap (λ (m : Meta). named_out m.out) meta) done.slots
-                (ap (λ (m : Meta). m.setup) meta) (ap (λ (m : Meta). m.writes) meta) done.spared;
-            known = known_fresh g.R.Rack.slot b d (ap (λ (m : Meta). named_out m.out) meta) (of_done _ r true done.named is) (done.spins is);
+            leaves = leaves_out g.R.Rack.slot_count g.R.Rack.slot a b d c.requires.can.serving.ready serving.ready (ap named_out c.requires.can.fresh) (ap (λ (m : Meta). named_out m.out) meta) done.keeps.slots
+                (ap (λ (m : Meta). m.setup) meta) (ap (λ (m : Meta). m.writes) meta) done.keeps.spared;
+            known = known_fresh g.R.Rack.slot b d (ap (λ (m : Meta). named_out m.out) meta) (of_done _ r true done.named is) ((done.moved is).spins);
           })
           (λ is.
-          let meta = done.gone is in
-          let serving = of_done _ r false done.serving is in
+          let meta = (done.lost is).gone in
+          let serving = (of_done _ r false done.serves is).serving in
           record {
             serving = serving;
-            leaves = leaves_out g.R.Rack.slot_count g.R.Rack.slot a b d c.requires.serving.ready serving.ready (ap named_out c.requires.fresh) (ap (λ (m : Meta). named_out m.out) meta) done.slots
-                (ap (λ (m : Meta). m.setup) meta) (ap (λ (m : Meta). m.writes) meta) done.spared;
+            leaves = leaves_out g.R.Rack.slot_count g.R.Rack.slot a b d c.requires.can.serving.ready serving.ready (ap named_out c.requires.can.fresh) (ap (λ (m : Meta). named_out m.out) meta) done.keeps.slots
+                (ap (λ (m : Meta). m.setup) meta) (ap (λ (m : Meta). m.writes) meta) done.keeps.spared;
             known = known_gone g.R.Rack.slot b d (ap (λ (m : Meta). m.out) meta) (of_done _ r false done.absent is);
           });
-      moved = λ is. ap (λ (m : Meta). m.out) (done.moved is);
-      gone = λ is. ap (λ (m : Meta). m.out) (done.gone is);
+      moved = λ is. ap (λ (m : Meta). m.out) ((done.moved is).meta);
+      gone = λ is. ap (λ (m : Meta). m.out) ((done.lost is).gone);
       committed = λ is. of_done _ r false done.named is;
-      failed = done.failed;
+      failed = λ is. (done.lost is).failed;
       turn =
           either_if _ r
           (λ is rebuilt windows fresh less all k setup p samples served energy held at fit counts.
-          rebuild_moved g.R.Rack.slot_count g.R.Rack.told a k setup p samples served energy at fit counts b d rebuilt fresh done.slots (of_done _ r true done.table is) (of_done _ r true done.serving is).copies_synced c.args.end 3 all less
-          (done.moved is) (omega arith) (of_done _ r true done.event is samples served energy p.history p.low))
+          rebuild_moved g.R.Rack.slot_count g.R.Rack.told a k setup p samples served energy at fit counts b d rebuilt fresh done.keeps.slots (of_done _ r true done.serves is).table (of_done _ r true done.serves is).serving.copies_synced c.args.end 3 all less
+          ((done.moved is).meta) (omega arith) (of_done _ r true done.in_event.event is samples served energy p.history p.low))
           (λ is rebuilt windows fresh less all k setup p samples served energy held at fit counts.
-          rebuild_gone g.R.Rack.slot_count g.R.Rack.told a k setup p samples served energy at fit counts b d rebuilt fresh done.slots (of_done _ r false done.table is) (of_done _ r false done.serving is).copies_synced
-          (g.R.Rack.slot (store_rack b.store)) 3 (g.met.R.Rack.agrees (store_rack b.store)) (done.away is) (done.gone is) (omega arith) (of_done _ r false done.event is samples served energy p.history p.low));
+          rebuild_gone g.R.Rack.slot_count g.R.Rack.told a k setup p samples served energy at fit counts b d rebuilt fresh done.keeps.slots (of_done _ r false done.serves is).table (of_done _ r false done.serves is).serving.copies_synced
+          (g.R.Rack.slot (store_rack b.store)) 3 (g.met.R.Rack.agrees (store_rack b.store)) ((done.lost is).away) ((done.lost is).gone) (omega arith) (of_done _ r false done.in_event.event is samples served energy p.history p.low));
       halts = if_err _ _ r (λ two loses rebuilt windows fresh k setup p samples served energy held at fit counts.
-          part_halts g.R.Rack.slot_count g.R.Rack.told a k setup p samples served energy at fit counts b d rebuilt fresh 3 two (omega arith) (loses samples served energy p.history p.low)) done.loses;
-      calls = calls_told g.R.Rack.slot_count g.R.Rack.slot g.R.Rack.told a b _ done.slots done.spared.no_fall (done.moments [] 0);
-      two = done.two;
+          part_halts g.R.Rack.slot_count g.R.Rack.told a k setup p samples served energy at fit counts b d rebuilt fresh 3 two (omega arith) (loses samples served energy p.history p.low)) done.in_event.loses;
+      calls = calls_told g.R.Rack.slot_count g.R.Rack.slot g.R.Rack.told a b _ done.keeps.slots done.keeps.spared.no_fall (done.moments [] 0);
+      two = done.keeps.two;
     }

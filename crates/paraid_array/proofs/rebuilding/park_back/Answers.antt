@@ -50,16 +50,18 @@ park-requires g c =
     let gear : a.meta.gear ≤ c.args.disk = subst (λ (m : Meta). m.gear ≤ c.args.disk) c.meta.ensures c.if-disk-meta.false in
     let low = a.meta.setup.geometry.gears_low a.meta.gear q.ready.in_range.gear in
     record {
-      ready = q.ready;
-      still = q.serves.stays;
-      disk = c.requires.disk;
+      turn = record {
+        ready = q.ready;
+        still = q.serves.stays;
+        disk_in = c.requires.disk;
+        past_gear = gear;
+        not_out = λ is. none_known a.meta c.requires.whole c.args.disk is;
+        nothing = c.requires.nothing;
+      };
       past_logs = omega (arith, gear, low);
-      past_gear = gear;
       past_rise = let rises = ap (λ (m : Meta). rising_to m.phase) c.meta-2.ensures in omega (arith, rises);
-      not_out = λ is. none_known a.meta c.requires.whole c.args.disk is;
       spinning = c.requires.spins;
       synced = synced_disk g.R.Rack.slot_count g.R.Rack.slot a q c.args.disk c.requires.disk (none_gone a.meta.out c.args.disk c.requires.whole) (ap is_present c.requires.spins);
-      nothing = c.requires.nothing;
     }
 
 pub returns : goal.returns
@@ -70,34 +72,34 @@ returns g c =
     let r = c.park.result in
     let done = c.park.ensures in
     let left : (back : Bool) → r ≡ Ok back → IsOutKnown g.R.Rack.slot b → LeavesInService g.R.Rack.slot_count g.R.Rack.slot a b = λ back is known. (
-    let marked = of_done _ r back done.meta is in
+    let marked = of_done _ r back done.answers.meta is in
     record {
-      serving = serving_turned g.R.Rack.slot_count g.R.Rack.slot a b c.requires.serving marked done.turned done.draft done.copied (of_done _ r back done.ready is) (of_done _ r back done.serves is c.requires.serving.serves)
-          (of_done _ r back done.unsynced is c.requires.serving.unsynced);
-      leaves = leaves_turned g.R.Rack.slot_count g.R.Rack.slot a b done.slots done.store marked done.turned (of_done _ r back done.risen is);
+      serving = serving_turned g.R.Rack.slot_count g.R.Rack.slot a b c.requires.serving marked done.turns.turned done.turns.staged.draft done.turns.staged.copied (of_done _ r back done.turns.ready is) (of_done _ r back done.serves is c.requires.serving.serves)
+          (of_done _ r back done.turns.unsynced is c.requires.serving.unsynced);
+      leaves = leaves_turned g.R.Rack.slot_count g.R.Rack.slot a b done.turns.slots done.turns.store marked done.turns.turned (of_done _ r back done.answers.risen is);
       known = known;
     }
     ) in
     record {
       serves =
-          either_way _ r (λ is. left true is (known_whole g.R.Rack.slot b (ap (λ (m : Meta). m.out) (done.same is) ∙ c.requires.whole)))
-          (λ is. left false is (known_gone g.R.Rack.slot b d (done.gone is) (of_done _ r false done.absent is (known_whole g.R.Rack.slot a c.requires.whole).absent)));
-      same = done.same;
-      marked = λ is. lost_marked a.meta b.meta d (of_done _ r false done.meta is) c.requires.whole (done.gone is);
-      lost = done.failed;
-      table = done.table;
+          either_way _ r (λ is. left true is (known_whole g.R.Rack.slot b (ap (λ (m : Meta). m.out) (done.answers.same is) ∙ c.requires.whole)))
+          (λ is. left false is (known_gone g.R.Rack.slot b d (done.answers.gone is) (of_done _ r false done.turns.absent is (known_whole g.R.Rack.slot a c.requires.whole).absent)));
+      same = done.answers.same;
+      marked = λ is. lost_marked a.meta b.meta d (of_done _ r false done.answers.meta is) c.requires.whole (done.answers.gone is);
+      lost = done.answers.failed;
+      table = done.turns.staged.table;
       parks =
           either_way _ r
           (λ is samples served energy h lo.
-          parks (let gear = ap (λ (m : Meta). m.gear) c.meta.ensures in omega (arith, gear)) (let rises = ap (λ (m : Meta). rising_to m.phase) c.meta-2.ensures in omega (arith, rises)) done.slots (done.same is)
-          (core_parks g.R.Rack.slot_count g.R.Rack.told a b c.requires.nothing done.batch d done.calls (g.R.Rack.slot (store_rack b.store)) (g.met.R.Rack.agrees (store_rack b.store))
-          (ap is_present (done.parked is)) (done.done is) samples served energy h lo))
+          parks (let gear = ap (λ (m : Meta). m.gear) c.meta.ensures in omega (arith, gear)) (let rises = ap (λ (m : Meta). rising_to m.phase) c.meta-2.ensures in omega (arith, rises)) done.turns.slots (done.answers.same is)
+          (core_parks g.R.Rack.slot_count g.R.Rack.told a b c.requires.nothing done.turns.staged.batch d done.calls (g.R.Rack.slot (store_rack b.store)) (g.met.R.Rack.agrees (store_rack b.store))
+          (ap is_present (done.parked is)) (done.held.done is) samples served energy h lo))
           (λ is samples served energy h lo.
-          fails (let gear = ap (λ (m : Meta). m.gear) c.meta.ensures in omega (arith, gear)) (let rises = ap (λ (m : Meta). rising_to m.phase) c.meta-2.ensures in omega (arith, rises)) done.slots
-          (lost_marked a.meta b.meta d (of_done _ r false done.meta is) c.requires.whole (done.gone is))
-          (core_fails g.R.Rack.slot_count g.R.Rack.told a b c.requires.nothing done.batch d done.calls (g.R.Rack.slot (store_rack b.store)) (g.met.R.Rack.agrees (store_rack b.store))
-          (ap is_present (done.failed is).absent) (done.lost is) samples served energy h lo));
-      alone = if_err _ _ r (λ two tells. park_alone (g.R.Rack.told (store_rack a.store)) (g.R.Rack.told (store_rack b.store)) d (named_out a.meta.out) two (ap named_out c.requires.whole) done.calls tells) done.tells;
-      calls = calls_told g.R.Rack.slot_count g.R.Rack.slot g.R.Rack.told a b _ done.slots done.turned.no_fall done.calls;
-      two = done.two;
+          fails (let gear = ap (λ (m : Meta). m.gear) c.meta.ensures in omega (arith, gear)) (let rises = ap (λ (m : Meta). rising_to m.phase) c.meta-2.ensures in omega (arith, rises)) done.turns.slots
+          (lost_marked a.meta b.meta d (of_done _ r false done.answers.meta is) c.requires.whole (done.answers.gone is))
+          (core_fails g.R.Rack.slot_count g.R.Rack.told a b c.requires.nothing done.turns.staged.batch d done.calls (g.R.Rack.slot (store_rack b.store)) (g.met.R.Rack.agrees (store_rack b.store))
+          (ap is_present (done.answers.failed is).absent) (done.held.lost is) samples served energy h lo));
+      alone = if_err _ _ r (λ two tells. park_alone (g.R.Rack.told (store_rack a.store)) (g.R.Rack.told (store_rack b.store)) d (named_out a.meta.out) two (ap named_out c.requires.whole) done.calls tells) done.answers.tells;
+      calls = calls_told g.R.Rack.slot_count g.R.Rack.slot g.R.Rack.told a b _ done.turns.slots done.turns.turned.no_fall done.calls;
+      two = done.answers.two;
     }

@@ -39,10 +39,12 @@ move_units-requires g c =
     let a = c.args.core.now in
     let fresh : IsRebuilding a.meta c.args.disk = c.requires.fresh ∙ ap (λ (n : ℕ). Fresh c.args.disk n) (sym (ap rebuilt_count c.requires.fresh)) in
     record {
-      serving = c.requires.serving;
-      fresh = fresh;
-      named = c.requires.known.named c.args.disk fresh;
-      spins = c.requires.known.spins c.args.disk fresh;
+      can = record {
+        serving = c.requires.serving;
+        fresh = fresh;
+        named = c.requires.known.named c.args.disk fresh;
+        spins = c.requires.known.spins c.args.disk fresh;
+      };
       from = let n = ap rebuilt_count c.requires.fresh in omega (arith, n);
       limit =
           let full = c.rebuild_units.ensures ∙ ap (λ (z : Meta). rebuild_units z.setup.geometry c.meta-2.result.now.gear c.args.disk) c.meta.ensures ∙ ap (λ (z : Meta). rebuild_units a.meta.setup.geometry z.gear c.args.disk) c.meta-2.ensures in
@@ -56,11 +58,13 @@ end_rebuild-requires g c =
     let a = c.args.core.now in
     let fresh : IsRebuilding a.meta c.args.disk = c.requires.fresh ∙ ap (λ (n : ℕ). Fresh c.args.disk n) (sym (ap rebuilt_count c.requires.fresh)) in
     record {
-      serving = c.requires.serving;
-      fresh = fresh;
+      can = record {
+        serving = c.requires.serving;
+        fresh = fresh;
+        named = c.requires.known.named c.args.disk fresh;
+        spins = c.requires.known.spins c.args.disk fresh;
+      };
       disk = (subst (λ (o : Out). IsOutInRange a.meta.setup.geometry a.meta.gear o) c.requires.fresh c.requires.serving.ready.in_range.out).0;
-      named = c.requires.known.named c.args.disk fresh;
-      spins = c.requires.known.spins c.args.disk fresh;
       epoch = let e = c.requires.epoch in omega (arith, e);
     }
 

@@ -24,28 +24,28 @@ fresh_not_out r d e is was = let z : Ok (Some (NoFresh d)) ≡ Ok (Some (NotOut 
 
 pub begin-requires : goal.begin-requires
 begin-requires g c = record {
-  serving = c.requires.serving;
-  absent = c.requires.known.absent;
+  serving = c.requires.service.serving;
+  absent = c.requires.service.known.absent;
   epoch = let e = c.requires.epoch in omega (arith, e);
   out = c.requires.out;
 }
 
 pub returns-in_err-there : goal.returns-in_err-there
 returns-in_err-there g c = record {
-  serving = none_done _ c.from_residual.result _ c.from_residual.ensures.1;
-  known = none_done _ c.from_residual.result _ c.from_residual.ensures.1;
+  service = none_done _ c.from_residual.result _ c.from_residual.ensures.1;
   leaves = none_done _ c.from_residual.result _ c.from_residual.ensures.1;
   fresh = λ is. none_done_as _ c.from_residual.result _ _ c.from_residual.ensures.1 is;
-  gone = λ is. none_done_as _ c.from_residual.result _ _ c.from_residual.ensures.1 is;
-  risen = λ is. none_done_as _ c.from_residual.result _ _ c.from_residual.ensures.1 is;
+  lacks = λ is. none_done_as _ c.from_residual.result _ _ c.from_residual.ensures.1 is;
   refused = none_done_if _ c.from_residual.result _ c.from_residual.ensures.1;
   no_disk = λ is. none_done_as _ c.from_residual.result _ _ c.from_residual.ensures.1 is;
   not_out = λ is. none_done_as _ c.from_residual.result _ _ c.from_residual.ensures.1 is;
   turn = none_done_if _ c.from_residual.result _ c.from_residual.ensures.1;
   halts = handed _ c.from_residual.result _ c.from_residual.ensures.1 (replaced_halts g.R.Rack.slot_count g.R.Rack.told c.args.core.now c.begin.new.core c.args.disk c.requires.disk c.requires.out _ c.in_err-there.ensures.loses);
-  later = c.begin.ensures.later;
-  two = handed _ c.from_residual.result _ c.from_residual.ensures.1 c.in_err-there.ensures.two;
-  slots = c.begin.ensures.slots;
+  keeps = record {
+    slots = c.begin.ensures.keeps.slots;
+    later = c.begin.ensures.keeps.later;
+    two = handed _ c.from_residual.result _ c.from_residual.ensures.1 c.in_err-there.ensures.keeps.two;
+  };
   told = extends_core g.R.Rack.told c.args.core.now c.begin.new.core _ (c.begin.ensures.moments [] 0);
 }
 
@@ -56,20 +56,23 @@ returns-then-there g c =
     let done = c.in_ok-there.ensures in
     let is = ap Ok c.if-there.true in
     record {
-      serving = done.serving;
-      known = known_fresh g.R.Rack.slot b c.args.disk (ap (λ (m : Meta). named_out m.out) (done.fresh is).is) done.named (done.spins is);
+      service = record {
+        serving = done.serves.serving;
+        known = known_fresh g.R.Rack.slot b c.args.disk (ap (λ (m : Meta). named_out m.out) ((done.there is).fresh).is) done.serves.named ((done.there is).spins);
+      };
       leaves = done.leaves;
-      fresh = λ was. done.fresh is;
-      gone = λ was. done_not_refused _ _ refl was;
-      risen = λ was. done_not_refused _ _ refl was;
+      fresh = λ was. (done.there is).fresh;
+      lacks = λ was. done_not_refused _ _ refl was;
       refused = tt;
       no_disk = λ was. done_not_refused _ _ refl was;
       not_out = λ was. done_not_refused _ _ refl was;
-      turn = replaced_turn g.R.Rack.slot_count g.R.Rack.told a b c.args.disk c.requires.disk c.requires.out done.event (ap (λ (m : Meta). m.out) (done.fresh is).is);
+      turn = replaced_turn g.R.Rack.slot_count g.R.Rack.told a b c.args.disk c.requires.disk c.requires.out done.event (ap (λ (m : Meta). m.out) ((done.there is).fresh).is);
       halts = tt;
-      later = c.begin.ensures.later;
-      two = tt;
-      slots = c.begin.ensures.slots;
+      keeps = record {
+        slots = c.begin.ensures.keeps.slots;
+        later = c.begin.ensures.keeps.later;
+        two = tt;
+      };
       told = extends_core g.R.Rack.told a b _ (c.begin.ensures.moments [] 0);
     }
 
@@ -79,21 +82,24 @@ returns g c =
     let b = c.begin.new.core in
     let done = c.in_ok-there.ensures in
     let not = ap Ok c.if-there.false in
-    let gone : b.meta.out ≡ Gone c.args.disk = elim (done.gone not) [ inl one ↦ ap (λ (m : Meta). m.out) one.is | inr two ↦ ap (λ (m : Meta). m.out) two.is ] in
+    let gone : b.meta.out ≡ Gone c.args.disk = elim ((done.lacks not).gone) [ inl one ↦ ap (λ (m : Meta). m.out) one.is | inr two ↦ ap (λ (m : Meta). m.out) two.is ] in
     record {
-      serving = done.serving;
-      known = known_gone g.R.Rack.slot b c.args.disk gone done.absent;
+      service = record {
+        serving = done.serves.serving;
+        known = known_gone g.R.Rack.slot b c.args.disk gone done.serves.absent;
+      };
       leaves = done.leaves;
       fresh = λ was. done_not_refused _ _ was refl;
-      gone = λ was. done.gone not;
-      risen = λ was. done.risen not;
+      lacks = λ was. done.lacks not;
       refused = refl;
       no_disk = fresh_not_none _ _ _ refl;
       not_out = fresh_not_out _ _ _ refl;
       turn = unreplaced_turn g.R.Rack.slot_count g.R.Rack.told a b c.args.disk c.requires.disk c.requires.out done.event gone;
       halts = tt;
-      later = c.begin.ensures.later;
-      two = tt;
-      slots = c.begin.ensures.slots;
+      keeps = record {
+        slots = c.begin.ensures.keeps.slots;
+        later = c.begin.ensures.keeps.later;
+        two = tt;
+      };
       told = extends_core g.R.Rack.told a b _ (c.begin.ensures.moments [] 0);
     }

@@ -53,24 +53,26 @@ returns-then-disk-meta g c =
     let a = c.args.core.now in
     let past = subst (λ (m : Meta). m.setup.geometry.disks ≤ c.args.disk) c.meta.ensures c.if-disk-meta.true in
     record {
-      serving = c.requires.serving;
-      known = c.requires.known;
+      service = c.requires.service;
       setup = refl;
       writes = refl;
       fresh = λ is. missing_not_done _ c.args.disk refl is;
-      gone = λ is. missing_not_failed _ c.args.disk c.args.disk refl is;
-      risen = λ is. missing_not_failed _ c.args.disk c.args.disk refl is;
-      missing = λ is. (refl, refl);
-      in_place = λ below not. not_below c.args.disk a.meta.setup.geometry.disks below past;
-      refused = (refl, past);
+      lacks = λ is. missing_not_failed _ c.args.disk c.args.disk refl is;
+      refuses = record {
+        missing = λ is. (refl, refl);
+        in_place = λ below not. not_below c.args.disk a.meta.setup.geometry.disks below past;
+        refused = (refl, past);
+        no_disk = λ is. refl;
+        not_out = λ is. refl;
+      };
       replaced = λ is. missing_not_done _ c.args.disk refl is;
-      no_disk = λ is. refl;
-      not_out = λ is. refl;
       turn = replace_missing g.R.Rack.slot_count g.R.Rack.told a c.args.disk past;
       halts = tt;
-      later = same_counts (g.R.Rack.slot (store_rack a.store));
-      two = tt;
-      slots = refl;
+      keeps = record {
+        slots = refl;
+        later = same_counts (g.R.Rack.slot (store_rack a.store));
+        two = tt;
+      };
       told = extends_none (g.R.Rack.told (store_rack a.store));
     }
 
@@ -80,31 +82,32 @@ returns-then-not-names g c =
     let below = subst (λ (m : Meta). c.args.disk < m.setup.geometry.disks) c.meta.ensures c.if-disk-meta.false in
     let not = not_named (named_out a.meta.out) c.args.disk (subst (λ (o : Option ℕ). is_out o c.args.disk ≡ false) (ap named_out c.out.ensures) (sym c.names.ensures ∙ c.if-not-names.true)) in
     record {
-      serving = c.requires.serving;
-      known = c.requires.known;
+      service = c.requires.service;
       setup = refl;
       writes = refl;
       fresh = λ is. there_not_done _ c.args.disk refl is;
-      gone = λ is. there_not_failed _ c.args.disk c.args.disk refl is;
-      risen = λ is. there_not_failed _ c.args.disk c.args.disk refl is;
-      missing = λ past. not_below c.args.disk a.meta.setup.geometry.disks below past;
-      in_place = λ low apart. (refl, refl);
-      refused = (refl, below, not);
+      lacks = λ is. there_not_failed _ c.args.disk c.args.disk refl is;
+      refuses = record {
+        missing = λ past. not_below c.args.disk a.meta.setup.geometry.disks below past;
+        in_place = λ low apart. (refl, refl);
+        refused = (refl, below, not);
+        no_disk = λ is. refl;
+        not_out = λ is. refl;
+      };
       replaced = λ is. there_not_done _ c.args.disk refl is;
-      no_disk = λ is. refl;
-      not_out = λ is. refl;
       turn = replace_there g.R.Rack.slot_count g.R.Rack.told a c.args.disk below not;
       halts = tt;
-      later = same_counts (g.R.Rack.slot (store_rack a.store));
-      two = tt;
-      slots = refl;
+      keeps = record {
+        slots = refl;
+        later = same_counts (g.R.Rack.slot (store_rack a.store));
+        two = tt;
+      };
       told = extends_none (g.R.Rack.told (store_rack a.store));
     }
 
 pub bring-requires : goal.bring-requires
 bring-requires g c = record {
-  serving = c.requires.serving;
-  known = c.requires.known;
+  service = c.requires.service;
   out = is_named (named_out c.args.core.now.meta.out) c.args.disk (subst (λ (o : Option ℕ). is_out o c.args.disk ≡ true) (ap named_out c.out.ensures) (sym c.names.ensures ∙ c.if-not-names.false));
   disk = subst (λ (m : Meta). c.args.disk < m.setup.geometry.disks) c.meta.ensures c.if-disk-meta.false;
   epoch = c.requires.epoch;
@@ -118,23 +121,21 @@ returns g c =
     let below = subst (λ (m : Meta). c.args.disk < m.setup.geometry.disks) c.meta.ensures c.if-disk-meta.false in
     let out = is_named (named_out a.meta.out) c.args.disk (subst (λ (o : Option ℕ). is_out o c.args.disk ≡ true) (ap named_out c.out.ensures) (sym c.names.ensures ∙ c.if-not-names.false)) in
     record {
-      serving = brings.serving;
-      known = brings.known;
+      service = brings.service;
       setup = on_ok _ _ r (λ left. left.setup) brings.leaves;
       writes = on_ok _ _ r (λ left. left.writes) brings.leaves;
       fresh = brings.fresh;
-      gone = brings.gone;
-      risen = brings.risen;
-      missing = λ past. not_below c.args.disk a.meta.setup.geometry.disks below past;
-      in_place = λ low apart. absurd (apart out);
-      refused = if_ok _ _ r (λ refusal only. no_fresh a.meta c.args.disk refusal below out only) brings.refused;
+      lacks = brings.lacks;
+      refuses = record {
+        missing = λ past. not_below c.args.disk a.meta.setup.geometry.disks below past;
+        in_place = λ low apart. absurd (apart out);
+        refused = if_ok _ _ r (λ refusal only. no_fresh a.meta c.args.disk refusal below out only) brings.refused;
+        no_disk = λ is. absurd (brings.no_disk is);
+        not_out = λ is. absurd (brings.not_out is);
+      };
       replaced = λ is. (below, out);
-      no_disk = λ is. absurd (brings.no_disk is);
-      not_out = λ is. absurd (brings.not_out is);
       turn = brings.turn;
       halts = brings.halts;
-      later = brings.later;
-      two = brings.two;
-      slots = brings.slots;
+      keeps = brings.keeps;
       told = brings.told;
     }

@@ -11,7 +11,7 @@ use Rattle.paraid_txn.specs.Stores.{named_of, store_rack}
 use Rattle.paraid_core.proofs.AfterLemmas.{handed}
 use Rattle.paraid_shift.proofs.ServingLemmas.{leaves_array_none}
 use Rattle.paraid_array.specs.TickAnswers.{TellsRebuild}
-use Rattle.paraid_array.proofs.ResultLemmas.{if_err, if_ok, none_done, none_done_if, on_ok}
+use Rattle.paraid_array.proofs.ResultLemmas.{if_both, if_err, if_ok, if_three, none_done, none_done_if}
 use Rattle.paraid_array.proofs.TickTurnLemmas.{waits_told}
 use Rattle.paraid_array.proofs.ToldLemmas.{extends_none}
 use Rattle.paraid_array.proofs.shifts.advance.Goals as goal
@@ -47,29 +47,39 @@ returns-in-Gone g c =
     let a = c.args.core.now in
     let gone = sym c.out.ensures ∙ c.in-Gone.is in
     record {
-      serving = c.requires.serving;
-      leaves = leaves_array_none g.R.Rack.slot_count g.R.Rack.slot a;
-      known = c.requires.known;
+      serves = record {
+        serving = c.requires.service.serving;
+        leaves = leaves_array_none g.R.Rack.slot_count g.R.Rack.slot a;
+        known = c.requires.service.known;
+      };
       turn = λ k setup p samples served energy held at fit counts. waits_told g.R.Rack.slot_count g.R.Rack.told a k setup p samples served energy at fit counts c.in-Gone.disk gone;
       halts = tt;
       waits = λ d is. (refl, refl);
-      rebuilds = λ d u fresh. gone_not_fresh a.meta.out c.in-Gone.disk d u gone fresh;
-      decides = λ whole. gone_not_whole a.meta.out c.in-Gone.disk gone whole;
-      idle = λ whole. gone_not_whole a.meta.out c.in-Gone.disk gone whole;
-      rests = λ whole. gone_not_whole a.meta.out c.in-Gone.disk gone whole;
-      moves = λ whole. gone_not_whole a.meta.out c.in-Gone.disk gone whole;
-      marks = λ whole. gone_not_whole a.meta.out c.in-Gone.disk gone whole;
-      back = λ d u fresh. gone_not_fresh a.meta.out c.in-Gone.disk d u gone fresh;
-      failed = λ d u fresh. gone_not_fresh a.meta.out c.in-Gone.disk d u gone fresh;
-      committed = λ d u fresh. gone_not_fresh a.meta.out c.in-Gone.disk d u gone fresh;
-      slots = refl;
-      no_fall = λ d. omega arith;
+      rebuilds = record {
+        rebuilds = λ d u fresh. gone_not_fresh a.meta.out c.in-Gone.disk d u gone fresh;
+        back = λ d u fresh. gone_not_fresh a.meta.out c.in-Gone.disk d u gone fresh;
+        failed = λ d u fresh. gone_not_fresh a.meta.out c.in-Gone.disk d u gone fresh;
+        committed = λ d u fresh. gone_not_fresh a.meta.out c.in-Gone.disk d u gone fresh;
+      };
+      decides = record {
+        decides = λ whole. gone_not_whole a.meta.out c.in-Gone.disk gone whole;
+        idle = λ whole. gone_not_whole a.meta.out c.in-Gone.disk gone whole;
+        rests = λ whole. gone_not_whole a.meta.out c.in-Gone.disk gone whole;
+      };
+      moves = record {
+        moves = λ whole. gone_not_whole a.meta.out c.in-Gone.disk gone whole;
+        marks = λ whole. gone_not_whole a.meta.out c.in-Gone.disk gone whole;
+      };
+      calls = record {
+        slots = refl;
+        no_fall = λ d. omega arith;
+        grows = extends_none (g.R.Rack.told (store_rack a.store));
+      };
       two = tt;
-      told = extends_none (g.R.Rack.told (store_rack a.store));
     }
 
 pub rebuild-requires : goal.rebuild-requires
-rebuild-requires g c = record { serving = c.requires.serving; fresh = sym c.out.ensures ∙ c.in-Fresh.is; known = c.requires.known; epoch = c.requires.epoch }
+rebuild-requires g c = record { serving = c.requires.service.serving; fresh = sym c.out.ensures ∙ c.in-Fresh.is; known = c.requires.service.known; epoch = c.requires.epoch }
 
 pub returns-in-Fresh : goal.returns-in-Fresh
 returns-in-Fresh g c =
@@ -81,31 +91,33 @@ returns-in-Fresh g c =
     let rebuilds = c.rebuild.ensures in
     let fresh = sym c.out.ensures ∙ c.in-Fresh.is in
     record {
-      serving = on_ok _ _ r (λ left. left.serving) rebuilds.serves;
-      leaves = on_ok _ _ r (λ left. left.leaves) rebuilds.serves;
-      known = on_ok _ _ r (λ left. left.known) rebuilds.serves;
+      serves = rebuilds.serves;
       turn = if_ok _ _ r (λ done turn. turn c.args.windows.now) rebuilds.turn;
       halts = if_err _ _ r (λ two halts. halts c.args.windows.now) rebuilds.halts;
       waits = λ d gone. gone_not_fresh a.meta.out d e v gone fresh;
-      rebuilds = if_ok _ _ r (λ done tells d u is. same_fresh (λ x y. TellsRebuild a.meta b.meta x y done.0 done.1) a.meta.out e v d u fresh is tells) rebuilds.tells;
-      decides = if_ok _ _ r (λ done tells whole. fresh_not_whole a.meta.out e v fresh whole) rebuilds.tells;
-      idle = if_ok _ _ r (λ done tells whole. fresh_not_whole a.meta.out e v fresh whole) rebuilds.tells;
-      rests = if_ok _ _ r (λ done tells whole. fresh_not_whole a.meta.out e v fresh whole) rebuilds.tells;
-      moves = if_ok _ _ r (λ done tells whole. fresh_not_whole a.meta.out e v fresh whole) rebuilds.tells;
-      marks = if_ok _ _ r (λ done tells whole. fresh_not_whole a.meta.out e v fresh whole) rebuilds.tells;
-      back = if_ok _ _ r (λ done tells d u is told. rebuilt_back a.meta b.meta e v done.0 d done.1 tells told) rebuilds.tells;
-      failed = if_ok _ _ r (λ done failed d u is.
-          same_fresh (λ x y. done.1 ≡ GoneInTick x → HasRisen (g.R.Rack.slot (store_rack a.store) x).faults (g.R.Rack.slot (store_rack b.store) x).faults) a.meta.out e v d u fresh is failed) rebuilds.failed;
-      committed = if_ok _ _ r (λ done committed d u is. same_fresh (λ x y. done.1 ≡ GoneInTick x → named_of b.store ≡ Some x) a.meta.out e v d u fresh is committed) rebuilds.committed;
-      slots = rebuilds.calls.slots;
-      no_fall = rebuilds.calls.no_fall;
+      rebuilds = if_three _ _ _ _ r (λ done tells lost committed. record {
+        rebuilds = λ d u is. same_fresh (λ x y. TellsRebuild a.meta b.meta x y done.0 done.1) a.meta.out e v d u fresh is tells;
+        back = λ d u is told. rebuilt_back a.meta b.meta e v done.0 d done.1 tells told;
+        failed = λ d u is.
+            same_fresh (λ x y. done.1 ≡ GoneInTick x → HasRisen (g.R.Rack.slot (store_rack a.store) x).faults (g.R.Rack.slot (store_rack b.store) x).faults) a.meta.out e v d u fresh is lost;
+        committed = λ d u is. same_fresh (λ x y. done.1 ≡ GoneInTick x → named_of b.store ≡ Some x) a.meta.out e v d u fresh is committed;
+      }) rebuilds.tells rebuilds.failed rebuilds.committed;
+      decides = if_ok _ _ r (λ done tells. record {
+        decides = λ whole. fresh_not_whole a.meta.out e v fresh whole;
+        idle = λ whole. fresh_not_whole a.meta.out e v fresh whole;
+        rests = λ whole. fresh_not_whole a.meta.out e v fresh whole;
+      }) rebuilds.tells;
+      moves = if_ok _ _ r (λ done tells. record {
+        moves = λ whole. fresh_not_whole a.meta.out e v fresh whole;
+        marks = λ whole. fresh_not_whole a.meta.out e v fresh whole;
+      }) rebuilds.tells;
+      calls = rebuilds.calls;
       two = rebuilds.two;
-      told = rebuilds.calls.grows;
     }
 
 pub decide-requires : goal.decide-requires
 decide-requires g c = record {
-  serving = c.requires.serving;
+  serving = c.requires.service.serving;
   epoch = c.requires.epoch;
   lengths = c.requires.lengths;
   steady = sym (ap (λ (m : Meta). m.phase) c.meta.ensures) ∙ c.in-Steady.is;
@@ -117,25 +129,15 @@ returns-in_err-event-in-Steady g c =
     let a = c.args.core.now in
     let whole = sym c.out.ensures ∙ c.in-No.is in
     record {
-      serving = none_done _ c.from_residual.result _ c.from_residual.ensures.1;
-      leaves = none_done _ c.from_residual.result _ c.from_residual.ensures.1;
-      known = none_done _ c.from_residual.result _ c.from_residual.ensures.1;
+      serves = none_done _ c.from_residual.result _ c.from_residual.ensures.1;
       turn = none_done_if _ c.from_residual.result _ c.from_residual.ensures.1;
       halts = handed _ c.from_residual.result _ c.from_residual.ensures.1 c.in_err-event-in-Steady.ensures.halts;
       waits = λ d gone. gone_not_whole a.meta.out d gone whole;
       rebuilds = none_done_if _ c.from_residual.result _ c.from_residual.ensures.1;
       decides = none_done_if _ c.from_residual.result _ c.from_residual.ensures.1;
-      idle = none_done_if _ c.from_residual.result _ c.from_residual.ensures.1;
-      rests = none_done_if _ c.from_residual.result _ c.from_residual.ensures.1;
       moves = none_done_if _ c.from_residual.result _ c.from_residual.ensures.1;
-      marks = none_done_if _ c.from_residual.result _ c.from_residual.ensures.1;
-      back = none_done_if _ c.from_residual.result _ c.from_residual.ensures.1;
-      failed = none_done_if _ c.from_residual.result _ c.from_residual.ensures.1;
-      committed = none_done_if _ c.from_residual.result _ c.from_residual.ensures.1;
-      slots = c.decide.ensures.calls.slots;
-      no_fall = c.decide.ensures.calls.no_fall;
+      calls = c.decide.ensures.calls;
       two = handed _ c.from_residual.result _ c.from_residual.ensures.1 c.in_err-event-in-Steady.ensures.two;
-      told = c.decide.ensures.calls.grows;
     }
 
 pub returns-in_ok-event-in-Steady : goal.returns-in_ok-event-in-Steady
@@ -145,30 +147,32 @@ returns-in_ok-event-in-Steady g c =
     let steady = sym (ap (λ (m : Meta). m.phase) c.meta.ensures) ∙ c.in-Steady.is in
     let decides = c.in_ok-event-in-Steady.ensures in
     record {
-      serving = decides.serves.serving;
-      leaves = decides.serves.leaves;
-      known = decides.serves.known;
+      serves = decides.serves;
       turn = decides.turn;
       halts = tt;
       waits = λ d gone. gone_not_whole a.meta.out d gone whole;
-      rebuilds = λ d u fresh. fresh_not_whole a.meta.out d u fresh whole;
-      decides = λ is at_rest samples held s of. (refl, decides.tells samples held s of);
-      idle = λ is at_rest idle. decides.idle idle;
-      rests = λ is at_rest. (refl, decides.rests);
-      moves = λ is not. absurd (not steady);
-      marks = λ is not. absurd (not steady);
-      back = λ d u fresh. fresh_not_whole a.meta.out d u fresh whole;
-      failed = λ d u fresh. fresh_not_whole a.meta.out d u fresh whole;
-      committed = λ d u fresh. fresh_not_whole a.meta.out d u fresh whole;
-      slots = c.decide.ensures.calls.slots;
-      no_fall = c.decide.ensures.calls.no_fall;
+      rebuilds = record {
+        rebuilds = λ d u fresh. fresh_not_whole a.meta.out d u fresh whole;
+        back = λ d u fresh. fresh_not_whole a.meta.out d u fresh whole;
+        failed = λ d u fresh. fresh_not_whole a.meta.out d u fresh whole;
+        committed = λ d u fresh. fresh_not_whole a.meta.out d u fresh whole;
+      };
+      decides = record {
+        decides = λ is at_rest samples held s of. (refl, decides.tells samples held s of);
+        idle = λ is at_rest idle. decides.idle idle;
+        rests = λ is at_rest. (refl, decides.rests);
+      };
+      moves = record {
+        moves = λ is not. absurd (not steady);
+        marks = λ is not. absurd (not steady);
+      };
+      calls = c.decide.ensures.calls;
       two = tt;
-      told = c.decide.ensures.calls.grows;
     }
 
 pub move_on-requires : goal.move_on-requires
 move_on-requires g c = record {
-  serving = c.requires.serving;
+  serving = c.requires.service.serving;
   epoch = c.requires.epoch;
   whole = sym c.out.ensures ∙ c.in-No.is;
   shifts = λ steady. shifting _ c.in-Down.is (ap (λ (m : Meta). m.phase) c.meta.ensures ∙ steady);
@@ -183,23 +187,25 @@ returns-in-Down g c =
     let whole = sym c.out.ensures ∙ c.in-No.is in
     let shifts : a.meta.phase ≢ Steady = (λ steady. shifting _ c.in-Down.is (ap (λ (m : Meta). m.phase) c.meta.ensures ∙ steady)) in
     record {
-      serving = on_ok _ _ r (λ left. left.serving) moves.serves;
-      leaves = on_ok _ _ r (λ left. left.leaves) moves.serves;
-      known = on_ok _ _ r (λ left. left.known) moves.serves;
+      serves = moves.serves;
       turn = if_ok _ _ r (λ done turn. turn c.args.windows.now) moves.turn;
       halts = if_err _ _ r (λ two halts. halts c.args.windows.now) moves.halts;
       waits = λ d gone. gone_not_whole a.meta.out d gone whole;
-      rebuilds = if_ok _ _ r (λ done tells d u fresh. fresh_not_whole a.meta.out d u fresh whole) moves.tells;
-      decides = if_ok _ _ r (λ done tells is steady. absurd (shifts steady)) moves.tells;
-      idle = if_ok _ _ r (λ done tells is steady. absurd (shifts steady)) moves.tells;
-      rests = if_ok _ _ r (λ done tells is steady. absurd (shifts steady)) moves.tells;
-      moves = if_ok _ _ r (λ done tells is not. tells) moves.tells;
-      marks = if_ok _ _ r (λ done marks is not. marks) moves.marks;
-      back = if_ok _ _ r (λ done tells d u fresh. fresh_not_whole a.meta.out d u fresh whole) moves.tells;
-      failed = if_ok _ _ r (λ done tells d u fresh. fresh_not_whole a.meta.out d u fresh whole) moves.tells;
-      committed = if_ok _ _ r (λ done tells d u fresh. fresh_not_whole a.meta.out d u fresh whole) moves.tells;
-      slots = moves.calls.slots;
-      no_fall = moves.calls.no_fall;
+      rebuilds = if_ok _ _ r (λ done tells. record {
+        rebuilds = λ d u fresh. fresh_not_whole a.meta.out d u fresh whole;
+        back = λ d u fresh. fresh_not_whole a.meta.out d u fresh whole;
+        failed = λ d u fresh. fresh_not_whole a.meta.out d u fresh whole;
+        committed = λ d u fresh. fresh_not_whole a.meta.out d u fresh whole;
+      }) moves.tells;
+      decides = if_ok _ _ r (λ done tells. record {
+        decides = λ is steady. absurd (shifts steady);
+        idle = λ is steady. absurd (shifts steady);
+        rests = λ is steady. absurd (shifts steady);
+      }) moves.tells;
+      moves = if_both _ _ _ r (λ done tells marks. record {
+        moves = λ is not. tells;
+        marks = λ is not. marks;
+      }) moves.tells moves.marks;
+      calls = moves.calls;
       two = moves.two;
-      told = moves.calls.grows;
     }

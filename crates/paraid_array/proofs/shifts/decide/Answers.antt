@@ -54,19 +54,23 @@ returns-in-Stay g c =
 
 pub begin_up-requires : goal.begin_up-requires
 begin_up-requires g c = record {
-  serving = c.requires.serving;
-  epoch = let e = c.requires.epoch in omega (arith, e);
-  whole = c.requires.whole;
-  steady = c.requires.steady;
+  can = record {
+    serving = c.requires.serving;
+    epoch = let e = c.requires.epoch in omega (arith, e);
+    whole = c.requires.whole;
+    steady = c.requires.steady;
+  };
   next = subst (λ (z : Meta). AreNextGears z.setup.geometry z.gear c.in-Ok.to) c.meta.ensures c.in-Ok.ensures.next;
 }
 
 pub begin_down-requires : goal.begin_down-requires
 begin_down-requires g c = record {
-  serving = c.requires.serving;
-  epoch = let e = c.requires.epoch in omega (arith, e);
-  whole = c.requires.whole;
-  steady = c.requires.steady;
+  can = record {
+    serving = c.requires.serving;
+    epoch = let e = c.requires.epoch in omega (arith, e);
+    whole = c.requires.whole;
+    steady = c.requires.steady;
+  };
   next = subst (λ (z : Meta). AreNextGears z.setup.geometry c.in-Ok-gear_below.to z.gear) c.meta.ensures c.in-Ok-gear_below.ensures.next;
   spared = subst (λ (z : Meta). (d : ℕ) → c.in-Ok-gear_below.to ≤ d → d < z.gear → slice_index z.spins d < allowed_spins z) c.meta.ensures c.in-Ok-gear_below.ensures.spared;
 }
@@ -87,9 +91,9 @@ returns-in_err-begin_up-in-Ok g c =
           let shown = subst (λ (z : Meta). IsShiftStateOf z s) (sym c.meta.ensures) (shift_shown g.R.Rack.slot_count g.R.Rack.told a k setup p samples served energy at fit counts) in
           up_halts g.R.Rack.slot_count g.R.Rack.told a k setup p samples served energy at fit counts c.requires.whole c.requires.steady c.begin_up.new.core c.in-Ok.to c.in-Up.to
           (c.in-Up.ensures samples held ∙ ap (λ (z : Meta). decision z.setup z.gear samples) c.meta.ensures)
-          (subst (λ (z : Meta). MayGoUp z.setup s c.in-Ok.to) c.meta.ensures (c.in-Ok.ensures.may s shown)) _ c.in_err-begin_up-in-Ok.ensures.loses);
-      calls = calls_told g.R.Rack.slot_count g.R.Rack.slot g.R.Rack.told a c.begin_up.new.core _ c.begin_up.ensures.slots c.begin_up.ensures.no_fall (c.begin_up.ensures.moments [] 0);
-      two = handed _ c.from_residual.result _ c.from_residual.ensures.1 c.in_err-begin_up-in-Ok.ensures.two;
+          (subst (λ (z : Meta). MayGoUp z.setup s c.in-Ok.to) c.meta.ensures (c.in-Ok.ensures.may s shown)) _ c.in_err-begin_up-in-Ok.ensures.rack.loses);
+      calls = calls_told g.R.Rack.slot_count g.R.Rack.slot g.R.Rack.told a c.begin_up.new.core _ c.begin_up.ensures.rack.slots c.begin_up.ensures.rack.no_fall (c.begin_up.ensures.keeps.moments [] 0);
+      two = handed _ c.from_residual.result _ c.from_residual.ensures.1 c.in_err-begin_up-in-Ok.ensures.rack.two;
     }
 
 pub returns-in_ok-begin_up-in-Ok : goal.returns-in_ok-begin_up-in-Ok
@@ -97,7 +101,7 @@ returns-in_ok-begin_up-in-Ok g c =
     let a = c.args.core.now in
     let begun = c.in_ok-begin_up-in-Ok.ensures in
     record {
-      serves = record { serving = begun.serving; leaves = begun.leaves; known = known_marked g.R.Rack.slot _ c.begin_up.new.core begun.meta.is c.requires.whole begun.absent };
+      serves = record { serving = begun.shifted.serving; leaves = begun.shifted.leaves; known = known_marked g.R.Rack.slot _ c.begin_up.new.core begun.meta.is c.requires.whole begun.shifted.absent };
       tells = λ samples held s of.
           let m = c.meta.result.now in
           let is = subst (λ (z : Meta). IsShiftStateOf z s) (sym c.meta.ensures) of in
@@ -112,9 +116,9 @@ returns-in_ok-begin_up-in-Ok g c =
           up_told g.R.Rack.slot_count g.R.Rack.told a k setup p samples served energy at fit counts c.requires.whole c.requires.steady c.begin_up.new.core c.in-Ok.to c.in-Up.to
           (c.in-Up.ensures samples held ∙ ap (λ (z : Meta). decision z.setup z.gear samples) c.meta.ensures)
           (subst (λ (z : Meta). MayGoUp z.setup s c.in-Ok.to) c.meta.ensures (c.in-Ok.ensures.may s shown))
-          begun.meta c.requires.serving.ready.in_range begun.serving.ready.in_range begun.serving.copies_synced c.begin_up.ensures.table begun.steps;
+          begun.meta c.requires.serving.ready.in_range begun.shifted.serving.ready.in_range begun.shifted.serving.copies_synced c.begin_up.ensures.keeps.table begun.steps;
       halts = tt;
-      calls = calls_told g.R.Rack.slot_count g.R.Rack.slot g.R.Rack.told a c.begin_up.new.core _ c.begin_up.ensures.slots c.begin_up.ensures.no_fall (c.begin_up.ensures.moments [] 0);
+      calls = calls_told g.R.Rack.slot_count g.R.Rack.slot g.R.Rack.told a c.begin_up.new.core _ c.begin_up.ensures.rack.slots c.begin_up.ensures.rack.no_fall (c.begin_up.ensures.keeps.moments [] 0);
       two = tt;
     }
 
@@ -157,9 +161,9 @@ returns-in_err-begin_down-in-Ok-gear_below g c =
           let shown = subst (λ (z : Meta). IsShiftStateOf z s) (sym c.meta.ensures) (shift_shown g.R.Rack.slot_count g.R.Rack.told a k setup p samples served energy at fit counts) in
           down_halts g.R.Rack.slot_count g.R.Rack.told a k setup p samples served energy at fit counts c.requires.whole c.requires.steady c.begin_down.new.core c.in-Ok-gear_below.to c.in-Down.to
           (c.in-Down.ensures samples held ∙ ap (λ (z : Meta). decision z.setup z.gear samples) c.meta.ensures)
-          (subst (λ (z : Meta). MayGoDown z.setup s c.in-Ok-gear_below.to) c.meta.ensures (c.in-Ok-gear_below.ensures.may s shown)) _ c.in_err-begin_down-in-Ok-gear_below.ensures.loses);
-      calls = calls_told g.R.Rack.slot_count g.R.Rack.slot g.R.Rack.told a c.begin_down.new.core _ c.begin_down.ensures.slots c.begin_down.ensures.spared.no_fall (c.begin_down.ensures.moments [] 0);
-      two = handed _ c.from_residual-in_err-begin_down-in-Ok-gear_below.result _ c.from_residual-in_err-begin_down-in-Ok-gear_below.ensures.1 c.in_err-begin_down-in-Ok-gear_below.ensures.two;
+          (subst (λ (z : Meta). MayGoDown z.setup s c.in-Ok-gear_below.to) c.meta.ensures (c.in-Ok-gear_below.ensures.may s shown)) _ c.in_err-begin_down-in-Ok-gear_below.ensures.rack.loses);
+      calls = calls_told g.R.Rack.slot_count g.R.Rack.slot g.R.Rack.told a c.begin_down.new.core _ c.begin_down.ensures.rack.slots c.begin_down.ensures.rack.spared.no_fall (c.begin_down.ensures.keeps.moments [] 0);
+      two = handed _ c.from_residual-in_err-begin_down-in-Ok-gear_below.result _ c.from_residual-in_err-begin_down-in-Ok-gear_below.ensures.1 c.in_err-begin_down-in-Ok-gear_below.ensures.rack.two;
     }
 
 pub returns-in_ok-begin_down-in-Ok-gear_below : goal.returns-in_ok-begin_down-in-Ok-gear_below
@@ -167,7 +171,7 @@ returns-in_ok-begin_down-in-Ok-gear_below g c =
     let a = c.args.core.now in
     let begun = c.in_ok-begin_down-in-Ok-gear_below.ensures in
     record {
-      serves = record { serving = begun.serving; leaves = begun.leaves; known = known_marked g.R.Rack.slot _ c.begin_down.new.core begun.meta c.requires.whole begun.absent };
+      serves = record { serving = begun.shifted.serving; leaves = begun.shifted.leaves; known = known_marked g.R.Rack.slot _ c.begin_down.new.core begun.meta c.requires.whole begun.shifted.absent };
       tells = λ samples held s of.
           let m = c.meta.result.now in
           let is = subst (λ (z : Meta). IsShiftStateOf z s) (sym c.meta.ensures) of in
@@ -182,9 +186,9 @@ returns-in_ok-begin_down-in-Ok-gear_below g c =
           down_told g.R.Rack.slot_count g.R.Rack.told a k setup p samples served energy at fit counts c.requires.whole c.requires.steady c.begin_down.new.core c.in-Ok-gear_below.to c.in-Down.to
           (c.in-Down.ensures samples held ∙ ap (λ (z : Meta). decision z.setup z.gear samples) c.meta.ensures)
           (subst (λ (z : Meta). MayGoDown z.setup s c.in-Ok-gear_below.to) c.meta.ensures (c.in-Ok-gear_below.ensures.may s shown))
-          (subst (λ (z : Meta). c.in-Ok-gear_below.to < z.gear) c.meta.ensures c.in-Ok-gear_below.ensures.next.below) begun.meta begun.serving.copies_synced c.begin_down.ensures.table begun.steps;
+          (subst (λ (z : Meta). c.in-Ok-gear_below.to < z.gear) c.meta.ensures c.in-Ok-gear_below.ensures.next.below) begun.meta begun.shifted.serving.copies_synced c.begin_down.ensures.keeps.table begun.steps;
       halts = tt;
-      calls = calls_told g.R.Rack.slot_count g.R.Rack.slot g.R.Rack.told a c.begin_down.new.core _ c.begin_down.ensures.slots c.begin_down.ensures.spared.no_fall (c.begin_down.ensures.moments [] 0);
+      calls = calls_told g.R.Rack.slot_count g.R.Rack.slot g.R.Rack.told a c.begin_down.new.core _ c.begin_down.ensures.rack.slots c.begin_down.ensures.rack.spared.no_fall (c.begin_down.ensures.keeps.moments [] 0);
       two = tt;
     }
 

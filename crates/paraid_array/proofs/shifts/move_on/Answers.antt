@@ -23,31 +23,29 @@ is_done-requires g c =
     let moved = c.in_ok-moved.ensures in
     let whole = no_name c.step.new.core.meta.out (sym moved.lost ∙ c.in_default.is) in
     record {
-      ready = moved.serving.ready;
+      ready = moved.serves.serving.ready;
       shifts = moved_shifts g.R.Rack.slot_count c.args.core.now c.step.new.core c.in_ok-moved.moved.units (moved.moves c.requires.whole).moves c.requires.serving.ready.in_range c.requires.shifts whole;
     }
 
-pub flip-requires-clause-serving : goal.flip-requires-clause-serving
-flip-requires-clause-serving g c = c.in_ok-moved.ensures.serving
-
-pub flip-requires-clause-whole : goal.flip-requires-clause-whole
-flip-requires-clause-whole g c = no_name c.step.new.core.meta.out (sym c.in_ok-moved.ensures.lost ∙ c.in_default.is)
-
-pub flip-requires-clause-shifts : goal.flip-requires-clause-shifts
-flip-requires-clause-shifts g c =
-    moved_shifts g.R.Rack.slot_count c.args.core.now c.step.new.core c.in_ok-moved.moved.units (c.in_ok-moved.ensures.moves c.requires.whole).moves c.requires.serving.ready.in_range c.requires.shifts
-    (no_name c.step.new.core.meta.out (sym c.in_ok-moved.ensures.lost ∙ c.in_default.is))
-
-pub flip-requires-clause-filled : goal.flip-requires-clause-filled
-flip-requires-clause-filled g c = c.is_done.ensures.filled c.if-not-is_done.false
-
-pub flip-requires-clause-clean : goal.flip-requires-clause-clean
-flip-requires-clause-clean g c = c.is_done.ensures.clean c.if-not-is_done.false
+pub flip-requires : goal.flip-requires
+flip-requires g c =
+    let moved = c.in_ok-moved.ensures in
+    let whole = no_name c.step.new.core.meta.out (sym moved.lost ∙ c.in_default.is) in
+    record {
+      can = record {
+        serving = moved.serves.serving;
+        epoch = let e = moved.serves.epoch in let low = c.requires.epoch in omega arith;
+        whole = whole;
+        shifts = moved_shifts g.R.Rack.slot_count c.args.core.now c.step.new.core c.in_ok-moved.moved.units (moved.moves c.requires.whole).moves c.requires.serving.ready.in_range c.requires.shifts whole;
+        filled = c.is_done.ensures.filled c.if-not-is_done.false;
+        clean = c.is_done.ensures.clean c.if-not-is_done.false;
+      };
+    }
 
 pub returns-in_err-moved : goal.returns-in_err-moved
 returns-in_err-moved g c =
     let a = c.args.core.now in
-    let loses = c.in_err-moved.ensures.loses (none_away g.R.Rack.slot a c.requires.whole) in
+    let loses = c.in_err-moved.ensures.rack.loses (none_away g.R.Rack.slot a c.requires.whole) in
     record {
       serves = none_done _ c.from_residual.result _ c.from_residual.ensures.1;
       tells = none_done_if _ c.from_residual.result _ c.from_residual.ensures.1;
@@ -58,8 +56,8 @@ returns-in_err-moved g c =
           (λ windows k setup p samples served energy held at fit counts.
           step_halts g.R.Rack.slot_count g.R.Rack.told a k setup p samples served energy at fit counts c.requires.whole c.requires.shifts c.requires.serving.ready.in_range c.units_of_tick-units.result c.units_of_tick-units.ensures.units
           c.step.new.core _ loses);
-      calls = calls_told g.R.Rack.slot_count g.R.Rack.slot g.R.Rack.told a c.step.new.core _ c.step.ensures.slots c.step.ensures.no_fall (loses [] 0 [] 0 0);
-      two = handed _ c.from_residual.result _ c.from_residual.ensures.1 c.in_err-moved.ensures.two;
+      calls = calls_told g.R.Rack.slot_count g.R.Rack.slot g.R.Rack.told a c.step.new.core _ c.step.ensures.rack.slots c.step.ensures.rack.no_fall (loses [] 0 [] 0 0);
+      two = handed _ c.from_residual.result _ c.from_residual.ensures.1 c.in_err-moved.ensures.rack.two;
     }
 
 pub returns-in-Some : goal.returns-in-Some
@@ -71,17 +69,17 @@ returns-in-Some g c =
     let named = sym moved.lost ∙ c.in-Some.is in
     record {
       serves = record {
-        serving = moved.serving;
-        leaves = moved.leaves;
-        known = known_gone g.R.Rack.slot b c.in-Some.disk (moved_gone g.R.Rack.slot_count a b c.in_ok-moved.moved.units (moved.moves c.requires.whole).moves c.in-Some.disk named) (moved.absent (none_away g.R.Rack.slot a c.requires.whole));
+        serving = moved.serves.serving;
+        leaves = moved.serves.leaves;
+        known = known_gone g.R.Rack.slot b c.in-Some.disk (moved_gone g.R.Rack.slot_count a b c.in_ok-moved.moved.units (moved.moves c.requires.whole).moves c.in-Some.disk named) (moved.serves.absent (none_away g.R.Rack.slot a c.requires.whole));
       };
       tells = named;
       marks = tt;
       turn = λ windows k setup p samples served energy held at fit counts.
           lost_told g.R.Rack.slot_count g.R.Rack.told a k setup p samples served energy at fit counts c.requires.whole c.requires.shifts c.requires.serving.ready.in_range c.units_of_tick-units.result c.units_of_tick-units.ensures.units
-          b c.in_ok-moved.moved.units (moved.moves c.requires.whole) moved.serving.copies_synced steps c.in-Some.disk moved.few named;
+          b c.in_ok-moved.moved.units (moved.moves c.requires.whole) moved.serves.serving.copies_synced steps c.in-Some.disk moved.few named;
       halts = tt;
-      calls = record { slots = c.step.ensures.slots; no_fall = c.step.ensures.no_fall; grows = extends_steps g.R.Rack.told g.R.Rack.slot_count a b _ steps };
+      calls = record { slots = c.step.ensures.rack.slots; no_fall = c.step.ensures.rack.no_fall; grows = extends_steps g.R.Rack.told g.R.Rack.slot_count a b _ steps };
       two = tt;
     }
 
@@ -93,15 +91,15 @@ returns-then-not-is_done g c =
     let steps = moved.steps (none_away g.R.Rack.slot a c.requires.whole) in
     let whole = no_name b.meta.out (sym moved.lost ∙ c.in_default.is) in
     record {
-      serves = record { serving = moved.serving; leaves = moved.leaves; known = known_whole g.R.Rack.slot b whole };
+      serves = record { serving = moved.serves.serving; leaves = moved.serves.leaves; known = known_whole g.R.Rack.slot b whole };
       tells = whole;
       marks = (moved_phase g.R.Rack.slot_count a b c.in_ok-moved.moved.units (moved.moves c.requires.whole).moves whole, moved_gear g.R.Rack.slot_count a b c.in_ok-moved.moved.units (moved.moves c.requires.whole).moves whole, moved_fill g.R.Rack.slot_count a b c.in_ok-moved.moved.units (moved.moves c.requires.whole).moves whole);
       turn = λ windows k setup p samples served energy held at fit counts.
           moving_told g.R.Rack.slot_count g.R.Rack.told a k setup p samples served energy at fit counts c.requires.whole c.requires.shifts c.requires.serving.ready.in_range c.units_of_tick-units.result c.units_of_tick-units.ensures.units
-          b c.in_ok-moved.moved.units (moved.moves c.requires.whole) moved.serving.copies_synced steps whole moved.leaves.setup
+          b c.in_ok-moved.moved.units (moved.moves c.requires.whole) moved.serves.serving.copies_synced steps whole moved.serves.leaves.setup
           (subst (TellsDone (service_of g.R.Rack.slot_count b samples served energy)) c.if-not-is_done.true (c.is_done.ensures.units samples served energy));
       halts = tt;
-      calls = record { slots = c.step.ensures.slots; no_fall = c.step.ensures.no_fall; grows = extends_steps g.R.Rack.told g.R.Rack.slot_count a b _ steps };
+      calls = record { slots = c.step.ensures.rack.slots; no_fall = c.step.ensures.rack.no_fall; grows = extends_steps g.R.Rack.told g.R.Rack.slot_count a b _ steps };
       two = tt;
     }
 
@@ -122,12 +120,12 @@ returns-in_err-flip g c =
           handed _ c.from_residual-in_err-flip.result _ c.from_residual-in_err-flip.ensures.1
           (λ windows k setup p samples served energy held at fit counts.
           flip_halts g.R.Rack.slot_count g.R.Rack.told a k setup p samples served energy at fit counts c.requires.whole c.requires.shifts c.requires.serving.ready.in_range c.units_of_tick-units.result c.units_of_tick-units.ensures.units
-          b c.in_ok-moved.moved.units (moved.moves c.requires.whole) moved.serving.copies_synced steps whole moved.leaves.setup
-          new moved.few (c.is_done.ensures.done c.if-not-is_done.false) _ c.in_err-flip.ensures.loses);
+          b c.in_ok-moved.moved.units (moved.moves c.requires.whole) moved.serves.serving.copies_synced steps whole moved.serves.leaves.setup
+          new moved.few (c.is_done.ensures.done c.if-not-is_done.false) _ c.in_err-flip.ensures.rack.loses);
       calls =
-          calls_then g.R.Rack.slot_count g.R.Rack.slot g.R.Rack.told a b new (record { slots = c.step.ensures.slots; no_fall = c.step.ensures.no_fall; grows = extends_steps g.R.Rack.told g.R.Rack.slot_count a b _ steps })
-          (calls_told g.R.Rack.slot_count g.R.Rack.slot g.R.Rack.told b new _ c.flip.ensures.slots c.flip.ensures.no_fall (c.flip.ensures.moments [] 0));
-      two = handed _ c.from_residual-in_err-flip.result _ c.from_residual-in_err-flip.ensures.1 (two_array g.R.Rack.slot_count g.R.Rack.slot a b new moved.leaves c.flip.ensures.no_fall _ c.in_err-flip.ensures.two);
+          calls_then g.R.Rack.slot_count g.R.Rack.slot g.R.Rack.told a b new (record { slots = c.step.ensures.rack.slots; no_fall = c.step.ensures.rack.no_fall; grows = extends_steps g.R.Rack.told g.R.Rack.slot_count a b _ steps })
+          (calls_told g.R.Rack.slot_count g.R.Rack.slot g.R.Rack.told b new _ c.flip.ensures.rack.slots c.flip.ensures.rack.no_fall (c.flip.ensures.keeps.moments [] 0));
+      two = handed _ c.from_residual-in_err-flip.result _ c.from_residual-in_err-flip.ensures.1 (two_array g.R.Rack.slot_count g.R.Rack.slot a b new moved.serves.leaves c.flip.ensures.rack.no_fall _ c.in_err-flip.ensures.rack.two);
     }
 
 pub returns : goal.returns
@@ -141,9 +139,9 @@ returns g c =
     let whole = no_name b.meta.out (sym moved.lost ∙ c.in_default.is) in
     record {
       serves = record {
-        serving = ended.serving;
-        leaves = leaves_array_then g.R.Rack.slot_count g.R.Rack.slot a b new moved.leaves ended.leaves;
-        known = known_marked g.R.Rack.slot (record (meta_flipped_to b.meta (phase_to b.meta.phase)) { epoch = b.meta.epoch + 1 }) new ended.meta whole ended.absent;
+        serving = ended.shifted.serving;
+        leaves = leaves_array_then g.R.Rack.slot_count g.R.Rack.slot a b new moved.serves.leaves ended.shifted.leaves;
+        known = known_marked g.R.Rack.slot (record (meta_flipped_to b.meta (phase_to b.meta.phase)) { epoch = b.meta.epoch + 1 }) new ended.meta whole ended.shifted.absent;
       };
       tells = steady_marked (record (meta_flipped_to b.meta (phase_to b.meta.phase)) { epoch = b.meta.epoch + 1 }) new.meta refl ended.meta;
       marks = (
@@ -152,11 +150,11 @@ returns g c =
       );
       turn = λ windows k setup p samples served energy held at fit counts.
           flipped_told g.R.Rack.slot_count g.R.Rack.told a k setup p samples served energy at fit counts c.requires.whole c.requires.shifts c.requires.serving.ready.in_range c.units_of_tick-units.result c.units_of_tick-units.ensures.units
-          b c.in_ok-moved.moved.units (moved.moves c.requires.whole) moved.serving.copies_synced steps whole moved.leaves.setup
-          new moved.few (c.is_done.ensures.done c.if-not-is_done.false) ended.steps ended.meta ended.serving.copies_synced c.flip.ensures.table;
+          b c.in_ok-moved.moved.units (moved.moves c.requires.whole) moved.serves.serving.copies_synced steps whole moved.serves.leaves.setup
+          new moved.few (c.is_done.ensures.done c.if-not-is_done.false) ended.steps ended.meta ended.shifted.serving.copies_synced c.flip.ensures.keeps.table;
       halts = tt;
       calls =
-          calls_then g.R.Rack.slot_count g.R.Rack.slot g.R.Rack.told a b new (record { slots = c.step.ensures.slots; no_fall = c.step.ensures.no_fall; grows = extends_steps g.R.Rack.told g.R.Rack.slot_count a b _ steps })
-          (calls_told g.R.Rack.slot_count g.R.Rack.slot g.R.Rack.told b new _ c.flip.ensures.slots c.flip.ensures.no_fall (c.flip.ensures.moments [] 0));
+          calls_then g.R.Rack.slot_count g.R.Rack.slot g.R.Rack.told a b new (record { slots = c.step.ensures.rack.slots; no_fall = c.step.ensures.rack.no_fall; grows = extends_steps g.R.Rack.told g.R.Rack.slot_count a b _ steps })
+          (calls_told g.R.Rack.slot_count g.R.Rack.slot g.R.Rack.told b new _ c.flip.ensures.rack.slots c.flip.ensures.rack.no_fall (c.flip.ensures.keeps.moments [] 0));
       two = tt;
     }

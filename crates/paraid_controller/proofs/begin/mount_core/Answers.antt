@@ -8,7 +8,7 @@ use Rattle.paraid_core.specs.Cores.{CanCoreServe, IsCoreReady}
 use Rattle.paraid_recover.specs.HeldMoments.{Extends}
 use Rattle.paraid_recover.specs.Mount.IsCauseOfRefusal.{no_memory}
 use Rattle.paraid_recover.specs.Mounted.{IsServable, IsStandingWithLoss}
-use Rattle.paraid_recover.proofs.MountedLemmas.{no_calls, refused_from_each}
+use Rattle.paraid_recover.proofs.MountedLemmas.{refused_from_each, unstarted_here}
 use Rattle.paraid_txn.specs.Stores.{disks_of, epoch_of, named_of, store_rack}
 use Rattle.paraid_array.proofs.ToldLemmas.{extends_none}
 use Rattle.paraid_controller.proofs.BeginLemmas.{begins_large, begins_synced, begun_mounted, begun_servable, begun_stands, begun_under, fresh_known, out_known, powered_by, stands_from_each}
@@ -45,18 +45,7 @@ serves g c = c.a_powered_array_can_begin.ensures.serves _ _ _ _ (powered_by _ _ 
 pub returns-in_default : goal.returns-in_default
 returns-in_default g c = record {
   slots = tt;
-  ready = tt;
-  serves = tt;
-  nothing = tt;
-  draft = tt;
-  copies_synced = tt;
-  large = tt;
-  synced = tt;
-  serving = tt;
-  powered = tt;
-  absent = tt;
-  named = tt;
-  spins = tt;
+  begun = tt;
   lengths = tt;
   none = tt;
   later = tt;
@@ -66,40 +55,37 @@ returns-in_default g c = record {
   grows = tt;
   stands = tt;
   refused_grows = extends_none (g.R.Rack.told c.args.rack);
-  cause = no_memory refl (no_calls (g.R.Rack.told c.args.rack));
+  cause = no_memory refl (unstarted_here (g.R.Rack.slot c.args.rack) (g.R.Rack.told c.args.rack));
   refused = λ began at.
       refused_from_each (g.R.Rack.slot_count c.args.rack) (g.R.Rack.slot c.args.rack) (g.R.Rack.slot c.args.rack) (g.R.Rack.told c.args.rack) (g.R.Rack.told c.args.rack) NoMemory
-      (g.met.R.Rack.agrees c.args.rack) (g.met.R.Rack.agrees c.args.rack) began at (no_memory refl (no_calls (g.R.Rack.told c.args.rack)));
+      (g.met.R.Rack.agrees c.args.rack) (g.met.R.Rack.agrees c.args.rack) began at (no_memory refl (unstarted_here (g.R.Rack.slot c.args.rack) (g.R.Rack.told c.args.rack)));
 }
 
 pub returns-in-Ok-mount : goal.returns-in-Ok-mount
 returns-in-Ok-mount g c = record {
   slots = ap (λ (z : _). g.R.Rack.slot_count (store_rack z)) c.begin.ensures.store ∙ c.in-Ok-mount.ensures.slots;
-  ready = ready g (goal.at.returns-in-Ok-mount g c).After-begin;
-  serves = serves g (goal.at.returns-in-Ok-mount g c).After-begin;
-  nothing = c.begin.ensures.batch ∙ c.in-Ok-mount.ensures.nothing;
-  draft = c.begin.ensures.draft ∙ c.in-Ok.ensures.draft;
-  copies_synced = λ d low. c.begin.ensures.copies_synced d (subst (λ (m : Meta). d < m.setup.geometry.disks) c.begin.ensures.meta low);
-  large = begins_large _ _ _ _ _ _ _ (served g (goal.at.returns-in-Ok-mount g c).After-begin);
-  synced = (served g (goal.at.returns-in-Ok-mount g c).After-begin).synced;
-  serving =
+  begun =
       let at = (goal.at.returns-in-Ok-mount g c).After-begin in
       let core = c.begin.result.core in
       let s = served g at in
       record {
-        ready = ready g at;
-        serves = serves g at;
-        draft = c.begin.ensures.draft ∙ c.in-Ok.ensures.draft;
-        copies_synced = λ d low. c.begin.ensures.copies_synced d (subst (λ (m : Meta). d < m.setup.geometry.disks) c.begin.ensures.meta low);
-        unsynced = λ d low stays here wet. begins_synced _ _ _ _ _ _ _ s core.copied d low stays here wet;
-        large = begins_large _ _ _ _ _ _ _ s;
+        serving = record {
+          ready = ready g at;
+          serves = serves g at;
+          draft = c.begin.ensures.draft ∙ c.in-Ok.ensures.draft;
+          copies_synced = λ d low. c.begin.ensures.copies_synced d (subst (λ (m : Meta). d < m.setup.geometry.disks) c.begin.ensures.meta low);
+          unsynced = λ d low stays here wet. begins_synced _ _ _ _ _ _ _ s core.copied d low stays here wet;
+          large = begins_large _ _ _ _ _ _ _ s;
+        };
+        nothing = c.begin.ensures.batch ∙ c.in-Ok-mount.ensures.nothing;
+        synced = s.synced;
+        powered = powered_by _ _ _ _ _ _ _ s;
+        known = record {
+          absent = out_known _ _ _ _ (under g at);
+          named = λ d is. (fresh_known _ _ _ _ (under g at) d _ is).0;
+          spins = λ d is. s.fresh_spins d _ is (fresh_known _ _ _ _ (under g at) d _ is).1;
+        };
       };
-  powered = powered_by _ _ _ _ _ _ _ (served g (goal.at.returns-in-Ok-mount g c).After-begin);
-  absent = out_known _ _ _ _ (under g (goal.at.returns-in-Ok-mount g c).After-begin);
-  named = λ d is. (fresh_known _ _ _ _ (under g (goal.at.returns-in-Ok-mount g c).After-begin) d _ is).0;
-  spins = λ d is.
-      let at = (goal.at.returns-in-Ok-mount g c).After-begin in
-      (served g at).fresh_spins d _ is (fresh_known _ _ _ _ (under g at) d _ is).1;
   lengths = c.begin.ensures.lengths ∙ ap (λ (m : Meta). m.setup.windows) (sym c.begin.ensures.meta);
   none = c.begin.ensures.none;
   later = λ d.
@@ -132,18 +118,7 @@ begin-requires g c = record { in_range = c.in-Ok-mount.ensures.servable.fit.in_r
 pub returns-in-Err : goal.returns-in-Err
 returns-in-Err g c = record {
   slots = tt;
-  ready = tt;
-  serves = tt;
-  nothing = tt;
-  draft = tt;
-  copies_synced = tt;
-  large = tt;
-  synced = tt;
-  serving = tt;
-  powered = tt;
-  absent = tt;
-  named = tt;
-  spins = tt;
+  begun = tt;
   lengths = tt;
   none = tt;
   later = tt;

@@ -14,8 +14,8 @@ new-requires g c =
     let it = c.in-Ok.begun in
     let done = c.in-Ok.ensures in
     record {
-      serving = serving_of g.R.Rack.slot_count g.R.Rack.slot it.core (lengths_of it.windows) it.core.meta.setup c.slots-slots.result done.serving
-          (record { absent = done.absent; named = done.named; spins = done.spins }) done.lengths refl (done.slots ∙ sym c.slots-slots.ensures);
+      serving = serving_of g.R.Rack.slot_count g.R.Rack.slot it.core (lengths_of it.windows) it.core.meta.setup c.slots-slots.result done.begun.serving done.begun.known done.lengths refl (done.slots ∙ sym c.slots-slots.ensures);
+      none = done.none;
     }
 
 pub returns-in-Ok : goal.returns-in-Ok
@@ -26,8 +26,8 @@ returns-in-Ok g c = record {
       subst (λ (k : _). (g.R.Rack.slot c.args.rack d).faults ≤ (g.R.Rack.slot (core_rack k) d).faults) (sym c.new.ensures.core) (c.in-Ok.ensures.later d);
   refused_slots = tt;
   refused_later = tt;
-  nothing = ap (λ (k : _). k.batch) c.new.ensures.core ∙ c.in-Ok.ensures.nothing;
-  energy = c.new.ensures.energy;
+  nothing = ap (λ (k : _). k.batch) c.new.ensures.core ∙ c.in-Ok.ensures.begun.nothing;
+  counts = record { energy = c.new.ensures.energy; samples = c.new.ensures.samples; requests = c.new.ensures.served };
   setup = c.new.ensures.setup ∙ sym (ap (λ (k : _). k.meta.setup) c.new.ensures.core);
   served =
       subst (λ (k : _). IsMountedCore g.R.Rack.slot g.R.Rack.told (g.R.Rack.slot_count c.args.rack) (g.R.Rack.slot c.args.rack) (g.R.Rack.told c.args.rack) k) (sym c.new.ensures.core) c.in-Ok.ensures.mounted;
@@ -37,7 +37,7 @@ returns-in-Ok g c = record {
       let done = c.in-Ok.ensures in
       let made = c.new.ensures in
       subst (λ (n : ℕ). IsMountedFromEach n c.new.result.setup began (told_of_array g.R.Rack.told c.new.result) (ArrayStandsAt g.R.Rack.slot_count g.R.Rack.told c.new.result)) (sym (made.slots ∙ c.slots-slots.ensures))
-      (stands_mounted g.R.Rack.slot_count g.R.Rack.told it.core c.new.result (g.R.Rack.slot_count c.args.rack) began made.core made.setup (λ p. made.stands p done.none) (done.stands began at));
+      (stands_mounted g.R.Rack.slot_count g.R.Rack.told it.core c.new.result (g.R.Rack.slot_count c.args.rack) began made.core made.setup made.stands (done.stands began at));
   refused_grows = tt;
   cause = tt;
   refused = tt;
@@ -52,7 +52,7 @@ returns-in-Err g c = record {
   refused_later = c.in-Err.ensures.refused_later;
   nothing = tt;
   setup = tt;
-  energy = tt;
+  counts = tt;
   served = tt;
   grows = tt;
   mounted = tt;

@@ -63,19 +63,21 @@ returns g c = record {
 
 pub gather_one-requires : goal.gather_one-requires
 gather_one-requires g c = record {
-  in_range = c.requires.in_range;
-  gear = c.requires.gear;
-  region = c.requires.region;
-  stripe = c.requires.stripe;
+  gathers = record {
+    in_range = c.requires.gathers.in_range;
+    gear = c.requires.gathers.gear;
+    region = c.requires.gathers.region;
+    stripe = c.requires.gathers.stripe;
+    rows = c.requires.gathers.rows;
+    array = c.requires.gathers.array ∙ sym c.loop-disk.invariant.read.same.disks;
+    ready = read_can g.R.Rack.slot_count g.R.Rack.slot g.R.Rack.told c.args.store.now c.loop-disk.store c.args.meta.now None (disks_of c.args.store.now) c.loop-disk.invariant.read c.requires.gathers.ready;
+  };
   disk = c.loop-disk-test.true;
-  rows = c.requires.rows;
-  array = c.requires.array ∙ sym c.loop-disk.invariant.read.same.disks;
-  ready = read_can g.R.Rack.slot_count g.R.Rack.slot g.R.Rack.told c.args.store.now c.loop-disk.store c.args.meta.now None (disks_of c.args.store.now) c.loop-disk.invariant.read c.requires.ready;
 }
 
 pub soft_parity-requires : goal.soft_parity-requires
 soft_parity-requires g c = record {
-  gear = c.requires.gear;
-  region = c.requires.region;
-  stripe_in = c.requires.stripe;
+  gear = c.requires.gathers.gear;
+  region = c.requires.gathers.region;
+  stripe_in = c.requires.gathers.stripe;
 }

@@ -39,23 +39,25 @@ returns g c = record {
 
 pub soft_parity-parity-requires : goal.soft_parity-parity-requires
 soft_parity-parity-requires g c = record {
-  gear = c.requires.gear;
-  region = c.requires.region;
-  stripe_in = c.requires.stripe;
+  gear = c.requires.gathers.gear;
+  region = c.requires.gathers.region;
+  stripe_in = c.requires.gathers.stripe;
 }
 
 pub read_copy-requires : goal.read_copy-requires
 read_copy-requires g c = record {
-  in_range = c.requires.in_range;
-  gear = c.requires.gear;
-  region = c.requires.region;
-  stripe = c.requires.stripe;
+  gathers = record {
+    in_range = c.requires.gathers.in_range;
+    gear = c.requires.gathers.gear;
+    region = c.requires.gathers.region;
+    stripe = c.requires.gathers.stripe;
+    rows = c.requires.gathers.rows;
+    array = c.requires.gathers.array;
+    ready = c.requires.gathers.ready;
+  };
   disk = c.requires.disk;
   apart = λ is. c.if-disk-parity.false (is ∙ sym c.soft_parity-parity.ensures.value);
-  rows = c.requires.rows;
-  array = c.requires.array;
-  ready = c.requires.ready;
 }
 
 pub put-requires : goal.put-requires
-put-requires g c = let low = c.requires.disk in let below = c.requires.region in let high = c.args.meta.now.setup.geometry.disks_high in omega (arith, low, below, high)
+put-requires g c = let low = c.requires.disk in let below = c.requires.gathers.region in let high = c.args.meta.now.setup.geometry.disks_high in omega (arith, low, below, high)

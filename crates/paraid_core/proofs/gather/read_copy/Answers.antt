@@ -28,9 +28,9 @@ returns g c = record {
 
 pub soft_parity-requires : goal.soft_parity-requires
 soft_parity-requires g c = record {
-  gear = c.requires.gear;
-  region = c.requires.region;
-  stripe_in = c.requires.stripe;
+  gear = c.requires.gathers.gear;
+  region = c.requires.gathers.region;
+  stripe_in = c.requires.gathers.stripe;
 }
 
 pub index_among-index-requires : goal.index_among-index-requires
@@ -42,18 +42,18 @@ index_among-index-requires g c = record {
 
 pub cell_at-requires : goal.cell_at-requires
 cell_at-requires g c = record {
-  gear = c.requires.gear;
-  region = c.requires.region;
-  stripe_in = c.requires.stripe;
+  gear = c.requires.gathers.gear;
+  region = c.requires.gathers.region;
+  stripe_in = c.requires.gathers.stripe;
   index_in = c.index_among-index.ensures.low;
 }
 
 pub read_value-requires : goal.read_value-requires
 read_value-requires g c = record {
-  in_range = c.requires.in_range;
+  in_range = c.requires.gathers.in_range;
   row = c.in-Some.ensures.row_in;
   disk = c.in-Some.ensures.disk_in;
-  rows = c.requires.rows;
-  array = c.requires.array;
-  ready = c.requires.ready;
+  rows = c.requires.gathers.rows;
+  array = c.requires.gathers.array;
+  ready = c.requires.gathers.ready;
 }

@@ -5,7 +5,7 @@ use Rattle.paraid_trace.specs.Answered.{answer_of, answer_with}
 use Rattle.paraid_trace.specs.Asked.{event_with}
 use Rattle.paraid_trace.specs.declared.answered.Answered.{Answered}
 use Rattle.paraid_device.specs.Asking.{AsksArray}
-use Rattle.paraid_device.proofs.AskLemmas.{asks_halted, asks_served}
+use Rattle.paraid_device.proofs.AskLemmas.{asks_halted}
 use Rattle.paraid_device.proofs.ask.ask.Goals as goal
 
 pub returns-in-Some-clause-asks : goal.returns-in-Some-clause-asks
@@ -14,10 +14,9 @@ returns-in-Some-clause-asks g c = asks_halted g.A.Serves c.args.array.now (event
 pub returns-in-Brief-Halted-clause-asks : goal.returns-in-Brief-Halted-clause-asks
 returns-in-Brief-Halted-clause-asks g c =
     let a = c.args.array.now in
-    let b = c.serve-answered.new.self in
+    let b = c.ask_going-answered.new.array in
     let event = event_with c.args.asked c.args.pairs.now in
-    let e = c.serve-answered.ensures in
     let told : c.in-Brief-Halted.field-0 ≡ ToldHalted c.in-Brief-Halted.now = rw c.in-Brief-Halted.is at c.in-Brief-Halted.field-0-is in
-    let is = ap (λ (x : Answered). answer_with x c.serve-answered.new.beside) c.in-Brief-Halted.is ∙ ap answer_of told in
+    let is = ap (λ (x : Answered). answer_with x c.ask_going-answered.new.beside) c.in-Brief-Halted.is ∙ ap answer_of told in
     subst (λ (x : Answer). AsksArray g.A.Serves a b event x) is
-    (asks_served g.A.Serves a b event (answer_with c.serve-answered.result c.serve-answered.new.beside) (sym c.requires.halt ∙ c.in_default.is) e.turn e.told e.slots e.setup e.halt e.two e.later e.cause)
+    c.ask_going-answered.ensures.asks

@@ -34,7 +34,7 @@ events-preserved g c =
       setup = e.setup ∙ i.setup;
       halt = e.halt;
       since = λ start s. e.since start (i.since start s);
-      causes = causes_more i.causes c.generate-event.result c.answer_event-answered.result _ c.blocks-blocks.result c.count_answer.new.self (c.blocks-blocks.ensures.value ∙ ap block_count (sym (g.met.A.Serves.shows c.args.array.now).setup)) c.generate-event.ensures.value e.kind e.cause new;
+      causes = causes_more i.causes c.generate-event.result c.answer_event-answered.result _ c.blocks-blocks.result c.count_answer.new.self (c.blocks-blocks.ensures.value ∙ ap block_count (sym (g.met.A.Serves.shows c.args.array.now).setup)) c.generate-event.ensures.value e.cause new;
       fits = rw new (fits_answer (tally_with_event c.events.tally c.generate-event.result) c.answer_event-answered.result (c.events.i + 1) c.events.i (fits_event c.events.tally c.generate-event.result c.events.i c.events.i i.fits));
     }
 

@@ -4,23 +4,13 @@ pub returns : goal.returns
 returns g c =
     let all = c.conclude.ensures in
     record {
-      serving = all.serving;
-      nothing = all.nothing;
+      serves = all.serves;
       absent = all.absent;
-      slots = all.slots;
-      few = all.few;
       back = all.back;
       named = all.named;
-      spins = all.spins;
-      gone = all.gone;
-      failed = all.failed;
-      away = all.away;
-      table = all.table;
-      spared = all.spared;
-      two = all.two;
-      moments = all.moments;
-      stands = all.stands;
-      rests = all.rests;
+      lost = all.lost;
+      keeps = all.keeps;
+      stops = all.stops;
       event = all.event;
       loses = all.loses;
     }

@@ -32,9 +32,9 @@ pub loop-number-init : goal.loop-number-init
 loop-number-init g c =
     let a = c.args.core.now in
     record {
-      leaves = leaves_none g.R.Rack.slot_count g.R.Rack.slot g.R.Rack.told a c.requires.ready c.requires.serves.stays;
+      leaves = leaves_none g.R.Rack.slot_count g.R.Rack.slot g.R.Rack.told a c.requires.can.serving.ready c.requires.can.serving.serves.stays;
       meta = refl;
-      spins = c.requires.spins;
+      spins = c.requires.can.spins;
       from = omega arith;
       calls = calls_none (IsDataCall a.meta.setup.geometry.disks (gone_out a.meta.out)) (g.R.Rack.told (store_rack a.store));
       copied = λ h lo. runs_none g.R.Rack.slot_count g.R.Rack.slot g.R.Rack.told a (UnitsRebuilt g.R.Rack.slot_count c.args.core.now h lo c.args.first) h lo (λ s kr. kr.keeps);
@@ -45,16 +45,16 @@ loop-number-preserved g c =
     let was = c.loop-number.invariant in
     let call = c.in_ok-done.ensures in
     let done = c.if-not-done.false in
-    let named : named_out c.loop-number.core.meta.out ≡ Some c.args.disk = ap (λ (m : Meta). named_out m.out) was.meta ∙ ap named_out c.requires.fresh in
+    let named : named_out c.loop-number.core.meta.out ≡ Some c.args.disk = ap (λ (m : Meta). named_out m.out) was.meta ∙ ap named_out c.requires.can.fresh in
     record {
-      leaves = leaves_then g.R.Rack.slot_count g.R.Rack.slot g.R.Rack.told c.args.core.now c.loop-number.core was.leaves c.rebuild_unit.new.self call.leaves;
-      meta = call.same (ap Ok done) ∙ was.meta;
+      leaves = leaves_then g.R.Rack.slot_count g.R.Rack.slot g.R.Rack.told c.args.core.now c.loop-number.core was.leaves c.rebuild_unit.new.self call.copies.leaves;
+      meta = call.copies.same (ap Ok done) ∙ was.meta;
       spins = call.spins (ap Ok done) c.args.disk named;
       from = let low = was.from in omega arith;
-      calls = data_then c.args.core.now.meta c.loop-number.core.meta was.meta (g.R.Rack.told (store_rack c.args.core.now.store)) (g.R.Rack.told (store_rack c.loop-number.core.store)) (g.R.Rack.told (store_rack c.rebuild_unit.new.self.store)) was.calls c.rebuild_unit.ensures.calls;
+      calls = data_then c.args.core.now.meta c.loop-number.core.meta was.meta (g.R.Rack.told (store_rack c.args.core.now.store)) (g.R.Rack.told (store_rack c.loop-number.core.store)) (g.R.Rack.told (store_rack c.rebuild_unit.new.self.store)) was.calls c.rebuild_unit.ensures.copies.calls;
       copied = λ h lo.
           runs_then g.R.Rack.slot_count g.R.Rack.slot g.R.Rack.told c.args.core.now c.loop-number.core was.leaves c.rebuild_unit.new.self (UnitsRebuilt g.R.Rack.slot_count c.args.core.now h lo c.args.first) (UnitsRebuilt g.R.Rack.slot_count c.loop-number.core h lo c.loop-number.number)
-          (UnitsRebuilt g.R.Rack.slot_count c.rebuild_unit.new.self h lo (c.loop-number.number + 1)) h lo (was.copied h lo) (call.copied (ap Ok done) h lo);
+          (UnitsRebuilt g.R.Rack.slot_count c.rebuild_unit.new.self h lo (c.loop-number.number + 1)) h lo (was.copied h lo) (call.held.copied (ap Ok done) h lo);
     }
 
 pub returns-in_err-done : goal.returns-in_err-done
@@ -67,46 +67,48 @@ returns-in_err-done g c =
     record {
       leaves = none_done _ from.result _ from.ensures.1;
       same = λ is. none_done_as _ from.result _ _ from.ensures.1 is;
-      spins = λ is. none_done_as _ from.result _ _ from.ensures.1 is;
-      gone = λ is. none_done_as _ from.result _ _ from.ensures.1 is;
-      failed = λ is. none_done_as _ from.result _ _ from.ensures.1 is;
-      away = λ is. none_done_as _ from.result _ _ from.ensures.1 is;
-      slots = c.rebuild_unit.ensures.slots ∙ c.loop-number.invariant.leaves.slots;
-      spared = spared_then (g.R.Rack.slot (store_rack c.args.core.now.store)) (g.R.Rack.slot (store_rack c.loop-number.core.store)) (g.R.Rack.slot (store_rack c.rebuild_unit.new.self.store)) c.loop-number.invariant.leaves.spared c.rebuild_unit.ensures.spared;
-      calls = data_then c.args.core.now.meta c.loop-number.core.meta was.meta (g.R.Rack.told (store_rack c.args.core.now.store)) (g.R.Rack.told (store_rack c.loop-number.core.store)) (g.R.Rack.told (store_rack c.rebuild_unit.new.self.store)) was.calls c.rebuild_unit.ensures.calls;
-      two =
-          handed _ from.result _ from.ensures.1
-          (two_then g.R.Rack.slot_count g.R.Rack.slot g.R.Rack.told c.args.core.now c.loop-number.core c.loop-number.invariant.leaves c.rebuild_unit.new.self c.rebuild_unit.ensures.spared _ c.in_err-done.ensures.two);
+      lost = λ is. none_done_as _ from.result _ _ from.ensures.1 is;
+      keeps = record {
+        slots = c.rebuild_unit.ensures.copies.losses.slots ∙ c.loop-number.invariant.leaves.slots;
+        spared = spared_then (g.R.Rack.slot (store_rack c.args.core.now.store)) (g.R.Rack.slot (store_rack c.loop-number.core.store)) (g.R.Rack.slot (store_rack c.rebuild_unit.new.self.store)) c.loop-number.invariant.leaves.spared c.rebuild_unit.ensures.copies.losses.spared;
+        two =
+            handed _ from.result _ from.ensures.1
+            (two_then g.R.Rack.slot_count g.R.Rack.slot g.R.Rack.told c.args.core.now c.loop-number.core c.loop-number.invariant.leaves c.rebuild_unit.new.self c.rebuild_unit.ensures.copies.losses.spared _ c.in_err-done.ensures.copies.losses.two);
+      };
+      calls = data_then c.args.core.now.meta c.loop-number.core.meta was.meta (g.R.Rack.told (store_rack c.args.core.now.store)) (g.R.Rack.told (store_rack c.loop-number.core.store)) (g.R.Rack.told (store_rack c.rebuild_unit.new.self.store)) was.calls c.rebuild_unit.ensures.copies.calls;
       tells =
           handed (λ two. Ran (g.R.Rack.told (store_rack a.store)) (g.R.Rack.told (store_rack new.store)) (λ s cs. TellsLosses (named_out a.meta.out) two cs)) from.result _ from.ensures.1
           (tells_later (EachCall (IsDataCall a.meta.setup.geometry.disks (gone_out a.meta.out))) (g.R.Rack.told (store_rack a.store)) (g.R.Rack.told (store_rack l.store)) (g.R.Rack.told (store_rack new.store)) (named_out a.meta.out) (named_out l.meta.out) c.args.disk _
-          (ap named_out c.requires.fresh) (ap (λ (m : Meta). named_out m.out) was.meta ∙ ap named_out c.requires.fresh) was.calls c.in_err-done.ensures.tells);
+          (ap named_out c.requires.can.fresh) (ap (λ (m : Meta). named_out m.out) was.meta ∙ ap named_out c.requires.can.fresh) was.calls c.in_err-done.ensures.copies.losses.tells);
       copied = λ is. none_done_as _ from.result _ _ from.ensures.1 is;
       stands = none_done _ from.result _ from.ensures.1;
-      moments = λ h lo. held_runs_then g.R.Rack.slot_count g.R.Rack.slot g.R.Rack.told c.args.core.now c.loop-number.core was.leaves c.rebuild_unit.new.self (UnitsRebuilt g.R.Rack.slot_count c.args.core.now h lo c.args.first) (UnitsRebuilt g.R.Rack.slot_count c.loop-number.core h lo c.loop-number.number) h lo (was.copied h lo) (c.rebuild_unit.ensures.moments h lo);
+      moments = λ h lo. held_runs_then g.R.Rack.slot_count g.R.Rack.slot g.R.Rack.told c.args.core.now c.loop-number.core was.leaves c.rebuild_unit.new.self (UnitsRebuilt g.R.Rack.slot_count c.args.core.now h lo c.args.first) (UnitsRebuilt g.R.Rack.slot_count c.loop-number.core h lo c.loop-number.number) h lo (was.copied h lo) (c.rebuild_unit.ensures.held.moments h lo);
     }
 
 pub returns-then-not-done : goal.returns-then-not-done
 returns-then-not-done g c =
     let was = c.loop-number.invariant in
-    let named : named_out c.loop-number.core.meta.out ≡ Some c.args.disk = ap (λ (m : Meta). named_out m.out) was.meta ∙ ap named_out c.requires.fresh in
+    let named : named_out c.loop-number.core.meta.out ≡ Some c.args.disk = ap (λ (m : Meta). named_out m.out) was.meta ∙ ap named_out c.requires.can.fresh in
     record {
-      leaves = leaves_then g.R.Rack.slot_count g.R.Rack.slot g.R.Rack.told c.args.core.now c.loop-number.core c.loop-number.invariant.leaves c.rebuild_unit.new.self c.in_ok-done.ensures.leaves;
+      leaves = leaves_then g.R.Rack.slot_count g.R.Rack.slot g.R.Rack.told c.args.core.now c.loop-number.core c.loop-number.invariant.leaves c.rebuild_unit.new.self c.in_ok-done.ensures.copies.leaves;
       same = λ is. let z : Ok false ≡ Ok true = is in cc;
-      spins = λ is. let z : Ok false ≡ Ok true = is in cc;
-      gone = λ is. c.in_ok-done.ensures.gone (ap Ok c.if-not-done.true) c.args.disk named ∙ ap (λ (m : Meta). meta_after_loss m c.args.disk) was.meta;
-      failed = λ is. HasRisen-sooner _ _ _ (was.leaves.spared.no_fall c.args.disk) (c.in_ok-done.ensures.failed (ap Ok c.if-not-done.true) c.args.disk named).risen;
-      away = λ is. (c.in_ok-done.ensures.failed (ap Ok c.if-not-done.true) c.args.disk named).absent;
-      slots = c.rebuild_unit.ensures.slots ∙ c.loop-number.invariant.leaves.slots;
-      spared = spared_then (g.R.Rack.slot (store_rack c.args.core.now.store)) (g.R.Rack.slot (store_rack c.loop-number.core.store)) (g.R.Rack.slot (store_rack c.rebuild_unit.new.self.store)) c.loop-number.invariant.leaves.spared c.rebuild_unit.ensures.spared;
-      calls = data_then c.args.core.now.meta c.loop-number.core.meta was.meta (g.R.Rack.told (store_rack c.args.core.now.store)) (g.R.Rack.told (store_rack c.loop-number.core.store)) (g.R.Rack.told (store_rack c.rebuild_unit.new.self.store)) was.calls c.rebuild_unit.ensures.calls;
-      two = tt;
+      lost = λ is. record {
+        gone = c.in_ok-done.ensures.gone (ap Ok c.if-not-done.true) c.args.disk named ∙ ap (λ (m : Meta). meta_after_loss m c.args.disk) was.meta;
+        failed = HasRisen-sooner _ _ _ (was.leaves.spared.no_fall c.args.disk) (c.in_ok-done.ensures.failed (ap Ok c.if-not-done.true) c.args.disk named).risen;
+        away = (c.in_ok-done.ensures.failed (ap Ok c.if-not-done.true) c.args.disk named).absent;
+      };
+      keeps = record {
+        slots = c.rebuild_unit.ensures.copies.losses.slots ∙ c.loop-number.invariant.leaves.slots;
+        spared = spared_then (g.R.Rack.slot (store_rack c.args.core.now.store)) (g.R.Rack.slot (store_rack c.loop-number.core.store)) (g.R.Rack.slot (store_rack c.rebuild_unit.new.self.store)) c.loop-number.invariant.leaves.spared c.rebuild_unit.ensures.copies.losses.spared;
+        two = tt;
+      };
+      calls = data_then c.args.core.now.meta c.loop-number.core.meta was.meta (g.R.Rack.told (store_rack c.args.core.now.store)) (g.R.Rack.told (store_rack c.loop-number.core.store)) (g.R.Rack.told (store_rack c.rebuild_unit.new.self.store)) was.calls c.rebuild_unit.ensures.copies.calls;
       tells = tt;
       copied = λ is. let z : Ok false ≡ Ok true = is in cc;
       stands = λ h lo.
           runs_then g.R.Rack.slot_count g.R.Rack.slot g.R.Rack.told c.args.core.now c.loop-number.core was.leaves c.rebuild_unit.new.self (UnitsRebuilt g.R.Rack.slot_count c.args.core.now h lo c.args.first) (UnitsRebuilt g.R.Rack.slot_count c.loop-number.core h lo c.loop-number.number) (CoreStandsFor g.R.Rack.slot_count c.rebuild_unit.new.self h lo) h lo (was.copied h lo)
-          (c.in_ok-done.ensures.lost (ap Ok c.if-not-done.true) h lo);
-      moments = λ h lo. held_runs_then g.R.Rack.slot_count g.R.Rack.slot g.R.Rack.told c.args.core.now c.loop-number.core was.leaves c.rebuild_unit.new.self (UnitsRebuilt g.R.Rack.slot_count c.args.core.now h lo c.args.first) (UnitsRebuilt g.R.Rack.slot_count c.loop-number.core h lo c.loop-number.number) h lo (was.copied h lo) (c.rebuild_unit.ensures.moments h lo);
+          (c.in_ok-done.ensures.held.lost (ap Ok c.if-not-done.true) h lo);
+      moments = λ h lo. held_runs_then g.R.Rack.slot_count g.R.Rack.slot g.R.Rack.told c.args.core.now c.loop-number.core was.leaves c.rebuild_unit.new.self (UnitsRebuilt g.R.Rack.slot_count c.args.core.now h lo c.args.first) (UnitsRebuilt g.R.Rack.slot_count c.loop-number.core h lo c.loop-number.number) h lo (was.copied h lo) (c.rebuild_unit.ensures.held.moments h lo);
     }
 
 pub returns : goal.returns
@@ -116,15 +118,17 @@ returns g c =
     let all : c.loop-number.number ≡ c.args.end = (let low = c.requires.order in let test = c.loop-number-test.false in let end = c.loop-number.auto.number-end in omega arith) in
     record {
       leaves = was.leaves;
-      same = λ is. was.meta;
-      spins = λ is. was.spins;
-      gone = λ is. let z : Ok true ≡ Ok false = is in cc;
-      failed = λ is. let z : Ok true ≡ Ok false = is in cc;
-      away = λ is. let z : Ok true ≡ Ok false = is in cc;
-      slots = was.leaves.slots;
-      spared = was.leaves.spared;
+      same = λ is. record {
+        meta = was.meta;
+        spins = was.spins;
+      };
+      lost = λ is. let z : Ok true ≡ Ok false = is in cc;
+      keeps = record {
+        slots = was.leaves.slots;
+        spared = was.leaves.spared;
+        two = tt;
+      };
       calls = was.calls;
-      two = tt;
       tells = tt;
       copied = λ is h lo. subst (λ (z : ℕ). Ran (g.R.Rack.told (store_rack c.args.core.now.store)) (g.R.Rack.told (store_rack l.store)) (CrashTriple (IsCoreHeldSinceCommit g.R.Rack.slot_count c.args.core.now h lo) (UnitsRebuilt g.R.Rack.slot_count c.args.core.now h lo c.args.first) (UnitsRebuilt g.R.Rack.slot_count l h lo z))) all (was.copied h lo);
       stands = λ h lo.
@@ -147,14 +151,16 @@ rebuild_unit-requires g c =
     let q = c.requires in
     let was = c.loop-number.invariant in
     let l = c.loop-number.core in
-    let named : named_out l.meta.out ≡ Some c.args.disk = ap (λ (m : Meta). named_out m.out) was.meta ∙ ap named_out q.fresh in
+    let named : named_out l.meta.out ≡ Some c.args.disk = ap (λ (m : Meta). named_out m.out) was.meta ∙ ap named_out q.can.fresh in
     let back = sym was.meta in
     record {
-      ready = was.leaves.ready;
-      serves = was.leaves.serves q.serves;
-      no_draft = was.leaves.draft ∙ q.no_draft;
-      out = ap (λ (m : Meta). has_out m.out) was.meta ∙ ap has_out q.fresh;
-      back = ap (λ (m : Meta). gone_out m.out) was.meta ∙ ap gone_out q.fresh;
+      serving = record {
+        ready = was.leaves.ready;
+        serves = was.leaves.serves q.can.serving.serves;
+      };
+      no_draft = was.leaves.draft ∙ q.can.serving.draft;
+      out = ap (λ (m : Meta). has_out m.out) was.meta ∙ ap has_out q.can.fresh;
+      back = ap (λ (m : Meta). gone_out m.out) was.meta ∙ ap gone_out q.can.fresh;
       from = subst (λ (m : Meta). rebuilt_count m.out ≤ c.loop-number.number) back (reaches _ _ _ q.from was.from);
       unit = λ d is.
           subst (λ (x : ℕ). c.loop-number.number < rebuild_units l.meta.setup.geometry l.meta.gear x) (one_disk _ d c.args.disk named is)

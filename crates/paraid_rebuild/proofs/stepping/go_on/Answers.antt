@@ -14,6 +14,7 @@ use Rattle.paraid_core.specs.Cores.{CoreStandsFor, IsCoreHeldSinceCommit, core_d
 use Rattle.paraid_core.proofs.AfterLemmas.{handed}
 use Rattle.paraid_shift.specs.Serving.{RestsInShift, StandsInShift}
 use Rattle.paraid_shift.proofs.ServingLemmas.{chain, chain_held}
+use Rattle.paraid_rebuild.specs.Rebuilds.{ServesLater}
 use Rattle.paraid_rebuild.proofs.ReplacingLemmas.{two_since}
 use Rattle.paraid_event.specs.Service.{service_of}
 use Rattle.paraid_rebuild.proofs.StepEventLemmas.{steps_then, steps_within}
@@ -37,90 +38,105 @@ returns-in_err-there g c =
     let b = c.commit_staged.new.core in
     let from = c.from_residual in
     record {
-      serving = none_done _ from.result _ from.ensures.1;
-      nothing = none_done _ from.result _ from.ensures.1;
+      serves = none_done _ from.result _ from.ensures.1;
       named = none_done _ from.result _ from.ensures.1;
-      slots = c.commit_staged.ensures.slots;
-      few = none_done _ from.result _ from.ensures.1;
+      keeps = record {
+        slots = c.commit_staged.ensures.keeps.slots;
+        spared = c.commit_staged.ensures.keeps.spared;
+        two = handed _ from.result _ from.ensures.1 c.in_err-there.ensures.keeps.two;
+      };
       moved = λ is. none_done_as _ from.result _ _ from.ensures.1 is;
-      spins = λ is. none_done_as _ from.result _ _ from.ensures.1 is;
-      gone = λ is. none_done_as _ from.result _ _ from.ensures.1 is;
-      failed = λ is. none_done_as _ from.result _ _ from.ensures.1 is;
-      away = λ is. none_done_as _ from.result _ _ from.ensures.1 is;
-      table = none_done _ from.result _ from.ensures.1;
-      spared = c.commit_staged.ensures.spared;
-      two = handed _ from.result _ from.ensures.1 c.in_err-there.ensures.two;
+      lost = λ is. none_done_as _ from.result _ _ from.ensures.1 is;
       moments = c.commit_staged.ensures.moments;
       stands = none_done _ from.result _ from.ensures.1;
       rests = λ is. none_done_as _ from.result _ _ from.ensures.1 is;
-      event = none_done _ from.result _ from.ensures.1;
-      loses =
-          handed (LosesSteps g.R.Rack.slot_count g.R.Rack.told a b 2) from.result _ from.ensures.1
-          (λ samples served energy h lo. lost_within (g.R.Rack.told (store_rack a.store)) (g.R.Rack.told (store_rack b.store)) (service_of g.R.Rack.slot_count a samples served energy) h lo _ 1 2 (omega arith)
-          (c.in_err-there.ensures.loses samples served energy h lo));
+      in_event = record {
+        event = none_done _ from.result _ from.ensures.1;
+        loses =
+            handed (LosesSteps g.R.Rack.slot_count g.R.Rack.told a b 2) from.result _ from.ensures.1
+            (λ samples served energy h lo. lost_within (g.R.Rack.told (store_rack a.store)) (g.R.Rack.told (store_rack b.store)) (service_of g.R.Rack.slot_count a samples served energy) h lo _ 1 2 (omega arith)
+            (c.in_err-there.ensures.in_event.loses samples served energy h lo));
+      };
     }
 
 pub returns-then-not-there : goal.returns-then-not-there
 returns-then-not-there g c =
-    let one = c.in_ok-there.ensures.few in
+    let one = c.in_ok-there.ensures.serves.few in
     let a = c.args.core.now in
     let b = c.commit_staged.new.core in
-    let e = c.in_ok-there.ensures.gone (ap Ok c.if-not-there.true) in
+    let e = (c.in_ok-there.ensures.lost (ap Ok c.if-not-there.true)).gone in
     record {
-      serving = c.in_ok-there.ensures.serving;
-      nothing = c.in_ok-there.ensures.nothing;
+      serves = record {
+        serving = c.in_ok-there.ensures.serves.serving;
+        nothing = c.in_ok-there.ensures.serves.nothing;
+        few = omega arith;
+        table = c.commit_staged.ensures.table;
+      };
       named = c.in_ok-there.ensures.named;
-      slots = c.commit_staged.ensures.slots;
-      few = omega arith;
+      keeps = record {
+        slots = c.commit_staged.ensures.keeps.slots;
+        spared = c.commit_staged.ensures.keeps.spared;
+        two = tt;
+      };
       moved = λ is. let z : Ok false ≡ Ok true = is in cc;
-      spins = λ is. let z : Ok false ≡ Ok true = is in cc;
-      gone = λ is. e ∙ ap (λ (x : ℕ). record (meta_after_loss a.meta c.args.disk) { epoch = x }) (sym (ap (λ (m : Meta). m.epoch) e));
-      failed = λ is. c.in_ok-there.ensures.failed (ap Ok c.if-not-there.true);
-      away = λ is. c.in_ok-there.ensures.away (ap Ok c.if-not-there.true);
-      table = c.commit_staged.ensures.table;
-      spared = c.commit_staged.ensures.spared;
-      two = tt;
+      lost = λ is. record {
+        gone = e ∙ ap (λ (x : ℕ). record (meta_after_loss a.meta c.args.disk) { epoch = x }) (sym (ap (λ (m : Meta). m.epoch) e));
+        failed = (c.in_ok-there.ensures.lost (ap Ok c.if-not-there.true)).failed;
+        away = (c.in_ok-there.ensures.lost (ap Ok c.if-not-there.true)).away;
+      };
       moments = c.commit_staged.ensures.moments;
-      stands = λ h lo. weaker (IsCoreHeldSinceCommit g.R.Rack.slot_count a h lo) (StandsInShift g.R.Rack.slot_count a h lo) (StandsInShift g.R.Rack.slot_count a h lo) (RestsInShift g.R.Rack.slot_count b h lo) (CoreStandsFor g.R.Rack.slot_count b h lo) _ _ (λ s k. k) (λ s kf. subst (λ (z : Batch). HoldsBetweenCalls (g.R.Rack.slot_count (store_rack b.store)) (named_of b.store) b.meta b.dirty z b.copied h lo s) (sym c.in_ok-there.ensures.nothing) kf.keeps) (c.in_ok-there.ensures.rests h lo);
+      stands = λ h lo. weaker (IsCoreHeldSinceCommit g.R.Rack.slot_count a h lo) (StandsInShift g.R.Rack.slot_count a h lo) (StandsInShift g.R.Rack.slot_count a h lo) (RestsInShift g.R.Rack.slot_count b h lo) (CoreStandsFor g.R.Rack.slot_count b h lo) _ _ (λ s k. k) (λ s kf. subst (λ (z : Batch). HoldsBetweenCalls (g.R.Rack.slot_count (store_rack b.store)) (named_of b.store) b.meta b.dirty z b.copied h lo s) (sym c.in_ok-there.ensures.serves.nothing) kf.keeps) (c.in_ok-there.ensures.rests h lo);
       rests = λ is. let z : Ok false ≡ Ok true = is in cc;
-      event = λ samples served energy h lo.
-          steps_within (g.R.Rack.told (store_rack a.store)) (g.R.Rack.told (store_rack b.store)) (service_of g.R.Rack.slot_count a samples served energy) (service_of g.R.Rack.slot_count b samples served energy) h lo 1 2 (omega arith)
-          (c.in_ok-there.ensures.event samples served energy h lo);
-      loses = tt;
+      in_event = record {
+        event = λ samples served energy h lo.
+            steps_within (g.R.Rack.told (store_rack a.store)) (g.R.Rack.told (store_rack b.store)) (service_of g.R.Rack.slot_count a samples served energy) (service_of g.R.Rack.slot_count b samples served energy) h lo 1 2 (omega arith)
+            (c.in_ok-there.ensures.in_event.event samples served energy h lo);
+        loses = tt;
+      };
     }
 
 pub returns : goal.returns
 returns g c =
-    let one = c.in_ok-there.ensures.few in
+    let one = c.in_ok-there.ensures.serves.few in
     let a = c.args.core.now in
     let b = c.commit_staged.new.core in
     let new = c.advance.new.core in
-    let same = c.in_ok-there.ensures.same (ap Ok c.if-not-there.false) in
+    let same = (c.in_ok-there.ensures.same (ap Ok c.if-not-there.false)).meta in
     let setup = ap (λ (m : Meta). m.setup) same in
-    let named : named_of b.store ≡ named_of a.store = c.in_ok-there.ensures.named ∙ sym c.requires.named in
-    let down : core_down b ≡ core_down a = ap (λ (o : Option ℕ). or_else o (named_out b.meta.out)) c.in_ok-there.ensures.named ∙ sym (ap (λ (o : Option ℕ). or_else o (named_out a.meta.out)) c.requires.named) in
+    let named : named_of b.store ≡ named_of a.store = c.in_ok-there.ensures.named ∙ sym c.requires.can.named in
+    let down : core_down b ≡ core_down a = ap (λ (o : Option ℕ). or_else o (named_out b.meta.out)) c.in_ok-there.ensures.named ∙ sym (ap (λ (o : Option ℕ). or_else o (named_out a.meta.out)) c.requires.can.named) in
     record {
-      serving = c.advance.ensures.serving;
-      nothing = c.advance.ensures.nothing;
+      serves = on_map {Y = ServesLater a new 2} _ c.advance.ensures.serves (λ it. record {
+        serving = it.serving;
+        nothing = it.nothing;
+        few = two_later a.meta.epoch b.meta.epoch new.meta.epoch one it.few;
+        table = it.table ∙ c.commit_staged.ensures.table;
+      });
       named = c.advance.ensures.named;
-      slots = c.advance.ensures.slots ∙ c.commit_staged.ensures.slots;
-      few = on_map _ c.advance.ensures.few (λ it. two_later a.meta.epoch b.meta.epoch new.meta.epoch one it);
-      moved = λ is. c.advance.ensures.moved is ∙ ap (λ (m : Meta). record m { epoch = new.meta.epoch; out = Fresh c.args.disk c.args.end }) same;
-      spins = c.advance.ensures.spins;
-      gone = λ is. c.advance.ensures.gone is ∙ ap (λ (m : Meta). record (meta_after_loss m c.args.disk) { epoch = new.meta.epoch }) same;
-      failed = λ is. HasRisen-sooner _ _ _ (c.commit_staged.ensures.spared.no_fall c.args.disk) (c.advance.ensures.failed is);
-      away = c.advance.ensures.away;
-      table = on_map {X = new.dirty ≡ b.dirty} {Y = new.dirty ≡ a.dirty} _ c.advance.ensures.table (λ it. it ∙ c.commit_staged.ensures.table);
-      spared = spared_then (g.R.Rack.slot (store_rack a.store)) (g.R.Rack.slot (store_rack b.store)) (g.R.Rack.slot (store_rack c.advance.new.core.store)) c.commit_staged.ensures.spared c.advance.ensures.spared;
-      two = err_map _ c.advance.ensures.two (λ two it. (two_since (core_down a) (core_down b) (g.R.Rack.slot (store_rack a.store)) (g.R.Rack.slot (store_rack b.store)) (g.R.Rack.slot (store_rack new.store)) _ down c.commit_staged.ensures.spared.no_fall it));
-      moments = λ h lo. chain_held g.R.Rack.slot_count g.R.Rack.told a b c.commit_staged.ensures.slots setup named (StandsInShift g.R.Rack.slot_count a h lo) (RestsInShift g.R.Rack.slot_count b h lo) h lo _ (c.in_ok-there.ensures.rests h lo) (c.advance.ensures.moments h lo);
-      stands = on_map {Y = (h : History) (lo : ℕ) → Ran (g.R.Rack.told (store_rack a.store)) (g.R.Rack.told (store_rack new.store)) (CrashTriple (IsCoreHeldSinceCommit g.R.Rack.slot_count a h lo) (StandsInShift g.R.Rack.slot_count a h lo) (CoreStandsFor g.R.Rack.slot_count new h lo))} _ c.advance.ensures.stands (λ it. λ h lo. chain g.R.Rack.slot_count g.R.Rack.told a b c.commit_staged.ensures.slots setup named (StandsInShift g.R.Rack.slot_count a h lo) (RestsInShift g.R.Rack.slot_count b h lo) (CoreStandsFor g.R.Rack.slot_count new h lo) h lo _ (c.in_ok-there.ensures.rests h lo) (it h lo));
-      rests = λ is h lo. chain g.R.Rack.slot_count g.R.Rack.told a b c.commit_staged.ensures.slots setup named (StandsInShift g.R.Rack.slot_count a h lo) (RestsInShift g.R.Rack.slot_count b h lo) (RestsInShift g.R.Rack.slot_count new h lo) h lo _ (c.in_ok-there.ensures.rests h lo) (c.advance.ensures.rests is h lo);
-      event = on_map {Y = (samples : List ℕ) (served energy : ℕ) (h : History) (lo : ℕ) → Ran (g.R.Rack.told (store_rack a.store)) (g.R.Rack.told (store_rack new.store)) (StepsInEvent (service_of g.R.Rack.slot_count a samples served energy) (service_of g.R.Rack.slot_count new samples served energy) h lo 2)} _ c.advance.ensures.event (λ it. λ samples served energy h lo.
-          steps_then (g.R.Rack.told (store_rack a.store)) (g.R.Rack.told (store_rack b.store)) (g.R.Rack.told (store_rack new.store)) (service_of g.R.Rack.slot_count a samples served energy) (service_of g.R.Rack.slot_count b samples served energy)
-          (service_of g.R.Rack.slot_count new samples served energy) h lo 1 1 (c.in_ok-there.ensures.event samples served energy h lo) (it samples served energy h lo));
-      loses = err_map {Q = LosesSteps g.R.Rack.slot_count g.R.Rack.told a new 2} _ c.advance.ensures.loses (λ two it. (λ samples served energy h lo. lost_then (g.R.Rack.told (store_rack a.store)) (g.R.Rack.told (store_rack b.store)) (g.R.Rack.told (store_rack new.store)) (service_of g.R.Rack.slot_count a samples served energy) (service_of g.R.Rack.slot_count b samples served energy)
-          h lo 1 1 _ (c.in_ok-there.ensures.event samples served energy h lo) (it samples served energy h lo)));
+      keeps = record {
+        slots = c.advance.ensures.keeps.slots ∙ c.commit_staged.ensures.keeps.slots;
+        spared = spared_then (g.R.Rack.slot (store_rack a.store)) (g.R.Rack.slot (store_rack b.store)) (g.R.Rack.slot (store_rack c.advance.new.core.store)) c.commit_staged.ensures.keeps.spared c.advance.ensures.keeps.spared;
+        two = err_map _ c.advance.ensures.keeps.two (λ two it. (two_since (core_down a) (core_down b) (g.R.Rack.slot (store_rack a.store)) (g.R.Rack.slot (store_rack b.store)) (g.R.Rack.slot (store_rack new.store)) _ down c.commit_staged.ensures.keeps.spared.no_fall it));
+      };
+      moved = λ is. record {
+        meta = (c.advance.ensures.moved is).meta ∙ ap (λ (m : Meta). record m { epoch = new.meta.epoch; out = Fresh c.args.disk c.args.end }) same;
+        spins = (c.advance.ensures.moved is).spins;
+      };
+      lost = λ is. record {
+        gone = (c.advance.ensures.lost is).gone ∙ ap (λ (m : Meta). record (meta_after_loss m c.args.disk) { epoch = new.meta.epoch }) same;
+        failed = HasRisen-sooner _ _ _ (c.commit_staged.ensures.keeps.spared.no_fall c.args.disk) ((c.advance.ensures.lost is).failed);
+        away = (c.advance.ensures.lost is).away;
+      };
+      moments = λ h lo. chain_held g.R.Rack.slot_count g.R.Rack.told a b c.commit_staged.ensures.keeps.slots setup named (StandsInShift g.R.Rack.slot_count a h lo) (RestsInShift g.R.Rack.slot_count b h lo) h lo _ (c.in_ok-there.ensures.rests h lo) (c.advance.ensures.stops.moments h lo);
+      stands = on_map {Y = (h : History) (lo : ℕ) → Ran (g.R.Rack.told (store_rack a.store)) (g.R.Rack.told (store_rack new.store)) (CrashTriple (IsCoreHeldSinceCommit g.R.Rack.slot_count a h lo) (StandsInShift g.R.Rack.slot_count a h lo) (CoreStandsFor g.R.Rack.slot_count new h lo))} _ c.advance.ensures.stops.stands (λ it. λ h lo. chain g.R.Rack.slot_count g.R.Rack.told a b c.commit_staged.ensures.keeps.slots setup named (StandsInShift g.R.Rack.slot_count a h lo) (RestsInShift g.R.Rack.slot_count b h lo) (CoreStandsFor g.R.Rack.slot_count new h lo) h lo _ (c.in_ok-there.ensures.rests h lo) (it h lo));
+      rests = λ is h lo. chain g.R.Rack.slot_count g.R.Rack.told a b c.commit_staged.ensures.keeps.slots setup named (StandsInShift g.R.Rack.slot_count a h lo) (RestsInShift g.R.Rack.slot_count b h lo) (RestsInShift g.R.Rack.slot_count new h lo) h lo _ (c.in_ok-there.ensures.rests h lo) (c.advance.ensures.stops.rests is h lo);
+      in_event = record {
+        event = on_map {Y = (samples : List ℕ) (served energy : ℕ) (h : History) (lo : ℕ) → Ran (g.R.Rack.told (store_rack a.store)) (g.R.Rack.told (store_rack new.store)) (StepsInEvent (service_of g.R.Rack.slot_count a samples served energy) (service_of g.R.Rack.slot_count new samples served energy) h lo 2)} _ c.advance.ensures.in_event.event (λ it. λ samples served energy h lo.
+            steps_then (g.R.Rack.told (store_rack a.store)) (g.R.Rack.told (store_rack b.store)) (g.R.Rack.told (store_rack new.store)) (service_of g.R.Rack.slot_count a samples served energy) (service_of g.R.Rack.slot_count b samples served energy)
+            (service_of g.R.Rack.slot_count new samples served energy) h lo 1 1 (c.in_ok-there.ensures.in_event.event samples served energy h lo) (it samples served energy h lo));
+        loses = err_map {Q = LosesSteps g.R.Rack.slot_count g.R.Rack.told a new 2} _ c.advance.ensures.in_event.loses (λ two it. (λ samples served energy h lo. lost_then (g.R.Rack.told (store_rack a.store)) (g.R.Rack.told (store_rack b.store)) (g.R.Rack.told (store_rack new.store)) (service_of g.R.Rack.slot_count a samples served energy) (service_of g.R.Rack.slot_count b samples served energy)
+            h lo 1 1 _ (c.in_ok-there.ensures.in_event.event samples served energy h lo) (it samples served energy h lo)));
+      };
     }
 
 room : (a top : ℕ) → a + 1 < top → a < top
@@ -132,7 +148,7 @@ room_then a b top few low = omega arith
 pub commit_staged-requires : goal.commit_staged-requires
 commit_staged-requires g c =
     let q = c.requires in
-    record { serving = q.serving; fresh = q.fresh; named = q.named; spins = q.spins; epoch = room _ _ q.epoch }
+    record { can = q.can; epoch = room _ _ q.epoch }
 
 pub advance-requires : goal.advance-requires
 advance-requires g c =
@@ -140,14 +156,16 @@ advance-requires g c =
     let done = c.in_ok-there.ensures in
     let a = c.args.core.now in
     let b = c.commit_staged.new.core in
-    let back : record a.meta { epoch = b.meta.epoch } ≡ b.meta = sym (done.same (ap Ok c.if-not-there.false)) in
+    let back : record a.meta { epoch = b.meta.epoch } ≡ b.meta = sym ((done.same (ap Ok c.if-not-there.false)).meta) in
     record {
-      serving = done.serving;
-      nothing = done.nothing;
-      fresh = subst (λ (m : Meta). IsRebuilding m c.args.disk) back q.fresh;
-      named = done.named;
-      spins = done.spins (ap Ok c.if-not-there.false);
+      can = record {
+        serving = done.serves.serving;
+        fresh = subst (λ (m : Meta). IsRebuilding m c.args.disk) back q.can.fresh;
+        named = done.named;
+        spins = (done.same (ap Ok c.if-not-there.false)).spins;
+      };
+      nothing = done.serves.nothing;
       from = subst (λ (m : Meta). rebuilt_count m.out ≤ c.args.end) back q.from;
       limit = subst (λ (m : Meta). c.args.end ≤ rebuild_units m.setup.geometry m.gear c.args.disk) back q.limit;
-      epoch = room_then a.meta.epoch b.meta.epoch _ done.few q.epoch;
+      epoch = room_then a.meta.epoch b.meta.epoch _ done.serves.few q.epoch;
     }

@@ -1,15 +1,14 @@
 use Rattle.std.specs.Prelude.{true, false}
 use Rattle.std.specs.Prelude.{◌≡◌, ◌≤◌, ℕ, Option, Some, None, Ok, is_ok}
-use Rattle.paraid_rack.specs.Told.{Ran}
-use Rattle.paraid_txn.specs.Losses.{AreFailedOrWell, OnlyLosesSlots}
-use Rattle.paraid_txn.specs.Uses.{EachCall, UsesLog}
+use Rattle.paraid_txn.specs.Uses.{UsesLog}
 use Rattle.std.proofs.Common.{refl, sym, ◌∙◌, ap, subst, arith, inl, inr}
 use Rattle.paraid_rack.specs.declared.call.Power.TheVariants.{Absent, Spinning}
 use Rattle.paraid_rack.specs.Disks.{Disks, is_present}
 use Rattle.paraid_rack.specs.Slots.{Slot}
 use Rattle.paraid_rack.specs.Trail.{Trail, now}
 use Rattle.paraid_recover.specs.declared.hearing.Heard.{Heard}
-use Rattle.paraid_recover.specs.HeardSides.{AtMost, IsHeardAt, IsHeardBy, IsInForm, ReadsLogs, gone_pair}
+use Rattle.paraid_recover.specs.Steps.{HasReadLogs}
+use Rattle.paraid_recover.specs.HeardSides.{IsHeardAt, IsHeardBy, IsInForm, ReadsLogs, gone_pair}
 use Rattle.paraid_recover.specs.HeardSides.IsOneLost.{none, one}
 use Rattle.paraid_recover.proofs.BothLemmas.{both_lost, both_read, first_lost, heard_kept, if_ok_is, losing_now, one_of_two, second_lost}
 use Rattle.paraid_recover.proofs.UnchangedLemmas.{unchanged_now}
@@ -32,12 +31,7 @@ hear_if_there-second-requires g c =
 
 -- what both reads leave
 record Leaves (g : Over) (c : After-hear_if_there-second g) : Type 0 where
-  slots : g.R.Rack.slot_count c.hear_if_there-second.new.rack ≡ g.R.Rack.slot_count c.args.rack.now
-  powers : OnlyLosesSlots (g.R.Rack.slot c.args.rack.now) (g.R.Rack.slot c.hear_if_there-second.new.rack)
-  each : AreFailedOrWell (g.R.Rack.slot c.args.rack.now) (g.R.Rack.slot c.hear_if_there-second.new.rack)
-  calls : Ran (g.R.Rack.told c.args.rack.now) (g.R.Rack.told c.hear_if_there-second.new.rack) (EachCall (UsesLog None))
-  reads : Ran (g.R.Rack.told c.args.rack.now) (g.R.Rack.told c.hear_if_there-second.new.rack) (EachCall ReadsLogs)
-  few : Ran (g.R.Rack.told c.args.rack.now) (g.R.Rack.told c.hear_if_there-second.new.rack) (AtMost 198)
+  both : HasReadLogs g.R.Rack c.args.rack.now c.hear_if_there-second.new.rack
   -- log disk 1 is as it was until it is read, and log disk 0 then
   kept : g.R.Rack.slot c.hear_if_there-first.new.rack 1 ≡ g.R.Rack.slot c.args.rack.now 1
   after : g.R.Rack.slot c.hear_if_there-second.new.rack 0 ≡ g.R.Rack.slot c.hear_if_there-first.new.rack 0
@@ -50,12 +44,14 @@ leaves g c =
     let one = heard_spared _ _ 0 (is_ok c.hear_if_there-first.result) f.same f.others f.failed in
     let two = heard_spared _ _ 1 (is_ok c.hear_if_there-second.result) s.same s.others s.failed in
     record {
-      slots = s.slots ∙ f.slots;
-      powers = spared_then one two;
-      each = each_then one two (heard_each _ _ 0 (is_ok c.hear_if_there-first.result) f.same f.others f.failed) (heard_each _ _ 1 (is_ok c.hear_if_there-second.result) s.same s.others s.failed);
-      calls = calls_then (UsesLog None) (uses_calls (omega arith) f.calls) (uses_calls (omega arith) s.calls);
-      reads = calls_then ReadsLogs (logs_calls (omega arith) f.calls) (logs_calls (omega arith) s.calls);
-      few = most_then 99 99 198 (omega arith) f.few s.few;
+      both = record {
+        slots = s.slots ∙ f.slots;
+        powers = spared_then one two;
+        each = each_then one two (heard_each _ _ 0 (is_ok c.hear_if_there-first.result) f.same f.others f.failed) (heard_each _ _ 1 (is_ok c.hear_if_there-second.result) s.same s.others s.failed);
+        reads = calls_then ReadsLogs (logs_calls (omega arith) f.calls) (logs_calls (omega arith) s.calls);
+        few = most_then 99 99 198 (omega arith) f.few s.few;
+        calls = calls_then (UsesLog None) (uses_calls (omega arith) f.calls) (uses_calls (omega arith) s.calls);
+      };
       kept = f.others 1 (λ e. omega arith);
       after = s.others 0 (λ e. omega arith);
       others = λ d high. s.others d (λ is. omega arith) ∙ f.others d (λ is. omega arith);
@@ -74,26 +70,25 @@ returns-in-Ok-Some g c =
     let power : IsHeardBy (Some c.in-Ok-Some.second) (new 1).power =
     subst (λ (h : Option Heard). IsHeardBy h (new 1).power) some (if_ok_is (λ (h : Option Heard). IsHeardBy h (new 1).power) c.hear_if_there-second.result _ c.in-Ok-Some.is c.hear_if_there-second.ensures.power) in
     record {
-      slots = left.slots;
-      reads = left.reads;
-      few = left.few;
-      powers = left.powers;
-      each = left.each;
-      calls = left.calls;
+      leaves = left.both;
+      first = record {
+        told = λ t tells. ap is_present ((g.met.R.Rack.agrees _ t tells).power 0 ∙ ap (λ (s : Slot). s.power) left.after ∙ (first.reads.failed (refl {a = false})).gone);
+        form = tt;
+        power = ap (λ (s : Slot). s.power) left.after ∙ (first.reads.failed (refl {a = false})).gone;
+      };
+      second = record {
+        told = λ t tells.
+            subst (λ (h : Option Heard). IsHeardAt (now t) 1 h b) some
+            (if_ok_is (λ (h : Option Heard). (t : Trail) → g.R.Rack.told c.hear_if_there-second.new.rack ≡ Some t → IsHeardAt (now t) 1 h b) c.hear_if_there-second.result _ c.in-Ok-Some.is c.hear_if_there-second.ensures.heard t tells);
+        form =
+            subst (λ (h : Option Heard). IsInForm h b) some
+            (if_ok_is (λ (h : Option Heard). IsInForm h b) c.hear_if_there-second.result _ c.in-Ok-Some.is c.hear_if_there-second.ensures.form);
+        power = power;
+      };
       both = tt;
       two = tt;
       cause = tt;
       refused = tt;
-      first = λ t tells. ap is_present ((g.met.R.Rack.agrees _ t tells).power 0 ∙ ap (λ (s : Slot). s.power) left.after ∙ (first.reads.failed (refl {a = false})).gone);
-      second = λ t tells.
-          subst (λ (h : Option Heard). IsHeardAt (now t) 1 h b) some
-          (if_ok_is (λ (h : Option Heard). (t : Trail) → g.R.Rack.told c.hear_if_there-second.new.rack ≡ Some t → IsHeardAt (now t) 1 h b) c.hear_if_there-second.result _ c.in-Ok-Some.is c.hear_if_there-second.ensures.heard t tells);
-      first_form = tt;
-      second_form =
-          subst (λ (h : Option Heard). IsInForm h b) some
-          (if_ok_is (λ (h : Option Heard). IsInForm h b) c.hear_if_there-second.result _ c.in-Ok-Some.is c.hear_if_there-second.ensures.form);
-      first_power = ap (λ (s : Slot). s.power) left.after ∙ (first.reads.failed (refl {a = false})).gone;
-      second_power = power;
       one = one 0 (omega arith) first.was (failed_before left.after (first.reads.failed (refl {a = false})))
           (λ d not. c.hear_if_there-second.ensures.reads.same ok d ∙ c.hear_if_there-first.ensures.reads.others d not) power;
       moments = first_lost (first.reads.lost (refl {a = false})) (c.hear_if_there-second.ensures.reads.unchanged ok);
@@ -112,18 +107,9 @@ returns-in-Ok-None g c =
     let pair = c.gone_pair.ensures ∙ ap gone_pair c.power-power.ensures in
     let failed = failed_before left.after (first.reads.failed (refl {a = false})) in
     record {
-      slots = left.slots;
-      reads = left.reads;
-      few = left.few;
-      powers = left.powers;
-      each = left.each;
-      calls = left.calls;
+      leaves = left.both;
       first = tt;
       second = tt;
-      first_form = tt;
-      second_form = tt;
-      first_power = tt;
-      second_power = tt;
       one = tt;
       moments = tt;
       both = lost_beside old new _ pair gone first.was failed (c.hear_if_there-second.ensures.reads.same ok 1 ∙ left.kept) left.others;
@@ -144,18 +130,9 @@ returns-in-Err g c =
     let failed_0 = failed_before left.after (first.reads.failed (refl {a = false})) in
     let failed_1 = failed_at left.kept (second.reads.failed (refl {a = false})) in
     record {
-      slots = left.slots;
-      reads = left.reads;
-      few = left.few;
-      powers = left.powers;
-      each = left.each;
-      calls = left.calls;
+      leaves = left.both;
       first = tt;
       second = tt;
-      first_form = tt;
-      second_form = tt;
-      first_power = tt;
-      second_power = tt;
       one = tt;
       moments = tt;
       both = lost_both old new _ pair spins (inr (first.was, failed_0)) failed_1 failed_0.gone left.others;
@@ -176,25 +153,24 @@ returns-in-Some g c =
     let power : IsHeardBy (Some c.in-Some.first) (g.R.Rack.slot c.hear_if_there-first.new.rack 0).power =
     subst (λ (h : Option Heard). IsHeardBy h (g.R.Rack.slot c.hear_if_there-first.new.rack 0).power) c.in-Some.is first.power in
     record {
-      slots = left.slots;
-      reads = left.reads;
-      few = left.few;
-      powers = left.powers;
-      each = left.each;
-      calls = left.calls;
+      leaves = left.both;
+      first = record {
+        told = λ t tells.
+            let l = losing_now 1 (second.reads.lost (refl {a = false})) t tells in
+            let was = subst (λ (h : Option Heard). IsHeardAt (now l.0) 0 h b) c.in-Some.is (first.heard l.0 l.1) in
+            subst (λ (u : Disks). IsHeardAt u 0 (Some c.in-Some.first) b) (sym l.2) (heard_kept (now l.0) 1 0 (λ e. omega arith) (Some c.in-Some.first) b was);
+        form = subst (λ (h : Option Heard). IsInForm h b) c.in-Some.is first.form;
+        power = ap (λ (s : Slot). s.power) left.after ∙ power;
+      };
+      second = record {
+        told = λ t tells. ap is_present ((g.met.R.Rack.agrees _ t tells).power 1 ∙ (second.reads.failed (refl {a = false})).gone);
+        form = tt;
+        power = (second.reads.failed (refl {a = false})).gone;
+      };
       both = tt;
       two = tt;
       cause = tt;
       refused = tt;
-      first = λ t tells.
-          let l = losing_now 1 (second.reads.lost (refl {a = false})) t tells in
-          let was = subst (λ (h : Option Heard). IsHeardAt (now l.0) 0 h b) c.in-Some.is (first.heard l.0 l.1) in
-          subst (λ (u : Disks). IsHeardAt u 0 (Some c.in-Some.first) b) (sym l.2) (heard_kept (now l.0) 1 0 (λ e. omega arith) (Some c.in-Some.first) b was);
-      second = λ t tells. ap is_present ((g.met.R.Rack.agrees _ t tells).power 1 ∙ (second.reads.failed (refl {a = false})).gone);
-      first_form = subst (λ (h : Option Heard). IsInForm h b) c.in-Some.is first.form;
-      second_form = tt;
-      first_power = ap (λ (s : Slot). s.power) left.after ∙ power;
-      second_power = (second.reads.failed (refl {a = false})).gone;
       one = one 1 (omega arith) (ap (λ (s : Slot). s.power) (sym left.kept) ∙ second.was) (failed_after (first.reads.same (refl {a = true})) (second.reads.failed (refl {a = false})))
           (λ d not. c.hear_if_there-second.ensures.reads.others d not ∙ first.reads.same (refl {a = true}) d) (ap (λ (s : Slot). s.power) left.after ∙ power);
       moments = second_lost (first.reads.unchanged (refl {a = true})) (second.reads.lost (refl {a = false}));
@@ -212,18 +188,9 @@ returns-in-None g c =
     let gone : (old 0).power ≡ Absent = c.hear_if_there-first.ensures.silent (c.in-Ok.is ∙ ap Ok c.in-None.is) in
     let failed = failed_at left.kept (second.reads.failed (refl {a = false})) in
     record {
-      slots = left.slots;
-      reads = left.reads;
-      few = left.few;
-      powers = left.powers;
-      each = left.each;
-      calls = left.calls;
+      leaves = left.both;
       first = tt;
       second = tt;
-      first_form = tt;
-      second_form = tt;
-      first_power = tt;
-      second_power = tt;
       one = tt;
       moments = tt;
       both = lost_both old new _ pair spins (inl gone) failed (ap (λ (s : Slot). s.power) (left.after ∙ first.reads.same (refl {a = true}) 0) ∙ gone) left.others;
@@ -241,24 +208,23 @@ returns g c =
     let first = c.in-Ok.ensures in
     let second = c.in-Ok-second.ensures in
     record {
-      slots = left.slots;
-      reads = left.reads;
-      few = left.few;
-      powers = left.powers;
-      each = left.each;
-      calls = left.calls;
+      leaves = left.both;
+      first = record {
+        told = λ t tells.
+            let u = unchanged_now (second.reads.unchanged (refl {a = true})) t tells in
+            subst (λ (s : Disks). IsHeardAt s 0 c.in-Ok.first c.hear_if_there-first.new.batch) (sym u.2) (first.heard u.0 u.1);
+        form = first.form;
+        power = subst (λ (s : Slot). IsHeardBy c.in-Ok.first s.power) (sym left.after) first.power;
+      };
+      second = record {
+        told = second.heard;
+        form = second.form;
+        power = second.power;
+      };
       both = tt;
       two = tt;
       cause = tt;
       refused = tt;
-      first = λ t tells.
-          let u = unchanged_now (second.reads.unchanged (refl {a = true})) t tells in
-          subst (λ (s : Disks). IsHeardAt s 0 c.in-Ok.first c.hear_if_there-first.new.batch) (sym u.2) (first.heard u.0 u.1);
-      second = second.heard;
-      first_form = first.form;
-      second_form = second.form;
-      first_power = subst (λ (s : Slot). IsHeardBy c.in-Ok.first s.power) (sym left.after) first.power;
-      second_power = second.power;
       one = none (λ d. second.reads.same (refl {a = true}) d ∙ first.reads.same (refl {a = true}) d);
       moments = both_read (first.reads.unchanged (refl {a = true})) (second.reads.unchanged (refl {a = true}));
     }

@@ -23,11 +23,11 @@ use Rattle.paraid_recover.proofs.examining.examine.Goals.{After-judge}
 
 pub returns-in-Err : goal.returns-in-Err
 returns-in-Err g c = record {
-  slots = c.hear_both.ensures.slots;
-  powers = c.hear_both.ensures.powers;
-  each = c.hear_both.ensures.each;
-  calls = c.hear_both.ensures.reads;
-  few = c.hear_both.ensures.few;
+  slots = c.hear_both.ensures.leaves.slots;
+  powers = c.hear_both.ensures.leaves.powers;
+  each = c.hear_both.ensures.leaves.each;
+  calls = c.hear_both.ensures.leaves.reads;
+  few = c.hear_both.ensures.leaves.few;
   quiet = c.in-Err.ensures.refused;
   one = tt;
   refused = by_loss c.in_default.ensures c.in-Err.two c.in-Err.ensures.both refl;
@@ -43,12 +43,12 @@ logs g c = logs_of c.in-Ok.sides c.hear_both.new.first_batch c.hear_both.new.sec
 
 are : (g : Over) (c : After-judge g) → AreHeard (g.R.Rack.told c.hear_both.new.rack) (g.R.Rack.slot c.hear_both.new.rack) (logs g c)
 are g c = record {
-  first = c.in-Ok.ensures.first;
-  second = c.in-Ok.ensures.second;
-  first_power = c.in-Ok.ensures.first_power;
-  second_power = c.in-Ok.ensures.second_power;
-  first_form = c.in-Ok.ensures.first_form;
-  second_form = c.in-Ok.ensures.second_form;
+  first = c.in-Ok.ensures.first.told;
+  second = c.in-Ok.ensures.second.told;
+  first_power = c.in-Ok.ensures.first.power;
+  second_power = c.in-Ok.ensures.second.power;
+  first_form = c.in-Ok.ensures.first.form;
+  second_form = c.in-Ok.ensures.second.form;
 }
 
 refused : (g : Over) (c : After-judge g) → IfErr c.judge.result
@@ -56,15 +56,15 @@ refused : (g : Over) (c : After-judge g) → IfErr c.judge.result
 refused g c =
     IfErr-weaker c.judge.result _ _ (λ fault is.
     as_heard c.in_default.ensures c.in-Ok.ensures.one (logs g c) (are g c)
-    (subst (λ (n : ℕ). IsRefusedAsHeard n (g.R.Rack.slot c.hear_both.new.rack) (logs g c) fault) c.in-Ok.ensures.slots is)) c.judge.ensures.err
+    (subst (λ (n : ℕ). IsRefusedAsHeard n (g.R.Rack.slot c.hear_both.new.rack) (logs g c) fault) c.in-Ok.ensures.leaves.slots is)) c.judge.ensures.err
 
 pub returns : goal.returns
 returns g c = record {
-  slots = c.hear_both.ensures.slots;
-  powers = c.hear_both.ensures.powers;
-  each = c.hear_both.ensures.each;
-  calls = c.hear_both.ensures.reads;
-  few = c.hear_both.ensures.few;
+  slots = c.hear_both.ensures.leaves.slots;
+  powers = c.hear_both.ensures.leaves.powers;
+  each = c.hear_both.ensures.leaves.each;
+  calls = c.hear_both.ensures.leaves.reads;
+  few = c.hear_both.ensures.leaves.few;
   quiet = one_of_two c.in-Ok.ensures.moments;
   one = on_ok_any c.judge.result c.in-Ok.ensures.moments;
   refused = refused g c;
@@ -74,7 +74,7 @@ returns g c = record {
         lost = c.in-Ok.ensures.one;
         logs = logs g c;
         heard = are g c;
-        served = subst (λ (n : ℕ). IsServedAsHeard n (g.R.Rack.slot c.hear_both.new.rack) (logs g c) it.side (log_state it.gate_open it.meta c.judge.new.batch)) c.in-Ok.ensures.slots is;
+        served = subst (λ (n : ℕ). IsServedAsHeard n (g.R.Rack.slot c.hear_both.new.rack) (logs g c) it.side (log_state it.gate_open it.meta c.judge.new.batch)) c.in-Ok.ensures.leaves.slots is;
       }) c.judge.ensures.ok;
   stands =
       IfOk-weaker c.judge.result _ _ (λ it is. heard_stands _ _ (logs g c) it.side _ (are g c) is.agreed.standing) c.judge.ensures.ok;
@@ -114,4 +114,4 @@ hear_both-requires g c =
     }
 
 pub judge-requires : goal.judge-requires
-judge-requires g c = record { first_form = c.in-Ok.ensures.first_form; second_form = c.in-Ok.ensures.second_form }
+judge-requires g c = record { first_form = c.in-Ok.ensures.first.form; second_form = c.in-Ok.ensures.second.form }

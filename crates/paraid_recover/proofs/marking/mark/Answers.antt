@@ -45,28 +45,32 @@ commit-requires g c = record {
 
 pub returns : goal.returns
 returns g c = record {
-  powers = c.commit.ensures.powers;
-  synced = c.commit.ensures.synced;
-  epoch = c.commit.ensures.epoch;
-  slots = c.commit.ensures.slots;
-  disks = c.commit.ensures.disks;
-  named = on_ok_weaker c.commit.result (λ is. is ∙ ap (λ (n : Meta). named_out n.out) c.next_marked-next.ensures) c.commit.ensures.named;
-  each = c.commit.ensures.each;
-  two =
-      subst (λ (o : Option ℕ). IfErr c.commit.result (AreTwoDownBeside (IsOutOfCommit (λ e. (g.R.Rack.slot c.args.store.now.rack e).power) c.args.store.now.disks c.args.store.now.named o)
-      (g.R.Rack.slot c.args.store.now.rack) (g.R.Rack.slot c.commit.new.self.rack))) (ap (λ (n : Meta). named_out n.out) c.next_marked-next.ensures) c.commit.ensures.two;
-  gone =
-      subst (λ (o : Option ℕ). IfErr c.commit.result (AreGoneSince (IsOutOfCommit (λ e. (g.R.Rack.slot c.args.store.now.rack e).power) c.args.store.now.disks c.args.store.now.named o)
-      (g.R.Rack.slot c.args.store.now.rack) (g.R.Rack.slot c.commit.new.self.rack))) (ap (λ (n : Meta). named_out n.out) c.next_marked-next.ensures) c.commit.ensures.gone;
+  kept = record {
+    slots = c.commit.ensures.slots;
+    disks = c.commit.ensures.disks;
+    powers = c.commit.ensures.powers;
+    each = c.commit.ensures.each;
+    two =
+        subst (λ (o : Option ℕ). IfErr c.commit.result (AreTwoDownBeside (IsOutOfCommit (λ e. (g.R.Rack.slot c.args.store.now.rack e).power) c.args.store.now.disks c.args.store.now.named o)
+        (g.R.Rack.slot c.args.store.now.rack) (g.R.Rack.slot c.commit.new.self.rack))) (ap (λ (n : Meta). named_out n.out) c.next_marked-next.ensures) c.commit.ensures.two;
+    gone =
+        subst (λ (o : Option ℕ). IfErr c.commit.result (AreGoneSince (IsOutOfCommit (λ e. (g.R.Rack.slot c.args.store.now.rack e).power) c.args.store.now.disks c.args.store.now.named o)
+        (g.R.Rack.slot c.args.store.now.rack) (g.R.Rack.slot c.commit.new.self.rack))) (ap (λ (n : Meta). named_out n.out) c.next_marked-next.ensures) c.commit.ensures.gone;
+  };
+  marked = record {
+    synced = c.commit.ensures.synced;
+    epoch = c.commit.ensures.epoch;
+    named = on_ok_weaker c.commit.result (λ is. is ∙ ap (λ (n : Meta). named_out n.out) c.next_marked-next.ensures) c.commit.ensures.named;
+    one =
+        let at = goal.at.returns g c in
+        let named = ap (λ (n : Meta). named_out n.out) c.next_marked-next.ensures in
+        one_marked c.args.store.now.disks c.args.store.now.named c.args.disk (g.R.Rack.slot c.args.store.now.rack) (g.R.Rack.slot c.commit.new.self.rack)
+        (let low = c.requires.low in let same = c.requires.can.array in omega arith) c.requires.absent c.commit.result c.commit.ensures.well
+        (subst (λ (o : Option ℕ). IfOk c.commit.result (λ lost. (d : ℕ) → lost ≡ Some d → IsAlone c.args.store.now.disks (IsOutOfCommit (λ e. (g.R.Rack.slot c.args.store.now.rack e).power) c.args.store.now.disks c.args.store.now.named o) d)) named c.commit.ensures.alone);
+  };
   calls =
       subst (λ (b : Batch). Ran (g.R.Rack.told c.args.store.now.rack) (g.R.Rack.told c.commit.new.self.rack) (EachCall (UsesInCommit (marked_gone (of_version_two c.args.meta.now) c.args.disk c.args.meta.now.epoch) b))) c.requires.empty
       (subst (λ (n : Meta). Ran (g.R.Rack.told c.args.store.now.rack) (g.R.Rack.told c.commit.new.self.rack) (EachCall (UsesInCommit n c.args.batch.now))) c.next_marked-next.ensures c.commit.ensures.calls);
-  one =
-      let at = goal.at.returns g c in
-      let named = ap (λ (n : Meta). named_out n.out) c.next_marked-next.ensures in
-      one_marked c.args.store.now.disks c.args.store.now.named c.args.disk (g.R.Rack.slot c.args.store.now.rack) (g.R.Rack.slot c.commit.new.self.rack)
-      (let low = c.requires.low in let same = c.requires.can.array in omega arith) c.requires.absent c.commit.result c.commit.ensures.well
-      (subst (λ (o : Option ℕ). IfOk c.commit.result (λ lost. (d : ℕ) → lost ≡ Some d → IsAlone c.args.store.now.disks (IsOutOfCommit (λ e. (g.R.Rack.slot c.args.store.now.rack e).power) c.args.store.now.disks c.args.store.now.named o) d)) named c.commit.ensures.alone);
   grows = λ t tells.
       let at = goal.at.returns g c in
       let r = each g at.After-commit t tells in

@@ -42,14 +42,16 @@ raise-requires g c =
     let slot = g.R.Rack.slot (store_rack c.in-Ok.store) in
     record {
       empty = c.clear.ensures;
-      fit = subst (λ (k : ℕ). IsFit k slot c.args.standing.now.meta) (sym c.in-Ok.ensures.slots)
-          (fit_stays (g.R.Rack.slot_count c.args.rack) (g.R.Rack.slot c.args.rack) slot c.args.standing.now.meta c.in-Ok.ensures.powers (c.in-Ok.ensures.one c.requires.fit.one) c.requires.fit);
-      few = c.requires.few;
-      disks = c.in-Ok.ensures.disks;
-      named = c.in-Ok.ensures.named;
-      epoch = c.in-Ok.ensures.epoch;
-      rows = c.requires.rows;
-      narrow = c.requires.narrow;
+      can = record {
+        fit = subst (λ (k : ℕ). IsFit k slot c.args.standing.now.meta) (sym c.in-Ok.ensures.slots)
+            (fit_stays (g.R.Rack.slot_count c.args.rack) (g.R.Rack.slot c.args.rack) slot c.args.standing.now.meta c.in-Ok.ensures.powers (c.in-Ok.ensures.one c.requires.fit.one) c.requires.fit);
+        few = c.requires.few;
+        disks = c.in-Ok.ensures.disks;
+        named = c.in-Ok.ensures.named;
+        epoch = c.in-Ok.ensures.epoch;
+        rows = c.requires.rows;
+        narrow = c.requires.narrow;
+      };
     }
 
 -- what is held once the commit was ended
@@ -75,7 +77,7 @@ stays g c m names setup u t tells_u tells_t d missing =
     record {
       disk = omega arith;
       is = elim missing.is [
-        | inl gone ↦ inl (ap is_present (b ∙ c.raise.ensures.absent d (sym a ∙ absent_power ((now u).power d) gone)))
+        | inl gone ↦ inl (ap is_present (b ∙ c.raise.ensures.kept.absent d (sym a ∙ absent_power ((now u).power d) gone)))
         | inr name ↦ inr (names d name)
       ];
     }
@@ -94,7 +96,7 @@ all_allowed : (g : Over) (c : After-raise g) → OnlyMountCalls c.args.standing.
 all_allowed g c =
     let m = c.args.standing.now.meta in
     let told_1 = g.R.Rack.told (store_rack c.in-Ok.store) in
-    mount_then m (g.R.Rack.told c.args.rack) told_1 (g.R.Rack.told (store_rack c.raise.new.store)) (resume_calls m (g.R.Rack.told c.args.rack) told_1 c.args.batch c.in-Ok.ensures.calls) c.raise.ensures.allowed
+    mount_then m (g.R.Rack.told c.args.rack) told_1 (g.R.Rack.told (store_rack c.raise.new.store)) (resume_calls m (g.R.Rack.told c.args.rack) told_1 c.args.batch c.in-Ok.ensures.calls) c.raise.ensures.recovers.allowed
 
 all_metas : (g : Over) (c : After-raise g)
     → StandsThroughMount c.args.standing.now.side (log_state c.args.standing.now.gate_open c.args.standing.now.meta c.args.batch) (g.R.Rack.told c.args.rack) (g.R.Rack.told (store_rack c.raise.new.store))
@@ -106,7 +108,7 @@ all_metas g c =
     let told_1 = g.R.Rack.told (store_rack c.in-Ok.store) in
     let it = c.raise.ensures.split in
     record {
-      foreseen = λ slots. c.raise.ensures.metas slots x s old refl (resumed g c slots) (resumed_metas slots x s old told_1 c.in-Ok.ensures.any_moment);
+      foreseen = λ slots. c.raise.ensures.recovers.metas slots x s old refl (resumed g c slots) (resumed_metas slots x s old told_1 c.in-Ok.ensures.any_moment);
       settled = it.0;
       still = still_then old told_1 it.0 (commit_still m c.args.batch old told_1 c.in-Ok.ensures.calls) it.1;
       powers = elim it.2 [
@@ -117,8 +119,25 @@ all_metas g c =
 
 pub returns-in-Err : goal.returns-in-Err
 returns-in-Err g c = record {
-  slots = tt;
-  refused_slots = c.in-Err.ensures.refused_slots;
+  mounts = tt;
+  refused = record {
+    slots = c.in-Err.ensures.refused_slots;
+    later = c.in-Err.ensures.refused_powers.no_fall;
+    allowed = resume_calls c.args.standing.now.meta (g.R.Rack.told c.args.rack) (g.R.Rack.told c.in-Err.refused.rack) c.args.batch c.in-Err.ensures.refused_calls;
+    metas =
+        let s = said g (goal.at.returns-in-Err g c).After-resume in
+        let old = g.R.Rack.told c.args.rack in
+        let new = g.R.Rack.told c.in-Err.refused.rack in
+        record {
+          foreseen = λ slots. resumed_metas slots c.args.standing.now.side s old new c.in-Err.ensures.refused;
+          settled = new;
+          still = commit_still c.args.standing.now.meta c.args.batch old new c.in-Err.ensures.refused_calls;
+          powers = inl refl;
+        };
+    holds = λ slots.
+        let at = (goal.at.returns-in-Err g c).After-resume in
+        resumes_held slots c.args.standing.now.side (said g at) (g.R.Rack.told c.args.rack) (g.R.Rack.told c.in-Err.refused.rack) c.in-Err.ensures.refused;
+  };
   servable = tt;
   nothing = tt;
   two =
@@ -135,25 +154,6 @@ returns-in-Err g c = record {
         two_named k named a b two c.in-Err.ensures.two,
         gone_beside out_0 (IsOutOfCommit power k named None) a b two (out_named_twice power k named) c.in-Err.ensures.refused_gone,
       );
-  later = tt;
-  refused_later = c.in-Err.ensures.refused_powers.no_fall;
-  allowed = tt;
-  refused_allowed = resume_calls c.args.standing.now.meta (g.R.Rack.told c.args.rack) (g.R.Rack.told c.in-Err.refused.rack) c.args.batch c.in-Err.ensures.refused_calls;
-  metas = tt;
-  refused_metas =
-      let s = said g (goal.at.returns-in-Err g c).After-resume in
-      let old = g.R.Rack.told c.args.rack in
-      let new = g.R.Rack.told c.in-Err.refused.rack in
-      record {
-        foreseen = λ slots. resumed_metas slots c.args.standing.now.side s old new c.in-Err.ensures.refused;
-        settled = new;
-        still = commit_still c.args.standing.now.meta c.args.batch old new c.in-Err.ensures.refused_calls;
-        powers = inl refl;
-      };
-  holds = tt;
-  refused = λ slots.
-      let at = (goal.at.returns-in-Err g c).After-resume in
-      resumes_held slots c.args.standing.now.side (said g at) (g.R.Rack.told c.args.rack) (g.R.Rack.told c.in-Err.refused.rack) c.in-Err.ensures.refused;
   ends = tt;
   map = tt;
   borne = tt;
@@ -162,8 +162,24 @@ returns-in-Err g c = record {
 
 pub returns-in-Err-raise : goal.returns-in-Err-raise
 returns-in-Err-raise g c = record {
-  slots = tt;
-  refused_slots = ap g.R.Rack.slot_count c.close.ensures ∙ c.raise.ensures.slots ∙ c.in-Ok.ensures.slots;
+  mounts = tt;
+  refused = record {
+    slots = ap g.R.Rack.slot_count c.close.ensures ∙ c.raise.ensures.kept.slots ∙ c.in-Ok.ensures.slots;
+    later = λ d.
+        let a = c.in-Ok.ensures.powers.no_fall d in
+        let b = subst (λ (r : _). (g.R.Rack.slot (store_rack c.in-Ok.store) d).faults ≤ (g.R.Rack.slot r d).faults) (sym c.close.ensures) (c.raise.ensures.kept.later d) in
+        omega arith;
+    allowed =
+        subst (λ (r : _). OnlyMountCalls c.args.standing.now.meta (g.R.Rack.told c.args.rack) (g.R.Rack.told r)) (sym c.close.ensures) (all_allowed g (goal.at.returns-in-Err-raise g c).After-raise);
+    metas =
+        let s = log_state c.args.standing.now.gate_open c.args.standing.now.meta c.args.batch in
+        subst (λ (r : _). StandsThroughMount c.args.standing.now.side s (g.R.Rack.told c.args.rack) (g.R.Rack.told r)) (sym c.close.ensures) (all_metas g (goal.at.returns-in-Err-raise g c).After-raise);
+    holds = λ slots.
+        let at = (goal.at.returns-in-Err-raise g c).After-raise in
+        let s = log_state c.args.standing.now.gate_open c.args.standing.now.meta c.args.batch in
+        subst (λ (r : _). RecoversHeld slots c.args.standing.now.side s (g.R.Rack.told c.args.rack) (g.R.Rack.told r)) (sym c.close.ensures)
+        (c.raise.ensures.recovers.holds slots c.args.standing.now.side s (g.R.Rack.told c.args.rack) refl (resumed g at slots));
+  };
   servable = tt;
   nothing = tt;
   two =
@@ -176,27 +192,9 @@ returns-in-Err-raise g c = record {
       let two = c.in-Err-raise.two in (
         two,
         refl,
-        subst (λ (r : _). AreTwoDownBeside out a (g.R.Rack.slot r) two) (sym c.close.ensures) (two_sooner k (named_out m.out) a b d two c.in-Ok.ensures.each c.in-Ok.ensures.powers.no_fall c.raise.ensures.later c.in-Err-raise.ensures.two),
-        subst (λ (r : _). AreGoneSince out a (g.R.Rack.slot r) two) (sym c.close.ensures) (gone_sooner k (named_out m.out) a b d (none_comes a b c.in-Ok.ensures.powers) c.raise.ensures.absent two c.in-Err-raise.ensures.gone),
+        subst (λ (r : _). AreTwoDownBeside out a (g.R.Rack.slot r) two) (sym c.close.ensures) (two_sooner k (named_out m.out) a b d two c.in-Ok.ensures.each c.in-Ok.ensures.powers.no_fall c.raise.ensures.kept.later c.in-Err-raise.ensures.kept.two),
+        subst (λ (r : _). AreGoneSince out a (g.R.Rack.slot r) two) (sym c.close.ensures) (gone_sooner k (named_out m.out) a b d (none_comes a b c.in-Ok.ensures.powers) c.raise.ensures.kept.absent two c.in-Err-raise.ensures.kept.gone),
       );
-  later = tt;
-  refused_later = λ d.
-      let a = c.in-Ok.ensures.powers.no_fall d in
-      let b = subst (λ (r : _). (g.R.Rack.slot (store_rack c.in-Ok.store) d).faults ≤ (g.R.Rack.slot r d).faults) (sym c.close.ensures) (c.raise.ensures.later d) in
-      omega arith;
-  allowed = tt;
-  refused_allowed =
-      subst (λ (r : _). OnlyMountCalls c.args.standing.now.meta (g.R.Rack.told c.args.rack) (g.R.Rack.told r)) (sym c.close.ensures) (all_allowed g (goal.at.returns-in-Err-raise g c).After-raise);
-  metas = tt;
-  refused_metas =
-      let s = log_state c.args.standing.now.gate_open c.args.standing.now.meta c.args.batch in
-      subst (λ (r : _). StandsThroughMount c.args.standing.now.side s (g.R.Rack.told c.args.rack) (g.R.Rack.told r)) (sym c.close.ensures) (all_metas g (goal.at.returns-in-Err-raise g c).After-raise);
-  holds = tt;
-  refused = λ slots.
-      let at = (goal.at.returns-in-Err-raise g c).After-raise in
-      let s = log_state c.args.standing.now.gate_open c.args.standing.now.meta c.args.batch in
-      subst (λ (r : _). RecoversHeld slots c.args.standing.now.side s (g.R.Rack.told c.args.rack) (g.R.Rack.told r)) (sym c.close.ensures)
-      (c.raise.ensures.holds slots c.args.standing.now.side s (g.R.Rack.told c.args.rack) refl (resumed g at slots));
   ends = tt;
   map = tt;
   borne = tt;
@@ -205,21 +203,19 @@ returns-in-Err-raise g c = record {
 
 pub returns-in-Ok-raise : goal.returns-in-Ok-raise
 returns-in-Ok-raise g c = record {
-  slots = c.raise.ensures.slots ∙ c.in-Ok.ensures.slots;
-  refused_slots = tt;
+  mounts = record {
+    slots = c.raise.ensures.kept.slots ∙ c.in-Ok.ensures.slots;
+    later = λ d. let a = c.in-Ok.ensures.powers.no_fall d in let b = c.raise.ensures.kept.later d in omega arith;
+    allowed = all_allowed g (goal.at.returns-in-Ok-raise g c).After-raise;
+    metas = all_metas g (goal.at.returns-in-Ok-raise g c).After-raise;
+    holds = λ slots.
+        let at = (goal.at.returns-in-Ok-raise g c).After-raise in
+        c.raise.ensures.recovers.holds slots c.args.standing.now.side (log_state c.args.standing.now.gate_open c.args.standing.now.meta c.args.batch) (g.R.Rack.told c.args.rack) refl (resumed g at slots);
+  };
+  refused = tt;
   servable = c.in-Ok-raise.ensures.servable;
   nothing = c.clear.ensures;
   two = tt;
-  later = λ d. let a = c.in-Ok.ensures.powers.no_fall d in let b = c.raise.ensures.later d in omega arith;
-  refused_later = tt;
-  allowed = all_allowed g (goal.at.returns-in-Ok-raise g c).After-raise;
-  refused_allowed = tt;
-  metas = all_metas g (goal.at.returns-in-Ok-raise g c).After-raise;
-  refused_metas = tt;
-  holds = λ slots.
-      let at = (goal.at.returns-in-Ok-raise g c).After-raise in
-      c.raise.ensures.holds slots c.args.standing.now.side (log_state c.args.standing.now.gate_open c.args.standing.now.meta c.args.batch) (g.R.Rack.told c.args.rack) refl (resumed g at slots);
-  refused = tt;
   ends =
       let at = (goal.at.returns-in-Ok-raise g c).After-raise in
       let x = c.args.standing.now.side in
@@ -255,8 +251,8 @@ returns-in-Ok-raise g c = record {
       ∙ ap (λ (n : ℕ). or_else (named_out meta.out) (first_absent (λ d. (b d).power) n)) c.in-Ok.ensures.disks in
       map_sooner a b e m table told c.in-Ok.ensures.powers
       (map_served _ _ _ _ _ b e meta m (store_out g.R.Rack.slot c.in-Ok.store) table (g.R.Rack.told (store_rack c.in-Ok.store)) told c.in-Ok-raise.ensures.servable
-      (ap (λ (x : Meta). x.setup) it.2 ∙ loss_setup it.0 it.1 ∙ it.3) c.in-Ok-raise.ensures.map (g.met.R.Rack.agrees (store_rack c.raise.new.store)) out_is c.raise.ensures.absent
-      (λ d name. c.in-Ok-raise.ensures.servable.stays d (it.9.named_by ∙ it.4 d name)) c.in-Ok-raise.ensures.out c.raise.ensures.failed);
+      (ap (λ (x : Meta). x.setup) it.2 ∙ loss_setup it.0 it.1 ∙ it.3) c.in-Ok-raise.ensures.map (g.met.R.Rack.agrees (store_rack c.raise.new.store)) out_is c.raise.ensures.kept.absent
+      (λ d name. c.in-Ok-raise.ensures.servable.stays d (it.9.named_by ∙ it.4 d name)) c.in-Ok-raise.ensures.out c.raise.ensures.kept.failed);
   borne = c.in-Ok-raise.ensures.borne;
   marked = λ slots.
       let at = (goal.at.returns-in-Ok-raise g c).After-raise in

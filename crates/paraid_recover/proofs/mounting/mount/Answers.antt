@@ -15,14 +15,11 @@ use Rattle.paraid_txn.specs.Stores.{store_rack}
 use Rattle.paraid_dirty.specs.Table.{is_dirty}
 use Rattle.paraid_recover.specs.Mount.{HasSettled}
 use Rattle.paraid_recover.specs.Mount.IsCauseOfRefusal.{examined, no_memory, two_down, witnessed}
-use Rattle.paraid_rack.proofs.TrailsLemmas.{Ran-none}
-use Rattle.paraid_txn.specs.Uses.{EachCall}
 use Rattle.paraid_recover.specs.HeardSides.{ReadsLogs}
-use Rattle.paraid_recover.proofs.BothLemmas.{both_read, one_of_two}
-use Rattle.paraid_recover.proofs.UnchangedLemmas.{unchanged_none}
 use Rattle.paraid_recover.proofs.ExaminedLemmas.{fit_examined}
 use Rattle.paraid_recover.proofs.MapServedLemmas.{map_sooner}
 use Rattle.paraid_recover.proofs.MountCallsLemmas.{reads_then}
+use Rattle.paraid_recover.proofs.MountedLemmas.{unstarted_here}
 use Rattle.paraid_recover.proofs.mounting.mount.Given.{Over}
 use Rattle.paraid_recover.proofs.mounting.mount.Goals as goal
 use Rattle.paraid_recover.proofs.mounting.mount.Goals.{In-Ok-bring_up}
@@ -34,10 +31,7 @@ returns-in_default g c = record {
   servable = tt;
   nothing = tt;
   served = tt;
-  refused = no_memory refl (record {
-    calls = Ran-none (EachCall ReadsLogs) (λ s. tt) (g.R.Rack.told c.args.rack);
-    quiet = one_of_two (both_read (unchanged_none (g.R.Rack.told c.args.rack)) (unchanged_none (g.R.Rack.told c.args.rack)));
-  });
+  refused = no_memory refl (unstarted_here (g.R.Rack.slot c.args.rack) (g.R.Rack.told c.args.rack));
   refused_later = λ d. omega arith;
 }
 
@@ -48,7 +42,10 @@ returns-in_default-new g c = record {
   servable = tt;
   nothing = tt;
   served = tt;
-  refused = no_memory refl (record { calls = c.examine.ensures.calls; quiet = c.examine.ensures.quiet });
+  refused = no_memory refl (record {
+    lost = c.in-Ok-examine.ensures.ok.lost;
+    only = record { calls = c.examine.ensures.calls; quiet = c.examine.ensures.quiet };
+  });
   refused_later = c.examine.ensures.powers.no_fall;
 }
 
@@ -115,11 +112,11 @@ settled g c =
         read = g.R.Rack.told c.heed.new.rack;
         reads = read_only_then c.in-Ok-examine.ensures.one (c.in_default-heed.ensures.ok.reads.unchanged refl);
         first_calls = calls_then ReadsLogs c.examine.ensures.calls (logs_calls (omega arith) c.in_default-heed.ensures.ok.reads.calls);
-        later_calls = c.in-Ok-bring_up.ensures.allowed;
-        calls = reads_then s.meta (g.R.Rack.told c.args.rack) (g.R.Rack.told c.heed.new.rack) (g.R.Rack.told (store_rack c.in-Ok-bring_up.mounted.store)) (calls_then ReadsLogs c.examine.ensures.calls (logs_calls (omega arith) c.in_default-heed.ensures.ok.reads.calls)) c.in-Ok-bring_up.ensures.allowed;
+        later_calls = c.in-Ok-bring_up.ensures.mounts.allowed;
+        calls = reads_then s.meta (g.R.Rack.told c.args.rack) (g.R.Rack.told c.heed.new.rack) (g.R.Rack.told (store_rack c.in-Ok-bring_up.mounted.store)) (calls_then ReadsLogs c.examine.ensures.calls (logs_calls (omega arith) c.in_default-heed.ensures.ok.reads.calls)) c.in-Ok-bring_up.ensures.mounts.allowed;
         stands = stands_later _ _ _ _ (c.in_default-heed.ensures.ok.reads.unchanged refl) c.in-Ok-examine.ensures.stands;
-        holds = c.in-Ok-bring_up.ensures.holds;
-        metas = c.in-Ok-bring_up.ensures.metas;
+        holds = c.in-Ok-bring_up.ensures.mounts.holds;
+        metas = c.in-Ok-bring_up.ensures.mounts.metas;
       };
       standing = ends.0;
       lost = ends.1;
@@ -137,7 +134,7 @@ settled g c =
 pub returns-in-Ok-bring_up : goal.returns-in-Ok-bring_up
 unfolding settled
 returns-in-Ok-bring_up g c = record {
-  slots = c.in-Ok-bring_up.ensures.slots ∙ c.in_default-heed.ensures.ok.reads.slots ∙ c.examine.ensures.slots;
+  slots = c.in-Ok-bring_up.ensures.mounts.slots ∙ c.in_default-heed.ensures.ok.reads.slots ∙ c.examine.ensures.slots;
   refused_slots = tt;
   servable = c.in-Ok-bring_up.ensures.servable;
   nothing = c.in-Ok-bring_up.ensures.nothing;
@@ -154,7 +151,7 @@ returns-in-Ok-bring_up g c = record {
         unwitnessed = subst (λ (slot : ℕ → Slot). (slot (other_log s.side)).power ≡ Absent → (slot 2).power ≡ Spinning → (t : Trail) → g.R.Rack.told c.heed.new.rack ≡ Some t → is_open (stored_block (now t) 2 s.side) ≡ false) (slots_later c.in_default-heed.ensures.ok.reads.same) c.in_default-heed.ensures.ok.shut;
         borne = c.in-Ok-bring_up.ensures.borne;
         marked = c.in-Ok-bring_up.ensures.marked;
-        later = λ d. (let a = c.examine.ensures.powers.no_fall d in let same = ap (λ (k : Slot). k.faults) (c.in_default-heed.ensures.ok.reads.same refl d) in let b = c.in-Ok-bring_up.ensures.later d in omega arith);
+        later = λ d. (let a = c.examine.ensures.powers.no_fall d in let same = ap (λ (k : Slot). k.faults) (c.in_default-heed.ensures.ok.reads.same refl d) in let b = c.in-Ok-bring_up.ensures.mounts.later d in omega arith);
         map = map_sooner (g.R.Rack.slot c.args.rack) (g.R.Rack.slot c.heed.new.rack) (g.R.Rack.slot (store_rack c.in-Ok-bring_up.mounted.store)) c.in-Ok-bring_up.mounted.meta (is_dirty c.in-Ok-bring_up.mounted.dirty)
             (g.R.Rack.told (store_rack c.in-Ok-bring_up.mounted.store)) (subst (OnlyLosesSlots (g.R.Rack.slot c.args.rack)) (slots_later c.in_default-heed.ensures.ok.reads.same) c.examine.ensures.powers) c.in-Ok-bring_up.ensures.map;
       };
@@ -165,7 +162,7 @@ returns-in-Ok-bring_up g c = record {
 pub returns : goal.returns
 returns g c = record {
   slots = tt;
-  refused_slots = c.in-Err-bring_up.ensures.refused_slots ∙ c.in_default-heed.ensures.ok.reads.slots ∙ c.examine.ensures.slots;
+  refused_slots = c.in-Err-bring_up.ensures.refused.slots ∙ c.in_default-heed.ensures.ok.reads.slots ∙ c.examine.ensures.slots;
   servable = tt;
   nothing = tt;
   served = tt;
@@ -177,12 +174,12 @@ returns g c = record {
         read = g.R.Rack.told c.heed.new.rack;
         reads = read_only_then c.in-Ok-examine.ensures.one (c.in_default-heed.ensures.ok.reads.unchanged refl);
         first_calls = calls_then ReadsLogs c.examine.ensures.calls (logs_calls (omega arith) c.in_default-heed.ensures.ok.reads.calls);
-        later_calls = c.in-Err-bring_up.ensures.refused_allowed;
-        calls = reads_then s.meta (g.R.Rack.told c.args.rack) (g.R.Rack.told c.heed.new.rack) (g.R.Rack.told c.in-Err-bring_up.refused.rack) (calls_then ReadsLogs c.examine.ensures.calls (logs_calls (omega arith) c.in_default-heed.ensures.ok.reads.calls)) c.in-Err-bring_up.ensures.refused_allowed;
+        later_calls = c.in-Err-bring_up.ensures.refused.allowed;
+        calls = reads_then s.meta (g.R.Rack.told c.args.rack) (g.R.Rack.told c.heed.new.rack) (g.R.Rack.told c.in-Err-bring_up.refused.rack) (calls_then ReadsLogs c.examine.ensures.calls (logs_calls (omega arith) c.in_default-heed.ensures.ok.reads.calls)) c.in-Err-bring_up.ensures.refused.allowed;
         stands = stands_later _ _ _ _ (c.in_default-heed.ensures.ok.reads.unchanged refl) c.in-Ok-examine.ensures.stands;
-        holds = c.in-Err-bring_up.ensures.refused;
-        metas = c.in-Err-bring_up.ensures.refused_metas;
+        holds = c.in-Err-bring_up.ensures.refused.holds;
+        metas = c.in-Err-bring_up.ensures.refused.metas;
       })
       (g.met.R.Rack.agrees c.heed.new.rack) (examined_later _ _ _ _ _ _ _ _ (c.in_default-heed.ensures.ok.reads.same refl) (c.in_default-heed.ensures.ok.reads.unchanged refl) c.in-Ok-examine.ensures.ok) two.1 two.2 two.3;
-  refused_later = λ d. let a = c.examine.ensures.powers.no_fall d in let same = ap (λ (k : Slot). k.faults) (c.in_default-heed.ensures.ok.reads.same refl d) in let b = c.in-Err-bring_up.ensures.refused_later d in omega arith;
+  refused_later = λ d. let a = c.examine.ensures.powers.no_fall d in let same = ap (λ (k : Slot). k.faults) (c.in_default-heed.ensures.ok.reads.same refl d) in let b = c.in-Err-bring_up.ensures.refused.later d in omega arith;
 }

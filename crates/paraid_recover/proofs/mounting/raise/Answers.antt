@@ -52,7 +52,7 @@ who g c said is =
     let told = g.R.Rack.told (store_rack c.settle.new.store) in
     subst (λ (x : Meta). IsOutAtEnd said x told) (sym given.1)
     (who_is_out c.args.meta.now given.0 (g.R.Rack.slot (store_rack c.args.store.now)) (g.R.Rack.slot (store_rack c.settle.new.store)) (g.R.Rack.slot (store_rack c.power_disks.new.store))
-    c.settle.ensures.each c.settle.ensures.powers.no_fall (λ x. (c.power_disks.ensures.turned x).later) given.2 said told is (g.met.R.Rack.agrees (store_rack c.settle.new.store)))
+    c.settle.ensures.kept.each c.settle.ensures.kept.powers.no_fall (λ x. (c.power_disks.ensures.turned x).later) given.2 said told is (g.met.R.Rack.agrees (store_rack c.settle.new.store)))
 
 disks_said : (g : Over) (c : After-power_disks g) (said : LogState) → said.meta ≡ c.args.meta.now → c.in-Ok.standing.setup.geometry.disks ≡ said.meta.setup.geometry.disks
 disks_said g c said is = disks_same g c ∙ ap (λ (x : Meta). x.setup.geometry.disks) (sym is)
@@ -61,13 +61,13 @@ holds : (g : Over) (c : After-power_disks g) (slots x : ℕ) (said : LogState) (
     → RecoversHeld slots x said old (g.R.Rack.told (store_rack c.power_disks.new.store))
 holds g c slots x said old is r =
     turns_hold slots x said c.in-Ok.standing old (g.R.Rack.told (store_rack c.settle.new.store)) (g.R.Rack.told (store_rack c.power_disks.new.store)) (disks_said g c said is) (who g c said is)
-    c.power_disks.ensures.calls (c.settle.ensures.holds slots x said old is r) (c.in-Ok.ensures.ends slots x said old is r)
+    c.power_disks.ensures.calls (c.settle.ensures.recovers.holds slots x said old is r) (c.in-Ok.ensures.ends slots x said old is r)
 
 ends : (g : Over) (c : After-power_disks g) (slots x : ℕ) (said : LogState) (old : Option Trail) → said.meta ≡ c.args.meta.now → Recovers slots x said old (g.R.Rack.told (store_rack c.args.store.now))
     → EndsHeld slots x said c.in-Ok.standing old (g.R.Rack.told (store_rack c.power_disks.new.store))
 ends g c slots x said old is r =
     turns_end slots x said c.in-Ok.standing old (g.R.Rack.told (store_rack c.settle.new.store)) (g.R.Rack.told (store_rack c.power_disks.new.store)) (disks_said g c said is) (who g c said is)
-    c.power_disks.ensures.calls (c.settle.ensures.holds slots x said old is r) (c.in-Ok.ensures.ends slots x said old is r)
+    c.power_disks.ensures.calls (c.settle.ensures.recovers.holds slots x said old is r) (c.in-Ok.ensures.ends slots x said old is r)
 
 -- the calls are those of a mount
 allowed : (g : Over) (c : After-power_disks g) → OnlyMountCalls c.args.meta.now (g.R.Rack.told (store_rack c.args.store.now)) (g.R.Rack.told (store_rack c.power_disks.new.store))
@@ -76,7 +76,7 @@ allowed g c =
     let given = c.in-Ok.ensures.given in
     let told_1 = g.R.Rack.told (store_rack c.settle.new.store) in
     let told_2 = g.R.Rack.told (store_rack c.power_disks.new.store) in
-    mount_then m (g.R.Rack.told (store_rack c.args.store.now)) told_1 told_2 c.settle.ensures.allowed
+    mount_then m (g.R.Rack.told (store_rack c.args.store.now)) told_1 told_2 c.settle.ensures.recovers.allowed
     (power_calls m told_1 told_2 given.0 (λ d e is. given.3 d is e) (subst (λ (x : Meta). Ran told_1 told_2 (EachCall (IsPowerCall x))) given.1 c.power_disks.ensures.calls))
 
 -- which meta stands at each moment
@@ -85,8 +85,8 @@ metas : (g : Over) (c : After-power_disks g) (slots x : ℕ) (said : LogState) (
 metas g c slots x said old is r before =
     let given = c.in-Ok.ensures.given in
     turns_metas slots x said c.in-Ok.standing old (g.R.Rack.told (store_rack c.settle.new.store)) (g.R.Rack.told (store_rack c.power_disks.new.store)) (disks_said g c said is) (who g c said is)
-    c.power_disks.ensures.calls (c.settle.ensures.holds slots x said old is r) (c.in-Ok.ensures.ends slots x said old is r)
-    (λ s i. marked given.0 (given.1 ∙ ap (λ (m : Meta). with_mark m given.0) (sym is))) (c.settle.ensures.metas slots x said old is r before)
+    c.power_disks.ensures.calls (c.settle.ensures.recovers.holds slots x said old is r) (c.in-Ok.ensures.ends slots x said old is r)
+    (λ s i. marked given.0 (given.1 ∙ ap (λ (m : Meta). with_mark m given.0) (sym is))) (c.settle.ensures.recovers.metas slots x said old is r before)
 
 powers : (g : Over) (c : After-power_disks g) → (mark : Option ℕ)
     × ((slots x : ℕ) (said : LogState) (old : Option Trail) → said.meta ≡ c.args.meta.now → Recovers slots x said old (g.R.Rack.told (store_rack c.args.store.now))
@@ -104,35 +104,35 @@ powers g c =
 
 -- the slots once the disks are powered
 later : (g : Over) (c : After-power_disks g) (d : ℕ) → (g.R.Rack.slot (store_rack c.args.store.now) d).faults ≤ (g.R.Rack.slot (store_rack c.power_disks.new.store) d).faults
-later g c d = let first = c.settle.ensures.powers.no_fall d in let second = (c.power_disks.ensures.turned d).later in omega arith
+later g c d = let first = c.settle.ensures.kept.powers.no_fall d in let second = (c.power_disks.ensures.turned d).later in omega arith
 
 absent : (g : Over) (c : After-power_disks g) (d : ℕ) → (g.R.Rack.slot (store_rack c.args.store.now) d).power ≡ Absent → (g.R.Rack.slot (store_rack c.power_disks.new.store) d).power ≡ Absent
 absent g c d gone =
     let a = g.R.Rack.slot (store_rack c.args.store.now) in
     let b = g.R.Rack.slot (store_rack c.settle.new.store) in
-    stays_absent b (g.R.Rack.slot (store_rack c.power_disks.new.store)) d (λ e. (c.power_disks.ensures.turned e).there) (stays_absent a b d (none_comes a b c.settle.ensures.powers) gone)
+    stays_absent b (g.R.Rack.slot (store_rack c.power_disks.new.store)) d (λ e. (c.power_disks.ensures.turned e).there) (stays_absent a b d (none_comes a b c.settle.ensures.kept.powers) gone)
 
 pub settle-requires : goal.settle-requires
-settle-requires g c = c.requires
+settle-requires g c = record { empty = c.requires.empty; can = c.requires.can }
 
 pub with_loss-requires : goal.with_loss-requires
 with_loss-requires g c =
     let at = c.in_default.ensures in record {
-      named = at.same.named ∙ sym c.in-Ok.ensures.named;
-      in_range = c.in-Ok.ensures.fit.in_range;
-      exists = (let fits = c.in-Ok.ensures.fit.enough in let same = at.slots in omega arith);
-      disks = at.same.disks ∙ c.settle.ensures.disks ∙ c.requires.disks ∙ sym (ap (λ (x : Meta). x.setup.geometry.disks) c.in-Ok.ensures.given.1 ∙ ap (λ (s : Setup). s.geometry.disks) (disks_marked c.args.meta.now c.in-Ok.ensures.given.0));
+      named = at.same.named ∙ sym c.in-Ok.ensures.stood.named;
+      in_range = c.in-Ok.ensures.stood.fit.in_range;
+      exists = (let fits = c.in-Ok.ensures.stood.fit.enough in let same = at.slots in omega arith);
+      disks = at.same.disks ∙ c.settle.ensures.kept.disks ∙ c.requires.can.disks ∙ sym (ap (λ (x : Meta). x.setup.geometry.disks) c.in-Ok.ensures.given.1 ∙ ap (λ (s : Setup). s.geometry.disks) (disks_marked c.args.meta.now c.in-Ok.ensures.given.0));
     }
 
 pub power_disks-requires : goal.power_disks-requires
 power_disks-requires g c =
     let m = c.in-Ok.standing in
-    let fit = c.in-Ok.ensures.fit in record {
+    let fit = c.in-Ok.ensures.stood.fit in record {
       exists = fit.enough;
-      disks = c.settle.ensures.disks ∙ c.requires.disks ∙ sym (ap (λ (x : Meta). x.setup.geometry.disks) c.in-Ok.ensures.given.1 ∙ ap (λ (s : Setup). s.geometry.disks) (disks_marked c.args.meta.now c.in-Ok.ensures.given.0));
-      named = sym c.in-Ok.ensures.named;
+      disks = c.settle.ensures.kept.disks ∙ c.requires.can.disks ∙ sym (ap (λ (x : Meta). x.setup.geometry.disks) c.in-Ok.ensures.given.1 ∙ ap (λ (s : Setup). s.geometry.disks) (disks_marked c.args.meta.now c.in-Ok.ensures.given.0));
+      named = sym c.in-Ok.ensures.stood.named;
       awake = fit.awake;
-      synced = λ d low not. c.in-Ok.ensures.synced d low (λ gone. not (gone_named m.out d gone));
+      synced = λ d low not. c.in-Ok.ensures.stood.synced d low (λ gone. not (gone_named m.out d gone));
     }
 
 -- a disk that is absent then was so before, or has failed since
@@ -147,20 +147,24 @@ pub returns-in-Err : goal.returns-in-Err
 returns-in-Err g c = record {
   rows = c.settle.ensures.rows;
   narrow = c.settle.ensures.narrow;
-  slots = c.settle.ensures.slots;
+  kept = record {
+    slots = c.settle.ensures.kept.slots;
+    two = c.in-Err.ensures.kept.two;
+    gone = c.in-Err.ensures.kept.gone;
+    later = c.settle.ensures.kept.powers.no_fall;
+    failed = λ d gone. elim (c.settle.ensures.kept.each d) [ inl risen ↦ inr risen | inr well ↦ inl (sym well.power ∙ gone) ];
+    absent = λ d gone.
+        let a = g.R.Rack.slot (store_rack c.args.store.now) in
+        let b = g.R.Rack.slot (store_rack c.settle.new.store) in
+        stays_absent a b d (none_comes a b c.settle.ensures.kept.powers) gone;
+  };
   servable = tt;
-  two = c.in-Err.ensures.two;
-  gone = c.in-Err.ensures.gone;
-  later = c.settle.ensures.powers.no_fall;
-  failed = λ d gone. elim (c.settle.ensures.each d) [ inl risen ↦ inr risen | inr well ↦ inl (sym well.power ∙ gone) ];
-  allowed = c.settle.ensures.allowed;
+  recovers = record {
+    allowed = c.settle.ensures.recovers.allowed;
+    holds = c.settle.ensures.recovers.holds;
+    metas = c.settle.ensures.recovers.metas;
+  };
   split = (g.R.Rack.told (store_rack c.settle.new.store), c.settle.ensures.still, inl refl);
-  holds = c.settle.ensures.holds;
-  metas = c.settle.ensures.metas;
-  absent = λ d gone.
-      let a = g.R.Rack.slot (store_rack c.args.store.now) in
-      let b = g.R.Rack.slot (store_rack c.settle.new.store) in
-      stays_absent a b d (none_comes a b c.settle.ensures.powers) gone;
   ends = tt;
   map = tt;
   out = tt;
@@ -172,39 +176,43 @@ pub returns-in-Err-power_disks : goal.returns-in-Err-power_disks
 returns-in-Err-power_disks g c = record {
   rows = c.settle.ensures.rows;
   narrow = c.settle.ensures.narrow;
-  slots = c.power_disks.ensures.slots ∙ c.settle.ensures.slots;
+  kept = record {
+    slots = c.power_disks.ensures.slots ∙ c.settle.ensures.kept.slots;
+    two =
+        let at = (goal.at.returns-in-Err-power_disks g c).After-power_disks in
+        let meta = c.args.meta.now in
+        let given = c.in-Ok.ensures.given in
+        let b = g.R.Rack.slot (store_rack c.settle.new.store) in
+        let d = g.R.Rack.slot (store_rack c.power_disks.new.store) in
+        two_marked meta given.0 (g.R.Rack.slot (store_rack c.args.store.now)) b d c.settle.ensures.kept.each c.settle.ensures.kept.powers.no_fall (λ x. (c.power_disks.ensures.turned x).later) given.2 c.in-Err-power_disks.two
+        (subst (λ (k : ℕ). AreTwoDownBeside (IsOutOfCommit (λ e. (b e).power) k (named_out (with_mark meta given.0).out) None) b d c.in-Err-power_disks.two) (ap (λ (s : Setup). s.geometry.disks) (disks_marked meta given.0))
+        (subst (λ (x : Meta). AreTwoDownBeside (IsOutOfCommit (λ e. (b e).power) x.setup.geometry.disks (named_out x.out) None) b d c.in-Err-power_disks.two) given.1 c.in-Err-power_disks.ensures.two));
+    gone =
+        let m = c.args.meta.now in
+        let given = c.in-Ok.ensures.given in
+        let a = g.R.Rack.slot (store_rack c.args.store.now) in
+        let b = g.R.Rack.slot (store_rack c.settle.new.store) in
+        let d = g.R.Rack.slot (store_rack c.power_disks.new.store) in
+        let k = m.setup.geometry.disks in
+        let power = (λ (e : ℕ). (b e).power) in
+        let two = c.in-Err-power_disks.two in
+        let marked_is = with_mark m given.0 in
+        gone_sooner k (named_out m.out) a b d (none_comes a b c.settle.ensures.kept.powers) (λ e. stays_absent b d e (λ x. (c.power_disks.ensures.turned x).there)) two
+        (gone_beside (IsOutOfCommit power k (named_out marked_is.out) None) (IsOutOfCommit power k (named_out m.out) None) b d two (out_marked m given.0 power given.2)
+        (subst (λ (x : ℕ). AreGoneSince (IsOutOfCommit power x (named_out marked_is.out) None) b d two) (ap (λ (s : Setup). s.geometry.disks) (disks_marked m given.0))
+        (subst (λ (x : Meta). AreGoneSince (IsOutOfCommit power x.setup.geometry.disks (named_out x.out) None) b d two) given.1 c.in-Err-power_disks.ensures.gone)));
+    later = later g (goal.at.returns-in-Err-power_disks g c).After-power_disks;
+    failed = λ d gone. failed _ (g.R.Rack.slot (store_rack c.settle.new.store) d) _ c.in-Ok.standing d (c.settle.ensures.kept.each d) (c.settle.ensures.kept.powers.no_fall d) (c.power_disks.ensures.turned d) gone;
+    absent = absent g (goal.at.returns-in-Err-power_disks g c).After-power_disks;
+  };
   servable = tt;
-  two =
-      let at = (goal.at.returns-in-Err-power_disks g c).After-power_disks in
-      let meta = c.args.meta.now in
-      let given = c.in-Ok.ensures.given in
-      let b = g.R.Rack.slot (store_rack c.settle.new.store) in
-      let d = g.R.Rack.slot (store_rack c.power_disks.new.store) in
-      two_marked meta given.0 (g.R.Rack.slot (store_rack c.args.store.now)) b d c.settle.ensures.each c.settle.ensures.powers.no_fall (λ x. (c.power_disks.ensures.turned x).later) given.2 c.in-Err-power_disks.two
-      (subst (λ (k : ℕ). AreTwoDownBeside (IsOutOfCommit (λ e. (b e).power) k (named_out (with_mark meta given.0).out) None) b d c.in-Err-power_disks.two) (ap (λ (s : Setup). s.geometry.disks) (disks_marked meta given.0))
-      (subst (λ (x : Meta). AreTwoDownBeside (IsOutOfCommit (λ e. (b e).power) x.setup.geometry.disks (named_out x.out) None) b d c.in-Err-power_disks.two) given.1 c.in-Err-power_disks.ensures.two));
-  gone =
-      let m = c.args.meta.now in
-      let given = c.in-Ok.ensures.given in
-      let a = g.R.Rack.slot (store_rack c.args.store.now) in
-      let b = g.R.Rack.slot (store_rack c.settle.new.store) in
-      let d = g.R.Rack.slot (store_rack c.power_disks.new.store) in
-      let k = m.setup.geometry.disks in
-      let power = (λ (e : ℕ). (b e).power) in
-      let two = c.in-Err-power_disks.two in
-      let marked_is = with_mark m given.0 in
-      gone_sooner k (named_out m.out) a b d (none_comes a b c.settle.ensures.powers) (λ e. stays_absent b d e (λ x. (c.power_disks.ensures.turned x).there)) two
-      (gone_beside (IsOutOfCommit power k (named_out marked_is.out) None) (IsOutOfCommit power k (named_out m.out) None) b d two (out_marked m given.0 power given.2)
-      (subst (λ (x : ℕ). AreGoneSince (IsOutOfCommit power x (named_out marked_is.out) None) b d two) (ap (λ (s : Setup). s.geometry.disks) (disks_marked m given.0))
-      (subst (λ (x : Meta). AreGoneSince (IsOutOfCommit power x.setup.geometry.disks (named_out x.out) None) b d two) given.1 c.in-Err-power_disks.ensures.gone)));
-  later = later g (goal.at.returns-in-Err-power_disks g c).After-power_disks;
-  failed = λ d gone. failed _ (g.R.Rack.slot (store_rack c.settle.new.store) d) _ c.in-Ok.standing d (c.settle.ensures.each d) (c.settle.ensures.powers.no_fall d) (c.power_disks.ensures.turned d) gone;
-  allowed = allowed g (goal.at.returns-in-Err-power_disks g c).After-power_disks;
+  recovers = record {
+    allowed = allowed g (goal.at.returns-in-Err-power_disks g c).After-power_disks;
+    holds = holds g (goal.at.returns-in-Err-power_disks g c).After-power_disks;
+    metas = metas g (goal.at.returns-in-Err-power_disks g c).After-power_disks;
+  };
   split =
       (g.R.Rack.told (store_rack c.settle.new.store), c.settle.ensures.still, inr (powers g (goal.at.returns-in-Err-power_disks g c).After-power_disks));
-  holds = holds g (goal.at.returns-in-Err-power_disks g c).After-power_disks;
-  metas = metas g (goal.at.returns-in-Err-power_disks g c).After-power_disks;
-  absent = absent g (goal.at.returns-in-Err-power_disks g c).After-power_disks;
   ends = tt;
   map = tt;
   out = tt;
@@ -216,7 +224,14 @@ pub returns : goal.returns
 returns g c = record {
   rows = c.settle.ensures.rows;
   narrow = c.settle.ensures.narrow;
-  slots = c.power_disks.ensures.slots ∙ c.settle.ensures.slots;
+  kept = record {
+    slots = c.power_disks.ensures.slots ∙ c.settle.ensures.kept.slots;
+    two = tt;
+    gone = tt;
+    later = later g (goal.at.returns g c).After-power_disks;
+    failed = λ d gone. failed _ (g.R.Rack.slot (store_rack c.settle.new.store) d) _ c.in-Ok.standing d (c.settle.ensures.kept.each d) (c.settle.ensures.kept.powers.no_fall d) (c.power_disks.ensures.turned d) gone;
+    absent = absent g (goal.at.returns g c).After-power_disks;
+  };
   servable =
       let at = (goal.at.returns g c).After-power_disks in
       let m = c.in-Ok.standing in
@@ -226,22 +241,19 @@ returns g c = record {
       let o = to_mark (λ d. (b d).power) m in
       subst (λ (x : Meta). IsServable (g.R.Rack.slot_count (store_rack c.power_disks.new.store)) b c.power_disks.new.store.epoch c.power_disks.new.store.disks c.power_disks.new.store.named x (length c.settle.new.table)) {x = with_loss m o} (sym c.with_loss.ensures)
       (subst (λ (k : ℕ). IsServable k b c.power_disks.new.store.epoch c.power_disks.new.store.disks c.power_disks.new.store.named (with_loss m o) (length c.settle.new.table)) (sym part.slots)
-      (servable (g.R.Rack.slot_count (store_rack c.settle.new.store)) a b m c.in-Ok.ensures.fit part.turned part.powered (part.one c.in-Ok.ensures.fit.one) o refl
+      (servable (g.R.Rack.slot_count (store_rack c.settle.new.store)) a b m c.in-Ok.ensures.stood.fit part.turned part.powered (part.one c.in-Ok.ensures.stood.fit.one) o refl
       c.power_disks.new.store.epoch c.power_disks.new.store.disks (length c.settle.new.table) c.power_disks.new.store.named
-      (disks_same g at ∙ sym (part.same.disks ∙ c.settle.ensures.disks ∙ c.requires.disks)) c.in-Ok.ensures.version
-      (c.in-Ok.ensures.epoch ∙ sym part.same.epoch)
-      (part.same.named ∙ sym c.in-Ok.ensures.named)
-      (c.settle.ensures.rows ∙ c.requires.rows ∙ sym (ap (λ (s : Setup). s.geometry.rows) (setup_is g at)))
-      c.in-Ok.ensures.synced));
-  two = tt;
-  gone = tt;
-  later = later g (goal.at.returns g c).After-power_disks;
-  failed = λ d gone. failed _ (g.R.Rack.slot (store_rack c.settle.new.store) d) _ c.in-Ok.standing d (c.settle.ensures.each d) (c.settle.ensures.powers.no_fall d) (c.power_disks.ensures.turned d) gone;
-  allowed = allowed g (goal.at.returns g c).After-power_disks;
+      (disks_same g at ∙ sym (part.same.disks ∙ c.settle.ensures.kept.disks ∙ c.requires.can.disks)) c.in-Ok.ensures.stood.version
+      (c.in-Ok.ensures.stood.epoch ∙ sym part.same.epoch)
+      (part.same.named ∙ sym c.in-Ok.ensures.stood.named)
+      (c.settle.ensures.rows ∙ c.requires.can.rows ∙ sym (ap (λ (s : Setup). s.geometry.rows) (setup_is g at)))
+      c.in-Ok.ensures.stood.synced));
+  recovers = record {
+    allowed = allowed g (goal.at.returns g c).After-power_disks;
+    holds = holds g (goal.at.returns g c).After-power_disks;
+    metas = metas g (goal.at.returns g c).After-power_disks;
+  };
   split = (g.R.Rack.told (store_rack c.settle.new.store), c.settle.ensures.still, inr (powers g (goal.at.returns g c).After-power_disks));
-  holds = holds g (goal.at.returns g c).After-power_disks;
-  metas = metas g (goal.at.returns g c).After-power_disks;
-  absent = absent g (goal.at.returns g c).After-power_disks;
   ends =
       let at = (goal.at.returns g c).After-power_disks in
       let given = c.in-Ok.ensures.given in (
@@ -250,7 +262,7 @@ returns g c = record {
         c.with_loss.ensures,
         setup_is g at,
         λ d name. ap (λ (x : Meta). named_out x.out) given.1 ∙ names_stay c.args.meta.now given.0 (λ e is. given.3 e is) d name,
-        c.in-Ok.ensures.version,
+        c.in-Ok.ensures.stood.version,
         (
           given.0,
           given.1,
@@ -259,7 +271,7 @@ returns g c = record {
         ),
         ends g at,
         λ t tells. mark_by_slots (now t) (g.R.Rack.slot (store_rack c.power_disks.new.store)) c.in-Ok.standing (g.met.R.Rack.agrees (store_rack c.power_disks.new.store) t tells),
-        record { named_by = c.in_default.ensures.same.named ∙ sym c.in-Ok.ensures.named; is = c.with_loss.ensures },
+        record { named_by = c.in_default.ensures.same.named ∙ sym c.in-Ok.ensures.stood.named; is = c.with_loss.ensures },
       );
   map =
       let told_0 = g.R.Rack.told (store_rack c.args.store.now) in
@@ -274,7 +286,7 @@ returns g c = record {
       let given = c.in-Ok.ensures.given in
       let b = g.R.Rack.slot (store_rack c.settle.new.store) in
       let e = g.R.Rack.slot (store_rack c.power_disks.new.store) in
-      named_or_absent c.args.meta.now c.in-Ok.standing given.0 b e given.1 c.in-Ok.ensures.fit.in_range (λ x is. (given.2 x is).0) (λ x. (c.power_disks.ensures.turned x).there) d
+      named_or_absent c.args.meta.now c.in-Ok.standing given.0 b e given.1 c.in-Ok.ensures.stood.fit.in_range (λ x is. (given.2 x is).0) (λ x. (c.power_disks.ensures.turned x).there) d
       (ap (λ (x : Meta). named_out x.out) (sym c.with_loss.ensures) ∙ name);
   borne = borne_turned (named_out c.args.meta.now.out) c.in-Ok.standing (g.R.Rack.told (store_rack c.settle.new.store)) (g.R.Rack.told (store_rack c.power_disks.new.store)) c.power_disks.ensures.calls c.in-Ok.ensures.borne;
   marked = λ slots x said old is r.

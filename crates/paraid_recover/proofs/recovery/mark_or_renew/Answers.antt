@@ -37,7 +37,7 @@ use Rattle.paraid_recover.proofs.recovery.mark_or_renew.Goals as goal
 use Rattle.paraid_recover.proofs.recovery.mark_or_renew.Goals.{After-mark}
 
 pub unmarked-requires : goal.unmarked-requires
-unmarked-requires g c = record { named = c.requires.named; in_range = c.requires.in_range; exists = c.requires.exists; disks = c.requires.disks }
+unmarked-requires g c = record { named = c.requires.can.named; in_range = c.requires.can.in_range; exists = c.requires.can.exists; disks = c.requires.can.disks }
 
 pub mark-requires : goal.mark-requires
 mark-requires g c =
@@ -45,29 +45,29 @@ mark-requires g c =
     let d = c.in-Some.disk in
     let only : (e : ℕ) → named_out m.out ≡ Some e → e ≡ d = λ e. c.unmarked.ensures.only d e c.in-Some.is in
     let below = c.unmarked.ensures.low d c.in-Some.is in
-    let same = c.requires.disks in
-    let epoch = c.requires.epoch in
-    let fresh = c.requires.fresh in
+    let same = c.requires.can.disks in
+    let epoch = c.requires.can.epoch in
+    let fresh = c.requires.can.fresh in
     record {
       empty = c.requires.empty;
       only = only;
       low = (omega arith);
       epoch = epoch;
-      named = c.requires.named;
+      named = c.requires.can.named;
       absent = c.unmarked.ensures.absent d c.in-Some.is;
       can = record {
-        in_range = marked_in_range (of_version_two m) d m.epoch (in_version_two m m.epoch c.requires.in_range c.requires.in_range.counters.first c.requires.in_range.counters.epoch_fits) (omega arith) c.requires.in_range.counters.first (omega arith);
+        in_range = marked_in_range (of_version_two m) d m.epoch (in_version_two m m.epoch c.requires.can.in_range c.requires.can.in_range.counters.first c.requires.can.in_range.counters.epoch_fits) (omega arith) c.requires.can.in_range.counters.first (omega arith);
         epoch = omega arith;
         array = sym same;
         each = subst (λ (b : Batch). All (IsTargetInRange m.setup.geometry) (targets b)) (sym c.requires.empty) (λ k t lt. absurd (omega arith));
-        log = record { can = λ x l not. c.requires.log.can x l (λ e. not (ap (λ (y : ℕ). Some y) (sym (only x e)))) };
+        log = record { can = λ x l not. c.requires.can.log.can x l (λ e. not (ap (λ (y : ℕ). Some y) (sym (only x e)))) };
         ready = none_ready _ c.requires.empty _ _ _;
       };
     }
 
 -- the disk that is marked
 low : (g : Over) (c : After-mark g) → c.in-Some.disk < c.args.meta.now.setup.geometry.disks
-low g c = let below = c.unmarked.ensures.low c.in-Some.disk c.in-Some.is in let same = c.requires.disks in omega arith
+low g c = let below = c.unmarked.ensures.low c.in-Some.disk c.in-Some.is in let same = c.requires.can.disks in omega arith
 
 gone : (g : Over) (c : After-mark g) (t : Trail) → g.R.Rack.told c.args.store.now.rack ≡ Some t → is_present ((now t).power c.in-Some.disk) ≡ false
 gone g c t tells = ap is_present ((g.met.R.Rack.agrees _ t tells).power c.in-Some.disk ∙ c.unmarked.ensures.absent c.in-Some.disk c.in-Some.is)
@@ -83,14 +83,14 @@ holds g c slots x said old is recovers =
 
 -- the meta that is given
 epoch : (g : Over) (c : After-mark g) (e : ℕ) → e ≡ c.args.store.now.epoch + 1 → e ≡ c.args.meta.now.epoch + 1
-epoch g c e is = is ∙ ap (λ (k : ℕ). k + 1) c.requires.epoch
+epoch g c e is = is ∙ ap (λ (k : ℕ). k + 1) c.requires.can.epoch
 
 -- the calls of the mark
 log_calls : (g : Over) (c : After-mark g) → Ran (g.R.Rack.told c.args.store.now.rack) (g.R.Rack.told c.mark.new.store.rack) (EachCall (IsInLog c.args.store.now.disks))
 log_calls g c =
     let next = marked_gone (of_version_two c.args.meta.now) c.in-Some.disk c.args.meta.now.epoch in
     ran_milder (EachCall (UsesInCommit next [])) (EachCall (IsInLog c.args.store.now.disks))
-    (EachCall-milder (UsesInCommit next []) (IsInLog c.args.store.now.disks) (λ call uses. subst (λ (n : ℕ). IsInLog n call) (sym c.requires.disks) (in_log next call uses))) c.mark.ensures.calls
+    (EachCall-milder (UsesInCommit next []) (IsInLog c.args.store.now.disks) (λ call uses. subst (λ (n : ℕ). IsInLog n call) (sym c.requires.can.disks) (in_log next call uses))) c.mark.ensures.calls
 
 -- which a mount may make
 allowed : (g : Over) (c : After-mark g) → OnlyMountCalls c.args.meta.now (g.R.Rack.told c.args.store.now.rack) (g.R.Rack.told c.mark.new.store.rack)
@@ -115,61 +115,69 @@ metas g c slots x said old is recovers before =
 
 pub returns-in_err-mark : goal.returns-in_err-mark
 returns-in_err-mark g c = record {
-  slots = c.mark.ensures.slots;
-  disks = c.mark.ensures.disks;
+  kept = record {
+    slots = c.mark.ensures.kept.slots;
+    disks = c.mark.ensures.kept.disks;
+    powers = c.mark.ensures.kept.powers;
+    each = c.mark.ensures.kept.each;
+    two =
+        raised _ _ _ c.from_residual.ensures.1
+        (subst (λ (o : Option ℕ). AreTwoDownBeside (IsOutOfCommit (λ e. (g.R.Rack.slot c.args.store.now.rack e).power) c.args.store.now.disks c.args.store.now.named o)
+        (g.R.Rack.slot c.args.store.now.rack) (g.R.Rack.slot c.mark.new.store.rack) c.in_err-mark.field-0.0) (sym c.in-Some.is ∙ c.unmarked.ensures.value) c.in_err-mark.ensures.kept.two);
+    gone =
+        raised _ _ _ c.from_residual.ensures.1
+        (subst (λ (o : Option ℕ). AreGoneSince (IsOutOfCommit (λ e. (g.R.Rack.slot c.args.store.now.rack e).power) c.args.store.now.disks c.args.store.now.named o)
+        (g.R.Rack.slot c.args.store.now.rack) (g.R.Rack.slot c.mark.new.store.rack) c.in_err-mark.field-0.0) (sym c.in-Some.is ∙ c.unmarked.ensures.value) c.in_err-mark.ensures.kept.gone);
+  };
   given = none_done_if _ c.from_residual.result _ c.from_residual.ensures.1;
   epoch = none_done_if _ c.from_residual.result _ c.from_residual.ensures.1;
   named = none_done_if _ c.from_residual.result _ c.from_residual.ensures.1;
-  powers = c.mark.ensures.powers;
-  each = c.mark.ensures.each;
   synced = none_done_if _ c.from_residual.result _ c.from_residual.ensures.1;
   one = none_done_if _ c.from_residual.result _ c.from_residual.ensures.1;
   calls = log_calls g (goal.at.returns-in_err-mark g c).After-mark;
-  allowed = allowed g (goal.at.returns-in_err-mark g c).After-mark;
-  two =
-      raised _ _ _ c.from_residual.ensures.1
-      (subst (λ (o : Option ℕ). AreTwoDownBeside (IsOutOfCommit (λ e. (g.R.Rack.slot c.args.store.now.rack e).power) c.args.store.now.disks c.args.store.now.named o)
-      (g.R.Rack.slot c.args.store.now.rack) (g.R.Rack.slot c.mark.new.store.rack) c.in_err-mark.field-0.0) (sym c.in-Some.is ∙ c.unmarked.ensures.value) c.in_err-mark.ensures.two);
-  gone =
-      raised _ _ _ c.from_residual.ensures.1
-      (subst (λ (o : Option ℕ). AreGoneSince (IsOutOfCommit (λ e. (g.R.Rack.slot c.args.store.now.rack e).power) c.args.store.now.disks c.args.store.now.named o)
-      (g.R.Rack.slot c.args.store.now.rack) (g.R.Rack.slot c.mark.new.store.rack) c.in_err-mark.field-0.0) (sym c.in-Some.is ∙ c.unmarked.ensures.value) c.in_err-mark.ensures.gone);
-  holds = holds g (goal.at.returns-in_err-mark g c).After-mark;
-  metas = metas g (goal.at.returns-in_err-mark g c).After-mark;
+  recovers = record {
+    allowed = allowed g (goal.at.returns-in_err-mark g c).After-mark;
+    holds = holds g (goal.at.returns-in_err-mark g c).After-mark;
+    metas = metas g (goal.at.returns-in_err-mark g c).After-mark;
+  };
   ends = none_done_if _ c.from_residual.result _ c.from_residual.ensures.1;
   marked = none_done_if _ c.from_residual.result _ c.from_residual.ensures.1;
 }
 
 pub returns : goal.returns
 returns g c = record {
-  slots = c.mark.ensures.slots;
-  disks = c.mark.ensures.disks;
+  kept = record {
+    slots = c.mark.ensures.kept.slots;
+    disks = c.mark.ensures.kept.disks;
+    powers = c.mark.ensures.kept.powers;
+    each = c.mark.ensures.kept.each;
+    two = tt;
+    gone = tt;
+  };
   given =
       let at = goal.at.returns g c in
       let d = c.in-Some.disk in
       let m = c.args.meta.now in
       let given : record c.next_marked.result { epoch = c.epoch.result } ≡ marked_gone (of_version_two m) d (m.epoch + 1) =
-      ap (λ (n : Meta). record n { epoch = c.epoch.result }) c.next_marked.ensures ∙ ap (λ (e : ℕ). marked_gone (of_version_two m) d e) (epoch g at.After-mark c.epoch.result (c.epoch.ensures ∙ c.in_ok-mark.ensures.epoch)) in
+      ap (λ (n : Meta). record n { epoch = c.epoch.result }) c.next_marked.ensures ∙ ap (λ (e : ℕ). marked_gone (of_version_two m) d e) (epoch g at.After-mark c.epoch.result (c.epoch.ensures ∙ c.in_ok-mark.ensures.marked.epoch)) in
       given ∙ sym (ap (with_mark m) (sym c.unmarked.ensures.value ∙ c.in-Some.is));
   epoch = c.epoch.ensures;
-  named = ap (λ (n : Meta). named_out n.out) c.next_marked.ensures ∙ sym c.in_ok-mark.ensures.named;
-  powers = c.mark.ensures.powers;
-  each = c.mark.ensures.each;
-  synced = c.in_ok-mark.ensures.synced;
+  named = ap (λ (n : Meta). named_out n.out) c.next_marked.ensures ∙ sym c.in_ok-mark.ensures.marked.named;
+  synced = c.in_ok-mark.ensures.marked.synced;
   one = λ one.
-      subst (λ (o : Option ℕ). IsOneOut c.args.store.now.disks o (g.R.Rack.slot c.mark.new.store.rack)) (sym (ap (λ (n : Meta). named_out n.out) c.next_marked.ensures)) (c.in_ok-mark.ensures.one one);
+      subst (λ (o : Option ℕ). IsOneOut c.args.store.now.disks o (g.R.Rack.slot c.mark.new.store.rack)) (sym (ap (λ (n : Meta). named_out n.out) c.next_marked.ensures)) (c.in_ok-mark.ensures.marked.one one);
   calls = log_calls g (goal.at.returns g c).After-mark;
-  allowed = allowed g (goal.at.returns g c).After-mark;
-  two = tt;
-  gone = tt;
-  holds = holds g (goal.at.returns g c).After-mark;
-  metas = metas g (goal.at.returns g c).After-mark;
+  recovers = record {
+    allowed = allowed g (goal.at.returns g c).After-mark;
+    holds = holds g (goal.at.returns g c).After-mark;
+    metas = metas g (goal.at.returns g c).After-mark;
+  };
   ends = λ slots x said old is recovers.
       let at = goal.at.returns g c in
       let d = c.in-Some.disk in
       let m = c.args.meta.now in
       let given : record c.next_marked.result { epoch = c.epoch.result } ≡ marked_gone (of_version_two m) d (m.epoch + 1) =
-      ap (λ (n : Meta). record n { epoch = c.epoch.result }) c.next_marked.ensures ∙ ap (λ (e : ℕ). marked_gone (of_version_two m) d e) (epoch g at.After-mark c.epoch.result (c.epoch.ensures ∙ c.in_ok-mark.ensures.epoch)) in
+      ap (λ (n : Meta). record n { epoch = c.epoch.result }) c.next_marked.ensures ∙ ap (λ (e : ℕ). marked_gone (of_version_two m) d e) (epoch g at.After-mark c.epoch.result (c.epoch.ensures ∙ c.in_ok-mark.ensures.marked.epoch)) in
       let only : (e : ℕ) → named_out m.out ≡ Some e → e ≡ d = λ e. c.unmarked.ensures.only d e c.in-Some.is in
       let new = g.R.Rack.told c.mark.new.store.rack in
       let mid = g.R.Rack.told c.args.store.now.rack in
@@ -188,7 +196,7 @@ returns g c = record {
       let only : (e : ℕ) → named_out m.out ≡ Some e → e ≡ d = λ e. c.unmarked.ensures.only d e c.in-Some.is in
       let new = g.R.Rack.told c.mark.new.store.rack in
       let mid = g.R.Rack.told c.args.store.now.rack in
-      let named : Some d ≡ c.mark.new.store.named = sym c.in_ok-mark.ensures.named in
+      let named : Some d ≡ c.mark.new.store.named = sym c.in_ok-mark.ensures.marked.named in
       subst (λ (o : Option ℕ). EndsBorne (IsNewlyNamed (named_out m.out) o) slots x said old new) named
       (subst (λ (n : Meta). EndsBorne (IsNewlyNamed (named_out n.out) (Some d)) slots x said old new) is
       (borne_marked slots x said (after said.meta) [] old mid new
@@ -207,13 +215,7 @@ returns g c = record {
 pub renew-requires : goal.renew-requires
 renew-requires g c = record {
   empty = c.requires.empty;
-  fresh = c.requires.fresh;
-  in_range = c.requires.in_range;
-  exists = c.requires.exists;
-  disks = c.requires.disks;
-  named = c.requires.named;
-  epoch = c.requires.epoch;
-  log = c.requires.log;
+  can = c.requires.can;
 }
 
 pub returns-in_default : goal.returns-in_default
@@ -224,21 +226,25 @@ returns-in_default g c =
     let none : None ≡ to_mark (λ e. (a e).power) m = sym c.in_default.is ∙ c.unmarked.ensures.value in
     let out : Option ℕ → ℕ → Type 0 = λ o. IsOutOfCommit (λ e. (a e).power) c.args.store.now.disks c.args.store.now.named o in
     record {
-      slots = c.renew.ensures.slots;
-      disks = c.renew.ensures.disks;
+      kept = record {
+        slots = c.renew.ensures.kept.slots;
+        disks = c.renew.ensures.kept.disks;
+        powers = c.renew.ensures.kept.powers;
+        each = c.renew.ensures.kept.each;
+        two = subst (λ (o : Option ℕ). IfErr c.renew.result (AreTwoDownBeside (out o) a b)) none c.renew.ensures.kept.two;
+        gone = subst (λ (o : Option ℕ). IfErr c.renew.result (AreGoneSince (out o) a b)) none c.renew.ensures.kept.gone;
+      };
       given = subst (λ (o : Option ℕ). IfOk c.renew.result (λ n. n ≡ with_mark m o)) none c.renew.ensures.given;
       epoch = c.renew.ensures.epoch;
       named = c.renew.ensures.named;
-      powers = c.renew.ensures.powers;
-      each = c.renew.ensures.each;
       synced = c.renew.ensures.synced;
       one = c.renew.ensures.one;
       calls = c.renew.ensures.calls;
-      allowed = c.renew.ensures.allowed;
-      two = subst (λ (o : Option ℕ). IfErr c.renew.result (AreTwoDownBeside (out o) a b)) none c.renew.ensures.two;
-      gone = subst (λ (o : Option ℕ). IfErr c.renew.result (AreGoneSince (out o) a b)) none c.renew.ensures.gone;
-      holds = c.renew.ensures.holds;
-      metas = c.renew.ensures.metas;
+      recovers = record {
+        allowed = c.renew.ensures.recovers.allowed;
+        holds = c.renew.ensures.recovers.holds;
+        metas = c.renew.ensures.recovers.metas;
+      };
       ends = c.renew.ensures.ends;
       marked = none_newly c.renew.result m c.renew.new.store.named (g.R.Rack.told c.args.store.now.rack) (g.R.Rack.told c.renew.new.store.rack) c.renew.ensures.given c.renew.ensures.named c.renew.ensures.ends;
     }

@@ -30,43 +30,41 @@ use Rattle.paraid_recover.proofs.recovery.mark_out.Goals.{After-bear_named, In-O
 pub mark_or_renew-requires : goal.mark_or_renew-requires
 mark_or_renew-requires g c = record {
   empty = c.requires.empty;
-  fresh = c.requires.fresh;
-  in_range = c.requires.in_range;
-  exists = c.requires.exists;
-  disks = c.requires.disks;
-  named = c.requires.named;
-  epoch = c.requires.epoch;
-  log = c.requires.log;
+  can = c.requires.can;
   witness = c.requires.witness;
 }
 
 pub bear_named-requires : goal.bear_named-requires
 bear_named-requires g c =
     let low = c.args.meta.now.setup.geometry.disks_low in
-    let all = c.requires.exists in
-    let same = c.mark_or_renew.ensures.slots in
+    let all = c.requires.can.exists in
+    let same = c.mark_or_renew.ensures.kept.slots in
     record {
       exists = omega arith;
-      ready = λ x named. can_bear (g.R.Rack.slot (store_rack c.args.store.now)) (g.R.Rack.slot (store_rack c.mark_or_renew.new.store)) c.mark_or_renew.ensures.powers c.in-Ok.ensures.synced (c.requires.witness (not_second (named_out c.args.meta.now.out) x named));
+      ready = λ x named. can_bear (g.R.Rack.slot (store_rack c.args.store.now)) (g.R.Rack.slot (store_rack c.mark_or_renew.new.store)) c.mark_or_renew.ensures.kept.powers c.in-Ok.ensures.synced (c.requires.witness (not_second (named_out c.args.meta.now.out) x named));
     }
 
 pub returns-in-Err : goal.returns-in-Err
 returns-in-Err g c = record {
-  slots = c.mark_or_renew.ensures.slots;
-  disks = c.mark_or_renew.ensures.disks;
+  kept = record {
+    slots = c.mark_or_renew.ensures.kept.slots;
+    disks = c.mark_or_renew.ensures.kept.disks;
+    powers = c.mark_or_renew.ensures.kept.powers;
+    each = c.mark_or_renew.ensures.kept.each;
+    two = c.in-Err.ensures.kept.two;
+    gone = c.in-Err.ensures.kept.gone;
+  };
   given = tt;
   epoch = tt;
   named = tt;
-  powers = c.mark_or_renew.ensures.powers;
-  each = c.mark_or_renew.ensures.each;
   synced = tt;
   one = tt;
   calls = c.mark_or_renew.ensures.calls;
-  allowed = c.mark_or_renew.ensures.allowed;
-  two = c.in-Err.ensures.two;
-  gone = c.in-Err.ensures.gone;
-  holds = c.mark_or_renew.ensures.holds;
-  metas = c.mark_or_renew.ensures.metas;
+  recovers = record {
+    allowed = c.mark_or_renew.ensures.recovers.allowed;
+    holds = c.mark_or_renew.ensures.recovers.holds;
+    metas = c.mark_or_renew.ensures.recovers.metas;
+  };
   ends = tt;
   borne = tt;
   marked = tt;
@@ -99,17 +97,17 @@ ran g c = c.bear_named.ensures.borne.part.calls
 log_calls : (g : Over) (c : After-bear_named g) → Ran (told_0 g c) (told_2 g c) (EachCall (IsInLog c.args.store.now.disks))
 log_calls g c =
     let n = c.args.store.now.disks in
-    let enough : 3 ≤ n = (let low = c.args.meta.now.setup.geometry.disks_low in let same = c.requires.disks in omega arith) in
+    let enough : 3 ≤ n = (let low = c.args.meta.now.setup.geometry.disks_low in let same = c.requires.can.disks in omega arith) in
     calls_then (IsInLog n) (told_0 g c) (told_1 g c) (told_2 g c) c.mark_or_renew.ensures.calls (bearer_log (named_out c.args.meta.now.out) n (told_1 g c) (told_2 g c) enough (ran g c))
 
 allowed : (g : Over) (c : After-bear_named g) → OnlyMountCalls c.args.meta.now (told_0 g c) (told_2 g c)
-allowed g c = mount_then c.args.meta.now (told_0 g c) (told_1 g c) (told_2 g c) c.mark_or_renew.ensures.allowed (bearer_calls c.args.meta.now (told_1 g c) (told_2 g c) (ran g c))
+allowed g c = mount_then c.args.meta.now (told_0 g c) (told_1 g c) (told_2 g c) c.mark_or_renew.ensures.recovers.allowed (bearer_calls c.args.meta.now (told_1 g c) (told_2 g c) (ran g c))
 
 powers : (g : Over) (c : After-bear_named g) → OnlyLosesSlots (slot_0 g c) (slot_2 g c)
-powers g c = spared_both (slot_0 g c) (slot_1 g c) (slot_2 g c) c.mark_or_renew.ensures.powers c.bear_named.ensures.borne.part.powers
+powers g c = spared_both (slot_0 g c) (slot_1 g c) (slot_2 g c) c.mark_or_renew.ensures.kept.powers c.bear_named.ensures.borne.part.powers
 
 each : (g : Over) (c : After-bear_named g) → AreFailedOrWell (slot_1 g c) (slot_2 g c) → AreFailedOrWell (slot_0 g c) (slot_2 g c)
-each g c after = each_then (slot_0 g c) (slot_1 g c) (slot_2 g c) c.mark_or_renew.ensures.each after c.mark_or_renew.ensures.powers.no_fall c.bear_named.ensures.borne.part.powers.no_fall
+each g c after = each_then (slot_0 g c) (slot_1 g c) (slot_2 g c) c.mark_or_renew.ensures.kept.each after c.mark_or_renew.ensures.kept.powers.no_fall c.bear_named.ensures.borne.part.powers.no_fall
 
 -- the meta that stands
 same_disks : (g : Over) (c : After-bear_named g) (said : LogState) → said.meta ≡ c.args.meta.now → c.in-Ok.stands.setup.geometry.disks ≡ said.meta.setup.geometry.disks
@@ -119,7 +117,7 @@ same_disks g c said is =
 names : (g : Over) (c : After-bear_named g) (y : ℕ) → named_out c.args.meta.now.out ≡ Some y → named_out c.in-Ok.stands.out ≡ Some y
 names g c y name =
     ap (λ (m : Meta). named_out m.out) c.in-Ok.ensures.given
-    ∙ names_stay c.args.meta.now (mark g c) (λ d is. (marks (λ e. (slot_0 g c e).power) c.args.meta.now d c.requires.in_range is).2) y name
+    ∙ names_stay c.args.meta.now (mark g c) (λ d is. (marks (λ e. (slot_0 g c e).power) c.args.meta.now d c.requires.can.in_range is).2) y name
 
 names_said : (g : Over) (c : After-bear_named g) (said : LogState) → said.meta ≡ c.args.meta.now → (y : ℕ) → named_out c.args.meta.now.out ≡ Some y → named_out said.meta.out ≡ Some y
 names_said g c said is y name = ap (λ (m : Meta). named_out m.out) is ∙ name
@@ -127,14 +125,14 @@ names_said g c said is y name = ap (λ (m : Meta). named_out m.out) is ∙ name
 holds : (g : Over) (c : After-bear_named g) (slots x : ℕ) (said : LogState) (old : Option Trail) → said.meta ≡ c.args.meta.now → Recovers slots x said old (told_0 g c) → RecoversHeld slots x said old (told_2 g c)
 holds g c slots x said old is r =
     bearing_holds slots x said c.in-Ok.stands (named_out c.args.meta.now.out) old (told_1 g c) (told_2 g c) (same_disks g c said is) (names g c) (names_said g c said is) (ran g c)
-    (c.mark_or_renew.ensures.holds slots x said old is r) (c.in-Ok.ensures.ends slots x said old is r)
+    (c.mark_or_renew.ensures.recovers.holds slots x said old is r) (c.in-Ok.ensures.ends slots x said old is r)
 
 metas : (g : Over) (c : After-bear_named g) (slots x : ℕ) (said : LogState) (old : Option Trail) → said.meta ≡ c.args.meta.now → Recovers slots x said old (told_0 g c)
     → StandsInMoments slots x said old (told_0 g c) → StandsInMoments slots x said old (told_2 g c)
 metas g c slots x said old is r before =
     bearing_metas slots x said c.in-Ok.stands (named_out c.args.meta.now.out) old (told_1 g c) (told_2 g c) (same_disks g c said is) (names g c) (names_said g c said is) (ran g c)
-    (c.mark_or_renew.ensures.holds slots x said old is r) (c.in-Ok.ensures.ends slots x said old is r)
-    (λ s i. marked (mark g c) (c.in-Ok.ensures.given ∙ ap (λ (m : Meta). with_mark m (mark g c)) (sym is))) (c.mark_or_renew.ensures.metas slots x said old is r before)
+    (c.mark_or_renew.ensures.recovers.holds slots x said old is r) (c.in-Ok.ensures.ends slots x said old is r)
+    (λ s i. marked (mark g c) (c.in-Ok.ensures.given ∙ ap (λ (m : Meta). with_mark m (mark g c)) (sym is))) (c.mark_or_renew.ensures.recovers.metas slots x said old is r before)
 
 pub returns-in-Err-bear_named : goal.returns-in-Err-bear_named
 returns-in-Err-bear_named g c =
@@ -142,23 +140,27 @@ returns-in-Err-bear_named g c =
     let part = c.in-Err-bear_named.ensures.borne.part in
     let o = named_out c.args.meta.now.out in
     record {
-      slots = part.slots ∙ c.mark_or_renew.ensures.slots;
-      disks = part.same.disks ∙ c.mark_or_renew.ensures.disks;
+      kept = record {
+        slots = part.slots ∙ c.mark_or_renew.ensures.kept.slots;
+        disks = part.same.disks ∙ c.mark_or_renew.ensures.kept.disks;
+        powers = powers g at;
+        each = each g at (bearer_each g.R.Rack o c.mark_or_renew.new.store c.bear_named.new.store false part);
+        two = bearer_two g.R.Rack o c.mark_or_renew.new.store c.bear_named.new.store (slot_0 g at) c.args.store.now.disks c.args.store.now.named (mark g at) c.in-Err-bear_named.two c.requires.can.named
+            c.in-Err-bear_named.ensures.two part c.mark_or_renew.ensures.kept.powers;
+        gone = bearer_gone g.R.Rack o c.mark_or_renew.new.store c.bear_named.new.store (slot_0 g at) c.args.store.now.disks c.args.store.now.named (mark g at) c.in-Err-bear_named.two c.requires.can.named
+            c.in-Err-bear_named.ensures.two part c.mark_or_renew.ensures.kept.powers;
+      };
       given = tt;
       epoch = tt;
       named = tt;
-      powers = powers g at;
-      each = each g at (bearer_each g.R.Rack o c.mark_or_renew.new.store c.bear_named.new.store false part);
       synced = tt;
       one = tt;
       calls = log_calls g at;
-      allowed = allowed g at;
-      two = bearer_two g.R.Rack o c.mark_or_renew.new.store c.bear_named.new.store (slot_0 g at) c.args.store.now.disks c.args.store.now.named (mark g at) c.in-Err-bear_named.two c.requires.named
-          c.in-Err-bear_named.ensures.two part c.mark_or_renew.ensures.powers;
-      gone = bearer_gone g.R.Rack o c.mark_or_renew.new.store c.bear_named.new.store (slot_0 g at) c.args.store.now.disks c.args.store.now.named (mark g at) c.in-Err-bear_named.two c.requires.named
-          c.in-Err-bear_named.ensures.two part c.mark_or_renew.ensures.powers;
-      holds = holds g at;
-      metas = metas g at;
+      recovers = record {
+        allowed = allowed g at;
+        holds = holds g at;
+        metas = metas g at;
+      };
       ends = tt;
       borne = tt;
       marked = tt;
@@ -168,7 +170,7 @@ returns-in-Err-bear_named g c =
 synced : (g : Over) (c : In-Ok-bear_named g) (x : ℕ) → IsNamedLog (named_out c.args.meta.now.out) x → IsSyncedAt (g.R.Rack.slot (store_rack c.bear_named.new.store)) 2
 synced g c x named =
     bearer_clean g.R.Rack (named_out c.args.meta.now.out) c.mark_or_renew.new.store c.bear_named.new.store c.in-Ok-bear_named.ensures.borne
-    (can_bear (g.R.Rack.slot (store_rack c.args.store.now)) (g.R.Rack.slot (store_rack c.mark_or_renew.new.store)) c.mark_or_renew.ensures.powers c.in-Ok.ensures.synced (c.requires.witness (not_second (named_out c.args.meta.now.out) x named)))
+    (can_bear (g.R.Rack.slot (store_rack c.args.store.now)) (g.R.Rack.slot (store_rack c.mark_or_renew.new.store)) c.mark_or_renew.ensures.kept.powers c.in-Ok.ensures.synced (c.requires.witness (not_second (named_out c.args.meta.now.out) x named)))
 
 ends : (g : Over) (c : In-Ok-bear_named g) (slots x : ℕ) (said : LogState) (old : Option Trail) → said.meta ≡ c.args.meta.now → Recovers slots x said old (g.R.Rack.told (store_rack c.args.store.now))
     → EndsHeld slots x said c.in-Ok.stands old (g.R.Rack.told (store_rack c.bear_named.new.store))
@@ -178,7 +180,7 @@ ends g c slots x said old is r =
     elim (log_named (named_out c.args.meta.now.out)) [
       | inl it ↦
           bearing_ends slots x said c.in-Ok.stands (named_out c.args.meta.now.out) old (told_1 g at) (told_2 g at) (same_disks g at said is) (names g at) (names_said g at said is) (ran g at)
-          (c.mark_or_renew.ensures.holds slots x said old is r) before
+          (c.mark_or_renew.ensures.recovers.holds slots x said old is r) before
           (second_kept (told_2 g at) (slot_2 g at) (g.met.R.Rack.agrees (store_rack c.bear_named.new.store)) (synced g c it.0 it.1))
       | inr none ↦ subst (λ (t : Option Trail). EndsHeld slots x said c.in-Ok.stands old t) (sym (c.in-Ok-bear_named.ensures.borne.part.still none)) before
     ]
@@ -223,21 +225,25 @@ returns-in-Ok-bear_named g c =
     let mid = c.mark_or_renew.new.store in
     let new = c.bear_named.new.store in
     record {
-      slots = part.slots ∙ c.mark_or_renew.ensures.slots;
-      disks = part.same.disks ∙ c.mark_or_renew.ensures.disks;
+      kept = record {
+        slots = part.slots ∙ c.mark_or_renew.ensures.kept.slots;
+        disks = part.same.disks ∙ c.mark_or_renew.ensures.kept.disks;
+        powers = powers g at;
+        each = each g at (bearer_each g.R.Rack o mid new true part);
+        two = tt;
+        gone = tt;
+      };
       given = c.in-Ok.ensures.given;
       epoch = c.in-Ok.ensures.epoch ∙ sym part.same.epoch;
       named = c.in-Ok.ensures.named ∙ sym part.same.named;
-      powers = powers g at;
-      each = each g at (bearer_each g.R.Rack o mid new true part);
       synced = bearer_synced g.R.Rack o mid new (slot_0 g at) it c.in-Ok.ensures.synced;
       one = λ one. bearer_one g.R.Rack o mid new c.args.store.now.disks (named_out c.in-Ok.stands.out) part (c.in-Ok.ensures.one one);
       calls = log_calls g at;
-      allowed = allowed g at;
-      two = tt;
-      gone = tt;
-      holds = holds g at;
-      metas = metas g at;
+      recovers = record {
+        allowed = allowed g at;
+        holds = holds g at;
+        metas = metas g at;
+      };
       ends = ends g ok;
       borne = borne g ok;
       marked = marked_borne g ok;

@@ -40,8 +40,8 @@ whole : (g : Over) (c : After-commit g) (m : Meta) → m ≡ c.args.meta.now →
 whole g c m is =
     subst (λ (n : Meta). IsWholeOrAbsent (told_0 g c) (told_1 g c) n (after n) []) (sym is)
     (subst (λ (b : Batch). IsWholeOrAbsent (told_0 g c) (told_1 g c) c.args.meta.now (after c.args.meta.now) b) c.requires.empty
-    (subst (λ (e : ℕ). IsWholeOrAbsent (told_0 g c) (told_1 g c) c.args.meta.now (record c.args.meta.now { version = 2; epoch = e + 1 }) c.args.nothing.now) c.requires.epoch
-    (c.commit.ensures.any_moment c.args.meta.now c.requires.named)))
+    (subst (λ (e : ℕ). IsWholeOrAbsent (told_0 g c) (told_1 g c) c.args.meta.now (record c.args.meta.now { version = 2; epoch = e + 1 }) c.args.nothing.now) c.requires.can.epoch
+    (c.commit.ensures.any_moment c.args.meta.now c.requires.can.named)))
 
 holds : (g : Over) (c : After-commit g) (slots x : ℕ) (said : LogState) (old : Option Trail) → said.meta ≡ c.args.meta.now → Recovers slots x said old (told_0 g c) → RecoversHeld slots x said old (told_1 g c)
 holds g c slots x said old is recovers = renew_recovers slots x said old (told_0 g c) (told_1 g c) recovers.holds recovers.ends (whole g c said.meta is)
@@ -50,7 +50,7 @@ log_calls : (g : Over) (c : After-commit g) → Ran (told_0 g c) (told_1 g c) (E
 log_calls g c =
     let next = of_version_two c.args.meta.now in
     ran_milder (EachCall (UsesInCommit next [])) (EachCall (IsInLog c.args.store.now.disks))
-    (EachCall-milder (UsesInCommit next []) (IsInLog c.args.store.now.disks) (λ call uses. subst (λ (n : ℕ). IsInLog n call) (sym c.requires.disks) (in_log next call uses)))
+    (EachCall-milder (UsesInCommit next []) (IsInLog c.args.store.now.disks) (λ call uses. subst (λ (n : ℕ). IsInLog n call) (sym c.requires.can.disks) (in_log next call uses)))
     (subst (λ (b : Batch). Ran (told_0 g c) (told_1 g c) (EachCall (UsesInCommit next b))) c.requires.empty c.commit.ensures.calls)
 
 -- which a mount may make
@@ -60,24 +60,28 @@ allowed g c =
 
 pub returns-then-meta-ne1 : goal.returns-then-meta-ne1
 returns-then-meta-ne1 g c = record {
-  slots = refl;
-  disks = refl;
+  kept = record {
+    slots = refl;
+    disks = refl;
+    powers = nothing_lost _;
+    each = nothing_failed _;
+    two = tt;
+    gone = tt;
+  };
   given =
       let test = c.if-meta-ne1.true in
       let not : c.args.meta.now.version ≢ 1 = grind (arith, nat_tests, test) in
       sym (renewed_two c.args.meta.now not);
-  epoch = sym c.requires.epoch;
-  named = sym c.requires.named;
-  powers = nothing_lost _;
-  each = nothing_failed _;
+  epoch = sym c.requires.can.epoch;
+  named = sym c.requires.can.named;
   synced = λ d there is. inl is;
-  one = λ one. subst (λ (o : Option ℕ). IsOneOut c.args.store.now.disks o (g.R.Rack.slot c.args.store.now.rack)) c.requires.named one;
+  one = λ one. subst (λ (o : Option ℕ). IsOneOut c.args.store.now.disks o (g.R.Rack.slot c.args.store.now.rack)) c.requires.can.named one;
   calls = Ran-none (EachCall (IsInLog c.args.store.now.disks)) (λ s. tt) (g.R.Rack.told c.args.store.now.rack);
-  allowed = no_calls c.args.meta.now (g.R.Rack.told c.args.store.now.rack);
-  two = tt;
-  gone = tt;
-  holds = λ slots x said old is recovers. recovers.holds;
-  metas = λ slots x said old is recovers before. before;
+  recovers = record {
+    allowed = no_calls c.args.meta.now (g.R.Rack.told c.args.store.now.rack);
+    holds = λ slots x said old is recovers. recovers.holds;
+    metas = λ slots x said old is recovers before. before;
+  };
   ends = λ slots x said old is recovers.
       subst (λ (m : Meta). EndsHeld slots x said m old (g.R.Rack.told c.args.store.now.rack)) is recovers.ends;
 }
@@ -91,54 +95,62 @@ metas g c one slots x said old is recovers before =
 
 pub returns-in_err-commit : goal.returns-in_err-commit
 returns-in_err-commit g c = record {
-  slots = c.commit.ensures.slots;
-  disks = c.commit.ensures.disks;
+  kept = record {
+    slots = c.commit.ensures.slots;
+    disks = c.commit.ensures.disks;
+    powers = c.commit.ensures.powers;
+    each = c.commit.ensures.each;
+    two =
+        let n = c.args.store.now.disks in
+        let named = c.args.store.now.named in
+        let a = g.R.Rack.slot c.args.store.now.rack in
+        let b = g.R.Rack.slot c.commit.new.self.rack in
+        raised _ _ _ c.from_residual.ensures.1
+        (two_named n named a b c.in_err-commit.field-0.0
+        (subst (λ (o : Option ℕ). AreTwoDownBeside (IsOutOfCommit (λ e. (a e).power) n named o) a b c.in_err-commit.field-0.0) (sym c.requires.can.named) c.in_err-commit.ensures.two));
+    gone =
+        let n = c.args.store.now.disks in
+        let named = c.args.store.now.named in
+        let a = g.R.Rack.slot c.args.store.now.rack in
+        let b = g.R.Rack.slot c.commit.new.self.rack in
+        let power = (λ (e : ℕ). (a e).power) in
+        raised _ _ _ c.from_residual.ensures.1
+        (gone_beside (IsOutOfCommit power n named named) (IsOutOfCommit power n named None) a b c.in_err-commit.field-0.0 (out_named_twice power n named)
+        (subst (λ (o : Option ℕ). AreGoneSince (IsOutOfCommit power n named o) a b c.in_err-commit.field-0.0) (sym c.requires.can.named) c.in_err-commit.ensures.gone));
+  };
   given = none_done_if _ c.from_residual.result _ c.from_residual.ensures.1;
   epoch = none_done_if _ c.from_residual.result _ c.from_residual.ensures.1;
   named = none_done_if _ c.from_residual.result _ c.from_residual.ensures.1;
-  powers = c.commit.ensures.powers;
-  each = c.commit.ensures.each;
   synced = none_done_if _ c.from_residual.result _ c.from_residual.ensures.1;
   one = none_done_if _ c.from_residual.result _ c.from_residual.ensures.1;
   calls = log_calls g (goal.at.returns-in_err-commit g c).After-commit;
-  allowed = allowed g (goal.at.returns-in_err-commit g c).After-commit;
-  two =
-      let n = c.args.store.now.disks in
-      let named = c.args.store.now.named in
-      let a = g.R.Rack.slot c.args.store.now.rack in
-      let b = g.R.Rack.slot c.commit.new.self.rack in
-      raised _ _ _ c.from_residual.ensures.1
-      (two_named n named a b c.in_err-commit.field-0.0
-      (subst (λ (o : Option ℕ). AreTwoDownBeside (IsOutOfCommit (λ e. (a e).power) n named o) a b c.in_err-commit.field-0.0) (sym c.requires.named) c.in_err-commit.ensures.two));
-  gone =
-      let n = c.args.store.now.disks in
-      let named = c.args.store.now.named in
-      let a = g.R.Rack.slot c.args.store.now.rack in
-      let b = g.R.Rack.slot c.commit.new.self.rack in
-      let power = (λ (e : ℕ). (a e).power) in
-      raised _ _ _ c.from_residual.ensures.1
-      (gone_beside (IsOutOfCommit power n named named) (IsOutOfCommit power n named None) a b c.in_err-commit.field-0.0 (out_named_twice power n named)
-      (subst (λ (o : Option ℕ). AreGoneSince (IsOutOfCommit power n named o) a b c.in_err-commit.field-0.0) (sym c.requires.named) c.in_err-commit.ensures.gone));
-  holds = holds g (goal.at.returns-in_err-commit g c).After-commit;
-  metas =
-      let not = c.if-meta-ne1.false in
-      let one : c.args.meta.now.version ≡ 1 = grind (arith, nat_tests, not) in
-      metas g (goal.at.returns-in_err-commit g c).After-commit one;
+  recovers = record {
+    allowed = allowed g (goal.at.returns-in_err-commit g c).After-commit;
+    holds = holds g (goal.at.returns-in_err-commit g c).After-commit;
+    metas =
+        let not = c.if-meta-ne1.false in
+        let one : c.args.meta.now.version ≡ 1 = grind (arith, nat_tests, not) in
+        metas g (goal.at.returns-in_err-commit g c).After-commit one;
+  };
   ends = none_done_if _ c.from_residual.result _ c.from_residual.ensures.1;
 }
 
 pub returns : goal.returns
 returns g c = record {
-  slots = c.commit.ensures.slots;
-  disks = c.commit.ensures.disks;
+  kept = record {
+    slots = c.commit.ensures.slots;
+    disks = c.commit.ensures.disks;
+    powers = c.commit.ensures.powers;
+    each = c.commit.ensures.each;
+    two = tt;
+    gone = tt;
+  };
   given =
       let not = c.if-meta-ne1.false in
       let one : c.args.meta.now.version ≡ 1 = grind (arith, nat_tests, not) in
-      ap (λ (e : ℕ). record c.args.meta.now { version = 2; epoch = e }) (c.epoch.ensures ∙ c.in_ok-commit.ensures.epoch ∙ ap (λ (k : ℕ). k + 1) c.requires.epoch) ∙ sym (renewed_one c.args.meta.now one);
+      ap (λ (e : ℕ). record c.args.meta.now { version = 2; epoch = e }) (c.epoch.ensures ∙ c.in_ok-commit.ensures.epoch ∙ ap (λ (k : ℕ). k + 1) c.requires.can.epoch) ∙ sym (renewed_one c.args.meta.now one);
   epoch = c.epoch.ensures;
   named = sym c.in_ok-commit.ensures.named;
-  powers = c.commit.ensures.powers;
-  each = c.commit.ensures.each;
   synced = c.in_ok-commit.ensures.synced;
   one = λ one.
       let n = c.args.store.now.disks in
@@ -146,26 +158,26 @@ returns g c = record {
       let a = g.R.Rack.slot c.args.store.now.rack in
       let b = g.R.Rack.slot c.commit.new.self.rack in
       let it = c.in_ok-commit in
-      subst (λ (o : Option ℕ). IsOneOut n o b) c.requires.named
+      subst (λ (o : Option ℕ). IsOneOut n o b) c.requires.can.named
       (one_kept n named it.field-0 a b it.ensures.well
-      (subst (λ (o : Option ℕ). (d : ℕ) → it.field-0 ≡ Some d → IsAlone n (IsOutOfCommit (λ e. (a e).power) n named o) d) (sym c.requires.named) it.ensures.alone) one);
+      (subst (λ (o : Option ℕ). (d : ℕ) → it.field-0 ≡ Some d → IsAlone n (IsOutOfCommit (λ e. (a e).power) n named o) d) (sym c.requires.can.named) it.ensures.alone) one);
   calls = log_calls g (goal.at.returns g c).After-commit;
-  allowed = allowed g (goal.at.returns g c).After-commit;
-  two = tt;
-  gone = tt;
-  holds = holds g (goal.at.returns g c).After-commit;
-  metas =
-      let not = c.if-meta-ne1.false in
-      let one : c.args.meta.now.version ≡ 1 = grind (arith, nat_tests, not) in
-      metas g (goal.at.returns g c).After-commit one;
+  recovers = record {
+    allowed = allowed g (goal.at.returns g c).After-commit;
+    holds = holds g (goal.at.returns g c).After-commit;
+    metas =
+        let not = c.if-meta-ne1.false in
+        let one : c.args.meta.now.version ≡ 1 = grind (arith, nat_tests, not) in
+        metas g (goal.at.returns g c).After-commit one;
+  };
   ends = λ slots x said old is recovers.
       let at = (goal.at.returns g c).After-commit in
       let m = c.args.meta.now in
-      let epoch : c.epoch.result ≡ m.epoch + 1 = c.epoch.ensures ∙ c.in_ok-commit.ensures.epoch ∙ ap (λ (k : ℕ). k + 1) c.requires.epoch in
+      let epoch : c.epoch.result ≡ m.epoch + 1 = c.epoch.ensures ∙ c.in_ok-commit.ensures.epoch ∙ ap (λ (k : ℕ). k + 1) c.requires.can.epoch in
       let commits : EndsCommitted (told_0 g at) (told_1 g at) m (after m) [] =
       subst (λ (b : Batch). EndsCommitted (told_0 g at) (told_1 g at) m (after m) b) c.requires.empty
-      (subst (λ (e : ℕ). EndsCommitted (told_0 g at) (told_1 g at) m (record m { version = 2; epoch = e + 1 }) c.args.nothing.now) c.requires.epoch
-      (c.in_ok-commit.ensures.committed m c.requires.named)) in
+      (subst (λ (e : ℕ). EndsCommitted (told_0 g at) (told_1 g at) m (record m { version = 2; epoch = e + 1 }) c.args.nothing.now) c.requires.can.epoch
+      (c.in_ok-commit.ensures.committed m c.requires.can.named)) in
       subst (λ (e : ℕ). EndsHeld slots x said (record m { version = 2; epoch = e }) old (told_1 g at)) (sym epoch)
       (subst (λ (n : Meta). EndsHeld slots x said (after n) old (told_1 g at)) is
       (renew_ends slots x said old (told_0 g at) (told_1 g at) recovers.holds recovers.ends (whole g at said.meta is)

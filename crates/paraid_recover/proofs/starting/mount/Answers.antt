@@ -4,7 +4,7 @@ use Rattle.std.proofs.lemmas.Result.{IfErr-weaker, IfOk-weaker}
 use Rattle.paraid_recover.specs.declared.fault.MountFault.TheVariants.{NoMemory}
 use Rattle.paraid_recover.specs.Mount.IsCauseOfRefusal.{no_memory}
 use Rattle.paraid_txn.specs.Stores.{named_of, store_rack}
-use Rattle.paraid_recover.proofs.MountedLemmas.{mounted_extends, mounted_from_each, no_calls, ran_extends, refused_extends, refused_from_each}
+use Rattle.paraid_recover.proofs.MountedLemmas.{mounted_extends, mounted_from_each, no_calls, ran_extends, refused_extends, refused_from_each, unstarted_here}
 use Rattle.paraid_recover.proofs.starting.mount.Goals as goal
 
 -- what is said of a success twice is said of it once
@@ -47,8 +47,8 @@ returns-in_default g c = record {
   grows = tt;
   refused_grows = ran_extends _ _ _ (no_calls (g.R.Rack.told c.args.rack)).calls;
   mounted = tt;
-  cause = no_memory refl (no_calls (g.R.Rack.told c.args.rack));
+  cause = no_memory refl (unstarted_here (g.R.Rack.slot c.args.rack) (g.R.Rack.told c.args.rack));
   refused = λ began at.
       refused_from_each (g.R.Rack.slot_count c.args.rack) (g.R.Rack.slot c.args.rack) (g.R.Rack.slot c.args.rack) (g.R.Rack.told c.args.rack) (g.R.Rack.told c.args.rack) NoMemory
-      (g.met.R.Rack.agrees c.args.rack) (g.met.R.Rack.agrees c.args.rack) began at (no_memory refl (no_calls (g.R.Rack.told c.args.rack)));
+      (g.met.R.Rack.agrees c.args.rack) (g.met.R.Rack.agrees c.args.rack) began at (no_memory refl (unstarted_here (g.R.Rack.slot c.args.rack) (g.R.Rack.told c.args.rack)));
 }

@@ -22,12 +22,12 @@ returns-then-disk-ge2 g c = record {
   two = tt;
 }
 
-pub bear-requires : goal.bear-requires
-bear-requires g c =
+pub bear_once-requires : goal.bear_once-requires
+bear_once-requires g c =
     let low = c.if-disk-ge2.false in record {
       log_disk = omega arith;
       exists = c.requires.exists;
-      ready = (c.requires.ready c.in-Some.disk (sym c.named.ensures ∙ c.in-Some.is, omega arith)).can;
+      ready = c.requires.ready c.in-Some.disk (sym c.named.ensures ∙ c.in-Some.is, omega arith);
     }
 
 pub returns : goal.returns
@@ -35,6 +35,6 @@ returns g c =
     let is : Some c.in-Some.disk ≡ named_out c.args.meta.now.out = sym c.in-Some.is ∙ c.named.ensures in
     let low = c.if-disk-ge2.false in
     record {
-      borne = subst (λ (o : Option ℕ). HasBorne g.R.Rack o c.args.store.now c.bear.new.store (is_ok c.bear.result)) is c.bear.ensures.borne;
-      two = named_two (named_out c.args.meta.now.out) c.in-Some.disk c.bear.result (sym is, omega arith) c.bear.ensures.two;
+      borne = subst (λ (o : Option ℕ). HasBorne g.R.Rack o c.args.store.now c.bear_once.new.store (is_ok c.bear_once.result)) is c.bear_once.ensures.borne;
+      two = named_two (named_out c.args.meta.now.out) c.in-Some.disk c.bear_once.result (sym is, omega arith) c.bear_once.ensures.two;
     }

@@ -1,14 +1,16 @@
-use Rattle.std.proofs.Common.{◌≡◌, true, refl, sym, ◌∙◌, subst}
+use Rattle.std.proofs.Common.{refl, sym, ◌∙◌, subst}
+use Rattle.paraid_image.specs.Out.{named_out}
 use Rattle.paraid_serve.specs.Causes.{HasCause}
-use Rattle.paraid_serve.specs.Form.{is_answer_to}
+use Rattle.paraid_trace.specs.Answered.{answer_with}
 use Rattle.paraid_trace.specs.Asked.{event_with}
 use Rattle.paraid_trace.specs.declared.asked.Asked.{Asked}
 use Rattle.paraid_base.specs.declared.event.Answer.TheVariants.{Bad as IsBad}
 use Rattle.paraid_rack.specs.Told.{Ran}
 use Rattle.paraid_session.specs.Turn.{GoesOn}
-use Rattle.paraid_serve.proofs.FormLemmas.{again_cause, bad_cause, halted_kind, not_bad}
+use Rattle.paraid_serve.proofs.FormLemmas.{again_cause, bad_cause, not_bad}
 use Rattle.paraid_serve.proofs.GrowsLemmas.{grows_none}
 use Rattle.paraid_serve.proofs.HaltLemmas.{served_more}
+use Rattle.paraid_serve.proofs.OwedLemmas.{few_by, halt_owed, later_owed, setup_owed, two_owed}
 use Rattle.paraid_serve.proofs.StretchLemmas.{bad_turn, again_turn}
 use Rattle.paraid_serve.proofs.answer.answer.Goals as goal
 
@@ -23,7 +25,6 @@ returns-in-Bad g c = record {
   setup = refl;
   halt = c.requires.halt;
   since = λ start s. s;
-  kind = subst (λ (a : Asked). is_answer_to (event_with a c.args.pairs.now) IsBad ≡ true) (sym c.in-Bad.is) refl;
   few = tt;
   cause =
       let x = g.A.Serves.shown c.args.array.now in
@@ -41,20 +42,29 @@ returns-in-Some g c =
       setup = refl;
       halt = c.requires.halt;
       since = λ start s. s;
-      kind = halted_kind event c.in-Some.halt good;
       few = tt;
       cause = again_cause (g.A.Serves.shown c.args.array.now) event c.in-Some.halt good ((g.met.A.Serves.shows c.args.array.now).halt ∙ sym c.requires.halt ∙ c.in-Some.is);
     }
 
 pub returns : goal.returns
-returns g c = record {
-  turn = c.serve-answered.ensures.turn;
-  told = c.serve-answered.ensures.told;
-  slots = c.serve-answered.ensures.slots;
-  setup = c.serve-answered.ensures.setup;
-  halt = c.halt_in.ensures c.serve-answered.new.beside ∙ sym c.serve-answered.ensures.halt;
-  since = λ start s. served_more start _ _ _ _ _ _ c.serve-answered.ensures.two c.serve-answered.ensures.later s;
-  kind = c.serve-answered.ensures.kind;
-  few = c.serve-answered.ensures.few;
-  cause = c.serve-answered.ensures.cause;
-}
+returns g c =
+    let a = c.args.array.now in
+    let b = c.serve-answered.new.self in
+    let event = event_with c.args.asked c.args.pairs.now in
+    let answer = answer_with c.serve-answered.result c.serve-answered.new.beside in
+    let e = c.serve-answered.ensures in
+    let good = not_bad c.args.asked c.args.pairs.now c.in_default.not-Bad in
+    let shows_a = g.met.A.Serves.shows a in
+    let shows_b = g.met.A.Serves.shows b in
+    record {
+      turn = e.turn;
+      told = e.told;
+      slots = e.slots;
+      setup = setup_owed g.A.Serves a b shows_a shows_b event answer e.cause;
+      halt = c.halt_in.ensures c.serve-answered.new.beside ∙ sym (halt_owed g.A.Serves a b shows_a shows_b event answer e.cause good);
+      since = λ start s.
+          served_more start (g.A.Serves.slot a) (g.A.Serves.slot b) (g.A.Serves.halted a) (g.A.Serves.halted b) (named_out (g.A.Serves.shown a).meta.out) event
+          (two_owed g.A.Serves a b shows_a shows_b event answer e.cause good (sym c.requires.halt ∙ c.in_default-halt.is)) (later_owed g.A.Serves a b shows_a shows_b event answer e.cause) s;
+      few = few_by (g.A.Serves.shown a) (g.A.Serves.shown b) event answer e.cause;
+      cause = e.cause;
+    }

@@ -1,13 +1,10 @@
 use Rattle.paraid_serve.specs.Causes.{HasCause}
-use Rattle.std.specs.Prelude.{◌≡◌, true}
 use Rattle.std.proofs.Common.{subst, sym}
 use Rattle.paraid_base.specs.declared.event.Answer.{Answer}
 use Rattle.paraid_base.specs.declared.event.Event.{Event}
 use Rattle.paraid_rack.specs.Told.{Ran}
 use Rattle.paraid_session.specs.Turn.{GoesOn}
 use Rattle.paraid_trace.specs.Answered.{answer_with}
-use Rattle.paraid_trace.specs.Replies.{HasFewDisks}
-use Rattle.paraid_serve.specs.Form.{is_answer_to}
 use Rattle.paraid_serve.proofs.answer.answer_event.Goals as goal
 
 pub returns-in-Write : goal.returns-in-Write
@@ -26,8 +23,6 @@ returns-in-Write g c =
       setup = e.setup;
       halt = e.halt;
       since = e.since;
-      kind = subst (λ (x : Answer). is_answer_to c.args.event.now x ≡ true) (sym c.answer.ensures) (subst (λ (event : Event). is_answer_to event told ≡ true) is e.kind);
-      few = subst HasFewDisks (sym c.answer.ensures) e.few;
       cause = subst (λ (x : Answer). HasCause (g.A.Serves.shown a) c.args.event.now x (g.A.Serves.shown b)) (sym c.answer.ensures) (subst (λ (event : Event). HasCause (g.A.Serves.shown a) event told (g.A.Serves.shown b)) is e.cause);
     }
 
@@ -47,7 +42,5 @@ returns g c =
       setup = e.setup;
       halt = e.halt;
       since = e.since;
-      kind = subst (λ (x : Answer). is_answer_to c.args.event.now x ≡ true) (sym c.answer-2.ensures) (subst (λ (event : Event). is_answer_to event told ≡ true) is e.kind);
-      few = subst HasFewDisks (sym c.answer-2.ensures) e.few;
       cause = subst (λ (x : Answer). HasCause (g.A.Serves.shown a) c.args.event.now x (g.A.Serves.shown b)) (sym c.answer-2.ensures) (subst (λ (event : Event). HasCause (g.A.Serves.shown a) event told (g.A.Serves.shown b)) is e.cause);
     }

@@ -1,10 +1,13 @@
-use Rattle.std.proofs.Common.{Option, refl, sym, ◌∙◌, ◌≢◌, subst}
+use Rattle.std.proofs.Common.{◌≡◌, Option, Some, refl, sym, ◌∙◌, ◌≢◌, subst}
+use Rattle.paraid_base.specs.declared.event.Answer.TheVariants.{Flushed, Halted}
 use Rattle.paraid_base.specs.declared.event.Event.TheVariants.{Bad, Flush}
 use Rattle.paraid_base.specs.declared.fault.Halt.{Halt}
 use Rattle.paraid_serve.specs.Lost.{HaltsByWear, HasServedSince}
 use Rattle.paraid_serve.proofs.FormLemmas.{again_cause}
 use Rattle.paraid_serve.proofs.GrowsLemmas.{grows_none}
 use Rattle.paraid_serve.proofs.HaltLemmas.{served_more}
+use Rattle.paraid_serve.proofs.OwedLemmas.{halt_owed, later_owed, setup_owed, two_owed}
+use Rattle.paraid_image.specs.Out.{named_out}
 use Rattle.paraid_serve.proofs.StretchLemmas.{again_turn}
 use Rattle.paraid_serve.proofs.answer.finish.Goals as goal
 
@@ -24,24 +27,34 @@ returns-in-Some g c = record {
 }
 
 pub returns-in-Err : goal.returns-in-Err
-returns-in-Err g c = record {
-  turn = c.in-Err.ensures.turn;
-  told = c.in-Err.ensures.told;
-  slots = c.in-Err.ensures.slots;
-  setup = c.in-Err.ensures.setup;
-  going = tt;
-  since = λ start s. subst (λ (o : Option Halt). HasServedSince start (g.A.Serves.slot c.flush.new.self) o) c.in-Err.ensures.halt (served_more start _ _ _ _ _ _ c.flush.ensures.two c.flush.ensures.later s);
-  worn = subst HaltsByWear c.in-Err.ensures.halt (g.met.A.Serves.worn c.flush.new.self);
-  cause = c.in-Err.ensures.cause;
-}
+returns-in-Err g c =
+    let a = c.args.array.now in
+    let b = c.flush.new.self in
+    let e = c.in-Err.ensures in
+    let shows_a = g.met.A.Serves.shows a in
+    let shows_b = g.met.A.Serves.shows b in
+    let halt : g.A.Serves.halted b ≡ Some c.in-Err.halt = halt_owed g.A.Serves a b shows_a shows_b Flush (Halted c.in-Err.halt) e.cause apart in
+    record {
+      turn = e.turn;
+      told = e.told;
+      slots = e.slots;
+      setup = setup_owed g.A.Serves a b shows_a shows_b Flush (Halted c.in-Err.halt) e.cause;
+      going = tt;
+      since = λ start s.
+          subst (λ (o : Option Halt). HasServedSince start (g.A.Serves.slot b) o) halt
+          (served_more start (g.A.Serves.slot a) (g.A.Serves.slot b) (g.A.Serves.halted a) (g.A.Serves.halted b) (named_out (g.A.Serves.shown a).meta.out) Flush
+          (two_owed g.A.Serves a b shows_a shows_b Flush (Halted c.in-Err.halt) e.cause apart (sym c.requires.halt ∙ c.in_default.is)) (later_owed g.A.Serves a b shows_a shows_b Flush (Halted c.in-Err.halt) e.cause) s);
+      worn = subst HaltsByWear halt (g.met.A.Serves.worn b);
+      cause = e.cause;
+    }
 
 pub returns-in-Ok : goal.returns-in-Ok
 returns-in-Ok g c = record {
   turn = c.in-Ok.ensures.turn;
   told = c.in-Ok.ensures.told;
   slots = c.in-Ok.ensures.slots;
-  setup = c.in-Ok.ensures.setup;
-  going = c.in-Ok.ensures.halt;
+  setup = setup_owed g.A.Serves c.args.array.now c.flush.new.self (g.met.A.Serves.shows c.args.array.now) (g.met.A.Serves.shows c.flush.new.self) Flush (Flushed c.in-Ok.writes) c.in-Ok.ensures.cause;
+  going = halt_owed g.A.Serves c.args.array.now c.flush.new.self (g.met.A.Serves.shows c.args.array.now) (g.met.A.Serves.shows c.flush.new.self) Flush (Flushed c.in-Ok.writes) c.in-Ok.ensures.cause apart;
   since = tt;
   worn = tt;
   cause = c.in-Ok.ensures.cause;

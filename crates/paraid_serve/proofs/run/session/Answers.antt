@@ -28,7 +28,7 @@ lines-preserved g c =
     let k = c.in-Ok.ensures in
     let h = rw c.in-Ok-Some.field-0-is at c.in-Ok-Some.ensures.heard in
     record {
-      sofar = sofar_more i.sofar h c.in-Ok-Some.ensures.goes_on (answer_with c.answer-answered.result c.answer-answered.new.beside) e.kind _ e.cause _ _ _ _ _ i.slots i.setup (told_then _ _ e.told) e.turn (rw (c.as_slice.ensures.value, c.reply_with.ensures.value) at k.grows);
+      sofar = sofar_more i.sofar h c.in-Ok-Some.ensures.goes_on (answer_with c.answer-answered.result c.answer-answered.new.beside) _ e.cause _ _ _ _ _ i.slots i.setup (told_then _ _ e.told) e.turn (rw (c.as_slice.ensures.value, c.reply_with.ensures.value) at k.grows);
       told = grows_then _ _ _ i.told e.told;
       slots = e.slots ∙ i.slots;
       setup = e.setup ∙ i.setup;
@@ -75,7 +75,7 @@ returns-in_default g c = record {
       let e = c.answer-answered.ensures in
       let p = c.in_default.ensures.part in
       let h = rw c.in-Ok-Some.field-0-is at c.in-Ok-Some.ensures.heard in
-      ends_at_sink i.sofar h (answer_with c.answer-answered.result c.answer-answered.new.beside) e.kind _ e.cause _ _ _ _ _ i.slots i.setup (told_then _ _ e.told) e.turn p.0 (rw (c.as_slice.ensures.value, c.reply_with.ensures.value) at p.2);
+      ends_at_sink i.sofar h (answer_with c.answer-answered.result c.answer-answered.new.beside) _ e.cause _ _ _ _ _ i.slots i.setup (told_then _ _ e.told) e.turn p.0 (rw (c.as_slice.ensures.value, c.reply_with.ensures.value) at p.2);
   told = grows_then _ _ _ c.lines.invariant.told c.answer-answered.ensures.told;
   slots = c.answer-answered.ensures.slots ∙ c.lines.invariant.slots;
   setup = c.answer-answered.ensures.setup ∙ c.lines.invariant.setup;

@@ -7,10 +7,10 @@ use Rattle.paraid_record.specs.declared.meta.Meta.{Meta}
 use Rattle.paraid_core.proofs.StepLemmas.{runs_end}
 use Rattle.paraid_shift.specs.Serving.{IsComingUp, RestsInShift}
 use Rattle.paraid_shift.proofs.ServingLemmas.{chain_held, same_none, same_then}
-use Rattle.paraid_core.proofs.AfterLemmas.{handed, rise_high}
+use Rattle.paraid_core.proofs.AfterLemmas.{rise_high}
 use Rattle.paraid_shift.proofs.AnswerLemmas.{none_done}
-use Rattle.paraid_shift.specs.Outcomes.{TellsSecond}
-use Rattle.paraid_shift.proofs.OutcomeLemmas.{no_fall_then, powers_none, powers_tell, powers_then}
+use Rattle.paraid_shift.proofs.PartLemmas.{keeps_done, keeps_powered}
+use Rattle.paraid_shift.proofs.OutcomeLemmas.{powers_none, powers_then}
 use Rattle.paraid_shift.proofs.ServingLemmas.{marked_gear}
 use Rattle.paraid_shift.proofs.begin.bring_up.Goals as goal
 
@@ -38,10 +38,10 @@ loop-disk-preserved g c =
     let one = c.in_ok-raise.ensures in
     record {
       rising = one.rising;
-      powers = powers_then g.R.Rack.slot_count g.R.Rack.slot g.R.Rack.told a b new was.store was.powers one.powers;
+      powers = powers_then g.R.Rack.slot_count g.R.Rack.slot g.R.Rack.told a b new was.store was.powers one.turns.powers;
       store = same_then a.store b.store new.store was.store all.store;
-      table = all.table ∙ was.table;
-      calls = power_calls_then g.R.Rack.slot_count g.R.Rack.slot g.R.Rack.told a b new (g.met.R.Rack.agrees (store_rack b.store)) was.rising.ready was.powers.meta was.calls all.calls;
+      table = all.turns.table ∙ was.table;
+      calls = power_calls_then g.R.Rack.slot_count g.R.Rack.slot g.R.Rack.told a b new (g.met.R.Rack.agrees (store_rack b.store)) was.rising.ready was.powers.meta was.calls all.turns.calls;
       from = let low = was.from in omega arith;
       until = λ d low past. (let within = all.within in let same = rises_same a.meta b.meta was.powers.meta in omega (arith, past, within, same));
       others = λ d place. all.others d (λ same. elim place [ inl low ↦ (let from = was.from in absurd (omega (arith, low, from, same))) | inr past ↦ absurd (omega (arith, past, same)) ])
@@ -59,17 +59,16 @@ returns-in_err-raise g c =
     record {
       serving = none_done _ from.result _ from.ensures.1;
       nothing = none_done _ from.result _ from.ensures.1;
-      powers = none_done _ from.result _ from.ensures.1;
-      table = all.table ∙ was.table;
-      slots = all.slots ∙ was.powers.leaves.slots;
-      no_fall = no_fall_then g.R.Rack.slot a b new was.powers.leaves.turned.no_fall all.no_fall;
-      calls = power_calls_then g.R.Rack.slot_count g.R.Rack.slot g.R.Rack.told a b new (g.met.R.Rack.agrees (store_rack b.store)) was.rising.ready was.powers.meta was.calls all.calls;
-      tells = handed (λ two. TellsSecond g.R.Rack.slot g.R.Rack.told a new two) from.result _ from.ensures.1
-          (powers_tell g.R.Rack.slot_count g.R.Rack.slot g.R.Rack.told a b new _ was.powers all.no_fall c.in_err-raise.ensures.tells);
+      turns = record {
+        powers = none_done _ from.result _ from.ensures.1;
+        table = all.turns.table ∙ was.table;
+        calls = power_calls_then g.R.Rack.slot_count g.R.Rack.slot g.R.Rack.told a b new (g.met.R.Rack.agrees (store_rack b.store)) was.rising.ready was.powers.meta was.calls all.turns.calls;
+        moments = λ h lo.
+            chain_held g.R.Rack.slot_count g.R.Rack.told a b was.powers.leaves.slots was.powers.leaves.setup was.store.named
+            (RestsInShift g.R.Rack.slot_count a h lo) (RestsInShift g.R.Rack.slot_count b h lo) h lo _ (was.powers.rests h lo) (all.turns.moments h lo);
+      };
+      rack = keeps_powered a b new from.result from.ensures.1 was.powers c.in_err-raise.ensures.rack;
       others = none_done _ from.result _ from.ensures.1;
-      moments = λ h lo.
-          chain_held g.R.Rack.slot_count g.R.Rack.told a b was.powers.leaves.slots was.powers.leaves.setup was.store.named
-          (RestsInShift g.R.Rack.slot_count a h lo) (RestsInShift g.R.Rack.slot_count b h lo) h lo _ (was.powers.rests h lo) (all.moments h lo);
     }
 
 past_end : (d disk end : ℕ) (m n p : Meta) → d < rising_to n.phase → rising_to n.phase ≡ rising_to m.phase → p ≡ m → end ≡ rising_to p.phase → end ≤ disk → d < disk
@@ -94,12 +93,13 @@ returns g c =
         large = was.rising.large;
       };
       nothing = was.rising.nothing;
-      powers = was.powers;
-      table = was.table;
-      slots = was.powers.leaves.slots;
-      no_fall = was.powers.leaves.turned.no_fall;
-      calls = was.calls;
-      tells = tt;
+      turns = record {
+        powers = was.powers;
+        table = was.table;
+        calls = was.calls;
+        moments = λ h lo. runs_end g.R.Rack.slot_count g.R.Rack.slot g.R.Rack.told a _ (RestsInShift g.R.Rack.slot_count a h lo) (RestsInShift g.R.Rack.slot_count b h lo) h lo (was.powers.rests h lo);
+      };
+      rack = keeps_done was.powers.leaves;
       others = λ d place. elim (cases_lt d a.meta.gear) [
         | inl low ↦ was.others d (inl low)
         | inr from ↦ elim place [
@@ -107,7 +107,6 @@ returns g c =
           | inr past ↦ was.others d (inr (was.until d from past))
         ]
       ];
-      moments = λ h lo. runs_end g.R.Rack.slot_count g.R.Rack.slot g.R.Rack.told a _ (RestsInShift g.R.Rack.slot_count a h lo) (RestsInShift g.R.Rack.slot_count b h lo) h lo (was.powers.rests h lo);
     }
 
 rising_on : (disk end : ℕ) (m n p : Meta) → disk < end → end ≡ rising_to p.phase → p ≡ m → rising_to n.phase ≡ rising_to m.phase → disk < rising_to n.phase

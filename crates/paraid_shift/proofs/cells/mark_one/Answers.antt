@@ -53,10 +53,10 @@ returns g c =
     let first = c.in-Some.ensures.first in
     let marked = c.mark_cleaned.ensures in
     record {
-      serving = serving_marked g.R.Rack.slot_count g.R.Rack.slot a c.mark_cleaned.new.self marked.store (ap (λ (m : Meta). m.setup) marked.meta) (ap (λ (m : Meta). m.out) marked.meta) c.requires.serving marked.copied (marked.draft ∙ sym c.requires.serving.draft) marked.ready marked.serves;
-      meta = marked.meta;
-      store = marked.store;
-      moves = λ is. core_cell_moves g.R.Rack.slot_count a c.mark_cleaned.new.self _ _ c.requires.whole marked.meta first c.in-Some.ensures.row marked.table;
+      serving = serving_marked g.R.Rack.slot_count g.R.Rack.slot a c.mark_cleaned.new.self marked.stages.store (ap (λ (m : Meta). m.setup) marked.stages.meta) (ap (λ (m : Meta). m.out) marked.stages.meta) c.requires.serving marked.stages.copied (marked.stages.draft ∙ sym c.requires.serving.draft) marked.stages.ready marked.stages.serves;
+      meta = marked.stages.meta;
+      store = marked.stages.store;
+      moves = λ is. core_cell_moves g.R.Rack.slot_count a c.mark_cleaned.new.self _ _ c.requires.whole marked.stages.meta first c.in-Some.ensures.row marked.table;
       idle = λ is. let z : true ≡ false = is in absurd cc;
       some = λ is. let z : true ≡ false = is in absurd cc;
       copied = λ h lo. marked.marked h lo _ (is_before a.meta _ _ _ _ first.low first.high (c.is_within.ensures.within c.if-not-is_within.false));

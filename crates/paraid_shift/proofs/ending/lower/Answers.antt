@@ -12,10 +12,9 @@ use Rattle.paraid_txn.specs.Stores.{store_rack}
 use Rattle.paraid_core.proofs.StepLemmas.{marked_from_setup, runs_end}
 use Rattle.paraid_shift.specs.Serving.{RestsInShift}
 use Rattle.paraid_shift.proofs.ServingLemmas.{copies_kept, large_then, leaves_turned, marked_named, same_none}
-use Rattle.paraid_core.proofs.AfterLemmas.{handed}
+use Rattle.paraid_shift.proofs.PartLemmas.{keeps_failed}
 use Rattle.paraid_shift.proofs.AnswerLemmas.{none_done}
 use Rattle.std.proofs.Math.Nat.{le_refl}
-use Rattle.paraid_shift.specs.Outcomes.{TellsSecond}
 use Rattle.paraid_shift.proofs.OutcomeLemmas.{powers_none}
 use Rattle.paraid_shift.proofs.LossLemmas.{parked_bears}
 use Rattle.paraid_shift.proofs.ending.lower.Goals as goal
@@ -28,16 +27,21 @@ returns-then-not-is_up g c =
     record {
       serving = c.requires.serving;
       nothing = c.requires.nothing;
-      powers = powers;
+      turns = record {
+        powers = powers;
+        table = refl;
+        calls = power_calls_none a.meta (g.R.Rack.told (store_rack a.store));
+        moments = λ h lo. runs_end g.R.Rack.slot_count g.R.Rack.slot g.R.Rack.told a _ (RestsInShift g.R.Rack.slot_count a h lo) (RestsInShift g.R.Rack.slot_count a h lo) h lo (powers.rests h lo);
+      };
       store = same_none a.store;
-      table = refl;
-      slots = refl;
-      no_fall = λ d. le_refl _;
-      calls = power_calls_none a.meta (g.R.Rack.told (store_rack a.store));
-      tells = tt;
+      rack = record {
+        slots = refl;
+        no_fall = λ d. le_refl _;
+        two = tt;
+        loses = tt;
+      };
       parked = c.is_up.ensures.down c.if-not-is_up.true;
       others = λ d apart. refl;
-      moments = λ h lo. runs_end g.R.Rack.slot_count g.R.Rack.slot g.R.Rack.told a _ (RestsInShift g.R.Rack.slot_count a h lo) (RestsInShift g.R.Rack.slot_count a h lo) h lo (powers.rests h lo);
     }
 
 pub returns-in_err-park : goal.returns-in_err-park
@@ -49,16 +53,19 @@ returns-in_err-park g c =
     record {
       serving = none_done _ from.result _ from.ensures.1;
       nothing = none_done _ from.result _ from.ensures.1;
-      powers = none_done _ from.result _ from.ensures.1;
-      store = all.store;
-      table = all.table;
-      slots = all.slots;
-      no_fall = all.turned.no_fall;
-      calls = power_calls_one _ a.meta (λ done. park_is a.meta c.args.disk done c.requires.steady c.requires.disk c.requires.past_gear (c.is_up.ensures.not_out c.if-not-is_up.false)) _ _ all.calls;
-      tells = handed (λ two. TellsSecond g.R.Rack.slot g.R.Rack.told a new two) from.result _ from.ensures.1 (record { down = c.in_err-park.ensures.two; tells = c.in_err-park.ensures.tells });
+      turns = record {
+        powers = none_done _ from.result _ from.ensures.1;
+        table = all.turns.staged.table;
+        calls = power_calls_one _ a.meta (λ done. park_is a.meta c.args.disk done c.requires.steady c.requires.disk c.requires.past_gear (c.is_up.ensures.not_out c.if-not-is_up.false)) _ _ all.calls;
+        moments = all.held.moments;
+      };
+      store = all.turns.store;
+      rack = keeps_failed from.result from.ensures.1 all.turns.slots
+          all.turns.turned.no_fall
+          c.in_err-park.ensures.answers.two
+          c.in_err-park.ensures.answers.tells;
       parked = none_done _ from.result _ from.ensures.1;
-      others = all.others;
-      moments = all.moments;
+      others = all.turns.others;
     }
 
 pub returns : goal.returns
@@ -68,51 +75,56 @@ returns g c =
     let new = c.park.new.self in
     let all = c.park.ensures in
     let done = c.in_ok-park.ensures in
-    let setup = marked_from_setup a.meta new.meta done.meta in
+    let setup = marked_from_setup a.meta new.meta done.answers.meta in
     record {
       serving = record {
-        ready = done.ready;
+        ready = done.turns.ready;
         serves = done.serves q.serves;
-        draft = all.draft ∙ q.draft;
-        copies_synced = copies_kept a new setup all.copied q.copies_synced;
-        unsynced = done.unsynced q.unsynced;
-        large = large_then (g.R.Rack.slot (store_rack a.store)) (g.R.Rack.slot (store_rack new.store)) a.meta new.meta q.large all.turned setup (marked_named a.meta new.meta done.meta) done.ready.absent;
+        draft = all.turns.staged.draft ∙ q.draft;
+        copies_synced = copies_kept a new setup all.turns.staged.copied q.copies_synced;
+        unsynced = done.turns.unsynced q.unsynced;
+        large = large_then (g.R.Rack.slot (store_rack a.store)) (g.R.Rack.slot (store_rack new.store)) a.meta new.meta q.large all.turns.turned setup (marked_named a.meta new.meta done.answers.meta) done.turns.ready.absent;
       };
-      nothing = all.batch ∙ c.requires.nothing;
-      powers = record {
-        leaves = leaves_turned g.R.Rack.slot_count g.R.Rack.slot a new all.slots all.store done.meta all.turned done.risen;
-        absent = done.absent;
-        meta = done.meta;
-        lost = elim (cases_Bool c.in_ok-park.field-0) [
-          | inl ok ↦ powered_same (g.R.Rack.slot (store_rack new.store)) a.meta new.meta (done.same (ap Ok ok))
-          | inr failed ↦
-              powered_lost (g.R.Rack.slot (store_rack new.store)) a.meta new.meta c.args.disk done.meta c.requires.disk (c.is_up.ensures.not_out c.if-not-is_up.false) (done.gone (ap Ok failed)) (ap is_present (done.failed (ap Ok failed)).absent)
-        ];
-        bears = parked_bears c.args.disk _ _ (g.R.Rack.slot (store_rack new.store)) a.meta new.meta c.in_ok-park.field-0 (g.met.R.Rack.agrees (store_rack new.store))
-            (elim (cases_Bool c.in_ok-park.field-0) [
-              | inl ok ↦ ap is_present (done.parked (ap Ok ok)) ∙ sym ok
-              | inr failed ↦ ap is_present (done.failed (ap Ok failed)).absent ∙ sym failed
-            ])
-            done.meta (λ ok. done.same (ap Ok ok)) (λ failed. done.gone (ap Ok failed)) all.calls;
-        rests = λ h lo. elim (cases_Bool c.in_ok-park.field-0) [
-          | inl ok ↦
-              subst (λ (n : ℕ). Ran (g.R.Rack.told (store_rack a.store)) (g.R.Rack.told (store_rack new.store)) (CrashTriple (IsCoreHeldSinceCommit g.R.Rack.slot_count a h lo) (RestsInShift g.R.Rack.slot_count a h lo) (Filled g.R.Rack.slot_count new h lo n)))
-              (sym (ap (λ (m : Meta). m.fill) (done.same (ap Ok ok)))) (done.done (ap Ok ok) h lo)
-          | inr failed ↦ done.lost_filled (ap Ok failed) h lo
-        ];
+      nothing = all.turns.staged.batch ∙ c.requires.nothing;
+      turns = record {
+        powers = record {
+          leaves = leaves_turned g.R.Rack.slot_count g.R.Rack.slot a new all.turns.slots all.turns.store done.answers.meta all.turns.turned done.answers.risen;
+          absent = done.turns.absent;
+          meta = done.answers.meta;
+          lost = elim (cases_Bool c.in_ok-park.field-0) [
+            | inl ok ↦ powered_same (g.R.Rack.slot (store_rack new.store)) a.meta new.meta (done.answers.same (ap Ok ok))
+            | inr failed ↦
+                powered_lost (g.R.Rack.slot (store_rack new.store)) a.meta new.meta c.args.disk done.answers.meta c.requires.disk (c.is_up.ensures.not_out c.if-not-is_up.false) (done.answers.gone (ap Ok failed)) (ap is_present (done.answers.failed (ap Ok failed)).absent)
+          ];
+          bears = parked_bears c.args.disk _ _ (g.R.Rack.slot (store_rack new.store)) a.meta new.meta c.in_ok-park.field-0 (g.met.R.Rack.agrees (store_rack new.store))
+              (elim (cases_Bool c.in_ok-park.field-0) [
+                | inl ok ↦ ap is_present (done.parked (ap Ok ok)) ∙ sym ok
+                | inr failed ↦ ap is_present (done.answers.failed (ap Ok failed)).absent ∙ sym failed
+              ])
+              done.answers.meta (λ ok. done.answers.same (ap Ok ok)) (λ failed. done.answers.gone (ap Ok failed)) all.calls;
+          rests = λ h lo. elim (cases_Bool c.in_ok-park.field-0) [
+            | inl ok ↦
+                subst (λ (n : ℕ). Ran (g.R.Rack.told (store_rack a.store)) (g.R.Rack.told (store_rack new.store)) (CrashTriple (IsCoreHeldSinceCommit g.R.Rack.slot_count a h lo) (RestsInShift g.R.Rack.slot_count a h lo) (Filled g.R.Rack.slot_count new h lo n)))
+                (sym (ap (λ (m : Meta). m.fill) (done.answers.same (ap Ok ok)))) (done.held.done (ap Ok ok) h lo)
+            | inr failed ↦ done.held.lost_filled (ap Ok failed) h lo
+          ];
+        };
+        table = all.turns.staged.table;
+        calls = power_calls_one _ a.meta (λ done. park_is a.meta c.args.disk done c.requires.steady c.requires.disk c.requires.past_gear (c.is_up.ensures.not_out c.if-not-is_up.false)) _ _ all.calls;
+        moments = all.held.moments;
       };
-      store = all.store;
-      table = all.table;
-      slots = all.slots;
-      no_fall = all.turned.no_fall;
-      calls = power_calls_one _ a.meta (λ done. park_is a.meta c.args.disk done c.requires.steady c.requires.disk c.requires.past_gear (c.is_up.ensures.not_out c.if-not-is_up.false)) _ _ all.calls;
-      tells = tt;
+      store = all.turns.store;
+      rack = record {
+        slots = all.turns.slots;
+        no_fall = all.turns.turned.no_fall;
+        two = tt;
+        loses = tt;
+      };
       parked = λ not. elim (cases_Bool c.in_ok-park.field-0) [
         | inl ok ↦ done.parked (ap Ok ok)
-        | inr failed ↦ absurd (not (ap named_out (done.gone (ap Ok failed))))
+        | inr failed ↦ absurd (not (ap named_out (done.answers.gone (ap Ok failed))))
       ];
-      others = all.others;
-      moments = all.moments;
+      others = all.turns.others;
     }
 
 pub is_up-requires : goal.is_up-requires

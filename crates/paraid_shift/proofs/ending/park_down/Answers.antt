@@ -6,10 +6,9 @@ use Rattle.paraid_record.specs.declared.meta.Meta.{Meta}
 use Rattle.paraid_txn.specs.Stores.{store_rack}
 use Rattle.paraid_shift.proofs.PowersLemmas.{power_calls_none, power_calls_then}
 use Rattle.std.proofs.Common.{◌∙◌, refl}
-use Rattle.paraid_core.proofs.AfterLemmas.{handed}
 use Rattle.paraid_shift.proofs.AnswerLemmas.{none_done}
-use Rattle.paraid_shift.specs.Outcomes.{TellsSecond}
-use Rattle.paraid_shift.proofs.OutcomeLemmas.{no_fall_then, powers_none, powers_tell, powers_then}
+use Rattle.paraid_shift.proofs.PartLemmas.{keeps_done, keeps_powered}
+use Rattle.paraid_shift.proofs.OutcomeLemmas.{powers_none, powers_then}
 use Rattle.paraid_core.proofs.StepLemmas.{runs_end}
 use Rattle.paraid_shift.specs.Serving.{RestsInShift}
 use Rattle.paraid_shift.proofs.ServingLemmas.{chain_held, marked_named, same_none, same_then}
@@ -46,10 +45,10 @@ loop-disk-preserved g c =
     record {
       serving = one.serving;
       nothing = one.nothing;
-      powers = powers_then g.R.Rack.slot_count g.R.Rack.slot g.R.Rack.told a b new was.store was.powers one.powers;
+      powers = powers_then g.R.Rack.slot_count g.R.Rack.slot g.R.Rack.told a b new was.store was.powers one.turns.powers;
       store = same_then a.store b.store new.store was.store all.store;
-      table = all.table ∙ was.table;
-      calls = power_calls_then g.R.Rack.slot_count g.R.Rack.slot g.R.Rack.told a b new (g.met.R.Rack.agrees (store_rack b.store)) was.serving.ready was.powers.meta was.calls all.calls;
+      table = all.turns.table ∙ was.table;
+      calls = power_calls_then g.R.Rack.slot_count g.R.Rack.slot g.R.Rack.told a b new (g.met.R.Rack.agrees (store_rack b.store)) was.serving.ready was.powers.meta was.calls all.turns.calls;
       from = let low = was.from in omega arith;
       until = λ d low past. (let test = c.loop-disk-test.true in omega (arith, past));
       parked = λ d low under not. elim (cases_eq d c.loop-disk.disk) [
@@ -57,7 +56,7 @@ loop-disk-preserved g c =
             ap (λ (e : ℕ). (g.R.Rack.slot (store_rack new.store) e).power) same ∙ one.parked (λ k. not (k ∙ ap Some (sym same)))
         | inr apart ↦
             ap (λ (s : Slot). s.power) (all.others d apart)
-            ∙ was.parked d low (omega (arith, under, apart)) (λ k. not (marked_named b.meta new.meta one.powers.meta d k))
+            ∙ was.parked d low (omega (arith, under, apart)) (λ k. not (marked_named b.meta new.meta one.turns.powers.meta d k))
       ];
       others = λ d place. all.others d (λ same. elim place [ inl low ↦ (let from = was.from in absurd (omega (arith, low, from, same))) | inr past ↦ absurd (omega (arith, past, same)) ])
           ∙ was.others d (elim place [ inl low ↦ inl low | inr past ↦ inr (omega (arith, past)) ]);
@@ -74,18 +73,17 @@ returns-in_err-lower g c =
     record {
       serving = none_done _ from.result _ from.ensures.1;
       nothing = none_done _ from.result _ from.ensures.1;
-      powers = none_done _ from.result _ from.ensures.1;
-      table = all.table ∙ was.table;
-      slots = all.slots ∙ was.powers.leaves.slots;
-      no_fall = no_fall_then g.R.Rack.slot a b new was.powers.leaves.turned.no_fall all.no_fall;
-      calls = power_calls_then g.R.Rack.slot_count g.R.Rack.slot g.R.Rack.told a b new (g.met.R.Rack.agrees (store_rack b.store)) was.serving.ready was.powers.meta was.calls all.calls;
-      tells = handed (λ two. TellsSecond g.R.Rack.slot g.R.Rack.told a new two) from.result _ from.ensures.1
-          (powers_tell g.R.Rack.slot_count g.R.Rack.slot g.R.Rack.told a b new _ was.powers all.no_fall c.in_err-lower.ensures.tells);
+      turns = record {
+        powers = none_done _ from.result _ from.ensures.1;
+        table = all.turns.table ∙ was.table;
+        calls = power_calls_then g.R.Rack.slot_count g.R.Rack.slot g.R.Rack.told a b new (g.met.R.Rack.agrees (store_rack b.store)) was.serving.ready was.powers.meta was.calls all.turns.calls;
+        moments = λ h lo.
+            chain_held g.R.Rack.slot_count g.R.Rack.told a b was.powers.leaves.slots was.powers.leaves.setup was.store.named
+            (RestsInShift g.R.Rack.slot_count a h lo) (RestsInShift g.R.Rack.slot_count b h lo) h lo _ (was.powers.rests h lo) (all.turns.moments h lo);
+      };
+      rack = keeps_powered a b new from.result from.ensures.1 was.powers c.in_err-lower.ensures.rack;
       parked = none_done _ from.result _ from.ensures.1;
       others = none_done _ from.result _ from.ensures.1;
-      moments = λ h lo.
-          chain_held g.R.Rack.slot_count g.R.Rack.told a b was.powers.leaves.slots was.powers.leaves.setup was.store.named
-          (RestsInShift g.R.Rack.slot_count a h lo) (RestsInShift g.R.Rack.slot_count b h lo) h lo _ (was.powers.rests h lo) (all.moments h lo);
     }
 
 pub returns : goal.returns
@@ -96,12 +94,13 @@ returns g c =
     record {
       serving = was.serving;
       nothing = was.nothing;
-      powers = was.powers;
-      table = was.table;
-      slots = was.powers.leaves.slots;
-      no_fall = was.powers.leaves.turned.no_fall;
-      calls = was.calls;
-      tells = tt;
+      turns = record {
+        powers = was.powers;
+        table = was.table;
+        calls = was.calls;
+        moments = λ h lo. runs_end g.R.Rack.slot_count g.R.Rack.slot g.R.Rack.told a _ (RestsInShift g.R.Rack.slot_count a h lo) (RestsInShift g.R.Rack.slot_count b h lo) h lo (was.powers.rests h lo);
+      };
+      rack = keeps_done was.powers.leaves;
       parked = λ d low under not. was.parked d low (let test = c.loop-disk-test.false in omega (arith, under)) not;
       others = λ d place. elim (cases_lt d a.meta.gear) [
         | inl low ↦ was.others d (inl low)
@@ -110,7 +109,6 @@ returns g c =
           | inr past ↦ was.others d (inr (was.until d from past))
         ]
       ];
-      moments = λ h lo. runs_end g.R.Rack.slot_count g.R.Rack.slot g.R.Rack.told a _ (RestsInShift g.R.Rack.slot_count a h lo) (RestsInShift g.R.Rack.slot_count b h lo) h lo (was.powers.rests h lo);
     }
 
 lower_than : (disk hi disks now : ℕ) → disk < hi → hi ≤ disks → now ≡ disks → disk < now

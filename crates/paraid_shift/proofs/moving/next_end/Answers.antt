@@ -53,9 +53,7 @@ returns-then-to-eq0 g c =
     record {
       from = same_low _ _ fill;
       few = same_few _ _ _ fill;
-      shifts = λ more. absurd (none_more _ _ fill more);
-      region = λ more. absurd (none_more _ _ fill more);
-      stripe = λ more. absurd (none_more _ _ fill more);
+      some = λ more. absurd (none_more _ _ fill more);
       all = inr (elim c.then-to-eq0.branch [
         | then-to-eq0-via-then-to-eq0 w ↦ none_to _ c.args.core.now.meta _ same c.to-to.ensures within w.if-to-eq0.true
         | then-to-eq0-via-else-to-eq0+then-to-meta w ↦ none_past _ c.args.core.now.meta _ same c.to-to.ensures within w.if-to-meta.true
@@ -71,8 +69,11 @@ returns g c =
     record {
       from = from_low _ _ _ fill;
       few = min_few _ _ _ _ _ fill c.min.ensures;
-      shifts = λ more. some_to _ _ to c.if-to-eq0.false;
-      region = λ more. below _ _ _ _ to (ap (λ (m : Meta). m.setup.geometry.disks) same) c.if-to-meta.false;
-      stripe = λ more. min_within _ _ _ _ _ _ fill left.within left.left c.min.ensures;
+      some = λ more. record {
+        shifts = some_to _ _ to c.if-to-eq0.false;
+        region = below _ _ _ _ to (ap (λ (m : Meta). m.setup.geometry.disks) same) c.if-to-meta.false;
+        from = from_low _ _ _ fill;
+        stripe = min_within _ _ _ _ _ _ fill left.within left.left c.min.ensures;
+      };
       all = min_all _ _ _ _ _ _ fill left.within left.left c.min.ensures;
     }

@@ -1,21 +1,21 @@
 use Rattle.std.proofs.Common.{◌≡◌, ℕ, ◌∙◌, ◌<◌, ◌≤◌, sym, arith, inl, inr, ◌+◌}
 use Rattle.paraid_base.specs.declared.state.Out.TheVariants.{No}
-use Rattle.paraid_core.proofs.AfterLemmas.{handed}
+use Rattle.paraid_shift.proofs.PartLemmas.{keeps_done, keeps_stepped}
 use Rattle.paraid_shift.proofs.AnswerLemmas.{none_done_if}
-use Rattle.paraid_shift.specs.Outcomes.{LosesSecond}
+use Rattle.paraid_shift.proofs.ServingLemmas.{leaves_array_then}
 use Rattle.paraid_shift.proofs.MovingLemmas.{core_moves_same, core_moves_so, core_moves_then, staged_some}
-use Rattle.paraid_shift.proofs.OutcomeLemmas.{no_fall_then, second_then, serves_none, serves_then, serves_within, staged_none}
+use Rattle.paraid_shift.proofs.OutcomeLemmas.{serves_none, serves_then, serves_within, staged_none}
 use Rattle.paraid_shift.proofs.StepsLemmas.{core_steps_none, core_steps_then, core_steps_within}
 use Rattle.paraid_shift.proofs.moving.step_cells.Goals as goal
 
 pub loop-at-init : goal.loop-at-init
 loop-at-init g c = record {
-  serves = serves_none g.R.Rack.slot_count g.R.Rack.slot c.args.core.now 0 c.requires.serving;
+  serves = serves_none g.R.Rack.slot_count g.R.Rack.slot c.args.core.now 0 c.requires.can.serving;
   few = omega arith;
   going = omega arith;
-  moves = core_moves_same g.R.Rack.slot_count c.args.core.now c.requires.whole;
+  moves = core_moves_same g.R.Rack.slot_count c.args.core.now c.requires.can.whole;
   steps = core_steps_none g.R.Rack.slot_count g.R.Rack.slot g.R.Rack.told c.args.core.now;
-  ended = λ some. absurd (some c.requires.nothing);
+  ended = λ some. absurd (some c.requires.can.nothing);
 }
 
 pub loop-at-preserved : goal.loop-at-preserved
@@ -42,9 +42,11 @@ pub step_group-requires : goal.step_group-requires
 step_group-requires g c =
     let was = c.loop-at.invariant in
     record {
-      serving = was.serves.serving;
-      whole = sym c.out.ensures ∙ c.in-No.is;
-      nothing = staged_none _ _ c.staged.ensures c.if-staged-ne0.false;
+      can = record {
+        serving = was.serves.serving;
+        whole = sym c.out.ensures ∙ c.in-No.is;
+        nothing = staged_none _ _ c.staged.ensures c.if-staged-ne0.false;
+      };
       epoch = epoch_below c.args.core.now.meta.epoch c.loop-at.core.meta.epoch c.loop-at.at c.args.most _ was.serves.epoch c.loop-at-test.true c.requires.epoch;
     }
 
@@ -64,9 +66,7 @@ returns-in_default g c =
         moves = record { moves = was.moves; all = λ none. absurd (c.in_default.not-No (c.out.ensures ∙ none)); ended = was.ended };
         steps = core_steps_within g.R.Rack.slot_count g.R.Rack.slot g.R.Rack.told a b c.loop-at.at c.args.most low was.steps;
       };
-      slots = was.serves.leaves.slots;
-      no_fall = was.serves.leaves.turned.no_fall;
-      loses = tt;
+      rack = keeps_done was.serves.leaves;
     }
 
 pub returns-then-staged-ne0 : goal.returns-then-staged-ne0
@@ -82,9 +82,7 @@ returns-then-staged-ne0 g c =
         moves = record { moves = was.moves; all = λ none. inr (was.ended (staged_some b.batch _ c.staged.ensures c.if-staged-ne0.true)).clean; ended = was.ended };
         steps = core_steps_within g.R.Rack.slot_count g.R.Rack.slot g.R.Rack.told a b c.loop-at.at c.args.most low was.steps;
       };
-      slots = was.serves.leaves.slots;
-      no_fall = was.serves.leaves.turned.no_fall;
-      loses = tt;
+      rack = keeps_done was.serves.leaves;
     }
 
 pub returns-then-count-eq0 : goal.returns-then-count-eq0
@@ -112,9 +110,7 @@ returns-then-count-eq0 g c =
         steps = core_steps_within g.R.Rack.slot_count g.R.Rack.slot g.R.Rack.told a new (c.loop-at.at + 1) c.args.most (let low = c.loop-at-test.true in omega arith)
             (core_steps_then g.R.Rack.slot_count g.R.Rack.slot g.R.Rack.told a b new c.loop-at.at 1 was.steps one.steps);
       };
-      slots = c.step_group.ensures.slots ∙ was.serves.leaves.slots;
-      no_fall = no_fall_then g.R.Rack.slot a b new was.serves.leaves.turned.no_fall c.step_group.ensures.no_fall;
-      loses = tt;
+      rack = keeps_done (leaves_array_then g.R.Rack.slot_count g.R.Rack.slot a b new was.serves.leaves one.serves.leaves);
     }
 
 pub returns : goal.returns
@@ -134,9 +130,7 @@ returns g c =
         };
         steps = core_steps_within g.R.Rack.slot_count g.R.Rack.slot g.R.Rack.told a b c.loop-at.at c.args.most low was.steps;
       };
-      slots = was.serves.leaves.slots;
-      no_fall = was.serves.leaves.turned.no_fall;
-      loses = tt;
+      rack = keeps_done was.serves.leaves;
     }
 
 pub returns-in_err-count : goal.returns-in_err-count
@@ -147,8 +141,6 @@ returns-in_err-count g c =
     let was = c.loop-at.invariant in
     record {
       steps = none_done_if _ c.from_residual.result _ c.from_residual.ensures.1;
-      slots = c.step_group.ensures.slots ∙ was.serves.leaves.slots;
-      no_fall = no_fall_then g.R.Rack.slot a b new was.serves.leaves.turned.no_fall c.step_group.ensures.no_fall;
-      loses = handed (λ two. LosesSecond g.R.Rack.slot_count g.R.Rack.slot g.R.Rack.told a new c.args.most two) c.from_residual.result _ c.from_residual.ensures.1
-          (second_then g.R.Rack.slot_count g.R.Rack.slot g.R.Rack.told a b new c.loop-at.at 1 c.args.most _ (let low = c.loop-at-test.true in omega arith) was.serves.leaves was.steps c.step_group.ensures.no_fall c.in_err-count.ensures.loses);
+      rack = keeps_stepped a b new c.loop-at.at 1 c.args.most c.from_residual.result c.from_residual.ensures.1 (let low = c.loop-at-test.true in omega arith)
+          was.serves.leaves was.steps c.in_err-count.ensures.rack;
     }

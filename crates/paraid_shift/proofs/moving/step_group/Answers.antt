@@ -1,15 +1,15 @@
-use Rattle.std.proofs.Common.{arith, ◌∙◌}
-use Rattle.paraid_core.proofs.AfterLemmas.{handed}
+use Rattle.std.proofs.Common.{◌+◌, arith}
+use Rattle.paraid_shift.proofs.PartLemmas.{keeps_done, keeps_later, keeps_raised, keeps_spared}
 use Rattle.paraid_shift.proofs.AnswerLemmas.{none_done_if}
-use Rattle.paraid_shift.specs.Outcomes.{LosesSecond}
+use Rattle.paraid_shift.proofs.MovedLossLemmas.{core_loses_then, core_loses_within}
 use Rattle.paraid_shift.proofs.MovingLemmas.{core_moves_so, core_moves_then}
-use Rattle.paraid_shift.proofs.OutcomeLemmas.{marked_below, no_fall_then, second_committed, second_then, serves_committed, serves_group, serves_then}
-use Rattle.paraid_shift.proofs.ServingLemmas.{none_away}
+use Rattle.paraid_shift.proofs.OutcomeLemmas.{marked_below, serves_committed, serves_group, serves_then}
+use Rattle.paraid_shift.proofs.ServingLemmas.{leaves_array_then, none_away}
 use Rattle.paraid_shift.proofs.StepsLemmas.{core_steps_then, core_steps_within}
 use Rattle.paraid_shift.proofs.moving.step_group.Goals as goal
 
 pub move_group-requires : goal.move_group-requires
-move_group-requires g c = record { serving = c.requires.serving; whole = c.requires.whole; nothing = c.requires.nothing }
+move_group-requires g c = record { can = c.requires.can }
 
 pub has_ended-requires : goal.has_ended-requires
 has_ended-requires g c = record { ready = c.in_ok-count.ensures.marks.serving.ready }
@@ -22,9 +22,7 @@ commit-requires g c =
 pub returns-in_err-count : goal.returns-in_err-count
 returns-in_err-count g c = record {
   steps = none_done_if _ c.from_residual.result _ c.from_residual.ensures.1;
-  slots = c.move_group.ensures.slots;
-  no_fall = c.move_group.ensures.spared.no_fall;
-  loses = handed (λ two. LosesSecond g.R.Rack.slot_count g.R.Rack.slot g.R.Rack.told c.args.core.now c.move_group.new.core 1 two) c.from_residual.result _ c.from_residual.ensures.1 c.in_err-count.ensures.loses;
+  rack = keeps_raised c.from_residual.result c.from_residual.ensures.1 (keeps_spared c.in_err-count.ensures.rack) c.in_err-count.ensures.rack.loses;
 }
 
 pub returns-then-count-eq0 : goal.returns-then-count-eq0
@@ -44,9 +42,7 @@ returns-then-count-eq0 g c =
         };
         steps = core_steps_within g.R.Rack.slot_count g.R.Rack.slot g.R.Rack.told a b 0 1 (omega arith) marks.steps;
       };
-      slots = c.move_group.ensures.slots;
-      no_fall = c.move_group.ensures.spared.no_fall;
-      loses = tt;
+      rack = keeps_done marks.leaves;
     }
 
 pub returns-then-has_ended : goal.returns-then-has_ended
@@ -65,9 +61,7 @@ returns-then-has_ended g c =
         };
         steps = core_steps_within g.R.Rack.slot_count g.R.Rack.slot g.R.Rack.told a b 0 1 (omega arith) marks.steps;
       };
-      slots = c.move_group.ensures.slots;
-      no_fall = c.move_group.ensures.spared.no_fall;
-      loses = tt;
+      rack = keeps_done marks.leaves;
     }
 
 pub returns-in_err-commit : goal.returns-in_err-commit
@@ -76,15 +70,13 @@ returns-in_err-commit g c =
     let b = c.move_group.new.core in
     let new = c.commit.new.core in
     let marks = c.in_ok-count.ensures.marks in
-    let spared = c.commit.ensures.spared in
+    let lost = c.in_err-commit.ensures.rack in
     let from = c.from_residual-in_err-commit in
     record {
       steps = none_done_if _ from.result _ from.ensures.1;
-      slots = c.commit.ensures.slots ∙ c.move_group.ensures.slots;
-      no_fall = no_fall_then g.R.Rack.slot a b new c.move_group.ensures.spared.no_fall spared.no_fall;
-      loses = handed (λ two. LosesSecond g.R.Rack.slot_count g.R.Rack.slot g.R.Rack.told a new 1 two) from.result _ from.ensures.1
-          (second_then g.R.Rack.slot_count g.R.Rack.slot g.R.Rack.told a b new 0 1 1 _ (omega arith) marks.leaves marks.steps spared.no_fall
-          (second_committed g.R.Rack.slot_count g.R.Rack.slot g.R.Rack.told b new _ (marks.whole (omega arith)) c.in_err-commit.ensures.loses));
+      rack = keeps_later a b new from.result from.ensures.1 marks.leaves (keeps_spared lost)
+          (core_loses_within g.R.Rack.slot_count g.R.Rack.told a new (0 + 1) 1 _ (omega arith)
+          (core_loses_then g.R.Rack.slot_count g.R.Rack.told a b new 0 1 _ marks.steps (lost.loses.loses (none_away g.R.Rack.slot b (marks.whole (omega arith))))));
     }
 
 pub returns : goal.returns
@@ -108,7 +100,5 @@ returns g c =
         };
         steps = core_steps_then g.R.Rack.slot_count g.R.Rack.slot g.R.Rack.told a b new 0 1 marks.steps (made.steps (none_away g.R.Rack.slot b whole));
       };
-      slots = c.commit.ensures.slots ∙ c.move_group.ensures.slots;
-      no_fall = no_fall_then g.R.Rack.slot a b new c.move_group.ensures.spared.no_fall c.commit.ensures.spared.no_fall;
-      loses = tt;
+      rack = keeps_done (leaves_array_then g.R.Rack.slot_count g.R.Rack.slot a b new marks.leaves made.leaves);
     }

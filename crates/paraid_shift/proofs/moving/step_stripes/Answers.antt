@@ -1,20 +1,18 @@
 use Rattle.std.specs.Prelude.{ℕ, ◌⊎◌, ◌-◌, ◌^◌, Bool, List}
 use Rattle.std.proofs.Common.{◌≡◌, ◌∙◌, ◌+◌, ◌<◌, ◌≤◌, ap, arith, inl, inr, refl, subst, sym}
-use Rattle.std.proofs.Math.Nat.{le_refl}
 use Rattle.std.proofs.lemmas.Bool.{cases_eq}
 use Rattle.paraid_base.specs.Soft.{stripe_count}
 use Rattle.paraid_base.specs.States.{phase_to}
 use Rattle.paraid_base.specs.declared.state.Out.TheVariants.{No}
 use Rattle.paraid_record.specs.declared.meta.Meta.{Meta}
-use Rattle.paraid_core.proofs.AfterLemmas.{handed}
+use Rattle.paraid_shift.proofs.PartLemmas.{keeps_done, keeps_later, keeps_raised, keeps_spared}
 use Rattle.paraid_core.proofs.ChainLemmas.{marked_epoch}
 use Rattle.paraid_shift.proofs.AnswerLemmas.{none_done_if}
-use Rattle.paraid_shift.specs.Outcomes.{LosesSecond}
 use Rattle.paraid_shift.specs.Units.{AreCellsDone, AreUnitsDone}
 use Rattle.paraid_shift.proofs.MovedLossLemmas.{marks_lose}
 use Rattle.paraid_shift.proofs.MovingLemmas.{core_moves_none, core_moves_same, core_moves_so, core_moves_then, core_stripes_move, done_committed, stripes_done}
-use Rattle.paraid_shift.proofs.OutcomeLemmas.{no_fall_then, serves_none}
-use Rattle.paraid_shift.proofs.ServingLemmas.{leaves_array_then, none_away, two_array}
+use Rattle.paraid_shift.proofs.OutcomeLemmas.{serves_none}
+use Rattle.paraid_shift.proofs.ServingLemmas.{leaves_array_none, leaves_array_then, none_away}
 use Rattle.paraid_shift.proofs.StepsLemmas.{core_steps_none, core_steps_within, core_waits_within, marks_committed}
 use Rattle.paraid_shift.proofs.moving.step_stripes.Goals as goal
 
@@ -59,19 +57,14 @@ next_epoch : (a b new : ℕ) → b ≡ a → new ≡ b + 1 → new ≤ a + 1
 next_epoch a b new same next = omega arith
 
 pub next_end-end-requires : goal.next_end-end-requires
-next_end-end-requires g c = record { ready = c.requires.serving.ready }
+next_end-end-requires g c = record { ready = c.requires.can.serving.ready }
 
 pub move_stripes-requires : goal.move_stripes-requires
 move_stripes-requires g c =
     let more = lower_than _ _ _ c.meta.ensures c.if-end-from.false in
     record {
-      serving = c.requires.serving;
-      whole = c.requires.whole;
-      shifts = c.next_end-end.ensures.shifts more;
-      region = c.next_end-end.ensures.region more;
-      from = c.next_end-end.ensures.from;
-      stripe = c.next_end-end.ensures.stripe more;
-      nothing = c.requires.nothing;
+      can = c.requires.can;
+      stripes = c.next_end-end.ensures.some more;
     }
 
 pub has_ended-requires : goal.has_ended-requires
@@ -94,26 +87,22 @@ returns-then-end-from g c =
     let a = c.args.core.now in
     record {
       steps = record {
-        serves = serves_none g.R.Rack.slot_count g.R.Rack.slot a 1 c.requires.serving;
+        serves = serves_none g.R.Rack.slot_count g.R.Rack.slot a 1 c.requires.can.serving;
         few = omega arith;
         moves = record {
-          moves = core_moves_same g.R.Rack.slot_count a c.requires.whole;
+          moves = core_moves_same g.R.Rack.slot_count a c.requires.can.whole;
           all = λ none. none_left _ _ a.dirty _ _ c.meta.ensures c.if-end-from.true c.next_end-end.ensures.from c.next_end-end.ensures.all c.requires.clean;
-          ended = λ some. absurd (some c.requires.nothing);
+          ended = λ some. absurd (some c.requires.can.nothing);
         };
         steps = inl (core_steps_within g.R.Rack.slot_count g.R.Rack.slot g.R.Rack.told a a 0 1 (omega arith) (core_steps_none g.R.Rack.slot_count g.R.Rack.slot g.R.Rack.told a));
       };
-      slots = refl;
-      no_fall = λ d. le_refl _;
-      loses = tt;
+      rack = keeps_done (leaves_array_none g.R.Rack.slot_count g.R.Rack.slot a);
     }
 
 pub returns-in_err-done : goal.returns-in_err-done
 returns-in_err-done g c = record {
   steps = none_done_if _ c.from_residual.result _ c.from_residual.ensures.1;
-  slots = c.move_stripes.ensures.slots;
-  no_fall = c.move_stripes.ensures.spared.no_fall;
-  loses = handed (λ two. LosesSecond g.R.Rack.slot_count g.R.Rack.slot g.R.Rack.told c.args.core.now c.move_stripes.new.core 1 two) c.from_residual.result _ c.from_residual.ensures.1 c.in_err-done.ensures.loses;
+  rack = keeps_raised c.from_residual.result c.from_residual.ensures.1 (keeps_spared c.in_err-done.ensures.rack) c.in_err-done.ensures.rack.loses;
 }
 
 pub returns-then-not-done : goal.returns-then-not-done
@@ -133,15 +122,13 @@ returns-then-not-done g c =
         };
         few = omega arith;
         moves = record {
-          moves = core_moves_none g.R.Rack.slot_count a b a.meta.epoch c.requires.whole lost marks.table;
+          moves = core_moves_none g.R.Rack.slot_count a b a.meta.epoch c.requires.can.whole lost marks.table;
           all = λ none. absurd (marks.gone failed none);
           ended = λ some. absurd (some marks.nothing);
         };
         steps = inl (core_steps_within g.R.Rack.slot_count g.R.Rack.slot g.R.Rack.told a b 0 1 (omega arith) (marks.steps failed));
       };
-      slots = c.move_stripes.ensures.slots;
-      no_fall = c.move_stripes.ensures.spared.no_fall;
-      loses = tt;
+      rack = keeps_done marks.leaves;
     }
 
 pub returns-then-has_ended : goal.returns-then-has_ended
@@ -153,7 +140,7 @@ returns-then-has_ended g c =
     let meta = marks.filled done in
     let next = c.next_end-end.ensures in
     let ended = c.has_ended.ensures.done c.if-has_ended.true in
-    let whole : b.meta.out ≡ No = ap (λ (m : Meta). m.out) meta ∙ c.requires.whole in
+    let whole : b.meta.out ≡ No = ap (λ (m : Meta). m.out) meta ∙ c.requires.can.whole in
     let more = lower_than _ _ _ c.meta.ensures c.if-end-from.false in
     record {
       steps = record {
@@ -166,15 +153,13 @@ returns-then-has_ended g c =
         few = few_of _ _ _ _ c.meta.ensures next.few;
         moves = record {
           moves = core_moves_so g.R.Rack.slot_count a b _ _ (filled_of _ _ c.next_end-end.result c.meta.ensures)
-              (core_stripes_move g.R.Rack.slot_count a b c.next_end-end.result meta marks.table (c.requires.clean (some_asked _ _ _ _ c.meta.ensures c.if-end-from.false next.few)) c.requires.whole next.from (next.stripe more));
+              (core_stripes_move g.R.Rack.slot_count a b c.next_end-end.result meta marks.table (c.requires.clean (some_asked _ _ _ _ c.meta.ensures c.if-end-from.false next.few)) c.requires.can.whole next.from (next.some more).stripe);
           all = λ none. inr ended;
           ended = λ some. ended;
         };
         steps = inr ((ended, whole), core_waits_within g.R.Rack.slot_count g.R.Rack.slot g.R.Rack.told a b b.meta 0 1 (omega arith) (marks.waits done));
       };
-      slots = c.move_stripes.ensures.slots;
-      no_fall = c.move_stripes.ensures.spared.no_fall;
-      loses = tt;
+      rack = keeps_done marks.leaves;
     }
 
 pub returns-in_err-commit : goal.returns-in_err-commit
@@ -184,18 +169,13 @@ returns-in_err-commit g c =
     let new = c.commit.new.core in
     let marks = c.in_ok-done.ensures.marks in
     let done = c.if-not-done.false in
-    let whole : b.meta.out ≡ No = ap (λ (m : Meta). m.out) (marks.filled done) ∙ c.requires.whole in
+    let whole : b.meta.out ≡ No = ap (λ (m : Meta). m.out) (marks.filled done) ∙ c.requires.can.whole in
     let from = c.from_residual-in_err-commit in
-    let lost = c.in_err-commit.ensures.loses in
+    let lost = c.in_err-commit.ensures.rack in
     record {
       steps = none_done_if _ from.result _ from.ensures.1;
-      slots = c.commit.ensures.slots ∙ c.move_stripes.ensures.slots;
-      no_fall = no_fall_then g.R.Rack.slot a b new c.move_stripes.ensures.spared.no_fall c.commit.ensures.spared.no_fall;
-      loses = handed (λ two. LosesSecond g.R.Rack.slot_count g.R.Rack.slot g.R.Rack.told a new 1 two) from.result _ from.ensures.1
-          (record {
-            down = two_array g.R.Rack.slot_count g.R.Rack.slot a b new marks.leaves c.commit.ensures.spared.no_fall _ lost.down;
-            loses = marks_lose g.R.Rack.slot_count g.R.Rack.told a b new b.meta 0 _ (marks.waits done) (lost.marked (none_away g.R.Rack.slot b whole));
-          });
+      rack = keeps_later a b new from.result from.ensures.1 marks.leaves (keeps_spared lost)
+          (marks_lose g.R.Rack.slot_count g.R.Rack.told a b new b.meta 0 _ (marks.waits done) (lost.loses.marked (none_away g.R.Rack.slot b whole)));
     }
 
 pub returns : goal.returns
@@ -210,7 +190,7 @@ returns g c =
     let next = c.next_end-end.ensures in
     let more = lower_than _ _ _ c.meta.ensures c.if-end-from.false in
     let clean = c.requires.clean (some_asked _ _ _ _ c.meta.ensures c.if-end-from.false next.few) in
-    let whole : b.meta.out ≡ No = ap (λ (m : Meta). m.out) meta ∙ c.requires.whole in
+    let whole : b.meta.out ≡ No = ap (λ (m : Meta). m.out) meta ∙ c.requires.can.whole in
     record {
       steps = record {
         serves = record {
@@ -223,7 +203,7 @@ returns g c =
         moves = record {
           moves = core_moves_so g.R.Rack.slot_count a new _ _ (plus_none _ ∙ filled_of _ _ c.next_end-end.result c.meta.ensures)
               (core_moves_then g.R.Rack.slot_count a b new (c.next_end-end.result - a.meta.fill) 0
-              (core_stripes_move g.R.Rack.slot_count a b c.next_end-end.result meta marks.table clean c.requires.whole next.from (next.stripe more)) whole marks.leaves.setup (made.moves whole));
+              (core_stripes_move g.R.Rack.slot_count a b c.next_end-end.result meta marks.table clean c.requires.can.whole next.from (next.some more).stripe) whole marks.leaves.setup (made.moves whole));
           all = λ none. elim next.all [
             | inl full ↦ inl (all_asked _ _ _ _ c.meta.ensures full)
             | inr all ↦ inr (done_committed b.meta new.meta _ b.dirty new.dirty made.meta none c.commit.ensures.table (stripes_done g.R.Rack.slot_count a b c.next_end-end.result meta marks.table clean all))
@@ -232,7 +212,5 @@ returns g c =
         };
         steps = inl (marks_committed g.R.Rack.slot_count g.R.Rack.slot g.R.Rack.told a b new b.meta 0 (marks.waits done) made.leaves.slots made.epoch (λ d. refl) (made.marked (none_away g.R.Rack.slot b whole)));
       };
-      slots = c.commit.ensures.slots ∙ c.move_stripes.ensures.slots;
-      no_fall = no_fall_then g.R.Rack.slot a b new c.move_stripes.ensures.spared.no_fall c.commit.ensures.spared.no_fall;
-      loses = tt;
+      rack = keeps_done (leaves_array_then g.R.Rack.slot_count g.R.Rack.slot a b new marks.leaves made.leaves);
     }

@@ -1,10 +1,11 @@
 use Rattle.std.proofs.Common.{◌≡◌, ℕ, ◌∙◌, ◌+◌, ◌-◌, ◌<◌, ◌≤◌, sym, arith, inl, inr}
 use Rattle.paraid_base.specs.declared.state.Out.TheVariants.{No}
-use Rattle.paraid_core.proofs.AfterLemmas.{handed}
+use Rattle.paraid_shift.proofs.PartLemmas.{keeps_done, keeps_raised, keeps_stepped}
 use Rattle.paraid_shift.proofs.AnswerLemmas.{none_done_if}
-use Rattle.paraid_shift.specs.Outcomes.{LosesSecond}
+use Rattle.paraid_shift.proofs.MovedLossLemmas.{core_loses_within}
+use Rattle.paraid_shift.proofs.ServingLemmas.{leaves_array_then}
 use Rattle.paraid_shift.proofs.MovingLemmas.{staged_some, up_to_more}
-use Rattle.paraid_shift.proofs.OutcomeLemmas.{no_fall_then, second_then, second_within, serves_then, serves_within, staged_none}
+use Rattle.paraid_shift.proofs.OutcomeLemmas.{serves_then, serves_within, staged_none}
 use Rattle.paraid_shift.proofs.StepsLemmas.{core_steps_within, steps_or_waits_then}
 use Rattle.paraid_shift.proofs.moving.step_units.Goals as goal
 
@@ -27,16 +28,14 @@ not_all : (cells most : ℕ) → cells ≡ most → 0 < most - cells → ⊥
 not_all cells most all some = omega arith
 
 pub step_cells-requires : goal.step_cells-requires
-step_cells-requires g c = record { serving = c.requires.serving; whole = c.requires.whole; nothing = c.requires.nothing; epoch = c.requires.epoch }
+step_cells-requires g c = record { can = c.requires.can; epoch = c.requires.epoch }
 
 pub step_stripes-requires : goal.step_stripes-requires
 step_stripes-requires g c =
     let cells = c.in_ok-cells.ensures.steps in
     let whole : c.step_cells.new.core.meta.out ≡ No = sym c.out.ensures ∙ c.in-No.is in
     record {
-      serving = cells.serves.serving;
-      whole = whole;
-      nothing = staged_none _ _ c.staged.ensures c.if-staged-ne0.false;
+      can = record { serving = cells.serves.serving; whole = whole; nothing = staged_none _ _ c.staged.ensures c.if-staged-ne0.false };
       clean = λ some. elim (cells.moves.all whole) [
         | inl all ↦ absurd (not_all c.in_ok-cells.cells c.args.most all some)
         | inr done ↦ done
@@ -56,10 +55,8 @@ returns-in_err-cells g c =
     let new = c.step_cells.new.core in
     record {
       steps = none_done_if _ c.from_residual.result _ c.from_residual.ensures.1;
-      slots = c.step_cells.ensures.slots;
-      no_fall = c.step_cells.ensures.no_fall;
-      loses = handed (λ two. LosesSecond g.R.Rack.slot_count g.R.Rack.slot g.R.Rack.told a new (c.args.most + 1) two) c.from_residual.result _ c.from_residual.ensures.1
-          (second_within g.R.Rack.slot_count g.R.Rack.slot g.R.Rack.told a new c.args.most (c.args.most + 1) _ (one_more c.args.most) c.in_err-cells.ensures.loses);
+      rack = keeps_raised c.from_residual.result c.from_residual.ensures.1 c.in_err-cells.ensures.rack
+          (core_loses_within g.R.Rack.slot_count g.R.Rack.told a new c.args.most (c.args.most + 1) _ (one_more c.args.most) c.in_err-cells.ensures.rack.loses);
     }
 
 pub returns-in_default : goal.returns-in_default
@@ -74,9 +71,7 @@ returns-in_default g c =
         moves = record { moves = was.moves.moves; all = λ none. absurd (c.in_default.not-No (c.out.ensures ∙ none)); ended = was.moves.ended };
         steps = inl (core_steps_within g.R.Rack.slot_count g.R.Rack.slot g.R.Rack.told a b c.args.most (c.args.most + 1) (one_more c.args.most) was.steps);
       };
-      slots = c.step_cells.ensures.slots;
-      no_fall = c.step_cells.ensures.no_fall;
-      loses = tt;
+      rack = keeps_done was.serves.leaves;
     }
 
 pub returns-then-staged-ne0 : goal.returns-then-staged-ne0
@@ -91,9 +86,7 @@ returns-then-staged-ne0 g c =
         moves = record { moves = was.moves.moves; all = λ none. inr (was.moves.ended (staged_some b.batch _ c.staged.ensures c.if-staged-ne0.true)); ended = was.moves.ended };
         steps = inl (core_steps_within g.R.Rack.slot_count g.R.Rack.slot g.R.Rack.told a b c.args.most (c.args.most + 1) (one_more c.args.most) was.steps);
       };
-      slots = c.step_cells.ensures.slots;
-      no_fall = c.step_cells.ensures.no_fall;
-      loses = tt;
+      rack = keeps_done was.serves.leaves;
     }
 
 pub returns-in_err-stripes : goal.returns-in_err-stripes
@@ -105,10 +98,7 @@ returns-in_err-stripes g c =
     let from = c.from_residual-in_err-stripes in
     record {
       steps = none_done_if _ from.result _ from.ensures.1;
-      slots = c.step_stripes.ensures.slots ∙ c.step_cells.ensures.slots;
-      no_fall = no_fall_then g.R.Rack.slot a b new c.step_cells.ensures.no_fall c.step_stripes.ensures.no_fall;
-      loses = handed (λ two. LosesSecond g.R.Rack.slot_count g.R.Rack.slot g.R.Rack.told a new (c.args.most + 1) two) from.result _ from.ensures.1
-          (second_then g.R.Rack.slot_count g.R.Rack.slot g.R.Rack.told a b new c.args.most 1 (c.args.most + 1) _ (same_more c.args.most) was.serves.leaves was.steps c.step_stripes.ensures.no_fall c.in_err-stripes.ensures.loses);
+      rack = keeps_stepped a b new c.args.most 1 (c.args.most + 1) from.result from.ensures.1 (same_more c.args.most) was.serves.leaves was.steps c.in_err-stripes.ensures.rack;
     }
 
 pub returns : goal.returns
@@ -126,7 +116,5 @@ returns g c =
         moves = up_to_more g.R.Rack.slot_count a b new _ c.args.most c.in_ok-cells.cells c.in_ok-stripes.stripes was.moves.moves whole was.serves.leaves.setup was.few more.moves;
         steps = steps_or_waits_then g.R.Rack.slot_count g.R.Rack.slot g.R.Rack.told a b new c.args.most 1 (c.args.most + 1) (same_more c.args.most) was.steps more.steps;
       };
-      slots = c.step_stripes.ensures.slots ∙ c.step_cells.ensures.slots;
-      no_fall = no_fall_then g.R.Rack.slot a b new c.step_cells.ensures.no_fall c.step_stripes.ensures.no_fall;
-      loses = tt;
+      rack = keeps_done (leaves_array_then g.R.Rack.slot_count g.R.Rack.slot a b new was.serves.leaves more.serves.leaves);
     }

@@ -1,9 +1,10 @@
 use Rattle.std.specs.Prelude.{◌+◌, ◌≢◌}
 use Rattle.std.proofs.Common.{◌≡◌, ◌∙◌, arith, inl, refl, sym}
-use Rattle.std.proofs.Math.Nat.{le_refl}
 use Rattle.paraid_base.specs.declared.state.Out.TheVariants.{No}
 use Rattle.paraid_shift.proofs.AnswerLemmas.{if_map}
 use Rattle.paraid_shift.proofs.OutcomeLemmas.{serves_none}
+use Rattle.paraid_shift.proofs.PartLemmas.{keeps_done}
+use Rattle.paraid_shift.proofs.ServingLemmas.{leaves_array_none}
 use Rattle.paraid_shift.proofs.StepsLemmas.{core_steps_none, core_steps_within}
 use Rattle.paraid_shift.specs.Outcomes.{StepsOn}
 use Rattle.paraid_shift.specs.Steps.{StepsOrWaits}
@@ -11,7 +12,7 @@ use Rattle.paraid_shift.specs.Units.{AreUnitsDone, MovesUpTo}
 use Rattle.paraid_shift.proofs.moving.step_whole.Goals as goal
 
 pub step_units-requires : goal.step_units-requires
-step_units-requires g c = record { serving = c.requires.serving; whole = sym c.out.ensures ∙ c.in-No.is; nothing = c.requires.nothing; epoch = c.requires.epoch }
+step_units-requires g c = record { can = record { serving = c.requires.serving; whole = sym c.out.ensures ∙ c.in-No.is; nothing = c.requires.nothing }; epoch = c.requires.epoch }
 
 pub returns-in_default : goal.returns-in_default
 returns-in_default g c =
@@ -24,9 +25,7 @@ returns-in_default g c =
         steps = inl (core_steps_within g.R.Rack.slot_count g.R.Rack.slot g.R.Rack.told a a 0 (c.args.most + 1) (omega arith) (core_steps_none g.R.Rack.slot_count g.R.Rack.slot g.R.Rack.told a));
       };
       idle = λ out. (refl, refl);
-      slots = refl;
-      no_fall = λ d. le_refl _;
-      loses = tt;
+      rack = keeps_done (leaves_array_none g.R.Rack.slot_count g.R.Rack.slot a);
     }
 
 pub returns : goal.returns
@@ -37,7 +36,5 @@ returns g c =
     record {
       steps = if_map {Q = λ count. StepsOn g.R.Rack.slot_count g.R.Rack.slot a b c.args.most (c.args.most + 1) count (a.meta.out ≡ No → MovesUpTo g.R.Rack.slot_count a b (AreUnitsDone b.meta b.dirty) c.args.most count) (StepsOrWaits g.R.Rack.slot_count g.R.Rack.told a b (c.args.most + 1))} _ (λ count k. record { serves = k.serves; few = k.few; moves = λ is. k.moves; steps = k.steps }) c.step_units.ensures.steps;
       idle = if_map {Q = λ count. a.meta.out ≢ No → (count ≡ 0) × (b ≡ a)} _ (λ count k out. absurd (out whole)) c.step_units.ensures.steps;
-      slots = c.step_units.ensures.slots;
-      no_fall = c.step_units.ensures.no_fall;
-      loses = c.step_units.ensures.loses;
+      rack = c.step_units.ensures.rack;
     }

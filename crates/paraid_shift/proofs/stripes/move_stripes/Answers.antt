@@ -16,7 +16,7 @@ use Rattle.paraid_core.specs.Cores.{IsCoreHeldSinceCommit, CoreStandsFor}
 use Rattle.paraid_core.specs.CoreInvariant.{AreCopiesSynced}
 use Rattle.paraid_core.specs.Fills.{Filled}
 use Rattle.paraid_core.specs.Steps.{LeavesCore}
-use Rattle.paraid_core.proofs.AfterLemmas.{handed}
+use Rattle.paraid_shift.proofs.PartLemmas.{spares_done, spares_failed, spares_raised}
 use Rattle.paraid_core.specs.Calls.{MakesDataCalls}
 use Rattle.paraid_core.specs.Lost.{CoreMarksLost}
 use Rattle.paraid_core.proofs.KindLemmas.{calls_then}
@@ -30,7 +30,7 @@ use Rattle.paraid_base.specs.declared.state.Out.TheVariants.{Fresh, Gone, No}
 use Rattle.paraid_shift.proofs.AnswerLemmas.{none_done_if}
 use Rattle.paraid_moves.specs.MoveMetas.{filled_to}
 use Rattle.paraid_shift.proofs.MovingLemmas.{out_stays}
-use Rattle.paraid_shift.specs.Outcomes.{LosesSecond, MarksStripes}
+use Rattle.paraid_shift.specs.Outcomes.{MarksStripes}
 use Rattle.paraid_shift.proofs.stripes.move_stripes.Given.{Over}
 use Rattle.paraid_shift.proofs.MovedLossLemmas.{copies_lose, copies_tell_then}
 use Rattle.paraid_shift.proofs.stripes.move_stripes.Goals as goal
@@ -48,42 +48,32 @@ module _ (g : Over) (c : In_ok-settle g) where
   d = c.settle.new.self
 
   left : LeavesCore g.R.Rack.slot_count g.R.Rack.slot a d
-  left = leaves_then g.R.Rack.slot_count g.R.Rack.slot g.R.Rack.told a b c.in_ok-done.ensures.leaves d c.in_ok-settle.ensures.leaves
+  left = leaves_then g.R.Rack.slot_count g.R.Rack.slot g.R.Rack.told a b c.in_ok-done.ensures.copies.leaves d c.in_ok-settle.ensures.keeps.stays.leaves
 
   synced : AreCopiesSynced d.meta.setup.geometry.disks d.copied
-  synced e low = c.in_ok-settle.ensures.copies_synced e (subst (λ (z : Setup). e < z.geometry.disks) (marked_from_setup b.meta d.meta c.in_ok-settle.ensures.leaves.meta) low)
+  synced e low = c.in_ok-settle.ensures.copies_synced e (subst (λ (z : Setup). e < z.geometry.disks) (marked_from_setup b.meta d.meta c.in_ok-settle.ensures.keeps.stays.leaves.meta) low)
 
   serving : IsCoreServing g.R.Rack.slot_count g.R.Rack.slot d
-  serving = serving_left g.R.Rack.slot_count g.R.Rack.slot a d left c.requires.serving synced
+  serving = serving_left g.R.Rack.slot_count g.R.Rack.slot a d left c.requires.can.serving synced
 
   array : LeavesArray g.R.Rack.slot_count g.R.Rack.slot a d
   array = array_left g.R.Rack.slot_count g.R.Rack.slot a d left
 
   stands : (h : History) (lo : ℕ) → Ran (g.R.Rack.told (store_rack a.store)) (g.R.Rack.told (store_rack d.store)) (CrashTriple (IsCoreHeldSinceCommit g.R.Rack.slot_count a h lo) (RestsInShift g.R.Rack.slot_count a h lo) (CoreStandsFor g.R.Rack.slot_count d h lo))
   stands h lo =
-      runs_then g.R.Rack.slot_count g.R.Rack.slot g.R.Rack.told a b c.in_ok-done.ensures.leaves d (RestsInShift g.R.Rack.slot_count a h lo) (CoreStandsFor g.R.Rack.slot_count b h lo) (CoreStandsFor g.R.Rack.slot_count d h lo) h lo
-      (c.in_ok-done.ensures.stands h lo) (c.in_ok-settle.ensures.stands h lo)
+      runs_then g.R.Rack.slot_count g.R.Rack.slot g.R.Rack.told a b c.in_ok-done.ensures.copies.leaves d (RestsInShift g.R.Rack.slot_count a h lo) (CoreStandsFor g.R.Rack.slot_count b h lo) (CoreStandsFor g.R.Rack.slot_count d h lo) h lo
+      (c.in_ok-done.ensures.copies.stands h lo) (c.in_ok-settle.ensures.keeps.stays.stands h lo)
 
   calls : MakesDataCalls g.R.Rack.told a d
   calls =
-      calls_then _ _ _ _ c.fill_stripes.ensures.calls
-      (syncs_are_data a.meta b.meta b.copied (marked_from_setup a.meta b.meta c.in_ok-done.ensures.leaves.meta) c.requires.whole _ _ c.settle.ensures.calls)
+      calls_then _ _ _ _ c.fill_stripes.ensures.copies.calls
+      (syncs_are_data a.meta b.meta b.copied (marked_from_setup a.meta b.meta c.in_ok-done.ensures.copies.leaves.meta) c.requires.can.whole _ _ c.settle.ensures.calls)
 
   marks : CoreMarksLost g.R.Rack.slot a d
-  marks = marks_then _ _ _ _ _ _ c.in_ok-done.ensures.marks c.in_ok-settle.ensures.marks c.fill_stripes.ensures.spared c.settle.ensures.spared
+  marks = marks_then _ _ _ _ _ _ c.in_ok-done.ensures.copies.marks c.in_ok-settle.ensures.keeps.stays.losses.marks c.fill_stripes.ensures.rack.spared c.settle.ensures.keeps.stays.losses.spared
 
 pub fill_stripes-requires : goal.fill_stripes-requires
-fill_stripes-requires g c = record {
-  ready = c.requires.serving.ready;
-  serves = c.requires.serving.serves;
-  no_draft = c.requires.serving.draft;
-  whole = c.requires.whole;
-  shifts = c.requires.shifts;
-  region = c.requires.region;
-  from = c.requires.from;
-  stripe = c.requires.stripe;
-  nothing = c.requires.nothing;
-}
+fill_stripes-requires g c = record { can = c.requires.can; stripes = c.requires.stripes }
 
 pub returns-in_err-done : goal.returns-in_err-done
 returns-in_err-done g c =
@@ -93,13 +83,8 @@ returns-in_err-done g c =
     let from = c.from_residual in
     record {
       marks = none_done_if _ from.result _ from.ensures.1;
-      slots = call.slots;
-      spared = call.spared;
-      loses = handed (λ two. LosesSecond g.R.Rack.slot_count g.R.Rack.slot g.R.Rack.told a new 1 two) from.result _ from.ensures.1
-          (record {
-            down = c.in_err-done.ensures.tells.down;
-            loses = copies_lose g.R.Rack.slot_count g.R.Rack.told a new _ c.requires.nothing call.calls call.moments c.in_err-done.ensures.tells.tells;
-          });
+      rack = spares_raised from.result from.ensures.1 c.in_err-done.ensures.rack
+          (copies_lose g.R.Rack.slot_count g.R.Rack.told a new _ c.requires.can.nothing call.copies.calls call.copies.moments c.in_err-done.ensures.rack.loses);
     }
 
 pub returns-in_err-settle : goal.returns-in_err-settle
@@ -112,18 +97,15 @@ returns-in_err-settle g c =
     let from = c.from_residual-in_err-settle in
     record {
       marks = none_done_if _ from.result _ from.ensures.1;
-      slots = c.settle.ensures.slots ∙ call.slots;
-      spared = spared_then (g.R.Rack.slot (store_rack a.store)) (g.R.Rack.slot (store_rack b.store)) (g.R.Rack.slot (store_rack new.store)) call.spared c.settle.ensures.spared;
-      loses = handed (λ two. LosesSecond g.R.Rack.slot_count g.R.Rack.slot g.R.Rack.told a new 1 two) from.result _ from.ensures.1
-          (record {
-            down = two_then g.R.Rack.slot_count g.R.Rack.slot g.R.Rack.told a b done.leaves new c.settle.ensures.spared _ c.in_err-settle.ensures.two;
-            loses = copies_lose g.R.Rack.slot_count g.R.Rack.told a new _ c.requires.nothing
-                (calls_then _ _ _ _ call.calls (syncs_are_data a.meta b.meta b.copied (marked_from_setup a.meta b.meta done.leaves.meta) c.requires.whole _ _ c.settle.ensures.calls))
-                (λ h lo.
-                held_runs_then g.R.Rack.slot_count g.R.Rack.slot g.R.Rack.told a b done.leaves new (RestsInShift g.R.Rack.slot_count a h lo) (CoreStandsFor g.R.Rack.slot_count b h lo) h lo
-                (done.stands h lo) (c.settle.ensures.moments h lo))
-                (copies_tell_then g.R.Rack.slot_count g.R.Rack.slot g.R.Rack.told g.met.R.Rack.agrees a b new _ c.requires.serving.ready done.marks call.calls c.in_err-settle.ensures.tells);
-          });
+      rack = spares_failed from.result from.ensures.1 (c.settle.ensures.keeps.stays.losses.slots ∙ call.rack.slots)
+          (spared_then (g.R.Rack.slot (store_rack a.store)) (g.R.Rack.slot (store_rack b.store)) (g.R.Rack.slot (store_rack new.store)) call.rack.spared c.settle.ensures.keeps.stays.losses.spared)
+          (two_then g.R.Rack.slot_count g.R.Rack.slot g.R.Rack.told a b done.copies.leaves new c.settle.ensures.keeps.stays.losses.spared _ c.in_err-settle.ensures.keeps.stays.losses.two)
+          (copies_lose g.R.Rack.slot_count g.R.Rack.told a new _ c.requires.can.nothing
+          (calls_then _ _ _ _ call.copies.calls (syncs_are_data a.meta b.meta b.copied (marked_from_setup a.meta b.meta done.copies.leaves.meta) c.requires.can.whole _ _ c.settle.ensures.calls))
+          (λ h lo.
+          held_runs_then g.R.Rack.slot_count g.R.Rack.slot g.R.Rack.told a b done.copies.leaves new (RestsInShift g.R.Rack.slot_count a h lo) (CoreStandsFor g.R.Rack.slot_count b h lo) h lo
+          (done.copies.stands h lo) (c.settle.ensures.keeps.stays.moments h lo))
+          (copies_tell_then g.R.Rack.slot_count g.R.Rack.slot g.R.Rack.told g.met.R.Rack.agrees a b new _ c.requires.can.serving.ready done.copies.marks call.copies.calls c.in_err-settle.ensures.keeps.stays.losses.tells));
     }
 
 has_some : (o : Out) → has_out o ≡ true → o ≢ No
@@ -141,7 +123,7 @@ failed g c out =
       serving = serving g c;
       leaves = array g c;
       absent = l.absent;
-      nothing = l.batch ∙ c.requires.nothing;
+      nothing = l.batch ∙ c.requires.can.nothing;
       table = l.table;
       filled = λ is. let z : false ≡ true = is in absurd cc;
       waits = λ is. let z : false ≡ true = is in absurd cc;
@@ -149,23 +131,19 @@ failed g c out =
       gone = λ is. out;
       steps = λ is.
           copies_are_steps g.R.Rack.slot_count g.R.Rack.slot g.R.Rack.told a d (g.met.R.Rack.agrees (store_rack a.store)) (g.met.R.Rack.agrees (store_rack d.store)) l.slots (marked_from_setup a.meta d.meta l.meta) l.ready (marks g c)
-          c.requires.nothing (calls g c) (stands g c);
+          c.requires.can.nothing (calls g c) (stands g c);
     }
 
 pub returns-then-not-done : goal.returns-then-not-done
 returns-then-not-done g c = record {
-  marks = failed g c.before (out_stays _ _ c.in_ok-settle.ensures.leaves.meta (c.in_ok-done.ensures.gone (ap Ok c.if-not-done.true)));
-  slots = (left g c.before).slots;
-  spared = (left g c.before).spared;
-  loses = tt;
+  marks = failed g c.before (out_stays _ _ c.in_ok-settle.ensures.keeps.stays.leaves.meta (c.in_ok-done.ensures.gone (ap Ok c.if-not-done.true)));
+  rack = spares_done (left g c.before);
 }
 
 pub returns-then-is_any : goal.returns-then-is_any
 returns-then-is_any g c = record {
   marks = failed g c.before.before.before.before (has_some _ (ap has_out (sym c.out.ensures) ∙ sym c.is_any.ensures ∙ c.if-is_any.true));
-  slots = (left g c.before.before.before.before).slots;
-  spared = (left g c.before.before.before.before).spared;
-  loses = tt;
+  rack = spares_done (left g c.before.before.before.before);
 }
 
 pub returns : goal.returns
@@ -182,29 +160,32 @@ returns g c =
     let out : new.meta.out ≡ d.meta.out = ap (λ (m : Meta). m.out) marked.meta in
     record {
       marks = record {
-        serving = serving_marked g.R.Rack.slot_count g.R.Rack.slot d new marked.store setup out (serving g at) marked.copied marked.draft marked.ready (marked.serves (serving g at).serves);
-        leaves = leaves_array_then g.R.Rack.slot_count g.R.Rack.slot a d new (array g at) (array_marked g.R.Rack.slot_count g.R.Rack.slot d new marked.store setup out (ap (λ (m : Meta). m.writes) marked.meta));
+        serving = serving_marked g.R.Rack.slot_count g.R.Rack.slot d new marked.marks.store setup out (serving g at) marked.marks.staged.copied marked.marks.staged.draft marked.marks.ready (marked.serves (serving g at).serves);
+        leaves = leaves_array_then g.R.Rack.slot_count g.R.Rack.slot a d new (array g at) (array_marked g.R.Rack.slot_count g.R.Rack.slot d new marked.marks.store setup out (ap (λ (m : Meta). m.writes) marked.meta));
         absent = λ before e is.
-            subst (λ (z : _). (named_of z ≡ Some e) ⊎ (is_present (g.R.Rack.slot (store_rack z) e).power ≡ false)) (sym marked.store) (l.absent before e (sym (ap (λ (m : Meta). named_out m.out) marked.meta) ∙ is));
-        nothing = marked.batch ∙ l.batch ∙ c.requires.nothing;
-        table = marked.table ∙ l.table;
+            subst (λ (z : _). (named_of z ≡ Some e) ⊎ (is_present (g.R.Rack.slot (store_rack z) e).power ≡ false)) (sym marked.marks.store) (l.absent before e (sym (ap (λ (m : Meta). named_out m.out) marked.meta) ∙ is));
+        nothing = marked.marks.staged.batch ∙ l.batch ∙ c.requires.can.nothing;
+        table = marked.marks.staged.table ∙ l.table;
         filled = λ is. marked.meta ∙ ap (λ (m : Meta). filled_to m c.args.end) (unmarked a.meta d.meta l.meta still);
         waits = λ is.
             stripes_wait g.R.Rack.slot_count g.R.Rack.slot g.R.Rack.told a d new (g.met.R.Rack.agrees (store_rack a.store)) (g.met.R.Rack.agrees (store_rack d.store)) l.slots (marked_from_setup a.meta d.meta l.meta) l.ready (marks g at)
-            c.args.end marked.store still marked.meta c.requires.nothing (calls g at) (stands g at)
+            c.args.end marked.marks.store still marked.meta c.requires.can.nothing (calls g at) (stands g at)
             (λ h lo.
             runs_then g.R.Rack.slot_count g.R.Rack.slot g.R.Rack.told a d l new (RestsInShift g.R.Rack.slot_count a h lo) (Filled g.R.Rack.slot_count d h lo c.args.end) (CoreStandsFor g.R.Rack.slot_count new h lo) h lo
-            (runs_then g.R.Rack.slot_count g.R.Rack.slot g.R.Rack.told a b c.in_ok-done.ensures.leaves d (RestsInShift g.R.Rack.slot_count a h lo) (Filled g.R.Rack.slot_count b h lo c.args.end) (Filled g.R.Rack.slot_count d h lo c.args.end) h lo
-            (c.in_ok-done.ensures.filled (ap Ok c.if-not-done.false) h lo) ((c.in_ok-settle.ensures.filled still).1 h lo c.args.end))
+            (runs_then g.R.Rack.slot_count g.R.Rack.slot g.R.Rack.told a b c.in_ok-done.ensures.copies.leaves d (RestsInShift g.R.Rack.slot_count a h lo) (Filled g.R.Rack.slot_count b h lo c.args.end) (Filled g.R.Rack.slot_count d h lo c.args.end) h lo
+            (c.in_ok-done.ensures.filled (ap Ok c.if-not-done.false) h lo) ((c.in_ok-settle.ensures.keeps.filled still).1 h lo c.args.end))
             (marked.stands h lo));
         lost = λ is. let z : true ≡ false = is in absurd cc;
         gone = λ is. let z : true ≡ false = is in absurd cc;
         steps = λ is. let z : true ≡ false = is in absurd cc;
       };
-      slots = ap (λ (z : _). g.R.Rack.slot_count (store_rack z)) marked.store ∙ l.slots;
-      spared = subst (λ (z : _). OnlyLosesSlots (g.R.Rack.slot (store_rack a.store)) (g.R.Rack.slot (store_rack z))) (sym marked.store) l.spared;
-      loses = tt;
+      rack = record {
+        slots = ap (λ (z : _). g.R.Rack.slot_count (store_rack z)) marked.marks.store ∙ l.slots;
+        spared = subst (λ (z : _). OnlyLosesSlots (g.R.Rack.slot (store_rack a.store)) (g.R.Rack.slot (store_rack z))) (sym marked.marks.store) l.spared;
+        two = tt;
+        loses = tt;
+      };
     }
 
 pub settle-requires : goal.settle-requires
-settle-requires g c = record { ready = c.in_ok-done.ensures.leaves.ready; still = c.in_ok-done.ensures.leaves.still }
+settle-requires g c = record { ready = c.in_ok-done.ensures.copies.leaves.ready; still = c.in_ok-done.ensures.copies.leaves.still }

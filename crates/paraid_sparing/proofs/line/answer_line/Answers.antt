@@ -2,7 +2,7 @@ use Rattle.std.proofs.Common.{◌∙◌, sym}
 use Rattle.paraid_serve.proofs.GrowsLemmas.{grows_then}
 use Rattle.paraid_sparing.specs.Sparing.{used}
 use Rattle.paraid_sparing.proofs.SparedCauseLemmas.{causes_alone, causes_spared}
-use Rattle.paraid_sparing.proofs.ServedLemmas.{served_alone, served_spared, told_alone, told_spared}
+use Rattle.paraid_sparing.proofs.ServedLemmas.{served_alone, served_spared}
 use Rattle.paraid_sparing.proofs.line.answer_line.Goals as goal
 
 pub returns-in-Some-clause-serves : goal.returns-in-Some-clause-serves
@@ -24,21 +24,15 @@ returns-in-None-clause-serves g c p wait k stands keeps =
     served_alone _ _ wait p k _ _ _ _ _ _ then.text _ _ c.clear.ensures.empty
     (sym (c.due.ensures.due p wait k c.args.pairs.now stands keeps) ∙ c.in-None.is) (then.turn p stands) (λ q at. then.keeps q wait k at keeps)
 
-pub returns-in-Some-clause-form : goal.returns-in-Some-clause-form
-returns-in-Some-clause-form g c = told_spared _ _ _ _ c.in-Some.disk _ _ _ (c.in-Some.ensures.tick c.args.pairs.now) c.in-Some.ensures.left c.put_in.ensures.kind c.answer_alone.ensures.kind c.put_in.ensures.line c.answer_alone.ensures.text (c.answer_alone.ensures.left ∙ c.put_in.ensures.left)
-
-pub returns-in-None-clause-form : goal.returns-in-None-clause-form
-returns-in-None-clause-form g c = told_alone _ _ _ _ _ _ c.answer_alone-in-None.ensures.kind c.clear.ensures.empty c.answer_alone-in-None.ensures.text c.answer_alone-in-None.ensures.left
-
 pub returns-in-Some-clause-causes : goal.returns-in-Some-clause-causes
 returns-in-Some-clause-causes g c wait k keeps =
     let put = c.put_in.ensures in
     let then = c.answer_alone.ensures in
-    causes_spared wait _ k _ _ _ _ _ _ _ (g.met.A.Serves.shows c.answer_alone.new.array).halt then.text then.kind _ c.in-Some.disk _ _ _ (g.met.A.Serves.shows c.args.array.now).halt keeps.left put.line
-    (sym (c.due.ensures.shown wait k c.args.pairs.now keeps) ∙ c.in-Some.is) put.kind put.cause then.cause (then.stock wait (used k) (put.keeps wait k keeps))
+    causes_spared wait _ k _ _ _ _ _ _ _ (g.met.A.Serves.shows c.answer_alone.new.array).halt then.text _ c.in-Some.disk _ _ _ (g.met.A.Serves.shows c.args.array.now).halt keeps.left put.line
+    (sym (c.due.ensures.shown wait k c.args.pairs.now keeps) ∙ c.in-Some.is) put.cause then.cause (then.stock wait (used k) (put.keeps wait k keeps))
 
 pub returns-in-None-clause-causes : goal.returns-in-None-clause-causes
 returns-in-None-clause-causes g c wait k keeps =
     let then = c.answer_alone-in-None.ensures in
-    causes_alone wait _ k _ _ _ _ _ _ _ (g.met.A.Serves.shows c.answer_alone-in-None.new.array).halt then.text then.kind _ (g.met.A.Serves.shows c.args.array.now).halt c.clear.ensures.empty
+    causes_alone wait _ k _ _ _ _ _ _ _ (g.met.A.Serves.shows c.answer_alone-in-None.new.array).halt then.text _ (g.met.A.Serves.shows c.args.array.now).halt c.clear.ensures.empty
     (sym (c.due.ensures.shown wait k c.args.pairs.now keeps) ∙ c.in-None.is) then.cause (then.stock wait k keeps)

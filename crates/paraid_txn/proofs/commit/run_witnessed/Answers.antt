@@ -5,9 +5,11 @@ use Rattle.paraid_rack.specs.Told.{CrashTriple, Ran}
 use Rattle.paraid_record.specs.declared.meta.Meta.{Meta}
 use Rattle.paraid_image.specs.Out.{named_out}
 use Rattle.paraid_txn.specs.CommitStages.{FirstStage, HoldsWitnessed, IsSpelled, LaidStage, job}
-use Rattle.paraid_txn.proofs.BorneLemmas.{steps_borne}
-use Rattle.paraid_txn.proofs.CommitPartLemmas.{CommitPart_milder, raised_ok}
-use Rattle.paraid_txn.proofs.CrashSpecificationLemmas.{on_ok, crash_after, crash_failed, crash_ran, crash_raised}
+use Rattle.std.proofs.lemmas.Result.{IfOk-weaker}
+use Rattle.paraid_txn.proofs.BorneLemmas.{known_steps, steps_borne}
+use Rattle.paraid_txn.proofs.OnceLemmas.{leave_then, once_after, once_before, once_steps}
+use Rattle.paraid_txn.proofs.CommitPartLemmas.{CommitPart_milder, raised_if_ok, raised_ok}
+use Rattle.paraid_txn.proofs.CrashSpecificationLemmas.{on_ok_then, crash_after, crash_failed, crash_ran, crash_raised}
 use Rattle.paraid_txn.proofs.DownLemmas.{AreCommitCalls-absent, AreCommitCalls-then}
 use Rattle.paraid_txn.proofs.ReadyLemmas.{targets_stay_ready}
 use Rattle.paraid_txn.proofs.StageCallsLemmas.{andthen, ends}
@@ -44,7 +46,10 @@ returns-in_err-borne g c = record {
   leaves = SyncedPart_raised _ c.from_residual.ensures.1 (SyncedPart_as (CommitPart_milder (λ x is. inr is)) c.in_err-borne.ensures.leaves);
   crash = λ start before good named. crash_failed _ _ c.from_residual.ensures.1
       (ends (settled_holds _ good before) (sets_before _ good before named c.bear_before.ensures.told));
+  known = raised_if_ok _ _ c.from_residual.result c.from_residual.ensures.1;
   borne = raised_ok _ _ c.from_residual.result c.from_residual.ensures.1;
+  knows = raised_if_ok _ _ c.from_residual.result c.from_residual.ensures.1;
+  once = λ joins x low is. once_before c.args.meta.now _ _ x joins is c.bear_before.ensures.told;
 }
 
 pub returns-in_err-run : goal.returns-in_err-run
@@ -54,7 +59,11 @@ returns-in_err-run g c = record {
   crash = λ start before good named. crash_raised _ c.from_residual-in_err-run.ensures.1
       (crash_after (sets_before _ good before named c.bear_before.ensures.told)
       (steps_witnessed _ good before c.run.ensures.leaves.part.calls (c.in_err-run.ensures.crash start good)));
+  known = raised_if_ok _ _ c.from_residual-in_err-run.result c.from_residual-in_err-run.ensures.1;
   borne = raised_ok _ _ c.from_residual-in_err-run.result c.from_residual-in_err-run.ensures.1;
+  knows = raised_if_ok _ _ c.from_residual-in_err-run.result c.from_residual-in_err-run.ensures.1;
+  once = λ joins x low is. leave_then (once_before c.args.meta.now _ _ x joins is c.bear_before.ensures.told)
+      (once_steps c.args.meta.now c.args.batch.now c.requires.in_range.each x low c.run.ensures.leaves.part.calls);
 }
 
 -- with the five steps done
@@ -74,7 +83,14 @@ returns g c = record {
   crash = λ start before good named.
       let at = goal.at.returns g c in
       crash_after (ran g at.In_ok-run start before good named) (crash_ran (last_holds _ good before) (sets_after _ good before c.bear_after.ensures.told));
-  borne = on_ok c.bear_after.result (λ none. andthen
+  known = IfOk-weaker c.bear_after.result _ _ (λ then goes was. goes
+      (known_steps c.args.meta.now c.args.batch.now c.requires.in_range.each _ c.run.ensures.leaves.part.calls (c.in_ok-borne.ensures.known was))) c.bear_after.ensures.known;
+  borne = on_ok_then c.bear_after.result (λ ends none. andthen
       (andthen c.in_ok-borne.ensures.borne (steps_borne c.args.meta.now c.args.batch.now c.requires.in_range.each _ c.run.ensures.leaves.part.calls))
-      (c.bear_after.ensures.borne none));
+      (ends none)) c.bear_after.ensures.borne;
+  knows = c.bear_after.ensures.knows;
+  once = λ joins x low is. leave_then
+      (leave_then (once_before c.args.meta.now _ _ x joins is c.bear_before.ensures.told)
+      (once_steps c.args.meta.now c.args.batch.now c.requires.in_range.each x low c.run.ensures.leaves.part.calls))
+      (once_after c.args.meta.now _ x (c.in_ok-borne.ensures.stays joins x is) c.bear_after.ensures.told);
 }

@@ -2,7 +2,7 @@ use Rattle.std.proofs.Common.{refl}
 use Rattle.std.proofs.lemmas.Result.{IfErr-weaker, on_ok_weaker}
 use Rattle.paraid_base.specs.declared.event.Answer.TheVariants.{Halted}
 use Rattle.paraid_base.specs.declared.event.Event.TheVariants.{Flush}
-use Rattle.paraid_controller.proofs.AnswersLemmas.{check_ended, check_going, check_halt, check_turn}
+use Rattle.paraid_controller.proofs.AnswersLemmas.{check_ended, check_turn}
 use Rattle.paraid_controller.proofs.CheckLemmas.{flushed_all}
 use Rattle.paraid_controller.proofs.StandLemmas.{none_ended, over_slots}
 use Rattle.paraid_controller.proofs.array.Array.check.Goals as goal
@@ -21,11 +21,6 @@ returns-in-Some g c =
       ended = λ p at. over_slots g.R.Rack.slot_count g.R.Rack.told a _ Flush (Halted c.wear_out-halt.result) (a.serving (none_ended a.ended c.requires.going)).same_slots worn.turn p at;
       told = worn.grows;
       slots = worn.slots;
-      setup = worn.setup;
-      going = tt;
-      halt = worn.halt;
-      two = worn.two;
-      later = worn.later;
       cause = worn.cause;
       sound = tt;
       counts = tt;
@@ -50,11 +45,6 @@ returns g c =
       ended = IfErr-weaker r _ _ (λ halt turn p at. over_slots g.R.Rack.slot_count g.R.Rack.told a b Flush (Halted halt) (a.serving going).same_slots turn p at) (check_ended g.R.Rack.slot_count g.R.Rack.slot g.R.Rack.told a b a.core.meta.writes r it);
       told = it.grows;
       slots = it.slots;
-      setup = it.setup;
-      going = check_going g.R.Rack.slot_count g.R.Rack.slot g.R.Rack.told a b a.core.meta.writes r it;
-      halt = check_halt g.R.Rack.slot_count g.R.Rack.slot g.R.Rack.told a b a.core.meta.writes r it;
-      two = it.two;
-      later = it.later;
       cause = it.cause;
       sound = c.check_there.ensures.sound;
       counts = c.check_there.ensures.counts;

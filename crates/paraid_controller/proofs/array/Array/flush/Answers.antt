@@ -1,3 +1,4 @@
+use Rattle.paraid_controller.specs.Laws.{gear_going}
 use Rattle.paraid_session.proofs.FaultLemmas.{same_counts}
 use Rattle.paraid_controller.specs.Arrays.{shown_of_array}
 use Rattle.paraid_controller.proofs.CauseLemmas.{accepts_none, done_cause, takes}
@@ -27,11 +28,10 @@ returns-then-is_kept g c =
     record {
       idle = λ nothing. refl;
       answers =
-          quiet_answers g.R.Rack.slot_count g.R.Rack.slot g.R.Rack.told a Flush (Flushed c.meta.result.now.writes) c.requires.going
+          quiet_answers g.R.Rack.slot_count g.R.Rack.slot g.R.Rack.told a Flush (Flushed c.meta.result.now.writes)
           (flush_kept g.R.Rack.slot_count g.R.Rack.slot g.R.Rack.told g.met.R.Rack.agrees a going fit.0 fit.1 (a.serving going).serving.ready (a.serving going).serving.copies_synced (c.if-is_kept.ensures.nothing refl) _ (ap (λ (m : Meta). m.writes) c.meta.ensures))
-          refl refl tt
           (let x = shown_of_array g.R.Rack.slot a in
-          done_cause x x Flush (takes x Flush c.requires.going fit.0 fit.1) refl refl (same_counts x.slot) (Flushed c.meta.result.now.writes) c.requires.going (ap (λ (m : Meta). m.writes) c.meta.ensures, accepts_none x));
+          done_cause x x Flush (takes x Flush c.requires.going fit.0 fit.1) refl refl (same_counts x.slot) (Flushed c.meta.result.now.writes) c.requires.going (gear_going a.ended a.core.meta.gear) (record { samples = refl; served = refl }) (ap (λ (m : Meta). m.writes) c.meta.ensures, accepts_none x));
     }
 
 pub commit_all-requires : goal.commit_all-requires

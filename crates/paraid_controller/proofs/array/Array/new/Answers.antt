@@ -4,6 +4,7 @@ use Rattle.paraid_core.specs.Cores.{core_rack}
 use Rattle.paraid_event.specs.Service.{service_of}
 use Rattle.paraid_event.specs.Stands.{StandsAt}
 use Rattle.paraid_controller.proofs.FirstLemmas.{begins_at}
+use Rattle.paraid_controller.proofs.SampleLemmas.{none_held}
 use Rattle.paraid_controller.proofs.array.Array.new.Goals as goal
 
 pub returns : goal.returns
@@ -13,7 +14,9 @@ returns g c = record {
   slots = refl;
   going = refl;
   energy = refl;
-  stands = λ p windows at.
-      begins_at g.R.Rack.slot_count g.R.Rack.told _ refl refl refl windows p
+  samples = none_held c.args.windows c.requires.none;
+  served = refl;
+  stands = λ p at.
+      begins_at g.R.Rack.slot_count g.R.Rack.told _ refl refl refl c.requires.none p
       (subst (λ (m : Meta). StandsAt (g.R.Rack.told (core_rack c.args.core)) (service_of g.R.Rack.slot_count c.args.core [] 0 0) m.setup p) (sym c.meta.ensures) at);
 }

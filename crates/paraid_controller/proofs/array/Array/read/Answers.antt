@@ -24,10 +24,10 @@ returns-then-block-blocks g c =
     let fit = c.in_default.ensures.fit in
     record {
       answers =
-          quiet_answers g.R.Rack.slot_count g.R.Rack.slot g.R.Rack.told a (Read c.args.block) (NoBlock c.args.block) c.requires.going
-          (read_refused g.R.Rack.slot_count g.R.Rack.told a c.requires.going fit.0 fit.1 c.args.block (subst (λ (n : ℕ). n ≤ c.args.block) c.blocks-2.ensures.value c.if-block-blocks.true)) refl (same_test c.args.block c.args.block refl) tt
+          quiet_answers g.R.Rack.slot_count g.R.Rack.slot g.R.Rack.told a (Read c.args.block) (NoBlock c.args.block)
+          (read_refused g.R.Rack.slot_count g.R.Rack.told a c.requires.going fit.0 fit.1 c.args.block (subst (λ (n : ℕ). n ≤ c.args.block) c.blocks-2.ensures.value c.if-block-blocks.true))
           (quiet_cause g.R.Rack.slot a (Read c.args.block) (NoBlock c.args.block) c.requires.going refl (takes (shown_of_array g.R.Rack.slot a) (Read c.args.block) c.requires.going fit.0 fit.1)
-          (one_missing (block_count a.setup) c.args.block (subst (λ (n : ℕ). n ≤ c.args.block) c.blocks-2.ensures.value c.if-block-blocks.true)));
+          (one_missing (block_count a.setup) c.args.block (subst (λ (n : ℕ). n ≤ c.args.block) c.blocks-2.ensures.value c.if-block-blocks.true)) (record { samples = refl; served = refl }));
     }
 
 pub read_there-requires : goal.read_there-requires

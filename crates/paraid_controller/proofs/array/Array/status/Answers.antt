@@ -3,7 +3,6 @@ use Rattle.paraid_record.specs.declared.meta.Setup.{Setup}
 use Rattle.paraid_dirty.specs.Table.{dirty_count, is_dirty}
 use Rattle.paraid_controller.proofs.QuietLemmas.{status_is, status_shown}
 use Rattle.paraid_controller.proofs.StandLemmas.{none_ended}
-use Rattle.paraid_image.specs.Out.{named_out}
 use Rattle.paraid_record.specs.declared.meta.Meta.{Meta}
 use Rattle.paraid_controller.proofs.array.Array.status.Goals as goal
 
@@ -27,7 +26,6 @@ returns g c = record {
       status_is g.R.Rack.slot_count g.R.Rack.told a c.requires.going p at m c.meta-meta.ensures c.count.result c.disks.result
       (subst (λ (z : List (List Bool)). c.count.result ≡ dirty_count (is_dirty z) (length z) m.gear c.disks.result) c.dirty.ensures c.count.ensures)
       (serving.serving.ready.rows_are ∙ ap (λ (z : Setup). z.geometry.rows) serving.same_setup) c.disks.ensures;
-  down = ap (λ (m : Meta). named_out m.out) c.meta-meta.ensures;
   shown =
       let a = c.args.self.now in
       let serving = a.serving (none_ended a.ended c.requires.going) in

@@ -10,7 +10,7 @@ use Rattle.paraid_controller.proofs.array.Array.tell_energy.Goals as goal
 pub returns : goal.returns
 returns g c = record {
   answers =
-      quiet_answers g.R.Rack.slot_count g.R.Rack.slot g.R.Rack.told c.args.self.now Energy (IsEnergy c.args.self.now.energy) c.requires.going
-      (energy_asked g.R.Rack.slot_count g.R.Rack.told c.args.self.now c.requires.going) refl refl tt
-      (quiet_cause g.R.Rack.slot c.args.self.now Energy (IsEnergy c.args.self.now.energy) c.requires.going refl (takes_question (shown_of_array g.R.Rack.slot c.args.self.now) Energy c.requires.going refl) refl);
+      quiet_answers g.R.Rack.slot_count g.R.Rack.slot g.R.Rack.told c.args.self.now Energy (IsEnergy c.args.self.now.energy)
+      (energy_asked g.R.Rack.slot_count g.R.Rack.told c.args.self.now c.requires.going)
+      (quiet_cause g.R.Rack.slot c.args.self.now Energy (IsEnergy c.args.self.now.energy) c.requires.going refl (takes_question (shown_of_array g.R.Rack.slot c.args.self.now) Energy c.requires.going refl) refl (record { samples = refl; served = refl }));
 }

@@ -1,11 +1,10 @@
-use Rattle.std.proofs.Common.{ℕ, ◌∙◌, subst}
+use Rattle.std.proofs.Common.{ℕ, subst}
 use Rattle.paraid_base.specs.BlockAnswers.{answer_to_flush}
 use Rattle.paraid_base.specs.declared.event.Event.TheVariants.{Flush}
 use Rattle.paraid_rack.specs.Told.{Ran}
 use Rattle.paraid_session.specs.Turn.{GoesOn}
 use Rattle.paraid_controller.specs.Arrays.{ArrayStandsAt, told_of_array}
 use Rattle.paraid_controller.specs.Laws.{going_end}
-use Rattle.paraid_controller.proofs.AnswersLemmas.{flush_halts}
 use Rattle.paraid_controller.proofs.serving.ArrayServes.flush.Goals as goal
 
 pub flush-requires : goal.flush-requires
@@ -22,9 +21,5 @@ returns g c =
           ((a.serving (going_end a.ended c.requires.going)).same_slots) (it.turn p at);
       told = it.grows;
       slots = it.slots;
-      setup = it.setup;
-      halt = it.halt ∙ flush_halts c.flush.result;
-      two = it.two;
-      later = it.later;
       cause = it.cause;
     }

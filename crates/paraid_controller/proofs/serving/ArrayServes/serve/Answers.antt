@@ -21,11 +21,5 @@ returns g c =
           ((a.serving (going_end a.ended c.requires.going)).same_slots) (it.turn p at);
       told = it.grows;
       slots = it.slots;
-      setup = it.setup;
-      halt = it.halt;
-      two = it.two;
-      later = it.later;
-      kind = it.kind;
-      few = it.few;
       cause = it.cause;
     }

@@ -8,12 +8,16 @@ returns g c = record {
   meta = refl;
   raised = search rules;
   others = search rules;
-  store = refl;
-  table = refl;
-  batch = refl;
-  copied = refl;
-  draft = refl;
-  ready = search rules;
+  marks = record {
+    store = refl;
+    staged = record {
+      table = refl;
+      batch = refl;
+      copied = refl;
+      draft = refl;
+    };
+    ready = search rules;
+  };
   stands = λ h lo.
       let q = c.requires in
       begin_up_stands g.R.Rack.slot_count g.R.Rack.slot g.R.Rack.told c.args.self.now q.ready q.whole (g.met.R.Rack.agrees (store_rack c.args.self.now.store)) c.args.to c.count_spins.new.spins q.steady

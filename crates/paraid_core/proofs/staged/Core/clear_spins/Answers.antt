@@ -10,16 +10,20 @@ returns g c = record {
   meta = search rules;
   cleared = search rules;
   others = search rules;
-  store = refl;
-  table = refl;
-  batch = refl;
-  copied = refl;
-  draft = refl;
-  ready =
-      let q = c.requires in
-      let m = c.args.self.now.meta in
-      cleared_ready g.R.Rack.slot_count g.R.Rack.slot g.R.Rack.told c.args.self.now q.ready (g.met.R.Rack.agrees (store_rack c.args.self.now.store)) c.args.disk c.forget.new.spins q.gone c.forget.ensures.others
-      (named_below m.setup.geometry m.gear m.out c.args.disk q.ready.in_range.out (ap named_out q.gone)) c.forget.ensures.eight c.forget.ensures.here;
+  marks = record {
+    store = refl;
+    staged = record {
+      table = refl;
+      batch = refl;
+      copied = refl;
+      draft = refl;
+    };
+    ready =
+        let q = c.requires in
+        let m = c.args.self.now.meta in
+        cleared_ready g.R.Rack.slot_count g.R.Rack.slot g.R.Rack.told c.args.self.now q.ready (g.met.R.Rack.agrees (store_rack c.args.self.now.store)) c.args.disk c.forget.new.spins q.gone c.forget.ensures.others
+        (named_below m.setup.geometry m.gear m.out c.args.disk q.ready.in_range.out (ap named_out q.gone)) c.forget.ensures.eight c.forget.ensures.here;
+  };
   serves = search rules;
   stands = λ h lo.
       let q = c.requires in

@@ -30,8 +30,8 @@ returns g c = record {
 
 pub write_blocks-requires : goal.write_blocks-requires
 write_blocks-requires g c = record {
-  serves = record { array = c.requires.ready.array_is; rows = c.requires.ready.rows_are; ready = can_read_beside g.R.Rack.slot_count g.R.Rack.slot g.R.Rack.told c.args.self.now c.requires.ready c.requires.serves (named_out c.args.self.now.meta.out) refl; out = refl; whole = refl };
-  in_range = c.requires.ready.in_range;
+  serves = record { array = c.requires.serving.ready.array_is; rows = c.requires.serving.ready.rows_are; ready = can_read_beside g.R.Rack.slot_count g.R.Rack.slot g.R.Rack.told c.args.self.now c.requires.serving.ready c.requires.serving.serves (named_out c.args.self.now.meta.out) refl; out = refl; whole = refl };
+  in_range = c.requires.serving.ready.in_range;
   blocks = c.requires.blocks;
   room = let none = ap length c.clear.ensures in let few = c.args.pairs.now.few in omega (arith, none, few);
   bits = let none = ap length c.clear-2.ensures in let few = c.args.pairs.now.few in omega (arith, none, few);

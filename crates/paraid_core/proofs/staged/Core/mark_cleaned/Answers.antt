@@ -21,17 +21,19 @@ use Rattle.paraid_core.proofs.staged.Core.mark_cleaned.Goals as goal
 
 pub returns : goal.returns
 returns g c = record {
-  store = refl;
-  meta = refl;
-  copied = refl;
-  draft = search rules;
+  stages = record {
+    store = refl;
+    meta = refl;
+    copied = refl;
+    draft = search rules;
+    ready =
+        let old = c.args.self.now in
+        subst (λ (z : ℕ). AreSlotsReady (g.R.Rack.slot_count (store_rack old.store)) (g.R.Rack.slot (store_rack old.store)) (epoch_of old.store) (disks_of old.store) (named_of old.store) old.meta z c.take.new.batch) (sym c.clear.ensures.rows)
+        (taken_ready _ _ _ _ _ old.meta _ old.batch c.requires.serving.ready c.requires.serving.serves c.take.new.batch _ c.take.ensures);
+    serves = c.requires.serving.serves;
+  };
   staged = search rules;
   table = c.clear.ensures.cells;
-  ready =
-      let old = c.args.self.now in
-      subst (λ (z : ℕ). AreSlotsReady (g.R.Rack.slot_count (store_rack old.store)) (g.R.Rack.slot (store_rack old.store)) (epoch_of old.store) (disks_of old.store) (named_of old.store) old.meta z c.take.new.batch) (sym c.clear.ensures.rows)
-      (taken_ready _ _ _ _ _ old.meta _ old.batch c.requires.ready c.requires.serves c.take.new.batch _ c.take.ensures);
-  serves = c.requires.serves;
   marked = λ h lo cells here.
       let old = c.args.self.now in
       let q = c.requires in
@@ -43,20 +45,20 @@ returns g c = record {
       (λ s k. keeps_held slots (named_of old.store) m c.clear.new.self c.take.new.batch old.copied h lo s k.keeps)
       (λ t tells k.
       let v : View = view_by m (now t).power (contents (now t) old.batch) in
-      cells_marked slots (named_of old.store) m old.dirty c.clear.new.self old.batch c.take.new.batch c.push-2.new.self old.copied h lo cells (now t) q.ready.in_range q.whole
-      (λ d l gone. q.ready.absent d l (ap is_present (sym ((g.met.R.Rack.agrees (store_rack old.store) t tells).power d)) ∙ gone)) k c.args.r c.args.d q.row (disk_in m c.args.d q.ready.in_range q.rises) q.rises q.dirty here map
+      cells_marked slots (named_of old.store) m old.dirty c.clear.new.self old.batch c.take.new.batch c.push-2.new.self old.copied h lo cells (now t) q.serving.ready.in_range q.whole
+      (λ d l gone. q.serving.ready.absent d l (ap is_present (sym ((g.met.R.Rack.agrees (store_rack old.store) t tells).power d)) ∙ gone)) k c.args.r c.args.d q.row (disk_in m c.args.d q.serving.ready.in_range q.rises) q.rises q.dirty here map
       c.clear.ensures.cells c.map_block.ensures draft_is
-      (c.take.ensures.laid_same (subst (ArePlaced m) (sym {b = map_targets m (c.args.r / 512) map} draft_is) (map_placed v q.ready.in_range (c.args.r / 512) map (omega arith)))) c.take.ensures.grows);
+      (c.take.ensures.laid_same (subst (ArePlaced m) (sym {b = map_targets m (c.args.r / 512) map} draft_is) (map_placed v q.serving.ready.in_range (c.args.r / 512) map (omega arith)))) c.take.ensures.grows);
 }
 
 pub clear-requires : goal.clear-requires
 clear-requires g c = record {
-  row = subst (λ (n : ℕ). c.args.r < n) (sym c.requires.ready.rows_are) c.requires.row;
-  disk = let low = disk_in c.args.self.now.meta c.args.d c.requires.ready.in_range c.requires.rises in let high = c.args.self.now.meta.setup.geometry.disks_high in omega (arith, low, high);
+  row = subst (λ (n : ℕ). c.args.r < n) (sym c.requires.serving.ready.rows_are) c.requires.row;
+  disk = let low = disk_in c.args.self.now.meta c.args.d c.requires.serving.ready.in_range c.requires.rises in let high = c.args.self.now.meta.setup.geometry.disks_high in omega (arith, low, high);
 }
 
 pub take-requires : goal.take-requires
 take-requires g c = record {
   room = map_room c.args.self.now.meta.setup.geometry c.args.self.now.batch c.clear-2.new.self c.push.new.self c.push-2.new.self c.args.r c.map_block.new.into c.clear-2.ensures c.push.ensures c.push-2.ensures c.requires.room;
-  apart = c.requires.ready.apart;
+  apart = c.requires.serving.ready.apart;
 }

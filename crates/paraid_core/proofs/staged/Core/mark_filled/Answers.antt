@@ -6,12 +6,16 @@ use Rattle.paraid_core.proofs.staged.Core.mark_filled.Goals as goal
 pub returns : goal.returns
 returns g c = record {
   meta = refl;
-  store = refl;
-  table = refl;
-  batch = refl;
-  copied = refl;
-  draft = refl;
-  ready = search rules;
+  marks = record {
+    store = refl;
+    staged = record {
+      table = refl;
+      batch = refl;
+      copied = refl;
+      draft = refl;
+    };
+    ready = search rules;
+  };
   serves = search rules;
   stands = λ h lo.
       let q = c.requires in

@@ -12,16 +12,20 @@ use Rattle.paraid_core.proofs.staged.Core.mark_out.Goals as goal
 pub returns : goal.returns
 returns g c = record {
   meta = search rules;
-  store = refl;
-  table = refl;
-  batch = refl;
-  copied = refl;
-  draft = refl;
-  ready =
-      let q = c.requires in
-      let old = c.args.self.now in
-      subst (λ (p : Phase). AreSlotsReady (g.R.Rack.slot_count (store_rack old.store)) (g.R.Rack.slot (store_rack old.store)) (epoch_of old.store) (disks_of old.store) (named_of old.store) (record old.meta { phase = p; fill = 0; out = Gone c.args.disk }) (length old.dirty) old.batch)
-      (sym c.beside-self.ensures) (marked_ready old.meta (named_of old.store) c.args.disk q.ready.in_range q.disk q.alone q.still _ _ _ _ _ _ q.ready);
+  marks = record {
+    store = refl;
+    staged = record {
+      table = refl;
+      batch = refl;
+      copied = refl;
+      draft = refl;
+    };
+    ready =
+        let q = c.requires in
+        let old = c.args.self.now in
+        subst (λ (p : Phase). AreSlotsReady (g.R.Rack.slot_count (store_rack old.store)) (g.R.Rack.slot (store_rack old.store)) (epoch_of old.store) (disks_of old.store) (named_of old.store) (record old.meta { phase = p; fill = 0; out = Gone c.args.disk }) (length old.dirty) old.batch)
+        (sym c.beside-self.ensures) (marked_ready old.meta (named_of old.store) c.args.disk q.ready.in_range q.disk q.alone q.still _ _ _ _ _ _ q.ready);
+  };
   serves = λ serves.
       let q = c.requires in
       let old = c.args.self.now in

@@ -7,18 +7,22 @@ use Rattle.paraid_core.proofs.staged.Core.mark_rebuilt.Goals as goal
 pub returns : goal.returns
 returns g c = record {
   meta = search rules;
-  store = refl;
-  table = refl;
-  batch = refl;
-  copied = refl;
-  draft = refl;
-  ready =
-      let m = c.args.self.now.meta in
-      let ready = c.requires.ready in
-      let d = c.fresh_disk-disk.result in
-      let fresh = c.fresh_disk-disk.ensures in
-      let named = rebuilding_named m d fresh in
-      ready_rebuilt m d c.args.end fresh _ _ _ _ _ _ _ (named_below m.setup.geometry m.gear m.out d ready.in_range.out named) (c.requires.limit d named) ready;
+  marks = record {
+    store = refl;
+    staged = record {
+      table = refl;
+      batch = refl;
+      copied = refl;
+      draft = refl;
+    };
+    ready =
+        let m = c.args.self.now.meta in
+        let ready = c.requires.ready in
+        let d = c.fresh_disk-disk.result in
+        let fresh = c.fresh_disk-disk.ensures in
+        let named = rebuilding_named m d fresh in
+        ready_rebuilt m d c.args.end fresh _ _ _ _ _ _ _ (named_below m.setup.geometry m.gear m.out d ready.in_range.out named) (c.requires.limit d named) ready;
+  };
   serves = search rules;
   stands = λ h lo.
       let m = c.args.self.now.meta in

@@ -36,7 +36,7 @@ module _ (g : Over) (c : After-lose g) where
   m = c.args.self.now.meta
 
   low : (d : ℕ) → c.in_ok-lost.lost ≡ Some d → d < m.setup.geometry.disks
-  low d is = subst (λ (z : ℕ). d < z) (sym c.requires.ready.array_is) (c.in_ok-lost.ensures.below d is)
+  low d is = subst (λ (z : ℕ). d < z) (sym c.requires.serving.ready.array_is) (c.in_ok-lost.ensures.below d is)
 
   same : lost_in m c.in_ok-lost.lost ≡ c.in_ok-lost.lost
   same = lost_in_is m c.in_ok-lost.lost low
@@ -52,107 +52,127 @@ module _ (g : Over) (c : After-lose g) where
 
 pub returns-in_err-lost : goal.returns-in_err-lost
 returns-in_err-lost g c = record {
-  draft = refl;
-  copied = refl;
-  slots = search rules;
-  ready = none_done _ c.from_residual.result _ c.from_residual.ensures.1;
-  serves = none_done _ c.from_residual.result _ c.from_residual.ensures.1;
-  batch = refl;
-  table = refl;
-  cleans_less = none_done _ c.from_residual.result _ c.from_residual.ensures.1;
-  setup = none_done _ c.from_residual.result _ c.from_residual.ensures.1;
-  writes = none_done _ c.from_residual.result _ c.from_residual.ensures.1;
-  epoch = none_done _ c.from_residual.result _ c.from_residual.ensures.1;
-  down = none_done _ c.from_residual.result _ c.from_residual.ensures.1;
-  spared = search rules;
-  still_synced = search rules;
-  two =
-      let old = c.args.self.now in
-      let slot = g.R.Rack.slot (store_rack old.store) in
-      let ready = c.requires.ready in
-      handed (AreTwoDown (or_else (named_of old.store) (named_out old.meta.out)) slot (g.R.Rack.slot (store_rack c.read_cell.new.store))) c.from_residual.result _ c.from_residual.ensures.1
-      (two_by (out_disk (λ x. (slot x).power) old.meta) (or_else (named_of old.store) (named_out old.meta.out)) slot (g.R.Rack.slot (store_rack c.read_cell.new.store)) _
-      (λ x is. down_named (named_of old.store) old.meta ready.one x (out_is_named (λ x. (slot x).power) old.meta ready.absent x is)) c.in_err-lost.ensures.two.down);
-  tells =
-      handed (λ two. Ran (g.R.Rack.told (store_rack c.args.self.now.store)) (g.R.Rack.told (store_rack c.read_cell.new.store)) (λ s cs. TellsLosses (named_out c.args.self.now.meta.out) two cs)) c.from_residual.result _ c.from_residual.ensures.1
-      (out_tells (λ x. (g.R.Rack.slot (store_rack c.args.self.now.store) x).power) c.args.self.now.meta c.requires.ready.absent _ _ _ c.in_err-lost.ensures.two.tells);
-  calls =
-      let old = c.args.self.now in
-      calls_off _ _ _ _ (sym c.requires.ready.array_is) (λ d is. out_named (λ x. (g.R.Rack.slot (store_rack old.store) x).power) old.meta d (gone_named old.meta.out d is)) _ _ c.in_err-lost.ensures.two.calls c.read_cell.ensures.off;
-  reads = reads_of _ _ (sym c.requires.ready.array_is) _ _ c.in_err-lost.ensures.two.calls;
-  marks = none_done _ c.from_residual.result _ c.from_residual.ensures.1;
-  named = c.in_err-lost.ensures.two.same.named;
-  moments = λ h lo.
-      let old = c.args.self.now in
-      reads_moments (g.R.Rack.slot_count (store_rack old.store)) (named_of old.store) old.meta old.dirty old.batch old.copied h lo (or_else (named_of old.store) (named_out old.meta.out)) (knows_named (named_of old.store) (named_out old.meta.out)) (disks_of old.store) _ _ (sym c.requires.ready.array_is) c.in_err-lost.ensures.two.calls;
-  stands = none_done _ c.from_residual.result _ c.from_residual.ensures.1;
-  moments_since = λ h lo.
-      let old = c.args.self.now in
-      reads_moments (g.R.Rack.slot_count (store_rack old.store)) (named_of old.store) old.meta old.dirty old.batch old.copied h lo (named_of old.store) (λ d is. is) (disks_of old.store) _ _ (sym c.requires.ready.array_is) c.in_err-lost.ensures.two.calls;
-  since = none_done _ c.from_residual.result _ c.from_residual.ensures.1;
+  reads = record {
+    cells = record {
+      draft = refl;
+      table = refl;
+      cleans_less = none_done _ c.from_residual.result _ c.from_residual.ensures.1;
+      writes = none_done _ c.from_residual.result _ c.from_residual.ensures.1;
+    };
+    alone = record {
+      stays = record {
+        copied = refl;
+        losses = record {
+          slots = search rules;
+          spared = search rules;
+          two =
+              let old = c.args.self.now in
+              let slot = g.R.Rack.slot (store_rack old.store) in
+              let ready = c.requires.serving.ready in
+              handed (AreTwoDown (or_else (named_of old.store) (named_out old.meta.out)) slot (g.R.Rack.slot (store_rack c.read_cell.new.store))) c.from_residual.result _ c.from_residual.ensures.1
+              (two_by (out_disk (λ x. (slot x).power) old.meta) (or_else (named_of old.store) (named_out old.meta.out)) slot (g.R.Rack.slot (store_rack c.read_cell.new.store)) _
+              (λ x is. down_named (named_of old.store) old.meta ready.one x (out_is_named (λ x. (slot x).power) old.meta ready.absent x is)) c.in_err-lost.ensures.two.down);
+          tells =
+              handed (λ two. Ran (g.R.Rack.told (store_rack c.args.self.now.store)) (g.R.Rack.told (store_rack c.read_cell.new.store)) (λ s cs. TellsLosses (named_out c.args.self.now.meta.out) two cs)) c.from_residual.result _ c.from_residual.ensures.1
+              (out_tells (λ x. (g.R.Rack.slot (store_rack c.args.self.now.store) x).power) c.args.self.now.meta c.requires.serving.ready.absent _ _ _ c.in_err-lost.ensures.two.tells);
+          marks = none_done _ c.from_residual.result _ c.from_residual.ensures.1;
+        };
+        ready = none_done _ c.from_residual.result _ c.from_residual.ensures.1;
+        setup = none_done _ c.from_residual.result _ c.from_residual.ensures.1;
+        down = none_done _ c.from_residual.result _ c.from_residual.ensures.1;
+      };
+      serves = none_done _ c.from_residual.result _ c.from_residual.ensures.1;
+      epoch = none_done _ c.from_residual.result _ c.from_residual.ensures.1;
+      still_synced = search rules;
+      calls =
+          let old = c.args.self.now in
+          calls_off _ _ _ _ (sym c.requires.serving.ready.array_is) (λ d is. out_named (λ x. (g.R.Rack.slot (store_rack old.store) x).power) old.meta d (gone_named old.meta.out d is)) _ _ c.in_err-lost.ensures.two.calls c.read_cell.ensures.off;
+      reads = reads_of _ _ (sym c.requires.serving.ready.array_is) _ _ c.in_err-lost.ensures.two.calls;
+      named = c.in_err-lost.ensures.two.same.named;
+      moments_since = λ h lo.
+          let old = c.args.self.now in
+          reads_moments (g.R.Rack.slot_count (store_rack old.store)) (named_of old.store) old.meta old.dirty old.batch old.copied h lo (named_of old.store) (λ d is. is) (disks_of old.store) _ _ (sym c.requires.serving.ready.array_is) c.in_err-lost.ensures.two.calls;
+    };
+    batch = refl;
+    moments = λ h lo.
+        let old = c.args.self.now in
+        reads_moments (g.R.Rack.slot_count (store_rack old.store)) (named_of old.store) old.meta old.dirty old.batch old.copied h lo (or_else (named_of old.store) (named_out old.meta.out)) (knows_named (named_of old.store) (named_out old.meta.out)) (disks_of old.store) _ _ (sym c.requires.serving.ready.array_is) c.in_err-lost.ensures.two.calls;
+    stands = none_done _ c.from_residual.result _ c.from_residual.ensures.1;
+    since = none_done _ c.from_residual.result _ c.from_residual.ensures.1;
+  };
   value = none_done _ c.from_residual.result _ c.from_residual.ensures.1;
 }
 
 pub returns : goal.returns
 returns g c = record {
-  draft = refl;
-  copied = refl;
-  slots = search rules;
-  ready = on_ok_weaker c.lose.result (λ put. let old = c.args.self.now in
-      let read = c.in_ok-lost.ensures.read in
-      ready_moved _ _ _ _ _ _ _ _ _ (meta_with_lost (lost_in old.meta c.in_ok-lost.lost) old.meta) _ _ _ read.slots read.same.epoch read.same.disks read.same.named put.marked
-      (ready_after _ _ _ _ _ _ old.meta _ _ c.requires.ready c.in_ok-lost.lost (only g c) (none_out g c) (λ d x is was. none_out g c d x is (c.requires.serves.stays x was)) (λ d is. lost_in_low old.meta c.in_ok-lost.lost d is))) (both_put c.lose.result c.args.self.now.meta c.lose.new.meta c.in_ok-lost.lost c.lose.ensures.marked c.lose.ensures.alone);
-  serves = on_ok_weaker c.lose.result (λ put. let old = c.args.self.now in
-      let read = c.in_ok-lost.ensures.read in
-      subst (λ (z : Option ℕ). CanServe (g.R.Rack.slot (store_rack c.read_cell.new.store)) z c.lose.new.meta) (sym read.same.named)
-      (subst (λ (z : Meta). CanServe (g.R.Rack.slot (store_rack c.read_cell.new.store)) (named_of old.store) z) (sym put.marked)
-      (serve_after _ _ _ _ _ _ old.meta _ _ c.requires.ready c.in_ok-lost.lost (only g c) (none_out g c) (λ d x is was. none_out g c d x is (c.requires.serves.stays x was)) (λ d is. lost_in_low old.meta c.in_ok-lost.lost d is)
-      c.requires.serves))) (both_put c.lose.result c.args.self.now.meta c.lose.new.meta c.in_ok-lost.lost c.lose.ensures.marked c.lose.ensures.alone);
-  batch = refl;
-  table = refl;
-  cleans_less = on_ok_weaker c.lose.result (λ put. λ r d is.
-      let old = c.args.self.now in
-      subst (λ (z : Meta). is_cleaned z old.dirty r d ≡ false) (sym put.marked) (cleans_marked (lost_in old.meta c.in_ok-lost.lost) old.meta old.meta.epoch old.dirty r d is)) (both_put c.lose.result c.args.self.now.meta c.lose.new.meta c.in_ok-lost.lost c.lose.ensures.marked c.lose.ensures.alone);
-  setup = on_ok_weaker c.lose.result (λ put. ap (λ (z : Meta). z.setup) put.marked ∙ marked_setup (lost_in c.args.self.now.meta c.in_ok-lost.lost) c.args.self.now.meta) (both_put c.lose.result c.args.self.now.meta c.lose.new.meta c.in_ok-lost.lost c.lose.ensures.marked c.lose.ensures.alone);
-  writes = on_ok_weaker c.lose.result (λ put. ap (λ (z : Meta). z.writes) put.marked ∙ marked_writes (lost_in c.args.self.now.meta c.in_ok-lost.lost) c.args.self.now.meta) (both_put c.lose.result c.args.self.now.meta c.lose.new.meta c.in_ok-lost.lost c.lose.ensures.marked c.lose.ensures.alone);
-  epoch = on_ok_weaker c.lose.result (λ put. ap (λ (z : Meta). z.epoch) put.marked ∙ marked_epoch (lost_in c.args.self.now.meta c.in_ok-lost.lost) c.args.self.now.meta) (both_put c.lose.result c.args.self.now.meta c.lose.new.meta c.in_ok-lost.lost c.lose.ensures.marked c.lose.ensures.alone);
-  down = on_ok_weaker c.lose.result (λ put. let old = c.args.self.now in
-      let read = c.in_ok-lost.ensures.read in
-      down_read (named_of old.store) old.meta c.in_ok-lost.lost c.lose.new.meta (named_of c.read_cell.new.store) _ _ c.requires.ready.one
-      (ap (λ (z : Meta). named_out z.out) put.marked) read.left.failed read.same.named) (both_put c.lose.result c.args.self.now.meta c.lose.new.meta c.in_ok-lost.lost c.lose.ensures.marked c.lose.ensures.alone);
-  spared = left_spared c.in_ok-lost.lost _ _ c.in_ok-lost.ensures.read.left;
-  still_synced = search rules;
-  two =
-      let old = c.args.self.now in
-      IfErr-weaker c.lose.result _ _ (λ two both. record { first = inl (down_named (named_of old.store) old.meta c.requires.ready.one _ both.1); apart = both.2; second = (c.in_ok-lost.ensures.read.left.failed _ both.0).risen }) c.lose.ensures.two;
-  tells = IfErr-weaker c.lose.result _ _ (λ two down. lose_tells (named_out c.args.self.now.meta.out) c.in_ok-lost.lost _ _ _ down c.in_ok-lost.ensures.read.first) c.lose.ensures.two;
-  calls =
-      let old = c.args.self.now in
-      calls_off _ _ _ _ (sym c.requires.ready.array_is) (λ d is. out_named (λ x. (g.R.Rack.slot (store_rack old.store) x).power) old.meta d (gone_named old.meta.out d is)) _ _ c.in_ok-lost.ensures.read.calls c.read_cell.ensures.off;
-  reads = reads_of _ _ (sym c.requires.ready.array_is) _ _ c.in_ok-lost.ensures.read.calls;
-  marks = on_ok_weaker c.lose.result (λ put. let m = c.args.self.now.meta in
-      marks_read m c.lose.new.meta c.in_ok-lost.lost _ _ m.epoch m.writes c.in_ok-lost.ensures.read.left put.marked (low g c) (λ d x is k. put.alone d x is k (low g c d is))) (both_put c.lose.result c.args.self.now.meta c.lose.new.meta c.in_ok-lost.lost c.lose.ensures.marked c.lose.ensures.alone);
-  named = c.in_ok-lost.ensures.read.same.named;
-  moments = λ h lo.
-      let old = c.args.self.now in
-      reads_moments (g.R.Rack.slot_count (store_rack old.store)) (named_of old.store) old.meta old.dirty old.batch old.copied h lo (or_else (named_of old.store) (named_out old.meta.out)) (knows_named (named_of old.store) (named_out old.meta.out)) (disks_of old.store) _ _ (sym c.requires.ready.array_is) c.in_ok-lost.ensures.read.calls;
-  stands = on_ok_weaker c.lose.result (λ put. λ h lo.
-      let old = c.args.self.now in
-      let read = c.in_ok-lost.ensures in
-      reads_stand (g.R.Rack.slot_count (store_rack old.store)) (named_of old.store) old.meta old.dirty old.batch old.copied h lo (or_else (named_of old.store) (named_out old.meta.out)) (knows_named (named_of old.store) (named_out old.meta.out)) (disks_of old.store) _ _ (g.R.Rack.slot (store_rack old.store)) (g.R.Rack.slot (store_rack c.read_cell.new.store))
-      c.in_ok-lost.lost c.requires.ready.in_range (sym c.requires.ready.array_is) (g.met.R.Rack.agrees (store_rack old.store)) (g.met.R.Rack.agrees (store_rack c.read_cell.new.store)) read.read.left
-      (g.met.R.Rack.slots_hold (store_rack c.read_cell.new.store)).absent (λ d is. subst (λ (z : ℕ). d < z) (sym c.requires.ready.array_is) (read.below d is)) (λ d is. read.one d is) c.requires.serves.stays
-      _ _ _ read.read.slots read.read.same.named put.marked read.read.calls) (both_put c.lose.result c.args.self.now.meta c.lose.new.meta c.in_ok-lost.lost c.lose.ensures.marked c.lose.ensures.alone);
-  moments_since = λ h lo.
-      let old = c.args.self.now in
-      reads_moments (g.R.Rack.slot_count (store_rack old.store)) (named_of old.store) old.meta old.dirty old.batch old.copied h lo (named_of old.store) (λ d is. is) (disks_of old.store) _ _ (sym c.requires.ready.array_is) c.in_ok-lost.ensures.read.calls;
-  since = on_ok_weaker c.lose.result (λ put. λ h lo.
-      let old = c.args.self.now in
-      let read = c.in_ok-lost.ensures in
-      reads_stand (g.R.Rack.slot_count (store_rack old.store)) (named_of old.store) old.meta old.dirty old.batch old.copied h lo (named_of old.store) (λ d is. is) (disks_of old.store) _ _ (g.R.Rack.slot (store_rack old.store)) (g.R.Rack.slot (store_rack c.read_cell.new.store))
-      c.in_ok-lost.lost c.requires.ready.in_range (sym c.requires.ready.array_is) (g.met.R.Rack.agrees (store_rack old.store)) (g.met.R.Rack.agrees (store_rack c.read_cell.new.store)) read.read.left
-      (g.met.R.Rack.slots_hold (store_rack c.read_cell.new.store)).absent (λ d is. subst (λ (z : ℕ). d < z) (sym c.requires.ready.array_is) (read.below d is)) (λ d is. read.one d is) c.requires.serves.stays
-      _ _ _ read.read.slots read.read.same.named put.marked read.read.calls) (both_put c.lose.result c.args.self.now.meta c.lose.new.meta c.in_ok-lost.lost c.lose.ensures.marked c.lose.ensures.alone);
+  reads = record {
+    cells = record {
+      draft = refl;
+      table = refl;
+      cleans_less = on_ok_weaker c.lose.result (λ put. λ r d is.
+          let old = c.args.self.now in
+          subst (λ (z : Meta). is_cleaned z old.dirty r d ≡ false) (sym put.marked) (cleans_marked (lost_in old.meta c.in_ok-lost.lost) old.meta old.meta.epoch old.dirty r d is)) (both_put c.lose.result c.args.self.now.meta c.lose.new.meta c.in_ok-lost.lost c.lose.ensures.marked c.lose.ensures.alone);
+      writes = on_ok_weaker c.lose.result (λ put. ap (λ (z : Meta). z.writes) put.marked ∙ marked_writes (lost_in c.args.self.now.meta c.in_ok-lost.lost) c.args.self.now.meta) (both_put c.lose.result c.args.self.now.meta c.lose.new.meta c.in_ok-lost.lost c.lose.ensures.marked c.lose.ensures.alone);
+    };
+    alone = record {
+      stays = record {
+        copied = refl;
+        losses = record {
+          slots = search rules;
+          spared = left_spared c.in_ok-lost.lost _ _ c.in_ok-lost.ensures.read.left;
+          two =
+              let old = c.args.self.now in
+              IfErr-weaker c.lose.result _ _ (λ two both. record { first = inl (down_named (named_of old.store) old.meta c.requires.serving.ready.one _ both.1); apart = both.2; second = (c.in_ok-lost.ensures.read.left.failed _ both.0).risen }) c.lose.ensures.two;
+          tells = IfErr-weaker c.lose.result _ _ (λ two down. lose_tells (named_out c.args.self.now.meta.out) c.in_ok-lost.lost _ _ _ down c.in_ok-lost.ensures.read.first) c.lose.ensures.two;
+          marks = on_ok_weaker c.lose.result (λ put. let m = c.args.self.now.meta in
+              marks_read m c.lose.new.meta c.in_ok-lost.lost _ _ m.epoch m.writes c.in_ok-lost.ensures.read.left put.marked (low g c) (λ d x is k. put.alone d x is k (low g c d is))) (both_put c.lose.result c.args.self.now.meta c.lose.new.meta c.in_ok-lost.lost c.lose.ensures.marked c.lose.ensures.alone);
+        };
+        ready = on_ok_weaker c.lose.result (λ put. let old = c.args.self.now in
+            let read = c.in_ok-lost.ensures.read in
+            ready_moved _ _ _ _ _ _ _ _ _ (meta_with_lost (lost_in old.meta c.in_ok-lost.lost) old.meta) _ _ _ read.slots read.same.epoch read.same.disks read.same.named put.marked
+            (ready_after _ _ _ _ _ _ old.meta _ _ c.requires.serving.ready c.in_ok-lost.lost (only g c) (none_out g c) (λ d x is was. none_out g c d x is (c.requires.serving.serves.stays x was)) (λ d is. lost_in_low old.meta c.in_ok-lost.lost d is))) (both_put c.lose.result c.args.self.now.meta c.lose.new.meta c.in_ok-lost.lost c.lose.ensures.marked c.lose.ensures.alone);
+        setup = on_ok_weaker c.lose.result (λ put. ap (λ (z : Meta). z.setup) put.marked ∙ marked_setup (lost_in c.args.self.now.meta c.in_ok-lost.lost) c.args.self.now.meta) (both_put c.lose.result c.args.self.now.meta c.lose.new.meta c.in_ok-lost.lost c.lose.ensures.marked c.lose.ensures.alone);
+        down = on_ok_weaker c.lose.result (λ put. let old = c.args.self.now in
+            let read = c.in_ok-lost.ensures.read in
+            down_read (named_of old.store) old.meta c.in_ok-lost.lost c.lose.new.meta (named_of c.read_cell.new.store) _ _ c.requires.serving.ready.one
+            (ap (λ (z : Meta). named_out z.out) put.marked) read.left.failed read.same.named) (both_put c.lose.result c.args.self.now.meta c.lose.new.meta c.in_ok-lost.lost c.lose.ensures.marked c.lose.ensures.alone);
+      };
+      serves = on_ok_weaker c.lose.result (λ put. let old = c.args.self.now in
+          let read = c.in_ok-lost.ensures.read in
+          subst (λ (z : Option ℕ). CanServe (g.R.Rack.slot (store_rack c.read_cell.new.store)) z c.lose.new.meta) (sym read.same.named)
+          (subst (λ (z : Meta). CanServe (g.R.Rack.slot (store_rack c.read_cell.new.store)) (named_of old.store) z) (sym put.marked)
+          (serve_after _ _ _ _ _ _ old.meta _ _ c.requires.serving.ready c.in_ok-lost.lost (only g c) (none_out g c) (λ d x is was. none_out g c d x is (c.requires.serving.serves.stays x was)) (λ d is. lost_in_low old.meta c.in_ok-lost.lost d is)
+          c.requires.serving.serves))) (both_put c.lose.result c.args.self.now.meta c.lose.new.meta c.in_ok-lost.lost c.lose.ensures.marked c.lose.ensures.alone);
+      epoch = on_ok_weaker c.lose.result (λ put. ap (λ (z : Meta). z.epoch) put.marked ∙ marked_epoch (lost_in c.args.self.now.meta c.in_ok-lost.lost) c.args.self.now.meta) (both_put c.lose.result c.args.self.now.meta c.lose.new.meta c.in_ok-lost.lost c.lose.ensures.marked c.lose.ensures.alone);
+      still_synced = search rules;
+      calls =
+          let old = c.args.self.now in
+          calls_off _ _ _ _ (sym c.requires.serving.ready.array_is) (λ d is. out_named (λ x. (g.R.Rack.slot (store_rack old.store) x).power) old.meta d (gone_named old.meta.out d is)) _ _ c.in_ok-lost.ensures.read.calls c.read_cell.ensures.off;
+      reads = reads_of _ _ (sym c.requires.serving.ready.array_is) _ _ c.in_ok-lost.ensures.read.calls;
+      named = c.in_ok-lost.ensures.read.same.named;
+      moments_since = λ h lo.
+          let old = c.args.self.now in
+          reads_moments (g.R.Rack.slot_count (store_rack old.store)) (named_of old.store) old.meta old.dirty old.batch old.copied h lo (named_of old.store) (λ d is. is) (disks_of old.store) _ _ (sym c.requires.serving.ready.array_is) c.in_ok-lost.ensures.read.calls;
+    };
+    batch = refl;
+    moments = λ h lo.
+        let old = c.args.self.now in
+        reads_moments (g.R.Rack.slot_count (store_rack old.store)) (named_of old.store) old.meta old.dirty old.batch old.copied h lo (or_else (named_of old.store) (named_out old.meta.out)) (knows_named (named_of old.store) (named_out old.meta.out)) (disks_of old.store) _ _ (sym c.requires.serving.ready.array_is) c.in_ok-lost.ensures.read.calls;
+    stands = on_ok_weaker c.lose.result (λ put. λ h lo.
+        let old = c.args.self.now in
+        let read = c.in_ok-lost.ensures in
+        reads_stand (g.R.Rack.slot_count (store_rack old.store)) (named_of old.store) old.meta old.dirty old.batch old.copied h lo (or_else (named_of old.store) (named_out old.meta.out)) (knows_named (named_of old.store) (named_out old.meta.out)) (disks_of old.store) _ _ (g.R.Rack.slot (store_rack old.store)) (g.R.Rack.slot (store_rack c.read_cell.new.store))
+        c.in_ok-lost.lost c.requires.serving.ready.in_range (sym c.requires.serving.ready.array_is) (g.met.R.Rack.agrees (store_rack old.store)) (g.met.R.Rack.agrees (store_rack c.read_cell.new.store)) read.read.left
+        (g.met.R.Rack.slots_hold (store_rack c.read_cell.new.store)).absent (λ d is. subst (λ (z : ℕ). d < z) (sym c.requires.serving.ready.array_is) (read.below d is)) (λ d is. read.one d is) c.requires.serving.serves.stays
+        _ _ _ read.read.slots read.read.same.named put.marked read.read.calls) (both_put c.lose.result c.args.self.now.meta c.lose.new.meta c.in_ok-lost.lost c.lose.ensures.marked c.lose.ensures.alone);
+    since = on_ok_weaker c.lose.result (λ put. λ h lo.
+        let old = c.args.self.now in
+        let read = c.in_ok-lost.ensures in
+        reads_stand (g.R.Rack.slot_count (store_rack old.store)) (named_of old.store) old.meta old.dirty old.batch old.copied h lo (named_of old.store) (λ d is. is) (disks_of old.store) _ _ (g.R.Rack.slot (store_rack old.store)) (g.R.Rack.slot (store_rack c.read_cell.new.store))
+        c.in_ok-lost.lost c.requires.serving.ready.in_range (sym c.requires.serving.ready.array_is) (g.met.R.Rack.agrees (store_rack old.store)) (g.met.R.Rack.agrees (store_rack c.read_cell.new.store)) read.read.left
+        (g.met.R.Rack.slots_hold (store_rack c.read_cell.new.store)).absent (λ d is. subst (λ (z : ℕ). d < z) (sym c.requires.serving.ready.array_is) (read.below d is)) (λ d is. read.one d is) c.requires.serving.serves.stays
+        _ _ _ read.read.slots read.read.same.named put.marked read.read.calls) (both_put c.lose.result c.args.self.now.meta c.lose.new.meta c.in_ok-lost.lost c.lose.ensures.marked c.lose.ensures.alone);
+  };
   value = on_ok_weaker c.lose.result (λ put. λ h lo t tells keeps some.
       let old = c.args.self.now in
       let slots : ℕ = g.R.Rack.slot_count (store_rack old.store) in
@@ -167,10 +187,10 @@ returns g c = record {
 
 pub read_cell-requires : goal.read_cell-requires
 read_cell-requires g c = record {
-  in_range = c.requires.ready.in_range;
+  in_range = c.requires.serving.ready.in_range;
   row = c.requires.row;
   disk = c.requires.disk;
-  rows = c.requires.ready.rows_are;
-  array = c.requires.ready.array_is;
-  ready = can_read_but g.R.Rack.slot_count g.R.Rack.slot g.R.Rack.told c.args.self.now c.requires.ready c.requires.serves (out_disk (λ e. (g.R.Rack.slot (store_rack c.args.self.now.store) e).power) c.args.self.now.meta) (named_is_out (λ e. (g.R.Rack.slot (store_rack c.args.self.now.store) e).power) c.args.self.now.meta);
+  rows = c.requires.serving.ready.rows_are;
+  array = c.requires.serving.ready.array_is;
+  ready = can_read_but g.R.Rack.slot_count g.R.Rack.slot g.R.Rack.told c.args.self.now c.requires.serving.ready c.requires.serving.serves (out_disk (λ e. (g.R.Rack.slot (store_rack c.args.self.now.store) e).power) c.args.self.now.meta) (named_is_out (λ e. (g.R.Rack.slot (store_rack c.args.self.now.store) e).power) c.args.self.now.meta);
 }

@@ -6,14 +6,18 @@ use Rattle.paraid_core.proofs.staged.Core.rejoin.Goals as goal
 pub returns : goal.returns
 returns g c = record {
   meta = refl;
-  store = refl;
-  table = refl;
-  batch = refl;
-  copied = refl;
-  draft = refl;
-  ready =
-      let q = c.requires in
-      joined_ready _ _ _ _ _ c.args.self.now.meta _ _ q.rebuilding q.there q.ready;
+  marks = record {
+    store = refl;
+    staged = record {
+      table = refl;
+      batch = refl;
+      copied = refl;
+      draft = refl;
+    };
+    ready =
+        let q = c.requires in
+        joined_ready _ _ _ _ _ c.args.self.now.meta _ _ q.rebuilding q.there q.ready;
+  };
   up = λ serves.
       let q = c.requires in
       joined_up _ _ _ _ _ c.args.self.now.meta _ _ q.rebuilding q.there q.ready serves;

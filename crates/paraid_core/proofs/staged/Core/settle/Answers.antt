@@ -38,73 +38,85 @@ loop-disk-preserved g c =
     let was = c.loop-disk.invariant in
     let one = c.in_ok-settle_one.ensures in
     record {
-      leaves = leaves_then g.R.Rack.slot_count g.R.Rack.slot g.R.Rack.told c.args.self.now c.loop-disk.self was.leaves c.settle_one.new.self one.leaves;
-      still_synced = dry_both (g.R.Rack.slot (store_rack c.args.self.now.store)) (g.R.Rack.slot (store_rack c.loop-disk.self.store)) (g.R.Rack.slot (store_rack c.settle_one.new.self.store)) was.still_synced c.settle_one.ensures.still_synced c.settle_one.ensures.spared;
+      leaves = leaves_then g.R.Rack.slot_count g.R.Rack.slot g.R.Rack.told c.args.self.now c.loop-disk.self was.leaves c.settle_one.new.self one.keeps.stays.leaves;
+      still_synced = dry_both (g.R.Rack.slot (store_rack c.args.self.now.store)) (g.R.Rack.slot (store_rack c.loop-disk.self.store)) (g.R.Rack.slot (store_rack c.settle_one.new.self.store)) was.still_synced c.settle_one.ensures.keeps.stays.still_synced c.settle_one.ensures.keeps.stays.losses.spared;
       synced = below_more (λ d. is_copied c.args.self.now.copied d ≡ true → IsSyncedAt (g.R.Rack.slot (store_rack c.settle_one.new.self.store)) d) c.loop-disk.disk
-          (λ d lt is. still_synced (g.R.Rack.slot (store_rack c.loop-disk.self.store)) (g.R.Rack.slot (store_rack c.settle_one.new.self.store)) d (was.synced d lt is) c.settle_one.ensures.still_synced c.settle_one.ensures.spared)
+          (λ d lt is. still_synced (g.R.Rack.slot (store_rack c.loop-disk.self.store)) (g.R.Rack.slot (store_rack c.settle_one.new.self.store)) d (was.synced d lt is) c.settle_one.ensures.keeps.stays.still_synced c.settle_one.ensures.keeps.stays.losses.spared)
           (λ is. one.synced (was.others c.loop-disk.disk (omega arith) ∙ is));
       copies_synced = below_more (λ d. is_copied c.settle_one.new.self.copied d ≡ false) c.loop-disk.disk
           (λ d lt. one.cleared.others d (λ is. absurd (omega arith)) ∙ was.copies_synced d lt) one.cleared.here;
       others = λ d le. one.cleared.others d (λ is. absurd (omega arith)) ∙ was.others d (omega arith);
-      marks = marks_then _ _ _ _ _ _ was.marks one.marks was.leaves.spared c.settle_one.ensures.spared;
+      marks = marks_then _ _ _ _ _ _ was.marks one.keeps.stays.losses.marks was.leaves.spared c.settle_one.ensures.keeps.stays.losses.spared;
       calls = calls_then _ _ _ _ was.calls (copy_syncs_still _ _ was.leaves.meta c.loop-disk.disk _ _ was.copies_synced was.others _ _ c.settle_one.ensures.calls);
-      stands = stands_then g.R.Rack.slot_count g.R.Rack.slot g.R.Rack.told c.args.self.now c.loop-disk.self was.leaves c.settle_one.new.self was.stands one.stands;
-      filled = filled_then g.R.Rack.slot_count g.R.Rack.slot g.R.Rack.told c.args.self.now c.loop-disk.self was.leaves c.settle_one.new.self one.leaves was.filled one.filled;
-      cells = copied_then g.R.Rack.slot_count g.R.Rack.slot g.R.Rack.told c.args.self.now c.loop-disk.self c.settle_one.new.self was.leaves one.leaves was.cells one.cells;
-      rebuilt = units_then g.R.Rack.slot_count g.R.Rack.slot g.R.Rack.told c.args.self.now c.loop-disk.self c.settle_one.new.self was.leaves one.leaves was.rebuilt one.rebuilt;
+      stands = stands_then g.R.Rack.slot_count g.R.Rack.slot g.R.Rack.told c.args.self.now c.loop-disk.self was.leaves c.settle_one.new.self was.stands one.keeps.stays.stands;
+      filled = filled_then g.R.Rack.slot_count g.R.Rack.slot g.R.Rack.told c.args.self.now c.loop-disk.self was.leaves c.settle_one.new.self one.keeps.stays.leaves was.filled one.keeps.filled;
+      cells = copied_then g.R.Rack.slot_count g.R.Rack.slot g.R.Rack.told c.args.self.now c.loop-disk.self c.settle_one.new.self was.leaves one.keeps.stays.leaves was.cells one.keeps.cells;
+      rebuilt = units_then g.R.Rack.slot_count g.R.Rack.slot g.R.Rack.told c.args.self.now c.loop-disk.self c.settle_one.new.self was.leaves one.keeps.stays.leaves was.rebuilt one.keeps.rebuilt;
     }
 
 pub returns-in_err-settle_one : goal.returns-in_err-settle_one
 returns-in_err-settle_one g c = record {
-  leaves = none_done _ c.from_residual.result _ c.from_residual.ensures.1;
-  slots = c.settle_one.ensures.slots ∙ c.loop-disk.invariant.leaves.slots;
-  spared = spared_then _ _ _ c.loop-disk.invariant.leaves.spared c.settle_one.ensures.spared;
-  still_synced = dry_both (g.R.Rack.slot (store_rack c.args.self.now.store)) (g.R.Rack.slot (store_rack c.loop-disk.self.store)) (g.R.Rack.slot (store_rack c.settle_one.new.self.store)) c.loop-disk.invariant.still_synced c.settle_one.ensures.still_synced c.settle_one.ensures.spared;
+  keeps = record {
+    stays = record {
+      leaves = none_done _ c.from_residual.result _ c.from_residual.ensures.1;
+      losses = record {
+        slots = c.settle_one.ensures.keeps.stays.losses.slots ∙ c.loop-disk.invariant.leaves.slots;
+        spared = spared_then _ _ _ c.loop-disk.invariant.leaves.spared c.settle_one.ensures.keeps.stays.losses.spared;
+        two =
+            handed _ c.from_residual.result _ c.from_residual.ensures.1
+            (two_then g.R.Rack.slot_count g.R.Rack.slot g.R.Rack.told c.args.self.now c.loop-disk.self c.loop-disk.invariant.leaves c.settle_one.new.self c.settle_one.ensures.keeps.stays.losses.spared _ c.in_err-settle_one.ensures.keeps.stays.losses.two);
+        tells =
+            let old = c.args.self.now in
+            let mid = c.loop-disk.self in
+            let marks = c.loop-disk.invariant.marks in
+            handed (λ two. Ran (g.R.Rack.told (store_rack c.args.self.now.store)) (g.R.Rack.told (store_rack c.settle_one.new.self.store)) (λ s cs. TellsLosses (named_out c.args.self.now.meta.out) two cs)) c.from_residual.result _ c.from_residual.ensures.1
+            (core_tells_then g.R.Rack.slot g.R.Rack.told g.met.R.Rack.agrees old mid c.requires.ready.absent marks c.settle_one.new.self _
+            (sync_bears g.R.Rack.slot g.R.Rack.told g.met.R.Rack.agrees old mid c.requires.ready.absent marks c.loop-disk.invariant.calls) c.in_err-settle_one.ensures.keeps.stays.losses.tells);
+        marks = none_done _ c.from_residual.result _ c.from_residual.ensures.1;
+      };
+      still_synced = dry_both (g.R.Rack.slot (store_rack c.args.self.now.store)) (g.R.Rack.slot (store_rack c.loop-disk.self.store)) (g.R.Rack.slot (store_rack c.settle_one.new.self.store)) c.loop-disk.invariant.still_synced c.settle_one.ensures.keeps.stays.still_synced c.settle_one.ensures.keeps.stays.losses.spared;
+      moments =
+          let was = c.loop-disk.invariant in
+          held_then g.R.Rack.slot_count g.R.Rack.slot g.R.Rack.told c.args.self.now c.loop-disk.self was.leaves c.settle_one.new.self was.stands c.settle_one.ensures.keeps.stays.moments;
+      stands = none_done _ c.from_residual.result _ c.from_residual.ensures.1;
+    };
+    filled = none_done _ c.from_residual.result _ c.from_residual.ensures.1;
+    cells = none_done _ c.from_residual.result _ c.from_residual.ensures.1;
+    rebuilt = none_done _ c.from_residual.result _ c.from_residual.ensures.1;
+  };
   synced = none_done _ c.from_residual.result _ c.from_residual.ensures.1;
   copies_synced = none_done _ c.from_residual.result _ c.from_residual.ensures.1;
-  two =
-      handed _ c.from_residual.result _ c.from_residual.ensures.1
-      (two_then g.R.Rack.slot_count g.R.Rack.slot g.R.Rack.told c.args.self.now c.loop-disk.self c.loop-disk.invariant.leaves c.settle_one.new.self c.settle_one.ensures.spared _ c.in_err-settle_one.ensures.two);
-  tells =
-      let old = c.args.self.now in
-      let mid = c.loop-disk.self in
-      let marks = c.loop-disk.invariant.marks in
-      handed (λ two. Ran (g.R.Rack.told (store_rack c.args.self.now.store)) (g.R.Rack.told (store_rack c.settle_one.new.self.store)) (λ s cs. TellsLosses (named_out c.args.self.now.meta.out) two cs)) c.from_residual.result _ c.from_residual.ensures.1
-      (core_tells_then g.R.Rack.slot g.R.Rack.told g.met.R.Rack.agrees old mid c.requires.ready.absent marks c.settle_one.new.self _
-      (sync_bears g.R.Rack.slot g.R.Rack.told g.met.R.Rack.agrees old mid c.requires.ready.absent marks c.loop-disk.invariant.calls) c.in_err-settle_one.ensures.tells);
   calls =
       let was = c.loop-disk.invariant in
       calls_then _ _ _ _ was.calls
       (copy_syncs_still _ _ was.leaves.meta c.loop-disk.disk _ _ was.copies_synced was.others _ _ c.settle_one.ensures.calls);
-  marks = none_done _ c.from_residual.result _ c.from_residual.ensures.1;
-  moments =
-      let was = c.loop-disk.invariant in
-      held_then g.R.Rack.slot_count g.R.Rack.slot g.R.Rack.told c.args.self.now c.loop-disk.self was.leaves c.settle_one.new.self was.stands c.settle_one.ensures.moments;
-  stands = none_done _ c.from_residual.result _ c.from_residual.ensures.1;
-  filled = none_done _ c.from_residual.result _ c.from_residual.ensures.1;
-  cells = none_done _ c.from_residual.result _ c.from_residual.ensures.1;
-  rebuilt = none_done _ c.from_residual.result _ c.from_residual.ensures.1;
 }
 
 pub returns : goal.returns
 returns g c = record {
-  leaves = c.loop-disk.invariant.leaves;
-  slots = c.loop-disk.invariant.leaves.slots;
-  spared = c.loop-disk.invariant.leaves.spared;
-  still_synced = c.loop-disk.invariant.still_synced;
+  keeps = record {
+    stays = record {
+      leaves = c.loop-disk.invariant.leaves;
+      losses = record {
+        slots = c.loop-disk.invariant.leaves.slots;
+        spared = c.loop-disk.invariant.leaves.spared;
+        two = tt;
+        tells = tt;
+        marks = c.loop-disk.invariant.marks;
+      };
+      still_synced = c.loop-disk.invariant.still_synced;
+      moments =
+          let was = c.loop-disk.invariant in
+          stands_held g.R.Rack.slot_count g.R.Rack.slot g.R.Rack.told c.args.self.now c.loop-disk.self was.leaves was.stands;
+      stands = c.loop-disk.invariant.stands;
+    };
+    filled = c.loop-disk.invariant.filled;
+    cells = c.loop-disk.invariant.cells;
+    rebuilt = c.loop-disk.invariant.rebuilt;
+  };
   synced = λ d low is. let past = c.loop-disk-test.false in c.loop-disk.invariant.synced d (omega (arith, low, past)) is;
   copies_synced = λ d low. let past = c.loop-disk-test.false in c.loop-disk.invariant.copies_synced d (omega (arith, low, past));
-  two = tt;
-  tells = tt;
   calls = c.loop-disk.invariant.calls;
-  marks = c.loop-disk.invariant.marks;
-  moments =
-      let was = c.loop-disk.invariant in
-      stands_held g.R.Rack.slot_count g.R.Rack.slot g.R.Rack.told c.args.self.now c.loop-disk.self was.leaves was.stands;
-  stands = c.loop-disk.invariant.stands;
-  filled = c.loop-disk.invariant.filled;
-  cells = c.loop-disk.invariant.cells;
-  rebuilt = c.loop-disk.invariant.rebuilt;
 }
 
 pub settle_one-requires : goal.settle_one-requires

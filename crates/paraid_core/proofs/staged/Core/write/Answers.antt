@@ -17,31 +17,37 @@ use Rattle.paraid_core.proofs.staged.Core.write.Goals as goal
 pub returns : goal.returns
 returns g c = record {
   draft = c.write_many.ensures.draft;
-  copied = c.write_many.ensures.copied;
-  slots = c.write_many.ensures.slots;
-  ready = c.write_many.ensures.ready;
-  serves = c.write_many.ensures.serves;
+  commits = record {
+    stays = record {
+      copied = c.write_many.ensures.commits.stays.copied;
+      losses = record {
+        slots = c.write_many.ensures.commits.stays.losses.slots;
+        spared = c.write_many.ensures.commits.stays.losses.spared;
+        two = c.write_many.ensures.commits.stays.losses.two;
+        tells = c.write_many.ensures.commits.stays.losses.tells;
+        marks = c.write_many.ensures.commits.stays.losses.marks;
+      };
+      ready = c.write_many.ensures.commits.stays.ready;
+      setup = c.write_many.ensures.commits.stays.setup;
+      down = c.write_many.ensures.commits.stays.down;
+    };
+    serves = c.write_many.ensures.commits.serves;
+    epoch = on_ok_weaker c.write_many.result (λ was_so. let old = c.args.self.now in
+        was_so ∙ ap (λ (n : ℕ). old.meta.epoch + (if commits_first (batch_of old) n then 1 else 0)) (ap (λ (n : ℕ). 10 * n) c.one-pairs.ensures.count)) c.write_many.ensures.commits.epoch;
+    still_synced = c.write_many.ensures.commits.still_synced;
+    unsynced = c.write_many.ensures.commits.unsynced;
+    calls = c.write_many.ensures.commits.calls;
+    kept = subst (λ (n : ℕ). commits_first (batch_of c.args.self.now) n ≡ false → MakesDataCalls g.R.Rack.told c.args.self.now c.write_many.new.self) (ap (λ (n : ℕ). 10 * n) c.one-pairs.ensures.count) c.write_many.ensures.commits.kept;
+    whole = subst (λ (n : ℕ). commits_first (batch_of c.args.self.now) n ≡ true → CommitsWhole g.R.Rack.slot_count g.R.Rack.told c.args.self.now c.write_many.new.self) (ap (λ (n : ℕ). 10 * n) c.one-pairs.ensures.count) c.write_many.ensures.commits.whole;
+    rest = on_ok_weaker c.write_many.result (λ was_so. subst (λ (n : ℕ). commits_first (batch_of c.args.self.now) n ≡ true → RestsCommitted g.R.Rack.slot_count g.R.Rack.told c.args.self.now c.write_many.new.self) (ap (λ (n : ℕ). 10 * n) c.one-pairs.ensures.count) was_so) c.write_many.ensures.commits.rest;
+    names = on_ok_weaker c.write_many.result (λ was_so. let old = c.args.self.now in
+        was_so ∙ ap (λ (n : ℕ). if commits_first (batch_of old) n then named_out old.meta.out else named_of old.store) (ap (λ (n : ℕ). 10 * n) c.one-pairs.ensures.count)) c.write_many.ensures.commits.names;
+    moments = c.write_many.ensures.commits.moments;
+  };
   staged = on_ok_weaker c.write_many.result (λ was_so. let old = c.args.self.now in
       subst (λ (n : ℕ). length c.write_many.new.self.batch ≤ (if commits_first (batch_of old) n then 0 else length old.batch) + n) (ap (λ (n : ℕ). 10 * n) c.one-pairs.ensures.count) was_so) c.write_many.ensures.staged;
   bits = on_ok_weaker c.write_many.result (λ was_so. was_so ∙ ap (λ (e : Entry). bits_after_writes c.write_many.new.self.meta e (is_dirty c.args.self.now.dirty)) c.one-pairs.ensures.pairs) c.write_many.ensures.bits;
-  setup = c.write_many.ensures.setup;
   writes = c.write_many.ensures.writes;
-  epoch = on_ok_weaker c.write_many.result (λ was_so. let old = c.args.self.now in
-      was_so ∙ ap (λ (n : ℕ). old.meta.epoch + (if commits_first (batch_of old) n then 1 else 0)) (ap (λ (n : ℕ). 10 * n) c.one-pairs.ensures.count)) c.write_many.ensures.epoch;
-  spared = c.write_many.ensures.spared;
-  still_synced = c.write_many.ensures.still_synced;
-  unsynced = c.write_many.ensures.unsynced;
-  two = c.write_many.ensures.two;
-  tells = c.write_many.ensures.tells;
-  calls = c.write_many.ensures.calls;
-  kept = subst (λ (n : ℕ). commits_first (batch_of c.args.self.now) n ≡ false → MakesDataCalls g.R.Rack.told c.args.self.now c.write_many.new.self) (ap (λ (n : ℕ). 10 * n) c.one-pairs.ensures.count) c.write_many.ensures.kept;
-  whole = subst (λ (n : ℕ). commits_first (batch_of c.args.self.now) n ≡ true → CommitsWhole g.R.Rack.slot_count g.R.Rack.told c.args.self.now c.write_many.new.self) (ap (λ (n : ℕ). 10 * n) c.one-pairs.ensures.count) c.write_many.ensures.whole;
-  rest = on_ok_weaker c.write_many.result (λ was_so. subst (λ (n : ℕ). commits_first (batch_of c.args.self.now) n ≡ true → RestsCommitted g.R.Rack.slot_count g.R.Rack.told c.args.self.now c.write_many.new.self) (ap (λ (n : ℕ). 10 * n) c.one-pairs.ensures.count) was_so) c.write_many.ensures.rest;
-  names = on_ok_weaker c.write_many.result (λ was_so. let old = c.args.self.now in
-      was_so ∙ ap (λ (n : ℕ). if commits_first (batch_of old) n then named_out old.meta.out else named_of old.store) (ap (λ (n : ℕ). 10 * n) c.one-pairs.ensures.count)) c.write_many.ensures.names;
-  marks = c.write_many.ensures.marks;
-  down = c.write_many.ensures.down;
-  moments = c.write_many.ensures.moments;
   stands = on_ok_weaker c.write_many.result (λ was_so. λ h lo.
       let old = c.args.self.now in
       let new = c.write_many.new.self in
@@ -54,10 +60,14 @@ returns g c = record {
 
 pub write_many-requires : goal.write_many-requires
 write_many-requires g c = record {
-  ready = c.requires.ready;
-  serves = c.requires.serves;
+  serving = record {
+    ready = c.requires.serving.ready;
+    serves = c.requires.serving.serves;
+  };
   blocks = subst (λ (e : Entry). All (λ (pair : ℕ × Block). pair.0 < core_block_count c.args.self.now) e) (sym c.one-pairs.ensures.pairs) (All-cons (λ (pair : ℕ × Block). pair.0 < core_block_count c.args.self.now) (c.args.block, c.args.bytes.now) [] c.requires.block (All-nil (λ (pair : ℕ × Block). pair.0 < core_block_count c.args.self.now)));
-  epoch = c.requires.epoch;
-  copies_synced = c.requires.copies_synced;
+  committable = record {
+    epoch = c.requires.committable.epoch;
+    copies_synced = c.requires.committable.copies_synced;
+  };
   fits = c.requires.fits;
 }

@@ -38,96 +38,112 @@ module _ (g : Over) (c : After-put_out g) (put : IsPutOut c.args.self.now.meta c
   failed = ap is_ok c.in-Err.is
 
   is_lost : lost_in old.meta (Some c.args.disk) ≡ Some c.args.disk
-  is_lost = lost_in_there old.meta (Some c.args.disk) c.args.disk (disk_in c.args.self.now.meta c.args.disk c.requires.ready.in_range c.requires.rises) refl
+  is_lost = lost_in_there old.meta (Some c.args.disk) c.args.disk (disk_in c.args.self.now.meta c.args.disk c.requires.serving.ready.in_range c.requires.cell.rises) refl
 
   meta_is : c.put_out.new.meta ≡ meta_after_loss old.meta c.args.disk
   meta_is = put.marked ∙ ap (λ (o : Option ℕ). meta_with_lost o old.meta) is_lost
 
   alone : (x : ℕ) → named_out old.meta.out ≡ Some x → x ≡ c.args.disk
-  alone x is = put.alone c.args.disk x refl is (disk_in c.args.self.now.meta c.args.disk c.requires.ready.in_range c.requires.rises)
+  alone x is = put.alone c.args.disk x refl is (disk_in c.args.self.now.meta c.args.disk c.requires.serving.ready.in_range c.requires.cell.rises)
 
 pub returns : goal.returns
 returns g c = record {
-  leaves = on_ok_weaker c.put_out.result (λ put. call_leaves g.R.Rack.slot_count g.R.Rack.slot c.args.self.now _ c.requires.ready c.requires.serves.stays c.write_free-answer.ensures.slots c.write_free-answer.ensures.same refl refl refl
-      (Some c.args.disk) (λ d is. subst (λ (e : ℕ). e < c.args.self.now.meta.setup.geometry.disks) (some_is c.args.disk d is) (disk_in c.args.self.now.meta c.args.disk c.requires.ready.in_range c.requires.rises))
-      (failed_only _ _ _ _ _ _ _ c.write_free-answer.ensures.slot refl refl (failed g c put)) (λ d x is k. alone g c put x k ∙ some_is c.args.disk d is) (meta_is g c put)
-      (call_spared 8 _ _ _ _ _ _ c.write_free-answer.ensures.slot refl refl refl)
-      (λ d is. subst (λ (e : ℕ). HasRisen (g.R.Rack.slot (store_rack c.args.self.now.store) e).faults (g.R.Rack.slot (store_rack c.write_free-answer.new.self) e).faults) (some_is c.args.disk d is) (c.write_free-answer.ensures.slot.risen (failed g c put))) (marks_written _ _ _ _ _ _ c.write_free-answer.ensures.slot _ _ (record { here = c.mark.ensures.here; others = c.mark.ensures.others }))) c.put_out.ensures.out;
-  same = λ is. absurd (c.put_out.ensures.never is);
-  slots = c.write_free-answer.ensures.slots;
-  spared = call_spared 8 _ _ _ _ _ _ c.write_free-answer.ensures.slot refl refl refl;
-  two =
-      let old = c.args.self.now in
-      IfErr-weaker c.put_out.result _ _ (λ two down. two_lost (named_of old.store) (named_out old.meta.out) _ _ c.args.disk _ c.requires.serves.stays (c.write_free-answer.ensures.slot.risen (ap is_ok c.in-Err.is)) down) c.put_out.ensures.two;
-  tells = IfErr-weaker c.put_out.result _ _ (λ two down. call_tells (named_out c.args.self.now.meta.out) _ (Write c.args.disk c.hard_place-place.result c.args.block.now (is_ok c.write_free-answer.result)) _ _ c.write_free-answer.ensures.told (ap is_ok c.in-Err.is) down) c.put_out.ensures.two;
-  calls =
-      let q = c.requires in
-      let m = c.args.self.now.meta in
-      let in_all : named_out m.out ≢ Some c.args.disk = (λ named. let z : None ≡ Some c.args.disk = ap named_out (sym q.whole) ∙ named in cc) in
-      let far = c.hard_place-place.ensures.after_map in
-      written_calls _ _ c.args.disk c.hard_place-place.result c.args.block.now (is_ok c.write_free-answer.result) _ _ c.write_free-answer.ensures.told (disk_in m c.args.disk q.ready.in_range q.rises)
-      (λ gone. in_all (gone_named m.out c.args.disk gone)) (omega (arith, far)) (λ t tells. (g.met.R.Rack.agrees (store_rack c.args.self.now.store) t tells).power c.args.disk ∙ q.serves.spins c.args.disk q.rises in_all);
-  marks = on_ok_weaker c.put_out.result (λ put. marks_failed c.args.self.now.meta c.put_out.new.meta _ _ c.args.disk _ _ _ c.write_free-answer.ensures.slot (failed g c put) (meta_is g c put) (disk_in c.args.self.now.meta c.args.disk c.requires.ready.in_range c.requires.rises) (λ x k. put.alone c.args.disk x refl k (disk_in c.args.self.now.meta c.args.disk c.requires.ready.in_range c.requires.rises))) c.put_out.ensures.out;
-  copied = λ is. absurd (c.put_out.ensures.never is);
-  gone = λ is. let put : IsPutOut c.args.self.now.meta c.put_out.new.meta (Some c.args.disk) = IfOk-at_ok _ is c.put_out.ensures.out in meta_is g c put;
-  failed = λ is. let put : IsPutOut c.args.self.now.meta c.put_out.new.meta (Some c.args.disk) = IfOk-at_ok _ is c.put_out.ensures.out in record { risen = c.write_free-answer.ensures.slot.risen (failed g c put); absent = c.write_free-answer.ensures.slot.absent (failed g c put) };
-  lost = λ is h lo cells. let put : IsPutOut c.args.self.now.meta c.put_out.new.meta (Some c.args.disk) = IfOk-at_ok _ is c.put_out.ensures.out in
-      let old = c.args.self.now in
-      let ready = c.requires.ready in
-      weaker (IsCoreHeldSinceCommit g.R.Rack.slot_count old h lo) (CoreStandsFor g.R.Rack.slot_count old h lo) (CopyingCell g.R.Rack.slot_count old h lo cells c.args.r c.args.disk c.args.block.now) _ _ _ _ (λ s k. k.before.keeps) (λ s k. k)
-      (call_stands g.R.Rack.slot_count g.R.Rack.slot g.R.Rack.told old _ _ c.write_free-answer.ensures.told (g.met.R.Rack.agrees (store_rack old.store)) _ _ _ _ _ _ c.write_free-answer.ensures.slots c.write_free-answer.ensures.same.named
-      (ap (λ (z : Meta). z.setup) (meta_is g c put))
-      (λ h lo s agrees k. subst (λ (z : Meta). HoldsBetweenCalls (g.R.Rack.slot_count (store_rack old.store)) (named_of old.store) z old.dirty old.batch (c.mark.new.copied) h lo (step (Write c.args.disk c.hard_place-place.result c.args.block.now (is_ok c.write_free-answer.result)) s)) (sym (meta_is g c put))
-      (keeps_unwritten _ _ _ _ _ _ _ h lo s _ _ _ (record { here = c.mark.ensures.here; others = c.mark.ensures.others }) _ (failed g c put) ready.in_range (disk_in old.meta c.args.disk ready.in_range c.requires.rises) (λ x l gone. ready.absent x l (ap is_present (sym (agrees.power x)) ∙ gone)) (alone g c put) c.requires.serves.stays k)) h lo);
-  moments = λ h lo cells.
-      let q = c.requires in
-      cell_held g.R.Rack.slot_count g.R.Rack.slot g.R.Rack.told c.args.self.now q.ready q.whole (g.met.R.Rack.agrees (store_rack c.args.self.now.store)) q.nothing c.args.r c.args.disk _ c.args.block.now c.hard_place-place.result c.hard_place-place.ensures.value _
-      c.write_free-answer.ensures.told q.serves.stays q.row (disk_in c.args.self.now.meta c.args.disk q.ready.in_range q.rises) q.past_gear q.dirty _ (record { here = c.mark.ensures.here; others = c.mark.ensures.others }) h lo cells;
+  copies = record {
+    leaves = on_ok_weaker c.put_out.result (λ put. call_leaves g.R.Rack.slot_count g.R.Rack.slot c.args.self.now _ c.requires.serving.ready c.requires.serving.serves.stays c.write_free-answer.ensures.slots c.write_free-answer.ensures.same refl refl refl
+        (Some c.args.disk) (λ d is. subst (λ (e : ℕ). e < c.args.self.now.meta.setup.geometry.disks) (some_is c.args.disk d is) (disk_in c.args.self.now.meta c.args.disk c.requires.serving.ready.in_range c.requires.cell.rises))
+        (failed_only _ _ _ _ _ _ _ c.write_free-answer.ensures.slot refl refl (failed g c put)) (λ d x is k. alone g c put x k ∙ some_is c.args.disk d is) (meta_is g c put)
+        (call_spared 8 _ _ _ _ _ _ c.write_free-answer.ensures.slot refl refl refl)
+        (λ d is. subst (λ (e : ℕ). HasRisen (g.R.Rack.slot (store_rack c.args.self.now.store) e).faults (g.R.Rack.slot (store_rack c.write_free-answer.new.self) e).faults) (some_is c.args.disk d is) (c.write_free-answer.ensures.slot.risen (failed g c put))) (marks_written _ _ _ _ _ _ c.write_free-answer.ensures.slot _ _ (record { here = c.mark.ensures.here; others = c.mark.ensures.others }))) c.put_out.ensures.out;
+    same = λ is. absurd (c.put_out.ensures.never is);
+    losses = record {
+      slots = c.write_free-answer.ensures.slots;
+      spared = call_spared 8 _ _ _ _ _ _ c.write_free-answer.ensures.slot refl refl refl;
+      two =
+          let old = c.args.self.now in
+          IfErr-weaker c.put_out.result _ _ (λ two down. two_lost (named_of old.store) (named_out old.meta.out) _ _ c.args.disk _ c.requires.serving.serves.stays (c.write_free-answer.ensures.slot.risen (ap is_ok c.in-Err.is)) down) c.put_out.ensures.two;
+      tells = IfErr-weaker c.put_out.result _ _ (λ two down. call_tells (named_out c.args.self.now.meta.out) _ (Write c.args.disk c.hard_place-place.result c.args.block.now (is_ok c.write_free-answer.result)) _ _ c.write_free-answer.ensures.told (ap is_ok c.in-Err.is) down) c.put_out.ensures.two;
+      marks = on_ok_weaker c.put_out.result (λ put. marks_failed c.args.self.now.meta c.put_out.new.meta _ _ c.args.disk _ _ _ c.write_free-answer.ensures.slot (failed g c put) (meta_is g c put) (disk_in c.args.self.now.meta c.args.disk c.requires.serving.ready.in_range c.requires.cell.rises) (λ x k. put.alone c.args.disk x refl k (disk_in c.args.self.now.meta c.args.disk c.requires.serving.ready.in_range c.requires.cell.rises))) c.put_out.ensures.out;
+    };
+    calls =
+        let q = c.requires in
+        let m = c.args.self.now.meta in
+        let in_all : named_out m.out ≢ Some c.args.disk = (λ named. let z : None ≡ Some c.args.disk = ap named_out (sym q.cell.whole) ∙ named in cc) in
+        let far = c.hard_place-place.ensures.after_map in
+        written_calls _ _ c.args.disk c.hard_place-place.result c.args.block.now (is_ok c.write_free-answer.result) _ _ c.write_free-answer.ensures.told (disk_in m c.args.disk q.serving.ready.in_range q.cell.rises)
+        (λ gone. in_all (gone_named m.out c.args.disk gone)) (omega (arith, far)) (λ t tells. (g.met.R.Rack.agrees (store_rack c.args.self.now.store) t tells).power c.args.disk ∙ q.serving.serves.spins c.args.disk q.cell.rises in_all);
+  };
+  loses = record {
+    gone = λ is. let put : IsPutOut c.args.self.now.meta c.put_out.new.meta (Some c.args.disk) = IfOk-at_ok _ is c.put_out.ensures.out in meta_is g c put;
+    failed = λ is. let put : IsPutOut c.args.self.now.meta c.put_out.new.meta (Some c.args.disk) = IfOk-at_ok _ is c.put_out.ensures.out in record { risen = c.write_free-answer.ensures.slot.risen (failed g c put); absent = c.write_free-answer.ensures.slot.absent (failed g c put) };
+  };
+  held = λ cells. record {
+    copied = λ is. absurd (c.put_out.ensures.never is);
+    lost = λ is h lo. let put : IsPutOut c.args.self.now.meta c.put_out.new.meta (Some c.args.disk) = IfOk-at_ok _ is c.put_out.ensures.out in
+        let old = c.args.self.now in
+        let ready = c.requires.serving.ready in
+        weaker (IsCoreHeldSinceCommit g.R.Rack.slot_count old h lo) (CoreStandsFor g.R.Rack.slot_count old h lo) (CopyingCell g.R.Rack.slot_count old h lo cells c.args.r c.args.disk c.args.block.now) _ _ _ _ (λ s k. k.before.keeps) (λ s k. k)
+        (call_stands g.R.Rack.slot_count g.R.Rack.slot g.R.Rack.told old _ _ c.write_free-answer.ensures.told (g.met.R.Rack.agrees (store_rack old.store)) _ _ _ _ _ _ c.write_free-answer.ensures.slots c.write_free-answer.ensures.same.named
+        (ap (λ (z : Meta). z.setup) (meta_is g c put))
+        (λ h lo s agrees k. subst (λ (z : Meta). HoldsBetweenCalls (g.R.Rack.slot_count (store_rack old.store)) (named_of old.store) z old.dirty old.batch (c.mark.new.copied) h lo (step (Write c.args.disk c.hard_place-place.result c.args.block.now (is_ok c.write_free-answer.result)) s)) (sym (meta_is g c put))
+        (keeps_unwritten _ _ _ _ _ _ _ h lo s _ _ _ (record { here = c.mark.ensures.here; others = c.mark.ensures.others }) _ (failed g c put) ready.in_range (disk_in old.meta c.args.disk ready.in_range c.requires.cell.rises) (λ x l gone. ready.absent x l (ap is_present (sym (agrees.power x)) ∙ gone)) (alone g c put) c.requires.serving.serves.stays k)) h lo);
+    moments = λ h lo.
+        let q = c.requires in
+        cell_held g.R.Rack.slot_count g.R.Rack.slot g.R.Rack.told c.args.self.now q.serving.ready q.cell.whole (g.met.R.Rack.agrees (store_rack c.args.self.now.store)) q.cell.nothing c.args.r c.args.disk _ c.args.block.now c.hard_place-place.result c.hard_place-place.ensures.value _
+        c.write_free-answer.ensures.told q.serving.serves.stays q.cell.row (disk_in c.args.self.now.meta c.args.disk q.serving.ready.in_range q.cell.rises) q.cell.past_gear q.cell.dirty _ (record { here = c.mark.ensures.here; others = c.mark.ensures.others }) h lo cells;
+  };
 }
 
 pub returns-in_default : goal.returns-in_default
 returns-in_default g c = record {
-  leaves =
-      call_leaves g.R.Rack.slot_count g.R.Rack.slot c.args.self.now _ c.requires.ready c.requires.serves.stays c.write_free-answer.ensures.slots c.write_free-answer.ensures.same refl refl refl
-      None (λ d is. cc) (done_only _ _ _ _ _ _ _ c.write_free-answer.ensures.slot refl refl (ap is_ok c.in_default.is)) (λ d x is. cc) refl
-      (call_spared 8 _ _ _ _ _ _ c.write_free-answer.ensures.slot refl refl refl) (λ d is. cc) (marks_written _ _ _ _ _ _ c.write_free-answer.ensures.slot _ _ (record { here = c.mark.ensures.here; others = c.mark.ensures.others }));
-  same = λ is. refl;
-  slots = c.write_free-answer.ensures.slots;
-  spared = call_spared 8 _ _ _ _ _ _ c.write_free-answer.ensures.slot refl refl refl;
-  two = tt;
-  tells = tt;
-  calls =
-      let q = c.requires in
-      let m = c.args.self.now.meta in
-      let in_all : named_out m.out ≢ Some c.args.disk = (λ named. let z : None ≡ Some c.args.disk = ap named_out (sym q.whole) ∙ named in cc) in
-      let far = c.hard_place-place.ensures.after_map in
-      written_calls _ _ c.args.disk c.hard_place-place.result c.args.block.now (is_ok c.write_free-answer.result) _ _ c.write_free-answer.ensures.told (disk_in m c.args.disk q.ready.in_range q.rises)
-      (λ gone. in_all (gone_named m.out c.args.disk gone)) (omega (arith, far)) (λ t tells. (g.met.R.Rack.agrees (store_rack c.args.self.now.store) t tells).power c.args.disk ∙ q.serves.spins c.args.disk q.rises in_all);
-  marks = marks_done c.args.self.now.meta _ _ c.args.disk _ _ _ c.write_free-answer.ensures.slot (record { faults = refl; power = refl; size = refl }) (ap is_ok c.in_default.is);
-  copied = λ is h lo cells.
-      let q = c.requires in
-      let m = c.args.self.now.meta in
-      let in_all : named_out m.out ≢ Some c.args.disk = (λ named. let z : None ≡ Some c.args.disk = ap named_out (sym q.whole) ∙ named in cc) in
-      let large = q.serves.large c.args.disk q.rises in_all in
-      let fits = hard_place_below m.setup.geometry c.args.r q.row in
-      cell_copied g.R.Rack.slot_count g.R.Rack.slot g.R.Rack.told c.args.self.now q.ready q.whole (g.met.R.Rack.agrees (store_rack c.args.self.now.store)) q.nothing c.args.r c.args.disk _ c.args.block.now c.hard_place-place.result c.hard_place-place.ensures.value _
-      c.write_free-answer.ensures.told q.serves.stays q.row (disk_in m c.args.disk q.ready.in_range q.rises) q.past_gear q.dirty _ (record { here = c.mark.ensures.here; others = c.mark.ensures.others }) h lo cells
-      _ _ c.write_free-answer.ensures.slots c.write_free-answer.ensures.same.named (ap is_ok c.in_default.is) (q.serves.spins c.args.disk q.rises in_all) (omega arith);
-  gone = λ is. done_not_dropped _ _ refl is;
-  failed = λ is. done_not_dropped _ _ refl is;
-  lost = λ is. done_not_dropped _ _ refl is;
-  moments = λ h lo cells.
-      let q = c.requires in
-      cell_held g.R.Rack.slot_count g.R.Rack.slot g.R.Rack.told c.args.self.now q.ready q.whole (g.met.R.Rack.agrees (store_rack c.args.self.now.store)) q.nothing c.args.r c.args.disk _ c.args.block.now c.hard_place-place.result c.hard_place-place.ensures.value _
-      c.write_free-answer.ensures.told q.serves.stays q.row (disk_in c.args.self.now.meta c.args.disk q.ready.in_range q.rises) q.past_gear q.dirty _ (record { here = c.mark.ensures.here; others = c.mark.ensures.others }) h lo cells;
+  copies = record {
+    leaves =
+        call_leaves g.R.Rack.slot_count g.R.Rack.slot c.args.self.now _ c.requires.serving.ready c.requires.serving.serves.stays c.write_free-answer.ensures.slots c.write_free-answer.ensures.same refl refl refl
+        None (λ d is. cc) (done_only _ _ _ _ _ _ _ c.write_free-answer.ensures.slot refl refl (ap is_ok c.in_default.is)) (λ d x is. cc) refl
+        (call_spared 8 _ _ _ _ _ _ c.write_free-answer.ensures.slot refl refl refl) (λ d is. cc) (marks_written _ _ _ _ _ _ c.write_free-answer.ensures.slot _ _ (record { here = c.mark.ensures.here; others = c.mark.ensures.others }));
+    same = λ is. refl;
+    losses = record {
+      slots = c.write_free-answer.ensures.slots;
+      spared = call_spared 8 _ _ _ _ _ _ c.write_free-answer.ensures.slot refl refl refl;
+      two = tt;
+      tells = tt;
+      marks = marks_done c.args.self.now.meta _ _ c.args.disk _ _ _ c.write_free-answer.ensures.slot (record { faults = refl; power = refl; size = refl }) (ap is_ok c.in_default.is);
+    };
+    calls =
+        let q = c.requires in
+        let m = c.args.self.now.meta in
+        let in_all : named_out m.out ≢ Some c.args.disk = (λ named. let z : None ≡ Some c.args.disk = ap named_out (sym q.cell.whole) ∙ named in cc) in
+        let far = c.hard_place-place.ensures.after_map in
+        written_calls _ _ c.args.disk c.hard_place-place.result c.args.block.now (is_ok c.write_free-answer.result) _ _ c.write_free-answer.ensures.told (disk_in m c.args.disk q.serving.ready.in_range q.cell.rises)
+        (λ gone. in_all (gone_named m.out c.args.disk gone)) (omega (arith, far)) (λ t tells. (g.met.R.Rack.agrees (store_rack c.args.self.now.store) t tells).power c.args.disk ∙ q.serving.serves.spins c.args.disk q.cell.rises in_all);
+  };
+  loses = record {
+    gone = λ is. done_not_dropped _ _ refl is;
+    failed = λ is. done_not_dropped _ _ refl is;
+  };
+  held = λ cells. record {
+    copied = λ is h lo.
+        let q = c.requires in
+        let m = c.args.self.now.meta in
+        let in_all : named_out m.out ≢ Some c.args.disk = (λ named. let z : None ≡ Some c.args.disk = ap named_out (sym q.cell.whole) ∙ named in cc) in
+        let large = q.serving.serves.large c.args.disk q.cell.rises in_all in
+        let fits = hard_place_below m.setup.geometry c.args.r q.cell.row in
+        cell_copied g.R.Rack.slot_count g.R.Rack.slot g.R.Rack.told c.args.self.now q.serving.ready q.cell.whole (g.met.R.Rack.agrees (store_rack c.args.self.now.store)) q.cell.nothing c.args.r c.args.disk _ c.args.block.now c.hard_place-place.result c.hard_place-place.ensures.value _
+        c.write_free-answer.ensures.told q.serving.serves.stays q.cell.row (disk_in m c.args.disk q.serving.ready.in_range q.cell.rises) q.cell.past_gear q.cell.dirty _ (record { here = c.mark.ensures.here; others = c.mark.ensures.others }) h lo cells
+        _ _ c.write_free-answer.ensures.slots c.write_free-answer.ensures.same.named (ap is_ok c.in_default.is) (q.serving.serves.spins c.args.disk q.cell.rises in_all) (omega arith);
+    lost = λ is. done_not_dropped _ _ refl is;
+    moments = λ h lo.
+        let q = c.requires in
+        cell_held g.R.Rack.slot_count g.R.Rack.slot g.R.Rack.told c.args.self.now q.serving.ready q.cell.whole (g.met.R.Rack.agrees (store_rack c.args.self.now.store)) q.cell.nothing c.args.r c.args.disk _ c.args.block.now c.hard_place-place.result c.hard_place-place.ensures.value _
+        c.write_free-answer.ensures.told q.serving.serves.stays q.cell.row (disk_in c.args.self.now.meta c.args.disk q.serving.ready.in_range q.cell.rises) q.cell.past_gear q.cell.dirty _ (record { here = c.mark.ensures.here; others = c.mark.ensures.others }) h lo cells;
+  };
 }
 
 pub write_free-answer-requires : goal.write_free-answer-requires
 write_free-answer-requires g c = record {
-  exists = let low = disk_in c.args.self.now.meta c.args.disk c.requires.ready.in_range c.requires.rises in let enough = c.requires.ready.enough in omega (arith, low, enough);
-  spinning = c.requires.serves.spins c.args.disk c.requires.rises (λ named. let z : None ≡ Some c.args.disk = ap named_out (sym c.requires.whole) ∙ named in cc);
-  within = let large = c.requires.serves.large c.args.disk c.requires.rises (λ named. let z : None ≡ Some c.args.disk = ap named_out (sym c.requires.whole) ∙ named in cc) in let fits = hard_place_below c.args.self.now.meta.setup.geometry c.args.r c.requires.row in let place = c.hard_place-place.ensures.value in omega (arith, large, fits, place);
+  exists = let low = disk_in c.args.self.now.meta c.args.disk c.requires.serving.ready.in_range c.requires.cell.rises in let enough = c.requires.serving.ready.enough in omega (arith, low, enough);
+  spinning = c.requires.serving.serves.spins c.args.disk c.requires.cell.rises (λ named. let z : None ≡ Some c.args.disk = ap named_out (sym c.requires.cell.whole) ∙ named in cc);
+  within = let large = c.requires.serving.serves.large c.args.disk c.requires.cell.rises (λ named. let z : None ≡ Some c.args.disk = ap named_out (sym c.requires.cell.whole) ∙ named in cc) in let fits = hard_place_below c.args.self.now.meta.setup.geometry c.args.r c.requires.cell.row in let place = c.hard_place-place.ensures.value in omega (arith, large, fits, place);
 }
 
 pub hard_place-place-requires : goal.hard_place-place-requires
-hard_place-place-requires g c = c.requires.row
+hard_place-place-requires g c = c.requires.cell.row

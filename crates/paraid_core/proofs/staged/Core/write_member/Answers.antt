@@ -43,61 +43,73 @@ module _ (g : Over) (c : After-put_out g) (put : IsPutOut c.args.self.now.meta c
 
 pub returns-in_default : goal.returns-in_default
 returns-in_default g c = record {
-  leaves =
-      call_leaves g.R.Rack.slot_count g.R.Rack.slot c.args.self.now _ c.requires.ready c.requires.still c.write_free-answer.ensures.slots c.write_free-answer.ensures.same refl refl refl
-      None (λ d is. cc) (done_only _ _ _ _ _ _ _ c.write_free-answer.ensures.slot refl refl (ap is_ok c.in_default.is)) (λ d x is. cc) refl
-      (call_spared 8 _ _ _ _ _ _ c.write_free-answer.ensures.slot refl refl refl) (λ d is. cc) (marks_written _ _ _ _ _ _ c.write_free-answer.ensures.slot _ _ (record { here = c.mark.ensures.here; others = c.mark.ensures.others }));
-  same = λ is. refl;
-  slots = c.write_free-answer.ensures.slots;
-  spared = call_spared 8 _ _ _ _ _ _ c.write_free-answer.ensures.slot refl refl refl;
-  two = tt;
-  tells = tt;
-  calls =
-      let q = c.requires in
-      let m = c.args.self.now.meta in
-      let in_all : named_out m.out ≢ Some c.args.disk = (λ named. let z : None ≡ Some c.args.disk = ap named_out (sym q.whole) ∙ named in cc) in
-      let at = q.place in
-      written_calls _ _ c.args.disk c.args.place c.args.block.now (is_ok c.write_free-answer.result) _ _ c.write_free-answer.ensures.told q.disk
-      (λ gone. in_all (gone_named m.out c.args.disk gone)) (omega (arith, at)) (λ t tells. (g.met.R.Rack.agrees (store_rack c.args.self.now.store) t tells).power c.args.disk ∙ q.spins);
-  marks = marks_done c.args.self.now.meta _ _ c.args.disk _ _ _ c.write_free-answer.ensures.slot (record { faults = refl; power = refl; size = refl }) (ap is_ok c.in_default.is);
+  copies = record {
+    leaves =
+        call_leaves g.R.Rack.slot_count g.R.Rack.slot c.args.self.now _ c.requires.ready c.requires.still c.write_free-answer.ensures.slots c.write_free-answer.ensures.same refl refl refl
+        None (λ d is. cc) (done_only _ _ _ _ _ _ _ c.write_free-answer.ensures.slot refl refl (ap is_ok c.in_default.is)) (λ d x is. cc) refl
+        (call_spared 8 _ _ _ _ _ _ c.write_free-answer.ensures.slot refl refl refl) (λ d is. cc) (marks_written _ _ _ _ _ _ c.write_free-answer.ensures.slot _ _ (record { here = c.mark.ensures.here; others = c.mark.ensures.others }));
+    same = λ is. refl;
+    losses = record {
+      slots = c.write_free-answer.ensures.slots;
+      spared = call_spared 8 _ _ _ _ _ _ c.write_free-answer.ensures.slot refl refl refl;
+      two = tt;
+      tells = tt;
+      marks = marks_done c.args.self.now.meta _ _ c.args.disk _ _ _ c.write_free-answer.ensures.slot (record { faults = refl; power = refl; size = refl }) (ap is_ok c.in_default.is);
+    };
+    calls =
+        let q = c.requires in
+        let m = c.args.self.now.meta in
+        let in_all : named_out m.out ≢ Some c.args.disk = (λ named. let z : None ≡ Some c.args.disk = ap named_out (sym q.fills.whole) ∙ named in cc) in
+        let at = q.place in
+        written_calls _ _ c.args.disk c.args.place c.args.block.now (is_ok c.write_free-answer.result) _ _ c.write_free-answer.ensures.told q.disk
+        (λ gone. in_all (gone_named m.out c.args.disk gone)) (omega (arith, at)) (λ t tells. (g.met.R.Rack.agrees (store_rack c.args.self.now.store) t tells).power c.args.disk ∙ q.spins);
+  };
   written = λ is h lo blocks block.
       let q = c.requires in
       member_written g.R.Rack.slot_count g.R.Rack.slot g.R.Rack.told c.args.self.now _ c.args.s c.args.disk c.args.place c.args.block.now _ c.write_free-answer.ensures.told (g.met.R.Rack.agrees (store_rack c.args.self.now.store))
-      q.ready.absent q.ready.in_range q.whole q.shifts q.from q.stripe q.disk _ (record { here = c.mark.ensures.here; others = c.mark.ensures.others }) q.place _ _ c.write_free-answer.ensures.slots c.write_free-answer.ensures.same.named (ap is_ok c.in_default.is) q.region q.spins q.within h lo blocks block;
-  gone = λ is. done_not_dropped _ _ refl is;
-  failed = λ is. done_not_dropped _ _ refl is;
+      q.ready.absent q.ready.in_range q.fills.whole q.fills.shifts q.fills.from q.fills.stripe q.disk _ (record { here = c.mark.ensures.here; others = c.mark.ensures.others }) q.place _ _ c.write_free-answer.ensures.slots c.write_free-answer.ensures.same.named (ap is_ok c.in_default.is) q.fills.region q.spins q.within h lo blocks block;
+  loses = record {
+    gone = λ is. done_not_dropped _ _ refl is;
+    failed = λ is. done_not_dropped _ _ refl is;
+  };
   lost = λ is. done_not_dropped _ _ refl is;
   moments = λ h lo.
       let q = c.requires in
       member_held g.R.Rack.slot_count g.R.Rack.slot g.R.Rack.told c.args.self.now _ c.args.s c.args.disk c.args.place c.args.block.now _ c.write_free-answer.ensures.told (g.met.R.Rack.agrees (store_rack c.args.self.now.store))
-      q.ready.absent q.ready.in_range q.whole q.shifts q.from q.stripe q.disk _ (record { here = c.mark.ensures.here; others = c.mark.ensures.others }) q.place h lo;
+      q.ready.absent q.ready.in_range q.fills.whole q.fills.shifts q.fills.from q.fills.stripe q.disk _ (record { here = c.mark.ensures.here; others = c.mark.ensures.others }) q.place h lo;
 }
 
 pub returns : goal.returns
 returns g c = record {
-  leaves = on_ok_weaker c.put_out.result (λ put. call_leaves g.R.Rack.slot_count g.R.Rack.slot c.args.self.now _ c.requires.ready c.requires.still c.write_free-answer.ensures.slots c.write_free-answer.ensures.same refl refl refl
-      (Some c.args.disk) (λ d is. subst (λ (e : ℕ). e < c.args.self.now.meta.setup.geometry.disks) (some_is c.args.disk d is) c.requires.disk)
-      (failed_only _ _ _ _ _ _ _ c.write_free-answer.ensures.slot refl refl (failed g c put)) (λ d x is k. alone g c put x k ∙ some_is c.args.disk d is) (meta_is g c put)
-      (call_spared 8 _ _ _ _ _ _ c.write_free-answer.ensures.slot refl refl refl)
-      (λ d is. subst (λ (e : ℕ). HasRisen (g.R.Rack.slot (store_rack c.args.self.now.store) e).faults (g.R.Rack.slot (store_rack c.write_free-answer.new.self) e).faults) (some_is c.args.disk d is) (c.write_free-answer.ensures.slot.risen (failed g c put))) (marks_written _ _ _ _ _ _ c.write_free-answer.ensures.slot _ _ (record { here = c.mark.ensures.here; others = c.mark.ensures.others }))) c.put_out.ensures.out;
-  same = λ is. absurd (c.put_out.ensures.never is);
-  slots = c.write_free-answer.ensures.slots;
-  spared = call_spared 8 _ _ _ _ _ _ c.write_free-answer.ensures.slot refl refl refl;
-  two =
-      let old = c.args.self.now in
-      IfErr-weaker c.put_out.result _ _ (λ two down. two_lost (named_of old.store) (named_out old.meta.out) _ _ c.args.disk _ c.requires.still (c.write_free-answer.ensures.slot.risen (ap is_ok c.in-Err.is)) down) c.put_out.ensures.two;
-  tells = IfErr-weaker c.put_out.result _ _ (λ two down. call_tells (named_out c.args.self.now.meta.out) _ (Write c.args.disk c.args.place c.args.block.now (is_ok c.write_free-answer.result)) _ _ c.write_free-answer.ensures.told (ap is_ok c.in-Err.is) down) c.put_out.ensures.two;
-  calls =
-      let q = c.requires in
-      let m = c.args.self.now.meta in
-      let in_all : named_out m.out ≢ Some c.args.disk = (λ named. let z : None ≡ Some c.args.disk = ap named_out (sym q.whole) ∙ named in cc) in
-      let at = q.place in
-      written_calls _ _ c.args.disk c.args.place c.args.block.now (is_ok c.write_free-answer.result) _ _ c.write_free-answer.ensures.told q.disk
-      (λ gone. in_all (gone_named m.out c.args.disk gone)) (omega (arith, at)) (λ t tells. (g.met.R.Rack.agrees (store_rack c.args.self.now.store) t tells).power c.args.disk ∙ q.spins);
-  marks = on_ok_weaker c.put_out.result (λ put. marks_failed c.args.self.now.meta c.put_out.new.meta _ _ c.args.disk _ _ _ c.write_free-answer.ensures.slot (failed g c put) (meta_is g c put) c.requires.disk (λ x k. put.alone c.args.disk x refl k c.requires.disk)) c.put_out.ensures.out;
+  copies = record {
+    leaves = on_ok_weaker c.put_out.result (λ put. call_leaves g.R.Rack.slot_count g.R.Rack.slot c.args.self.now _ c.requires.ready c.requires.still c.write_free-answer.ensures.slots c.write_free-answer.ensures.same refl refl refl
+        (Some c.args.disk) (λ d is. subst (λ (e : ℕ). e < c.args.self.now.meta.setup.geometry.disks) (some_is c.args.disk d is) c.requires.disk)
+        (failed_only _ _ _ _ _ _ _ c.write_free-answer.ensures.slot refl refl (failed g c put)) (λ d x is k. alone g c put x k ∙ some_is c.args.disk d is) (meta_is g c put)
+        (call_spared 8 _ _ _ _ _ _ c.write_free-answer.ensures.slot refl refl refl)
+        (λ d is. subst (λ (e : ℕ). HasRisen (g.R.Rack.slot (store_rack c.args.self.now.store) e).faults (g.R.Rack.slot (store_rack c.write_free-answer.new.self) e).faults) (some_is c.args.disk d is) (c.write_free-answer.ensures.slot.risen (failed g c put))) (marks_written _ _ _ _ _ _ c.write_free-answer.ensures.slot _ _ (record { here = c.mark.ensures.here; others = c.mark.ensures.others }))) c.put_out.ensures.out;
+    same = λ is. absurd (c.put_out.ensures.never is);
+    losses = record {
+      slots = c.write_free-answer.ensures.slots;
+      spared = call_spared 8 _ _ _ _ _ _ c.write_free-answer.ensures.slot refl refl refl;
+      two =
+          let old = c.args.self.now in
+          IfErr-weaker c.put_out.result _ _ (λ two down. two_lost (named_of old.store) (named_out old.meta.out) _ _ c.args.disk _ c.requires.still (c.write_free-answer.ensures.slot.risen (ap is_ok c.in-Err.is)) down) c.put_out.ensures.two;
+      tells = IfErr-weaker c.put_out.result _ _ (λ two down. call_tells (named_out c.args.self.now.meta.out) _ (Write c.args.disk c.args.place c.args.block.now (is_ok c.write_free-answer.result)) _ _ c.write_free-answer.ensures.told (ap is_ok c.in-Err.is) down) c.put_out.ensures.two;
+      marks = on_ok_weaker c.put_out.result (λ put. marks_failed c.args.self.now.meta c.put_out.new.meta _ _ c.args.disk _ _ _ c.write_free-answer.ensures.slot (failed g c put) (meta_is g c put) c.requires.disk (λ x k. put.alone c.args.disk x refl k c.requires.disk)) c.put_out.ensures.out;
+    };
+    calls =
+        let q = c.requires in
+        let m = c.args.self.now.meta in
+        let in_all : named_out m.out ≢ Some c.args.disk = (λ named. let z : None ≡ Some c.args.disk = ap named_out (sym q.fills.whole) ∙ named in cc) in
+        let at = q.place in
+        written_calls _ _ c.args.disk c.args.place c.args.block.now (is_ok c.write_free-answer.result) _ _ c.write_free-answer.ensures.told q.disk
+        (λ gone. in_all (gone_named m.out c.args.disk gone)) (omega (arith, at)) (λ t tells. (g.met.R.Rack.agrees (store_rack c.args.self.now.store) t tells).power c.args.disk ∙ q.spins);
+  };
   written = λ is. absurd (c.put_out.ensures.never is);
-  gone = λ is. let put : IsPutOut c.args.self.now.meta c.put_out.new.meta (Some c.args.disk) = IfOk-at_ok _ is c.put_out.ensures.out in meta_is g c put;
-  failed = λ is. let put : IsPutOut c.args.self.now.meta c.put_out.new.meta (Some c.args.disk) = IfOk-at_ok _ is c.put_out.ensures.out in record { risen = c.write_free-answer.ensures.slot.risen (failed g c put); absent = c.write_free-answer.ensures.slot.absent (failed g c put) };
+  loses = record {
+    gone = λ is. let put : IsPutOut c.args.self.now.meta c.put_out.new.meta (Some c.args.disk) = IfOk-at_ok _ is c.put_out.ensures.out in meta_is g c put;
+    failed = λ is. let put : IsPutOut c.args.self.now.meta c.put_out.new.meta (Some c.args.disk) = IfOk-at_ok _ is c.put_out.ensures.out in record { risen = c.write_free-answer.ensures.slot.risen (failed g c put); absent = c.write_free-answer.ensures.slot.absent (failed g c put) };
+  };
   lost = λ is. let put : IsPutOut c.args.self.now.meta c.put_out.new.meta (Some c.args.disk) = IfOk-at_ok _ is c.put_out.ensures.out in
       let ready = c.requires.ready in
       call_stands g.R.Rack.slot_count g.R.Rack.slot g.R.Rack.told c.args.self.now _ _ c.write_free-answer.ensures.told (g.met.R.Rack.agrees (store_rack c.args.self.now.store)) _ _ _ _ _ _ c.write_free-answer.ensures.slots c.write_free-answer.ensures.same.named
@@ -107,7 +119,7 @@ returns g c = record {
   moments = λ h lo.
       let q = c.requires in
       member_held g.R.Rack.slot_count g.R.Rack.slot g.R.Rack.told c.args.self.now _ c.args.s c.args.disk c.args.place c.args.block.now _ c.write_free-answer.ensures.told (g.met.R.Rack.agrees (store_rack c.args.self.now.store))
-      q.ready.absent q.ready.in_range q.whole q.shifts q.from q.stripe q.disk _ (record { here = c.mark.ensures.here; others = c.mark.ensures.others }) q.place h lo;
+      q.ready.absent q.ready.in_range q.fills.whole q.fills.shifts q.fills.from q.fills.stripe q.disk _ (record { here = c.mark.ensures.here; others = c.mark.ensures.others }) q.place h lo;
 }
 
 pub write_free-answer-requires : goal.write_free-answer-requires

@@ -52,59 +52,71 @@ again g c =
 pub returns-in_err-done : goal.returns-in_err-done
 returns-in_err-done g c = record {
   draft = c.try_write.ensures.draft;
-  copied = c.try_write.ensures.copied;
-  slots = c.try_write.ensures.slots;
-  ready = none_done _ c.from_residual.result _ c.from_residual.ensures.1;
-  serves = none_done _ c.from_residual.result _ c.from_residual.ensures.1;
+  reads = record {
+    stays = record {
+      copied = c.try_write.ensures.reads.stays.copied;
+      losses = record {
+        slots = c.try_write.ensures.reads.stays.losses.slots;
+        spared = c.try_write.ensures.reads.stays.losses.spared;
+        two = handed (AreTwoDown (core_down c.args.self.now) (g.R.Rack.slot (core_rack c.args.self.now)) (g.R.Rack.slot (core_rack c.try_write.new.self))) c.from_residual.result _ c.from_residual.ensures.1 c.in_err-done.ensures.reads.stays.losses.two;
+        tells = handed (λ two. Ran (g.R.Rack.told (store_rack c.args.self.now.store)) (g.R.Rack.told (store_rack c.try_write.new.self.store)) (λ s cs. TellsLosses (named_out c.args.self.now.meta.out) two cs)) c.from_residual.result _ c.from_residual.ensures.1 c.in_err-done.ensures.reads.stays.losses.tells;
+        marks = none_done _ c.from_residual.result _ c.from_residual.ensures.1;
+      };
+      ready = none_done _ c.from_residual.result _ c.from_residual.ensures.1;
+      setup = none_done _ c.from_residual.result _ c.from_residual.ensures.1;
+      down = none_done _ c.from_residual.result _ c.from_residual.ensures.1;
+    };
+    serves = none_done _ c.from_residual.result _ c.from_residual.ensures.1;
+    epoch = none_done _ c.from_residual.result _ c.from_residual.ensures.1;
+    still_synced = c.try_write.ensures.reads.still_synced;
+    calls = c.try_write.ensures.reads.calls;
+    reads = c.try_write.ensures.reads.reads;
+    named = c.try_write.ensures.reads.named;
+    moments_since = c.try_write.ensures.reads.moments_since;
+  };
   staged = none_done _ c.from_residual.result _ c.from_residual.ensures.1;
   bits = none_done _ c.from_residual.result _ c.from_residual.ensures.1;
-  setup = none_done _ c.from_residual.result _ c.from_residual.ensures.1;
   writes = none_done _ c.from_residual.result _ c.from_residual.ensures.1;
-  epoch = none_done _ c.from_residual.result _ c.from_residual.ensures.1;
-  spared = c.try_write.ensures.spared;
-  still_synced = c.try_write.ensures.still_synced;
   unsynced = none_done _ c.from_residual.result _ c.from_residual.ensures.1;
-  two = handed (AreTwoDown (core_down c.args.self.now) (g.R.Rack.slot (core_rack c.args.self.now)) (g.R.Rack.slot (core_rack c.try_write.new.self))) c.from_residual.result _ c.from_residual.ensures.1 c.in_err-done.ensures.two;
-  tells = handed (λ two. Ran (g.R.Rack.told (store_rack c.args.self.now.store)) (g.R.Rack.told (store_rack c.try_write.new.self.store)) (λ s cs. TellsLosses (named_out c.args.self.now.meta.out) two cs)) c.from_residual.result _ c.from_residual.ensures.1 c.in_err-done.ensures.tells;
-  calls = c.try_write.ensures.calls;
-  reads = c.try_write.ensures.reads;
-  marks = none_done _ c.from_residual.result _ c.from_residual.ensures.1;
-  named = none_done _ c.from_residual.result _ c.from_residual.ensures.1;
-  down = none_done _ c.from_residual.result _ c.from_residual.ensures.1;
-  moments = c.try_write.ensures.moments_since;
   stands = none_done _ c.from_residual.result _ c.from_residual.ensures.1;
 }
 
 pub returns-then-done : goal.returns-then-done
 returns-then-done g c = record {
   draft = c.try_write.ensures.draft;
-  copied = c.try_write.ensures.copied;
-  slots = c.try_write.ensures.slots;
-  ready = c.in_ok-done.ensures.ready;
-  serves = c.in_ok-done.ensures.serves;
+  reads = record {
+    stays = record {
+      copied = c.try_write.ensures.reads.stays.copied;
+      losses = record {
+        slots = c.try_write.ensures.reads.stays.losses.slots;
+        spared = c.try_write.ensures.reads.stays.losses.spared;
+        two = tt;
+        tells = tt;
+        marks = c.in_ok-done.ensures.reads.stays.losses.marks;
+      };
+      ready = c.in_ok-done.ensures.reads.stays.ready;
+      setup = c.in_ok-done.ensures.reads.stays.setup;
+      down = c.in_ok-done.ensures.reads.stays.down;
+    };
+    serves = c.in_ok-done.ensures.reads.serves;
+    epoch = c.in_ok-done.ensures.reads.epoch;
+    still_synced = c.try_write.ensures.reads.still_synced;
+    calls = c.try_write.ensures.reads.calls;
+    reads = c.try_write.ensures.reads.reads;
+    named = c.try_write.ensures.reads.named;
+    moments_since = c.try_write.ensures.reads.moments_since;
+  };
   staged = subst (λ (b : Bool). length c.try_write.new.self.batch ≤ length c.args.self.now.batch + (if b then 10 * c.args.pairs.now.count else 0)) c.if-done.true c.in_ok-done.ensures.room;
   bits =
       let old = c.args.self.now in
       let new = c.try_write.new.self in
       c.in_ok-done.ensures.bits ∙ ap (λ (b : Bool). if b then bits_after_writes new.meta (pairs_of c.args.pairs.now) (is_dirty old.dirty) else is_dirty old.dirty) c.if-done.true;
-  setup = c.in_ok-done.ensures.setup;
   writes = c.in_ok-done.ensures.writes ∙ ap (λ (b : Bool). c.args.self.now.meta.writes + (if b then 1 else 0)) c.if-done.true;
-  epoch = c.in_ok-done.ensures.epoch;
-  spared = c.try_write.ensures.spared;
-  still_synced = c.try_write.ensures.still_synced;
   unsynced =
       let old = c.args.self.now in
       let new = c.try_write.new.self in
       let done = c.in_ok-done.ensures in
-      unsynced_kept g.R.Rack.slot old new done.setup (gone_lost _ _ old.meta new.meta done.marks) c.try_write.ensures.spared c.try_write.ensures.copied c.try_write.ensures.still_synced;
-  two = tt;
-  tells = tt;
-  calls = c.try_write.ensures.calls;
-  reads = c.try_write.ensures.reads;
-  marks = c.in_ok-done.ensures.marks;
-  named = c.try_write.ensures.named;
-  down = c.in_ok-done.ensures.down;
-  moments = c.try_write.ensures.moments_since;
+      unsynced_kept g.R.Rack.slot old new done.reads.stays.setup (gone_lost _ _ old.meta new.meta done.reads.stays.losses.marks) c.try_write.ensures.reads.stays.losses.spared c.try_write.ensures.reads.stays.copied c.try_write.ensures.reads.still_synced;
   stands = λ h lo.
       let old = c.args.self.now in
       let new = c.try_write.new.self in
@@ -114,9 +126,11 @@ returns-then-done g c = record {
 
 pub try_write-requires-2 : goal.try_write-requires-2
 try_write-requires-2 g c = record {
-  ready = c.in_ok-done.ensures.ready;
-  serves = c.in_ok-done.ensures.serves;
-  blocks = subst (λ (z : Setup). All (λ (pair : ℕ × BlockType). pair.0 < z.geometry.rows * (z.geometry.disks - 1)) (pairs_of c.args.pairs.now)) (sym c.in_ok-done.ensures.setup) c.requires.blocks;
+  serving = record {
+    ready = c.in_ok-done.ensures.reads.stays.ready;
+    serves = c.in_ok-done.ensures.reads.serves;
+  };
+  blocks = subst (λ (z : Setup). All (λ (pair : ℕ × BlockType). pair.0 < z.geometry.rows * (z.geometry.disks - 1)) (pairs_of c.args.pairs.now)) (sym c.in_ok-done.ensures.reads.stays.setup) c.requires.blocks;
   room = subst (λ (n : ℕ). n + 10 * c.args.pairs.now.count ≤ batch_room) (ap length (sym (c.in_ok-done.ensures.dropped c.if-done.false))) c.requires.room;
   fits =
       let old = c.args.self.now in
@@ -128,53 +142,83 @@ try_write-requires-2 g c = record {
 pub returns-in_err-try_write : goal.returns-in_err-try_write
 returns-in_err-try_write g c = record {
   draft = c.try_write-2.ensures.draft;
-  copied = c.try_write-2.ensures.copied ∙ c.try_write.ensures.copied;
-  slots = c.try_write-2.ensures.slots ∙ c.try_write.ensures.slots;
-  ready = none_done _ c.from_residual-in_err-try_write.result _ c.from_residual-in_err-try_write.ensures.1;
-  serves = none_done _ c.from_residual-in_err-try_write.result _ c.from_residual-in_err-try_write.ensures.1;
+  reads = record {
+    stays = record {
+      copied = c.try_write-2.ensures.reads.stays.copied ∙ c.try_write.ensures.reads.stays.copied;
+      losses = record {
+        slots = c.try_write-2.ensures.reads.stays.losses.slots ∙ c.try_write.ensures.reads.stays.losses.slots;
+        spared = spared_then _ _ _ c.try_write.ensures.reads.stays.losses.spared c.try_write-2.ensures.reads.stays.losses.spared;
+        two =
+            let old = c.args.self.now in
+            let mid = c.try_write.new.self in
+            let new = c.try_write-2.new.self in
+            handed (AreTwoDown (core_down old) (g.R.Rack.slot (core_rack old)) (g.R.Rack.slot (core_rack new))) c.from_residual-in_err-try_write.result _ c.from_residual-in_err-try_write.ensures.1
+            (two_after (core_down old) (core_down mid) _ _ _ _ c.in_ok-done.ensures.reads.stays.down c.in_ok-done.ensures.reads.stays.losses.spared c.in_err-try_write.ensures.reads.stays.losses.spared c.in_err-try_write.ensures.reads.stays.losses.two);
+        tells =
+            let old = c.args.self.now in
+            let mid = c.try_write.new.self in
+            let marks = c.in_ok-done.ensures.reads.stays.losses.marks in
+            handed (λ two. Ran (g.R.Rack.told (store_rack c.args.self.now.store)) (g.R.Rack.told (store_rack c.try_write-2.new.self.store)) (λ s cs. TellsLosses (named_out c.args.self.now.meta.out) two cs)) c.from_residual-in_err-try_write.result _ c.from_residual-in_err-try_write.ensures.1
+            (core_tells_then g.R.Rack.slot g.R.Rack.told g.met.R.Rack.agrees old mid c.requires.serving.ready.absent marks c.try_write-2.new.self _
+            (data_bears g.R.Rack.slot g.R.Rack.told g.met.R.Rack.agrees old mid c.requires.serving.ready.absent marks c.try_write.ensures.reads.calls) c.in_err-try_write.ensures.reads.stays.losses.tells);
+        marks = none_done _ c.from_residual-in_err-try_write.result _ c.from_residual-in_err-try_write.ensures.1;
+      };
+      ready = none_done _ c.from_residual-in_err-try_write.result _ c.from_residual-in_err-try_write.ensures.1;
+      setup = none_done _ c.from_residual-in_err-try_write.result _ c.from_residual-in_err-try_write.ensures.1;
+      down = none_done _ c.from_residual-in_err-try_write.result _ c.from_residual-in_err-try_write.ensures.1;
+    };
+    serves = none_done _ c.from_residual-in_err-try_write.result _ c.from_residual-in_err-try_write.ensures.1;
+    epoch = none_done _ c.from_residual-in_err-try_write.result _ c.from_residual-in_err-try_write.ensures.1;
+    still_synced = dry_both (g.R.Rack.slot (core_rack c.args.self.now)) (g.R.Rack.slot (core_rack c.try_write.new.self)) (g.R.Rack.slot (core_rack c.try_write-2.new.self)) c.try_write.ensures.reads.still_synced c.try_write-2.ensures.reads.still_synced c.try_write-2.ensures.reads.stays.losses.spared;
+    calls =
+        calls_then _ _ _ _ c.try_write.ensures.reads.calls
+        (data_after c.args.self.now.meta c.try_write.new.self.meta c.in_ok-done.ensures.reads.stays.setup (λ d is. absurd (none_gone (named_of c.args.self.now.store) c.args.self.now.meta.out d (c.in_ok-done.ensures.lost c.if-done.false).none is)) _ _ c.try_write-2.ensures.reads.calls);
+    reads = reads_then _ _ (ap (λ (z : Setup). z.geometry.disks) c.in_ok-done.ensures.reads.stays.setup) _ _ _ c.try_write.ensures.reads.reads c.try_write-2.ensures.reads.reads;
+    named = c.try_write-2.ensures.reads.named ∙ c.try_write.ensures.reads.named;
+    moments_since = λ h lo.
+        let done = c.in_ok-done.ensures in
+        ended _ _ (IsCoreHeldSinceCommit g.R.Rack.slot_count c.try_write.new.self h lo) _ _
+        (both g c.args.self.now c.try_write.new.self c.try_write-2.new.self (pairs_of c.args.pairs.now) c.in_ok-done.done c.if-done.false h lo (done.since h lo) done.reads.stays.losses.slots done.reads.stays.setup done.reads.named
+        (IsCoreHeldSinceCommit g.R.Rack.slot_count c.try_write.new.self h lo) (c.in_err-try_write.ensures.reads.moments_since h lo));
+  };
   staged = none_done _ c.from_residual-in_err-try_write.result _ c.from_residual-in_err-try_write.ensures.1;
   bits = none_done _ c.from_residual-in_err-try_write.result _ c.from_residual-in_err-try_write.ensures.1;
-  setup = none_done _ c.from_residual-in_err-try_write.result _ c.from_residual-in_err-try_write.ensures.1;
   writes = none_done _ c.from_residual-in_err-try_write.result _ c.from_residual-in_err-try_write.ensures.1;
-  epoch = none_done _ c.from_residual-in_err-try_write.result _ c.from_residual-in_err-try_write.ensures.1;
-  spared = spared_then _ _ _ c.try_write.ensures.spared c.try_write-2.ensures.spared;
-  still_synced = dry_both (g.R.Rack.slot (core_rack c.args.self.now)) (g.R.Rack.slot (core_rack c.try_write.new.self)) (g.R.Rack.slot (core_rack c.try_write-2.new.self)) c.try_write.ensures.still_synced c.try_write-2.ensures.still_synced c.try_write-2.ensures.spared;
   unsynced = none_done _ c.from_residual-in_err-try_write.result _ c.from_residual-in_err-try_write.ensures.1;
-  two =
-      let old = c.args.self.now in
-      let mid = c.try_write.new.self in
-      let new = c.try_write-2.new.self in
-      handed (AreTwoDown (core_down old) (g.R.Rack.slot (core_rack old)) (g.R.Rack.slot (core_rack new))) c.from_residual-in_err-try_write.result _ c.from_residual-in_err-try_write.ensures.1
-      (two_after (core_down old) (core_down mid) _ _ _ _ c.in_ok-done.ensures.down c.in_ok-done.ensures.spared c.in_err-try_write.ensures.spared c.in_err-try_write.ensures.two);
-  tells =
-      let old = c.args.self.now in
-      let mid = c.try_write.new.self in
-      let marks = c.in_ok-done.ensures.marks in
-      handed (λ two. Ran (g.R.Rack.told (store_rack c.args.self.now.store)) (g.R.Rack.told (store_rack c.try_write-2.new.self.store)) (λ s cs. TellsLosses (named_out c.args.self.now.meta.out) two cs)) c.from_residual-in_err-try_write.result _ c.from_residual-in_err-try_write.ensures.1
-      (core_tells_then g.R.Rack.slot g.R.Rack.told g.met.R.Rack.agrees old mid c.requires.ready.absent marks c.try_write-2.new.self _
-      (data_bears g.R.Rack.slot g.R.Rack.told g.met.R.Rack.agrees old mid c.requires.ready.absent marks c.try_write.ensures.calls) c.in_err-try_write.ensures.tells);
-  calls =
-      calls_then _ _ _ _ c.try_write.ensures.calls
-      (data_after c.args.self.now.meta c.try_write.new.self.meta c.in_ok-done.ensures.setup (λ d is. absurd (none_gone (named_of c.args.self.now.store) c.args.self.now.meta.out d (c.in_ok-done.ensures.lost c.if-done.false).none is)) _ _ c.try_write-2.ensures.calls);
-  reads = reads_then _ _ (ap (λ (z : Setup). z.geometry.disks) c.in_ok-done.ensures.setup) _ _ _ c.try_write.ensures.reads c.try_write-2.ensures.reads;
-  marks = none_done _ c.from_residual-in_err-try_write.result _ c.from_residual-in_err-try_write.ensures.1;
-  named = none_done _ c.from_residual-in_err-try_write.result _ c.from_residual-in_err-try_write.ensures.1;
-  down = none_done _ c.from_residual-in_err-try_write.result _ c.from_residual-in_err-try_write.ensures.1;
-  moments = λ h lo.
-      let done = c.in_ok-done.ensures in
-      ended _ _ (IsCoreHeldSinceCommit g.R.Rack.slot_count c.try_write.new.self h lo) _ _
-      (both g c.args.self.now c.try_write.new.self c.try_write-2.new.self (pairs_of c.args.pairs.now) c.in_ok-done.done c.if-done.false h lo (done.since h lo) done.slots done.setup done.named
-      (IsCoreHeldSinceCommit g.R.Rack.slot_count c.try_write.new.self h lo) (c.in_err-try_write.ensures.moments_since h lo));
   stands = none_done _ c.from_residual-in_err-try_write.result _ c.from_residual-in_err-try_write.ensures.1;
 }
 
 pub returns : goal.returns
 returns g c = record {
   draft = c.try_write-2.ensures.draft;
-  copied = c.try_write-2.ensures.copied ∙ c.try_write.ensures.copied;
-  slots = c.try_write-2.ensures.slots ∙ c.try_write.ensures.slots;
-  ready = c.in_ok-try_write.ensures.ready;
-  serves = c.in_ok-try_write.ensures.serves;
+  reads = record {
+    stays = record {
+      copied = c.try_write-2.ensures.reads.stays.copied ∙ c.try_write.ensures.reads.stays.copied;
+      losses = record {
+        slots = c.try_write-2.ensures.reads.stays.losses.slots ∙ c.try_write.ensures.reads.stays.losses.slots;
+        spared = spared_then _ _ _ c.try_write.ensures.reads.stays.losses.spared c.try_write-2.ensures.reads.stays.losses.spared;
+        two = tt;
+        tells = tt;
+        marks = marks_then _ _ _ _ _ _ c.in_ok-done.ensures.reads.stays.losses.marks c.in_ok-try_write.ensures.reads.stays.losses.marks c.try_write.ensures.reads.stays.losses.spared c.try_write-2.ensures.reads.stays.losses.spared;
+      };
+      ready = c.in_ok-try_write.ensures.reads.stays.ready;
+      setup = c.in_ok-try_write.ensures.reads.stays.setup ∙ c.in_ok-done.ensures.reads.stays.setup;
+      down = down_both _ _ _ _ _ _ c.in_ok-done.ensures.reads.stays.down c.try_write.ensures.reads.stays.losses.spared c.in_ok-try_write.ensures.reads.stays.down c.try_write-2.ensures.reads.stays.losses.spared;
+    };
+    serves = c.in_ok-try_write.ensures.reads.serves;
+    epoch = c.in_ok-try_write.ensures.reads.epoch ∙ c.in_ok-done.ensures.reads.epoch;
+    still_synced = dry_both (g.R.Rack.slot (core_rack c.args.self.now)) (g.R.Rack.slot (core_rack c.try_write.new.self)) (g.R.Rack.slot (core_rack c.try_write-2.new.self)) c.try_write.ensures.reads.still_synced c.try_write-2.ensures.reads.still_synced c.try_write-2.ensures.reads.stays.losses.spared;
+    calls =
+        calls_then _ _ _ _ c.try_write.ensures.reads.calls
+        (data_after c.args.self.now.meta c.try_write.new.self.meta c.in_ok-done.ensures.reads.stays.setup (λ d is. absurd (none_gone (named_of c.args.self.now.store) c.args.self.now.meta.out d (c.in_ok-done.ensures.lost c.if-done.false).none is)) _ _ c.try_write-2.ensures.reads.calls);
+    reads = reads_then _ _ (ap (λ (z : Setup). z.geometry.disks) c.in_ok-done.ensures.reads.stays.setup) _ _ _ c.try_write.ensures.reads.reads c.try_write-2.ensures.reads.reads;
+    named = c.try_write-2.ensures.reads.named ∙ c.try_write.ensures.reads.named;
+    moments_since = λ h lo.
+        let done = c.in_ok-done.ensures in
+        ended _ _ (IsCoreHeldSinceCommit g.R.Rack.slot_count c.try_write.new.self h lo) _ _
+        (both g c.args.self.now c.try_write.new.self c.try_write-2.new.self (pairs_of c.args.pairs.now) c.in_ok-done.done c.if-done.false h lo (done.since h lo) done.reads.stays.losses.slots done.reads.stays.setup done.reads.named
+        (IsCoreHeldSinceCommit g.R.Rack.slot_count c.try_write.new.self h lo) (c.in_ok-try_write.ensures.reads.moments_since h lo));
+  };
   staged =
       let old = c.args.self.now in
       let mid = c.try_write.new.self in
@@ -188,51 +232,35 @@ returns g c = record {
       c.in_ok-try_write.ensures.bits ∙ ap (λ (b : Bool). if b then bits_after_writes new.meta (pairs_of c.args.pairs.now) (is_dirty mid.dirty) else is_dirty mid.dirty) (again g c)
       ∙ ap (bits_after_writes new.meta (pairs_of c.args.pairs.now))
       (c.in_ok-done.ensures.bits ∙ ap (λ (b : Bool). if b then bits_after_writes mid.meta (pairs_of c.args.pairs.now) (is_dirty old.dirty) else is_dirty old.dirty) c.if-done.false);
-  setup = c.in_ok-try_write.ensures.setup ∙ c.in_ok-done.ensures.setup;
   writes =
       let old = c.args.self.now in
       let mid = c.try_write.new.self in
       let first : mid.meta.writes ≡ old.meta.writes + 0 = c.in_ok-done.ensures.writes ∙ ap (λ (b : Bool). old.meta.writes + (if b then 1 else 0)) c.if-done.false in
       let second = c.in_ok-try_write.ensures.writes ∙ ap (λ (b : Bool). mid.meta.writes + (if b then 1 else 0)) (again g c) in
       omega (arith, first, second);
-  epoch = c.in_ok-try_write.ensures.epoch ∙ c.in_ok-done.ensures.epoch;
-  spared = spared_then _ _ _ c.try_write.ensures.spared c.try_write-2.ensures.spared;
-  still_synced = dry_both (g.R.Rack.slot (core_rack c.args.self.now)) (g.R.Rack.slot (core_rack c.try_write.new.self)) (g.R.Rack.slot (core_rack c.try_write-2.new.self)) c.try_write.ensures.still_synced c.try_write-2.ensures.still_synced c.try_write-2.ensures.spared;
   unsynced = λ was.
       let old = c.args.self.now in
       let mid = c.try_write.new.self in
       let new = c.try_write-2.new.self in
       let first = c.in_ok-done.ensures in
       let second = c.in_ok-try_write.ensures in
-      unsynced_kept g.R.Rack.slot mid new second.setup (gone_lost _ _ mid.meta new.meta second.marks) c.try_write-2.ensures.spared c.try_write-2.ensures.copied c.try_write-2.ensures.still_synced
-      (unsynced_kept g.R.Rack.slot old mid first.setup (gone_lost _ _ old.meta mid.meta first.marks) c.try_write.ensures.spared c.try_write.ensures.copied c.try_write.ensures.still_synced was);
-  two = tt;
-  tells = tt;
-  calls =
-      calls_then _ _ _ _ c.try_write.ensures.calls
-      (data_after c.args.self.now.meta c.try_write.new.self.meta c.in_ok-done.ensures.setup (λ d is. absurd (none_gone (named_of c.args.self.now.store) c.args.self.now.meta.out d (c.in_ok-done.ensures.lost c.if-done.false).none is)) _ _ c.try_write-2.ensures.calls);
-  reads = reads_then _ _ (ap (λ (z : Setup). z.geometry.disks) c.in_ok-done.ensures.setup) _ _ _ c.try_write.ensures.reads c.try_write-2.ensures.reads;
-  marks = marks_then _ _ _ _ _ _ c.in_ok-done.ensures.marks c.in_ok-try_write.ensures.marks c.try_write.ensures.spared c.try_write-2.ensures.spared;
-  named = c.try_write-2.ensures.named ∙ c.try_write.ensures.named;
-  down = down_both _ _ _ _ _ _ c.in_ok-done.ensures.down c.try_write.ensures.spared c.in_ok-try_write.ensures.down c.try_write-2.ensures.spared;
-  moments = λ h lo.
-      let done = c.in_ok-done.ensures in
-      ended _ _ (IsCoreHeldSinceCommit g.R.Rack.slot_count c.try_write.new.self h lo) _ _
-      (both g c.args.self.now c.try_write.new.self c.try_write-2.new.self (pairs_of c.args.pairs.now) c.in_ok-done.done c.if-done.false h lo (done.since h lo) done.slots done.setup done.named
-      (IsCoreHeldSinceCommit g.R.Rack.slot_count c.try_write.new.self h lo) (c.in_ok-try_write.ensures.moments_since h lo));
+      unsynced_kept g.R.Rack.slot mid new second.reads.stays.setup (gone_lost _ _ mid.meta new.meta second.reads.stays.losses.marks) c.try_write-2.ensures.reads.stays.losses.spared c.try_write-2.ensures.reads.stays.copied c.try_write-2.ensures.reads.still_synced
+      (unsynced_kept g.R.Rack.slot old mid first.reads.stays.setup (gone_lost _ _ old.meta mid.meta first.reads.stays.losses.marks) c.try_write.ensures.reads.stays.losses.spared c.try_write.ensures.reads.stays.copied c.try_write.ensures.reads.still_synced was);
   stands = λ h lo.
       let mid = c.try_write.new.self in
       let new = c.try_write-2.new.self in
       let done = c.in_ok-done.ensures in
-      both g c.args.self.now mid new (pairs_of c.args.pairs.now) c.in_ok-done.done c.if-done.false h lo (done.since h lo) done.slots done.setup done.named _
+      both g c.args.self.now mid new (pairs_of c.args.pairs.now) c.in_ok-done.done c.if-done.false h lo (done.since h lo) done.reads.stays.losses.slots done.reads.stays.setup done.reads.named _
       (subst (λ (b : Bool). Ran (g.R.Rack.told (core_rack mid)) (g.R.Rack.told (core_rack new)) (CrashTriple (IsCoreHeldSinceCommit g.R.Rack.slot_count mid h lo) (CoreStandsFor g.R.Rack.slot_count mid h lo)
       (CoreStandsFor g.R.Rack.slot_count new (if b then h ++ pairs_of c.args.pairs.now ∷ [] else h) lo))) (again g c) (c.in_ok-try_write.ensures.since h lo));
 }
 
 pub try_write-requires : goal.try_write-requires
 try_write-requires g c = record {
-  ready = c.requires.ready;
-  serves = c.requires.serves;
+  serving = record {
+    ready = c.requires.serving.ready;
+    serves = c.requires.serving.serves;
+  };
   blocks = c.requires.blocks;
   room = c.requires.room;
   fits = c.requires.fits;

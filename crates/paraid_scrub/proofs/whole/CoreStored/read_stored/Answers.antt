@@ -25,12 +25,12 @@ returns-then-done g c = record {
       let a = c.args.self.now in
       let b = c.read_stored.new.self in
       record {
-        goes = read_on g.R.Rack.slot_count g.R.Rack.slot g.R.Rack.told a b c.args.disk c.args.place c.requires.usable c.requires.readable e.calls k.leaves e.copied e.still_synced k.marks k.stands same;
+        goes = read_on g.R.Rack.slot_count g.R.Rack.slot g.R.Rack.told a b c.args.disk c.args.place c.requires.usable c.requires.readable e.calls k.stays.leaves e.copied e.stays.still_synced k.stays.losses.marks k.stays.stands same;
         same = same;
-        still = read_can g.R.Rack.slot_count g.R.Rack.slot g.R.Rack.told a b c.args.disk c.args.place c.requires.usable c.requires.readable e.calls k.leaves e.copied e.still_synced k.marks k.stands same;
+        still = read_can g.R.Rack.slot_count g.R.Rack.slot g.R.Rack.told a b c.args.disk c.args.place c.requires.usable c.requires.readable e.calls k.stays.leaves e.copied e.stays.still_synced k.stays.losses.marks k.stays.stands same;
         shown = λ v s tells. (
-          read_shows g.R.Rack.slot_count g.R.Rack.slot g.R.Rack.told a b c.args.disk c.args.place c.requires.usable c.requires.readable e.calls k.leaves e.copied e.still_synced k.marks k.stands same g.met.R.Rack.agrees v s tells,
-          read_block g.R.Rack.slot_count g.R.Rack.slot g.R.Rack.told a b c.args.disk c.args.place c.requires.usable c.requires.readable e.calls k.leaves e.copied e.still_synced k.marks k.stands same g.met.R.Rack.agrees
+          read_shows g.R.Rack.slot_count g.R.Rack.slot g.R.Rack.told a b c.args.disk c.args.place c.requires.usable c.requires.readable e.calls k.stays.leaves e.copied e.stays.still_synced k.stays.losses.marks k.stays.stands same g.met.R.Rack.agrees v s tells,
+          read_block g.R.Rack.slot_count g.R.Rack.slot g.R.Rack.told a b c.args.disk c.args.place c.requires.usable c.requires.readable e.calls k.stays.leaves e.copied e.stays.still_synced k.stays.losses.marks k.stays.stands same g.met.R.Rack.agrees
               c.read_stored.new.into c.requires.past_log c.requires.within (e.value (c.in-Ok.is ∙ ap Ok c.if-done.true)) v s,
         );
       };
@@ -45,8 +45,8 @@ returns g c = record {
       let k = c.in-Ok.ensures in
       let is = c.in-Ok.is ∙ ap Ok c.if-done.false in
       record {
-        looked = read_looked g.R.Rack.slot_count g.R.Rack.slot g.R.Rack.told c.args.self.now c.read_stored.new.self c.args.disk c.args.place c.requires.usable c.requires.readable e.calls k.leaves e.copied e.still_synced k.marks k.stands;
-        loses = record { disk = c.args.disk; low = readable_low c.args.self.now.meta c.args.disk c.requires.usable.ready.in_range c.requires.readable; failed = e.failed is; gone = e.gone is };
+        looked = read_looked g.R.Rack.slot_count g.R.Rack.slot g.R.Rack.told c.args.self.now c.read_stored.new.self c.args.disk c.args.place c.requires.usable c.requires.readable e.calls k.stays.leaves e.copied e.stays.still_synced k.stays.losses.marks k.stays.stands;
+        loses = record { disk = c.args.disk; low = readable_low c.args.self.now.meta c.args.disk c.requires.usable.ready.in_range c.requires.readable; failed = e.loses.failed is; gone = e.loses.gone is };
       };
 }
 
@@ -56,14 +56,14 @@ returns-in-Err g c = record {
   lost =
       let e = c.read_stored.ensures in
       record {
-        slots = e.slots;
+        slots = e.stays.losses.slots;
         copied = e.copied;
-        spared = e.spared;
-        synced = e.still_synced;
-        down = c.in-Err.ensures.two;
-        tells = c.in-Err.ensures.tells;
+        spared = e.stays.losses.spared;
+        synced = e.stays.still_synced;
+        down = c.in-Err.ensures.stays.losses.two;
+        tells = c.in-Err.ensures.stays.losses.tells;
         calls = read_data g.R.Rack.slot_count g.R.Rack.slot g.R.Rack.told c.args.self.now c.read_stored.new.self c.args.disk c.args.place c.requires.usable c.requires.readable e.calls;
         reads = read_reads g.R.Rack.slot_count g.R.Rack.slot g.R.Rack.told c.args.self.now c.read_stored.new.self c.args.disk c.args.place c.requires.usable c.requires.readable e.calls;
-        held = e.moments;
+        held = e.stays.moments;
       };
 }

@@ -12,15 +12,16 @@ use Rattle.paraid_rack.specs.Disks.{Disks}
 use Rattle.paraid_rack.specs.Told.{Ran}
 use Rattle.paraid_txn.specs.CommitStages.{IsSpelled, job}
 use Rattle.paraid_txn.proofs.AloneLemmas.{alone_out, first_only, gone_beside, lost_down, two_beside}
-use Rattle.paraid_txn.proofs.BorneLemmas.{no_disk, same_disk}
+use Rattle.paraid_txn.proofs.BorneLemmas.{leaves_borne, leaves_named, no_disk, same_disk}
 use Rattle.paraid_txn.proofs.CommitPartLemmas.{raised_if_ok, raised_ok}
 use Rattle.paraid_txn.proofs.DownLemmas.{AreCommitCalls-absent, AreCommitCalls-risen}
 use Rattle.paraid_image.proofs.OutLemmas.{first_absent_is}
 use Rattle.paraid_txn.proofs.WitnessCallLemmas.{uses_below}
+use Rattle.paraid_txn.specs.Witness.{IsNoSecond}
 use Rattle.paraid_txn.proofs.StoreLemmas.{commits, next_in_range, start_ready, whole_or_absent}
 use Rattle.paraid_txn.proofs.store.Store.commit.Given.{Over}
 use Rattle.paraid_txn.proofs.store.Store.commit.Goals as goal
-use Rattle.paraid_txn.proofs.store.Store.commit.Goals.{After-run_witnessed}
+use Rattle.paraid_txn.proofs.store.Store.commit.Goals.{After-run_witnessed, In_default}
 
 pub run_witnessed-requires : goal.run_witnessed-requires
 run_witnessed-requires g c = record {
@@ -68,9 +69,9 @@ only_down : (g : Over) (c : After-run_witnessed g) (only : Option ℕ)
     → IsOnlyOut (IsOutOfCommit (λ e. (g.R.Rack.slot c.args.self.now.rack e).power) c.args.self.now.disks c.args.self.now.named (named_out c.args.meta.now.out)) only → c.out_first.result ≡ only
 only_down g c only is = down_is g c ∙ first_only _ _ _ _ only is
 
-pub returns-in_err-run_witnessed : goal.returns-in_err-run_witnessed
-returns-in_err-run_witnessed g c =
-    let at = goal.at.returns-in_err-run_witnessed g c in
+pub returns-in_err-borne : goal.returns-in_err-borne
+returns-in_err-borne g c =
+    let at = goal.at.returns-in_err-borne g c in
     record {
       slots = c.run_witnessed.ensures.leaves.slots;
       disks = refl;
@@ -83,16 +84,23 @@ returns-in_err-run_witnessed g c =
       alone = raised_if_ok _ _ c.from_residual.result c.from_residual.ensures.1;
       well = raised_if_ok _ _ c.from_residual.result c.from_residual.ensures.1;
       each = c.run_witnessed.ensures.leaves.part.lasts.each;
-      two = raised _ _ _ c.from_residual.ensures.1 (two_beside _ _ _ _ _ _ _ _ (down_is g at.After-run_witnessed) c.in_err-run_witnessed.ensures.leaves.part.two);
-      gone = raised _ _ _ c.from_residual.ensures.1 (gone_beside _ _ _ _ _ _ _ _ (down_is g at.After-run_witnessed) c.in_err-run_witnessed.ensures.leaves.part.gone);
-      order = raised _ _ _ c.from_residual.ensures.1 (λ only is. subst (λ (o : Option ℕ). Ran (g.R.Rack.told c.args.self.now.rack) (g.R.Rack.told c.run_witnessed.new.rack) (λ start calls. TellsLosses o c.in_err-run_witnessed.field-0.0 calls)) (only_down g at.After-run_witnessed only is) c.in_err-run_witnessed.ensures.leaves.part.order);
+      two = raised _ _ _ c.from_residual.ensures.1 (two_beside _ _ _ _ _ _ _ _ (down_is g at.After-run_witnessed) c.in_err-borne.ensures.leaves.part.two);
+      gone = raised _ _ _ c.from_residual.ensures.1 (gone_beside _ _ _ _ _ _ _ _ (down_is g at.After-run_witnessed) c.in_err-borne.ensures.leaves.part.gone);
+      order = raised _ _ _ c.from_residual.ensures.1 (λ only is. subst (λ (o : Option ℕ). Ran (g.R.Rack.told c.args.self.now.rack) (g.R.Rack.told c.run_witnessed.new.rack) (λ start calls. TellsLosses o c.in_err-borne.field-0.0 calls)) (only_down g at.After-run_witnessed only is) c.in_err-borne.ensures.leaves.part.order);
       bears = raised_if_ok _ _ c.from_residual.result c.from_residual.ensures.1;
       calls = c.run_witnessed.ensures.leaves.part.calls;
+      bears_witness = raised_if_ok _ _ c.from_residual.result c.from_residual.ensures.1;
+      knows = raised_if_ok _ _ c.from_residual.result c.from_residual.ensures.1;
+      once = c.run_witnessed.ensures.once;
       any_moment = (λ before named. whole_or_absent _ _ _ _ _ (spelled g at.After-run_witnessed) _ _
           (λ s is. start_ready _ _ _ _ _ (g.met.R.Rack.agrees _ s is) c.requires.can.log c.requires.can.ready) before (joins g at.After-run_witnessed before named)
           (λ start. (c.run_witnessed.ensures.crash start before (spelled g at.After-run_witnessed start) named).moments));
       committed = raised_ok _ _ c.from_residual.result c.from_residual.ensures.1;
     }
+
+-- no other disk was lost than the one that the new meta names
+no_second : (g : Over) (c : In_default g) → IsNoSecond c.run_witnessed.new.losses.lost c.args.meta.now
+no_second g c d e is name = c.find_second.ensures.none c.in_default.is d e is (c.named-named.ensures ∙ name)
 
 pub returns : goal.returns
 returns g c =
@@ -101,7 +109,7 @@ returns g c =
       slots = c.run_witnessed.ensures.leaves.slots;
       disks = refl;
       powers = record { power = c.run_witnessed.ensures.leaves.part.lasts.power; size = c.run_witnessed.ensures.leaves.part.lasts.size; no_fall = c.run_witnessed.ensures.leaves.part.lasts.no_fall };
-      synced = c.in_ok-run_witnessed.ensures.leaves.still_synced;
+      synced = c.in_ok-borne.ensures.leaves.still_synced;
       epoch = refl;
       named = c.named-named.ensures;
       ended = tt;
@@ -119,7 +127,7 @@ returns g c =
                   (λ e named. c.find_second.ensures.none c.in_default.is d e is (c.named-named.ensures ∙ named));
             }
           ]);
-      well = λ d not. c.in_ok-run_witnessed.ensures.leaves.part.well d not;
+      well = λ d not. c.in_ok-borne.ensures.leaves.part.well d not;
       each = c.run_witnessed.ensures.leaves.part.lasts.each;
       two = tt;
       gone = tt;
@@ -127,15 +135,18 @@ returns g c =
       bears = (λ only is. let after = c.run_witnessed.new.losses in
           let down = lost_down c.out_first.result after.down after.lost after.agrees c.run_witnessed.ensures.leaves.part.lasts.down c.run_witnessed.ensures.leaves.part.lasts.remains in
           subst (λ (o : Option ℕ). Ran (g.R.Rack.told c.args.self.now.rack) (g.R.Rack.told c.run_witnessed.new.rack) (λ start calls. BearsLoss o (or_else after.lost o) calls)) (only_down g at.After-run_witnessed only is)
-          (subst (λ (o : Option ℕ). Ran (g.R.Rack.told c.args.self.now.rack) (g.R.Rack.told c.run_witnessed.new.rack) (λ start calls. BearsLoss c.out_first.result o calls)) down c.in_ok-run_witnessed.ensures.leaves.part.order));
+          (subst (λ (o : Option ℕ). Ran (g.R.Rack.told c.args.self.now.rack) (g.R.Rack.told c.run_witnessed.new.rack) (λ start calls. BearsLoss c.out_first.result o calls)) down c.in_ok-borne.ensures.leaves.part.order));
       calls = c.run_witnessed.ensures.leaves.part.calls;
+      bears_witness = leaves_borne (record c.args.meta.now { epoch = c.args.self.now.epoch + 1 }) c.args.self.now.borne c.run_witnessed.new.losses.lost (no_second g at.In_default) c.args.self.now.known c.in_ok-borne.ensures.borne;
+      knows = c.in_ok-borne.ensures.knows (no_second g at.In_default);
+      once = c.run_witnessed.ensures.once;
       any_moment = (λ before named. whole_or_absent _ _ _ _ _ (spelled g at.After-run_witnessed) _ _
           (λ s is. start_ready _ _ _ _ _ (g.met.R.Rack.agrees _ s is) c.requires.can.log c.requires.can.ready) before (joins g at.After-run_witnessed before named)
           (λ start. (c.run_witnessed.ensures.crash start before (spelled g at.After-run_witnessed start) named).moments));
       committed = (λ before named. commits _ _ _ _ _ (spelled g at.After-run_witnessed) _ _
           (λ s is. start_ready _ _ _ _ _ (g.met.R.Rack.agrees _ s is) c.requires.can.log c.requires.can.ready) before (joins g at.After-run_witnessed before named)
-          _ named (c.in_ok-run_witnessed.ensures.borne (λ d e is name. c.find_second.ensures.none c.in_default.is d e is (c.named-named.ensures ∙ name)))
-          (λ start. (c.in_ok-run_witnessed.ensures.crash start before (spelled g at.After-run_witnessed start) named).done));
+          (leaves_named (record c.args.meta.now { epoch = c.args.self.now.epoch + 1 }) c.args.self.now.borne c.run_witnessed.new.losses.lost (no_second g at.In_default) c.args.self.now.known c.in_ok-borne.ensures.borne)
+          (λ start. (c.in_ok-borne.ensures.crash start before (spelled g at.After-run_witnessed start) named).done));
     }
 
 pub returns-in-Some : goal.returns-in-Some
@@ -177,6 +188,9 @@ returns-in-Some g c =
           absurd (both.2 (same_disk (sym still ∙ lost))));
       bears = tt;
       calls = c.run_witnessed.ensures.leaves.part.calls;
+      bears_witness = tt;
+      knows = tt;
+      once = c.run_witnessed.ensures.once;
       any_moment = (λ before named. whole_or_absent _ _ _ _ _ (spelled g at.After-run_witnessed) _ _
           (λ s is. start_ready _ _ _ _ _ (g.met.R.Rack.agrees _ s is) c.requires.can.log c.requires.can.ready) before (joins g at.After-run_witnessed before named)
           (λ start. (c.run_witnessed.ensures.crash start before (spelled g at.After-run_witnessed start) named).moments));

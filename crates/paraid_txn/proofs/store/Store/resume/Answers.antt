@@ -2,6 +2,7 @@ use Rattle.std.specs.Prelude.{◌≡◌}
 use Rattle.std.proofs.Common.{refl, ◌∙◌}
 use Rattle.paraid_image.specs.Out.{first_absent, named_out, or_else}
 use Rattle.paraid_txn.proofs.AloneLemmas.{gone_beside, two_beside}
+use Rattle.paraid_txn.proofs.KnownLemmas.{nothing_known, still_enough}
 use Rattle.paraid_txn.proofs.OneLemmas.{one_stays}
 use Rattle.paraid_txn.proofs.store.Store.resume.Given.{Over}
 use Rattle.paraid_txn.proofs.store.Store.resume.Goals as goal
@@ -73,3 +74,15 @@ returns g c =
       ended = rw (← (c.adopt-store.ensures.rack)) c.in_default.ensures.done;
       laid = rw (← (c.adopt-store.ensures.rack)) c.in_default.ensures.laid;
     }
+
+pub invariant_of-store : goal.invariant_of-store
+invariant_of-store g c = record {
+  exists = still_enough c.end_commit-ended.ensures.leaves.slots c.adopt-store.result.exists;
+  known = nothing_known c.adopt-store.ensures.borne;
+}
+
+pub invariant_of-store-2 : goal.invariant_of-store-2
+invariant_of-store-2 g c = record {
+  exists = still_enough c.end_commit-ended.ensures.leaves.slots c.adopt-store.result.exists;
+  known = nothing_known c.adopt-store.ensures.borne;
+}

@@ -4,6 +4,7 @@ use Rattle.std.proofs.lemmas.Result.{IfErr-weaker}
 use Rattle.paraid_image.specs.Out.{first_absent, or_else}
 use Rattle.paraid_txn.proofs.AloneLemmas.{gone_beside, two_beside}
 use Rattle.paraid_txn.proofs.CrashSpecificationLemmas.{on_ok_then}
+use Rattle.paraid_txn.proofs.KnownLemmas.{known_syncs, still_enough}
 use Rattle.paraid_txn.proofs.OneLemmas.{one_stays}
 use Rattle.paraid_txn.proofs.store.Store.sync_all.Given.{Over}
 use Rattle.paraid_txn.proofs.store.Store.sync_all.Goals as goal
@@ -36,4 +37,10 @@ returns g c = record {
       let at = goal.at.returns g c in
       IfErr-weaker c.sync_each.result _ _ (λ two. gone_beside _ _ _ _ _ _ _ two (down_is g at.After-sync_each)) c.sync_each.ensures.part.gone;
   calls = c.sync_each.ensures.part.calls;
+}
+
+pub invariant_of-self : goal.invariant_of-self
+invariant_of-self g c = record {
+  exists = still_enough c.sync_each.ensures.slots c.args.self.now.exists;
+  known = known_syncs c.args.self.now.disks c.args.skip c.args.self.now.borne c.sync_each.ensures.part.calls c.args.self.now.known;
 }
