@@ -1,7 +1,7 @@
-pub mod Service
-pub mod Refusals
-pub mod DiskRefusals
-pub mod TickAnswers
-pub mod Turns
-pub mod TickTurns
-pub mod Events
+pub mod Lasting
+pub mod Props
+pub mod Arrays
+pub mod Used
+pub mod Laws
+pub mod Checked
+pub mod Begun

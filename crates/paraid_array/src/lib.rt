@@ -1,21 +1,22 @@
-//! The events of an array with gears over a core: ticks, shifts, failures and replacements. Reads, writes and flushes are
-//! calls of the core.
-//!
-//! Each call is made of calls of the core, the shifts and the rebuild, under their conditions. Which halt follows a second
-//! loss or wear is for the array that is to stand on these.
+//! The array with gears that answers the events of a session: a core, and what is counted beside it; and
+//! the last step of its mount, from a rack that is mounted to an array that serves.
 #![tactic(auto)]
 
-mod asked;
-mod failing;
-mod fault;
-mod laws;
-mod rebuilding;
-mod replacing;
-mod shifts;
+mod array;
+mod begin;
+mod checking;
+mod counting;
+mod disks;
+mod ended;
+mod energy;
+mod flushing;
+mod mounting;
+mod refusing;
+mod requests;
+mod serving;
+mod shifting;
+mod ticking;
 
-pub use asked::{Asked, down, up};
-pub use failing::take_out;
-pub use fault::{FailFault, ReplaceFault, ShiftFault};
-pub use laws::a_shift_is_answered_by_the_machine;
-pub use replacing::replace;
-pub use shifts::{advance, gear_above, gear_below};
+pub use array::Array;
+pub use ended::Ended;
+pub use mounting::mount_array;

@@ -17,7 +17,7 @@ use crate::outside::Ended;
 use crate::plan::show_plan;
 use crate::status::show_state;
 use crate::{checks, client, generated, runs, spares, volumes};
-use paraid_controller::Array;
+use paraid_array::Array;
 use paraid_io::{Sink, Source};
 use paraid_rack::Rack;
 use paraid_serve::ending::last;

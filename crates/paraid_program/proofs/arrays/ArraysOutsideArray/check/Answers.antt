@@ -1,5 +1,5 @@
 use Rattle.std.proofs.lemmas.Result.{IfOk-weaker}
-use Rattle.paraid_controller.proofs.ServedLemmas.{counts_served}
+use Rattle.paraid_array.proofs.ServedLemmas.{counts_served}
 use Rattle.paraid_program.proofs.arrays.ArraysOutsideArray.check.Goals as goal
 
 pub returns-clause-counts : goal.returns-clause-counts

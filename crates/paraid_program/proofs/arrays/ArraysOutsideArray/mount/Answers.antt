@@ -1,5 +1,5 @@
-use Rattle.paraid_controller.specs.Arrays.{slot_of_array}
-use Rattle.paraid_controller.specs.Laws.{begins_as}
+use Rattle.paraid_array.specs.Arrays.{slot_of_array}
+use Rattle.paraid_array.specs.Laws.{begins_as}
 use Rattle.paraid_session.proofs.FaultLemmas.{no_fall_counts}
 use Rattle.paraid_program.proofs.arrays.ArraysOutsideArray.mount.Goals as goal
 

@@ -1,0 +1,89 @@
+use Rattle.paraid_serve.proofs.QuietLemmas.{used_nothing}
+use Rattle.paraid_array.specs.Laws.{gear_going}
+use Rattle.paraid_base.specs.declared.event.Event.TheVariants.{Flush}
+use Rattle.paraid_base.specs.declared.event.Answer.TheVariants.{Flushed}
+use Rattle.paraid_array.specs.Arrays.{shown_of_array}
+use Rattle.paraid_array.proofs.CauseLemmas.{accepted, done_cause, plus_none, takes, two_cause}
+use Rattle.paraid_array.specs.Lasting.{halt_of_end}
+use Rattle.std.proofs.Common.{◌≡◌, ◌∙◌, refl, ap, Some, false, sym}
+use Rattle.paraid_base.specs.declared.fault.Halt.TheVariants.{Two as HaltTwo}
+use Rattle.paraid_record.specs.declared.meta.Meta.{Meta}
+use Rattle.paraid_gear.specs.ThreeWindows.{lengths_of}
+use Rattle.paraid_scrub.specs.Counts.{no_faults}
+use Rattle.paraid_shift.proofs.ServingLemmas.{copies_kept}
+use Rattle.paraid_core.specs.Cores.{core_rack}
+use Rattle.paraid_rack.specs.Trail.{now}
+use Rattle.paraid_scrub.specs.Cores.{core_view}
+use Rattle.paraid_array.proofs.CheckLemmas.{at_point, count_lost, count_on, counts_by, failed_one}
+use Rattle.paraid_array.proofs.CoreLemmas.{serving_then}
+use Rattle.paraid_array.proofs.StandLemmas.{end_by, told_before}
+use Rattle.paraid_array.proofs.LossLemmas.{going_lost, going_wear, two_lost, ended_not_none, two_wear}
+use Rattle.paraid_image.specs.Out.{named_out}
+use Rattle.paraid_txn.specs.Stores.{named_of, store_rack}
+use Rattle.paraid_session.proofs.FaultLemmas.{no_fall_counts}
+use Rattle.paraid_upkeep.proofs.ToldLemmas.{extends_core}
+use Rattle.paraid_array.proofs.array.Array.check_kept.Goals as goal
+
+pub check-requires : goal.check-requires
+check-requires g c =
+    let q = c.args.self.now.serving c.requires.going in
+    record { can = record { ready = q.serving.ready; serves = q.serving.serves; draft = q.serving.draft; nothing = c.requires.nothing; fresh = q.spins } }
+
+pub invariant_of-self : goal.invariant_of-self
+invariant_of-self g c =
+    let a = c.args.self.now in
+    let all = c.check.ensures in
+    let done = c.in-Ok.ensures in
+    record {
+      serving = λ e. serving_then g.R.Rack.slot_count g.R.Rack.slot a.core c.check.new.core (lengths_of a.windows) a.setup a.slots false (a.serving e) done.serves.marks done.serves.setup done.leaves.slots done.serves.ready done.serves.serves
+          (done.serves.draft ∙ (a.serving e).serving.draft) all.leaves.copied done.serves.unsynced done.serves.named;
+      counted = c.check.ensures.leaves.slots ∙ c.args.self.now.counted;
+      worn = going_wear c.check.new.core.meta c.args.self.now.ended c.requires.going;
+      sampled = c.args.self.now.sampled;
+    }
+
+pub returns-in-Ok : goal.returns-in-Ok
+returns-in-Ok g c = record {
+  answers = record {
+    turn =
+        let a = c.args.self.now in
+        let all = c.check.ensures in
+        let done = c.in-Ok.ensures in
+        count_on g.R.Rack.slot_count g.R.Rack.slot g.R.Rack.told g.met.R.Rack.agrees a _ c.requires.going c.requires.epoch c.requires.writes all.leaves.calls
+        a.core.meta.writes refl c.requires.going refl refl refl refl c.requires.nothing done.serves.stands done.serves.marks done.serves.ready done.serves.setup done.leaves.slots done.serves.table
+        (copies_kept a.core c.check.new.core done.serves.setup all.leaves.copied (a.serving c.requires.going).serving.copies_synced) (done.serves.batch ∙ c.requires.nothing);
+    grows = extends_core g.R.Rack.told c.args.self.now.core c.check.new.core _ c.check.ensures.leaves.calls;
+    slots = refl;
+    cause = done_cause (shown_of_array g.R.Rack.slot c.args.self.now) _ Flush (takes (shown_of_array g.R.Rack.slot c.args.self.now) Flush (ap halt_of_end c.requires.going) c.requires.epoch c.requires.writes) refl refl (no_fall_counts (g.R.Rack.slot (store_rack c.args.self.now.core.store)) (g.R.Rack.slot (store_rack c.check.new.core.store)) c.check.ensures.leaves.spared.no_fall) (Flushed c.args.self.now.core.meta.writes) (ap halt_of_end c.requires.going) (gear_going c.args.self.now.ended _) (record { samples = refl; served = refl })
+        (refl, accepted (shown_of_array g.R.Rack.slot c.args.self.now) _ 0 c.in-Ok.ensures.serves.marks (c.in-Ok.ensures.serves.writes ∙ plus_none c.args.self.now.core.meta.writes) refl);
+  };
+  sound = λ some p at.
+      at_point g.R.Rack.slot_count g.R.Rack.told c.args.self.now c.requires.going (c.in-Ok.checked.report ≡ no_faults) (λ h lo t tells stands. c.in-Ok.ensures.zeros h lo t tells stands some)
+      (told_before (g.R.Rack.told c.args.self.now.core.store.rack) (g.R.Rack.told c.check.new.core.store.rack) _ c.check.ensures.leaves.calls some) p at;
+  most = c.in-Ok.ensures.most;
+  counts = λ nothing t tells some bits.
+      let it = c.in-Ok.ensures.counts t tells some bits in
+      counts_by (core_view c.args.self.now.core (now t)) (g.R.Rack.slot (core_rack c.args.self.now.core)) (g.R.Rack.slot (core_rack c.check.new.core)) c.in-Ok.checked.report c.in-Ok.checked.whole it.0 it.1 it.2 (λ part. failed_one g.R.Rack.slot c.args.self.now.core c.check.new.core (c.in-Ok.ensures.ended part));
+}
+
+pub returns-in-Err : goal.returns-in-Err
+returns-in-Err g c = record {
+  answers = record {
+    turn =
+        let a = c.args.self.now in
+        let all = c.check.ensures in
+        count_lost g.R.Rack.slot_count g.R.Rack.slot g.R.Rack.told g.met.R.Rack.agrees a _ c.requires.going c.requires.epoch c.requires.writes all.leaves.calls
+        c.in-Err.two refl (ap (λ (m : Meta). Some (end_by (HaltTwo c.in-Err.two) m.gear)) c.meta.ensures) all.leaves.moments c.in-Err.ensures.leaves.tells;
+    grows = extends_core g.R.Rack.told c.args.self.now.core c.check.new.core _ c.check.ensures.leaves.calls;
+    slots = refl;
+    cause = two_cause (shown_of_array g.R.Rack.slot c.args.self.now) _ Flush (takes (shown_of_array g.R.Rack.slot c.args.self.now) Flush (ap halt_of_end c.requires.going) c.requires.epoch c.requires.writes) refl refl (no_fall_counts (g.R.Rack.slot (store_rack c.args.self.now.core.store)) (g.R.Rack.slot (store_rack c.check.new.core.store)) c.check.ensures.leaves.spared.no_fall) refl (ap (λ (m : Meta). m.gear) c.meta.ensures ∙ sym (gear_going c.args.self.now.ended _ (ap halt_of_end c.requires.going))) (λ fits. used_nothing c.args.self.now.energy fits) c.in-Err.two refl
+        (let a = c.args.self.now in
+        two_lost (named_of a.core.store) (named_out a.core.meta.out) (a.serving c.requires.going).serving.serves.stays _ _ _ c.in-Err.two c.in-Err.ensures.leaves.two);
+  };
+  sound = tt;
+  counts = tt;
+  most = tt;
+}
+
+pub invariant_of-self-in-Err : goal.invariant_of-self-in-Err
+invariant_of-self-in-Err g c = record { serving = λ e. ended_not_none _ e; counted = c.check.ensures.leaves.slots ∙ c.args.self.now.counted; worn = two_wear c.check.new.core.meta c.in-Err.two; sampled = c.args.self.now.sampled }

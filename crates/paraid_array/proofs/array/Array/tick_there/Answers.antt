@@ -1,0 +1,185 @@
+use Rattle.paraid_array.specs.Laws.{gear_going}
+use Rattle.std.proofs.Common.{Option, ◌⊎◌, sym, ◌∙◌, ap}
+use Rattle.std.proofs.Common.{◌≡◌, None, Some}
+use Rattle.paraid_upkeep.proofs.OutLemmas.{fails_newly}
+use Rattle.paraid_upkeep.specs.Refusals.{IsShiftStateOf}
+use Rattle.paraid_upkeep.specs.TickAnswers.{MarksMove, TellsDecision, TellsRebuild, TellsRest}
+use Rattle.paraid_base.specs.declared.event.Answer.TheVariants.{Ticked}
+use Rattle.paraid_base.specs.declared.event.Event.TheVariants.{Tick}
+use Rattle.paraid_base.specs.Log.{worn_at}
+use Rattle.paraid_base.specs.Told.{HasRisen}
+use Rattle.paraid_core.specs.declared.staged.Core.{Core}
+use Rattle.paraid_image.specs.Power.{PowerState}
+use Rattle.paraid_machine.specs.Energy.{tick_energy}
+use Rattle.paraid_serve.specs.Causes.{shown_ticked, state_shown}
+use Rattle.paraid_array.specs.Arrays.{shown_of_array}
+use Rattle.paraid_array.proofs.CauseLemmas.{out_then, done_cause, ok_event, ok_moved, takes, tick_sum, ticked_state, ticks_by, two_cause}
+use Rattle.paraid_array.proofs.SampleLemmas.{held_own, held_ticked}
+use Rattle.paraid_array.specs.Lasting.{halt_of_end, samples_held}
+use Rattle.std.proofs.Common.{refl, ◌+◌, ◌<◌, ◌≤◌, [], ◌∷◌, ◌++◌, ℕ, min, subst}
+use Rattle.paraid_base.specs.declared.fault.Halt.TheVariants.{Two as HaltTwo}
+use Rattle.paraid_gear.specs.Decision.{decision}
+use Rattle.paraid_gear.specs.ThreeWindows.{HoldLastSamples, lengths_of, sample_of}
+use Rattle.paraid_record.specs.declared.meta.Meta.{Meta}
+use Rattle.paraid_record.specs.declared.meta.Setup.{Setup}
+use Rattle.paraid_txn.specs.declared.store.Store.{Store}
+use Rattle.paraid_base.specs.declared.state.GearReport.{GearReport}
+use Rattle.paraid_base.specs.declared.state.TickEvent.{TickEvent}
+use Rattle.paraid_base.specs.Places.{sum_before}
+use Rattle.paraid_upkeep.specs.Turns.{CoreTicks}
+use Rattle.paraid_image.specs.Out.{named_out, or_else}
+use Rattle.paraid_txn.specs.Losses.{AreTwoDown}
+use Rattle.paraid_txn.specs.Stores.{named_of, store_rack}
+use Rattle.paraid_machine.specs.Energy.{begun_energy}
+use Rattle.paraid_array.specs.Used.{used_by}
+use Rattle.paraid_array.proofs.CoreLemmas.{known_of, serving_of}
+use Rattle.paraid_array.proofs.CountedLemmas.{known_counted, serving_counted}
+use Rattle.paraid_array.proofs.EnergyLemmas.{tick_uses}
+use Rattle.paraid_array.proofs.StandLemmas.{end_by}
+use Rattle.paraid_array.proofs.TickLemmas.{tick_halts, ticks_on}
+use Rattle.paraid_array.proofs.LossLemmas.{going_lost, going_wear, two_lost, ended_not_none, two_wear}
+use Rattle.paraid_session.proofs.FaultLemmas.{no_fall_counts}
+use Rattle.paraid_upkeep.proofs.ToldLemmas.{extends_store}
+use Rattle.paraid_array.proofs.array.Array.tick_there.Goals as goal
+
+-- what a tick tells
+abbrev report : ℕ → ℕ → TickEvent → GearReport
+report gear moved event = record { gear = gear; moved = moved; event = event }
+
+pub count_tick-requires : goal.count_tick-requires
+count_tick-requires g c = record { ready = (c.args.self.now.serving c.requires.going).serving.ready }
+
+pub advance-requires : goal.advance-requires
+advance-requires g c =
+    let a = c.args.self.now in
+    let q = a.serving c.requires.going in
+    let t = c.count_tick.ensures in
+    record {
+      service = record {
+        serving = serving_counted g.R.Rack.slot_count g.R.Rack.slot a.core c.count_tick.new.self t.marks.store t.meta q.serving t.marks.ready (t.serves q.serving.serves) t.marks.staged.draft t.marks.staged.copied;
+        known = known_counted g.R.Rack.slot_count g.R.Rack.slot a.core c.count_tick.new.self t.marks.store t.meta (known_of g.R.Rack.slot_count g.R.Rack.slot a.core (lengths_of a.windows) a.setup a.slots q);
+      };
+      epoch = subst (λ (m : Meta). m.epoch < worn_at) (sym t.meta) c.requires.epoch;
+      lengths = c.push.ensures.lengths ∙ q.windows ∙ ap (λ (z : Setup). z.windows) (sym q.same_setup) ∙ ap (λ (m : Meta). m.setup.windows) (sym t.meta);
+    }
+
+pub invariant_of-self : goal.invariant_of-self
+invariant_of-self g c =
+    let a = c.args.self.now in
+    let t = c.count_tick.ensures in
+    let done = c.in-Ok.ensures in
+    record {
+      serving = λ e. let q = a.serving e in serving_of g.R.Rack.slot_count g.R.Rack.slot c.advance.new.core (lengths_of c.push.new.self) a.setup a.slots
+          done.serves.serving done.serves.known (c.push.ensures.lengths ∙ q.windows) (done.serves.leaves.setup ∙ ap (λ (m : Meta). m.setup) t.meta ∙ q.same_setup)
+          (done.serves.leaves.slots ∙ ap (λ (s : Store _ _). g.R.Rack.slot_count s.rack) t.marks.store ∙ q.same_slots);
+      counted = c.advance.ensures.calls.slots ∙ ap (λ (s : Store _ _). g.R.Rack.slot_count s.rack) c.count_tick.ensures.marks.store ∙ c.args.self.now.counted;
+      worn = going_wear c.advance.new.core.meta c.args.self.now.ended c.requires.going;
+      sampled = held_own c.push.new.self (samples_held c.args.self.now.windows ++ sample_of c.args.self.now.served ∷ []) (c.push.ensures.more (samples_held c.args.self.now.windows) c.args.self.now.sampled);
+    }
+
+pub returns-in-Ok : goal.returns-in-Ok
+returns-in-Ok g c = record {
+  answers = record {
+    turn =
+        let a = c.args.self.now in
+        let t = c.count_tick.ensures in
+        ticks_on g.R.Rack.slot_count g.R.Rack.told a _ c.count_tick.new.self c.requires.going c.requires.epoch c.requires.writes t.marks.store t.meta t.marks.staged.table t.marks.staged.batch t.marks.staged.copied c.saturating_add-self.result
+        (λ s gear phase out. c.saturating_add-self.ensures
+        ∙ ap (λ (n : ℕ). min (a.energy + n) 18446744073709551615) (c.energy_of_tick-used.ensures ∙ ap (λ (m : Meta). sum_before (used_by m) m.setup.geometry.disks) c.meta-2.ensures ∙ tick_uses a.core.meta s gear phase out))
+        c.push.ensures.more (report c.meta-in-Ok.result.now.gear c.in-Ok.moved c.in-Ok.event)
+        (subst (λ (m : Meta). CoreTicks g.R.Rack.slot_count g.R.Rack.told c.push.new.self c.count_tick.new.self c.advance.new.core (report m.gear c.in-Ok.moved c.in-Ok.event)) (sym c.meta-in-Ok.ensures) c.in-Ok.ensures.turn)
+        c.requires.going refl refl
+        (c.saturating_add-self-in-Ok.ensures ∙ ap (λ (n : ℕ). min (c.saturating_add-self.result + n) 18446744073709551615)
+        (c.begun_energy-begun.ensures ∙ ap (λ (m : Meta). begun_energy a.setup m.gear c.in-Ok.event) c.meta.ensures));
+    grows = extends_store g.R.Rack.told c.args.self.now.core c.count_tick.new.self c.advance.new.core c.count_tick.ensures.marks.store c.advance.ensures.calls.grows;
+    slots = refl;
+    cause =
+        let a = c.args.self.now in
+        let q = a.serving c.requires.going in
+        let t = c.count_tick.ensures in
+        let mid = c.count_tick.new.self in
+        let new = c.advance.new.core in
+        let done = c.in-Ok.ensures in
+        let s : PowerState = state_shown (shown_of_array g.R.Rack.slot c.args.self.now) in
+        let out : mid.meta.out ≡ a.core.meta.out = ap (λ (m : Meta). m.out) t.meta in
+        let phase : mid.meta.phase ≡ a.core.meta.phase = ap (λ (m : Meta). m.phase) t.meta in
+        let spans : lengths_of c.push.new.self ≡ a.setup.windows = c.push.ensures.lengths ∙ q.windows in
+        let pushed = c.push.ensures.more (samples_held a.windows) a.sampled in
+        let held : samples_held c.push.new.self ≡ (shown_ticked (shown_of_array g.R.Rack.slot c.args.self.now)).samples = held_ticked c.push.new.self a.windows a.setup (sample_of a.served) spans pushed in
+        let windows : HoldLastSamples c.push.new.self (shown_ticked (shown_of_array g.R.Rack.slot c.args.self.now)).samples = subst (HoldLastSamples c.push.new.self) held (held_own c.push.new.self (samples_held a.windows ++ sample_of a.served ∷ []) pushed) in
+        let ticked : PowerState = state_shown (shown_ticked (shown_of_array g.R.Rack.slot c.args.self.now)) in
+        done_cause (shown_of_array g.R.Rack.slot c.args.self.now) _ Tick (takes (shown_of_array g.R.Rack.slot c.args.self.now) Tick (ap halt_of_end c.requires.going) c.requires.epoch c.requires.writes) refl refl
+        (let new = g.R.Rack.slot (store_rack c.advance.new.core.store) in
+        no_fall_counts (g.R.Rack.slot (store_rack c.args.self.now.core.store)) new (subst (λ (s : Store _ _). (d : ℕ) → (g.R.Rack.slot (store_rack s) d).faults ≤ (new d).faults) c.count_tick.ensures.marks.store c.advance.ensures.calls.no_fall))
+        (Ticked (report c.meta-in-Ok.result.now.gear c.in-Ok.moved c.in-Ok.event)) (ap halt_of_end c.requires.going) (gear_going c.args.self.now.ended _)
+        (record { samples = held; served = refl })
+        (record {
+          out = λ d is.
+              subst (λ (y : Store _ _). (named_out a.core.meta.out ≡ Some d) ⊎ HasRisen (g.R.Rack.slot (store_rack y) d).faults (g.R.Rack.slot (store_rack new.store) d).faults) t.marks.store
+              (subst (λ (o : Option ℕ). (o ≡ Some d) ⊎ HasRisen (g.R.Rack.slot (store_rack mid.store) d).faults (g.R.Rack.slot (store_rack new.store) d).faults) (ap named_out out)
+              (out_then (g.R.Rack.slot (store_rack mid.store)) (g.R.Rack.slot (store_rack new.store)) (named_out mid.meta.out) (named_out new.meta.out) (named_of mid.store) (named_of new.store) (t.serves q.serving.serves).stays done.serves.serving.serves.stays done.serves.leaves.down d is));
+          gear = ap (λ (m : Meta). m.gear) c.meta-in-Ok.ensures;
+          writes = done.serves.leaves.writes ∙ ap (λ (m : Meta). m.writes) t.meta;
+          energy =
+              tick_sum a.setup a.energy s c.saturating_add-self.result _ (report c.meta-in-Ok.result.now.gear c.in-Ok.moved c.in-Ok.event)
+              (c.saturating_add-self.ensures
+              ∙ ap (λ (n : ℕ). min (a.energy + n) 18446744073709551615) (c.energy_of_tick-used.ensures ∙ ap (λ (m : Meta). sum_before (used_by m) m.setup.geometry.disks) c.meta-2.ensures ∙ tick_uses a.core.meta s refl refl refl ∙ ap (λ (z : Setup). tick_energy z s) q.same_setup))
+              (c.saturating_add-self-in-Ok.ensures ∙ ap (λ (n : ℕ). min (c.saturating_add-self.result + n) 18446744073709551615) (c.begun_energy-begun.ensures ∙ ap (λ (m : Meta). begun_energy a.setup m.gear c.in-Ok.event) c.meta.ensures));
+          by =
+              ticks_by g.R.Rack.slot a new c.saturating_add-self-in-Ok.result (samples_held c.push.new.self) q.same_setup c.in-Ok.moved c.in-Ok.event
+              (subst (λ (y : Store _ _). named_out a.core.meta.out ≡ None → (d : ℕ) → named_out new.meta.out ≡ Some d → HasRisen (g.R.Rack.slot (store_rack y) d).faults (g.R.Rack.slot (store_rack new.store) d).faults) t.marks.store
+              (λ none. fails_newly (g.R.Rack.slot (store_rack mid.store)) (g.R.Rack.slot (store_rack new.store)) (named_out mid.meta.out) (named_out new.meta.out) (named_of mid.store) (named_of new.store) (t.serves q.serving.serves).stays done.serves.serving.serves.stays done.serves.leaves.down (ap named_out out ∙ none)))
+              a.core.meta.out refl
+              (λ d is. let w = done.waits d (out ∙ is) in (ok_moved c.in-Ok.moved c.in-Ok.event w.0, ok_event c.in-Ok.moved c.in-Ok.event w.0, ap (λ (z : Core _ _). z.meta.out) w.1 ∙ out ∙ is, ap (λ (z : Core _ _). g.R.Rack.slot (store_rack z.store)) w.1 ∙ ap (λ (y : Store _ _). g.R.Rack.slot (store_rack y)) t.marks.store))
+              (λ d u is. subst (λ (m : Meta). TellsRebuild m new.meta d u c.in-Ok.moved c.in-Ok.event) t.meta (done.rebuilds.rebuilds d u (out ∙ is)))
+              (λ d u is gone. subst (λ (y : Store _ _). HasRisen (g.R.Rack.slot (store_rack y) d).faults (g.R.Rack.slot (store_rack new.store) d).faults) t.marks.store (done.rebuilds.failed d u (out ∙ is) gone))
+              (λ whole shifts. (
+                done.moves.moves (out ∙ whole) (λ steady. shifts (sym phase ∙ steady)),
+                subst (λ (m : Meta). MarksMove m new.meta c.in-Ok.event) t.meta (done.moves.marks (out ∙ whole) (λ steady. shifts (sym phase ∙ steady))),
+              ))
+              (λ whole steady.
+              let rests = subst (λ (m : Meta). (c.in-Ok.moved ≡ 0) × TellsRest m new.meta c.in-Ok.event) t.meta (done.decides.rests (out ∙ whole) (phase ∙ steady)) in
+              let decides = done.decides.decides (out ∙ whole) (phase ∙ steady) (shown_ticked (shown_of_array g.R.Rack.slot c.args.self.now)).samples windows ticked (subst (λ (m : Meta). IsShiftStateOf m ticked) (sym t.meta) (ticked_state g.R.Rack.slot a)) in
+              let setup : mid.meta.setup ≡ a.setup = ap (λ (m : Meta). m.setup) t.meta ∙ q.same_setup in
+              (rests.0, rests.1, subst (λ (z : Setup). TellsDecision z ticked (decision z ticked.gear (shown_ticked (shown_of_array g.R.Rack.slot c.args.self.now)).samples) c.in-Ok.event) setup decides.1))
+              (λ whole steady is.
+              let same = done.decides.idle (out ∙ whole) (phase ∙ steady) is in (
+                ap (λ (z : Core _ _). z.meta) same ∙ t.meta,
+                ap (λ (z : Core _ _). z.dirty) same ∙ t.marks.staged.table,
+                ap (λ (z : Core _ _). g.R.Rack.slot (store_rack z.store)) same ∙ ap (λ (y : Store _ _). g.R.Rack.slot (store_rack y)) t.marks.store,
+              ));
+        });
+  };
+}
+
+pub returns-in-Err : goal.returns-in-Err
+returns-in-Err g c = record {
+  answers = record {
+    turn =
+        let a = c.args.self.now in
+        let t = c.count_tick.ensures in
+        tick_halts g.R.Rack.slot_count g.R.Rack.told a _ c.count_tick.new.self c.requires.going c.requires.epoch c.requires.writes t.marks.store t.meta t.marks.staged.table t.marks.staged.batch t.marks.staged.copied c.saturating_add-self.result
+        (λ s gear phase out. c.saturating_add-self.ensures
+        ∙ ap (λ (n : ℕ). min (a.energy + n) 18446744073709551615) (c.energy_of_tick-used.ensures ∙ ap (λ (m : Meta). sum_before (used_by m) m.setup.geometry.disks) c.meta-2.ensures ∙ tick_uses a.core.meta s gear phase out))
+        c.push.ensures.more c.in-Err.two c.in-Err.ensures.halts refl (ap (λ (m : Meta). Some (end_by (HaltTwo c.in-Err.two) m.gear)) c.meta.ensures);
+    grows = extends_store g.R.Rack.told c.args.self.now.core c.count_tick.new.self c.advance.new.core c.count_tick.ensures.marks.store c.advance.ensures.calls.grows;
+    slots = refl;
+    cause = two_cause (shown_of_array g.R.Rack.slot c.args.self.now) _ Tick (takes (shown_of_array g.R.Rack.slot c.args.self.now) Tick (ap halt_of_end c.requires.going) c.requires.epoch c.requires.writes) refl refl
+        (let new = g.R.Rack.slot (store_rack c.advance.new.core.store) in
+        no_fall_counts (g.R.Rack.slot (store_rack c.args.self.now.core.store)) new (subst (λ (s : Store _ _). (d : ℕ) → (g.R.Rack.slot (store_rack s) d).faults ≤ (new d).faults) c.count_tick.ensures.marks.store c.advance.ensures.calls.no_fall)) refl (ap (λ (m : Meta). m.gear) c.meta.ensures ∙ sym (gear_going c.args.self.now.ended _ (ap halt_of_end c.requires.going))) (λ fits.
+        let a = c.args.self.now in
+        let s : PowerState = state_shown (shown_of_array g.R.Rack.slot a) in
+        c.saturating_add-self.ensures
+        ∙ ap (λ (n : ℕ). min (a.energy + n) 18446744073709551615) (c.energy_of_tick-used.ensures ∙ ap (λ (m : Meta). sum_before (used_by m) m.setup.geometry.disks) c.meta-2.ensures ∙ tick_uses a.core.meta s refl refl refl ∙ ap (λ (z : Setup). tick_energy z s) (a.serving c.requires.going).same_setup)) c.in-Err.two refl
+        (let a = c.args.self.now in
+        let t = c.count_tick.ensures in
+        let new = g.R.Rack.slot (store_rack c.advance.new.core.store) in
+        let counted : AreTwoDown (or_else (named_of a.core.store) (named_out c.count_tick.new.self.meta.out)) (g.R.Rack.slot (store_rack a.core.store)) new c.in-Err.two =
+        subst (λ (s : Store _ _). AreTwoDown (or_else (named_of s) (named_out c.count_tick.new.self.meta.out)) (g.R.Rack.slot (store_rack s)) new c.in-Err.two) t.marks.store c.in-Err.ensures.two in
+        two_lost (named_of a.core.store) (named_out a.core.meta.out) (a.serving c.requires.going).serving.serves.stays _ _ _ c.in-Err.two
+        (subst (λ (m : Meta). AreTwoDown (or_else (named_of a.core.store) (named_out m.out)) (g.R.Rack.slot (store_rack a.core.store)) new c.in-Err.two) t.meta counted));
+  };
+}
+
+pub invariant_of-self-in-Err : goal.invariant_of-self-in-Err
+invariant_of-self-in-Err g c = record { serving = λ e. ended_not_none _ e; counted = c.advance.ensures.calls.slots ∙ ap (λ (s : Store _ _). g.R.Rack.slot_count s.rack) c.count_tick.ensures.marks.store ∙ c.args.self.now.counted; worn = two_wear c.advance.new.core.meta c.in-Err.two; sampled = held_own c.push.new.self (samples_held c.args.self.now.windows ++ sample_of c.args.self.now.served ∷ []) (c.push.ensures.more (samples_held c.args.self.now.windows) c.args.self.now.sampled) }

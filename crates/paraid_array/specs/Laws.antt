@@ -1,0 +1,67 @@
+-- What an array keeps at any time, as its events are asked to.
+use Rattle.std.specs.Prelude.{◌≡◌, ℕ, ◌<◌, List, [], Option, Some, None}
+use Rattle.std.proofs.Common.{refl, sym, ap, ◌∙◌, subst}
+use Rattle.paraid_rack.specs.Slots.{Slot}
+use Rattle.paraid_rack.specs.Trail.{Trail}
+use Rattle.paraid_record.specs.declared.meta.Setup.{Setup}
+use Rattle.paraid_image.specs.Out.{named_out}
+use Rattle.paraid_txn.specs.Stores.{store_rack}
+use Rattle.paraid_core.specs.declared.staged.Core.{Core}
+use Rattle.paraid_serve.specs.Causes.{Shown, Shows}
+use Rattle.paraid_base.specs.declared.fault.Halt.{Halt}
+use Rattle.paraid_serve.specs.Calls.{IsAbsentOut, IsNotDouble}
+use Rattle.paraid_session.specs.Turn.{Point}
+use Rattle.paraid_array.specs.declared.array.Array.{Array}
+use Rattle.paraid_array.specs.declared.ended.Ended.{Ended}
+use Rattle.paraid_array.specs.Arrays.{ArrayStandsAt, dirty_of_array, samples_of_array, served_of_array, shown_of_array, slot_of_array}
+use Rattle.paraid_array.specs.Lasting.{IsArrayServing, gear_of_end, halt_of_end}
+
+-- a point at which it stands tells its halt
+pub halt_at : {R : Type 0} {g : _} (count : R → ℕ) (told : R → Option Trail) (a : Array R g) (p : Point) → ArrayStandsAt count told a p → p.halt ≡ halt_of_end a.ended
+halt_at count told a p at = by a.ended refl
+  where
+    by : (o : Option Ended) → a.ended ≡ o → p.halt ≡ halt_of_end a.ended
+    by None e = (at.serves e).stands.going ∙ sym (ap halt_of_end e)
+    by (Some ended) e = (at.halted ended e).halt ∙ sym (ap halt_of_end e)
+
+-- what has not ended has no halt
+pub going_end : (o : Option Ended) → halt_of_end o ≡ None → o ≡ None
+going_end None e = refl
+going_end (Some ended) e = let z : Some ended.halt ≡ None = e in cc
+
+-- while it has not halted it tells this gear
+pub gear_going : (o : Option Ended) (now : ℕ) → halt_of_end o ≡ None → gear_of_end o now ≡ now
+gear_going None now e = refl
+gear_going (Some ended) now e = let z : Some ended.halt ≡ None = e in absurd cc
+
+-- what is seen of it has its setup, its slots, its halt and its gear
+pub shown_as : {R : Type 0} {g : _} (slot : R → ℕ → Slot) (a : Array R g) → Shows (shown_of_array slot a) a.setup (slot_of_array slot a) (halt_of_end a.ended)
+shown_as slot a = record { setup = refl; slot = refl; halt = refl; gear = gear_going a.ended a.core.meta.gear }
+
+-- what is seen of it with another setup, energy, halt, samples and number of requests
+abbrev shown_but : {R : Type 0} {g : _} → (R → ℕ → Slot) → Array R g → Setup → ℕ → Option Halt → List ℕ → ℕ → ℕ → Shown
+shown_but slot a z n h l k gear = record { setup = z; meta = a.core.meta; dirty = dirty_of_array a; slot = slot_of_array slot a; gear = gear; energy = n; samples = l; served = k; halt = h }
+
+-- and as it begins it has its own setup, no energy used, no sample, no request and no halt
+pub begins_as : {R : Type 0} {g : _} (slot : R → ℕ → Slot) (a : Array R g) → a.setup ≡ a.core.meta.setup → a.energy ≡ 0 → halt_of_end a.ended ≡ None → samples_of_array a ≡ [] → served_of_array a ≡ 0
+    → shown_of_array slot a ≡ record { setup = a.core.meta.setup; meta = a.core.meta; dirty = dirty_of_array a; slot = slot_of_array slot a; gear = a.core.meta.gear; energy = 0; samples = []; served = 0; halt = None }
+begins_as slot a setup energy going samples served =
+    ap (λ (x : Setup). shown_but slot a x a.energy (halt_of_end a.ended) (samples_of_array a) (served_of_array a) (gear_of_end a.ended a.core.meta.gear)) setup
+    ∙ ap (λ (x : ℕ). shown_but slot a a.core.meta.setup x (halt_of_end a.ended) (samples_of_array a) (served_of_array a) (gear_of_end a.ended a.core.meta.gear)) energy
+    ∙ ap (λ (x : Option Halt). shown_but slot a a.core.meta.setup 0 x (samples_of_array a) (served_of_array a) (gear_of_end a.ended a.core.meta.gear)) going
+    ∙ ap (λ (x : List ℕ). shown_but slot a a.core.meta.setup 0 None x (served_of_array a) (gear_of_end a.ended a.core.meta.gear)) samples
+    ∙ ap (λ (x : ℕ). shown_but slot a a.core.meta.setup 0 None [] x (gear_of_end a.ended a.core.meta.gear)) served
+    ∙ ap (λ (x : ℕ). shown_but slot a a.core.meta.setup 0 None [] 0 x) (gear_going a.ended a.core.meta.gear going)
+
+-- a disk of one that serves is absent only where it is out
+pub absent_out : {R : Type 0} {g : _} (count : R → ℕ) (slot : R → ℕ → Slot) (core : Core R g) (lengths : List ℕ) (setup : Setup) (slots : ℕ) → IsArrayServing count slot core lengths setup slots
+    → IsAbsentOut setup (named_out core.meta.out) (slot (store_rack core.store))
+absent_out count slot core lengths setup slots q x low away = q.serving.ready.absent x (subst (λ (z : Setup). x < z.geometry.disks) (sym q.same_setup) low) away
+
+-- so it has at most one absent disk
+pub not_double : {R : Type 0} {g : _} (count : R → ℕ) (slot : R → ℕ → Slot) (core : Core R g) (lengths : List ℕ) (setup : Setup) (slots : ℕ) → IsArrayServing count slot core lengths setup slots
+    → IsNotDouble setup (slot (store_rack core.store))
+not_double count slot core lengths setup slots q d e d_low e_low d_away e_away = let z : Some d ≡ Some e = sym (out d d_low d_away) ∙ out e e_low e_away in cc
+  where
+    out : IsAbsentOut setup (named_out core.meta.out) (slot (store_rack core.store))
+    out = absent_out count slot core lengths setup slots q

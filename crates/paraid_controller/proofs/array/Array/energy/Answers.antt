@@ -1,6 +1,0 @@
-use Rattle.std.proofs.Common.{refl}
-use Rattle.paraid_controller.proofs.FirstLemmas.{energy_at}
-use Rattle.paraid_controller.proofs.array.Array.energy.Goals as goal
-
-pub returns : goal.returns
-returns g c = record { point = λ p at. energy_at g.R.Rack.slot_count g.R.Rack.told c.args.self.now p at; value = refl }

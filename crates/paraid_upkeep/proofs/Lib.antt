@@ -1,0 +1,11 @@
+pub mod ResultLemmas
+pub mod ServiceLemmas
+pub mod OutLemmas
+pub mod RefusalLemmas
+pub mod DecisionLemmas
+pub mod MachineLemmas
+pub mod TurnLemmas
+pub mod AskedLemmas
+pub mod TickTurnLemmas
+pub mod RebuildTurnLemmas
+pub mod ToldLemmas

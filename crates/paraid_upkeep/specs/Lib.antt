@@ -1,0 +1,7 @@
+pub mod Service
+pub mod Refusals
+pub mod DiskRefusals
+pub mod TickAnswers
+pub mod Turns
+pub mod TickTurns
+pub mod Events
