@@ -1,6 +1,5 @@
 -- What shifts that are asked for may answer, by what they say of the machine.
-use Rattle.std.proofs.Common.{◌≡◌, ℕ, ◌⊎◌, true, false, [], Option, Some, None, Result, Ok, refl, sym, ◌∙◌, inl, inr, subst}
-use Rattle.paraid_base.specs.declared.event.Event.TheVariants.{Down as AskDown, Up as AskUp}
+use Rattle.std.proofs.Common.{◌≡◌, ℕ, ◌⊎◌, false, [], Option, Some, None, Result, Ok, refl, sym, ◌∙◌, inl, inr, subst}
 use Rattle.paraid_base.specs.declared.fault.Two.{Two}
 use Rattle.paraid_base.specs.declared.state.Out.{Out as OutState}
 use Rattle.paraid_base.specs.declared.state.Out.TheVariants.{Fresh, Gone, No}

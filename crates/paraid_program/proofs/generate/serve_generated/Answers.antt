@@ -1,4 +1,4 @@
-use Rattle.std.proofs.Common.{refl, rules, subst, ◌∙◌, sym}
+use Rattle.std.proofs.Common.{refl, rules, subst, ◌∙◌}
 use Rattle.paraid_record.specs.declared.meta.Setup.{Setup}
 use Rattle.paraid_serve.specs.Calls.{IsNotDouble}
 use Rattle.paraid_base.proofs.ToldLemmas.{GrowsByBytes-then}

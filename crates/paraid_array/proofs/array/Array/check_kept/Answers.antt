@@ -17,7 +17,7 @@ use Rattle.paraid_scrub.specs.Cores.{core_view}
 use Rattle.paraid_array.proofs.CheckLemmas.{at_point, count_lost, count_on, counts_by, failed_one}
 use Rattle.paraid_array.proofs.CoreLemmas.{serving_then}
 use Rattle.paraid_array.proofs.StandLemmas.{end_by, told_before}
-use Rattle.paraid_array.proofs.LossLemmas.{going_lost, going_wear, two_lost, ended_not_none, two_wear}
+use Rattle.paraid_array.proofs.LossLemmas.{going_wear, two_lost, ended_not_none, two_wear}
 use Rattle.paraid_image.specs.Out.{named_out}
 use Rattle.paraid_txn.specs.Stores.{named_of, store_rack}
 use Rattle.paraid_session.proofs.FaultLemmas.{no_fall_counts}

@@ -13,7 +13,7 @@ use Rattle.paraid_shift.proofs.ServingLemmas.{copies_kept}
 use Rattle.paraid_array.proofs.CoreLemmas.{serving_then, tells_by_down}
 use Rattle.paraid_array.proofs.FlushLemmas.{flush_lost, flush_on}
 use Rattle.paraid_array.proofs.StandLemmas.{end_by}
-use Rattle.paraid_array.proofs.LossLemmas.{going_lost, going_wear, two_lost, ended_not_none, two_wear}
+use Rattle.paraid_array.proofs.LossLemmas.{going_wear, two_lost, ended_not_none, two_wear}
 use Rattle.paraid_image.specs.Out.{named_out}
 use Rattle.paraid_txn.specs.Stores.{named_of, store_rack}
 use Rattle.paraid_session.proofs.FaultLemmas.{no_fall_counts}

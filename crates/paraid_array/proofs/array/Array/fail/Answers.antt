@@ -5,7 +5,6 @@ use Rattle.std.proofs.Common.{ℕ, ◌≤◌, Some, refl, subst}
 use Rattle.paraid_base.specs.declared.event.Event.TheVariants.{Fail}
 use Rattle.paraid_base.specs.declared.event.Answer.TheVariants.{NoDisk}
 use Rattle.paraid_array.proofs.StandLemmas.{none_ended}
-use Rattle.paraid_array.proofs.AnswerLemmas.{same_test}
 use Rattle.paraid_array.proofs.AnswersLemmas.{quiet_answers}
 use Rattle.paraid_array.proofs.QuietLemmas.{fail_refused}
 use Rattle.paraid_array.proofs.array.Array.fail.Goals as goal

@@ -5,7 +5,6 @@ use Rattle.std.proofs.Common.{ℕ, ◌<◌, ◌≤◌, refl, subst}
 use Rattle.paraid_base.specs.declared.event.Event.TheVariants.{Read}
 use Rattle.paraid_base.specs.declared.event.Answer.TheVariants.{NoBlock}
 use Rattle.paraid_array.proofs.StandLemmas.{none_ended}
-use Rattle.paraid_array.proofs.AnswerLemmas.{same_test}
 use Rattle.paraid_array.proofs.AnswersLemmas.{quiet_answers}
 use Rattle.paraid_array.proofs.QuietLemmas.{read_refused}
 use Rattle.paraid_array.proofs.array.Array.read.Goals as goal

@@ -5,7 +5,6 @@ use Rattle.std.proofs.Common.{ℕ, ◌≤◌, None, Some, if◌then◌else◌, r
 use Rattle.paraid_base.specs.declared.event.Event.TheVariants.{Replace}
 use Rattle.paraid_base.specs.declared.event.Answer.TheVariants.{NoDisk, NotOut}
 use Rattle.paraid_array.proofs.StandLemmas.{none_ended}
-use Rattle.paraid_array.proofs.AnswerLemmas.{same_test}
 use Rattle.paraid_array.proofs.AnswersLemmas.{quiet_answers}
 use Rattle.paraid_array.proofs.QuietLemmas.{replace_refused}
 use Rattle.paraid_array.proofs.array.Array.replace.Goals as goal

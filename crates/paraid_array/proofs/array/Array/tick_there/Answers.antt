@@ -37,7 +37,7 @@ use Rattle.paraid_array.proofs.CountedLemmas.{known_counted, serving_counted}
 use Rattle.paraid_array.proofs.EnergyLemmas.{tick_uses}
 use Rattle.paraid_array.proofs.StandLemmas.{end_by}
 use Rattle.paraid_array.proofs.TickLemmas.{tick_halts, ticks_on}
-use Rattle.paraid_array.proofs.LossLemmas.{going_lost, going_wear, two_lost, ended_not_none, two_wear}
+use Rattle.paraid_array.proofs.LossLemmas.{going_wear, two_lost, ended_not_none, two_wear}
 use Rattle.paraid_session.proofs.FaultLemmas.{no_fall_counts}
 use Rattle.paraid_upkeep.proofs.ToldLemmas.{extends_store}
 use Rattle.paraid_array.proofs.array.Array.tick_there.Goals as goal

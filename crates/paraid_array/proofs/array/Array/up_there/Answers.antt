@@ -21,7 +21,7 @@ use Rattle.paraid_array.proofs.CoreLemmas.{known_of, serving_of}
 use Rattle.paraid_array.proofs.EnergyLemmas.{asked_used}
 use Rattle.paraid_array.proofs.StandLemmas.{end_by}
 use Rattle.paraid_array.proofs.TurnLemmas.{core_halts, core_on}
-use Rattle.paraid_array.proofs.LossLemmas.{going_lost, going_wear, two_lost, ended_not_none, two_wear}
+use Rattle.paraid_array.proofs.LossLemmas.{going_wear, two_lost, ended_not_none, two_wear}
 use Rattle.paraid_image.specs.Out.{named_out}
 use Rattle.paraid_txn.specs.Stores.{named_of, store_rack}
 use Rattle.paraid_session.proofs.FaultLemmas.{no_fall_counts}

@@ -5,7 +5,7 @@ use Rattle.std.proofs.Common.{refl, ap, Some, sym, ◌∙◌}
 use Rattle.paraid_base.specs.declared.fault.Halt.TheVariants.{Worn}
 use Rattle.paraid_record.specs.declared.meta.Meta.{Meta}
 use Rattle.paraid_array.proofs.AnswersLemmas.{may_not_bad}
-use Rattle.paraid_array.proofs.LossLemmas.{worn_lost, ended_not_none, worn_wear}
+use Rattle.paraid_array.proofs.LossLemmas.{ended_not_none, worn_wear}
 use Rattle.paraid_array.proofs.StandLemmas.{end_by, worn_on}
 use Rattle.paraid_txn.specs.Stores.{store_rack}
 use Rattle.paraid_session.proofs.FaultLemmas.{same_counts}
