@@ -1,5 +1,5 @@
 -- The energy of the disks of an array, in millijoules
-use Rattle.std.specs.Prelude.{ℕ, ◌+◌, ◌-◌, ◌*◌, ◌^◌, min}
+use Rattle.std.specs.Prelude.{◌≡◌, ℕ, ◌+◌, ◌-◌, ◌*◌, ◌^◌, min}
 use Rattle.paraid_record.specs.declared.meta.Setup.{Setup}
 
 -- what a disk uses between two ticks, spinning and parked, what a spin-up uses, and the sum
@@ -12,6 +12,12 @@ pub record Account : Type 0 where
 -- the account of a setup, with nothing used
 abbrev pub new_account : Setup → Account
 new_account s = record { spinning_mj = s.spinning_mj; parked_mj = s.parked_mj; spinup_mj = s.spinup_mj; total = 0 }
+
+-- an account with the figures of a setup
+pub record HasFigures (s : Setup) (account : Account) : Type 0 where
+  pub spinning : account.spinning_mj ≡ s.spinning_mj
+  pub parked : account.parked_mj ≡ s.parked_mj
+  pub spinup : account.spinup_mj ≡ s.spinup_mj
 
 -- the account with so much more used; the sum stays at the greatest number of 64 bits
 abbrev pub with_used : Account → ℕ → Account

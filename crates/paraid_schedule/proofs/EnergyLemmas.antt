@@ -1,17 +1,9 @@
 -- What a ledger with the figures of a setup counts
 use Rattle.std.proofs.Common.{◌≡◌, ℕ, ◌+◌, ◌-◌, ◌*◌, ◌^◌, ◌<◌, ◌≤◌, min, ap, arith}
 use Rattle.std.proofs.lemmas.Nat.{mul-le}
-use Rattle.paraid_energy.specs.Account.{Account, new_account, after_tick, after_spin_ups}
+use Rattle.paraid_energy.specs.Account.{Account, HasFigures, after_tick, after_spin_ups}
 use Rattle.paraid_record.specs.declared.meta.Setup.{Setup}
 use Rattle.paraid_schedule.specs.Cost.{period_cost, step_cost}
-use Rattle.paraid_schedule.specs.Energy.{HasFigures}
-
-pub HasFigures-opened : (s : Setup) (a : Account) → a ≡ new_account s → HasFigures s a
-HasFigures-opened s a is = record {
-  spinning = ap (λ b. b.spinning_mj) is;
-  parked = ap (λ b. b.parked_mj) is;
-  spinup = ap (λ b. b.spinup_mj) is;
-}
 
 pub product_small : (n x : ℕ) → n ≤ 255 → x < 2 ^ 32 → n * x ≤ 2 ^ 40 - 2 ^ 32
 product_small n x few small = omega (arith, mul-le n x 255 (2 ^ 32 - 1) few (omega arith))

@@ -2,5 +2,4 @@ pub mod Schedule
 pub mod Cost
 pub mod Bounds
 pub mod Plan
-pub mod Energy
 pub mod Solved

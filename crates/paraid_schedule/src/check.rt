@@ -7,7 +7,7 @@ ghost use Rattle.paraid_schedule.specs.Schedule.{IsDemand, IsSchedule, IsGearSte
 ghost use Rattle.paraid_schedule.specs.Cost.{period_cost, step_cost, schedule_cost};
 ghost use Rattle.paraid_schedule.specs.Bounds.{no_bound, row_start as row_of, bound_count, gear_count as count_of_gears, rank as rank_of, bound, onward, HasRow, AreRight, IsRightAt};
 ghost use Rattle.paraid_schedule.specs.Plan.{IsCertified, IsLeastCost};
-ghost use Rattle.paraid_schedule.specs.Energy.{HasFigures};
+ghost use Rattle.paraid_energy.specs.Account.{HasFigures};
 
 use crate::Plan;
 use paraid_base::Geometry;

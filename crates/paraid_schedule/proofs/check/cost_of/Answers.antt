@@ -1,5 +1,6 @@
 use Rattle.std.proofs.Common.{◌≡◌, ◌-◌, length, arith, sym, ◌∙◌, ap}
-use Rattle.paraid_schedule.proofs.EnergyLemmas.{HasFigures-opened, counted_room, counted_room-after, counted_small, counted_more}
+use Rattle.paraid_energy.proofs.AccountLemmas.{HasFigures-new_account}
+use Rattle.paraid_schedule.proofs.EnergyLemmas.{counted_room, counted_room-after, counted_small, counted_more}
 use Rattle.paraid_schedule.proofs.CertificateLemmas.{cost_before-none, cost_before-at}
 use Rattle.paraid_schedule.proofs.RoomLemmas.{last_low, last_within, lower_low}
 use Rattle.paraid_schedule.proofs.check.cost_of.Goals as goal
@@ -9,7 +10,7 @@ loop-t-init c =
     let s = c.args.setup.now in
     let total : c.new-ledger.result.total ≡ 0 = ap (λ a. a.total) c.new-ledger.ensures in
     record {
-      figures = HasFigures-opened s c.new-ledger.result c.new-ledger.ensures;
+      figures = HasFigures-new_account s c.new-ledger.result c.new-ledger.ensures;
       counted = total ∙ sym (cost_before-none s c.args.gears.now);
       small = omega (arith, total);
     }

@@ -1,6 +1,6 @@
 use Rattle.std.proofs.Common.{◌≡◌, ◌-◌, ◌*◌, ◌^◌, ◌≤◌}
 use Rattle.paraid_schedule.specs.Cost.{cost_before}
-use Rattle.paraid_schedule.specs.Energy.{HasFigures}
+use Rattle.paraid_energy.specs.Account.{HasFigures}
 use Rattle.paraid_schedule.proofs.check.cost_of.Given as goal
 
 abbrev pub invariant-loop-t : goal.invariant-loop-t
