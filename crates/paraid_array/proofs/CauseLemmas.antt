@@ -6,7 +6,7 @@ use Rattle.std.proofs.lemmas.List.Elements.{All-head, All-tail}
 use Rattle.paraid_base.specs.History.{Entry}
 use Rattle.paraid_base.specs.declared.block.Block.{Block}
 use Rattle.paraid_base.specs.declared.event.Answer.{Answer}
-use Rattle.paraid_base.specs.declared.event.Answer.TheVariants.{Failed, Halted, NoBlock, NoDisk, NoFresh as NoFreshAnswer, NotOut, Out as IsOut, Replaced, State as IsState, Ticked}
+use Rattle.paraid_base.specs.declared.event.Answer.TheVariants.{Failed, Halted, NoBlock, NoDisk, NoFresh as NoFreshAnswer, NotOut, Out as IsOut, Replaced, State as IsState}
 use Rattle.paraid_base.specs.declared.event.Event.{Event}
 use Rattle.paraid_base.specs.declared.event.Event.TheVariants.{Down as DownEvent, Fail, Replace, Up as UpEvent}
 use Rattle.paraid_base.specs.declared.fault.Halt.{Halt}
@@ -19,14 +19,7 @@ use Rattle.paraid_base.specs.declared.state.Status.{Status}
 use Rattle.paraid_base.specs.declared.state.Phase.TheVariants.{Down as DownPhase, Steady, Up as UpPhase}
 use Rattle.paraid_base.specs.Log.{worn_at}
 use Rattle.paraid_base.specs.Told.{HasRisen}
-use Rattle.paraid_base.specs.declared.state.GearReport.{GearReport}
-use Rattle.paraid_base.specs.declared.state.TickEvent.{TickEvent}
-use Rattle.paraid_base.specs.declared.state.TickEvent.TheVariants.{Begun as TickBegun, Flipped, Gone as GoneAgain, Lost, Moving, Ration as TickRation, Rebuilt, Steady as TickSteady, Waiting}
-use Rattle.paraid_upkeep.proofs.DecisionLemmas.{decided_down, decided_up}
-use Rattle.paraid_upkeep.specs.TickAnswers.{HasTickedDown, HasTickedUp, IsIdleTick, MarksMove, TellsDecision, TellsMove, TellsRebuild, TellsRest, TellsWorn, units_unbuilt}
-use Rattle.paraid_array.proofs.CountedLemmas.{with_tick}
-use Rattle.paraid_machine.specs.Energy.{begun_energy, energy_after, tick_energy}
-use Rattle.paraid_image.specs.Out.{is_out, named_out, or_else}
+use Rattle.paraid_image.specs.Out.{is_out, named_out}
 use Rattle.paraid_machine.specs.Machine.{blocks_named, first_missing, out_refusal}
 use Rattle.paraid_rack.specs.Slots.{Slot}
 use Rattle.paraid_record.specs.declared.meta.Meta.{Meta}
@@ -34,29 +27,31 @@ use Rattle.paraid_record.specs.declared.meta.Setup.{Setup}
 use Rattle.paraid_dirty.specs.Table.{is_dirty}
 use Rattle.paraid_core.specs.CoreInvariant.{meta_with_lost}
 use Rattle.paraid_core.specs.Cores.{core_rack}
-use Rattle.paraid_core.specs.Down.{IsDownAfter}
 use Rattle.paraid_core.specs.Lost.{MarksLost}
 use Rattle.paraid_core.specs.Steps.{IsMarkedFrom}
 use Rattle.paraid_image.specs.Mark.{meta_after_loss}
 use Rattle.paraid_moves.specs.MoveMetas.{meta_after_begin}
 use Rattle.paraid_rebuild.specs.Replacing.{IsReplacedFrom}
 use Rattle.paraid_core.specs.declared.staged.Core.{Core}
-use Rattle.paraid_serve.specs.Causes.{Accepts, Begins, Counts, Decides, Does, DoesShift, GoesDown, HasCause, HasCounted, HasFailed, IsAsBefore, IsUnchanged, KeepsEnergy, MovesBy, MovesOn, Rebuilds, Replaces, Shown, Takes, TicksBy, UsesOwn, decision_shown, down_refusal, gear_after, meta_marked, missing_answer, quiet_answer, shown_ticked, spins_up, state_shown, up_refusal, wear_shown}
+use Rattle.paraid_serve.specs.Causes.{Accepts, Begins, CommitsFew, Counts, Does, DoesShift, HasCause, HasCounted, IsUnchanged, KeepsEnergy, Replaces, Shown, Takes, UsesOwn, down_refusal, gear_after, meta_marked, missing_answer, most_commits, quiet_answer, spins_up, state_shown, up_refusal, wear_shown}
 use Rattle.paraid_serve.specs.Causes.HasReason.{done as reason_done, quiet as reason_quiet, two as reason_two, worn as reason_worn}
 use Rattle.paraid_serve.specs.Lost.{HaltsByTwoLost}
 use Rattle.paraid_serve.proofs.OwedLemmas.{no_halt_done, no_halt_quiet}
 use Rattle.paraid_array.specs.Laws.{gear_going}
 use Rattle.paraid_array.specs.declared.ended.Ended.{Ended}
 use Rattle.paraid_upkeep.specs.DiskRefusals.{HasMarkedTaken, IsFailRefused, IsReplaceRefused}
+use Rattle.paraid_upkeep.specs.Directions.{HasMarkedShift, IsRefusedTo, MayGo, asked_event}
 use Rattle.paraid_upkeep.specs.Refusals.{HasBegunOrLost, HasMarkedDown, HasMarkedUp, IsDownRefused, IsShiftStateOf, IsUpRefused, MayGoDown, MayGoUp, fault_answer}
 use Rattle.paraid_upkeep.specs.Turns.{asked_answer, fail_answer, replace_answer}
 use Rattle.paraid_upkeep.specs.declared.asked.Asked.{Asked}
 use Rattle.paraid_upkeep.specs.declared.asked.Asked.TheVariants.{Begun, Refused}
+use Rattle.paraid_upkeep.specs.declared.asked.Direction.{Direction}
+use Rattle.paraid_upkeep.specs.declared.asked.Direction.TheVariants.{Down as Downward, Up as Upward}
 use Rattle.paraid_upkeep.specs.declared.fault.ShiftFault.{ShiftFault}
 use Rattle.paraid_upkeep.specs.declared.fault.ShiftFault.TheVariants.{Lowest, Out as ShiftOut, Ration, Shifting, Top}
 use Rattle.paraid_base.specs.Gears.{next_higher, next_lower}
 use Rattle.paraid_image.specs.Power.{PowerState}
-use Rattle.paraid_machine.specs.Moves.{first_worn, units_to_rebuild}
+use Rattle.paraid_machine.specs.Moves.{first_worn}
 use Rattle.paraid_array.specs.Used.{asked_energy}
 use Rattle.paraid_upkeep.specs.declared.fault.FailFault.{FailFault}
 use Rattle.paraid_upkeep.specs.declared.fault.FailFault.TheVariants.{NoDisk as FailNoDisk, Out as FailOut}
@@ -69,10 +64,7 @@ use Rattle.paraid_session.specs.Turn.{halt_told, may_halt}
 use Rattle.paraid_array.specs.declared.array.Array.{Array}
 use Rattle.paraid_array.specs.Arrays.{shown_of_array}
 use Rattle.paraid_array.specs.Lasting.{gear_of_end, halt_of_end, samples_held}
-use Rattle.paraid_array.proofs.SampleLemmas.{next_apart}
 use Rattle.paraid_gear.specs.ThreeWindows.{sample_of}
-use Rattle.paraid_gear.specs.declared.decision.Decision.{Decision}
-use Rattle.paraid_gear.specs.declared.decision.Decision.TheVariants.{Down as DecideDown, Stay, Up as DecideUp}
 
 below_max : (a b : ℕ) → a < worn_at → b < worn_at → max a b < worn_at
 below_max a b x y = grind (arith)
@@ -92,6 +84,31 @@ unchanged x = record { meta = refl; dirty = refl; slot = refl; energy = λ fits.
 told_gear : (x y : Shown) (answer : Answer) → y.halt ≡ halt_told answer → (y.halt ≡ None → y.gear ≡ y.meta.gear) → halt_told answer ≡ None → y.gear ≡ gear_after (halt_told answer) x y
 told_gear x y answer halt gear none = subst (λ (h : Option Halt). y.gear ≡ gear_after h x y) (sym none) (gear (halt ∙ none))
 
+-- the number of commits is as it was
+pub commits_none : (x y : Shown) (most : ℕ) → y.meta.epoch ≡ x.meta.epoch → CommitsFew x y most
+commits_none x y most same = record { later = low x.meta.epoch y.meta.epoch same; few = high x.meta.epoch y.meta.epoch same }
+  where
+    low : (e n : ℕ) → n ≡ e → e ≤ n
+    low e n is = omega arith
+
+    high : (e n : ℕ) → n ≡ e → n ≤ e + most
+    high e n is = omega arith
+
+-- it has risen by so many, which are no more than that
+pub commits_by : (x y : Shown) (count most : ℕ) → count ≤ most → y.meta.epoch ≡ x.meta.epoch + count → CommitsFew x y most
+commits_by x y count most under is = record { later = low x.meta.epoch y.meta.epoch is; few = high x.meta.epoch y.meta.epoch is }
+  where
+    low : (e n : ℕ) → n ≡ e + count → e ≤ n
+    low e n same = omega arith
+
+    high : (e n : ℕ) → n ≡ e + count → n ≤ e + most
+    high e n same = omega (arith, under)
+
+-- a request or a flush commits once at most
+pub commits_once : (x y : Shown) (first : Bool) → y.meta.epoch ≡ x.meta.epoch + (if first then 1 else 0) → CommitsFew x y 1
+commits_once x y true is = commits_by x y 1 1 (omega arith) is
+commits_once x y false is = commits_by x y 0 1 (omega arith) is
+
 module _ {R : Type 0} {g : _} (slot : R → ℕ → Slot) (a : Array R g) where
   -- with no call
   pub quiet_cause : (event : Event) (answer : Answer) → halt_of_end a.ended ≡ None → halt_told answer ≡ None → Takes (shown_of_array slot a) event → quiet_answer (shown_of_array slot a) event ≡ Some answer
@@ -102,6 +119,7 @@ module _ {R : Type 0} {g : _} (slot : R → ℕ → Slot) (a : Array R g) where
     halt = λ not. going ∙ sym no_halt;
     gear = λ not. told_gear (shown_of_array slot a) (shown_of_array slot a) answer (going ∙ sym no_halt) (gear_going a.ended a.core.meta.gear) no_halt;
     counts = counts;
+    commits = λ still. commits_none (shown_of_array slot a) (shown_of_array slot a) (most_commits (shown_of_array slot a) event) refl;
     later = same_counts (slot (core_rack a.core));
   }
 
@@ -120,18 +138,21 @@ accepted x y count marks writes energy = record {
   energy = λ fits. energy;
 }
 
+halts_not : (o : Option Halt) (halt : Halt) → o ≡ Some halt → o ≡ None → ⊥
+halts_not o halt is none = let z : Some halt ≡ None = sym is ∙ none in cc
+
 -- The event was served, or two disks were lost in it.
 module _ (x y : Shown) (event : Event) (takes : Takes x event) (busy : quiet_answer x event ≡ None) (setup : y.setup ≡ x.setup) (later : HaveNotFallen x.slot y.slot) where
-  pub done_cause : (answer : Answer) → y.halt ≡ halt_told answer → (y.halt ≡ None → y.gear ≡ y.meta.gear) → Counts answer x y → Does x event answer y → HasCause x event answer y
-  done_cause answer halt gear counts does = record { reason = reason_done takes busy does; setup = setup; halt = λ not. halt; gear = λ not. told_gear x y answer halt gear (no_halt_done x y event answer does); counts = counts; later = later }
+  pub done_cause : (answer : Answer) → y.halt ≡ halt_told answer → (y.halt ≡ None → y.gear ≡ y.meta.gear) → Counts answer x y → Does x event answer y → CommitsFew x y (most_commits x event) → HasCause x event answer y
+  done_cause answer halt gear counts does commits = record { reason = reason_done takes busy does; setup = setup; halt = λ not. halt; gear = λ not. told_gear x y answer halt gear (no_halt_done x y event answer does); counts = counts; commits = λ still. commits; later = later }
 
   pub two_cause : may_halt event ≡ true → y.gear ≡ x.gear → UsesOwn event x y → (pair : Two) → y.halt ≡ Some (HaltTwo pair) → HaltsByTwoLost (named_out x.meta.out) event x.slot y.slot (Some (HaltTwo pair)) → HasCause x event (Halted (HaltTwo pair)) y
-  two_cause asked gear used pair halt lost = record { reason = reason_two pair takes asked busy refl (lost pair refl) used; setup = setup; halt = λ not. halt; gear = λ not. gear; counts = tt; later = later }
+  two_cause asked gear used pair halt lost = record { reason = reason_two pair takes asked busy refl (lost pair refl) used; setup = setup; halt = λ not. halt; gear = λ not. gear; counts = tt; commits = λ still. absurd (halts_not y.halt (HaltTwo pair) halt still); later = later }
 
 -- it is worn
 pub worn_cause : (x y : Shown) (event : Event) (count : ℕ) → x.halt ≡ None → may_halt event ≡ true → worn_at ≤ count → count ≡ wear_shown x → IsUnchanged x y → y.setup ≡ x.setup → y.halt ≡ Some (Worn count) → y.gear ≡ x.gear
     → HaveNotFallen x.slot y.slot → HasCause x event (Halted (Worn count)) y
-worn_cause x y event count going asked many is same setup halt gear later = record { reason = reason_worn count going asked many is refl same; setup = setup; halt = λ not. halt; gear = λ not. gear; counts = tt; later = later }
+worn_cause x y event count going asked many is same setup halt gear later = record { reason = reason_worn count going asked many is refl same; setup = setup; halt = λ not. halt; gear = λ not. gear; counts = tt; commits = λ still. absurd (halts_not y.halt (Worn count) halt still); later = later }
 
 below_count : (a b : ℕ) → a < b → nat_lt a b ≡ true
 below_count a b l = grind (arith, nat_tests)
@@ -194,7 +215,7 @@ module _ {R : Type 0} {g : _} (slot : R → ℕ → Slot) (a : Array R g) (new :
 -- nothing was done for the event
 pub still_cause : (x y : Shown) (event : Event) (answer : Answer) → Takes x event → quiet_answer x event ≡ Some answer → IsUnchanged x y → y.setup ≡ x.setup → y.halt ≡ halt_told answer → (y.halt ≡ None → y.gear ≡ y.meta.gear) → Counts answer x y → HaveNotFallen x.slot y.slot
     → HasCause x event answer y
-still_cause x y event answer takes is same setup halt gear counts later = record { reason = reason_quiet takes is same; setup = setup; halt = λ not. halt; gear = λ not. told_gear x y answer halt gear (no_halt_quiet x event answer is); counts = counts; later = later }
+still_cause x y event answer takes is same setup halt gear counts later = record { reason = reason_quiet takes is same; setup = setup; halt = λ not. halt; gear = λ not. told_gear x y answer halt gear (no_halt_quiet x event answer is); counts = counts; commits = λ still. commits_none x y (most_commits x event) (ap (λ (m : Meta). m.epoch) same.meta); later = later }
 
 -- why the disk that is out, or none, refuses
 no_refusal : (o : Out) → named_out o ≡ None → out_refusal o ≡ None
@@ -220,8 +241,9 @@ lost_meta m n e d none named (Some x) is =
     (subst (λ (z : Meta). z ≡ record (meta_after_loss m x) { epoch = z.epoch }) (sym is) refl)
 
 -- a disk that is taken out
-module _ {R : Type 0} {g : _} (slot : R → ℕ → Slot) (a : Array R g) (new : Core R g) (sum : ℕ) (d : ℕ) (takes : Takes (shown_of_array slot a) (Fail d)) (same_setup : a.core.meta.setup ≡ a.setup) (energy : sum ≡ a.energy)
-    (later : HaveNotFallen (slot (core_rack a.core)) (slot (core_rack new))) (writes : new.meta.writes ≡ a.core.meta.writes)
+module _ {R : Type 0} {g : _} (slot : R → ℕ → Slot) (a : Array R g) (new : Core R g) (sum : ℕ) (d : ℕ) (takes : Takes (shown_of_array slot a) (Fail d)) (same_setup : a.core.meta.setup ≡ a.setup) (energy : sum ≡ a.ledger.total)
+    (later : HaveNotFallen (slot (core_rack a.core)) (slot (core_rack new))) (writes : new.meta.writes ≡ a.core.meta.writes) (table : new.dirty ≡ a.core.dirty)
+    (commits : CommitsFew (shown_of_array slot a) (shown_with slot a.setup new sum (samples_held a.windows) (sample_of a.served) a.ended) 2)
     (no_disk : a.core.meta.setup.geometry.disks ≤ d → new ≡ a.core)
     (out : (e : ℕ) → d < a.core.meta.setup.geometry.disks → named_out a.core.meta.out ≡ Some e → new ≡ a.core) where
   high : a.core.meta.setup.geometry.disks ≤ d → a.setup.geometry.disks ≤ d
@@ -244,7 +266,7 @@ module _ {R : Type 0} {g : _} (slot : R → ℕ → Slot) (a : Array R g) (new :
   fail_cause None going why taken marks lost =
       let t = taken refl in
       done_cause (shown_of_array slot a) (shown_with slot a.setup new sum (samples_held a.windows) (sample_of a.served) a.ended) (Fail d) takes (quietly_past (low t.0) ∙ no_refusal a.core.meta.out t.1) refl later (Failed d) going (gear_going a.ended new.meta.gear) (record { samples = refl; served = refl })
-      (refl, record { is = marks; energy = λ fits. energy })
+      (refl, record { is = marks; dirty = ap is_dirty table; energy = λ fits. energy }) commits
   fail_cause (Some (FailNoDisk e)) going why taken marks lost =
       still_cause (shown_of_array slot a) (shown_with slot a.setup new sum (samples_held a.windows) (sample_of a.served) a.ended) (Fail d) (NoDisk e) takes
       (past_disks d a.setup.geometry.disks (out_refusal a.core.meta.out) (Some (NoDisk d)) (high why.1) ∙ ap (λ (z : ℕ). Some (NoDisk z)) (sym why.0)) (still (no_disk why.1)) refl going (gear_going a.ended new.meta.gear) (record { samples = refl; served = refl }) later
@@ -252,12 +274,12 @@ module _ {R : Type 0} {g : _} (slot : R → ℕ → Slot) (a : Array R g) (new :
     | inl was ↦ still_cause (shown_of_array slot a) (shown_with slot a.setup new sum (samples_held a.windows) (sample_of a.served) a.ended) (Fail d) (IsOut e) takes
         (quietly_past (low why.0) ∙ out_refuses a.core.meta.out e was) (still (out e why.0 was)) refl going (gear_going a.ended new.meta.gear) (record { samples = refl; served = refl }) later
     | inr now ↦ done_cause (shown_of_array slot a) (shown_with slot a.setup new sum (samples_held a.windows) (sample_of a.served) a.ended) (Fail d) takes (quietly_past (low why.0) ∙ no_refusal a.core.meta.out now.0) refl later (IsOut e) going (gear_going a.ended new.meta.gear) (record { samples = refl; served = refl })
-        (now.2, record { none = now.0; failed = lost e refl now.0; marks = record { is = lost_meta a.core.meta new.meta marks.0 e now.0 now.1 marks.1.lost marks.1.is; energy = λ fits. energy } })
+        (now.2, record { none = now.0; failed = lost e refl now.0; marks = record { is = lost_meta a.core.meta new.meta marks.0 e now.0 now.1 marks.1.lost marks.1.is; dirty = ap is_dirty table; energy = λ fits. energy } }) commits
   ]
 
 -- one that is replaced
-module _ {R : Type 0} {g : _} (slot : R → ℕ → Slot) (a : Array R g) (new : Core R g) (sum : ℕ) (d : ℕ) (takes : Takes (shown_of_array slot a) (Replace d)) (same_setup : a.core.meta.setup ≡ a.setup) (energy : sum ≡ a.energy)
-    (later : HaveNotFallen (slot (core_rack a.core)) (slot (core_rack new))) (writes : new.meta.writes ≡ a.core.meta.writes)
+module _ {R : Type 0} {g : _} (slot : R → ℕ → Slot) (a : Array R g) (new : Core R g) (sum : ℕ) (d : ℕ) (takes : Takes (shown_of_array slot a) (Replace d)) (same_setup : a.core.meta.setup ≡ a.setup) (energy : sum ≡ a.ledger.total)
+    (later : HaveNotFallen (slot (core_rack a.core)) (slot (core_rack new))) (writes : new.meta.writes ≡ a.core.meta.writes) (table : new.dirty ≡ a.core.dirty)
     (no_disk : a.core.meta.setup.geometry.disks ≤ d → new ≡ a.core)
     (in_place : d < a.core.meta.setup.geometry.disks → named_out a.core.meta.out ≢ Some d → new ≡ a.core) where
   low_replace : d < a.core.meta.setup.geometry.disks → d < a.setup.geometry.disks
@@ -288,7 +310,12 @@ module _ {R : Type 0} {g : _} (slot : R → ℕ → Slot) (a : Array R g) (new :
     is = subst (λ (n : Meta). n ≡ record (meta_after_loss a.core.meta d) { epoch = n.epoch; out = state; spins = n.spins }) (sym it.is) refl;
     cleared = it.cleared;
     others = it.others;
+    dirty = ap is_dirty table;
   }
+
+  replace_commits : (commits : ℕ) (state : Out) → commits ≤ 2 → IsReplacedFrom a.core.meta new.meta d commits state
+      → CommitsFew (shown_of_array slot a) (shown_with slot a.setup new sum (samples_held a.windows) (sample_of a.served) a.ended) 2
+  replace_commits commits state under it = commits_by (shown_of_array slot a) (shown_with slot a.setup new sum (samples_held a.windows) (sample_of a.served) a.ended) commits 2 under (ap (λ (m : Meta). m.epoch) it.is)
 
   pub replace_cause : (r : Option ReplaceFault) → halt_of_end a.ended ≡ None → IfSome r (IsReplaceRefused a.core.meta d)
       → (r ≡ None → (d < a.core.meta.setup.geometry.disks) × (named_out a.core.meta.out ≡ Some d) × IsReplacedFrom a.core.meta new.meta d 2 (Fresh d 0))
@@ -297,7 +324,7 @@ module _ {R : Type 0} {g : _} (slot : R → ℕ → Slot) (a : Array R g) (new :
   replace_cause None going why there gone =
       let t = there refl in
       done_cause (shown_of_array slot a) (shown_with slot a.setup new sum (samples_held a.windows) (sample_of a.served) a.ended) (Replace d) takes (is_busy t.0 t.1) refl later (Replaced d) going (gear_going a.ended new.meta.gear) (record { samples = refl; served = refl })
-      (refl, replaces 2 (Fresh d 0) t.2)
+      (refl, replaces 2 (Fresh d 0) t.2) (replace_commits 2 (Fresh d 0) (omega arith) t.2)
   replace_cause (Some (ReplaceNoDisk e)) going why there gone =
       still_cause (shown_of_array slot a) (shown_with slot a.setup new sum (samples_held a.windows) (sample_of a.served) a.ended) (Replace d) (NoDisk e) takes
       (past_disks d a.setup.geometry.disks (if is_out (named_out a.core.meta.out) d then None else Some (NotOut d)) (Some (NoDisk d)) (subst (λ (z : Setup). z.geometry.disks ≤ d) same_setup why.1) ∙ ap (λ (z : ℕ). Some (NoDisk z)) (sym why.0))
@@ -311,6 +338,7 @@ module _ {R : Type 0} {g : _} (slot : R → ℕ → Slot) (a : Array R g) (new :
       let t = gone (ap (λ (z : ℕ). Some (NoFresh z)) why.0) in
       done_cause (shown_of_array slot a) (shown_with slot a.setup new sum (samples_held a.windows) (sample_of a.served) a.ended) (Replace d) takes (is_busy why.1 why.2) refl later (NoFreshAnswer e) going (gear_going a.ended new.meta.gear) (record { samples = refl; served = refl })
       (why.0, t.0, elim t.1 [ inl once ↦ replaces 1 (Gone d) once | inr twice ↦ replaces 2 (Gone d) twice ])
+      (elim t.1 [ inl once ↦ replace_commits 1 (Gone d) (omega arith) once | inr twice ↦ replace_commits 2 (Gone d) (omega arith) twice ])
 
 -- why a shift is refused by the machine, and the disks and phases that refuse it
 up_or : (setup : Setup) (s : PowerState) (next : Option ℕ) (phase : Phase) (out : Out) → next_higher setup.geometry s.gear ≡ next → s.phase ≡ phase → s.out ≡ out
@@ -339,21 +367,21 @@ no_out : (o : Out) → o ≡ No → named_out o ≡ None
 no_out o e = rw e refl
 
 -- what the marks of a begin leave of the meta
-begun_meta : (o : Option ℕ) (m n : Meta) (phase : Phase) (spins : List ℕ) (epoch : ℕ) → n ≡ meta_with_lost o (record (meta_after_begin m phase spins) { epoch = epoch })
+pub begun_meta : (o : Option ℕ) (m n : Meta) (phase : Phase) (spins : List ℕ) (epoch : ℕ) → n ≡ meta_with_lost o (record (meta_after_begin m phase spins) { epoch = epoch })
     → n ≡ record (meta_marked o (record m { phase = phase; fill = 0 })) { epoch = n.epoch; spins = n.spins }
 begun_meta None m n phase spins epoch is = subst (λ (z : Meta). z ≡ record (meta_marked None (record m { phase = phase; fill = 0 })) { epoch = z.epoch; spins = z.spins }) (sym is) refl
 begun_meta (Some d) m n phase spins epoch is = subst (λ (z : Meta). z ≡ record (meta_marked (Some d) (record m { phase = phase; fill = 0 })) { epoch = z.epoch; spins = z.spins }) (sym is) refl
 
-begun_spins : (o : Option ℕ) (m n : Meta) → n ≡ meta_with_lost o m → n.spins ≡ m.spins
+pub begun_spins : (o : Option ℕ) (m n : Meta) → n ≡ meta_with_lost o m → n.spins ≡ m.spins
 begun_spins None m n is = ap (λ (z : Meta). z.spins) is
 begun_spins (Some d) m n is = ap (λ (z : Meta). z.spins) is
 
 -- a disk that was lost is named out then
-named_lost : (m n : Meta) (o : Option ℕ) → n ≡ meta_with_lost o m → (d : ℕ) → o ≡ Some d → named_out n.out ≡ Some d
+pub named_lost : (m n : Meta) (o : Option ℕ) → n ≡ meta_with_lost o m → (d : ℕ) → o ≡ Some d → named_out n.out ≡ Some d
 named_lost m n o is d some = ap (λ (z : Meta). named_out z.out) (is ∙ ap (λ (x : Option ℕ). meta_with_lost x m) some)
 
 -- the spin-ups of the disks that come up
-raised_by : (gear to d now was : ℕ) → (gear ≤ d → d < to → now ≡ was + 1) → ((d < gear) ⊎ (to ≤ d) → now ≡ was) → now ≡ was + spins_up gear to d
+pub raised_by : (gear to d now was : ℕ) → (gear ≤ d → d < to → now ≡ was + 1) → ((d < gear) ⊎ (to ≤ d) → now ≡ was) → now ≡ was + spins_up gear to d
 raised_by gear to d now was raised others = by (nat_le gear d) (nat_lt d to) refl refl
   where
     by : (s t : Bool) → nat_le gear d ≡ s → nat_lt d to ≡ t → now ≡ was + spins_up gear to d
@@ -372,7 +400,7 @@ fault_going (Shifting to) = refl
 fault_going (ShiftOut d) = refl
 fault_going (Ration d) = refl
 
-asked_going : (gear : ℕ) (x : Asked) → halt_told (asked_answer gear x) ≡ None
+pub asked_going : (gear : ℕ) (x : Asked) → halt_told (asked_answer gear x) ≡ None
 asked_going gear (Begun to) = refl
 asked_going gear (Refused f) = fault_going f
 
@@ -391,10 +419,11 @@ asked_counts gear (Refused f) x y same = fault_counts f x y same
 -- a shift that is asked for, by the clauses of its call
 module _ {R : Type 0} {g : _} (slot : R → ℕ → Slot) (a : Array R g) (new : Core R g) (sum : ℕ) (same_setup : a.core.meta.setup ≡ a.setup) (going : halt_of_end a.ended ≡ None)
     (later : HaveNotFallen (slot (core_rack a.core)) (slot (core_rack new))) (writes : new.meta.writes ≡ a.core.meta.writes) (x : Asked)
-    (energy : sum ≡ min (a.energy + asked_energy a.setup a.core.meta.gear x) 18446744073709551615)
-    (failed : named_out a.core.meta.out ≡ None → (d : ℕ) → named_out new.meta.out ≡ Some d → HasRisen (slot (core_rack a.core) d).faults (slot (core_rack new) d).faults) where
+    (energy : sum ≡ min (a.ledger.total + asked_energy a.setup a.core.meta.gear x) 18446744073709551615)
+    (failed : named_out a.core.meta.out ≡ None → (d : ℕ) → named_out new.meta.out ≡ Some d → HasRisen (slot (core_rack a.core) d).faults (slot (core_rack new) d).faults)
+    (table : new.dirty ≡ a.core.dirty) (commits : CommitsFew (shown_of_array slot a) (shown_with slot a.setup new sum (samples_held a.windows) (sample_of a.served) a.ended) 2) where
   uses_nothing : asked_energy a.setup a.core.meta.gear x ≡ 0 → KeepsEnergy (shown_of_array slot a) (shown_with slot a.setup new sum (samples_held a.windows) (sample_of a.served) a.ended)
-  uses_nothing none fits = energy ∙ ap (λ (n : ℕ). min (a.energy + n) 18446744073709551615) none ∙ sym (by a.energy fits)
+  uses_nothing none fits = energy ∙ ap (λ (n : ℕ). min (a.ledger.total + n) 18446744073709551615) none ∙ sym (by a.ledger.total fits)
     where
       by : (n : ℕ) → n ≤ 18446744073709551615 → n ≡ min (n + 0) 18446744073709551615
       by n l = grind (arith)
@@ -414,13 +443,14 @@ module _ {R : Type 0} {g : _} (slot : R → ℕ → Slot) (a : Array R g) (new :
     is = begun_meta marked.lost a.core.meta new.meta phase spins epoch (marked.is ∙ ap (λ (z : Meta). meta_with_lost marked.lost (record (meta_after_begin z phase spins) { epoch = epoch })) same);
     failed = λ d some. failed none d (named_lost (record (meta_after_begin m phase spins) { epoch = epoch }) new.meta marked.lost marked.is d some);
     spins = λ d. ap (λ (l : List ℕ). slice_index l d) (begun_spins marked.lost (record (meta_after_begin m phase spins) { epoch = epoch }) new.meta marked.is) ∙ counts d;
+    dirty = ap is_dirty table;
   }
 
   begun_does : (next : Option ℕ) (B : ℕ → Type 0) (to : ℕ) → next ≡ Some to → named_out a.core.meta.out ≡ None → (y : Asked) → x ≡ y → HasBegunOrLost new.meta to y
       → ((t : ℕ) → y ≡ Begun t → B t) → ((f : ShiftFault) → y ≡ Refused f → (e : ℕ) × IsMarkedFrom (record a.core.meta { epoch = e }) new.meta)
       → DoesShift next B (shown_of_array slot a) (shown_with slot a.setup new sum (samples_held a.windows) (sample_of a.served) a.ended) (asked_answer a.core.meta.gear y)
   begun_does next B to is none (Begun t) same why begun stopped =
-      (begun t refl, refl, is ∙ ap (λ (n : ℕ). Some n) (sym why), writes, energy ∙ ap (λ (z : Asked). min (a.energy + asked_energy a.setup a.core.meta.gear z) 18446744073709551615) same)
+      (begun t refl, refl, is ∙ ap (λ (n : ℕ). Some n) (sym why), writes, energy ∙ ap (λ (z : Asked). min (a.ledger.total + asked_energy a.setup a.core.meta.gear z) 18446744073709551615) same)
   begun_does next B to is none (Refused f) same why begun stopped =
       let marked = stopped f refl in
       subst (λ (z : ShiftFault). DoesShift next B (shown_of_array slot a) (shown_with slot a.setup new sum (samples_held a.windows) (sample_of a.served) a.ended) (fault_answer z)) (sym why.1)
@@ -429,6 +459,7 @@ module _ {R : Type 0} {g : _} (slot : R → ℕ → Slot) (a : Array R g) (new :
         failed = failed none why.0 why.2;
         marks = record {
           is = lost_meta a.core.meta new.meta marked.0 why.0 none why.2 marked.1.lost marked.1.is;
+          dirty = ap is_dirty table;
           energy = uses_nothing (ap (asked_energy a.setup a.core.meta.gear) same);
         };
       })
@@ -450,7 +481,7 @@ module _ {R : Type 0} {g : _} (slot : R → ℕ → Slot) (a : Array R g) (new :
   down_stops : HasMarkedDown a.core.meta new.meta x → (f : ShiftFault) → x ≡ Refused f → (e : ℕ) × IsMarkedFrom (record a.core.meta { epoch = e }) new.meta
   down_stops marks f is = subst (HasMarkedDown a.core.meta new.meta) is marks
 
-  pub up_cause : Takes (shown_of_array slot a) UpEvent → ((f : ShiftFault) (s : PowerState) → IsShiftStateOf a.core.meta s → IsUpRefused a.core.meta.setup s f → ◌≡◌ {A = Result Asked Two} (Ok x) (Ok (Refused f)) × (new ≡ a.core))
+  up_cause : Takes (shown_of_array slot a) UpEvent → ((f : ShiftFault) (s : PowerState) → IsShiftStateOf a.core.meta s → IsUpRefused a.core.meta.setup s f → ◌≡◌ {A = Result Asked Two} (Ok x) (Ok (Refused f)) × (new ≡ a.core))
       → ((to : ℕ) (s : PowerState) → IsShiftStateOf a.core.meta s → MayGoUp a.core.meta.setup s to → HasBegunOrLost new.meta to x) → HasMarkedUp a.core.meta new.meta x → HasCause (shown_of_array slot a) UpEvent (asked_answer a.core.meta.gear x) (shown_with slot a.setup new sum (samples_held a.windows) (sample_of a.served) a.ended)
   up_cause takes refused begins marks =
       let s : PowerState = state_shown (shown_of_array slot a) in
@@ -463,10 +494,10 @@ module _ {R : Type 0} {g : _} (slot : R → ℕ → Slot) (a : Array R g) (new :
             done_cause (shown_of_array slot a) (shown_with slot a.setup new sum (samples_held a.windows) (sample_of a.served) a.ended) UpEvent takes goes.2 refl later (asked_answer a.core.meta.gear x) (going ∙ sym (asked_going a.core.meta.gear x)) (gear_going a.ended new.meta.gear)
             (asked_counts a.core.meta.gear x (shown_of_array slot a) (shown_with slot a.setup new sum (samples_held a.windows) (sample_of a.served) a.ended) (record { samples = refl; served = refl }))
             (begun_does (next_higher a.setup.geometry a.core.meta.gear) (λ to. Begins (shown_of_array slot a) (shown_with slot a.setup new sum (samples_held a.windows) (sample_of a.served) a.ended) (UpPhase to) (spins_up a.core.meta.gear to)) goes.0 goes.1.next (no_out a.core.meta.out goes.1.at_ease.whole) x refl (begins goes.0 s of (subst (λ (z : Setup). MayGoUp z s goes.0) (sym same_setup) goes.1))
-            (up_begins (no_out a.core.meta.out goes.1.at_ease.whole) marks) (up_stops marks))
+            (up_begins (no_out a.core.meta.out goes.1.at_ease.whole) marks) (up_stops marks)) commits
       ]
 
-  pub down_cause : Takes (shown_of_array slot a) DownEvent → ((f : ShiftFault) (s : PowerState) → IsShiftStateOf a.core.meta s → IsDownRefused a.core.meta.setup s f → ◌≡◌ {A = Result Asked Two} (Ok x) (Ok (Refused f)) × (new ≡ a.core))
+  down_cause : Takes (shown_of_array slot a) DownEvent → ((f : ShiftFault) (s : PowerState) → IsShiftStateOf a.core.meta s → IsDownRefused a.core.meta.setup s f → ◌≡◌ {A = Result Asked Two} (Ok x) (Ok (Refused f)) × (new ≡ a.core))
       → ((to : ℕ) (s : PowerState) → IsShiftStateOf a.core.meta s → MayGoDown a.core.meta.setup s to → HasBegunOrLost new.meta to x) → HasMarkedDown a.core.meta new.meta x → HasCause (shown_of_array slot a) DownEvent (asked_answer a.core.meta.gear x) (shown_with slot a.setup new sum (samples_held a.windows) (sample_of a.served) a.ended)
   down_cause takes refused begins marks =
       let s : PowerState = state_shown (shown_of_array slot a) in
@@ -479,8 +510,15 @@ module _ {R : Type 0} {g : _} (slot : R → ℕ → Slot) (a : Array R g) (new :
             done_cause (shown_of_array slot a) (shown_with slot a.setup new sum (samples_held a.windows) (sample_of a.served) a.ended) DownEvent takes goes.2 refl later (asked_answer a.core.meta.gear x) (going ∙ sym (asked_going a.core.meta.gear x)) (gear_going a.ended new.meta.gear)
             (asked_counts a.core.meta.gear x (shown_of_array slot a) (shown_with slot a.setup new sum (samples_held a.windows) (sample_of a.served) a.ended) (record { samples = refl; served = refl }))
             (begun_does (next_lower a.setup.geometry a.core.meta.gear) (λ to. Begins (shown_of_array slot a) (shown_with slot a.setup new sum (samples_held a.windows) (sample_of a.served) a.ended) (DownPhase to) (λ d. 0)) goes.0 goes.1.next (no_out a.core.meta.out goes.1.at_ease.whole) x refl (begins goes.0 s of (subst (λ (z : Setup). MayGoDown z s goes.0) (sym same_setup) goes.1))
-            (down_begins (no_out a.core.meta.out goes.1.at_ease.whole) marks) (down_stops marks))
+            (down_begins (no_out a.core.meta.out goes.1.at_ease.whole) marks) (down_stops marks)) commits
       ]
+
+  -- by the direction of the shift
+  pub asked_cause : (direction : Direction) → Takes (shown_of_array slot a) (asked_event direction) → ((f : ShiftFault) (s : PowerState) → IsShiftStateOf a.core.meta s → IsRefusedTo direction a.core.meta.setup s f → ◌≡◌ {A = Result Asked Two} (Ok x) (Ok (Refused f)) × (new ≡ a.core))
+      → ((to : ℕ) (s : PowerState) → IsShiftStateOf a.core.meta s → MayGo direction a.core.meta.setup s to → HasBegunOrLost new.meta to x) → HasMarkedShift direction a.core.meta new.meta x
+      → HasCause (shown_of_array slot a) (asked_event direction) (asked_answer a.core.meta.gear x) (shown_with slot a.setup new sum (samples_held a.windows) (sample_of a.served) a.ended)
+  asked_cause Upward takes refused begins marks = up_cause takes refused begins marks
+  asked_cause Downward takes refused begins marks = down_cause takes refused begins marks
 
 err_not_ok : {A : Type 0} (two : Two) (x : A) → ◌≡◌ {A = Result A Two} (Err two) (Ok x) → ⊥
 err_not_ok two x is = cc
@@ -494,7 +532,7 @@ below_or d n = by (nat_lt d n) refl
 
 -- where two disks were lost, the event was not one for which nothing is done
 module _ {R : Type 0} {g : _} (slot : R → ℕ → Slot) (a : Array R g) (same_setup : a.core.meta.setup ≡ a.setup) (two : Two) where
-  pub up_busy : (B : ShiftFault → Type 0) → ((f : ShiftFault) (s : PowerState) → IsShiftStateOf a.core.meta s → IsUpRefused a.core.meta.setup s f → ◌≡◌ {A = Result Asked Two} (Err two) (Ok (Refused f)) × B f)
+  up_busy : (B : ShiftFault → Type 0) → ((f : ShiftFault) (s : PowerState) → IsShiftStateOf a.core.meta s → IsUpRefused a.core.meta.setup s f → ◌≡◌ {A = Result Asked Two} (Err two) (Ok (Refused f)) × B f)
       → quiet_answer (shown_of_array slot a) UpEvent ≡ None
   up_busy B refused =
       let s : PowerState = state_shown (shown_of_array slot a) in
@@ -503,7 +541,7 @@ module _ {R : Type 0} {g : _} (slot : R → ℕ → Slot) (a : Array R g) (same_
         | inr goes ↦ goes.2
       ]
 
-  pub down_busy : (B : ShiftFault → Type 0) → ((f : ShiftFault) (s : PowerState) → IsShiftStateOf a.core.meta s → IsDownRefused a.core.meta.setup s f → ◌≡◌ {A = Result Asked Two} (Err two) (Ok (Refused f)) × B f)
+  down_busy : (B : ShiftFault → Type 0) → ((f : ShiftFault) (s : PowerState) → IsShiftStateOf a.core.meta s → IsDownRefused a.core.meta.setup s f → ◌≡◌ {A = Result Asked Two} (Err two) (Ok (Refused f)) × B f)
       → quiet_answer (shown_of_array slot a) DownEvent ≡ None
   down_busy B refused =
       let s : PowerState = state_shown (shown_of_array slot a) in
@@ -511,6 +549,11 @@ module _ {R : Type 0} {g : _} (slot : R → ℕ → Slot) (a : Array R g) (same_
         | inl why ↦ absurd (err_not_ok two (Refused why.0) (refused why.0 s (record { gear = refl; phase = refl; out = refl; spins = refl; ticks = refl }) (subst (λ (z : Setup). IsDownRefused z s why.0) (sym same_setup) why.1)).0)
         | inr goes ↦ goes.2
       ]
+
+  pub asked_busy : (direction : Direction) (B : ShiftFault → Type 0) → ((f : ShiftFault) (s : PowerState) → IsShiftStateOf a.core.meta s → IsRefusedTo direction a.core.meta.setup s f → ◌≡◌ {A = Result Asked Two} (Err two) (Ok (Refused f)) × B f)
+      → quiet_answer (shown_of_array slot a) (asked_event direction) ≡ None
+  asked_busy Upward B refused = up_busy B refused
+  asked_busy Downward B refused = down_busy B refused
 
   pub fail_busy : (d : ℕ) (B : Type 0) → (a.core.meta.setup.geometry.disks ≤ d → ◌≡◌ {A = Result (Option FailFault) Two} (Err two) (Ok (Some (FailNoDisk d))) × B)
       → ((e : ℕ) → d < a.core.meta.setup.geometry.disks → named_out a.core.meta.out ≡ Some e → ◌≡◌ {A = Result (Option FailFault) Two} (Err two) (Ok (Some (FailOut e))) × B) → quiet_answer (shown_of_array slot a) (Fail d) ≡ None
@@ -538,179 +581,3 @@ module _ {R : Type 0} {g : _} (slot : R → ℕ → Slot) (a : Array R g) (same_
 -- the state that an array of so many disks tells
 pub state_answer : (n disks : ℕ) (status shown : Status) → shown ≡ status → disks ≡ n → Some (IsState status n) ≡ Some (IsState shown disks)
 state_answer n disks status shown same few = rw (same, few) refl
-
--- what has begun by the meta
-begins_from : (x y : Shown) (phase : Phase) (spins : List ℕ) (epoch : ℕ) (raised : ℕ → ℕ) → IsMarkedFrom (record (meta_after_begin x.meta phase spins) { epoch = epoch }) y.meta
-    → ((d : ℕ) → named_out y.meta.out ≡ Some d → HasFailed x y d) → ((d : ℕ) → slice_index spins d ≡ slice_index x.meta.spins d + raised d) → Begins x y phase raised
-begins_from x y phase spins epoch raised marked failed counts = record {
-  lost = marked.lost;
-  is = begun_meta marked.lost x.meta y.meta phase spins epoch marked.is;
-  failed = λ d some. failed d (named_lost (record (meta_after_begin x.meta phase spins) { epoch = epoch }) y.meta marked.lost marked.is d some);
-  spins = λ d. ap (λ (l : List ℕ). slice_index l d) (begun_spins marked.lost (record (meta_after_begin x.meta phase spins) { epoch = epoch }) y.meta marked.is) ∙ counts d;
-}
-
--- what a tick uses, with its begin
-two_sums : (used own begun most : ℕ) → min (min (used + own) most + begun) most ≡ min (used + (own + begun)) most
-two_sums used own begun most = grind (arith)
-
--- what a shift sees of an array as it has counted a tick
-pub ticked_state : {R : Type 0} {g : _} (slot : R → ℕ → Slot) (a : Array R g) → IsShiftStateOf (with_tick a.core.meta) (state_shown (shown_ticked (shown_of_array slot a)))
-ticked_state slot a = record { gear = refl; phase = refl; out = refl; spins = refl; ticks = refl }
-
--- A tick, by the clauses of what it does after it has counted itself.
-module _ {R : Type 0} {g : _} (slot : R → ℕ → Slot) (a : Array R g) (new : Core R g) (sum : ℕ) (kept : List ℕ) (same_setup : a.core.meta.setup ≡ a.setup) (count : ℕ) (event : TickEvent)
-    (failed : named_out a.core.meta.out ≡ None → (d : ℕ) → named_out new.meta.out ≡ Some d → HasRisen (slot (core_rack a.core) d).faults (slot (core_rack new) d).faults) where
-  old_shown : Shown
-  old_shown = shown_of_array slot a
-
-  new_shown : Shown
-  new_shown = shown_with slot a.setup new sum kept 0 a.ended
-
-  abbrev rebuild_left : ℕ → ℕ → ℕ
-  rebuild_left d u = units_to_rebuild a.setup (state_shown (shown_of_array slot a)) d u
-
-  left_is : (d u : ℕ) → units_unbuilt (with_tick a.core.meta) d u ≡ rebuild_left d u
-  left_is d u = ap (λ (z : Setup). units_to_rebuild z (state_shown (shown_of_array slot a)) d u) same_setup
-
-  rate_is : a.core.meta.setup.rate ≡ a.setup.rate
-  rate_is = ap (λ (z : Setup). z.rate) same_setup
-
-  -- one that rebuilds disk `d`
-  pub rebuild_by : (d u : ℕ) (e : TickEvent) → event ≡ e → TellsRebuild (with_tick a.core.meta) new.meta d u count e
-      → (e ≡ GoneAgain d → HasRisen (slot (core_rack a.core) d).faults (slot (core_rack new) d).faults)
-      → Rebuilds (units_to_rebuild a.setup (state_shown (shown_of_array slot a)) d u) d u (shown_of_array slot a) (shown_with slot a.setup new sum kept 0 a.ended) count e
-  rebuild_by d u TickSteady is w gone = w
-  rebuild_by d u Waiting is w gone = w
-  rebuild_by d u Moving is w gone = (w.0 ∙ rate_is, subst (λ (r : ℕ). r < rebuild_left d u) rate_is (subst (λ (l : ℕ). a.core.meta.setup.rate < l) (left_is d u) w.1), w.2)
-  rebuild_by d u Flipped is w gone = w
-  rebuild_by d u (TickBegun to) is w gone = w
-  rebuild_by d u (Rebuilt e) is w gone = (w.0, w.1 ∙ left_is d u, subst (λ (r : ℕ). rebuild_left d u ≤ r) rate_is (subst (λ (l : ℕ). l ≤ a.core.meta.setup.rate) (left_is d u) w.2), w.3)
-  rebuild_by d u (GoneAgain e) is w gone = (w.0, w.1, w.2, gone (ap (λ (x : ℕ). GoneAgain x) w.0))
-  rebuild_by d u (Lost e) is w gone = w
-  rebuild_by d u (TickRation e) is w gone = w
-
-  pub moves_by : (e : TickEvent) → named_out a.core.meta.out ≡ None → TellsMove new.meta e → MarksMove (with_tick a.core.meta) new.meta e → MovesOn (shown_of_array slot a) (shown_with slot a.setup new sum kept 0 a.ended) e
-  moves_by TickSteady none w marks = w
-  moves_by Waiting none w marks = w
-  moves_by Moving none w marks = (w, marks.0, marks.1, marks.2)
-  moves_by Flipped none w marks = (w, marks.0, marks.1)
-  moves_by (TickBegun to) none w marks = w
-  moves_by (Rebuilt e) none w marks = w
-  moves_by (GoneAgain e) none w marks = w
-  moves_by (Lost d) none w marks = (w, failed none d w)
-  moves_by (TickRation e) none w marks = w
-
-  begins_up : (to : ℕ) → named_out a.core.meta.out ≡ None → HasTickedUp (with_tick a.core.meta) new.meta to
-      → (next_higher a.setup.geometry a.core.meta.gear ≡ Some to) × Begins (shown_ticked (shown_of_array slot a)) (shown_with slot a.setup new sum kept 0 a.ended) (UpPhase to) (spins_up a.core.meta.gear to)
-  begins_up to none w =
-      let may = subst (λ (z : Setup). MayGoUp z (state_shown (shown_ticked (shown_of_array slot a))) to) same_setup (w.could (state_shown (shown_ticked (shown_of_array slot a))) (ticked_state slot a)) in (
-        may.next,
-        begins_from (shown_ticked (shown_of_array slot a)) (shown_with slot a.setup new sum kept 0 a.ended) (UpPhase to) w.begun.spins (a.core.meta.epoch + 1) (spins_up a.core.meta.gear to) w.begun.is (failed none)
-            (λ d. raised_by a.core.meta.gear to d (slice_index w.begun.spins d) (slice_index a.core.meta.spins d) (w.begun.raised d) (w.begun.others d)),
-      )
-
-  begins_down : (to : ℕ) → named_out a.core.meta.out ≡ None → HasTickedDown (with_tick a.core.meta) new.meta to
-      → (next_lower a.setup.geometry a.core.meta.gear ≡ Some to) × (first_worn a.setup (state_shown (shown_ticked (shown_of_array slot a))) to ≡ None) × Begins (shown_ticked (shown_of_array slot a)) (shown_with slot a.setup new sum kept 0 a.ended) (DownPhase to) (λ d. 0)
-  begins_down to none w =
-      let may = subst (λ (z : Setup). MayGoDown z (state_shown (shown_ticked (shown_of_array slot a))) to) same_setup (w.could (state_shown (shown_ticked (shown_of_array slot a))) (ticked_state slot a)) in (
-        may.next,
-        may.unworn,
-        begins_from (shown_ticked (shown_of_array slot a)) (shown_with slot a.setup new sum kept 0 a.ended) (DownPhase to) a.core.meta.spins (a.core.meta.epoch + 1) (λ d. 0) w.begun (failed none)
-            (λ d. plus_none (slice_index a.core.meta.spins d)),
-      )
-
-  tells_worn : (d : ℕ) → ((s : PowerState) → IsShiftStateOf (with_tick a.core.meta) s → IsDownRefused a.core.meta.setup s (Ration d)) → IsAsBefore (shown_ticked (shown_of_array slot a)) (shown_with slot a.setup new sum kept 0 a.ended)
-      → (to : ℕ) × (next_lower a.setup.geometry a.core.meta.gear ≡ Some to) × (first_worn a.setup (state_shown (shown_ticked (shown_of_array slot a))) to ≡ Some d) × IsAsBefore (shown_ticked (shown_of_array slot a)) (shown_with slot a.setup new sum kept 0 a.ended)
-  tells_worn d w same =
-      let why = subst (λ (z : Setup). IsDownRefused z (state_shown (shown_ticked (shown_of_array slot a))) (Ration d)) same_setup (w (state_shown (shown_ticked (shown_of_array slot a))) (ticked_state slot a)) in
-      (why.0, why.1, why.3, same)
-
-  -- one that begins a shift to the next higher gear begins none to the next lower one
-  begun_up_only : (to : ℕ) → named_out a.core.meta.out ≡ None → next_higher a.setup.geometry a.core.meta.gear ≡ Some to → HasTickedUp (with_tick a.core.meta) new.meta to ⊎ HasTickedDown (with_tick a.core.meta) new.meta to
-      → Begins (shown_ticked (shown_of_array slot a)) (shown_with slot a.setup new sum kept 0 a.ended) (UpPhase to) (spins_up a.core.meta.gear to)
-  begun_up_only to none next w = elim w [
-    | inl up ↦ (begins_up to none up).1
-    | inr down ↦ absurd (next_apart a.setup.geometry a.core.meta.gear to next (begins_down to none down).0)
-  ]
-
-  begun_down_only : (to : ℕ) → named_out a.core.meta.out ≡ None → next_lower a.setup.geometry a.core.meta.gear ≡ Some to → HasTickedUp (with_tick a.core.meta) new.meta to ⊎ HasTickedDown (with_tick a.core.meta) new.meta to
-      → Begins (shown_ticked (shown_of_array slot a)) (shown_with slot a.setup new sum kept 0 a.ended) (DownPhase to) (λ d. 0)
-  begun_down_only to none next w = elim w [
-    | inl up ↦ absurd (next_apart a.setup.geometry a.core.meta.gear to (begins_up to none up).0 next)
-    | inr down ↦ (begins_down to none down).2
-  ]
-
-  -- what the samples ask for
-  abbrev asked_for : Decision
-  asked_for = decision_shown (shown_ticked (shown_of_array slot a))
-
-  -- one of an array at rest
-  decides_by : (made : Decision) → asked_for ≡ made → (e : TickEvent) → named_out a.core.meta.out ≡ None → TellsDecision a.setup (state_shown (shown_ticked (shown_of_array slot a))) made e → TellsRest (with_tick a.core.meta) new.meta e
-      → (IsIdleTick e → IsAsBefore (shown_ticked (shown_of_array slot a)) (shown_with slot a.setup new sum kept 0 a.ended)) → Decides made (shown_ticked (shown_of_array slot a)) (shown_with slot a.setup new sum kept 0 a.ended) e
-  decides_by Stay is e none tells w idle = (tells, idle (subst IsIdleTick (sym tells) tt))
-  decides_by (DecideUp to) is e none tells w idle = (tells, begun_up_only to none (decided_up a.setup a.core.meta.gear (shown_ticked (shown_of_array slot a)).samples to is) (subst (TellsRest (with_tick a.core.meta) new.meta) tells w))
-  decides_by (DecideDown to) is e none tells w idle = by (first_worn a.setup (state_shown (shown_ticked (shown_of_array slot a))) to) tells
-    where
-      by : (worn : Option ℕ) → TellsWorn worn to e → GoesDown worn to (shown_ticked (shown_of_array slot a)) (shown_with slot a.setup new sum kept 0 a.ended) e
-      by None tells = (tells, begun_down_only to none (decided_down a.setup a.core.meta.gear (shown_ticked (shown_of_array slot a)).samples to is) (subst (TellsRest (with_tick a.core.meta) new.meta) tells w))
-      by (Some d) tells = (tells, idle (subst IsIdleTick (sym tells) tt))
-
-  abbrev IsIdleCore : Type 0
-  IsIdleCore = (new.meta ≡ with_tick a.core.meta) × (new.dirty ≡ a.core.dirty) × (slot (core_rack new) ≡ slot (core_rack a.core))
-
-  idle_is : IsIdleCore → IsAsBefore (shown_ticked (shown_of_array slot a)) (shown_with slot a.setup new sum kept 0 a.ended)
-  idle_is same = record { meta = same.0; dirty = ap is_dirty same.1; slot = same.2 }
-
-  shifts_by : (phase : Phase) → a.core.meta.phase ≡ phase → named_out a.core.meta.out ≡ None → (a.core.meta.phase ≢ Steady → TellsMove new.meta event × MarksMove (with_tick a.core.meta) new.meta event)
-      → (a.core.meta.phase ≡ Steady → (count ≡ 0) × TellsRest (with_tick a.core.meta) new.meta event × TellsDecision a.setup (state_shown (shown_ticked (shown_of_array slot a))) (decision_shown (shown_ticked (shown_of_array slot a))) event) → (a.core.meta.phase ≡ Steady → IsIdleTick event → IsIdleCore)
-      → MovesBy phase (shown_of_array slot a) (shown_with slot a.setup new sum kept 0 a.ended) count event
-  shifts_by Steady is none moves rests idle = let w = rests is in (w.0, decides_by asked_for refl event none w.2 w.1 (λ e. idle_is (idle is e)))
-  shifts_by (DownPhase to) is none moves rests idle = let w = moves (λ z. let y : Steady ≡ DownPhase to = sym z ∙ is in cc) in moves_by event none w.0 w.1
-  shifts_by (UpPhase to) is none moves rests idle = let w = moves (λ z. let y : Steady ≡ UpPhase to = sym z ∙ is in cc) in moves_by event none w.0 w.1
-
-  pub ticks_by : (out : Out) → a.core.meta.out ≡ out
-      → ((d : ℕ) → a.core.meta.out ≡ Gone d → (count ≡ 0) × (event ≡ Waiting) × (new.meta.out ≡ Gone d) × (slot (core_rack new) ≡ slot (core_rack a.core)))
-      → ((d u : ℕ) → a.core.meta.out ≡ Fresh d u → TellsRebuild (with_tick a.core.meta) new.meta d u count event)
-      → ((d u : ℕ) → a.core.meta.out ≡ Fresh d u → event ≡ GoneAgain d → HasRisen (slot (core_rack a.core) d).faults (slot (core_rack new) d).faults)
-      → (a.core.meta.out ≡ No → a.core.meta.phase ≢ Steady → TellsMove new.meta event × MarksMove (with_tick a.core.meta) new.meta event)
-      → (a.core.meta.out ≡ No → a.core.meta.phase ≡ Steady → (count ≡ 0) × TellsRest (with_tick a.core.meta) new.meta event × TellsDecision a.setup (state_shown (shown_ticked (shown_of_array slot a))) (decision_shown (shown_ticked (shown_of_array slot a))) event)
-      → (a.core.meta.out ≡ No → a.core.meta.phase ≡ Steady → IsIdleTick event → (new.meta ≡ with_tick a.core.meta) × (new.dirty ≡ a.core.dirty) × (slot (core_rack new) ≡ slot (core_rack a.core)))
-      → TicksBy out (shown_of_array slot a) (shown_with slot a.setup new sum kept 0 a.ended) count event
-  ticks_by No is waits rebuilds gone moves rests idle = shifts_by a.core.meta.phase refl (ap named_out is) (moves is) (rests is) (idle is)
-  ticks_by (Gone d) is waits rebuilds gone moves rests idle = waits d is
-  ticks_by (Fresh d u) is waits rebuilds gone moves rests idle = rebuild_by d u event refl (rebuilds d u is) (gone d u is)
-
--- what it uses
-pub tick_sum : (setup : Setup) (used : ℕ) (s : PowerState) (own sum : ℕ) (report : GearReport) → own ≡ min (used + tick_energy setup s) 18446744073709551615
-    → sum ≡ min (own + begun_energy setup s.gear report.event) 18446744073709551615 → sum ≡ energy_after setup used s (Ticked report)
-tick_sum setup used s own sum report own_is sum_is =
-    sum_is ∙ ap (λ (n : ℕ). min (n + begun_energy setup s.gear report.event) 18446744073709551615) own_is
-    ∙ two_sums used (tick_energy setup s) (begun_energy setup s.gear report.event) 18446744073709551615
-
--- what a tick has moved and did, where it was done
-abbrev done_or : Result (ℕ × TickEvent) Two → ℕ × TickEvent
-done_or (Ok done) = done
-done_or (Err two) = (0, Waiting)
-
-pub ok_moved : (count : ℕ) (event : TickEvent) → ◌≡◌ {A = Result (ℕ × TickEvent) Two} (Ok (count, event)) (Ok (0, Waiting)) → count ≡ 0
-ok_moved count event is = ap (λ (r : Result (ℕ × TickEvent) Two). (done_or r).0) is
-
-pub ok_event : (count : ℕ) (event : TickEvent) → ◌≡◌ {A = Result (ℕ × TickEvent) Two} (Ok (count, event)) (Ok (0, Waiting)) → event ≡ Waiting
-ok_event count event is = ap (λ (r : Result (ℕ × TickEvent) Two). (done_or r).1) is
-
--- the disk that is down by the last commit or the meta is the one that is out by the meta
-known_out : (named out : Option ℕ) → ((d : ℕ) → named ≡ Some d → out ≡ Some d) → (x : ℕ) → or_else named out ≡ Some x → out ≡ Some x
-known_out None out stays x is = is
-known_out (Some d) out stays x is = stays x is
-
-known_down : (named out : Option ℕ) → ((d : ℕ) → named ≡ Some d → out ≡ Some d) → (x : ℕ) → out ≡ Some x → or_else named out ≡ Some x
-known_down None out stays x is = is
-known_down (Some d) out stays x is = sym (stays d refl) ∙ is
-
--- one that is out was so before, or has failed
-pub out_then : (old new : ℕ → Slot) (was now was_named now_named : Option ℕ) → ((d : ℕ) → was_named ≡ Some d → was ≡ Some d) → ((d : ℕ) → now_named ≡ Some d → now ≡ Some d)
-    → IsDownAfter (or_else was_named was) (or_else now_named now) old new → (d : ℕ) → now ≡ Some d → (was ≡ Some d) ⊎ HasRisen (old d).faults (new d).faults
-out_then old new was now was_named now_named was_stays now_stays down d is = elim (down.known d (known_down now_named now now_stays d is)) [
-  | inl before ↦ inl (known_out was_named was was_stays d before)
-  | inr risen ↦ inr risen
-]

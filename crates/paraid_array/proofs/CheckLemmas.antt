@@ -67,21 +67,21 @@ module _ {R : Type 0} {g : _} (count : R → ℕ) (slot : R → ℕ → Slot) (t
   transfers = calls_milder _ _ (data_transfer a.core.meta.setup.geometry.disks (gone_out a.core.meta.out)) _ _ reads
 
   -- all writes were kept before these reads
-  pub count_on : (n : ℕ) → n ≡ a.core.meta.writes → b.ended ≡ None → b.setup ≡ a.setup → b.windows ≡ a.windows → b.served ≡ a.served → b.energy ≡ a.energy → a.core.batch ≡ []
+  pub count_on : (n : ℕ) → n ≡ a.core.meta.writes → b.ended ≡ None → b.setup ≡ a.setup → b.windows ≡ a.windows → b.served ≡ a.served → b.ledger.total ≡ a.ledger.total → a.core.batch ≡ []
       → ((h : History) (lo : ℕ) → Ran (told_of_array told a) (told_of_array told b) (CrashTriple (IsCoreHeld count a.core h lo) (CoreStandsFor count a.core h lo) (CoreStandsFor count b.core h lo)))
       → CoreMarksLost slot a.core b.core → IsCoreReady count slot b.core → b.core.meta.setup ≡ a.core.meta.setup → count (core_rack b.core) ≡ count (core_rack a.core) → b.core.dirty ≡ a.core.dirty
       → AreCopiesSynced b.core.meta.setup.geometry.disks b.core.copied → b.core.batch ≡ [] → GoesOnByEvent count told a b Flush (Flushed n)
   count_on n number ended setup windows served energy nothing_before stands marks ready same slots table copies nothing p at =
       let s : ServesAt count told a p = at.serves going in
-      let k : Service = service_of count a.core s.samples s.requests a.energy in
-      let k_then : Service = service_of count b.core s.samples s.requests b.energy in
+      let k : Service = service_of count a.core s.samples s.requests a.ledger.total in
+      let k_then : Service = service_of count b.core s.samples s.requests b.ledger.total in
       let long : length p.history ≡ n = sym s.stands.stands.keeps.writes ∙ sym number in
       let counts : CountsFlushed k k_then = record { slots = slots; copies_synced = copies; samples = refl; served = refl; energy = energy; table = table; nothing_staged = nothing } in
       let fit = wear_fits (told_of_array told a) k a.setup p s.stands epoch writes in
       let higher = ends_higher (IsCoreHeld count a.core p.history p.low) (CoreStandsFor count a.core p.history p.low) (CoreStandsFor count b.core p.history p.low)
       (IsCoreHeld count a.core p.history (length p.history)) (CoreStandsFor count a.core p.history (length p.history)) (CoreStandsFor count b.core p.history (length p.history))
       (told_of_array told a) (told_of_array told b) (stands p.history p.low) (stands p.history (length p.history)) (full_stands count told a nothing_before p s) in
-      let ran = serves_core count slot told agrees a.core b.core s.samples s.requests a.energy a.setup p s.stands false transfers (λ no. reads) (λ yes. absurd (false≢true yes)) s.samples s.requests b.energy p.history (length p.history) higher marks ready same in
+      let ran = serves_core count slot told agrees a.core b.core s.samples s.requests a.ledger.total a.setup p s.stands false transfers (λ no. reads) (λ yes. absurd (false≢true yes)) s.samples s.requests b.ledger.total p.history (length p.history) higher marks ready same in
       let law = told_turn (told_of_array told a) (told_of_array told b) k k_then a.setup p s.stands p.history (length p.history) Flush (Flushed (length p.history))
       (flush_turn (told_of_array told a) (told_of_array told b) k k_then a.setup p s.stands p.history (length p.history) fit counts refl (omega arith)) ran in
       served_on count told a b p Flush (Flushed n) s.samples s.requests refl (λ e. let z : Flush ≡ Bad = e in cc) ended setup
@@ -89,15 +89,15 @@ module _ {R : Type 0} {g : _} (count : R → ℕ) (slot : R → ℕ → Slot) (t
       (subst (λ (x : ℕ). Ran (told_of_array told a) (told_of_array told b) (GoesOn (count (core_rack a.core)) a.setup p Flush (Flushed x) (StandsAt (told_of_array told b) k_then a.setup))) long law)
 
   -- a second disk was lost in them
-  pub count_lost : (two : Two) → b.energy ≡ a.energy → b.ended ≡ Some (end_by (HaltTwo two) a.core.meta.gear)
+  pub count_lost : (two : Two) → b.ledger.total ≡ a.ledger.total → b.ended ≡ Some (end_by (HaltTwo two) a.core.meta.gear)
       → ((h : History) (lo : ℕ) → Ran (told_of_array told a) (told_of_array told b) (CrashTriple (IsCoreHeld count a.core h lo) (CoreStandsFor count a.core h lo) (IsCoreHeld count a.core h lo)))
       → Ran (told_of_array told a) (told_of_array told b) (TellsTwo (service_of count a.core [] 0 0) two) → GoesOnByEvent count told a b Flush (Halted (HaltTwo two))
   count_lost two energy ended moments tells p at =
       let s : ServesAt count told a p = at.serves going in
-      let k : Service = service_of count a.core s.samples s.requests a.energy in
+      let k : Service = service_of count a.core s.samples s.requests a.ledger.total in
       let fit = wear_fits (told_of_array told a) k a.setup p s.stands epoch writes in
       let same = tells_alike count told a b s.samples s.requests two tells in
-      let loses = loses_core count slot told agrees a.core b.core s.samples s.requests a.energy a.setup p s.stands false transfers (λ no. reads) (λ yes. absurd (false≢true yes)) two (moments p.history p.low) same in
+      let loses = loses_core count slot told agrees a.core b.core s.samples s.requests a.ledger.total a.setup p s.stands false transfers (λ no. reads) (λ yes. absurd (false≢true yes)) two (moments p.history p.low) same in
       ended_on count told a b p Flush (Halted (HaltTwo two)) (end_by (HaltTwo two) a.core.meta.gear) (IsHaltedFrom p (HaltTwo two)) ended
       (λ q is. record {
         halt = ap (λ (z : Point). z.halt) is;

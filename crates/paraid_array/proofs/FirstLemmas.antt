@@ -13,7 +13,7 @@ use Rattle.paraid_array.proofs.StandLemmas.{none_ended, none_some}
 
 module _ {R : Type 0} {g : _} (count : R → ℕ) (told : R → Option Trail) (a : Array R g) where
   -- after a mount
-  pub begins_at : a.ended ≡ None → a.served ≡ 0 → a.energy ≡ 0 → HoldLastSamples a.windows []
+  pub begins_at : a.ended ≡ None → a.served ≡ 0 → a.ledger.total ≡ 0 → HoldLastSamples a.windows []
       → (p : Point) → StandsAt (told_of_array told a) (service_of count a.core [] 0 0) a.setup p → ArrayStandsAt count told a p
   begins_at going served energy windows p at = record {
     serves = λ e. record {
@@ -27,10 +27,10 @@ module _ {R : Type 0} {g : _} (count : R → ℕ) (told : R → Option Trail) (a
   }
 
   -- the energy and the number of writes
-  pub energy_at : (p : Point) → ArrayStandsAt count told a p → a.energy ≡ p.energy
+  pub energy_at : (p : Point) → ArrayStandsAt count told a p → a.ledger.total ≡ p.energy
   energy_at p at = by a.ended refl
     where
-      by : (o : Option Ended) → a.ended ≡ o → a.energy ≡ p.energy
+      by : (o : Option Ended) → a.ended ≡ o → a.ledger.total ≡ p.energy
       by None e = sym (at.serves e).stands.energy
       by (Some x) e = sym (at.halted x e).energy
 

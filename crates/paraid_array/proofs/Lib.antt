@@ -19,4 +19,5 @@ pub mod CountLemmas
 pub mod SettledLemmas
 pub mod BeginLemmas
 pub mod CauseLemmas
+pub mod TickCauseLemmas
 pub mod SampleLemmas

@@ -42,17 +42,17 @@ dirty_same s t rows lo hi same = sum_before_same (row_count s lo hi) (row_count 
 
 module _ {R : Type 0} {g : _} (count : R → ℕ) (told : R → Option Trail) (a : Array R g) (going : halt_of_end a.ended ≡ None) where
   -- the energy and the state
-  pub energy_asked : GoesOnByEvent count told a a AskEnergy (EnergyUsed a.energy)
-  energy_asked = stays_on count told a AskEnergy (EnergyUsed a.energy) going refl (λ e. let z : AskEnergy ≡ Bad = e in cc) refl
-      (λ p samples requests at. subst (λ (x : ℕ). Ran (told_of_array told a) (told_of_array told a) (GoesOn (count (core_rack a.core)) a.setup p AskEnergy (EnergyUsed x) (StandsAt (told_of_array told a) (service_of count a.core samples requests a.energy) a.setup)))
-      at.energy (energy_turn (told_of_array told a) (service_of count a.core samples requests a.energy) a.setup p at))
+  pub energy_asked : GoesOnByEvent count told a a AskEnergy (EnergyUsed a.ledger.total)
+  energy_asked = stays_on count told a AskEnergy (EnergyUsed a.ledger.total) going refl (λ e. let z : AskEnergy ≡ Bad = e in cc) refl
+      (λ p samples requests at. subst (λ (x : ℕ). Ran (told_of_array told a) (told_of_array told a) (GoesOn (count (core_rack a.core)) a.setup p AskEnergy (EnergyUsed x) (StandsAt (told_of_array told a) (service_of count a.core samples requests a.ledger.total) a.setup)))
+      at.energy (energy_turn (told_of_array told a) (service_of count a.core samples requests a.ledger.total) a.setup p at))
 
   pub state_asked : (status : Status) → ((p : Point) → ArrayStandsAt count told a p → status ≡ state_status a.setup (length p.history) p.state) → GoesOnByEvent count told a a AskState (IsState status a.setup.geometry.disks)
   state_asked status is p at =
       let s = at.serves (none_ended a.ended going) in
       served_on count told a a p AskState (IsState status a.setup.geometry.disks) s.samples s.requests refl (λ e. let z : AskState ≡ Bad = e in cc) (none_ended a.ended going) refl s.windows s.served
-      (subst (λ (x : Status). Ran (told_of_array told a) (told_of_array told a) (GoesOn (count (core_rack a.core)) a.setup p AskState (IsState x a.setup.geometry.disks) (StandsAt (told_of_array told a) (service_of count a.core s.samples s.requests a.energy) a.setup))) (sym (is p at))
-      (state_turn (told_of_array told a) (service_of count a.core s.samples s.requests a.energy) a.setup p s.stands))
+      (subst (λ (x : Status). Ran (told_of_array told a) (told_of_array told a) (GoesOn (count (core_rack a.core)) a.setup p AskState (IsState x a.setup.geometry.disks) (StandsAt (told_of_array told a) (service_of count a.core s.samples s.requests a.ledger.total) a.setup))) (sym (is p at))
+      (state_turn (told_of_array told a) (service_of count a.core s.samples s.requests a.ledger.total) a.setup p s.stands))
 
   pub state_told : (status : Status) (disks : ℕ) → disks ≡ a.setup.geometry.disks → ((p : Point) → ArrayStandsAt count told a p → status ≡ state_status a.setup (length p.history) p.state) → GoesOnByEvent count told a a AskState (IsState status disks)
   state_told status disks few is = subst (λ (n : ℕ). GoesOnByEvent count told a a AskState (IsState status n)) (sym few) (state_asked status is)
@@ -61,28 +61,28 @@ module _ {R : Type 0} {g : _} (count : R → ℕ) (told : R → Option Trail) (a
     -- blocks that there are not
     pub read_refused : (block : ℕ) → block_count a.setup ≤ block → GoesOnByEvent count told a a (Read block) (NoBlock block)
     read_refused block past = refuses count told a (Read block) (NoBlock block) going refl (λ e. let z : Read block ≡ Bad = e in cc) refl epoch writes
-        (λ p samples requests at fit. read_missing (told_of_array told a) (service_of count a.core samples requests a.energy) a.setup p at fit block past)
+        (λ p samples requests at fit. read_missing (told_of_array told a) (service_of count a.core samples requests a.ledger.total) a.setup p at fit block past)
 
     pub write_refused : (pairs : Pairs) (block : ℕ) → first_missing (block_count a.setup) (blocks_named (pairs_of pairs)) ≡ Some block → GoesOnByEvent count told a a (Write pairs) (NoBlock block)
     write_refused pairs block missing = refuses count told a (Write pairs) (NoBlock block) going refl (λ e. let z : Write pairs ≡ Bad = e in cc) refl epoch writes
-        (λ p samples requests at fit. write_missing (told_of_array told a) (service_of count a.core samples requests a.energy) a.setup p at fit pairs block missing)
+        (λ p samples requests at fit. write_missing (told_of_array told a) (service_of count a.core samples requests a.ledger.total) a.setup p at fit pairs block missing)
 
     -- disks that are not taken out or replaced
     pub fail_refused : (d : ℕ) → a.setup.geometry.disks ≤ d → GoesOnByEvent count told a a (Fail d) (NoDisk d)
     fail_refused d past = refuses count told a (Fail d) (NoDisk d) going refl (λ e. let z : Fail d ≡ Bad = e in cc) refl epoch writes
-        (λ p samples requests at fit. fail_no_disk (told_of_array told a) (service_of count a.core samples requests a.energy) a.setup p at fit d past)
+        (λ p samples requests at fit. fail_no_disk (told_of_array told a) (service_of count a.core samples requests a.ledger.total) a.setup p at fit d past)
 
     pub fail_beside : (d e : ℕ) → d < a.setup.geometry.disks → named_out a.core.meta.out ≡ Some e → GoesOnByEvent count told a a (Fail d) (IsOut e)
     fail_beside d e low out = refuses count told a (Fail d) (IsOut e) going refl (λ z. let y : Fail d ≡ Bad = z in cc) refl epoch writes
-        (λ p samples requests at fit. fail_out (told_of_array told a) (service_of count a.core samples requests a.energy) a.setup p at fit d e low (ap named_out at.state.out ∙ out))
+        (λ p samples requests at fit. fail_out (told_of_array told a) (service_of count a.core samples requests a.ledger.total) a.setup p at fit d e low (ap named_out at.state.out ∙ out))
 
     pub replace_refused : (d : ℕ) → a.setup.geometry.disks ≤ d → GoesOnByEvent count told a a (Replace d) (NoDisk d)
     replace_refused d past = refuses count told a (Replace d) (NoDisk d) going refl (λ e. let z : Replace d ≡ Bad = e in cc) refl epoch writes
-        (λ p samples requests at fit. replace_no_disk (told_of_array told a) (service_of count a.core samples requests a.energy) a.setup p at fit d past)
+        (λ p samples requests at fit. replace_no_disk (told_of_array told a) (service_of count a.core samples requests a.ledger.total) a.setup p at fit d past)
 
     pub replace_in : (d : ℕ) → d < a.setup.geometry.disks → named_out a.core.meta.out ≢ Some d → GoesOnByEvent count told a a (Replace d) (NotOut d)
     replace_in d low not = refuses count told a (Replace d) (NotOut d) going refl (λ e. let z : Replace d ≡ Bad = e in cc) refl epoch writes
-        (λ p samples requests at fit. replace_not_out (told_of_array told a) (service_of count a.core samples requests a.energy) a.setup p at fit d low (λ is. not (ap named_out (sym at.state.out) ∙ is)))
+        (λ p samples requests at fit. replace_not_out (told_of_array told a) (service_of count a.core samples requests a.ledger.total) a.setup p at fit d low (λ is. not (ap named_out (sym at.state.out) ∙ is)))
 
 abbrev pub status_by : (writes ticks gear : ℕ) (phase : Phase) (dirty fill : ℕ) (out : Out) (spins : List ℕ) → Status
 status_by writes ticks gear phase dirty fill out spins = record { writes = writes; ticks = ticks; gear = gear; phase = phase; dirty = dirty; fill = fill; out = out; spins = spins; halt = None }

@@ -52,7 +52,7 @@ module _ {R : Type 0} {g : _} (count : R → ℕ) (told : R → Option Trail) wh
   pub served_on : (a b : Array R g) (p : Point) (event : Event) (answer : Answer) (samples : List ℕ) (requests : ℕ)
       → halt_told answer ≡ None → event ≢ Bad → b.ended ≡ None → b.setup ≡ a.setup
       → HoldLastSamples b.windows samples → b.served ≡ sample_of requests
-      → Ran (told_of_array told a) (told_of_array told b) (GoesOn (count (core_rack a.core)) a.setup p event answer (StandsAt (told_of_array told b) (service_of count b.core samples requests b.energy) a.setup))
+      → Ran (told_of_array told a) (told_of_array told b) (GoesOn (count (core_rack a.core)) a.setup p event answer (StandsAt (told_of_array told b) (service_of count b.core samples requests b.ledger.total) a.setup))
       → Ran (told_of_array told a) (told_of_array told b) (GoesOn (count (core_rack a.core)) a.setup p event answer (ArrayStandsAt count told b))
   served_on a b p event answer samples requests no_halt not_bad going setup windows served ran t tells =
       let r = ran t tells in
@@ -71,7 +71,7 @@ module _ {R : Type 0} {g : _} (count : R → ℕ) (told : R → Option Trail) wh
               requests = requests;
               windows = windows;
               served = served;
-              stands = subst (λ (z : Setup). StandsAt (told_of_array told b) (service_of count b.core samples requests b.energy) z q) (sym setup) r.holds.2;
+              stands = subst (λ (z : Setup). StandsAt (told_of_array told b) (service_of count b.core samples requests b.ledger.total) z q) (sym setup) r.holds.2;
             };
             halted = λ e some. none_some b.ended e going some;
           },
@@ -80,8 +80,8 @@ module _ {R : Type 0} {g : _} (count : R → ℕ) (told : R → Option Trail) wh
 
   -- An event that was refused: nothing has changed.
   pub stays_on : (a : Array R g) (event : Event) (answer : Answer) → halt_of_end a.ended ≡ None → halt_told answer ≡ None → event ≢ Bad → accepted_write event answer ≡ []
-      → ((p : Point) (samples : List ℕ) (requests : ℕ) → StandsAt (told_of_array told a) (service_of count a.core samples requests a.energy) a.setup p
-      → Ran (told_of_array told a) (told_of_array told a) (GoesOn (count (core_rack a.core)) a.setup p event answer (StandsAt (told_of_array told a) (service_of count a.core samples requests a.energy) a.setup)))
+      → ((p : Point) (samples : List ℕ) (requests : ℕ) → StandsAt (told_of_array told a) (service_of count a.core samples requests a.ledger.total) a.setup p
+      → Ran (told_of_array told a) (told_of_array told a) (GoesOn (count (core_rack a.core)) a.setup p event answer (StandsAt (told_of_array told a) (service_of count a.core samples requests a.ledger.total) a.setup)))
       → GoesOnByEvent count told a a event answer
   stays_on a event answer going no_halt not_bad none law p at =
       let s = at.serves (none_ended a.ended going) in
@@ -91,15 +91,15 @@ module _ {R : Type 0} {g : _} (count : R → ℕ) (told : R → Option Trail) wh
   -- So it is of one that an array takes which has made fewer commits and writes.
   pub refuses : (a : Array R g) (event : Event) (answer : Answer) → halt_of_end a.ended ≡ None → halt_told answer ≡ None → event ≢ Bad → accepted_write event answer ≡ []
       → a.core.meta.epoch < worn_at → a.core.meta.writes < worn_at
-      → ((p : Point) (samples : List ℕ) (requests : ℕ) → StandsAt (told_of_array told a) (service_of count a.core samples requests a.energy) a.setup p → point_wear p < worn_at
-      → Ran (told_of_array told a) (told_of_array told a) (GoesOn (count (core_rack a.core)) a.setup p event answer (StandsAt (told_of_array told a) (service_of count a.core samples requests a.energy) a.setup)))
+      → ((p : Point) (samples : List ℕ) (requests : ℕ) → StandsAt (told_of_array told a) (service_of count a.core samples requests a.ledger.total) a.setup p → point_wear p < worn_at
+      → Ran (told_of_array told a) (told_of_array told a) (GoesOn (count (core_rack a.core)) a.setup p event answer (StandsAt (told_of_array told a) (service_of count a.core samples requests a.ledger.total) a.setup)))
       → GoesOnByEvent count told a a event answer
   refuses a event answer going no_halt not_bad none epoch writes law = stays_on a event answer going no_halt not_bad none
-      (λ p samples requests at. law p samples requests at (wear_fits (told_of_array told a) (service_of count a.core samples requests a.energy) a.setup p at epoch writes))
+      (λ p samples requests at. law p samples requests at (wear_fits (told_of_array told a) (service_of count a.core samples requests a.ledger.total) a.setup p at epoch writes))
 
   -- An event that ended the service.
   pub ended_on : (a b : Array R g) (p : Point) (event : Event) (answer : Answer) (ended : Ended) (P : Point → Type 0)
-      → b.ended ≡ Some ended → ((q : Point) → P q → HasEndedAt ended b.energy q)
+      → b.ended ≡ Some ended → ((q : Point) → P q → HasEndedAt ended b.ledger.total q)
       → Ran (told_of_array told a) (told_of_array told b) (GoesOn (count (core_rack a.core)) a.setup p event answer P)
       → Ran (told_of_array told a) (told_of_array told b) (GoesOn (count (core_rack a.core)) a.setup p event answer (ArrayStandsAt count told b))
   ended_on a b p event answer ended P is ends ran t tells =
@@ -114,7 +114,7 @@ module _ {R : Type 0} {g : _} (count : R → ℕ) (told : R → Option Trail) wh
           r.holds.1,
           record {
             serves = λ none. none_some b.ended ended none is;
-            halted = λ e some. let same : Some ended ≡ Some e = sym is ∙ some in let one : ended ≡ e = cc in subst (λ (x : Ended). HasEndedAt x b.energy r.holds.0) one (ends r.holds.0 r.holds.2);
+            halted = λ e some. let same : Some ended ≡ Some e = sym is ∙ some in let one : ended ≡ e = cc in subst (λ (x : Ended). HasEndedAt x b.ledger.total r.holds.0) one (ends r.holds.0 r.holds.2);
           },
         );
       }
@@ -124,12 +124,12 @@ end_by halt gear = record { halt = halt; gear = gear }
 
 -- An array that takes no more ends its service.
 module _ {R : Type 0} {g : _} (count : R → ℕ) (told : R → Option Trail) (a b : Array R g) (event : Event) (n : ℕ) (going : halt_of_end a.ended ≡ None) (not_bad : event ≢ Bad) (asked : may_halt event ≡ true) (many : worn_at ≤ n)
-    (is : n ≡ max a.core.meta.epoch a.core.meta.writes) (core : b.core ≡ a.core) (energy : b.energy ≡ a.energy) (ended : b.ended ≡ Some (end_by (Worn n) a.core.meta.gear)) where
+    (is : n ≡ max a.core.meta.epoch a.core.meta.writes) (core : b.core ≡ a.core) (energy : b.ledger.total ≡ a.ledger.total) (ended : b.ended ≡ Some (end_by (Worn n) a.core.meta.gear)) where
   pub worn_on : GoesOnByEvent count told a b event (Halted (Worn n))
   worn_on p at =
       let s = at.serves (none_ended a.ended going) in
-      let wear : point_wear p ≡ n = wear_is (told_of_array told a) (service_of count a.core s.samples s.requests a.energy) a.setup p s.stands ∙ sym is in
-      let ran = worn_turn (told_of_array told a) (service_of count a.core s.samples s.requests a.energy) a.setup p s.stands event not_bad asked (subst (λ (x : ℕ). worn_at ≤ x) (sym wear) many) in
+      let wear : point_wear p ≡ n = wear_is (told_of_array told a) (service_of count a.core s.samples s.requests a.ledger.total) a.setup p s.stands ∙ sym is in
+      let ran = worn_turn (told_of_array told a) (service_of count a.core s.samples s.requests a.ledger.total) a.setup p s.stands event not_bad asked (subst (λ (x : ℕ). worn_at ≤ x) (sym wear) many) in
       let named = subst (λ (x : ℕ). Ran (told_of_array told a) (told_of_array told a) (GoesOn (count (core_rack a.core)) a.setup p event (Halted (Worn x)) (λ q. q ≡ with_halt p (Worn x)))) wear ran in
       let moved = subst (λ (c : Core R g). Ran (told_of_array told a) (told (core_rack c)) (GoesOn (count (core_rack a.core)) a.setup p event (Halted (Worn n)) (λ q. q ≡ with_halt p (Worn n)))) (sym core) named in
       ended_on count told a b p event (Halted (Worn n)) (end_by (Worn n) a.core.meta.gear) (λ q. q ≡ with_halt p (Worn n)) ended

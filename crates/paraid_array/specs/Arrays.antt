@@ -65,7 +65,7 @@ halt_of_array array = halt_of_end array.ended
 
 -- the energy that it has used since its mount
 abbrev pub energy_of_array : {R : Type 0} {g : _} → Array R g → ℕ
-energy_of_array array = array.energy
+energy_of_array array = array.ledger.total
 
 -- the last samples, as many as its longest window has
 abbrev pub samples_of_array : {R : Type 0} {g : _} → Array R g → List ℕ
@@ -89,7 +89,7 @@ shown_of_array slot array = record {
   dirty = is_dirty array.core.dirty;
   slot = slot (core_rack array.core);
   gear = gear_of_end array.ended array.core.meta.gear;
-  energy = array.energy;
+  energy = array.ledger.total;
   samples = samples_held array.windows;
   served = sample_of array.served;
   halt = halt_of_end array.ended;
@@ -102,7 +102,7 @@ pub record ServesAt {R : Type 0} {g : _} (count : R → ℕ) (told : R → Optio
   pub requests : ℕ
   pub windows : HoldLastSamples array.windows samples
   pub served : array.served ≡ sample_of requests
-  pub stands : StandsAt (told_of_array told array) (service_of count array.core samples requests array.energy) array.setup p
+  pub stands : StandsAt (told_of_array told array) (service_of count array.core samples requests array.ledger.total) array.setup p
 
 -- Its service has ended: the point tells the halt, the gear before it, and so much energy.
 pub record HasEndedAt (ended : Ended) (used : ℕ) (p : Point) : Type 0 where
@@ -113,7 +113,7 @@ pub record HasEndedAt (ended : Ended) (used : ℕ) (p : Point) : Type 0 where
 -- where an array stands in a session, also after a halt
 pub record ArrayStandsAt {R : Type 0} {g : _} (count : R → ℕ) (told : R → Option Trail) (array : Array R g) (p : Point) : Type 0 where
   pub serves : array.ended ≡ None → ServesAt count told array p
-  pub halted : (ended : Ended) → array.ended ≡ Some ended → HasEndedAt ended array.energy p
+  pub halted : (ended : Ended) → array.ended ≡ Some ended → HasEndedAt ended array.ledger.total p
 
 -- An event takes each point at which the array stood to one at which it stands then.
 abbrev pub GoesOnByEvent : {R : Type 0} {g : _} → (R → ℕ) → (R → Option Trail) → Array R g → Array R g → Event → Answer → Type 0
@@ -131,5 +131,5 @@ pub record AnswersEvent {R : Type 0} {g : _} (count : R → ℕ) (slot : R → �
 -- The dirty cells are then those that this change makes of each state that the array showed, by its meta as it is then.
 abbrev pub ChangesCellsBy : {R : Type 0} {g : _} → (R → ℕ) → Array R g → Array R g → (PowerState → PowerState) → Type 0
 ChangesCellsBy count old new change = (samples : List ℕ) (requests : ℕ) (s : PowerState)
-    → IsStateOf (with_counts_of (service_of count new.core samples requests new.energy) (service_of count old.core samples requests old.energy)) s
+    → IsStateOf (with_counts_of (service_of count new.core samples requests new.ledger.total) (service_of count old.core samples requests old.ledger.total)) s
     → (r d : ℕ) → r < new.core.meta.setup.geometry.rows → is_dirty new.core.dirty r d ≡ (change s).dirty r d

@@ -1,5 +1,5 @@
 -- What a check of an array counts, where its rack tells its record.
-use Rattle.std.specs.Prelude.{◌≡◌, ℕ, ◌^◌, ◌<◌, [], Option, Some, IsSome, Result, Ok, Err}
+use Rattle.std.specs.Prelude.{◌≡◌, ℕ, ◌+◌, ◌^◌, ◌<◌, [], Option, Some, IsSome, Result, Ok, Err}
 use Rattle.paraid_base.specs.declared.event.Answer.{Answer}
 use Rattle.paraid_base.specs.declared.event.Answer.TheVariants.{Flushed, Halted}
 use Rattle.paraid_base.specs.declared.fault.Halt.{Halt}
@@ -52,7 +52,8 @@ pub record CanBeCounted {R : Type 0} {g : Ghosts R} (core : Core R g) : Type 0 w
   pub epoch : core.meta.epoch < 2 ^ 63
   pub copies_synced : AreCopiesSynced core.meta.setup.geometry.disks core.copied
 
--- So it serves on with nothing staged, and the commit names the disk that was out. A disk that was lost is marked.
+-- So it serves on one commit later with nothing staged, and the commit names the disk that was out. A disk that was lost is
+-- marked.
 pub record LeavesCounted {R : Type 0} {g : Ghosts R} (old new : Core R g) : Type 0 where
   pub draft : new.draft ≡ []
   pub table : new.dirty ≡ old.dirty
@@ -61,6 +62,7 @@ pub record LeavesCounted {R : Type 0} {g : Ghosts R} (old new : Core R g) : Type
   pub serves : CanCoreServe g.slot new
   pub setup : new.meta.setup ≡ old.meta.setup
   pub writes : new.meta.writes ≡ old.meta.writes
+  pub epoch : new.meta.epoch ≡ old.meta.epoch + 1
   pub unsynced : AreUnsyncedCopied g.slot old → AreUnsyncedCopied g.slot new
   pub named : named_of new.store ≡ named_out old.meta.out
   pub marks : CoreMarksLost g.slot old new

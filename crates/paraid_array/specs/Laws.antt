@@ -43,10 +43,10 @@ abbrev shown_but : {R : Type 0} {g : _} → (R → ℕ → Slot) → Array R g �
 shown_but slot a z n h l k gear = record { setup = z; meta = a.core.meta; dirty = dirty_of_array a; slot = slot_of_array slot a; gear = gear; energy = n; samples = l; served = k; halt = h }
 
 -- and as it begins it has its own setup, no energy used, no sample, no request and no halt
-pub begins_as : {R : Type 0} {g : _} (slot : R → ℕ → Slot) (a : Array R g) → a.setup ≡ a.core.meta.setup → a.energy ≡ 0 → halt_of_end a.ended ≡ None → samples_of_array a ≡ [] → served_of_array a ≡ 0
+pub begins_as : {R : Type 0} {g : _} (slot : R → ℕ → Slot) (a : Array R g) → a.setup ≡ a.core.meta.setup → a.ledger.total ≡ 0 → halt_of_end a.ended ≡ None → samples_of_array a ≡ [] → served_of_array a ≡ 0
     → shown_of_array slot a ≡ record { setup = a.core.meta.setup; meta = a.core.meta; dirty = dirty_of_array a; slot = slot_of_array slot a; gear = a.core.meta.gear; energy = 0; samples = []; served = 0; halt = None }
 begins_as slot a setup energy going samples served =
-    ap (λ (x : Setup). shown_but slot a x a.energy (halt_of_end a.ended) (samples_of_array a) (served_of_array a) (gear_of_end a.ended a.core.meta.gear)) setup
+    ap (λ (x : Setup). shown_but slot a x a.ledger.total (halt_of_end a.ended) (samples_of_array a) (served_of_array a) (gear_of_end a.ended a.core.meta.gear)) setup
     ∙ ap (λ (x : ℕ). shown_but slot a a.core.meta.setup x (halt_of_end a.ended) (samples_of_array a) (served_of_array a) (gear_of_end a.ended a.core.meta.gear)) energy
     ∙ ap (λ (x : Option Halt). shown_but slot a a.core.meta.setup 0 x (samples_of_array a) (served_of_array a) (gear_of_end a.ended a.core.meta.gear)) going
     ∙ ap (λ (x : List ℕ). shown_but slot a a.core.meta.setup 0 None x (served_of_array a) (gear_of_end a.ended a.core.meta.gear)) samples

@@ -7,6 +7,7 @@ use Rattle.paraid_base.specs.declared.state.Out.{Out}
 use Rattle.paraid_base.specs.declared.state.Out.TheVariants.{No, Gone, Fresh}
 use Rattle.paraid_base.specs.declared.state.Phase.{Phase}
 use Rattle.paraid_base.specs.declared.state.Phase.TheVariants.{Steady, Down, Up}
+use Rattle.paraid_energy.specs.Account.{Account, HasFigures}
 use Rattle.paraid_gear.specs.ThreeWindows.{HoldLastSamples}
 use Rattle.paraid_gear.specs.declared.windows.Windows.{Windows}
 use Rattle.paraid_rack.specs.Slots.{Slot}
@@ -41,3 +42,7 @@ TellsItsWear-prop m halt = hlevel props
 -- that windows hold the last of some samples has one proof (a fact)
 pub HoldLastSamples-prop : (windows : Windows) (samples : List ℕ) → IsProp (HoldLastSamples windows samples)
 HoldLastSamples-prop windows samples = hlevel props
+
+-- that an account has the figures of a setup has one proof (a fact)
+pub HasFigures-prop : (setup : Setup) (account : Account) → IsProp (HasFigures setup account)
+HasFigures-prop setup account = hlevel props

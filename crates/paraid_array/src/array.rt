@@ -1,12 +1,14 @@
 //! An array in service: a core, and what is counted of its events.
 ghost use Rattle.std.specs.Prelude.{◌≡◌, None};
 ghost use Rattle.paraid_core.specs.Cores.{core_rack};
+ghost use Rattle.paraid_energy.specs.Account.{HasFigures};
 ghost use Rattle.paraid_gear.specs.ThreeWindows.{HoldLastSamples, lengths_of};
 ghost use Rattle.paraid_array.specs.Lasting.{IsArrayServing, TellsItsWear, halt_of_end, samples_held};
-ghost use Rattle.paraid_array.specs.Props.{HoldLastSamples-prop, IsArrayServing-prop, TellsItsWear-prop, while_prop};
+ghost use Rattle.paraid_array.specs.Props.{HasFigures-prop, HoldLastSamples-prop, IsArrayServing-prop, TellsItsWear-prop, while_prop};
 
 use crate::ended::Ended;
 use paraid_core::Core;
+use paraid_energy::Ledger;
 use paraid_gear::Windows;
 use paraid_rack::Rack;
 use paraid_record::Setup;
@@ -21,11 +23,13 @@ pub struct Array<R: Rack> {
     pub(crate) slots: u8,
     // the requests since the last tick, as many as a sample may have
     pub(crate) served: u32,
-    pub(crate) energy: u64,
+    // the energy since the mount
+    pub(crate) ledger: Ledger,
     pub(crate) ended: Option<Ended>,
     ghost serving: { ended ≡ None → IsArrayServing R.slot_count R.slot core (lengths_of windows) setup slots } by { while_prop (IsArrayServing-prop R.slot_count R.slot core (lengths_of windows) setup slots) },
     ghost counted: { R.slot_count (core_rack core) ≡ slots },
     ghost worn: { TellsItsWear core.meta (halt_of_end ended) } by { TellsItsWear-prop core.meta (halt_of_end ended) },
+    ghost priced: { HasFigures setup ledger } by { HasFigures-prop setup ledger },
     ghost sampled: { HoldLastSamples windows (samples_held windows) } by { HoldLastSamples-prop windows (samples_held windows) },
 }
 
@@ -62,7 +66,7 @@ impl<R: Rack> Array<R> {
             setup,
             slots,
             served: 0,
-            energy: 0,
+            ledger: Ledger::new(&setup),
             ended: None,
         }
     }
@@ -72,7 +76,7 @@ impl<R: Rack> Array<R> {
         ensures point { (p : Point) → ArrayStandsAt R.slot_count R.told self.now p → result ≡ p.energy }
         ensures value { result ≡ energy_of_array self.now }
     {
-        self.energy
+        self.ledger.total()
     }
 
     /// How many writes it has accepted, while there is no halt.

@@ -1,51 +1,61 @@
-//! The energy of the events of an array, in millijoules.
-ghost use Rattle.std.specs.Prelude.{◌≡◌, ◌^◌, ◌<◌};
-ghost use Rattle.paraid_base.specs.Places.{sum_before};
-ghost use Rattle.paraid_image.specs.Power.{power_beside, power_by_gear};
-ghost use Rattle.paraid_machine.specs.Energy.{begun_energy as energy_begun, energy_at, spin_up_energy as energy_of_spin_ups};
-ghost use Rattle.paraid_array.specs.Used.{used_by};
+//! What the disks of an array use, as its ledger counts it.
+ghost use Rattle.std.specs.Prelude.{◌≡◌, ◌≤◌};
+ghost use Rattle.paraid_energy.specs.Account.{after_tick};
+ghost use Rattle.paraid_rack.specs.declared.call.Power.TheVariants.{Parked, Spinning};
+ghost use Rattle.paraid_array.specs.Used.{begun_spin_ups, disks_with as count_with, one_with as count_one, power_by};
 
 use paraid_base::{DiskNo, TickEvent};
-use paraid_record::{Meta, Setup};
+use paraid_energy::Ledger;
+use paraid_rack::Power;
+use paraid_record::Meta;
 
-// What a disk uses between two ticks.
-fn energy_of_disk(meta: &Meta, disk: DiskNo) -> u64
-    ensures value { result ≡ used_by meta.now disk }
-    ensures small { result < 2 ^ 32 }
+// How a disk is powered by this meta, unless it is gone.
+fn disk_power(meta: &Meta, disk: DiskNo) -> Option<Power>
+    ensures { result ≡ power_by meta.now disk }
 {
     if meta.out.is_gone(disk) {
-        return 0;
+        return None;
     }
     if meta.out.is_fresh(disk) || disk < meta.gear || disk < meta.phase.rising_to() {
-        return meta.setup.spinning_mj as u64;
+        return Some(Power::Spinning);
     }
-    meta.setup.parked_mj as u64
+    Some(Power::Parked)
 }
 
-/// What all disks use between two ticks.
-pub(crate) fn energy_of_tick(meta: &Meta) -> u64
-    ensures { result ≡ sum_before (used_by meta.now) meta.now.setup.geometry.disks }
+// 1 for a disk that is powered so, and 0 for another.
+fn one_with(power: Power, is: Option<Power>) -> u8
+    ensures value { result ≡ count_one power is }
+    ensures few { result ≤ 1 }
 {
-    let mut used = 0;
+    if is == Some(power) { 1 } else { 0 }
+}
+
+// How many disks are powered so.
+fn disks_with(meta: &Meta, power: Power) -> u8
+    ensures { result ≡ count_with meta.now power }
+{
+    let mut count = 0;
     for disk in 0..meta.setup.geometry.disks() {
-        used += energy_of_disk(meta, disk);
+        count += one_with(power, disk_power(meta, disk));
     }
-    used
+    count
 }
 
-/// What the spin-ups of a shift use.
-pub(crate) fn spin_up_energy(setup: &Setup, gear: u8, to: u8) -> u64
-    ensures { result ≡ energy_of_spin_ups setup.now gear to }
+/// Counts what all disks use between two ticks.
+pub(crate) fn count_disks(ledger: &mut Ledger, meta: &Meta)
+    ensures { ledger.new ≡ after_tick ledger.old (count_with meta.now Spinning) (count_with meta.now Parked) }
 {
-    setup.spinup_mj as u64 * to.saturating_sub(gear) as u64
+    let spinning = disks_with(meta, Power::Spinning);
+    let parked = disks_with(meta, Power::Parked);
+    ledger.tick(spinning, parked);
 }
 
-/// What a tick uses beside that, by what it did in this gear.
-pub(crate) fn begun_energy(setup: &Setup, gear: u8, event: TickEvent) -> u64
-    ensures { result ≡ energy_begun setup.now gear event }
+/// How many disks a tick spins up, by what it did in this gear.
+pub(crate) fn spin_ups_begun(gear: u8, event: TickEvent) -> u8
+    ensures { result ≡ begun_spin_ups gear event }
 {
     match event {
-        TickEvent::Begun { to } => spin_up_energy(setup, gear, to),
+        TickEvent::Begun { to } => to.saturating_sub(gear),
         _ => 0,
     }
 }

@@ -102,7 +102,9 @@ impl<R: Rack> Array<R> {
         requires going { halt_of_array self.now ≡ None }
         ensures answers { AnswersEvent R.slot_count R.slot R.told self.now self.now AskEnergy (answer_of result) }
     {
-        Brief::Energy { total: self.energy }
+        Brief::Energy {
+            total: self.energy(),
+        }
     }
 
     // How many commits or writes were made, the greater of the two, where it takes no more.

@@ -9,6 +9,7 @@ use paraid_base::{Halt, Pairs, Status};
 use paraid_rack::Rack;
 use paraid_serve::Serves;
 use paraid_trace::{Answered, Asked, Beside, Brief};
+use paraid_upkeep::Direction;
 
 impl<R: Rack> Array<R> {
     ghost use Rattle.paraid_array.specs.Arrays.{AnswersEvent, halt_of_array};
@@ -51,8 +52,8 @@ impl<R: Rack> Array<R> {
             Asked::Write => Answered::Brief(self.write(pairs)),
             Asked::Flush => Answered::Brief(self.flush_told()),
             Asked::Tick => Answered::Brief(self.tick()),
-            Asked::Up => Answered::Brief(self.up()),
-            Asked::Down => Answered::Brief(self.down()),
+            Asked::Up => Answered::Brief(self.ask(Direction::Up)),
+            Asked::Down => Answered::Brief(self.ask(Direction::Down)),
             Asked::Fail { disk } => Answered::Brief(self.fail(disk)),
             Asked::Replace { disk } => Answered::Brief(self.replace(disk)),
             Asked::State => self.tell_state(beside),

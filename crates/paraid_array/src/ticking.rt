@@ -7,7 +7,7 @@ ghost use Rattle.paraid_trace.specs.Answered.{answer_of};
 
 use crate::Array;
 use crate::ended::Ended;
-use crate::energy::{begun_energy, energy_of_tick};
+use crate::energy::{count_disks, spin_ups_begun};
 use paraid_base::{GearReport, Halt};
 use paraid_rack::Rack;
 use paraid_trace::Brief;
@@ -24,15 +24,13 @@ impl<R: Rack> Array<R> {
         ensures answers { AnswersEvent R.slot_count R.slot R.told self.old self.new TickEvent (answer_of result) }
     {
         let gear = self.core.meta().gear;
-        let used = energy_of_tick(self.core.meta());
+        count_disks(&mut self.ledger, self.core.meta());
         self.core.count_tick();
         self.windows.push(self.served);
         self.served = 0;
-        self.energy = self.energy.saturating_add(used);
         match advance(&mut self.core, &self.windows) {
             Ok((moved, event)) => {
-                let begun = begun_energy(&self.setup, gear, event);
-                self.energy = self.energy.saturating_add(begun);
+                self.ledger.spin_up(spin_ups_begun(gear, event));
                 Brief::Ticked(GearReport {
                     gear: self.core.meta().gear,
                     moved,

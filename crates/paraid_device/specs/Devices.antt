@@ -5,14 +5,12 @@ use Rattle.paraid_base.specs.declared.fault.Halt.{Halt}
 use Rattle.paraid_base.specs.BlockAnswers.{Answers}
 use Rattle.paraid_base.specs.History.{History}
 use Rattle.paraid_rack.specs.Slots.{Slot}
-use Rattle.paraid_rack.specs.Trail.{Trail}
-use Rattle.paraid_record.specs.declared.meta.Setup.{Setup}
 use Rattle.paraid_session.specs.Turn.{Point}
 use Rattle.paraid_serve.specs.declared.serves.Serves.{Ghosts}
 use Rattle.paraid_serve.specs.Calls.{Grows}
 use Rattle.paraid_serve.specs.Causes.{HasCause, Shown}
 use Rattle.paraid_serve.specs.Lost.{HasServedSince}
-use Rattle.paraid_serve.specs.Stretch.{Stretch, Turn}
+use Rattle.paraid_serve.specs.Stretch.{Span, Stretch, Turn, span_of}
 use Rattle.paraid_device.specs.declared.device.Device.{Device}
 
 -- its array
@@ -34,11 +32,15 @@ abbrev pub answers_in : List Turn → Answers
 answers_in [] = []
 answers_in (t ∷ turns) = (t.event, t.answer) ∷ answers_in turns
 
+-- what a session of an array runs over, from one time to another
+abbrev pub span_between : {A : Type 0} (g : Ghosts A) → A → A → Span
+span_between g first now = span_of (g.slots first) (g.setup first) (g.told first) (g.told now)
+
 -- From this point of a session these events were answered so, by the calls from one record to
 -- another, and then the array stands at the end of them.
-pub record AnswersFrom (slots : ℕ) (setup : Setup) (start now : Option Trail) (p : Point) (events : Answers) (stood : Point → Type 0) : Type 0 where
+pub record AnswersFrom (span : Span) (p : Point) (events : Answers) (stood : Point → Type 0) : Type 0 where
   pub asked : List Event
-  pub all : Stretch slots setup start now p asked
+  pub all : Stretch span p asked
   pub answered : answers_in all.turns ≡ events
   pub stands : stood all.end
 
@@ -58,4 +60,4 @@ pub record HasAnswered {A : Type 0} (g : Ghosts A) (first now : A) (events : Ans
   pub causes : HaveAnswerCauses (g.shown first) events (g.shown now)
   pub since : (start : ℕ → Slot) → HasServedSince start (g.slot first) (g.halted first) → HasServedSince start (g.slot now) (g.halted now)
   pub leads : IsSome (g.told now) → (p : Point) → g.stands first p
-      → AnswersFrom (g.slots first) (g.setup first) (g.told first) (g.told now) p events (g.stands now)
+      → AnswersFrom (span_between g first now) p events (g.stands now)

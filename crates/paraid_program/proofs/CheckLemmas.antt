@@ -1,5 +1,6 @@
 -- A check of a mounted array, as a flush of a session.
 use Rattle.std.proofs.Common.{◌≡◌, ℕ, ◌+◌, ◌⊎◌, Bool, true, false, List, [], ◌∷◌, length, Option, Some, IsSome, refl, sym, ◌∙◌, inl, inr, subst, arith, if◌then◌else◌}
+use Rattle.paraid_program.specs.Statuses.{IsOneOf}
 use Rattle.std.specs.Prelude.{◌==◌}
 use Rattle.paraid_base.specs.declared.event.Answer.{Answer}
 use Rattle.paraid_base.specs.declared.event.Answer.TheVariants.{Flushed, Halted}
@@ -19,6 +20,8 @@ use Rattle.paraid_session.specs.Turn.{GoesOn, IsMark, Point}
 use Rattle.paraid_serve.specs.Ending.{EndsWithLine, halt_line, status_of_halt}
 use Rattle.paraid_serve.specs.Calls.{IsNotDouble}
 use Rattle.paraid_serve.specs.Causes.{Shown}
+use Rattle.paraid_serve.specs.Stretch.{span_of}
+use Rattle.paraid_serve.specs.Uses.{RackUse, SinkUse}
 use Rattle.paraid_serve.specs.Lost.{HaltsByTwoLost, HaltsByWear, NamesTwoLost, TellsWear}
 use Rattle.paraid_serve.proofs.ExitLemmas.{stretch_leaves}
 use Rattle.paraid_session.proofs.MountLemmas.{IsMountedFromEach-follows}
@@ -27,49 +30,49 @@ use Rattle.paraid_serve.proofs.StretchLemmas.{stretch_more, stretch_none}
 use Rattle.paraid_program.specs.MountFaults.{mount_fault_status}
 use Rattle.paraid_program.specs.CheckCauses.{HasCheckCauses}
 use Rattle.paraid_program.specs.Counts.{check_line, check_status}
-use Rattle.paraid_program.specs.Ends.{ChecksArray, ChecksFromPoint, CountsArray, IsCheckedStatus, IsEndOver, IsStatusOfCheck, ServedArray, TellsCounts, shown_served}
+use Rattle.paraid_program.specs.Ends.{ChecksArray, ChecksFromPoint, CountsArray, IsEndOver, ServiceStart, TellsCounts, shown_served}
 use Rattle.paraid_program.specs.Ends.TellsCounts.{counted, halted}
-use Rattle.paraid_program.proofs.EndLemmas.{IsRefusedStatus, refused_status}
+use Rattle.paraid_program.proofs.EndLemmas.{IsRefusedStatus, over_span, refused_status}
 
 -- what is told of the flush is a stretch of a session, and what it leaves
 module _ (slots : ℕ) (setup : Setup) (start final : Option Trail) (stood : Point → Type 0) (answer : Answer) (p : Point) (mark : IsMark slots setup p) (here : (t : Trail) → start ≡ Some t → p.disks ≡ now t) where
-  pub checks_from : IsSome start → IsSome final → Ran start final (GoesOn slots setup p Flush answer stood) → ChecksFromPoint slots setup start final answer p
+  pub checks_from : IsSome start → IsSome final → Ran start final (GoesOn slots setup p Flush answer stood) → ChecksFromPoint (span_of slots setup start final) answer p
   checks_from was is goes =
       let none = stretch_none slots setup start p was in
       let more = stretch_more none final Flush answer (λ q. q ≡ p) stood refl (λ q e. subst (λ (z : Point). Ran start final (GoesOn slots setup z Flush answer stood)) (sym e) goes) is in
       record {
         flush = record { all = more.all; before = []; last = record { event = Flush; answer = answer; calls = more.calls }; split = more.turns; answered = refl };
-        left = stretch_leaves slots setup start final p (Flush ∷ []) more.all mark (here more.all.from more.all.was);
+        left = stretch_leaves (span_of slots setup start final) p (Flush ∷ []) more.all mark (here more.all.from more.all.was);
       }
 
-module _ (slots : ℕ) (setup : Setup) (began : ℕ) (start final : Option Trail) (stood stood_then : Point → Type 0) (before after : Option (List ℕ)) (status : ℕ) (Q : CheckReport → Type 0) (was : IsSome final → IsSome start) (mounted : IsMountedFromEach slots setup began start stood) where
-  pub tells_counts : (report : CheckReport) → EndsWithLine before after (check_line report) (check_status report) status
+module _ (slots : ℕ) (setup : Setup) (began : ℕ) (start final : Option Trail) (stood stood_then : Point → Type 0) (kept : SinkUse) (status : ℕ) (Q : CheckReport → Type 0) (was : IsSome final → IsSome start) (mounted : IsMountedFromEach slots setup began start stood) where
+  pub tells_counts : (report : CheckReport) → EndsWithLine kept.written_before kept.written (check_line report) (check_status report) status
       → ((p : Point) → stood p → Ran start final (GoesOn slots setup p Flush (Flushed (length p.history)) stood_then)) → (IsSome final → (p : Point) → stood p → report ≡ no_faults) → Q report
-      → TellsCounts slots setup began start final before after status Q
+      → TellsCounts (span_of slots setup start final) began kept status Q
   tells_counts report end goes sound counts = counted report end counts (λ is. IsMountedFromEach-follows slots setup began start stood _
       (λ p mark here at. (sound is p at, checks_from slots setup start final stood_then (Flushed (length p.history)) p mark here (was is) is (goes p at))) mounted)
 
-  pub tells_halt : (halt : Halt) → EndsWithLine before after (halt_line halt) (status_of_halt halt) status
-      → ((p : Point) → stood p → Ran start final (GoesOn slots setup p Flush (Halted halt) stood_then)) → TellsCounts slots setup began start final before after status Q
+  pub tells_halt : (halt : Halt) → EndsWithLine kept.written_before kept.written (halt_line halt) (status_of_halt halt) status
+      → ((p : Point) → stood p → Ran start final (GoesOn slots setup p Flush (Halted halt) stood_then)) → TellsCounts (span_of slots setup start final) began kept status Q
   tells_halt halt end goes = halted halt end (λ is. IsMountedFromEach-follows slots setup began start stood _
       (λ p mark here at. checks_from slots setup start final stood_then (Halted halt) p mark here (was is) is (goes p at)) mounted)
 
 -- the statuses of a check
-counted_so : (b : Bool) (status n m : ℕ) → (status ≡ 4) ⊎ ((n ≡ m) × (status ≡ (if b then 0 else 13))) → IsCheckedStatus status
+counted_so : (b : Bool) (status n m : ℕ) → (status ≡ 4) ⊎ ((n ≡ m) × (status ≡ (if b then 0 else 13))) → IsOneOf (0 ∷ 4 ∷ 5 ∷ 12 ∷ 13 ∷ []) status
 counted_so true status n m (inl four) = inr (inl four)
 counted_so true status n m (inr all) = inl all.1
 counted_so false status n m (inl four) = inr (inl four)
 counted_so false status n m (inr all) = inr (inr (inr (inr all.1)))
 
-pub counted_status : (report : CheckReport) (before after : Option (List ℕ)) (line : List ℕ) (status : ℕ) → EndsWithLine before after line (check_status report) status → IsCheckedStatus status
+pub counted_status : (report : CheckReport) (before after : Option (List ℕ)) (line : List ℕ) (status : ℕ) → EndsWithLine before after line (check_status report) status → IsOneOf (0 ∷ 4 ∷ 5 ∷ 12 ∷ 13 ∷ []) status
 counted_status report before after line status end = counted_so (report.rows + report.stripes + report.fill + report.units + report.mirrors == 0) status end.count (length line) end.whole
 
-halted_so : (halt : Halt) (status n m : ℕ) → (status ≡ 4) ⊎ ((n ≡ m) × (status ≡ status_of_halt halt)) → IsCheckedStatus status
+halted_so : (halt : Halt) (status n m : ℕ) → (status ≡ 4) ⊎ ((n ≡ m) × (status ≡ status_of_halt halt)) → IsOneOf (0 ∷ 4 ∷ 5 ∷ 12 ∷ 13 ∷ []) status
 halted_so halt status n m (inl four) = inr (inl four)
 halted_so (HaltTwo two) status n m (inr all) = inr (inr (inl all.1))
 halted_so (Worn count) status n m (inr all) = inr (inr (inr (inl all.1)))
 
-pub halted_status : (halt : Halt) (before after : Option (List ℕ)) (line : List ℕ) (status : ℕ) → EndsWithLine before after line (status_of_halt halt) status → IsCheckedStatus status
+pub halted_status : (halt : Halt) (before after : Option (List ℕ)) (line : List ℕ) (status : ℕ) → EndsWithLine before after line (status_of_halt halt) status → IsOneOf (0 ∷ 4 ∷ 5 ∷ 12 ∷ 13 ∷ []) status
 halted_status halt before after line status end = halted_so halt status end.count (length line) end.whole
 
 no_halt : (b : Bool) (status n m : ℕ) → (status ≡ 4) ⊎ ((n ≡ m) × (status ≡ (if b then 0 else 13))) → (status ≡ 5) ⊎ (status ≡ 12) → ⊥
@@ -107,36 +110,34 @@ pub halt_tells_wear : (halt : Halt) (told : Option Halt) (before after : Option 
     → EndsWithLine before after (halt_line halt) (status_of_halt halt) status → status ≡ 12 → TellsWear before after
 halt_tells_wear halt told before after status is by end = tells_wear halt before before after [] status (λ count same. by count (is ∙ same)) (GrowsByBytes-none before) end
 
-pub check_status_of : (status : ℕ) → IsCheckedStatus status → IsStatusOfCheck status
+pub check_status_of : (status : ℕ) → IsOneOf (0 ∷ 4 ∷ 5 ∷ 12 ∷ 13 ∷ []) status → IsOneOf (0 ∷ 4 ∷ 5 ∷ 6 ∷ 7 ∷ 12 ∷ 13 ∷ []) status
 check_status_of status (inl z) = inl z
 check_status_of status (inr (inl z)) = inr (inl z)
 check_status_of status (inr (inr (inl z))) = inr (inr (inl z))
 check_status_of status (inr (inr (inr (inl z)))) = inr (inr (inr (inr (inr (inl z)))))
 check_status_of status (inr (inr (inr (inr z)))) = inr (inr (inr (inr (inr (inr z)))))
 
-check_refused : (status : ℕ) → IsRefusedStatus status → IsStatusOfCheck status
+check_refused : (status : ℕ) → IsRefusedStatus status → IsOneOf (0 ∷ 4 ∷ 5 ∷ 6 ∷ 7 ∷ 12 ∷ 13 ∷ []) status
 check_refused status (inl z) = inr (inl z)
 check_refused status (inr (inl z)) = inr (inr (inl z))
 check_refused status (inr (inr (inl z))) = inr (inr (inr (inl z)))
 check_refused status (inr (inr (inr (inl z)))) = inr (inr (inr (inr (inl z))))
 check_refused status (inr (inr (inr (inr z)))) = inr (inr (inr (inr (inr (inl z)))))
 
-pub check_is_refused : (fault : MountFault) (before after : Option (List ℕ)) (line : List ℕ) (status : ℕ) → EndsWithLine before after line (mount_fault_status fault) status → IsStatusOfCheck status
+pub check_is_refused : (fault : MountFault) (before after : Option (List ℕ)) (line : List ℕ) (status : ℕ) → EndsWithLine before after line (mount_fault_status fault) status → IsOneOf (0 ∷ 4 ∷ 5 ∷ 6 ∷ 7 ∷ 12 ∷ 13 ∷ []) status
 check_is_refused fault before after line status end = check_refused status (refused_status fault before after line status end)
 
 -- over the rack that is handed back
-pub checks_over : (slots slots_now : ℕ) (setup : Setup) (array : ServedArray) (old now slot : ℕ → Slot) (began : ℕ) (middle final after : Option Trail) (w x : Option (List ℕ)) (status : ℕ) → slots_now ≡ slots → setup ≡ array.meta.setup
-    → after ≡ final → slot ≡ now → IsEndOver setup old slot w x status → (status ≡ 13 → IsNotDouble setup now)
-    → (first seen : Shown) → first ≡ shown_served array → seen.slot ≡ slot → HasCheckCauses first seen w x status
-    → TellsCounts slots_now setup began middle final w x status (CountsArray array now middle final) → ChecksArray slots old slot after w x status array began middle
-checks_over slots slots_now setup array old now slot began middle final after w x status e tied f same end found first seen begins ends causes told = record {
+pub checks_over : (rack : RackUse) (sink : SinkUse) (status : ℕ) (service : ServiceStart) (slots : ℕ) (setup : Setup) (now : ℕ → Slot) (final : Option Trail) → slots ≡ rack.slots → setup ≡ service.array.meta.setup
+    → rack.after ≡ final → rack.new ≡ now → IsEndOver setup rack sink status → (status ≡ 13 → IsNotDouble setup now)
+    → (first seen : Shown) → first ≡ shown_served service.array → seen.slot ≡ rack.new → HasCheckCauses first seen sink.written_before sink.written status
+    → TellsCounts (span_of slots setup service.told final) service.began sink status (CountsArray service.array now service.told final) → ChecksArray rack sink status service
+checks_over rack sink status service slots setup now final e tied f same end found first seen begins ends causes told = record {
   seen = seen;
   last = ends;
-  causes = subst (λ (y : Shown). HasCheckCauses y seen w x status) begins causes;
-  told = subst (λ (z : Setup). TellsCounts slots z began middle after w x status (CountsArray array slot middle after)) tied
-      (subst (λ (k : ℕ). TellsCounts k setup began middle after w x status (CountsArray array slot middle after)) e
-      (subst (λ (t : Option Trail). TellsCounts slots_now setup began middle t w x status (CountsArray array slot middle t)) (sym f)
-      (subst (λ (z : ℕ → Slot). TellsCounts slots_now setup began middle final w x status (CountsArray array z middle final)) (sym same) told)));
-  end = subst (λ (z : Setup). IsEndOver z old slot w x status) tied end;
-  found = λ is. subst (λ (z : Setup). IsNotDouble z slot) tied (subst (IsNotDouble setup) (sym same) (found is));
+  causes = subst (λ (y : Shown). HasCheckCauses y seen sink.written_before sink.written status) begins causes;
+  told = over_span rack service slots setup final e tied f (λ span. TellsCounts span service.began sink status (CountsArray service.array rack.new service.told span.now))
+      (subst (λ (z : ℕ → Slot). TellsCounts (span_of slots setup service.told final) service.began sink status (CountsArray service.array z service.told final)) (sym same) told);
+  end = subst (λ (z : Setup). IsEndOver z rack sink status) tied end;
+  found = λ is. subst (λ (z : Setup). IsNotDouble z rack.new) tied (subst (IsNotDouble setup) (sym same) (found is));
 }

@@ -1,5 +1,5 @@
 -- How `nbd` comes out on a rack that held a history.
-use Rattle.std.proofs.Common.{◌≡◌, ℕ, ◌*◌, List, [], ◌∷◌, ◌++◌, Option, Some, None, inr, refl, sym, ap, ◌∙◌, arith}
+use Rattle.std.proofs.Common.{◌≡◌, ℕ, ◌*◌, List, [], ◌∷◌, ◌++◌, Some, None, inr, refl, sym, ap, ◌∙◌, arith}
 use Rattle.paraid_base.specs.declared.event.Answer.{Answer}
 use Rattle.paraid_base.specs.declared.event.Answer.TheVariants.{Halted}
 use Rattle.paraid_base.specs.declared.event.Event.{Event}
@@ -12,27 +12,27 @@ use Rattle.paraid_nbd.specs.declared.ending.NbdEnd.{NbdEnd}
 use Rattle.paraid_nbd.specs.declared.ending.NbdEnd.TheVariants.{Done, Aborted, Closed, Protocol, TooLong, Source, Sink, NoMemory}
 use Rattle.paraid_machine.specs.Machine.{block_count}
 use Rattle.paraid_rack.specs.declared.call.Call.{Call}
-use Rattle.paraid_rack.specs.Slots.{Slot}
 use Rattle.paraid_rack.specs.Trail.{Trail, extend, now}
 use Rattle.paraid_record.specs.declared.meta.Setup.{Setup}
 use Rattle.paraid_recover.specs.Mount.{IsUnstarted}
 use Rattle.paraid_serve.specs.Calls.{IsNotDouble}
-use Rattle.paraid_serve.specs.Stretch.{EndsStretch, Turn}
+use Rattle.paraid_serve.specs.Streams.{streams_of}
+use Rattle.paraid_serve.specs.Stretch.{EndsStretch, Span, Turn}
+use Rattle.paraid_serve.specs.Uses.{RackUse, SinkUse, SourceUse}
 use Rattle.paraid_serve.proofs.StretchLemmas.{some_is}
 use Rattle.paraid_session.specs.Mount.{IsBegun}
 use Rattle.paraid_session.specs.Turn.{Point}
 use Rattle.paraid_service.specs.Clients.{EndsWithStatus, FollowsForClient, IsStatusOfEnd, Keeps, LosesTwo, TakesClient}
-use Rattle.paraid_service.specs.Clients.EndsWithStatus.{broken, halted, kept}
+use Rattle.paraid_service.specs.Clients.EndsWithStatus.{broken, halted, kept as kept_all}
 use Rattle.paraid_service.specs.Clients.IsStatusOfEnd.{flushed, told}
 use Rattle.paraid_service.specs.Ends.{broken_status}
 use Rattle.paraid_program.specs.Clients.{HindersNbd, IsNbdWhole, ServesNbd, ServesNbdOrNot}
-use Rattle.paraid_program.specs.Clients.HindersNbd.{client, other, source}
+use Rattle.paraid_program.specs.Clients.HindersNbd.{client, other, source_failed}
 use Rattle.paraid_program.specs.Clients.ServesNbdOrNot.{mounted, refused}
 use Rattle.paraid_program.specs.Complete.{Completes, HeldHistory}
-use Rattle.paraid_program.specs.Complete.Hinders.{sink}
+use Rattle.paraid_program.specs.Complete.Hinders.{sink_failed}
 use Rattle.paraid_program.specs.Complete.Completes.{hindered, whole}
-use Rattle.paraid_program.specs.Ends.{BeginsAt, IsEndOver, ServedArray}
-use Rattle.paraid_program.specs.Showing.{IsServedBy}
+use Rattle.paraid_program.specs.Ends.{BeginsAt, IsEndOver, IsServed, ServiceStart, served_span}
 use Rattle.paraid_program.proofs.CompleteLemmas.{from_point, halted_comes, refused_comes}
 
 none_some : (n : ℕ) → None ≡ Some n → ⊥
@@ -69,58 +69,58 @@ ends_turns (t ∷ ts) (x ∷ es) e is =
     let r = ends_turns ts es e (rest_is _ _ _ _ is) in
     record { before = t ∷ r.before; last = r.last; split = ap (λ (l : List Turn). t ∷ l) r.split; is = r.is }
 
-keeps_ends : (slots : ℕ) (setup : Setup) (start final : Option Trail) (p : Point) (events : Answers) (event : Event) (answer : Answer) → (k : Keeps slots setup start final p (events ++ (event, answer) ∷ [])) → EndsStretch slots setup start final p k.asked answer
-keeps_ends slots setup start final p events event answer k =
+keeps_ends : (span : Span) (p : Point) (events : Answers) (event : Event) (answer : Answer) → (k : Keeps span p (events ++ (event, answer) ∷ [])) → EndsStretch span p k.asked answer
+keeps_ends span p events event answer k =
     let e = ends_turns k.all.turns events (event, answer) k.answered in
     record { all = k.all; before = e.before; last = e.last; split = e.split; answered = e.is }
 
 -- with no line written, what is known over every rack
-over : (setup : Setup) (old new : ℕ → Slot) (status : ℕ) → (status ≡ 0 → IsNotDouble setup new) → (status ≡ 5 → LosesTwo old new) → IsEndOver setup old new None None status
-over setup old new status present two = record {
+over : (setup : Setup) (rack : RackUse) (kept : SinkUse) (status : ℕ) → (status ≡ 0 → IsNotDouble setup rack.new) → (status ≡ 5 → LosesTwo rack.old rack.new) → IsEndOver setup rack (record kept { written_before = None; written = None }) status
+over setup rack kept status present two = record {
   present = present;
   two = λ five. let l = two five in record { two = l.two; lost = l.lost; text = []; line = record { before = λ s. s; bytes = λ s. cc } };
   worn = λ twelve. record { count = worn_at; many = omega arith; text = []; line = record { before = λ s. s; bytes = λ s. cc } };
 }
 
-module _ {slots : ℕ} {before after : Option Trail} (h : HeldHistory slots before after) (old new : ℕ → Slot) (counted count : ℕ) (status : ℕ) (sunk : status ≡ 4 → HasRisen counted count) (lb l : Option (List ℕ)) (f z : ℕ) (wb w : Option (List ℕ)) (heard : status ≡ 3 → HasRisen f z) where
+module _ {rack : RackUse} (h : HeldHistory rack) (given : SourceUse) (kept : SinkUse) (status : ℕ) (sunk : status ≡ 4 → HasRisen kept.faults_before kept.faults) (heard : status ≡ 3 → HasRisen given.faults_before given.faults) where
   abbrev Whole : Type 0
-  Whole = IsNbdWhole lb l f z wb w counted count
+  Whole = IsNbdWhole given kept
 
   abbrev Hindered : Type 0
-  Hindered = HindersNbd h old new lb l f z wb w counted count status
+  Hindered = HindersNbd h given kept status
 
   abbrev Comes : Type 0
-  Comes = Completes Whole (IsUnstarted old new before after) Hindered status
+  Comes = Completes Whole (IsUnstarted rack.old rack.new rack.before rack.after) Hindered status
 
   -- a client that was broken off
-  by_client : (setup : Setup) (end : NbdEnd) → broken_status end ≡ Some status → TakesClient (512 * block_count setup) lb l wb w f z counted count end → Hindered
+  by_client : (setup : Setup) (end : NbdEnd) → broken_status end ≡ Some status → TakesClient (512 * block_count setup) (streams_of given kept) end → Hindered
   by_client setup Done e taken = absurd (none_some status e)
   by_client setup Aborted e taken = absurd (none_some status e)
   by_client setup Closed e taken = absurd (none_some status e)
   by_client setup (Protocol at) e taken = client setup (Protocol at) e taken
   by_client setup (TooLong bytes) e taken = client setup (TooLong bytes) e taken
-  by_client setup Source e taken = let three = status_is 3 status e in source three (heard three)
-  by_client setup Sink e taken = let four = status_is 4 status e in other (sink four (sunk four))
+  by_client setup Source e taken = let three = status_is 3 status e in source_failed three (heard three)
+  by_client setup Sink e taken = let four = status_is 4 status e in other (sink_failed four (sunk four))
   by_client setup NoMemory e taken = client setup NoMemory e taken
 
-  module _ (array : ServedArray) (began : ℕ) (middle : Option Trail) (stood : IsServedBy slots old array.slot before middle array.meta array.dirty) (begins : BeginsAt before middle after began) (s : ServesNbd slots old new after lb l f z wb w counted count status array began middle) where
-    at_end : IsEndOver array.meta.setup old new None None status
-    at_end = over array.meta.setup old new status s.present s.two
+  module _ (service : ServiceStart) (stood : IsServed rack service) (begins : BeginsAt rack.before service.told rack.after service.began) (s : ServesNbd rack given kept status service) where
+    at_end : IsEndOver service.array.meta.setup rack (record kept { written_before = None; written = None }) status
+    at_end = over service.array.meta.setup rack kept status s.present s.two
 
-    by_session : (base : ℕ → ℕ) (t : Trail) (cs : List Call) (p : Point) → middle ≡ Some t → t ≡ extend h.first cs → IsBegun slots (now h.first) h.said h.history h.low h.down base cs p → h.said.meta.setup ≡ array.meta.setup
-        → (events : Answers) → broken_status s.headline.end ≡ None → EndsWithStatus slots array.meta.setup middle after p events s.headline.end status → Comes
+    by_session : (base : ℕ → ℕ) (t : Trail) (cs : List Call) (p : Point) → service.told ≡ Some t → t ≡ extend h.first cs → IsBegun rack.slots (now h.first) h.said h.history h.low h.down base cs p → h.said.meta.setup ≡ service.array.meta.setup
+        → (events : Answers) → broken_status s.headline.end ≡ None → EndsWithStatus (served_span rack service) p events s.headline.end status → Comes
     by_session base t cs p here split starts same events none (broken e k) = absurd (none_some status (sym none ∙ e))
-    by_session base t cs p here split starts same events none (kept writes e zero k) = whole zero (record { setup = array.meta.setup; end = s.headline.end; taken = s.headline.taken; whole = none })
+    by_session base t cs p here split starts same events none (kept_all writes e zero k) = whole zero (record { setup = service.array.meta.setup; end = s.headline.end; taken = s.headline.taken; whole = none })
     by_session base t cs p here split starts same events none (halted halt e is k) =
-        halted_comes h old new counted count None None status Whole Hindered other sunk array began middle stood begins at_end base t cs p here split starts same k.asked halt (keeps_ends slots array.meta.setup middle after p events Flush (Halted halt) k) is
+        halted_comes h (record kept { written_before = None; written = None }) status Whole Hindered other sunk service stood begins at_end base t cs p here split starts same k.asked halt (keeps_ends (served_span rack service) p events Flush (Halted halt) k) is
 
     by_end : IsStatusOfEnd s.headline.end status → Comes
-    by_end (told e) = hindered (by_client array.meta.setup s.headline.end e s.headline.taken)
+    by_end (told e) = hindered (by_client service.array.meta.setup s.headline.end e s.headline.taken)
     by_end (flushed none fits) =
-        from_point h old new counted count None None status Whole Hindered other sunk array began middle stood begins at_end
-        (FollowsForClient slots array.meta.setup middle after lb l wb w f z counted count status s.headline.end) (s.headline.said (some_is after h.last h.at_last))
+        from_point h (record kept { written_before = None; written = None }) status Whole Hindered other sunk service stood begins at_end
+        (FollowsForClient (served_span rack service) (streams_of given kept) status s.headline.end) (s.headline.said (some_is rack.after h.last h.at_last))
         (λ base t cs p here split starts same x. by_session base t cs p here split starts same x.events none x.session)
 
-  pub nbd_comes : ServesNbdOrNot slots old new before after lb l f z wb w counted count status → Comes
-  nbd_comes (refused fault back is given grows) = refused_comes h old new counted count None None status Whole Hindered other sunk fault back.cause back.refused 0 0 (inr (refl, is))
-  nbd_comes (mounted array began middle stood begins s) = by_end array began middle stood begins s s.headline.ended
+  pub nbd_comes : ServesNbdOrNot rack given kept status → Comes
+  nbd_comes (refused fault back is taken grows) = refused_comes h (record kept { written_before = None; written = None }) status Whole Hindered other sunk fault back.cause back.refused 0 0 (inr (refl, is))
+  nbd_comes (mounted service stood begins s) = by_end service stood begins s s.headline.ended

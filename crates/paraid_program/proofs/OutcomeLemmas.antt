@@ -1,21 +1,20 @@
 -- From why no array was made to what the command ends with.
-use Rattle.std.proofs.Common.{◌≡◌, ◌≢◌, ℕ, Bool, List, Option, arith, inl, inr, refl}
+use Rattle.std.proofs.Common.{◌≡◌, ◌≢◌, ℕ, Bool, List, arith, inl, inr, refl}
 use Rattle.paraid_config.specs.declared.fault.ConfigFault.TheVariants.{Long, NotToml, Unknown, Missing, Kind, Range, Geometry, NoMemory}
 use Rattle.paraid_recover.specs.declared.format_fault.FormatFault.TheVariants.{AlreadyFormatted, Disk}
-use Rattle.paraid_rack.specs.Slots.{Slot}
-use Rattle.paraid_rack.specs.Trail.{Trail}
+use Rattle.paraid_serve.specs.Uses.{RackUse, SourceUse}
 use Rattle.paraid_program.specs.Lines.{refusal_line, refusal_status}
 use Rattle.paraid_program.specs.Outcome.{FormatOutcome, IsFormatStatus, IsRefusalCause}
-use Rattle.paraid_program.specs.Outcome.FormatOutcome.{source, no_memory, config, already, disk}
+use Rattle.paraid_program.specs.Outcome.FormatOutcome.{source_failed, no_memory, config, already, disk}
 use Rattle.paraid_program.specs.declared.refusal.Refusal.{Refusal}
 use Rattle.paraid_program.specs.declared.refusal.Refusal.TheVariants.{Source, Config, Format}
 
-module _ (force : Bool) (slots : ℕ) (old new : ℕ → Slot) (told told_now : Option Trail) (before after : Option (List ℕ)) (faults faults_now : ℕ) where
+module _ (force : Bool) (rack : RackUse) (given : SourceUse) where
   abbrev Came : ℕ → List ℕ → Type 0
-  Came code line = FormatOutcome force slots old new told told_now before after faults faults_now code line
+  Came code line = FormatOutcome force rack given code line
 
-  pub refused : (refusal : Refusal) → IsRefusalCause force slots old new told told_now before after faults faults_now refusal → Came (refusal_status refusal) (refusal_line refusal)
-  refused Source is = source is.0 is.1
+  pub refused : (refusal : Refusal) → IsRefusalCause force rack given refusal → Came (refusal_status refusal) (refusal_line refusal)
+  refused Source is = source_failed is.0 is.1
   refused (Config NoMemory) is = no_memory is.0 is.1
   refused (Config Long) is = config Long (λ e. cc) is.0 is.1
   refused (Config NotToml) is = config NotToml (λ e. cc) is.0 is.1

@@ -1,14 +1,15 @@
 -- How a run ends well, and which status a mount that is refused does not have.
-use Rattle.std.proofs.Common.{◌≡◌, ℕ, ◌⊎◌, List, length, Option, inl, inr, arith}
+use Rattle.std.proofs.Common.{◌≡◌, ℕ, ◌⊎◌, List, length, Option, inl, inr, arith, [], ◌∷◌}
+use Rattle.paraid_program.specs.Statuses.{IsOneOf}
 use Rattle.paraid_base.specs.Told.{AtEnd}
 use Rattle.paraid_serve.specs.Ending.{EndsWithLine}
 use Rattle.paraid_recover.specs.declared.fault.MountFault.{MountFault}
 use Rattle.paraid_recover.specs.declared.fault.MountFault.TheVariants.{NotFormatted, BadLog, BadMeta, Size, Power, Two as TwoDown, Worn, NoMemory}
-use Rattle.paraid_rack.specs.Slots.{Slot}
-use Rattle.paraid_rack.specs.Trail.{Trail}
+use Rattle.paraid_serve.specs.Uses.{RackUse, SinkUse, SourceUse}
+use Rattle.paraid_sparing.specs.Sparing.{Supply}
 use Rattle.paraid_program.specs.MountFaults.{mount_fault_status}
 use Rattle.paraid_program.specs.Spares.{ServesSpares}
-use Rattle.paraid_program.specs.Ends.{IsStatusOfCheck, IsStatusOfGen, MountsAndThen, ServesLines}
+use Rattle.paraid_program.specs.Ends.{MountsAndThen, ServesLines}
 use Rattle.paraid_program.specs.Ends.MountsAndThen.{mounted, refused}
 
 not_done : (fault : MountFault) (status : ℕ) → status ≡ mount_fault_status fault → status ≡ 0 → ⊥
@@ -29,18 +30,16 @@ pub refused_not : (fault : MountFault) (before after : Option (List ℕ)) (line 
 refused_not fault before after line status end zero = refused_so fault status end.count (length line) end.whole zero
 
 -- a run with spares that ends well has taken all of the source
-pub spared_all : (slots : ℕ) (old new first now : ℕ → Slot) (before after final : Option Trail) (left_before left written_before written before_lines after_lines : Option (List ℕ)) (stock wait status : ℕ)
-    → {U : Type 0} → MountsAndThen slots old new before after written_before written status U (ServesSpares slots first now final left_before left before_lines after_lines stock wait status) → status ≡ 0 → AtEnd left
-spared_all slots old new first now before after final left_before left written_before written before_lines after_lines stock wait status (refused fault back end unheard) zero = absurd (refused_not fault written_before written _ status end zero)
-spared_all slots old new first now before after final left_before left written_before written before_lines after_lines stock wait status (mounted array began middle stood begins served) zero = (served.headline.all (inl zero)).1
+pub spared_all : (rack : RackUse) (source : SourceUse) (sink : SinkUse) (supply : Supply) (status : ℕ) → {U : Type 0} → MountsAndThen rack sink status U (ServesSpares rack source sink supply status) → status ≡ 0 → AtEnd source.left
+spared_all rack source sink supply status (refused fault back end unheard) zero = absurd (refused_not fault sink.written_before sink.written _ status end zero)
+spared_all rack source sink supply status (mounted service stood begins served) zero = (served.headline.all (inl zero)).1
 
 -- a run that ends well has taken all of the source
-pub taken_all : (slots : ℕ) (old new first now : ℕ → Slot) (before after final : Option Trail) (left_before left written_before written before_lines after_lines : Option (List ℕ)) (status : ℕ)
-    → {U : Type 0} → MountsAndThen slots old new before after written_before written status U (ServesLines slots first now final left_before left before_lines after_lines status) → status ≡ 0 → AtEnd left
-taken_all slots old new first now before after final left_before left written_before written before_lines after_lines status (refused fault back end unheard) zero = absurd (refused_not fault written_before written _ status end zero)
-taken_all slots old new first now before after final left_before left written_before written before_lines after_lines status (mounted array began middle stood begins served) zero = (served.headline.all (inl zero)).1
+pub taken_all : (rack : RackUse) (source : SourceUse) (sink : SinkUse) (status : ℕ) → {U : Type 0} → MountsAndThen rack sink status U (ServesLines rack source sink status) → status ≡ 0 → AtEnd source.left
+taken_all rack source sink status (refused fault back end unheard) zero = absurd (refused_not fault sink.written_before sink.written _ status end zero)
+taken_all rack source sink status (mounted service stood begins served) zero = (served.headline.all (inl zero)).1
 
-pub not_read : (status : ℕ) → IsStatusOfGen status → status ≡ 3 → ⊥
+pub not_read : (status : ℕ) → IsOneOf (0 ∷ 4 ∷ 5 ∷ 6 ∷ 7 ∷ 12 ∷ []) status → status ≡ 3 → ⊥
 not_read status (inl z) three = omega (arith, z, three)
 not_read status (inr (inl z)) three = omega (arith, z, three)
 not_read status (inr (inr (inl z))) three = omega (arith, z, three)
@@ -48,7 +47,7 @@ not_read status (inr (inr (inr (inl z)))) three = omega (arith, z, three)
 not_read status (inr (inr (inr (inr (inl z))))) three = omega (arith, z, three)
 not_read status (inr (inr (inr (inr (inr z))))) three = omega (arith, z, three)
 
-pub check_not_read : (status : ℕ) → IsStatusOfCheck status → status ≡ 3 → ⊥
+pub check_not_read : (status : ℕ) → IsOneOf (0 ∷ 4 ∷ 5 ∷ 6 ∷ 7 ∷ 12 ∷ 13 ∷ []) status → status ≡ 3 → ⊥
 check_not_read status (inl z) three = omega (arith, z, three)
 check_not_read status (inr (inl z)) three = omega (arith, z, three)
 check_not_read status (inr (inr (inl z))) three = omega (arith, z, three)

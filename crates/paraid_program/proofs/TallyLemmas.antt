@@ -1,5 +1,5 @@
 -- Counting line by line.
-use Rattle.std.proofs.Common.{◌≡◌, ℕ, ◌+◌, ◌*◌, ◌<◌, ◌≤◌, List, [], ◌∷◌, ◌++◌, refl, arith}
+use Rattle.std.proofs.Common.{slice_index, ◌≡◌, ℕ, ◌+◌, ◌*◌, ◌<◌, ◌≤◌, List, [], ◌∷◌, ◌++◌, refl, arith}
 use Rattle.paraid_base.specs.declared.block.Block.{Block}
 use Rattle.paraid_base.specs.declared.event.Answer.{Answer}
 use Rattle.paraid_base.specs.declared.event.Answer.TheVariants.{Value, NoBlock, Wrote, Flushed, Ticked, Shift, Top, Lowest, Shifting, Failed, Replaced, NoDisk, Out as IsOut, NotOut, NoFresh, Ration as RationUsed, State as IsState, Energy as EnergyUsed, Bad as IsBad, Halted}
@@ -10,7 +10,7 @@ use Rattle.paraid_base.specs.declared.state.TickEvent.TheVariants.{Steady, Waiti
 use Rattle.paraid_rack.specs.declared.call.Call.{Call}
 use Rattle.paraid_serve.specs.Stretch.{Turn, turn_with}
 use Rattle.paraid_program.specs.declared.tally.Tally.{Tally}
-use Rattle.paraid_program.specs.Tally.{HasRoomForLine, first_two, empty_tally, tally_of, tally_with_answer, tally_with_event, tally_with_tick}
+use Rattle.paraid_program.specs.Tally.{HasRoomForLine, empty_tally, tally_of, tally_with_answer, tally_with_event, tally_with_tick}
 
 -- at most so many lines were counted, and so many answers
 pub record Fits (t : Tally) (lines answers : ℕ) : Type 0 where
@@ -67,7 +67,7 @@ more_answers t n m f = record {
   sum = omega (arith, f.sum);
 }
 
-first_two_small : (b : Block) → first_two b < 65536
+first_two_small : (b : Block) → 256 * slice_index b.bytes 0 + slice_index b.bytes 1 < 65536
 first_two_small b = omega (arith, b.small 0, b.small 1)
 
 fits_tick : (t : Tally) (e : TickEvent) (n m : ℕ) → Fits t n m → Fits (tally_with_tick t e) n (m + 1)

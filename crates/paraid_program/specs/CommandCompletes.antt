@@ -1,77 +1,72 @@
 -- How each task comes out: all is done, or one of a few causes is told.
-use Rattle.std.specs.Prelude.{◌≡◌, ◌≢◌, ℕ, ◌<◌, Bool, false, List, Option}
-use Rattle.paraid_base.specs.Told.{HasRisen}
+use Rattle.std.specs.Prelude.{◌≡◌, ◌≢◌, ℕ, ◌<◌, ◌⊎◌, Bool, false, List}
+use Rattle.paraid_base.specs.Told.{AtEnd, HasRisen}
 use Rattle.paraid_config.specs.declared.fault.ConfigFault.{ConfigFault}
 use Rattle.paraid_config.specs.declared.fault.ConfigFault.TheVariants.{NoMemory}
+use Rattle.paraid_planning.specs.Planned.{plan_lines}
+use Rattle.paraid_record.specs.declared.meta.Meta.{Meta}
 use Rattle.paraid_recover.specs.Found.{IsGreatest}
+use Rattle.paraid_program.specs.Counts.{check_line}
 use Rattle.paraid_program.specs.Lines.{formatted_line}
 use Rattle.paraid_program.specs.Outcome.{IsArrayMade, IsUntouched}
 use Rattle.paraid_program.specs.Reading.{IsConfigured, IsUnread}
 use Rattle.paraid_program.specs.declared.refusal.Refusal.TheVariants.{Config}
 use Rattle.paraid_rack.specs.Calls.{AreReads}
-use Rattle.paraid_rack.specs.Slots.{Slot}
 use Rattle.paraid_rack.specs.Told.{Ran}
-use Rattle.paraid_rack.specs.Trail.{Trail}
+use Rattle.paraid_scrub.specs.Counts.{no_faults}
+use Rattle.paraid_serve.specs.Ending.{end_line}
+use Rattle.paraid_serve.specs.Uses.{RackUse, SinkUse, SourceUse}
 use Rattle.paraid_record.specs.declared.meta.Setup.{Setup}
 use Rattle.paraid_recover.specs.Mount.{IsUnstarted}
 use Rattle.paraid_program.specs.Clients.{HindersNbd, IsNbdWhole}
-use Rattle.paraid_program.specs.Complete.{Completes, HeldHistory, Hinders, HindersRun, IsCheckWhole, IsGenWhole, IsRunWhole, IsStatusWhole, TellsLast}
-use Rattle.paraid_program.specs.PlanComes.{HindersPlan, IsPlanUnmade, IsPlanWhole}
+use Rattle.paraid_program.specs.Complete.{Completes, HeldHistory, Hinders, HindersRun, IsRunWhole, TellsLast}
+use Rattle.paraid_program.specs.PlanComes.{HindersPlan}
+use Rattle.paraid_program.specs.Showing.{IsServedBy}
+use Rattle.paraid_program.specs.States.{status_lines}
 use Rattle.paraid_words.specs.declared.command.Command.{Command}
 use Rattle.paraid_words.specs.declared.command.Command.TheVariants.{Format, Run, Spare, Status, Check, Gen, Nbd, Vol, Plan}
 
 -- The array that the source describes was made, and its line was told.
-pub record IsFormatWhole (force : Bool) (slots : ℕ) (old new : ℕ → Slot) (before after : Option Trail) (left_before left written_before written : Option (List ℕ)) : Type 0 where
+pub record IsFormatWhole (force : Bool) (rack : RackUse) (source : SourceUse) (sink : SinkUse) : Type 0 where
   pub setup : Setup
-  pub configured : IsConfigured left_before left setup
-  pub made : IsArrayMade force slots old new before after setup
-  pub told : TellsLast written_before written (formatted_line setup)
+  pub configured : IsConfigured source setup
+  pub made : IsArrayMade force rack setup
+  pub told : TellsLast sink (formatted_line setup)
 
--- What hinders a format, with the status that it has then. The counts are those of the source and of the sink.
-pub data HindersFormat (force : Bool) (slots : ℕ) (old new : ℕ → Slot) (before after : Option Trail) (left_before left : Option (List ℕ)) (faults_before faults counted count status : ℕ) : Type 0 where
+-- What hinders a format, with the status that it has then.
+pub data HindersFormat (force : Bool) (rack : RackUse) (source : SourceUse) (sink : SinkUse) (status : ℕ) : Type 0 where
   -- the source has failed
-  source : status ≡ 3 → HasRisen faults_before faults → HindersFormat force slots old new before after left_before left faults_before faults counted count status
+  source_failed : status ≡ 3 → HasRisen source.faults_before source.faults → HindersFormat force rack source sink status
   -- the sink has failed
-  sink : status ≡ 4 → HasRisen counted count → HindersFormat force slots old new before after left_before left faults_before faults counted count status
+  sink_failed : status ≡ 4 → HasRisen sink.faults_before sink.faults → HindersFormat force rack source sink status
   -- what the source gave is no configuration, for this cause
-  config : status ≡ 8 → (fault : ConfigFault) → fault ≢ NoMemory → IsUnread left_before left faults_before faults (Config fault)
-      → HindersFormat force slots old new before after left_before left faults_before faults counted count status
+  config : status ≡ 8 → (fault : ConfigFault) → fault ≢ NoMemory → IsUnread source (Config fault) → HindersFormat force rack source sink status
   -- it was not forced, and a log disk belonged to an array
-  claimed : status ≡ 9 → force ≡ false → (epoch : ℕ) → Ran before after (λ start calls. AreReads calls × IsGreatest start epoch)
-      → HindersFormat force slots old new before after left_before left faults_before faults counted count status
+  claimed : status ≡ 9 → force ≡ false → (epoch : ℕ) → Ran rack.before rack.after (λ start calls. AreReads calls × IsGreatest start epoch)
+      → HindersFormat force rack source sink status
   -- a disk has failed
-  disk : status ≡ 11 → (d : ℕ) → HasRisen (old d).faults (new d).faults
-      → HindersFormat force slots old new before after left_before left faults_before faults counted count status
+  disk : status ≡ 11 → (d : ℕ) → HasRisen (rack.old d).faults (rack.new d).faults → HindersFormat force rack source sink status
   -- the rack has fewer slots than the array has disks
-  few : status ≡ 11 → (setup : Setup) → IsConfigured left_before left setup → slots < setup.geometry.disks
-      → HindersFormat force slots old new before after left_before left faults_before faults counted count status
+  few : status ≡ 11 → (setup : Setup) → IsConfigured source setup → rack.slots < setup.geometry.disks → HindersFormat force rack source sink status
 
 -- How a task comes out. A format does so whatever the rack held, and the others where it told its calls and held a history.
-abbrev pub CompletesCommand : ℕ → (ℕ → Slot) → (ℕ → Slot) → Option Trail → Option Trail → Option (List ℕ) → Option (List ℕ) → ℕ → ℕ → ℕ → ℕ → Option (List ℕ) → Option (List ℕ) → ℕ → Command → Type 0
-CompletesCommand slots old new before after left_before left faults_before faults counted count written_before written status (Format force) =
-    Completes (IsFormatWhole force slots old new before after left_before left written_before written) (IsUntouched old new before after)
-    (HindersFormat force slots old new before after left_before left faults_before faults counted count status) status
-CompletesCommand slots old new before after left_before left faults_before faults counted count written_before written status Run =
-    (h : HeldHistory slots before after) → Completes (IsRunWhole left written_before written) (IsUnstarted old new before after)
-    (HindersRun h old new faults_before faults counted count left_before left written_before written status) status
-CompletesCommand slots old new before after left_before left faults_before faults counted count written_before written status (Spare stock wait) =
-    (h : HeldHistory slots before after) → Completes (IsRunWhole left written_before written) (IsUnstarted old new before after)
-    (HindersRun h old new faults_before faults counted count left_before left written_before written status) status
-CompletesCommand slots old new before after left_before left faults_before faults counted count written_before written status Status =
-    (h : HeldHistory slots before after) → Completes (IsStatusWhole written_before written) (IsUnstarted old new before after)
-    (Hinders h old new counted count written_before written status) status
-CompletesCommand slots old new before after left_before left faults_before faults counted count written_before written status Check =
-    (h : HeldHistory slots before after) → Completes (IsCheckWhole written_before written) (IsUnstarted old new before after)
-    (Hinders h old new counted count written_before written status) status
-CompletesCommand slots old new before after left_before left faults_before faults counted count written_before written status (Gen number lines) =
-    (h : HeldHistory slots before after) → Completes (IsGenWhole written_before written) (IsUnstarted old new before after)
-    (Hinders h old new counted count written_before written status) status
-CompletesCommand slots old new before after left_before left faults_before faults counted count written_before written status Nbd =
-    (h : HeldHistory slots before after) → Completes (IsNbdWhole left_before left faults_before faults written_before written counted count) (IsUnstarted old new before after)
-    (HindersNbd h old new left_before left faults_before faults written_before written counted count status) status
-CompletesCommand slots old new before after left_before left faults_before faults counted count written_before written status Vol =
-    (h : HeldHistory slots before after) → Completes (IsRunWhole left written_before written) (IsUnstarted old new before after)
-    (HindersRun h old new faults_before faults counted count left_before left written_before written status) status
-CompletesCommand slots old new before after left_before left faults_before faults counted count written_before written status (Plan ups) =
-    (h : HeldHistory slots before after) → Completes (IsPlanWhole left written_before written) (IsPlanUnmade slots old new before after)
-    (HindersPlan h old new faults_before faults counted count left_before left written_before written status) status
+abbrev pub CompletesCommand : RackUse → SourceUse → SinkUse → ℕ → Command → Type 0
+CompletesCommand rack source sink status (Format force) =
+    Completes (IsFormatWhole force rack source sink) (IsUntouched rack) (HindersFormat force rack source sink status) status
+CompletesCommand rack source sink status Run =
+    (h : HeldHistory rack) → Completes (IsRunWhole source sink) (IsUnstarted rack.old rack.new rack.before rack.after) (HindersRun h source sink status) status
+CompletesCommand rack source sink status (Spare stock wait) =
+    (h : HeldHistory rack) → Completes (IsRunWhole source sink) (IsUnstarted rack.old rack.new rack.before rack.after) (HindersRun h source sink status) status
+CompletesCommand rack source sink status Status =
+    (h : HeldHistory rack) → Completes ((meta : Meta) × (dirty : ℕ → ℕ → Bool) × TellsLast sink (status_lines meta dirty)) (IsUnstarted rack.old rack.new rack.before rack.after) (Hinders h sink status) status
+CompletesCommand rack source sink status Check =
+    (h : HeldHistory rack) → Completes (TellsLast sink (check_line no_faults)) (IsUnstarted rack.old rack.new rack.before rack.after) (Hinders h sink status) status
+CompletesCommand rack source sink status (Gen number lines) =
+    (h : HeldHistory rack) → Completes ((writes : ℕ) × TellsLast sink (end_line writes)) (IsUnstarted rack.old rack.new rack.before rack.after) (Hinders h sink status) status
+CompletesCommand rack source sink status Nbd =
+    (h : HeldHistory rack) → Completes (IsNbdWhole source sink) (IsUnstarted rack.old rack.new rack.before rack.after) (HindersNbd h source sink status) status
+CompletesCommand rack source sink status Vol =
+    (h : HeldHistory rack) → Completes (IsRunWhole source sink) (IsUnstarted rack.old rack.new rack.before rack.after) (HindersRun h source sink status) status
+CompletesCommand rack source sink status (Plan ups) =
+    (h : HeldHistory rack) → Completes (AtEnd source.left × (cost : ℕ) × (gears : List ℕ) × TellsLast sink (plan_lines cost gears))
+    (IsUnstarted rack.old rack.new rack.before rack.after ⊎ ((meta : Meta) × (dirty : ℕ → ℕ → Bool) × IsServedBy rack meta dirty)) (HindersPlan h source sink status) status

@@ -1,38 +1,31 @@
 -- How the program may end, over every source, sink and rack.
-use Rattle.std.specs.Prelude.{ℕ, List, Option}
+use Rattle.std.specs.Prelude.{ℕ, [], ◌∷◌}
+use Rattle.paraid_program.specs.Statuses.{IsOneOf}
 use Rattle.paraid_program.specs.Outcome.{Formats}
-use Rattle.paraid_rack.specs.Slots.{Slot}
-use Rattle.paraid_rack.specs.Trail.{Trail}
+use Rattle.paraid_serve.specs.Uses.{RackUse, SinkUse, SourceUse}
 use Rattle.paraid_program.specs.Showing.{Shows}
-use Rattle.paraid_program.specs.Clients.{IsStatusOfNbd, ServesNbdOrNot}
-use Rattle.paraid_program.specs.Planning.{IsPlanStatus, PlanOutcome}
+use Rattle.paraid_program.specs.Clients.{ServesNbdOrNot}
+use Rattle.paraid_program.specs.Planning.{PlanOutcome}
+use Rattle.paraid_sparing.specs.Session.{fresh_stock}
 use Rattle.paraid_program.specs.Spares.{ServesSpares}
 use Rattle.paraid_program.specs.Volumes.{ServesVolumes}
-use Rattle.paraid_program.specs.Ends.{ChecksArray, IsStatusOfCheck, IsStatusOfGen, IsStatusOfRun, IsUnheard, MountsAndThen, ServesGenerated, ServesLines}
+use Rattle.paraid_program.specs.Ends.{ChecksArray, IsUnheard, MountsAndThen, ServesGenerated, ServesLines}
 use Rattle.paraid_words.specs.declared.command.Command.{Command}
 use Rattle.paraid_words.specs.declared.command.Command.TheVariants.{Format, Run, Spare, Status, Check, Gen, Nbd, Vol, Plan}
 
--- What the program does on a command: by the number of slots, the slots before and after it, the records
--- of the rack, what is left of the source, its faults, those of the sink, what was written, and the status.
-abbrev pub DoesCommand : ℕ → (ℕ → Slot) → (ℕ → Slot) → Option Trail → Option Trail → Option (List ℕ) → Option (List ℕ) → ℕ → ℕ → ℕ → ℕ → Option (List ℕ) → Option (List ℕ) → ℕ → Command → Type 0
-DoesCommand slots old new before after left_before left faults_before faults counted count written_before written status (Format force) =
-    Formats force slots old new before after left_before left faults_before faults written_before written status
-DoesCommand slots old new before after left_before left faults_before faults counted count written_before written status Run =
-    MountsAndThen slots old new before after written_before written status (IsUnheard left_before left faults_before faults) (ServesLines slots old new after left_before left written_before written status) × IsStatusOfRun status
-DoesCommand slots old new before after left_before left faults_before faults counted count written_before written status (Spare stock wait) =
-    MountsAndThen slots old new before after written_before written status (IsUnheard left_before left faults_before faults) (ServesSpares slots old new after left_before left written_before written stock wait status) × IsStatusOfRun status
-DoesCommand slots old new before after left_before left faults_before faults counted count written_before written status Status =
-    Shows slots old new before after written_before written status
-DoesCommand slots old new before after left_before left faults_before faults counted count written_before written status Check =
-    MountsAndThen slots old new before after written_before written status (Unit {0}) (ChecksArray slots old new after written_before written status) × IsStatusOfCheck status
-DoesCommand slots old new before after left_before left faults_before faults counted count written_before written status (Gen number lines) =
-    MountsAndThen slots old new before after written_before written status (Unit {0}) (ServesGenerated slots old new after written_before written number lines status) × IsStatusOfGen status
-DoesCommand slots old new before after left_before left faults_before faults counted count written_before written status Nbd =
-    ServesNbdOrNot slots old new before after left_before left faults_before faults written_before written counted count status × IsStatusOfNbd status
-DoesCommand slots old new before after left_before left faults_before faults counted count written_before written status Vol =
-    MountsAndThen slots old new before after written_before written status (IsUnheard left_before left faults_before faults) (ServesVolumes slots old new after left_before left written_before written status) × IsStatusOfRun status
-DoesCommand slots old new before after left_before left faults_before faults counted count written_before written status (Plan ups) =
-    PlanOutcome slots old new before after left_before left faults_before faults written_before written ups status × IsPlanStatus status
+-- What the program does on a command: to the rack, the source and the sink, and with which status.
+abbrev pub DoesCommand : RackUse → SourceUse → SinkUse → ℕ → Command → Type 0
+DoesCommand rack source sink status (Format force) = Formats force rack source sink status
+DoesCommand rack source sink status Run = MountsAndThen rack sink status (IsUnheard source) (ServesLines rack source sink status) × IsOneOf (0 ∷ 3 ∷ 4 ∷ 5 ∷ 6 ∷ 7 ∷ 10 ∷ 12 ∷ []) status
+DoesCommand rack source sink status (Spare stock wait) =
+    MountsAndThen rack sink status (IsUnheard source) (ServesSpares rack source sink (record { wait = wait; stock = fresh_stock stock }) status) × IsOneOf (0 ∷ 3 ∷ 4 ∷ 5 ∷ 6 ∷ 7 ∷ 10 ∷ 12 ∷ []) status
+DoesCommand rack source sink status Status = Shows rack sink status
+DoesCommand rack source sink status Check = MountsAndThen rack sink status (Unit {0}) (ChecksArray rack sink status) × IsOneOf (0 ∷ 4 ∷ 5 ∷ 6 ∷ 7 ∷ 12 ∷ 13 ∷ []) status
+DoesCommand rack source sink status (Gen number lines) =
+    MountsAndThen rack sink status (Unit {0}) (ServesGenerated rack (record { number = number; count = lines; sink = sink }) status) × IsOneOf (0 ∷ 4 ∷ 5 ∷ 6 ∷ 7 ∷ 12 ∷ []) status
+DoesCommand rack source sink status Nbd = ServesNbdOrNot rack source sink status × IsOneOf (0 ∷ 3 ∷ 4 ∷ 5 ∷ 6 ∷ 7 ∷ 10 ∷ 12 ∷ 14 ∷ []) status
+DoesCommand rack source sink status Vol = MountsAndThen rack sink status (IsUnheard source) (ServesVolumes rack source sink status) × IsOneOf (0 ∷ 3 ∷ 4 ∷ 5 ∷ 6 ∷ 7 ∷ 10 ∷ 12 ∷ []) status
+DoesCommand rack source sink status (Plan ups) = PlanOutcome rack source sink ups status × IsOneOf (0 ∷ 3 ∷ 4 ∷ 5 ∷ 6 ∷ 7 ∷ 10 ∷ 12 ∷ 15 ∷ []) status
 
 -- a command that takes the source to its end
 abbrev pub TakesSource : Command → Type 0

@@ -1,5 +1,5 @@
 -- How the program ends on each of its words.
-use Rattle.std.specs.Prelude.{◌≡◌, ℕ, ◌⊎◌, Bool, List, [], ◌∷◌, length, Option, Some, None, IsSome}
+use Rattle.std.specs.Prelude.{◌≡◌, ℕ, Bool, List, [], ◌∷◌, length, Option, Some, None, IsSome}
 use Rattle.paraid_base.specs.declared.event.Answer.{Answer}
 use Rattle.paraid_base.specs.declared.event.Answer.TheVariants.{Flushed, Halted}
 use Rattle.paraid_base.specs.declared.event.Event.TheVariants.{Flush}
@@ -19,9 +19,11 @@ use Rattle.paraid_serve.specs.Calls.{IsNotDouble}
 use Rattle.paraid_serve.specs.Causes.{Shown}
 use Rattle.paraid_serve.specs.Lost.{NamesTwoLost, TellsWear}
 use Rattle.paraid_serve.specs.Output.{Headline, IsLeftByStretch}
-use Rattle.paraid_serve.specs.Stretch.{EndsStretch}
+use Rattle.paraid_serve.specs.Streams.{streams_of}
+use Rattle.paraid_serve.specs.Stretch.{EndsStretch, Span, span_of}
+use Rattle.paraid_serve.specs.Uses.{RackUse, SinkUse, SourceUse}
 use Rattle.paraid_session.specs.Turn.{Point}
-use Rattle.paraid_program.specs.Generating.{GenHeadline}
+use Rattle.paraid_program.specs.Generating.{GenHeadline, GenStreams}
 use Rattle.paraid_recover.specs.declared.fault.MountFault.{MountFault}
 use Rattle.paraid_recover.specs.HeldMoments.{Extends}
 use Rattle.paraid_recover.specs.Map.{HasBitsOf}
@@ -40,10 +42,10 @@ pub record BeginsAt (before middle after : Option Trail) (began : ℕ) : Type 0 
   pub grows : Extends middle after
 
 -- A mount was refused for this cause, as a session allows it, and the rack was handed back.
-pub record HandsBack (slots : ℕ) (old new : ℕ → Slot) (before after : Option Trail) (fault : MountFault) : Type 0 where
-  pub cause : IsCauseOfRefusal slots old new before after fault
-  pub grows : Extends before after
-  pub refused : (began : ℕ) → BeganAt before began → IsRefusedFromEach slots began after (refusal_by_fault fault)
+pub record HandsBack (rack : RackUse) (fault : MountFault) : Type 0 where
+  pub cause : IsCauseOfRefusal rack.slots rack.old rack.new rack.before rack.after fault
+  pub grows : Extends rack.before rack.after
+  pub refused : (began : ℕ) → BeganAt rack.before began → IsRefusedFromEach rack.slots began rack.after (refusal_by_fault fault)
 
 -- An array in service: its meta, its dirty cells, and the slots of its rack.
 pub record ServedArray : Type 0 where
@@ -55,62 +57,59 @@ pub record ServedArray : Type 0 where
 abbrev pub shown_served : ServedArray → Shown
 shown_served array = record { setup = array.meta.setup; meta = array.meta; dirty = array.dirty; slot = array.slot; gear = array.meta.gear; energy = 0; samples = []; served = 0; halt = None }
 
+-- How a service starts: its array, the moment at which the mount began, and the record of the rack, where it is told.
+pub record ServiceStart : Type 0 where
+  pub array : ServedArray
+  pub began : ℕ
+  pub told : Option Trail
+
+-- A mount of the rack led to this service, and what it serves is what stood on the disks.
+abbrev pub IsServed : RackUse → ServiceStart → Type 0
+IsServed rack service = IsServedBy (record { slots = rack.slots; old = rack.old; new = service.array.slot; before = rack.before; after = service.told }) service.array.meta service.array.dirty
+
+-- the session of a service, up to the end of the command
+abbrev pub served_span : RackUse → ServiceStart → Span
+served_span rack service = span_of rack.slots service.array.meta.setup service.told rack.after
+
 -- the source is as it was: nothing was read of it
-abbrev pub IsUnheard : Option (List ℕ) → Option (List ℕ) → ℕ → ℕ → Type 0
-IsUnheard left_before left faults_before faults = (left ≡ left_before) × (faults ≡ faults_before)
+abbrev pub IsUnheard : SourceUse → Type 0
+IsUnheard source = (source.left ≡ source.left_before) × (source.faults ≡ source.faults_before)
 
--- A rack was not mounted, the fault was told, and the source was not heard; or it was, and this array is what stood on its disks,
+-- A rack was not mounted, the fault was told, and the source was not heard; or it was, this service of what stood on its disks began,
 -- and then this holds of it.
-pub data MountsAndThen (slots : ℕ) (old new : ℕ → Slot) (before after : Option Trail) (written_before written : Option (List ℕ)) (status : ℕ) (Unheard : Type 0) (P : ServedArray → ℕ → Option Trail → Type 0) : Type 0 where
-  refused : (fault : MountFault) → HandsBack slots old new before after fault → EndsWithLine written_before written (mount_fault_line fault) (mount_fault_status fault) status → Unheard
-      → MountsAndThen slots old new before after written_before written status Unheard P
-  mounted : (array : ServedArray) (began : ℕ) (middle : Option Trail) → IsServedBy slots old array.slot before middle array.meta array.dirty → BeginsAt before middle after began → P array began middle
-      → MountsAndThen slots old new before after written_before written status Unheard P
-
--- the statuses of a run
-abbrev pub IsStatusOfRun : ℕ → Type 0
-IsStatusOfRun status = (status ≡ 0) ⊎ (status ≡ 3) ⊎ (status ≡ 4) ⊎ (status ≡ 5) ⊎ (status ≡ 6) ⊎ (status ≡ 7) ⊎ (status ≡ 10) ⊎ (status ≡ 12)
-
--- those of generated lines
-abbrev pub IsStatusOfGen : ℕ → Type 0
-IsStatusOfGen status = (status ≡ 0) ⊎ (status ≡ 4) ⊎ (status ≡ 5) ⊎ (status ≡ 6) ⊎ (status ≡ 7) ⊎ (status ≡ 12)
-
--- those of a check of an array that is mounted
-abbrev pub IsCheckedStatus : ℕ → Type 0
-IsCheckedStatus status = (status ≡ 0) ⊎ (status ≡ 4) ⊎ (status ≡ 5) ⊎ (status ≡ 12) ⊎ (status ≡ 13)
-
--- those of a check
-abbrev pub IsStatusOfCheck : ℕ → Type 0
-IsStatusOfCheck status = (status ≡ 0) ⊎ (status ≡ 4) ⊎ (status ≡ 5) ⊎ (status ≡ 6) ⊎ (status ≡ 7) ⊎ (status ≡ 12) ⊎ (status ≡ 13)
+pub data MountsAndThen (rack : RackUse) (sink : SinkUse) (status : ℕ) (Unheard : Type 0) (P : ServiceStart → Type 0) : Type 0 where
+  refused : (fault : MountFault) → HandsBack rack fault → EndsWithLine sink.written_before sink.written (mount_fault_line fault) (mount_fault_status fault) status → Unheard
+      → MountsAndThen rack sink status Unheard P
+  mounted : (service : ServiceStart) → IsServed rack service → BeginsAt rack.before service.told rack.after service.began → P service → MountsAndThen rack sink status Unheard P
 
 -- What is known over every rack of what was done with a mounted array, from the slots before the mount to those at the end:
 -- at 0 at most one disk of the array is absent; at 5 the last line names two different disks, of which the second has failed
 -- since before the mount; and at 12 it tells 2^62 commits or writes, or more.
-pub record IsEndOver (setup : Setup) (old new : ℕ → Slot) (written_before written : Option (List ℕ)) (status : ℕ) : Type 0 where
-  pub present : status ≡ 0 → IsNotDouble setup new
-  pub two : status ≡ 5 → NamesTwoLost old new written_before written
-  pub worn : status ≡ 12 → TellsWear written_before written
+pub record IsEndOver (setup : Setup) (rack : RackUse) (sink : SinkUse) (status : ℕ) : Type 0 where
+  pub present : status ≡ 0 → IsNotDouble setup rack.new
+  pub two : status ≡ 5 → NamesTwoLost rack.old rack.new sink.written_before sink.written
+  pub worn : status ≡ 12 → TellsWear sink.written_before sink.written
 
 -- A run served a mounted array: its headline, by what was seen of the array from its mount to the end, when its slots were those
 -- that are handed back; and what is known of its end over every rack.
-pub record ServesLines (slots : ℕ) (old new : ℕ → Slot) (after : Option Trail) (left_before left written_before written : Option (List ℕ)) (status : ℕ) (array : ServedArray) (began : ℕ) (middle : Option Trail) : Type 0 where
+pub record ServesLines (rack : RackUse) (source : SourceUse) (sink : SinkUse) (status : ℕ) (service : ServiceStart) : Type 0 where
   pub seen : Shown
-  pub headline : Headline (shown_served array) seen slots array.meta.setup began middle after left_before left written_before written status
-  pub last : seen.slot ≡ new
-  pub end : IsEndOver array.meta.setup old new written_before written status
+  pub headline : Headline (shown_served service.array) seen (served_span rack service) service.began (streams_of source sink) status
+  pub last : seen.slot ≡ rack.new
+  pub end : IsEndOver service.array.meta.setup rack sink status
 
 -- The same of generated lines, by what was seen of the array from its mount to the end.
-pub record ServesGenerated (slots : ℕ) (old new : ℕ → Slot) (after : Option Trail) (written_before written : Option (List ℕ)) (number lines status : ℕ) (array : ServedArray) (began : ℕ) (middle : Option Trail) : Type 0 where
+pub record ServesGenerated (rack : RackUse) (gen : GenStreams) (status : ℕ) (service : ServiceStart) : Type 0 where
   pub seen : Shown
-  pub headline : GenHeadline (shown_served array) seen slots array.meta.setup began middle after written_before written number lines status
-  pub last : seen.slot ≡ new
-  pub end : IsEndOver array.meta.setup old new written_before written status
+  pub headline : GenHeadline (shown_served service.array) seen (served_span rack service) service.began gen status
+  pub last : seen.slot ≡ rack.new
+  pub end : IsEndOver service.array.meta.setup rack gen.sink status
 
 -- From this first point of a session a check is one flush, which is answered so. It leaves a rack that held all its writes,
 -- unless two disks are down.
-pub record ChecksFromPoint (slots : ℕ) (setup : Setup) (start final : Option Trail) (answer : Answer) (p : Point) : Type 0 where
-  pub flush : EndsStretch slots setup start final p (Flush ∷ []) answer
-  pub left : IsLeftByStretch slots flush.all
+pub record ChecksFromPoint (span : Span) (answer : Answer) (p : Point) : Type 0 where
+  pub flush : EndsStretch span p (Flush ∷ []) answer
+  pub left : IsLeftByStretch flush.all
 
 -- Held or not, these are the counts of what the disks of this array hold, if its dirty cells are those of their map: of all of
 -- it, unless a disk has failed since.
@@ -120,20 +119,20 @@ CountsArray array new start final report = (t : Trail) → start ≡ Some t → 
 
 -- A check told its counts, of which this holds, or the halt that ended it. On a rack that held a history nothing was counted,
 -- and its calls are those of one flush.
-pub data TellsCounts (slots : ℕ) (setup : Setup) (began : ℕ) (start final : Option Trail) (written_before written : Option (List ℕ)) (status : ℕ) (Q : CheckReport → Type 0) : Type 0 where
-  counted : (report : CheckReport) → EndsWithLine written_before written (check_line report) (check_status report) status → Q report
-      → (IsSome final → IsMountedFromEach slots setup began start (λ p. (report ≡ no_faults) × ChecksFromPoint slots setup start final (Flushed (length p.history)) p))
-      → TellsCounts slots setup began start final written_before written status Q
-  halted : (halt : Halt) → EndsWithLine written_before written (halt_line halt) (status_of_halt halt) status
-      → (IsSome final → IsMountedFromEach slots setup began start (ChecksFromPoint slots setup start final (Halted halt)))
-      → TellsCounts slots setup began start final written_before written status Q
+pub data TellsCounts (span : Span) (began : ℕ) (sink : SinkUse) (status : ℕ) (Q : CheckReport → Type 0) : Type 0 where
+  counted : (report : CheckReport) → EndsWithLine sink.written_before sink.written (check_line report) (check_status report) status → Q report
+      → (IsSome span.now → IsMountedFromEach span.slots span.setup began span.start (λ p. (report ≡ no_faults) × ChecksFromPoint span (Flushed (length p.history)) p))
+      → TellsCounts span began sink status Q
+  halted : (halt : Halt) → EndsWithLine sink.written_before sink.written (halt_line halt) (status_of_halt halt) status
+      → (IsSome span.now → IsMountedFromEach span.slots span.setup began span.start (ChecksFromPoint span (Halted halt)))
+      → TellsCounts span began sink status Q
 
 -- A check of a mounted array: what it told; why, by what was seen of the array from its mount to the end, when its slots were those
 -- that are handed back; and what is known of its end over every rack.
-pub record ChecksArray (slots : ℕ) (old new : ℕ → Slot) (after : Option Trail) (written_before written : Option (List ℕ)) (status : ℕ) (array : ServedArray) (began : ℕ) (middle : Option Trail) : Type 0 where
-  pub told : TellsCounts slots array.meta.setup began middle after written_before written status (CountsArray array new middle after)
+pub record ChecksArray (rack : RackUse) (sink : SinkUse) (status : ℕ) (service : ServiceStart) : Type 0 where
+  pub told : TellsCounts (served_span rack service) service.began sink status (CountsArray service.array rack.new service.told rack.after)
   pub seen : Shown
-  pub causes : HasCheckCauses (shown_served array) seen written_before written status
-  pub last : seen.slot ≡ new
-  pub end : IsEndOver array.meta.setup old new written_before written status
-  pub found : status ≡ 13 → IsNotDouble array.meta.setup new
+  pub causes : HasCheckCauses (shown_served service.array) seen sink.written_before sink.written status
+  pub last : seen.slot ≡ rack.new
+  pub end : IsEndOver service.array.meta.setup rack sink status
+  pub found : status ≡ 13 → IsNotDouble service.array.meta.setup rack.new

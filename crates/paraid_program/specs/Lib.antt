@@ -1,3 +1,4 @@
+pub mod Racks
 pub mod Lines
 pub mod Reading
 pub mod Outcome
@@ -21,3 +22,4 @@ pub mod PlanComes
 pub mod CommandDoes
 pub mod CommandCompletes
 pub mod Clients
+pub mod Statuses

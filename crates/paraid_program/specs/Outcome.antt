@@ -1,9 +1,10 @@
 -- How a format comes out, by its status.
-use Rattle.std.specs.Prelude.{◌≡◌, ◌≢◌, ℕ, ◌<◌, ◌≤◌, ◌⊎◌, ◌++◌, Bool, false, List, [], Option, Some, None, codes, decimal}
+use Rattle.std.specs.Prelude.{◌≡◌, ◌≢◌, ℕ, ◌<◌, ◌≤◌, ◌⊎◌, ◌++◌, Bool, false, List, [], Some, None, codes, decimal}
 use Rattle.paraid_base.specs.Regions.{disk_size}
 use Rattle.paraid_config.specs.declared.fault.ConfigFault.{ConfigFault}
 use Rattle.paraid_config.specs.declared.fault.ConfigFault.TheVariants.{NoMemory}
 use Rattle.paraid_serve.specs.Ending.{EndsWithLine}
+use Rattle.paraid_serve.specs.Uses.{RackUse, SinkUse, SourceUse}
 use Rattle.paraid_recover.specs.Attached.{fresh_slot}
 use Rattle.paraid_recover.specs.Calls.{AreFormatCalls}
 use Rattle.paraid_recover.specs.First.{first_meta}
@@ -15,7 +16,6 @@ use Rattle.paraid_recover.specs.declared.format_fault.FormatFault.TheVariants.{A
 use Rattle.paraid_image.specs.RunStart.{IsRunStart}
 use Rattle.paraid_image.specs.Formatted.{IsFormatted}
 use Rattle.paraid_rack.specs.Disks.{Disks, IsImage}
-use Rattle.paraid_rack.specs.Slots.{Slot}
 use Rattle.paraid_rack.specs.Told.{Ran}
 use Rattle.paraid_rack.specs.Trail.{Trail, now}
 use Rattle.paraid_record.specs.declared.meta.Setup.{Setup}
@@ -25,9 +25,9 @@ use Rattle.paraid_program.specs.declared.refusal.Refusal.{Refusal}
 use Rattle.paraid_program.specs.declared.refusal.Refusal.TheVariants.{Source, Config, Format}
 
 -- no call was made on the rack
-pub record IsUntouched (old new : ℕ → Slot) (told told_now : Option Trail) : Type 0 where
-  pub slots : (d : ℕ) → new d ≡ old d
-  pub calls : told_now ≡ told
+pub record IsUntouched (rack : RackUse) : Type 0 where
+  pub slots : (d : ℕ) → rack.new d ≡ rack.old d
+  pub calls : rack.after ≡ rack.before
 
 -- The disks are those of an array that holds no write, and a run can begin there.
 pub record IsEmptyArray (slots : ℕ) (setup : Setup) (s : Disks) : Type 0 where
@@ -41,55 +41,55 @@ pub record BecomesEmpty (slots : ℕ) (setup : Setup) (start s : Disks) : Type 0
   pub whole : ((d p : ℕ) → setup.geometry.disks ≤ d → start.loose d p ≡ false) → IsEmptyArray slots setup s
 
 -- a new array was made of the first slots
-pub record IsArrayMade (force : Bool) (slots : ℕ) (old new : ℕ → Slot) (told told_now : Option Trail) (setup : Setup) : Type 0 where
-  pub enough : setup.geometry.disks ≤ slots
+pub record IsArrayMade (force : Bool) (rack : RackUse) (setup : Setup) : Type 0 where
+  pub enough : setup.geometry.disks ≤ rack.slots
   -- each of its disks is a fresh one of exactly the size that it needs, and no other slot was touched
-  pub fresh : (d : ℕ) → d < setup.geometry.disks → new d ≡ fresh_slot (disk_size setup.geometry) (old d)
-  pub others : (d : ℕ) → setup.geometry.disks ≤ d → new d ≡ old d
+  pub fresh : (d : ℕ) → d < setup.geometry.disks → rack.new d ≡ fresh_slot (disk_size setup.geometry) (rack.old d)
+  pub others : (d : ℕ) → setup.geometry.disks ≤ d → rack.new d ≡ rack.old d
   -- without force no log disk said that it belonged to an array
-  pub free : force ≡ false → RanBetween told told_now (λ start s. IsUnclaimed start)
-  pub calls : Ran told told_now (λ start calls. AreFormatCalls force setup.geometry.disks (disk_size setup.geometry) calls)
-  pub synced : (t : Trail) → told_now ≡ Some t → (d p : ℕ) → d < setup.geometry.disks → (now t).loose d p ≡ false
-  pub empty : RanBetween told told_now (BecomesEmpty slots setup)
+  pub free : force ≡ false → RanBetween rack.before rack.after (λ start s. IsUnclaimed start)
+  pub calls : Ran rack.before rack.after (λ start calls. AreFormatCalls force setup.geometry.disks (disk_size setup.geometry) calls)
+  pub synced : (t : Trail) → rack.after ≡ Some t → (d p : ℕ) → d < setup.geometry.disks → (now t).loose d p ≡ false
+  pub empty : RanBetween rack.before rack.after (BecomesEmpty rack.slots setup)
 
 -- no array was made, though the setup is known
-pub record IsArrayUnmade (force : Bool) (slots : ℕ) (old new : ℕ → Slot) (told told_now : Option Trail) (setup : Setup) (fault : FormatFault) : Type 0 where
-  pub cause : IsFormatRefusal force setup.geometry.disks slots old new told told_now fault
-  pub others : (d : ℕ) → setup.geometry.disks ≤ d → new d ≡ old d
-  pub calls : Ran told told_now (λ start calls. AreFormatCalls force setup.geometry.disks (disk_size setup.geometry) calls)
+pub record IsArrayUnmade (force : Bool) (rack : RackUse) (setup : Setup) (fault : FormatFault) : Type 0 where
+  pub cause : IsFormatRefusal force setup.geometry.disks rack.slots rack.old rack.new rack.before rack.after fault
+  pub others : (d : ℕ) → setup.geometry.disks ≤ d → rack.new d ≡ rack.old d
+  pub calls : Ran rack.before rack.after (λ start calls. AreFormatCalls force setup.geometry.disks (disk_size setup.geometry) calls)
 
 -- How a format came out that met no fault of the sink: its status, and the line that tells it.
-pub data FormatOutcome (force : Bool) (slots : ℕ) (old new : ℕ → Slot) (told told_now : Option Trail) (before after : Option (List ℕ)) (faults faults_now : ℕ) : ℕ → List ℕ → Type 0 where
+pub data FormatOutcome (force : Bool) (rack : RackUse) (source : SourceUse) : ℕ → List ℕ → Type 0 where
   -- the source gave its end, and the array that it describes was made
-  done : (setup : Setup) → IsConfigured before after setup → IsArrayMade force slots old new told told_now setup
-      → FormatOutcome force slots old new told told_now before after faults faults_now 0 (formatted_line setup)
-  source : IsUnread before after faults faults_now Source → IsUntouched old new told told_now
-      → FormatOutcome force slots old new told told_now before after faults faults_now 3 (codes "source\n")
-  no_memory : IsUnread before after faults faults_now (Config NoMemory) → IsUntouched old new told told_now
-      → FormatOutcome force slots old new told told_now before after faults faults_now 7 (codes "nomemory\n")
-  config : (fault : ConfigFault) → fault ≢ NoMemory → IsUnread before after faults faults_now (Config fault) → IsUntouched old new told told_now
-      → FormatOutcome force slots old new told told_now before after faults faults_now 8 (config_line fault)
+  done : (setup : Setup) → IsConfigured source setup → IsArrayMade force rack setup
+      → FormatOutcome force rack source 0 (formatted_line setup)
+  source_failed : IsUnread source Source → IsUntouched rack
+      → FormatOutcome force rack source 3 (codes "source\n")
+  no_memory : IsUnread source (Config NoMemory) → IsUntouched rack
+      → FormatOutcome force rack source 7 (codes "nomemory\n")
+  config : (fault : ConfigFault) → fault ≢ NoMemory → IsUnread source (Config fault) → IsUntouched rack
+      → FormatOutcome force rack source 8 (config_line fault)
   -- a log disk belongs to an array, and only reads were made
-  already : (setup : Setup) (epoch : ℕ) → IsConfigured before after setup → IsArrayUnmade force slots old new told told_now setup (AlreadyFormatted epoch)
-      → FormatOutcome force slots old new told told_now before after faults faults_now 9 (codes "already " ++ decimal epoch ++ codes "\n")
+  already : (setup : Setup) (epoch : ℕ) → IsConfigured source setup → IsArrayUnmade force rack setup (AlreadyFormatted epoch)
+      → FormatOutcome force rack source 9 (codes "already " ++ decimal epoch ++ codes "\n")
   -- the disk has failed; or it is the number of slots, the array needs more, and only reads were made
-  disk : (setup : Setup) (d : ℕ) → IsConfigured before after setup → IsArrayUnmade force slots old new told told_now setup (Disk d)
-      → FormatOutcome force slots old new told told_now before after faults faults_now 11 (codes "disk " ++ decimal d ++ codes "\n")
+  disk : (setup : Setup) (d : ℕ) → IsConfigured source setup → IsArrayUnmade force rack setup (Disk d)
+      → FormatOutcome force rack source 11 (codes "disk " ++ decimal d ++ codes "\n")
 
 -- A format came out so, and its line was told; at 4 only a first part of it was.
-pub record Formats (force : Bool) (slots : ℕ) (old new : ℕ → Slot) (told told_now : Option Trail) (before after : Option (List ℕ)) (faults faults_now : ℕ) (written_before written : Option (List ℕ)) (status : ℕ) : Type 0 where
+pub record Formats (force : Bool) (rack : RackUse) (source : SourceUse) (sink : SinkUse) (status : ℕ) : Type 0 where
   pub code : ℕ
   pub line : List ℕ
-  pub outcome : FormatOutcome force slots old new told told_now before after faults faults_now code line
-  pub ends : EndsWithLine written_before written line code status
+  pub outcome : FormatOutcome force rack source code line
+  pub ends : EndsWithLine sink.written_before sink.written line code status
 
 -- why no array was made
-abbrev pub IsRefusalCause : Bool → ℕ → (ℕ → Slot) → (ℕ → Slot) → Option Trail → Option Trail → Option (List ℕ) → Option (List ℕ) → ℕ → ℕ → Refusal → Type 0
-IsRefusalCause force slots old new told told_now before after faults faults_now Source = IsUnread before after faults faults_now Source × IsUntouched old new told told_now
-IsRefusalCause force slots old new told told_now before after faults faults_now (Config fault) =
-    IsUnread before after faults faults_now (Config fault) × IsUntouched old new told told_now
-IsRefusalCause force slots old new told told_now before after faults faults_now (Format fault) =
-    (setup : Setup) × IsConfigured before after setup × IsArrayUnmade force slots old new told told_now setup fault
+abbrev pub IsRefusalCause : Bool → RackUse → SourceUse → Refusal → Type 0
+IsRefusalCause force rack source Source = IsUnread source Source × IsUntouched rack
+IsRefusalCause force rack source (Config fault) =
+    IsUnread source (Config fault) × IsUntouched rack
+IsRefusalCause force rack source (Format fault) =
+    (setup : Setup) × IsConfigured source setup × IsArrayUnmade force rack setup fault
 
 -- the statuses of a format
 abbrev pub IsFormatStatus : ℕ → Type 0

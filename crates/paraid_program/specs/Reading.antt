@@ -5,14 +5,15 @@ use Rattle.paraid_config.specs.Config.{IsConfigurationOf, IsConfigRefusal}
 use Rattle.paraid_config.specs.declared.fault.ConfigFault.{ConfigFault}
 use Rattle.paraid_config.specs.declared.fault.ConfigFault.TheVariants.{Long, NoMemory}
 use Rattle.paraid_record.specs.declared.meta.Setup.{Setup}
+use Rattle.paraid_serve.specs.Uses.{SourceUse}
 use Rattle.paraid_program.specs.declared.refusal.Refusal.{Refusal}
 use Rattle.paraid_program.specs.declared.refusal.Refusal.TheVariants.{Source, Config, Format}
 
 -- The source gave these bytes and its end, and they are the configuration of this setup.
-pub record IsConfigured (before after : Option (List ℕ)) (setup : Setup) : Type 0 where
+pub record IsConfigured (source : SourceUse) (setup : Setup) : Type 0 where
   pub bytes : List ℕ
-  pub given : Gives before after bytes
-  pub end : AtEnd after
+  pub given : Gives source.left_before source.left bytes
+  pub end : AtEnd source.left
   pub says : IsConfigurationOf bytes setup
 
 -- Why these bytes are no configuration: they are more than one may have; or they are all that the
@@ -23,13 +24,13 @@ IsMisread bytes after NoMemory = length bytes ≤ 65536
 IsMisread bytes after fault = AtEnd after × IsConfigRefusal bytes fault
 
 -- why nothing was read from these bytes
-abbrev pub IsReadCause : List ℕ → Option (List ℕ) → ℕ → ℕ → Refusal → Type 0
-IsReadCause bytes after faults faults_now Source = HasRisen faults faults_now
-IsReadCause bytes after faults faults_now (Config fault) = IsMisread bytes after fault
-IsReadCause bytes after faults faults_now (Format fault) = ⊥
+abbrev pub IsReadCause : List ℕ → SourceUse → Refusal → Type 0
+IsReadCause bytes source Source = HasRisen source.faults_before source.faults
+IsReadCause bytes source (Config fault) = IsMisread bytes source.left fault
+IsReadCause bytes source (Format fault) = ⊥
 
 -- The source gave these bytes, and no setup was read.
-pub record IsUnread (before after : Option (List ℕ)) (faults faults_now : ℕ) (refusal : Refusal) : Type 0 where
+pub record IsUnread (source : SourceUse) (refusal : Refusal) : Type 0 where
   pub bytes : List ℕ
-  pub given : Gives before after bytes
-  pub cause : IsReadCause bytes after faults faults_now refusal
+  pub given : Gives source.left_before source.left bytes
+  pub cause : IsReadCause bytes source refusal

@@ -1,6 +1,5 @@
 -- What the summary of a generated trace counts.
-use Rattle.std.specs.Prelude.{ℕ, ◌+◌, ◌*◌, ◌<◌, List, [], ◌∷◌, slice_index}
-use Rattle.paraid_base.specs.declared.block.Block.{Block}
+use Rattle.std.specs.Prelude.{◌+◌, ◌*◌, ◌<◌, List, [], ◌∷◌, slice_index}
 use Rattle.paraid_base.specs.declared.event.Answer.{Answer}
 use Rattle.paraid_base.specs.declared.event.Answer.TheVariants.{Value, Ticked}
 use Rattle.paraid_base.specs.declared.event.Event.{Event}
@@ -13,10 +12,6 @@ use Rattle.paraid_serve.specs.Stretch.{Turn}
 -- the tally before any line
 abbrev pub empty_tally : Tally
 empty_tally = record { reads = 0; writes = 0; flushes = 0; ticks = 0; shifts = 0; sum = 0 }
-
--- the first two bytes of a block as a number
-abbrev pub first_two : Block → ℕ
-first_two block = 256 * slice_index block.bytes 0 + slice_index block.bytes 1
 
 -- an event is counted by its kind
 abbrev pub tally_with_event : Tally → Event → Tally
@@ -33,7 +28,7 @@ tally_with_tick t event = t
 
 -- a read that was answered adds its block's first two bytes, and a tick that flipped is counted
 abbrev pub tally_with_answer : Tally → Answer → Tally
-tally_with_answer t (Value block bytes) = record t { sum = t.sum + first_two bytes }
+tally_with_answer t (Value block bytes) = record t { sum = t.sum + (256 * slice_index bytes.bytes 0 + slice_index bytes.bytes 1) }
 tally_with_answer t (Ticked report) = tally_with_tick t report.event
 tally_with_answer t answer = t
 

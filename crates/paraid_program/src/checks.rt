@@ -1,12 +1,16 @@
 //! The word `check`.
-ghost use Rattle.std.specs.Prelude.{◌≡◌, ℕ};
+ghost use Rattle.std.specs.Prelude.{◌≡◌, ℕ, [], ◌∷◌};
+ghost use Rattle.paraid_program.specs.Statuses.{IsOneOf};
 ghost use Rattle.paraid_base.specs.Told.{HasRisen};
 ghost use Rattle.paraid_recover.specs.HeldMoments.{Extends};
 ghost use Rattle.paraid_serve.specs.Calls.{IsNotDouble};
 ghost use Rattle.paraid_serve.specs.Lost.{NamesTwoLost, TellsWear};
 ghost use Rattle.paraid_session.specs.Mount.{IsMountedFromEach};
 ghost use Rattle.paraid_program.specs.CheckCauses.{HasCheckCauses};
-ghost use Rattle.paraid_program.specs.Ends.{ChecksArray, CountsArray, IsCheckedStatus, IsStatusOfCheck, MountsAndThen, TellsCounts};
+ghost use Rattle.paraid_program.specs.Ends.{ChecksArray, CountsArray, MountsAndThen, TellsCounts};
+ghost use Rattle.paraid_program.specs.Racks.{rack_use};
+ghost use Rattle.paraid_serve.specs.Streams.{sink_use};
+ghost use Rattle.paraid_serve.specs.Stretch.{span_of};
 
 use crate::fault::tell_refusal;
 use crate::outside::{Ended, Outside};
@@ -28,14 +32,15 @@ fn tell_counts<K: Sink, R: Rack, A: Serves, O: Outside<R, A>>(
     requires nothing { O.nothing array.old }
     ensures counts { (began : ℕ) → IsMountedFromEach (A.slots array.old) (A.setup array.old) began
         (A.told array.old) (A.stands array.old)
-        → TellsCounts (A.slots array.old) (A.setup array.old) began (A.told array.old)
-        (A.told array.new) (K.written sink.old) (K.written sink.new) result
+        → TellsCounts
+        (span_of (A.slots array.old) (A.setup array.old) (A.told array.old) (A.told array.new)) began
+        (sink_use K.written K.faults sink.old sink.new) result
         (CountsArray (O.served array.old) (A.slot array.new) (A.told array.old) (A.told array.new)) }
     ensures causes { HasCheckCauses (A.shown array.old) (A.shown array.new) (K.written sink.old)
         (K.written sink.new) result }
     ensures told { Extends (A.told array.old) (A.told array.new) }
     ensures slots { A.slots array.new ≡ A.slots array.old }
-    ensures status { IsCheckedStatus result }
+    ensures status { IsOneOf (0 ∷ 4 ∷ 5 ∷ 12 ∷ 13 ∷ []) result }
     ensures present { result ≡ 0 → IsNotDouble (A.setup array.old) (A.slot array.new) }
     ensures found { result ≡ 13 → IsNotDouble (A.setup array.old) (A.slot array.new) }
     ensures two { result ≡ 5 → NamesTwoLost (A.slot array.old) (A.slot array.new)
@@ -62,12 +67,12 @@ pub fn check<K: Sink, R: Rack, A: Serves, O: Outside<R, A>>(
     sink: &mut K,
     rack: R,
 ) -> Ended<R>
-    ensures run { MountsAndThen (R.slot_count rack) (R.slot rack) (R.slot result.rack) (R.told rack)
-        (R.told result.rack) (K.written sink.old) (K.written sink.new) result.status (Unit {0})
-        (ChecksArray (R.slot_count rack) (R.slot rack) (R.slot result.rack) (R.told result.rack)
-        (K.written sink.old) (K.written sink.new) result.status) }
+    ensures run { MountsAndThen (rack_use R.slot_count R.slot R.told rack result.rack)
+        (sink_use K.written K.faults sink.old sink.new) result.status (Unit {0})
+        (ChecksArray (rack_use R.slot_count R.slot R.told rack result.rack)
+        (sink_use K.written K.faults sink.old sink.new) result.status) }
     ensures slots { R.slot_count result.rack ≡ R.slot_count rack }
-    ensures status { IsStatusOfCheck result.status }
+    ensures status { IsOneOf (0 ∷ 4 ∷ 5 ∷ 6 ∷ 7 ∷ 12 ∷ 13 ∷ []) result.status }
     ensures sink { result.status ≡ 4 → HasRisen (K.faults sink.old) (K.faults sink.new) }
 {
     match outside.mount(rack) {

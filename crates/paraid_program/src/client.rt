@@ -1,7 +1,10 @@
 //! The word `nbd`.
-ghost use Rattle.std.specs.Prelude.{◌≡◌};
+ghost use Rattle.std.specs.Prelude.{◌≡◌, [], ◌∷◌};
+ghost use Rattle.paraid_program.specs.Statuses.{IsOneOf};
 ghost use Rattle.paraid_base.specs.Told.{HasRisen};
-ghost use Rattle.paraid_program.specs.Clients.{IsStatusOfNbd, ServesNbdOrNot};
+ghost use Rattle.paraid_program.specs.Clients.{ServesNbdOrNot};
+ghost use Rattle.paraid_program.specs.Racks.{rack_use};
+ghost use Rattle.paraid_serve.specs.Streams.{sink_use, source_use};
 
 use crate::fault::mount_fault_status;
 use crate::outside::{Ended, Outside};
@@ -20,12 +23,11 @@ pub fn nbd<S: Source, K: Sink, R: Rack, A: Serves, O: Outside<R, A>>(
     sink: &mut K,
     rack: R,
 ) -> Ended<R>
-    ensures nbd { ServesNbdOrNot (R.slot_count rack) (R.slot rack) (R.slot result.rack) (R.told rack)
-        (R.told result.rack) (S.left source.old) (S.left source.new) (S.faults source.old)
-        (S.faults source.new) (K.written sink.old) (K.written sink.new) (K.faults sink.old)
-        (K.faults sink.new) result.status }
+    ensures nbd { ServesNbdOrNot (rack_use R.slot_count R.slot R.told rack result.rack)
+        (source_use S.left S.faults source.old source.new)
+        (sink_use K.written K.faults sink.old sink.new) result.status }
     ensures slots { R.slot_count result.rack ≡ R.slot_count rack }
-    ensures status { IsStatusOfNbd result.status }
+    ensures status { IsOneOf (0 ∷ 3 ∷ 4 ∷ 5 ∷ 6 ∷ 7 ∷ 10 ∷ 12 ∷ 14 ∷ []) result.status }
     ensures source { result.status ≡ 3 → HasRisen (S.faults source.old) (S.faults source.new) }
     ensures sink { result.status ≡ 4 → HasRisen (K.faults sink.old) (K.faults sink.new) }
 {

@@ -3,6 +3,8 @@ ghost use Rattle.std.specs.Prelude.{◌≡◌, IfOk, IfErr};
 ghost use Rattle.paraid_base.specs.Told.{AtEnd, HasRisen};
 ghost use Rattle.paraid_program.specs.Outcome.{Formats, IsRefusalCause, IsFormatStatus, IsArrayMade};
 ghost use Rattle.paraid_program.specs.Reading.{IsConfigured};
+ghost use Rattle.paraid_program.specs.Racks.{rack_use};
+ghost use Rattle.paraid_serve.specs.Streams.{sink_use, source_use};
 
 use crate::Refusal;
 use crate::format_text::{formatted_text, refusal_status, refusal_text};
@@ -24,12 +26,12 @@ fn make_array<S: Source, R: Rack>(
     rack: &mut R,
 ) -> Result<Setup, Refusal>
     ensures slots { R.slot_count rack.new ≡ R.slot_count rack.old }
-    ensures configured { IfOk result (IsConfigured (S.left source.old) (S.left source.new)) }
-    ensures made { IfOk result (IsArrayMade force (R.slot_count rack.old) (R.slot rack.old)
-        (R.slot rack.new) (R.told rack.old) (R.told rack.new)) }
-    ensures refused { IfErr result (IsRefusalCause force (R.slot_count rack.old) (R.slot rack.old)
-        (R.slot rack.new) (R.told rack.old) (R.told rack.new) (S.left source.old)
-        (S.left source.new) (S.faults source.old) (S.faults source.new)) }
+    ensures configured { IfOk result (IsConfigured (source_use S.left S.faults source.old source.new)) }
+    ensures made { IfOk result (IsArrayMade force
+        (rack_use R.slot_count R.slot R.told rack.old rack.new)) }
+    ensures refused { IfErr result (IsRefusalCause force
+        (rack_use R.slot_count R.slot R.told rack.old rack.new)
+        (source_use S.left S.faults source.old source.new)) }
 {
     let setup = match read_setup(alloc, source) {
         Ok(setup) => setup,
@@ -55,10 +57,9 @@ pub fn format_array<S: Source, K: Sink, R: Rack>(
     sink: &mut K,
     rack: &mut R,
 ) -> u8
-    ensures formats { Formats force (R.slot_count rack.old) (R.slot rack.old) (R.slot rack.new)
-        (R.told rack.old) (R.told rack.new) (S.left source.old) (S.left source.new)
-        (S.faults source.old) (S.faults source.new) (K.written sink.old) (K.written sink.new)
-        result }
+    ensures formats { Formats force (rack_use R.slot_count R.slot R.told rack.old rack.new)
+        (source_use S.left S.faults source.old source.new)
+        (sink_use K.written K.faults sink.old sink.new) result }
     ensures slots { R.slot_count rack.new ≡ R.slot_count rack.old }
     ensures status { IsFormatStatus result }
     ensures end { result ≡ 0 → AtEnd (S.left source.new) }

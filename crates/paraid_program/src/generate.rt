@@ -8,6 +8,8 @@ ghost use Rattle.paraid_session.specs.Turn.{Point};
 ghost use Rattle.paraid_program.specs.GenCauses.{CountsCauses};
 ghost use Rattle.paraid_program.specs.Generating.{GenHeadline, GenRun, IsGenStatus};
 ghost use Rattle.paraid_program.specs.CountedLines.{CountsLines};
+ghost use Rattle.paraid_serve.specs.Streams.{sink_use};
+ghost use Rattle.paraid_serve.specs.Stretch.{span_of};
 
 use crate::lines::summary_text;
 use crate::tally::Tally;
@@ -28,7 +30,8 @@ pub fn answer_lines<A: Serves>(
     requires few { lines ≤ 1000000 }
     requires halt { halt.old ≡ A.halted array.old }
     ensures counted { IsSome (A.told array.new) → (p : Point) → A.stands array.old p
-        → CountsLines (A.slots array.old) (A.setup array.old) (A.told array.old) (A.told array.new) p
+        → CountsLines
+        (span_of (A.slots array.old) (A.setup array.old) (A.told array.old) (A.told array.new)) p
         number lines result (A.stands array.new) }
     // Over every rack each answer has its cause.
     ensures causes { CountsCauses (A.shown array.old) number lines result (A.shown array.new) }
@@ -59,9 +62,9 @@ pub fn serve_generated<K: Sink, A: Serves>(
 ) -> u8
     requires few { lines ≤ 1000000 }
     requires going { A.halted array.old ≡ None }
-    ensures run { GenRun (A.shown array.old) (A.shown array.new) (A.slots array.old) (A.setup array.old) (A.stands array.old)
-        (A.told array.old) (A.told array.new) (K.written sink.old) (K.written sink.new)
-        number lines result }
+    ensures run { GenRun (A.shown array.old) (A.shown array.new)
+        (span_of (A.slots array.old) (A.setup array.old) (A.told array.old) (A.told array.new))
+        (A.stands array.old) (record { number = number; count = lines; sink = (sink_use K.written K.faults sink.old sink.new) }) result }
     ensures told { Grows (A.told array.old) (A.told array.new) }
     ensures slots { A.slots array.new ≡ A.slots array.old }
     ensures status { IsGenStatus result }
@@ -107,9 +110,9 @@ pub fn serve_generated_mounted<K: Sink, A: Serves>(
     requires going { A.halted array.old ≡ None }
     ensures headline { (began : ℕ) → IsMountedFromEach (A.slots array.old) (A.setup array.old) began
         (A.told array.old) (A.stands array.old)
-        → GenHeadline (A.shown array.old) (A.shown array.new) (A.slots array.old) (A.setup array.old) began
-        (A.told array.old) (A.told array.new) (K.written sink.old) (K.written sink.new)
-        number lines result }
+        → GenHeadline (A.shown array.old) (A.shown array.new)
+        (span_of (A.slots array.old) (A.setup array.old) (A.told array.old) (A.told array.new)) began
+        (record { number = number; count = lines; sink = (sink_use K.written K.faults sink.old sink.new) }) result }
     ensures told { Grows (A.told array.old) (A.told array.new) }
     ensures slots { A.slots array.new ≡ A.slots array.old }
     ensures status { IsGenStatus result }

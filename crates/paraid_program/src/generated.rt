@@ -1,7 +1,10 @@
 //! The word `gen`.
-ghost use Rattle.std.specs.Prelude.{◌≡◌, ◌≤◌};
+ghost use Rattle.std.specs.Prelude.{◌≡◌, ◌≤◌, [], ◌∷◌};
+ghost use Rattle.paraid_program.specs.Statuses.{IsOneOf};
 ghost use Rattle.paraid_base.specs.Told.{HasRisen};
-ghost use Rattle.paraid_program.specs.Ends.{IsStatusOfGen, MountsAndThen, ServesGenerated};
+ghost use Rattle.paraid_program.specs.Ends.{MountsAndThen, ServesGenerated};
+ghost use Rattle.paraid_program.specs.Racks.{rack_use};
+ghost use Rattle.paraid_serve.specs.Streams.{sink_use};
 
 use crate::fault::tell_refusal;
 use crate::generate::serve_generated_mounted;
@@ -20,12 +23,12 @@ pub fn generate<K: Sink, R: Rack, A: Serves, O: Outside<R, A>>(
     lines: u32,
 ) -> Ended<R>
     requires few { lines ≤ 1000000 }
-    ensures run { MountsAndThen (R.slot_count rack) (R.slot rack) (R.slot result.rack) (R.told rack)
-        (R.told result.rack) (K.written sink.old) (K.written sink.new) result.status (Unit {0})
-        (ServesGenerated (R.slot_count rack) (R.slot rack) (R.slot result.rack) (R.told result.rack)
-        (K.written sink.old) (K.written sink.new) number lines result.status) }
+    ensures run { MountsAndThen (rack_use R.slot_count R.slot R.told rack result.rack)
+        (sink_use K.written K.faults sink.old sink.new) result.status (Unit {0})
+        (ServesGenerated (rack_use R.slot_count R.slot R.told rack result.rack)
+        (record { number = number; count = lines; sink = (sink_use K.written K.faults sink.old sink.new) }) result.status) }
     ensures slots { R.slot_count result.rack ≡ R.slot_count rack }
-    ensures status { IsStatusOfGen result.status }
+    ensures status { IsOneOf (0 ∷ 4 ∷ 5 ∷ 6 ∷ 7 ∷ 12 ∷ []) result.status }
     ensures sink { result.status ≡ 4 → HasRisen (K.faults sink.old) (K.faults sink.new) }
 {
     match outside.mount(rack) {

@@ -11,6 +11,7 @@ ghost use Rattle.paraid_session.specs.Mount.{IsMountedFromEach};
 ghost use Rattle.paraid_session.specs.Turn.{GoesOn, Point};
 ghost use Rattle.paraid_program.specs.Showing.{BeganAt, IsServedBy};
 ghost use Rattle.paraid_program.specs.Ends.{CountsArray, HandsBack, ServedArray, shown_served};
+ghost use Rattle.paraid_program.specs.Racks.{rack_use};
 
 use paraid_base::Halt;
 use paraid_io::{Sink, Source};
@@ -39,13 +40,18 @@ pub trait Outside<R: Rack, A: Serves> {
         // No count of faults falls in a mount.
         ensures later { IfOk result (λ a. HaveNotFallen (R.slot rack) (A.slot a)) }
         ensures refused_slots { IfErr result (λ r. R.slot_count r.rack ≡ R.slot_count rack) }
-        ensures refused { IfErr result (λ r. HandsBack (R.slot_count rack) (R.slot rack)
-            (R.slot r.rack) (R.told rack) (R.told r.rack) r.fault) }
+        ensures refused { IfErr result (λ r. HandsBack (rack_use R.slot_count R.slot R.told rack r.rack)
+            r.fault) }
         ensures mounted { IfOk result (λ a. (began : ℕ) → BeganAt (R.told rack) began
             → IsMountedFromEach (A.slots a) (A.setup a) began (A.told a) (A.stands a)) }
         // Held or not, it serves what stood on the disks, and nothing is staged.
-        ensures served { IfOk result (λ a. IsServedBy (R.slot_count rack) (R.slot rack)
-            (served a).slot (R.told rack) (A.told a) (served a).meta (served a).dirty) }
+        ensures served { IfOk result (λ a. IsServedBy (record {
+          slots = R.slot_count rack;
+          old = R.slot rack;
+          new = (served a).slot;
+          before = R.told rack;
+          after = A.told a;
+        }) (served a).meta (served a).dirty) }
         ensures setup { IfOk result (λ a. A.setup a ≡ (served a).meta.setup) }
         ensures shown { IfOk result (λ a. A.shown a ≡ shown_served (served a)) }
         ensures nothing { IfOk result nothing };

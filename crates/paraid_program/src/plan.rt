@@ -1,8 +1,11 @@
 //! The command `plan`: mounts an array, reads a demand, and tells the schedule of gears that costs least; or why there is none.
-ghost use Rattle.std.specs.Prelude.{◌≡◌, ◌≢◌, ◌≤◌, ◌++◌};
+ghost use Rattle.std.specs.Prelude.{◌≡◌, ◌≢◌, ◌≤◌, ◌++◌, [], ◌∷◌};
+ghost use Rattle.paraid_program.specs.Statuses.{IsOneOf};
 ghost use Rattle.paraid_base.specs.Told.{AtEnd, HasRisen};
 ghost use Rattle.paraid_serve.specs.Ending.{EndsWithLine};
-ghost use Rattle.paraid_program.specs.Planning.{IsPlanStatus, IsPlannedStatus, PlanOutcome, TellsPlan, unplanned_status as unplanned_status_of};
+ghost use Rattle.paraid_program.specs.Planning.{PlanOutcome, TellsPlan, unplanned_status as unplanned_status_of};
+ghost use Rattle.paraid_program.specs.Racks.{rack_use};
+ghost use Rattle.paraid_serve.specs.Streams.{sink_use, source_use};
 
 use crate::fault::tell_refusal;
 use crate::outside::Ended;
@@ -52,9 +55,9 @@ fn tell_plan<S: Source, K: Sink>(
     ups: u16,
 ) -> u8
     requires few { ups ≤ 256 }
-    ensures told { TellsPlan meta.now ups (S.left source.old) (S.left source.new)
-        (S.faults source.old) (S.faults source.new) (K.written sink.old) (K.written sink.new) result }
-    ensures status { IsPlannedStatus result }
+    ensures told { TellsPlan meta.now ups (source_use S.left S.faults source.old source.new)
+        (sink_use K.written K.faults sink.old sink.new) result }
+    ensures status { IsOneOf (0 ∷ 3 ∷ 4 ∷ 7 ∷ 10 ∷ 15 ∷ []) result }
     ensures sink { result ≡ 4 → HasRisen (K.faults sink.old) (K.faults sink.new) }
 {
     let mut first = Text::new();
@@ -88,11 +91,11 @@ pub fn show_plan<S: Source, K: Sink, R: Rack>(
     ups: u16,
 ) -> Ended<R>
     requires few { ups ≤ 256 }
-    ensures plans { PlanOutcome (R.slot_count rack) (R.slot rack) (R.slot result.rack) (R.told rack)
-        (R.told result.rack) (S.left source.old) (S.left source.new) (S.faults source.old)
-        (S.faults source.new) (K.written sink.old) (K.written sink.new) ups result.status }
+    ensures plans { PlanOutcome (rack_use R.slot_count R.slot R.told rack result.rack)
+        (source_use S.left S.faults source.old source.new)
+        (sink_use K.written K.faults sink.old sink.new) ups result.status }
     ensures slots { R.slot_count result.rack ≡ R.slot_count rack }
-    ensures status { IsPlanStatus result.status }
+    ensures status { IsOneOf (0 ∷ 3 ∷ 4 ∷ 5 ∷ 6 ∷ 7 ∷ 10 ∷ 12 ∷ 15 ∷ []) result.status }
     ensures end { result.status ≡ 0 → AtEnd (S.left source.new) }
     ensures source { result.status ≡ 3 → HasRisen (S.faults source.old) (S.faults source.new) }
     ensures sink { result.status ≡ 4 → HasRisen (K.faults sink.old) (K.faults sink.new) }

@@ -3,6 +3,7 @@ ghost use Rattle.std.specs.Prelude.{◌≡◌, ◌≤◌, length, IfOk, IfErr, O
 ghost use Rattle.paraid_base.specs.Told.{AtEnd, Gives};
 ghost use Rattle.paraid_record.specs.Range.{IsSetupInRange};
 ghost use Rattle.paraid_program.specs.Reading.{IsConfigured, IsUnread};
+ghost use Rattle.paraid_serve.specs.Streams.{source_use};
 
 use crate::Refusal;
 use paraid_config::{ConfigFault, read_config};
@@ -23,8 +24,8 @@ pub fn read_all<S: Source>(alloc: Global, source: &mut S) -> Result<Vec<u8>, Ref
         bytes.items) }
     ensures end { OnOk result (AtEnd (S.left source.new)) }
     ensures short { IfOk result (λ bytes. length bytes.items ≤ 65536) }
-    ensures unread { IfErr result (IsUnread (S.left source.old) (S.left source.new)
-        (S.faults source.old) (S.faults source.new)) }
+    ensures unread { IfErr result (IsUnread
+        (source_use S.left S.faults source.old source.new)) }
     ensures later { S.faults source.old ≤ S.faults source.new }
 {
     let mut bytes = Vec::new(alloc);
@@ -47,10 +48,10 @@ pub fn read_all<S: Source>(alloc: Global, source: &mut S) -> Result<Vec<u8>, Ref
 
 /// The setup that the bytes of a source say.
 pub fn read_setup<S: Source>(alloc: Global, source: &mut S) -> Result<Setup, Refusal>
-    ensures configured { IfOk result (IsConfigured (S.left source.old) (S.left source.new)) }
+    ensures configured { IfOk result (IsConfigured (source_use S.left S.faults source.old source.new)) }
     ensures range { IfOk result IsSetupInRange }
-    ensures unread { IfErr result (IsUnread (S.left source.old) (S.left source.new)
-        (S.faults source.old) (S.faults source.new)) }
+    ensures unread { IfErr result (IsUnread
+        (source_use S.left S.faults source.old source.new)) }
     ensures later { S.faults source.old ≤ S.faults source.new }
 {
     match read_all(alloc, source) {

@@ -1,7 +1,10 @@
 //! The word `run`.
-ghost use Rattle.std.specs.Prelude.{◌≡◌};
+ghost use Rattle.std.specs.Prelude.{◌≡◌, [], ◌∷◌};
+ghost use Rattle.paraid_program.specs.Statuses.{IsOneOf};
 ghost use Rattle.paraid_base.specs.Told.{HasRisen};
-ghost use Rattle.paraid_program.specs.Ends.{IsStatusOfRun, IsUnheard, MountsAndThen, ServesLines};
+ghost use Rattle.paraid_program.specs.Ends.{IsUnheard, MountsAndThen, ServesLines};
+ghost use Rattle.paraid_program.specs.Racks.{rack_use};
+ghost use Rattle.paraid_serve.specs.Streams.{sink_use, source_use};
 
 use crate::fault::tell_refusal;
 use crate::outside::{Ended, Outside};
@@ -18,14 +21,14 @@ pub fn run<S: Source, K: Sink, R: Rack, A: Serves, O: Outside<R, A>>(
     sink: &mut K,
     rack: R,
 ) -> Ended<R>
-    ensures run { MountsAndThen (R.slot_count rack) (R.slot rack) (R.slot result.rack) (R.told rack)
-        (R.told result.rack) (K.written sink.old) (K.written sink.new) result.status
-        (IsUnheard (S.left source.old) (S.left source.new) (S.faults source.old) (S.faults source.new))
-        (ServesLines (R.slot_count rack) (R.slot rack) (R.slot result.rack) (R.told result.rack)
-        (S.left source.old) (S.left source.new) (K.written sink.old) (K.written sink.new)
-        result.status) }
+    ensures run { MountsAndThen (rack_use R.slot_count R.slot R.told rack result.rack)
+        (sink_use K.written K.faults sink.old sink.new) result.status
+        (IsUnheard (source_use S.left S.faults source.old source.new))
+        (ServesLines (rack_use R.slot_count R.slot R.told rack result.rack)
+        (source_use S.left S.faults source.old source.new)
+        (sink_use K.written K.faults sink.old sink.new) result.status) }
     ensures slots { R.slot_count result.rack ≡ R.slot_count rack }
-    ensures status { IsStatusOfRun result.status }
+    ensures status { IsOneOf (0 ∷ 3 ∷ 4 ∷ 5 ∷ 6 ∷ 7 ∷ 10 ∷ 12 ∷ []) result.status }
     ensures source { result.status ≡ 3 → HasRisen (S.faults source.old) (S.faults source.new) }
     ensures sink { result.status ≡ 4 → HasRisen (K.faults sink.old) (K.faults sink.new) }
 {

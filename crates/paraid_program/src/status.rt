@@ -1,7 +1,10 @@
 //! The command `status`: mounts an array and tells its state in two lines, or why it was not mounted.
-ghost use Rattle.std.specs.Prelude.{◌≡◌};
+ghost use Rattle.std.specs.Prelude.{◌≡◌, [], ◌∷◌};
+ghost use Rattle.paraid_program.specs.Statuses.{IsOneOf};
 ghost use Rattle.paraid_base.specs.Told.{HasRisen};
-ghost use Rattle.paraid_program.specs.Showing.{IsShowStatus, Shows};
+ghost use Rattle.paraid_program.specs.Showing.{Shows};
+ghost use Rattle.paraid_program.specs.Racks.{rack_use};
+ghost use Rattle.paraid_serve.specs.Streams.{sink_use};
 
 use crate::fault::tell_refusal;
 use crate::outside::Ended;
@@ -16,10 +19,10 @@ use std::alloc::Global;
 /// The statuses are 0, the state was told; 4, the sink has failed; 5, two disks are down; 6, the
 /// disks in the slots make no array; 7, there was no memory; and 12, the array takes no more.
 pub fn show_state<K: Sink, R: Rack>(alloc: Global, sink: &mut K, rack: R) -> Ended<R>
-    ensures shows { Shows (R.slot_count rack) (R.slot rack) (R.slot result.rack) (R.told rack)
-        (R.told result.rack) (K.written sink.old) (K.written sink.new) result.status }
+    ensures shows { Shows (rack_use R.slot_count R.slot R.told rack result.rack)
+        (sink_use K.written K.faults sink.old sink.new) result.status }
     ensures slots { R.slot_count result.rack ≡ R.slot_count rack }
-    ensures status { IsShowStatus result.status }
+    ensures status { IsOneOf (0 ∷ 4 ∷ 5 ∷ 6 ∷ 7 ∷ 12 ∷ []) result.status }
     ensures sink { result.status ≡ 4 → HasRisen (K.faults sink.old) (K.faults sink.new) }
 {
     match mount(alloc, rack) {

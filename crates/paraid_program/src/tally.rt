@@ -1,5 +1,5 @@
 ghost use Rattle.std.specs.Prelude.{◌≡◌, ◌<◌, ◌+◌, ◌*◌, slice_index};
-ghost use Rattle.paraid_program.specs.Tally.{HasRoomForLine, first_two as first_two_of, empty_tally, tally_with_answer, tally_with_event};
+ghost use Rattle.paraid_program.specs.Tally.{HasRoomForLine, empty_tally, tally_with_answer, tally_with_event};
 
 use paraid_base::{Answer, Block, Event, TickEvent};
 
@@ -16,7 +16,7 @@ pub struct Tally {
 
 // The first two bytes of a block as a number.
 fn first_two(block: &Block) -> u64
-    ensures value { result ≡ first_two_of block.now }
+    ensures value { result ≡ 256 * slice_index block.now.bytes 0 + slice_index block.now.bytes 1 }
     ensures below { result < 65536 }
 {
     let bytes = block.as_slice();

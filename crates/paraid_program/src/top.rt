@@ -1,15 +1,19 @@
-ghost use Rattle.std.specs.Prelude.{◌≡◌, ◌≤◌, map, string_bytes};
+ghost use Rattle.std.specs.Prelude.{◌≡◌, ◌≤◌, map, string_bytes, [], ◌∷◌};
+ghost use Rattle.paraid_program.specs.Statuses.{IsOneOf};
 ghost use Rattle.paraid_base.specs.Told.{AtEnd, HasRisen};
 ghost use Rattle.paraid_serve.specs.Ending.{EndsWithLine};
-ghost use Rattle.paraid_program.specs.Clients.{IsStatusOfNbd, ServesNbdOrNot};
+ghost use Rattle.paraid_program.specs.Clients.{ServesNbdOrNot};
 ghost use Rattle.paraid_program.specs.Outcome.{Formats, IsFormatStatus};
-ghost use Rattle.paraid_program.specs.Ends.{ChecksArray, IsStatusOfCheck, IsStatusOfGen, IsStatusOfRun, IsUnheard, MountsAndThen, ServesGenerated, ServesLines};
+ghost use Rattle.paraid_program.specs.Ends.{ChecksArray, IsUnheard, MountsAndThen, ServesGenerated, ServesLines};
 ghost use Rattle.paraid_program.specs.Spares.{ServesSpares};
 ghost use Rattle.paraid_program.specs.Volumes.{ServesVolumes};
 ghost use Rattle.paraid_words.specs.Words.{AskFor, usage_line};
 ghost use Rattle.paraid_program.specs.CommandCompletes.{CompletesCommand};
 ghost use Rattle.paraid_program.specs.CommandDoes.{DoesCommand, ReadsSource, TakesSource};
 ghost use Rattle.paraid_words.specs.declared.command.Command.{Command as CommandType};
+ghost use Rattle.paraid_program.specs.Racks.{rack_use};
+ghost use Rattle.paraid_serve.specs.Streams.{sink_use, source_use};
+ghost use Rattle.paraid_sparing.specs.Session.{fresh_stock};
 
 use crate::arrays::Arrays;
 use crate::format::format_array;
@@ -33,10 +37,9 @@ fn format<S: Source, K: Sink, R: Rack>(
     sink: &mut K,
     mut rack: R,
 ) -> Ended<R>
-    ensures formats { Formats force (R.slot_count rack) (R.slot rack) (R.slot result.rack)
-        (R.told rack) (R.told result.rack) (S.left source.old) (S.left source.new)
-        (S.faults source.old) (S.faults source.new) (K.written sink.old) (K.written sink.new)
-        result.status }
+    ensures formats { Formats force (rack_use R.slot_count R.slot R.told rack result.rack)
+        (source_use S.left S.faults source.old source.new)
+        (sink_use K.written K.faults sink.old sink.new) result.status }
     ensures slots { R.slot_count result.rack ≡ R.slot_count rack }
     ensures status { IsFormatStatus result.status }
     ensures end { result.status ≡ 0 → AtEnd (S.left source.new) }
@@ -54,14 +57,14 @@ fn run<S: Source, K: Sink, R: Rack>(
     sink: &mut K,
     rack: R,
 ) -> Ended<R>
-    ensures run { MountsAndThen (R.slot_count rack) (R.slot rack) (R.slot result.rack) (R.told rack)
-        (R.told result.rack) (K.written sink.old) (K.written sink.new) result.status
-        (IsUnheard (S.left source.old) (S.left source.new) (S.faults source.old) (S.faults source.new))
-        (ServesLines (R.slot_count rack) (R.slot rack) (R.slot result.rack) (R.told result.rack)
-        (S.left source.old) (S.left source.new) (K.written sink.old) (K.written sink.new)
-        result.status) }
+    ensures run { MountsAndThen (rack_use R.slot_count R.slot R.told rack result.rack)
+        (sink_use K.written K.faults sink.old sink.new) result.status
+        (IsUnheard (source_use S.left S.faults source.old source.new))
+        (ServesLines (rack_use R.slot_count R.slot R.told rack result.rack)
+        (source_use S.left S.faults source.old source.new)
+        (sink_use K.written K.faults sink.old sink.new) result.status) }
     ensures slots { R.slot_count result.rack ≡ R.slot_count rack }
-    ensures status { IsStatusOfRun result.status }
+    ensures status { IsOneOf (0 ∷ 3 ∷ 4 ∷ 5 ∷ 6 ∷ 7 ∷ 10 ∷ 12 ∷ []) result.status }
     ensures end { result.status ≡ 0 → AtEnd (S.left source.new) }
     ensures source { result.status ≡ 3 → HasRisen (S.faults source.old) (S.faults source.new) }
     ensures sink { result.status ≡ 4 → HasRisen (K.faults sink.old) (K.faults sink.new) }
@@ -79,14 +82,15 @@ fn run_with_spares<S: Source, K: Sink, R: Rack>(
     stock: u8,
     wait: u32,
 ) -> Ended<R>
-    ensures run { MountsAndThen (R.slot_count rack) (R.slot rack) (R.slot result.rack) (R.told rack)
-        (R.told result.rack) (K.written sink.old) (K.written sink.new) result.status
-        (IsUnheard (S.left source.old) (S.left source.new) (S.faults source.old) (S.faults source.new))
-        (ServesSpares (R.slot_count rack) (R.slot rack) (R.slot result.rack) (R.told result.rack)
-        (S.left source.old) (S.left source.new) (K.written sink.old) (K.written sink.new)
-        stock wait result.status) }
+    ensures run { MountsAndThen (rack_use R.slot_count R.slot R.told rack result.rack)
+        (sink_use K.written K.faults sink.old sink.new) result.status
+        (IsUnheard (source_use S.left S.faults source.old source.new))
+        (ServesSpares (rack_use R.slot_count R.slot R.told rack result.rack)
+        (source_use S.left S.faults source.old source.new)
+        (sink_use K.written K.faults sink.old sink.new)
+        (record { wait = wait; stock = fresh_stock stock }) result.status) }
     ensures slots { R.slot_count result.rack ≡ R.slot_count rack }
-    ensures status { IsStatusOfRun result.status }
+    ensures status { IsOneOf (0 ∷ 3 ∷ 4 ∷ 5 ∷ 6 ∷ 7 ∷ 10 ∷ 12 ∷ []) result.status }
     ensures end { result.status ≡ 0 → AtEnd (S.left source.new) }
     ensures source { result.status ≡ 3 → HasRisen (S.faults source.old) (S.faults source.new) }
     ensures sink { result.status ≡ 4 → HasRisen (K.faults sink.old) (K.faults sink.new) }
@@ -104,12 +108,12 @@ fn generate<K: Sink, R: Rack>(
     lines: u32,
 ) -> Ended<R>
     requires few { lines ≤ 1000000 }
-    ensures run { MountsAndThen (R.slot_count rack) (R.slot rack) (R.slot result.rack) (R.told rack)
-        (R.told result.rack) (K.written sink.old) (K.written sink.new) result.status (Unit {0})
-        (ServesGenerated (R.slot_count rack) (R.slot rack) (R.slot result.rack) (R.told result.rack)
-        (K.written sink.old) (K.written sink.new) number lines result.status) }
+    ensures run { MountsAndThen (rack_use R.slot_count R.slot R.told rack result.rack)
+        (sink_use K.written K.faults sink.old sink.new) result.status (Unit {0})
+        (ServesGenerated (rack_use R.slot_count R.slot R.told rack result.rack)
+        (record { number = number; count = lines; sink = (sink_use K.written K.faults sink.old sink.new) }) result.status) }
     ensures slots { R.slot_count result.rack ≡ R.slot_count rack }
-    ensures status { IsStatusOfGen result.status }
+    ensures status { IsOneOf (0 ∷ 4 ∷ 5 ∷ 6 ∷ 7 ∷ 12 ∷ []) result.status }
     ensures sink { result.status ≡ 4 → HasRisen (K.faults sink.old) (K.faults sink.new) }
 {
     let arrays = Arrays::new(alloc);
@@ -118,12 +122,12 @@ fn generate<K: Sink, R: Rack>(
 
 // Mounts one, and counts what is false.
 fn check<K: Sink, R: Rack>(alloc: Global, sink: &mut K, rack: R) -> Ended<R>
-    ensures run { MountsAndThen (R.slot_count rack) (R.slot rack) (R.slot result.rack) (R.told rack)
-        (R.told result.rack) (K.written sink.old) (K.written sink.new) result.status (Unit {0})
-        (ChecksArray (R.slot_count rack) (R.slot rack) (R.slot result.rack) (R.told result.rack)
-        (K.written sink.old) (K.written sink.new) result.status) }
+    ensures run { MountsAndThen (rack_use R.slot_count R.slot R.told rack result.rack)
+        (sink_use K.written K.faults sink.old sink.new) result.status (Unit {0})
+        (ChecksArray (rack_use R.slot_count R.slot R.told rack result.rack)
+        (sink_use K.written K.faults sink.old sink.new) result.status) }
     ensures slots { R.slot_count result.rack ≡ R.slot_count rack }
-    ensures status { IsStatusOfCheck result.status }
+    ensures status { IsOneOf (0 ∷ 4 ∷ 5 ∷ 6 ∷ 7 ∷ 12 ∷ 13 ∷ []) result.status }
     ensures sink { result.status ≡ 4 → HasRisen (K.faults sink.old) (K.faults sink.new) }
 {
     let arrays = Arrays::new(alloc);
@@ -137,12 +141,11 @@ fn nbd<S: Source, K: Sink, R: Rack>(
     sink: &mut K,
     rack: R,
 ) -> Ended<R>
-    ensures nbd { ServesNbdOrNot (R.slot_count rack) (R.slot rack) (R.slot result.rack) (R.told rack)
-        (R.told result.rack) (S.left source.old) (S.left source.new) (S.faults source.old)
-        (S.faults source.new) (K.written sink.old) (K.written sink.new) (K.faults sink.old)
-        (K.faults sink.new) result.status }
+    ensures nbd { ServesNbdOrNot (rack_use R.slot_count R.slot R.told rack result.rack)
+        (source_use S.left S.faults source.old source.new)
+        (sink_use K.written K.faults sink.old sink.new) result.status }
     ensures slots { R.slot_count result.rack ≡ R.slot_count rack }
-    ensures status { IsStatusOfNbd result.status }
+    ensures status { IsOneOf (0 ∷ 3 ∷ 4 ∷ 5 ∷ 6 ∷ 7 ∷ 10 ∷ 12 ∷ 14 ∷ []) result.status }
     ensures source { result.status ≡ 3 → HasRisen (S.faults source.old) (S.faults source.new) }
     ensures sink { result.status ≡ 4 → HasRisen (K.faults sink.old) (K.faults sink.new) }
 {
@@ -157,14 +160,14 @@ fn vol<S: Source, K: Sink, R: Rack>(
     sink: &mut K,
     rack: R,
 ) -> Ended<R>
-    ensures run { MountsAndThen (R.slot_count rack) (R.slot rack) (R.slot result.rack) (R.told rack)
-        (R.told result.rack) (K.written sink.old) (K.written sink.new) result.status
-        (IsUnheard (S.left source.old) (S.left source.new) (S.faults source.old) (S.faults source.new))
-        (ServesVolumes (R.slot_count rack) (R.slot rack) (R.slot result.rack) (R.told result.rack)
-        (S.left source.old) (S.left source.new) (K.written sink.old) (K.written sink.new)
-        result.status) }
+    ensures run { MountsAndThen (rack_use R.slot_count R.slot R.told rack result.rack)
+        (sink_use K.written K.faults sink.old sink.new) result.status
+        (IsUnheard (source_use S.left S.faults source.old source.new))
+        (ServesVolumes (rack_use R.slot_count R.slot R.told rack result.rack)
+        (source_use S.left S.faults source.old source.new)
+        (sink_use K.written K.faults sink.old sink.new) result.status) }
     ensures slots { R.slot_count result.rack ≡ R.slot_count rack }
-    ensures status { IsStatusOfRun result.status }
+    ensures status { IsOneOf (0 ∷ 3 ∷ 4 ∷ 5 ∷ 6 ∷ 7 ∷ 10 ∷ 12 ∷ []) result.status }
     ensures end { result.status ≡ 0 → AtEnd (S.left source.new) }
     ensures source { result.status ≡ 3 → HasRisen (S.faults source.old) (S.faults source.new) }
     ensures sink { result.status ≡ 4 → HasRisen (K.faults sink.old) (K.faults sink.new) }
@@ -203,15 +206,13 @@ pub fn paraid<S: Source, K: Sink, R: Rack>(
     rack: R,
 ) -> Ended<R>
     ensures does { (c : CommandType) → AskFor c (map string_bytes words.now.items)
-        → DoesCommand (R.slot_count rack) (R.slot rack) (R.slot result.rack) (R.told rack)
-        (R.told result.rack) (S.left source.old) (S.left source.new) (S.faults source.old)
-        (S.faults source.new) (K.faults sink.old) (K.faults sink.new) (K.written sink.old)
-        (K.written sink.new) result.status c }
+        → DoesCommand (rack_use R.slot_count R.slot R.told rack result.rack)
+        (source_use S.left S.faults source.old source.new)
+        (sink_use K.written K.faults sink.old sink.new) result.status c }
     ensures complete { (c : CommandType) → AskFor c (map string_bytes words.now.items)
-        → CompletesCommand (R.slot_count rack) (R.slot rack) (R.slot result.rack) (R.told rack)
-        (R.told result.rack) (S.left source.old) (S.left source.new) (S.faults source.old)
-        (S.faults source.new) (K.faults sink.old) (K.faults sink.new) (K.written sink.old)
-        (K.written sink.new) result.status c }
+        → CompletesCommand (rack_use R.slot_count R.slot R.told rack result.rack)
+        (source_use S.left S.faults source.old source.new)
+        (sink_use K.written K.faults sink.old sink.new) result.status c }
     ensures end { (c : CommandType) → TakesSource c
         → AskFor c (map string_bytes words.now.items)
         → result.status ≡ 0 → AtEnd (S.left source.new) }

@@ -36,5 +36,8 @@ on_all (Err e) x = tt
 pub one_later : (a b new : ℕ) → b ≡ a → new ≡ b + 1 → new ≤ a + 1
 one_later a b new same next = omega arith
 
+pub no_earlier : (a b new : ℕ) → b ≡ a → new ≡ b + 1 → a ≤ new
+no_earlier a b new same next = omega arith
+
 pub two_later : (a b new : ℕ) → b ≤ a + 1 → new ≤ b + 1 → new ≤ a + 2
 two_later a b new first second = omega arith

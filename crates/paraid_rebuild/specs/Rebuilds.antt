@@ -34,10 +34,11 @@ pub record HasCommitted {R : Type 0} {g : Ghosts R} (core : Core R g) (out : Opt
   pub absent : IsNamedOrAbsent g.slot core
   pub named : named_of core.store ≡ out
 
--- The core serves on at most so many commits later, with nothing staged and the dirty table as it was.
+-- The core serves on, no earlier and at most so many commits later, with nothing staged and the dirty table as it was.
 pub record ServesLater {R : Type 0} {g : Ghosts R} (old new : Core R g) (commits : ℕ) : Type 0 where
   pub serving : IsCoreServing g.slot_count g.slot new
   pub nothing : new.batch ≡ []
+  pub later : old.meta.epoch ≤ new.meta.epoch
   pub few : new.meta.epoch ≤ old.meta.epoch + commits
   pub table : new.dirty ≡ old.dirty
 

@@ -9,7 +9,7 @@ use Rattle.paraid_base.specs.declared.fault.Two.{Two}
 use Rattle.paraid_rack.specs.declared.call.Call.{Call}
 use Rattle.paraid_rack.specs.Trail.{Trail}
 use Rattle.paraid_record.specs.declared.meta.Setup.{Setup}
-use Rattle.paraid_serve.specs.Stretch.{EndsStretch, Turn, TurnsLead}
+use Rattle.paraid_serve.specs.Stretch.{EndsStretch, Turn, TurnsLead, span_of}
 use Rattle.paraid_session.specs.Turn.{IsTurn, IsWorn, LosesSecondDisk, Point, halt_told}
 use Rattle.paraid_session.specs.Turn.IsTurn.{again, answered, bad, two, worn}
 use Rattle.paraid_serve.proofs.OutcomeLemmas.{step_goes}
@@ -100,7 +100,7 @@ module _ (slots : ℕ) (setup : Setup) where
   halted_by p q e a cs halt (bad b told none same) is = absurd (let z : IsBad ≡ Halted halt = sym told ∙ is in cc)
 
   -- Events of which the last was answered with a halt come to the turn in which it came.
-  pub ends_at_cause : (start final : Option Trail) (p : Point) (events : List Event) (halt : Halt) (e : EndsStretch slots setup start final p events (Halted halt)) → p.halt ≡ None → MeetsHalt slots setup p e.all.turns halt
+  pub ends_at_cause : (start final : Option Trail) (p : Point) (events : List Event) (halt : Halt) (e : EndsStretch (span_of slots setup start final) p events (Halted halt)) → p.halt ≡ None → MeetsHalt slots setup p e.all.turns halt
   ends_at_cause start final p events halt e none =
       let last = last_turn p e.all.end e.before e.last (subst (λ (ts : List Turn). TurnsLead slots setup p ts e.all.end) e.split e.all.went) in
       meets p e.all.end e.all.turns halt none e.all.went (halted_by last.0 e.all.end e.last.event e.last.answer e.last.calls halt last.1 e.answered)

@@ -24,7 +24,8 @@ use Rattle.paraid_serve.specs.Output.IsLeftByStretch.{two_down as left_two, rest
 use Rattle.paraid_serve.specs.Output.OutputText.{done as text_done, halted as text_halted, source as text_source, too_long as text_long}
 use Rattle.paraid_serve.specs.Output.WritesOutput.{whole as wrote_whole, last_line as wrote_last, answers as wrote_answers}
 use Rattle.paraid_serve.specs.Causes.{Shown}
-use Rattle.paraid_serve.specs.Stretch.{EndsStretch, Stretch, Turn, TurnsLead, events_in, turn_calls}
+use Rattle.paraid_serve.specs.Streams.{Streams}
+use Rattle.paraid_serve.specs.Stretch.{EndsStretch, Span, Stretch, Turn, TurnsLead, events_in, turn_calls}
 use Rattle.paraid_session.specs.Turn.{IsMark, IsTurn, Point, with_halt}
 use Rattle.paraid_session.specs.Turn.IsTurn.{again, answered, bad, two, worn}
 
@@ -74,12 +75,12 @@ went_disks slots setup p q (t ∷ ts) went =
     went_disks slots setup went.0 q ts went.2 ∙ ap (λ (s : Disks). run s (turn_calls ts)) (turn_disks slots setup p went.0 t went.1) ∙ sym (run-append p.disks t.calls (turn_calls ts))
 
 -- A stretch from a mark ends on a rack that held the history of its end, unless two disks are down.
-pub stretch_leaves : (slots : ℕ) (setup : Setup) (start final : Option Trail) (p : Point) (events : List Event) (c : Stretch slots setup start final p events) → IsMark slots setup p → p.disks ≡ now c.from → IsLeftByStretch slots c
-stretch_leaves slots setup start final p events c mark here =
-    let there : c.end.disks ≡ now c.to = went_disks slots setup p c.end c.turns c.went ∙ ap (λ (s : Disks). run s (turn_calls c.turns)) here ∙ sym (now-extend c.from (turn_calls c.turns)) ∙ ap now (sym c.calls) in
-    elim (went_over slots setup p c.end c.turns (rests mark) c.went) [
+pub stretch_leaves : (span : Span) (p : Point) (events : List Event) (c : Stretch span p events) → IsMark span.slots span.setup p → p.disks ≡ now c.from → IsLeftByStretch c
+stretch_leaves span p events c mark here =
+    let there : c.end.disks ≡ now c.to = went_disks span.slots span.setup p c.end c.turns c.went ∙ ap (λ (s : Disks). run s (turn_calls c.turns)) here ∙ sym (now-extend c.from (turn_calls c.turns)) ∙ ap now (sym c.calls) in
+    elim (went_over span.slots span.setup p c.end c.turns (rests mark) c.went) [
       | two_down pair halted ↦ left_two pair halted
-      | rests m ↦ left_rests (subst (λ (s : Disks). IsRunStart slots s c.end.history c.end.low (named_out c.end.state.out)) there (mark_entry slots setup c.end m))
+      | rests m ↦ left_rests (subst (λ (s : Disks). IsRunStart span.slots s c.end.history c.end.low (named_out c.end.state.out)) there (mark_entry span.slots span.setup c.end m))
     ]
 
 -- the last turn of a session
@@ -101,34 +102,33 @@ same_trail o a b e f = some_same a b (sym e ∙ f)
     some_same : (a b : Trail) → Some a ≡ Some b → a ≡ b
     some_same a b e = cc
 
-module _ (slots : ℕ) (setup : Setup) (start final : Option Trail) (p : Point) (mark : IsMark slots setup p) (here : (t : Trail) → start ≡ Some t → p.disks ≡ now t) where
+module _ (span : Span) (p : Point) (mark : IsMark span.slots span.setup p) (here : (t : Trail) → span.start ≡ Some t → p.disks ≡ now t) where
   -- where the last answer is that to a flush, nothing is loose
-  ends_synced : (events : List Event) (writes : ℕ) (e : EndsStretch slots setup start final p events (Flushed writes)) → AreSynced (now e.all.to)
+  ends_synced : (events : List Event) (writes : ℕ) (e : EndsStretch span p events (Flushed writes)) → AreSynced (now e.all.to)
   ends_synced events writes e =
-      let last = last_turn slots setup p e.all.end e.before e.last (subst (λ (ts : List Turn). TurnsLead slots setup p ts e.all.end) e.split e.all.went) in
-      let going = flushed_going slots setup last.0 e.all.end e.last.event e.last.answer e.last.calls writes last.1 e.answered in
-      elim (stretch_leaves slots setup start final p events e.all mark (here e.all.from e.all.was)) [
+      let last = last_turn span.slots span.setup p e.all.end e.before e.last (subst (λ (ts : List Turn). TurnsLead span.slots span.setup p ts e.all.end) e.split e.all.went) in
+      let going = flushed_going span.slots span.setup last.0 e.all.end e.last.event e.last.answer e.last.calls writes last.1 e.answered in
+      elim (stretch_leaves span p events e.all mark (here e.all.from e.all.was)) [
         | left_two pair halted ↦ absurd (none_some e.all.end.halt (HaltTwo pair) going halted)
         | left_rests r ↦ r.synced
       ]
 
-  text_synced : (bytes : List ℕ) (code : ℕ) (text : List ℕ) → OutputText slots setup start final p bytes code text → code ≡ 0 → (t : Trail) → final ≡ Some t → AreSynced (now t)
+  text_synced : (bytes : List ℕ) (code : ℕ) (text : List ℕ) → OutputText span p bytes code text → code ≡ 0 → (t : Trail) → span.now ≡ Some t → AreSynced (now t)
   text_synced bytes code text (text_done writes e) zero t tells =
-      subst (λ (u : Trail). AreSynced (now u)) (same_trail final e.all.to t e.all.is tells) (ends_synced (events_in (lines_of bytes) ++ Flush ∷ []) writes e)
+      subst (λ (u : Trail). AreSynced (now u)) (same_trail span.now e.all.to t e.all.is tells) (ends_synced (events_in (lines_of bytes) ++ Flush ∷ []) writes e)
   text_synced bytes code text (text_halted (HaltTwo pair) e) zero t tells = absurd (omega (arith, zero))
   text_synced bytes code text (text_halted (Worn count) e) zero t tells = absurd (omega (arith, zero))
   text_synced bytes code text (text_source c) zero t tells = absurd (omega (arith, zero))
   text_synced bytes code text (text_long ten c) zero t tells = absurd (omega (arith, zero))
 
-  pub output_synced : (bytes : List ℕ) (status : ℕ) (text : List ℕ) → WritesOutput slots setup start final p bytes status text → status ≡ 0 → (t : Trail) → final ≡ Some t → AreSynced (now t)
+  pub output_synced : (bytes : List ℕ) (status : ℕ) (text : List ℕ) → WritesOutput span p bytes status text → status ≡ 0 → (t : Trail) → span.now ≡ Some t → AreSynced (now t)
   output_synced bytes status text (wrote_whole out) zero = text_synced bytes status text out zero
   output_synced bytes status text (wrote_last four code full rest out front) zero = absurd (omega (arith, four, zero))
   output_synced bytes status text (wrote_answers four lines more rest lines_are c front) zero = absurd (omega (arith, four, zero))
 
-pub headline : (seen seen_now : Shown) (slots : ℕ) (setup : Setup) (began : ℕ) (stood : Point → Type 0) (start final : Option Trail) (left_before left written_before written : Option (List ℕ)) (status : ℕ)
-    → IsMountedFromEach slots setup began start stood → ProgramRun seen seen_now slots setup stood start final left_before left written_before written status
-    → Headline seen seen_now slots setup began start final left_before left written_before written status
-headline seen seen_now slots setup began stood start final left_before left written_before written status mounted r = record {
+pub headline : (seen seen_now : Shown) (span : Span) (began : ℕ) (stood : Point → Type 0) (streams : Streams) (status : ℕ)
+    → IsMountedFromEach span.slots span.setup began span.start stood → ProgramRun seen seen_now span stood streams status → Headline seen seen_now span began streams status
+headline seen seen_now span began stood streams status mounted r = record {
   bytes = r.bytes;
   text = r.text;
   given = r.given;
@@ -136,10 +136,10 @@ headline seen seen_now slots setup began stood start final left_before left writ
   full = r.full;
   all = r.all;
   form = r.form;
-  said = λ t. IsMountedFromEach-follows slots setup began start stood (FollowsFromPoint slots setup start final r.bytes status r.text)
+  said = λ t. IsMountedFromEach-follows span.slots span.setup began span.start stood (FollowsFromPoint span r.bytes status r.text)
       (λ p mark here at_p. record {
         wrote = r.wrote t p at_p;
-        left = λ events c. stretch_leaves slots setup start final p events c mark (here c.from c.was);
-        synced = output_synced slots setup start final p mark here r.bytes status r.text (r.wrote t p at_p);
+        left = λ events c. stretch_leaves span p events c mark (here c.from c.was);
+        synced = output_synced span p mark here r.bytes status r.text (r.wrote t p at_p);
       }) mounted;
 }

@@ -1,10 +1,10 @@
 -- To each line that is answered belongs one answer more.
-use Rattle.std.proofs.Common.{◌≡◌, ◌≢◌, ℕ, true, List, Some, [], ◌∷◌, ◌++◌, refl, sym, ap, ◌∙◌, subst}
+use Rattle.std.proofs.Common.{◌≡◌, ◌≢◌, ℕ, ◌+◌, ◌≤◌, List, Some, [], ◌∷◌, ◌++◌, refl, sym, ap, ◌∙◌, subst, arith}
 use Rattle.std.proofs.lemmas.List.{append_assoc, append-nil}
 use Rattle.paraid_base.specs.declared.event.Answer.{Answer}
 use Rattle.paraid_base.specs.declared.event.Answer.TheVariants.{Bad as IsBad, Halted}
 use Rattle.paraid_base.specs.declared.event.Event.{Event}
-use Rattle.paraid_base.specs.declared.event.Event.TheVariants.{Read, Write, Flush, Tick, Up, Down, Fail, Replace, State as AskState, Energy as AskEnergy, Bad}
+use Rattle.paraid_base.specs.declared.event.Event.TheVariants.{Bad}
 use Rattle.paraid_base.specs.declared.fault.Halt.{Halt}
 use Rattle.paraid_base.specs.declared.pairs.Pairs.{Pairs}
 use Rattle.paraid_trace.specs.Asked.{event_with}
@@ -12,7 +12,7 @@ use Rattle.paraid_trace.specs.declared.asked.Asked.{Asked}
 use Rattle.paraid_trace.specs.declared.asked.Asked.TheVariants.{Read as AskRead, Write as AskWrite, Flush as AskFlush, Tick as AskTick, Up as AskUp, Down as AskDown, Fail as AskFail, Replace as AskReplace, State as AskTellState, Energy as AskTellEnergy, Bad as AskBad}
 use Rattle.paraid_trace.specs.LineEvents.{event_of}
 use Rattle.paraid_trace.specs.Replies.{reply_of}
-use Rattle.paraid_serve.specs.Causes.{HasCause, HaveCauses, Shown}
+use Rattle.paraid_serve.specs.Causes.{CommitsFew, HasCause, HaveCauses, Shown, most_commits}
 use Rattle.paraid_serve.specs.Form.{HasAnswers, texts}
 use Rattle.paraid_serve.specs.Causes.HasReason.{again as reason_again, bad as reason_bad}
 use Rattle.paraid_session.proofs.FaultLemmas.{same_counts}
@@ -37,12 +37,22 @@ texts_push : (answers : List Answer) (answer : Answer) → texts (answers ++ ans
 texts_push [] answer = append-nil (reply_of answer)
 texts_push (a ∷ answers) answer = ap (λ (l : List ℕ). reply_of a ++ l) (texts_push answers answer) ∙ sym (append_assoc (reply_of a) (texts answers) (reply_of answer))
 
+none_more : (n m : ℕ) → n ≤ n + m
+none_more n m = omega arith
+
+-- no commit was made
+pub commits_none : (x : Shown) (most : ℕ) → CommitsFew x x most
+commits_none x most = record { later = le_same x.meta.epoch; few = none_more x.meta.epoch most }
+  where
+    le_same : (n : ℕ) → n ≤ n
+    le_same n = omega arith
+
 -- with nothing done
 pub bad_cause : (x : Shown) → HasCause x Bad IsBad x
-bad_cause x = record { reason = reason_bad refl refl refl; setup = refl; halt = λ not. absurd (not refl); gear = λ not. absurd (not refl); counts = record { samples = refl; served = refl }; later = same_counts x.slot }
+bad_cause x = record { reason = reason_bad refl refl refl; setup = refl; halt = λ not. absurd (not refl); gear = λ not. absurd (not refl); counts = record { samples = refl; served = refl }; commits = λ going. commits_none x 0; later = same_counts x.slot }
 
 pub again_cause : (x : Shown) (event : Event) (halt : Halt) → event ≢ Bad → x.halt ≡ Some halt → HasCause x event (Halted halt) x
-again_cause x event halt good is = record { reason = reason_again halt is good refl refl; setup = refl; halt = λ not. is; gear = λ not. refl; counts = tt; later = same_counts x.slot }
+again_cause x event halt good is = record { reason = reason_again halt is good refl refl; setup = refl; halt = λ not. is; gear = λ not. refl; counts = tt; commits = λ going. commits_none x (most_commits x event); later = same_counts x.slot }
 
 pub causes_push : (old mid new : Shown) (events : List Event) (answers : List Answer) (event : Event) (answer : Answer) → HaveCauses old events answers mid → HasCause mid event answer new
     → HaveCauses old (events ++ event ∷ []) (answers ++ answer ∷ []) new

@@ -12,3 +12,4 @@ pub mod CauseLemmas
 pub mod StatusLemmas
 pub mod CauseLaws
 pub mod OwedLemmas
+pub mod OneAnswerLemmas

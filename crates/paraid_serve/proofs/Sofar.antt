@@ -22,16 +22,26 @@ use Rattle.paraid_serve.specs.Causes.{HasCause, Shown}
 use Rattle.paraid_serve.specs.Form.{HasAnswers}
 use Rattle.paraid_serve.specs.Session.{ServesSession}
 use Rattle.paraid_serve.proofs.FormLemmas.{answers_push, no_answers}
-use Rattle.paraid_serve.specs.Stretch.{EndsStretch, Stretch, events_in, replies, turn_with}
+use Rattle.paraid_serve.specs.Streams.{streams_of}
+use Rattle.paraid_serve.specs.Uses.{SinkUse, SourceUse}
+use Rattle.paraid_serve.specs.Stretch.{EndsStretch, Span, Stretch, events_in, replies, span_of, turn_with}
 use Rattle.paraid_session.specs.Turn.{GoesOn, Point}
 use Rattle.paraid_serve.specs.declared.stop.Stop.TheVariants.{Source, TooLong, Sink, Halt as Halts}
 use Rattle.paraid_serve.proofs.StretchLemmas.{More, events_in-push, replies-push, stretch_more, stretch_none}
 
 -- so many lines were answered, and the array stands at the last point
-pub record Said (slots : ℕ) (setup : Setup) (start now : Option Trail) (p : Point) (lines : List (List ℕ)) (text : List ℕ) (stood : Point → Type 0) : Type 0 where
-  pub all : Stretch slots setup start now p (events_in lines)
+pub record Said (span : Span) (p : Point) (lines : List (List ℕ)) (text : List ℕ) (stood : Point → Type 0) : Type 0 where
+  pub all : Stretch span p (events_in lines)
   pub text_is : text ≡ replies all.turns
   pub stands : stood all.end
+
+-- a source with this left before and after, and these counts of faults
+abbrev pub source_from : Option (List ℕ) → Option (List ℕ) → ℕ → ℕ → SourceUse
+source_from before after was is = record { left_before = before; left = after; faults_before = was; faults = is }
+
+-- a sink with this written before and after, and these counts
+abbrev pub sink_from : Option (List ℕ) → Option (List ℕ) → ℕ → ℕ → SinkUse
+sink_from before after was is = record { written_before = before; written = after; faults_before = was; faults = is }
 
 pub record Sofar (seen seen_now : Shown) (slots : ℕ) (setup : Setup) (first : Point → Type 0) (left_before left written_before written : Option (List ℕ)) (start now : Option Trail) (stood : Point → Type 0) (reader : Reading) : Type 0 where
   pub bytes : List ℕ
@@ -49,7 +59,7 @@ pub record Sofar (seen seen_now : Shown) (slots : ℕ) (setup : Setup) (first : 
   pub grows : GrowsByBytes written_before written text
   pub form : HasAnswers seen answered text seen_now
   pub tells : IsSome now → IsSome start
-  pub said : IsSome now → (p : Point) → first p → Said slots setup start now p answered text stood
+  pub said : IsSome now → (p : Point) → first p → Said (span_of slots setup start now) p answered text stood
 
 pub sofar_start : (seen : Shown) (slots : ℕ) (setup : Setup) (left written : Option (List ℕ)) (start : Option Trail) (stood : Point → Type 0) → Sofar seen seen slots setup stood left left written written start start stood (fresh_reader 0)
 sofar_start seen slots setup left written start stood = record {
@@ -106,18 +116,18 @@ was_open {a = true} {b} f e = absurd (false≢true (sym e ∙ f refl))
 was_open {a = false} {b} f e = refl
 
 -- one event more, of a line or of none
-one_event : {slots : ℕ} {setup : Setup} {start now : Option Trail} {p : Point} {lines : List (List ℕ)} {text : List ℕ} {stood : Point → Type 0} (said : Said slots setup start now p lines text stood)
-    → (event : Event) (answer : Answer) (later : Option Trail) (new_stood : Point → Type 0) (slots_now : ℕ) (setup_now : Setup) → slots_now ≡ slots → setup_now ≡ setup
-    → ((q : Point) → stood q → Ran now later (GoesOn slots_now setup_now q event answer new_stood)) → IsSome later → More said.all later event answer new_stood
-one_event {slots} {setup} {start} {now} {p} {lines} {text} {stood} said event answer later new_stood slots_now setup_now same_slots same_setup goes t =
+one_event : {span : Span} {p : Point} {lines : List (List ℕ)} {text : List ℕ} {stood : Point → Type 0} (said : Said span p lines text stood)
+    → (event : Event) (answer : Answer) (later : Option Trail) (new_stood : Point → Type 0) (slots_now : ℕ) (setup_now : Setup) → slots_now ≡ span.slots → setup_now ≡ span.setup
+    → ((q : Point) → stood q → Ran span.now later (GoesOn slots_now setup_now q event answer new_stood)) → IsSome later → More said.all later event answer new_stood
+one_event {span} {p} {lines} {text} {stood} said event answer later new_stood slots_now setup_now same_slots same_setup goes t =
     stretch_more said.all later event answer stood new_stood said.stands
-    (λ q is. subst (λ (k : ℕ). Ran now later (GoesOn k setup q event answer new_stood)) same_slots (subst (λ (u : Setup). Ran now later (GoesOn slots_now u q event answer new_stood)) same_setup (goes q is))) t
+    (λ q is. subst (λ (k : ℕ). Ran span.now later (GoesOn k span.setup q event answer new_stood)) same_slots (subst (λ (u : Setup). Ran span.now later (GoesOn slots_now u q event answer new_stood)) same_setup (goes q is))) t
 
 module _ {seen seen_now : Shown} {slots : ℕ} {setup : Setup} {first : Point → Type 0} {left_before left after written_before written : Option (List ℕ)} {start now : Option Trail} {stood : Point → Type 0} {old new : Reading} (s : Sofar seen seen_now slots setup first left_before left written_before written start now stood old) where
   -- what is said with one line more
   one_more : {event : Event} (h : HearsLine left after old new (Ok (Some event))) → (answer : Answer) (later : Option Trail) (new_stood : Point → Type 0) (slots_now : ℕ) (setup_now : Setup) → slots_now ≡ slots → setup_now ≡ setup
       → (IsSome later → IsSome now) → ((q : Point) → stood q → Ran now later (GoesOn slots_now setup_now q event answer new_stood))
-      → IsSome later → (p : Point) → first p → Said slots setup start later p (s.answered ++ h.says.0 ∷ []) (s.text ++ reply_of answer) new_stood
+      → IsSome later → (p : Point) → first p → Said (span_of slots setup start later) p (s.answered ++ h.says.0 ∷ []) (s.text ++ reply_of answer) new_stood
   one_more {event} h answer later new_stood slots_now setup_now same_slots same_setup tells goes t p f =
       let is : event ≡ event_of h.says.0 = h.says.1 in
       let said = s.said (tells t) p f in
@@ -172,7 +182,7 @@ module _ {seen seen_now : Shown} {slots : ℕ} {setup : Setup} {first : Point �
   ended : (h : HearsLine left after old new (Ok None)) → (answer : Answer) (later : Option Trail) (new_stood : Point → Type 0) (slots_now : ℕ) (setup_now : Setup) → slots_now ≡ slots → setup_now ≡ setup
       → (IsSome later → IsSome now) → ((q : Point) → stood q → Ran now later (GoesOn slots_now setup_now q Flush answer new_stood))
       → IsSome later → (p : Point) → first p
-      → (e : EndsStretch slots setup start later p (events_in (lines_of (s.bytes ++ h.got)) ++ Flush ∷ []) answer) × (s.text ≡ replies e.before)
+      → (e : EndsStretch (span_of slots setup start later) p (events_in (lines_of (s.bytes ++ h.got)) ++ Flush ∷ []) answer) × (s.text ≡ replies e.before)
   ended h answer later new_stood slots_now setup_now same_slots same_setup tells goes t p f =
       let said = s.said (tells t) p f in
       let more = one_event said Flush answer later new_stood slots_now setup_now same_slots same_setup goes t in (
@@ -204,9 +214,9 @@ module _ {seen seen_now : Shown} {slots : ℕ} {setup : Setup} {first : Point �
   )
 
   module _ (h : HearsLine left after old new (Ok None)) (later : Option Trail) (new_stood : Point → Type 0) (slots_now : ℕ) (setup_now : Setup) (same_slots : slots_now ≡ slots) (same_setup : setup_now ≡ setup) (tells : IsSome later → IsSome now) where
-    pub ends_well : (writes : ℕ) → (seen_later : Shown) → HasCause seen_now Flush (Flushed writes) seen_later → ((q : Point) → stood q → Ran now later (GoesOn slots_now setup_now q Flush (Flushed writes) new_stood))
-        → ServesSession seen seen_later slots setup first start later left_before after written_before written (Ok writes)
-    ends_well writes seen_later cause goes = record {
+    pub ends_well : {a b m n : ℕ} (writes : ℕ) → (seen_later : Shown) → HasCause seen_now Flush (Flushed writes) seen_later → ((q : Point) → stood q → Ran now later (GoesOn slots_now setup_now q Flush (Flushed writes) new_stood))
+        → ServesSession seen seen_later (span_of slots setup start later) first (streams_of (source_from left_before after a b) (sink_from written_before written m n)) (Ok writes)
+    ends_well {a} {b} {m} {n} writes seen_later cause goes = record {
       bytes = s.bytes ++ h.got;
       text = s.text;
       given = Gives-then left_before left after s.bytes h.got s.given h.given;
@@ -216,9 +226,9 @@ module _ {seen seen_now : Shown} {slots : ℕ} {setup : Setup} {first : Point �
       answered = ended h (Flushed writes) later new_stood slots_now setup_now same_slots same_setup tells goes;
     }
 
-    pub ends_halted : (halt : Halt) → (seen_later : Shown) → HasCause seen_now Flush (Halted halt) seen_later → ((q : Point) → stood q → Ran now later (GoesOn slots_now setup_now q Flush (Halted halt) new_stood))
-        → ServesSession seen seen_later slots setup first start later left_before after written_before written (Err (Halts halt))
-    ends_halted halt seen_later cause goes = record {
+    pub ends_halted : {a b m n : ℕ} (halt : Halt) → (seen_later : Shown) → HasCause seen_now Flush (Halted halt) seen_later → ((q : Point) → stood q → Ran now later (GoesOn slots_now setup_now q Flush (Halted halt) new_stood))
+        → ServesSession seen seen_later (span_of slots setup start later) first (streams_of (source_from left_before after a b) (sink_from written_before written m n)) (Err (Halts halt))
+    ends_halted {a} {b} {m} {n} halt seen_later cause goes = record {
       bytes = s.bytes ++ h.got;
       text = s.text;
       given = Gives-then left_before left after s.bytes h.got s.given h.given;
@@ -232,13 +242,13 @@ module _ {seen seen_now : Shown} {slots : ℕ} {setup : Setup} {first : Point �
   fault_lines h = sym (s.whole (was_open h.stays_ended h.says.1) h.got ∙ ap (λ x. s.answered ++ x) h.says.0 ∙ append-nil s.answered)
 
   faulted : {fault : LineFault} (h : HearsLine left after old new (Err fault)) → IsSome now → (p : Point) → first p
-      → (c : Stretch slots setup start now p (events_in (whole_lines (s.bytes ++ h.got)))) × (s.text ≡ replies c.turns)
+      → (c : Stretch (span_of slots setup start now) p (events_in (whole_lines (s.bytes ++ h.got)))) × (s.text ≡ replies c.turns)
   faulted h t p f =
       let said = s.said t p f in
-      subst (λ (ls : List (List ℕ)). (c : Stretch slots setup start now p (events_in ls)) × (s.text ≡ replies c.turns)) (fault_lines h) (said.all, said.text_is)
+      subst (λ (ls : List (List ℕ)). (c : Stretch (span_of slots setup start now) p (events_in ls)) × (s.text ≡ replies c.turns)) (fault_lines h) (said.all, said.text_is)
 
-  pub ends_at_source : {fault : LineFault} (h : HearsLine left after old new (Err fault)) → ServesSession seen seen_now slots setup first start now left_before after written_before written (Err Source)
-  ends_at_source h = record {
+  pub ends_at_source : {a b m n : ℕ} {fault : LineFault} (h : HearsLine left after old new (Err fault)) → ServesSession seen seen_now (span_of slots setup start now) first (streams_of (source_from left_before after a b) (sink_from written_before written m n)) (Err Source)
+  ends_at_source {a} {b} {m} {n} {fault} h = record {
     bytes = s.bytes ++ h.got;
     text = s.text;
     given = Gives-then left_before left after s.bytes h.got s.given h.given;
@@ -248,8 +258,8 @@ module _ {seen seen_now : Shown} {slots : ℕ} {setup : Setup} {first : Point �
     answered = faulted h;
   }
 
-  pub ends_too_long : {fault : LineFault} (h : HearsLine left after old new (Err fault)) → new.taken ≡ 2 ^ 40 → ServesSession seen seen_now slots setup first start now left_before after written_before written (Err TooLong)
-  ends_too_long h full = record {
+  pub ends_too_long : {a b m n : ℕ} {fault : LineFault} (h : HearsLine left after old new (Err fault)) → new.taken ≡ 2 ^ 40 → ServesSession seen seen_now (span_of slots setup start now) first (streams_of (source_from left_before after a b) (sink_from written_before written m n)) (Err TooLong)
+  ends_too_long {a} {b} {m} {n} {fault} h full = record {
     bytes = s.bytes ++ h.got;
     text = s.text;
     given = Gives-then left_before left after s.bytes h.got s.given h.given;
@@ -260,10 +270,10 @@ module _ {seen seen_now : Shown} {slots : ℕ} {setup : Setup} {first : Point �
   }
 
   -- an answer could not be written
-  pub ends_at_sink : {event : Event} (h : HearsLine left after old new (Ok (Some event))) → (answer : Answer) → (seen_later : Shown) → HasCause seen_now event answer seen_later → (later : Option Trail) (wrote : Option (List ℕ)) (new_stood : Point → Type 0) (slots_now : ℕ) (setup_now : Setup) → slots_now ≡ slots → setup_now ≡ setup
+  pub ends_at_sink : {a b m k : ℕ} {event : Event} (h : HearsLine left after old new (Ok (Some event))) → (answer : Answer) → (seen_later : Shown) → HasCause seen_now event answer seen_later → (later : Option Trail) (wrote : Option (List ℕ)) (new_stood : Point → Type 0) (slots_now : ℕ) (setup_now : Setup) → slots_now ≡ slots → setup_now ≡ setup
       → (IsSome later → IsSome now) → ((q : Point) → stood q → Ran now later (GoesOn slots_now setup_now q event answer new_stood))
-      → (n : ℕ) → GrowsByBytes written wrote (take n (reply_of answer)) → ServesSession seen seen_later slots setup first start later left_before after written_before wrote (Err Sink)
-  ends_at_sink {event} h answer seen_later cause later wrote new_stood slots_now setup_now same_slots same_setup tells goes n grew =
+      → (n : ℕ) → GrowsByBytes written wrote (take n (reply_of answer)) → ServesSession seen seen_later (span_of slots setup start later) first (streams_of (source_from left_before after a b) (sink_from written_before wrote m k)) (Err Sink)
+  ends_at_sink {a} {b} {m} {k} {event} h answer seen_later cause later wrote new_stood slots_now setup_now same_slots same_setup tells goes n grew =
       let line : List ℕ = h.says.0 in
       let next_line : IsNextLine (old.rest ++ h.got) line new = h.says.2 in
       let cut : lines_of (s.bytes ++ h.got) ≡ (s.answered ++ line ∷ []) ++ lines_of new.rest = s.lines h.got h.ended_before ∙ ap (λ x. s.answered ++ lines_of x) (sym (append-nil (old.rest ++ h.got))) ∙ ap (λ x. s.answered ++ x) (next_line.lines [] (λ e. refl)) ∙ ap (λ x. s.answered ++ line ∷ lines_of x) (append-nil new.rest) ∙ sym (append_assoc s.answered (line ∷ []) (lines_of new.rest)) in

@@ -14,7 +14,7 @@ use Rattle.paraid_rack.proofs.TrailsLemmas.{Ran-none, extend-extend}
 use Rattle.paraid_record.specs.declared.meta.Setup.{Setup}
 use Rattle.paraid_trace.specs.LineEvents.{event_of}
 use Rattle.paraid_trace.specs.Replies.{reply_of}
-use Rattle.paraid_serve.specs.Stretch.{Stretch, Turn, TurnsLead, turn_calls, events_in, turn_events, replies, turn_with}
+use Rattle.paraid_serve.specs.Stretch.{Span, Stretch, Turn, TurnsLead, span_of, turn_calls, events_in, turn_events, replies, turn_with}
 use Rattle.paraid_session.specs.Turn.{GoesOn, IsTurn, Point}
 use Rattle.paraid_session.specs.Turn.IsTurn.{again, bad}
 
@@ -63,7 +63,7 @@ same_trail o a b e f = some_same a b (sym e ∙ f)
     some_same a b e = cc
 
 -- no event yet
-abbrev pub stretch_none : (slots : ℕ) (setup : Setup) (told : Option Trail) (p : Point) → IsSome told → Stretch slots setup told told p []
+abbrev pub stretch_none : (slots : ℕ) (setup : Setup) (told : Option Trail) (p : Point) → IsSome told → Stretch (span_of slots setup told told) p []
 stretch_none slots setup told p is =
     let t = some_told told is in
     record {
@@ -79,24 +79,24 @@ stretch_none slots setup told p is =
     }
 
 -- one event more
-pub record More {slots : ℕ} {setup : Setup} {start now : Option Trail} {p : Point} {events : List Event} (c : Stretch slots setup start now p events) (later : Option Trail) (event : Event) (answer : Answer) (stood : Point → Type 0) : Type 0 where
-  pub all : Stretch slots setup start later p (events ++ event ∷ [])
+pub record More {span : Span} {p : Point} {events : List Event} (c : Stretch span p events) (later : Option Trail) (event : Event) (answer : Answer) (stood : Point → Type 0) : Type 0 where
+  pub all : Stretch (record span { now = later }) p (events ++ event ∷ [])
   pub calls : List Call
   pub turns : all.turns ≡ c.turns ++ turn_with event answer calls ∷ []
   pub stands : stood all.end
 
-pub stretch_more : {slots : ℕ} {setup : Setup} {start now : Option Trail} {p : Point} {events : List Event} (c : Stretch slots setup start now p events) (later : Option Trail) (event : Event) (answer : Answer) (stood new_stood : Point → Type 0)
-    → stood c.end → ((q : Point) → stood q → Ran now later (GoesOn slots setup q event answer new_stood)) → IsSome later → More c later event answer new_stood
-stretch_more {slots} {setup} {start} {now} {p} {events} c later event answer stood new_stood at_end goes is =
+pub stretch_more : {span : Span} {p : Point} {events : List Event} (c : Stretch span p events) (later : Option Trail) (event : Event) (answer : Answer) (stood new_stood : Point → Type 0)
+    → stood c.end → ((q : Point) → stood q → Ran span.now later (GoesOn span.slots span.setup q event answer new_stood)) → IsSome later → More c later event answer new_stood
+stretch_more {span} {p} {events} c later event answer stood new_stood at_end goes is =
     let t = some_told later is in
     let came = goes c.end at_end t.0 t.1 in
     let next = came.holds in
-    let same : came.from ≡ c.to = same_trail now came.from c.to came.was c.is in
+    let same : came.from ≡ c.to = same_trail span.now came.from c.to came.was c.is in
     record {
       all = record {
         turns = c.turns ++ turn_with event answer came.calls ∷ [];
         end = next.0;
-        went = TurnsLead-push slots setup p c.end next.0 c.turns event answer came.calls c.went next.1;
+        went = TurnsLead-push span.slots span.setup p c.end next.0 c.turns event answer came.calls c.went next.1;
         asked = turn_events-push c.turns event answer came.calls ∙ ap (λ (es : List Event). es ++ event ∷ []) c.asked;
         from = c.from;
         to = t.0;

@@ -17,6 +17,9 @@ use Rattle.paraid_serve.specs.Output.WritesOutput.{answers, last_line, whole}
 use Rattle.paraid_serve.specs.Output.OutputForm.{done as form_done, halted as form_halted, source as form_source, too_long as form_too_long}
 use Rattle.paraid_serve.specs.Output.HasForm.{answers as form_answers, at_first_line as form_first, last_line as form_last_line, whole as form_whole}
 use Rattle.paraid_serve.specs.Session.{ServesSession}
+use Rattle.paraid_serve.specs.Streams.{streams_of}
+use Rattle.paraid_serve.specs.Stretch.{Span, span_of}
+use Rattle.paraid_serve.specs.Uses.{SinkUse, SourceUse}
 use Rattle.paraid_session.specs.Turn.{Point}
 use Rattle.paraid_serve.proofs.StretchLemmas.{stretch_none}
 
@@ -25,13 +28,13 @@ pub shown_line : (writes gear : ℕ) (x : Shown) → writes ≡ x.meta.writes �
 shown_line writes gear x w e = rw (w, e) refl
 
 -- what was written of the last line
-wrote_last : (slots : ℕ) (setup : Setup) (start now : Option Trail) (p : Point) (bytes text line : List ℕ) (before after : Option (List ℕ)) (code status : ℕ) → OutputText slots setup start now p bytes code (text ++ line)
-    → (e : EndsWithLine before after line code status) → WritesOutput slots setup start now p bytes status (text ++ take e.count line)
-wrote_last slots setup start now p bytes text line before after code status out e = elim e.whole [
+wrote_last : (span : Span) (p : Point) (bytes text line : List ℕ) (before after : Option (List ℕ)) (code status : ℕ) → OutputText span p bytes code (text ++ line)
+    → (e : EndsWithLine before after line code status) → WritesOutput span p bytes status (text ++ take e.count line)
+wrote_last span p bytes text line before after code status out e = elim e.whole [
   | inl four ↦ last_line four code (text ++ line) (drop e.count line) out
       (ap (λ x. text ++ x) (sym (take-append-drop e.count line)) ∙ sym (append_assoc text (take e.count line) (drop e.count line)))
-  | inr all ↦ whole (subst (λ (k : ℕ). OutputText slots setup start now p bytes k (text ++ take e.count line)) (sym all.1)
-      (subst (λ (x : List ℕ). OutputText slots setup start now p bytes code (text ++ x)) (sym (taken e.count line all.0)) out))
+  | inr all ↦ whole (subst (λ (k : ℕ). OutputText span p bytes k (text ++ take e.count line)) (sym all.1)
+      (subst (λ (x : List ℕ). OutputText span p bytes code (text ++ x)) (sym (taken e.count line all.0)) out))
 ]
   where
     taken : (n : ℕ) (line : List ℕ) → n ≡ length line → take n line ≡ line
@@ -67,40 +70,44 @@ whole_code status code k n either is = elim either [ inl four ↦ absurd (not_fo
     not_four status four (inr (inl e)) = omega (arith, four, e)
     not_four status four (inr (inr e)) = omega (arith, four, e)
 
-module _ (seen seen_now : Shown) (slots : ℕ) (setup : Setup) (stood : Point → Type 0) (start now : Option Trail) (left_before left first second third last_text : Option (List ℕ)) (writes gear : ℕ) (counts : (p : Point) → stood p → writes ≡ length p.history) (in_gear : (p : Point) → stood p → gear ≡ p.state.gear) (shows : mount_line writes gear ≡ first_line seen) where
-  -- the mount line is that of the point
+-- the mount line is that of the point
+first_line_is : (writes gear : ℕ) (stood : Point → Type 0) → ((p : Point) → stood p → writes ≡ length p.history) → ((p : Point) → stood p → gear ≡ p.state.gear) → (p : Point) → stood p → mount_line writes gear ≡ begins_with p
+first_line_is writes gear stood counts in_gear p s = ap (λ (w : ℕ). mount_line w gear) (counts p s) ∙ ap (λ (g : ℕ). mount_line (length p.history) g) (in_gear p s)
+
+-- the run writes to `sink`; the session, after the first line, to the same as it is `within`
+module _ (seen seen_now : Shown) (span : Span) (stood : Point → Type 0) (source_is : SourceUse) (within sink : SinkUse) (writes gear : ℕ) (counts : (p : Point) → stood p → writes ≡ length p.history) (in_gear : (p : Point) → stood p → gear ≡ p.state.gear) (shows : mount_line writes gear ≡ first_line seen) where
   head_is : (p : Point) → stood p → mount_line writes gear ≡ begins_with p
-  head_is p s = ap (λ (w : ℕ). mount_line w gear) (counts p s) ∙ ap (λ (g : ℕ). mount_line (length p.history) g) (in_gear p s)
+  head_is p s = first_line_is writes gear stood counts in_gear p s
 
   -- A session after the first line, and the last line after it.
   finish : (result : Result ℕ Stop) (line : List ℕ) (code status : ℕ)
-      → GrowsByBytes first second (mount_line writes gear) → (s : ServesSession seen seen_now slots setup stood start now left_before left second third result) → EndsWithLine third last_text line code status
-      → (IsSome now → (p : Point) → stood p → OutputText slots setup start now p s.bytes code (begins_with p ++ s.text ++ line))
-      → (code ≡ 10 → length s.bytes ≡ 2 ^ 40) → (IsWholeStatus code → (length s.bytes < 2 ^ 40) × AtEnd left)
+      → GrowsByBytes sink.written_before within.written_before (mount_line writes gear) → (s : ServesSession seen seen_now span stood (streams_of source_is within) result) → EndsWithLine within.written sink.written line code status
+      → (IsSome span.now → (p : Point) → stood p → OutputText span p s.bytes code (begins_with p ++ s.text ++ line))
+      → (code ≡ 10 → length s.bytes ≡ 2 ^ 40) → (IsWholeStatus code → (length s.bytes < 2 ^ 40) × AtEnd source_is.left)
       → OutputForm seen seen_now s.bytes code ((first_line seen ++ s.text) ++ line)
-      → ProgramRun seen seen_now slots setup stood start now left_before left first last_text status
+      → ProgramRun seen seen_now span stood (streams_of source_is sink) status
   finish result line code status head s end out full all form = record {
     bytes = s.bytes;
     text = (mount_line writes gear ++ s.text) ++ take end.count line;
     given = s.given;
-    grows = GrowsByBytes-then first third last_text (mount_line writes gear ++ s.text) (take end.count line) (GrowsByBytes-then first second third (mount_line writes gear) s.text head s.grows) end.grows;
+    grows = GrowsByBytes-then sink.written_before within.written sink.written (mount_line writes gear ++ s.text) (take end.count line) (GrowsByBytes-then sink.written_before within.written_before within.written (mount_line writes gear) s.text head s.grows) end.grows;
     full = λ ten. full (the_code status code (length line) end.count 10 end.whole ten (λ e. absurd (omega (arith, e))));
-    form = form_last seen seen_now s.bytes (mount_line writes gear ++ s.text) line third last_text code status (subst (λ (x : List ℕ). OutputForm seen seen_now s.bytes code ((x ++ s.text) ++ line)) (sym shows) form) end;
+    form = form_last seen seen_now s.bytes (mount_line writes gear ++ s.text) line within.written sink.written code status (subst (λ (x : List ℕ). OutputForm seen seen_now s.bytes code ((x ++ s.text) ++ line)) (sym shows) form) end;
     all = λ is. all (whole_code status code (length line) end.count end.whole is);
-    wrote = λ t p at_p. subst (λ (x : List ℕ). WritesOutput slots setup start now p s.bytes status ((x ++ s.text) ++ take end.count line)) (sym (head_is p at_p))
-        (wrote_last slots setup start now p s.bytes (begins_with p ++ s.text) line third last_text code status
+    wrote = λ t p at_p. subst (λ (x : List ℕ). WritesOutput span p s.bytes status ((x ++ s.text) ++ take end.count line)) (sym (head_is p at_p))
+        (wrote_last span p s.bytes (begins_with p ++ s.text) line within.written sink.written code status
         (out t p at_p) end);
   }
 
-  module _ (status : ℕ) (head : GrowsByBytes first second (mount_line writes gear)) where
-    pub done_run : (count : ℕ) → ServesSession seen seen_now slots setup stood start now left_before left second third (Ok count) → EndsWithLine third last_text (end_line count) 0 status
-        → ProgramRun seen seen_now slots setup stood start now left_before left first last_text status
+  module _ (status : ℕ) (head : GrowsByBytes sink.written_before within.written_before (mount_line writes gear)) where
+    pub done_run : (count : ℕ) → ServesSession seen seen_now span stood (streams_of source_is within) (Ok count) → EndsWithLine within.written sink.written (end_line count) 0 status
+        → ProgramRun seen seen_now span stood (streams_of source_is sink) status
     done_run count s end = finish (Ok count) (end_line count) 0 status head s end
         (λ t p at_p. let a = s.answered t p at_p in rw a.1 (done count a.0))
         (λ e. absurd (omega (arith, e))) (λ is. s.full) (form_done count s.text s.form.0 s.form.1 s.form.2)
 
-    pub halted_run : (halt : Halt) → ServesSession seen seen_now slots setup stood start now left_before left second third (Err (Halts halt)) → EndsWithLine third last_text (halt_line halt) (status_of_halt halt) status
-        → ProgramRun seen seen_now slots setup stood start now left_before left first last_text status
+    pub halted_run : (halt : Halt) → ServesSession seen seen_now span stood (streams_of source_is within) (Err (Halts halt)) → EndsWithLine within.written sink.written (halt_line halt) (status_of_halt halt) status
+        → ProgramRun seen seen_now span stood (streams_of source_is sink) status
     halted_run halt s end = finish (Err (Halts halt)) (halt_line halt) (status_of_halt halt) status head s end
         (λ t p at_p. let a = s.answered t p at_p in rw a.1 (halted halt a.0))
         (λ e. absurd (not_ten halt e)) (λ is. s.full) (form_halted halt s.text s.form.0 s.form.1 s.form.2)
@@ -109,25 +116,25 @@ module _ (seen seen_now : Shown) (slots : ℕ) (setup : Setup) (stood : Point �
         not_ten (HaltTwo two) e = omega (arith, e)
         not_ten (Worn count) e = omega (arith, e)
 
-    pub source_run : ServesSession seen seen_now slots setup stood start now left_before left second third (Err Source) → EndsWithLine third last_text (codes "source\n") 3 status
-        → ProgramRun seen seen_now slots setup stood start now left_before left first last_text status
+    pub source_run : ServesSession seen seen_now span stood (streams_of source_is within) (Err Source) → EndsWithLine within.written sink.written (codes "source\n") 3 status
+        → ProgramRun seen seen_now span stood (streams_of source_is sink) status
     source_run s end = finish (Err Source) (codes "source\n") 3 status head s end
         (λ t p at_p. let a = s.answered t p at_p in rw a.1 (source a.0))
         (λ e. absurd (omega (arith, e))) (λ is. absurd (partly 3 (λ e. omega (arith, e)) (λ e. omega (arith, e)) (λ e. omega (arith, e)) is)) (form_source s.text s.form)
 
-    pub too_long_run : ServesSession seen seen_now slots setup stood start now left_before left second third (Err TooLong) → EndsWithLine third last_text (codes "toolong\n") 10 status
-        → ProgramRun seen seen_now slots setup stood start now left_before left first last_text status
+    pub too_long_run : ServesSession seen seen_now span stood (streams_of source_is within) (Err TooLong) → EndsWithLine within.written sink.written (codes "toolong\n") 10 status
+        → ProgramRun seen seen_now span stood (streams_of source_is sink) status
     too_long_run s end = finish (Err TooLong) (codes "toolong\n") 10 status head s end
         (λ t p at_p. let a = s.answered t p at_p in rw a.1 (too_long s.full a.0))
         (λ e. s.full) (λ is. absurd (partly 10 (λ e. omega (arith, e)) (λ e. omega (arith, e)) (λ e. omega (arith, e)) is)) (form_too_long s.text s.form)
 
   -- the sink failed within an answer
-  pub sink_run : GrowsByBytes first second (mount_line writes gear) → ServesSession seen seen_now slots setup stood start now left_before left second third (Err Sink) → ProgramRun seen seen_now slots setup stood start now left_before left first third 4
+  pub sink_run : GrowsByBytes sink.written_before within.written_before (mount_line writes gear) → ServesSession seen seen_now span stood (streams_of source_is within) (Err Sink) → ProgramRun seen seen_now span stood (streams_of source_is (record within { written_before = sink.written_before; faults_before = sink.faults_before })) 4
   sink_run head s = record {
     bytes = s.bytes;
     text = mount_line writes gear ++ s.text;
     given = s.given;
-    grows = GrowsByBytes-then first second third (mount_line writes gear) s.text head s.grows;
+    grows = GrowsByBytes-then sink.written_before within.written_before within.written (mount_line writes gear) s.text head s.grows;
     full = λ e. absurd (omega (arith, e));
     all = λ is. absurd (partly 4 (λ e. omega (arith, e)) (λ e. omega (arith, e)) (λ e. omega (arith, e)) is);
     form = form_answers refl s.text s.form (ap (λ (x : List ℕ). x ++ s.text) shows);
@@ -137,9 +144,10 @@ module _ (seen seen_now : Shown) (slots : ℕ) (setup : Setup) (stood : Point �
   }
 
 -- the sink failed at the first line
-pub no_mount_run : (seen : Shown) (slots : ℕ) (setup : Setup) (stood : Point → Type 0) (told : Option Trail) (left first second : Option (List ℕ)) (writes gear : ℕ) → ((p : Point) → stood p → writes ≡ length p.history) → ((p : Point) → stood p → gear ≡ p.state.gear) → mount_line writes gear ≡ first_line seen
-    → (n : ℕ) × (n ≤ length (mount_line writes gear)) × GrowsByBytes first second (take n (mount_line writes gear)) → ProgramRun seen seen slots setup stood told told left left first second 4
-no_mount_run seen slots setup stood told left first second writes gear counts in_gear shows part = record {
+pub no_mount_run : (seen : Shown) (slots : ℕ) (setup : Setup) (stood : Point → Type 0) (told : Option Trail) (left : Option (List ℕ)) (count : ℕ) (sink : SinkUse) (writes gear : ℕ) → ((p : Point) → stood p → writes ≡ length p.history) → ((p : Point) → stood p → gear ≡ p.state.gear) → mount_line writes gear ≡ first_line seen
+    → (n : ℕ) × (n ≤ length (mount_line writes gear)) × GrowsByBytes sink.written_before sink.written (take n (mount_line writes gear))
+    → ProgramRun seen seen (span_of slots setup told told) stood (streams_of (record { left_before = left; left = left; faults_before = count; faults = count }) sink) 4
+no_mount_run seen slots setup stood told left count sink writes gear counts in_gear shows part = record {
   bytes = [];
   text = take part.0 (mount_line writes gear);
   given = Gives-none left;
@@ -148,5 +156,5 @@ no_mount_run seen slots setup stood told left first second writes gear counts in
   all = λ is. absurd (partly 4 (λ e. omega (arith, e)) (λ e. omega (arith, e)) (λ e. omega (arith, e)) is);
   form = form_first refl refl refl (drop part.0 (mount_line writes gear)) (sym shows ∙ sym (take-append-drop part.0 (mount_line writes gear)));
   wrote = λ t p at_p. answers refl [] [] (drop part.0 (mount_line writes gear)) refl (stretch_none slots setup told p t)
-      (append-nil (begins_with p) ∙ sym (head_is seen seen slots setup stood told told left left first first first first writes gear counts in_gear shows p at_p) ∙ sym (take-append-drop part.0 (mount_line writes gear)));
+      (append-nil (begins_with p) ∙ sym (first_line_is writes gear stood counts in_gear p at_p) ∙ sym (take-append-drop part.0 (mount_line writes gear)));
 }

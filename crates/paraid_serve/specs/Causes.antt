@@ -18,7 +18,6 @@ use Rattle.paraid_base.specs.declared.state.TickEvent.TheVariants.{Steady, Waiti
 use Rattle.paraid_base.specs.Gears.{next_higher, next_lower}
 use Rattle.paraid_base.specs.Log.{worn_at}
 use Rattle.paraid_base.specs.Pairs.{pairs_of}
-use Rattle.paraid_base.specs.States.{phase_to}
 use Rattle.paraid_base.specs.Told.{HasRisen}
 use Rattle.paraid_gear.specs.declared.decision.Decision.{Decision}
 use Rattle.paraid_gear.specs.declared.decision.Decision.TheVariants.{Down as DecideDown, Stay, Up as DecideUp}
@@ -29,7 +28,7 @@ use Rattle.paraid_image.specs.Out.{is_out, named_out}
 use Rattle.paraid_image.specs.Power.{PowerState}
 use Rattle.paraid_machine.specs.Energy.{energy_after}
 use Rattle.paraid_machine.specs.Machine.{block_count, blocks_named, first_missing, out_refusal, ration_refusal, refusal_else, shift_refusal, state_status}
-use Rattle.paraid_machine.specs.Moves.{first_worn, units_to_rebuild}
+use Rattle.paraid_machine.specs.Moves.{after_flip, after_loss, after_units, all_written, block_read, first_worn, units_left, units_of_tick, units_to_rebuild}
 use Rattle.paraid_rack.specs.Slots.{Slot}
 use Rattle.paraid_record.specs.declared.meta.Meta.{Meta}
 use Rattle.paraid_record.specs.declared.meta.Setup.{Setup}
@@ -135,6 +134,15 @@ abbrev pub meta_marked : Option ℕ → Meta → Meta
 meta_marked None m = m
 meta_marked (Some d) m = meta_after_loss m d
 
+-- The dirty cells are those that this change makes of the ones before, by the meta as it is then.
+abbrev pub ChangesCells : (PowerState → PowerState) → Shown → Shown → Type 0
+ChangesCells change old new = (r d : ℕ) → r < old.setup.geometry.rows → new.dirty r d ≡ (change (record (state_shown new) { dirty = old.dirty })).dirty r d
+
+-- It has come to this state of the machine, and but for the number of commits nothing else of the meta has changed.
+pub record Reaches (old new : Shown) (s : PowerState) : Type 0 where
+  pub meta : new.meta ≡ record old.meta { epoch = new.meta.epoch; gear = s.gear; phase = s.phase; fill = s.fill; out = s.out; spins = s.spins; ticks = s.ticks }
+  pub dirty : (r d : ℕ) → r < old.setup.geometry.rows → new.dirty r d ≡ s.dirty r d
+
 -- The meta is as it was, but for its counts of commits and writes, and for the marks of a disk that has failed in the event
 -- while no other one was out. So many writes were accepted, and no energy was used.
 pub record Accepts (old new : Shown) (count : ℕ) : Type 0 where
@@ -145,9 +153,10 @@ pub record Accepts (old new : Shown) (count : ℕ) : Type 0 where
   pub writes : new.meta.writes ≡ old.meta.writes + count
   pub energy : KeepsEnergy old new
 
--- the meta is as it was, but for the marks that disk `d` is gone; no energy was used
+-- the meta is as it was, but for the marks that disk `d` is gone; no cell became dirty or clean, and no energy was used
 pub record TakesOut (old new : Shown) (d : ℕ) : Type 0 where
   pub is : new.meta ≡ record (meta_after_loss old.meta d) { epoch = new.meta.epoch }
+  pub dirty : new.dirty ≡ old.dirty
   pub energy : KeepsEnergy old new
 
 -- where no disk was out, disk `d` has failed in the event, and that is marked
@@ -156,12 +165,14 @@ pub record LosesFirst (old new : Shown) (d : ℕ) : Type 0 where
   pub failed : HasFailed old new d
   pub marks : TakesOut old new d
 
--- A shift has begun by the meta, with so many spin-ups more by disk; a disk that has failed in the event may be marked in it.
+-- A shift has begun by the meta, with so many spin-ups more by disk; a disk that has failed in the event may be marked in it. No
+-- cell became dirty or clean.
 pub record Begins (old new : Shown) (phase : Phase) (raised : ℕ → ℕ) : Type 0 where
   pub lost : Option ℕ
   pub is : new.meta ≡ record (meta_marked lost (record old.meta { phase = phase; fill = 0 })) { epoch = new.meta.epoch; spins = new.meta.spins }
   pub failed : (d : ℕ) → lost ≡ Some d → HasFailed old new d
   pub spins : (d : ℕ) → slice_index new.meta.spins d ≡ slice_index old.meta.spins d + raised d
+  pub dirty : new.dirty ≡ old.dirty
 
 -- one for each disk that comes up
 abbrev pub spins_up : ℕ → ℕ → ℕ → ℕ
@@ -174,20 +185,22 @@ pub record Replaces (old new : Shown) (d : ℕ) (state : Out) : Type 0 where
   pub is : new.meta ≡ record (meta_after_loss old.meta d) { epoch = new.meta.epoch; out = state; spins = new.meta.spins }
   pub cleared : slice_index new.meta.spins d ≡ 0
   pub others : (e : ℕ) → e ≢ d → slice_index new.meta.spins e ≡ slice_index old.meta.spins e
+  pub dirty : new.dirty ≡ old.dirty
 
--- a read gives the bytes of the block that was asked for, and accepts no write
+-- a read gives the bytes of the block that was asked for, and accepts no write; it may clean the block's cell
 abbrev pub DoesRead : ℕ → Shown → Shown → Answer → Type 0
-DoesRead block old new (Value b bytes) = (b ≡ block) × Accepts old new 0
+DoesRead block old new (Value b bytes) = (b ≡ block) × Accepts old new 0 × ChangesCells (block_read old.setup block) old new
 DoesRead block old new answer = ⊥
 
--- a write gives its number, the next one, and is accepted
-abbrev pub DoesWrite : Shown → Shown → Answer → Type 0
-DoesWrite old new (Wrote number) = (number ≡ old.meta.writes + 1) × Accepts old new 1
-DoesWrite old new answer = ⊥
+-- a write of these blocks gives its number, the next one, and is accepted
+abbrev pub DoesWrite : List ℕ → Shown → Shown → Answer → Type 0
+DoesWrite blocks old new (Wrote number) =
+    (number ≡ old.meta.writes + 1) × Accepts old new 1 × ChangesCells (all_written old.setup.geometry.disks blocks) old new
+DoesWrite blocks old new answer = ⊥
 
 -- a flush gives the number of writes, and accepts none
 abbrev pub DoesFlush : Shown → Shown → Answer → Type 0
-DoesFlush old new (Flushed writes) = (writes ≡ old.meta.writes) × Accepts old new 0
+DoesFlush old new (Flushed writes) = (writes ≡ old.meta.writes) × Accepts old new 0 × (new.dirty ≡ old.dirty)
 DoesFlush old new answer = ⊥
 
 -- a shift begins to this next gear, or a disk is lost with what was staged
@@ -210,19 +223,36 @@ DoesReplace disk old new (Replaced d) = (d ≡ disk) × Replaces old new disk (F
 DoesReplace disk old new (NoFresh d) = (d ≡ disk) × HasFailed old new disk × Replaces old new disk (Gone disk)
 DoesReplace disk old new answer = ⊥
 
--- a tick that rebuilds disk `d`, of which so many units are left
-abbrev pub Rebuilds : ℕ → ℕ → ℕ → Shown → Shown → ℕ → TickEvent → Type 0
-Rebuilds left d rebuilt old new count Moving = (count ≡ old.setup.rate) × (old.setup.rate < left) × (new.meta.out ≡ Fresh d (rebuilt + count))
-Rebuilds left d rebuilt old new count (Rebuilt e) = (e ≡ d) × (count ≡ left) × (left ≤ old.setup.rate) × (new.meta.out ≡ No)
-Rebuilds left d rebuilt old new count (GoneAgain e) = (e ≡ d) × (count ≡ 0) × (new.meta.out ≡ Gone d) × HasFailed old new d
-Rebuilds left d rebuilt old new count event = ⊥
+-- A tick that rebuilds disk `d`, of which so many units are rebuilt: it moves as many as the rate says where more are left, or the
+-- last ones, and then the disk is back; or it has failed again.
+abbrev pub Rebuilds : ℕ → ℕ → Shown → Shown → ℕ → TickEvent → Type 0
+Rebuilds d rebuilt old new count Moving =
+    (count ≡ old.setup.rate) × (old.setup.rate < units_to_rebuild old.setup (state_shown old) d rebuilt)
+    × Reaches old new (record (state_shown old) { out = Fresh d (rebuilt + count) })
+Rebuilds d rebuilt old new count (Rebuilt e) =
+    (e ≡ d) × (count ≡ units_to_rebuild old.setup (state_shown old) d rebuilt) × (count ≤ old.setup.rate)
+    × Reaches old new (record (state_shown old) { out = No })
+Rebuilds d rebuilt old new count (GoneAgain e) = (e ≡ d) × (count ≡ 0) × HasFailed old new d × Reaches old new (after_loss (state_shown old) d)
+Rebuilds d rebuilt old new count event = ⊥
 
--- one of a shift moves on, with no less filled; or ends it at the gear to which it went; or loses a disk
-abbrev pub MovesOn : Shown → Shown → TickEvent → Type 0
-MovesOn old new Moving = (new.meta.out ≡ No) × (new.meta.phase ≡ old.meta.phase) × (new.meta.gear ≡ old.meta.gear) × (old.meta.fill ≤ new.meta.fill)
-MovesOn old new Flipped = (new.meta.phase ≡ IsSteady) × (new.meta.gear ≡ phase_to old.meta.phase) × (new.meta.fill ≡ 0)
-MovesOn old new (Lost d) = (named_out new.meta.out ≡ Some d) × HasFailed old new d
-MovesOn old new event = ⊥
+-- a disk that was lost, or none, has failed in the event, and it has come to this state with the marks of that
+abbrev pub ReachesOrLoses : Shown → Shown → PowerState → Option ℕ → Type 0
+ReachesOrLoses old new s None = Reaches old new s
+ReachesOrLoses old new s (Some d) = HasFailed old new d × Reaches old new (after_loss s d)
+
+-- A tick of a shift moves its next units, as many as the mode and the rate say, by the rule of the machine. With the last of them
+-- the shift ends. Where a disk has failed it has moved some of them, or all and has ended the shift.
+abbrev pub MovesOn : Shown → Shown → ℕ → TickEvent → Type 0
+MovesOn old new count Moving =
+    (count ≡ units_of_tick old.setup (state_shown old)) × (count < units_left old.setup (state_shown old))
+    × Reaches old new (after_units old.setup count (state_shown old))
+MovesOn old new count Flipped =
+    (count ≡ units_left old.setup (state_shown old)) × (count ≤ units_of_tick old.setup (state_shown old))
+    × ((lost : Option ℕ) × ReachesOrLoses old new (after_flip (after_units old.setup count (state_shown old))) lost)
+MovesOn old new count (Lost d) =
+    (count ≤ units_of_tick old.setup (state_shown old)) × HasFailed old new d
+    × Reaches old new (after_loss (after_units old.setup count (state_shown old)) d)
+MovesOn old new count event = ⊥
 
 -- the length of the longest of these windows
 abbrev pub longest : List ℕ → ℕ
@@ -272,19 +302,19 @@ Decides (DecideDown to) old new event = GoesDown (first_worn old.setup (state_sh
 abbrev pub decision_shown : Shown → Decision
 decision_shown x = decision x.setup x.meta.gear x.samples
 
--- a tick with no disk out: at rest it moves nothing, and does what the samples ask for; and a shift under way
--- moves on
+-- a tick that has counted itself, with no disk out: at rest it moves nothing, and does what the samples ask for; and a shift
+-- under way moves on
 abbrev pub MovesBy : Phase → Shown → Shown → ℕ → TickEvent → Type 0
-MovesBy IsSteady old new count event = (count ≡ 0) × Decides (decision_shown (shown_ticked old)) (shown_ticked old) new event
-MovesBy (IsDown to) old new count event = MovesOn old new event
-MovesBy (IsUp to) old new count event = MovesOn old new event
+MovesBy IsSteady old new count event = (count ≡ 0) × Decides (decision_shown old) old new event
+MovesBy (IsDown to) old new count event = MovesOn old new count event
+MovesBy (IsUp to) old new count event = MovesOn old new count event
 
--- a tick by the disk that is out: it waits for one that is gone, rebuilds one that is fresh, and else
--- goes by the phase
+-- such a tick by the disk that is out: it waits for one that is gone, and changes nothing; rebuilds one that is fresh; and else goes
+-- by the phase
 abbrev pub TicksBy : Out → Shown → Shown → ℕ → TickEvent → Type 0
 TicksBy No old new count event = MovesBy old.meta.phase old new count event
-TicksBy (Gone d) old new count event = (count ≡ 0) × (event ≡ Waiting) × (new.meta.out ≡ Gone d) × (new.slot ≡ old.slot)
-TicksBy (Fresh d rebuilt) old new count event = Rebuilds (units_to_rebuild old.setup (state_shown old) d rebuilt) d rebuilt old new count event
+TicksBy (Gone d) old new count event = (count ≡ 0) × (event ≡ Waiting) × IsAsBefore old new
+TicksBy (Fresh d rebuilt) old new count event = Rebuilds d rebuilt old new count event
 
 -- A tick tells the gear that it leaves; no write was accepted, and a disk that is out then was so before or has failed in it.
 pub record Advances (old new : Shown) (report : GearReport) : Type 0 where
@@ -292,7 +322,7 @@ pub record Advances (old new : Shown) (report : GearReport) : Type 0 where
   pub gear : report.gear ≡ new.meta.gear
   pub writes : new.meta.writes ≡ old.meta.writes
   pub energy : new.energy ≡ energy_after old.setup old.energy (state_shown old) (Ticked report)
-  pub by : TicksBy old.meta.out old new report.moved report.event
+  pub by : TicksBy old.meta.out (shown_ticked old) new report.moved report.event
 
 -- a tick tells what it moved and what it did
 abbrev pub DoesTick : Shown → Shown → Answer → Type 0
@@ -302,7 +332,7 @@ DoesTick old new answer = ⊥
 -- what the array does for an event that is not answered quietly
 abbrev pub Does : Shown → Event → Answer → Shown → Type 0
 Does old (Read block) answer new = DoesRead block old new answer
-Does old (Write pairs) answer new = DoesWrite old new answer
+Does old (Write pairs) answer new = DoesWrite (blocks_named (pairs_of pairs)) old new answer
 Does old Flush answer new = DoesFlush old new answer
 Does old Tick answer new = DoesTick old new answer
 Does old Up answer new = DoesShift (next_higher old.setup.geometry old.meta.gear) (λ to. Begins old new (IsUp to) (spins_up old.meta.gear to)) old new answer
@@ -335,6 +365,26 @@ abbrev pub gear_after : Option Halt → Shown → Shown → ℕ
 gear_after None old new = new.meta.gear
 gear_after (Some halt) old new = old.gear
 
+-- The most commits that an event makes: a request or a flush one; a tick three, and one for each unit that it may move; and what
+-- is asked of shifts and disks two.
+abbrev pub most_commits : Shown → Event → ℕ
+most_commits x (Read block) = 1
+most_commits x (Write pairs) = 1
+most_commits x Flush = 1
+most_commits x Tick = units_of_tick x.setup (state_shown (shown_ticked x)) + 3
+most_commits x Up = 2
+most_commits x Down = 2
+most_commits x (Fail d) = 2
+most_commits x (Replace d) = 2
+most_commits x AskState = 0
+most_commits x AskEnergy = 0
+most_commits x Bad = 0
+
+-- the number of commits has not fallen, and has risen by so many at most
+pub record CommitsFew (old new : Shown) (most : ℕ) : Type 0 where
+  pub later : old.meta.epoch ≤ new.meta.epoch
+  pub few : new.meta.epoch ≤ old.meta.epoch + most
+
 -- The event found an array so, is answered so, and leaves it so.
 pub record HasCause (old : Shown) (event : Event) (answer : Answer) (new : Shown) : Type 0 where
   pub reason : HasReason old event answer new
@@ -342,6 +392,7 @@ pub record HasCause (old : Shown) (event : Event) (answer : Answer) (new : Shown
   pub halt : event ≢ Bad → new.halt ≡ halt_told answer
   pub gear : event ≢ Bad → new.gear ≡ gear_after (halt_told answer) old new
   pub counts : Counts answer old new
+  pub commits : new.halt ≡ None → CommitsFew old new (most_commits old event)
   pub later : HaveNotFallen old.slot new.slot
 
 -- Each event is answered with a cause, one after the other.

@@ -2,9 +2,12 @@ pub mod Heard
 pub mod Ending
 pub mod Calls
 pub mod Stretch
+pub mod Uses
+pub mod Streams
 pub mod Kinds
 pub mod Form
 pub mod Session
 pub mod Output
 pub mod Lost
 pub mod Causes
+pub mod Alike

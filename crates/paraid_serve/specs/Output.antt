@@ -1,5 +1,5 @@
 -- The whole text of a run, by its status.
-use Rattle.std.specs.Prelude.{◌≡◌, ℕ, ◌<◌, ◌^◌, ◌⊎◌, List, [], ◌∷◌, ◌++◌, length, codes, Option, Some, IsSome}
+use Rattle.std.specs.Prelude.{◌≡◌, ℕ, ◌<◌, ◌^◌, ◌⊎◌, List, [], ◌∷◌, ◌++◌, length, codes, Some, IsSome}
 use Rattle.paraid_base.specs.declared.event.Answer.TheVariants.{Flushed, Halted}
 use Rattle.paraid_base.specs.declared.event.Event.TheVariants.{Flush}
 use Rattle.paraid_base.specs.declared.fault.Halt.{Halt}
@@ -8,7 +8,6 @@ use Rattle.paraid_base.specs.Told.{AtEnd, Gives, GrowsByBytes}
 use Rattle.paraid_serve.specs.Ending.{end_line, halt_line, mount_line, status_of_halt}
 use Rattle.paraid_io.specs.Lines.{lines_of, whole_lines}
 use Rattle.paraid_rack.specs.Trail.{Trail, now}
-use Rattle.paraid_record.specs.declared.meta.Setup.{Setup}
 use Rattle.paraid_base.specs.declared.event.Event.{Event}
 use Rattle.paraid_base.specs.declared.fault.Two.{Two}
 use Rattle.paraid_image.specs.Out.{named_out}
@@ -17,7 +16,8 @@ use Rattle.paraid_image.specs.RunStart.{IsRunStart}
 use Rattle.paraid_session.specs.Mount.{IsMountedFromEach}
 use Rattle.paraid_serve.specs.Causes.{HasCause, Shown}
 use Rattle.paraid_serve.specs.Form.{BeginsAnswers, HasAnswers}
-use Rattle.paraid_serve.specs.Stretch.{EndsStretch, Stretch, events_in, replies}
+use Rattle.paraid_serve.specs.Streams.{Streams}
+use Rattle.paraid_serve.specs.Stretch.{EndsStretch, Span, Stretch, events_in, replies}
 use Rattle.paraid_session.specs.Turn.{Point}
 
 -- the statuses of a run on an array that is mounted
@@ -37,28 +37,28 @@ abbrev pub first_line : Shown → List ℕ
 first_line x = mount_line x.meta.writes x.meta.gear
 
 -- The text of a run that took these bytes and met no fault of the sink, by its status.
-pub data OutputText (slots : ℕ) (setup : Setup) (start final : Option Trail) (p : Point) (bytes : List ℕ) : ℕ → List ℕ → Type 0 where
+pub data OutputText (span : Span) (p : Point) (bytes : List ℕ) : ℕ → List ℕ → Type 0 where
   -- every line is answered, and all writes are kept
-  done : (writes : ℕ) (e : EndsStretch slots setup start final p (events_in (lines_of bytes) ++ Flush ∷ []) (Flushed writes))
-      → OutputText slots setup start final p bytes 0 (begins_with p ++ replies e.before ++ end_line writes)
+  done : (writes : ℕ) (e : EndsStretch span p (events_in (lines_of bytes) ++ Flush ∷ []) (Flushed writes))
+      → OutputText span p bytes 0 (begins_with p ++ replies e.before ++ end_line writes)
   -- every line is answered, and a halt came in one of them or in the last flush
-  halted : (halt : Halt) (e : EndsStretch slots setup start final p (events_in (lines_of bytes) ++ Flush ∷ []) (Halted halt))
-      → OutputText slots setup start final p bytes (status_of_halt halt) (begins_with p ++ replies e.before ++ halt_line halt)
+  halted : (halt : Halt) (e : EndsStretch span p (events_in (lines_of bytes) ++ Flush ∷ []) (Halted halt))
+      → OutputText span p bytes (status_of_halt halt) (begins_with p ++ replies e.before ++ halt_line halt)
   -- a rest without a newline is not answered
-  source : (c : Stretch slots setup start final p (events_in (whole_lines bytes)))
-      → OutputText slots setup start final p bytes 3 (begins_with p ++ replies c.turns ++ codes "source\n")
-  too_long : length bytes ≡ 2 ^ 40 → (c : Stretch slots setup start final p (events_in (whole_lines bytes)))
-      → OutputText slots setup start final p bytes 10 (begins_with p ++ replies c.turns ++ codes "toolong\n")
+  source : (c : Stretch span p (events_in (whole_lines bytes)))
+      → OutputText span p bytes 3 (begins_with p ++ replies c.turns ++ codes "source\n")
+  too_long : length bytes ≡ 2 ^ 40 → (c : Stretch span p (events_in (whole_lines bytes)))
+      → OutputText span p bytes 10 (begins_with p ++ replies c.turns ++ codes "toolong\n")
 
 -- What was written: the whole text of the status; or at 4 a first part of such a text, or of the
 -- answers to a first part of the lines.
-pub data WritesOutput (slots : ℕ) (setup : Setup) (start final : Option Trail) (p : Point) (bytes : List ℕ) (status : ℕ) (text : List ℕ) : Type 0 where
-  whole : OutputText slots setup start final p bytes status text → WritesOutput slots setup start final p bytes status text
-  last_line : status ≡ 4 → (code : ℕ) (full rest : List ℕ) → OutputText slots setup start final p bytes code full → full ≡ text ++ rest
-      → WritesOutput slots setup start final p bytes status text
+pub data WritesOutput (span : Span) (p : Point) (bytes : List ℕ) (status : ℕ) (text : List ℕ) : Type 0 where
+  whole : OutputText span p bytes status text → WritesOutput span p bytes status text
+  last_line : status ≡ 4 → (code : ℕ) (full rest : List ℕ) → OutputText span p bytes code full → full ≡ text ++ rest
+      → WritesOutput span p bytes status text
   answers : status ≡ 4 → (lines more : List (List ℕ)) (rest : List ℕ) → lines_of bytes ≡ lines ++ more
-      → (c : Stretch slots setup start final p (events_in lines)) → begins_with p ++ replies c.turns ≡ text ++ rest
-      → WritesOutput slots setup start final p bytes status text
+      → (c : Stretch span p (events_in lines)) → begins_with p ++ replies c.turns ≡ text ++ rest
+      → WritesOutput span p bytes status text
 
 -- The form of a whole text, by the status, whatever the rack holds: the first line tells the writes and the gear with which the
 -- array was seen first, each answer has its cause, and so has the flush at the end.
@@ -82,38 +82,38 @@ pub data HasForm (old new : Shown) (bytes : List ℕ) (status : ℕ) (text : Lis
 
 -- A run took these bytes and wrote this text. What it is is known where source, sink and rack
 -- tell, from each point at which the array stood.
-pub record ProgramRun (seen seen_now : Shown) (slots : ℕ) (setup : Setup) (stood : Point → Type 0) (start final : Option Trail) (left_before left written_before written : Option (List ℕ)) (status : ℕ) : Type 0 where
+pub record ProgramRun (seen seen_now : Shown) (span : Span) (stood : Point → Type 0) (streams : Streams) (status : ℕ) : Type 0 where
   pub bytes : List ℕ
   pub text : List ℕ
-  pub given : Gives left_before left bytes
-  pub grows : GrowsByBytes written_before written text
+  pub given : Gives streams.source.left_before streams.source.left bytes
+  pub grows : GrowsByBytes streams.sink.written_before streams.sink.written text
   pub full : status ≡ 10 → length bytes ≡ 2 ^ 40
-  pub all : IsWholeStatus status → (length bytes < 2 ^ 40) × AtEnd left
+  pub all : IsWholeStatus status → (length bytes < 2 ^ 40) × AtEnd streams.source.left
   pub form : HasForm seen seen_now bytes status text
-  pub wrote : IsSome final → (p : Point) → stood p → WritesOutput slots setup start final p bytes status text
+  pub wrote : IsSome span.now → (p : Point) → stood p → WritesOutput span p bytes status text
 
 -- What a stretch of a session leaves: two disks are down; or the rack holds the history of its end,
 -- so that the next run begins on a rack that held a history.
-pub data IsLeftByStretch (slots : ℕ) {setup : Setup} {start final : Option Trail} {p : Point} {events : List Event} (c : Stretch slots setup start final p events) : Type 0 where
-  two_down : (pair : Two) → c.end.halt ≡ Some (HaltTwo pair) → IsLeftByStretch slots c
-  rests : IsRunStart slots (now c.to) c.end.history c.end.low (named_out c.end.state.out) → IsLeftByStretch slots c
+pub data IsLeftByStretch {span : Span} {p : Point} {events : List Event} (c : Stretch span p events) : Type 0 where
+  two_down : (pair : Two) → c.end.halt ≡ Some (HaltTwo pair) → IsLeftByStretch c
+  rests : IsRunStart span.slots (now c.to) c.end.history c.end.low (named_out c.end.state.out) → IsLeftByStretch c
 
 -- What follows from the first point of a session. After a run that ends well no block of a disk that is there is loose, so no stop
 -- changes one.
-pub record FollowsFromPoint (slots : ℕ) (setup : Setup) (start final : Option Trail) (bytes : List ℕ) (status : ℕ) (text : List ℕ) (p : Point) : Type 0 where
-  pub wrote : WritesOutput slots setup start final p bytes status text
-  pub left : (events : List Event) (c : Stretch slots setup start final p events) → IsLeftByStretch slots c
-  pub synced : status ≡ 0 → (t : Trail) → final ≡ Some t → AreSynced (now t)
+pub record FollowsFromPoint (span : Span) (bytes : List ℕ) (status : ℕ) (text : List ℕ) (p : Point) : Type 0 where
+  pub wrote : WritesOutput span p bytes status text
+  pub left : (events : List Event) (c : Stretch span p events) → IsLeftByStretch c
+  pub synced : status ≡ 0 → (t : Trail) → span.now ≡ Some t → AreSynced (now t)
 
 -- The headline. The run took these bytes, and its text has the form of a run's. On a rack that held a
 -- history the mount keeps it; and from its end on, unless two disks are down there, the text is what
 -- a session answers, and the run leaves such a rack.
-pub record Headline (seen seen_now : Shown) (slots : ℕ) (setup : Setup) (began : ℕ) (start final : Option Trail) (left_before left written_before written : Option (List ℕ)) (status : ℕ) : Type 0 where
+pub record Headline (seen seen_now : Shown) (span : Span) (began : ℕ) (streams : Streams) (status : ℕ) : Type 0 where
   pub bytes : List ℕ
   pub text : List ℕ
-  pub given : Gives left_before left bytes
-  pub grows : GrowsByBytes written_before written text
+  pub given : Gives streams.source.left_before streams.source.left bytes
+  pub grows : GrowsByBytes streams.sink.written_before streams.sink.written text
   pub full : status ≡ 10 → length bytes ≡ 2 ^ 40
-  pub all : IsWholeStatus status → (length bytes < 2 ^ 40) × AtEnd left
+  pub all : IsWholeStatus status → (length bytes < 2 ^ 40) × AtEnd streams.source.left
   pub form : HasForm seen seen_now bytes status text
-  pub said : IsSome final → IsMountedFromEach slots setup began start (FollowsFromPoint slots setup start final bytes status text)
+  pub said : IsSome span.now → IsMountedFromEach span.slots span.setup began span.start (FollowsFromPoint span bytes status text)

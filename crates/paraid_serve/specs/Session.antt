@@ -5,32 +5,31 @@ use Rattle.paraid_base.specs.declared.event.Event.TheVariants.{Flush}
 use Rattle.paraid_base.specs.Told.{AtEnd, Gives, GrowsByBytes}
 use Rattle.paraid_io.specs.Lines.{lines_of, whole_lines}
 use Rattle.paraid_rack.specs.Slots.{Slot}
-use Rattle.paraid_rack.specs.Trail.{Trail}
-use Rattle.paraid_record.specs.declared.meta.Setup.{Setup}
 use Rattle.paraid_serve.specs.declared.stop.Stop.{Stop}
 use Rattle.paraid_serve.specs.declared.stop.Stop.TheVariants.{Source, TooLong, Sink, Halt as Halts}
 use Rattle.paraid_serve.specs.Lost.{HaltsBySecondLoss, HaltsByWear}
 use Rattle.paraid_serve.specs.Causes.{HasCause, Shown}
 use Rattle.paraid_serve.specs.Form.{BeginsAnswers, HasAnswers}
-use Rattle.paraid_serve.specs.Stretch.{EndsStretch, Stretch, events_in, replies}
+use Rattle.paraid_serve.specs.Streams.{Streams}
+use Rattle.paraid_serve.specs.Stretch.{EndsStretch, Span, Stretch, events_in, replies}
 use Rattle.paraid_session.specs.Turn.{Point}
 
 -- which lines were answered, and what was written for them, by how the session ended
-abbrev pub AreLinesAnswered : ℕ → Setup → Option Trail → Option Trail → Point → Result ℕ Stop → List ℕ → List ℕ → Type 0
+abbrev pub AreLinesAnswered : Span → Point → Result ℕ Stop → List ℕ → List ℕ → Type 0
 -- all lines, and a flush
-AreLinesAnswered slots setup start now p (Ok writes) bytes text =
-    (e : EndsStretch slots setup start now p (events_in (lines_of bytes) ++ Flush ∷ []) (Flushed writes)) × (text ≡ replies e.before)
-AreLinesAnswered slots setup start now p (Err (Halts halt)) bytes text =
-    (e : EndsStretch slots setup start now p (events_in (lines_of bytes) ++ Flush ∷ []) (Halted halt)) × (text ≡ replies e.before)
+AreLinesAnswered span p (Ok writes) bytes text =
+    (e : EndsStretch span p (events_in (lines_of bytes) ++ Flush ∷ []) (Flushed writes)) × (text ≡ replies e.before)
+AreLinesAnswered span p (Err (Halts halt)) bytes text =
+    (e : EndsStretch span p (events_in (lines_of bytes) ++ Flush ∷ []) (Halted halt)) × (text ≡ replies e.before)
 -- those that end with a newline
-AreLinesAnswered slots setup start now p (Err Source) bytes text =
-    (c : Stretch slots setup start now p (events_in (whole_lines bytes))) × (text ≡ replies c.turns)
-AreLinesAnswered slots setup start now p (Err TooLong) bytes text =
-    (c : Stretch slots setup start now p (events_in (whole_lines bytes))) × (text ≡ replies c.turns)
+AreLinesAnswered span p (Err Source) bytes text =
+    (c : Stretch span p (events_in (whole_lines bytes))) × (text ≡ replies c.turns)
+AreLinesAnswered span p (Err TooLong) bytes text =
+    (c : Stretch span p (events_in (whole_lines bytes))) × (text ≡ replies c.turns)
 -- those to the one whose answer could not be written whole
-AreLinesAnswered slots setup start now p (Err Sink) bytes text =
+AreLinesAnswered span p (Err Sink) bytes text =
     (lines more : List (List ℕ)) × (rest : List ℕ) × (lines_of bytes ≡ lines ++ more)
-    × (c : Stretch slots setup start now p (events_in lines)) × (replies c.turns ≡ text ++ rest)
+    × (c : Stretch span p (events_in lines)) × (replies c.turns ≡ text ++ rest)
 
 -- the form of what was written for the lines, by how the session ended, and the cause of each answer; all lines are followed by a
 -- flush
@@ -65,11 +64,11 @@ IsStopByWear Sink = Unit {0}
 
 -- A session took these bytes and wrote this text. What it answered is known where the record is
 -- told, from each point at which the array stood.
-pub record ServesSession (seen seen_now : Shown) (slots : ℕ) (setup : Setup) (stood : Point → Type 0) (start now : Option Trail) (left_before left written_before written : Option (List ℕ)) (result : Result ℕ Stop) : Type 0 where
+pub record ServesSession (seen seen_now : Shown) (span : Span) (stood : Point → Type 0) (streams : Streams) (result : Result ℕ Stop) : Type 0 where
   pub bytes : List ℕ
   pub text : List ℕ
-  pub given : Gives left_before left bytes
-  pub grows : GrowsByBytes written_before written text
-  pub full : IsAllTaken result bytes left
+  pub given : Gives streams.source.left_before streams.source.left bytes
+  pub grows : GrowsByBytes streams.sink.written_before streams.sink.written text
+  pub full : IsAllTaken result bytes streams.source.left
   pub form : HaveLinesForm seen result bytes text seen_now
-  pub answered : IsSome now → (p : Point) → stood p → AreLinesAnswered slots setup start now p result bytes text
+  pub answered : IsSome span.now → (p : Point) → stood p → AreLinesAnswered span p result bytes text

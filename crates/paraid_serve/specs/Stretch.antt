@@ -44,21 +44,32 @@ abbrev pub events_in : List (List ℕ) → List Event
 events_in [] = []
 events_in (line ∷ lines) = event_of line ∷ events_in lines
 
+-- Where a session runs: over a rack with so many slots, of an array configured so, from one record of it to another.
+pub record Span : Type 0 where
+  pub slots : ℕ
+  pub setup : Setup
+  pub start : Option Trail
+  pub now : Option Trail
+
+-- the one with these slots, this setup and these records
+abbrev pub span_of : ℕ → Setup → Option Trail → Option Trail → Span
+span_of slots setup start now = record { slots = slots; setup = setup; start = start; now = now }
+
 -- These events were answered, from point `p` on, by the calls from one record to another.
-pub record Stretch (slots : ℕ) (setup : Setup) (start now : Option Trail) (p : Point) (events : List Event) : Type 0 where
+pub record Stretch (span : Span) (p : Point) (events : List Event) : Type 0 where
   pub turns : List Turn
   pub end : Point
-  pub went : TurnsLead slots setup p turns end
+  pub went : TurnsLead span.slots span.setup p turns end
   pub asked : turn_events turns ≡ events
   pub from : Trail
   pub to : Trail
-  pub was : start ≡ Some from
-  pub is : now ≡ Some to
+  pub was : span.start ≡ Some from
+  pub is : span.now ≡ Some to
   pub calls : to ≡ extend from (turn_calls turns)
 
 -- the same, and the last event was answered so
-pub record EndsStretch (slots : ℕ) (setup : Setup) (start now : Option Trail) (p : Point) (events : List Event) (answer : Answer) : Type 0 where
-  pub all : Stretch slots setup start now p events
+pub record EndsStretch (span : Span) (p : Point) (events : List Event) (answer : Answer) : Type 0 where
+  pub all : Stretch span p events
   pub before : List Turn
   pub last : Turn
   pub split : all.turns ≡ before ++ last ∷ []

@@ -2,6 +2,8 @@ ghost use Rattle.std.specs.Prelude.{◌≡◌, ◌≤◌, None, IfErr, IsErrOf, 
 ghost use Rattle.paraid_base.specs.Told.{HasRisen};
 ghost use Rattle.paraid_serve.specs.Calls.{Grows};
 ghost use Rattle.paraid_serve.specs.Session.{IsStopByWear, IsStopOfFailed, ServesSession};
+ghost use Rattle.paraid_serve.specs.Streams.{sink_use, source_use, streams_of};
+ghost use Rattle.paraid_serve.specs.Stretch.{span_of};
 
 use crate::Serves;
 use crate::answer::{answer, finish};
@@ -18,9 +20,11 @@ pub fn session<S: Source, K: Sink, A: Serves>(
     array: &mut A,
 ) -> Result<u64, Stop>
     requires going { A.halted array.old ≡ None }
-    ensures session { ServesSession (A.shown array.old) (A.shown array.new) (A.slots array.old) (A.setup array.old) (A.stands array.old)
-        (A.told array.old) (A.told array.new)
-        (S.left source.old) (S.left source.new) (K.written sink.old) (K.written sink.new) result }
+    ensures session { ServesSession (A.shown array.old) (A.shown array.new)
+        (span_of (A.slots array.old) (A.setup array.old) (A.told array.old) (A.told array.new))
+        (A.stands array.old)
+        (streams_of (source_use S.left S.faults source.old source.new)
+        (sink_use K.written K.faults sink.old sink.new)) result }
     ensures told { Grows (A.told array.old) (A.told array.new) }
     ensures slots { A.slots array.new ≡ A.slots array.old }
     ensures setup { A.setup array.new ≡ A.setup array.old }

@@ -4,6 +4,8 @@ ghost use Rattle.paraid_session.specs.Mount.{IsMountedFromEach};
 ghost use Rattle.paraid_serve.specs.Calls.{Grows, IsNotDouble};
 ghost use Rattle.paraid_serve.specs.Lost.{NamesTwoLost, TellsWear};
 ghost use Rattle.paraid_serve.specs.Output.{Headline, IsServedStatus, ProgramRun};
+ghost use Rattle.paraid_serve.specs.Streams.{sink_use, source_use, streams_of};
+ghost use Rattle.paraid_serve.specs.Stretch.{span_of};
 
 use crate::ending::{end_text, halt_status, last, mount_text};
 use crate::run::session;
@@ -15,9 +17,11 @@ use paraid_trace::{Brief, Text, reply};
 /// Serves the trace with a mounted array, and gives the status.
 pub fn serve<S: Source, K: Sink, A: Serves>(source: &mut S, sink: &mut K, array: &mut A) -> u8
     requires going { A.halted array.old ≡ None }
-    ensures run { ProgramRun (A.shown array.old) (A.shown array.new) (A.slots array.old) (A.setup array.old) (A.stands array.old)
-        (A.told array.old) (A.told array.new) (S.left source.old) (S.left source.new)
-        (K.written sink.old) (K.written sink.new) result }
+    ensures run { ProgramRun (A.shown array.old) (A.shown array.new)
+        (span_of (A.slots array.old) (A.setup array.old) (A.told array.old) (A.told array.new))
+        (A.stands array.old)
+        (streams_of (source_use S.left S.faults source.old source.new)
+        (sink_use K.written K.faults sink.old sink.new)) result }
     ensures told { Grows (A.told array.old) (A.told array.new) }
     ensures slots { A.slots array.new ≡ A.slots array.old }
     ensures status { IsServedStatus result }
@@ -58,9 +62,10 @@ pub fn serve_mounted<S: Source, K: Sink, A: Serves>(
     requires going { A.halted array.old ≡ None }
     ensures headline { (began : ℕ) → IsMountedFromEach (A.slots array.old) (A.setup array.old) began
         (A.told array.old) (A.stands array.old)
-        → Headline (A.shown array.old) (A.shown array.new) (A.slots array.old) (A.setup array.old) began
-        (A.told array.old) (A.told array.new) (S.left source.old) (S.left source.new)
-        (K.written sink.old) (K.written sink.new) result }
+        → Headline (A.shown array.old) (A.shown array.new)
+        (span_of (A.slots array.old) (A.setup array.old) (A.told array.old) (A.told array.new))
+        began (streams_of (source_use S.left S.faults source.old source.new)
+        (sink_use K.written K.faults sink.old sink.new)) result }
     ensures told { Grows (A.told array.old) (A.told array.new) }
     ensures slots { A.slots array.new ≡ A.slots array.old }
     ensures status { IsServedStatus result }

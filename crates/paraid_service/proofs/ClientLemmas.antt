@@ -11,6 +11,7 @@ use Rattle.paraid_nbd.specs.Service.{DoesRequests, EndsRequest, Service, Transmi
 use Rattle.paraid_nbd.specs.Service.EndsRequest.{UnreadRequest, UnsentAnswer}
 use Rattle.paraid_nbd.specs.Service.Service.{NoRoom, Early, Late}
 use Rattle.paraid_nbd.proofs.TakingLemmas.{later_then}
+use Rattle.paraid_serve.specs.Streams.{Streams}
 use Rattle.paraid_service.specs.Clients.{AnswersClient, AnswersRequests, StopsAtRequest, TakesClient}
 use Rattle.paraid_service.specs.Clients.StopsAtRequest.{cut_short, stopped}
 use Rattle.paraid_service.specs.Clients.TakesClient.{early as takes_early, late as takes_late, no_room as takes_no_room}
@@ -49,10 +50,10 @@ module _ {D : Type 0} (size : ℕ) (stands : D → History → Type 0) (halted :
   stopped_at d now (UnsentAnswer p is_request takes e cause does replies) = cut_short p is_request takes e cause
 
   -- what was taken, over every device
-  pub client_taken : {a b w x : Option (List ℕ)} {f z sf sz : ℕ} {end : NbdEnd} (was now : D) → Service size stands halted kept tells was now a b w x f z sf sz end → TakesClient size a b w x f z sf sz end
-  client_taken was now (NoRoom e same takes grows) = takes_no_room e takes grows
-  client_taken was now (Early taken same ends) = takes_early taken ends
-  client_taken was now (Late left at taken said low sink_low begun later later_sink tr) =
+  pub client_taken : (x : Streams) {end : NbdEnd} (was now : D) → Service size stands halted kept tells was now x.source.left_before x.source.left x.sink.written_before x.sink.written x.source.faults_before x.source.faults x.sink.faults_before x.sink.faults end → TakesClient size x end
+  client_taken x was now (NoRoom e same takes grows) = takes_no_room e takes grows
+  client_taken x was now (Early taken same ends) = takes_early taken ends
+  client_taken x was now (Late left at taken said low sink_low begun later later_sink tr) =
       takes_late left tr.left at tr.at taken said tr.low tr.sink_low tr.requests begun tr.serves.each tr.serves.takes (later_then _ _ _ later tr.later) (later_then _ _ _ later_sink tr.later_sink) (stopped_at tr.device now tr.ends)
 
   module _ {before after : Option (List ℕ)} {old new : ℕ} {written now_written : Option (List ℕ)} {faults now_faults sink_faults sink_now : ℕ} {end : NbdEnd} (was now : D) (h : History) (is : IsTrue (tells now)) where
@@ -115,9 +116,9 @@ module _ {D : Type 0} (size : ℕ) (stands : D → History → Type 0) (halted :
           kept_is = y.kept_is;
         }
 
-  module _ {before after : Option (List ℕ)} {written now_written : Option (List ℕ)} {faults now_faults sink_faults sink_now : ℕ} {end : NbdEnd} (was now : D) (h : History) (at : stands was h) (none : halted was ≡ None) (begins : kept was was []) (is : IsTrue (tells now)) where
-    pub client_answered : Service size stands halted kept tells was now before after written now_written faults now_faults sink_faults sink_now end
-        → Answered was now (AnswersClient size h before after written now_written faults now_faults sink_faults sink_now end)
+  module _ (x : Streams) {end : NbdEnd} (was now : D) (h : History) (at : stands was h) (none : halted was ≡ None) (begins : kept was was []) (is : IsTrue (tells now)) where
+    pub client_answered : Service size stands halted kept tells was now x.source.left_before x.source.left x.sink.written_before x.sink.written x.source.faults_before x.source.faults x.sink.faults_before x.sink.faults end
+        → Answered was now (AnswersClient size h x end)
     client_answered (NoRoom e same takes grows) = quiet was now h _ (serving was h at none) begins same (no_room e takes grows refl refl)
     client_answered (Early taken same ends) = quiet was now h _ (serving was h at none) begins same (early taken ends refl refl)
     client_answered (Late left place taken said low sink_low begun later later_sink tr) =

@@ -3,7 +3,7 @@ use Rattle.std.proofs.Common.{◌≡◌, ℕ, ◌⊎◌, ◌<◌, Option, Some, 
 use Rattle.paraid_base.specs.declared.fault.Halt.{Halt}
 use Rattle.paraid_base.specs.declared.fault.Halt.TheVariants.{Two as HaltTwo, Worn}
 use Rattle.paraid_base.specs.BlockAnswers.{Answers}
-use Rattle.paraid_device.specs.Devices.{HasAnswered}
+use Rattle.paraid_device.specs.Devices.{HasAnswered, span_between}
 use Rattle.paraid_image.specs.Rest.{AreSynced}
 use Rattle.paraid_nbd.specs.declared.ending.NbdEnd.{NbdEnd}
 use Rattle.paraid_nbd.specs.declared.ending.NbdEnd.TheVariants.{Done, Aborted, Closed, Protocol, TooLong, Source, Sink, NoMemory}
@@ -86,7 +86,7 @@ module _ {A : Type 0} (g : Ghosts A) (first last : A) (p : Point) (at : g.stands
   pub synced_after : (es : Answers) → HasAnswered g first last es → g.halted last ≡ None → (u : Trail) → g.told last ≡ Some u → AreSynced (disks_now u)
   synced_after es k going u tells =
       let a = k.leads is p at in
-      elim (stretch_leaves (g.slots first) (g.setup first) (g.told first) (g.told last) p a.asked a.all mark (here a.all.from a.all.was)) [
+      elim (stretch_leaves (span_between g first last) p a.asked a.all mark (here a.all.from a.all.was)) [
         | two_down pair told ↦ absurd (none_some a.all.end.halt (HaltTwo pair) (agrees last a.all.end a.stands ∙ going) told)
         | rests r ↦ subst (λ (t : Trail). AreSynced (disks_now t)) (same_trail (g.told last) a.all.to u a.all.is tells) r.synced
       ]
@@ -138,10 +138,10 @@ module _ {A : Type 0} (g : Ghosts A) (first last : A) (events : Answers) (end : 
   ends_two none (flushed e (halted (Worn count) told now k)) is = absurd (omega (arith, told, is))
 
   module _ (p : Point) (at : g.stands first p) (is : IsSome (g.told last)) where
-    kept_from : (es : Answers) → HasAnswered g first last es → Keeps (g.slots first) (g.setup first) (g.told first) (g.told last) p es
+    kept_from : (es : Answers) → HasAnswered g first last es → Keeps (span_between g first last) p es
     kept_from es k = let a = k.leads is p at in record { asked = a.asked; all = a.all; answered = a.answered }
 
-    pub ends_with_status : EndsService g first last events end status → EndsWithStatus (g.slots first) (g.setup first) (g.told first) (g.told last) p events end status
+    pub ends_with_status : EndsService g first last events end status → EndsWithStatus (span_between g first last) p events end status
     ends_with_status (broken e k) = status_broken e (kept_from events k)
     ends_with_status (flushed e (kept writes zero going k)) = status_kept writes e zero (kept_from _ k)
     ends_with_status (flushed e (halted halt told now k)) = status_halted halt e told (kept_from _ k)

@@ -13,7 +13,8 @@ use Rattle.paraid_nbd.specs.Service.EndsRequest.{UnreadRequest, UnsentAnswer}
 use Rattle.paraid_nbd.specs.Service.Service.{NoRoom, Early, Late}
 use Rattle.paraid_record.specs.declared.meta.Setup.{Setup}
 use Rattle.paraid_serve.specs.declared.serves.Serves.{Ghosts}
-use Rattle.paraid_service.specs.ClientCauses.{ClientCauses, EndsWithCauses, Exchange, Midpoint, RepliesFrom, RepliesToClient}
+use Rattle.paraid_serve.specs.Streams.{Streams}
+use Rattle.paraid_service.specs.ClientCauses.{ClientCauses, EndsWithCauses, Midpoint, RepliesFrom, RepliesToClient}
 use Rattle.paraid_service.specs.ClientCauses.EndsByReply.{unread, unsent}
 use Rattle.paraid_service.specs.ClientCauses.EndsWithCauses.{broken as caused_broken, halted as caused_halted, kept as caused_kept}
 use Rattle.paraid_service.specs.ClientCauses.RepliesToClient.{early, late, no_room}
@@ -31,10 +32,10 @@ module _ {D : Type 0} (size : ℕ) (stands : D → History → Type 0) (halts : 
   nothing : (first was now : D) (client : Answers → Type 0) → holds first was [] → now ≡ was → client [] → Replied holds first now client
   nothing first was now client begins same answers = record { events = []; answers = answers; kept_is = subst (λ (d : D). holds first d []) (sym same) begins }
 
-  module _ (x : Exchange) (end : NbdEnd) (first was now : D) where
-    ended : (m : Midpoint) (taken : ℕ) (tr : Transmits size stands halts holds tells was now m.left x.after m.at taken m.said x.now_written m.low x.now_faults m.sink_low x.sink_now end)
+  module _ (x : Streams) (end : NbdEnd) (first was now : D) where
+    ended : (m : Midpoint) (taken : ℕ) (tr : Transmits size stands halts holds tells was now m.left x.source.left m.at taken m.said x.sink.written m.low x.source.faults m.sink_low x.sink.faults end)
         → RepliesAll size (holds first tr.device) m.said tr.said [] tr.requests
-        → EndsRequest size stands halts holds tells tr.device now tr.left x.after tr.at taken tr.said x.now_written tr.low x.now_faults tr.sink_low x.sink_now end
+        → EndsRequest size stands halts holds tells tr.device now tr.left x.source.left tr.at taken tr.said x.sink.written tr.low x.source.faults tr.sink_low x.sink.faults end
         → Replied holds first now (RepliesFrom size m x taken end)
     ended m taken tr a (UnreadRequest stops grows same) = record {
       events = a.new;
@@ -77,7 +78,7 @@ module _ {D : Type 0} (size : ℕ) (stands : D → History → Type 0) (halts : 
           kept_is = b.kept_is;
         }
 
-    pub client_replied : holds first was [] → Service size stands halts holds tells was now x.before x.after x.written x.now_written x.faults x.now_faults x.sink_faults x.sink_now end
+    pub client_replied : holds first was [] → Service size stands halts holds tells was now x.source.left_before x.source.left x.sink.written_before x.sink.written x.source.faults_before x.source.faults x.sink.faults_before x.sink.faults end
         → Replied holds first now (RepliesToClient size x end)
     client_replied begins (NoRoom e same takes grows) = nothing first was now (RepliesToClient size x end) begins same (no_room e takes grows refl)
     client_replied begins (Early taken same ends) = nothing first was now (RepliesToClient size x end) begins same (early taken ends refl)
@@ -93,7 +94,7 @@ ends_caused g first last events end status (flushed e (kept writes zero going k)
 ends_caused g first last events end status (flushed e (halted halt told now k)) = caused_halted halt e told k.causes
 
 -- both, of an array whose setup is seen
-pub client_caused : {A : Type 0} (g : Ghosts A) (a b : A) (x : Exchange) (end : NbdEnd) (status : ℕ) (events : Answers) → (g.shown a).setup ≡ g.setup a → RepliesToClient (512 * block_count (g.setup a)) x end events → EndsService g a b events end status
+pub client_caused : {A : Type 0} (g : Ghosts A) (a b : A) (x : Streams) (end : NbdEnd) (status : ℕ) (events : Answers) → (g.shown a).setup ≡ g.setup a → RepliesToClient (512 * block_count (g.setup a)) x end events → EndsService g a b events end status
     → ClientCauses (g.shown a) (g.shown b) x status
 client_caused g a b x end status events same client ends = record {
   end = end;
@@ -103,7 +104,7 @@ client_caused g a b x end status events same client ends = record {
 }
 
 -- the same, told of the arrays of a device
-pub caused_at : {A : Type 0} (g : Ghosts A) (x y a b : A) (e : Exchange) (end : NbdEnd) (status : ℕ) (events : Answers) → x ≡ a → b ≡ y → (g.shown x).setup ≡ g.setup x → RepliesToClient (512 * block_count (g.setup x)) e end events
+pub caused_at : {A : Type 0} (g : Ghosts A) (x y a b : A) (e : Streams) (end : NbdEnd) (status : ℕ) (events : Answers) → x ≡ a → b ≡ y → (g.shown x).setup ≡ g.setup x → RepliesToClient (512 * block_count (g.setup x)) e end events
     → EndsService g x y events end status → ClientCauses (g.shown a) (g.shown b) e status
 caused_at {A} g x y a b e end status events first last same client ends =
     subst (λ (z : A). ClientCauses (g.shown a) (g.shown z) e status) (sym last) (subst (λ (z : A). ClientCauses (g.shown z) (g.shown y) e status) first (client_caused g x y e end status events same client ends))

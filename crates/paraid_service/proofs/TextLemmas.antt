@@ -13,7 +13,7 @@ use Rattle.paraid_base.specs.Told.{AtEnd, GrowsByBytes, HasRisen}
 use Rattle.paraid_base.proofs.ToldLemmas.{Gives-none, GrowsByBytes-then, HasRisen-later, HasRisen-sooner}
 use Rattle.paraid_blocks.specs.declared.blocks.Blocks.{Ghosts as BlocksGhosts}
 use Rattle.paraid_device.specs.declared.device.Device.{Device}
-use Rattle.paraid_device.specs.Devices.{HasAnswered, StandsFor, array_of, halt_of_device}
+use Rattle.paraid_device.specs.Devices.{HasAnswered, StandsFor, array_of, halt_of_device, span_between}
 use Rattle.paraid_device.specs.Laws.{answered_none, array_halt}
 use Rattle.paraid_image.specs.Rest.{AreSynced}
 use Rattle.paraid_io.specs.Lines.{lines_of}
@@ -25,6 +25,9 @@ use Rattle.paraid_serve.specs.declared.serves.Serves.{Ghosts}
 use Rattle.paraid_serve.specs.Ending.{EndsWithLine, end_line, halt_line, mount_line, status_of_halt}
 use Rattle.paraid_serve.specs.Lost.{HaltsBySecondLoss, HaltsByWear, NamesTwoLost, TellsWear}
 use Rattle.paraid_serve.specs.Output.{IsServedStatus, IsWholeStatus, begins_with}
+use Rattle.paraid_serve.specs.Streams.{Streams, streams_of}
+use Rattle.paraid_serve.specs.Stretch.{Span, span_of}
+use Rattle.paraid_serve.specs.Uses.{SinkUse}
 use Rattle.paraid_serve.proofs.ExitLemmas.{stretch_leaves}
 use Rattle.paraid_serve.proofs.GrowsLemmas.{told_then}
 use Rattle.paraid_serve.proofs.HaltLemmas.{names_two, tells_wear}
@@ -96,13 +99,13 @@ answers_of b start h lines text shelf (Some own) y =
     }
 
 -- a last line, written whole or in part
-with_last : {slots : ℕ} {setup : Setup} {start final : Option Trail} {p : Point} {bytes : List ℕ} {before after : Option (List ℕ)} (said line : List ℕ) (code status : ℕ) → (e : EndsWithLine before after line code status) → VolumesText slots setup start final p bytes code (said ++ line)
-    → WritesVolumes slots setup start final p bytes status (said ++ take e.count line)
-with_last {slots} {setup} {start} {final} {p} {bytes} {before} {after} said line code status e t = elim e.whole [
+with_last : {span : Span} {p : Point} {bytes : List ℕ} {before after : Option (List ℕ)} (said line : List ℕ) (code status : ℕ) → (e : EndsWithLine before after line code status) → VolumesText span p bytes code (said ++ line)
+    → WritesVolumes span p bytes status (said ++ take e.count line)
+with_last {span} {p} {bytes} {before} {after} said line code status e t = elim e.whole [
   | inl four ↦ last_line four code (said ++ line) (drop e.count line) t (ap (λ (x : List ℕ). said ++ x) (sym (take-append-drop e.count line)) ∙ sym (append_assoc said (take e.count line) (drop e.count line)))
   | inr all ↦
       let full : take e.count line ≡ line = take_all e.count line (let n = all.0 in omega (arith, n)) in
-      subst (λ (x : List ℕ). WritesVolumes slots setup start final p bytes status (said ++ x)) (sym full) (subst (λ (s : ℕ). WritesVolumes slots setup start final p bytes s (said ++ line)) (sym all.1) (whole t))
+      subst (λ (x : List ℕ). WritesVolumes span p bytes status (said ++ x)) (sym full) (subst (λ (s : ℕ). WritesVolumes span p bytes s (said ++ line)) (sym all.1) (whole t))
 ]
 
 abbrev device_stands : {A : Type 0} (g : Ghosts A) → Device A g → History → Type 0
@@ -119,22 +122,22 @@ form_last {bytes} {before} {after} said line code status e t = elim e.whole [
 
 -- ---- the whole text, from what was answered
 
-module _ (slots : ℕ) (setup : Setup) (start mid final : Option Trail) (p : Point) (bytes : List ℕ) (text told : List ℕ) (same : told ≡ text) where
-  done_at : (lines : List (List ℕ)) (met : Option Halt) (writes : ℕ) (a : AnswersFromPoint slots setup start mid p lines text met) → lines ≡ lines_of bytes → met ≡ None → writes ≡ length a.all.end.history → FlushesLast slots setup mid final a.all.end (Flushed writes)
-      → VolumesText slots setup start final p bytes 0 ((begins_with p ++ told) ++ end_line writes)
+module _ (span : Span) (mid : Option Trail) (p : Point) (bytes : List ℕ) (text told : List ℕ) (same : told ≡ text) where
+  done_at : (lines : List (List ℕ)) (met : Option Halt) (writes : ℕ) (a : AnswersFromPoint (record span { now = mid }) p lines text met) → lines ≡ lines_of bytes → met ≡ None → writes ≡ length a.all.end.history → FlushesLast (record span { start = mid }) a.all.end (Flushed writes)
+      → VolumesText span p bytes 0 ((begins_with p ++ told) ++ end_line writes)
   done_at lines met writes a all none number flush =
-      subst (λ (l : List (List ℕ)). (a : AnswersFromPoint slots setup start mid p l text met) → writes ≡ length a.all.end.history → FlushesLast slots setup mid final a.all.end (Flushed writes) → VolumesText slots setup start final p bytes 0 ((begins_with p ++ told) ++ end_line writes)) (sym all)
-      (subst (λ (o : Option Halt). (a : AnswersFromPoint slots setup start mid p (lines_of bytes) text o) → writes ≡ length a.all.end.history → FlushesLast slots setup mid final a.all.end (Flushed writes) → VolumesText slots setup start final p bytes 0 ((begins_with p ++ told) ++ end_line writes)) (sym none)
+      subst (λ (l : List (List ℕ)). (a : AnswersFromPoint (record span { now = mid }) p l text met) → writes ≡ length a.all.end.history → FlushesLast (record span { start = mid }) a.all.end (Flushed writes) → VolumesText span p bytes 0 ((begins_with p ++ told) ++ end_line writes)) (sym all)
+      (subst (λ (o : Option Halt). (a : AnswersFromPoint (record span { now = mid }) p (lines_of bytes) text o) → writes ≡ length a.all.end.history → FlushesLast (record span { start = mid }) a.all.end (Flushed writes) → VolumesText span p bytes 0 ((begins_with p ++ told) ++ end_line writes)) (sym none)
       (λ a n f.
-      subst (λ (x : List ℕ). VolumesText slots setup start final p bytes 0 ((begins_with p ++ x) ++ end_line writes)) (sym same)
-      (subst (λ (k : ℕ). VolumesText slots setup start final p bytes 0 ((begins_with p ++ text) ++ end_line k)) (sym n) (done_text mid text a (subst (λ (k : ℕ). FlushesLast slots setup mid final a.all.end (Flushed k)) n f)))))
+      subst (λ (x : List ℕ). VolumesText span p bytes 0 ((begins_with p ++ x) ++ end_line writes)) (sym same)
+      (subst (λ (k : ℕ). VolumesText span p bytes 0 ((begins_with p ++ text) ++ end_line k)) (sym n) (done_text mid text a (subst (λ (k : ℕ). FlushesLast (record span { start = mid }) a.all.end (Flushed k)) n f)))))
       a number flush
 
-  halted_at : (lines : List (List ℕ)) (met : Option Halt) (own : Halt) (a : AnswersFromPoint slots setup start mid p lines text met) → lines ≡ lines_of bytes → (met ≡ None) ⊎ (met ≡ Some own) → FlushesLast slots setup mid final a.all.end (Halted own)
-      → VolumesText slots setup start final p bytes (status_of_halt own) ((begins_with p ++ told) ++ halt_line own)
+  halted_at : (lines : List (List ℕ)) (met : Option Halt) (own : Halt) (a : AnswersFromPoint (record span { now = mid }) p lines text met) → lines ≡ lines_of bytes → (met ≡ None) ⊎ (met ≡ Some own) → FlushesLast (record span { start = mid }) a.all.end (Halted own)
+      → VolumesText span p bytes (status_of_halt own) ((begins_with p ++ told) ++ halt_line own)
   halted_at lines met own a all why flush =
-      subst (λ (l : List (List ℕ)). (a : AnswersFromPoint slots setup start mid p l text met) → FlushesLast slots setup mid final a.all.end (Halted own) → VolumesText slots setup start final p bytes (status_of_halt own) ((begins_with p ++ told) ++ halt_line own)) (sym all)
-      (λ a f. subst (λ (x : List ℕ). VolumesText slots setup start final p bytes (status_of_halt own) ((begins_with p ++ x) ++ halt_line own)) (sym same) (halted_text mid own met text a why f))
+      subst (λ (l : List (List ℕ)). (a : AnswersFromPoint (record span { now = mid }) p l text met) → FlushesLast (record span { start = mid }) a.all.end (Halted own) → VolumesText span p bytes (status_of_halt own) ((begins_with p ++ told) ++ halt_line own)) (sym all)
+      (λ a f. subst (λ (x : List ℕ). VolumesText span p bytes (status_of_halt own) ((begins_with p ++ x) ++ halt_line own)) (sym same) (halted_text mid own met text a why f))
       a flush
 
 -- the halt of a device before its last flush
@@ -177,15 +180,18 @@ module _ {A : Type 0} (g : Ghosts A) where
   }
 
   module _ (agrees : (x : A) (q : Point) → g.stands x q → q.halt ≡ g.halted x) (first : Device A g) where
-    abbrev Text : Option Trail → Point → List ℕ → ℕ → List ℕ → Type 0
-    Text final p bytes code text = VolumesText (g.slots (array_of first)) (g.setup (array_of first)) (g.told (array_of first)) final p bytes code text
+    abbrev span_to : Option Trail → Span
+    span_to final = span_of (g.slots (array_of first)) (g.setup (array_of first)) (g.told (array_of first)) final
 
-    abbrev Run : Option Trail → (left_before left written_before written : Option (List ℕ)) → ℕ → Type 0
-    Run final left_before left written_before written status = VolumesRun (g.slots (array_of first)) (g.setup (array_of first)) (g.stands (array_of first)) (g.told (array_of first)) final left_before left written_before written status
+    abbrev Text : Option Trail → Point → List ℕ → ℕ → List ℕ → Type 0
+    Text final p bytes code text = VolumesText (span_to final) p bytes code text
+
+    abbrev Run : Option Trail → Streams → ℕ → Type 0
+    Run final streams status = VolumesRun (span_to final) (g.stands (array_of first)) streams status
 
     -- lines that a device answered, from a point at which its array stood
     point_answers : (mid : Device A g) (p : Point) (lines : List (List ℕ)) (text : List ℕ) (halt : Option Halt) → (at : g.stands (array_of first) p) (is : IsSome (g.told (array_of mid))) → halt_of_device mid ≡ halt
-        → (x : SaysKept device_ghosts first p.history lines text mid halt) → (a : AnswersFromPoint (g.slots (array_of first)) (g.setup (array_of first)) (g.told (array_of first)) (g.told (array_of mid)) p lines text halt) × g.stands (array_of mid) a.all.end
+        → (x : SaysKept device_ghosts first p.history lines text mid halt) → (a : AnswersFromPoint (span_to (g.told (array_of mid))) p lines text halt) × g.stands (array_of mid) a.all.end
     point_answers mid p lines text halt at is same x =
         let k = x.kept.leads is p at in
         let halted : k.all.end.halt ≡ halt = agrees (array_of mid) k.all.end k.stands ∙ array_halt mid ∙ same in
@@ -207,15 +213,15 @@ module _ {A : Type 0} (g : Ghosts A) where
 
     -- the flush behind them
     flush_behind : (mid last : Device A g) (q : Point) (answer : Answer) (halt : Option Halt) → g.slots (array_of mid) ≡ g.slots (array_of first) → g.setup (array_of mid) ≡ g.setup (array_of first) → g.stands (array_of mid) q → IsSome (g.told (array_of last))
-        → HasFlushed g mid last answer halt → FlushesLast (g.slots (array_of first)) (g.setup (array_of first)) (g.told (array_of mid)) (g.told (array_of last)) q answer
+        → HasFlushed g mid last answer halt → FlushesLast (span_of (g.slots (array_of first)) (g.setup (array_of first)) (g.told (array_of mid)) (g.told (array_of last))) q answer
     flush_behind mid last q answer halt slots setup stands is f =
         let k = (f.kept mid [] (answered_none g (array_of mid))).leads is q stands in
-        subst (λ (n : ℕ). FlushesLast n (g.setup (array_of first)) (g.told (array_of mid)) (g.told (array_of last)) q answer) slots
-        (subst (λ (z : Setup). FlushesLast (g.slots (array_of mid)) z (g.told (array_of mid)) (g.told (array_of last)) q answer) setup (record { asked = k.asked; all = k.all; answered = k.answered }))
+        subst (λ (n : ℕ). FlushesLast (span_of n (g.setup (array_of first)) (g.told (array_of mid)) (g.told (array_of last))) q answer) slots
+        (subst (λ (z : Setup). FlushesLast (span_of (g.slots (array_of mid)) z (g.told (array_of mid)) (g.told (array_of last))) q answer) setup (record { asked = k.asked; all = k.all; answered = k.answered }))
 
-    module _ (going : halt_of_device first ≡ None) {left_before left written_before begun written : Option (List ℕ)} (shelf : Shelf (Device A g) device_ghosts) (halt : Option Halt) (writes_seen gear_seen : ℕ)
-        (grew : GrowsByBytes written_before begun (mount_line writes_seen gear_seen)) (mounted : (p : Point) → g.stands (array_of first) p → mount_line writes_seen gear_seen ≡ begins_with p) where
-      module _ (end : LinesEnd) (s : ServesVolumeLines device_ghosts first left_before left begun written shelf halt end) where
+    module _ (going : halt_of_device first ≡ None) (x : Streams) {begun written : Option (List ℕ)} (shelf : Shelf (Device A g) device_ghosts) (halt : Option Halt) (writes_seen gear_seen : ℕ)
+        (grew : GrowsByBytes x.sink.written_before begun (mount_line writes_seen gear_seen)) (mounted : (p : Point) → g.stands (array_of first) p → mount_line writes_seen gear_seen ≡ begins_with p) where
+      module _ (end : LinesEnd) (s : ServesVolumeLines device_ghosts first x.source.left_before x.source.left begun written shelf halt end) where
         -- the events that were kept, whatever is told
         answered_mid : (e : Answers) × HasAnswered g (array_of first) (array_of (device_in shelf)) e
         answered_mid = let k = s.runs.keeps.grows first [] (answered_none g (array_of first)) in (k.0, k.1)
@@ -224,74 +230,74 @@ module _ {A : Type 0} (g : Ghosts A) where
         says_mid is p at = answers_of device_ghosts first p.history s.lines s.text shelf halt (s.runs.says p.history (record { point = p; at = at; is = refl }) is)
 
         answers_mid : (is : IsSome (g.told (array_of (device_in shelf)))) (p : Point) → g.stands (array_of first) p
-            → (a : AnswersFromPoint (g.slots (array_of first)) (g.setup (array_of first)) (g.told (array_of first)) (g.told (array_of (device_in shelf))) p s.lines s.text halt) × g.stands (array_of (device_in shelf)) a.all.end
+            → (a : AnswersFromPoint (span_to (g.told (array_of (device_in shelf)))) p s.lines s.text halt) × g.stands (array_of (device_in shelf)) a.all.end
         answers_mid is p at = point_answers (device_in shelf) p s.lines s.text halt at is (s.runs.halted going) (says_mid is p at)
 
         -- a last line behind the answers
-        ends_line : {wrote : Option (List ℕ)} (final : Option Trail) (line : List ℕ) (code status : ℕ) (e : EndsWithLine written wrote line code status) → (status ≡ 10 → length s.bytes ≡ 2 ^ 40) → (IsWholeStatus status → (length s.bytes < 2 ^ 40) × AtEnd left)
-            → VolumesForm s.bytes code ((mount_line writes_seen gear_seen ++ s.told) ++ line) → (IsSome final → (p : Point) → g.stands (array_of first) p → Text final p s.bytes code ((begins_with p ++ s.told) ++ line)) → Run final left_before left written_before wrote status
-        ends_line {wrote} final line code status e full all form text = record {
+        ends_line : (final : Option Trail) (line : List ℕ) (code status : ℕ) (e : EndsWithLine written x.sink.written line code status) → (status ≡ 10 → length s.bytes ≡ 2 ^ 40) → (IsWholeStatus status → (length s.bytes < 2 ^ 40) × AtEnd x.source.left)
+            → VolumesForm s.bytes code ((mount_line writes_seen gear_seen ++ s.told) ++ line) → (IsSome final → (p : Point) → g.stands (array_of first) p → Text final p s.bytes code ((begins_with p ++ s.told) ++ line)) → Run final x status
+        ends_line final line code status e full all form text = record {
           bytes = s.bytes;
           text = (mount_line writes_seen gear_seen ++ s.told) ++ take e.count line;
           given = s.given;
-          grows = GrowsByBytes-then written_before written wrote (mount_line writes_seen gear_seen ++ s.told) (take e.count line) (GrowsByBytes-then written_before begun written (mount_line writes_seen gear_seen) s.told grew s.grows) e.grows;
+          grows = GrowsByBytes-then x.sink.written_before written x.sink.written (mount_line writes_seen gear_seen ++ s.told) (take e.count line) (GrowsByBytes-then x.sink.written_before begun written (mount_line writes_seen gear_seen) s.told grew s.grows) e.grows;
           full = full;
           all = all;
           form = form_last (mount_line writes_seen gear_seen ++ s.told) line code status e form;
-          wrote = λ is p at. subst (λ (x : List ℕ). WritesVolumes (g.slots (array_of first)) (g.setup (array_of first)) (g.told (array_of first)) final p s.bytes status ((x ++ s.told) ++ take e.count line)) (sym (mounted p at))
+          wrote = λ is p at. subst (λ (x : List ℕ). WritesVolumes (span_to final) p s.bytes status ((x ++ s.told) ++ take e.count line)) (sym (mounted p at))
               (with_last (begins_with p ++ s.told) line code status e (text is p at));
         }
 
       -- all lines were answered, and the flush with a number
-      ran_kept : {wrote : Option (List ℕ)} (last : Device A g) (writes status : ℕ) → ServesVolumeLines device_ghosts first left_before left begun written shelf halt Done → HasFlushed g (device_in shelf) last (Flushed writes) None
-          → EndsWithLine written wrote (end_line writes) 0 status → Run (g.told (array_of last)) left_before left written_before wrote status
+      ran_kept : (last : Device A g) (writes status : ℕ) → ServesVolumeLines device_ghosts first x.source.left_before x.source.left begun written shelf halt Done → HasFlushed g (device_in shelf) last (Flushed writes) None
+          → EndsWithLine written x.sink.written (end_line writes) 0 status → Run (g.told (array_of last)) x status
       ran_kept last writes status s f e =
           let mid = device_in shelf in
           let before = answered_mid Done s in
           let none : halt ≡ None = not_halted (halt_of_device mid) (halt_of_device last) halt (s.runs.halted going) f.again f.halted in
           ends_line Done s (g.told (array_of last)) (end_line writes) 0 status e (λ ten. absurd (other _ _ _ _ _ e 10 (λ no. omega arith) (λ no. omega arith) ten)) (λ whole. (s.ends.2, s.ends.3)) (subst (λ (w : List ℕ). VolumesForm s.bytes 0 ((mount_line writes_seen gear_seen ++ w) ++ end_line writes)) (sym s.ends.1) (form_done writes_seen gear_seen writes s.text (subst (λ (l : List (List ℕ)). HaveForm l s.text None) s.ends.0 (subst (λ (o : Option Halt). HaveForm s.lines s.text o) none s.runs.form)))) (λ is p at.
           let here = told_then (g.told (array_of mid)) (g.told (array_of last)) (f.kept mid [] (answered_none g (array_of mid))).grows is in
-          let x = answers_mid Done s here p at in
-          let number : writes ≡ length x.0.all.end.history = f.number x.0.all.end.history (record { point = x.0.all.end; at = x.1; is = refl }) is writes refl in
-          let behind = flush_behind mid last x.0.all.end (Flushed writes) None before.1.same_slots before.1.same_setup x.1 is f in
-          done_at (g.slots (array_of first)) (g.setup (array_of first)) (g.told (array_of first)) (g.told (array_of mid)) (g.told (array_of last)) p s.bytes s.text s.told s.ends.1 s.lines halt writes x.0 s.ends.0 none number behind)
+          let y = answers_mid Done s here p at in
+          let number : writes ≡ length y.0.all.end.history = f.number y.0.all.end.history (record { point = y.0.all.end; at = y.1; is = refl }) is writes refl in
+          let behind = flush_behind mid last y.0.all.end (Flushed writes) None before.1.same_slots before.1.same_setup y.1 is f in
+          done_at (span_to (g.told (array_of last))) (g.told (array_of mid)) p s.bytes s.text s.told s.ends.1 s.lines halt writes y.0 s.ends.0 none number behind)
 
       -- all lines were answered, and the flush by a halt
-      ran_halted : {wrote : Option (List ℕ)} (last : Device A g) (own : Halt) (status : ℕ) → ServesVolumeLines device_ghosts first left_before left begun written shelf halt Done → HasFlushed g (device_in shelf) last (Halted own) (Some own)
-          → EndsWithLine written wrote (halt_line own) (status_of_halt own) status → Run (g.told (array_of last)) left_before left written_before wrote status
+      ran_halted : (last : Device A g) (own : Halt) (status : ℕ) → ServesVolumeLines device_ghosts first x.source.left_before x.source.left begun written shelf halt Done → HasFlushed g (device_in shelf) last (Halted own) (Some own)
+          → EndsWithLine written x.sink.written (halt_line own) (status_of_halt own) status → Run (g.told (array_of last)) x status
       ran_halted last own status s f e =
           let mid = device_in shelf in
           let before = answered_mid Done s in
           let met = met_by (halt_of_device mid) (halt_of_device last) halt own (s.runs.halted going) f.again f.halted in
           ends_line Done s (g.told (array_of last)) (halt_line own) (status_of_halt own) status e (λ ten. absurd (other _ _ _ _ _ e 10 (λ no. omega (arith, no)) (no_halt_code own 10 (λ no. omega (arith, no)) (λ no. omega (arith, no))) ten)) (λ whole. (s.ends.2, s.ends.3)) (subst (λ (w : List ℕ). VolumesForm s.bytes (status_of_halt own) ((mount_line writes_seen gear_seen ++ w) ++ halt_line own)) (sym s.ends.1) (form_halted writes_seen gear_seen own halt s.text (subst (λ (l : List (List ℕ)). HaveForm l s.text halt) s.ends.0 s.runs.form) met)) (λ is p at.
           let here = told_then (g.told (array_of mid)) (g.told (array_of last)) (f.kept mid [] (answered_none g (array_of mid))).grows is in
-          let x = answers_mid Done s here p at in
-          halted_at (g.slots (array_of first)) (g.setup (array_of first)) (g.told (array_of first)) (g.told (array_of mid)) (g.told (array_of last)) p s.bytes s.text s.told s.ends.1 s.lines halt own x.0 s.ends.0
-          met (flush_behind mid last x.0.all.end (Halted own) (Some own) before.1.same_slots before.1.same_setup x.1 is f))
+          let y = answers_mid Done s here p at in
+          halted_at (span_to (g.told (array_of last))) (g.told (array_of mid)) p s.bytes s.text s.told s.ends.1 s.lines halt own y.0 s.ends.0
+          met (flush_behind mid last y.0.all.end (Halted own) (Some own) before.1.same_slots before.1.same_setup y.1 is f))
 
-      pub ran : {wrote : Option (List ℕ)} (last : Device A g) (end : LinesEnd) (status : ℕ) → ServesVolumeLines device_ghosts first left_before left begun written shelf halt end → EndsSession g (device_in shelf) last written wrote end status → Run (g.told (array_of last)) left_before left written_before wrote status
+      pub ran : (last : Device A g) (end : LinesEnd) (status : ℕ) → ServesVolumeLines device_ghosts first x.source.left_before x.source.left begun written shelf halt end → EndsSession g (device_in shelf) last written x.sink.written end status → Run (g.told (array_of last)) x status
       ran last Done status s (kept writes status' f e) = ran_kept last writes status s f e
       ran last Done status s (halted own status' f e) = ran_halted last own status s f e
-      ran {wrote} last Source status s (at_source status' same e) =
-          subst (λ (d : Device A g). Run (g.told (array_of d)) left_before left written_before wrote status) (sym same)
+      ran last Source status s (at_source status' same e) =
+          subst (λ (d : Device A g). Run (g.told (array_of d)) x status) (sym same)
           (ends_line Source s (g.told (array_of (device_in shelf))) (codes "source\n") 3 status e (λ ten. absurd (other _ _ _ _ _ e 10 (λ no. omega (arith, no)) (λ no. omega (arith, no)) ten))
           (λ whole. absurd (no_whole_status 3 status e (λ no. omega (arith, no)) (λ no. omega (arith, no)) (λ no. omega (arith, no)) whole)) (subst (λ (w : List ℕ). VolumesForm s.bytes 3 ((mount_line writes_seen gear_seen ++ w) ++ codes "source\n")) (sym s.ends.1) (form_source writes_seen gear_seen halt s.text (subst (λ (l : List (List ℕ)). HaveForm l s.text halt) s.ends.0 s.runs.form))) (λ is p at.
-          let x = answers_mid Source s is p at in
+          let y = answers_mid Source s is p at in
           subst (λ (w : List ℕ). Text (g.told (array_of (device_in shelf))) p s.bytes 3 ((begins_with p ++ w) ++ codes "source\n")) (sym s.ends.1)
-          (source_text halt s.text (subst (λ (l : List (List ℕ)). AnswersFromPoint (g.slots (array_of first)) (g.setup (array_of first)) (g.told (array_of first)) (g.told (array_of (device_in shelf))) p l s.text halt) s.ends.0 x.0))))
-      ran {wrote} last TooLong status s (too_long status' same e) =
-          subst (λ (d : Device A g). Run (g.told (array_of d)) left_before left written_before wrote status) (sym same)
+          (source_text halt s.text (subst (λ (l : List (List ℕ)). AnswersFromPoint (span_to (g.told (array_of (device_in shelf)))) p l s.text halt) s.ends.0 y.0))))
+      ran last TooLong status s (too_long status' same e) =
+          subst (λ (d : Device A g). Run (g.told (array_of d)) x status) (sym same)
           (ends_line TooLong s (g.told (array_of (device_in shelf))) (codes "toolong\n") 10 status e (λ ten. s.ends.2)
           (λ whole. absurd (no_whole_status 10 status e (λ no. omega (arith, no)) (λ no. omega (arith, no)) (λ no. omega (arith, no)) whole)) (subst (λ (w : List ℕ). VolumesForm s.bytes 10 ((mount_line writes_seen gear_seen ++ w) ++ codes "toolong\n")) (sym s.ends.1) (form_too_long writes_seen gear_seen halt s.text s.ends.2 (subst (λ (l : List (List ℕ)). HaveForm l s.text halt) s.ends.0 s.runs.form))) (λ is p at.
-          let x = answers_mid TooLong s is p at in
+          let y = answers_mid TooLong s is p at in
           subst (λ (w : List ℕ). Text (g.told (array_of (device_in shelf))) p s.bytes 10 ((begins_with p ++ w) ++ codes "toolong\n")) (sym s.ends.1)
-          (too_long_text s.ends.2 halt s.text (subst (λ (l : List (List ℕ)). AnswersFromPoint (g.slots (array_of first)) (g.setup (array_of first)) (g.told (array_of first)) (g.told (array_of (device_in shelf))) p l s.text halt) s.ends.0 x.0))))
-      ran {wrote} last Sink status s (at_sink same after) =
-          subst (λ (d : Device A g). Run (g.told (array_of d)) left_before left written_before wrote 4) (sym same) (record {
+          (too_long_text s.ends.2 halt s.text (subst (λ (l : List (List ℕ)). AnswersFromPoint (span_to (g.told (array_of (device_in shelf)))) p l s.text halt) s.ends.0 y.0))))
+      ran last Sink status s (at_sink same after) =
+          subst (λ (d : Device A g). Run (g.told (array_of d)) x 4) (sym same) (record {
             bytes = s.bytes;
             text = mount_line writes_seen gear_seen ++ s.told;
             given = s.given;
-            grows = subst (λ (w : Option (List ℕ)). GrowsByBytes written_before w (mount_line writes_seen gear_seen ++ s.told)) (sym after) (GrowsByBytes-then written_before begun written (mount_line writes_seen gear_seen) s.told grew s.grows);
+            grows = subst (λ (w : Option (List ℕ)). GrowsByBytes x.sink.written_before w (mount_line writes_seen gear_seen ++ s.told)) (sym after) (GrowsByBytes-then x.sink.written_before begun written (mount_line writes_seen gear_seen) s.told grew s.grows);
             full = λ ten. absurd (omega (arith, ten));
             all = λ whole. absurd (four_not_whole whole);
             form = form_answers refl writes_seen gear_seen s.lines s.ends.0.0 s.text s.ends.1.0 halt s.ends.0.1 s.runs.form (ap (λ (w : List ℕ). mount_line writes_seen gear_seen ++ w) s.ends.1.1 ∙ sym (append_assoc (mount_line writes_seen gear_seen) s.told s.ends.1.0));
@@ -301,7 +307,7 @@ module _ {A : Type 0} (g : Ghosts A) where
           })
 
       -- what the array did in all
-      pub all_answered : {wrote : Option (List ℕ)} (last : Device A g) (end : LinesEnd) (status : ℕ) → ServesVolumeLines device_ghosts first left_before left begun written shelf halt end → EndsSession g (device_in shelf) last written wrote end status
+      pub all_answered : (last : Device A g) (end : LinesEnd) (status : ℕ) → ServesVolumeLines device_ghosts first x.source.left_before x.source.left begun written shelf halt end → EndsSession g (device_in shelf) last written x.sink.written end status
           → (e : Answers) × HasAnswered g (array_of first) (array_of last) e
       all_answered last Done status s (kept writes status' f e) = let k = answered_mid Done s in (_, f.kept first k.0 k.1)
       all_answered last Done status s (halted own status' f e) = let k = answered_mid Done s in (_, f.kept first k.0 k.1)
@@ -310,12 +316,12 @@ module _ {A : Type 0} (g : Ghosts A) where
       all_answered last Sink status s (at_sink same after) = let k = answered_mid Sink s in (k.0, subst (λ (d : Device A g). HasAnswered g (array_of first) (array_of d) k.0) (sym same) k.1)
 
   -- the first line could not be written
-  pub ran_none : (a : A) {left written_before wrote : Option (List ℕ)} (writes gear n : ℕ) → GrowsByBytes written_before wrote (take n (mount_line writes gear)) → ((p : Point) → g.stands a p → mount_line writes gear ≡ begins_with p)
-      → VolumesRun (g.slots a) (g.setup a) (g.stands a) (g.told a) (g.told a) left left written_before wrote 4
-  ran_none a writes gear n grew mounted = record {
+  pub ran_none : (a : A) (left : Option (List ℕ)) (count : ℕ) (sink : SinkUse) (writes gear n : ℕ) → GrowsByBytes sink.written_before sink.written (take n (mount_line writes gear)) → ((p : Point) → g.stands a p → mount_line writes gear ≡ begins_with p)
+      → VolumesRun (span_between g a a) (g.stands a) (streams_of (record { left_before = left; left = left; faults_before = count; faults = count }) sink) 4
+  ran_none a left count sink writes gear n grew mounted = record {
     bytes = [];
     text = take n (mount_line writes gear);
-    given = Gives-none _;
+    given = Gives-none left;
     grows = grew;
     full = λ ten. absurd (omega (arith, ten));
     all = λ whole. absurd (four_not_whole whole);
@@ -347,12 +353,12 @@ module _ {A : Type 0} (g : Ghosts A) (old new : Device A g) where
 -- ---- from the first point of a session on
 
 module _ {A : Type 0} (g : Ghosts A) (agrees : (x : A) (q : Point) → g.stands x q → q.halt ≡ g.halted x) (a b : A) (events : Answers) (all : HasAnswered g a b events) (status : ℕ) (going : status ≡ 0 → g.halted b ≡ None)
-    {left_before left written_before written : Option (List ℕ)} (r : VolumesRun (g.slots a) (g.setup a) (g.stands a) (g.told a) (g.told b) left_before left written_before written status) where
+    {streams : Streams} (r : VolumesRun (span_between g a b) (g.stands a) streams status) where
   -- after an end with 0 no block is loose
   synced_at : IsSome (g.told b) → (p : Point) → g.stands a p → IsMark (g.slots a) (g.setup a) p → ((t : Trail) → g.told a ≡ Some t → p.disks ≡ disks_now t) → status ≡ 0 → (u : Trail) → g.told b ≡ Some u → AreSynced (disks_now u)
   synced_at is p at mark here zero = synced_after g a b p at is agrees mark here events all (going zero)
 
-  pub headline_of : (began : ℕ) → IsMountedFromEach (g.slots a) (g.setup a) began (g.told a) (g.stands a) → VolumesHeadline (g.slots a) (g.setup a) began (g.told a) (g.told b) left_before left written_before written status
+  pub headline_of : (began : ℕ) → IsMountedFromEach (g.slots a) (g.setup a) began (g.told a) (g.stands a) → VolumesHeadline (span_between g a b) began streams status
   headline_of began mounted = record {
     bytes = r.bytes;
     text = r.text;
@@ -361,8 +367,8 @@ module _ {A : Type 0} (g : Ghosts A) (agrees : (x : A) (q : Point) → g.stands 
     full = r.full;
     all = r.all;
     form = r.form;
-    said = λ is. IsMountedFromEach-follows (g.slots a) (g.setup a) began (g.told a) (g.stands a) (FollowsForVolumes (g.slots a) (g.setup a) (g.told a) (g.told b) r.bytes status r.text)
-        (λ p mark here at. record { wrote = r.wrote is p at; left = λ asked c. stretch_leaves (g.slots a) (g.setup a) (g.told a) (g.told b) p asked c mark (here c.from c.was); synced = synced_at is p at mark here }) mounted;
+    said = λ is. IsMountedFromEach-follows (g.slots a) (g.setup a) began (g.told a) (g.stands a) (FollowsForVolumes (span_between g a b) r.bytes status r.text)
+        (λ p mark here at. record { wrote = r.wrote is p at; left = λ asked c. stretch_leaves (span_between g a b) p asked c mark (here c.from c.was); synced = synced_at is p at mark here }) mounted;
   }
 
 -- ---- why it ended so

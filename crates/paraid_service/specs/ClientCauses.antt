@@ -18,21 +18,10 @@ use Rattle.paraid_nbd.specs.Service.{StopsRequest}
 use Rattle.paraid_nbd.specs.Taking.{Takes}
 use Rattle.paraid_serve.specs.Causes.{Shown}
 use Rattle.paraid_serve.specs.Ending.{status_of_halt}
+use Rattle.paraid_serve.specs.Streams.{Streams}
 use Rattle.paraid_service.specs.Ends.{broken_status}
 
--- what went in and out while a client was served: what is left of the source, what was written, and the counts of their faults, each
--- before and after
-pub record Exchange : Type 0 where
-  pub before : Option (List ℕ)
-  pub after : Option (List ℕ)
-  pub written : Option (List ℕ)
-  pub now_written : Option (List ℕ)
-  pub faults : ℕ
-  pub now_faults : ℕ
-  pub sink_faults : ℕ
-  pub sink_now : ℕ
-
--- the same in the middle: what is left, how many bytes were taken, what was written, and the counts
+-- what went in and out up to a point: what is left of the source, how many bytes were taken, what was written, and the counts of faults
 pub record Midpoint : Type 0 where
   pub left : Option (List ℕ)
   pub at : ℕ
@@ -42,13 +31,13 @@ pub record Midpoint : Type 0 where
 
 -- The service ends at a request, which is the last of the bytes up to `taken`, by these events: none; or those of a request whose
 -- reply could not be written whole.
-pub data EndsByReply (size : ℕ) (m : Midpoint) (x : Exchange) (taken : ℕ) (end : NbdEnd) (events : Answers) : Type 0 where
-  unread : StopsRequest m.left x.after m.at taken m.low x.now_faults end → GrowsByBytes m.said x.now_written [] → events ≡ [] → EndsByReply size m x taken end events
-  unsent : (p : RequestParts) (out : List ℕ) → IsRequest p → Takes m.left x.after m.at taken (request_bytes p) → IsReplyTo size (request_in p.head) out events
-      → IsUnsent m.said x.now_written out m.sink_low x.sink_now end → EndsByReply size m x taken end events
+pub data EndsByReply (size : ℕ) (m : Midpoint) (x : Streams) (taken : ℕ) (end : NbdEnd) (events : Answers) : Type 0 where
+  unread : StopsRequest m.left x.source.left m.at taken m.low x.source.faults end → GrowsByBytes m.said x.sink.written [] → events ≡ [] → EndsByReply size m x taken end events
+  unsent : (p : RequestParts) (out : List ℕ) → IsRequest p → Takes m.left x.source.left m.at taken (request_bytes p) → IsReplyTo size (request_in p.head) out events
+      → IsUnsent m.said x.sink.written out m.sink_low x.sink.faults end → EndsByReply size m x taken end events
 
 -- Requests were answered, one after the other, from one point to the end. These are all their events.
-pub record RepliesFrom (size : ℕ) (start : Midpoint) (x : Exchange) (taken : ℕ) (end : NbdEnd) (events : Answers) : Type 0 where
+pub record RepliesFrom (size : ℕ) (start : Midpoint) (x : Streams) (taken : ℕ) (end : NbdEnd) (events : Answers) : Type 0 where
   pub middle : Midpoint
   pub requests : List RequestParts
   pub each : AllByRecursion IsRequest requests
@@ -65,10 +54,10 @@ pub record RepliesFrom (size : ℕ) (start : Midpoint) (x : Exchange) (taken : �
 
 -- A client was answered over every rack: what was taken is cut into flags, options, requests and a rest, and what was written is the
 -- reply of each, by these events.
-pub data RepliesToClient (size : ℕ) (x : Exchange) (end : NbdEnd) (events : Answers) : Type 0 where
-  no_room : end ≡ NoMemory → Takes x.before x.after 0 0 [] → GrowsByBytes x.written x.now_written [] → events ≡ [] → RepliesToClient size x end events
-  early : (taken : ℕ) → EndsEarly size x.before x.after 0 taken x.written x.now_written x.faults x.now_faults x.sink_faults x.sink_now end → events ≡ [] → RepliesToClient size x end events
-  late : (start : Midpoint) (taken : ℕ) → BeginsTransmission size x.before start.left 0 start.at x.written start.said → x.faults ≤ start.low → x.sink_faults ≤ start.sink_low
+pub data RepliesToClient (size : ℕ) (x : Streams) (end : NbdEnd) (events : Answers) : Type 0 where
+  no_room : end ≡ NoMemory → Takes x.source.left_before x.source.left 0 0 [] → GrowsByBytes x.sink.written_before x.sink.written [] → events ≡ [] → RepliesToClient size x end events
+  early : (taken : ℕ) → EndsEarly size x.source.left_before x.source.left 0 taken x.sink.written_before x.sink.written x.source.faults_before x.source.faults x.sink.faults_before x.sink.faults end → events ≡ [] → RepliesToClient size x end events
+  late : (start : Midpoint) (taken : ℕ) → BeginsTransmission size x.source.left_before start.left 0 start.at x.sink.written_before start.said → x.source.faults_before ≤ start.low → x.sink.faults_before ≤ start.sink_low
       → RepliesFrom size start x taken end events → RepliesToClient size x end events
 
 -- The array answered these events, each with its cause, and a flush after them unless the service was broken off; the status tells
@@ -79,7 +68,7 @@ pub data EndsWithCauses (old new : Shown) (events : Answers) (end : NbdEnd) (sta
   halted : (halt : Halt) → broken_status end ≡ None → status ≡ status_of_halt halt → HaveAnswerCauses old (events ++ (Flush, Halted halt) ∷ []) new → EndsWithCauses old new events end status
 
 -- What a client was answered, and why: by what was seen of the array as it was mounted and at the end.
-pub record ClientCauses (old new : Shown) (x : Exchange) (status : ℕ) : Type 0 where
+pub record ClientCauses (old new : Shown) (x : Streams) (status : ℕ) : Type 0 where
   pub end : NbdEnd
   pub events : Answers
   pub client : RepliesToClient (512 * block_count old.setup) x end events

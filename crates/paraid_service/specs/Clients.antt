@@ -21,11 +21,11 @@ use Rattle.paraid_nbd.specs.Service.{StopsRequest}
 use Rattle.paraid_nbd.specs.Taking.{Takes}
 use Rattle.paraid_rack.specs.Slots.{Slot}
 use Rattle.paraid_rack.specs.Trail.{Trail, now}
-use Rattle.paraid_record.specs.declared.meta.Setup.{Setup}
 use Rattle.paraid_serve.specs.Ending.{status_of_halt}
 use Rattle.paraid_serve.specs.Lost.{IsSecondLost}
 use Rattle.paraid_serve.specs.Output.{IsLeftByStretch}
-use Rattle.paraid_serve.specs.Stretch.{Stretch}
+use Rattle.paraid_serve.specs.Streams.{Streams}
+use Rattle.paraid_serve.specs.Stretch.{Span, Stretch}
 use Rattle.paraid_session.specs.Mount.{IsMountedFromEach}
 use Rattle.paraid_session.specs.Turn.{Point}
 use Rattle.paraid_service.specs.Ends.{broken_status}
@@ -61,37 +61,37 @@ pub record AnswersRequests (size : ℕ) (s : Option History) (before after : Opt
 -- A client was answered on a device that served this history: what was taken is cut into flags, options, requests and a rest,
 -- and what was written is the reply of each. Of these events and replies the requests say which they are, and t is the history
 -- after them, or none after a halt.
-pub data AnswersClient (size : ℕ) (h : History) (before after : Option (List ℕ)) (written now_written : Option (List ℕ)) (faults now_faults sink_faults sink_now : ℕ) (end : NbdEnd) (events : Answers) (t : Option History) : Type 0 where
-  no_room : end ≡ NoMemory → Takes before after 0 0 [] → GrowsByBytes written now_written [] → events ≡ [] → t ≡ Some h
-      → AnswersClient size h before after written now_written faults now_faults sink_faults sink_now end events t
-  early : (taken : ℕ) → EndsEarly size before after 0 taken written now_written faults now_faults sink_faults sink_now end → events ≡ [] → t ≡ Some h
-      → AnswersClient size h before after written now_written faults now_faults sink_faults sink_now end events t
-  late : (left : Option (List ℕ)) (at taken : ℕ) (said : Option (List ℕ)) (low sink_low : ℕ) → BeginsTransmission size before left 0 at written said → faults ≤ low → sink_faults ≤ sink_low
-      → AnswersRequests size (Some h) left after at taken said now_written low now_faults sink_low sink_now end events t
-      → AnswersClient size h before after written now_written faults now_faults sink_faults sink_now end events t
+pub data AnswersClient (size : ℕ) (h : History) (streams : Streams) (end : NbdEnd) (events : Answers) (t : Option History) : Type 0 where
+  no_room : end ≡ NoMemory → Takes streams.source.left_before streams.source.left 0 0 [] → GrowsByBytes streams.sink.written_before streams.sink.written [] → events ≡ [] → t ≡ Some h
+      → AnswersClient size h streams end events t
+  early : (taken : ℕ) → EndsEarly size streams.source.left_before streams.source.left 0 taken streams.sink.written_before streams.sink.written streams.source.faults_before streams.source.faults streams.sink.faults_before streams.sink.faults end → events ≡ [] → t ≡ Some h
+      → AnswersClient size h streams end events t
+  late : (left : Option (List ℕ)) (at taken : ℕ) (said : Option (List ℕ)) (low sink_low : ℕ) → BeginsTransmission size streams.source.left_before left 0 at streams.sink.written_before said → streams.source.faults_before ≤ low → streams.sink.faults_before ≤ sink_low
+      → AnswersRequests size (Some h) left streams.source.left at taken said streams.sink.written low streams.source.faults sink_low streams.sink.faults end events t
+      → AnswersClient size h streams end events t
 
 -- The array answered these events from point p on, and no others.
-pub record Keeps (slots : ℕ) (setup : Setup) (start final : Option Trail) (p : Point) (events : Answers) : Type 0 where
+pub record Keeps (span : Span) (p : Point) (events : Answers) : Type 0 where
   pub asked : List Event
-  pub all : Stretch slots setup start final p asked
+  pub all : Stretch span p asked
   pub answered : answers_in all.turns ≡ events
 
 -- The events of a client are those that the array answered, with a flush after them unless the service was broken off; and the
 -- status tells the end, or the answer to that flush.
-pub data EndsWithStatus (slots : ℕ) (setup : Setup) (start final : Option Trail) (p : Point) (events : Answers) (end : NbdEnd) (status : ℕ) : Type 0 where
-  broken : broken_status end ≡ Some status → Keeps slots setup start final p events → EndsWithStatus slots setup start final p events end status
-  kept : (writes : ℕ) → broken_status end ≡ None → status ≡ 0 → Keeps slots setup start final p (events ++ (Flush, Flushed writes) ∷ []) → EndsWithStatus slots setup start final p events end status
-  halted : (halt : Halt) → broken_status end ≡ None → status ≡ status_of_halt halt → Keeps slots setup start final p (events ++ (Flush, Halted halt) ∷ []) → EndsWithStatus slots setup start final p events end status
+pub data EndsWithStatus (span : Span) (p : Point) (events : Answers) (end : NbdEnd) (status : ℕ) : Type 0 where
+  broken : broken_status end ≡ Some status → Keeps span p events → EndsWithStatus span p events end status
+  kept : (writes : ℕ) → broken_status end ≡ None → status ≡ 0 → Keeps span p (events ++ (Flush, Flushed writes) ∷ []) → EndsWithStatus span p events end status
+  halted : (halt : Halt) → broken_status end ≡ None → status ≡ status_of_halt halt → Keeps span p (events ++ (Flush, Halted halt) ∷ []) → EndsWithStatus span p events end status
 
 -- What follows from the first point of a session.
-pub record FollowsForClient (slots : ℕ) (setup : Setup) (start final : Option Trail) (before after : Option (List ℕ)) (written now_written : Option (List ℕ)) (faults now_faults sink_faults sink_now : ℕ) (status : ℕ) (end : NbdEnd) (p : Point) : Type 0 where
+pub record FollowsForClient (span : Span) (streams : Streams) (status : ℕ) (end : NbdEnd) (p : Point) : Type 0 where
   pub events : Answers
   pub t : Option History
-  pub client : AnswersClient (512 * block_count setup) p.history before after written now_written faults now_faults sink_faults sink_now end events t
-  pub session : EndsWithStatus slots setup start final p events end status
+  pub client : AnswersClient (512 * block_count span.setup) p.history streams end events t
+  pub session : EndsWithStatus span p events end status
   -- each stop leaves what was flushed: so it is of each stretch of the session
-  pub left : (asked : List Event) (c : Stretch slots setup start final p asked) → IsLeftByStretch slots c
-  pub synced : status ≡ 0 → (u : Trail) → final ≡ Some u → AreSynced (now u)
+  pub left : (asked : List Event) (c : Stretch span p asked) → IsLeftByStretch c
+  pub synced : status ≡ 0 → (u : Trail) → span.now ≡ Some u → AreSynced (now u)
 
 -- The service ends at a request.
 pub data StopsAtRequest (before after : Option (List ℕ)) (old new : ℕ) (faults now_faults sink_faults sink_now : ℕ) (end : NbdEnd) : Type 0 where
@@ -99,12 +99,12 @@ pub data StopsAtRequest (before after : Option (List ℕ)) (old new : ℕ) (faul
   cut_short : (p : RequestParts) → IsRequest p → Takes before after old new (request_bytes p) → end ≡ Sink → HasRisen sink_faults sink_now → StopsAtRequest before after old new faults now_faults sink_faults sink_now end
 
 -- Which bytes were taken, and how the service ended for it, over every rack.
-pub data TakesClient (size : ℕ) (before after : Option (List ℕ)) (written now_written : Option (List ℕ)) (faults now_faults sink_faults sink_now : ℕ) (end : NbdEnd) : Type 0 where
-  no_room : end ≡ NoMemory → Takes before after 0 0 [] → GrowsByBytes written now_written [] → TakesClient size before after written now_written faults now_faults sink_faults sink_now end
-  early : (taken : ℕ) → EndsEarly size before after 0 taken written now_written faults now_faults sink_faults sink_now end → TakesClient size before after written now_written faults now_faults sink_faults sink_now end
-  late : (middle left : Option (List ℕ)) (at place taken : ℕ) (said : Option (List ℕ)) (low sink_low : ℕ) (requests : List RequestParts) → BeginsTransmission size before middle 0 at written said
-      → AllByRecursion IsRequest requests → Takes middle left at place (flat_map request_bytes requests) → faults ≤ low → sink_faults ≤ sink_low
-      → StopsAtRequest left after place taken low now_faults sink_low sink_now end → TakesClient size before after written now_written faults now_faults sink_faults sink_now end
+pub data TakesClient (size : ℕ) (streams : Streams) (end : NbdEnd) : Type 0 where
+  no_room : end ≡ NoMemory → Takes streams.source.left_before streams.source.left 0 0 [] → GrowsByBytes streams.sink.written_before streams.sink.written [] → TakesClient size streams end
+  early : (taken : ℕ) → EndsEarly size streams.source.left_before streams.source.left 0 taken streams.sink.written_before streams.sink.written streams.source.faults_before streams.source.faults streams.sink.faults_before streams.sink.faults end → TakesClient size streams end
+  late : (middle left : Option (List ℕ)) (at place taken : ℕ) (said : Option (List ℕ)) (low sink_low : ℕ) (requests : List RequestParts) → BeginsTransmission size streams.source.left_before middle 0 at streams.sink.written_before said
+      → AllByRecursion IsRequest requests → Takes middle left at place (flat_map request_bytes requests) → streams.source.faults_before ≤ low → streams.sink.faults_before ≤ sink_low
+      → StopsAtRequest left streams.source.left place taken low streams.source.faults sink_low streams.sink.faults end → TakesClient size streams end
 
 -- a status tells the end at which a client was broken off, or how the flush came out
 pub data IsStatusOfEnd (end : NbdEnd) (status : ℕ) : Type 0 where
@@ -113,11 +113,11 @@ pub data IsStatusOfEnd (end : NbdEnd) (status : ℕ) : Type 0 where
 
 -- The headline of a client. Over every rack: which bytes were taken, how the service ended for it, and that the status tells
 -- this. Where all is told, on a rack that held a history: what was answered, and that it is a session.
-pub record ClientHeadline (slots : ℕ) (setup : Setup) (began : ℕ) (start final : Option Trail) (before after : Option (List ℕ)) (written now_written : Option (List ℕ)) (faults now_faults sink_faults sink_now : ℕ) (status : ℕ) : Type 0 where
+pub record ClientHeadline (span : Span) (began : ℕ) (streams : Streams) (status : ℕ) : Type 0 where
   pub end : NbdEnd
-  pub taken : TakesClient (512 * block_count setup) before after written now_written faults now_faults sink_faults sink_now end
+  pub taken : TakesClient (512 * block_count span.setup) streams end
   pub ended : IsStatusOfEnd end status
-  pub said : IsSome final → IsMountedFromEach slots setup began start (FollowsForClient slots setup start final before after written now_written faults now_faults sink_faults sink_now status end)
+  pub said : IsSome span.now → IsMountedFromEach span.slots span.setup began span.start (FollowsForClient span streams status end)
 
 -- the statuses of a client of a mounted array
 abbrev pub IsClientStatus : ℕ → Type 0

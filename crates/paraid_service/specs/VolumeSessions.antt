@@ -14,10 +14,10 @@ use Rattle.paraid_machine.specs.Machine.{block_count}
 use Rattle.paraid_device.specs.Devices.{answers_in}
 use Rattle.paraid_image.specs.Rest.{AreSynced}
 use Rattle.paraid_rack.specs.Trail.{Trail, now}
-use Rattle.paraid_record.specs.declared.meta.Setup.{Setup}
 use Rattle.paraid_serve.specs.Ending.{end_line, halt_line, status_of_halt}
 use Rattle.paraid_serve.specs.Output.{IsLeftByStretch, IsWholeStatus, begins_with}
-use Rattle.paraid_serve.specs.Stretch.{Stretch}
+use Rattle.paraid_serve.specs.Streams.{Streams}
+use Rattle.paraid_serve.specs.Stretch.{Span, Stretch}
 use Rattle.paraid_session.specs.Turn.{Point}
 use Rattle.paraid_volume.specs.Device.{AreAll, IsReadEvent, entries_in}
 use Rattle.paraid_volume.specs.Lives.{IsLeftByLife, Life, VolLog, flushed}
@@ -115,69 +115,69 @@ LeavesHeld count start low written None log = Unit {0}
 
 -- Lines of `vol` were answered from point p of a session on: these events and no others are those of the array, its halt is that of
 -- the lines, and unless it has halted each stop leaves the volumes after a first part of the calls.
-pub record AnswersFromPoint (slots : ℕ) (setup : Setup) (start now : Option Trail) (p : Point) (lines : List (List ℕ)) (text : List ℕ) (halt : Option Halt) : Type 0 where
+pub record AnswersFromPoint (span : Span) (p : Point) (lines : List (List ℕ)) (text : List ℕ) (halt : Option Halt) : Type 0 where
   pub events : Answers
-  pub answers : AnswersLines (block_count setup) p.history lines text events halt
+  pub answers : AnswersLines (block_count span.setup) p.history lines text events halt
   pub asked : List Event
-  pub all : Stretch slots setup start now p asked
+  pub all : Stretch span p asked
   pub answered : answers_in all.turns ≡ events
   pub halted : all.end.halt ≡ halt
   pub written : all.end.history ≡ p.history ++ entries_in events
-  pub stops : halt ≡ None → LeavesHeld (block_count setup) (life_start answers.first p.history) all.end.low all.end.history answers.last answers.log
+  pub stops : halt ≡ None → LeavesHeld (block_count span.setup) (life_start answers.first p.history) all.end.low all.end.history answers.last answers.log
 
 -- The last event of a session is a flush, which was answered so.
-pub record FlushesLast (slots : ℕ) (setup : Setup) (mid final : Option Trail) (p : Point) (answer : Answer) : Type 0 where
+pub record FlushesLast (span : Span) (p : Point) (answer : Answer) : Type 0 where
   pub asked : List Event
-  pub all : Stretch slots setup mid final p asked
+  pub all : Stretch span p asked
   pub answered : answers_in all.turns ≡ (Flush, answer) ∷ []
 
 -- The whole text of `vol` for these bytes, by its status, as that of `run`. After a halt in the lines the last flush gives it again.
-pub data VolumesText (slots : ℕ) (setup : Setup) (start final : Option Trail) (p : Point) (bytes : List ℕ) : ℕ → List ℕ → Type 0 where
-  done : (mid : Option Trail) (text : List ℕ) (a : AnswersFromPoint slots setup start mid p (lines_of bytes) text None) → FlushesLast slots setup mid final a.all.end (Flushed (length a.all.end.history))
-      → VolumesText slots setup start final p bytes 0 (begins_with p ++ text ++ end_line (length a.all.end.history))
-  halted : (mid : Option Trail) (halt : Halt) (met : Option Halt) (text : List ℕ) (a : AnswersFromPoint slots setup start mid p (lines_of bytes) text met) → (met ≡ None) ⊎ (met ≡ Some halt) → FlushesLast slots setup mid final a.all.end (Halted halt)
-      → VolumesText slots setup start final p bytes (status_of_halt halt) (begins_with p ++ text ++ halt_line halt)
-  source : (met : Option Halt) (text : List ℕ) → AnswersFromPoint slots setup start final p (whole_lines bytes) text met
-      → VolumesText slots setup start final p bytes 3 (begins_with p ++ text ++ codes "source\n")
-  too_long : length bytes ≡ 2 ^ 40 → (met : Option Halt) (text : List ℕ) → AnswersFromPoint slots setup start final p (whole_lines bytes) text met
-      → VolumesText slots setup start final p bytes 10 (begins_with p ++ text ++ codes "toolong\n")
+pub data VolumesText (span : Span) (p : Point) (bytes : List ℕ) : ℕ → List ℕ → Type 0 where
+  done : (mid : Option Trail) (text : List ℕ) (a : AnswersFromPoint (record span { now = mid }) p (lines_of bytes) text None) → FlushesLast (record span { start = mid }) a.all.end (Flushed (length a.all.end.history))
+      → VolumesText span p bytes 0 (begins_with p ++ text ++ end_line (length a.all.end.history))
+  halted : (mid : Option Trail) (halt : Halt) (met : Option Halt) (text : List ℕ) (a : AnswersFromPoint (record span { now = mid }) p (lines_of bytes) text met) → (met ≡ None) ⊎ (met ≡ Some halt) → FlushesLast (record span { start = mid }) a.all.end (Halted halt)
+      → VolumesText span p bytes (status_of_halt halt) (begins_with p ++ text ++ halt_line halt)
+  source : (met : Option Halt) (text : List ℕ) → AnswersFromPoint span p (whole_lines bytes) text met
+      → VolumesText span p bytes 3 (begins_with p ++ text ++ codes "source\n")
+  too_long : length bytes ≡ 2 ^ 40 → (met : Option Halt) (text : List ℕ) → AnswersFromPoint span p (whole_lines bytes) text met
+      → VolumesText span p bytes 10 (begins_with p ++ text ++ codes "toolong\n")
 
 -- What was written: the whole text of the status; or at 4 a first part of such a text, of the answers to a first part of the
 -- lines, or of the first line.
-pub data WritesVolumes (slots : ℕ) (setup : Setup) (start final : Option Trail) (p : Point) (bytes : List ℕ) (status : ℕ) (text : List ℕ) : Type 0 where
-  whole : VolumesText slots setup start final p bytes status text → WritesVolumes slots setup start final p bytes status text
-  last_line : status ≡ 4 → (code : ℕ) (full rest : List ℕ) → VolumesText slots setup start final p bytes code full → full ≡ text ++ rest
-      → WritesVolumes slots setup start final p bytes status text
-  answers : status ≡ 4 → (lines more : List (List ℕ)) (said rest : List ℕ) (met : Option Halt) → lines_of bytes ≡ lines ++ more → AnswersFromPoint slots setup start final p lines said met
-      → begins_with p ++ said ≡ text ++ rest → WritesVolumes slots setup start final p bytes status text
-  first_line : status ≡ 4 → (rest : List ℕ) → bytes ≡ [] → Stretch slots setup start final p [] → begins_with p ≡ text ++ rest → WritesVolumes slots setup start final p bytes status text
+pub data WritesVolumes (span : Span) (p : Point) (bytes : List ℕ) (status : ℕ) (text : List ℕ) : Type 0 where
+  whole : VolumesText span p bytes status text → WritesVolumes span p bytes status text
+  last_line : status ≡ 4 → (code : ℕ) (full rest : List ℕ) → VolumesText span p bytes code full → full ≡ text ++ rest
+      → WritesVolumes span p bytes status text
+  answers : status ≡ 4 → (lines more : List (List ℕ)) (said rest : List ℕ) (met : Option Halt) → lines_of bytes ≡ lines ++ more → AnswersFromPoint span p lines said met
+      → begins_with p ++ said ≡ text ++ rest → WritesVolumes span p bytes status text
+  first_line : status ≡ 4 → (rest : List ℕ) → bytes ≡ [] → Stretch span p [] → begins_with p ≡ text ++ rest → WritesVolumes span p bytes status text
 
 -- A session took these bytes and wrote this text. What it is is known where all is told, from each point at which the array stood.
-pub record VolumesRun (slots : ℕ) (setup : Setup) (stood : Point → Type 0) (start final : Option Trail) (left_before left written_before written : Option (List ℕ)) (status : ℕ) : Type 0 where
+pub record VolumesRun (span : Span) (stood : Point → Type 0) (streams : Streams) (status : ℕ) : Type 0 where
   pub bytes : List ℕ
   pub text : List ℕ
-  pub given : Gives left_before left bytes
-  pub grows : GrowsByBytes written_before written text
+  pub given : Gives streams.source.left_before streams.source.left bytes
+  pub grows : GrowsByBytes streams.sink.written_before streams.sink.written text
   pub full : status ≡ 10 → length bytes ≡ 2 ^ 40
-  pub all : IsWholeStatus status → (length bytes < 2 ^ 40) × AtEnd left
+  pub all : IsWholeStatus status → (length bytes < 2 ^ 40) × AtEnd streams.source.left
   pub form : HasVolumesForm bytes status text
-  pub wrote : IsSome final → (p : Point) → stood p → WritesVolumes slots setup start final p bytes status text
+  pub wrote : IsSome span.now → (p : Point) → stood p → WritesVolumes span p bytes status text
 
 -- What follows from the first point of a session. After one that ends well no block of a disk that is there is loose, so no stop
 -- changes one.
-pub record FollowsForVolumes (slots : ℕ) (setup : Setup) (start final : Option Trail) (bytes : List ℕ) (status : ℕ) (text : List ℕ) (p : Point) : Type 0 where
-  pub wrote : WritesVolumes slots setup start final p bytes status text
-  pub left : (asked : List Event) (c : Stretch slots setup start final p asked) → IsLeftByStretch slots c
-  pub synced : status ≡ 0 → (t : Trail) → final ≡ Some t → AreSynced (now t)
+pub record FollowsForVolumes (span : Span) (bytes : List ℕ) (status : ℕ) (text : List ℕ) (p : Point) : Type 0 where
+  pub wrote : WritesVolumes span p bytes status text
+  pub left : (asked : List Event) (c : Stretch span p asked) → IsLeftByStretch c
+  pub synced : status ≡ 0 → (t : Trail) → span.now ≡ Some t → AreSynced (now t)
 
 -- The headline of `vol`. The session took these bytes and wrote this text; where all is told, on a rack that held a history, the
 -- text is what the lines are answered, the array kept the events of these answers, and each stop leaves what a session promises.
-pub record VolumesHeadline (slots : ℕ) (setup : Setup) (began : ℕ) (start final : Option Trail) (left_before left written_before written : Option (List ℕ)) (status : ℕ) : Type 0 where
+pub record VolumesHeadline (span : Span) (began : ℕ) (streams : Streams) (status : ℕ) : Type 0 where
   pub bytes : List ℕ
   pub text : List ℕ
-  pub given : Gives left_before left bytes
-  pub grows : GrowsByBytes written_before written text
+  pub given : Gives streams.source.left_before streams.source.left bytes
+  pub grows : GrowsByBytes streams.sink.written_before streams.sink.written text
   pub full : status ≡ 10 → length bytes ≡ 2 ^ 40
-  pub all : IsWholeStatus status → (length bytes < 2 ^ 40) × AtEnd left
+  pub all : IsWholeStatus status → (length bytes < 2 ^ 40) × AtEnd streams.source.left
   pub form : HasVolumesForm bytes status text
-  pub said : IsSome final → IsMountedFromEach slots setup began start (FollowsForVolumes slots setup start final bytes status text)
+  pub said : IsSome span.now → IsMountedFromEach span.slots span.setup began span.start (FollowsForVolumes span bytes status text)

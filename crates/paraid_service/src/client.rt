@@ -5,6 +5,8 @@ ghost use Rattle.paraid_device.specs.declared.device.Device.{Device as DeviceTyp
 ghost use Rattle.paraid_device.specs.Devices.{HasAnswered, array_of};
 ghost use Rattle.paraid_session.specs.Mount.{IsMountedFromEach};
 ghost use Rattle.paraid_serve.specs.Calls.{Grows, IsNotDouble};
+ghost use Rattle.paraid_serve.specs.Streams.{sink_use, source_use, streams_of};
+ghost use Rattle.paraid_serve.specs.Stretch.{span_of};
 ghost use Rattle.paraid_service.specs.ClientCauses.{ClientCauses};
 ghost use Rattle.paraid_service.specs.Clients.{ClientHeadline, IsClientStatus, LosesTwo};
 ghost use Rattle.paraid_service.specs.Ends.{EndsService, Flushes};
@@ -66,21 +68,14 @@ pub fn serve_client<S: Source, K: Sink, A: Serves>(
     requires going { A.halted array ≡ None }
     ensures headline { (began : ℕ) → IsMountedFromEach (A.slots array) (A.setup array) began
         (A.told array) (A.stands array)
-        → ClientHeadline (A.slots array) (A.setup array) began (A.told array) (A.told result.array)
-        (S.left source.old) (S.left source.new) (K.written sink.old) (K.written sink.new)
-        (S.faults source.old) (S.faults source.new) (K.faults sink.old) (K.faults sink.new)
-        result.status }
+        → ClientHeadline
+        (span_of (A.slots array) (A.setup array) (A.told array) (A.told result.array)) began
+        (streams_of (source_use S.left S.faults source.old source.new)
+        (sink_use K.written K.faults sink.old sink.new)) result.status }
     // Over every rack each error is by what the request says or by a halt, and each event of the array has its cause.
-    ensures causes { ClientCauses (A.shown array) (A.shown result.array) (record {
-      before = S.left source.old;
-      after = S.left source.new;
-      written = K.written sink.old;
-      now_written = K.written sink.new;
-      faults = S.faults source.old;
-      now_faults = S.faults source.new;
-      sink_faults = K.faults sink.old;
-      sink_now = K.faults sink.new;
-    }) result.status }
+    ensures causes { ClientCauses (A.shown array) (A.shown result.array)
+        (streams_of (source_use S.left S.faults source.old source.new)
+        (sink_use K.written K.faults sink.old sink.new)) result.status }
     ensures told { Grows (A.told array) (A.told result.array) }
     ensures slots { A.slots result.array ≡ A.slots array }
     ensures status { IsClientStatus result.status }

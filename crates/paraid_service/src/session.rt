@@ -4,6 +4,8 @@ ghost use Rattle.paraid_base.specs.Told.{HasRisen};
 ghost use Rattle.paraid_serve.specs.Calls.{Grows, IsNotDouble};
 ghost use Rattle.paraid_serve.specs.Lost.{NamesTwoLost, TellsWear};
 ghost use Rattle.paraid_serve.specs.Output.{IsServedStatus};
+ghost use Rattle.paraid_serve.specs.Streams.{sink_use, source_use, streams_of};
+ghost use Rattle.paraid_serve.specs.Stretch.{span_of};
 ghost use Rattle.paraid_service.specs.LinesEnds.{EndsSession};
 ghost use Rattle.paraid_service.specs.declared.run.LinesEnd.TheVariants.{Done, Sink as AtSink};
 ghost use Rattle.paraid_service.specs.Shelves.{device_in};
@@ -39,11 +41,15 @@ pub fn serve_volumes<S: Source, K: Sink, A: Serves>(
     array: A,
 ) -> Served<A>
     requires going { A.halted array ≡ None }
-    ensures run { VolumesRun (A.slots array) (A.setup array) (A.stands array) (A.told array) (A.told result.array)
-        (S.left source.old) (S.left source.new) (K.written sink.old) (K.written sink.new) result.status }
+    ensures run { VolumesRun
+        (span_of (A.slots array) (A.setup array) (A.told array) (A.told result.array)) (A.stands array)
+        (streams_of (source_use S.left S.faults source.old source.new)
+        (sink_use K.written K.faults sink.old sink.new)) result.status }
     ensures headline { (began : ℕ) → IsMountedFromEach (A.slots array) (A.setup array) began (A.told array) (A.stands array)
-        → VolumesHeadline (A.slots array) (A.setup array) began (A.told array) (A.told result.array)
-        (S.left source.old) (S.left source.new) (K.written sink.old) (K.written sink.new) result.status }
+        → VolumesHeadline
+        (span_of (A.slots array) (A.setup array) (A.told array) (A.told result.array)) began
+        (streams_of (source_use S.left S.faults source.old source.new)
+        (sink_use K.written K.faults sink.old sink.new)) result.status }
     ensures told { Grows (A.told array) (A.told result.array) }
     ensures slots { A.slots result.array ≡ A.slots array }
     ensures status { IsServedStatus result.status }

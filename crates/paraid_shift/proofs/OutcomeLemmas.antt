@@ -45,19 +45,28 @@ no_fall_then slot a b c first second d = le_then (slot (store_rack a.store) d).f
 marked_low : (a b : Meta) (n : ℕ) → IsMarkedFrom a b → b.epoch ≤ a.epoch + n
 marked_low a b n marked = let same = ap (λ (m : Meta). m.epoch) marked.is ∙ marked_epoch marked.lost a in omega arith
 
+marked_later : (a b : Meta) → IsMarkedFrom a b → a.epoch ≤ b.epoch
+marked_later a b marked = let same = ap (λ (m : Meta). m.epoch) marked.is ∙ marked_epoch marked.lost a in omega arith
+
 pub marked_below : (a b : Meta) (top : ℕ) → IsMarkedFrom a b → a.epoch < top → b.epoch < top
 marked_below a b top marked low = let same = ap (λ (m : Meta). m.epoch) marked.is ∙ marked_epoch marked.lost a in omega arith
 
 next_low : (a b : ℕ) → b ≡ a + 1 → b ≤ a + 1
 next_low a b is = omega arith
 
+next_later : (a b : ℕ) → b ≡ a + 1 → a ≤ b
+next_later a b is = omega arith
+
 both_low : (a b c n m bound : ℕ) → n + m ≤ bound → b ≤ a + n → c ≤ b + m → c ≤ a + bound
 both_low a b c n m bound le first second = omega arith
 
 module _ {R : Type 0} {g : _} (count : R → ℕ) (slot : R → ℕ → Slot) where
   pub serves_none : (a : Core R g) (n : ℕ) → IsCoreServing count slot a → ServesOn count slot a a n
-  serves_none a n serving = record { serving = serving; leaves = leaves_array_none count slot a; absent = λ q. q; epoch = le_more a.meta.epoch n }
+  serves_none a n serving = record { serving = serving; leaves = leaves_array_none count slot a; absent = λ q. q; later = le_self a.meta.epoch; epoch = le_more a.meta.epoch n }
     where
+      le_self : (e : ℕ) → e ≤ e
+      le_self e = omega arith
+
       le_more : (e n : ℕ) → e ≤ e + n
       le_more e n = omega arith
 
@@ -66,11 +75,12 @@ module _ {R : Type 0} {g : _} (count : R → ℕ) (slot : R → ℕ → Slot) wh
     serving = second.serving;
     leaves = leaves_array_then count slot a b c first.leaves second.leaves;
     absent = λ q. second.absent (first.absent q);
+    later = le_then a.meta.epoch b.meta.epoch c.meta.epoch first.later second.later;
     epoch = both_low a.meta.epoch b.meta.epoch c.meta.epoch n m bound le first.epoch second.epoch;
   }
 
   pub serves_within : (a b : Core R g) (n bound : ℕ) → n ≤ bound → ServesOn count slot a b n → ServesOn count slot a b bound
-  serves_within a b n bound le on = record { serving = on.serving; leaves = on.leaves; absent = on.absent; epoch = more a.meta.epoch b.meta.epoch le on.epoch }
+  serves_within a b n bound le on = record { serving = on.serving; leaves = on.leaves; absent = on.absent; later = on.later; epoch = more a.meta.epoch b.meta.epoch le on.epoch }
     where
       more : (e f : ℕ) → n ≤ bound → f ≤ e + n → f ≤ e + bound
       more e f le low = omega arith
@@ -78,10 +88,10 @@ module _ {R : Type 0} {g : _} (count : R → ℕ) (slot : R → ℕ → Slot) wh
   module _ (told : R → Option Trail) where
     -- a commit is one
     pub serves_committed : (a b : Core R g) → CommitsInEvent count slot told a b → ServesOn count slot a b 1
-    serves_committed a b k = record { serving = k.serving; leaves = k.leaves; absent = λ q. k.absent; epoch = next_low a.meta.epoch b.meta.epoch k.epoch }
+    serves_committed a b k = record { serving = k.serving; leaves = k.leaves; absent = λ q. k.absent; later = next_later a.meta.epoch b.meta.epoch k.epoch; epoch = next_low a.meta.epoch b.meta.epoch k.epoch }
 
     pub serves_group : (a b : Core R g) (most units n : ℕ) → MarksGroup count slot told a b most units → ServesOn count slot a b n
-    serves_group a b most units n k = record { serving = k.serving; leaves = k.leaves; absent = k.absent; epoch = marked_low a.meta b.meta n k.meta }
+    serves_group a b most units n k = record { serving = k.serving; leaves = k.leaves; absent = k.absent; later = marked_later a.meta b.meta k.meta; epoch = marked_low a.meta b.meta n k.meta }
 
     -- disks were powered one after the other
     pub powers_none : (a : Core R g) → PowersDisks count slot told a a
@@ -109,7 +119,7 @@ module _ {R : Type 0} {g : _} (count : R → ℕ) (slot : R → ℕ → Slot) wh
 module _ {R : Type 0} {g : _} (a b c : Core R g) (store : c.store ≡ b.store) (meta : c.meta ≡ b.meta) where
   pub leaves_marked : (count : R → ℕ) (slot : R → ℕ → Slot) → LeavesArray count slot a b → LeavesArray count slot a c
   leaves_marked count slot l =
-      leaves_array_then count slot a b c l (array_marked count slot b c store (ap (λ (m : Meta). m.setup) meta) (ap (λ (m : Meta). m.out) meta) (ap (λ (m : Meta). m.writes) meta))
+      leaves_array_then count slot a b c l (array_marked count slot b c store (ap (λ (m : Meta). m.setup) meta) (ap (λ (m : Meta). m.out) meta) (ap (λ (m : Meta). m.version) meta) (ap (λ (m : Meta). m.writes) meta))
 
   pub named_marked : (slot : R → ℕ → Slot) → IsNamedOrAbsent slot b → IsNamedOrAbsent slot c
   named_marked slot was d is = subst (λ (z : Store R g). (named_of z ≡ Some d) ⊎ (is_present (slot (store_rack z) d).power ≡ false)) (sym store) (was d (sym (ap (λ (m : Meta). named_out m.out) meta) ∙ is))

@@ -169,6 +169,13 @@ down_risen o o_then p q a b same risen = subst (λ (z : Option ℕ). IsDownAfter
 pub marked_writes_same : (a b : Meta) → IsMarkedFrom a b → b.writes ≡ a.writes
 marked_writes_same a b m = ap (λ (z : Meta). z.writes) m.is ∙ marked_writes m.lost a
 
+pub marked_version : (a b : Meta) → IsMarkedFrom a b → b.version ≡ a.version
+marked_version a b m = ap (λ (z : Meta). z.version) m.is ∙ by m.lost
+  where
+    by : (o : Option ℕ) → (meta_with_lost o a).version ≡ a.version
+    by None = refl
+    by (Some d) = refl
+
 -- a park or a spin-up
 pub leaves_turned : {R : Type 0} {g : _} (count : R → ℕ) (slot : R → ℕ → Slot) (a b : Core R g) → count (store_rack b.store) ≡ count (store_rack a.store) → IsSameStore a.store b.store → IsMarkedFrom a.meta b.meta
     → OnlyTurnsDisks (slot (store_rack a.store)) (slot (store_rack b.store))
@@ -176,6 +183,7 @@ pub leaves_turned : {R : Type 0} {g : _} (count : R → ℕ) (slot : R → ℕ �
 leaves_turned count slot a b slots same marked turned risen = record {
   slots = slots;
   setup = marked_from_setup a.meta b.meta marked;
+  version = marked_version a.meta b.meta marked;
   writes = marked_writes_same a.meta b.meta marked;
   turned = turned;
   down = down_risen (named_of a.store) (named_of b.store) (named_out a.meta.out) (named_out b.meta.out) (slot (store_rack a.store)) (slot (store_rack b.store)) same.named risen;
@@ -189,6 +197,7 @@ pub leaves_array_then : {R : Type 0} {g : _} (count : R → ℕ) (slot : R → �
 leaves_array_then count slot a b c first second = record {
   slots = second.slots ∙ first.slots;
   setup = second.setup ∙ first.setup;
+  version = second.version ∙ first.version;
   writes = second.writes ∙ first.writes;
   turned = turns_then (slot (store_rack a.store)) (slot (store_rack b.store)) (slot (store_rack c.store)) first.turned second.turned;
   down = down_then (core_down a) (core_down b) (core_down c) (slot (store_rack a.store)) (slot (store_rack b.store)) (slot (store_rack c.store)) first.down first.turned second.down second.turned;
@@ -204,6 +213,7 @@ pub leaves_array_none : {R : Type 0} {g : _} (count : R → ℕ) (slot : R → �
 leaves_array_none count slot a = record {
   slots = refl;
   setup = refl;
+  version = refl;
   writes = refl;
   turned = turns_none (slot (store_rack a.store));
   down = down_none (core_down a) (slot (store_rack a.store));
@@ -241,10 +251,11 @@ module _ {R : Type 0} {g : _} (count : R → ℕ) (slot : R → ℕ → Slot) (a
 
 -- marks: no call is made
 module _ {R : Type 0} {g : _} (count : R → ℕ) (slot : R → ℕ → Slot) (a b : Core R g) (store : b.store ≡ a.store) (setup : b.meta.setup ≡ a.meta.setup) (out : b.meta.out ≡ a.meta.out) where
-  pub array_marked : b.meta.writes ≡ a.meta.writes → LeavesArray count slot a b
-  array_marked writes = record {
+  pub array_marked : b.meta.version ≡ a.meta.version → b.meta.writes ≡ a.meta.writes → LeavesArray count slot a b
+  array_marked version writes = record {
     slots = ap (λ (z : Store R g). count (store_rack z)) store;
     setup = setup;
+    version = version;
     writes = writes;
     turned = subst (λ (z : Store R g). OnlyTurnsDisks (slot (store_rack a.store)) (slot (store_rack z))) (sym store) (turns_none (slot (store_rack a.store)));
     down = record { known = λ d is. inl (ap (λ (z : Store R g). or_else (named_of z) (named_out a.meta.out)) (sym store) ∙ ap (λ (z : _). or_else (named_of b.store) (named_out z)) (sym out) ∙ is) };

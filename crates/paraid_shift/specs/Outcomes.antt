@@ -18,11 +18,12 @@ use Rattle.paraid_shift.specs.Serving.{HasBegunUp, IsComingUp, IsCoreServing, Le
 use Rattle.paraid_shift.specs.Steps.{CommitsMark, CoreLosesInEvent, CoreLosesInSteps, CoreServesMarked, CoreStepsInEvent, CoreStepsToMark, MarksPowered, OpensUp}
 use Rattle.paraid_shift.specs.Units.{AreCellsDone, AreUnitsDone, CoreCountsMoved}
 
--- The core serves as it did, at most so many commits later.
+-- The core serves as it did, at most so many commits later; the epoch has not fallen.
 pub record ServesOn {R : Type 0} {g : _} (count : R → ℕ) (slot : R → ℕ → Slot) (old new : Core R g) (commits : ℕ) : Type 0 where
   pub serving : IsCoreServing count slot new
   pub leaves : LeavesArray count slot old new
   pub absent : IsNamedOrAbsent slot old → IsNamedOrAbsent slot new
+  pub later : old.meta.epoch ≤ new.meta.epoch
   pub epoch : new.meta.epoch ≤ old.meta.epoch + commits
 
 -- So after a call that moved these of at most so many units, with what is `Moved`, and what is `Told` of it.

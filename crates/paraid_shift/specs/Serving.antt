@@ -44,11 +44,12 @@ pub record IsComingUp {R : Type 0} {g : _} (count : R → ℕ) (slot : R → ℕ
   pub large : AreAllLarge (slot (store_rack core.store)) core.meta
   pub nothing : core.batch ≡ []
 
--- What a call leaves beside that: the array and the number of its writes are as they were, and a disk that is down
+-- What a call leaves beside that: the array, how its meta is spelled and the number of its writes are as they were, and a disk that is down
 -- was so before, or has failed.
 pub record LeavesArray {R : Type 0} {g : _} (count : R → ℕ) (slot : R → ℕ → Slot) (old new : Core R g) : Type 0 where
   pub slots : count (store_rack new.store) ≡ count (store_rack old.store)
   pub setup : new.meta.setup ≡ old.meta.setup
+  pub version : new.meta.version ≡ old.meta.version
   pub writes : new.meta.writes ≡ old.meta.writes
   pub turned : OnlyTurnsDisks (slot (store_rack old.store)) (slot (store_rack new.store))
   pub down : IsDownAfter (core_down old) (core_down new) (slot (store_rack old.store)) (slot (store_rack new.store))

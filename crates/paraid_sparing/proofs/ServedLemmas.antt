@@ -14,7 +14,7 @@ use Rattle.paraid_serve.specs.Stretch.{turn_with}
 use Rattle.paraid_session.specs.Turn.{GoesOn, Point}
 use Rattle.paraid_spare.specs.declared.pool.Pool.{Pool}
 use Rattle.paraid_sparing.specs.Serving.{Keeps, ServesLine}
-use Rattle.paraid_sparing.specs.Sparing.{Stock, due_before, spare_line, stock_after, used}
+use Rattle.paraid_sparing.specs.Sparing.{Stock, due_when, spare_line, stock_when, used}
 use Rattle.paraid_sparing.specs.Sparing.AnswersLine.{alone, spared}
 use Rattle.paraid_trace.specs.Replies.{reply_of}
 
@@ -25,7 +25,7 @@ same_trail o a b e f = some_same a b (sym e ∙ f)
     some_same a b e = cc
 
 module _ (slots : ℕ) (setup : Setup) (wait : ℕ) (p : Point) (k : Stock) (event : Event) (line text : List ℕ) (answer : Answer) (stood : Point → Type 0) (pool : Pool) (told : text ≡ reply_of answer) where
-  pub served_alone : (a b : Option Trail) → line ≡ [] → due_before wait k p event ≡ None → Ran a b (GoesOn slots setup p event answer stood) → ((q : Point) → stood q → Keeps pool wait (stock_after k answer q))
+  pub served_alone : (a b : Option Trail) → line ≡ [] → due_when wait k p.halt p.state.out event ≡ None → Ran a b (GoesOn slots setup p event answer stood) → ((q : Point) → stood q → Keeps pool wait (stock_when k answer q.halt q.state.out))
       → Ran a b (ServesLine slots setup wait p k event (line ++ text) stood pool)
   served_alone a b empty none goes kept t tells =
       let came = goes t tells in
@@ -38,7 +38,7 @@ module _ (slots : ℕ) (setup : Setup) (wait : ℕ) (p : Point) (k : Stock) (eve
         holds = rw (empty, told) (record {
           turns = turn_with event answer came.calls ∷ [];
           end = q;
-          stock = stock_after k answer q;
+          stock = stock_when k answer q.halt q.state.out;
           answers = alone (turn_with event answer came.calls) q none refl came.holds.1;
           made = sym (append-nil came.calls);
           stood = came.holds.2;
@@ -46,8 +46,8 @@ module _ (slots : ℕ) (setup : Setup) (wait : ℕ) (p : Point) (k : Stock) (eve
         });
       }
 
-  pub served_spared : (a b c : Option Trail) (d left slots_now : ℕ) (setup_now : Setup) (spare : Answer) (mid_stood : Point → Type 0) → slots_now ≡ slots → setup_now ≡ setup → left ≡ k.left → line ≡ spare_line spare (left - 1) → due_before wait k p event ≡ Some d
-      → Ran a b (GoesOn slots setup p (Replace d) spare mid_stood) → Grows b c → ((q : Point) → mid_stood q → Ran b c (GoesOn slots_now setup_now q event answer stood)) → ((q : Point) → stood q → Keeps pool wait (stock_after (used k) answer q))
+  pub served_spared : (a b c : Option Trail) (d left slots_now : ℕ) (setup_now : Setup) (spare : Answer) (mid_stood : Point → Type 0) → slots_now ≡ slots → setup_now ≡ setup → left ≡ k.left → line ≡ spare_line spare (left - 1) → due_when wait k p.halt p.state.out event ≡ Some d
+      → Ran a b (GoesOn slots setup p (Replace d) spare mid_stood) → Grows b c → ((q : Point) → mid_stood q → Ran b c (GoesOn slots_now setup_now q event answer stood)) → ((q : Point) → stood q → Keeps pool wait (stock_when (used k) answer q.halt q.state.out))
       → Ran a c (ServesLine slots setup wait p k event (line ++ text) stood pool)
   served_spared a b c d left slots_now setup_now spare mid_stood same_slots same_setup is_left line_is due first grows second kept t tells =
       let g = grows t tells in
@@ -63,7 +63,7 @@ module _ (slots : ℕ) (setup : Setup) (wait : ℕ) (p : Point) (k : Stock) (eve
         holds = rw (line_is, told, is_left) (record {
           turns = turn_with (Replace d) spare one.calls ∷ turn_with event answer two.calls ∷ [];
           end = q;
-          stock = stock_after (used k) answer q;
+          stock = stock_when (used k) answer q.halt q.state.out;
           answers = spared d (turn_with (Replace d) spare one.calls) (turn_with event answer two.calls) mid q due refl one.holds.1 refl two.holds.1;
           made = ap (λ (l : List Call). one.calls ++ l) (sym (append-nil two.calls));
           stood = two.holds.2;

@@ -21,8 +21,9 @@ use Rattle.paraid_trace.specs.LineEvents.{event_of}
 use Rattle.paraid_serve.specs.declared.stop.Stop.TheVariants.{Source, TooLong, Sink, Halt as Halts}
 use Rattle.paraid_serve.specs.Causes.{HasCause, Shown}
 use Rattle.paraid_serve.specs.Heard.{HearsLine, IsNextLine}
-use Rattle.paraid_serve.specs.Stretch.{Turn, TurnsLead, events_in, turn_calls, turn_events}
-use Rattle.paraid_serve.proofs.Sofar.{heard_end, heard_in_time}
+use Rattle.paraid_serve.specs.Streams.{streams_of}
+use Rattle.paraid_serve.specs.Stretch.{Span, Turn, TurnsLead, events_in, span_of, turn_calls, turn_events}
+use Rattle.paraid_serve.proofs.Sofar.{heard_end, heard_in_time, sink_from, source_from}
 use Rattle.paraid_serve.proofs.StretchLemmas.{More, events_in-push, some_told, stretch_more, stretch_none}
 use Rattle.paraid_session.specs.Turn.{GoesOn, Point}
 use Rattle.paraid_spare.specs.declared.pool.Pool.{Pool}
@@ -62,8 +63,8 @@ same_trail o a b e f = some_same a b (sym e ∙ f)
 -- ---- lines
 
 -- so many lines were answered, the array stands at the last point, and the pool keeps the stock
-pub record Said (slots : ℕ) (setup : Setup) (wait : ℕ) (start now : Option Trail) (p : Point) (k : Stock) (lines : List (List ℕ)) (text : List ℕ) (stood : Point → Type 0) (pool : Pool) : Type 0 where
-  pub part : Spared slots setup wait start now p k (events_in lines) text
+pub record Said (span : Span) (wait : ℕ) (p : Point) (k : Stock) (lines : List (List ℕ)) (text : List ℕ) (stood : Point → Type 0) (pool : Pool) : Type 0 where
+  pub part : Spared span wait p k (events_in lines) text
   pub stands : stood part.all.end
   pub keeps : Keeps pool wait part.stock
 
@@ -82,7 +83,7 @@ pub record Sofar (seen seen_now : Shown) (slots : ℕ) (setup : Setup) (wait : �
   pub grows : GrowsByBytes written_before written text
   pub causes : CausesLines wait seen k answered text seen_now pool
   pub tells : IsSome now → IsSome start
-  pub said : IsSome now → (p : Point) → first p → Said slots setup wait start now p k answered text stood pool
+  pub said : IsSome now → (p : Point) → first p → Said (span_of slots setup start now) wait p k answered text stood pool
 
 pub sofar_start : (seen : Shown) (slots : ℕ) (setup : Setup) (wait : ℕ) (k : Stock) (left written : Option (List ℕ)) (start : Option Trail) (stood : Point → Type 0) (pool : Pool) → Keeps pool wait k
     → Sofar seen seen slots setup wait k stood left left written written start start stood pool (fresh_reader 0)
@@ -118,18 +119,18 @@ lines_more bytes got rest more lines ls line f before cut =
     ap f (append_assoc bytes got more) ∙ before ∙ ap (λ x. lines ++ f x) (sym (append_assoc rest got more)) ∙ ap (λ x. lines ++ x) cut ∙ sym (append_assoc lines (line ∷ []) ls)
 
 -- a line more is answered
-said_more : {slots : ℕ} {setup : Setup} {wait : ℕ} {start now : Option Trail} {p : Point} {k : Stock} {lines : List (List ℕ)} {text : List ℕ} {stood : Point → Type 0} {pool : Pool} (s : Said slots setup wait start now p k lines text stood pool)
-    → (line : List ℕ) (event : Event) (later : Option Trail) (told : List ℕ) (new_stood : Point → Type 0) (new_pool : Pool) (slots_now : ℕ) (setup_now : Setup) → slots_now ≡ slots → setup_now ≡ setup → event ≡ event_of line
-    → ((q : Point) (w : ℕ) (j : Stock) → stood q → Keeps pool w j → Ran now later (ServesLine slots_now setup_now w q j event told new_stood new_pool)) → IsSome later
-    → Said slots setup wait start later p k (lines ++ line ∷ []) (text ++ told) new_stood new_pool
-said_more {slots} {setup} {wait} {start} {now} {p} {k} {lines} {text} {stood} {pool} s line event later told new_stood new_pool slots_now setup_now same_slots same_setup is goes tells =
+said_more : {span : Span} {wait : ℕ} {p : Point} {k : Stock} {lines : List (List ℕ)} {text : List ℕ} {stood : Point → Type 0} {pool : Pool} (s : Said span wait p k lines text stood pool)
+    → (line : List ℕ) (event : Event) (later : Option Trail) (told : List ℕ) (new_stood : Point → Type 0) (new_pool : Pool) (slots_now : ℕ) (setup_now : Setup) → slots_now ≡ span.slots → setup_now ≡ span.setup → event ≡ event_of line
+    → ((q : Point) (w : ℕ) (j : Stock) → stood q → Keeps pool w j → Ran span.now later (ServesLine slots_now setup_now w q j event told new_stood new_pool)) → IsSome later
+    → Said (record span { now = later }) wait p k (lines ++ line ∷ []) (text ++ told) new_stood new_pool
+said_more {span} {wait} {p} {k} {lines} {text} {stood} {pool} s line event later told new_stood new_pool slots_now setup_now same_slots same_setup is goes tells =
     let c = s.part.all in
     let t = some_told later tells in
-    let ran = subst (λ (n : ℕ). Ran now later (ServesLine n setup wait c.end s.part.stock event told new_stood new_pool)) same_slots (subst (λ (u : Setup). Ran now later (ServesLine slots_now u wait c.end s.part.stock event told new_stood new_pool)) same_setup
+    let ran = subst (λ (n : ℕ). Ran span.now later (ServesLine n span.setup wait c.end s.part.stock event told new_stood new_pool)) same_slots (subst (λ (u : Setup). Ran span.now later (ServesLine slots_now u wait c.end s.part.stock event told new_stood new_pool)) same_setup
     (goes c.end wait s.part.stock s.stands s.keeps)) in
     let came = ran t.0 t.1 in
     let l = came.holds in
-    let answers = subst (λ (es : List Event). AnswersTrace slots setup wait p k es (c.turns ++ l.turns) (text ++ told) l.end l.stock) (ap (λ (e : Event). events_in lines ++ e ∷ []) is ∙ sym (events_in-push lines line))
+    let answers = subst (λ (es : List Event). AnswersTrace span.slots span.setup wait p k es (c.turns ++ l.turns) (text ++ told) l.end l.stock) (ap (λ (e : Event). events_in lines ++ e ∷ []) is ∙ sym (events_in-push lines line))
     (one_more_line (events_in lines) c.turns text c.end s.part.stock s.part.answers event l.turns told l.end l.stock l.answers) in
     record {
       part = record {
@@ -137,18 +138,18 @@ said_more {slots} {setup} {wait} {start} {now} {p} {k} {lines} {text} {stood} {p
         all = record {
           turns = c.turns ++ l.turns;
           end = l.end;
-          went = leads_then slots setup p c.end l.end c.turns l.turns c.went (line_leads slots setup wait c.end s.part.stock event l.turns told l.end l.stock l.answers);
+          went = leads_then span.slots span.setup p c.end l.end c.turns l.turns c.went (line_leads span.slots span.setup wait c.end s.part.stock event l.turns told l.end l.stock l.answers);
           asked = events_then c.turns l.turns ∙ ap (λ (es : List Event). es ++ turn_events l.turns) c.asked;
           from = c.from;
           to = t.0;
           was = c.was;
           is = t.1;
-          calls = came.is ∙ ap (λ (r : Trail). extend r came.calls) (same_trail now came.from c.to came.was c.is ∙ c.calls) ∙ extend-extend c.from (turn_calls c.turns) came.calls
+          calls = came.is ∙ ap (λ (r : Trail). extend r came.calls) (same_trail span.now came.from c.to came.was c.is ∙ c.calls) ∙ extend-extend c.from (turn_calls c.turns) came.calls
               ∙ ap (λ (cs : List Call). extend c.from (turn_calls c.turns ++ cs)) l.made ∙ ap (λ (cs : List Call). extend c.from cs) (sym (calls_then c.turns l.turns));
         };
         stock = l.stock;
         answers = answers;
-        counts = λ one d low fresh. trace_counts slots setup wait p k (events_in (lines ++ line ∷ [])) (c.turns ++ l.turns) (text ++ told) l.end l.stock answers one d low fresh;
+        counts = λ one d low fresh. trace_counts span.slots span.setup wait p k (events_in (lines ++ line ∷ [])) (c.turns ++ l.turns) (text ++ told) l.end l.stock answers one d low fresh;
       };
       stands = l.stood;
       keeps = l.keeps;
@@ -161,7 +162,7 @@ module _ {seen seen_now : Shown} {slots : ℕ} {setup : Setup} {wait : ℕ} {k :
     caused_more : CausesLines wait seen k (s.answered ++ h.says.0 ∷ []) (s.text ++ told) seen_later new_pool
     caused_more = causes_push wait seen seen_now seen_later k s.answered s.text pool event h.says.0 told new_pool h.says.1 s.causes caused
 
-    says : IsSome later → (p : Point) → first p → Said slots setup wait start later p k (s.answered ++ h.says.0 ∷ []) (s.text ++ told) new_stood new_pool
+    says : IsSome later → (p : Point) → first p → Said (span_of slots setup start later) wait p k (s.answered ++ h.says.0 ∷ []) (s.text ++ told) new_stood new_pool
     says t p f = said_more (s.said (tells t) p f) h.says.0 event later told new_stood new_pool slots_now setup_now same_slots same_setup h.says.1 goes t
 
     pub sofar_more : new.fault ≡ None → (wrote : Option (List ℕ)) → GrowsByBytes written wrote told → Sofar seen seen_later slots setup wait k first left_before after written_before wrote start later new_stood new_pool new
@@ -187,8 +188,8 @@ module _ {seen seen_now : Shown} {slots : ℕ} {setup : Setup} {wait : ℕ} {k :
         }
 
     -- the answer could not be written
-    pub ends_at_sink : (wrote : Option (List ℕ)) (n : ℕ) → GrowsByBytes written wrote (take n told) → ServesSpared seen seen_later slots setup wait k first start later left_before after written_before wrote new_pool (Err Sink)
-    ends_at_sink wrote n grew =
+    pub ends_at_sink : {a b m i : ℕ} (wrote : Option (List ℕ)) (n : ℕ) → GrowsByBytes written wrote (take n told) → ServesSpared seen seen_later (span_of slots setup start later) wait k first (streams_of (source_from left_before after a b) (sink_from written_before wrote m i)) new_pool (Err Sink)
+    ends_at_sink {a} {b} {m} {i} wrote n grew =
         let line : List ℕ = h.says.0 in
         let next_line : IsNextLine (old.rest ++ h.got) line new = h.says.2 in
         let cut : lines_of (s.bytes ++ h.got) ≡ (s.answered ++ line ∷ []) ++ lines_of new.rest = s.lines h.got h.ended_before ∙ ap (λ x. s.answered ++ lines_of x) (sym (append-nil (old.rest ++ h.got))) ∙ ap (λ x. s.answered ++ x) (next_line.lines [] (λ e. refl)) ∙ ap (λ x. s.answered ++ line ∷ lines_of x) (append-nil new.rest) ∙ sym (append_assoc s.answered (line ∷ []) (lines_of new.rest)) in
@@ -204,7 +205,7 @@ module _ {seen seen_now : Shown} {slots : ℕ} {setup : Setup} {wait : ℕ} {k :
             lines_of new.rest,
             drop n told,
             cut,
-            subst (λ (x : List ℕ). Spared slots setup wait start later p k (events_in (s.answered ++ line ∷ [])) x) (ap (λ x. s.text ++ x) (sym (take-append-drop n told)) ∙ sym (append_assoc s.text (take n told) (drop n told))) (says t p f).part,
+            subst (λ (x : List ℕ). Spared (span_of slots setup start later) wait p k (events_in (s.answered ++ line ∷ [])) x) (ap (λ x. s.text ++ x) (sym (take-append-drop n told)) ∙ sym (append_assoc s.text (take n told) (drop n told))) (says t p f).part,
           );
         }
 
@@ -220,12 +221,12 @@ module _ {seen seen_now : Shown} {slots : ℕ} {setup : Setup} {wait : ℕ} {k :
 
   module _ (h : HearsLine left after old new (Ok None)) (later : Option Trail) (new_stood : Point → Type 0) (slots_now : ℕ) (setup_now : Setup) (same_slots : slots_now ≡ slots) (same_setup : setup_now ≡ setup) (tells : IsSome later → IsSome now) where
     flushed : (answer : Answer) → spun_by answer ≡ None → ((q : Point) → stood q → Ran now later (GoesOn slots_now setup_now q Flush answer new_stood)) → IsSome later → (p : Point) → first p
-        → (e : EndsSpared slots setup wait start later p k (events_in (lines_of (s.bytes ++ h.got))) s.text answer) × Keeps pool wait e.lines.stock
+        → (e : EndsSpared (span_of slots setup start later) wait p k (events_in (lines_of (s.bytes ++ h.got))) s.text answer) × Keeps pool wait e.lines.stock
     flushed answer quiet goes t p f =
         let said = s.said (tells t) p f in
         let more : More said.part.all later Flush answer new_stood = stretch_more said.part.all later Flush answer stood new_stood said.stands
         (λ q is. subst (λ (n : ℕ). Ran now later (GoesOn n setup q Flush answer new_stood)) same_slots (subst (λ (u : Setup). Ran now later (GoesOn slots_now u q Flush answer new_stood)) same_setup (goes q is))) t in
-        subst (λ (ls : List (List ℕ)). (e : EndsSpared slots setup wait start later p k (events_in ls) s.text answer) × Keeps pool wait e.lines.stock) (all_lines h) (
+        subst (λ (ls : List (List ℕ)). (e : EndsSpared (span_of slots setup start later) wait p k (events_in ls) s.text answer) × Keeps pool wait e.lines.stock) (all_lines h) (
           record {
             middle = now;
             lines = said.part;
@@ -240,8 +241,8 @@ module _ {seen seen_now : Shown} {slots : ℕ} {setup : Setup} {wait : ℕ} {k :
     flush_caused : (answer : Answer) (seen_later : Shown) → HasCause seen_now Flush answer seen_later → CausesFlush wait seen k (lines_of (s.bytes ++ h.got)) s.text answer seen_later pool
     flush_caused answer seen_later cause = record { mid = seen_now; before = subst (λ (ls : List (List ℕ)). CausesLines wait seen k ls s.text seen_now pool) (all_lines h) s.causes; cause = cause }
 
-    pub ends_well : (writes : ℕ) → (seen_later : Shown) → HasCause seen_now Flush (Flushed writes) seen_later → ((q : Point) → stood q → Ran now later (GoesOn slots_now setup_now q Flush (Flushed writes) new_stood)) → ServesSpared seen seen_later slots setup wait k first start later left_before after written_before written pool (Ok writes)
-    ends_well writes seen_later cause goes = record {
+    pub ends_well : {a b m n : ℕ} (writes : ℕ) → (seen_later : Shown) → HasCause seen_now Flush (Flushed writes) seen_later → ((q : Point) → stood q → Ran now later (GoesOn slots_now setup_now q Flush (Flushed writes) new_stood)) → ServesSpared seen seen_later (span_of slots setup start later) wait k first (streams_of (source_from left_before after a b) (sink_from written_before written m n)) pool (Ok writes)
+    ends_well {a} {b} {m} {n} writes seen_later cause goes = record {
       bytes = s.bytes ++ h.got;
       text = s.text;
       given = Gives-then left_before left after s.bytes h.got s.given h.given;
@@ -251,8 +252,8 @@ module _ {seen seen_now : Shown} {slots : ℕ} {setup : Setup} {wait : ℕ} {k :
       answered = flushed (Flushed writes) refl goes;
     }
 
-    pub ends_halted : (halt : Halt) → (seen_later : Shown) → HasCause seen_now Flush (Halted halt) seen_later → ((q : Point) → stood q → Ran now later (GoesOn slots_now setup_now q Flush (Halted halt) new_stood)) → ServesSpared seen seen_later slots setup wait k first start later left_before after written_before written pool (Err (Halts halt))
-    ends_halted halt seen_later cause goes = record {
+    pub ends_halted : {a b m n : ℕ} (halt : Halt) → (seen_later : Shown) → HasCause seen_now Flush (Halted halt) seen_later → ((q : Point) → stood q → Ran now later (GoesOn slots_now setup_now q Flush (Halted halt) new_stood)) → ServesSpared seen seen_later (span_of slots setup start later) wait k first (streams_of (source_from left_before after a b) (sink_from written_before written m n)) pool (Err (Halts halt))
+    ends_halted {a} {b} {m} {n} halt seen_later cause goes = record {
       bytes = s.bytes ++ h.got;
       text = s.text;
       given = Gives-then left_before left after s.bytes h.got s.given h.given;
@@ -265,11 +266,11 @@ module _ {seen seen_now : Shown} {slots : ℕ} {setup : Setup} {wait : ℕ} {k :
   fault_lines : {fault : LineFault} (h : HearsLine left after old new (Err fault)) → s.answered ≡ whole_lines (s.bytes ++ h.got)
   fault_lines {fault} h = sym (s.whole (was_open h.stays_ended h.says.1) h.got ∙ ap (λ x. s.answered ++ x) h.says.0 ∙ append-nil s.answered)
 
-  faulted : {fault : LineFault} (h : HearsLine left after old new (Err fault)) → IsSome now → (p : Point) → first p → Spared slots setup wait start now p k (events_in (whole_lines (s.bytes ++ h.got))) s.text
-  faulted {fault} h t p f = subst (λ (ls : List (List ℕ)). Spared slots setup wait start now p k (events_in ls) s.text) (fault_lines h) (s.said t p f).part
+  faulted : {fault : LineFault} (h : HearsLine left after old new (Err fault)) → IsSome now → (p : Point) → first p → Spared (span_of slots setup start now) wait p k (events_in (whole_lines (s.bytes ++ h.got))) s.text
+  faulted {fault} h t p f = subst (λ (ls : List (List ℕ)). Spared (span_of slots setup start now) wait p k (events_in ls) s.text) (fault_lines h) (s.said t p f).part
 
-  pub ends_at_source : {fault : LineFault} (h : HearsLine left after old new (Err fault)) → ServesSpared seen seen_now slots setup wait k first start now left_before after written_before written pool (Err Source)
-  ends_at_source {fault} h = record {
+  pub ends_at_source : {a b m n : ℕ} {fault : LineFault} (h : HearsLine left after old new (Err fault)) → ServesSpared seen seen_now (span_of slots setup start now) wait k first (streams_of (source_from left_before after a b) (sink_from written_before written m n)) pool (Err Source)
+  ends_at_source {a} {b} {m} {n} {fault} h = record {
     bytes = s.bytes ++ h.got;
     text = s.text;
     given = Gives-then left_before left after s.bytes h.got s.given h.given;
@@ -279,8 +280,8 @@ module _ {seen seen_now : Shown} {slots : ℕ} {setup : Setup} {wait : ℕ} {k :
     answered = faulted h;
   }
 
-  pub ends_too_long : {fault : LineFault} (h : HearsLine left after old new (Err fault)) → new.taken ≡ 2 ^ 40 → ServesSpared seen seen_now slots setup wait k first start now left_before after written_before written pool (Err TooLong)
-  ends_too_long {fault} h full = record {
+  pub ends_too_long : {a b m n : ℕ} {fault : LineFault} (h : HearsLine left after old new (Err fault)) → new.taken ≡ 2 ^ 40 → ServesSpared seen seen_now (span_of slots setup start now) wait k first (streams_of (source_from left_before after a b) (sink_from written_before written m n)) pool (Err TooLong)
+  ends_too_long {a} {b} {m} {n} {fault} h full = record {
     bytes = s.bytes ++ h.got;
     text = s.text;
     given = Gives-then left_before left after s.bytes h.got s.given h.given;

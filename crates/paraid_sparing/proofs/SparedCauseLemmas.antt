@@ -13,25 +13,25 @@ use Rattle.paraid_serve.specs.Output.{first_line}
 use Rattle.paraid_spare.specs.Pools.{left_of, spins_of}
 use Rattle.paraid_spare.specs.declared.pool.Pool.{Pool}
 use Rattle.paraid_sparing.specs.Serving.{Keeps}
-use Rattle.paraid_sparing.specs.SparedCauses.{BeginsCauses, CausedText, CausesFlush, CausesLine, CausesLines, HasSparedCauses, due_when, stock_line_shown, stock_shown, stock_when}
+use Rattle.paraid_sparing.specs.SparedCauses.{BeginsCauses, CausedText, CausesFlush, CausesLine, CausesLines, HasSparedCauses}
 use Rattle.paraid_sparing.specs.SparedCauses.CausedText.{done as text_done, halted as text_halted, source as text_source, too_long as text_long}
 use Rattle.paraid_sparing.specs.SparedCauses.HasLineCauses.{alone, spared}
 use Rattle.paraid_sparing.specs.SparedCauses.HaveLineCauses.{more as one_more, none as no_line}
 use Rattle.paraid_sparing.specs.SparedCauses.HasSparedCauses.{answers as caused_answers, at_first_line as caused_first, last_line as caused_last, whole as caused_whole}
-use Rattle.paraid_sparing.specs.Sparing.{Stock, spare_line, used}
+use Rattle.paraid_sparing.specs.Sparing.{Stock, due_when, spare_line, stock_line, stock_when, used}
 use Rattle.paraid_sparing.specs.Texts.{spares_line}
 use Rattle.paraid_sparing.proofs.TextLemmas.{line_alike}
 use Rattle.paraid_trace.specs.LineEvents.{event_of}
 use Rattle.paraid_trace.specs.Replies.{reply_of}
 
 module _ (wait : ℕ) (x : Shown) (k : Stock) (event : Event) (line text : List ℕ) (answer : Answer) (y : Shown) (pool : Pool) (halt : Option Halt) (shows : y.halt ≡ halt) (told : text ≡ reply_of answer) where
-  kept : (j : Stock) → Keeps pool wait (stock_when j answer halt y.meta.out) → Keeps pool wait (stock_shown j answer y)
+  kept : (j : Stock) → Keeps pool wait (stock_when j answer halt y.meta.out) → Keeps pool wait (stock_when j answer y.halt y.meta.out)
   kept j keeps = subst (λ (h : Option Halt). Keeps pool wait (stock_when j answer h y.meta.out)) (sym shows) keeps
 
   pub causes_alone : (before : Option Halt) → x.halt ≡ before → line ≡ [] → due_when wait k before x.meta.out event ≡ None → HasCause x event answer y → Keeps pool wait (stock_when k answer halt y.meta.out)
       → CausesLine wait x k event (line ++ text) y pool
   causes_alone before was empty none cause keeps = rw (empty, told) (record {
-    stock = stock_shown k answer y;
+    stock = stock_when k answer y.halt y.meta.out;
     line = alone answer y (ap (λ (h : Option Halt). due_when wait k h x.meta.out event) was ∙ none) cause;
     keeps = kept k keeps;
   })
@@ -40,7 +40,7 @@ module _ (wait : ℕ) (x : Shown) (k : Stock) (event : Event) (line text : List 
       → HasCause x (Replace d) spare mid → HasCause mid event answer y → Keeps pool wait (stock_when (used k) answer halt y.meta.out)
       → CausesLine wait x k event (line ++ text) y pool
   causes_spared before d left spare mid was same line_is due first second keeps = rw (line_is, told, same) (record {
-    stock = stock_shown (used k) answer y;
+    stock = stock_when (used k) answer y.halt y.meta.out;
     line = spared d spare answer mid y (ap (λ (h : Option Halt). due_when wait k h x.meta.out event) was ∙ due) first second;
     keeps = kept (used k) keeps;
   })
@@ -78,7 +78,7 @@ causes_cut wait x mid y k bytes lines more text pool event line told n new_pool 
     )
 
 -- the line of a pool is that of the stock that it keeps
-pool_line : (pool : Pool) (wait : ℕ) (j : Stock) (x : Shown) (disks : ℕ) → Keeps pool wait j → disks ≡ x.setup.geometry.disks → spares_line (left_of pool) (spins_of pool) disks ≡ stock_line_shown j x
+pool_line : (pool : Pool) (wait : ℕ) (j : Stock) (x : Shown) (disks : ℕ) → Keeps pool wait j → disks ≡ x.setup.geometry.disks → spares_line (left_of pool) (spins_of pool) disks ≡ stock_line j x.setup
 pool_line pool wait j x disks keeps same = line_alike (left_of pool) j.left (spins_of pool) j.spins disks x.setup.geometry.disks keeps.left same (let high = x.setup.geometry.disks_high in omega (arith, same, high)) keeps.spins
 
 module _ (wait : ℕ) (x : Shown) (k : Stock) (y : Shown) (bytes : List ℕ) (pool : Pool) (disks : ℕ) (same : disks ≡ x.setup.geometry.disks) (head : List ℕ) (head_is : head ≡ first_line x) where

@@ -19,7 +19,9 @@ use Rattle.paraid_serve.specs.Causes.{Shown}
 use Rattle.paraid_serve.specs.Ending.{EndsWithLine, end_line, halt_line, mount_line, status_of_halt}
 use Rattle.paraid_serve.specs.Output.{IsWholeStatus, begins_with, first_line}
 use Rattle.paraid_serve.specs.Output.IsLeftByStretch.{rests as left_rests, two_down as left_two}
-use Rattle.paraid_serve.specs.Stretch.{Turn, TurnsLead, turn_with}
+use Rattle.paraid_serve.specs.Streams.{Streams, streams_of}
+use Rattle.paraid_serve.specs.Stretch.{Span, Turn, TurnsLead, span_of, turn_with}
+use Rattle.paraid_serve.specs.Uses.{SinkUse, SourceUse}
 use Rattle.paraid_serve.proofs.ExitLemmas.{stretch_leaves}
 use Rattle.paraid_serve.proofs.StretchLemmas.{stretch_none}
 use Rattle.paraid_session.specs.Mount.{IsMountedFromEach}
@@ -28,13 +30,13 @@ use Rattle.paraid_session.specs.Turn.IsTurn.{again as turn_again, answered as tu
 use Rattle.paraid_session.proofs.MountLemmas.{IsMountedFromEach-follows}
 use Rattle.paraid_spare.specs.Pools.{left_of, spins_of}
 use Rattle.paraid_spare.specs.declared.pool.Pool.{Pool}
-use Rattle.paraid_sparing.specs.Output.{FollowsSpared, SparedHeadline, SparedRun, SparedText, WritesSpared, stock_line}
+use Rattle.paraid_sparing.specs.Output.{FollowsSpared, SparedHeadline, SparedRun, SparedText, WritesSpared}
 use Rattle.paraid_sparing.specs.Texts.{spares_line}
 use Rattle.paraid_sparing.specs.Output.SparedText.{done, halted, source, too_long}
 use Rattle.paraid_sparing.specs.Output.WritesSpared.{answers, last_line, whole}
 use Rattle.paraid_sparing.specs.Serving.{Keeps}
 use Rattle.paraid_sparing.specs.Session.{EndsSpared, ServesSpared}
-use Rattle.paraid_sparing.specs.Sparing.{Stock}
+use Rattle.paraid_sparing.specs.Sparing.{Stock, Supply, stock_line}
 use Rattle.paraid_sparing.specs.Sparing.AnswersTrace.{none as no_line}
 use Rattle.paraid_sparing.proofs.RecordedLemmas.{trace_counts}
 use Rattle.paraid_sparing.specs.SparedCauses.{CausedText}
@@ -42,13 +44,13 @@ use Rattle.paraid_sparing.proofs.SparedCauseLemmas.{done_caused, first_caused, h
 use Rattle.paraid_sparing.proofs.TextLemmas.{line_alike}
 
 -- what was written of the last lines
-wrote_last : (slots : ℕ) (setup : Setup) (wait : ℕ) (start now : Option Trail) (p : Point) (k : Stock) (bytes text line : List ℕ) (before after : Option (List ℕ)) (code status : ℕ) → SparedText slots setup wait start now p k bytes code (text ++ line)
-    → (e : EndsWithLine before after line code status) → WritesSpared slots setup wait start now p k bytes status (text ++ take e.count line)
-wrote_last slots setup wait start now p k bytes text line before after code status out e = elim e.whole [
+wrote_last : (span : Span) (supply : Supply) (p : Point) (bytes text line : List ℕ) (before after : Option (List ℕ)) (code status : ℕ) → SparedText span supply p bytes code (text ++ line)
+    → (e : EndsWithLine before after line code status) → WritesSpared span supply p bytes status (text ++ take e.count line)
+wrote_last span supply p bytes text line before after code status out e = elim e.whole [
   | inl four ↦ last_line four code (text ++ line) (drop e.count line) out
       (ap (λ x. text ++ x) (sym (take-append-drop e.count line)) ∙ sym (append_assoc text (take e.count line) (drop e.count line)))
-  | inr all ↦ whole (subst (λ (n : ℕ). SparedText slots setup wait start now p k bytes n (text ++ take e.count line)) (sym all.1)
-      (subst (λ (x : List ℕ). SparedText slots setup wait start now p k bytes code (text ++ x)) (sym (taken e.count line all.0)) out))
+  | inr all ↦ whole (subst (λ (n : ℕ). SparedText span supply p bytes n (text ++ take e.count line)) (sym all.1)
+      (subst (λ (x : List ℕ). SparedText span supply p bytes code (text ++ x)) (sym (taken e.count line all.0)) out))
 ]
   where
     taken : (n : ℕ) (line : List ℕ) → n ≡ length line → take n line ≡ line
@@ -75,82 +77,84 @@ whole_code status code k n (inr all) is = subst IsWholeStatus all.1 is
 pool_line : (pool : Pool) (wait : ℕ) (k : Stock) (setup : Setup) (disks : ℕ) → Keeps pool wait k → disks ≡ setup.geometry.disks → spares_line (left_of pool) (spins_of pool) disks ≡ stock_line k setup
 pool_line pool wait k setup disks keeps same = line_alike (left_of pool) k.left (spins_of pool) k.spins disks setup.geometry.disks keeps.left same (let high = setup.geometry.disks_high in omega (arith, same, high)) keeps.spins
 
-module _ (seen seen_now : Shown) (slots : ℕ) (setup : Setup) (wait : ℕ) (k : Stock) (stood : Point → Type 0) (start now : Option Trail) (left_before left first second third last_text : Option (List ℕ)) (pool : Pool) (writes gear : ℕ) (shows : mount_line writes gear ≡ first_line seen) (counts : (p : Point) → stood p → writes ≡ length p.history) (in_gear : (p : Point) → stood p → gear ≡ p.state.gear) where
+-- the run writes to `sink`; the session, after the first line, to the same as it is `within`
+module _ (seen seen_now : Shown) (span : Span) (supply : Supply) (stood : Point → Type 0) (source_is : SourceUse) (within sink : SinkUse) (pool : Pool) (writes gear : ℕ) (shows : mount_line writes gear ≡ first_line seen) (counts : (p : Point) → stood p → writes ≡ length p.history) (in_gear : (p : Point) → stood p → gear ≡ p.state.gear) where
   head_is : (p : Point) → stood p → mount_line writes gear ≡ begins_with p
   head_is p s = ap (λ (w : ℕ). mount_line w gear) (counts p s) ∙ ap (λ (g : ℕ). mount_line (length p.history) g) (in_gear p s)
 
   -- A session after the first line, and the last lines after it.
   finish : (result : Result ℕ Stop) (line : List ℕ) (code status : ℕ)
-      → GrowsByBytes first second (mount_line writes gear) → (s : ServesSpared seen seen_now slots setup wait k stood start now left_before left second third pool result) → EndsWithLine third last_text line code status
-      → (IsSome now → (p : Point) → stood p → SparedText slots setup wait start now p k s.bytes code ((begins_with p ++ s.text) ++ line))
-      → (code ≡ 10 → length s.bytes ≡ 2 ^ 40) → (IsWholeStatus code → (length s.bytes < 2 ^ 40) × AtEnd left)
-      → CausedText wait seen k seen_now s.bytes code ((mount_line writes gear ++ s.text) ++ line)
-      → SparedRun seen seen_now slots setup wait k stood start now left_before left first last_text status
+      → GrowsByBytes sink.written_before within.written_before (mount_line writes gear) → (s : ServesSpared seen seen_now span supply.wait supply.stock stood (streams_of source_is within) pool result) → EndsWithLine within.written sink.written line code status
+      → (IsSome span.now → (p : Point) → stood p → SparedText span supply p s.bytes code ((begins_with p ++ s.text) ++ line))
+      → (code ≡ 10 → length s.bytes ≡ 2 ^ 40) → (IsWholeStatus code → (length s.bytes < 2 ^ 40) × AtEnd source_is.left)
+      → CausedText supply.wait seen supply.stock seen_now s.bytes code ((mount_line writes gear ++ s.text) ++ line)
+      → SparedRun seen seen_now span supply stood (streams_of source_is sink) status
   finish result line code status head s end out full all caused = record {
     bytes = s.bytes;
     text = (mount_line writes gear ++ s.text) ++ take end.count line;
     given = s.given;
-    grows = GrowsByBytes-then first third last_text (mount_line writes gear ++ s.text) (take end.count line) (GrowsByBytes-then first second third (mount_line writes gear) s.text head s.grows) end.grows;
+    grows = GrowsByBytes-then sink.written_before within.written sink.written (mount_line writes gear ++ s.text) (take end.count line) (GrowsByBytes-then sink.written_before within.written_before within.written (mount_line writes gear) s.text head s.grows) end.grows;
     full = λ ten. full (the_code status code (length line) end.count 10 end.whole ten (λ e. absurd (omega (arith, e))));
     all = λ is. all (whole_code status code (length line) end.count end.whole is);
-    causes = last_caused wait seen k seen_now s.bytes (mount_line writes gear ++ s.text) line third last_text code status caused end;
-    wrote = λ t p at_p. subst (λ (x : List ℕ). WritesSpared slots setup wait start now p k s.bytes status ((x ++ s.text) ++ take end.count line)) (sym (head_is p at_p))
-        (wrote_last slots setup wait start now p k s.bytes (begins_with p ++ s.text) line third last_text code status (out t p at_p) end);
+    causes = last_caused supply.wait seen supply.stock seen_now s.bytes (mount_line writes gear ++ s.text) line within.written sink.written code status caused end;
+    wrote = λ t p at_p. subst (λ (x : List ℕ). WritesSpared span supply p s.bytes status ((x ++ s.text) ++ take end.count line)) (sym (head_is p at_p))
+        (wrote_last span supply p s.bytes (begins_with p ++ s.text) line within.written sink.written code status (out t p at_p) end);
   }
 
-  module _ (status : ℕ) (head : GrowsByBytes first second (mount_line writes gear)) (disks : ℕ) (same : disks ≡ setup.geometry.disks) (seen_disks : disks ≡ seen.setup.geometry.disks) where
-    pub done_run : (count : ℕ) → ServesSpared seen seen_now slots setup wait k stood start now left_before left second third pool (Ok count) → EndsWithLine third last_text (spares_line (left_of pool) (spins_of pool) disks ++ end_line count) 0 status
-        → SparedRun seen seen_now slots setup wait k stood start now left_before left first last_text status
+  module _ (status : ℕ) (head : GrowsByBytes sink.written_before within.written_before (mount_line writes gear)) (disks : ℕ) (same : disks ≡ span.setup.geometry.disks) (seen_disks : disks ≡ seen.setup.geometry.disks) where
+    pub done_run : (count : ℕ) → ServesSpared seen seen_now span supply.wait supply.stock stood (streams_of source_is within) pool (Ok count) → EndsWithLine within.written sink.written (spares_line (left_of pool) (spins_of pool) disks ++ end_line count) 0 status
+        → SparedRun seen seen_now span supply stood (streams_of source_is sink) status
     done_run count s end = finish (Ok count) (spares_line (left_of pool) (spins_of pool) disks ++ end_line count) 0 status head s end
         (λ t p at_p. let a = s.answered t p at_p in
-        subst (λ (x : List ℕ). SparedText slots setup wait start now p k s.bytes 0 ((begins_with p ++ s.text) ++ (x ++ end_line count))) (sym (pool_line pool wait a.0.lines.stock setup disks a.1 same)) (done count s.text a.0))
+        subst (λ (x : List ℕ). SparedText span supply p s.bytes 0 ((begins_with p ++ s.text) ++ (x ++ end_line count))) (sym (pool_line pool supply.wait a.0.lines.stock span.setup disks a.1 same)) (done count s.text a.0))
         (λ e. absurd (omega (arith, e))) (λ is. s.full)
-        (done_caused wait seen k seen_now s.bytes pool disks seen_disks (mount_line writes gear) shows count s.text s.causes)
+        (done_caused supply.wait seen supply.stock seen_now s.bytes pool disks seen_disks (mount_line writes gear) shows count s.text s.causes)
 
-    pub halted_run : (halt : Halt) → ServesSpared seen seen_now slots setup wait k stood start now left_before left second third pool (Err (Halts halt)) → EndsWithLine third last_text (spares_line (left_of pool) (spins_of pool) disks ++ halt_line halt) (status_of_halt halt) status
-        → SparedRun seen seen_now slots setup wait k stood start now left_before left first last_text status
+    pub halted_run : (halt : Halt) → ServesSpared seen seen_now span supply.wait supply.stock stood (streams_of source_is within) pool (Err (Halts halt)) → EndsWithLine within.written sink.written (spares_line (left_of pool) (spins_of pool) disks ++ halt_line halt) (status_of_halt halt) status
+        → SparedRun seen seen_now span supply stood (streams_of source_is sink) status
     halted_run halt s end = finish (Err (Halts halt)) (spares_line (left_of pool) (spins_of pool) disks ++ halt_line halt) (status_of_halt halt) status head s end
         (λ t p at_p. let a = s.answered t p at_p in
-        subst (λ (x : List ℕ). SparedText slots setup wait start now p k s.bytes (status_of_halt halt) ((begins_with p ++ s.text) ++ (x ++ halt_line halt))) (sym (pool_line pool wait a.0.lines.stock setup disks a.1 same)) (halted halt s.text a.0))
+        subst (λ (x : List ℕ). SparedText span supply p s.bytes (status_of_halt halt) ((begins_with p ++ s.text) ++ (x ++ halt_line halt))) (sym (pool_line pool supply.wait a.0.lines.stock span.setup disks a.1 same)) (halted halt s.text a.0))
         (λ e. absurd (not_ten halt e)) (λ is. s.full)
-        (halted_caused wait seen k seen_now s.bytes pool disks seen_disks (mount_line writes gear) shows halt s.text s.causes)
+        (halted_caused supply.wait seen supply.stock seen_now s.bytes pool disks seen_disks (mount_line writes gear) shows halt s.text s.causes)
       where
         not_ten : (h : Halt) → status_of_halt h ≢ 10
         not_ten (HaltTwo two) e = omega (arith, e)
         not_ten (Worn count) e = omega (arith, e)
 
-  module _ (status : ℕ) (head : GrowsByBytes first second (mount_line writes gear)) where
-    pub source_run : ServesSpared seen seen_now slots setup wait k stood start now left_before left second third pool (Err Source) → EndsWithLine third last_text (codes "source\n") 3 status
-        → SparedRun seen seen_now slots setup wait k stood start now left_before left first last_text status
+  module _ (status : ℕ) (head : GrowsByBytes sink.written_before within.written_before (mount_line writes gear)) where
+    pub source_run : ServesSpared seen seen_now span supply.wait supply.stock stood (streams_of source_is within) pool (Err Source) → EndsWithLine within.written sink.written (codes "source\n") 3 status
+        → SparedRun seen seen_now span supply stood (streams_of source_is sink) status
     source_run s end = finish (Err Source) (codes "source\n") 3 status head s end (λ t p at_p. source s.text (s.answered t p at_p))
         (λ e. absurd (omega (arith, e))) (λ is. absurd (partly 3 (λ e. omega (arith, e)) (λ e. omega (arith, e)) (λ e. omega (arith, e)) is))
-        (source_caused wait seen k seen_now s.bytes pool (mount_line writes gear) shows s.text s.causes)
+        (source_caused supply.wait seen supply.stock seen_now s.bytes pool (mount_line writes gear) shows s.text s.causes)
 
-    pub too_long_run : ServesSpared seen seen_now slots setup wait k stood start now left_before left second third pool (Err TooLong) → EndsWithLine third last_text (codes "toolong\n") 10 status
-        → SparedRun seen seen_now slots setup wait k stood start now left_before left first last_text status
+    pub too_long_run : ServesSpared seen seen_now span supply.wait supply.stock stood (streams_of source_is within) pool (Err TooLong) → EndsWithLine within.written sink.written (codes "toolong\n") 10 status
+        → SparedRun seen seen_now span supply stood (streams_of source_is sink) status
     too_long_run s end = finish (Err TooLong) (codes "toolong\n") 10 status head s end (λ t p at_p. too_long s.full s.text (s.answered t p at_p))
         (λ e. s.full) (λ is. absurd (partly 10 (λ e. omega (arith, e)) (λ e. omega (arith, e)) (λ e. omega (arith, e)) is))
-        (too_long_caused wait seen k seen_now s.bytes pool (mount_line writes gear) shows s.text s.causes)
+        (too_long_caused supply.wait seen supply.stock seen_now s.bytes pool (mount_line writes gear) shows s.text s.causes)
 
   -- the sink failed within an answer
-  pub sink_run : GrowsByBytes first second (mount_line writes gear) → ServesSpared seen seen_now slots setup wait k stood start now left_before left second third pool (Err Sink) → SparedRun seen seen_now slots setup wait k stood start now left_before left first third 4
+  pub sink_run : GrowsByBytes sink.written_before within.written_before (mount_line writes gear) → ServesSpared seen seen_now span supply.wait supply.stock stood (streams_of source_is within) pool (Err Sink) → SparedRun seen seen_now span supply stood (streams_of source_is (record within { written_before = sink.written_before; faults_before = sink.faults_before })) 4
   sink_run head s = record {
     bytes = s.bytes;
     text = mount_line writes gear ++ s.text;
     given = s.given;
-    grows = GrowsByBytes-then first second third (mount_line writes gear) s.text head s.grows;
+    grows = GrowsByBytes-then sink.written_before within.written_before within.written (mount_line writes gear) s.text head s.grows;
     full = λ e. absurd (omega (arith, e));
     all = λ is. absurd (partly 4 (λ e. omega (arith, e)) (λ e. omega (arith, e)) (λ e. omega (arith, e)) is);
-    causes = sink_caused wait seen k seen_now s.bytes pool (mount_line writes gear) shows s.text s.causes.0;
+    causes = sink_caused supply.wait seen supply.stock seen_now s.bytes pool (mount_line writes gear) shows s.text s.causes.0;
     wrote = λ t p at_p.
         let a = s.answered t p at_p in
         answers refl a.0 a.1 (s.text ++ a.2) a.2 a.3 a.4 (sym (append_assoc (begins_with p) s.text a.2) ∙ ap (λ x. (x ++ s.text) ++ a.2) (sym (head_is p at_p)));
   }
 
 -- the sink failed at the first line
-pub no_mount_run : (seen : Shown) (slots : ℕ) (setup : Setup) (wait : ℕ) (k : Stock) (stood : Point → Type 0) (told : Option Trail) (left first second : Option (List ℕ)) (writes gear : ℕ) → ((p : Point) → stood p → writes ≡ length p.history) → ((p : Point) → stood p → gear ≡ p.state.gear) → mount_line writes gear ≡ first_line seen
-    → (n : ℕ) × (n ≤ length (mount_line writes gear)) × GrowsByBytes first second (take n (mount_line writes gear)) → SparedRun seen seen slots setup wait k stood told told left left first second 4
-no_mount_run seen slots setup wait k stood told left first second writes gear counts in_gear shows part = record {
+pub no_mount_run : (seen : Shown) (slots : ℕ) (setup : Setup) (wait : ℕ) (k : Stock) (stood : Point → Type 0) (told : Option Trail) (left : Option (List ℕ)) (count : ℕ) (sink : SinkUse) (writes gear : ℕ) → ((p : Point) → stood p → writes ≡ length p.history) → ((p : Point) → stood p → gear ≡ p.state.gear) → mount_line writes gear ≡ first_line seen
+    → (n : ℕ) × (n ≤ length (mount_line writes gear)) × GrowsByBytes sink.written_before sink.written (take n (mount_line writes gear))
+    → SparedRun seen seen (span_of slots setup told told) (record { wait = wait; stock = k }) stood (streams_of (record { left_before = left; left = left; faults_before = count; faults = count }) sink) 4
+no_mount_run seen slots setup wait k stood told left count sink writes gear counts in_gear shows part = record {
   bytes = [];
   text = take part.0 (mount_line writes gear);
   given = Gives-none left;
@@ -186,32 +190,31 @@ same_trail o a b e f = some_same a b (sym e ∙ f)
 none_some : (o : Option Halt) (h : Halt) → o ≡ None → o ≡ Some h → ⊥
 none_some o h e f = cc
 
-module _ (slots : ℕ) (setup : Setup) (wait : ℕ) (k : Stock) (start final : Option Trail) (p : Point) (mark : IsMark slots setup p) (here : (t : Trail) → start ≡ Some t → p.disks ≡ now t) where
-  ends_synced : (events : List Event) (text : List ℕ) (writes : ℕ) (e : EndsSpared slots setup wait start final p k events text (Flushed writes)) → AreSynced (now e.all.to)
+module _ (span : Span) (supply : Supply) (p : Point) (mark : IsMark span.slots span.setup p) (here : (t : Trail) → span.start ≡ Some t → p.disks ≡ now t) where
+  ends_synced : (events : List Event) (text : List ℕ) (writes : ℕ) (e : EndsSpared span supply.wait p supply.stock events text (Flushed writes)) → AreSynced (now e.all.to)
   ends_synced events text writes e =
-      let last = last_turn slots setup p e.all.end e.lines.all.turns (turn_with Flush (Flushed writes) e.calls) (subst (λ (ts : List Turn). TurnsLead slots setup p ts e.all.end) e.turns e.all.went) in
-      let going = flushed_going slots setup last.0 e.all.end Flush (Flushed writes) e.calls writes last.1 refl in
-      elim (stretch_leaves slots setup start final p (e.lines.put_in ++ Flush ∷ []) e.all mark (here e.all.from e.all.was)) [
+      let last = last_turn span.slots span.setup p e.all.end e.lines.all.turns (turn_with Flush (Flushed writes) e.calls) (subst (λ (ts : List Turn). TurnsLead span.slots span.setup p ts e.all.end) e.turns e.all.went) in
+      let going = flushed_going span.slots span.setup last.0 e.all.end Flush (Flushed writes) e.calls writes last.1 refl in
+      elim (stretch_leaves span p (e.lines.put_in ++ Flush ∷ []) e.all mark (here e.all.from e.all.was)) [
         | left_two pair came ↦ absurd (none_some e.all.end.halt (HaltTwo pair) going came)
         | left_rests r ↦ r.synced
       ]
 
-  text_synced : (bytes : List ℕ) (code : ℕ) (text : List ℕ) → SparedText slots setup wait start final p k bytes code text → code ≡ 0 → (t : Trail) → final ≡ Some t → AreSynced (now t)
-  text_synced bytes code text (done writes told e) zero t tells = subst (λ (u : Trail). AreSynced (now u)) (same_trail final e.all.to t e.all.is tells) (ends_synced _ told writes e)
+  text_synced : (bytes : List ℕ) (code : ℕ) (text : List ℕ) → SparedText span supply p bytes code text → code ≡ 0 → (t : Trail) → span.now ≡ Some t → AreSynced (now t)
+  text_synced bytes code text (done writes told e) zero t tells = subst (λ (u : Trail). AreSynced (now u)) (same_trail span.now e.all.to t e.all.is tells) (ends_synced _ told writes e)
   text_synced bytes code text (halted (HaltTwo pair) told e) zero t tells = absurd (omega (arith, zero))
   text_synced bytes code text (halted (Worn count) told e) zero t tells = absurd (omega (arith, zero))
   text_synced bytes code text (source told c) zero t tells = absurd (omega (arith, zero))
   text_synced bytes code text (too_long ten told c) zero t tells = absurd (omega (arith, zero))
 
-  output_synced : (bytes : List ℕ) (status : ℕ) (text : List ℕ) → WritesSpared slots setup wait start final p k bytes status text → status ≡ 0 → (t : Trail) → final ≡ Some t → AreSynced (now t)
+  output_synced : (bytes : List ℕ) (status : ℕ) (text : List ℕ) → WritesSpared span supply p bytes status text → status ≡ 0 → (t : Trail) → span.now ≡ Some t → AreSynced (now t)
   output_synced bytes status text (whole out) zero = text_synced bytes status text out zero
   output_synced bytes status text (last_line four code full rest out front) zero = absurd (omega (arith, four, zero))
   output_synced bytes status text (answers four lines more told rest lines_are c front) zero = absurd (omega (arith, four, zero))
 
-pub headline : (seen seen_now : Shown) (slots : ℕ) (setup : Setup) (wait : ℕ) (k : Stock) (began : ℕ) (stood : Point → Type 0) (start final : Option Trail) (left_before left written_before written : Option (List ℕ)) (status : ℕ)
-    → IsMountedFromEach slots setup began start stood → SparedRun seen seen_now slots setup wait k stood start final left_before left written_before written status
-    → SparedHeadline seen seen_now slots setup wait k began start final left_before left written_before written status
-headline seen seen_now slots setup wait k began stood start final left_before left written_before written status mounted r = record {
+pub headline : (seen seen_now : Shown) (span : Span) (supply : Supply) (began : ℕ) (stood : Point → Type 0) (streams : Streams) (status : ℕ)
+    → IsMountedFromEach span.slots span.setup began span.start stood → SparedRun seen seen_now span supply stood streams status → SparedHeadline seen seen_now span supply began streams status
+headline seen seen_now span supply began stood streams status mounted r = record {
   bytes = r.bytes;
   text = r.text;
   given = r.given;
@@ -219,10 +222,10 @@ headline seen seen_now slots setup wait k began stood start final left_before le
   full = r.full;
   all = r.all;
   causes = r.causes;
-  said = λ t. IsMountedFromEach-follows slots setup began start stood (FollowsSpared slots setup wait k start final r.bytes status r.text)
+  said = λ t. IsMountedFromEach-follows span.slots span.setup began span.start stood (FollowsSpared span supply r.bytes status r.text)
       (λ p mark here at_p. record {
         wrote = r.wrote t p at_p;
-        left = λ events c. stretch_leaves slots setup start final p events c mark (here c.from c.was);
-        synced = output_synced slots setup wait k start final p mark here r.bytes status r.text (r.wrote t p at_p);
+        left = λ events c. stretch_leaves span p events c mark (here c.from c.was);
+        synced = output_synced span supply p mark here r.bytes status r.text (r.wrote t p at_p);
       }) mounted;
 }

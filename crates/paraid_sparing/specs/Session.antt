@@ -8,12 +8,12 @@ use Rattle.paraid_base.specs.Told.{Gives, GrowsByBytes}
 use Rattle.paraid_io.specs.Lines.{lines_of, whole_lines}
 use Rattle.paraid_rack.specs.declared.call.Call.{Call}
 use Rattle.paraid_rack.specs.Trail.{Trail}
-use Rattle.paraid_record.specs.declared.meta.Setup.{Setup}
 use Rattle.paraid_serve.specs.declared.stop.Stop.{Stop}
 use Rattle.paraid_serve.specs.declared.stop.Stop.TheVariants.{Source, TooLong, Sink, Halt as Halts}
 use Rattle.paraid_serve.specs.Causes.{Shown}
 use Rattle.paraid_serve.specs.Session.{IsAllTaken}
-use Rattle.paraid_serve.specs.Stretch.{Stretch, events_in, turn_calls, turn_with}
+use Rattle.paraid_serve.specs.Streams.{Streams}
+use Rattle.paraid_serve.specs.Stretch.{Span, Stretch, events_in, turn_calls, turn_with}
 use Rattle.paraid_session.specs.Turn.{Point}
 use Rattle.paraid_spare.specs.declared.pool.Pool.{Pool}
 use Rattle.paraid_spare.specs.Pools.{slot_spin_ups}
@@ -28,42 +28,42 @@ fresh_stock left = record { left = left; waits = λ d. 0; spins = λ d. 0 }
 
 -- These events of a trace were answered with spares put in, and told by this text: a session went over them from point `p` on,
 -- by the calls from one record to another.
-pub record Spared (slots : ℕ) (setup : Setup) (wait : ℕ) (start now : Option Trail) (p : Point) (k : Stock) (events : List Event) (text : List ℕ) : Type 0 where
+pub record Spared (span : Span) (wait : ℕ) (p : Point) (k : Stock) (events : List Event) (text : List ℕ) : Type 0 where
   pub put_in : List Event
-  pub all : Stretch slots setup start now p put_in
+  pub all : Stretch span p put_in
   pub stock : Stock
-  pub answers : AnswersTrace slots setup wait p k events all.turns text all.end stock
+  pub answers : AnswersTrace span.slots span.setup wait p k events all.turns text all.end stock
   -- while at most one disk is down no slot was spun up more often than its number
   pub counts : AreBesideOne all.turns → (d : ℕ) → d < 8 → k.spins d ≡ 0 → min (slot_spin_ups (turn_calls all.turns) d) (2 ^ 64 - 1) ≤ stock.spins d
 
 -- the same, and a flush at last, which is answered so
-pub record EndsSpared (slots : ℕ) (setup : Setup) (wait : ℕ) (start final : Option Trail) (p : Point) (k : Stock) (events : List Event) (text : List ℕ) (answer : Answer) : Type 0 where
+pub record EndsSpared (span : Span) (wait : ℕ) (p : Point) (k : Stock) (events : List Event) (text : List ℕ) (answer : Answer) : Type 0 where
   pub middle : Option Trail
-  pub lines : Spared slots setup wait start middle p k events text
-  pub all : Stretch slots setup start final p (lines.put_in ++ Flush ∷ [])
+  pub lines : Spared (record span { now = middle }) wait p k events text
+  pub all : Stretch span p (lines.put_in ++ Flush ∷ [])
   pub calls : List Call
   pub turns : all.turns ≡ lines.all.turns ++ turn_with Flush answer calls ∷ []
   -- with its calls too
   pub counts : AreBesideOne all.turns → (d : ℕ) → d < 8 → k.spins d ≡ 0 → min (slot_spin_ups (turn_calls all.turns) d) (2 ^ 64 - 1) ≤ lines.stock.spins d
 
 -- which lines were answered, and what was written for them, by how the session ended
-abbrev pub AreLinesSpared : ℕ → Setup → ℕ → Option Trail → Option Trail → Point → Stock → Pool → Result ℕ Stop → List ℕ → List ℕ → Type 0
-AreLinesSpared slots setup wait start now p k pool (Ok writes) bytes text =
-    (e : EndsSpared slots setup wait start now p k (events_in (lines_of bytes)) text (Flushed writes)) × Keeps pool wait e.lines.stock
-AreLinesSpared slots setup wait start now p k pool (Err (Halts halt)) bytes text =
-    (e : EndsSpared slots setup wait start now p k (events_in (lines_of bytes)) text (Halted halt)) × Keeps pool wait e.lines.stock
-AreLinesSpared slots setup wait start now p k pool (Err Source) bytes text = Spared slots setup wait start now p k (events_in (whole_lines bytes)) text
-AreLinesSpared slots setup wait start now p k pool (Err TooLong) bytes text = Spared slots setup wait start now p k (events_in (whole_lines bytes)) text
-AreLinesSpared slots setup wait start now p k pool (Err Sink) bytes text =
-    (lines more : List (List ℕ)) × (rest : List ℕ) × (lines_of bytes ≡ lines ++ more) × Spared slots setup wait start now p k (events_in lines) (text ++ rest)
+abbrev pub AreLinesSpared : Span → ℕ → Point → Stock → Pool → Result ℕ Stop → List ℕ → List ℕ → Type 0
+AreLinesSpared span wait p k pool (Ok writes) bytes text =
+    (e : EndsSpared span wait p k (events_in (lines_of bytes)) text (Flushed writes)) × Keeps pool wait e.lines.stock
+AreLinesSpared span wait p k pool (Err (Halts halt)) bytes text =
+    (e : EndsSpared span wait p k (events_in (lines_of bytes)) text (Halted halt)) × Keeps pool wait e.lines.stock
+AreLinesSpared span wait p k pool (Err Source) bytes text = Spared span wait p k (events_in (whole_lines bytes)) text
+AreLinesSpared span wait p k pool (Err TooLong) bytes text = Spared span wait p k (events_in (whole_lines bytes)) text
+AreLinesSpared span wait p k pool (Err Sink) bytes text =
+    (lines more : List (List ℕ)) × (rest : List ℕ) × (lines_of bytes ≡ lines ++ more) × Spared span wait p k (events_in lines) (text ++ rest)
 
 -- A session took these bytes and wrote this text. What it answered is known where the record is told, from each point at
 -- which the array stood.
-pub record ServesSpared (seen seen_now : Shown) (slots : ℕ) (setup : Setup) (wait : ℕ) (k : Stock) (stood : Point → Type 0) (start now : Option Trail) (left_before left written_before written : Option (List ℕ)) (pool : Pool) (result : Result ℕ Stop) : Type 0 where
+pub record ServesSpared (seen seen_now : Shown) (span : Span) (wait : ℕ) (k : Stock) (stood : Point → Type 0) (streams : Streams) (pool : Pool) (result : Result ℕ Stop) : Type 0 where
   pub bytes : List ℕ
   pub text : List ℕ
-  pub given : Gives left_before left bytes
-  pub grows : GrowsByBytes written_before written text
-  pub full : IsAllTaken result bytes left
+  pub given : Gives streams.source.left_before streams.source.left bytes
+  pub grows : GrowsByBytes streams.sink.written_before streams.sink.written text
+  pub full : IsAllTaken result bytes streams.source.left
   pub causes : HaveSparedCauses wait seen k pool result bytes text seen_now
-  pub answered : IsSome now → (p : Point) → stood p → AreLinesSpared slots setup wait start now p k pool result bytes text
+  pub answered : IsSome span.now → (p : Point) → stood p → AreLinesSpared span wait p k pool result bytes text

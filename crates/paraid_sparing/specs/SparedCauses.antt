@@ -1,12 +1,10 @@
 -- Why a run with spares tells what it tells, whatever the rack holds: a spare exactly where one is due, and each answer by its cause.
-use Rattle.std.specs.Prelude.{◌≡◌, ℕ, ◌-◌, List, [], ◌∷◌, ◌++◌, codes, take, Option, Some, None, Result, Ok, Err, if◌then◌else◌}
+use Rattle.std.specs.Prelude.{◌≡◌, ℕ, ◌-◌, List, [], ◌∷◌, ◌++◌, codes, take, Some, None, Result, Ok, Err}
 use Rattle.paraid_base.specs.declared.event.Answer.{Answer}
 use Rattle.paraid_base.specs.declared.event.Answer.TheVariants.{Flushed, Halted}
 use Rattle.paraid_base.specs.declared.event.Event.{Event}
 use Rattle.paraid_base.specs.declared.event.Event.TheVariants.{Flush, Replace}
 use Rattle.paraid_base.specs.declared.fault.Halt.{Halt}
-use Rattle.paraid_base.specs.declared.state.Out.{Out}
-use Rattle.paraid_base.specs.States.{gone_out}
 use Rattle.paraid_io.specs.Lines.{lines_of, whole_lines}
 use Rattle.paraid_serve.specs.declared.stop.Stop.{Stop}
 use Rattle.paraid_serve.specs.declared.stop.Stop.TheVariants.{Source, TooLong, Sink, Halt as Halts}
@@ -15,39 +13,18 @@ use Rattle.paraid_serve.specs.Ending.{end_line, halt_line, status_of_halt}
 use Rattle.paraid_serve.specs.Output.{first_line}
 use Rattle.paraid_spare.specs.declared.pool.Pool.{Pool}
 use Rattle.paraid_sparing.specs.Serving.{Keeps}
-use Rattle.paraid_sparing.specs.Sparing.{Stock, due_of, is_tick, is_waiting, spare_line, spins_after, spun_by, unless_halted, used, waits_then}
-use Rattle.paraid_sparing.specs.Texts.{spares_line}
+use Rattle.paraid_sparing.specs.Sparing.{Stock, due_when, spare_line, stock_line, stock_when, used}
 use Rattle.paraid_trace.specs.LineEvents.{event_of}
 use Rattle.paraid_trace.specs.Replies.{reply_of}
-
--- the disk for which a spare is put in before an event, with this halt and this disk out
-abbrev pub due_when : ℕ → Stock → Option Halt → Out → Event → Option ℕ
-due_when wait k halt out event = if is_tick event then unless_halted halt (due_of wait k (gone_out out)) else None
-
--- The disk for which a spare is put in before an event, by what is seen of the array.
-abbrev pub due_shown : ℕ → Stock → Shown → Event → Option ℕ
-due_shown wait k x event = due_when wait k x.halt x.meta.out event
-
--- the stock after an event of the trace that was answered so, with this halt and this disk out then
-abbrev pub stock_when : Stock → Answer → Option Halt → Out → Stock
-stock_when k answer halt out = record {
-  left = k.left;
-  waits = waits_then halt (gone_out out) (is_waiting answer) k.waits;
-  spins = spins_after (spun_by answer) k.spins;
-}
-
--- The stock after an event of the trace that was answered so, and after which this is seen of the array.
-abbrev pub stock_shown : Stock → Answer → Shown → Stock
-stock_shown k answer x = stock_when k answer x.halt x.meta.out
 
 -- A line is told so: by the answer to its event alone where no spare is due before it, and else after what came of the spare. Each
 -- answer has its cause.
 pub data HasLineCauses (wait : ℕ) (old : Shown) (k : Stock) (event : Event) : List ℕ → Shown → Stock → Type 0 where
-  alone : (answer : Answer) (new : Shown) → due_shown wait k old event ≡ None → HasCause old event answer new
-      → HasLineCauses wait old k event (reply_of answer) new (stock_shown k answer new)
-  spared : (d : ℕ) (spare answer : Answer) (mid new : Shown) → due_shown wait k old event ≡ Some d
+  alone : (answer : Answer) (new : Shown) → due_when wait k old.halt old.meta.out event ≡ None → HasCause old event answer new
+      → HasLineCauses wait old k event (reply_of answer) new (stock_when k answer new.halt new.meta.out)
+  spared : (d : ℕ) (spare answer : Answer) (mid new : Shown) → due_when wait k old.halt old.meta.out event ≡ Some d
       → HasCause old (Replace d) spare mid → HasCause mid event answer new
-      → HasLineCauses wait old k event (spare_line spare (k.left - 1) ++ reply_of answer) new (stock_shown (used k) answer new)
+      → HasLineCauses wait old k event (spare_line spare (k.left - 1) ++ reply_of answer) new (stock_when (used k) answer new.halt new.meta.out)
 
 -- these lines are, one after the other
 pub data HaveLineCauses (wait : ℕ) (old : Shown) (k : Stock) : List (List ℕ) → List ℕ → Shown → Stock → Type 0 where
@@ -99,16 +76,12 @@ HaveSparedCauses wait old k pool (Err Source) bytes text new = CausesLines wait 
 HaveSparedCauses wait old k pool (Err TooLong) bytes text new = CausesLines wait old k (whole_lines bytes) text new pool
 HaveSparedCauses wait old k pool (Err Sink) bytes text new = (b : BeginsCauses wait old k bytes text new) × Keeps pool wait b.i
 
--- the line of the spares that are left, of the array that was seen so first
-abbrev pub stock_line_shown : Stock → Shown → List ℕ
-stock_line_shown k x = spares_line k.left k.spins x.setup.geometry.disks
-
 -- The whole text of a run with spares by its status, with the cause of each answer, of each spare and of the flush at the end.
 pub data CausedText (wait : ℕ) (old : Shown) (k : Stock) (new : Shown) (bytes : List ℕ) : ℕ → List ℕ → Type 0 where
   done : (writes : ℕ) (text : List ℕ) (mid : Shown) (j : Stock) → HaveLineCauses wait old k (lines_of bytes) text mid j → HasCause mid Flush (Flushed writes) new
-      → CausedText wait old k new bytes 0 ((first_line old ++ text) ++ (stock_line_shown j old ++ end_line writes))
+      → CausedText wait old k new bytes 0 ((first_line old ++ text) ++ (stock_line j old.setup ++ end_line writes))
   halted : (halt : Halt) (text : List ℕ) (mid : Shown) (j : Stock) → HaveLineCauses wait old k (lines_of bytes) text mid j → HasCause mid Flush (Halted halt) new
-      → CausedText wait old k new bytes (status_of_halt halt) ((first_line old ++ text) ++ (stock_line_shown j old ++ halt_line halt))
+      → CausedText wait old k new bytes (status_of_halt halt) ((first_line old ++ text) ++ (stock_line j old.setup ++ halt_line halt))
   source : (text : List ℕ) (j : Stock) → HaveLineCauses wait old k (whole_lines bytes) text new j → CausedText wait old k new bytes 3 ((first_line old ++ text) ++ codes "source\n")
   too_long : (text : List ℕ) (j : Stock) → HaveLineCauses wait old k (whole_lines bytes) text new j → CausedText wait old k new bytes 10 ((first_line old ++ text) ++ codes "toolong\n")
 

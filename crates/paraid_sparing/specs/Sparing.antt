@@ -5,6 +5,7 @@ use Rattle.paraid_base.specs.declared.event.Answer.TheVariants.{NoFresh, Replace
 use Rattle.paraid_base.specs.declared.event.Event.{Event}
 use Rattle.paraid_base.specs.declared.event.Event.TheVariants.{Replace, Tick}
 use Rattle.paraid_base.specs.declared.fault.Halt.{Halt}
+use Rattle.paraid_base.specs.declared.state.Out.{Out}
 use Rattle.paraid_base.specs.declared.state.TickEvent.{TickEvent}
 use Rattle.paraid_base.specs.declared.state.TickEvent.TheVariants.{Begun, Waiting}
 use Rattle.paraid_base.specs.States.{gone_out}
@@ -12,6 +13,7 @@ use Rattle.paraid_record.specs.declared.meta.Setup.{Setup}
 use Rattle.paraid_serve.specs.Stretch.{Turn}
 use Rattle.paraid_session.specs.Turn.{IsTurn, Point}
 use Rattle.paraid_spare.specs.Pools.{saturating_next}
+use Rattle.paraid_sparing.specs.Texts.{spares_line}
 use Rattle.paraid_trace.specs.Replies.{reply_of}
 
 -- What is kept of the spares: how many are left, how many ticks each disk has waited, and how often each slot was
@@ -21,10 +23,10 @@ pub record Stock : Type 0 where
   pub waits : ℕ → ℕ
   pub spins : ℕ → ℕ
 
--- whether an event is a tick
-abbrev pub is_tick : Event → Bool
-is_tick Tick = true
-is_tick event = false
+-- What a run has of spares: how many ticks one waits, and the stock as it begins.
+pub record Supply : Type 0 where
+  pub wait : ℕ
+  pub stock : Stock
 
 -- the disk that is gone, where a spare is left and it has waited for so many ticks
 abbrev pub due_of : ℕ → Stock → Option ℕ → Option ℕ
@@ -36,9 +38,10 @@ abbrev pub unless_halted : Option Halt → Option ℕ → Option ℕ
 unless_halted None due = due
 unless_halted (Some halt) due = None
 
--- The disk for which a spare is put in before an event: before a tick, where there is no halt.
-abbrev pub due_before : ℕ → Stock → Point → Event → Option ℕ
-due_before wait k p event = if is_tick event then unless_halted p.halt (due_of wait k (gone_out p.state.out)) else None
+-- The disk for which a spare is put in before an event, with this halt and this disk out: before a tick, where there is no halt.
+abbrev pub due_when : ℕ → Stock → Option Halt → Out → Event → Option ℕ
+due_when wait k halt out Tick = unless_halted halt (due_of wait k (gone_out out))
+due_when wait k halt out event = None
 
 -- a spare less; what was waited is forgotten
 abbrev pub used : Stock → Stock
@@ -86,11 +89,11 @@ abbrev pub waits_then : Option Halt → Option ℕ → Bool → (ℕ → ℕ) �
 waits_then None disk waiting waits d = waits_after disk waiting waits d
 waits_then (Some halt) disk waiting waits d = waits d
 
--- the stock after an event of the trace that was answered so, and after which this point stands
-abbrev pub stock_after : Stock → Answer → Point → Stock
-stock_after k answer q = record {
+-- the stock after an event of the trace that was answered so, with this halt and this disk out then
+abbrev pub stock_when : Stock → Answer → Option Halt → Out → Stock
+stock_when k answer halt out = record {
   left = k.left;
-  waits = waits_then q.halt (gone_out q.state.out) (is_waiting answer) k.waits;
+  waits = waits_then halt (gone_out out) (is_waiting answer) k.waits;
   spins = spins_after (spun_by answer) k.spins;
 }
 
@@ -103,12 +106,12 @@ spare_line answer left = reply_of answer
 -- An event of a trace is answered by these turns of a session and told by this text: by itself where no spare is due
 -- before it, and else after the spare.
 pub data AnswersLine (slots : ℕ) (setup : Setup) (wait : ℕ) (p : Point) (k : Stock) (event : Event) : List Turn → List ℕ → Point → Stock → Type 0 where
-  alone : (t : Turn) (q : Point) → due_before wait k p event ≡ None → t.event ≡ event → IsTurn slots setup p t.event t.answer t.calls q
-      → AnswersLine slots setup wait p k event (t ∷ []) (reply_of t.answer) q (stock_after k t.answer q)
-  spared : (d : ℕ) (s t : Turn) (mid q : Point) → due_before wait k p event ≡ Some d
+  alone : (t : Turn) (q : Point) → due_when wait k p.halt p.state.out event ≡ None → t.event ≡ event → IsTurn slots setup p t.event t.answer t.calls q
+      → AnswersLine slots setup wait p k event (t ∷ []) (reply_of t.answer) q (stock_when k t.answer q.halt q.state.out)
+  spared : (d : ℕ) (s t : Turn) (mid q : Point) → due_when wait k p.halt p.state.out event ≡ Some d
       → s.event ≡ Replace d → IsTurn slots setup p s.event s.answer s.calls mid
       → t.event ≡ event → IsTurn slots setup mid t.event t.answer t.calls q
-      → AnswersLine slots setup wait p k event (s ∷ t ∷ []) (spare_line s.answer (k.left - 1) ++ reply_of t.answer) q (stock_after (used k) t.answer q)
+      → AnswersLine slots setup wait p k event (s ∷ t ∷ []) (spare_line s.answer (k.left - 1) ++ reply_of t.answer) q (stock_when (used k) t.answer q.halt q.state.out)
 
 -- The events of a trace, one after the other.
 pub data AnswersTrace (slots : ℕ) (setup : Setup) (wait : ℕ) (p : Point) (k : Stock) : List Event → List Turn → List ℕ → Point → Stock → Type 0 where
@@ -116,3 +119,7 @@ pub data AnswersTrace (slots : ℕ) (setup : Setup) (wait : ℕ) (p : Point) (k 
   more : (events : List Event) (turns : List Turn) (text : List ℕ) (mid : Point) (j : Stock) → AnswersTrace slots setup wait p k events turns text mid j
       → (event : Event) (ts : List Turn) (line : List ℕ) (q : Point) (i : Stock) → AnswersLine slots setup wait mid j event ts line q i
       → AnswersTrace slots setup wait p k (events ++ event ∷ []) (turns ++ ts) (text ++ line) q i
+
+-- the line that tells the spares left and the spin-ups of each slot
+abbrev pub stock_line : Stock → Setup → List ℕ
+stock_line k setup = spares_line k.left k.spins setup.geometry.disks

@@ -4,8 +4,7 @@ use Rattle.paraid_base.specs.declared.event.Answer.{Answer}
 use Rattle.paraid_base.specs.declared.event.Answer.TheVariants.{Halted}
 use Rattle.paraid_base.specs.declared.event.Event.{Event}
 use Rattle.paraid_base.specs.declared.event.Event.TheVariants.{Replace}
-use Rattle.paraid_base.specs.declared.fault.Halt.{Halt}
-use Rattle.paraid_base.specs.declared.fault.Halt.TheVariants.{Two, Worn}
+use Rattle.paraid_base.specs.declared.fault.Halt.TheVariants.{Two}
 use Rattle.paraid_serve.specs.Stretch.{Turn}
 use Rattle.paraid_spare.specs.Pools.{is_among, slot_spin_ups}
 use Rattle.paraid_sparing.specs.Sparing.{spun_by}
@@ -25,14 +24,9 @@ abbrev pub AreSpunByAnswers : List Turn → Type 0
 AreSpunByAnswers [] = Unit {0}
 AreSpunByAnswers (t ∷ turns) = ((d : ℕ) → slot_spin_ups t.calls d ≤ may_spin t.event t.answer d) × AreSpunByAnswers turns
 
--- whether a halt is that of two lost disks
-abbrev pub is_two : Halt → Bool
-is_two (Two two) = true
-is_two (Worn count) = false
-
 -- a second disk is lost
 abbrev pub is_second_loss : Answer → Bool
-is_second_loss (Halted halt) = is_two halt
+is_second_loss (Halted (Two two)) = true
 is_second_loss answer = false
 
 -- while at most one disk is down: no turn is answered so

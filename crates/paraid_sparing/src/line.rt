@@ -8,8 +8,8 @@ ghost use Rattle.paraid_serve.specs.Causes.{HasCause};
 ghost use Rattle.paraid_serve.specs.Lost.{HasServedSince};
 ghost use Rattle.paraid_session.specs.Turn.{GoesOn, Point};
 ghost use Rattle.paraid_spare.specs.Pools.{left_of};
-ghost use Rattle.paraid_sparing.specs.Sparing.{Stock, spare_line, stock_after, used};
-ghost use Rattle.paraid_sparing.specs.SparedCauses.{CausesLine, stock_when};
+ghost use Rattle.paraid_sparing.specs.Sparing.{Stock, spare_line, stock_when, used};
+ghost use Rattle.paraid_sparing.specs.SparedCauses.{CausesLine};
 ghost use Rattle.paraid_sparing.specs.Serving.{Keeps, ServesLine};
 ghost use Rattle.paraid_trace.specs.Answered.{answer_with};
 ghost use Rattle.paraid_trace.specs.Asked.{event_with};
@@ -85,7 +85,7 @@ fn answer_alone<A: Serves>(
     ensures since { (start : ℕ → Slot) → HasServedSince start (A.slot array.old) (A.halted array.old)
         → HasServedSince start (A.slot array.new) (A.halted array.new) }
     ensures keeps { (q : Point) (wait : ℕ) (k : Stock) → A.stands array.new q → Keeps pool.old wait k
-        → Keeps pool.new wait (stock_after k (answer_with result beside.new) q) }
+        → Keeps pool.new wait (stock_when k (answer_with result beside.new) q.halt q.state.out) }
     ensures text { text.new ≡ reply_of (answer_with result beside.new) }
     ensures cause { HasCause (A.shown array.old) (event_with asked pairs.now)
         (answer_with result beside.new) (A.shown array.new) }

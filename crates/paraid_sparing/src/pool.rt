@@ -4,8 +4,7 @@ ghost use Rattle.paraid_base.specs.declared.pairs.Pairs.{Pairs as PairsType};
 ghost use Rattle.paraid_base.specs.States.{gone_out};
 ghost use Rattle.paraid_session.specs.Turn.{Point};
 ghost use Rattle.paraid_spare.specs.Pools.{left_of, spins_of, wait_of, waits_of};
-ghost use Rattle.paraid_sparing.specs.Sparing.{Stock, begun_to, due_before, is_wait, is_waiting, rise_to, spins_after, spun_by, stock_after, waits_then};
-ghost use Rattle.paraid_sparing.specs.SparedCauses.{due_when, stock_when};
+ghost use Rattle.paraid_sparing.specs.Sparing.{Stock, begun_to, due_when, is_wait, is_waiting, rise_to, spins_after, spun_by, stock_when, waits_then};
 ghost use Rattle.paraid_sparing.specs.Serving.{Keeps};
 ghost use Rattle.paraid_trace.specs.Answered.{answer_of, answer_with};
 ghost use Rattle.paraid_trace.specs.Asked.{event_with};
@@ -38,7 +37,7 @@ pub(crate) fn due<A: Serves>(
 ) -> Option<DiskNo>
     requires halt { halt ≡ A.halted array.now }
     ensures due { (p : Point) (wait : ℕ) (k : Stock) (pairs : PairsType) → A.stands array.now p
-        → Keeps pool.now wait k → result ≡ due_before wait k p (event_with asked pairs) }
+        → Keeps pool.now wait k → result ≡ due_when wait k p.halt p.state.out (event_with asked pairs) }
     ensures shown { (wait : ℕ) (k : Stock) (pairs : PairsType) → Keeps pool.now wait k → result
         ≡ due_when wait k (A.halted array.now) (A.shown array.now).meta.out (event_with asked pairs) }
     ensures left { IfSome result (λ d. 0 < left_of pool.now) }
@@ -169,7 +168,7 @@ pub(crate) fn follow<A: Serves>(array: &A, halt: Option<Halt>, pool: &mut Pool, 
     requires halt { halt ≡ A.halted array.now }
     ensures keeps { (p : Point) (wait : ℕ) (k : Stock) (beside : BesideType) → A.stands array.now p
         → Keeps pool.old wait k
-        → Keeps pool.new wait (stock_after k (answer_with answered.now beside) p) }
+        → Keeps pool.new wait (stock_when k (answer_with answered.now beside) p.halt p.state.out) }
     ensures stock { (wait : ℕ) (k : Stock) (beside : BesideType) → Keeps pool.old wait k
         → Keeps pool.new wait (stock_when k (answer_with answered.now beside) (A.halted array.now)
         (A.shown array.now).meta.out) }

@@ -3,6 +3,8 @@ ghost use Rattle.std.specs.Prelude.{◌≡◌, ◌≤◌, ◌++◌, ℕ, None, I
 ghost use Rattle.paraid_base.specs.Told.{GrowsByBytes, HasRisen};
 ghost use Rattle.paraid_serve.specs.Calls.{Grows};
 ghost use Rattle.paraid_serve.specs.Session.{IsStopByWear, IsStopOfFailed};
+ghost use Rattle.paraid_serve.specs.Streams.{sink_use, source_use, streams_of};
+ghost use Rattle.paraid_serve.specs.Stretch.{span_of};
 ghost use Rattle.paraid_spare.specs.Pools.{left_of, wait_of};
 ghost use Rattle.paraid_sparing.specs.Serving.{Keeps};
 ghost use Rattle.paraid_sparing.specs.Session.{ServesSpared, fresh_stock};
@@ -44,10 +46,11 @@ pub fn session<S: Source, K: Sink, A: Serves>(
 ) -> Result<u64, Stop>
     requires going { A.halted array.old ≡ None }
     requires fresh { Keeps pool.old (wait_of pool.old) (fresh_stock (left_of pool.old)) }
-    ensures session { ServesSpared (A.shown array.old) (A.shown array.new) (A.slots array.old) (A.setup array.old) (wait_of pool.old)
-        (fresh_stock (left_of pool.old)) (A.stands array.old) (A.told array.old) (A.told array.new)
-        (S.left source.old) (S.left source.new) (K.written sink.old) (K.written sink.new) pool.new
-        result }
+    ensures session { ServesSpared (A.shown array.old) (A.shown array.new)
+        (span_of (A.slots array.old) (A.setup array.old) (A.told array.old) (A.told array.new))
+        (wait_of pool.old) (fresh_stock (left_of pool.old)) (A.stands array.old)
+        (streams_of (source_use S.left S.faults source.old source.new)
+        (sink_use K.written K.faults sink.old sink.new)) pool.new result }
     ensures told { Grows (A.told array.old) (A.told array.new) }
     ensures slots { A.slots array.new ≡ A.slots array.old }
     ensures setup { A.setup array.new ≡ A.setup array.old }

@@ -5,6 +5,8 @@ ghost use Rattle.paraid_serve.specs.Calls.{Grows, IsNotDouble};
 ghost use Rattle.paraid_serve.specs.Ending.{EndsWithLine};
 ghost use Rattle.paraid_serve.specs.Lost.{NamesTwoLost, TellsWear};
 ghost use Rattle.paraid_serve.specs.Output.{IsServedStatus};
+ghost use Rattle.paraid_serve.specs.Streams.{sink_use, source_use, streams_of};
+ghost use Rattle.paraid_serve.specs.Stretch.{span_of};
 ghost use Rattle.paraid_session.specs.Mount.{IsMountedFromEach};
 ghost use Rattle.paraid_spare.specs.Pools.{left_of, spins_of};
 ghost use Rattle.paraid_sparing.specs.Output.{SparedHeadline, SparedRun};
@@ -46,9 +48,11 @@ pub fn serve<S: Source, K: Sink, A: Serves>(
     wait: u32,
 ) -> u8
     requires going { A.halted array.old ≡ None }
-    ensures run { SparedRun (A.shown array.old) (A.shown array.new) (A.slots array.old) (A.setup array.old) wait (fresh_stock stock)
-        (A.stands array.old) (A.told array.old) (A.told array.new) (S.left source.old)
-        (S.left source.new) (K.written sink.old) (K.written sink.new) result }
+    ensures run { SparedRun (A.shown array.old) (A.shown array.new)
+        (span_of (A.slots array.old) (A.setup array.old) (A.told array.old) (A.told array.new))
+        (record { wait = wait; stock = fresh_stock stock }) (A.stands array.old)
+        (streams_of (source_use S.left S.faults source.old source.new)
+        (sink_use K.written K.faults sink.old sink.new)) result }
     ensures told { Grows (A.told array.old) (A.told array.new) }
     ensures slots { A.slots array.new ≡ A.slots array.old }
     ensures status { IsServedStatus result }
@@ -93,9 +97,11 @@ pub fn serve_mounted<S: Source, K: Sink, A: Serves>(
     requires going { A.halted array.old ≡ None }
     ensures headline { (began : ℕ) → IsMountedFromEach (A.slots array.old) (A.setup array.old) began
         (A.told array.old) (A.stands array.old)
-        → SparedHeadline (A.shown array.old) (A.shown array.new) (A.slots array.old) (A.setup array.old) wait (fresh_stock stock) began
-        (A.told array.old) (A.told array.new) (S.left source.old) (S.left source.new)
-        (K.written sink.old) (K.written sink.new) result }
+        → SparedHeadline (A.shown array.old) (A.shown array.new)
+        (span_of (A.slots array.old) (A.setup array.old) (A.told array.old) (A.told array.new))
+        (record { wait = wait; stock = fresh_stock stock }) began
+        (streams_of (source_use S.left S.faults source.old source.new)
+        (sink_use K.written K.faults sink.old sink.new)) result }
     ensures told { Grows (A.told array.old) (A.told array.new) }
     ensures slots { A.slots array.new ≡ A.slots array.old }
     ensures status { IsServedStatus result }

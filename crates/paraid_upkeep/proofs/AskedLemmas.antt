@@ -8,6 +8,7 @@ use Rattle.paraid_base.specs.declared.fault.Halt.TheVariants.{Two as HaltTwo}
 use Rattle.paraid_base.specs.declared.fault.Two.{Two}
 use Rattle.paraid_base.specs.declared.state.Out.TheVariants.{Gone, No}
 use Rattle.paraid_base.specs.declared.state.Phase.TheVariants.{Down, Steady, Up}
+use Rattle.paraid_base.specs.declared.geometry.Geometry.{Geometry}
 use Rattle.paraid_base.specs.Gears.{next_higher, next_lower}
 use Rattle.paraid_base.specs.History.{History}
 use Rattle.paraid_base.specs.Log.{worn_at}
@@ -39,9 +40,13 @@ use Rattle.paraid_event.proofs.StepMarkLemmas.{cells_steps}
 use Rattle.paraid_shift.specs.Steps.{CoreLosesInSteps, CoreStepsInEvent}
 use Rattle.paraid_shift.specs.Serving.{HasBegunUp}
 use Rattle.paraid_shift.proofs.StepsLemmas.{core_steps_then}
-use Rattle.paraid_upkeep.specs.Refusals.{IsDownRefused, IsShiftStateOf, IsUpRefused, MayGoDown, MayGoUp, fault_answer}
+use Rattle.paraid_upkeep.specs.Directions.{HasBegun, HasMarkedShift, IsNextTo, IsRefusedTo, MayGo, asked_event}
+use Rattle.paraid_upkeep.specs.Refusals.{IsShiftStateOf, MayGoDown, MayGoUp, fault_answer}
 use Rattle.paraid_upkeep.specs.Service.{IsOutKnown}
 use Rattle.paraid_upkeep.specs.Turns.{CoreGoesOn, CoreHalts}
+use Rattle.paraid_upkeep.specs.declared.asked.Asked.TheVariants.{Begun, Refused}
+use Rattle.paraid_upkeep.specs.declared.asked.Direction.{Direction}
+use Rattle.paraid_upkeep.specs.declared.asked.Direction.TheVariants.{Down as Downward, Up as Upward}
 use Rattle.paraid_upkeep.specs.declared.fault.ShiftFault.{ShiftFault}
 use Rattle.paraid_upkeep.specs.declared.fault.ShiftFault.TheVariants.{Lowest, Out, Ration, Shifting, Top}
 use Rattle.paraid_upkeep.proofs.OutLemmas.{known_gone, known_whole}
@@ -65,34 +70,56 @@ no_spin_ups mj to gear l = let e : to - gear ≡ 0 = omega (arith, l) in rw e (z
     zero_times : (a : ℕ) → a * 0 ≡ 0
     zero_times a = grind (arith)
 
+-- the next gear by the direction of a shift
+abbrev next_gear : Direction → Geometry → ℕ → Option ℕ
+next_gear Upward = next_higher
+next_gear Downward = next_lower
+
+-- one that may begin goes there
+next_is : (direction : Direction) (setup : Setup) (s : PowerState) (to : ℕ) → MayGo direction setup s to → next_gear direction setup.geometry s.gear ≡ Some to
+next_is Upward setup s to may = may.next
+next_is Downward setup s to may = may.next
+
+-- one that may begin is not refused
+pub may_not : (direction : Direction) (setup : Setup) (s : PowerState) (to : ℕ) (fault : ShiftFault) → MayGo direction setup s to → IsRefusedTo direction setup s fault → ⊥
+may_not Upward setup s to fault may why = up_may_not setup s to fault may why
+may_not Downward setup s to fault may why = down_may_not setup s to fault may why
+
+-- it has one refusal
+pub refused_same : (direction : Direction) (setup : Setup) (s : PowerState) (a b : ShiftFault) → IsRefusedTo direction setup s a → IsRefusedTo direction setup s b → a ≡ b
+refused_same Upward setup s a b first second = up_refused_same setup s a b first second
+refused_same Downward setup s a b first second = down_refused_same setup s a b first second
+
+-- a disk that is out refuses it
+out_refuses : (direction : Direction) (setup : Setup) (s : PowerState) (to d : ℕ) → next_gear direction setup.geometry s.gear ≡ Some to → s.phase ≡ Steady → named_out s.out ≡ Some d → IsRefusedTo direction setup s (Out d)
+out_refuses Upward setup s to d next steady out = (to, next, (steady, out))
+out_refuses Downward setup s to d next steady out = (to, next, (steady, out))
+
+-- the marks of a disk that was lost, where none has begun
+pub marked_lost : (direction : Direction) (m m_then : Meta) (fault : ShiftFault) (epoch : ℕ) → IsMarkedFrom (record m { epoch = epoch }) m_then → HasMarkedShift direction m m_then (Refused fault)
+marked_lost Upward m m_then fault epoch marked = (epoch, marked)
+marked_lost Downward m m_then fault epoch marked = (epoch, marked)
+
 -- A refused shift makes no call.
 module _ (told : Option Trail) (k : Service) (setup : Setup) (p : Point) (at : StandsAt told k setup p) (fit : point_wear p < worn_at) where
-  down_refused : (fault : ShiftFault) → IsDownRefused setup p.state fault → Ran told told (GoesOn k.slots setup p AskDown (fault_answer fault) (StandsAt told k setup))
-  down_refused Top why = absurd why
-  down_refused Lowest why = down_lowest told k setup p at fit why
-  down_refused (Shifting to) why = subst (λ (x : ℕ). Ran told told (GoesOn k.slots setup p AskDown (IsShifting x) (StandsAt told k setup))) (sym why.2.1) (down_shifting told k setup p at fit why.0 why.1 why.2.0)
-  down_refused (Out d) why = down_out told k setup p at fit why.0 d why.1 why.2.0 why.2.1
-  down_refused (Ration d) why = down_ration told k setup p at fit why.0 d why.1 why.2.steady why.2.whole why.3
+  refused : (direction : Direction) (fault : ShiftFault) → IsRefusedTo direction setup p.state fault → Ran told told (GoesOn k.slots setup p (asked_event direction) (fault_answer fault) (StandsAt told k setup))
+  refused Upward Top why = up_top told k setup p at fit why
+  refused Upward Lowest why = absurd why
+  refused Upward (Shifting to) why = subst (λ (x : ℕ). Ran told told (GoesOn k.slots setup p AskUp (IsShifting x) (StandsAt told k setup))) (sym why.2.1) (up_shifting told k setup p at fit why.0 why.1 why.2.0)
+  refused Upward (Out d) why = up_out told k setup p at fit why.0 d why.1 why.2.0 why.2.1
+  refused Upward (Ration d) why = absurd why
+  refused Downward Top why = absurd why
+  refused Downward Lowest why = down_lowest told k setup p at fit why
+  refused Downward (Shifting to) why = subst (λ (x : ℕ). Ran told told (GoesOn k.slots setup p AskDown (IsShifting x) (StandsAt told k setup))) (sym why.2.1) (down_shifting told k setup p at fit why.0 why.1 why.2.0)
+  refused Downward (Out d) why = down_out told k setup p at fit why.0 d why.1 why.2.0 why.2.1
+  refused Downward (Ration d) why = down_ration told k setup p at fit why.0 d why.1 why.2.steady why.2.whole why.3
 
-  up_refused : (fault : ShiftFault) → IsUpRefused setup p.state fault → Ran told told (GoesOn k.slots setup p AskUp (fault_answer fault) (StandsAt told k setup))
-  up_refused Top why = up_top told k setup p at fit why
-  up_refused Lowest why = absurd why
-  up_refused (Shifting to) why = subst (λ (x : ℕ). Ran told told (GoesOn k.slots setup p AskUp (IsShifting x) (StandsAt told k setup))) (sym why.2.1) (up_shifting told k setup p at fit why.0 why.1 why.2.0)
-  up_refused (Out d) why = up_out told k setup p at fit why.0 d why.1 why.2.0 why.2.1
-  up_refused (Ration d) why = absurd why
-
-module _ {R : Type 0} {g : _} (count : R → ℕ) (told : R → Option Trail) (a : Core R g) (fault : ShiftFault) where
-  pub down_stays : ((s : PowerState) → IsShiftStateOf a.meta s → IsDownRefused a.meta.setup s fault) → CoreGoesOn count told a a AskDown (fault_answer fault)
-  down_stays why = goes_same count told a a AskDown (fault_answer fault) (no_energy fault)
-      (λ setup p samples served energy at fit.
-      let k = service_of count a samples served energy in
-      down_refused (told (core_rack a)) k setup p at fit fault (subst (λ (z : Setup). IsDownRefused z p.state fault) at.same_setup (why p.state (shift_state k p.state at.state))))
-
-  pub up_stays : ((s : PowerState) → IsShiftStateOf a.meta s → IsUpRefused a.meta.setup s fault) → CoreGoesOn count told a a AskUp (fault_answer fault)
-  up_stays why = goes_same count told a a AskUp (fault_answer fault) (no_energy fault)
-      (λ setup p samples served energy at fit.
-      let k = service_of count a samples served energy in
-      up_refused (told (core_rack a)) k setup p at fit fault (subst (λ (z : Setup). IsUpRefused z p.state fault) at.same_setup (why p.state (shift_state k p.state at.state))))
+pub asked_stays : {R : Type 0} {g : _} (count : R → ℕ) (told : R → Option Trail) (a : Core R g) (direction : Direction) (fault : ShiftFault) → ((s : PowerState) → IsShiftStateOf a.meta s → IsRefusedTo direction a.meta.setup s fault)
+    → CoreGoesOn count told a a (asked_event direction) (fault_answer fault)
+asked_stays count told a direction fault why = goes_same count told a a (asked_event direction) (fault_answer fault) (no_energy fault)
+    (λ setup p samples served energy at fit.
+    let k = service_of count a samples served energy in
+    refused (told (core_rack a)) k setup p at fit direction fault (subst (λ (z : Setup). IsRefusedTo direction z p.state fault) at.same_setup (why p.state (shift_state k p.state at.state))))
 
 -- a meta with the counts that it has
 with_counts : (m n : Meta) (e : ℕ) → n ≡ record m { epoch = e } → n ≡ record m { epoch = n.epoch; writes = n.writes }
@@ -158,25 +185,16 @@ module _ (m n : Meta) (e : ℕ) (marked : IsMarkedFrom (record m { epoch = e }) 
     out_now d some = ap (λ (z : Meta). named_out z.out) (by_mark (Some d) some)
 
     -- A disk that was lost with what was staged is why a shift does not begin that could.
-    pub down_lost : (to : ℕ) (fault : ShiftFault) → ((s : PowerState) → IsShiftStateOf m s → MayGoDown m.setup s to) → ((s : PowerState) → IsShiftStateOf n s → IsDownRefused n.setup s fault)
+    pub asked_lost : (direction : Direction) (to : ℕ) (fault : ShiftFault) → ((s : PowerState) → IsShiftStateOf m s → MayGo direction m.setup s to) → ((s : PowerState) → IsShiftStateOf n s → IsRefusedTo direction n.setup s fault)
         → (d : ℕ) × (fault ≡ Out d) × (named_out n.out ≡ Some d)
-    down_lost to fault may why = by marked.lost refl
+    asked_lost direction to fault may why = by marked.lost refl
       where
         by : (o : Option ℕ) → marked.lost ≡ o → (d : ℕ) × (fault ≡ Out d) × (named_out n.out ≡ Some d)
-        by None none = absurd (down_may_not m.setup seen to fault (may seen (none_lost none)) (subst (λ (z : Setup). IsDownRefused z seen fault) (same_setup None none) (why seen of_seen)))
+        by None none = absurd (may_not direction m.setup seen to fault (may seen (none_lost none)) (subst (λ (z : Setup). IsRefusedTo direction z seen fault) (same_setup None none) (why seen of_seen)))
         by (Some d) some =
-            let next : next_lower n.setup.geometry n.gear ≡ Some to = subst (λ (z : Setup). next_lower z.geometry n.gear ≡ Some to) (sym (same_setup (Some d) some)) (may before (one_lost d some)).next in
-            (d, down_refused_same n.setup seen fault (Out d) (why seen of_seen) (to, next, (still_steady d some, out_now d some)), out_now d some)
-
-    pub up_lost : (to : ℕ) (fault : ShiftFault) → ((s : PowerState) → IsShiftStateOf m s → MayGoUp m.setup s to) → ((s : PowerState) → IsShiftStateOf n s → IsUpRefused n.setup s fault)
-        → (d : ℕ) × (fault ≡ Out d) × (named_out n.out ≡ Some d)
-    up_lost to fault may why = by marked.lost refl
-      where
-        by : (o : Option ℕ) → marked.lost ≡ o → (d : ℕ) × (fault ≡ Out d) × (named_out n.out ≡ Some d)
-        by None none = absurd (up_may_not m.setup seen to fault (may seen (none_lost none)) (subst (λ (z : Setup). IsUpRefused z seen fault) (same_setup None none) (why seen of_seen)))
-        by (Some d) some =
-            let next : next_higher n.setup.geometry n.gear ≡ Some to = subst (λ (z : Setup). next_higher z.geometry n.gear ≡ Some to) (sym (same_setup (Some d) some)) (may before (one_lost d some)).next in
-            (d, up_refused_same n.setup seen fault (Out d) (why seen of_seen) (to, next, (still_steady d some, out_now d some)), out_now d some)
+            let next : next_gear direction n.setup.geometry n.gear ≡ Some to =
+            subst (λ (z : Setup). next_gear direction z.geometry n.gear ≡ Some to) (sym (same_setup (Some d) some)) (next_is direction m.setup before to (may before (one_lost d some))) in
+            (d, refused_same direction n.setup seen fault (Out d) (why seen of_seen) (out_refuses direction n.setup seen to d next (still_steady d some) (out_now d some)), out_now d some)
 
     -- One that begins goes to the gear that it could.
     module _ (still : n.out ≡ No) (s : PowerState) (of : IsShiftStateOf m s) where
@@ -192,15 +210,23 @@ module _ (m n : Meta) (e : ℕ) (marked : IsMarkedFrom (record m { epoch = e }) 
       some_of : (x y : ℕ) (o : Option ℕ) → o ≡ Some x → o ≡ Some y → x ≡ y
       some_of x y o is was = let z : Some x ≡ Some y = sym is ∙ was in cc
 
-      pub down_same : (to gear : ℕ) → MayGoDown m.setup s to → ((u : PowerState) → IsShiftStateOf n u → MayGoDown n.setup u gear) → gear ≡ to
-      down_same to gear could may =
-          some_of gear to (next_lower m.setup.geometry s.gear)
-          (subst (λ (z : Setup). next_lower z.geometry s.gear ≡ Some gear) (same_setup marked.lost refl) (may s seen_still).next) could.next
+      pub asked_same : (direction : Direction) (to gear : ℕ) → MayGo direction m.setup s to → ((u : PowerState) → IsShiftStateOf n u → MayGo direction n.setup u gear) → gear ≡ to
+      asked_same direction to gear could may =
+          some_of gear to (next_gear direction m.setup.geometry s.gear)
+          (subst (λ (z : Setup). next_gear direction z.geometry s.gear ≡ Some gear) (same_setup marked.lost refl) (next_is direction n.setup s gear (may s seen_still))) (next_is direction m.setup s to could)
 
-      pub up_same : (to gear : ℕ) → MayGoUp m.setup s to → ((u : PowerState) → IsShiftStateOf n u → MayGoUp n.setup u gear) → gear ≡ to
-      up_same to gear could may =
-          some_of gear to (next_higher m.setup.geometry s.gear)
-          (subst (λ (z : Setup). next_higher z.geometry s.gear ≡ Some gear) (same_setup marked.lost refl) (may s seen_still).next) could.next
+  -- the marks of a begin after it, where none was lost
+  pub asked_marked : (direction : Direction) → m.out ≡ No → n.out ≡ No → (m_then : Meta) (to : ℕ) → HasBegun direction n m_then to → HasMarkedShift direction m m_then (Begun to)
+  asked_marked Upward whole still m_then to begun = (e, subst (λ (z : Meta). HasBegun Upward z m_then to) (unmarked whole still) begun)
+  asked_marked Downward whole still m_then to begun = (e + 1, subst (λ (z : Meta). HasBegun Downward z m_then to) (unmarked whole still) begun)
+
+-- marks leave the epoch
+marked_epoch : (m n : Meta) → IsMarkedFrom m n → n.epoch ≡ m.epoch
+marked_epoch m n marked = by marked.lost refl
+  where
+    by : (o : Option ℕ) → marked.lost ≡ o → n.epoch ≡ m.epoch
+    by None is = ap (λ (z : Meta). z.epoch) (marked.is ∙ ap (λ (o : Option ℕ). meta_with_lost o m) is)
+    by (Some d) is = ap (λ (z : Meta). z.epoch) (marked.is ∙ ap (λ (o : Option ℕ). meta_with_lost o m) is)
 
 -- after marks of a meta by which no disk is out
 pub known_marked : {R : Type 0} {g : _} (slot : R → ℕ → Slot) (b : Core R g) (m : Meta) → m.out ≡ No → IsMarkedFrom m b.meta → IsNamedOrAbsent slot b → IsOutKnown slot b
@@ -271,19 +297,18 @@ core_loses_then count told a b c most more two first second h lo samples served 
 module _ {R : Type 0} {g : _} (count : R → ℕ) (told : R → Option Trail) (a : Core R g) (steady : a.meta.phase ≡ Steady) (whole : a.meta.out ≡ No) where
   -- it ends with a second loss
   module _ (b : Core R g) (to : ℕ) (two : Two) (most : ℕ) (few : most ≤ 2 ^ 20) (loses : CoreLosesInSteps count told a b most two) where
-    pub down_halts : ((s : PowerState) → IsShiftStateOf a.meta s → MayGoDown a.meta.setup s to) → CoreHalts count told a b AskDown two
-    down_halts could setup p samples served energy at fit =
-        let k = service_of count a samples served energy in
-        let may = subst (λ (z : Setup). MayGoDown z p.state to) at.same_setup (could p.state (shift_state k p.state at.state)) in
-        subst (λ (x : ℕ). Ran (told (core_rack a)) (told (core_rack b)) (GoesOn k.slots setup p AskDown (Halted (HaltTwo two)) (IsHaltedWith p (HaltTwo two) x))) (sym at.energy)
-        (down_asked_lost (told (core_rack a)) k setup p at fit (at.state.phase ∙ steady) (at.state.out ∙ whole) to may.next may.unworn two most few (told (core_rack b)) (loses p.history p.low samples served energy))
+    halted : (direction : Direction) (setup : Setup) (p : Point) (samples : List ℕ) (served energy : ℕ) → StandsAt (told (core_rack a)) (service_of count a samples served energy) setup p → point_wear p < worn_at → MayGo direction setup p.state to
+        → Ran (told (core_rack a)) (told (core_rack b)) (GoesOn (count (core_rack a)) setup p (asked_event direction) (Halted (HaltTwo two)) (IsHaltedWith p (HaltTwo two) energy))
+    halted Upward setup p samples served energy at fit may =
+        up_asked_lost (told (core_rack a)) (service_of count a samples served energy) setup p at fit (at.state.phase ∙ steady) (at.state.out ∙ whole) to may.next two energy (inl refl) most few (told (core_rack b)) (loses p.history p.low samples served energy)
+    halted Downward setup p samples served energy at fit may =
+        down_asked_lost (told (core_rack a)) (service_of count a samples served energy) setup p at fit (at.state.phase ∙ steady) (at.state.out ∙ whole) to may.next may.unworn two most few (told (core_rack b)) (loses p.history p.low samples served energy)
 
-    pub up_halts : ((s : PowerState) → IsShiftStateOf a.meta s → MayGoUp a.meta.setup s to) → CoreHalts count told a b AskUp two
-    up_halts could setup p samples served energy at fit =
+    pub asked_halts : (direction : Direction) → ((s : PowerState) → IsShiftStateOf a.meta s → MayGo direction a.meta.setup s to) → CoreHalts count told a b (asked_event direction) two
+    asked_halts direction could setup p samples served energy at fit =
         let k = service_of count a samples served energy in
-        let may = subst (λ (z : Setup). MayGoUp z p.state to) at.same_setup (could p.state (shift_state k p.state at.state)) in
-        subst (λ (x : ℕ). Ran (told (core_rack a)) (told (core_rack b)) (GoesOn k.slots setup p AskUp (Halted (HaltTwo two)) (IsHaltedWith p (HaltTwo two) x))) (sym at.energy)
-        (up_asked_lost (told (core_rack a)) k setup p at fit (at.state.phase ∙ steady) (at.state.out ∙ whole) to may.next two energy (inl refl) most few (told (core_rack b)) (loses p.history p.low samples served energy))
+        let may = subst (λ (z : Setup). MayGo direction z p.state to) at.same_setup (could p.state (shift_state k p.state at.state)) in
+        subst (λ (x : ℕ). Ran (told (core_rack a)) (told (core_rack b)) (GoesOn k.slots setup p (asked_event direction) (Halted (HaltTwo two)) (IsHaltedWith p (HaltTwo two) x))) (sym at.energy) (halted direction setup p samples served energy at fit may)
 
   -- what is staged is committed
   module _ (m : Core R g) (e : ℕ) (marked : IsMarkedFrom (record a.meta { epoch = e }) m.meta) (table : m.dirty ≡ a.dirty) (staged : CoreStepsInEvent count told a m 1) where
@@ -293,27 +318,25 @@ module _ {R : Type 0} {g : _} (count : R → ℕ) (told : R → Option Trail) (a
 
     -- a disk is lost in that, and refuses the shift
     module _ (to : ℕ) (fault : ShiftFault) (copies : AreCopiesSynced m.meta.setup.geometry.disks m.copied) where
-      pub down_stopped : ((s : PowerState) → IsShiftStateOf a.meta s → MayGoDown a.meta.setup s to) → ((s : PowerState) → IsShiftStateOf m.meta s → IsDownRefused m.meta.setup s fault) → CoreGoesOn count told a m AskDown (fault_answer fault)
-      down_stopped could why =
-          let lost = down_lost a.meta m.meta e marked steady whole to fault could why in
-          subst (λ (x : ShiftFault). CoreGoesOn count told a m AskDown (fault_answer x)) (sym lost.1)
-          (goes_same count told a m AskDown (IsOut lost.0) (λ setup s. refl)
-          (λ setup p samples served energy at fit.
-          let k = service_of count a samples served energy in
-          let may = subst (λ (z : Setup). MayGoDown z p.state to) at.same_setup (could p.state (shift_state k p.state at.state)) in
-          down_hindered (told (core_rack a)) k setup p at fit (at.state.phase ∙ steady) (at.state.out ∙ whole) to may.next may.unworn lost.0 (service_of count m samples served energy) copies (staged_state setup p samples served energy at) lost.2 refl 1
-          (omega arith) (told (core_rack m)) (staged p.history p.low samples served energy)))
+      hindered : (direction : Direction) (setup : Setup) (p : Point) (samples : List ℕ) (served energy d : ℕ) → StandsAt (told (core_rack a)) (service_of count a samples served energy) setup p → point_wear p < worn_at → MayGo direction setup p.state to → named_out m.meta.out ≡ Some d
+          → Ran (told (core_rack a)) (told (core_rack m)) (GoesOn (count (core_rack a)) setup p (asked_event direction) (IsOut d) (StandsAt (told (core_rack m)) (service_of count m samples served energy) setup))
+      hindered Upward setup p samples served energy d at fit may lost =
+          up_hindered (told (core_rack a)) (service_of count a samples served energy) setup p at fit (at.state.phase ∙ steady) (at.state.out ∙ whole) to may.next d (service_of count m samples served energy) copies (staged_state setup p samples served energy at) lost refl 1
+          (omega arith) (told (core_rack m)) (staged p.history p.low samples served energy)
+      hindered Downward setup p samples served energy d at fit may lost =
+          down_hindered (told (core_rack a)) (service_of count a samples served energy) setup p at fit (at.state.phase ∙ steady) (at.state.out ∙ whole) to may.next may.unworn d (service_of count m samples served energy) copies (staged_state setup p samples served energy at) lost refl 1
+          (omega arith) (told (core_rack m)) (staged p.history p.low samples served energy)
 
-      pub up_stopped : ((s : PowerState) → IsShiftStateOf a.meta s → MayGoUp a.meta.setup s to) → ((s : PowerState) → IsShiftStateOf m.meta s → IsUpRefused m.meta.setup s fault) → CoreGoesOn count told a m AskUp (fault_answer fault)
-      up_stopped could why =
-          let lost = up_lost a.meta m.meta e marked steady whole to fault could why in
-          subst (λ (x : ShiftFault). CoreGoesOn count told a m AskUp (fault_answer x)) (sym lost.1)
-          (goes_same count told a m AskUp (IsOut lost.0) (λ setup s. refl)
+      pub asked_stopped : (direction : Direction) → ((s : PowerState) → IsShiftStateOf a.meta s → MayGo direction a.meta.setup s to) → ((s : PowerState) → IsShiftStateOf m.meta s → IsRefusedTo direction m.meta.setup s fault)
+          → CoreGoesOn count told a m (asked_event direction) (fault_answer fault)
+      asked_stopped direction could why =
+          let lost = asked_lost a.meta m.meta e marked steady whole direction to fault could why in
+          subst (λ (x : ShiftFault). CoreGoesOn count told a m (asked_event direction) (fault_answer x)) (sym lost.1)
+          (goes_same count told a m (asked_event direction) (IsOut lost.0) (λ setup s. refl)
           (λ setup p samples served energy at fit.
           let k = service_of count a samples served energy in
-          let may = subst (λ (z : Setup). MayGoUp z p.state to) at.same_setup (could p.state (shift_state k p.state at.state)) in
-          up_hindered (told (core_rack a)) k setup p at fit (at.state.phase ∙ steady) (at.state.out ∙ whole) to may.next lost.0 (service_of count m samples served energy) copies (staged_state setup p samples served energy at) lost.2 refl 1
-          (omega arith) (told (core_rack m)) (staged p.history p.low samples served energy)))
+          let may = subst (λ (z : Setup). MayGo direction z p.state to) at.same_setup (could p.state (shift_state k p.state at.state)) in
+          hindered direction setup p samples served energy lost.0 at fit may lost.2))
 
     -- or none, and it begins
     module _ (slot : R → ℕ → Slot) (b : Core R g) (to : ℕ) (still : m.meta.out ≡ No) (begins : CoreStepsInEvent count told m b 1) (table_then : b.dirty ≡ m.dirty) (copies : AreCopiesSynced b.meta.setup.geometry.disks b.copied) where
@@ -326,7 +349,7 @@ module _ {R : Type 0} {g : _} (count : R → ℕ) (told : R → Option Trail) (a
       steps : CoreStepsInEvent count told a b (1 + 1)
       steps = core_steps_then count slot told a m b 1 1 staged begins
 
-      pub down_begun : ((s : PowerState) → IsShiftStateOf m.meta s → MayGoDown m.meta.setup s to) → to < m.meta.gear → IsMarkedFrom (record (meta_after_begin m.meta (Down to) m.meta.spins) { epoch = m.meta.epoch + 1 }) b.meta
+      down_begun : ((s : PowerState) → IsShiftStateOf m.meta s → MayGoDown m.meta.setup s to) → to < m.meta.gear → IsMarkedFrom (record (meta_after_begin m.meta (Down to) m.meta.spins) { epoch = m.meta.epoch + 1 }) b.meta
           → CoreGoesOn count told a b AskDown (Shift a.meta.gear to)
       down_begun could lower begun = goes_same count told a b AskDown (Shift a.meta.gear to) (λ setup s. no_spin_ups setup.spinup_mj to a.meta.gear (subst (λ (x : ℕ). to < x) gear_is lower))
           (λ setup p samples served energy at fit.
@@ -352,7 +375,7 @@ module _ {R : Type 0} {g : _} (count : R → ℕ) (told : R → Option Trail) (a
         spins_are : begun.spins ≡ with_spin_ups m.meta.gear to m.meta.spins
         spins_are = raised_spins m.meta.gear to begun.spins m.meta.spins (ap (λ (z : List ℕ). length z) (sym spins_now) ∙ eight_then ∙ sym eight) begun.raised begun.others
 
-        pub up_begun : ((s : PowerState) → IsShiftStateOf m.meta s → MayGoUp m.meta.setup s to) → CoreGoesOn count told a b AskUp (Shift a.meta.gear to)
+        up_begun : ((s : PowerState) → IsShiftStateOf m.meta s → MayGoUp m.meta.setup s to) → CoreGoesOn count told a b AskUp (Shift a.meta.gear to)
         up_begun could setup p samples served energy at fit =
             let k = service_of count a samples served energy in
             let j = service_of count m samples served energy in
@@ -364,3 +387,21 @@ module _ {R : Type 0} {g : _} (count : R → ℕ) (told : R → Option Trail) (a
             subst (λ (x : ℕ). Ran (told (core_rack a)) (told (core_rack b)) (GoesOn k.slots setup p AskUp (Shift x to) (StandsAt (told (core_rack b)) k_then setup))) at.state.gear
             (up_asked (told (core_rack a)) k setup p at fit (at.state.phase ∙ steady) (at.state.out ∙ whole) to may.next k_then copies goes (ap (λ (x : ℕ). min (energy + spin_up_energy setup x to) 18446744073709551615) (sym at.state.gear)) (1 + 1)
             (omega arith) (told (core_rack b)) (recounted (told (core_rack a)) (told (core_rack b)) k (service_of count b samples served energy) used p.history p.low (1 + 1) (steps p.history p.low samples served energy)))
+
+      pub asked_begun : (direction : Direction) → ((s : PowerState) → IsShiftStateOf m.meta s → MayGo direction m.meta.setup s to) → IsNextTo direction m.meta to → HasBegun direction m.meta b.meta to → length m.meta.spins ≡ 8 → length b.meta.spins ≡ 8
+          → CoreGoesOn count told a b (asked_event direction) (Shift a.meta.gear to)
+      asked_begun Upward could next begun eight eight_then = up_begun begun eight eight_then could
+      asked_begun Downward could next begun eight eight_then = down_begun could next.0.below begun
+
+-- It has one commit, and leaves the disk that is out known.
+module _ {R : Type 0} {g : _} (slot : R → ℕ → Slot) (m : Meta) (b : Core R g) (to : ℕ) where
+  -- the marks of its begin
+  begun_marks : (direction : Direction) → HasBegun direction m b.meta to → (n : Meta) × (n.out ≡ m.out) × (n.epoch ≡ m.epoch + 1) × IsMarkedFrom n b.meta
+  begun_marks Upward begun = (record (meta_after_begin m (Up to) begun.spins) { epoch = m.epoch + 1 }, refl, refl, begun.is)
+  begun_marks Downward begun = (record (meta_after_begin m (Down to) m.spins) { epoch = m.epoch + 1 }, refl, refl, begun)
+
+  pub begun_known : (direction : Direction) → HasBegun direction m b.meta to → m.out ≡ No → IsNamedOrAbsent slot b → IsOutKnown slot b
+  begun_known direction begun whole absent = let marks = begun_marks direction begun in known_marked slot b marks.0 (marks.1 ∙ whole) marks.3 absent
+
+  pub begun_epoch : (direction : Direction) → HasBegun direction m b.meta to → b.meta.epoch ≡ m.epoch + 1
+  begun_epoch direction begun = let marks = begun_marks direction begun in marked_epoch marks.0 b.meta marks.3 ∙ marks.2

@@ -1,5 +1,6 @@
 pub mod ResultLemmas
 pub mod ServiceLemmas
+pub mod CommitLemmas
 pub mod OutLemmas
 pub mod RefusalLemmas
 pub mod DecisionLemmas
@@ -9,3 +10,4 @@ pub mod AskedLemmas
 pub mod TickTurnLemmas
 pub mod RebuildTurnLemmas
 pub mod ToldLemmas
+pub mod MoveLemmas

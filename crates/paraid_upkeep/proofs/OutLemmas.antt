@@ -113,30 +113,6 @@ gone_marked m n disk gone marked = by marked.lost refl
     by (Some d) e =
         ap (λ (z : Meta). z.out) (marked.is ∙ ap (λ (o : Option ℕ). meta_with_lost o m) e) ∙ ap Gone (sym (marked.alone d disk e (ap named_out gone)))
 
--- and where no shift is under way there is none
-pub steady_marked : (m n : Meta) → m.phase ≡ Steady → IsMarkedFrom m n → n.phase ≡ Steady
-steady_marked m n steady marked = by marked.lost refl
-  where
-    by : (o : Option ℕ) → marked.lost ≡ o → n.phase ≡ Steady
-    by None e = ap (λ (z : Meta). z.phase) (marked.is ∙ ap (λ (o : Option ℕ). meta_with_lost o m) e) ∙ steady
-    by (Some d) e = ap (λ (z : Meta). z.phase) (marked.is ∙ ap (λ (o : Option ℕ). meta_with_lost o m) e) ∙ ap (phase_beside true) steady
-
--- nor does it change the gear
-pub gear_marked : (m n : Meta) → IsMarkedFrom m n → n.gear ≡ m.gear
-gear_marked m n marked = by marked.lost refl
-  where
-    by : (o : Option ℕ) → marked.lost ≡ o → n.gear ≡ m.gear
-    by None e = ap (λ (z : Meta). z.gear) (marked.is ∙ ap (λ (o : Option ℕ). meta_with_lost o m) e)
-    by (Some d) e = ap (λ (z : Meta). z.gear) (marked.is ∙ ap (λ (o : Option ℕ). meta_with_lost o m) e)
-
--- and what is not filled stays so
-pub fill_marked : (m n : Meta) → m.fill ≡ 0 → IsMarkedFrom m n → n.fill ≡ 0
-fill_marked m n none marked = by marked.lost refl
-  where
-    by : (o : Option ℕ) → marked.lost ≡ o → n.fill ≡ 0
-    by None e = ap (λ (z : Meta). z.fill) (marked.is ∙ ap (λ (o : Option ℕ). meta_with_lost o m) e) ∙ none
-    by (Some d) e = ap (λ (z : Meta). z.fill) (marked.is ∙ ap (λ (o : Option ℕ). meta_with_lost o m) e)
-
 -- the first of two disks may be the one that was taken out
 pub two_taken : {R : Type 0} {g : _} (slot : R → ℕ → Slot) (a m new : Core R g) (disk : ℕ) (two : Two) → m.store ≡ a.store → named_out m.meta.out ≡ Some disk → AreTwoDown (core_down m) (slot (store_rack m.store)) (slot (store_rack new.store)) two
     → AreTwoDownBeside (λ d. (core_down a ≡ Some d) ⊎ (d ≡ disk)) (slot (store_rack a.store)) (slot (store_rack new.store)) two
@@ -196,11 +172,12 @@ module _ {R : Type 0} {g : _} (count : R → ℕ) (slot : R → ℕ → Slot) wh
       by (Some x) e = ap (λ (o : Option ℕ). or_else o (named_out b.meta.out)) e ∙ ap Some (ready.one x disk e out)
 
   -- and afterwards no other one
-  pub leaves_rebuilt : (a b : Core R g) → count (store_rack b.store) ≡ count (store_rack a.store) → b.meta.setup ≡ a.meta.setup → b.meta.writes ≡ a.meta.writes
+  pub leaves_rebuilt : (a b : Core R g) → count (store_rack b.store) ≡ count (store_rack a.store) → b.meta.setup ≡ a.meta.setup → b.meta.version ≡ a.meta.version → b.meta.writes ≡ a.meta.writes
       → OnlyLosesSlots (slot (store_rack a.store)) (slot (store_rack b.store)) → ((d : ℕ) → core_down b ≡ Some d → core_down a ≡ Some d) → LeavesArray count slot a b
-  leaves_rebuilt a b slots setup writes spared down = record {
+  leaves_rebuilt a b slots setup version writes spared down = record {
     slots = slots;
     setup = setup;
+    version = version;
     writes = writes;
     turned = turns_lost (slot (store_rack a.store)) (slot (store_rack b.store)) spared;
     down = record { known = λ d is. inl (down d is) };
@@ -208,16 +185,16 @@ module _ {R : Type 0} {g : _} (count : R → ℕ) (slot : R → ℕ → Slot) wh
 
   -- the same disk is out still
   pub leaves_out : (a b : Core R g) (disk : ℕ) → IsCoreReady count slot a → IsCoreReady count slot b → named_out a.meta.out ≡ Some disk → named_out b.meta.out ≡ Some disk
-      → count (store_rack b.store) ≡ count (store_rack a.store) → b.meta.setup ≡ a.meta.setup → b.meta.writes ≡ a.meta.writes
+      → count (store_rack b.store) ≡ count (store_rack a.store) → b.meta.setup ≡ a.meta.setup → b.meta.version ≡ a.meta.version → b.meta.writes ≡ a.meta.writes
       → OnlyLosesSlots (slot (store_rack a.store)) (slot (store_rack b.store)) → LeavesArray count slot a b
-  leaves_out a b disk before after was is slots setup writes spared =
-      leaves_rebuilt a b slots setup writes spared (λ d down. down_is a disk before was ∙ sym (down_is b disk after is) ∙ down)
+  leaves_out a b disk before after was is slots setup version writes spared =
+      leaves_rebuilt a b slots setup version writes spared (λ d down. down_is a disk before was ∙ sym (down_is b disk after is) ∙ down)
 
   -- none is
-  pub leaves_back : (a b : Core R g) → named_of b.store ≡ None → b.meta.out ≡ No → count (store_rack b.store) ≡ count (store_rack a.store) → b.meta.setup ≡ a.meta.setup → b.meta.writes ≡ a.meta.writes
+  pub leaves_back : (a b : Core R g) → named_of b.store ≡ None → b.meta.out ≡ No → count (store_rack b.store) ≡ count (store_rack a.store) → b.meta.setup ≡ a.meta.setup → b.meta.version ≡ a.meta.version → b.meta.writes ≡ a.meta.writes
       → OnlyLosesSlots (slot (store_rack a.store)) (slot (store_rack b.store)) → LeavesArray count slot a b
-  leaves_back a b named whole slots setup writes spared =
-      leaves_rebuilt a b slots setup writes spared (λ d down.
+  leaves_back a b named whole slots setup version writes spared =
+      leaves_rebuilt a b slots setup version writes spared (λ d down.
       let z : None ≡ Some d = sym (ap (λ (o : Option ℕ). or_else o (named_out b.meta.out)) named ∙ ap named_out whole) ∙ down in absurd cc)
 
 -- the disk that is down by the last commit or the meta is the one that is out by the meta

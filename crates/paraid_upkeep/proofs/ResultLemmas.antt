@@ -20,9 +20,10 @@ module _ {A E : Type 0} where
   if_both P Q S (Ok a) f p q = f a p q
   if_both P Q S (Err e) f p q = tt
 
-  pub if_three : (P Q S T : A → Type 0) (r : Result A E) → ((a : A) → P a → Q a → S a → T a) → IfOk r P → IfOk r Q → IfOk r S → IfOk r T
-  if_three P Q S T (Ok a) f p q s = f a p q s
-  if_three P Q S T (Err e) f p q s = tt
+  -- what is known of each answer, and three facts of it
+  pub if_known : (F : Type 0) (P Q S T : A → Type 0) (r : Result A E) → ((a : A) → F → P a → Q a → S a → T a) → OnOk r F → IfOk r P → IfOk r Q → IfOk r S → IfOk r T
+  if_known F P Q S T (Ok a) f known p q s = f a known p q s
+  if_known F P Q S T (Err e) f known p q s = tt
 
   -- what is known of each answer
   pub if_done : (P : Type 0) (Q : A → Type 0) (r : Result A E) → ((a : A) → P → Q a) → OnOk r P → IfOk r Q

@@ -227,35 +227,6 @@ units_phase setup (suc count) s = units_phase setup count (after_unit s (first_d
     by None = refl
     by (Some c) = refl
 
--- and the gear
-units_gear : (setup : Setup) (count : ℕ) (s : PowerState) → (after_units setup count s).gear ≡ s.gear
-units_gear setup zero s = refl
-units_gear setup (suc count) s = units_gear setup count (after_unit s (first_dirty setup s)) ∙ by (first_dirty setup s)
-  where
-    by : (o : Option ℕ) → (after_unit s o).gear ≡ s.gear
-    by None = refl
-    by (Some c) = refl
-
--- no less is filled after them
-le_then : (x y z : ℕ) → x ≤ y → y ≤ z → x ≤ z
-le_then x y z l m = omega (arith, l, m)
-
-le_self : (x : ℕ) → x ≤ x
-le_self x = omega arith
-
-le_more : (x : ℕ) → x ≤ x + 1
-le_more x = omega arith
-
-units_fill : (setup : Setup) (count : ℕ) (s : PowerState) → s.fill ≤ (after_units setup count s).fill
-units_fill setup zero s = le_self s.fill
-units_fill setup (suc count) s =
-    le_then s.fill (after_unit s (first_dirty setup s)).fill (after_units setup count (after_unit s (first_dirty setup s))).fill (by (first_dirty setup s))
-    (units_fill setup count (after_unit s (first_dirty setup s)))
-  where
-    by : (o : Option ℕ) → s.fill ≤ (after_unit s o).fill
-    by None = le_more s.fill
-    by (Some c) = le_self s.fill
-
 -- a shift goes to some gear
 phase_some : (g : Geometry) (gear : ℕ) (phase : Phase) → IsPhaseInRange g gear phase → phase ≢ Steady → 0 < phase_to phase
 phase_some g gear Steady is not = absurd (not refl)
@@ -291,12 +262,6 @@ module _ {R : Type 0} {g : _} (count : R → ℕ) (a b : Core R g) (units : ℕ)
 
   pub moved_phase : b.meta.out ≡ No → b.meta.phase ≡ a.meta.phase
   moved_phase whole = sym (goes_to.whole whole).phase ∙ units_phase a.meta.setup units (shown_state before)
-
-  pub moved_gear : b.meta.out ≡ No → b.meta.gear ≡ a.meta.gear
-  moved_gear whole = sym (goes_to.whole whole).gear ∙ units_gear a.meta.setup units (shown_state before)
-
-  pub moved_fill : b.meta.out ≡ No → a.meta.fill ≤ b.meta.fill
-  moved_fill whole = subst (λ (x : ℕ). a.meta.fill ≤ x) (goes_to.whole whole).fill (units_fill a.meta.setup units (shown_state before))
 
   pub moved_shifts : IsInRange a.meta → a.meta.phase ≢ Steady → b.meta.out ≡ No → 0 < phase_to b.meta.phase
   moved_shifts range not whole =

@@ -1,5 +1,6 @@
 pub mod Service
 pub mod Refusals
+pub mod Directions
 pub mod DiskRefusals
 pub mod TickAnswers
 pub mod Turns

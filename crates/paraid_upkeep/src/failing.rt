@@ -13,7 +13,7 @@ ghost use Rattle.paraid_upkeep.specs.Turns.{CanMarkTaken, CoreCommits, CoreCommi
 ghost use Rattle.paraid_recover.specs.HeldMoments.{Extends};
 ghost use Rattle.paraid_txn.specs.Losses.{AreTwoDownBeside, OnlyLosesSlots};
 ghost use Rattle.paraid_rebuild.specs.Rebuilds.{SparesSlots};
-ghost use Rattle.paraid_upkeep.specs.Events.{CommitsGone, RefusesFail, StaysInService};
+ghost use Rattle.paraid_upkeep.specs.Events.{CommitsAtMost, CommitsGone, RefusesFail, StaysInService};
 ghost use Rattle.paraid_image.specs.Out.{named_out};
 
 use crate::fault::FailFault;
@@ -35,7 +35,7 @@ fn commit_writes<R: Rack>(core: &mut Core<R>) -> Result<(), Two>
         (R.slot (core_rack core.old)) (R.slot (core_rack core.new))) }
     ensures meta { OnOk result (IsMarkedFrom (record (meta_of core.old) { epoch = (meta_of core.new).epoch })
         (meta_of core.new)) }
-    ensures epoch { OnOk result ((meta_of core.new).epoch ≤ (meta_of core.old).epoch + 1) }
+    ensures epoch { OnOk result (CommitsAtMost core.old core.new 1) }
     ensures commits { OnOk result (CoreCommits R.slot_count R.told core.old core.new) }
     ensures loses { IfErr result (λ two. CoreLosesCommit R.slot_count R.told core.old core.new two) }
     ensures told { Extends (R.told (core_rack core.old)) (R.told (core_rack core.new)) }
@@ -85,7 +85,7 @@ pub fn take_out<R: Rack>(core: &mut Core<R>, disk: DiskNo) -> Result<Option<Fail
         × (named_out (meta_of core.old).out ≡ None) × ((meta_of core.new).out ≡ Gone disk) }
     ensures calls { MakesCalls R.slot_count R.slot R.told core.old core.new }
     ensures table { core_table core.new ≡ core_table core.old }
-    ensures epoch { OnOk result ((meta_of core.new).epoch ≤ (meta_of core.old).epoch + 2) }
+    ensures commits { OnOk result (CommitsAtMost core.old core.new 2) }
     // Where nothing is staged, the mark is the only commit.
     ensures alone { batch_of core.old ≡ [] → OnOk result ((meta_of core.new).epoch ≤ (meta_of core.old).epoch + 1) }
     // It is an event of a session.

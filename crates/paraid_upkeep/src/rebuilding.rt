@@ -1,12 +1,13 @@
 //! A disk that is out is replaced, and the ticks of its rebuild.
 ghost use Rattle.std.specs.Prelude.{◌≡◌, ℕ, ◌+◌, ◌^◌, ◌<◌, ◌≤◌, true, false, List, [], None, Ok, Some, OnOk, IfOk, IfErr, if◌then◌else◌};
-ghost use Rattle.paraid_base.specs.declared.state.Out.TheVariants.{Fresh, Gone, No};
+ghost use Rattle.paraid_base.specs.declared.state.Out.TheVariants.{Fresh, No};
 ghost use Rattle.paraid_base.specs.declared.state.TickEvent.TheVariants.{Gone as GoneInTick, Moving, Rebuilt};
 ghost use Rattle.paraid_base.specs.History.{History};
 ghost use Rattle.paraid_base.specs.Log.{worn_at};
 ghost use Rattle.paraid_base.specs.States.{rebuilt_count};
 ghost use Rattle.paraid_base.specs.Told.{HasRisen};
 ghost use Rattle.paraid_core.specs.Cores.{batch_of, core_down, core_rack, core_table, meta_of, store_of};
+ghost use Rattle.paraid_upkeep.specs.Events.{CommitsAtMost};
 ghost use Rattle.paraid_upkeep.specs.Service.{IsOutKnown, LeavesInService, MakesCalls};
 ghost use Rattle.paraid_upkeep.specs.TickAnswers.{TellsRebuild, units_unbuilt};
 ghost use Rattle.paraid_upkeep.specs.TickTurns.{CoreComesBack, CoreLosesComing, CoreParksBack};
@@ -65,7 +66,7 @@ fn come_back<R: Rack>(core: &mut Core<R>, disk: DiskNo) -> Result<bool, Two>
     requires disk { disk < (meta_of core.old).setup.geometry.disks }
     requires epoch { (meta_of core.old).epoch < 2 ^ 63 }
     ensures serves { OnOk result (LeavesInService R.slot_count R.slot core.old core.new) }
-    ensures few { OnOk result ((meta_of core.new).epoch ≤ (meta_of core.old).epoch + 1) }
+    ensures commits { OnOk result (CommitsAtMost core.old core.new 1) }
     ensures lost { result ≡ Ok false → IsLostNow (R.slot (core_rack core.old)) (R.slot (core_rack core.new)) disk }
     ensures rejoined { result ≡ Ok true → meta_of core.new ≡ record (meta_of core.old)
         { epoch = (meta_of core.new).epoch; out = No } }
@@ -93,8 +94,9 @@ fn rejoin_disk<R: Rack>(core: &mut Core<R>, disk: DiskNo) -> Result<bool, Two>
     requires disk { disk < (meta_of core.old).setup.geometry.disks }
     requires epoch { (meta_of core.old).epoch + 1 < 2 ^ 63 }
     ensures serves { OnOk result (LeavesInService R.slot_count R.slot core.old core.new) }
-    ensures few { OnOk result ((meta_of core.new).epoch ≤ (meta_of core.old).epoch + 2) }
-    ensures back { result ≡ Ok true → (meta_of core.new).out ≡ No }
+    ensures commits { OnOk result (CommitsAtMost core.old core.new 2) }
+    ensures rejoined { result ≡ Ok true → meta_of core.new ≡ record (meta_of core.old)
+        { epoch = (meta_of core.new).epoch; out = No } }
     ensures marked { result ≡ Ok false → meta_of core.new
         ≡ record (meta_after_loss (meta_of core.old) disk) { epoch = (meta_of core.new).epoch } }
     ensures lost { result ≡ Ok false → IsLostNow (R.slot (core_rack core.old)) (R.slot (core_rack core.new)) disk }
@@ -132,11 +134,15 @@ fn end_rebuild<R: Rack>(core: &mut Core<R>, disk: DiskNo) -> Result<bool, Two>
     requires disk { disk < (meta_of core.old).setup.geometry.disks }
     requires epoch { (meta_of core.old).epoch + 2 < 2 ^ 63 }
     ensures serves { OnOk result (LeavesInService R.slot_count R.slot core.old core.new) }
-    ensures back { result ≡ Ok true → (meta_of core.new).out ≡ No }
-    ensures gone { result ≡ Ok false → (meta_of core.new).out ≡ Gone disk }
+    ensures commits { OnOk result (CommitsAtMost core.old core.new 3) }
+    ensures rejoined { result ≡ Ok true → meta_of core.new ≡ record (meta_of core.old)
+        { epoch = (meta_of core.new).epoch; out = No } }
+    ensures marked { result ≡ Ok false → meta_of core.new
+        ≡ record (meta_after_loss (meta_of core.old) disk) { epoch = (meta_of core.new).epoch } }
     ensures committed { result ≡ Ok false → named_of (store_of core.new) ≡ Some disk }
     ensures failed { result ≡ Ok false
         → HasRisen (R.slot (core_rack core.old) disk).faults (R.slot (core_rack core.new) disk).faults }
+    ensures table { OnOk result (core_table core.new ≡ core_table core.old) }
     // It is a tick of a session, with so many units as were left.
     ensures turn { IfOk result (λ back. (rebuilt : ℕ) (windows : WindowsType) → (meta_of core.old).out ≡ Fresh disk rebuilt
         → units_unbuilt (meta_of core.old) disk rebuilt ≤ (meta_of core.old).setup.rate
@@ -166,11 +172,15 @@ fn move_units<R: Rack>(core: &mut Core<R>, disk: DiskNo, end: u32) -> Result<boo
     requires limit { end ≤ units_of_rebuild (meta_of core.old).setup.geometry (meta_of core.old).gear disk }
     requires epoch { (meta_of core.old).epoch + 2 < 2 ^ 63 }
     ensures serves { OnOk result (LeavesInService R.slot_count R.slot core.old core.new) }
-    ensures moved { result ≡ Ok true → (meta_of core.new).out ≡ Fresh disk end }
-    ensures gone { result ≡ Ok false → (meta_of core.new).out ≡ Gone disk }
+    ensures commits { OnOk result (CommitsAtMost core.old core.new 3) }
+    ensures moved { result ≡ Ok true → meta_of core.new ≡ record (meta_of core.old)
+        { epoch = (meta_of core.new).epoch; out = Fresh disk end } }
+    ensures marked { result ≡ Ok false → meta_of core.new
+        ≡ record (meta_after_loss (meta_of core.old) disk) { epoch = (meta_of core.new).epoch } }
     ensures committed { result ≡ Ok false → named_of (store_of core.new) ≡ Some disk }
     ensures failed { result ≡ Ok false
         → HasRisen (R.slot (core_rack core.old) disk).faults (R.slot (core_rack core.new) disk).faults }
+    ensures table { OnOk result (core_table core.new ≡ core_table core.old) }
     // It is a tick of a session, where the rate leaves some units.
     ensures turn { IfOk result (λ moved. (rebuilt : ℕ) (windows : WindowsType) → (meta_of core.old).out ≡ Fresh disk rebuilt
         → (meta_of core.old).setup.rate < units_unbuilt (meta_of core.old) disk rebuilt
@@ -200,11 +210,13 @@ pub(crate) fn rebuild<R: Rack>(
     requires known { IsOutKnown R.slot core.old }
     requires epoch { (meta_of core.old).epoch < worn_at }
     ensures serves { OnOk result (LeavesInService R.slot_count R.slot core.old core.new) }
+    ensures commits { OnOk result (CommitsAtMost core.old core.new 3) }
     ensures tells { IfOk result (λ done. TellsRebuild (meta_of core.old) (meta_of core.new) disk first done.0 done.1) }
     // A disk that is told as gone has failed in the tick, and is named out by its last commit.
     ensures committed { IfOk result (λ done. done.1 ≡ GoneInTick disk → named_of (store_of core.new) ≡ Some disk) }
     ensures failed { IfOk result (λ done. done.1 ≡ GoneInTick disk
         → HasRisen (R.slot (core_rack core.old) disk).faults (R.slot (core_rack core.new) disk).faults) }
+    ensures table { OnOk result (core_table core.new ≡ core_table core.old) }
     // It is a tick of a session.
     ensures turn { IfOk result (λ done. (windows : WindowsType) → CoreTicks R.slot_count R.told windows core.old core.new
         (record { gear = (meta_of core.new).gear; moved = done.0; event = done.1 })) }

@@ -3,7 +3,7 @@ ghost use Rattle.std.specs.Prelude.{◌≡◌, ◌≢◌, ◌<◌, ◌⊎◌, No
 ghost use Rattle.paraid_base.specs.declared.event.Event.TheVariants.{Replace as ReplaceEvent};
 ghost use Rattle.paraid_base.specs.declared.state.Out.TheVariants.{Fresh, Gone};
 ghost use Rattle.paraid_base.specs.Log.{worn_at};
-ghost use Rattle.paraid_core.specs.Cores.{core_rack, meta_of};
+ghost use Rattle.paraid_core.specs.Cores.{core_rack, core_table, meta_of};
 ghost use Rattle.paraid_upkeep.specs.declared.fault.ReplaceFault.TheVariants.{NoDisk, NoFresh, NotOut};
 ghost use Rattle.paraid_upkeep.specs.Turns.{CoreGoesOn, CoreHalts, replace_answer};
 ghost use Rattle.paraid_image.specs.Out.{named_out};
@@ -33,6 +33,7 @@ fn bring<R: Rack>(core: &mut Core<R>, disk: DiskNo) -> Result<Option<ReplaceFaul
     ensures refused { IfOk result (λ refusal. IfSome refusal (λ fault. fault ≡ NoFresh disk)) }
     ensures no_disk { result ≢ Ok (Some (NoDisk disk)) }
     ensures not_out { result ≢ Ok (Some (NotOut disk)) }
+    ensures table { OnOk result (core_table core.new ≡ core_table core.old) }
     // It is an event of a session.
     ensures turn { IfOk result (λ refusal. CoreGoesOn R.slot_count R.told core.old core.new
         (ReplaceEvent disk) (replace_answer disk refusal)) }
@@ -64,6 +65,7 @@ pub fn replace<R: Rack>(core: &mut Core<R>, disk: DiskNo) -> Result<Option<Repla
     ensures refuses { RefusesReplace core.old core.new disk result }
     ensures replaced { result ≡ Ok None → (disk < (meta_of core.old).setup.geometry.disks)
         × (named_out (meta_of core.old).out ≡ Some disk) }
+    ensures table { OnOk result (core_table core.new ≡ core_table core.old) }
     // It is an event of a session.
     ensures turn { IfOk result (λ refusal. CoreGoesOn R.slot_count R.told core.old core.new
         (ReplaceEvent disk) (replace_answer disk refusal)) }

@@ -4,11 +4,11 @@ ghost use Rattle.paraid_base.specs.declared.state.Out.TheVariants.{Fresh, Gone, 
 ghost use Rattle.paraid_base.specs.declared.state.TickEvent.TheVariants.{Ration as WornInTick, Waiting};
 ghost use Rattle.paraid_base.specs.Log.{worn_at};
 ghost use Rattle.paraid_base.specs.declared.state.Phase.TheVariants.{Steady};
-ghost use Rattle.paraid_core.specs.Cores.{core_down, core_rack, meta_of};
+ghost use Rattle.paraid_core.specs.Cores.{core_down, core_rack, core_table, meta_of};
 ghost use Rattle.paraid_upkeep.specs.declared.fault.ShiftFault.TheVariants.{Ration as Worn};
 ghost use Rattle.paraid_upkeep.specs.Refusals.{IsDownRefused, IsHinderedBy, IsShiftStateOf, IsUpRefused, MayGoDown, MayGoUp};
 ghost use Rattle.paraid_upkeep.specs.Service.{LeavesInService, MakesCalls};
-ghost use Rattle.paraid_upkeep.specs.TickAnswers.{IsIdleTick, MarksMove, TellsDecision, TellsMove, TellsRest};
+ghost use Rattle.paraid_upkeep.specs.TickAnswers.{CoreMoves, IsIdleTick, TellsDecision, TellsRest};
 ghost use Rattle.paraid_upkeep.specs.TickTurns.{AreUnitsOfTick};
 ghost use Rattle.paraid_upkeep.specs.Turns.{CoreTickHalts, CoreTicks};
 ghost use Rattle.paraid_gear.specs.Decision.{decision};
@@ -18,7 +18,7 @@ ghost use Rattle.paraid_image.specs.Power.{PowerState};
 ghost use Rattle.paraid_machine.specs.Moves.{units_by};
 ghost use Rattle.paraid_record.specs.Range.{AreNextGears, IsInRange, allowed_spins};
 ghost use Rattle.paraid_shift.specs.Serving.{IsCoreServing};
-ghost use Rattle.paraid_upkeep.specs.Events.{ServesKnown, TicksAtRest, TicksRebuild, TicksShift};
+ghost use Rattle.paraid_upkeep.specs.Events.{CommitsInTick, ServesKnown, TicksAtRest, TicksRebuild, TicksShift};
 ghost use Rattle.paraid_txn.specs.Losses.{AreTwoDown};
 
 use crate::fault::ShiftFault;
@@ -120,8 +120,9 @@ fn move_on<R: Rack>(core: &mut Core<R>) -> Result<(u32, TickEvent), Two>
     requires whole { (meta_of core.old).out ≡ No }
     requires shifts { (meta_of core.old).phase ≢ Steady }
     ensures serves { OnOk result (LeavesInService R.slot_count R.slot core.old core.new) }
-    ensures tells { IfOk result (λ done. TellsMove (meta_of core.new) done.1) }
-    ensures marks { IfOk result (λ done. MarksMove (meta_of core.old) (meta_of core.new) done.1) }
+    // It moves what the machine moves, from each state that the core shows.
+    ensures moves { IfOk result (λ done. CoreMoves R.slot_count core.old core.new done.0 done.1) }
+    ensures commits { OnOk result (CommitsInTick R.slot_count core.old core.new) }
     // It is a tick of a session.
     ensures turn { IfOk result (λ done. (windows : WindowsType) → CoreTicks R.slot_count R.told windows core.old core.new
         (record { gear = (meta_of core.new).gear; moved = done.0; event = done.1 })) }
@@ -170,6 +171,8 @@ fn decide<R: Rack>(core: &mut Core<R>, windows: &Windows) -> Result<TickEvent, T
     ensures idle { IfOk result (λ event. IsIdleTick event → core.new ≡ core.old) }
     // What it tells whatever the samples are.
     ensures rests { IfOk result (λ event. TellsRest (meta_of core.old) (meta_of core.new) event) }
+    ensures table { OnOk result (core_table core.new ≡ core_table core.old) }
+    ensures commits { OnOk result (CommitsInTick R.slot_count core.old core.new) }
     // It is a tick of a session.
     ensures turn { IfOk result (λ event. CoreTicks R.slot_count R.told windows.now core.old core.new
         (record { gear = (meta_of core.new).gear; moved = 0; event = event })) }
@@ -213,7 +216,9 @@ pub fn advance<R: Rack>(core: &mut Core<R>, windows: &Windows) -> Result<(u32, T
     ensures rebuilds { IfOk result (λ done. TicksRebuild core.old core.new done.0 done.1) }
     // At rest it begins the shift that the samples ask for, unless a disk is worn.
     ensures decides { IfOk result (λ done. TicksAtRest windows.now core.old core.new done.0 done.1) }
-    ensures moves { IfOk result (λ done. TicksShift core.old core.new done.1) }
+    // In a shift it moves what the machine moves.
+    ensures moves { IfOk result (λ done. TicksShift core.old core.new done.0 done.1) }
+    ensures commits { OnOk result (CommitsInTick R.slot_count core.old core.new) }
     ensures calls { MakesCalls R.slot_count R.slot R.told core.old core.new }
     ensures two { IfErr result (AreTwoDown (core_down core.old)
         (R.slot (core_rack core.old)) (R.slot (core_rack core.new))) }

@@ -13,7 +13,6 @@ use Rattle.paraid_base.specs.Told.{told_bytes}
 use Rattle.paraid_rack.specs.declared.call.Call.{Call}
 use Rattle.paraid_rack.specs.Calls.{disk_of, is_done}
 use Rattle.paraid_rack.specs.Disks.{Disks}
-use Rattle.paraid_rack.specs.Slots.{Slot}
 use Rattle.paraid_rack.specs.Trail.{Trail, disks, extend, initial, moments, now, run}
 use Rattle.paraid_record.specs.declared.meta.Setup.{Setup}
 use Rattle.paraid_image.specs.RunStart.{IsRunStart}
@@ -29,12 +28,14 @@ use Rattle.paraid_session.specs.Watch.{Down, Watch, down_after, nobody, only, se
 use Rattle.paraid_serve.specs.Output.{FollowsFromPoint, OutputText, WritesOutput}
 use Rattle.paraid_serve.specs.Output.OutputText.{done as text_done, halted as text_halted, source as text_source, too_long as text_long}
 use Rattle.paraid_serve.specs.Output.WritesOutput.{whole, last_line, answers}
+use Rattle.paraid_serve.specs.Stretch.{span_of}
 use Rattle.paraid_serve.specs.Ending.{EndsWithLine}
+use Rattle.paraid_serve.specs.Uses.{RackUse, SinkUse, SourceUse}
 use Rattle.paraid_memrack.specs.Rules.{no_disks}
 use Rattle.paraid_program.specs.Ends.{MountsAndThen, ServesLines}
 use Rattle.paraid_program.specs.Ends.MountsAndThen.{refused, mounted}
 use Rattle.paraid_program.specs.Outcome.{BecomesEmpty, FormatOutcome, Formats, IsArrayMade, IsEmptyArray}
-use Rattle.paraid_program.specs.Outcome.FormatOutcome.{done as format_done, source as format_source, no_memory, config, already, disk}
+use Rattle.paraid_program.specs.Outcome.FormatOutcome.{done as format_done, source_failed as format_source, no_memory, config, already, disk}
 use Rattle.paraid_program.specs.MountFaults.{mount_fault_status}
 use Rattle.tests_lives.specs.Life.{RunAnswers, IsLife, is_done_or_on, said_first}
 
@@ -102,46 +103,46 @@ whole_at_zero code status end zero = elim end.whole [ inl four ↦ absurd (omega
 taken : (lines left bytes : List ℕ) → lines ≡ bytes ++ left → left ≡ [] → bytes ≡ lines
 taken lines left bytes all none = sym (all ∙ ap (λ (l : List ℕ). bytes ++ l) none ∙ append-nil bytes)
 
-module _ {slots : ℕ} {old new : ℕ → Slot} {before after : Option Trail} {lb l wb w : Option (List ℕ)} {U : Type 0} (lines text : List ℕ) (is_lines : lb ≡ Some lines) (left_told : IsSome l) (none_yet : wb ≡ Some []) (is_text : w ≡ Some text) where
+module _ {rack : RackUse} {source : SourceUse} {sink : SinkUse} {U : Type 0} (lines text : List ℕ) (is_lines : source.left_before ≡ Some lines) (left_told : IsSome source.left) (none_yet : sink.written_before ≡ Some []) (is_text : sink.written ≡ Some text) where
   -- A run that ended well answered all lines.
-  pub run_answers : (status : ℕ) → status ≡ 0 → MountsAndThen slots old new before after wb w status U (ServesLines slots old new after lb l wb w status) → RunAnswers slots before after lines text
+  pub run_answers : (status : ℕ) → status ≡ 0 → MountsAndThen rack sink status U (ServesLines rack source sink status) → RunAnswers rack.slots rack.before rack.after lines text
   run_answers status zero (refused fault back end unheard) = absurd (fault_status fault (whole_at_zero (mount_fault_status fault) status end zero))
-  run_answers status zero (mounted array began middle stood begins served) =
+  run_answers status zero (mounted service stood begins served) =
       let h = served.headline in
-      let bytes = taken lines (told_bytes l) h.bytes (sym (ap told_bytes is_lines) ∙ h.given.bytes left_told) ((h.all (inl zero)).1 left_told) in
+      let setup = service.array.meta.setup in
+      let bytes = taken lines (told_bytes source.left) h.bytes (sym (ap told_bytes is_lines) ∙ h.given.bytes left_told) ((h.all (inl zero)).1 left_told) in
       let grown = h.grows.bytes (subst IsSome (sym is_text) refl) in
       let wrote : h.text ≡ text = sym (sym (ap told_bytes is_text) ∙ grown ∙ ap (λ (o : Option (List ℕ)). told_bytes o ++ h.text) none_yet) in
       record {
-        setup = array.meta.setup;
-        began = began;
-        middle = middle;
+        setup = setup;
+        began = service.began;
+        middle = service.told;
         begins = begins;
         said = λ tells.
-            subst (λ (k : ℕ). IsMountedFromEach slots array.meta.setup began middle (FollowsFromPoint slots array.meta.setup middle after lines k text)) zero
-            (subst (λ (x : List ℕ). IsMountedFromEach slots array.meta.setup began middle (FollowsFromPoint slots array.meta.setup middle after lines status x)) wrote
-            (subst (λ (x : List ℕ). IsMountedFromEach slots array.meta.setup began middle (FollowsFromPoint slots array.meta.setup middle after x status h.text)) bytes (h.said tells)));
+            subst (λ (k : ℕ). IsMountedFromEach rack.slots setup service.began service.told (FollowsFromPoint (span_of rack.slots setup service.told rack.after) lines k text)) zero
+            (subst (λ (x : List ℕ). IsMountedFromEach rack.slots setup service.began service.told (FollowsFromPoint (span_of rack.slots setup service.told rack.after) lines status x)) wrote
+            (subst (λ (x : List ℕ). IsMountedFromEach rack.slots setup service.began service.told (FollowsFromPoint (span_of rack.slots setup service.told rack.after) x status h.text)) bytes (h.said tells)));
       }
 
 -- a format that ended well made an array
-made_at : (force : Bool) (slots : ℕ) (old new : ℕ → Slot) (told told_now : Option Trail) (before after : Option (List ℕ)) (faults faults_now code : ℕ) (line : List ℕ)
-    → FormatOutcome force slots old new told told_now before after faults faults_now code line → code ≡ 0 → (setup : Setup) × IsArrayMade force slots old new told told_now setup
-made_at force slots old new told told_now before after faults faults_now code line (format_done setup says made) zero = (setup, made)
-made_at force slots old new told told_now before after faults faults_now code line (format_source unread same) zero = absurd (omega (arith, zero))
-made_at force slots old new told told_now before after faults faults_now code line (no_memory unread same) zero = absurd (omega (arith, zero))
-made_at force slots old new told told_now before after faults faults_now code line (config fault not unread same) zero = absurd (omega (arith, zero))
-made_at force slots old new told told_now before after faults faults_now code line (already setup epoch says unmade) zero = absurd (omega (arith, zero))
-made_at force slots old new told told_now before after faults faults_now code line (disk setup d says unmade) zero = absurd (omega (arith, zero))
+made_at : (force : Bool) (rack : RackUse) (given : SourceUse) (code : ℕ) (line : List ℕ) → FormatOutcome force rack given code line → code ≡ 0 → (setup : Setup) × IsArrayMade force rack setup
+made_at force rack given code line (format_done setup says made) zero = (setup, made)
+made_at force rack given code line (format_source unread same) zero = absurd (omega (arith, zero))
+made_at force rack given code line (no_memory unread same) zero = absurd (omega (arith, zero))
+made_at force rack given code line (config fault not unread same) zero = absurd (omega (arith, zero))
+made_at force rack given code line (already setup epoch says unmade) zero = absurd (omega (arith, zero))
+made_at force rack given code line (disk setup d says unmade) zero = absurd (omega (arith, zero))
 
-module _ {force : Bool} {slots : ℕ} {old new : ℕ → Slot} {told told_now : Option Trail} {before after : Option (List ℕ)} {faults faults_now : ℕ} {wb w : Option (List ℕ)} where
-  pub array_made : (status : ℕ) → status ≡ 0 → Formats force slots old new told told_now before after faults faults_now wb w status → (setup : Setup) × RanBetween told told_now (BecomesEmpty slots setup)
+module _ {force : Bool} {rack : RackUse} {given : SourceUse} {kept : SinkUse} where
+  pub array_made : (status : ℕ) → status ≡ 0 → Formats force rack given kept status → (setup : Setup) × RanBetween rack.before rack.after (BecomesEmpty rack.slots setup)
   array_made status zero f =
-      let it = made_at force slots old new told told_now before after faults faults_now f.code f.line f.outcome (whole_at_zero f.code status f.ends zero) in
+      let it = made_at force rack given f.code f.line f.outcome (whole_at_zero f.code status f.ends zero) in
       (it.0, it.1.empty)
 
 module _ (slots : ℕ) (setup : Setup) (s : Disks) (empty : IsEmptyArray slots setup s) (lines text : List ℕ) (middle after : Option Trail) (disk : ℕ) (calls : List Call)
     (mounting : IsMounting slots s disk (said_first setup) [] 0 None calls) (p : Point) (begun : IsBegun slots s (said_first setup) [] 0 None mounting.base calls p) where
   -- a session that answers all lines is a life
-  life_by_text : (status : ℕ) (full : List ℕ) → OutputText slots setup middle after p lines status full → status ≡ 0 → full ≡ text → IsLife slots lines text
+  life_by_text : (status : ℕ) (full : List ℕ) → OutputText (span_of slots setup middle after) p lines status full → status ≡ 0 → full ≡ text → IsLife slots lines text
   life_by_text status full (text_done writes e) zero is = record {
     setup = setup;
     array = s;
@@ -162,7 +163,7 @@ module _ (slots : ℕ) (setup : Setup) (s : Disks) (empty : IsEmptyArray slots s
   life_by_text status full (text_source c) zero is = absurd (omega (arith, zero))
   life_by_text status full (text_long ten c) zero is = absurd (omega (arith, zero))
 
-  life_by_output : WritesOutput slots setup middle after p lines 0 text → IsLife slots lines text
+  life_by_output : WritesOutput (span_of slots setup middle after) p lines 0 text → IsLife slots lines text
   life_by_output (whole out) = life_by_text 0 text out refl refl
   life_by_output (last_line four code full rest out front) = absurd (omega (arith, four))
   life_by_output (answers four some more rest lines_are c front) = absurd (omega (arith, four))
@@ -170,11 +171,11 @@ module _ (slots : ℕ) (setup : Setup) (s : Disks) (empty : IsEmptyArray slots s
 -- no call fails but on one disk, so one disk at most is down
 module _ (slots weak : ℕ) (setup own : Setup) (s : Disks) (empty : IsEmptyArray slots setup s) (lines text : List ℕ) (middle after : Option Trail) (disk : ℕ) (calls : List Call)
     (one : list_all (is_done_or_on weak) calls ≡ true) where
-  life_mounted : IsMounted slots s disk (said_first setup) [] 0 None calls (λ p. (setup ≡ own) × FollowsFromPoint slots own middle after lines 0 text p) → IsLife slots lines text
+  life_mounted : IsMounted slots s disk (said_first setup) [] 0 None calls (λ p. (setup ≡ own) × FollowsFromPoint (span_of slots own middle after) lines 0 text p) → IsLife slots lines text
   life_mounted m = elim m.ends [
     | inl both ↦ absurd (not_several weak _ (few_all weak calls (start_watch s None m.mounting.base) one (inl refl)) both)
     | inr begun ↦
-        let follows = subst (λ (u : Setup). FollowsFromPoint slots u middle after lines 0 text begun.0) (sym begun.2.0) begun.2.1 in
+        let follows = subst (λ (u : Setup). FollowsFromPoint (span_of slots u middle after) lines 0 text begun.0) (sym begun.2.0) begun.2.1 in
         life_by_output slots setup s empty lines text middle after disk calls m.mounting begun.0 begun.1 follows.wrote
   ]
 
@@ -222,5 +223,5 @@ module _ (slots weak count : ℕ) (start made after : Option Trail) (lines text 
       back_all (is_done_or_on weak) b.0.calls b.1 (front_all (is_done_or_on weak) (b.0.calls ++ b.1) later.calls
       (ap (list_all (is_done_or_on weak)) (ap (λ (l : List Call). l ++ later.calls) (sym (ap (λ (u : Trail). u.calls) b.3)) ∙ sym (ap (λ (u : Trail). u.calls) later.is)) ∙ one)) in
       life_mounted slots weak setup ran.setup (now b.0) empty lines text ran.middle after rest.disk b.1 calls
-      (subst (λ (s : Disks). IsMounted slots s rest.disk (said_first setup) [] 0 None b.1 (λ p. (setup ≡ ran.setup) × FollowsFromPoint slots ran.setup ran.middle after lines 0 text p)) here
-      (subst (λ (cs : List Call). IsMounted slots (disks later.from ran.began) rest.disk (said_first setup) [] 0 None cs (λ p. (setup ≡ ran.setup) × FollowsFromPoint slots ran.setup ran.middle after lines 0 text p)) since m))
+      (subst (λ (s : Disks). IsMounted slots s rest.disk (said_first setup) [] 0 None b.1 (λ p. (setup ≡ ran.setup) × FollowsFromPoint (span_of slots ran.setup ran.middle after) lines 0 text p)) here
+      (subst (λ (cs : List Call). IsMounted slots (disks later.from ran.began) rest.disk (said_first setup) [] 0 None cs (λ p. (setup ≡ ran.setup) × FollowsFromPoint (span_of slots ran.setup ran.middle after) lines 0 text p)) since m))

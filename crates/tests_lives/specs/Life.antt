@@ -15,7 +15,7 @@ use Rattle.paraid_session.specs.Mount.{IsBegun, IsMountedFromEach, IsMounting}
 use Rattle.paraid_session.specs.Turn.{Point}
 use Rattle.paraid_serve.specs.Ending.{end_line}
 use Rattle.paraid_serve.specs.Output.{FollowsFromPoint, begins_with}
-use Rattle.paraid_serve.specs.Stretch.{EndsStretch, events_in, replies}
+use Rattle.paraid_serve.specs.Stretch.{EndsStretch, span_of, events_in, replies}
 use Rattle.paraid_program.specs.Ends.{BeginsAt}
 use Rattle.paraid_program.specs.Outcome.{IsEmptyArray}
 
@@ -29,7 +29,7 @@ pub record RunAnswers (slots : ℕ) (before after : Option Trail) (lines text : 
   pub began : ℕ
   pub middle : Option Trail
   pub begins : BeginsAt before middle after began
-  pub said : IsSome after → IsMountedFromEach slots setup began middle (FollowsFromPoint slots setup middle after lines 0 text)
+  pub said : IsSome after → IsMountedFromEach slots setup began middle (FollowsFromPoint (span_of slots setup middle after) lines 0 text)
 
 -- what the log disks of a new array say
 abbrev pub said_first : Setup → LogState
@@ -49,5 +49,5 @@ pub record IsLife (slots : ℕ) (lines text : List ℕ) : Type 0 where
   pub start : Option Trail
   pub final : Option Trail
   pub writes : ℕ
-  pub answered : EndsStretch slots setup start final first (events_in (lines_of lines) ++ Flush ∷ []) (Flushed writes)
+  pub answered : EndsStretch (span_of slots setup start final) first (events_in (lines_of lines) ++ Flush ∷ []) (Flushed writes)
   pub told : text ≡ begins_with first ++ replies answered.before ++ end_line writes

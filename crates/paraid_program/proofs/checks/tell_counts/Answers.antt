@@ -38,7 +38,7 @@ pub returns-in-Ok : goal.returns-in-Ok
 returns-in-Ok g c = record {
   counts = λ began mounted.
       let done = c.check.ensures in
-      tells_counts _ _ _ _ _ _ _ _ _ _ (CountsArray (g.O.Outside.served c.args.array.now) (g.A.Serves.slot c.check.new.array) (g.A.Serves.told c.args.array.now) (g.A.Serves.told c.check.new.array)) (told_then _ _ done.told) mounted c.in-Ok.report (rw (c.as_slice.ensures.value, c.check_text.ensures, c.check_status.ensures) at c.last.ensures.ends) c.in-Ok.ensures.turn c.in-Ok.ensures.sound (c.in-Ok.ensures.counts c.requires.nothing);
+      tells_counts _ _ _ _ _ _ _ _ _ (CountsArray (g.O.Outside.served c.args.array.now) (g.A.Serves.slot c.check.new.array) (g.A.Serves.told c.args.array.now) (g.A.Serves.told c.check.new.array)) (told_then _ _ done.told) mounted c.in-Ok.report (rw (c.as_slice.ensures.value, c.check_text.ensures, c.check_status.ensures) at c.last.ensures.ends) c.in-Ok.ensures.turn c.in-Ok.ensures.sound (c.in-Ok.ensures.counts c.requires.nothing);
   causes = counted_caused c.in-Ok.report (rw (c.as_slice.ensures.value, c.check_text.ensures, c.check_status.ensures) at c.last.ensures.ends) (c.in-Ok.ensures.most c.requires.nothing) (rw c.in-Ok.is at c.check.ensures.cause);
   told = search rules;
   slots = c.check.ensures.slots;
@@ -54,7 +54,7 @@ pub returns-in-Err : goal.returns-in-Err
 returns-in-Err g c = record {
   counts = λ began mounted.
       let done = c.check.ensures in
-      tells_halt _ _ _ _ _ _ _ _ _ _ (CountsArray (g.O.Outside.served c.args.array.now) (g.A.Serves.slot c.check.new.array) (g.A.Serves.told c.args.array.now) (g.A.Serves.told c.check.new.array)) (told_then _ _ done.told) mounted c.in-Err.halt (rw (c.as_slice-in-Err.ensures.value, c.reply.ensures.value, c.halt_status.ensures) at c.last-in-Err.ensures.ends) c.in-Err.ensures.ended;
+      tells_halt _ _ _ _ _ _ _ _ _ (CountsArray (g.O.Outside.served c.args.array.now) (g.A.Serves.slot c.check.new.array) (g.A.Serves.told c.args.array.now) (g.A.Serves.told c.check.new.array)) (told_then _ _ done.told) mounted c.in-Err.halt (rw (c.as_slice-in-Err.ensures.value, c.reply.ensures.value, c.halt_status.ensures) at c.last-in-Err.ensures.ends) c.in-Err.ensures.ended;
   causes = halted_caused c.in-Err.halt (rw (c.as_slice-in-Err.ensures.value, c.reply.ensures.value, c.halt_status.ensures) at c.last-in-Err.ensures.ends) (rw c.in-Err.is at c.check.ensures.cause);
   told = search rules;
   slots = c.check.ensures.slots;

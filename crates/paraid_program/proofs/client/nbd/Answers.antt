@@ -1,7 +1,7 @@
 use Rattle.std.proofs.Common.{◌∙◌, sym}
 use Rattle.paraid_base.proofs.ToldLemmas.{Gives-none, GrowsByBytes-none}
 use Rattle.paraid_program.specs.Clients.ServesNbdOrNot.{mounted, refused}
-use Rattle.paraid_program.proofs.EndLemmas.{began_at_end, begins_at_end, end_moment}
+use Rattle.paraid_program.proofs.EndLemmas.{began_at_end, begins_at_end, end_moment, service_from}
 use Rattle.paraid_program.proofs.NbdLemmas.{nbd_over}
 use Rattle.paraid_program.proofs.client.nbd.Goals as goal
 
@@ -15,8 +15,8 @@ returns-in-Ok-clause-nbd g c =
     let array = c.in-Ok.array in
     let before = g.R.Rack.told c.args.rack in
     let began = end_moment before in
-    mounted (g.O.Outside.served array) began (g.A.Serves.told array) e.served (begins_at_end before (g.A.Serves.told array) _ _ e.grows c.unmount.ensures.told done.told)
-    (nbd_over _ _ (g.A.Serves.setup array) _ (g.R.Rack.slot c.args.rack) (g.A.Serves.slot array) _ _ began _ _ _ _ _ _ _ _ _ _ _ _ e.slots e.setup c.unmount.ensures.told c.unmount.ensures.slot e.later done.present done.two
+    mounted (service_from before (g.O.Outside.served array) (g.A.Serves.told array)) e.served (begins_at_end _ _ _ _ e.grows c.unmount.ensures.told done.told)
+    (nbd_over _ _ _ _ _ _ (g.A.Serves.setup array) (g.A.Serves.slot array) _ _ e.slots e.setup c.unmount.ensures.told c.unmount.ensures.slot e.later done.present done.two
     (g.A.Serves.shown array) (g.A.Serves.shown c.serve_client-status.result.array) e.shown ((g.met.A.Serves.shows c.serve_client-status.result.array).slot ∙ sym c.unmount.ensures.slot) done.causes
     (done.headline began (e.mounted began (began_at_end before))))
 

@@ -25,7 +25,7 @@ returns-in-Err g c = record {
   formats = record {
     code = refusal_status c.in-Err.refusal;
     line = refusal_line c.in-Err.refusal;
-    outcome = refused _ _ _ _ _ _ _ _ _ _ c.in-Err.refusal c.in-Err.ensures.refused;
+    outcome = refused _ _ _ c.in-Err.refusal c.in-Err.ensures.refused;
     ends = rw (c.as_slice-in-Err.ensures.value, c.refusal_text.ensures, c.refusal_status.ensures) at c.last-in-Err.ensures.ends;
   };
   slots = search rules;

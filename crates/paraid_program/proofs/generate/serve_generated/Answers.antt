@@ -11,7 +11,7 @@ use Rattle.paraid_program.proofs.generate.serve_generated.Goals as goal
 
 pub returns-in_default-write_all : goal.returns-in_default-write_all
 returns-in_default-write_all g c = record {
-  run = no_summary_run _ _ _ _ _ _ _ _ _ _ c.writes.result c.gear.result _ _ (c.writes.ensures.point c.requires.going) c.gear.ensures.point _ _ c.answer_lines-tally.ensures.counted c.gear-2.result c.energy.result c.gear-2.ensures.point c.energy.ensures.point (tells_generated _ _ _ _ _ c.writes.result c.gear.result c.gear-2.result c.energy.result (shown_line c.writes.result c.gear.result (g.A.Serves.shown c.args.array.now) c.writes.ensures.shown (c.gear.ensures.shown ∙ (g.met.A.Serves.shows c.args.array.now).gear ((g.met.A.Serves.shows c.args.array.now).halt ∙ c.requires.going))) c.answer_lines-tally.ensures.causes c.gear-2.ensures.shown c.energy.ensures.shown)
+  run = no_summary_run _ _ _ _ _ _ _ _ _ c.writes.result c.gear.result _ _ (c.writes.ensures.point c.requires.going) c.gear.ensures.point _ _ c.answer_lines-tally.ensures.counted c.gear-2.result c.energy.result c.gear-2.ensures.point c.energy.ensures.point (tells_generated _ _ _ _ _ c.writes.result c.gear.result c.gear-2.result c.energy.result (shown_line c.writes.result c.gear.result (g.A.Serves.shown c.args.array.now) c.writes.ensures.shown (c.gear.ensures.shown ∙ (g.met.A.Serves.shows c.args.array.now).gear ((g.met.A.Serves.shows c.args.array.now).halt ∙ c.requires.going))) c.answer_lines-tally.ensures.causes c.gear-2.ensures.shown c.energy.ensures.shown)
       (rw (c.as_slice.ensures.value, c.mount_text.ensures) at c.in-Ok.ensures.grows)
       (rw (c.as_slice-2.ensures.value, c.summary_text.ensures) at c.in_default-write_all.ensures.part);
   slots = c.answer_lines-tally.ensures.slots;
@@ -25,7 +25,7 @@ returns-in_default-write_all g c = record {
 
 pub returns-in_default : goal.returns-in_default
 returns-in_default g c = record {
-  run = no_line_run _ _ _ _ _ _ _ c.writes.result c.gear.result _ _ (c.writes.ensures.point c.requires.going) c.gear.ensures.point (shown_line c.writes.result c.gear.result (g.A.Serves.shown c.args.array.now) c.writes.ensures.shown (c.gear.ensures.shown ∙ (g.met.A.Serves.shows c.args.array.now).gear ((g.met.A.Serves.shows c.args.array.now).halt ∙ c.requires.going))) (rw (c.as_slice.ensures.value, c.mount_text.ensures) at c.in_default.ensures.part);
+  run = no_line_run _ _ _ _ _ _ c.writes.result c.gear.result _ _ (c.writes.ensures.point c.requires.going) c.gear.ensures.point (shown_line c.writes.result c.gear.result (g.A.Serves.shown c.args.array.now) c.writes.ensures.shown (c.gear.ensures.shown ∙ (g.met.A.Serves.shows c.args.array.now).gear ((g.met.A.Serves.shows c.args.array.now).halt ∙ c.requires.going))) (rw (c.as_slice.ensures.value, c.mount_text.ensures) at c.in_default.ensures.part);
   slots = refl;
   told = grows_none _;
   status = search rules;
@@ -40,10 +40,10 @@ returns-in-Ok-finish g c = record {
   run =
       let a = c.answer_lines-tally.ensures in
       let f = c.in-Ok-finish.ensures in
-      done_gen _ _ _ _ _ _ _ _ _ _ c.writes.result c.gear.result _ _ (c.writes.ensures.point c.requires.going) c.gear.ensures.point _ _ a.counted c.gear-2.result c.energy.result c.gear-2.ensures.point c.energy.ensures.point (tells_generated _ _ _ _ _ c.writes.result c.gear.result c.gear-2.result c.energy.result (shown_line c.writes.result c.gear.result (g.A.Serves.shown c.args.array.now) c.writes.ensures.shown (c.gear.ensures.shown ∙ (g.met.A.Serves.shows c.args.array.now).gear ((g.met.A.Serves.shows c.args.array.now).halt ∙ c.requires.going))) c.answer_lines-tally.ensures.causes c.gear-2.ensures.shown c.energy.ensures.shown)
+      done_gen _ _ _ _ _ _ _ _ _ c.writes.result c.gear.result _ _ (c.writes.ensures.point c.requires.going) c.gear.ensures.point _ _ a.counted c.gear-2.result c.energy.result c.gear-2.ensures.point c.energy.ensures.point (tells_generated _ _ _ _ _ c.writes.result c.gear.result c.gear-2.result c.energy.result (shown_line c.writes.result c.gear.result (g.A.Serves.shown c.args.array.now) c.writes.ensures.shown (c.gear.ensures.shown ∙ (g.met.A.Serves.shows c.args.array.now).gear ((g.met.A.Serves.shows c.args.array.now).halt ∙ c.requires.going))) c.answer_lines-tally.ensures.causes c.gear-2.ensures.shown c.energy.ensures.shown)
       (rw (c.as_slice.ensures.value, c.mount_text.ensures) at c.in-Ok.ensures.grows)
-      (rw (c.as_slice-2.ensures.value, c.summary_text.ensures) at c.in-Ok-write_all.ensures.grows)
-      _ _ _ _ _ a.slots a.setup (told_then _ _ f.told) _ _ c.in-Ok-finish.writes f.cause f.turn
+      _ (rw (c.as_slice-2.ensures.value, c.summary_text.ensures) at c.in-Ok-write_all.ensures.grows)
+      _ _ _ _ a.slots a.setup (told_then _ _ f.told) _ _ c.in-Ok-finish.writes f.cause f.turn
       (rw (c.as_slice-in-Ok-finish.ensures.value, c.end_text.ensures) at c.last.ensures.ends);
   slots = c.in-Ok-finish.ensures.slots ∙ c.answer_lines-tally.ensures.slots;
   told = grows_then _ _ _ c.answer_lines-tally.ensures.told c.in-Ok-finish.ensures.told;
@@ -59,10 +59,10 @@ returns-in-Err g c = record {
   run =
       let a = c.answer_lines-tally.ensures in
       let f = c.in-Err.ensures in
-      halted_gen _ _ _ _ _ _ _ _ _ _ c.writes.result c.gear.result _ _ (c.writes.ensures.point c.requires.going) c.gear.ensures.point _ _ a.counted c.gear-2.result c.energy.result c.gear-2.ensures.point c.energy.ensures.point (tells_generated _ _ _ _ _ c.writes.result c.gear.result c.gear-2.result c.energy.result (shown_line c.writes.result c.gear.result (g.A.Serves.shown c.args.array.now) c.writes.ensures.shown (c.gear.ensures.shown ∙ (g.met.A.Serves.shows c.args.array.now).gear ((g.met.A.Serves.shows c.args.array.now).halt ∙ c.requires.going))) c.answer_lines-tally.ensures.causes c.gear-2.ensures.shown c.energy.ensures.shown)
+      halted_gen _ _ _ _ _ _ _ _ _ c.writes.result c.gear.result _ _ (c.writes.ensures.point c.requires.going) c.gear.ensures.point _ _ a.counted c.gear-2.result c.energy.result c.gear-2.ensures.point c.energy.ensures.point (tells_generated _ _ _ _ _ c.writes.result c.gear.result c.gear-2.result c.energy.result (shown_line c.writes.result c.gear.result (g.A.Serves.shown c.args.array.now) c.writes.ensures.shown (c.gear.ensures.shown ∙ (g.met.A.Serves.shows c.args.array.now).gear ((g.met.A.Serves.shows c.args.array.now).halt ∙ c.requires.going))) c.answer_lines-tally.ensures.causes c.gear-2.ensures.shown c.energy.ensures.shown)
       (rw (c.as_slice.ensures.value, c.mount_text.ensures) at c.in-Ok.ensures.grows)
-      (rw (c.as_slice-2.ensures.value, c.summary_text.ensures) at c.in-Ok-write_all.ensures.grows)
-      _ _ _ _ _ a.slots a.setup (told_then _ _ f.told) _ _ c.in-Err.halt f.cause f.turn
+      _ (rw (c.as_slice-2.ensures.value, c.summary_text.ensures) at c.in-Ok-write_all.ensures.grows)
+      _ _ _ _ a.slots a.setup (told_then _ _ f.told) _ _ c.in-Err.halt f.cause f.turn
       (rw (c.as_slice-in-Err.ensures.value, c.reply.ensures.value, c.halt_status.ensures) at c.last-in-Err.ensures.ends);
   slots = c.in-Err.ensures.slots ∙ c.answer_lines-tally.ensures.slots;
   told = grows_then _ _ _ c.answer_lines-tally.ensures.told c.in-Err.ensures.told;

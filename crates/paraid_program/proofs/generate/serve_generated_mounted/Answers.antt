@@ -4,7 +4,7 @@ use Rattle.paraid_program.proofs.generate.serve_generated_mounted.Goals as goal
 
 pub returns : goal.returns
 returns g c = record {
-  headline = λ began mounted. gen_headline _ _ _ _ _ _ _ _ _ _ _ _ _ mounted c.serve_generated.ensures.run;
+  headline = λ began mounted. gen_headline _ _ _ _ _ _ _ mounted c.serve_generated.ensures.run;
   told = search rules;
   slots = c.serve_generated.ensures.slots;
   status = search rules;

@@ -26,10 +26,10 @@ pub returns-clause-plans : goal.returns-clause-plans
 returns-clause-plans g c = refused c.in-Err.field-0.fault c.in-Err.ensures.cause (λ began at. c.in-Err.ensures.refused began at) c.tell_refusal.ensures.tells
 
 pub returns-in-Ok-clause-end : goal.returns-in-Ok-clause-end
-returns-in-Ok-clause-end g c zero = plan_ended c.in-Ok.field-0.meta c.args.ups _ _ _ _ c.tell_plan-status.result _ _ c.tell_plan-status.ensures.told zero
+returns-in-Ok-clause-end g c zero = plan_ended c.in-Ok.field-0.meta c.args.ups _ c.tell_plan-status.result _ c.tell_plan-status.ensures.told zero
 
 pub returns-in-Ok-clause-source : goal.returns-in-Ok-clause-source
-returns-in-Ok-clause-source g c three = plan_source c.in-Ok.field-0.meta c.args.ups _ _ _ _ c.tell_plan-status.result _ _ c.tell_plan-status.ensures.told three
+returns-in-Ok-clause-source g c three = plan_source c.in-Ok.field-0.meta c.args.ups _ c.tell_plan-status.result _ c.tell_plan-status.ensures.told three
 
 pub returns-clause-status : goal.returns-clause-status
 returns-clause-status g c = elim c.tell_refusal.ensures.tells.whole [

@@ -1,6 +1,6 @@
 use Rattle.std.proofs.Common.{rules, refl, ◌∙◌, sym}
 use Rattle.paraid_program.specs.Ends.MountsAndThen.{mounted, refused}
-use Rattle.paraid_program.proofs.EndLemmas.{began_at_end, begins_at_end, end_moment, end_over, spared_over, run_is_refused, run_status}
+use Rattle.paraid_program.proofs.EndLemmas.{began_at_end, begins_at_end, end_moment, end_over, run_is_refused, run_status, service_from, spared_over}
 use Rattle.paraid_program.proofs.spares.run_with_spares.Goals as goal
 
 pub returns-in-Err : goal.returns-in-Err
@@ -18,10 +18,10 @@ returns-in-Ok g c = record {
       let e = c.in-Ok.ensures in
       let done = c.serve_mounted-status.ensures in
       let before = g.R.Rack.told c.args.rack in
-      mounted (g.O.Outside.served c.in-Ok.array) (end_moment before) (g.A.Serves.told c.in-Ok.array) e.served (begins_at_end before (g.A.Serves.told c.in-Ok.array) _ _ e.grows c.unmount.ensures.told c.serve_mounted-status.ensures.told)
-      (spared_over _ _ _ _ _ _ _ _ _ _ _ _ _ e.slots e.setup c.unmount.ensures.told
-      (end_over (g.A.Serves.setup c.in-Ok.array) (g.R.Rack.slot c.args.rack) (g.A.Serves.slot c.in-Ok.array) _ _ _ _ _ c.unmount.ensures.slot e.later done.present done.two done.worn)
-      _ _ c.args.stock c.args.wait (g.A.Serves.shown c.in-Ok.array) (g.A.Serves.shown c.serve_mounted-status.new.array) e.shown ((g.met.A.Serves.shows c.serve_mounted-status.new.array).slot ∙ sym c.unmount.ensures.slot) (done.headline (end_moment before) (e.mounted (end_moment before) (began_at_end before))));
+      mounted (service_from before (g.O.Outside.served c.in-Ok.array) (g.A.Serves.told c.in-Ok.array)) e.served (begins_at_end _ _ _ _ e.grows c.unmount.ensures.told c.serve_mounted-status.ensures.told)
+      (spared_over _ _ _ _ _ _ _ e.slots e.setup c.unmount.ensures.told
+      (end_over (g.A.Serves.setup c.in-Ok.array) _ _ _ (g.A.Serves.slot c.in-Ok.array) _ c.unmount.ensures.slot e.later done.present done.two done.worn)
+      (g.A.Serves.shown c.in-Ok.array) (g.A.Serves.shown c.serve_mounted-status.new.array) e.shown ((g.met.A.Serves.shows c.serve_mounted-status.new.array).slot ∙ sym c.unmount.ensures.slot) _ _ (done.headline (end_moment before) (e.mounted (end_moment before) (began_at_end before))));
   slots = c.unmount.ensures.slots ∙ c.serve_mounted-status.ensures.slots ∙ c.in-Ok.ensures.slots;
   status = run_status _ c.serve_mounted-status.ensures.status;
   source = search rules;

@@ -37,7 +37,7 @@ returns-in-Some-Nbd-clause-does g c = does_it _ _ c.read_words.ensures.exact _ N
 
 pub returns-in-Some-Nbd-clause-complete : goal.returns-in-Some-Nbd-clause-complete
 returns-in-Some-Nbd-clause-complete g c = does_it _ _ c.read_words.ensures.exact _ Nbd (nbd_is g (goal.at.returns-in-Some-Nbd-clause-complete g c).In-Some-Nbd)
-    (λ h. nbd_comes h _ _ _ _ _ c.nbd.ensures.sink _ _ _ _ _ _ c.nbd.ensures.source c.nbd.ensures.nbd)
+    (λ h. nbd_comes h _ _ _ c.nbd.ensures.sink c.nbd.ensures.source c.nbd.ensures.nbd)
 
 pub returns-in-Some-Nbd-clause-end : goal.returns-in-Some-Nbd-clause-end
 returns-in-Some-Nbd-clause-end g c t takes asked zero = absurd (does_it _ _ c.read_words.ensures.exact (λ (u : Command). TakesSource u → ⊥) Nbd (nbd_is g (goal.at.returns-in-Some-Nbd-clause-end g c).In-Some-Nbd) (λ x. x) t asked takes)
@@ -131,23 +131,23 @@ returns-in-Some-Check-clause-source g c three = absurd (check_not_read _ c.check
 
 pub returns-in-Some-Format-clause-complete : goal.returns-in-Some-Format-clause-complete
 returns-in-Some-Format-clause-complete g c = does_it _ _ c.read_words.ensures.exact _ (Format c.in-Some-Format.force) (format_is g (goal.at.returns-in-Some-Format-clause-complete g c).In-Some-Format)
-    (format_comes _ _ _ _ _ _ _ _ _ _ _ _ _ _ c.format.ensures.source c.format.ensures.sink c.in-Some-Format.force c.format.ensures.formats)
+    (format_comes _ _ _ _ c.format.ensures.source c.format.ensures.sink c.in-Some-Format.force c.format.ensures.formats)
 
 pub returns-in-Some-Run-clause-complete : goal.returns-in-Some-Run-clause-complete
 returns-in-Some-Run-clause-complete g c = does_it _ _ c.read_words.ensures.exact _ Run (run_is g (goal.at.returns-in-Some-Run-clause-complete g c).In-Some-Run)
-    (λ h. run_comes h _ _ _ _ _ _ _ c.run.ensures.sink _ _ _ _ c.run.ensures.source c.run.ensures.run)
+    (λ h. run_comes h _ _ c.run.ensures.sink _ c.run.ensures.source c.run.ensures.run)
 
 pub returns-in-Some-Status-clause-complete : goal.returns-in-Some-Status-clause-complete
 returns-in-Some-Status-clause-complete g c = does_it _ _ c.read_words.ensures.exact _ Status (status_is g (goal.at.returns-in-Some-Status-clause-complete g c).In-Some-Status)
-    (λ h. status_comes h _ _ _ _ _ _ _ c.show_state.ensures.sink c.show_state.ensures.shows)
+    (λ h. status_comes h _ _ c.show_state.ensures.sink c.show_state.ensures.shows)
 
 pub returns-in-Some-Check-clause-complete : goal.returns-in-Some-Check-clause-complete
 returns-in-Some-Check-clause-complete g c = does_it _ _ c.read_words.ensures.exact _ Check (check_is g (goal.at.returns-in-Some-Check-clause-complete g c).In-Some-Check)
-    (λ h. check_comes h _ _ _ _ _ _ _ c.check.ensures.sink c.check.ensures.run)
+    (λ h. check_comes h _ _ c.check.ensures.sink c.check.ensures.run)
 
 pub returns-in-Some-Gen-clause-complete : goal.returns-in-Some-Gen-clause-complete
 returns-in-Some-Gen-clause-complete g c = does_it _ _ c.read_words.ensures.exact _ (Gen c.in-Some-Gen.number c.in-Some-Gen.lines) (gen_is g (goal.at.returns-in-Some-Gen-clause-complete g c).In-Some-Gen)
-    (λ h. gen_comes h _ _ _ _ _ _ _ c.generate.ensures.sink _ _ c.generate.ensures.run)
+    (λ h. gen_comes h _ _ c.generate.ensures.sink _ _ c.generate.ensures.run)
 
 pub returns-in-None-clause-complete : goal.returns-in-None-clause-complete
 returns-in-None-clause-complete g c t asked = absurd (nothing_asked _ _ c.read_words.ensures.exact c.in-None.is t asked)
@@ -166,7 +166,7 @@ returns-in-Some-Plan-clause-untouched g c none = absurd (none (Plan c.in-Some-Pl
 
 pub returns-in-Some-Plan-clause-complete : goal.returns-in-Some-Plan-clause-complete
 returns-in-Some-Plan-clause-complete g c = does_it _ _ c.read_words.ensures.exact _ (Plan c.in-Some-Plan.ups) (plan_is g (goal.at.returns-in-Some-Plan-clause-complete g c).In-Some-Plan)
-    (λ h. plan_comes h _ _ _ _ _ _ _ c.show_plan.ensures.sink _ _ _ _ _ c.show_plan.ensures.plans)
+    (λ h. plan_comes h _ _ c.show_plan.ensures.sink _ _ c.show_plan.ensures.plans)
 
 pub show_plan-requires : goal.show_plan-requires
 show_plan-requires g c = record { few = (asks _ _ c.read_words.ensures.exact (Plan c.in-Some-Plan.ups) (plan_is g (goal.at.show_plan-requires g c).In-Some-Plan)).few }
@@ -185,7 +185,7 @@ returns-in-Some-Spare-clause-untouched g c none = absurd (none (Spare c.in-Some-
 
 pub returns-in-Some-Spare-clause-complete : goal.returns-in-Some-Spare-clause-complete
 returns-in-Some-Spare-clause-complete g c = does_it _ _ c.read_words.ensures.exact _ (Spare c.in-Some-Spare.stock c.in-Some-Spare.wait) (spare_is g (goal.at.returns-in-Some-Spare-clause-complete g c).In-Some-Spare)
-    (λ h. spared_comes h _ _ _ _ _ _ _ c.run_with_spares.ensures.sink _ _ _ _ c.run_with_spares.ensures.source c.in-Some-Spare.stock c.in-Some-Spare.wait c.run_with_spares.ensures.run)
+    (λ h. spared_comes h _ _ c.run_with_spares.ensures.sink _ c.run_with_spares.ensures.source _ c.run_with_spares.ensures.run)
 
 vol_is : (g : Over) (c : In-Some-Vol g) → c.read_words.result ≡ Some Vol
 vol_is g c = c.in-Some-Vol.is ∙ ap Some c.in-Some-Vol.field-0-is
@@ -195,7 +195,7 @@ returns-in-Some-Vol-clause-does g c = does_it _ _ c.read_words.ensures.exact _ V
 
 pub returns-in-Some-Vol-clause-complete : goal.returns-in-Some-Vol-clause-complete
 returns-in-Some-Vol-clause-complete g c = does_it _ _ c.read_words.ensures.exact _ Vol (vol_is g (goal.at.returns-in-Some-Vol-clause-complete g c).In-Some-Vol)
-    (λ h. volumes_come h _ _ _ _ _ _ _ c.vol.ensures.sink _ _ _ _ c.vol.ensures.source c.vol.ensures.run)
+    (λ h. volumes_come h _ _ c.vol.ensures.sink _ c.vol.ensures.source c.vol.ensures.run)
 
 pub returns-in-Some-Vol-clause-unread : goal.returns-in-Some-Vol-clause-unread
 returns-in-Some-Vol-clause-unread g c t not asked = absurd (not (does_it _ _ c.read_words.ensures.exact ReadsSource Vol (vol_is g (goal.at.returns-in-Some-Vol-clause-unread g c).In-Some-Vol) tt t asked))

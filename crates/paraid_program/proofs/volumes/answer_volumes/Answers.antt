@@ -1,6 +1,6 @@
 use Rattle.std.proofs.Common.{rules, refl, ◌∙◌}
 use Rattle.paraid_program.specs.Ends.MountsAndThen.{mounted, refused}
-use Rattle.paraid_program.proofs.EndLemmas.{began_at_end, begins_at_end, end_moment, end_over, run_is_refused, run_status}
+use Rattle.paraid_program.proofs.EndLemmas.{began_at_end, begins_at_end, end_moment, end_over, run_is_refused, run_status, service_from}
 use Rattle.paraid_program.proofs.VolumeLemmas.{volumes_over}
 use Rattle.paraid_program.proofs.volumes.answer_volumes.Goals as goal
 
@@ -21,9 +21,9 @@ returns-in-Ok g c = record {
       let array = c.in-Ok.array in
       let before = g.R.Rack.told c.args.rack in
       let began = end_moment before in
-      mounted (g.O.Outside.served array) began (g.A.Serves.told array) e.served (begins_at_end before (g.A.Serves.told array) _ _ e.grows c.unmount.ensures.told done.told)
-      (volumes_over _ _ (g.A.Serves.setup array) _ (g.R.Rack.slot c.args.rack) _ began _ _ _ _ _ _ _ _ e.slots e.setup c.unmount.ensures.told
-      (end_over (g.A.Serves.setup array) (g.R.Rack.slot c.args.rack) (g.A.Serves.slot array) _ _ _ _ _ c.unmount.ensures.slot e.later done.present done.two done.worn)
+      mounted (service_from before (g.O.Outside.served array) (g.A.Serves.told array)) e.served (begins_at_end _ _ _ _ e.grows c.unmount.ensures.told done.told)
+      (volumes_over _ _ _ _ _ _ (g.A.Serves.setup array) _ e.slots e.setup c.unmount.ensures.told
+      (end_over (g.A.Serves.setup array) _ _ _ (g.A.Serves.slot array) _ c.unmount.ensures.slot e.later done.present done.two done.worn)
       (done.headline began (e.mounted began (began_at_end before))));
   slots = c.unmount.ensures.slots ∙ c.serve_volumes-status.ensures.slots ∙ c.in-Ok.ensures.slots;
   status = run_status _ c.serve_volumes-status.ensures.status;

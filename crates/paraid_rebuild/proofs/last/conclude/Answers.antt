@@ -35,7 +35,7 @@ use Rattle.paraid_rebuild.specs.Rebuilds.{HasCommitted, ServesLater}
 use Rattle.paraid_rebuild.proofs.LossLemmas.{LosesEnding, copies_lost_steps}
 use Rattle.paraid_rebuild.proofs.ReplacementEventLemmas.{named_there}
 use Rattle.paraid_rebuild.proofs.StepEventLemmas.{copies_both, copies_step, fresh_low, gone_told, same_told}
-use Rattle.paraid_rebuild.proofs.ResultLemmas.{err_map, on_all, on_at, on_both, on_map, one_later}
+use Rattle.paraid_rebuild.proofs.ResultLemmas.{err_map, on_all, on_at, on_both, no_earlier, on_map, one_later}
 use Rattle.std.specs.Prelude.{List}
 use Rattle.paraid_base.specs.History.{History}
 use Rattle.paraid_rack.specs.Told.{CrashTriple, Ran}
@@ -99,6 +99,7 @@ returns-then-not-copied g c =
       serves = record {
         serving = c.in_ok-copied.ensures.serving;
         nothing = c.in_ok-copied.ensures.leaves.batch ∙ c.requires.nothing;
+        later = omega arith;
         few = omega arith;
         table = c.in_ok-copied.ensures.leaves.table;
       };
@@ -159,6 +160,7 @@ returns g c =
       serves = on_both {Z = ServesLater a new 1} _ c.come_back.ensures.serves c.come_back.ensures.epoch (λ it next. record {
         serving = it.serving;
         nothing = it.nothing;
+        later = no_earlier a.meta.epoch b.meta.epoch new.meta.epoch one next;
         few = one_later a.meta.epoch b.meta.epoch new.meta.epoch one next;
         table = c.come_back.ensures.table ∙ left.table;
       });

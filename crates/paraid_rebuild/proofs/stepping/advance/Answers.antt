@@ -30,7 +30,7 @@ use Rattle.paraid_rebuild.proofs.ReplacementEventLemmas.{named_there}
 use Rattle.paraid_rebuild.proofs.StepEventLemmas.{copies_committed, copies_step, fresh_low, gone_told, same_told, steps_within}
 use Rattle.paraid_rebuild.proofs.LossLemmas.{LosesSteps, copies_lost_steps, lost_within}
 use Rattle.paraid_rebuild.proofs.StepEventLemmas.{copies_lost}
-use Rattle.paraid_rebuild.proofs.ResultLemmas.{err_map, on_all, on_at, on_both, on_map, one_later}
+use Rattle.paraid_rebuild.proofs.ResultLemmas.{err_map, on_all, on_at, on_both, on_map, no_earlier, one_later}
 use Rattle.std.specs.Prelude.{List}
 use Rattle.paraid_base.specs.History.{History}
 use Rattle.paraid_rack.specs.Told.{CrashTriple, Ran}
@@ -95,6 +95,7 @@ returns-then-not-copied g c =
       serves = record {
         serving = c.in_ok-copied.ensures.serving;
         nothing = c.in_ok-copied.ensures.leaves.batch ∙ c.requires.nothing;
+        later = omega arith;
         few = omega arith;
         table = c.in_ok-copied.ensures.leaves.table;
       };
@@ -155,6 +156,7 @@ returns g c =
       serves = on_both {Z = ServesLater a new 1} _ c.mark_units.ensures.serves c.mark_units.ensures.epoch (λ it next. record {
         serving = it.serving;
         nothing = it.nothing;
+        later = no_earlier a.meta.epoch b.meta.epoch new.meta.epoch one next;
         few = one_later a.meta.epoch b.meta.epoch new.meta.epoch one next;
         table = c.mark_units.ensures.table ∙ left.table;
       });

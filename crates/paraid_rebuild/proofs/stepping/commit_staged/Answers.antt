@@ -30,7 +30,7 @@ use Rattle.paraid_core.proofs.AfterLemmas.{handed}
 use Rattle.paraid_rebuild.proofs.LossLemmas.{LosesSteps, commit_lost_steps, tells_by}
 use Rattle.paraid_rebuild.proofs.ResultLemmas.{back_is, gone_is}
 use Rattle.paraid_rebuild.proofs.stepping.commit_staged.Goals as goal
-use Rattle.std.proofs.Math.Nat.{le-add_right}
+use Rattle.std.proofs.Math.Nat.{le-add_right, le_refl}
 use Rattle.paraid_rebuild.proofs.ReplacingLemmas.{lost_none}
 use Rattle.std.specs.Prelude.{true, false, Ok}
 use Rattle.paraid_shift.proofs.AnswerLemmas.{none_done, none_done_as}
@@ -43,6 +43,7 @@ returns-then-is_clear g c =
       serves = record {
         serving = c.requires.can.serving;
         nothing = c.is_clear.ensures.nothing c.if-is_clear.true;
+        later = le_refl _;
         few = le-add_right _ _;
         table = refl;
       };
@@ -120,6 +121,7 @@ returns g c =
             serving_then g.R.Rack.slot_count g.R.Rack.slot a new c.requires.can.serving done.stays.ready (done.serves c.requires.can.serving.serves) (done.unsynced c.requires.can.serving.unsynced) done.cells.draft done.stays.copied done.stays.setup
             (λ d is. marked_named _ new.meta done.meta.meta d is) (λ d not there. c.commit.ensures.stays.losses.spared.size d there);
         nothing = c.in_ok-commit.ensures.nothing;
+        later = omega arith;
         few = omega arith;
         table = c.commit.ensures.cells.table;
       };

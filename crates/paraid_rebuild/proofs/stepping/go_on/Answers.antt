@@ -1,4 +1,5 @@
 use Rattle.std.specs.Prelude.{ℕ, Option}
+use Rattle.std.proofs.Math.Nat.{le_trans}
 use Rattle.std.proofs.Common.{◌≡◌, ◌∙◌, sym, ap, subst, arith, Ok}
 use Rattle.paraid_base.proofs.ToldLemmas.{HasRisen-sooner}
 use Rattle.paraid_base.specs.declared.state.Out.TheVariants.{Fresh}
@@ -69,6 +70,7 @@ returns-then-not-there g c =
       serves = record {
         serving = c.in_ok-there.ensures.serves.serving;
         nothing = c.in_ok-there.ensures.serves.nothing;
+        later = c.in_ok-there.ensures.serves.later;
         few = omega arith;
         table = c.commit_staged.ensures.table;
       };
@@ -109,6 +111,7 @@ returns g c =
       serves = on_map {Y = ServesLater a new 2} _ c.advance.ensures.serves (λ it. record {
         serving = it.serving;
         nothing = it.nothing;
+        later = le_trans c.in_ok-there.ensures.serves.later it.later;
         few = two_later a.meta.epoch b.meta.epoch new.meta.epoch one it.few;
         table = it.table ∙ c.commit_staged.ensures.table;
       });

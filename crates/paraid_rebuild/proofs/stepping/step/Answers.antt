@@ -56,6 +56,7 @@ returns-then-moved g c =
       serves = record {
         serving = c.in_ok-moved.ensures.serves.serving;
         nothing = c.in_ok-moved.ensures.serves.nothing;
+        later = c.in_ok-moved.ensures.serves.later;
         few = omega arith;
         table = c.in_ok-moved.ensures.serves.table;
       };
@@ -120,6 +121,7 @@ returns g c =
     let gone = (c.in_ok-moved.ensures.lost (ap Ok c.if-moved.false)).gone in
     let named : named_of b.store ≡ named_of a.store = c.in_ok-moved.ensures.named ∙ sym c.requires.can.named in
     let setup : b.meta.setup ≡ a.meta.setup = ap (λ (m : Meta). m.setup) gone in
+    let later = c.in_ok-moved.ensures.serves.later in
     let one = c.in_ok-moved.ensures.serves.few in
     let two = ap (λ (m : Meta). m.epoch) c.in_ok-commit_lost.ensures.gone in
     let e = c.in_ok-commit_lost.ensures.gone in
@@ -127,6 +129,7 @@ returns g c =
       serves = record {
         serving = c.in_ok-commit_lost.ensures.serves.serving;
         nothing = c.in_ok-commit_lost.ensures.serves.nothing;
+        later = omega arith;
         few = omega arith;
         table = c.commit_lost.ensures.table ∙ c.in_ok-moved.ensures.serves.table;
       };

@@ -4,6 +4,7 @@ use Rattle.paraid_base.proofs.ToldLemmas.{GrowsByBytes-then, HasRisen-sooner}
 use Rattle.paraid_record.specs.declared.meta.Setup.{Setup}
 use Rattle.paraid_serve.specs.Calls.{IsNotDouble}
 use Rattle.paraid_serve.specs.Output.{IsServedStatus}
+use Rattle.paraid_serve.specs.Streams.{sink_use}
 use Rattle.paraid_serve.proofs.GrowsLemmas.{grows_none}
 use Rattle.paraid_serve.proofs.HaltLemmas.{names_two, tells_wear}
 use Rattle.paraid_serve.proofs.StatusLemmas.{not_fallen, halt_high, halt_served, other, served, sink_failed}
@@ -12,7 +13,7 @@ use Rattle.paraid_serve.proofs.top.serve.Goals as goal
 
 pub returns-in-Ok-session : goal.returns-in-Ok-session
 returns-in-Ok-session g c = record {
-  run = done_run _ _ _ _ _ _ _ _ _ _ _ _ _ c.writes.result c.gear.result (c.writes.ensures.point c.requires.going) c.gear.ensures.point (shown_line c.writes.result c.gear.result (g.A.Serves.shown c.args.array.now) c.writes.ensures.shown (c.gear.ensures.shown ∙ (g.met.A.Serves.shows c.args.array.now).gear ((g.met.A.Serves.shows c.args.array.now).halt ∙ c.requires.going))) _ (rw (c.as_slice.ensures.value, c.mount_text.ensures) at c.in-Ok.ensures.grows)
+  run = done_run _ _ _ _ _ _ _ c.writes.result c.gear.result (c.writes.ensures.point c.requires.going) c.gear.ensures.point (shown_line c.writes.result c.gear.result (g.A.Serves.shown c.args.array.now) c.writes.ensures.shown (c.gear.ensures.shown ∙ (g.met.A.Serves.shows c.args.array.now).gear ((g.met.A.Serves.shows c.args.array.now).halt ∙ c.requires.going))) _ (rw (c.as_slice.ensures.value, c.mount_text.ensures) at c.in-Ok.ensures.grows)
       c.in-Ok-session.writes c.in-Ok-session.ensures.session (rw (c.as_slice-in-Ok-session.ensures.value, c.end_text.ensures) at c.last.ensures.ends);
   told = c.session.ensures.told;
   slots = c.session.ensures.slots;
@@ -26,7 +27,7 @@ returns-in-Ok-session g c = record {
 
 pub returns-in-Err-Source : goal.returns-in-Err-Source
 returns-in-Err-Source g c = record {
-  run = source_run _ _ _ _ _ _ _ _ _ _ _ _ _ c.writes.result c.gear.result (c.writes.ensures.point c.requires.going) c.gear.ensures.point (shown_line c.writes.result c.gear.result (g.A.Serves.shown c.args.array.now) c.writes.ensures.shown (c.gear.ensures.shown ∙ (g.met.A.Serves.shows c.args.array.now).gear ((g.met.A.Serves.shows c.args.array.now).halt ∙ c.requires.going))) _ (rw (c.as_slice.ensures.value, c.mount_text.ensures) at c.in-Ok.ensures.grows)
+  run = source_run _ _ _ _ _ _ _ c.writes.result c.gear.result (c.writes.ensures.point c.requires.going) c.gear.ensures.point (shown_line c.writes.result c.gear.result (g.A.Serves.shown c.args.array.now) c.writes.ensures.shown (c.gear.ensures.shown ∙ (g.met.A.Serves.shows c.args.array.now).gear ((g.met.A.Serves.shows c.args.array.now).halt ∙ c.requires.going))) _ (rw (c.as_slice.ensures.value, c.mount_text.ensures) at c.in-Ok.ensures.grows)
       (rw c.in-Err-Source.field-0-is at c.in-Err-Source.ensures.session) c.last-in-Err-Source.ensures.ends;
   told = c.session.ensures.told;
   slots = c.session.ensures.slots;
@@ -40,7 +41,7 @@ returns-in-Err-Source g c = record {
 
 pub returns-in-Err-TooLong : goal.returns-in-Err-TooLong
 returns-in-Err-TooLong g c = record {
-  run = too_long_run _ _ _ _ _ _ _ _ _ _ _ _ _ c.writes.result c.gear.result (c.writes.ensures.point c.requires.going) c.gear.ensures.point (shown_line c.writes.result c.gear.result (g.A.Serves.shown c.args.array.now) c.writes.ensures.shown (c.gear.ensures.shown ∙ (g.met.A.Serves.shows c.args.array.now).gear ((g.met.A.Serves.shows c.args.array.now).halt ∙ c.requires.going))) _ (rw (c.as_slice.ensures.value, c.mount_text.ensures) at c.in-Ok.ensures.grows)
+  run = too_long_run _ _ _ _ _ _ _ c.writes.result c.gear.result (c.writes.ensures.point c.requires.going) c.gear.ensures.point (shown_line c.writes.result c.gear.result (g.A.Serves.shown c.args.array.now) c.writes.ensures.shown (c.gear.ensures.shown ∙ (g.met.A.Serves.shows c.args.array.now).gear ((g.met.A.Serves.shows c.args.array.now).halt ∙ c.requires.going))) _ (rw (c.as_slice.ensures.value, c.mount_text.ensures) at c.in-Ok.ensures.grows)
       (rw c.in-Err-TooLong.field-0-is at c.in-Err-TooLong.ensures.session) c.last-in-Err-TooLong.ensures.ends;
   told = c.session.ensures.told;
   slots = c.session.ensures.slots;
@@ -54,7 +55,7 @@ returns-in-Err-TooLong g c = record {
 
 pub returns-in-Err-Sink : goal.returns-in-Err-Sink
 returns-in-Err-Sink g c = record {
-  run = sink_run _ _ _ _ _ _ _ _ _ _ _ _ (g.K.Sink.written c.args.sink.now) c.writes.result c.gear.result (c.writes.ensures.point c.requires.going) c.gear.ensures.point (shown_line c.writes.result c.gear.result (g.A.Serves.shown c.args.array.now) c.writes.ensures.shown (c.gear.ensures.shown ∙ (g.met.A.Serves.shows c.args.array.now).gear ((g.met.A.Serves.shows c.args.array.now).halt ∙ c.requires.going))) (rw (c.as_slice.ensures.value, c.mount_text.ensures) at c.in-Ok.ensures.grows)
+  run = sink_run _ _ _ _ _ _ (sink_use g.K.Sink.written g.K.Sink.faults c.args.sink.now c.args.sink.now) c.writes.result c.gear.result (c.writes.ensures.point c.requires.going) c.gear.ensures.point (shown_line c.writes.result c.gear.result (g.A.Serves.shown c.args.array.now) c.writes.ensures.shown (c.gear.ensures.shown ∙ (g.met.A.Serves.shows c.args.array.now).gear ((g.met.A.Serves.shows c.args.array.now).halt ∙ c.requires.going))) (rw (c.as_slice.ensures.value, c.mount_text.ensures) at c.in-Ok.ensures.grows)
       (rw c.in-Err-Sink.field-0-is at c.in-Err-Sink.ensures.session);
   told = c.session.ensures.told;
   slots = c.session.ensures.slots;
@@ -68,7 +69,7 @@ returns-in-Err-Sink g c = record {
 
 pub returns-in-Err-Halt : goal.returns-in-Err-Halt
 returns-in-Err-Halt g c = record {
-  run = halted_run _ _ _ _ _ _ _ _ _ _ _ _ _ c.writes.result c.gear.result (c.writes.ensures.point c.requires.going) c.gear.ensures.point (shown_line c.writes.result c.gear.result (g.A.Serves.shown c.args.array.now) c.writes.ensures.shown (c.gear.ensures.shown ∙ (g.met.A.Serves.shows c.args.array.now).gear ((g.met.A.Serves.shows c.args.array.now).halt ∙ c.requires.going))) _ (rw (c.as_slice.ensures.value, c.mount_text.ensures) at c.in-Ok.ensures.grows)
+  run = halted_run _ _ _ _ _ _ _ c.writes.result c.gear.result (c.writes.ensures.point c.requires.going) c.gear.ensures.point (shown_line c.writes.result c.gear.result (g.A.Serves.shown c.args.array.now) c.writes.ensures.shown (c.gear.ensures.shown ∙ (g.met.A.Serves.shows c.args.array.now).gear ((g.met.A.Serves.shows c.args.array.now).halt ∙ c.requires.going))) _ (rw (c.as_slice.ensures.value, c.mount_text.ensures) at c.in-Ok.ensures.grows)
       c.in-Err-Halt.halt (rw c.in-Err-Halt.field-0-is at c.in-Err-Halt.ensures.session)
       (rw (c.as_slice-in-Err-Halt.ensures.value, c.reply.ensures.value, c.halt_status.ensures) at c.last-in-Err-Halt.ensures.ends);
   told = c.session.ensures.told;

@@ -3,7 +3,7 @@ use Rattle.paraid_record.specs.declared.meta.Setup.{Setup}
 use Rattle.paraid_device.specs.Devices.{array_of}
 use Rattle.paraid_device.specs.Laws.{answered_none}
 use Rattle.paraid_serve.specs.Calls.{IsNotDouble}
-use Rattle.paraid_service.specs.ClientCauses.{Exchange}
+use Rattle.paraid_serve.specs.Streams.{Streams, sink_use, source_use, streams_of}
 use Rattle.paraid_service.proofs.CauseLemmas.{service_cause}
 use Rattle.paraid_service.proofs.EndLemmas.{ends_answered, ends_going, ends_sink, ends_source, ends_status, ends_two}
 use Rattle.paraid_service.proofs.HeadlineLemmas.{ends_at, headline_at}
@@ -22,20 +22,11 @@ returns g c =
     let e = ends_at g.A.Serves (array_of first) (array_of last) a b c.new-device.ensures.array c.close.ensures (c.end_client-status.ensures.ends first k.0 k.1) in
     let all = ends_answered g.A.Serves a b k.0 end status e in
     let cause = service_cause _ _ _ _ _ first c.serve_nbd-end.new.blocks c.serve_nbd-end.ensures.service in
-    let x : Exchange = record {
-      before = g.S.Source.left c.args.source.now;
-      after = g.S.Source.left c.serve_nbd-end.new.source;
-      written = g.K.Sink.written c.args.sink.now;
-      now_written = g.K.Sink.written c.serve_nbd-end.new.sink;
-      faults = g.S.Source.faults c.args.source.now;
-      now_faults = g.S.Source.faults c.serve_nbd-end.new.source;
-      sink_faults = g.K.Sink.faults c.args.sink.now;
-      sink_now = g.K.Sink.faults c.serve_nbd-end.new.sink;
-    } in
+    let x : Streams = streams_of (source_use g.S.Source.left g.S.Source.faults c.args.source.now c.serve_nbd-end.new.source) (sink_use g.K.Sink.written g.K.Sink.faults c.args.sink.now c.serve_nbd-end.new.sink) in
     let replied = client_replied _ _ _ _ _ x end first first c.serve_nbd-end.new.blocks (answered_none g.A.Serves (array_of first)) c.serve_nbd-end.ensures.service in
     record {
       causes = caused_at g.A.Serves (array_of first) (array_of last) a b x end status replied.events c.new-device.ensures.array c.close.ensures (g.met.A.Serves.shows (array_of first)).setup replied.answers (c.end_client-status.ensures.ends first replied.events replied.kept_is);
-      headline = headline_at g.A.Serves g.met.A.Serves.agrees first c.serve_nbd-end.new.blocks last status c.new-device.ensures.going c.serve_nbd-end.ensures.service c.end_client-status.ensures.ends a b c.new-device.ensures.array c.close.ensures;
+      headline = headline_at g.A.Serves g.met.A.Serves.agrees first c.serve_nbd-end.new.blocks last x status c.new-device.ensures.going c.serve_nbd-end.ensures.service c.end_client-status.ensures.ends a b c.new-device.ensures.array c.close.ensures;
       told = all.1.grows;
       slots = all.1.same_slots;
       status = ends_status g.A.Serves a b k.0 end status e;

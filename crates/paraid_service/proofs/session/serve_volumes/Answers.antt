@@ -1,11 +1,12 @@
 use Rattle.std.proofs.Common.{◌≡◌, [], ◌++◌, None, arith, inl, inr, refl, subst}
 use Rattle.paraid_base.proofs.ToldLemmas.{GrowsByBytes-then}
-use Rattle.paraid_device.specs.Devices.{array_of}
+use Rattle.paraid_device.specs.Devices.{array_of, span_between}
 use Rattle.paraid_record.specs.declared.meta.Setup.{Setup}
 use Rattle.paraid_device.specs.Laws.{answered_none}
 use Rattle.paraid_serve.specs.Calls.{IsNotDouble}
 use Rattle.paraid_serve.specs.Ending.{mount_line}
 use Rattle.paraid_serve.specs.Output.{begins_with}
+use Rattle.paraid_serve.specs.Streams.{Streams, sink_use, source_use, streams_of}
 use Rattle.paraid_session.specs.Turn.{Point}
 use Rattle.paraid_serve.proofs.GrowsLemmas.{grows_none}
 use Rattle.paraid_serve.proofs.HaltLemmas.{no_event_yet}
@@ -17,7 +18,7 @@ pub returns-in_default : goal.returns-in_default
 returns-in_default g c =
     let a = c.args.array in
     let p = c.in_default.ensures.part in
-    let run = ran_none g.A.Serves a c.writes.result c.gear.result p.0 (rw (c.as_slice.ensures.value, c.mount_text.ensures) at p.2) (λ q at. rw (c.writes.ensures.point c.requires.going q at, c.gear.ensures.point q at) refl) in
+    let run = ran_none g.A.Serves a (g.S.Source.left c.args.source.now) (g.S.Source.faults c.args.source.now) (sink_use g.K.Sink.written g.K.Sink.faults c.args.sink.now c.write_all.new.sink) c.writes.result c.gear.result p.0 (rw (c.as_slice.ensures.value, c.mount_text.ensures) at p.2) (λ q at. rw (c.writes.ensures.point c.requires.going q at, c.gear.ensures.point q at) refl) in
     record {
       run = run;
       headline = headline_of g.A.Serves g.met.A.Serves.agrees a a [] (answered_none g.A.Serves a) 4 (λ zero. absurd (omega (arith, zero))) run;
@@ -47,9 +48,10 @@ returns g c =
     let k = c.in-Ok.ensures in
     let grew = rw (c.as_slice.ensures.value, c.mount_text.ensures) at k.grows in
     let mounted : (q : Point) → g.A.Serves.stands (array_of first) q → mount ≡ begins_with q = λ q stands. let here = rw c.new.ensures.array at stands in rw (c.writes.ensures.point c.requires.going q here, c.gear.ensures.point q here) refl in
-    let run : VolumesRun (g.A.Serves.slots a) (g.A.Serves.setup a) (g.A.Serves.stands a) (g.A.Serves.told a) (g.A.Serves.told b) (g.S.Source.left c.args.source.now) (g.S.Source.left c.serve_lines-run.new.source) (g.K.Sink.written c.args.sink.now) (g.K.Sink.written c.end_session-status.new.sink) status
-    = rw (c.close.ensures, ← c.new.ensures.array) (ran g.A.Serves g.met.A.Serves.agrees first c.new.ensures.going shelf halt c.writes.result c.gear.result grew mounted last end status lines ends) in
-    let every = all_answered g.A.Serves g.met.A.Serves.agrees first c.new.ensures.going shelf halt c.writes.result c.gear.result grew mounted last end status lines ends in
+    let streams : Streams = streams_of (source_use g.S.Source.left g.S.Source.faults c.args.source.now c.serve_lines-run.new.source) (sink_use g.K.Sink.written g.K.Sink.faults c.args.sink.now c.end_session-status.new.sink) in
+    let run : VolumesRun (span_between g.A.Serves a b) (g.A.Serves.stands a) streams status
+    = rw (c.close.ensures, ← c.new.ensures.array) (ran g.A.Serves g.met.A.Serves.agrees first c.new.ensures.going streams shelf halt c.writes.result c.gear.result grew mounted last end status lines ends) in
+    let every = all_answered g.A.Serves g.met.A.Serves.agrees first c.new.ensures.going streams shelf halt c.writes.result c.gear.result grew mounted last end status lines ends in
     let all = answered_at g.A.Serves first last a b every.0 c.new.ensures.array c.close.ensures every.1 in
     let going : status ≡ 0 → g.A.Serves.halted b ≡ None = λ zero. rw c.close.ensures (ends_going g.A.Serves end status ends zero) in
     let text = GrowsByBytes-then _ _ _ mount lines.told grew lines.grows in

@@ -14,7 +14,7 @@ use Rattle.paraid_shift.proofs.AnswerLemmas.{none_done}
 use Rattle.paraid_txn.specs.Stores.{named_of, store_rack}
 use Rattle.paraid_core.specs.Cores.{CoreStandsFor}
 use Rattle.paraid_core.specs.Fills.{Filled}
-use Rattle.paraid_shift.proofs.ServingLemmas.{array_marked, leaves_array_then, two_array, chain, chain_held, copies_still, large_then, none_away, none_known, turns_lost, unsynced_still}
+use Rattle.paraid_shift.proofs.ServingLemmas.{array_marked, leaves_array_then, marked_version, two_array, chain, chain_held, copies_still, large_then, none_away, none_known, turns_lost, unsynced_still}
 use Rattle.paraid_shift.proofs.PartLemmas.{spares_failed}
 use Rattle.paraid_shift.proofs.LossLemmas.{commit_is_lost, marks_lost}
 use Rattle.std.specs.Prelude.{◌<◌, ◌^◌}
@@ -44,7 +44,7 @@ returns-in_err-commit g c =
       rack = spares_failed from.result from.ensures.1 (all.stays.losses.slots ∙ ap (λ (z : _). g.R.Rack.slot_count (store_rack z)) marks.marks.store)
           (subst (λ (z : _). OnlyLosesSlots (g.R.Rack.slot (store_rack z)) (g.R.Rack.slot (store_rack new.store))) marks.marks.store all.stays.losses.spared)
           (two_array g.R.Rack.slot_count g.R.Rack.slot a b new
-          (array_marked g.R.Rack.slot_count g.R.Rack.slot a b marks.marks.store (ap (λ (m : Meta). m.setup) marks.meta) (ap (λ (m : Meta). m.out) marks.meta) (ap (λ (m : Meta). m.writes) marks.meta))
+          (array_marked g.R.Rack.slot_count g.R.Rack.slot a b marks.marks.store (ap (λ (m : Meta). m.setup) marks.meta) (ap (λ (m : Meta). m.out) marks.meta) (ap (λ (m : Meta). m.version) marks.meta) (ap (λ (m : Meta). m.writes) marks.meta))
           all.stays.losses.spared.no_fall _ c.in_err-commit.ensures.stays.losses.two)
           (marks_lost g.R.Rack.slot_count g.R.Rack.slot g.R.Rack.told a b new a.meta 0 _
           (marks_wait g.R.Rack.slot_count g.R.Rack.slot g.R.Rack.told a a b 0 (core_steps_none g.R.Rack.slot_count g.R.Rack.slot g.R.Rack.told a) marks.marks.store
@@ -77,8 +77,8 @@ returns g c =
           large = large_then (g.R.Rack.slot (store_rack a.store)) (g.R.Rack.slot (store_rack new.store)) a.meta new.meta q.large (turns_lost _ _ spared) setup (λ d is. none_known a.meta c.requires.can.whole d is) done.stays.ready.absent;
         };
         leaves = leaves_array_then g.R.Rack.slot_count g.R.Rack.slot a b new
-            (array_marked g.R.Rack.slot_count g.R.Rack.slot a b marks.marks.store (ap (λ (m : Meta). m.setup) marks.meta) (ap (λ (m : Meta). m.out) marks.meta) (ap (λ (m : Meta). m.writes) marks.meta))
-            record { slots = all.stays.losses.slots; setup = done.stays.setup; writes = done.cells.writes; turned = turns_lost _ _ all.stays.losses.spared; down = done.stays.down };
+            (array_marked g.R.Rack.slot_count g.R.Rack.slot a b marks.marks.store (ap (λ (m : Meta). m.setup) marks.meta) (ap (λ (m : Meta). m.out) marks.meta) (ap (λ (m : Meta). m.version) marks.meta) (ap (λ (m : Meta). m.writes) marks.meta))
+            record { slots = all.stays.losses.slots; setup = done.stays.setup; version = marked_version (record b.meta { epoch = b.meta.epoch + 1 }) new.meta done.meta.meta; writes = done.cells.writes; turned = turns_lost _ _ all.stays.losses.spared; down = done.stays.down };
         absent = done.meta.absent;
         nothing = done.nothing;
       };

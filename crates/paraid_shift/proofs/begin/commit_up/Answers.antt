@@ -1,4 +1,4 @@
-use Rattle.paraid_shift.proofs.ServingLemmas.{array_marked, leaves_array_then, two_array, turns_lost}
+use Rattle.paraid_shift.proofs.ServingLemmas.{array_marked, leaves_array_then, marked_version, two_array, turns_lost}
 use Rattle.std.specs.Prelude.{◌+◌, Option}
 use Rattle.std.proofs.Common.{◌≡◌, subst}
 use Rattle.paraid_rack.specs.Told.{Ran}
@@ -52,7 +52,7 @@ returns-in_err-commit g c =
       rack = spares_failed from.result from.ensures.1 (all.stays.losses.slots ∙ ap (λ (z : _). g.R.Rack.slot_count (store_rack z)) marks.marks.store)
           (subst (λ (z : _). OnlyLosesSlots (g.R.Rack.slot (store_rack z)) (g.R.Rack.slot (store_rack new.store))) marks.marks.store all.stays.losses.spared)
           (two_array g.R.Rack.slot_count g.R.Rack.slot a b new
-          (array_marked g.R.Rack.slot_count g.R.Rack.slot a b marks.marks.store (ap (λ (m : Meta). m.setup) marks.meta) (ap (λ (m : Meta). m.out) marks.meta) (ap (λ (m : Meta). m.writes) marks.meta))
+          (array_marked g.R.Rack.slot_count g.R.Rack.slot a b marks.marks.store (ap (λ (m : Meta). m.setup) marks.meta) (ap (λ (m : Meta). m.out) marks.meta) (ap (λ (m : Meta). m.version) marks.meta) (ap (λ (m : Meta). m.writes) marks.meta))
           all.stays.losses.spared.no_fall _ c.in_err-commit.ensures.stays.losses.two)
           (record {
             spins = b.meta.spins;
@@ -94,8 +94,8 @@ returns g c =
         };
         absent = done.meta.absent;
         leaves = leaves_array_then g.R.Rack.slot_count g.R.Rack.slot a b new
-            (array_marked g.R.Rack.slot_count g.R.Rack.slot a b marks.marks.store (ap (λ (m : Meta). m.setup) marks.meta) (ap (λ (m : Meta). m.out) marks.meta) (ap (λ (m : Meta). m.writes) marks.meta))
-            record { slots = all.stays.losses.slots; setup = done.stays.setup; writes = done.cells.writes; turned = turns_lost _ _ all.stays.losses.spared; down = done.stays.down };
+            (array_marked g.R.Rack.slot_count g.R.Rack.slot a b marks.marks.store (ap (λ (m : Meta). m.setup) marks.meta) (ap (λ (m : Meta). m.out) marks.meta) (ap (λ (m : Meta). m.version) marks.meta) (ap (λ (m : Meta). m.writes) marks.meta))
+            record { slots = all.stays.losses.slots; setup = done.stays.setup; version = marked_version (record b.meta { epoch = b.meta.epoch + 1 }) new.meta done.meta.meta; writes = done.cells.writes; turned = turns_lost _ _ all.stays.losses.spared; down = done.stays.down };
         meta = record { spins = b.meta.spins; is = is; raised = marks.raised; others = marks.others };
         named = done.meta.named ∙ ap named_out out ∙ sym (none_named (named_of a.store) a.meta q.serves.stays c.requires.can.whole);
         opens = record {

@@ -1,4 +1,4 @@
-use Rattle.paraid_shift.proofs.ServingLemmas.{array_marked, leaves_array_then, two_array}
+use Rattle.paraid_shift.proofs.ServingLemmas.{array_marked, leaves_array_then, marked_version, two_array}
 use Rattle.std.specs.Prelude.{Option}
 use Rattle.std.proofs.Common.{◌≡◌}
 use Rattle.paraid_rack.specs.Told.{Ran}
@@ -53,7 +53,7 @@ returns-in_err-commit g c =
       rack = spares_failed from.result from.ensures.1 (all.stays.losses.slots ∙ ap (λ (z : _). g.R.Rack.slot_count (store_rack z)) marks.marks.store)
           (subst (λ (z : _). OnlyLosesSlots (g.R.Rack.slot (store_rack z)) (g.R.Rack.slot (store_rack new.store))) marks.marks.store all.stays.losses.spared)
           (two_array g.R.Rack.slot_count g.R.Rack.slot a b new
-          (array_marked g.R.Rack.slot_count g.R.Rack.slot a b marks.marks.store (ap (λ (m : Meta). m.setup) marks.meta) (ap (λ (m : Meta). m.out) marks.meta) (ap (λ (m : Meta). m.writes) marks.meta))
+          (array_marked g.R.Rack.slot_count g.R.Rack.slot a b marks.marks.store (ap (λ (m : Meta). m.setup) marks.meta) (ap (λ (m : Meta). m.out) marks.meta) (ap (λ (m : Meta). m.version) marks.meta) (ap (λ (m : Meta). m.writes) marks.meta))
           all.stays.losses.spared.no_fall _ c.in_err-commit.ensures.stays.losses.two)
           (mark_is_lost g.R.Rack.slot_count g.R.Rack.slot g.R.Rack.told a b new (meta_flipped_to a.meta (phase_to a.meta.phase)) _ marks.marks.store marks.meta marks.marks.staged.table marks.marks.staged.batch marks.marks.staged.copied marks.stands
           (commit_is_lost g.R.Rack.slot_count g.R.Rack.slot g.R.Rack.told b new _ all.brings.calls all.brings.whole (all.held_since.moments_since away) marks.serves.stays c.in_err-commit.ensures.stays.losses.tells));
@@ -87,8 +87,8 @@ returns g c =
         nothing = done.nothing;
         absent = done.meta.absent;
         leaves = leaves_array_then g.R.Rack.slot_count g.R.Rack.slot a b new
-            (array_marked g.R.Rack.slot_count g.R.Rack.slot a b marks.marks.store (ap (λ (m : Meta). m.setup) marks.meta) (ap (λ (m : Meta). m.out) marks.meta) (ap (λ (m : Meta). m.writes) marks.meta))
-            record { slots = all.stays.losses.slots; setup = done.stays.setup; writes = done.cells.writes; turned = turns_lost _ _ all.stays.losses.spared; down = done.stays.down };
+            (array_marked g.R.Rack.slot_count g.R.Rack.slot a b marks.marks.store (ap (λ (m : Meta). m.setup) marks.meta) (ap (λ (m : Meta). m.out) marks.meta) (ap (λ (m : Meta). m.version) marks.meta) (ap (λ (m : Meta). m.writes) marks.meta))
+            record { slots = all.stays.losses.slots; setup = done.stays.setup; version = marked_version (record b.meta { epoch = b.meta.epoch + 1 }) new.meta done.meta.meta; writes = done.cells.writes; turned = turns_lost _ _ all.stays.losses.spared; down = done.stays.down };
         steady = marked_steady _ new.meta is refl;
         meta = is;
         named = done.meta.named ∙ ap named_out out ∙ sym (none_named (named_of a.store) a.meta q.serves.stays c.requires.can.whole);

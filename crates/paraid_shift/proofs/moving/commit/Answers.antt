@@ -4,7 +4,7 @@ use Rattle.paraid_shift.proofs.AnswerLemmas.{none_done}
 use Rattle.paraid_txn.specs.Stores.{store_rack}
 use Rattle.paraid_shift.proofs.MovedLossLemmas.{commit_loses_both, commit_loses_step}
 use Rattle.paraid_shift.proofs.MovingLemmas.{core_moves_none}
-use Rattle.paraid_shift.proofs.ServingLemmas.{copies_still, large_then, marked_named, turns_lost}
+use Rattle.paraid_shift.proofs.ServingLemmas.{copies_still, large_then, marked_named, marked_version, turns_lost}
 use Rattle.paraid_shift.proofs.StepsLemmas.{commit_is_marked, commit_is_step, commit_stands}
 use Rattle.paraid_shift.proofs.moving.commit.Goals as goal
 
@@ -51,7 +51,7 @@ returns g c =
           large = large_then (g.R.Rack.slot (store_rack a.store)) (g.R.Rack.slot (store_rack b.store)) a.meta b.meta q.large (turns_lost _ _ all.stays.losses.spared) done.stays.setup
               (marked_named (record a.meta { epoch = a.meta.epoch + 1 }) b.meta done.meta.meta) done.stays.ready.absent;
         };
-        leaves = record { slots = all.stays.losses.slots; setup = done.stays.setup; writes = done.cells.writes; turned = turns_lost _ _ all.stays.losses.spared; down = done.stays.down };
+        leaves = record { slots = all.stays.losses.slots; setup = done.stays.setup; version = marked_version (record a.meta { epoch = a.meta.epoch + 1 }) b.meta done.meta.meta; writes = done.cells.writes; turned = turns_lost _ _ all.stays.losses.spared; down = done.stays.down };
         nothing = done.nothing;
         absent = done.meta.absent;
         epoch = done.meta.epoch;

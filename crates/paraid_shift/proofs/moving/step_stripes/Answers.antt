@@ -53,6 +53,12 @@ plus_none n = omega arith
 same_epoch : (a b : ℕ) → b ≡ a → b ≤ a + 1
 same_epoch a b same = omega arith
 
+epoch_kept : (a b : ℕ) → b ≡ a → a ≤ b
+epoch_kept a b same = omega arith
+
+epoch_next : (a b new : ℕ) → b ≡ a → new ≡ b + 1 → a ≤ new
+epoch_next a b new same next = omega arith
+
 next_epoch : (a b new : ℕ) → b ≡ a → new ≡ b + 1 → new ≤ a + 1
 next_epoch a b new same next = omega arith
 
@@ -118,6 +124,7 @@ returns-then-not-done g c =
           serving = marks.serving;
           leaves = marks.leaves;
           absent = marks.absent;
+          later = epoch_kept a.meta.epoch b.meta.epoch (ap (λ (m : Meta). m.epoch) lost.is ∙ marked_epoch lost.lost a.meta);
           epoch = same_epoch a.meta.epoch b.meta.epoch (ap (λ (m : Meta). m.epoch) lost.is ∙ marked_epoch lost.lost a.meta);
         };
         few = omega arith;
@@ -148,6 +155,7 @@ returns-then-has_ended g c =
           serving = marks.serving;
           leaves = marks.leaves;
           absent = marks.absent;
+          later = epoch_kept a.meta.epoch b.meta.epoch (ap (λ (m : Meta). m.epoch) meta);
           epoch = same_epoch a.meta.epoch b.meta.epoch (ap (λ (m : Meta). m.epoch) meta);
         };
         few = few_of _ _ _ _ c.meta.ensures next.few;
@@ -197,6 +205,7 @@ returns g c =
           serving = made.serving;
           leaves = leaves_array_then g.R.Rack.slot_count g.R.Rack.slot a b new marks.leaves made.leaves;
           absent = λ q. made.absent;
+          later = epoch_next a.meta.epoch b.meta.epoch new.meta.epoch (ap (λ (m : Meta). m.epoch) meta) made.epoch;
           epoch = next_epoch a.meta.epoch b.meta.epoch new.meta.epoch (ap (λ (m : Meta). m.epoch) meta) made.epoch;
         };
         few = few_of _ _ _ _ c.meta.ensures next.few;

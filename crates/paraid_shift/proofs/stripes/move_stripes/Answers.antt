@@ -161,7 +161,7 @@ returns g c =
     record {
       marks = record {
         serving = serving_marked g.R.Rack.slot_count g.R.Rack.slot d new marked.marks.store setup out (serving g at) marked.marks.staged.copied marked.marks.staged.draft marked.marks.ready (marked.serves (serving g at).serves);
-        leaves = leaves_array_then g.R.Rack.slot_count g.R.Rack.slot a d new (array g at) (array_marked g.R.Rack.slot_count g.R.Rack.slot d new marked.marks.store setup out (ap (λ (m : Meta). m.writes) marked.meta));
+        leaves = leaves_array_then g.R.Rack.slot_count g.R.Rack.slot a d new (array g at) (array_marked g.R.Rack.slot_count g.R.Rack.slot d new marked.marks.store setup out (ap (λ (m : Meta). m.version) marked.meta) (ap (λ (m : Meta). m.writes) marked.meta));
         absent = λ before e is.
             subst (λ (z : _). (named_of z ≡ Some e) ⊎ (is_present (g.R.Rack.slot (store_rack z) e).power ≡ false)) (sym marked.marks.store) (l.absent before e (sym (ap (λ (m : Meta). named_out m.out) marked.meta) ∙ is));
         nothing = marked.marks.staged.batch ∙ l.batch ∙ c.requires.can.nothing;

@@ -2,6 +2,7 @@ use Rattle.std.proofs.Common.{ap, sym, ◌∙◌}
 use Rattle.paraid_base.proofs.ToldLemmas.{GrowsByBytes-then}
 use Rattle.paraid_record.specs.declared.meta.Setup.{Setup}
 use Rattle.paraid_serve.proofs.TopLemmas.{shown_line}
+use Rattle.paraid_serve.specs.Streams.{sink_use}
 use Rattle.paraid_spare.specs.Pools.{left_of, spins_of}
 use Rattle.paraid_sparing.specs.Texts.{spares_line}
 use Rattle.paraid_sparing.proofs.TextLemmas.{names_two_after, tells_wear_after}
@@ -12,27 +13,27 @@ pub returns-in_default-clause-run : goal.returns-in_default-clause-run
 returns-in_default-clause-run g c = no_mount_run _ _ _ _ _ _ _ _ _ _ c.writes.result c.gear.result (c.writes.ensures.point c.requires.going) c.gear.ensures.point (shown_line c.writes.result c.gear.result (g.A.Serves.shown c.args.array.now) c.writes.ensures.shown (c.gear.ensures.shown ∙ (g.met.A.Serves.shows c.args.array.now).gear ((g.met.A.Serves.shows c.args.array.now).halt ∙ c.requires.going))) (rw (c.as_slice.ensures.value, c.mount_text.ensures) at c.in_default.ensures.part)
 
 pub returns-in-Ok-session-clause-run : goal.returns-in-Ok-session-clause-run
-returns-in-Ok-session-clause-run g c = done_run _ _ _ _ _ _ _ _ _ _ _ _ _ _ _ c.session.new.pool c.writes.result c.gear.result (shown_line c.writes.result c.gear.result (g.A.Serves.shown c.args.array.now) c.writes.ensures.shown (c.gear.ensures.shown ∙ (g.met.A.Serves.shows c.args.array.now).gear ((g.met.A.Serves.shows c.args.array.now).halt ∙ c.requires.going))) (c.writes.ensures.point c.requires.going) c.gear.ensures.point c.tell_end.result
+returns-in-Ok-session-clause-run g c = done_run _ _ _ _ _ _ _ _ c.session.new.pool c.writes.result c.gear.result (shown_line c.writes.result c.gear.result (g.A.Serves.shown c.args.array.now) c.writes.ensures.shown (c.gear.ensures.shown ∙ (g.met.A.Serves.shows c.args.array.now).gear ((g.met.A.Serves.shows c.args.array.now).halt ∙ c.requires.going))) (c.writes.ensures.point c.requires.going) c.gear.ensures.point c.tell_end.result
     (rw (c.as_slice.ensures.value, c.mount_text.ensures) at c.in-Ok.ensures.grows) c.disks-disks.result c.disks-disks.ensures (c.disks-disks.ensures ∙ sym (ap (λ (z : Setup). z.geometry.disks) (g.met.A.Serves.shows c.args.array.now).setup)) c.in-Ok-session.writes
     (rw (c.new-pool.ensures.left, c.new-pool.ensures.wait) at c.in-Ok-session.ensures.session) (rw (c.as_slice-in-Ok-session.ensures.value, c.end_text.ensures) at c.tell_end.ensures.ends)
 
 pub returns-in-Err-Source-clause-run : goal.returns-in-Err-Source-clause-run
-returns-in-Err-Source-clause-run g c = source_run _ _ _ _ _ _ _ _ _ _ _ _ _ _ _ c.session.new.pool c.writes.result c.gear.result (shown_line c.writes.result c.gear.result (g.A.Serves.shown c.args.array.now) c.writes.ensures.shown (c.gear.ensures.shown ∙ (g.met.A.Serves.shows c.args.array.now).gear ((g.met.A.Serves.shows c.args.array.now).halt ∙ c.requires.going))) (c.writes.ensures.point c.requires.going) c.gear.ensures.point c.last.result
+returns-in-Err-Source-clause-run g c = source_run _ _ _ _ _ _ _ _ c.session.new.pool c.writes.result c.gear.result (shown_line c.writes.result c.gear.result (g.A.Serves.shown c.args.array.now) c.writes.ensures.shown (c.gear.ensures.shown ∙ (g.met.A.Serves.shows c.args.array.now).gear ((g.met.A.Serves.shows c.args.array.now).halt ∙ c.requires.going))) (c.writes.ensures.point c.requires.going) c.gear.ensures.point c.last.result
     (rw (c.as_slice.ensures.value, c.mount_text.ensures) at c.in-Ok.ensures.grows)
     (rw (c.new-pool.ensures.left, c.new-pool.ensures.wait, c.in-Err-Source.field-0-is) at c.in-Err-Source.ensures.session) c.last.ensures.ends
 
 pub returns-in-Err-TooLong-clause-run : goal.returns-in-Err-TooLong-clause-run
-returns-in-Err-TooLong-clause-run g c = too_long_run _ _ _ _ _ _ _ _ _ _ _ _ _ _ _ c.session.new.pool c.writes.result c.gear.result (shown_line c.writes.result c.gear.result (g.A.Serves.shown c.args.array.now) c.writes.ensures.shown (c.gear.ensures.shown ∙ (g.met.A.Serves.shows c.args.array.now).gear ((g.met.A.Serves.shows c.args.array.now).halt ∙ c.requires.going))) (c.writes.ensures.point c.requires.going) c.gear.ensures.point c.last-in-Err-TooLong.result
+returns-in-Err-TooLong-clause-run g c = too_long_run _ _ _ _ _ _ _ _ c.session.new.pool c.writes.result c.gear.result (shown_line c.writes.result c.gear.result (g.A.Serves.shown c.args.array.now) c.writes.ensures.shown (c.gear.ensures.shown ∙ (g.met.A.Serves.shows c.args.array.now).gear ((g.met.A.Serves.shows c.args.array.now).halt ∙ c.requires.going))) (c.writes.ensures.point c.requires.going) c.gear.ensures.point c.last-in-Err-TooLong.result
     (rw (c.as_slice.ensures.value, c.mount_text.ensures) at c.in-Ok.ensures.grows)
     (rw (c.new-pool.ensures.left, c.new-pool.ensures.wait, c.in-Err-TooLong.field-0-is) at c.in-Err-TooLong.ensures.session) c.last-in-Err-TooLong.ensures.ends
 
 pub returns-in-Err-Sink-clause-run : goal.returns-in-Err-Sink-clause-run
-returns-in-Err-Sink-clause-run g c = sink_run _ _ _ _ _ _ _ _ _ _ _ _ _ _ (g.K.Sink.written c.args.sink.now) c.session.new.pool c.writes.result c.gear.result (shown_line c.writes.result c.gear.result (g.A.Serves.shown c.args.array.now) c.writes.ensures.shown (c.gear.ensures.shown ∙ (g.met.A.Serves.shows c.args.array.now).gear ((g.met.A.Serves.shows c.args.array.now).halt ∙ c.requires.going))) (c.writes.ensures.point c.requires.going) c.gear.ensures.point
+returns-in-Err-Sink-clause-run g c = sink_run _ _ _ _ _ _ _ (sink_use g.K.Sink.written g.K.Sink.faults c.args.sink.now c.args.sink.now) c.session.new.pool c.writes.result c.gear.result (shown_line c.writes.result c.gear.result (g.A.Serves.shown c.args.array.now) c.writes.ensures.shown (c.gear.ensures.shown ∙ (g.met.A.Serves.shows c.args.array.now).gear ((g.met.A.Serves.shows c.args.array.now).halt ∙ c.requires.going))) (c.writes.ensures.point c.requires.going) c.gear.ensures.point
     (rw (c.as_slice.ensures.value, c.mount_text.ensures) at c.in-Ok.ensures.grows)
     (rw (c.new-pool.ensures.left, c.new-pool.ensures.wait, c.in-Err-Sink.field-0-is) at c.in-Err-Sink.ensures.session)
 
 pub returns-in-Err-Halt-clause-run : goal.returns-in-Err-Halt-clause-run
-returns-in-Err-Halt-clause-run g c = halted_run _ _ _ _ _ _ _ _ _ _ _ _ _ _ _ c.session.new.pool c.writes.result c.gear.result (shown_line c.writes.result c.gear.result (g.A.Serves.shown c.args.array.now) c.writes.ensures.shown (c.gear.ensures.shown ∙ (g.met.A.Serves.shows c.args.array.now).gear ((g.met.A.Serves.shows c.args.array.now).halt ∙ c.requires.going))) (c.writes.ensures.point c.requires.going) c.gear.ensures.point c.tell_end-in-Err-Halt.result
+returns-in-Err-Halt-clause-run g c = halted_run _ _ _ _ _ _ _ _ c.session.new.pool c.writes.result c.gear.result (shown_line c.writes.result c.gear.result (g.A.Serves.shown c.args.array.now) c.writes.ensures.shown (c.gear.ensures.shown ∙ (g.met.A.Serves.shows c.args.array.now).gear ((g.met.A.Serves.shows c.args.array.now).halt ∙ c.requires.going))) (c.writes.ensures.point c.requires.going) c.gear.ensures.point c.tell_end-in-Err-Halt.result
     (rw (c.as_slice.ensures.value, c.mount_text.ensures) at c.in-Ok.ensures.grows) c.disks-disks.result c.disks-disks.ensures (c.disks-disks.ensures ∙ sym (ap (λ (z : Setup). z.geometry.disks) (g.met.A.Serves.shows c.args.array.now).setup)) c.in-Err-Halt.halt
     (rw (c.new-pool.ensures.left, c.new-pool.ensures.wait, c.in-Err-Halt.field-0-is) at c.in-Err-Halt.ensures.session) (rw (c.as_slice-in-Err-Halt.ensures.value, c.reply.ensures.value, c.halt_status.ensures) at c.tell_end-in-Err-Halt.ensures.ends)
 

@@ -8,6 +8,7 @@ use Rattle.paraid_core.proofs.AfterLemmas.{handed}
 use Rattle.paraid_upkeep.proofs.ResultLemmas.{none_done}
 use Rattle.paraid_rebuild.proofs.ReplacingLemmas.{lost_none}
 use Rattle.paraid_shift.proofs.ServingLemmas.{down_none}
+use Rattle.paraid_upkeep.proofs.CommitLemmas.{few_none, few_one}
 use Rattle.paraid_upkeep.proofs.OutLemmas.{known_then, none_marked}
 use Rattle.paraid_upkeep.proofs.ServiceLemmas.{service_then}
 use Rattle.paraid_upkeep.proofs.TurnLemmas.{commit_lost, commits, commits_none}
@@ -49,7 +50,7 @@ returns-then-staged-eq0 g c =
       };
       down = down_none (core_down a) (g.R.Rack.slot (store_rack a.store));
       meta = none_marked a.meta;
-      epoch = omega arith;
+      epoch = few_none a a 1 refl;
       commits = commits_none g.R.Rack.slot_count g.R.Rack.slot g.R.Rack.told g.met.R.Rack.agrees a c.requires.service.ready none;
       loses = tt;
       told = extends_none (g.R.Rack.told (store_rack a.store));
@@ -101,7 +102,7 @@ returns g c =
       };
       down = done.stays.down;
       meta = subst (λ (n : ℕ). IsMarkedFrom (record a.meta { epoch = n }) b.meta) (sym done.meta.epoch) done.meta.meta;
-      epoch = let e = done.meta.epoch in omega (arith, e);
+      epoch = few_one a b done.meta.epoch;
       commits = commits g.R.Rack.slot_count g.R.Rack.slot g.R.Rack.told g.met.R.Rack.agrees a b c.commit.ensures.brings.calls c.commit.ensures.brings.whole done.held.stands done.stays.losses.marks done.stays.ready done.stays.setup;
       loses = tt;
       told = extends_core g.R.Rack.told a b _ c.commit.ensures.brings.calls;

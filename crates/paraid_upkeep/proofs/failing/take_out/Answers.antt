@@ -9,6 +9,7 @@ use Rattle.paraid_core.proofs.AfterLemmas.{handed}
 use Rattle.paraid_upkeep.proofs.ResultLemmas.{none_done, none_done_as, none_done_if}
 use Rattle.paraid_upkeep.specs.declared.fault.FailFault.{FailFault}
 use Rattle.paraid_upkeep.specs.declared.fault.FailFault.TheVariants.{NoDisk, Out as OutFault}
+use Rattle.paraid_upkeep.proofs.CommitLemmas.{few_none, few_one, few_then, few_within}
 use Rattle.paraid_upkeep.proofs.OutLemmas.{fails_newly, none_marked, taken_then, two_or, two_taken_then}
 use Rattle.paraid_upkeep.proofs.TurnLemmas.{beside_turn, fail_beside, fail_missing, marked_halts, staged_halts, taken_turn}
 use Rattle.paraid_upkeep.proofs.failing.take_out.Goals.{in-Some-named+else-out-disk, in_default-named}
@@ -60,7 +61,7 @@ returns-then-disk-meta g c =
         grows = extends_none (g.R.Rack.told (store_rack a.store));
       };
       table = refl;
-      epoch = omega arith;
+      commits = few_none a a 2 refl;
       alone = λ none. omega arith;
       turn = fail_missing g.R.Rack.slot_count g.R.Rack.told a c.args.disk past;
       halts = tt;
@@ -94,7 +95,7 @@ returns-in-Some g c =
         grows = extends_none (g.R.Rack.told (store_rack a.store));
       };
       table = refl;
-      epoch = omega arith;
+      commits = few_none a a 2 refl;
       alone = λ none. omega arith;
       turn = fail_beside g.R.Rack.slot_count g.R.Rack.told a c.args.disk c.in-Some.out below named;
       halts = tt;
@@ -126,7 +127,7 @@ returns-in_err-commit_writes g c =
         grows = c.commit_writes.ensures.told;
       };
       table = c.commit_writes.ensures.table;
-      epoch = none_done _ c.from_residual.result _ c.from_residual.ensures.1;
+      commits = none_done _ c.from_residual.result _ c.from_residual.ensures.1;
       alone = λ empty. none_done _ c.from_residual.result _ c.from_residual.ensures.1;
       turn = none_done_if _ c.from_residual.result _ c.from_residual.ensures.1;
       halts = handed _ c.from_residual.result _ c.from_residual.ensures.1 (staged_halts g.R.Rack.slot_count g.R.Rack.told a c.args.disk below none b _ c.in_err-commit_writes.ensures.loses);
@@ -160,8 +161,8 @@ returns-then-out-disk g c =
         grows = c.commit_writes.ensures.told;
       };
       table = c.commit_writes.ensures.table;
-      epoch = let e = done.epoch in omega (arith, e);
-      alone = λ empty. done.epoch;
+      commits = few_within a b 1 2 (omega arith) done.epoch;
+      alone = λ empty. done.epoch.few;
       turn =
           beside_turn g.R.Rack.slot_count g.R.Rack.told a c.args.disk below none b c.in-Some-named.out (λ same. c.if-out-disk.true (sym same)) named done.commits c.commit_writes.ensures.keeps.slots c.commit_writes.ensures.table
           done.stays.service.copies_synced done.nothing;
@@ -178,7 +179,7 @@ mark_gone-requires g c =
       service = staged.stays.service;
       epoch =
           let e = c.requires.epoch in
-          let f = staged.epoch in omega (arith, e, f);
+          let f = staged.epoch.few in omega (arith, e, f);
       disk = subst (λ (z : Setup). c.args.disk < z.geometry.disks) (sym staged.stays.setup) (subst (λ (m : Meta). c.args.disk < m.setup.geometry.disks) c.meta.ensures c.if-disk-meta.false);
       alone = elim c.match-named-2.branch [
         | in-Some-named+else-out-disk w ↦ one_only (named_out m.meta.out) w.in-Some-named.out c.args.disk (sym names ∙ w.in-Some-named.is) w.if-out-disk.false
@@ -214,7 +215,7 @@ returns-in_err-mark_gone g c =
         grows = extends_cores g.R.Rack.told a m b c.commit_writes.ensures.told c.mark_gone.ensures.told;
       };
       table = c.mark_gone.ensures.table ∙ c.commit_writes.ensures.table;
-      epoch = none_done _ c.from_residual-in_err-mark_gone.result _ c.from_residual-in_err-mark_gone.ensures.1;
+      commits = none_done _ c.from_residual-in_err-mark_gone.result _ c.from_residual-in_err-mark_gone.ensures.1;
       alone = λ empty. none_done _ c.from_residual-in_err-mark_gone.result _ c.from_residual-in_err-mark_gone.ensures.1;
       turn = none_done_if _ c.from_residual-in_err-mark_gone.result _ c.from_residual-in_err-mark_gone.ensures.1;
       halts =
@@ -261,7 +262,7 @@ returns g c =
         grows = extends_cores g.R.Rack.told a m b c.commit_writes.ensures.told c.mark_gone.ensures.told;
       };
       table = c.mark_gone.ensures.table ∙ c.commit_writes.ensures.table;
-      epoch = let e = done.taken.epoch in let f = staged.epoch in omega (arith, e, f);
+      commits = few_then a m b 1 1 staged.epoch (few_one m b done.taken.epoch);
       alone = λ empty.
           let e = done.taken.epoch in
           let f = ap (λ (z : _). z.meta.epoch) (c.commit_writes.ensures.idle empty) in

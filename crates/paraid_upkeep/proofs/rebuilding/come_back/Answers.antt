@@ -1,4 +1,4 @@
-use Rattle.std.proofs.Common.{ℕ, ◌+◌, ◌≤◌, ◌<◌, ◌∙◌, refl, sym, ap, subst, Ok, []}
+use Rattle.std.proofs.Common.{ℕ, ◌<◌, ◌∙◌, refl, sym, ap, subst, Ok, []}
 use Rattle.paraid_base.specs.declared.state.Out.TheVariants.{No}
 use Rattle.paraid_base.proofs.ToldLemmas.{HasRisen-sooner}
 use Rattle.paraid_image.specs.Out.{named_out}
@@ -8,6 +8,7 @@ use Rattle.paraid_core.proofs.AfterLemmas.{handed}
 use Rattle.paraid_shift.proofs.ServingLemmas.{two_array}
 use Rattle.paraid_upkeep.specs.TickTurns.CoreComesBack.{lost}
 use Rattle.paraid_upkeep.specs.TickTurns.CoreLosesComing.{finishing, untold}
+use Rattle.paraid_upkeep.proofs.CommitLemmas.{few_later, few_none, few_then}
 use Rattle.paraid_upkeep.proofs.OutLemmas.{known_gone, leaves_back, leaves_out}
 use Rattle.paraid_upkeep.proofs.RebuildTurnLemmas.{comes_by, kept_epoch, lost_epoch, rejoined_mid}
 use Rattle.paraid_upkeep.proofs.ResultLemmas.{always_ok, done_not_dropped, either_way, if_done, if_err, none_done, none_done_as, none_done_if, on_ok}
@@ -25,7 +26,7 @@ finish-requires g c = record {
 pub returns-in_err-copied : goal.returns-in_err-copied
 returns-in_err-copied g c = record {
   serves = none_done _ c.from_residual.result _ c.from_residual.ensures.1;
-  few = none_done _ c.from_residual.result _ c.from_residual.ensures.1;
+  commits = none_done _ c.from_residual.result _ c.from_residual.ensures.1;
   rejoined = λ is. none_done_as _ c.from_residual.result _ _ c.from_residual.ensures.1 is;
   marked = λ is. none_done_as _ c.from_residual.result _ _ c.from_residual.ensures.1 is;
   lost = λ is. none_done_as _ c.from_residual.result _ _ c.from_residual.ensures.1 is;
@@ -47,10 +48,10 @@ returns-then-not-copied g c =
       serves = record {
         serving = done.serves.serving;
         leaves = leaves_out g.R.Rack.slot_count g.R.Rack.slot a b c.args.disk c.requires.can.serving.ready done.serves.serving.ready (ap named_out c.requires.can.fresh) (ap (λ (m : Meta). named_out m.out) meta) done.keeps.slots
-            (ap (λ (m : Meta). m.setup) meta) (ap (λ (m : Meta). m.writes) meta) c.finish.ensures.keeps.spared;
+            (ap (λ (m : Meta). m.setup) meta) (ap (λ (m : Meta). m.version) meta) (ap (λ (m : Meta). m.writes) meta) c.finish.ensures.keeps.spared;
         known = known_gone g.R.Rack.slot b c.args.disk (ap (λ (m : Meta). m.out) meta) done.absent;
       };
-      few = done.serves.few;
+      commits = few_later a b 1 done.serves;
       rejoined = λ is. done_not_dropped _ _ is refl;
       marked = λ is. meta;
       lost = λ is. record { risen = (done.lost not).failed; absent = (done.lost not).away };
@@ -86,12 +87,12 @@ returns g c =
     let parked = c.park_back.ensures in
     let r = c.park_back.result in
     let leaves = leaves_back g.R.Rack.slot_count g.R.Rack.slot a b (done.named (ap Ok c.if-not-copied.false)) (ap (λ (m : Meta). m.out) meta) done.keeps.slots
-    (ap (λ (m : Meta). m.setup) meta) (ap (λ (m : Meta). m.writes) meta) c.finish.ensures.keeps.spared in
+    (ap (λ (m : Meta). m.setup) meta) (ap (λ (m : Meta). m.version) meta) (ap (λ (m : Meta). m.writes) meta) c.finish.ensures.keeps.spared in
     record {
       serves = on_ok _ _ r (λ left. in_service_then g.R.Rack.slot_count g.R.Rack.slot a b new leaves left) parked.serves;
-      few =
-          either_way _ r (λ is. subst (λ (e : ℕ). e ≤ a.meta.epoch + 1) (sym (ap (λ (m : Meta). m.epoch) (parked.same is))) done.serves.few)
-          (λ is. subst (λ (e : ℕ). e ≤ a.meta.epoch + 1) (sym (ap (λ (m : Meta). m.epoch) (parked.marked is))) done.serves.few);
+      commits =
+          either_way _ r (λ is. few_then a b new 1 0 (few_later a b 1 done.serves) (few_none b new 0 (ap (λ (m : Meta). m.epoch) (parked.same is))))
+          (λ is. few_then a b new 1 0 (few_later a b 1 done.serves) (few_none b new 0 (ap (λ (m : Meta). m.epoch) (parked.marked is))));
       rejoined = λ is. kept_epoch (λ (e : ℕ). record a.meta { epoch = e; out = No }) b.meta new.meta meta (parked.same is);
       marked = λ is. lost_epoch a.meta b.meta new.meta d meta (parked.marked is);
       lost = λ is. record { risen = HasRisen-sooner _ _ _ (c.finish.ensures.keeps.spared.no_fall d) (parked.lost is).risen; absent = (parked.lost is).absent };

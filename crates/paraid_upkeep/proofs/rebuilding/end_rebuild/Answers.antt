@@ -11,6 +11,7 @@ use Rattle.paraid_rebuild.proofs.LossLemmas.{lost_then}
 use Rattle.paraid_rebuild.proofs.MovedLemmas.{stays_away}
 use Rattle.paraid_rebuild.proofs.ReplacingLemmas.{again}
 use Rattle.paraid_rebuild.proofs.StepEventLemmas.{steps_then}
+use Rattle.paraid_upkeep.proofs.CommitLemmas.{few_one, few_then, few_within}
 use Rattle.paraid_upkeep.proofs.OutLemmas.{known_gone, leaves_out}
 use Rattle.paraid_upkeep.proofs.RebuildTurnLemmas.{part_halts, rebuild_gone}
 use Rattle.paraid_upkeep.proofs.ToldLemmas.{calls_then, calls_told}
@@ -22,7 +23,7 @@ commit_lost-requires g c = record {
   out = ap (λ (m : Meta). m.out) (c.in_ok-back.ensures.marked (ap Ok c.if-back.false));
   absent = c.in_ok-back.ensures.serves.known.absent;
   epoch =
-      let few = c.in_ok-back.ensures.few in
+      let few = c.in_ok-back.ensures.commits.few in
       let fits = c.requires.epoch in omega (arith, few, fits);
 }
 
@@ -36,10 +37,12 @@ rejoin_disk-requires g c = record {
 pub returns-in_err-back : goal.returns-in_err-back
 returns-in_err-back g c = record {
   serves = none_done _ c.from_residual.result _ c.from_residual.ensures.1;
-  back = λ is. none_done_as _ c.from_residual.result _ _ c.from_residual.ensures.1 is;
-  gone = λ is. none_done_as _ c.from_residual.result _ _ c.from_residual.ensures.1 is;
+  commits = none_done _ c.from_residual.result _ c.from_residual.ensures.1;
+  rejoined = λ is. none_done_as _ c.from_residual.result _ _ c.from_residual.ensures.1 is;
+  marked = λ is. none_done_as _ c.from_residual.result _ _ c.from_residual.ensures.1 is;
   committed = λ is. none_done_as _ c.from_residual.result _ _ c.from_residual.ensures.1 is;
   failed = λ is. none_done_as _ c.from_residual.result _ _ c.from_residual.ensures.1 is;
+  table = none_done _ c.from_residual.result _ c.from_residual.ensures.1;
   turn = none_done_if _ c.from_residual.result _ c.from_residual.ensures.1;
   halts = handed _ c.from_residual.result _ c.from_residual.ensures.1 c.in_err-back.ensures.halts;
   calls = c.rejoin_disk.ensures.calls;
@@ -49,10 +52,12 @@ returns-in_err-back g c = record {
 pub returns-then-back : goal.returns-then-back
 returns-then-back g c = record {
   serves = c.in_ok-back.ensures.serves;
-  back = λ is. c.in_ok-back.ensures.back (ap Ok c.if-back.true);
-  gone = λ is. done_not_dropped _ _ refl is;
+  commits = few_within c.args.core.now c.rejoin_disk.new.core 2 3 (omega arith) c.in_ok-back.ensures.commits;
+  rejoined = λ is. c.in_ok-back.ensures.rejoined (ap Ok c.if-back.true);
+  marked = λ is. done_not_dropped _ _ refl is;
   committed = λ is. done_not_dropped _ _ refl is;
   failed = λ is. done_not_dropped _ _ refl is;
+  table = c.in_ok-back.ensures.table;
   turn = λ rebuilt windows fresh few. c.in_ok-back.ensures.turn (ap Ok c.if-back.true) rebuilt windows fresh few;
   halts = tt;
   calls = c.rejoin_disk.ensures.calls;
@@ -66,10 +71,12 @@ returns-in_err-commit_lost g c =
     let new = c.commit_lost.new.core in
     record {
       serves = none_done _ c.from_residual-in_err-commit_lost.result _ c.from_residual-in_err-commit_lost.ensures.1;
-      back = λ is. none_done_as _ c.from_residual-in_err-commit_lost.result _ _ c.from_residual-in_err-commit_lost.ensures.1 is;
-      gone = λ is. none_done_as _ c.from_residual-in_err-commit_lost.result _ _ c.from_residual-in_err-commit_lost.ensures.1 is;
+      commits = none_done _ c.from_residual-in_err-commit_lost.result _ c.from_residual-in_err-commit_lost.ensures.1;
+      rejoined = λ is. none_done_as _ c.from_residual-in_err-commit_lost.result _ _ c.from_residual-in_err-commit_lost.ensures.1 is;
+      marked = λ is. none_done_as _ c.from_residual-in_err-commit_lost.result _ _ c.from_residual-in_err-commit_lost.ensures.1 is;
       committed = λ is. none_done_as _ c.from_residual-in_err-commit_lost.result _ _ c.from_residual-in_err-commit_lost.ensures.1 is;
       failed = λ is. none_done_as _ c.from_residual-in_err-commit_lost.result _ _ c.from_residual-in_err-commit_lost.ensures.1 is;
+      table = none_done _ c.from_residual-in_err-commit_lost.result _ c.from_residual-in_err-commit_lost.ensures.1;
       turn = none_done_if _ c.from_residual-in_err-commit_lost.result _ c.from_residual-in_err-commit_lost.ensures.1;
       halts =
           handed _ c.from_residual-in_err-commit_lost.result _ c.from_residual-in_err-commit_lost.ensures.1
@@ -95,13 +102,15 @@ returns g c =
         leaves =
             leaves_array_then g.R.Rack.slot_count g.R.Rack.slot a b new lost.serves.leaves
             (leaves_out g.R.Rack.slot_count g.R.Rack.slot b new c.args.disk lost.serves.serving.ready done.serves.serving.ready (ap (λ (m : Meta). named_out m.out) (lost.marked is)) (ap (λ (m : Meta). named_out m.out) done.gone)
-            c.commit_lost.ensures.keeps.slots (ap (λ (m : Meta). m.setup) done.gone) (ap (λ (m : Meta). m.writes) done.gone) c.commit_lost.ensures.keeps.spared);
+            c.commit_lost.ensures.keeps.slots (ap (λ (m : Meta). m.setup) done.gone) (ap (λ (m : Meta). m.version) done.gone) (ap (λ (m : Meta). m.writes) done.gone) c.commit_lost.ensures.keeps.spared);
         known = known_gone g.R.Rack.slot new c.args.disk (ap (λ (m : Meta). m.out) done.gone) done.serves.absent;
       };
-      back = λ was. done_not_dropped _ _ was refl;
-      gone = λ was. ap (λ (m : Meta). m.out) done.gone;
+      commits = few_then a b new 2 1 lost.commits (few_one b new (ap (λ (m : Meta). m.epoch) done.gone));
+      rejoined = λ was. done_not_dropped _ _ was refl;
+      marked = λ was. again a.meta b.meta new.meta c.args.disk (lost.marked is) done.gone;
       committed = λ was. done.serves.named;
       failed = λ was. HasRisen-later _ _ _ (lost.lost is).risen (c.commit_lost.ensures.keeps.spared.no_fall c.args.disk);
+      table = c.commit_lost.ensures.table ∙ lost.table;
       turn = λ rebuilt windows fresh few k setup p samples served energy held at fit counts.
           rebuild_gone g.R.Rack.slot_count g.R.Rack.told a k setup p samples served energy at fit counts new c.args.disk rebuilt fresh (c.commit_lost.ensures.keeps.slots ∙ lost.serves.leaves.slots) (c.commit_lost.ensures.table ∙ lost.table) done.serves.serving.copies_synced
           (g.R.Rack.slot (store_rack new.store)) 3 (g.met.R.Rack.agrees (store_rack new.store))

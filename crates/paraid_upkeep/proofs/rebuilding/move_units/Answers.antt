@@ -2,9 +2,10 @@ use Rattle.std.proofs.Common.{ap, arith, false, true, []}
 use Rattle.paraid_image.specs.Out.{named_out}
 use Rattle.paraid_record.specs.declared.meta.Meta.{Meta}
 use Rattle.paraid_txn.specs.Stores.{store_rack}
+use Rattle.paraid_upkeep.proofs.CommitLemmas.{few_later}
 use Rattle.paraid_upkeep.proofs.OutLemmas.{known_fresh, known_gone, leaves_out}
 use Rattle.paraid_upkeep.proofs.RebuildTurnLemmas.{part_halts, rebuild_gone, rebuild_moved}
-use Rattle.paraid_upkeep.proofs.ResultLemmas.{either_if, either_way, if_err, of_done}
+use Rattle.paraid_upkeep.proofs.ResultLemmas.{either_if, either_way, if_err, of_done, on_ok}
 use Rattle.paraid_upkeep.proofs.ToldLemmas.{calls_told}
 use Rattle.paraid_upkeep.proofs.rebuilding.move_units.Goals as goal
 
@@ -32,7 +33,7 @@ returns g c =
           record {
             serving = serving;
             leaves = leaves_out g.R.Rack.slot_count g.R.Rack.slot a b d c.requires.can.serving.ready serving.ready (ap named_out c.requires.can.fresh) (ap (λ (m : Meta). named_out m.out) meta) done.keeps.slots
-                (ap (λ (m : Meta). m.setup) meta) (ap (λ (m : Meta). m.writes) meta) done.keeps.spared;
+                (ap (λ (m : Meta). m.setup) meta) (ap (λ (m : Meta). m.version) meta) (ap (λ (m : Meta). m.writes) meta) done.keeps.spared;
             known = known_fresh g.R.Rack.slot b d (ap (λ (m : Meta). named_out m.out) meta) (of_done _ r true done.named is) ((done.moved is).spins);
           })
           (λ is.
@@ -41,13 +42,15 @@ returns g c =
           record {
             serving = serving;
             leaves = leaves_out g.R.Rack.slot_count g.R.Rack.slot a b d c.requires.can.serving.ready serving.ready (ap named_out c.requires.can.fresh) (ap (λ (m : Meta). named_out m.out) meta) done.keeps.slots
-                (ap (λ (m : Meta). m.setup) meta) (ap (λ (m : Meta). m.writes) meta) done.keeps.spared;
+                (ap (λ (m : Meta). m.setup) meta) (ap (λ (m : Meta). m.version) meta) (ap (λ (m : Meta). m.writes) meta) done.keeps.spared;
             known = known_gone g.R.Rack.slot b d (ap (λ (m : Meta). m.out) meta) (of_done _ r false done.absent is);
           });
-      moved = λ is. ap (λ (m : Meta). m.out) ((done.moved is).meta);
-      gone = λ is. ap (λ (m : Meta). m.out) ((done.lost is).gone);
+      commits = on_ok _ _ r (λ it. few_later a b 3 it) done.serves;
+      moved = λ is. (done.moved is).meta;
+      marked = λ is. (done.lost is).gone;
       committed = λ is. of_done _ r false done.named is;
       failed = λ is. (done.lost is).failed;
+      table = on_ok _ _ r (λ it. it.table) done.serves;
       turn =
           either_if _ r
           (λ is rebuilt windows fresh less all k setup p samples served energy held at fit counts.

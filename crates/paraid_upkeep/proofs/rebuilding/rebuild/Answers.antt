@@ -71,9 +71,11 @@ end_rebuild-requires g c =
 pub returns-in_err-moved : goal.returns-in_err-moved
 returns-in_err-moved g c = record {
   serves = none_done _ c.from_residual.result _ c.from_residual.ensures.1;
+  commits = none_done _ c.from_residual.result _ c.from_residual.ensures.1;
   tells = none_done_if _ c.from_residual.result _ c.from_residual.ensures.1;
   committed = none_done_if _ c.from_residual.result _ c.from_residual.ensures.1;
   failed = none_done_if _ c.from_residual.result _ c.from_residual.ensures.1;
+  table = none_done _ c.from_residual.result _ c.from_residual.ensures.1;
   turn = none_done_if _ c.from_residual.result _ c.from_residual.ensures.1;
   halts = handed _ c.from_residual.result _ c.from_residual.ensures.1 (λ windows. c.in_err-moved.ensures.halts c.args.first windows c.requires.fresh);
   calls = c.move_units.ensures.calls;
@@ -83,9 +85,11 @@ returns-in_err-moved g c = record {
 pub returns-in_err-back : goal.returns-in_err-back
 returns-in_err-back g c = record {
   serves = none_done _ c.from_residual-in_err-back.result _ c.from_residual-in_err-back.ensures.1;
+  commits = none_done _ c.from_residual-in_err-back.result _ c.from_residual-in_err-back.ensures.1;
   tells = none_done_if _ c.from_residual-in_err-back.result _ c.from_residual-in_err-back.ensures.1;
   committed = none_done_if _ c.from_residual-in_err-back.result _ c.from_residual-in_err-back.ensures.1;
   failed = none_done_if _ c.from_residual-in_err-back.result _ c.from_residual-in_err-back.ensures.1;
+  table = none_done _ c.from_residual-in_err-back.result _ c.from_residual-in_err-back.ensures.1;
   turn = none_done_if _ c.from_residual-in_err-back.result _ c.from_residual-in_err-back.ensures.1;
   halts = handed _ c.from_residual-in_err-back.result _ c.from_residual-in_err-back.ensures.1 (λ windows. c.in_err-back.ensures.halts c.args.first windows c.requires.fresh);
   calls = c.end_rebuild.ensures.calls;
@@ -101,9 +105,11 @@ returns-then-moved g c =
     let less : a.meta.setup.rate < units_unbuilt a.meta c.args.disk c.args.first = (let l = c.if-rate-left.true in omega (arith, l, left, rate)) in
     record {
       serves = c.in_ok-moved.ensures.serves;
+      commits = c.in_ok-moved.ensures.commits;
       tells = (rate, less, c.in_ok-moved.ensures.moved (ap Ok c.if-moved.true));
       committed = λ is. moving_not_gone c.args.disk is;
       failed = λ is. moving_not_gone c.args.disk is;
+      table = c.in_ok-moved.ensures.table;
       turn = λ windows.
           subst (λ (r : ℕ). CoreTicks g.R.Rack.slot_count g.R.Rack.told windows a b (record { gear = b.meta.gear; moved = r; event = Moving })) (sym rate)
           (subst (λ (t : Bool). CoreTicks g.R.Rack.slot_count g.R.Rack.told windows a b (record { gear = b.meta.gear; moved = if t then a.meta.setup.rate else 0; event = if t then Moving else GoneAgain c.args.disk })) c.if-moved.true
@@ -123,9 +129,11 @@ returns-then-rate-left g c =
     let not = ap Ok c.if-moved.false in
     record {
       serves = c.in_ok-moved.ensures.serves;
-      tells = (refl, refl, c.in_ok-moved.ensures.gone not);
+      commits = c.in_ok-moved.ensures.commits;
+      tells = (refl, refl, c.in_ok-moved.ensures.marked not);
       committed = λ is. c.in_ok-moved.ensures.committed not;
       failed = λ is. c.in_ok-moved.ensures.failed not;
+      table = c.in_ok-moved.ensures.table;
       turn = λ windows.
           subst (λ (t : Bool). CoreTicks g.R.Rack.slot_count g.R.Rack.told windows a b (record { gear = b.meta.gear; moved = if t then a.meta.setup.rate else 0; event = if t then Moving else GoneAgain c.args.disk })) c.if-moved.false
           (c.in_ok-moved.ensures.turn c.args.first windows c.requires.fresh less (ap (λ (r : ℕ). c.args.first + r) rate));
@@ -143,9 +151,11 @@ returns-then-back g c =
     let few : units_unbuilt a.meta c.args.disk c.args.first ≤ a.meta.setup.rate = (let l = c.if-rate-left.false in omega (arith, l, left, rate)) in
     record {
       serves = c.in_ok-back.ensures.serves;
-      tells = (refl, left, few, c.in_ok-back.ensures.back (ap Ok c.if-back.true));
+      commits = c.in_ok-back.ensures.commits;
+      tells = (refl, left, few, c.in_ok-back.ensures.rejoined (ap Ok c.if-back.true));
       committed = λ is. back_not_gone c.args.disk c.args.disk is;
       failed = λ is. back_not_gone c.args.disk c.args.disk is;
+      table = c.in_ok-back.ensures.table;
       turn = λ windows.
           subst (λ (n : ℕ). CoreTicks g.R.Rack.slot_count g.R.Rack.told windows a b (record { gear = b.meta.gear; moved = n; event = Rebuilt c.args.disk })) (sym left)
           (subst (λ (t : Bool). CoreTicks g.R.Rack.slot_count g.R.Rack.told windows a b (record { gear = b.meta.gear; moved = if t then units_unbuilt a.meta c.args.disk c.args.first else 0; event = if t then Rebuilt c.args.disk else GoneAgain c.args.disk })) c.if-back.true
@@ -165,9 +175,11 @@ returns g c =
     let not = ap Ok c.if-back.false in
     record {
       serves = c.in_ok-back.ensures.serves;
-      tells = (refl, refl, c.in_ok-back.ensures.gone not);
+      commits = c.in_ok-back.ensures.commits;
+      tells = (refl, refl, c.in_ok-back.ensures.marked not);
       committed = λ is. c.in_ok-back.ensures.committed not;
       failed = λ is. c.in_ok-back.ensures.failed not;
+      table = c.in_ok-back.ensures.table;
       turn = λ windows.
           subst (λ (t : Bool). CoreTicks g.R.Rack.slot_count g.R.Rack.told windows a b (record { gear = b.meta.gear; moved = if t then units_unbuilt a.meta c.args.disk c.args.first else 0; event = if t then Rebuilt c.args.disk else GoneAgain c.args.disk })) c.if-back.false
           (c.in_ok-back.ensures.turn c.args.first windows c.requires.fresh few);

@@ -1,4 +1,5 @@
 use Rattle.std.proofs.Common.{◌+◌, ◌<◌, ◌∙◌, sym, ap, arith, inl, refl, subst, true, false, Ok, []}
+use Rattle.paraid_base.specs.declared.state.Out.TheVariants.{No}
 use Rattle.paraid_base.proofs.ToldLemmas.{HasRisen-sooner}
 use Rattle.paraid_image.specs.Mark.{meta_after_loss}
 use Rattle.paraid_txn.specs.Stores.{store_rack}
@@ -8,6 +9,7 @@ use Rattle.paraid_core.proofs.AfterLemmas.{handed}
 use Rattle.paraid_shift.proofs.ServingLemmas.{two_array}
 use Rattle.paraid_core.specs.Units.{IsRebuilding}
 use Rattle.paraid_record.specs.declared.meta.Setup.{Setup}
+use Rattle.paraid_upkeep.proofs.CommitLemmas.{few_later, few_then, few_within}
 use Rattle.paraid_upkeep.proofs.OutLemmas.{known_gone, leaves_out}
 use Rattle.paraid_upkeep.proofs.RebuildTurnLemmas.{counts_on, ended_halts, ended_lost, ended_told, own_epoch, part_halts}
 use Rattle.paraid_upkeep.proofs.ResultLemmas.{done_not_dropped, if_err, none_done, none_done_as, of_done, of_ok, on_ok}
@@ -26,8 +28,8 @@ commit_staged-requires g c = record {
 pub returns-in_err-there : goal.returns-in_err-there
 returns-in_err-there g c = record {
   serves = none_done _ c.from_residual.result _ c.from_residual.ensures.1;
-  few = none_done _ c.from_residual.result _ c.from_residual.ensures.1;
-  back = λ is. none_done_as _ c.from_residual.result _ _ c.from_residual.ensures.1 is;
+  commits = none_done _ c.from_residual.result _ c.from_residual.ensures.1;
+  rejoined = λ is. none_done_as _ c.from_residual.result _ _ c.from_residual.ensures.1 is;
   marked = λ is. none_done_as _ c.from_residual.result _ _ c.from_residual.ensures.1 is;
   lost = λ is. none_done_as _ c.from_residual.result _ _ c.from_residual.ensures.1 is;
   table = none_done _ c.from_residual.result _ c.from_residual.ensures.1;
@@ -53,11 +55,11 @@ returns-then-not-there g c =
       serves = record {
         serving = done.serves.serving;
         leaves = leaves_out g.R.Rack.slot_count g.R.Rack.slot a b c.args.disk c.requires.can.serving.ready done.serves.serving.ready (ap named_out c.requires.can.fresh) (ap (λ (m : Meta). named_out m.out) meta) c.commit_staged.ensures.keeps.slots
-            (ap (λ (m : Meta). m.setup) meta) (ap (λ (m : Meta). m.writes) meta) c.commit_staged.ensures.keeps.spared;
+            (ap (λ (m : Meta). m.setup) meta) (ap (λ (m : Meta). m.version) meta) (ap (λ (m : Meta). m.writes) meta) c.commit_staged.ensures.keeps.spared;
         known = known_gone g.R.Rack.slot b c.args.disk (ap (λ (m : Meta). m.out) meta) (λ x is. inl (done.named ∙ sym (ap (λ (m : Meta). named_out m.out) meta) ∙ is));
       };
-      few = let one = done.serves.few in omega (arith, one);
-      back = λ is. done_not_dropped _ _ is refl;
+      commits = few_within a b 1 2 (omega arith) (few_later a b 1 done.serves);
+      rejoined = λ is. done_not_dropped _ _ is refl;
       marked = λ is. own_epoch (meta_after_loss a.meta c.args.disk) b.meta (a.meta.epoch + 1) meta;
       lost = λ is. record { risen = (done.lost not).failed; absent = (done.lost not).away };
       table = c.commit_staged.ensures.table;
@@ -100,11 +102,11 @@ returns g c =
     let ended = c.come_back.ensures in
     let meta = (done.same (ap Ok c.if-not-there.false)).meta in
     let leaves = leaves_out g.R.Rack.slot_count g.R.Rack.slot a m d c.requires.can.serving.ready done.serves.serving.ready (ap named_out c.requires.can.fresh) (ap (λ (z : Meta). named_out z.out) meta ∙ ap named_out c.requires.can.fresh) c.commit_staged.ensures.keeps.slots
-    (ap (λ (z : Meta). z.setup) meta) (ap (λ (z : Meta). z.writes) meta) c.commit_staged.ensures.keeps.spared in
+    (ap (λ (z : Meta). z.setup) meta) (ap (λ (z : Meta). z.version) meta) (ap (λ (z : Meta). z.writes) meta) c.commit_staged.ensures.keeps.spared in
     record {
       serves = on_ok _ _ r (λ left. in_service_then g.R.Rack.slot_count g.R.Rack.slot a m b leaves left) ended.serves;
-      few = on_ok _ _ r (λ two. let one = done.serves.few in omega (arith, one, two)) ended.few;
-      back = λ is. ap (λ (z : Meta). z.out) (ended.rejoined is);
+      commits = on_ok _ _ r (λ two. few_then a m b 1 1 (few_later a m 1 done.serves) two) ended.commits;
+      rejoined = λ is. ended.rejoined is ∙ ap (λ (z : Meta). record z { epoch = b.meta.epoch; out = No }) meta;
       marked = λ is. ended.marked is ∙ ap (λ (z : Meta). record (meta_after_loss z d) { epoch = b.meta.epoch }) meta;
       lost = λ is. record { risen = HasRisen-sooner _ _ _ (c.commit_staged.ensures.keeps.spared.no_fall d) (ended.lost is).risen; absent = (ended.lost is).absent };
       table = on_ok _ _ r (λ table. table ∙ c.commit_staged.ensures.table) ended.table;

@@ -66,6 +66,7 @@ returns-then-disk-meta g c =
         not_out = λ is. refl;
       };
       replaced = λ is. missing_not_done _ c.args.disk refl is;
+      table = refl;
       turn = replace_missing g.R.Rack.slot_count g.R.Rack.told a c.args.disk past;
       halts = tt;
       keeps = record {
@@ -95,6 +96,7 @@ returns-then-not-names g c =
         not_out = λ is. refl;
       };
       replaced = λ is. there_not_done _ c.args.disk refl is;
+      table = refl;
       turn = replace_there g.R.Rack.slot_count g.R.Rack.told a c.args.disk below not;
       halts = tt;
       keeps = record {
@@ -134,6 +136,7 @@ returns g c =
         not_out = λ is. absurd (brings.not_out is);
       };
       replaced = λ is. (below, out);
+      table = brings.table;
       turn = brings.turn;
       halts = brings.halts;
       keeps = brings.keeps;

@@ -3,15 +3,15 @@ use Rattle.paraid_base.specs.declared.state.Out.{Out}
 use Rattle.paraid_base.specs.declared.state.Out.TheVariants.{Fresh, Gone, No}
 use Rattle.paraid_base.specs.declared.state.Phase.{Phase}
 use Rattle.paraid_base.specs.declared.state.Phase.TheVariants.{Down, Steady, Up}
-use Rattle.paraid_base.specs.declared.state.TickEvent.{TickEvent}
-use Rattle.paraid_base.specs.declared.state.TickEvent.TheVariants.{Gone as GoneInTick, Rebuilt}
+use Rattle.paraid_base.specs.declared.state.TickEvent.TheVariants.{Gone as GoneInTick}
 use Rattle.paraid_base.specs.Told.{HasRisen}
 use Rattle.paraid_record.specs.declared.meta.Meta.{Meta}
 use Rattle.paraid_txn.specs.Stores.{named_of, store_rack}
 use Rattle.paraid_core.proofs.AfterLemmas.{handed}
 use Rattle.paraid_shift.proofs.ServingLemmas.{leaves_array_none}
 use Rattle.paraid_upkeep.specs.TickAnswers.{TellsRebuild}
-use Rattle.paraid_upkeep.proofs.ResultLemmas.{if_both, if_err, if_ok, if_three, none_done, none_done_if}
+use Rattle.paraid_upkeep.proofs.MoveLemmas.{few_commits, none_commits}
+use Rattle.paraid_upkeep.proofs.ResultLemmas.{if_err, if_known, if_ok, none_done, none_done_if, on_ok}
 use Rattle.paraid_upkeep.proofs.TickTurnLemmas.{waits_told}
 use Rattle.paraid_upkeep.proofs.ToldLemmas.{extends_none}
 use Rattle.paraid_upkeep.proofs.shifts.advance.Goals as goal
@@ -38,10 +38,6 @@ shifting : (p : Phase) → ((to : ℕ) × (p ≡ Down to)) ⊎ ((to : ℕ) × (p
 shifting p (inl down) steady = let z : Down down.0 ≡ Steady = sym down.1 ∙ steady in cc
 shifting p (inr up) steady = let z : Up up.0 ≡ Steady = sym up.1 ∙ steady in cc
 
--- a disk that is told as rebuilt is back
-rebuilt_back : (m n : Meta) (d u count e : ℕ) (event : TickEvent) → TellsRebuild m n d u count event → event ≡ Rebuilt e → n.out ≡ No
-rebuilt_back m n d u count e event tells is = (subst (λ (x : TickEvent). TellsRebuild m n d u count x) is tells).3
-
 pub returns-in-Gone : goal.returns-in-Gone
 returns-in-Gone g c =
     let a = c.args.core.now in
@@ -57,7 +53,7 @@ returns-in-Gone g c =
       waits = λ d is. (refl, refl);
       rebuilds = record {
         rebuilds = λ d u fresh. gone_not_fresh a.meta.out c.in-Gone.disk d u gone fresh;
-        back = λ d u fresh. gone_not_fresh a.meta.out c.in-Gone.disk d u gone fresh;
+        table = λ d u fresh. gone_not_fresh a.meta.out c.in-Gone.disk d u gone fresh;
         failed = λ d u fresh. gone_not_fresh a.meta.out c.in-Gone.disk d u gone fresh;
         committed = λ d u fresh. gone_not_fresh a.meta.out c.in-Gone.disk d u gone fresh;
       };
@@ -65,11 +61,10 @@ returns-in-Gone g c =
         decides = λ whole. gone_not_whole a.meta.out c.in-Gone.disk gone whole;
         idle = λ whole. gone_not_whole a.meta.out c.in-Gone.disk gone whole;
         rests = λ whole. gone_not_whole a.meta.out c.in-Gone.disk gone whole;
+        table = λ whole. gone_not_whole a.meta.out c.in-Gone.disk gone whole;
       };
-      moves = record {
-        moves = λ whole. gone_not_whole a.meta.out c.in-Gone.disk gone whole;
-        marks = λ whole. gone_not_whole a.meta.out c.in-Gone.disk gone whole;
-      };
+      moves = record { moves = λ whole. gone_not_whole a.meta.out c.in-Gone.disk gone whole };
+      commits = none_commits g.R.Rack.slot_count a;
       calls = record {
         slots = refl;
         no_fall = λ d. omega arith;
@@ -95,22 +90,21 @@ returns-in-Fresh g c =
       turn = if_ok _ _ r (λ done turn. turn c.args.windows.now) rebuilds.turn;
       halts = if_err _ _ r (λ two halts. halts c.args.windows.now) rebuilds.halts;
       waits = λ d gone. gone_not_fresh a.meta.out d e v gone fresh;
-      rebuilds = if_three _ _ _ _ r (λ done tells lost committed. record {
+      rebuilds = if_known _ _ _ _ _ r (λ done table tells lost committed. record {
         rebuilds = λ d u is. same_fresh (λ x y. TellsRebuild a.meta b.meta x y done.0 done.1) a.meta.out e v d u fresh is tells;
-        back = λ d u is told. rebuilt_back a.meta b.meta e v done.0 d done.1 tells told;
+        table = λ d u is. table;
         failed = λ d u is.
             same_fresh (λ x y. done.1 ≡ GoneInTick x → HasRisen (g.R.Rack.slot (store_rack a.store) x).faults (g.R.Rack.slot (store_rack b.store) x).faults) a.meta.out e v d u fresh is lost;
         committed = λ d u is. same_fresh (λ x y. done.1 ≡ GoneInTick x → named_of b.store ≡ Some x) a.meta.out e v d u fresh is committed;
-      }) rebuilds.tells rebuilds.failed rebuilds.committed;
+      }) rebuilds.table rebuilds.tells rebuilds.failed rebuilds.committed;
       decides = if_ok _ _ r (λ done tells. record {
         decides = λ whole. fresh_not_whole a.meta.out e v fresh whole;
         idle = λ whole. fresh_not_whole a.meta.out e v fresh whole;
         rests = λ whole. fresh_not_whole a.meta.out e v fresh whole;
+        table = λ whole. fresh_not_whole a.meta.out e v fresh whole;
       }) rebuilds.tells;
-      moves = if_ok _ _ r (λ done tells. record {
-        moves = λ whole. fresh_not_whole a.meta.out e v fresh whole;
-        marks = λ whole. fresh_not_whole a.meta.out e v fresh whole;
-      }) rebuilds.tells;
+      moves = if_ok _ _ r (λ done tells. record { moves = λ whole. fresh_not_whole a.meta.out e v fresh whole }) rebuilds.tells;
+      commits = on_ok _ _ r (λ few. few_commits g.R.Rack.slot_count a b 3 (omega arith) few) rebuilds.commits;
       calls = rebuilds.calls;
       two = rebuilds.two;
     }
@@ -136,6 +130,7 @@ returns-in_err-event-in-Steady g c =
       rebuilds = none_done_if _ c.from_residual.result _ c.from_residual.ensures.1;
       decides = none_done_if _ c.from_residual.result _ c.from_residual.ensures.1;
       moves = none_done_if _ c.from_residual.result _ c.from_residual.ensures.1;
+      commits = none_done _ c.from_residual.result _ c.from_residual.ensures.1;
       calls = c.decide.ensures.calls;
       two = handed _ c.from_residual.result _ c.from_residual.ensures.1 c.in_err-event-in-Steady.ensures.two;
     }
@@ -153,7 +148,7 @@ returns-in_ok-event-in-Steady g c =
       waits = λ d gone. gone_not_whole a.meta.out d gone whole;
       rebuilds = record {
         rebuilds = λ d u fresh. fresh_not_whole a.meta.out d u fresh whole;
-        back = λ d u fresh. fresh_not_whole a.meta.out d u fresh whole;
+        table = λ d u fresh. fresh_not_whole a.meta.out d u fresh whole;
         failed = λ d u fresh. fresh_not_whole a.meta.out d u fresh whole;
         committed = λ d u fresh. fresh_not_whole a.meta.out d u fresh whole;
       };
@@ -161,11 +156,10 @@ returns-in_ok-event-in-Steady g c =
         decides = λ is at_rest samples held s of. (refl, decides.tells samples held s of);
         idle = λ is at_rest idle. decides.idle idle;
         rests = λ is at_rest. (refl, decides.rests);
+        table = λ is at_rest. decides.table;
       };
-      moves = record {
-        moves = λ is not. absurd (not steady);
-        marks = λ is not. absurd (not steady);
-      };
+      moves = record { moves = λ is not. absurd (not steady) };
+      commits = decides.commits;
       calls = c.decide.ensures.calls;
       two = tt;
     }
@@ -191,21 +185,20 @@ returns-in-Down g c =
       turn = if_ok _ _ r (λ done turn. turn c.args.windows.now) moves.turn;
       halts = if_err _ _ r (λ two halts. halts c.args.windows.now) moves.halts;
       waits = λ d gone. gone_not_whole a.meta.out d gone whole;
-      rebuilds = if_ok _ _ r (λ done tells. record {
+      rebuilds = if_ok _ _ r (λ done moved. record {
         rebuilds = λ d u fresh. fresh_not_whole a.meta.out d u fresh whole;
-        back = λ d u fresh. fresh_not_whole a.meta.out d u fresh whole;
+        table = λ d u fresh. fresh_not_whole a.meta.out d u fresh whole;
         failed = λ d u fresh. fresh_not_whole a.meta.out d u fresh whole;
         committed = λ d u fresh. fresh_not_whole a.meta.out d u fresh whole;
-      }) moves.tells;
-      decides = if_ok _ _ r (λ done tells. record {
+      }) moves.moves;
+      decides = if_ok _ _ r (λ done moved. record {
         decides = λ is steady. absurd (shifts steady);
         idle = λ is steady. absurd (shifts steady);
         rests = λ is steady. absurd (shifts steady);
-      }) moves.tells;
-      moves = if_both _ _ _ r (λ done tells marks. record {
-        moves = λ is not. tells;
-        marks = λ is not. marks;
-      }) moves.tells moves.marks;
+        table = λ is steady. absurd (shifts steady);
+      }) moves.moves;
+      moves = if_ok _ _ r (λ done moved. record { moves = λ is not. moved }) moves.moves;
+      commits = moves.commits;
       calls = moves.calls;
       two = moves.two;
     }

@@ -14,6 +14,7 @@ use Rattle.paraid_image.specs.Power.{PowerState}
 use Rattle.paraid_upkeep.specs.declared.fault.ShiftFault.{ShiftFault}
 use Rattle.paraid_upkeep.proofs.DecisionLemmas.{goes_down, goes_up, idle_rests, stays, tells_down, up_free}
 use Rattle.paraid_upkeep.proofs.RefusalLemmas.{ease_of}
+use Rattle.paraid_upkeep.proofs.MoveLemmas.{marks_commits, none_commits}
 use Rattle.paraid_upkeep.proofs.OutLemmas.{known_whole}
 use Rattle.paraid_upkeep.proofs.ServiceLemmas.{in_service_none}
 use Rattle.paraid_upkeep.proofs.TickTurnLemmas.{down_halts, down_told, known_marked, shift_shown, stays_told, up_halts, up_told, worn_told}
@@ -44,6 +45,8 @@ returns-in-Stay g c =
           (stays m.setup s (decision m.setup s.gear samples) 0 (ap (λ (z : ℕ). decision m.setup z samples) is.gear ∙ sym (c.in-Stay.ensures samples held)));
       idle = λ is. refl;
       rests = tt;
+      table = refl;
+      commits = none_commits g.R.Rack.slot_count a;
       turn = λ k setup p samples served energy held at fit counts.
           stays_told g.R.Rack.slot_count g.R.Rack.told a k setup p samples served energy at fit counts c.requires.whole c.requires.steady
           (c.in-Stay.ensures samples held ∙ ap (λ (z : Meta). decision z.setup z.gear samples) c.meta.ensures);
@@ -83,6 +86,8 @@ returns-in_err-begin_up-in-Ok g c =
       tells = none_done_if _ c.from_residual.result _ c.from_residual.ensures.1;
       idle = none_done_if _ c.from_residual.result _ c.from_residual.ensures.1;
       rests = none_done_if _ c.from_residual.result _ c.from_residual.ensures.1;
+      table = none_done _ c.from_residual.result _ c.from_residual.ensures.1;
+      commits = none_done _ c.from_residual.result _ c.from_residual.ensures.1;
       turn = none_done_if _ c.from_residual.result _ c.from_residual.ensures.1;
       halts =
           handed _ c.from_residual.result _ c.from_residual.ensures.1
@@ -110,6 +115,8 @@ returns-in_ok-begin_up-in-Ok g c =
           (ap (λ (z : ℕ). decision m.setup z samples) is.gear ∙ sym (c.in-Up.ensures samples held)) (c.in-Ok.ensures.may s is));
       idle = λ is. absurd is;
       rests = inl (record { could = subst (λ (z : Meta). (s : PowerState) → IsShiftStateOf z s → MayGoUp z.setup s c.in-Ok.to) c.meta.ensures c.in-Ok.ensures.may; begun = begun.meta });
+      table = c.begin_up.ensures.keeps.table;
+      commits = marks_commits g.R.Rack.slot_count a c.begin_up.new.core _ begun.meta.is refl;
       turn = λ k setup p samples served energy held at fit counts.
           let s = state_with_tick p.state in
           let shown = subst (λ (z : Meta). IsShiftStateOf z s) (sym c.meta.ensures) (shift_shown g.R.Rack.slot_count g.R.Rack.told a k setup p samples served energy at fit counts) in
@@ -134,6 +141,8 @@ returns-in-Err g c =
           (ap (λ (z : ℕ). decision m.setup z samples) is.gear ∙ sym (c.in-Up.ensures samples held)) (ease_of a.meta s of c.requires.steady c.requires.whole) (c.in-Err.ensures.refused s is));
       idle = λ is. refl;
       rests = tt;
+      table = refl;
+      commits = none_commits g.R.Rack.slot_count a;
       turn = λ k setup p samples served energy held at fit counts.
           let s = state_with_tick p.state in
           let shown = shift_shown g.R.Rack.slot_count g.R.Rack.told a k setup p samples served energy at fit counts in
@@ -153,6 +162,8 @@ returns-in_err-begin_down-in-Ok-gear_below g c =
       tells = none_done_if _ c.from_residual-in_err-begin_down-in-Ok-gear_below.result _ c.from_residual-in_err-begin_down-in-Ok-gear_below.ensures.1;
       idle = none_done_if _ c.from_residual-in_err-begin_down-in-Ok-gear_below.result _ c.from_residual-in_err-begin_down-in-Ok-gear_below.ensures.1;
       rests = none_done_if _ c.from_residual-in_err-begin_down-in-Ok-gear_below.result _ c.from_residual-in_err-begin_down-in-Ok-gear_below.ensures.1;
+      table = none_done _ c.from_residual-in_err-begin_down-in-Ok-gear_below.result _ c.from_residual-in_err-begin_down-in-Ok-gear_below.ensures.1;
+      commits = none_done _ c.from_residual-in_err-begin_down-in-Ok-gear_below.result _ c.from_residual-in_err-begin_down-in-Ok-gear_below.ensures.1;
       turn = none_done_if _ c.from_residual-in_err-begin_down-in-Ok-gear_below.result _ c.from_residual-in_err-begin_down-in-Ok-gear_below.ensures.1;
       halts =
           handed _ c.from_residual-in_err-begin_down-in-Ok-gear_below.result _ c.from_residual-in_err-begin_down-in-Ok-gear_below.ensures.1
@@ -180,6 +191,8 @@ returns-in_ok-begin_down-in-Ok-gear_below g c =
           (ap (λ (z : ℕ). decision m.setup z samples) is.gear ∙ sym (c.in-Down.ensures samples held)) (c.in-Ok-gear_below.ensures.may s is));
       idle = λ is. absurd is;
       rests = inr (record { could = subst (λ (z : Meta). (s : PowerState) → IsShiftStateOf z s → MayGoDown z.setup s c.in-Ok-gear_below.to) c.meta.ensures c.in-Ok-gear_below.ensures.may; begun = begun.meta });
+      table = c.begin_down.ensures.keeps.table;
+      commits = marks_commits g.R.Rack.slot_count a c.begin_down.new.core _ begun.meta refl;
       turn = λ k setup p samples served energy held at fit counts.
           let s = state_with_tick p.state in
           let shown = subst (λ (z : Meta). IsShiftStateOf z s) (sym c.meta.ensures) (shift_shown g.R.Rack.slot_count g.R.Rack.told a k setup p samples served energy at fit counts) in
@@ -207,6 +220,8 @@ returns-in-Err-gear_below g c =
       rests = idle_rests a.meta c.event_of.result c.event_of.ensures.idle
           (λ d is. subst (λ (f : ShiftFault). (s : PowerState) → IsShiftStateOf a.meta s → IsDownRefused a.meta.setup s f) (c.event_of.ensures.by_wear d is)
           (subst (λ (z : Meta). (s : PowerState) → IsShiftStateOf z s → IsDownRefused z.setup s c.in-Err-gear_below.fault) c.meta.ensures c.in-Err-gear_below.ensures.refused));
+      table = refl;
+      commits = none_commits g.R.Rack.slot_count a;
       turn = λ k setup p samples served energy held at fit counts.
           let s = state_with_tick p.state in
           let shown = subst (λ (z : Meta). IsShiftStateOf z s) (sym c.meta.ensures) (shift_shown g.R.Rack.slot_count g.R.Rack.told a k setup p samples served energy at fit counts) in

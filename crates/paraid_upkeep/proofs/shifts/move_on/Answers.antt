@@ -1,4 +1,4 @@
-use Rattle.std.proofs.Common.{◌+◌, ap, refl, sym, ◌∙◌, subst, [], arith}
+use Rattle.std.proofs.Common.{◌+◌, refl, sym, ◌∙◌, subst, [], arith}
 use Rattle.paraid_base.specs.States.{phase_to}
 use Rattle.paraid_moves.specs.MoveMetas.{meta_flipped_to}
 use Rattle.paraid_core.proofs.AfterLemmas.{handed}
@@ -7,8 +7,9 @@ use Rattle.paraid_event.specs.Service.{service_of}
 use Rattle.paraid_event.proofs.TickStepLemmas.{no_name}
 use Rattle.paraid_shift.specs.Units.{TellsDone}
 use Rattle.paraid_shift.proofs.ServingLemmas.{leaves_array_then, none_away, two_array}
-use Rattle.paraid_upkeep.proofs.OutLemmas.{fill_marked, gear_marked, known_gone, known_whole, steady_marked}
-use Rattle.paraid_upkeep.proofs.TickTurnLemmas.{flip_halts, flipped_told, known_marked, lost_told, moved_fill, moved_gear, moved_gone, moved_phase, moved_shifts, moving_told, step_halts}
+use Rattle.paraid_upkeep.proofs.MoveLemmas.{ends_commits, flipped_moves, lost_moves, moving_moves, units_commits}
+use Rattle.paraid_upkeep.proofs.OutLemmas.{known_gone, known_whole}
+use Rattle.paraid_upkeep.proofs.TickTurnLemmas.{flip_halts, flipped_told, known_marked, lost_told, moved_gone, moved_shifts, moving_told, step_halts}
 use Rattle.paraid_upkeep.proofs.ToldLemmas.{calls_then, calls_told, extends_steps}
 use Rattle.paraid_upkeep.proofs.shifts.move_on.Goals as goal
 
@@ -48,8 +49,8 @@ returns-in_err-moved g c =
     let loses = c.in_err-moved.ensures.rack.loses (none_away g.R.Rack.slot a c.requires.whole) in
     record {
       serves = none_done _ c.from_residual.result _ c.from_residual.ensures.1;
-      tells = none_done_if _ c.from_residual.result _ c.from_residual.ensures.1;
-      marks = none_done_if _ c.from_residual.result _ c.from_residual.ensures.1;
+      moves = none_done_if _ c.from_residual.result _ c.from_residual.ensures.1;
+      commits = none_done _ c.from_residual.result _ c.from_residual.ensures.1;
       turn = none_done_if _ c.from_residual.result _ c.from_residual.ensures.1;
       halts =
           handed _ c.from_residual.result _ c.from_residual.ensures.1
@@ -73,8 +74,8 @@ returns-in-Some g c =
         leaves = moved.serves.leaves;
         known = known_gone g.R.Rack.slot b c.in-Some.disk (moved_gone g.R.Rack.slot_count a b c.in_ok-moved.moved.units (moved.moves c.requires.whole).moves c.in-Some.disk named) (moved.serves.absent (none_away g.R.Rack.slot a c.requires.whole));
       };
-      tells = named;
-      marks = tt;
+      moves = lost_moves g.R.Rack.slot_count a b c.units_of_tick-units.result c.in_ok-moved.moved.units c.units_of_tick-units.ensures.units (moved.moves c.requires.whole) moved.few c.in-Some.disk named;
+      commits = units_commits g.R.Rack.slot_count a c.units_of_tick-units.result c.units_of_tick-units.ensures.units g.R.Rack.slot b moved.serves;
       turn = λ windows k setup p samples served energy held at fit counts.
           lost_told g.R.Rack.slot_count g.R.Rack.told a k setup p samples served energy at fit counts c.requires.whole c.requires.shifts c.requires.serving.ready.in_range c.units_of_tick-units.result c.units_of_tick-units.ensures.units
           b c.in_ok-moved.moved.units (moved.moves c.requires.whole) moved.serves.serving.copies_synced steps c.in-Some.disk moved.few named;
@@ -92,8 +93,10 @@ returns-then-not-is_done g c =
     let whole = no_name b.meta.out (sym moved.lost ∙ c.in_default.is) in
     record {
       serves = record { serving = moved.serves.serving; leaves = moved.serves.leaves; known = known_whole g.R.Rack.slot b whole };
-      tells = whole;
-      marks = (moved_phase g.R.Rack.slot_count a b c.in_ok-moved.moved.units (moved.moves c.requires.whole).moves whole, moved_gear g.R.Rack.slot_count a b c.in_ok-moved.moved.units (moved.moves c.requires.whole).moves whole, moved_fill g.R.Rack.slot_count a b c.in_ok-moved.moved.units (moved.moves c.requires.whole).moves whole);
+      moves =
+          moving_moves g.R.Rack.slot_count a b c.units_of_tick-units.result c.in_ok-moved.moved.units c.units_of_tick-units.ensures.units (moved.moves c.requires.whole) moved.few whole moved.serves.leaves.setup
+          (λ samples served energy. subst (TellsDone (service_of g.R.Rack.slot_count b samples served energy)) c.if-not-is_done.true (c.is_done.ensures.units samples served energy));
+      commits = units_commits g.R.Rack.slot_count a c.units_of_tick-units.result c.units_of_tick-units.ensures.units g.R.Rack.slot b moved.serves;
       turn = λ windows k setup p samples served energy held at fit counts.
           moving_told g.R.Rack.slot_count g.R.Rack.told a k setup p samples served energy at fit counts c.requires.whole c.requires.shifts c.requires.serving.ready.in_range c.units_of_tick-units.result c.units_of_tick-units.ensures.units
           b c.in_ok-moved.moved.units (moved.moves c.requires.whole) moved.serves.serving.copies_synced steps whole moved.serves.leaves.setup
@@ -113,8 +116,8 @@ returns-in_err-flip g c =
     let whole = no_name b.meta.out (sym moved.lost ∙ c.in_default.is) in
     record {
       serves = none_done _ c.from_residual-in_err-flip.result _ c.from_residual-in_err-flip.ensures.1;
-      tells = none_done_if _ c.from_residual-in_err-flip.result _ c.from_residual-in_err-flip.ensures.1;
-      marks = none_done_if _ c.from_residual-in_err-flip.result _ c.from_residual-in_err-flip.ensures.1;
+      moves = none_done_if _ c.from_residual-in_err-flip.result _ c.from_residual-in_err-flip.ensures.1;
+      commits = none_done _ c.from_residual-in_err-flip.result _ c.from_residual-in_err-flip.ensures.1;
       turn = none_done_if _ c.from_residual-in_err-flip.result _ c.from_residual-in_err-flip.ensures.1;
       halts =
           handed _ c.from_residual-in_err-flip.result _ c.from_residual-in_err-flip.ensures.1
@@ -143,11 +146,10 @@ returns g c =
         leaves = leaves_array_then g.R.Rack.slot_count g.R.Rack.slot a b new moved.serves.leaves ended.shifted.leaves;
         known = known_marked g.R.Rack.slot (record (meta_flipped_to b.meta (phase_to b.meta.phase)) { epoch = b.meta.epoch + 1 }) new ended.meta whole ended.shifted.absent;
       };
-      tells = steady_marked (record (meta_flipped_to b.meta (phase_to b.meta.phase)) { epoch = b.meta.epoch + 1 }) new.meta refl ended.meta;
-      marks = (
-        gear_marked (record (meta_flipped_to b.meta (phase_to b.meta.phase)) { epoch = b.meta.epoch + 1 }) new.meta ended.meta ∙ ap phase_to (moved_phase g.R.Rack.slot_count a b c.in_ok-moved.moved.units (moved.moves c.requires.whole).moves whole),
-        fill_marked (record (meta_flipped_to b.meta (phase_to b.meta.phase)) { epoch = b.meta.epoch + 1 }) new.meta refl ended.meta,
-      );
+      moves =
+          flipped_moves g.R.Rack.slot_count a b c.units_of_tick-units.result c.in_ok-moved.moved.units c.units_of_tick-units.ensures.units (moved.moves c.requires.whole) moved.few whole moved.serves.leaves.setup
+          new (c.is_done.ensures.done c.if-not-is_done.false) ended.meta c.flip.ensures.keeps.table;
+      commits = ends_commits g.R.Rack.slot_count a c.units_of_tick-units.result c.units_of_tick-units.ensures.units g.R.Rack.slot b moved.serves new (record (meta_flipped_to b.meta (phase_to b.meta.phase)) { epoch = b.meta.epoch + 1 }) ended.meta refl;
       turn = λ windows k setup p samples served energy held at fit counts.
           flipped_told g.R.Rack.slot_count g.R.Rack.told a k setup p samples served energy at fit counts c.requires.whole c.requires.shifts c.requires.serving.ready.in_range c.units_of_tick-units.result c.units_of_tick-units.ensures.units
           b c.in_ok-moved.moved.units (moved.moves c.requires.whole) moved.serves.serving.copies_synced steps whole moved.serves.leaves.setup

@@ -16,11 +16,11 @@ flush_told-requires g c = record { going = c.requires.going }
 pub tick-requires : goal.tick-requires
 tick-requires g c = record { going = c.requires.going }
 
-pub up-requires : goal.up-requires
-up-requires g c = record { going = c.requires.going }
+pub ask-requires : goal.ask-requires
+ask-requires g c = record { going = c.requires.going }
 
-pub down-requires : goal.down-requires
-down-requires g c = record { going = c.requires.going }
+pub ask-requires-in-Down : goal.ask-requires-in-Down
+ask-requires-in-Down g c = record { going = c.requires.going }
 
 pub fail-requires : goal.fail-requires
 fail-requires g c = record { going = c.requires.going }
@@ -47,10 +47,10 @@ pub returns-in-Tick : goal.returns-in-Tick
 returns-in-Tick g c = record { answers = asked_answers g.R.Rack.slot_count g.R.Rack.slot g.R.Rack.told _ _ c.args.asked _ c.args.pairs.now _ c.in-Tick.is c.tick.ensures.answers }
 
 pub returns-in-Up : goal.returns-in-Up
-returns-in-Up g c = record { answers = asked_answers g.R.Rack.slot_count g.R.Rack.slot g.R.Rack.told _ _ c.args.asked _ c.args.pairs.now _ c.in-Up.is c.up.ensures.answers }
+returns-in-Up g c = record { answers = asked_answers g.R.Rack.slot_count g.R.Rack.slot g.R.Rack.told _ _ c.args.asked _ c.args.pairs.now _ c.in-Up.is c.ask.ensures.answers }
 
 pub returns-in-Down : goal.returns-in-Down
-returns-in-Down g c = record { answers = asked_answers g.R.Rack.slot_count g.R.Rack.slot g.R.Rack.told _ _ c.args.asked _ c.args.pairs.now _ c.in-Down.is c.down.ensures.answers }
+returns-in-Down g c = record { answers = asked_answers g.R.Rack.slot_count g.R.Rack.slot g.R.Rack.told _ _ c.args.asked _ c.args.pairs.now _ c.in-Down.is c.ask-in-Down.ensures.answers }
 
 pub returns-in-Fail : goal.returns-in-Fail
 returns-in-Fail g c = record { answers = asked_answers g.R.Rack.slot_count g.R.Rack.slot g.R.Rack.told _ _ c.args.asked _ c.args.pairs.now _ c.in-Fail.is c.fail.ensures.answers }

@@ -3,11 +3,12 @@ use Rattle.paraid_array.specs.Laws.{gear_going}
 use Rattle.paraid_base.specs.declared.event.Event.TheVariants.{Flush}
 use Rattle.paraid_base.specs.declared.event.Answer.TheVariants.{Flushed}
 use Rattle.paraid_array.specs.Arrays.{shown_of_array}
-use Rattle.paraid_array.proofs.CauseLemmas.{accepted, done_cause, plus_none, takes, two_cause}
+use Rattle.paraid_array.proofs.CauseLemmas.{accepted, commits_none, done_cause, plus_none, takes, two_cause}
 use Rattle.paraid_array.specs.Lasting.{halt_of_end}
 use Rattle.std.proofs.Common.{◌≡◌, ◌∙◌, refl, ap, Some, false, sym}
 use Rattle.paraid_base.specs.declared.fault.Halt.TheVariants.{Two as HaltTwo}
 use Rattle.paraid_record.specs.declared.meta.Meta.{Meta}
+use Rattle.paraid_dirty.specs.Table.{is_dirty}
 use Rattle.paraid_gear.specs.ThreeWindows.{lengths_of}
 use Rattle.paraid_scrub.specs.Counts.{no_faults}
 use Rattle.paraid_shift.proofs.ServingLemmas.{copies_kept}
@@ -39,6 +40,7 @@ invariant_of-self g c =
           (done.serves.draft ∙ (a.serving e).serving.draft) all.leaves.copied done.serves.unsynced done.serves.named;
       counted = c.check.ensures.leaves.slots ∙ c.args.self.now.counted;
       worn = going_wear c.check.new.core.meta c.args.self.now.ended c.requires.going;
+      priced = c.args.self.now.priced;
       sampled = c.args.self.now.sampled;
     }
 
@@ -55,7 +57,8 @@ returns-in-Ok g c = record {
     grows = extends_core g.R.Rack.told c.args.self.now.core c.check.new.core _ c.check.ensures.leaves.calls;
     slots = refl;
     cause = done_cause (shown_of_array g.R.Rack.slot c.args.self.now) _ Flush (takes (shown_of_array g.R.Rack.slot c.args.self.now) Flush (ap halt_of_end c.requires.going) c.requires.epoch c.requires.writes) refl refl (no_fall_counts (g.R.Rack.slot (store_rack c.args.self.now.core.store)) (g.R.Rack.slot (store_rack c.check.new.core.store)) c.check.ensures.leaves.spared.no_fall) (Flushed c.args.self.now.core.meta.writes) (ap halt_of_end c.requires.going) (gear_going c.args.self.now.ended _) (record { samples = refl; served = refl })
-        (refl, accepted (shown_of_array g.R.Rack.slot c.args.self.now) _ 0 c.in-Ok.ensures.serves.marks (c.in-Ok.ensures.serves.writes ∙ plus_none c.args.self.now.core.meta.writes) refl);
+        (refl, accepted (shown_of_array g.R.Rack.slot c.args.self.now) _ 0 c.in-Ok.ensures.serves.marks (c.in-Ok.ensures.serves.writes ∙ plus_none c.args.self.now.core.meta.writes) refl, ap is_dirty c.in-Ok.ensures.serves.table)
+        (commits_none (shown_of_array g.R.Rack.slot c.args.self.now) _ 1 c.in-Ok.ensures.serves.epoch);
   };
   sound = λ some p at.
       at_point g.R.Rack.slot_count g.R.Rack.told c.args.self.now c.requires.going (c.in-Ok.checked.report ≡ no_faults) (λ h lo t tells stands. c.in-Ok.ensures.zeros h lo t tells stands some)
@@ -76,7 +79,7 @@ returns-in-Err g c = record {
         c.in-Err.two refl (ap (λ (m : Meta). Some (end_by (HaltTwo c.in-Err.two) m.gear)) c.meta.ensures) all.leaves.moments c.in-Err.ensures.leaves.tells;
     grows = extends_core g.R.Rack.told c.args.self.now.core c.check.new.core _ c.check.ensures.leaves.calls;
     slots = refl;
-    cause = two_cause (shown_of_array g.R.Rack.slot c.args.self.now) _ Flush (takes (shown_of_array g.R.Rack.slot c.args.self.now) Flush (ap halt_of_end c.requires.going) c.requires.epoch c.requires.writes) refl refl (no_fall_counts (g.R.Rack.slot (store_rack c.args.self.now.core.store)) (g.R.Rack.slot (store_rack c.check.new.core.store)) c.check.ensures.leaves.spared.no_fall) refl (ap (λ (m : Meta). m.gear) c.meta.ensures ∙ sym (gear_going c.args.self.now.ended _ (ap halt_of_end c.requires.going))) (λ fits. used_nothing c.args.self.now.energy fits) c.in-Err.two refl
+    cause = two_cause (shown_of_array g.R.Rack.slot c.args.self.now) _ Flush (takes (shown_of_array g.R.Rack.slot c.args.self.now) Flush (ap halt_of_end c.requires.going) c.requires.epoch c.requires.writes) refl refl (no_fall_counts (g.R.Rack.slot (store_rack c.args.self.now.core.store)) (g.R.Rack.slot (store_rack c.check.new.core.store)) c.check.ensures.leaves.spared.no_fall) refl (ap (λ (m : Meta). m.gear) c.meta.ensures ∙ sym (gear_going c.args.self.now.ended _ (ap halt_of_end c.requires.going))) (λ fits. used_nothing c.args.self.now.ledger.total fits) c.in-Err.two refl
         (let a = c.args.self.now in
         two_lost (named_of a.core.store) (named_out a.core.meta.out) (a.serving c.requires.going).serving.serves.stays _ _ _ c.in-Err.two c.in-Err.ensures.leaves.two);
   };
@@ -86,4 +89,4 @@ returns-in-Err g c = record {
 }
 
 pub invariant_of-self-in-Err : goal.invariant_of-self-in-Err
-invariant_of-self-in-Err g c = record { serving = λ e. ended_not_none _ e; counted = c.check.ensures.leaves.slots ∙ c.args.self.now.counted; worn = two_wear c.check.new.core.meta c.in-Err.two; sampled = c.args.self.now.sampled }
+invariant_of-self-in-Err g c = record { serving = λ e. ended_not_none _ e; counted = c.check.ensures.leaves.slots ∙ c.args.self.now.counted; worn = two_wear c.check.new.core.meta c.in-Err.two; priced = c.args.self.now.priced; sampled = c.args.self.now.sampled }

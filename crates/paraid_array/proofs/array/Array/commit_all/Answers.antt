@@ -3,11 +3,12 @@ use Rattle.paraid_array.specs.Laws.{gear_going}
 use Rattle.paraid_base.specs.declared.event.Event.TheVariants.{Flush}
 use Rattle.paraid_base.specs.declared.event.Answer.TheVariants.{Flushed}
 use Rattle.paraid_array.specs.Arrays.{shown_of_array}
-use Rattle.paraid_array.proofs.CauseLemmas.{accepted, done_cause, plus_none, takes, two_cause}
+use Rattle.paraid_array.proofs.CauseLemmas.{accepted, commits_once, done_cause, plus_none, takes, two_cause}
 use Rattle.paraid_array.specs.Lasting.{halt_of_end}
 use Rattle.std.proofs.Common.{refl, ap, ◌∙◌, Some, true, arith, sym}
 use Rattle.paraid_base.specs.declared.fault.Halt.TheVariants.{Two as HaltTwo}
 use Rattle.paraid_record.specs.declared.meta.Meta.{Meta}
+use Rattle.paraid_dirty.specs.Table.{is_dirty}
 use Rattle.paraid_gear.specs.ThreeWindows.{lengths_of}
 use Rattle.paraid_shift.proofs.ServingLemmas.{copies_kept}
 use Rattle.paraid_array.proofs.CoreLemmas.{serving_then, tells_by_down}
@@ -41,6 +42,7 @@ invariant_of-self g c =
           (all.cells.draft ∙ (a.serving e).serving.draft) all.stays.copied done.unsynced done.meta.named;
       counted = c.commit.ensures.stays.losses.slots ∙ c.args.self.now.counted;
       worn = going_wear c.commit.new.self.meta c.args.self.now.ended c.requires.going;
+      priced = c.args.self.now.priced;
       sampled = c.args.self.now.sampled;
     }
 
@@ -57,7 +59,8 @@ returns-in-Ok g c = record {
     grows = extends_core g.R.Rack.told c.args.self.now.core c.commit.new.self _ c.commit.ensures.brings.calls;
     slots = refl;
     cause = done_cause (shown_of_array g.R.Rack.slot c.args.self.now) _ Flush (takes (shown_of_array g.R.Rack.slot c.args.self.now) Flush (ap halt_of_end c.requires.going) c.requires.epoch c.requires.writes) refl refl (no_fall_counts (g.R.Rack.slot (store_rack c.args.self.now.core.store)) (g.R.Rack.slot (store_rack c.commit.new.self.store)) c.commit.ensures.stays.losses.spared.no_fall) (Flushed c.meta-2.result.now.writes) (ap halt_of_end c.requires.going) (gear_going c.args.self.now.ended _) (record { samples = refl; served = refl })
-        (ap (λ (m : Meta). m.writes) c.meta-2.ensures, accepted (shown_of_array g.R.Rack.slot c.args.self.now) _ 0 c.in-Ok.ensures.stays.losses.marks (c.in-Ok.ensures.cells.writes ∙ plus_none c.args.self.now.core.meta.writes) refl);
+        (ap (λ (m : Meta). m.writes) c.meta-2.ensures, accepted (shown_of_array g.R.Rack.slot c.args.self.now) _ 0 c.in-Ok.ensures.stays.losses.marks (c.in-Ok.ensures.cells.writes ∙ plus_none c.args.self.now.core.meta.writes) refl, ap is_dirty c.commit.ensures.cells.table)
+        (commits_once (shown_of_array g.R.Rack.slot c.args.self.now) _ true c.in-Ok.ensures.meta.epoch);
   };
 }
 
@@ -72,11 +75,11 @@ returns-in-Err g c = record {
         (tells_by_down g.R.Rack.slot g.R.Rack.told a.core c.commit.new.self c.in-Err.two (a.serving c.requires.going).serving.serves c.in-Err.ensures.stays.losses.tells);
     grows = extends_core g.R.Rack.told c.args.self.now.core c.commit.new.self _ c.commit.ensures.brings.calls;
     slots = refl;
-    cause = two_cause (shown_of_array g.R.Rack.slot c.args.self.now) _ Flush (takes (shown_of_array g.R.Rack.slot c.args.self.now) Flush (ap halt_of_end c.requires.going) c.requires.epoch c.requires.writes) refl refl (no_fall_counts (g.R.Rack.slot (store_rack c.args.self.now.core.store)) (g.R.Rack.slot (store_rack c.commit.new.self.store)) c.commit.ensures.stays.losses.spared.no_fall) refl (ap (λ (m : Meta). m.gear) c.meta.ensures ∙ sym (gear_going c.args.self.now.ended _ (ap halt_of_end c.requires.going))) (λ fits. used_nothing c.args.self.now.energy fits) c.in-Err.two refl
+    cause = two_cause (shown_of_array g.R.Rack.slot c.args.self.now) _ Flush (takes (shown_of_array g.R.Rack.slot c.args.self.now) Flush (ap halt_of_end c.requires.going) c.requires.epoch c.requires.writes) refl refl (no_fall_counts (g.R.Rack.slot (store_rack c.args.self.now.core.store)) (g.R.Rack.slot (store_rack c.commit.new.self.store)) c.commit.ensures.stays.losses.spared.no_fall) refl (ap (λ (m : Meta). m.gear) c.meta.ensures ∙ sym (gear_going c.args.self.now.ended _ (ap halt_of_end c.requires.going))) (λ fits. used_nothing c.args.self.now.ledger.total fits) c.in-Err.two refl
         (let a = c.args.self.now in
         two_lost (named_of a.core.store) (named_out a.core.meta.out) (a.serving c.requires.going).serving.serves.stays _ _ _ c.in-Err.two c.in-Err.ensures.stays.losses.two);
   };
 }
 
 pub invariant_of-self-in-Err : goal.invariant_of-self-in-Err
-invariant_of-self-in-Err g c = record { serving = λ e. ended_not_none _ e; counted = c.commit.ensures.stays.losses.slots ∙ c.args.self.now.counted; worn = two_wear c.commit.new.self.meta c.in-Err.two; sampled = c.args.self.now.sampled }
+invariant_of-self-in-Err g c = record { serving = λ e. ended_not_none _ e; counted = c.commit.ensures.stays.losses.slots ∙ c.args.self.now.counted; worn = two_wear c.commit.new.self.meta c.in-Err.two; priced = c.args.self.now.priced; sampled = c.args.self.now.sampled }

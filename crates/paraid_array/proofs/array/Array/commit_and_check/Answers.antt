@@ -4,11 +4,12 @@ use Rattle.std.proofs.Common.{◌∙◌, sym, ap}
 use Rattle.paraid_base.specs.declared.event.Event.TheVariants.{Flush}
 use Rattle.paraid_base.specs.declared.event.Answer.TheVariants.{Flushed}
 use Rattle.paraid_array.specs.Arrays.{shown_of_array}
-use Rattle.paraid_array.proofs.CauseLemmas.{accepted, done_cause, plus_none, takes, two_cause}
+use Rattle.paraid_array.proofs.CauseLemmas.{accepted, commits_once, done_cause, plus_none, takes, two_cause}
 use Rattle.paraid_array.specs.Lasting.{halt_of_end}
 use Rattle.std.proofs.Common.{◌≡◌, refl, Some, true, arith}
 use Rattle.paraid_base.specs.declared.fault.Halt.TheVariants.{Two as HaltTwo}
 use Rattle.paraid_record.specs.declared.meta.Meta.{Meta}
+use Rattle.paraid_dirty.specs.Table.{is_dirty}
 use Rattle.paraid_gear.specs.ThreeWindows.{lengths_of}
 use Rattle.paraid_scrub.specs.Counts.{no_faults}
 use Rattle.paraid_shift.proofs.ServingLemmas.{copies_kept}
@@ -47,6 +48,7 @@ invariant_of-self g c =
           done.leaves.draft all.copied done.leaves.unsynced done.leaves.named;
       counted = c.commit_and_count.ensures.rack.slots ∙ c.args.self.now.counted;
       worn = going_wear c.commit_and_count.new.core.meta c.args.self.now.ended c.requires.going;
+      priced = c.args.self.now.priced;
       sampled = c.args.self.now.sampled;
     }
 
@@ -63,7 +65,8 @@ returns-in-Ok g c = record {
     grows = extends_core g.R.Rack.told c.args.self.now.core c.commit_and_count.new.core _ c.commit_and_count.ensures.calls;
     slots = refl;
     cause = done_cause (shown_of_array g.R.Rack.slot c.args.self.now) _ Flush (takes (shown_of_array g.R.Rack.slot c.args.self.now) Flush (ap halt_of_end c.requires.going) c.requires.epoch c.requires.writes) refl refl (no_fall_counts (g.R.Rack.slot (store_rack c.args.self.now.core.store)) (g.R.Rack.slot (store_rack c.commit_and_count.new.core.store)) c.commit_and_count.ensures.rack.no_fall) (Flushed c.args.self.now.core.meta.writes) (ap halt_of_end c.requires.going) (gear_going c.args.self.now.ended _) (record { samples = refl; served = refl })
-        (refl, accepted (shown_of_array g.R.Rack.slot c.args.self.now) _ 0 c.in-Ok.ensures.leaves.marks (c.in-Ok.ensures.leaves.writes ∙ plus_none c.args.self.now.core.meta.writes) refl);
+        (refl, accepted (shown_of_array g.R.Rack.slot c.args.self.now) _ 0 c.in-Ok.ensures.leaves.marks (c.in-Ok.ensures.leaves.writes ∙ plus_none c.args.self.now.core.meta.writes) refl, ap is_dirty c.in-Ok.ensures.leaves.table)
+        (commits_once (shown_of_array g.R.Rack.slot c.args.self.now) _ true c.in-Ok.ensures.leaves.epoch);
   };
   sound = λ some p at.
       at_point g.R.Rack.slot_count g.R.Rack.told c.args.self.now c.requires.going (c.in-Ok.report ≡ no_faults) (λ h lo t tells stands. c.in-Ok.ensures.sound h lo t tells stands some)
@@ -81,7 +84,7 @@ returns-in-Err g c = record {
         c.in-Err.two refl (ap (λ (m : Meta). Some (end_by (HaltTwo c.in-Err.two) m.gear)) c.meta.ensures) all.moments c.in-Err.ensures.rack.loses;
     grows = extends_core g.R.Rack.told c.args.self.now.core c.commit_and_count.new.core _ c.commit_and_count.ensures.calls;
     slots = refl;
-    cause = two_cause (shown_of_array g.R.Rack.slot c.args.self.now) _ Flush (takes (shown_of_array g.R.Rack.slot c.args.self.now) Flush (ap halt_of_end c.requires.going) c.requires.epoch c.requires.writes) refl refl (no_fall_counts (g.R.Rack.slot (store_rack c.args.self.now.core.store)) (g.R.Rack.slot (store_rack c.commit_and_count.new.core.store)) c.commit_and_count.ensures.rack.no_fall) refl (ap (λ (m : Meta). m.gear) c.meta.ensures ∙ sym (gear_going c.args.self.now.ended _ (ap halt_of_end c.requires.going))) (λ fits. used_nothing c.args.self.now.energy fits) c.in-Err.two refl
+    cause = two_cause (shown_of_array g.R.Rack.slot c.args.self.now) _ Flush (takes (shown_of_array g.R.Rack.slot c.args.self.now) Flush (ap halt_of_end c.requires.going) c.requires.epoch c.requires.writes) refl refl (no_fall_counts (g.R.Rack.slot (store_rack c.args.self.now.core.store)) (g.R.Rack.slot (store_rack c.commit_and_count.new.core.store)) c.commit_and_count.ensures.rack.no_fall) refl (ap (λ (m : Meta). m.gear) c.meta.ensures ∙ sym (gear_going c.args.self.now.ended _ (ap halt_of_end c.requires.going))) (λ fits. used_nothing c.args.self.now.ledger.total fits) c.in-Err.two refl
         (let a = c.args.self.now in
         two_lost (named_of a.core.store) (named_out a.core.meta.out) (a.serving c.requires.going).serving.serves.stays _ _ _ c.in-Err.two c.in-Err.ensures.rack.two);
   };
@@ -90,4 +93,4 @@ returns-in-Err g c = record {
 }
 
 pub invariant_of-self-in-Err : goal.invariant_of-self-in-Err
-invariant_of-self-in-Err g c = record { serving = λ e. ended_not_none _ e; counted = c.commit_and_count.ensures.rack.slots ∙ c.args.self.now.counted; worn = two_wear c.commit_and_count.new.core.meta c.in-Err.two; sampled = c.args.self.now.sampled }
+invariant_of-self-in-Err g c = record { serving = λ e. ended_not_none _ e; counted = c.commit_and_count.ensures.rack.slots ∙ c.args.self.now.counted; worn = two_wear c.commit_and_count.new.core.meta c.in-Err.two; priced = c.args.self.now.priced; sampled = c.args.self.now.sampled }

@@ -42,6 +42,7 @@ invariant_of-self g c =
           (done.stays.known (known_of g.R.Rack.slot_count g.R.Rack.slot a.core (lengths_of a.windows) a.setup a.slots q)) q.windows (done.stays.setup ∙ q.same_setup) (c.take_out.ensures.calls.slots ∙ q.same_slots);
       counted = c.take_out.ensures.calls.slots ∙ c.args.self.now.counted;
       worn = going_wear c.take_out.new.core.meta c.args.self.now.ended c.requires.going;
+      priced = c.args.self.now.priced;
       sampled = c.args.self.now.sampled;
     }
 
@@ -56,15 +57,15 @@ returns-in-Ok g c = record {
         core_on g.R.Rack.slot_count g.R.Rack.told a _ c.requires.going c.requires.epoch c.requires.writes (Fail d) (answer_of c.fail_told.result)
         (subst (λ (z : Answer). CoreGoesOn g.R.Rack.slot_count g.R.Rack.told a.core c.take_out.new.core (Fail d) z) (sym told) c.in-Ok.ensures.turn)
         (ap halt_told told ∙ fail_going d a.core.meta c.take_out.new.core.meta r c.in-Ok.ensures.refuses.refused) (λ e. let z : Fail d ≡ Bad = e in cc) c.requires.going refl refl refl
-        (λ s fits. uses_none a.setup a.energy s (answer_of c.fail_told.result) (ap (energy_of a.setup s) told ∙ fail_uses a.setup s d r) fits);
+        (λ s fits. uses_none a.setup a.ledger.total s (answer_of c.fail_told.result) (ap (energy_of a.setup s) told ∙ fail_uses a.setup s d r) fits);
     grows = c.take_out.ensures.calls.grows;
     slots = refl;
     cause =
         let a = c.args.self.now in
         let done = c.in-Ok.ensures in
         let q = a.serving c.requires.going in
-        subst (λ (z : Answer). HasCause (shown_of_array g.R.Rack.slot c.args.self.now) (Fail c.args.disk) z (shown_with g.R.Rack.slot c.args.self.now.setup c.take_out.new.core c.args.self.now.energy (samples_held c.args.self.now.windows) (sample_of c.args.self.now.served) c.args.self.now.ended)) (sym c.fail_told.ensures)
-        (fail_cause g.R.Rack.slot a c.take_out.new.core c.args.self.now.energy c.args.disk (takes (shown_of_array g.R.Rack.slot c.args.self.now) (Fail c.args.disk) (ap halt_of_end c.requires.going) c.requires.epoch c.requires.writes) q.same_setup refl (no_fall_counts (g.R.Rack.slot (store_rack c.args.self.now.core.store)) (g.R.Rack.slot (store_rack c.take_out.new.core.store)) c.take_out.ensures.calls.no_fall) done.stays.writes (λ past. (done.refuses.no_disk past).1) (λ e low is. (done.refuses.out e low is).1) c.in-Ok.refusal (ap halt_of_end c.requires.going) done.refuses.refused (λ is. done.taken (ap Ok is)) done.marks done.refuses.lost);
+        subst (λ (z : Answer). HasCause (shown_of_array g.R.Rack.slot c.args.self.now) (Fail c.args.disk) z (shown_with g.R.Rack.slot c.args.self.now.setup c.take_out.new.core c.args.self.now.ledger.total (samples_held c.args.self.now.windows) (sample_of c.args.self.now.served) c.args.self.now.ended)) (sym c.fail_told.ensures)
+        (fail_cause g.R.Rack.slot a c.take_out.new.core c.args.self.now.ledger.total c.args.disk (takes (shown_of_array g.R.Rack.slot c.args.self.now) (Fail c.args.disk) (ap halt_of_end c.requires.going) c.requires.epoch c.requires.writes) q.same_setup refl (no_fall_counts (g.R.Rack.slot (store_rack c.args.self.now.core.store)) (g.R.Rack.slot (store_rack c.take_out.new.core.store)) c.take_out.ensures.calls.no_fall) done.stays.writes c.take_out.ensures.table (record { later = done.commits.later; few = done.commits.few }) (λ past. (done.refuses.no_disk past).1) (λ e low is. (done.refuses.out e low is).1) c.in-Ok.refusal (ap halt_of_end c.requires.going) done.refuses.refused (λ is. done.taken (ap Ok is)) done.marks done.refuses.lost);
   };
 }
 
@@ -76,11 +77,11 @@ returns-in-Err g c = record {
         (ap (λ (m : Meta). Some (end_by (HaltTwo c.in-Err.two) m.gear)) c.meta.ensures);
     grows = c.take_out.ensures.calls.grows;
     slots = refl;
-    cause = two_cause (shown_of_array g.R.Rack.slot c.args.self.now) _ (Fail c.args.disk) (takes (shown_of_array g.R.Rack.slot c.args.self.now) (Fail c.args.disk) (ap halt_of_end c.requires.going) c.requires.epoch c.requires.writes) (fail_busy g.R.Rack.slot c.args.self.now (c.args.self.now.serving c.requires.going).same_setup c.in-Err.two c.args.disk _ c.in-Err.ensures.refuses.no_disk c.in-Err.ensures.refuses.out) refl (no_fall_counts (g.R.Rack.slot (store_rack c.args.self.now.core.store)) (g.R.Rack.slot (store_rack c.take_out.new.core.store)) c.take_out.ensures.calls.no_fall) refl (ap (λ (m : Meta). m.gear) c.meta.ensures ∙ sym (gear_going c.args.self.now.ended _ (ap halt_of_end c.requires.going))) (λ fits. used_nothing c.args.self.now.energy fits) c.in-Err.two refl
+    cause = two_cause (shown_of_array g.R.Rack.slot c.args.self.now) _ (Fail c.args.disk) (takes (shown_of_array g.R.Rack.slot c.args.self.now) (Fail c.args.disk) (ap halt_of_end c.requires.going) c.requires.epoch c.requires.writes) (fail_busy g.R.Rack.slot c.args.self.now (c.args.self.now.serving c.requires.going).same_setup c.in-Err.two c.args.disk _ c.in-Err.ensures.refuses.no_disk c.in-Err.ensures.refuses.out) refl (no_fall_counts (g.R.Rack.slot (store_rack c.args.self.now.core.store)) (g.R.Rack.slot (store_rack c.take_out.new.core.store)) c.take_out.ensures.calls.no_fall) refl (ap (λ (m : Meta). m.gear) c.meta.ensures ∙ sym (gear_going c.args.self.now.ended _ (ap halt_of_end c.requires.going))) (λ fits. used_nothing c.args.self.now.ledger.total fits) c.in-Err.two refl
         (let a = c.args.self.now in
         taken_lost (named_of a.core.store) (named_out a.core.meta.out) (a.serving c.requires.going).serving.serves.stays _ _ _ c.in-Err.two c.args.disk refl c.in-Err.ensures.two);
   };
 }
 
 pub invariant_of-self-in-Err : goal.invariant_of-self-in-Err
-invariant_of-self-in-Err g c = record { serving = λ e. ended_not_none _ e; counted = c.take_out.ensures.calls.slots ∙ c.args.self.now.counted; worn = two_wear c.take_out.new.core.meta c.in-Err.two; sampled = c.args.self.now.sampled }
+invariant_of-self-in-Err g c = record { serving = λ e. ended_not_none _ e; counted = c.take_out.ensures.calls.slots ∙ c.args.self.now.counted; worn = two_wear c.take_out.new.core.meta c.in-Err.two; priced = c.args.self.now.priced; sampled = c.args.self.now.sampled }

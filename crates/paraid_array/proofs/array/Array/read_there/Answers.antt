@@ -4,18 +4,18 @@ use Rattle.std.proofs.Common.{◌∙◌, sym, ap}
 use Rattle.paraid_base.specs.declared.event.Event.TheVariants.{Read}
 use Rattle.paraid_base.specs.declared.event.Answer.TheVariants.{Value}
 use Rattle.paraid_array.specs.Arrays.{shown_of_array}
-use Rattle.paraid_array.proofs.CauseLemmas.{accepted, done_cause, one_there, plus_none, takes, two_cause}
+use Rattle.paraid_array.proofs.CauseLemmas.{accepted, commits_once, done_cause, one_there, plus_none, takes, two_cause}
 use Rattle.paraid_record.specs.declared.meta.Setup.{Setup}
 use Rattle.paraid_machine.specs.Machine.{block_count}
 use Rattle.paraid_array.specs.Lasting.{halt_of_end}
 use Rattle.std.proofs.Common.{refl, Some, ◌<◌, arith, subst}
 use Rattle.paraid_base.specs.declared.fault.Halt.TheVariants.{Two as HaltTwo}
 use Rattle.paraid_record.specs.declared.meta.Meta.{Meta}
-use Rattle.paraid_gear.specs.ThreeWindows.{lengths_of}
+use Rattle.paraid_gear.specs.ThreeWindows.{lengths_of, sample_of}
 use Rattle.paraid_core.specs.Cleaning.{read_commits_first}
 use Rattle.paraid_shift.proofs.ServingLemmas.{copies_kept}
 use Rattle.paraid_array.proofs.CoreLemmas.{serving_then}
-use Rattle.paraid_array.proofs.RequestLemmas.{read_lost, read_on}
+use Rattle.paraid_array.proofs.RequestLemmas.{read_lost, read_on, seen_read}
 use Rattle.paraid_array.proofs.StandLemmas.{end_by}
 use Rattle.paraid_array.proofs.LossLemmas.{going_wear, two_lost, ended_not_none, two_wear}
 use Rattle.paraid_image.specs.Out.{named_out}
@@ -49,6 +49,7 @@ invariant_of-self g c =
           done.draft done.commits.stays.copied done.commits.unsynced done.commits.names;
       counted = c.read.ensures.commits.stays.losses.slots ∙ c.args.self.now.counted;
       worn = going_wear c.read.new.self.meta c.args.self.now.ended c.requires.going;
+      priced = c.args.self.now.priced;
       sampled = c.args.self.now.sampled;
     }
 
@@ -64,8 +65,12 @@ returns-in-Ok g c = record {
         c.args.block c.read.new.into c.requires.block done.stands done.value (a.serving c.requires.going).same_setup done.bits;
     grows = extends_core g.R.Rack.told c.args.self.now.core c.read.new.self _ c.read.ensures.commits.calls;
     slots = refl;
-    cause = done_cause (shown_of_array g.R.Rack.slot c.args.self.now) _ (Read c.args.block) (takes (shown_of_array g.R.Rack.slot c.args.self.now) (Read c.args.block) (ap halt_of_end c.requires.going) c.requires.epoch c.requires.writes) (one_there (block_count c.args.self.now.setup) c.args.block c.requires.block) refl (no_fall_counts (g.R.Rack.slot (store_rack c.args.self.now.core.store)) (g.R.Rack.slot (store_rack c.read.new.self.store)) c.read.ensures.commits.stays.losses.spared.no_fall) (Value c.args.block c.read.new.into) (ap halt_of_end c.requires.going) (gear_going c.args.self.now.ended _) (record { samples = refl; served = c.one_more-self.ensures.cut })
-        (refl, accepted (shown_of_array g.R.Rack.slot c.args.self.now) _ 0 c.in-Ok.ensures.commits.stays.losses.marks (c.in-Ok.ensures.writes ∙ plus_none c.args.self.now.core.meta.writes) refl);
+    cause = done_cause (shown_of_array g.R.Rack.slot c.args.self.now) _ (Read c.args.block) (takes (shown_of_array g.R.Rack.slot c.args.self.now) (Read c.args.block) (ap halt_of_end c.requires.going) c.requires.epoch c.requires.writes) (one_there (block_count c.args.self.now.setup) c.args.block c.requires.block) refl (no_fall_counts (g.R.Rack.slot (store_rack c.args.self.now.core.store)) (g.R.Rack.slot (store_rack c.read.new.self.store)) c.read.ensures.commits.stays.losses.spared.no_fall) (Value c.args.block c.read.new.into) (ap halt_of_end c.requires.going) (gear_going c.args.self.now.ended _) (record { samples = refl; served = c.one_more-self.ensures.cut }) (
+      refl,
+      accepted (shown_of_array g.R.Rack.slot c.args.self.now) _ 0 c.in-Ok.ensures.commits.stays.losses.marks (c.in-Ok.ensures.writes ∙ plus_none c.args.self.now.core.meta.writes) refl,
+      seen_read g.R.Rack.slot_count g.R.Rack.slot c.args.self.now c.read.new.self 0 (sample_of c.one_more-self.result) c.in-Ok.ensures.commits.stays.setup (c.args.self.now.serving c.requires.going).same_setup c.args.block c.in-Ok.ensures.bits,
+    )
+        (commits_once (shown_of_array g.R.Rack.slot c.args.self.now) _ (read_commits_first c.args.self.now.core.meta c.args.self.now.core.dirty c.args.self.now.core.batch c.args.block) c.in-Ok.ensures.commits.epoch);
   };
 }
 
@@ -79,11 +84,11 @@ returns-in-Err g c = record {
         c.in-Err.two refl (ap (λ (m : Meta). Some (end_by (HaltTwo c.in-Err.two) m.gear)) c.meta.ensures) all.commits.moments c.in-Err.ensures.commits.stays.losses.tells c.args.block c.requires.block;
     grows = extends_core g.R.Rack.told c.args.self.now.core c.read.new.self _ c.read.ensures.commits.calls;
     slots = refl;
-    cause = two_cause (shown_of_array g.R.Rack.slot c.args.self.now) _ (Read c.args.block) (takes (shown_of_array g.R.Rack.slot c.args.self.now) (Read c.args.block) (ap halt_of_end c.requires.going) c.requires.epoch c.requires.writes) (one_there (block_count c.args.self.now.setup) c.args.block c.requires.block) refl (no_fall_counts (g.R.Rack.slot (store_rack c.args.self.now.core.store)) (g.R.Rack.slot (store_rack c.read.new.self.store)) c.read.ensures.commits.stays.losses.spared.no_fall) refl (ap (λ (m : Meta). m.gear) c.meta.ensures ∙ sym (gear_going c.args.self.now.ended _ (ap halt_of_end c.requires.going))) (λ fits. used_nothing c.args.self.now.energy fits) c.in-Err.two refl
+    cause = two_cause (shown_of_array g.R.Rack.slot c.args.self.now) _ (Read c.args.block) (takes (shown_of_array g.R.Rack.slot c.args.self.now) (Read c.args.block) (ap halt_of_end c.requires.going) c.requires.epoch c.requires.writes) (one_there (block_count c.args.self.now.setup) c.args.block c.requires.block) refl (no_fall_counts (g.R.Rack.slot (store_rack c.args.self.now.core.store)) (g.R.Rack.slot (store_rack c.read.new.self.store)) c.read.ensures.commits.stays.losses.spared.no_fall) refl (ap (λ (m : Meta). m.gear) c.meta.ensures ∙ sym (gear_going c.args.self.now.ended _ (ap halt_of_end c.requires.going))) (λ fits. used_nothing c.args.self.now.ledger.total fits) c.in-Err.two refl
         (let a = c.args.self.now in
         two_lost (named_of a.core.store) (named_out a.core.meta.out) (a.serving c.requires.going).serving.serves.stays _ _ _ c.in-Err.two c.in-Err.ensures.commits.stays.losses.two);
   };
 }
 
 pub invariant_of-self-in-Err : goal.invariant_of-self-in-Err
-invariant_of-self-in-Err g c = record { serving = λ e. ended_not_none _ e; counted = c.read.ensures.commits.stays.losses.slots ∙ c.args.self.now.counted; worn = two_wear c.read.new.self.meta c.in-Err.two; sampled = c.args.self.now.sampled }
+invariant_of-self-in-Err g c = record { serving = λ e. ended_not_none _ e; counted = c.read.ensures.commits.stays.losses.slots ∙ c.args.self.now.counted; worn = two_wear c.read.new.self.meta c.in-Err.two; priced = c.args.self.now.priced; sampled = c.args.self.now.sampled }

@@ -1,19 +1,22 @@
+use Rattle.paraid_energy.specs.Account.{after_spin_ups}
+use Rattle.paraid_energy.proofs.AccountLemmas.{HasFigures-with_used}
 use Rattle.paraid_array.specs.Laws.{gear_going}
 use Rattle.std.proofs.Common.{Option, ◌⊎◌, sym, ◌∙◌, ap}
 use Rattle.std.proofs.Common.{◌≡◌, None, Some}
 use Rattle.paraid_upkeep.proofs.OutLemmas.{fails_newly}
 use Rattle.paraid_upkeep.specs.Refusals.{IsShiftStateOf}
-use Rattle.paraid_upkeep.specs.TickAnswers.{MarksMove, TellsDecision, TellsRebuild, TellsRest}
+use Rattle.paraid_event.specs.Service.{service_of}
+use Rattle.paraid_upkeep.specs.TickAnswers.{TellsDecision, TellsMove, TellsRebuild, TellsRest}
 use Rattle.paraid_base.specs.declared.event.Answer.TheVariants.{Ticked}
 use Rattle.paraid_base.specs.declared.event.Event.TheVariants.{Tick}
 use Rattle.paraid_base.specs.Log.{worn_at}
 use Rattle.paraid_base.specs.Told.{HasRisen}
-use Rattle.paraid_core.specs.declared.staged.Core.{Core}
 use Rattle.paraid_image.specs.Power.{PowerState}
 use Rattle.paraid_machine.specs.Energy.{tick_energy}
 use Rattle.paraid_serve.specs.Causes.{shown_ticked, state_shown}
 use Rattle.paraid_array.specs.Arrays.{shown_of_array}
-use Rattle.paraid_array.proofs.CauseLemmas.{out_then, done_cause, ok_event, ok_moved, takes, tick_sum, ticked_state, ticks_by, two_cause}
+use Rattle.paraid_array.proofs.CauseLemmas.{done_cause, takes, two_cause}
+use Rattle.paraid_array.proofs.TickCauseLemmas.{idle_core, ok_event, ok_moved, out_then, tick_commits, tick_sum, ticked_service, ticked_state, ticks_by}
 use Rattle.paraid_array.proofs.SampleLemmas.{held_own, held_ticked}
 use Rattle.paraid_array.specs.Lasting.{halt_of_end, samples_held}
 use Rattle.std.proofs.Common.{refl, ◌+◌, ◌<◌, ◌≤◌, [], ◌∷◌, ◌++◌, ℕ, min, subst}
@@ -25,18 +28,16 @@ use Rattle.paraid_record.specs.declared.meta.Setup.{Setup}
 use Rattle.paraid_txn.specs.declared.store.Store.{Store}
 use Rattle.paraid_base.specs.declared.state.GearReport.{GearReport}
 use Rattle.paraid_base.specs.declared.state.TickEvent.{TickEvent}
-use Rattle.paraid_base.specs.Places.{sum_before}
 use Rattle.paraid_upkeep.specs.Turns.{CoreTicks}
 use Rattle.paraid_image.specs.Out.{named_out, or_else}
 use Rattle.paraid_txn.specs.Losses.{AreTwoDown}
 use Rattle.paraid_txn.specs.Stores.{named_of, store_rack}
-use Rattle.paraid_machine.specs.Energy.{begun_energy}
-use Rattle.paraid_array.specs.Used.{used_by}
+use Rattle.paraid_array.specs.Used.{begun_spin_ups}
 use Rattle.paraid_array.proofs.CoreLemmas.{known_of, serving_of}
 use Rattle.paraid_array.proofs.CountedLemmas.{known_counted, serving_counted}
-use Rattle.paraid_array.proofs.EnergyLemmas.{tick_uses}
+use Rattle.paraid_array.proofs.EnergyLemmas.{begun_total}
 use Rattle.paraid_array.proofs.StandLemmas.{end_by}
-use Rattle.paraid_array.proofs.TickLemmas.{tick_halts, ticks_on}
+use Rattle.paraid_array.proofs.TickLemmas.{array_ticked, tick_halts, ticks_on}
 use Rattle.paraid_array.proofs.LossLemmas.{going_wear, two_lost, ended_not_none, two_wear}
 use Rattle.paraid_session.proofs.FaultLemmas.{no_fall_counts}
 use Rattle.paraid_upkeep.proofs.ToldLemmas.{extends_store}
@@ -74,6 +75,7 @@ invariant_of-self g c =
           (done.serves.leaves.slots ∙ ap (λ (s : Store _ _). g.R.Rack.slot_count s.rack) t.marks.store ∙ q.same_slots);
       counted = c.advance.ensures.calls.slots ∙ ap (λ (s : Store _ _). g.R.Rack.slot_count s.rack) c.count_tick.ensures.marks.store ∙ c.args.self.now.counted;
       worn = going_wear c.advance.new.core.meta c.args.self.now.ended c.requires.going;
+      priced = HasFigures-with_used a.setup c.count_disks.new.ledger _ _ (HasFigures-with_used a.setup a.ledger _ _ a.priced c.count_disks.ensures) c.spin_up.ensures;
       sampled = held_own c.push.new.self (samples_held c.args.self.now.windows ++ sample_of c.args.self.now.served ∷ []) (c.push.ensures.more (samples_held c.args.self.now.windows) c.args.self.now.sampled);
     }
 
@@ -83,14 +85,12 @@ returns-in-Ok g c = record {
     turn =
         let a = c.args.self.now in
         let t = c.count_tick.ensures in
-        ticks_on g.R.Rack.slot_count g.R.Rack.told a _ c.count_tick.new.self c.requires.going c.requires.epoch c.requires.writes t.marks.store t.meta t.marks.staged.table t.marks.staged.batch t.marks.staged.copied c.saturating_add-self.result
-        (λ s gear phase out. c.saturating_add-self.ensures
-        ∙ ap (λ (n : ℕ). min (a.energy + n) 18446744073709551615) (c.energy_of_tick-used.ensures ∙ ap (λ (m : Meta). sum_before (used_by m) m.setup.geometry.disks) c.meta-2.ensures ∙ tick_uses a.core.meta s gear phase out))
+        ticks_on g.R.Rack.slot_count g.R.Rack.told a _ c.count_tick.new.self c.requires.going c.requires.epoch c.requires.writes t.marks.store t.meta t.marks.staged.table t.marks.staged.batch t.marks.staged.copied c.count_disks.new.ledger.total
+        (array_ticked a _ c.count_disks.new.ledger (a.serving c.requires.going).same_setup c.meta-2.ensures c.count_disks.ensures)
         c.push.ensures.more (report c.meta-in-Ok.result.now.gear c.in-Ok.moved c.in-Ok.event)
         (subst (λ (m : Meta). CoreTicks g.R.Rack.slot_count g.R.Rack.told c.push.new.self c.count_tick.new.self c.advance.new.core (report m.gear c.in-Ok.moved c.in-Ok.event)) (sym c.meta-in-Ok.ensures) c.in-Ok.ensures.turn)
         c.requires.going refl refl
-        (c.saturating_add-self-in-Ok.ensures ∙ ap (λ (n : ℕ). min (c.saturating_add-self.result + n) 18446744073709551615)
-        (c.begun_energy-begun.ensures ∙ ap (λ (m : Meta). begun_energy a.setup m.gear c.in-Ok.event) c.meta.ensures));
+        (begun_total a.setup c.count_disks.new.ledger c.spin_up.new.self a.core.meta.gear c.in-Ok.event (HasFigures-with_used a.setup a.ledger _ _ a.priced c.count_disks.ensures) (c.spin_up.ensures ∙ ap (after_spin_ups c.count_disks.new.ledger) (c.spin_ups_begun.ensures ∙ ap (λ (m : Meta). begun_spin_ups m.gear c.in-Ok.event) c.meta.ensures)));
     grows = extends_store g.R.Rack.told c.args.self.now.core c.count_tick.new.self c.advance.new.core c.count_tick.ensures.marks.store c.advance.ensures.calls.grows;
     slots = refl;
     cause =
@@ -108,6 +108,8 @@ returns-in-Ok g c = record {
         let held : samples_held c.push.new.self ≡ (shown_ticked (shown_of_array g.R.Rack.slot c.args.self.now)).samples = held_ticked c.push.new.self a.windows a.setup (sample_of a.served) spans pushed in
         let windows : HoldLastSamples c.push.new.self (shown_ticked (shown_of_array g.R.Rack.slot c.args.self.now)).samples = subst (HoldLastSamples c.push.new.self) held (held_own c.push.new.self (samples_held a.windows ++ sample_of a.served ∷ []) pushed) in
         let ticked : PowerState = state_shown (shown_ticked (shown_of_array g.R.Rack.slot c.args.self.now)) in
+        let setup : mid.meta.setup ≡ a.setup = ap (λ (m : Meta). m.setup) t.meta ∙ q.same_setup in
+        let idle = idle_core g.R.Rack.slot_count g.R.Rack.slot a mid t.meta t.marks.staged.table t.marks.store new in
         done_cause (shown_of_array g.R.Rack.slot c.args.self.now) _ Tick (takes (shown_of_array g.R.Rack.slot c.args.self.now) Tick (ap halt_of_end c.requires.going) c.requires.epoch c.requires.writes) refl refl
         (let new = g.R.Rack.slot (store_rack c.advance.new.core.store) in
         no_fall_counts (g.R.Rack.slot (store_rack c.args.self.now.core.store)) new (subst (λ (s : Store _ _). (d : ℕ) → (g.R.Rack.slot (store_rack s) d).faults ≤ (new d).faults) c.count_tick.ensures.marks.store c.advance.ensures.calls.no_fall))
@@ -121,34 +123,29 @@ returns-in-Ok g c = record {
           gear = ap (λ (m : Meta). m.gear) c.meta-in-Ok.ensures;
           writes = done.serves.leaves.writes ∙ ap (λ (m : Meta). m.writes) t.meta;
           energy =
-              tick_sum a.setup a.energy s c.saturating_add-self.result _ (report c.meta-in-Ok.result.now.gear c.in-Ok.moved c.in-Ok.event)
-              (c.saturating_add-self.ensures
-              ∙ ap (λ (n : ℕ). min (a.energy + n) 18446744073709551615) (c.energy_of_tick-used.ensures ∙ ap (λ (m : Meta). sum_before (used_by m) m.setup.geometry.disks) c.meta-2.ensures ∙ tick_uses a.core.meta s refl refl refl ∙ ap (λ (z : Setup). tick_energy z s) q.same_setup))
-              (c.saturating_add-self-in-Ok.ensures ∙ ap (λ (n : ℕ). min (c.saturating_add-self.result + n) 18446744073709551615) (c.begun_energy-begun.ensures ∙ ap (λ (m : Meta). begun_energy a.setup m.gear c.in-Ok.event) c.meta.ensures));
+              tick_sum a.setup a.ledger.total s c.count_disks.new.ledger.total _ (report c.meta-in-Ok.result.now.gear c.in-Ok.moved c.in-Ok.event)
+              (array_ticked a _ c.count_disks.new.ledger q.same_setup c.meta-2.ensures c.count_disks.ensures s refl refl refl ∙ ap (λ (z : Setup). min (a.ledger.total + tick_energy z s) 18446744073709551615) q.same_setup)
+              (begun_total a.setup c.count_disks.new.ledger c.spin_up.new.self a.core.meta.gear c.in-Ok.event (HasFigures-with_used a.setup a.ledger _ _ a.priced c.count_disks.ensures) (c.spin_up.ensures ∙ ap (after_spin_ups c.count_disks.new.ledger) (c.spin_ups_begun.ensures ∙ ap (λ (m : Meta). begun_spin_ups m.gear c.in-Ok.event) c.meta.ensures)));
           by =
-              ticks_by g.R.Rack.slot a new c.saturating_add-self-in-Ok.result (samples_held c.push.new.self) q.same_setup c.in-Ok.moved c.in-Ok.event
+              ticks_by g.R.Rack.slot_count g.R.Rack.slot a new c.spin_up.new.self.total (samples_held c.push.new.self) q.same_setup c.in-Ok.moved c.in-Ok.event
               (subst (λ (y : Store _ _). named_out a.core.meta.out ≡ None → (d : ℕ) → named_out new.meta.out ≡ Some d → HasRisen (g.R.Rack.slot (store_rack y) d).faults (g.R.Rack.slot (store_rack new.store) d).faults) t.marks.store
               (λ none. fails_newly (g.R.Rack.slot (store_rack mid.store)) (g.R.Rack.slot (store_rack new.store)) (named_out mid.meta.out) (named_out new.meta.out) (named_of mid.store) (named_of new.store) (t.serves q.serving.serves).stays done.serves.serving.serves.stays done.serves.leaves.down (ap named_out out ∙ none)))
               a.core.meta.out refl
-              (λ d is. let w = done.waits d (out ∙ is) in (ok_moved c.in-Ok.moved c.in-Ok.event w.0, ok_event c.in-Ok.moved c.in-Ok.event w.0, ap (λ (z : Core _ _). z.meta.out) w.1 ∙ out ∙ is, ap (λ (z : Core _ _). g.R.Rack.slot (store_rack z.store)) w.1 ∙ ap (λ (y : Store _ _). g.R.Rack.slot (store_rack y)) t.marks.store))
+              (λ d is. let w = done.waits d (out ∙ is) in let same = idle w.1 in (ok_moved c.in-Ok.moved c.in-Ok.event w.0, ok_event c.in-Ok.moved c.in-Ok.event w.0, same.0, same.1, same.2))
               (λ d u is. subst (λ (m : Meta). TellsRebuild m new.meta d u c.in-Ok.moved c.in-Ok.event) t.meta (done.rebuilds.rebuilds d u (out ∙ is)))
+              (λ d u is. done.rebuilds.table d u (out ∙ is) ∙ t.marks.staged.table)
               (λ d u is gone. subst (λ (y : Store _ _). HasRisen (g.R.Rack.slot (store_rack y) d).faults (g.R.Rack.slot (store_rack new.store) d).faults) t.marks.store (done.rebuilds.failed d u (out ∙ is) gone))
-              (λ whole shifts. (
-                done.moves.moves (out ∙ whole) (λ steady. shifts (sym phase ∙ steady)),
-                subst (λ (m : Meta). MarksMove m new.meta c.in-Ok.event) t.meta (done.moves.marks (out ∙ whole) (λ steady. shifts (sym phase ∙ steady))),
-              ))
+              (done.serves.leaves.setup ∙ ap (λ (m : Meta). m.setup) t.meta) (done.serves.leaves.version ∙ ap (λ (m : Meta). m.version) t.meta) (done.serves.leaves.writes ∙ ap (λ (m : Meta). m.writes) t.meta)
+              (λ whole shifts. subst (λ (z : Setup). TellsMove z ticked (service_of g.R.Rack.slot_count new ticked.samples 0 0) c.in-Ok.moved c.in-Ok.event) setup
+              (done.moves.moves (out ∙ whole) (λ steady. shifts (sym phase ∙ steady)) ticked.samples 0 0 ticked (ticked_service g.R.Rack.slot_count g.R.Rack.slot a mid t.meta t.marks.staged.table)))
               (λ whole steady.
               let rests = subst (λ (m : Meta). (c.in-Ok.moved ≡ 0) × TellsRest m new.meta c.in-Ok.event) t.meta (done.decides.rests (out ∙ whole) (phase ∙ steady)) in
               let decides = done.decides.decides (out ∙ whole) (phase ∙ steady) (shown_ticked (shown_of_array g.R.Rack.slot c.args.self.now)).samples windows ticked (subst (λ (m : Meta). IsShiftStateOf m ticked) (sym t.meta) (ticked_state g.R.Rack.slot a)) in
-              let setup : mid.meta.setup ≡ a.setup = ap (λ (m : Meta). m.setup) t.meta ∙ q.same_setup in
               (rests.0, rests.1, subst (λ (z : Setup). TellsDecision z ticked (decision z ticked.gear (shown_ticked (shown_of_array g.R.Rack.slot c.args.self.now)).samples) c.in-Ok.event) setup decides.1))
-              (λ whole steady is.
-              let same = done.decides.idle (out ∙ whole) (phase ∙ steady) is in (
-                ap (λ (z : Core _ _). z.meta) same ∙ t.meta,
-                ap (λ (z : Core _ _). z.dirty) same ∙ t.marks.staged.table,
-                ap (λ (z : Core _ _). g.R.Rack.slot (store_rack z.store)) same ∙ ap (λ (y : Store _ _). g.R.Rack.slot (store_rack y)) t.marks.store,
-              ));
-        });
+              (λ whole steady is. idle (done.decides.idle (out ∙ whole) (phase ∙ steady) is))
+              (λ whole steady. done.decides.table (out ∙ whole) (phase ∙ steady) ∙ t.marks.staged.table);
+        })
+        (tick_commits g.R.Rack.slot_count g.R.Rack.slot a mid t.meta t.marks.staged.table new c.spin_up.new.self.total (samples_held c.push.new.self) q.same_setup done.commits);
   };
 }
 
@@ -158,9 +155,8 @@ returns-in-Err g c = record {
     turn =
         let a = c.args.self.now in
         let t = c.count_tick.ensures in
-        tick_halts g.R.Rack.slot_count g.R.Rack.told a _ c.count_tick.new.self c.requires.going c.requires.epoch c.requires.writes t.marks.store t.meta t.marks.staged.table t.marks.staged.batch t.marks.staged.copied c.saturating_add-self.result
-        (λ s gear phase out. c.saturating_add-self.ensures
-        ∙ ap (λ (n : ℕ). min (a.energy + n) 18446744073709551615) (c.energy_of_tick-used.ensures ∙ ap (λ (m : Meta). sum_before (used_by m) m.setup.geometry.disks) c.meta-2.ensures ∙ tick_uses a.core.meta s gear phase out))
+        tick_halts g.R.Rack.slot_count g.R.Rack.told a _ c.count_tick.new.self c.requires.going c.requires.epoch c.requires.writes t.marks.store t.meta t.marks.staged.table t.marks.staged.batch t.marks.staged.copied c.count_disks.new.ledger.total
+        (array_ticked a _ c.count_disks.new.ledger (a.serving c.requires.going).same_setup c.meta-2.ensures c.count_disks.ensures)
         c.push.ensures.more c.in-Err.two c.in-Err.ensures.halts refl (ap (λ (m : Meta). Some (end_by (HaltTwo c.in-Err.two) m.gear)) c.meta.ensures);
     grows = extends_store g.R.Rack.told c.args.self.now.core c.count_tick.new.self c.advance.new.core c.count_tick.ensures.marks.store c.advance.ensures.calls.grows;
     slots = refl;
@@ -169,8 +165,7 @@ returns-in-Err g c = record {
         no_fall_counts (g.R.Rack.slot (store_rack c.args.self.now.core.store)) new (subst (λ (s : Store _ _). (d : ℕ) → (g.R.Rack.slot (store_rack s) d).faults ≤ (new d).faults) c.count_tick.ensures.marks.store c.advance.ensures.calls.no_fall)) refl (ap (λ (m : Meta). m.gear) c.meta.ensures ∙ sym (gear_going c.args.self.now.ended _ (ap halt_of_end c.requires.going))) (λ fits.
         let a = c.args.self.now in
         let s : PowerState = state_shown (shown_of_array g.R.Rack.slot a) in
-        c.saturating_add-self.ensures
-        ∙ ap (λ (n : ℕ). min (a.energy + n) 18446744073709551615) (c.energy_of_tick-used.ensures ∙ ap (λ (m : Meta). sum_before (used_by m) m.setup.geometry.disks) c.meta-2.ensures ∙ tick_uses a.core.meta s refl refl refl ∙ ap (λ (z : Setup). tick_energy z s) (a.serving c.requires.going).same_setup)) c.in-Err.two refl
+        (let q = a.serving c.requires.going in array_ticked a _ c.count_disks.new.ledger q.same_setup c.meta-2.ensures c.count_disks.ensures s refl refl refl ∙ ap (λ (z : Setup). min (a.ledger.total + tick_energy z s) 18446744073709551615) q.same_setup)) c.in-Err.two refl
         (let a = c.args.self.now in
         let t = c.count_tick.ensures in
         let new = g.R.Rack.slot (store_rack c.advance.new.core.store) in
@@ -182,4 +177,4 @@ returns-in-Err g c = record {
 }
 
 pub invariant_of-self-in-Err : goal.invariant_of-self-in-Err
-invariant_of-self-in-Err g c = record { serving = λ e. ended_not_none _ e; counted = c.advance.ensures.calls.slots ∙ ap (λ (s : Store _ _). g.R.Rack.slot_count s.rack) c.count_tick.ensures.marks.store ∙ c.args.self.now.counted; worn = two_wear c.advance.new.core.meta c.in-Err.two; sampled = held_own c.push.new.self (samples_held c.args.self.now.windows ++ sample_of c.args.self.now.served ∷ []) (c.push.ensures.more (samples_held c.args.self.now.windows) c.args.self.now.sampled) }
+invariant_of-self-in-Err g c = record { serving = λ e. ended_not_none _ e; counted = c.advance.ensures.calls.slots ∙ ap (λ (s : Store _ _). g.R.Rack.slot_count s.rack) c.count_tick.ensures.marks.store ∙ c.args.self.now.counted; worn = two_wear c.advance.new.core.meta c.in-Err.two; priced = HasFigures-with_used c.args.self.now.setup c.args.self.now.ledger _ _ c.args.self.now.priced c.count_disks.ensures; sampled = held_own c.push.new.self (samples_held c.args.self.now.windows ++ sample_of c.args.self.now.served ∷ []) (c.push.ensures.more (samples_held c.args.self.now.windows) c.args.self.now.sampled) }

@@ -26,4 +26,4 @@ returns g c = record {
 }
 
 pub invariant_of-self : goal.invariant_of-self
-invariant_of-self g c = record { serving = λ e. ended_not_none _ e; counted = c.args.self.now.counted; worn = worn_wear c.args.self.now.core.meta c.args.count c.requires.many c.requires.is; sampled = c.args.self.now.sampled }
+invariant_of-self g c = record { serving = λ e. ended_not_none _ e; counted = c.args.self.now.counted; worn = worn_wear c.args.self.now.core.meta c.args.count c.requires.many c.requires.is; priced = c.args.self.now.priced; sampled = c.args.self.now.sampled }

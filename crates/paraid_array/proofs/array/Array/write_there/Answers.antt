@@ -3,7 +3,7 @@ use Rattle.paraid_array.specs.Laws.{gear_going}
 use Rattle.paraid_base.specs.declared.event.Event.TheVariants.{Write}
 use Rattle.paraid_base.specs.declared.event.Answer.TheVariants.{Wrote}
 use Rattle.paraid_array.specs.Arrays.{shown_of_array}
-use Rattle.paraid_array.proofs.CauseLemmas.{accepted, all_there, done_cause, takes, two_cause}
+use Rattle.paraid_array.proofs.CauseLemmas.{accepted, all_there, commits_once, done_cause, takes, two_cause}
 use Rattle.paraid_record.specs.declared.meta.Setup.{Setup}
 use Rattle.paraid_machine.specs.Machine.{block_count}
 use Rattle.paraid_base.specs.Log.{worn_at}
@@ -14,11 +14,11 @@ use Rattle.paraid_array.specs.Lasting.{halt_of_end}
 use Rattle.std.proofs.Common.{refl, ap, ◌+◌, ◌*◌, Some, ℕ, ◌<◌, arith, subst, sym, ◌∙◌}
 use Rattle.paraid_base.specs.declared.fault.Halt.TheVariants.{Two as HaltTwo}
 use Rattle.paraid_record.specs.declared.meta.Meta.{Meta}
-use Rattle.paraid_gear.specs.ThreeWindows.{lengths_of}
+use Rattle.paraid_gear.specs.ThreeWindows.{lengths_of, sample_of}
 use Rattle.paraid_core.specs.Room.{commits_first}
 use Rattle.paraid_shift.proofs.ServingLemmas.{copies_kept}
 use Rattle.paraid_array.proofs.CoreLemmas.{serving_then}
-use Rattle.paraid_array.proofs.RequestLemmas.{write_lost, write_on}
+use Rattle.paraid_array.proofs.RequestLemmas.{seen_write, write_lost, write_on}
 use Rattle.paraid_array.proofs.StandLemmas.{end_by}
 use Rattle.paraid_array.proofs.LossLemmas.{going_wear, two_lost, ended_not_none, two_wear}
 use Rattle.paraid_image.specs.Out.{named_out}
@@ -52,6 +52,7 @@ invariant_of-self g c =
           done.draft done.commits.stays.copied done.commits.unsynced done.commits.names;
       counted = c.write_many.ensures.commits.stays.losses.slots ∙ c.args.self.now.counted;
       worn = going_wear c.write_many.new.self.meta c.args.self.now.ended c.requires.going;
+      priced = c.args.self.now.priced;
       sampled = c.args.self.now.sampled;
     }
 
@@ -67,8 +68,12 @@ returns-in-Ok g c = record {
         c.args.pairs.now (c.meta-2.result.now.writes + 1) (ap (λ (m : Meta). m.writes + 1) c.meta-2.ensures) c.requires.blocks done.stands (a.serving c.requires.going).same_setup done.bits;
     grows = extends_core g.R.Rack.told c.args.self.now.core c.write_many.new.self _ c.write_many.ensures.commits.calls;
     slots = refl;
-    cause = done_cause (shown_of_array g.R.Rack.slot c.args.self.now) _ (Write c.args.pairs.now) (takes (shown_of_array g.R.Rack.slot c.args.self.now) (Write c.args.pairs.now) (ap halt_of_end c.requires.going) c.requires.epoch c.requires.writes) (all_there (block_count c.args.self.now.setup) (pairs_of c.args.pairs.now) c.requires.blocks) refl (no_fall_counts (g.R.Rack.slot (store_rack c.args.self.now.core.store)) (g.R.Rack.slot (store_rack c.write_many.new.self.store)) c.write_many.ensures.commits.stays.losses.spared.no_fall) (Wrote (c.meta-2.result.now.writes + 1)) (ap halt_of_end c.requires.going) (gear_going c.args.self.now.ended _) (record { samples = refl; served = c.one_more-self.ensures.cut })
-        (ap (λ (m : Meta). m.writes + 1) c.meta-2.ensures, accepted (shown_of_array g.R.Rack.slot c.args.self.now) _ 1 c.in-Ok.ensures.commits.stays.losses.marks c.in-Ok.ensures.writes refl);
+    cause = done_cause (shown_of_array g.R.Rack.slot c.args.self.now) _ (Write c.args.pairs.now) (takes (shown_of_array g.R.Rack.slot c.args.self.now) (Write c.args.pairs.now) (ap halt_of_end c.requires.going) c.requires.epoch c.requires.writes) (all_there (block_count c.args.self.now.setup) (pairs_of c.args.pairs.now) c.requires.blocks) refl (no_fall_counts (g.R.Rack.slot (store_rack c.args.self.now.core.store)) (g.R.Rack.slot (store_rack c.write_many.new.self.store)) c.write_many.ensures.commits.stays.losses.spared.no_fall) (Wrote (c.meta-2.result.now.writes + 1)) (ap halt_of_end c.requires.going) (gear_going c.args.self.now.ended _) (record { samples = refl; served = c.one_more-self.ensures.cut }) (
+      ap (λ (m : Meta). m.writes + 1) c.meta-2.ensures,
+      accepted (shown_of_array g.R.Rack.slot c.args.self.now) _ 1 c.in-Ok.ensures.commits.stays.losses.marks c.in-Ok.ensures.writes refl,
+      seen_write g.R.Rack.slot_count g.R.Rack.slot c.args.self.now c.write_many.new.self 0 (sample_of c.one_more-self.result) c.in-Ok.ensures.commits.stays.setup (c.args.self.now.serving c.requires.going).same_setup c.args.pairs.now c.in-Ok.ensures.bits,
+    )
+        (commits_once (shown_of_array g.R.Rack.slot c.args.self.now) _ (commits_first c.args.self.now.core.batch (10 * c.args.pairs.now.count)) c.in-Ok.ensures.commits.epoch);
   };
 }
 
@@ -82,14 +87,14 @@ returns-in-Err g c = record {
         c.in-Err.two refl (ap (λ (m : Meta). Some (end_by (HaltTwo c.in-Err.two) m.gear)) c.meta.ensures) all.commits.moments c.in-Err.ensures.commits.stays.losses.tells c.args.pairs.now c.requires.blocks;
     grows = extends_core g.R.Rack.told c.args.self.now.core c.write_many.new.self _ c.write_many.ensures.commits.calls;
     slots = refl;
-    cause = two_cause (shown_of_array g.R.Rack.slot c.args.self.now) _ (Write c.args.pairs.now) (takes (shown_of_array g.R.Rack.slot c.args.self.now) (Write c.args.pairs.now) (ap halt_of_end c.requires.going) c.requires.epoch c.requires.writes) (all_there (block_count c.args.self.now.setup) (pairs_of c.args.pairs.now) c.requires.blocks) refl (no_fall_counts (g.R.Rack.slot (store_rack c.args.self.now.core.store)) (g.R.Rack.slot (store_rack c.write_many.new.self.store)) c.write_many.ensures.commits.stays.losses.spared.no_fall) refl (ap (λ (m : Meta). m.gear) c.meta.ensures ∙ sym (gear_going c.args.self.now.ended _ (ap halt_of_end c.requires.going))) (λ fits. used_nothing c.args.self.now.energy fits) c.in-Err.two refl
+    cause = two_cause (shown_of_array g.R.Rack.slot c.args.self.now) _ (Write c.args.pairs.now) (takes (shown_of_array g.R.Rack.slot c.args.self.now) (Write c.args.pairs.now) (ap halt_of_end c.requires.going) c.requires.epoch c.requires.writes) (all_there (block_count c.args.self.now.setup) (pairs_of c.args.pairs.now) c.requires.blocks) refl (no_fall_counts (g.R.Rack.slot (store_rack c.args.self.now.core.store)) (g.R.Rack.slot (store_rack c.write_many.new.self.store)) c.write_many.ensures.commits.stays.losses.spared.no_fall) refl (ap (λ (m : Meta). m.gear) c.meta.ensures ∙ sym (gear_going c.args.self.now.ended _ (ap halt_of_end c.requires.going))) (λ fits. used_nothing c.args.self.now.ledger.total fits) c.in-Err.two refl
         (let a = c.args.self.now in
         two_lost (named_of a.core.store) (named_out a.core.meta.out) (a.serving c.requires.going).serving.serves.stays _ _ _ c.in-Err.two c.in-Err.ensures.commits.stays.losses.two);
   };
 }
 
 pub invariant_of-self-in-Err : goal.invariant_of-self-in-Err
-invariant_of-self-in-Err g c = record { serving = λ e. ended_not_none _ e; counted = c.write_many.ensures.commits.stays.losses.slots ∙ c.args.self.now.counted; worn = two_wear c.write_many.new.self.meta c.in-Err.two; sampled = c.args.self.now.sampled }
+invariant_of-self-in-Err g c = record { serving = λ e. ended_not_none _ e; counted = c.write_many.ensures.commits.stays.losses.slots ∙ c.args.self.now.counted; worn = two_wear c.write_many.new.self.meta c.in-Err.two; priced = c.args.self.now.priced; sampled = c.args.self.now.sampled }
 
 pub overflow_add-result : goal.overflow_add-result
 overflow_add-result g c = let w = subst (λ (m : Meta). m.writes < worn_at) (sym c.meta-2.ensures) c.requires.writes in omega (arith, w)

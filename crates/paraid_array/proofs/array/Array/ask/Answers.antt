@@ -1,7 +1,7 @@
-use Rattle.std.proofs.Common.{refl}
-use Rattle.paraid_base.specs.declared.event.Event.TheVariants.{Down}
+use Rattle.paraid_upkeep.specs.Directions.{asked_event}
+use Rattle.paraid_array.proofs.AskedLemmas.{asked_may_halt}
 use Rattle.paraid_array.proofs.StandLemmas.{none_ended}
-use Rattle.paraid_array.proofs.array.Array.down.Goals as goal
+use Rattle.paraid_array.proofs.array.Array.ask.Goals as goal
 
 pub wear_out-requires : goal.wear_out-requires
 wear_out-requires g c =
@@ -9,12 +9,12 @@ wear_out-requires g c =
     record { going = c.requires.going; many = many.0; is = many.1 }
 
 pub returns-in-Some : goal.returns-in-Some
-returns-in-Some g c = record { answers = c.wear_out.ensures.answers Down refl }
+returns-in-Some g c = record { answers = c.wear_out.ensures.answers (asked_event c.args.direction) (asked_may_halt c.args.direction) }
 
-pub down_there-requires : goal.down_there-requires
-down_there-requires g c =
+pub ask_there-requires : goal.ask_there-requires
+ask_there-requires g c =
     let fit = c.in_default.ensures.fit in
     record { going = none_ended c.args.self.now.ended c.requires.going; epoch = fit.0; writes = fit.1 }
 
 pub returns : goal.returns
-returns g c = record { answers = c.down_there.ensures.answers }
+returns g c = record { answers = c.ask_there.ensures.answers }
