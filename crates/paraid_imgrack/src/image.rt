@@ -1,5 +1,5 @@
 //! One disk of the rack: a call on it is done, or it leaves the disk absent and counted as failed.
-ghost use Rattle.std.specs.Prelude.{◌≡◌, ◌≢◌, ◌*◌, ◌/◌, min, true, false, IfOk, IfSome, OnOk};
+ghost use Rattle.std.specs.Prelude.{◌≡◌, ◌≢◌, ℕ, ◌*◌, ◌/◌, ◌<◌, min, true, false, length, slice_index, IfOk, IfSome, OnOk};
 ghost use Rattle.paraid_base.specs.Told.{HasRisen};
 ghost use Rattle.paraid_imgrack.specs.declared.tail.Tail.TheVariants.{Other};
 ghost use Rattle.paraid_rack.specs.declared.call.Power.TheVariants.{Spinning, Parked, Absent};
@@ -57,8 +57,6 @@ pub(crate) struct Image {
     pub(crate) cause: Option<io::Error>,
     /// The disk was attached since the load.
     pub(crate) attached: bool,
-    // What a read is given, before it is a block.
-    buffer: [u8; BLOCK_SIZE],
     pub ghost empty: { power ≡ Absent → size ≡ 0 },
     pub ghost still: { power ≡ Parked → unsynced ≡ false },
 }
@@ -97,7 +95,6 @@ impl Image {
                 misfit: None,
                 cause: None,
                 attached: false,
-                buffer: [0; BLOCK_SIZE],
             }),
             Ok(None) => Ok(Image::absent(names, None)),
             Err(hindrance) => Ok(Image::absent(names, Some(hindrance))),
@@ -120,7 +117,6 @@ impl Image {
             misfit: None,
             cause: None,
             attached: false,
-            buffer: [0; BLOCK_SIZE],
         }
     }
 
@@ -154,24 +150,20 @@ impl Image {
     }
 
     /// The number of disks of the array whose log this disk has, if it spins and has one.
-    pub(crate) fn disks_by_log(&mut self) -> Option<u8>
-        ensures { image_slot self.new ≡ image_slot self.old }
-    {
+    pub(crate) fn disks_by_log(&self) -> Option<u8> {
         if self.power != Power::Spinning {
             return None;
         }
-        log_disks(&self.file, 1, &mut self.buffer)
+        log_disks(&self.file, 1)
     }
 
     /// What a new array would write over.
-    pub(crate) fn claim<F: Files<File = File>>(&mut self, files: &F) -> Option<Claim>
-        ensures { image_slot self.new ≡ image_slot self.old }
-    {
+    pub(crate) fn claim<F: Files<File = File>>(&self, files: &F) -> Option<Claim> {
         if self.file.is_some() {
-            return claim_of(&self.file, &mut self.buffer);
+            return claim_of(&self.file);
         }
         match find(files, self.names.image.as_str()) {
-            Found::Open(file) => claim_of(&Some(file), &mut self.buffer),
+            Found::Open(file) => claim_of(&Some(file)),
             Found::Nothing if self.names.has_sidecar(files) => Some(Claim::Sidecar),
             Found::Nothing | Found::Lost | Found::Shut => None,
         }
@@ -194,7 +186,7 @@ impl Image {
         ensures { Becomes (image_slot self.old) (image_slot self.new) (image_slot self.old)
             (image_slot self.old).unsynced (is_ok result) }
     {
-        match read_block(&self.file, place, &mut self.buffer, into) {
+        match read_block(&self.file, place, into) {
             Ok(()) => Ok(()),
             Err(error) => Err(self.fail_by(files, error)),
         }
@@ -416,35 +408,58 @@ fn fill_image(file: &File, size: u32) -> io::Result<()> {
     file.sync_all()
 }
 
-// The bytes come by way of a buffer, since a block that is borrowed for them would be no block on
-// the way.
-fn read_block(
-    file: &Option<File>,
-    place: Place,
-    buffer: &mut [u8; BLOCK_SIZE],
-    into: &mut Block,
-) -> io::Result<()> {
+/// The bytes come straight into the block. After an error they are any.
+fn read_block(file: &Option<File>, place: Place, into: &mut Block) -> io::Result<()> {
     let Some(file) = file else {
         return Err(not_open());
     };
-    file.read_exact_at(buffer, offset(place))?;
-    *into = Block::from_array(*buffer);
-    Ok(())
+    let bytes = &mut into.bytes;
+    let read = read_whole(file, bytes, offset(place));
+    *bytes = as_bytes(*bytes);
+    read
 }
 
-// The `?` here and below moves an error where there is one, and nothing where there is none.
+/// The same array, which as a value is known to hold 512 numbers below 256. No code comes of it.
+fn as_bytes(bytes: [u8; BLOCK_SIZE]) -> [u8; BLOCK_SIZE]
+    ensures same { result ≡ bytes }
+    ensures whole { length result ≡ 512 }
+    ensures small { (k : ℕ) → slice_index result k < 256 }
+{
+    bytes
+}
+
+/// Reads a block by one call, where one does. The library goes on after an interrupted or a short one.
+fn read_whole(file: &File, bytes: &mut [u8; BLOCK_SIZE], at: u64) -> io::Result<()> {
+    match file.read_at(bytes, at) {
+        Ok(BLOCK_SIZE) => Ok(()),
+        Ok(_) => file.read_exact_at(bytes, at),
+        Err(error) if error.kind() == io::ErrorKind::Interrupted => file.read_exact_at(bytes, at),
+        Err(error) => Err(error),
+    }
+}
+
+/// Writes all bytes by one call, where one does. The library goes on after an interrupted or a short one.
+fn write_whole(file: &File, bytes: &[u8], at: u64) -> io::Result<()> {
+    match file.write_at(bytes, at) {
+        Ok(written) if written == bytes.len() => Ok(()),
+        Ok(_) => file.write_all_at(bytes, at),
+        Err(error) if error.kind() == io::ErrorKind::Interrupted => file.write_all_at(bytes, at),
+        Err(error) => Err(error),
+    }
+}
+
 fn write_bytes(file: &Option<File>, first: Place, bytes: &[u8]) -> io::Result<()> {
     let Some(file) = file else {
         return Err(not_open());
     };
-    file.write_all_at(bytes, offset(first))?;
-    Ok(())
+    write_whole(file, bytes, offset(first))
 }
 
 fn sync_blocks(file: &Option<File>) -> io::Result<()> {
     let Some(file) = file else {
         return Err(not_open());
     };
+    // (the `?` moves an error where there is one, and nothing where there is none)
     file.sync_data()?;
     Ok(())
 }
@@ -501,19 +516,20 @@ fn mark_image(
 const MAGIC: &[u8; 8] = b"PARAIDAR";
 
 /// The number of disks that a meta at this place says, if one is there.
-fn log_disks(file: &Option<File>, place: Place, buffer: &mut [u8; BLOCK_SIZE]) -> Option<u8> {
+fn log_disks(file: &Option<File>, place: Place) -> Option<u8> {
     let file = file.as_ref()?;
-    if file.read_exact_at(buffer, offset(place)).is_err() {
+    let mut meta = [0; BLOCK_SIZE];
+    if file.read_exact_at(&mut meta, offset(place)).is_err() {
         return None;
     }
-    if buffer[..8] == MAGIC[..] && 3 <= buffer[10] && buffer[10] <= 8 {
-        return Some(buffer[10]);
+    if meta[..8] == MAGIC[..] && 3 <= meta[10] && meta[10] <= 8 {
+        return Some(meta[10]);
     }
     None
 }
 
 /// Whether an image has the label of an array, or a log.
-fn claim_of(file: &Option<File>, buffer: &mut [u8; BLOCK_SIZE]) -> Option<Claim> {
+fn claim_of(file: &Option<File>) -> Option<Claim> {
     let size = match file {
         Some(file) => whole_blocks(file.metadata().ok()?.len()),
         None => return None,
@@ -521,7 +537,7 @@ fn claim_of(file: &Option<File>, buffer: &mut [u8; BLOCK_SIZE]) -> Option<Claim>
     if let Tail::Label(_) = tail_of(file, size) {
         return Some(Claim::Image);
     }
-    if log_disks(file, 1, buffer).is_some() || log_disks(file, 2, buffer).is_some() {
+    if log_disks(file, 1).is_some() || log_disks(file, 2).is_some() {
         return Some(Claim::Image);
     }
     None

@@ -109,12 +109,15 @@ fn put_hex(text: &mut [u8; LABEL_SIZE], at: usize, byte: u8)
     text[at + 1] = DIGITS[(byte % 16) as usize];
 }
 
-/// Twenty decimal digits.
+/// Twenty decimal digits, in the place of twenty zeros.
 fn put_number(text: &mut [u8; LABEL_SIZE], at: usize, number: u64)
     requires { at + 20 ≤ 384 }
 {
     let mut rest = number;
     for k in 0..20 {
+        if rest == 0 {
+            return;
+        }
         text[at + 19 - k] = b'0' + (rest % 10) as u8;
         rest /= 10;
     }

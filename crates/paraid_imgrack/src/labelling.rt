@@ -25,7 +25,7 @@ fn draw<F: Files<File = File>>(files: &F) -> Option<[u8; 16]> {
 
 impl<F: Files<File = File> + Drop> ImageRack<F> {
     /// What a new array would write over, in the first slot where it would.
-    pub fn claim(&mut self) -> Option<(DiskNo, Claim)> {
+    pub fn claim(&self) -> Option<(DiskNo, Claim)> {
         for disk in 0..self.images.len() {
             if let Some(claim) = self.images[disk].claim(&self.files) {
                 return Some((disk as u8, claim));
@@ -79,9 +79,17 @@ impl<F: Files<File = File> + Drop> ImageRack<F> {
         ensures { map image_slot self.new.images.items ≡ map image_slot self.old.images.items }
     {
         if self.are_labels_due() {
-            self.mark_images();
-            self.end_load();
+            self.give_labels();
         }
+    }
+
+    // It is apart from the test whether labels are due, since in most syncs they are not.
+    #[inline(never)]
+    fn give_labels(&mut self)
+        ensures { map image_slot self.new.images.items ≡ map image_slot self.old.images.items }
+    {
+        self.mark_images();
+        self.end_load();
     }
 
     fn are_labels_due(&self) -> bool {
@@ -154,7 +162,7 @@ impl<F: Files<File = File> + Drop> ImageRack<F> {
 
     /// The array that the images are of, by their labels. One without labels gets a number, where
     /// all of its disks that are there spin, so that none of them has a label that was not read.
-    fn identify(&mut self, labels: &Labels) -> Option<Identity> {
+    fn identify(&self, labels: &Labels) -> Option<Identity> {
         if let Some(identity) = Identity::of(labels) {
             return Some(identity);
         }
@@ -176,7 +184,7 @@ impl<F: Files<File = File> + Drop> ImageRack<F> {
     }
 
     /// The number of disks that the first log disk with a log says.
-    fn disks_by_log(&mut self) -> Option<u8> {
+    fn disks_by_log(&self) -> Option<u8> {
         for disk in 0..self.images.len() {
             if disk < 2
                 && let Some(disks) = self.images[disk].disks_by_log()
