@@ -1,10 +1,10 @@
 //! A disk that is out is replaced by a fresh one.
-ghost use Rattle.std.specs.Prelude.{◌≡◌, ◌≢◌, ◌<◌, ◌⊎◌, None, Ok, Some, OnOk, IfErr, IfOk, IfSome};
+ghost use Rattle.std.specs.Prelude.{◌≡◌, ◌<◌, ◌⊎◌, None, Ok, Some, OnOk, IfErr, IfOk, IfSome};
 ghost use Rattle.paraid_base.specs.declared.event.Event.TheVariants.{Replace as ReplaceEvent};
 ghost use Rattle.paraid_base.specs.declared.state.Out.TheVariants.{Fresh, Gone};
 ghost use Rattle.paraid_base.specs.Log.{worn_at};
 ghost use Rattle.paraid_core.specs.Cores.{core_rack, core_table, meta_of};
-ghost use Rattle.paraid_upkeep.specs.declared.fault.ReplaceFault.TheVariants.{NoDisk, NoFresh, NotOut};
+ghost use Rattle.paraid_upkeep.specs.declared.fault.ReplaceFault.TheVariants.{NoFresh};
 ghost use Rattle.paraid_upkeep.specs.Turns.{CoreGoesOn, CoreHalts, replace_answer};
 ghost use Rattle.paraid_image.specs.Out.{named_out};
 ghost use Rattle.paraid_rebuild.specs.Replacing.{IsReplacedFrom, LeavesArrayBut};
@@ -31,8 +31,6 @@ fn bring<R: Rack>(core: &mut Core<R>, disk: DiskNo) -> Result<Option<ReplaceFaul
         (IsReplacedFrom (meta_of core.old) (meta_of core.new) disk 1 (Gone disk)
         ⊎ IsReplacedFrom (meta_of core.old) (meta_of core.new) disk 2 (Gone disk)) }
     ensures refused { IfOk result (λ refusal. IfSome refusal (λ fault. fault ≡ NoFresh disk)) }
-    ensures no_disk { result ≢ Ok (Some (NoDisk disk)) }
-    ensures not_out { result ≢ Ok (Some (NotOut disk)) }
     ensures table { OnOk result (core_table core.new ≡ core_table core.old) }
     // It is an event of a session.
     ensures turn { IfOk result (λ refusal. CoreGoesOn R.slot_count R.told core.old core.new

@@ -1,4 +1,4 @@
-use Rattle.std.proofs.Common.{◌≡◌, ◌≢◌, ◌∙◌, ap, arith, inl, inr, refl, sym, None, Option, Some, Ok, []}
+use Rattle.std.proofs.Common.{◌≡◌, ◌∙◌, ap, arith, inl, inr, refl, sym, None, Option, Some, Ok, []}
 use Rattle.std.specs.Prelude.{Result}
 use Rattle.paraid_base.specs.declared.state.Out.TheVariants.{Gone}
 use Rattle.paraid_image.specs.Out.{named_out}
@@ -6,7 +6,6 @@ use Rattle.paraid_record.specs.declared.meta.Meta.{Meta}
 use Rattle.paraid_core.proofs.AfterLemmas.{handed}
 use Rattle.paraid_upkeep.proofs.ResultLemmas.{none_done, none_done_as, none_done_if}
 use Rattle.paraid_upkeep.specs.declared.fault.ReplaceFault.{ReplaceFault}
-use Rattle.paraid_upkeep.specs.declared.fault.ReplaceFault.TheVariants.{NoDisk, NoFresh, NotOut}
 use Rattle.paraid_upkeep.proofs.OutLemmas.{known_fresh, known_gone}
 use Rattle.paraid_upkeep.proofs.TurnLemmas.{replaced_halts, replaced_turn, unreplaced_turn}
 use Rattle.paraid_upkeep.proofs.ToldLemmas.{extends_core}
@@ -15,12 +14,6 @@ use Rattle.paraid_upkeep.proofs.replacing.bring.Goals as goal
 -- it was done or refused, and not for another reason
 done_not_refused : {A E : Type 0} (r : Result (Option ReplaceFault) E) (f : ReplaceFault) → r ≡ Ok None → r ≡ Ok (Some f) → A
 done_not_refused r f is was = let z : Ok None ≡ Ok (Some f) = sym is ∙ was in absurd cc
-
-fresh_not_none : {E : Type 0} (r : Result (Option ReplaceFault) E) (d e : _) → r ≡ Ok (Some (NoFresh d)) → r ≢ Ok (Some (NoDisk e))
-fresh_not_none r d e is was = let z : Ok (Some (NoFresh d)) ≡ Ok (Some (NoDisk e)) = sym is ∙ was in cc
-
-fresh_not_out : {E : Type 0} (r : Result (Option ReplaceFault) E) (d e : _) → r ≡ Ok (Some (NoFresh d)) → r ≢ Ok (Some (NotOut e))
-fresh_not_out r d e is was = let z : Ok (Some (NoFresh d)) ≡ Ok (Some (NotOut e)) = sym is ∙ was in cc
 
 pub begin-requires : goal.begin-requires
 begin-requires g c = record {
@@ -37,8 +30,6 @@ returns-in_err-there g c = record {
   fresh = λ is. none_done_as _ c.from_residual.result _ _ c.from_residual.ensures.1 is;
   lacks = λ is. none_done_as _ c.from_residual.result _ _ c.from_residual.ensures.1 is;
   refused = none_done_if _ c.from_residual.result _ c.from_residual.ensures.1;
-  no_disk = λ is. none_done_as _ c.from_residual.result _ _ c.from_residual.ensures.1 is;
-  not_out = λ is. none_done_as _ c.from_residual.result _ _ c.from_residual.ensures.1 is;
   table = none_done _ c.from_residual.result _ c.from_residual.ensures.1;
   turn = none_done_if _ c.from_residual.result _ c.from_residual.ensures.1;
   halts = handed _ c.from_residual.result _ c.from_residual.ensures.1 (replaced_halts g.R.Rack.slot_count g.R.Rack.told c.args.core.now c.begin.new.core c.args.disk c.requires.disk c.requires.out _ c.in_err-there.ensures.loses);
@@ -65,8 +56,6 @@ returns-then-there g c =
       fresh = λ was. (done.there is).fresh;
       lacks = λ was. done_not_refused _ _ refl was;
       refused = tt;
-      no_disk = λ was. done_not_refused _ _ refl was;
-      not_out = λ was. done_not_refused _ _ refl was;
       table = c.begin.ensures.table;
       turn = replaced_turn g.R.Rack.slot_count g.R.Rack.told a b c.args.disk c.requires.disk c.requires.out done.event (ap (λ (m : Meta). m.out) ((done.there is).fresh).is);
       halts = tt;
@@ -94,8 +83,6 @@ returns g c =
       fresh = λ was. done_not_refused _ _ was refl;
       lacks = λ was. done.lacks not;
       refused = refl;
-      no_disk = fresh_not_none _ _ _ refl;
-      not_out = fresh_not_out _ _ _ refl;
       table = c.begin.ensures.table;
       turn = unreplaced_turn g.R.Rack.slot_count g.R.Rack.told a b c.args.disk c.requires.disk c.requires.out done.event gone;
       halts = tt;

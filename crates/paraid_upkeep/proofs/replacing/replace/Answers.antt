@@ -1,5 +1,5 @@
 use Rattle.std.proofs.Common.{◌≡◌, ◌≢◌, ℕ, ◌<◌, ◌≤◌, true, false, None, Option, Ok, Some, ap, sym, subst, arith, refl, ◌∙◌}
-use Rattle.std.specs.Prelude.{IfSome, Result, ◌==◌}
+use Rattle.std.specs.Prelude.{IfOk, IfSome, Result, ◌==◌}
 use Rattle.std.proofs.lemmas.Bool.Decides.{nat_tests}
 use Rattle.paraid_image.specs.Out.{is_out, named_out}
 use Rattle.paraid_record.specs.declared.meta.Meta.{Meta}
@@ -42,6 +42,16 @@ there_not_done r d is was = let z : Ok (Some (NotOut d)) ≡ Ok None = sym is �
 
 there_not_failed : {A E : Type 0} (r : Result (Option ReplaceFault) E) (d e : ℕ) → r ≡ Ok (Some (NotOut d)) → r ≡ Ok (Some (NoFresh e)) → A
 there_not_failed r d e is was = let z : Ok (Some (NotOut d)) ≡ Ok (Some (NoFresh e)) = sym is ∙ was in absurd cc
+
+-- a disk that is out is refused for want of a fresh one alone
+only_fresh : {E : Type 0} (r : Result (Option ReplaceFault) E) (d : ℕ) (f : ReplaceFault) → IfOk r (λ refusal. IfSome refusal (λ fault. fault ≡ NoFresh d)) → r ≡ Ok (Some f) → f ≡ NoFresh d
+only_fresh {E} r d f only is = subst (λ (x : Result (Option ReplaceFault) E). IfOk x (λ refusal. IfSome refusal (λ fault. fault ≡ NoFresh d))) is only
+
+not_missing : {A E : Type 0} (r : Result (Option ReplaceFault) E) (d : ℕ) → IfOk r (λ refusal. IfSome refusal (λ fault. fault ≡ NoFresh d)) → r ≡ Ok (Some (NoDisk d)) → A
+not_missing r d only is = let z : NoDisk d ≡ NoFresh d = only_fresh r d (NoDisk d) only is in absurd cc
+
+not_there : {A E : Type 0} (r : Result (Option ReplaceFault) E) (d : ℕ) → IfOk r (λ refusal. IfSome refusal (λ fault. fault ≡ NoFresh d)) → r ≡ Ok (Some (NotOut d)) → A
+not_there r d only is = let z : NotOut d ≡ NoFresh d = only_fresh r d (NotOut d) only is in absurd cc
 
 -- the slot of a disk that is out has failed
 no_fresh : (m : Meta) (d : ℕ) (o : Option ReplaceFault) → d < m.setup.geometry.disks → named_out m.out ≡ Some d → IfSome o (λ fault. fault ≡ NoFresh d) → IfSome o (IsReplaceRefused m d)
@@ -132,8 +142,8 @@ returns g c =
         missing = λ past. not_below c.args.disk a.meta.setup.geometry.disks below past;
         in_place = λ low apart. absurd (apart out);
         refused = if_ok _ _ r (λ refusal only. no_fresh a.meta c.args.disk refusal below out only) brings.refused;
-        no_disk = λ is. absurd (brings.no_disk is);
-        not_out = λ is. absurd (brings.not_out is);
+        no_disk = λ is. not_missing r c.args.disk brings.refused is;
+        not_out = λ is. not_there r c.args.disk brings.refused is;
       };
       replaced = λ is. (below, out);
       table = brings.table;
