@@ -44,6 +44,7 @@ impl<B: Blocks> Volumes<B> {
     ghost use Rattle.paraid_volume.specs.Values.{device_of, halted_of, volume_table, VolumesStandFor, KeepsRead, KeepsWrite};
 
     /// Takes a device that holds a table. It only reads.
+    #[inline(never)]
     pub fn adopt(blocks: B) -> Result<Volumes<B>, VolRefused<B>>
         ensures refused { IfErr result (λ refused. IsAdoptFault (B.block_count blocks)
             (B.halted refused.blocks)
@@ -93,6 +94,7 @@ impl<B: Blocks> Volumes<B> {
     }
 
     /// Makes a device hold an empty table, by one write. It refuses one that holds a table.
+    #[inline(never)]
     pub fn init(blocks: B) -> Result<Volumes<B>, VolRefused<B>>
         ensures refused { IfErr result (λ refused. IsInitFault (B.block_count blocks)
             (B.halted refused.blocks)
