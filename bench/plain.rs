@@ -1,12 +1,12 @@
 // A plain Rust program that does what bench/run asks of the proved one, as one would write it for speed without
-// proofs: it mounts an array of image files in its top gear, answers reads, writes and flushes, and commits, with the
+// proofs: it mounts an array of image files in any gear, answers reads, writes and flushes, and commits, with the
 // same calls on the same files. A line is parsed where it was read, a block is copied once into the batch, digits
 // come from tables, and each answer is one call. It is the peer that bench/run compares with.
 //
 //     plain run < TRACE     over the images of the current folder
 //
 // It has no shifts, ticks, access mode, lost disks, rebuilds and energy: their lines are answered `bad`. It mounts
-// no array in a low gear, with a disk out or with a commit that a stop cut short, and a call that fails ends it.
+// no array in a shift, with a disk out or with a commit that a stop cut short, and a call that fails ends it.
 use std::fs::{self, File, OpenOptions};
 use std::io::{self, BufRead, Read, Write};
 use std::os::fd::AsFd;
@@ -115,11 +115,15 @@ fn spins(name: &str) -> io::Result<bool> {
     Ok(text.trim_ascii_end() == b"spinning")
 }
 
-// The meta of an array in its top gear with no disk out. What is not needed here stays as it was read.
+// The meta of an array in no shift and with no disk out. What is not needed here stays as it was read.
 struct Meta {
     block: Block,
     disks: usize,
+    // How many disks spin.
+    gear: usize,
     rows: u32,
+    // The place of the first stripe of the gear.
+    stripes: u32,
     // How many blocks a disk needs.
     size: u64,
     epoch: u64,
@@ -141,15 +145,19 @@ impl Meta {
             && gears.iter().all(|gear| (3..=disks).contains(gear))
             && gears.is_sorted_by(|a, b| a < b)
             && gears.last() == Some(&disks);
-        if !is_array || gear != disks || phase != 0 || out != 255 || fill != 0 {
+        if !is_array || !gears.contains(&gear) || phase != 0 || out != 255 || fill != 0 {
             return None;
         }
         let stripes = |gear: &u8| (rows * u32::from(disks - gear)).div_ceil(u32::from(gear - 1));
-        let size = MAP + rows.div_ceil(512) + rows + gears.iter().map(stripes).sum::<u32>();
+        let regions = MAP + rows.div_ceil(512) + rows;
+        let lower = gears.iter().take_while(|&&lower| lower < gear).map(stripes).sum::<u32>();
+        let size = regions + gears.iter().map(stripes).sum::<u32>();
         Some(Meta {
             block,
             disks: disks.into(),
+            gear: gear.into(),
             rows,
+            stripes: regions + lower,
             size: size.into(),
             epoch: long(44),
             writes: long(52),
@@ -206,10 +214,15 @@ struct Pair {
 }
 
 struct Array {
+    // Those that spin.
     disks: Vec<Disk>,
     meta: Meta,
     // The place of the first row.
     first: u32,
+    // For each row which of its cells have their newest bytes in their copy alone, a bit for each disk.
+    dirty: Vec<u8>,
+    // The old values of the cells that a write changes on disks that do not spin.
+    kept: Vec<Block>,
     batch: Batch,
 }
 
@@ -234,8 +247,8 @@ impl Array {
         if hear(second)? != said {
             return Err(refused("the log disks differ"));
         }
-        let meta = Meta::read(said).ok_or_else(|| refused("no array in its top gear with all disks"))?;
-        let disks: Option<Vec<Disk>> = slots.into_iter().take(meta.disks).collect();
+        let meta = Meta::read(said).ok_or_else(|| refused("no array in no shift with all disks"))?;
+        let disks: Option<Vec<Disk>> = slots.into_iter().take(meta.gear).collect();
         let mut disks = disks.ok_or_else(|| refused("a disk is missing or does not spin"))?;
         if disks.iter().any(|disk| disk.blocks < meta.size) {
             return Err(refused("a disk is too small"));
@@ -247,17 +260,17 @@ impl Array {
             return Err(refused("a commit was cut short"));
         }
         let first = MAP + meta.rows.div_ceil(512);
+        let mut dirty = Vec::with_capacity((first - MAP) as usize * BLOCK_SIZE);
         for place in MAP..first {
             disks[0].read(place, &mut block)?;
-            if block != [0; BLOCK_SIZE] {
-                return Err(refused("a cell is dirty in the top gear"));
-            }
+            dirty.extend_from_slice(&block);
         }
         for disk in &mut disks {
             disk.sync()?;
         }
         let batch = Batch { targets: Vec::with_capacity(MAX_TARGETS), blocks: Vec::with_capacity(MAX_TARGETS) };
-        Ok(Array { disks, meta, first, batch })
+        let kept = vec![[0; BLOCK_SIZE]; meta.disks - meta.gear];
+        Ok(Array { disks, meta, first, dirty, kept, batch })
     }
 
     fn has(&self, block: u32) -> bool {
@@ -276,15 +289,34 @@ impl Array {
         (row, if index < self.parity_disk(row) { index } else { index + 1 })
     }
 
-    // The bytes of a block, which are staged or read into the room given.
-    fn read<'a>(&'a self, block: u32, room: &'a mut Block) -> io::Result<&'a Block> {
-        let (row, disk) = self.home(block);
-        let place = self.first + row;
-        if let Some(staged) = self.batch.get(Target { disk, place }) {
+    // The copy of a cell whose disk does not spin, and the parity of its stripe.
+    fn copy(&self, row: u32, disk: usize) -> (Target, Target) {
+        let gear = self.meta.gear;
+        let number = row * (self.meta.disks - gear) as u32 + (disk - gear) as u32;
+        let (stripe, index) = (number / (gear as u32 - 1), (number % (gear as u32 - 1)) as usize);
+        let parity = gear - 1 - stripe as usize % gear;
+        let place = self.meta.stripes + stripe;
+        (Target { disk: if index < parity { index } else { index + 1 }, place }, Target { disk: parity, place })
+    }
+
+    // Where the bytes of a cell are.
+    fn spot(&self, row: u32, disk: usize) -> Target {
+        if disk < self.meta.gear { Target { disk, place: self.first + row } } else { self.copy(row, disk).0 }
+    }
+
+    // The bytes there, which are staged or read into the room given.
+    fn value<'a>(&'a self, spot: Target, room: &'a mut Block) -> io::Result<&'a Block> {
+        if let Some(staged) = self.batch.get(spot) {
             return Ok(staged);
         }
-        self.disks[disk].read(place, room)?;
+        self.disks[spot.disk].read(spot.place, room)?;
         Ok(room)
+    }
+
+    // The bytes of a block.
+    fn read<'a>(&'a self, block: u32, room: &'a mut Block) -> io::Result<&'a Block> {
+        let (row, disk) = self.home(block);
+        self.value(self.spot(row, disk), room)
     }
 
     fn write(&mut self, pairs: &[Pair]) -> io::Result<()> {
@@ -294,7 +326,11 @@ impl Array {
         for (at, pair) in pairs.iter().enumerate() {
             let (row, _) = self.home(pair.block);
             if pairs[..at].iter().all(|before| self.home(before.block).0 != row) {
-                self.write_row(row, pairs)?;
+                if self.meta.gear == self.meta.disks {
+                    self.write_row(row, pairs)?;
+                } else {
+                    self.write_row_low(row, pairs)?;
+                }
             }
         }
         self.meta.writes += 1;
@@ -352,6 +388,86 @@ impl Array {
             }
         }
         self.batch.put(Target { disk: parity, place }, &sum);
+        Ok(())
+    }
+
+    // The same where some disks do not spin. What is staged of a cell there depends on its old value, too.
+    fn write_row_low(&mut self, row: u32, pairs: &[Pair]) -> io::Result<()> {
+        let (disks, gear, parity) = (self.meta.disks, self.meta.gear, self.parity_disk(row));
+        let mut new = [None; SLOTS];
+        for pair in pairs {
+            let (r, disk) = self.home(pair.block);
+            if r == row {
+                new[disk] = Some(&pair.bytes);
+            }
+        }
+        let is_changed = |disk: usize| disk == parity || new[disk].is_some();
+        let (mut old, mut rest) = (0, 0);
+        for disk in 0..disks {
+            if is_changed(disk) && disk >= gear {
+                continue;
+            }
+            let reads = u32::from(self.batch.find(self.spot(row, disk)).is_none());
+            if is_changed(disk) {
+                old += reads;
+            } else {
+                rest += reads;
+            }
+        }
+        let anew = rest < old;
+        let mut sum = [0; BLOCK_SIZE];
+        let mut room = [0; BLOCK_SIZE];
+        let mut kept = std::mem::take(&mut self.kept);
+        for disk in (0..disks).filter(|&disk| disk != parity).chain([parity]) {
+            let (is_part, is_kept) = (is_changed(disk) != anew, is_changed(disk) && disk >= gear);
+            if is_part || is_kept {
+                let value = self.value(self.spot(row, disk), &mut room)?;
+                if is_kept {
+                    kept[disk - gear] = *value;
+                }
+                if is_part {
+                    xor(&mut sum, value);
+                }
+            }
+            if let Some(bytes) = new[disk] {
+                xor(&mut sum, bytes);
+            }
+        }
+        self.kept = kept;
+        let was = self.dirty[row as usize];
+        for pair in pairs {
+            let (r, disk) = self.home(pair.block);
+            if r == row {
+                self.write_cell(row, disk, &pair.bytes)?;
+            }
+        }
+        self.write_cell(row, parity, &sum)?;
+        if self.dirty[row as usize] != was {
+            let map = self.dirty.chunks_exact(BLOCK_SIZE).nth(row as usize / BLOCK_SIZE);
+            let map: &Block = map.and_then(|map| map.try_into().ok()).ok_or_else(|| refused("no such row"))?;
+            for disk in 0..2 {
+                self.batch.put(Target { disk, place: MAP + row / BLOCK_SIZE as u32 }, map);
+            }
+        }
+        Ok(())
+    }
+
+    // Stages a cell: in its place, or in its copy, with the parity of the copy's stripe.
+    fn write_cell(&mut self, row: u32, disk: usize, bytes: &Block) -> io::Result<()> {
+        if disk < self.meta.gear {
+            self.batch.put(Target { disk, place: self.first + row }, bytes);
+            return Ok(());
+        }
+        let (copy, parity) = self.copy(row, disk);
+        let mut room = [0; BLOCK_SIZE];
+        let mut sum = *self.value(parity, &mut room)?;
+        let kept = &mut self.kept[disk - self.meta.gear];
+        xor(&mut sum, kept);
+        xor(&mut sum, bytes);
+        *kept = *bytes;
+        self.batch.put(copy, bytes);
+        self.batch.put(parity, &sum);
+        self.dirty[row as usize] |= 1 << disk;
         Ok(())
     }
 
@@ -623,7 +739,7 @@ fn main() -> io::Result<()> {
     let mut source = io::stdin().lock();
     // Each write is one call.
     let mut sink = File::from(io::stdout().as_fd().try_clone_to_owned()?);
-    sink.write_all(format!("mounted {} gear {}\n", array.meta.writes, array.meta.disks).as_bytes())?;
+    sink.write_all(format!("mounted {} gear {}\n", array.meta.writes, array.meta.gear).as_bytes())?;
     let pairs = Box::new([Pair { block: 0, bytes: [0; BLOCK_SIZE] }; MAX_PAIRS]);
     let mut server = Server { array, pairs, room: [0; BLOCK_SIZE], text: Vec::with_capacity(MAX_LINE) };
     let mut line = Vec::with_capacity(MAX_LINE + 1);
