@@ -301,7 +301,11 @@ impl Array {
 
     // Where the bytes of a cell are.
     fn spot(&self, row: u32, disk: usize) -> Target {
-        if disk < self.meta.gear { Target { disk, place: self.first + row } } else { self.copy(row, disk).0 }
+        if disk < self.meta.gear {
+            Target { disk, place: self.first + row }
+        } else {
+            self.copy(row, disk).0
+        }
     }
 
     // The bytes there, which are staged or read into the room given.
