@@ -293,6 +293,45 @@ fn stage_copy<P: Plan>(
     stage_if(plan, true, parity, place, parity_block);
 }
 
+// The same, where it is written to its copy too, or there alone. It is apart, with room for the
+// parities of both copies, since in the top gear no cell has one.
+#[inline(never)]
+fn write_copies<P: Plan>(
+    plan: &mut P,
+    m: &Meta,
+    hard: bool,
+    filled: bool,
+    r: Row,
+    d: DiskNo,
+    old: &Block,
+    new: &Block,
+) -> Result<(), Lost>
+    requires serves { P.serves plan.old m.now }
+    requires in_range { IsInRange m.now }
+    requires row { r < m.now.setup.geometry.rows }
+    requires disk { d < m.now.setup.geometry.disks }
+    requires hard { hard ≡ goes_hard_in (sees m.now (P.desk plan.old)) r d }
+    requires filled { filled ≡ filled_in m.now r d }
+    requires room { length (P.desk plan.old).staged + 4 ≤ 80 }
+    requires few { P.changes plan.old < 16 }
+    ensures desk { OnOk result (P.tells plan.new → P.desk plan.new ≡ cell_desk m.now (P.desk plan.old) r d old.now new.now) }
+    ensures bits { OnOk result ((P.desk plan.new).dirty ≡ bits_after_cell m.now r d (P.desk plan.old).dirty) }
+    ensures room { OnOk result (length (P.desk plan.new).staged ≤ length (P.desk plan.old).staged + 4) }
+    ensures changes { OnOk result (P.changes plan.new ≡ P.changes plan.old + 1) }
+    ensures goes_on { OnOk result (P.serves plan.new m.now) }
+    ensures fails { IfErr result (λ lost. P.fails plan.new) }
+    ensures leads { P.leads plan.old plan.new }
+{
+    let mut place_parity = Block::zero();
+    read_place(plan, m, hard, r, d, old, new, &mut place_parity)?;
+    let mut copy_parity = Block::zero();
+    read_copy(plan, m, filled, r, d, old, new, &mut copy_parity)?;
+    stage_place(plan, m, hard, r, d, new, &place_parity);
+    stage_copy(plan, m, filled, r, d, new, &copy_parity);
+    plan.set_dirty(m, r, d, !hard);
+    Ok(())
+}
+
 /// Writes a cell whose value is `old`.
 pub fn write_cell<P: Plan>(
     plan: &mut P,
@@ -323,12 +362,5 @@ pub fn write_cell<P: Plan>(
         plan.set_dirty(m, r, d, false);
         return Ok(());
     }
-    let mut place_parity = Block::zero();
-    read_place(plan, m, hard, r, d, old, new, &mut place_parity)?;
-    let mut copy_parity = Block::zero();
-    read_copy(plan, m, filled, r, d, old, new, &mut copy_parity)?;
-    stage_place(plan, m, hard, r, d, new, &place_parity);
-    stage_copy(plan, m, filled, r, d, new, &copy_parity);
-    plan.set_dirty(m, r, d, !hard);
-    Ok(())
+    write_copies(plan, m, hard, filled, r, d, old, new)
 }

@@ -13,7 +13,7 @@ use paraid_layout::home;
 use paraid_parity::xor_into;
 
 // Gives a cell its new bytes from one pair.
-fn set_given(given: &mut [Option<usize>; 8], d: DiskNo, at: usize)
+fn set_given(given: &mut [Option<u8>; 8], d: DiskNo, at: u8)
     requires { d < 8 }
     ensures here { get_or given.new d None ≡ Some at }
     ensures others { (x : ℕ) → x ≢ d → get_or given.new x None ≡ get_or given.old x None }
@@ -22,13 +22,13 @@ fn set_given(given: &mut [Option<usize>; 8], d: DiskNo, at: usize)
 }
 
 // Takes one pair more, where its block lies in the row.
-fn give(g: &Geometry, pairs: &Pairs, at: usize, r: Row, given: &mut [Option<usize>; 8])
+fn give(g: &Geometry, pairs: &Pairs, at: u8, r: Row, given: &mut [Option<u8>; 8])
     requires at { at < pairs.now.count }
     requires block { get_or pairs.now.blocks at 0 < g.now.rows * (g.now.disks - 1) }
     requires before { AreGivenBy pairs.now.bytes g.now.disks (pairs_before pairs.now at) r given.old }
     ensures { AreGivenBy pairs.now.bytes g.now.disks (pairs_before pairs.now (at + 1)) r given.new }
 {
-    let (q, d) = home(g, pairs.blocks[at]);
+    let (q, d) = home(g, pairs.blocks[at as usize]);
     if q != r {
         return;
     }
@@ -36,12 +36,12 @@ fn give(g: &Geometry, pairs: &Pairs, at: usize, r: Row, given: &mut [Option<usiz
 }
 
 /// The last pair that gives each cell of a row new bytes; none gives any to the row's parity.
-pub(crate) fn given_cells(g: &Geometry, pairs: &Pairs, r: Row) -> [Option<usize>; 8]
+pub(crate) fn given_cells(g: &Geometry, pairs: &Pairs, r: Row) -> [Option<u8>; 8]
     requires blocks { All (λ (pair : ℕ × BlockType). pair.0 < g.now.rows * (g.now.disks - 1)) (pairs_of pairs.now) }
     ensures { AreGivenBy pairs.now.bytes g.now.disks (pairs_of pairs.now) r result }
 {
     let mut given = [None; 8];
-    for at in 0..pairs.count as usize {
+    for at in 0..pairs.count {
         give(g, pairs, at, r, &mut given);
     }
     given
@@ -49,7 +49,7 @@ pub(crate) fn given_cells(g: &Geometry, pairs: &Pairs, r: Row) -> [Option<usize>
 
 /// Whether the write changes a cell of a row that it writes to: the parity, or a cell that it gives
 /// new bytes.
-pub(crate) fn is_changed(given: &[Option<usize>; 8], p: DiskNo, d: DiskNo) -> bool
+pub(crate) fn is_changed(given: &[Option<u8>; 8], p: DiskNo, d: DiskNo) -> bool
     requires { d < 8 }
     ensures { (bytes : List BlockType) (n : ℕ) (ws : Entry) (r : ℕ) → d < n → p ≡ parity_disk_of n r
         → AreGivenBy bytes n ws r given.now → result ≡ changed_in n ws r d }
@@ -64,7 +64,7 @@ pub(crate) fn is_changed(given: &[Option<usize>; 8], p: DiskNo, d: DiskNo) -> bo
 }
 
 /// Adds the new bytes of a cell to a sum, where it is given any.
-pub(crate) fn add_given(pairs: &Pairs, given: &[Option<usize>; 8], d: DiskNo, sum: &mut Block)
+pub(crate) fn add_given(pairs: &Pairs, given: &[Option<u8>; 8], d: DiskNo, sum: &mut Block)
     requires disk { d < 8 }
     requires few { (at : ℕ) → get_or given.now d None ≡ Some at → at < 8 }
     ensures { (n r : ℕ) → d < n → AreGivenBy pairs.now.bytes n (pairs_of pairs.now) r given.now
@@ -74,7 +74,7 @@ pub(crate) fn add_given(pairs: &Pairs, given: &[Option<usize>; 8], d: DiskNo, su
     let Some(at) = given[d as usize] else {
         return;
     };
-    xor_into(sum, block_of(&pairs.bytes, at));
+    xor_into(sum, block_of(&pairs.bytes, at as usize));
 }
 
 // Whether one of two is so.

@@ -35,7 +35,7 @@ fn reads_of<P: Plan>(plan: &P, m: &Meta, r: Row, d: DiskNo) -> u8
 
 // How many blocks of the disks are read for the old values of the cells that change, where only the
 // new parity depends on them.
-fn reads_of_old<P: Plan>(plan: &P, m: &Meta, given: &[Option<usize>; 8], r: Row, p: DiskNo) -> u8
+fn reads_of_old<P: Plan>(plan: &P, m: &Meta, given: &[Option<u8>; 8], r: Row, p: DiskNo) -> u8
     requires serves { P.serves plan.now m.now }
     requires in_range { IsInRange m.now }
     requires row { r < m.now.setup.geometry.rows }
@@ -53,7 +53,7 @@ fn reads_of_old<P: Plan>(plan: &P, m: &Meta, given: &[Option<usize>; 8], r: Row,
 fn is_anew_in_any_gear<P: Plan>(
     plan: &P,
     m: &Meta,
-    given: &[Option<usize>; 8],
+    given: &[Option<u8>; 8],
     r: Row,
     p: DiskNo,
 ) -> bool
@@ -75,13 +75,7 @@ fn is_anew_in_any_gear<P: Plan>(
 }
 
 // The same where each cell has its value in its hard place and no disk is out: all are at one place of the disks.
-fn is_anew_in_place<P: Plan>(
-    plan: &P,
-    m: &Meta,
-    given: &[Option<usize>; 8],
-    r: Row,
-    p: DiskNo,
-) -> bool
+fn is_anew_in_place<P: Plan>(plan: &P, m: &Meta, given: &[Option<u8>; 8], r: Row, p: DiskNo) -> bool
     requires row { r < m.now.setup.geometry.rows }
 {
     let staged = plan.staged_at(hard_place(&m.setup.geometry, r));
@@ -105,7 +99,7 @@ fn is_anew_in_place<P: Plan>(
 pub(crate) fn is_made_anew<P: Plan>(
     plan: &P,
     m: &Meta,
-    given: &[Option<usize>; 8],
+    given: &[Option<u8>; 8],
     r: Row,
     p: DiskNo,
 ) -> bool
