@@ -84,6 +84,13 @@ fn list() -> io::Result<()> {
         if !opened[file as usize] {
             continue;
         }
+        if name == "fcntl" {
+            if words.contains("F_DUPFD") {
+                opened[result as usize] = true;
+                to.write_all(&Call { kind: b'f', file: result as u8, at: file.into(), length: 0 }.head())?;
+            }
+            continue;
+        }
         let asked = || words.rsplit(", ").nth(if name == "read" { 0 } else { 1 });
         let length = || asked().unwrap().parse::<u32>().unwrap();
         let (kind, at, length, data) = match name {
@@ -132,6 +139,7 @@ fn run(name: &str, is_made: bool) -> io::Result<()> {
                 *slot = Some(options.open(str::from_utf8(room).unwrap())?);
             }
             b'c' => *slot = None,
+            b'f' => files[call.file as usize] = Some(files[call.at as usize].as_ref().unwrap().try_clone()?),
             b'n' => {
                 let (old, new) = str::from_utf8(room).unwrap().split_once('\n').unwrap();
                 fs::rename(old, new)?;
