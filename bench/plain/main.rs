@@ -1,7 +1,7 @@
 // A plain Rust program that does what bench/run asks of the proved one, as one would write it for speed without
 // proofs: it mounts an array of image files in any gear, answers each line of a trace, and commits, with the same
 // calls on the same files. A line is parsed where it was read, a block is copied once into the batch, digits come
-// from tables, and each answer is one call. It is the peer that bench/run compares with.
+// from tables, and each answer is one call. It is the peer of bench/run and tools/try-plain.
 //
 //     plain run < TRACE     over the images of the current folder
 //
