@@ -1,14 +1,25 @@
 """What is seen of a program that ran over an array: the blocks that it left, and its calls on them. bench/run and
 tools/try-plain compare the program with bench/plain by it."""
-import os, re
+import os, re, shutil, subprocess
 
 BLOCK = 512
 HERE = os.path.dirname(os.path.abspath(__file__))
 PLAIN = f"{HERE}/plain/main.rs"
 RUSTC = ["rustc", "--edition", "2021", "-O"]
+# bench/plain takes slices apart by functions that older ones do not have.
+LEAST_RUSTC = (1, 88)
 # What stands before the words of a program whose calls are to be seen. The name of the log comes between.
 STRACE = ["strace", "-y", "-xx", "-s", "100000", "-e", "trace=pread64,pwrite64,fdatasync,fsync", "-o"]
 CALL = re.compile(r'(\w+)\(\d+<([^>]*)>(?:, ("[^"]*"), (\d+), (\d+))?\) += (\d+)')
+
+
+def has_rustc():
+    """Whether there is a rustc that builds bench/plain."""
+    if not shutil.which("rustc"):
+        return False
+    said = subprocess.run(["rustc", "--version"], stdout=subprocess.PIPE, text=True).stdout
+    version = re.match(r"rustc (\d+)\.(\d+)", said)
+    return bool(version) and (int(version[1]), int(version[2])) >= LEAST_RUSTC
 
 
 def blocks_of(folder):
