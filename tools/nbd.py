@@ -17,6 +17,7 @@ PAIRS, LINE = 8, 1100  # of one write: its blocks at most, and the bytes of its 
 MANY = 128  # lines that are sent as one, so that no request keeps the others waiting for long
 ASKED = re.compile(rb"(s|e|up|down|(fail|replace) (0|[1-9][0-9]{0,9}))\n")
 HALTS = (b"two ", b"worn ")
+ASIDE = b"paraid: "  # begins a line of standard error, and no answer
 HERE = os.path.dirname(os.path.realpath(__file__))
 
 
@@ -61,11 +62,11 @@ class Run:
         self.both = select.poll()
         self.both.register(self.input, select.POLLOUT)
         self.both.register(self.output, select.POLLIN)
-        self.sent, self.ended, self.last, self.rest = 0, None, b"it said nothing", b""
+        self.sent, self.ended, self.last, self.aside, self.rest = 0, None, b"", b"it said nothing", b""
         self.mounted = self.first_line()
 
     def first_line(self):
-        """Passes on what comes before the line of the mount: a launcher tells of a build."""
+        """Passes over what comes before the line of the mount."""
         while True:
             lines = self.take_lines()
             if not lines:
@@ -73,24 +74,27 @@ class Run:
             for line in lines:
                 if line.startswith(b"mounted "):
                     return text(line)
-                if line.startswith(b"paraid: "):
-                    log(text(line[8:]))
 
     def take_lines(self):
-        """Waits for lines, and gives none at the end of the program."""
+        """Waits for answers, and gives none at the end of the program. What it says aside goes to the log: a
+        launcher tells of a build, and a run in which a disk failed tells why, after its last line."""
         while True:
             piece = os.read(self.output, 1 << 16)
             if not piece:
-                self.last = self.rest or self.last
+                self.last = self.rest or self.last or self.aside
                 status = self.process.wait()
                 # (in the background nbdkit is not its parent, and the status is not to be had)
                 self.ended = f"the program ended{f' with {status}' if status else ''}: {text(self.last)}"
                 return []
-            lines = (self.rest + piece).split(b"\n")
-            self.rest = lines.pop()
-            if lines:
-                self.last = lines[-1]
-                return lines
+            *lines, self.rest = (self.rest + piece).split(b"\n")
+            answers = [line for line in lines if not line.startswith(ASIDE)]
+            for line in lines:
+                if line.startswith(ASIDE):
+                    self.aside = line[len(ASIDE) :]
+                    log(text(self.aside))
+            if answers:
+                self.last = answers[-1]
+                return answers
 
     def give(self, left):
         """Gives the program what it takes of this now; the rest is answered."""
