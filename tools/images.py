@@ -510,6 +510,8 @@ def status_of(main, name):
     if sys.stdout is None:
         # (a print to no stream would say nothing of it; one to a stream that is only read fails)
         sys.stdout = open(os.devnull, encoding="utf-8")
+    # (a file's name may have any bytes, and a key any letters)
+    sys.stdout.reconfigure(errors="backslashreplace")
     if sys.stderr is None:
         sys.stderr = open(os.devnull, "w", encoding="utf-8")
     try:
