@@ -42,7 +42,7 @@ help:
 	@sed -n 's/^#     //p' Makefile
 
 install:
-	@[ '$(PROGRAM)' != dist/paraid ] || (cd dist && sha256sum --check --quiet --strict SUMS) || \
+	@[ '$(PROGRAM)' != dist/paraid ] || (cd ./dist && sha256sum --check --quiet --strict SUMS) || \
 		{ echo "make: dist/ has no sound program: tools/dist --write makes it of what rt ci has built" >&2; exit 1; }
 	@set -e; for it in $(FILES); do \
 		mode=$${it%%=*}; from=$${it#*=}; to=$${from#*=}; from=$${from%%=*}; \
