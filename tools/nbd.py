@@ -308,8 +308,7 @@ class Clock:
                 return
             # A tick that took longer than its time is followed by the next in its time: no others are
             # made up for, as they would be ticks without load.
-            while due <= time.monotonic():
-                due += self.tick
+            due += self.tick * (max(0, time.monotonic() - due) // self.tick + 1)
 
     def tell(self, event, said):
         lasts = event[0] in ("waiting", "ration")  # so it is told once
