@@ -63,13 +63,30 @@ fn add_disks(rack: &mut MemRack, size: u32, meta: &Block) -> bool {
     true
 }
 
+// Five empty slots.
+fn slots(alloc: Global, size: u32) -> Option<MemRack> {
+    MemRack::new(alloc, 5, size, 100, Vec::new(alloc)).ok()
+}
+
 // An array of zeros with this meta as a start, whose calls fail as the plan says.
 fn formatted(alloc: Global, size: u32, meta: &Block, plan: &[Planned]) -> Option<MemRack> {
-    let mut rack = MemRack::new(alloc, 5, size, 100, Vec::new(alloc)).ok()?;
-    if add_disks(&mut rack, size, meta) {
-        return started(alloc, &rack, plan);
+    let mut rack = slots(alloc, size)?;
+    filled(alloc, &mut rack, size, meta, plan)
+}
+
+// The same in these slots.
+fn filled(
+    alloc: Global,
+    rack: &mut MemRack,
+    size: u32,
+    meta: &Block,
+    plan: &[Planned],
+) -> Option<MemRack> {
+    if add_disks(rack, size, meta) {
+        started(alloc, rack, plan)
+    } else {
+        None
     }
-    None
 }
 
 // These disks before any call, whose calls fail as the plan says.
@@ -159,18 +176,25 @@ fn chosen(alloc: Global, rack: &mut MemRack) -> Option<DiskNo> {
     choose(sides.first, sides.second)
 }
 
+// What the target holds by an epoch.
+fn byte_by(epoch: u64) -> Option<u8> {
+    match epoch {
+        1 => Some(0),
+        2 => Some(255),
+        _ => None,
+    }
+}
+
+fn is_filled_with(block: &Block, byte: u8) -> bool {
+    block.as_slice() == filled_with(byte).as_slice()
+}
+
 // The epoch that stands, where the target holds the old block or the new one by it. With the
 // target's disk lost only the epoch counts.
 fn epoch_left(image: &Image, lost: DiskNo) -> Option<u64> {
     let says = standing_of(image)?;
-    let block = content(image, &says, 2, 101);
-    let want = match says.meta.epoch {
-        1 => 0,
-        2 => 255,
-        _ => return None,
-    };
-    let is_right = lost == 2 || block.as_slice() == filled_with(want).as_slice();
-    if is_right {
+    let byte = byte_by(says.meta.epoch)?;
+    if lost == 2 || is_filled_with(&content(image, &says, 2, 101), byte) {
         Some(says.meta.epoch)
     } else {
         None

@@ -1,4 +1,4 @@
-ghost use Rattle.std.specs.Prelude.{⊤, ◌<◌, ◌^◌, is_some, false, if◌then◌else◌};
+ghost use Rattle.std.specs.Prelude.{⊤, ◌≡◌, ◌<◌, ◌^◌, is_some, false, if◌then◌else◌};
 
 use paraid_base::{Block, BlockFault, BlockNo, Halt, Pairs};
 use paraid_blocks::Blocks;
@@ -35,6 +35,14 @@ impl Kept {
                 copy_last(pairs, block, into);
             }
         }
+    }
+
+    // Adds the pairs to the history, if the device is not worn.
+    fn keep(&mut self, pairs: &Pairs) -> bool
+        ensures size { self.new.count ≡ self.old.count }
+        ensures halt { self.new.halt ≡ self.old.halt }
+    {
+        self.history.len() < self.worn && self.history.push(copied(pairs)).is_ok()
     }
 }
 
@@ -95,14 +103,11 @@ impl Blocks for Kept {
         if let Some(block) = pairs.missing(self.count) {
             return Err(BlockFault::NoBlock { block });
         }
-        let length = self.history.len();
-        if length < self.worn {
-            if let Ok(()) = self.history.push(copied(pairs)) {
-                return Ok(self.history.len() as u64);
-            }
+        if self.keep(pairs) {
+            return Ok(self.history.len() as u64);
         }
         let halt = Halt::Worn {
-            count: length as u64,
+            count: self.history.len() as u64,
         };
         self.halt = Some(halt);
         Err(BlockFault::Halt(halt))

@@ -53,15 +53,6 @@ fn are_found(table: &DirtyTable) -> bool {
     next_of(table, from.0, from.1, 0, 8) == None && next_of(table, 64, 0, 3, 7) == Some((65535, 3))
 }
 
-fn all_found(alloc: Global) -> Option<bool> {
-    Some(are_found(&table_of(alloc)?))
-}
-
-#[test]
-fn dirty_cells_are_found_in_order(rt: HostRuntime) {
-    assert!(rt; all_found(rt.alloc()) == Some(true));
-}
-
 fn is_dirty(table: &DirtyTable, row: u32, disk: u8) -> Option<bool> {
     if row < table.rows() && disk < 8 {
         Some(table.has(row, disk))
@@ -84,9 +75,10 @@ fn are_cleaned(table: &mut DirtyTable) -> bool {
     table.next(0, 8) == None && table.count(0, 8) == 0
 }
 
-fn all_counted(alloc: Global) -> Option<[bool; 3]> {
+fn all_shown(alloc: Global) -> Option<[bool; 4]> {
     let mut table = table_of(alloc)?;
     Some([
+        are_found(&table),
         are_counted(&table),
         is_last(&table),
         are_cleaned(&mut table),
@@ -94,6 +86,6 @@ fn all_counted(alloc: Global) -> Option<[bool; 3]> {
 }
 
 #[test]
-fn dirty_cells_are_counted_and_cleaned(rt: HostRuntime) {
-    assert!(rt; all_counted(rt.alloc()) == Some([true; 3]));
+fn dirty_cells_are_found_in_order_counted_and_cleaned(rt: HostRuntime) {
+    assert!(rt; all_shown(rt.alloc()) == Some([true; 4]));
 }

@@ -1,7 +1,7 @@
 //! Labels behind the blocks of images: their text, and which images a rack finds in the wrong slot.
 
-use crate::racks::{DONE, Step, make};
-use paraid_base::DiskNo;
+use crate::image_racks::{bytes_in, cut, image, is_called, loaded, make_file};
+use crate::racks::Step;
 use paraid_imgrack::{ImageRack, LABEL_SIZE, Label, Misfit};
 use std::fs::{self, File, Files};
 use std::process::Abort;
@@ -30,10 +30,18 @@ fn is_read_with_a_fault(at: usize) -> bool {
     Label::read(&text).is_some()
 }
 
+fn has_the_text() -> bool {
+    LABEL.text() == *TEXT
+}
+
+fn gives_the_label() -> bool {
+    Label::read(TEXT) == Some(LABEL)
+}
+
 #[test]
 fn a_label_has_one_text(rt: HostRuntime) {
-    assert!(rt; LABEL.text() == *TEXT);
-    assert!(rt; Label::read(TEXT) == Some(LABEL));
+    assert!(rt; has_the_text());
+    assert!(rt; gives_the_label());
     for at in 0..LABEL_SIZE {
         assert!(rt; !is_read_with_a_fault(at), "byte {at}");
     }
@@ -60,34 +68,35 @@ enum Deed {
     Rename,
     /// The label of disk 0 is cut away.
     Strip,
+    /// One command makes three disks of four blocks, with labels.
+    Format,
+    /// One finds that disk 2 is not spun up, since it is of another array.
+    Refuse,
 }
 
-use Deed::{Copy, Load, Look, Park, Rename, Replace, Restore, Strip, Swap};
+use Deed::{Copy, Format, Load, Look, Park, Refuse, Rename, Replace, Restore, Strip, Swap};
 
-/// A deed, and why each image then does not belong into its slot.
-type Row = (Deed, [Option<Misfit>; 3]);
+/// A deed, and the number of what a rack then finds.
+type Row = (Deed, u8);
 
-const FIT: [Option<Misfit>; 3] = [None, None, None];
+// What a rack finds. The table names it by number, since a table with fewer enums costs less to prove.
+const FIT: u8 = 0;
 
-const ROWS: [Row; 16] = [
-    (Look, FIT),
-    (
-        Swap,
-        [
+const SWAPPED: u8 = 1;
+
+const RESTORED: u8 = 2;
+
+const REPLACED: u8 = 3;
+
+/// Why each image does not belong into its slot.
+fn misfits(number: u8) -> [Option<Misfit>; 3] {
+    match number {
+        SWAPPED => [
             None,
             Some(Misfit::Moved { disk: 2 }),
             Some(Misfit::Moved { disk: 1 }),
         ],
-    ),
-    (Swap, FIT),
-    (Copy, FIT),
-    // A load in which nothing is synced leaves no copy behind.
-    (Restore, FIT),
-    (Restore, FIT),
-    (Load, FIT),
-    (
-        Restore,
-        [
+        RESTORED => [
             None,
             Some(Misfit::Old {
                 generation: 1,
@@ -95,12 +104,7 @@ const ROWS: [Row; 16] = [
             }),
             None,
         ],
-    ),
-    (Restore, FIT),
-    (Replace, FIT),
-    (
-        Restore,
-        [
+        REPLACED => [
             None,
             Some(Misfit::Old {
                 generation: 3,
@@ -108,7 +112,23 @@ const ROWS: [Row; 16] = [
             }),
             None,
         ],
-    ),
+        _ => [None; 3],
+    }
+}
+
+const ROWS: [Row; 16] = [
+    (Look, FIT),
+    (Swap, SWAPPED),
+    (Swap, FIT),
+    (Copy, FIT),
+    // A load in which nothing is synced leaves no copy behind.
+    (Restore, FIT),
+    (Restore, FIT),
+    (Load, FIT),
+    (Restore, RESTORED),
+    (Restore, FIT),
+    (Replace, FIT),
+    (Restore, REPLACED),
     (Restore, FIT),
     (Strip, FIT),
     (Load, FIT),
@@ -116,14 +136,6 @@ const ROWS: [Row; 16] = [
     (Park, FIT),
     (Rename, FIT),
 ];
-
-fn image(disk: DiskNo) -> &'static str {
-    match disk {
-        0 => "disk-0.img",
-        1 => "disk-1.img",
-        _ => "disk-2.img",
-    }
-}
 
 const SPARE: &str = "disk-1.copy";
 
@@ -137,43 +149,59 @@ fn copy<H: Files>(host: &H) -> bool {
     fs::copy(host, image(1), SPARE).is_ok()
 }
 
-fn loaded<H: Files<File = File> + AllocGlobal + Abort>(host: &H) -> ImageRack<&H> {
-    ImageRack::load(host, host.alloc(), 3)
-        .ok()
-        .expect(host, "there is memory")
-}
-
-fn sync_all<H: Files<File = File> + AllocGlobal + Abort>(rack: &mut ImageRack<&H>) -> bool {
+fn sync_all<F: Files<File = File> + Drop>(rack: &mut ImageRack<F>) -> bool {
     let mut done = true;
     for disk in 0..3 {
-        done = done && make(rack, disk, Step::Sync) == DONE;
+        done = done && is_called(rack, disk, Step::Sync);
     }
     done
 }
 
-/// One command works with the disks, and parks disk 2 where that is asked.
-fn work<H: Files<File = File> + AllocGlobal + Abort>(host: &H, parks: bool) -> bool {
-    let mut rack = loaded(host);
-    rack.has_fitting_images()
-        && sync_all::<H>(&mut rack)
-        && (!parks || make(&mut rack, 2, Step::Park) == DONE)
+/// Works with the disks, and parks disk 2 where that is asked.
+fn use_all<F: Files<File = File> + Drop>(rack: &mut ImageRack<F>, parks: bool) -> bool {
+    rack.has_fitting_images() && sync_all(rack) && (!parks || is_called(rack, 2, Step::Park))
 }
 
-/// One command works with the disks, and attaches disk 1 anew, of which a copy is made before.
-fn replace_one<H: Files<File = File> + AllocGlobal + Abort>(host: &H) -> bool {
-    let mut rack = loaded(host);
-    rack.has_fitting_images()
-        && sync_all::<H>(&mut rack)
-        && copy(host)
-        && make(&mut rack, 1, Step::Attach(4)) == DONE
-        && sync_all::<H>(&mut rack)
+/// Attaches disk 1 anew.
+fn attach_one<F: Files<File = File> + Drop>(rack: &mut ImageRack<F>) -> bool {
+    is_called(rack, 1, Step::Attach(4)) && sync_all(rack)
 }
 
-/// The image of disk 2 gets the label of another array.
-fn relabel<H: Files + AllocGlobal>(host: &H) -> bool {
-    let Ok(mut bytes) = fs::read(host, image(2)) else {
-        return false;
-    };
+/// Makes three disks of four blocks, with labels.
+fn format<F: Files<File = File> + Drop>(rack: &mut ImageRack<F>) -> bool {
+    let mut done = true;
+    for disk in 0..3 {
+        done = done && is_called(rack, disk, Step::Attach(4));
+    }
+    rack.label_array();
+    done
+}
+
+/// Whether disk 2 is not spun up, since it is of another array.
+fn refuses_late<F: Files<File = File> + Drop>(rack: &mut ImageRack<F>) -> bool {
+    rack.has_fitting_images()
+        && !is_called(rack, 2, Step::SpinUp)
+        && rack.misfit(2) == Some(Misfit::Foreign)
+}
+
+/// What one command does with its rack.
+fn use_rack<H: Files, F: Files<File = File> + Drop>(
+    host: &H,
+    rack: &mut ImageRack<F>,
+    deed: Deed,
+) -> bool {
+    match deed {
+        Load => use_all(rack, false),
+        Park => use_all(rack, true),
+        Replace => use_all(rack, false) && copy(host) && attach_one(rack),
+        Format => format(rack),
+        Refuse => refuses_late(rack),
+        _ => false,
+    }
+}
+
+/// Whether these bytes end in a label, which gets the number of another array.
+fn is_renamed(bytes: &mut [u8]) -> bool {
     let Some(at) = bytes.len().checked_sub(LABEL_SIZE) else {
         return false;
     };
@@ -184,18 +212,20 @@ fn relabel<H: Files + AllocGlobal>(host: &H) -> bool {
     };
     label.array[15] ^= 1;
     bytes[at..].copy_from_slice(&label.text());
-    fs::write(host, image(2), bytes).is_ok()
+    true
 }
 
-/// Cuts away what stands behind the four blocks of disk 0.
-fn strip<H: Files + AllocGlobal>(host: &H) -> bool {
-    let Ok(bytes) = fs::read(host, image(0)) else {
+/// The image of disk 2 gets the label of another array.
+fn relabel<H: Files + AllocGlobal>(host: &H) -> bool {
+    let Some(mut bytes) = bytes_in(host, image(2)) else {
         return false;
     };
-    match bytes.get(..2048) {
-        Some(blocks) => fs::write(host, image(0), blocks).is_ok(),
-        None => false,
-    }
+    is_renamed(&mut bytes) && make_file(host, image(2), &bytes)
+}
+
+/// Has one command work with the disks.
+fn use_disks<H: Files<File = File> + AllocGlobal + Abort>(host: &H, deed: Deed) -> bool {
+    use_rack(host, &mut loaded(host), deed)
 }
 
 fn act<H: Files<File = File> + AllocGlobal + Abort>(host: &H, deed: Deed) -> bool {
@@ -204,49 +234,51 @@ fn act<H: Files<File = File> + AllocGlobal + Abort>(host: &H, deed: Deed) -> boo
         Swap => swap(host, image(1), image(2)),
         Copy => copy(host),
         Restore => swap(host, image(1), SPARE),
-        Load => work(host, false),
-        Park => work(host, true),
-        Replace => replace_one(host),
         Rename => relabel(host),
-        Strip => strip(host),
+        // The four blocks are left.
+        Strip => cut(host, image(0), 2048),
+        Load | Park | Replace | Format | Refuse => use_disks(host, deed),
     }
 }
 
-/// Whether a rack that is loaded finds that the images fit so.
-fn finds<H: Files<File = File> + AllocGlobal + Abort>(
-    host: &H,
-    misfits: &[Option<Misfit>; 3],
-) -> bool {
-    let mut rack = loaded(host);
+/// Whether the images of a rack fit, and why each does not.
+fn look<F: Files<File = File> + Drop>(rack: &mut ImageRack<F>) -> (bool, [Option<Misfit>; 3]) {
     let fits = rack.has_fitting_images();
-    fits == (*misfits == FIT) && [rack.misfit(0), rack.misfit(1), rack.misfit(2)] == *misfits
+    (fits, [rack.misfit(0), rack.misfit(1), rack.misfit(2)])
 }
 
-/// Whether disk 2 is not spun up, since it is of another array.
-fn refuses_late<H: Files<File = File> + AllocGlobal + Abort>(host: &H) -> bool {
-    let mut rack = loaded(host);
-    rack.has_fitting_images()
-        && make(&mut rack, 2, Step::SpinUp) != DONE
-        && rack.misfit(2) == Some(Misfit::Foreign)
+/// Whether the images fit as the number says.
+fn fit_as(found: &(bool, [Option<Misfit>; 3]), number: u8) -> bool {
+    found.0 == (number == FIT) && found.1 == misfits(number)
 }
 
-/// Makes three disks of four blocks, with labels.
-fn format<H: Files<File = File> + AllocGlobal + Abort>(host: &H) -> bool {
-    let mut rack = loaded(host);
-    let mut done = true;
-    for disk in 0..3 {
-        done = done && make(&mut rack, disk, Step::Attach(4)) == DONE;
+/// Whether a rack that is loaded finds what the number says.
+fn finds<H: Files<File = File> + AllocGlobal + Abort>(host: &H, number: u8) -> bool {
+    fit_as(&look(&mut loaded(host)), number)
+}
+
+/// Does the deed of a row, and says whether a rack that is loaded then finds what the row says.
+fn is_row_met<H: Files<File = File> + AllocGlobal + Abort>(host: &H, row: &Row) -> bool {
+    act(host, row.0) && finds(host, row.1)
+}
+
+/// How many rows are so before one that is not.
+fn met<H: Files<File = File> + AllocGlobal + Abort>(host: &H, rows: &[Row]) -> usize {
+    for at in 0..rows.len() {
+        if !is_row_met(host, &rows[at]) {
+            return at;
+        }
     }
-    rack.label_array();
-    done
+    rows.len()
+}
+
+fn assert_met<H: Files<File = File> + AllocGlobal + Abort>(host: &H, rows: &[Row]) {
+    let at = met(host, rows);
+    assert!(host; at == rows.len(), "row {at}");
 }
 
 pub(crate) fn walk<H: Files<File = File> + AllocGlobal + Abort>(host: &H) {
-    assert!(host; format(host));
-    for at in 0..ROWS.len() {
-        let (deed, misfits) = ROWS[at];
-        assert!(host; act(host, deed), "deed {at}");
-        assert!(host; finds(host, &misfits), "row {at}");
-    }
-    assert!(host; refuses_late(host));
+    assert!(host; act(host, Format));
+    assert_met(host, &ROWS);
+    assert!(host; act(host, Refuse));
 }

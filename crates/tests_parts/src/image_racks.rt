@@ -5,7 +5,7 @@ use crate::racks::{DONE, Step, make, told};
 use Step::{Attach, Park, Read, SpinUp, Sync, Write};
 use paraid_base::DiskNo;
 use paraid_imgrack::ImageRack;
-use paraid_rack::{Power, Rack};
+use paraid_rack::Power;
 use std::fs::{self, File, Files};
 use std::process::Abort;
 
@@ -167,7 +167,7 @@ const FILES: [Row; 11] = [
     (0, NoImage, true, ABSENT, EMPTY),
 ];
 
-fn image(disk: DiskNo) -> &'static str {
+pub fn image(disk: DiskNo) -> &'static str {
     match disk {
         0 => "disk-0.img",
         1 => "disk-1.img",
@@ -192,75 +192,162 @@ fn next(disk: DiskNo) -> &'static str {
     }
 }
 
+/// What a file holds, if it is there.
+pub fn bytes_in<H: Files + AllocGlobal>(host: &H, name: &str) -> Option<Vec<u8>> {
+    fs::read(host, name).ok()
+}
+
+/// Makes a file of these bytes, and says whether that is done.
+pub fn make_file<H: Files>(host: &H, name: &str, bytes: &[u8]) -> bool {
+    fs::write(host, name, bytes).is_ok()
+}
+
 /// Whether a file was as long, and is cut.
-fn cut<H: Files + AllocGlobal>(host: &H, name: &str, length: usize) -> bool {
-    let Ok(bytes) = fs::read(host, name) else {
+pub fn cut<H: Files + AllocGlobal>(host: &H, name: &str, length: usize) -> bool {
+    let Some(bytes) = bytes_in(host, name) else {
         return false;
     };
     match bytes.get(..length) {
-        Some(first) => fs::write(host, name, first).is_ok(),
+        Some(first) => make_file(host, name, first),
         None => false,
     }
 }
 
-/// Does the deed, and says whether it is done.
-fn act<H: Files + AllocGlobal, R: Rack>(host: &H, rack: &mut R, disk: DiskNo, deed: Deed) -> bool {
+/// Makes the call, and says whether it is done.
+pub fn is_called<F: Files<File = File> + Drop>(
+    rack: &mut ImageRack<F>,
+    disk: DiskNo,
+    step: Step,
+) -> bool {
+    make(rack, disk, step) == DONE
+}
+
+/// Has this befall the files of a disk, and says whether it is done.
+fn befall<H: Files + AllocGlobal>(host: &H, disk: DiskNo, deed: Deed) -> bool {
     match deed {
-        Call(step) => make(rack, disk, step) == DONE,
+        Call(_) => false,
         Look => true,
         Block => fs::create_dir(host, next(disk)).is_ok(),
         Free => fs::remove_dir(host, next(disk)).is_ok(),
         Cut(length) => cut(host, image(disk), length),
-        Text(number) => fs::write(host, sidecar(disk), text(number)).is_ok(),
+        Text(number) => make_file(host, sidecar(disk), text(number).as_bytes()),
         NoSidecar => fs::remove_file(host, sidecar(disk)).is_ok(),
         NoImage => fs::remove_file(host, image(disk)).is_ok(),
     }
 }
 
-/// Whether the sidecar of the disk has this text, where none is as an empty one.
-fn has_sidecar<H: Files + AllocGlobal>(host: &H, disk: DiskNo, text: &str) -> bool {
-    match fs::read(host, sidecar(disk)) {
-        Ok(found) => found.as_slice() == text.as_bytes(),
-        Err(_) => text == "",
+/// Does the deed of a row, and says whether it is done.
+fn act<H: Files + AllocGlobal, F: Files<File = File> + Drop>(
+    host: &H,
+    rack: &mut ImageRack<F>,
+    row: &Row,
+) -> bool {
+    match row.1 {
+        Call(step) => is_called(rack, row.0, step),
+        deed => befall(host, row.0, deed),
     }
 }
 
-fn loaded<H: Files<File = File> + AllocGlobal + Abort>(host: &H) -> ImageRack<&H> {
+/// Whether the sidecar of the disk has this text, where none is as an empty one.
+fn has_sidecar<H: Files + AllocGlobal>(host: &H, disk: DiskNo, text: &str) -> bool {
+    match bytes_in(host, sidecar(disk)) {
+        Some(found) => found.as_slice() == text.as_bytes(),
+        None => text == "",
+    }
+}
+
+pub fn loaded<H: Files<File = File> + AllocGlobal + Abort>(host: &H) -> ImageRack<&H> {
     ImageRack::load(host, host.alloc(), 3)
         .ok()
         .expect(host, "there is memory")
 }
 
+/// Whether the disk of a row is as the row says.
+fn is_told<F: Files<File = File> + Drop>(rack: &ImageRack<F>, row: &Row) -> bool {
+    told(rack, row.0) == Some(row.3)
+}
+
 /// Whether a row says what its deed has left, and whether it was done.
-fn is_met<H: Files + AllocGlobal, R: Rack>(host: &H, rack: &R, row: &Row, done: bool) -> bool {
-    done == row.2 && told(rack, row.0) == Some(row.3) && has_sidecar(host, row.0, text(row.4))
+fn is_met<H: Files + AllocGlobal, F: Files<File = File> + Drop>(
+    host: &H,
+    rack: &ImageRack<F>,
+    row: &Row,
+    done: bool,
+) -> bool {
+    done == row.2 && is_told(rack, row) && has_sidecar(host, row.0, text(row.4))
 }
 
 /// Does the deed of a row, and says whether it has left what the row says.
-fn is_done<H: Files + AllocGlobal, R: Rack>(host: &H, rack: &mut R, row: &Row) -> bool {
-    let done = act(host, rack, row.0, row.1);
+fn is_done<H: Files + AllocGlobal, F: Files<File = File> + Drop>(
+    host: &H,
+    rack: &mut ImageRack<F>,
+    row: &Row,
+) -> bool {
+    let done = act(host, rack, row);
     is_met(host, rack, row, done)
+}
+
+/// How many rows are so before one that is not, where the deeds are done on this rack.
+fn done_on<H: Files + AllocGlobal, F: Files<File = File> + Drop>(
+    host: &H,
+    rack: &mut ImageRack<F>,
+    rows: &[Row],
+) -> usize {
+    for at in 0..rows.len() {
+        if !is_done(host, rack, &rows[at]) {
+            return at;
+        }
+    }
+    rows.len()
+}
+
+/// The same on one rack that is loaded.
+fn done_on_one<H: Files<File = File> + AllocGlobal + Abort>(host: &H, rows: &[Row]) -> usize {
+    done_on(host, &mut loaded(host), rows)
+}
+
+/// Does the deed of a row on a rack that is loaded for it.
+fn act_anew<H: Files<File = File> + AllocGlobal + Abort>(host: &H, row: &Row) -> bool {
+    act(host, &mut loaded(host), row)
+}
+
+/// Whether a rack that is loaded finds what the row says.
+fn is_met_anew<H: Files<File = File> + AllocGlobal + Abort>(
+    host: &H,
+    row: &Row,
+    done: bool,
+) -> bool {
+    is_met(host, &loaded(host), row, done)
+}
+
+/// Does the deed of a row, and says whether a rack that is loaded after it finds what the row says.
+fn is_done_anew<H: Files<File = File> + AllocGlobal + Abort>(host: &H, row: &Row) -> bool {
+    let done = act_anew(host, row);
+    is_met_anew(host, row, done)
+}
+
+/// How many rows are so before one that is not, where a rack is loaded for each deed and after it.
+fn found<H: Files<File = File> + AllocGlobal + Abort>(host: &H, rows: &[Row]) -> usize {
+    for at in 0..rows.len() {
+        if !is_done_anew(host, &rows[at]) {
+            return at;
+        }
+    }
+    rows.len()
+}
+
+fn assert_all(host: &impl Abort, at: usize, rows: usize) {
+    assert!(host; at == rows, "row {at}");
 }
 
 /// Does the deeds on one rack.
 fn walk<H: Files<File = File> + AllocGlobal + Abort>(host: &H, rows: &[Row]) {
-    let mut rack = loaded(host);
-    for at in 0..rows.len() {
-        assert!(host; is_done(host, &mut rack, &rows[at]), "row {at}");
-    }
-}
-
-/// Does the deed of a row, and says whether a rack that is loaded after it finds what the row says.
-fn is_found<H: Files<File = File> + AllocGlobal + Abort>(host: &H, row: &Row) -> bool {
-    let done = act(host, &mut loaded(host), row.0, row.1);
-    is_met(host, &loaded(host), row, done)
+    assert_all(host, done_on_one(host, rows), rows.len());
 }
 
 /// Does the deeds, each before a rack is loaded.
 fn walk_anew<H: Files<File = File> + AllocGlobal + Abort>(host: &H, rows: &[Row]) {
-    for at in 0..rows.len() {
-        assert!(host; is_found(host, &rows[at]), "row {at}");
-    }
+    assert_all(host, found(host, rows), rows.len());
 }
 
 /// Removes what a run leaves.

@@ -570,11 +570,15 @@ fn three_writes() -> [Pairs; 3] {
 /// A number of writes, and what block 3 is filled with after so many.
 const BYTES_AFTER: [(u64, u8); 5] = [(0, 0), (1, 1), (2, 1), (3, 3), (9, 3)];
 
+// A byte of block 3 after so many writes of a history.
+fn byte_after(history: &[Pairs], writes: u64) -> u8 {
+    block_after(history, writes, 3).bytes[7]
+}
+
 #[test]
 fn the_last_write_of_a_block_that_counts_is_its_value(rt: HostRuntime) {
     let history = three_writes();
     for &(writes, byte) in &BYTES_AFTER {
-        let found = block_after(&history, writes, 3).bytes[7];
-        assert!(rt; found == byte, "after {writes}");
+        assert!(rt; byte_after(&history, writes) == byte, "after {writes}");
     }
 }

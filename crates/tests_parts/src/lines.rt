@@ -46,17 +46,28 @@ fn is_part(line: &[u8], input: &[u8], from: usize, to: usize) -> bool {
     input.get(from..to) == Some(line)
 }
 
-fn is_answer<S: Source>(reader: &mut LineReader, source: &mut S, input: &[u8], want: Want) -> bool {
-    let answer = reader.next(source);
+// What the reader answers to the call.
+fn answer_of(want: Want) -> Result<Line, LineFault> {
     match want {
-        Cut(from, to) => {
-            let length = to.saturating_sub(from);
-            answer == Ok(Line::Whole { length }) && is_part(reader.line(), input, from, to)
-        }
-        Long(length) => answer == Ok(Line::Long { length }),
-        End => answer == Ok(Line::End),
-        Fault(fault) => answer == Err(fault),
+        Cut(from, to) => Ok(Line::Whole {
+            length: to.saturating_sub(from),
+        }),
+        Long(length) => Ok(Line::Long { length }),
+        End => Ok(Line::End),
+        Fault(fault) => Err(fault),
     }
+}
+
+// Whether the line that the reader then holds is that of the input, where the answer is a line.
+fn is_line_held(line: &[u8], input: &[u8], want: Want) -> bool {
+    match want {
+        Cut(from, to) => is_part(line, input, from, to),
+        _ => true,
+    }
+}
+
+fn is_answer<S: Source>(reader: &mut LineReader, source: &mut S, input: &[u8], want: Want) -> bool {
+    reader.next(source) == answer_of(want) && is_line_held(reader.line(), input, want)
 }
 
 // Whether a reader answers so to one call after another.
