@@ -22,7 +22,7 @@ COMMANDS = $(notdir $(wildcard $(addprefix tools/,ctl power state lint locate da
 MODULES = $(notdir $(wildcard tools/*.py))
 PAGES = $(wildcard docs/*.[1-8])
 UNITS = paraid-nbd@.service paraid-check@.service paraid-check@.timer
-SAMPLES = $(wildcard examples/*.toml) examples/day.txt etc/stop-for-check.conf
+SAMPLES = $(wildcard examples/*.toml examples/first.trace examples/gears.trace) examples/day.txt etc/stop-for-check.conf
 TEXTS = $(wildcard README.md docs/INSTALL.md docs/DRIVES.md LICENSE CHANGELOG.md)
 
 # What goes where: MODE=FILE=PLACE.
@@ -37,14 +37,22 @@ LINKS = $(foreach it,$(COMMANDS),$(SBINDIR)/paraid-$(it))
 # `man paraid-NAME` finds the page that tells of this tool: NAME=PAGE.
 NAMES = $(foreach it,lint locate power state,$(it)=tools) ctl=nbd
 
-.PHONY: help install uninstall list release
+.PHONY: help places install uninstall list release
 help:
 	@sed -n 's/^#     //p' Makefile
 
-install:
+# Units name these folders, and the lists above have no blank in a name.
+places:
+	@for it in $(foreach it,SBINDIR LIBDIR UNITDIR MANDIR COMPLETIONDIR DOCDIR,'$($(it))'); do \
+		case $$it in [!/]* | '' | *[[:space:]'=%,&\']*) \
+			echo "make: a folder begins with a slash, and has no blank and none of = % , & \\ in it: $$it" >&2; exit 1 ;; \
+		esac; \
+	done
+
+install: places
 	@[ '$(PROGRAM)' != dist/paraid ] || (cd ./dist && sha256sum --check --quiet --strict SUMS) || \
 		{ echo "make: dist/ has no sound program: tools/dist --write makes it of what rt ci has built" >&2; exit 1; }
-	@set -e; for it in $(FILES); do \
+	@set -e; umask 022; for it in $(FILES); do \
 		mode=$${it%%=*}; from=$${it#*=}; to=$${from#*=}; from=$${from%%=*}; \
 		echo "$$to"; \
 		case $$from in \
@@ -58,7 +66,7 @@ install:
 	@set -e; for it in $(NAMES); do to=$(MANDIR)/man8/paraid-$${it%=*}.8; \
 		echo "$$to"; ln -sfn "paraid-$${it#*=}.8" "$(DESTDIR)$$to"; done
 
-uninstall:
+uninstall: places
 	@for it in $(FILES); do to=$${it##*=}; rm -f "$(DESTDIR)$$to"; done
 	@rm -f $(foreach it,$(LINKS),"$(DESTDIR)$(it)")
 	@for it in $(NAMES); do rm -f "$(DESTDIR)$(MANDIR)/man8/paraid-$${it%=*}.8"; done
