@@ -15,11 +15,12 @@ _paraid() {
             options=${options/ ${COMP_WORDS[at]} / }
         done
         case $before in
-        --spares | --wait | --number | --lines | --ups | =) options='' ;;
+        --spares | --wait | --number | --lines | --ups | = | *[\<\>]*) options='' ;;
         esac
     fi
     # (a word of options has no blank in it)
     # shellcheck disable=SC2207
     COMPREPLY=($(compgen -W "$options" -- "$word"))
 }
-complete -F _paraid paraid
+# (by default the name of a file, as behind a `<`)
+complete -o bashdefault -o default -F _paraid paraid
