@@ -361,9 +361,9 @@ class Control:
         while True:
             try:
                 client, _ = self.socket.accept()
-            except OSError:
-                return
-            threading.Thread(target=self.serve, args=(client,), daemon=True).start()
+                threading.Thread(target=self.serve, args=(client,), daemon=True).start()
+            except (OSError, RuntimeError):  # too many files or threads, until some clients have gone
+                time.sleep(1)
 
     def serve(self, client):
         client.settimeout(60)
