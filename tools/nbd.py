@@ -6,7 +6,7 @@
 Each request becomes lines of one `paraid run`, in the order in which they come, and a clock sends the
 ticks by which the array shifts. So a write is answered when the run has accepted it, and a flush when
 the disks hold all writes that were answered before it. docs/paraid-nbd.8 tells the rest."""
-import binascii, collections, errno, os, re, select, shutil, socket, stat, subprocess, sys, syslog
+import binascii, collections, contextlib, errno, os, re, select, shutil, socket, stat, subprocess, sys, syslog
 import threading, time
 import nbdkit
 
@@ -53,12 +53,16 @@ class Run:
     """One `paraid run`, for one thread at a time."""
 
     def __init__(self, program, folder):
-        # In a session of its own: an interrupt from the keyboard is for nbdkit, which then ends the input.
-        self.process = subprocess.Popen([program, "run"], cwd=folder, stdin=subprocess.PIPE, bufsize=0,
-                                        stdout=subprocess.PIPE, stderr=subprocess.STDOUT,
-                                        start_new_session=True)
-        self.input, self.output = self.process.stdin.fileno(), self.process.stdout.fileno()
-        os.set_blocking(self.input, False)
+        # Its input is a socket: the process that waits for the command of nbdkit's --run has a copy of it, so
+        # to close ours alone would not end it.
+        self.input, theirs = socket.socketpair()
+        with theirs:
+            # In a session of its own: an interrupt from the keyboard is for nbdkit, which then ends the input.
+            self.process = subprocess.Popen([program, "run"], cwd=folder, stdin=theirs, bufsize=0,
+                                            stdout=subprocess.PIPE, stderr=subprocess.STDOUT,
+                                            start_new_session=True)
+        self.input.setblocking(False)
+        self.output = self.process.stdout.fileno()
         self.both = select.poll()
         self.both.register(self.input, select.POLLOUT)
         self.both.register(self.output, select.POLLIN)
@@ -74,6 +78,7 @@ class Run:
             for line in lines:
                 if line.startswith(b"mounted "):
                     return text(line)
+            self.last = lines[-1]
 
     def take_lines(self):
         """Waits for answers, and gives none at the end of the program. What it says aside goes to the log: a
@@ -81,10 +86,10 @@ class Run:
         while True:
             piece = os.read(self.output, 1 << 16)
             if not piece:
-                self.last = self.rest or self.last or self.aside
                 status = self.process.wait()
                 # (in the background nbdkit is not its parent, and the status is not to be had)
-                self.ended = f"the program ended{f' with {status}' if status else ''}: {text(self.last)}"
+                how = f" by signal {-status}" if status < 0 else f" with {status}" if status else ""
+                self.ended = f"the program ended{how}: {text(self.last or self.aside)}"
                 return []
             *lines, self.rest = (self.rest + piece).split(b"\n")
             answers = [line for line in lines if not line.startswith(ASIDE)]
@@ -93,13 +98,12 @@ class Run:
                     self.aside = line[len(ASIDE) :]
                     log(text(self.aside))
             if answers:
-                self.last = answers[-1]
                 return answers
 
     def give(self, left):
         """Gives the program what it takes of this now; the rest is answered."""
         try:
-            return left[os.write(self.input, left) :]
+            return left[self.input.send(left) :]
         except BlockingIOError:
             return left
         except OSError:
@@ -116,7 +120,7 @@ class Run:
         while len(answers) < len(lines):
             if left:
                 ready = dict(self.both.poll())
-                if self.input in ready:
+                if self.input.fileno() in ready:
                     left = self.give(left)
                 if self.output not in ready:
                     continue
@@ -125,16 +129,20 @@ class Run:
                 raise Refused(self.ended)
             answers += said
         if left or len(answers) > len(lines):
-            self.ended = f"the program said what it was not asked for: {text(self.last)}"
+            self.ended = f"the program said what it was not asked for: {text(answers[-1])}"
             raise Refused(self.ended)
         return answers
 
     def close(self):
-        """Ends the input, so the run flushes, and waits for its end. Tells the last line."""
-        self.process.stdin.close()
-        while not self.ended and self.take_lines():
-            pass
-        return text(self.last)
+        """Ends the input, so the run flushes, and waits for its end. Tells the last line, or why there is none."""
+        why, said = self.ended, []
+        with contextlib.suppress(OSError):  # it may have been closed before
+            self.input.shutdown(socket.SHUT_WR)
+        while lines := self.take_lines():
+            said = lines
+        self.ended = why or self.ended
+        self.input.close()
+        return text(said[-1]) if said else self.ended
 
 
 class Array:
