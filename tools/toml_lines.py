@@ -7,6 +7,8 @@ another, integers of 64 bits."""
 import re
 
 LIMIT = 80
+# (of more digits Python makes no number, and 64 bits hold none)
+LONGEST_INTEGER = 19
 BARE = frozenset("ABCDEFGHIJKLMNOPQRSTUVWXYZabcdefghijklmnopqrstuvwxyz0123456789-_")
 WORD = BARE | frozenset("+.:")
 DIGITS = frozenset("0123456789")
@@ -351,6 +353,8 @@ def number_of(word):
     if found[2] or found[3]:
         number = float(plain)
         return number if abs(number) != float("inf") else None
+    if len(digits) > LONGEST_INTEGER:
+        return None
     number = -int(digits) if negative else int(digits)
     return number if -(2**63) <= number < 2**63 else None
 
