@@ -7,6 +7,7 @@ neither `spinning` nor `parked` are absent disks; a link counts as its file, and
 is a disk that is shut. The size of a disk is its image's length divided by 512, rounded down: a label
 may follow the last block, of the form of crates/paraid_imgrack."""
 import errno
+import io
 import os
 import re
 import stat
@@ -220,6 +221,16 @@ def read_targets(block, geometry):
     return targets if fit and len(set(targets)) == count else None
 
 
+def is_folder(path):
+    """Whether there is such a folder. What this user may not know raises PermissionError."""
+    try:
+        return stat.S_ISDIR(os.stat(path).st_mode)
+    except PermissionError:
+        raise
+    except OSError:
+        return False
+
+
 def found(name):
     """What stands under a name: a `file`; `nothing`; `none`, where it is no file or its device fails; or
     `shut`, where it is there and cannot be opened. What this user may not know raises PermissionError."""
@@ -265,6 +276,11 @@ class Folder:
         word = text.rstrip(b" \t\n\f\r") if len(text) <= LONGEST_WORD else b""
         return word.decode() if word in (b"spinning", b"parked") else "absent"
 
+    def is_read_only(self, disk, devices):
+        """Whether the image or the sidecar of a disk lies on one of these devices."""
+        names = self.image(disk), os.path.join(self.path, f"disk-{disk}.power")
+        return any(found(name) == "file" and os.stat(name).st_dev in devices for name in names)
+
     def size(self, disk):
         """The blocks of a disk, 0 where there is none."""
         try:
@@ -300,6 +316,17 @@ class Folder:
             except PermissionError:
                 self.files[disk] = os.open(self.image(disk), flags)
         return self.files[disk]
+
+
+def read_only_devices(mounts="/proc/self/mountinfo"):
+    """The devices whose file systems take no writes, as ext4 after an error. A mount that is read-only for
+    this process alone is none of them: others may write there."""
+    try:
+        with open(mounts, encoding="utf-8", errors="surrogateescape") as file:
+            lines = [line.split() for line in file]
+    except OSError:
+        return set()
+    return {os.makedev(*map(int, words[2].split(":"))) for words in lines if words[-1].split(",")[0] == "ro"}
 
 
 @dataclass
@@ -503,10 +530,18 @@ def dirty_bytes(folder, meta, batch, power):
 
 
 OUTPUT_FAILED = 4
+UNREADABLE = 2
+
+
+def speak_utf8():
+    """What is printed from here on is UTF-8, in whatever locale."""
+    if isinstance(sys.stdout, io.TextIOWrapper):
+        sys.stdout.reconfigure(encoding="utf-8")
 
 
 def status_of(main, name):
-    """The status of a tool: what `main` gives for its words, or 4 where the output fails or is closed."""
+    """The status of a tool: what `main` gives for its words, 4 where the output fails or is closed, or 2 where
+    a file cannot be read."""
     if sys.stdout is None:
         # (a print to no stream would say nothing of it; one to a stream that is only read fails)
         sys.stdout = open(os.devnull, encoding="utf-8")
@@ -523,7 +558,8 @@ def status_of(main, name):
         pass
     except OSError as fault:
         if fault.filename is not None:
-            raise
+            print(f"{name}: {fault.filename}: {fault.strerror}", file=sys.stderr)
+            return UNREADABLE
         print(f"{name}: the output: {fault.strerror or 'it is closed'}", file=sys.stderr)
     # What is left is not written once more as Python ends.
     sink = os.open(os.devnull, os.O_WRONLY)
