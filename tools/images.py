@@ -266,6 +266,9 @@ class Folder:
             return word
         return {"file": word, "shut": "shut"}.get(found(self.image(disk)), "absent")
 
+    def powers(self):
+        return [self.power(disk) for disk in range(MOST_DISKS)]
+
     @staticmethod
     def word(sidecar):
         there = found(sidecar)
@@ -374,9 +377,8 @@ def are_paired(a, b):
             and (None in (ahead.out, behind.out) or ahead.out == behind.out))
 
 
-def refusal(folder, sides):
+def refusal(folder, sides, powers):
     """The line by which the program would refuse to mount these disks, None where it would not."""
-    powers = [folder.power(disk) for disk in range(MOST_DISKS)]
     if "shut" in powers:
         return f"image {powers.index('shut')}"
     for x in (0, 1):
