@@ -1,6 +1,6 @@
 """Reads a TOML 1.1 text, and keeps the line of each key and value.
 
-For tools/lint. Python's own tomllib has no lines, is not in each Python that this is to run on, and
+For tools/lint and tools/day. Python's own tomllib has no lines, is not in each Python that this is to run on, and
 reads TOML 1.0, where the program reads 1.1: a text must be refused here exactly where the program
 refuses it. The limits are those of the program's reader: 80 parts of a key, 80 lists and tables in one
 another, integers of 64 bits."""
