@@ -26,6 +26,8 @@ LONGEST_WORD = 64
 BEARER = 2
 AWAY = ("absent", "shut")
 OF_DEVICE = (errno.EIO, errno.ENXIO, errno.ENODEV, errno.EBADMSG, errno.EUCLEAN, errno.EREMOTEIO, errno.ENOMEDIUM)
+# The options of a file system that takes no writes; newer kernels say the second one of ext4 after an error.
+READ_ONLY = frozenset(("ro", "emergency_ro"))
 
 
 class Geometry:
@@ -329,7 +331,7 @@ def read_only_devices(mounts="/proc/self/mountinfo"):
             lines = [line.split() for line in file]
     except OSError:
         return set()
-    return {os.makedev(*map(int, words[2].split(":"))) for words in lines if words[-1].split(",")[0] == "ro"}
+    return {os.makedev(*map(int, words[2].split(":"))) for words in lines if not READ_ONLY.isdisjoint(words[-1].split(","))}
 
 
 @dataclass
