@@ -247,10 +247,11 @@ def found(name):
 
 
 class Folder:
-    """The image files of a folder. What cannot be read is zeros, or raises OSError where it must be read."""
+    """The image files of a folder. What cannot be read is zeros, or raises OSError where it must be read.
+    A disk whose device fails in a read is absent from then on, as in a mount."""
 
-    def __init__(self, path):
-        self.path, self.files = path, {}
+    def __init__(self, path, failed=()):
+        self.path, self.files, self.failed = path, {}, set(failed)
 
     def close(self):
         for file in self.files.values():
@@ -266,6 +267,8 @@ class Folder:
         word = self.word(os.path.join(self.path, f"disk-{disk}.power"))
         if word in ("absent", "shut"):
             return word
+        if disk in self.failed:
+            return "absent"
         return {"file": word, "shut": "shut"}.get(found(self.image(disk)), "absent")
 
     def powers(self):
@@ -295,7 +298,12 @@ class Folder:
 
     def read(self, disk, place, count=1):
         """So many blocks; those past the end are zeros."""
-        data = os.pread(self.opened(disk), BLOCK * count, BLOCK * place)
+        try:
+            data = os.pread(self.opened(disk), BLOCK * count, BLOCK * place)
+        except OSError as fault:
+            if fault.errno in OF_DEVICE:
+                self.failed.add(disk)
+            raise
         whole = len(data) - len(data) % BLOCK
         return data[:whole].ljust(BLOCK * count, b"\0")
 
