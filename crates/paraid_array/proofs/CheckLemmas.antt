@@ -1,5 +1,5 @@
 -- A check of an array: a flush, and reads after it.
-use Rattle.std.proofs.Common.{◌≡◌, ℕ, ◌<◌, ◌⊎◌, Bool, true, false, [], length, Option, Some, None, Result, Ok, Err, inl, inr, refl, sym, ap, ◌∙◌, subst, arith}
+use Rattle.std.proofs.Common.{◌≡◌, ℕ, ◌<◌, ◌⊎◌, Bool, true, false, List, [], ◌∷◌, length, Option, Some, None, Result, Ok, Err, inl, inr, refl, sym, ap, ◌∙◌, subst, arith}
 use Rattle.std.specs.Prelude.{IfOk, IsSome, IsTrue}
 use Rattle.std.proofs.lemmas.Bool.{false≢true}
 use Rattle.paraid_base.specs.declared.event.Answer.TheVariants.{Flushed, Halted}
@@ -11,7 +11,10 @@ use Rattle.paraid_base.specs.Log.{worn_at}
 use Rattle.paraid_base.specs.States.{gone_out}
 use Rattle.paraid_gear.specs.declared.windows.Windows.{Windows}
 use Rattle.paraid_gear.specs.ThreeWindows.{HoldLastSamples}
-use Rattle.paraid_rack.specs.Disks.{Disks}
+use Rattle.paraid_rack.specs.declared.call.Call.{Call}
+use Rattle.paraid_rack.specs.declared.call.Call.TheVariants.{Read, Write, Sync, Park, SpinUp, Attach}
+use Rattle.paraid_rack.specs.Calls.{AreReads}
+use Rattle.paraid_rack.specs.Disks.{Disks, step}
 use Rattle.paraid_rack.specs.Slots.{Agrees, Slot}
 use Rattle.paraid_rack.specs.Told.{CrashTriple, Ran}
 use Rattle.paraid_rack.specs.Trail.{Trail, now}
@@ -20,6 +23,9 @@ use Rattle.paraid_core.specs.CoreInvariant.{AreCopiesSynced}
 use Rattle.paraid_core.specs.Cores.{CoreStandsFor, IsCoreHeld, IsCoreReady, core_rack}
 use Rattle.paraid_core.specs.Lost.{CoreLosesDisk, CoreMarksLost}
 use Rattle.paraid_core.specs.declared.staged.Core.{Core}
+use Rattle.paraid_rack.proofs.TrailsLemmas.{Ran-none}
+use Rattle.paraid_recover.specs.Calls.{OnlyReads}
+use Rattle.paraid_view.specs.Reads.{AreArrayReads}
 use Rattle.paraid_base.specs.Told.{HasRisen}
 use Rattle.paraid_image.specs.Spot.{View}
 use Rattle.paraid_scrub.specs.Counts.{AreCounts, CountsByView, all_members}
@@ -41,6 +47,25 @@ use Rattle.paraid_array.specs.Arrays.{ArrayStandsAt, GoesOnByEvent, ServesAt, to
 use Rattle.paraid_array.proofs.CoreLemmas.{loses_core, serves_core}
 use Rattle.paraid_array.proofs.FlushLemmas.{tells_alike}
 use Rattle.paraid_array.proofs.StandLemmas.{end_by, ended_on, over_slots, served_on, wear_fits}
+
+are_reads : (n : ℕ) (s : Disks) (cs : List Call) → AreArrayReads n s cs → AreReads cs
+are_reads n s [] each = tt
+are_reads n s (Read d p done ∷ cs) each = (tt, are_reads n (step (Read d p done) s) cs each.1)
+are_reads n s (Write d p b done ∷ cs) each = absurd each.0
+are_reads n s (Sync d done ∷ cs) each = absurd each.0
+are_reads n s (Park d done ∷ cs) each = absurd each.0
+are_reads n s (SpinUp d done ∷ cs) each = absurd each.0
+are_reads n s (Attach d size done ∷ cs) each = absurd each.0
+
+-- Reads of an array are reads.
+pub only_reads : (n : ℕ) (old new : Option Trail) → Ran old new (AreArrayReads n) → OnlyReads old new
+only_reads n old new ran t tells =
+    let r = ran t tells in
+    record { from = r.from; was = r.was; calls = r.calls; is = r.is; holds = are_reads n (now r.from) r.calls r.holds }
+
+-- From a core to the same one no call was made.
+pub no_calls : {R : Type 0} {g : _} (told : R → Option Trail) (old new : Core R g) → new ≡ old → OnlyReads (told (core_rack old)) (told (core_rack new))
+no_calls {R} {g} told old new same = subst (λ (core : Core R g). OnlyReads (told (core_rack old)) (told (core_rack core))) (sym same) (Ran-none (λ s cs. AreReads cs) (λ s. tt) (told (core_rack old)))
 
 -- From where more holds, calls that keep both end with the more of them.
 pub ends_higher : (P A B Q C D : Disks → Type 0) (old new : Option Trail) → Ran old new (CrashTriple P A B) → Ran old new (CrashTriple Q C D) → ((t : Trail) → old ≡ Some t → C (now t)) → Ran old new (CrashTriple P A D)

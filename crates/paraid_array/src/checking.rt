@@ -5,6 +5,7 @@ ghost use Rattle.paraid_base.specs.declared.event.Event.TheVariants.{Flush as Fl
 ghost use Rattle.paraid_base.specs.Log.{worn_at};
 ghost use Rattle.paraid_core.specs.Cores.{batch_of, meta_of};
 ghost use Rattle.paraid_rack.specs.Told.{Ran};
+ghost use Rattle.paraid_recover.specs.Calls.{OnlyReads};
 ghost use Rattle.paraid_recover.specs.HeldMoments.{Extends};
 ghost use Rattle.paraid_scrub.specs.Counts.{AreWithinMembers, no_faults};
 ghost use Rattle.paraid_serve.specs.Causes.{HasCause};
@@ -55,6 +56,7 @@ impl<R: Rack> Array<R> {
             → ArrayStandsAt R.slot_count R.told self.old p → report ≡ no_faults) }
         ensures counts { IfOk result (CountsDisks R.slot R.told (core_of_array self.old) (core_of_array self.new)) }
         ensures most { IfOk result (AreWithinMembers (meta_of (core_of_array self.old))) }
+        ensures reads { OnlyReads (told_of_array R.told self.old) (told_of_array R.told self.new) }
     {
         let gear = self.core.meta().gear;
         match check(&mut self.core) {
@@ -81,6 +83,8 @@ impl<R: Rack> Array<R> {
             → CountsCommitted R.slot R.told (core_of_array self.old) (core_of_array self.new) report) }
         ensures most { IfOk result (λ report. batch_of (core_of_array self.old) ≡ []
             → AreWithinMembers (meta_of (core_of_array self.old)) report) }
+        ensures reads { batch_of (core_of_array self.old) ≡ []
+            → OnlyReads (told_of_array R.told self.old) (told_of_array R.told self.new) }
     {
         if self.is_kept() {
             return self.check_kept();
@@ -115,6 +119,9 @@ impl<R: Rack> Array<R> {
         // Over every rack no more is counted then than there is.
         ensures most { IfOk result (λ report. batch_of (core_of_array self.old) ≡ []
             → AreWithinMembers (meta_of (core_of_array self.old)) report) }
+        // And the disks are only read.
+        ensures reads { batch_of (core_of_array self.old) ≡ []
+            → OnlyReads (told_of_array R.told self.old) (told_of_array R.told self.new) }
         // Else they are those after its commit.
         ensures committed { IfOk result (λ report. batch_of (core_of_array self.old) ≢ []
             → CountsCommitted R.slot R.told (core_of_array self.old) (core_of_array self.new) report) }

@@ -8,6 +8,7 @@ use Rattle.paraid_base.specs.declared.event.Event.TheVariants.{Flush}
 use Rattle.paraid_base.specs.declared.fault.Halt.{Halt}
 use Rattle.paraid_base.specs.declared.fault.Halt.TheVariants.{Two as HaltTwo, Worn}
 use Rattle.paraid_base.proofs.ToldLemmas.{GrowsByBytes-none}
+use Rattle.paraid_recover.specs.Calls.{OnlyReads}
 use Rattle.paraid_recover.specs.declared.fault.MountFault.{MountFault}
 use Rattle.paraid_rack.specs.Slots.{Slot}
 use Rattle.paraid_rack.specs.Told.{Ran}
@@ -131,8 +132,9 @@ check_is_refused fault before after line status end = check_refused status (refu
 pub checks_over : (rack : RackUse) (sink : SinkUse) (status : ℕ) (service : ServiceStart) (slots : ℕ) (setup : Setup) (now : ℕ → Slot) (final : Option Trail) → slots ≡ rack.slots → setup ≡ service.array.meta.setup
     → rack.after ≡ final → rack.new ≡ now → IsEndOver setup rack sink status → (status ≡ 13 → IsNotDouble setup now)
     → (first seen : Shown) → first ≡ shown_served service.array → seen.slot ≡ rack.new → HasCheckCauses first seen sink.written_before sink.written status
-    → TellsCounts (span_of slots setup service.told final) service.began sink status (CountsArray service.array now service.told final) → ChecksArray rack sink status service
-checks_over rack sink status service slots setup now final e tied f same end found first seen begins ends causes told = record {
+    → TellsCounts (span_of slots setup service.told final) service.began sink status (CountsArray service.array now service.told final) → OnlyReads service.told final → ChecksArray rack sink status service
+checks_over rack sink status service slots setup now final e tied f same end found first seen begins ends causes told reads = record {
+  reads = subst (OnlyReads service.told) (sym f) reads;
   seen = seen;
   last = ends;
   causes = subst (λ (y : Shown). HasCheckCauses y seen sink.written_before sink.written status) begins causes;

@@ -4,7 +4,9 @@ use Rattle.paraid_base.specs.declared.event.Answer.{Answer}
 use Rattle.paraid_base.specs.declared.event.Answer.TheVariants.{Flushed, Halted}
 use Rattle.paraid_base.specs.declared.event.Event.TheVariants.{Flush}
 use Rattle.paraid_base.specs.declared.fault.Halt.{Halt}
+use Rattle.paraid_rack.specs.Calls.{AreReads}
 use Rattle.paraid_rack.specs.Slots.{Slot}
+use Rattle.paraid_rack.specs.Told.{Ran}
 use Rattle.paraid_rack.specs.Trail.{Trail, extend, moments, now}
 use Rattle.paraid_rack.specs.declared.call.Call.{Call}
 use Rattle.paraid_record.specs.declared.meta.Meta.{Meta}
@@ -127,10 +129,11 @@ pub data TellsCounts (span : Span) (began : ℕ) (sink : SinkUse) (status : ℕ)
       → (IsSome span.now → IsMountedFromEach span.slots span.setup began span.start (ChecksFromPoint span (Halted halt)))
       → TellsCounts span began sink status Q
 
--- A check of a mounted array: what it told; why, by what was seen of the array from its mount to the end, when its slots were those
--- that are handed back; and what is known of its end over every rack.
+-- A check of a mounted array: what it told; that after the mount the disks were only read; why, by what was seen of the array from
+-- its mount to the end, when its slots were those that are handed back; and what is known of its end over every rack.
 pub record ChecksArray (rack : RackUse) (sink : SinkUse) (status : ℕ) (service : ServiceStart) : Type 0 where
   pub told : TellsCounts (served_span rack service) service.began sink status (CountsArray service.array rack.new service.told rack.after)
+  pub reads : Ran service.told rack.after (λ start calls. AreReads calls)
   pub seen : Shown
   pub causes : HasCheckCauses (shown_served service.array) seen sink.written_before sink.written status
   pub last : seen.slot ≡ rack.new

@@ -2,6 +2,7 @@
 ghost use Rattle.std.specs.Prelude.{◌≡◌, ℕ, [], ◌∷◌};
 ghost use Rattle.paraid_program.specs.Statuses.{IsOneOf};
 ghost use Rattle.paraid_base.specs.Told.{HasRisen};
+ghost use Rattle.paraid_recover.specs.Calls.{OnlyReads};
 ghost use Rattle.paraid_recover.specs.HeldMoments.{Extends};
 ghost use Rattle.paraid_serve.specs.Calls.{IsNotDouble};
 ghost use Rattle.paraid_serve.specs.Lost.{NamesTwoLost, TellsWear};
@@ -39,6 +40,7 @@ fn tell_counts<K: Sink, R: Rack, A: Serves, O: Outside<R, A>>(
     ensures causes { HasCheckCauses (A.shown array.old) (A.shown array.new) (K.written sink.old)
         (K.written sink.new) result }
     ensures told { Extends (A.told array.old) (A.told array.new) }
+    ensures reads { OnlyReads (A.told array.old) (A.told array.new) }
     ensures slots { A.slots array.new ≡ A.slots array.old }
     ensures status { IsOneOf (0 ∷ 4 ∷ 5 ∷ 12 ∷ 13 ∷ []) result }
     ensures present { result ≡ 0 → IsNotDouble (A.setup array.old) (A.slot array.new) }

@@ -3,6 +3,7 @@ ghost use Rattle.paraid_base.specs.declared.event.Answer.TheVariants.{Flushed, H
 ghost use Rattle.paraid_base.specs.declared.event.Event.TheVariants.{Flush as FlushEvent};
 ghost use Rattle.paraid_array.specs.Checked.{answer_to_check};
 ghost use Rattle.paraid_rack.specs.Told.{Ran};
+ghost use Rattle.paraid_recover.specs.Calls.{OnlyReads};
 ghost use Rattle.paraid_recover.specs.HeldMoments.{Extends};
 ghost use Rattle.paraid_scrub.specs.Counts.{AreWithinMembers, no_faults};
 ghost use Rattle.paraid_serve.specs.Causes.{HasCause};
@@ -76,7 +77,9 @@ pub trait Outside<R: Rack, A: Serves> {
         // With nothing staged no more is counted than there is, over every rack.
         ensures most { IfOk result (λ report. nothing array.old
             → AreWithinMembers (A.shown array.old).meta report) }
-        // Wherever it stood, with nothing staged the counts are those of its disks.
+        // Wherever it stood, with nothing staged the disks are only read,
+        ensures reads { nothing array.old → OnlyReads (A.told array.old) (A.told array.new) }
+        // and the counts are those of its disks.
         ensures counts { IfOk result (λ report. nothing array.old
             → CountsArray (served array.old) (A.slot array.new) (A.told array.old)
             (A.told array.new) report) };

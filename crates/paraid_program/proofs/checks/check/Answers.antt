@@ -21,7 +21,7 @@ returns-in-Ok g c = record {
       mounted (service_from before (g.O.Outside.served c.in-Ok.array) (g.A.Serves.told c.in-Ok.array)) e.served (begins_at_end _ _ _ _ e.grows c.unmount.ensures.told c.tell_counts-status.ensures.told)
       (checks_over _ _ _ _ _ _ _ _ e.slots e.setup c.unmount.ensures.told c.unmount.ensures.slot
       (end_over (g.A.Serves.setup c.in-Ok.array) _ _ _ (g.A.Serves.slot c.in-Ok.array) _ c.unmount.ensures.slot e.later done.present done.two done.worn)
-      done.found (g.A.Serves.shown c.in-Ok.array) (g.A.Serves.shown c.tell_counts-status.new.array) e.shown ((g.met.A.Serves.shows c.tell_counts-status.new.array).slot ∙ sym c.unmount.ensures.slot) done.causes (done.counts (end_moment before) (e.mounted (end_moment before) (began_at_end before))));
+      done.found (g.A.Serves.shown c.in-Ok.array) (g.A.Serves.shown c.tell_counts-status.new.array) e.shown ((g.met.A.Serves.shows c.tell_counts-status.new.array).slot ∙ sym c.unmount.ensures.slot) done.causes (done.counts (end_moment before) (e.mounted (end_moment before) (began_at_end before))) done.reads);
   slots = c.unmount.ensures.slots ∙ c.tell_counts-status.ensures.slots ∙ c.in-Ok.ensures.slots;
   status = check_status_of _ c.tell_counts-status.ensures.status;
   sink = search rules;

@@ -41,6 +41,7 @@ returns-in-Ok g c = record {
       tells_counts _ _ _ _ _ _ _ _ _ (CountsArray (g.O.Outside.served c.args.array.now) (g.A.Serves.slot c.check.new.array) (g.A.Serves.told c.args.array.now) (g.A.Serves.told c.check.new.array)) (told_then _ _ done.told) mounted c.in-Ok.report (rw (c.as_slice.ensures.value, c.check_text.ensures, c.check_status.ensures) at c.last.ensures.ends) c.in-Ok.ensures.turn c.in-Ok.ensures.sound (c.in-Ok.ensures.counts c.requires.nothing);
   causes = counted_caused c.in-Ok.report (rw (c.as_slice.ensures.value, c.check_text.ensures, c.check_status.ensures) at c.last.ensures.ends) (c.in-Ok.ensures.most c.requires.nothing) (rw c.in-Ok.is at c.check.ensures.cause);
   told = search rules;
+  reads = c.check.ensures.reads c.requires.nothing;
   slots = c.check.ensures.slots;
   status = counted_status c.in-Ok.report _ _ _ _ (rw c.check_status.ensures at c.last.ensures.ends);
   present = λ zero. one_absent g (goal.at.returns-in-Ok g c).In-Ok;
@@ -57,6 +58,7 @@ returns-in-Err g c = record {
       tells_halt _ _ _ _ _ _ _ _ _ (CountsArray (g.O.Outside.served c.args.array.now) (g.A.Serves.slot c.check.new.array) (g.A.Serves.told c.args.array.now) (g.A.Serves.told c.check.new.array)) (told_then _ _ done.told) mounted c.in-Err.halt (rw (c.as_slice-in-Err.ensures.value, c.reply.ensures.value, c.halt_status.ensures) at c.last-in-Err.ensures.ends) c.in-Err.ensures.ended;
   causes = halted_caused c.in-Err.halt (rw (c.as_slice-in-Err.ensures.value, c.reply.ensures.value, c.halt_status.ensures) at c.last-in-Err.ensures.ends) (rw c.in-Err.is at c.check.ensures.cause);
   told = search rules;
+  reads = c.check.ensures.reads c.requires.nothing;
   slots = c.check.ensures.slots;
   status = halted_status c.in-Err.halt _ _ _ _ (rw c.halt_status.ensures at c.last-in-Err.ensures.ends);
   present = λ zero. halt_not_whole c.in-Err.halt _ _ _ _ (rw c.halt_status.ensures at c.last-in-Err.ensures.ends) (inl zero);

@@ -3,7 +3,7 @@ use Rattle.std.proofs.lemmas.Result.{IfErr-weaker, on_ok_weaker}
 use Rattle.paraid_base.specs.declared.event.Answer.TheVariants.{Halted}
 use Rattle.paraid_base.specs.declared.event.Event.TheVariants.{Flush}
 use Rattle.paraid_array.proofs.AnswersLemmas.{check_ended, check_turn}
-use Rattle.paraid_array.proofs.CheckLemmas.{flushed_all}
+use Rattle.paraid_array.proofs.CheckLemmas.{flushed_all, no_calls}
 use Rattle.paraid_array.proofs.StandLemmas.{none_ended, over_slots}
 use Rattle.paraid_array.proofs.array.Array.check.Goals as goal
 
@@ -25,6 +25,7 @@ returns-in-Some g c =
       sound = tt;
       counts = tt;
       most = tt;
+      reads = λ nothing. no_calls g.R.Rack.told a.core c.wear_out-halt.new.self.core c.wear_out-halt.ensures.core;
       committed = tt;
     }
 
@@ -49,5 +50,6 @@ returns g c =
       sound = c.check_there.ensures.sound;
       counts = c.check_there.ensures.counts;
       most = c.check_there.ensures.most;
+      reads = c.check_there.ensures.reads;
       committed = c.check_there.ensures.committed;
     }

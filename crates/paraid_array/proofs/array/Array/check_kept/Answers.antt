@@ -15,7 +15,7 @@ use Rattle.paraid_shift.proofs.ServingLemmas.{copies_kept}
 use Rattle.paraid_core.specs.Cores.{core_rack}
 use Rattle.paraid_rack.specs.Trail.{now}
 use Rattle.paraid_scrub.specs.Cores.{core_view}
-use Rattle.paraid_array.proofs.CheckLemmas.{at_point, count_lost, count_on, counts_by, failed_one}
+use Rattle.paraid_array.proofs.CheckLemmas.{at_point, count_lost, count_on, counts_by, failed_one, only_reads}
 use Rattle.paraid_array.proofs.CoreLemmas.{serving_then}
 use Rattle.paraid_array.proofs.StandLemmas.{end_by, told_before}
 use Rattle.paraid_array.proofs.LossLemmas.{going_wear, two_lost, ended_not_none, two_wear}
@@ -64,6 +64,7 @@ returns-in-Ok g c = record {
       at_point g.R.Rack.slot_count g.R.Rack.told c.args.self.now c.requires.going (c.in-Ok.checked.report ≡ no_faults) (λ h lo t tells stands. c.in-Ok.ensures.zeros h lo t tells stands some)
       (told_before (g.R.Rack.told c.args.self.now.core.store.rack) (g.R.Rack.told c.check.new.core.store.rack) _ c.check.ensures.leaves.calls some) p at;
   most = c.in-Ok.ensures.most;
+  reads = only_reads c.args.self.now.core.meta.setup.geometry.disks _ _ c.check.ensures.leaves.reads;
   counts = λ nothing t tells some bits.
       let it = c.in-Ok.ensures.counts t tells some bits in
       counts_by (core_view c.args.self.now.core (now t)) (g.R.Rack.slot (core_rack c.args.self.now.core)) (g.R.Rack.slot (core_rack c.check.new.core)) c.in-Ok.checked.report c.in-Ok.checked.whole it.0 it.1 it.2 (λ part. failed_one g.R.Rack.slot c.args.self.now.core c.check.new.core (c.in-Ok.ensures.ended part));
@@ -86,6 +87,7 @@ returns-in-Err g c = record {
   sound = tt;
   counts = tt;
   most = tt;
+  reads = only_reads c.args.self.now.core.meta.setup.geometry.disks _ _ c.check.ensures.leaves.reads;
 }
 
 pub invariant_of-self-in-Err : goal.invariant_of-self-in-Err

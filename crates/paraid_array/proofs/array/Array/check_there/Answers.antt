@@ -19,6 +19,7 @@ returns-then-is_kept g c = record {
   sound = c.check_kept.ensures.sound;
   counts = c.check_kept.ensures.counts;
   most = IfOk-weaker c.check_kept.result _ _ (λ report within nothing. within) c.check_kept.ensures.most;
+  reads = λ nothing. c.check_kept.ensures.reads;
   committed =
       let old = c.args.self.now.core in
       unstaged {P = λ (report : CheckReport). old.batch ≢ [] → CountsCommitted g.R.Rack.slot g.R.Rack.told old c.check_kept.new.self.core report} c.check_kept.result
@@ -35,5 +36,6 @@ returns g c = record {
   most =
       unstaged {P = λ (report : CheckReport). c.args.self.now.core.batch ≡ [] → AreWithinMembers c.args.self.now.core.meta report} c.commit_and_check.result
       (λ report nothing. absurd (false≢true (c.if-is_kept.ensures.kept nothing)));
+  reads = λ nothing. absurd (false≢true (c.if-is_kept.ensures.kept nothing));
   committed = IfOk-weaker c.commit_and_check.result _ _ (λ report counts staged. counts) c.commit_and_check.ensures.counts;
 }
