@@ -13,7 +13,7 @@ use Rattle.paraid_serve.specs.Stretch.{Turn, turn_with}
 use Rattle.paraid_serve.proofs.GrowsLemmas.{grows_then, told_then}
 use Rattle.paraid_serve.proofs.StretchLemmas.{stretch_more}
 use Rattle.paraid_device.specs.Asking.{AsksArray}
-use Rattle.paraid_device.specs.Devices.{HasAnswered, HaveAnswerCauses, answers_in}
+use Rattle.paraid_device.specs.Devices.{AreBlockEvents, HasAnswered, HaveAnswerCauses, IsBlockEvent, answers_in}
 
 answers_in-push : (ts : List Turn) (e : Event) (a : Answer) (cs : List Call) → answers_in (ts ++ turn_with e a cs ∷ []) ≡ answers_in ts ++ (e, a) ∷ []
 answers_in-push [] e a cs = refl
@@ -23,14 +23,19 @@ causes_then : (old mid new : Shown) (events : Answers) (event : Event) (answer :
 causes_then old mid new [] event answer all is = (new, subst (λ (x : Shown). HasCause x event answer new) all is, refl)
 causes_then old mid new (e ∷ events) event answer all is = (all.0, all.1, causes_then all.0 mid new events event answer all.2 is)
 
+kinds_then : (events : Answers) (event : Event) (answer : Answer) → AreBlockEvents events → IsBlockEvent event → AreBlockEvents (events ++ (event, answer) ∷ [])
+kinds_then [] event answer all is = (is, tt)
+kinds_then (e ∷ events) event answer all is = (all.0, kinds_then events event answer all.1 is)
+
 module _ {A : Type 0} (g : Ghosts A) where
   -- one event more was answered, as it is said
   pub answered_more : (first old new : A) (events : Answers) (event : Event) (answer said : Answer) → HasAnswered g first old events → AsksArray g old new event answer
-      → answer ≡ said → HasAnswered g first new (events ++ (event, said) ∷ [])
-  answered_more first old new events event answer said before asks same = record {
+      → answer ≡ said → IsBlockEvent event → HasAnswered g first new (events ++ (event, said) ∷ [])
+  answered_more first old new events event answer said before asks same is_kind = record {
     same_slots = asks.same_slots ∙ before.same_slots;
     same_setup = asks.same_setup ∙ before.same_setup;
     grows = grows_then (g.told first) (g.told old) (g.told new) before.grows asks.grows;
+    kinds = kinds_then events event said before.kinds is_kind;
     causes = causes_then (g.shown first) (g.shown old) (g.shown new) events event said before.causes (subst (λ (x : Answer). HasCause (g.shown old) event x (g.shown new)) same asks.cause);
     since = λ start s. asks.since start (before.since start s);
     leads = λ is p at.

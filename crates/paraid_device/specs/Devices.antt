@@ -1,6 +1,7 @@
 -- What contracts see of a device, what it stands for, and what it kept.
 use Rattle.std.specs.Prelude.{◌≡◌, ℕ, List, [], ◌∷◌, Option, IsSome}
 use Rattle.paraid_base.specs.declared.event.Event.{Event}
+use Rattle.paraid_base.specs.declared.event.Event.TheVariants.{Flush, Read, Write}
 use Rattle.paraid_base.specs.declared.fault.Halt.{Halt}
 use Rattle.paraid_base.specs.BlockAnswers.{Answers}
 use Rattle.paraid_base.specs.History.{History}
@@ -49,14 +50,27 @@ abbrev pub HaveAnswerCauses : Shown → Answers → Shown → Type 0
 HaveAnswerCauses old [] new = new ≡ old
 HaveAnswerCauses old (e ∷ events) new = (mid : Shown) × HasCause old e.0 e.1 mid × HaveAnswerCauses mid events new
 
--- Since the array was as the first is, it answered these events, each with its cause: over the same slots and with the
--- same setup; what is told is longer by its calls; a halt that names two disks has come of the
+-- what a block device asks of its array: a read, a write or a flush
+abbrev pub IsBlockEvent : Event → Type 0
+IsBlockEvent (Read block) = Unit {0}
+IsBlockEvent (Write pairs) = Unit {0}
+IsBlockEvent Flush = Unit {0}
+IsBlockEvent event = ⊥
+
+-- each of these events is one of them
+abbrev pub AreBlockEvents : Answers → Type 0
+AreBlockEvents [] = Unit {0}
+AreBlockEvents (e ∷ events) = IsBlockEvent e.0 × AreBlockEvents events
+
+-- Since the array was as the first is, it answered these reads, writes and flushes, each with its cause: over the same slots and
+-- with the same setup; what is told is longer by its calls; a halt that names two disks has come of the
 -- failure of the second one since; and where its record is told, from each point at which it stood
 -- then a session led to a point at which it stands now.
 pub record HasAnswered {A : Type 0} (g : Ghosts A) (first now : A) (events : Answers) : Type 0 where
   pub same_slots : g.slots now ≡ g.slots first
   pub same_setup : g.setup now ≡ g.setup first
   pub grows : Grows (g.told first) (g.told now)
+  pub kinds : AreBlockEvents events
   pub causes : HaveAnswerCauses (g.shown first) events (g.shown now)
   pub since : (start : ℕ → Slot) → HasServedSince start (g.slot first) (g.halted first) → HasServedSince start (g.slot now) (g.halted now)
   pub leads : IsSome (g.told now) → (p : Point) → g.stands first p

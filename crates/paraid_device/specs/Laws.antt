@@ -16,6 +16,7 @@ answered_none g a = record {
   same_slots = refl;
   same_setup = refl;
   grows = grows_none (g.told a);
+  kinds = tt;
   causes = refl;
   since = λ start s. s;
   leads = λ is p at. record {

@@ -203,6 +203,7 @@ module _ {A : Type 0} (g : Ghosts A) where
             asked = k.asked;
             all = k.all;
             answered = k.answered;
+            kinds = x.kept.kinds;
             halted = halted;
             written = written;
             stops = λ none. subst (λ (w : History). LeavesHeld (block_count (g.setup (array_of first))) (life_start x.answers.first p.history) k.all.end.low w x.answers.last x.answers.log) (sym written)

@@ -11,7 +11,7 @@ use Rattle.paraid_base.specs.History.{History, after, after_all}
 use Rattle.paraid_session.specs.Mount.{IsMountedFromEach}
 use Rattle.paraid_io.specs.Lines.{lines_of, whole_lines}
 use Rattle.paraid_machine.specs.Machine.{block_count}
-use Rattle.paraid_device.specs.Devices.{answers_in}
+use Rattle.paraid_device.specs.Devices.{AreBlockEvents, answers_in}
 use Rattle.paraid_image.specs.Rest.{AreSynced}
 use Rattle.paraid_rack.specs.Trail.{Trail, now}
 use Rattle.paraid_serve.specs.Ending.{end_line, halt_line, status_of_halt}
@@ -113,14 +113,15 @@ abbrev pub LeavesHeld : ℕ → ℕ → ℕ → History → Held → VolLog → 
 LeavesHeld count start low written (Some s) log = LeavesVolumes count start low written log
 LeavesHeld count start low written None log = Unit {0}
 
--- Lines of `vol` were answered from point p of a session on: these events and no others are those of the array, its halt is that of
--- the lines, and unless it has halted each stop leaves the volumes after a first part of the calls.
+-- Lines of `vol` were answered from point p of a session on: these reads, writes and flushes and no other events are those of the
+-- array, its halt is that of the lines, and unless it has halted each stop leaves the volumes after a first part of the calls.
 pub record AnswersFromPoint (span : Span) (p : Point) (lines : List (List ℕ)) (text : List ℕ) (halt : Option Halt) : Type 0 where
   pub events : Answers
   pub answers : AnswersLines (block_count span.setup) p.history lines text events halt
   pub asked : List Event
   pub all : Stretch span p asked
   pub answered : answers_in all.turns ≡ events
+  pub kinds : AreBlockEvents events
   pub halted : all.end.halt ≡ halt
   pub written : all.end.history ≡ p.history ++ entries_in events
   pub stops : halt ≡ None → LeavesHeld (block_count span.setup) (life_start answers.first p.history) all.end.low all.end.history answers.last answers.log

@@ -14,4 +14,4 @@ pub returns-clause-history : goal.returns-clause-history
 returns-clause-history g c = λ h stands is. flushed_history g.A.Serves (array_of c.args.self.now) c.ask_flush.new.array c.ask_flush.result h c.ask_flush.ensures.asks c.ask_flush.ensures.going stands is
 
 pub returns-clause-events : goal.returns-clause-events
-returns-clause-events g c = λ first events before. answered_more g.A.Serves (array_of first) (array_of c.args.self.now) c.ask_flush.new.array events Flush (answer_to_flush c.ask_flush.result) (answer_to_flush c.ask_flush.result) before c.ask_flush.ensures.asks refl
+returns-clause-events g c = λ first events before. answered_more g.A.Serves (array_of first) (array_of c.args.self.now) c.ask_flush.new.array events Flush (answer_to_flush c.ask_flush.result) (answer_to_flush c.ask_flush.result) before c.ask_flush.ensures.asks refl tt
