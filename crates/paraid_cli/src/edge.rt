@@ -195,6 +195,9 @@ fn claimed<H: Host>(rt: &H, rack: &mut ImageRack<&H>) -> Option<u8> {
         Claim::Image => eprintln!(rt;
             "paraid: disk-{disk}.img is of an array; --force writes over it"
         ),
+        Claim::Unread => eprintln!(rt;
+            "paraid: disk-{disk}.img cannot be read; --force writes over it"
+        ),
         Claim::Sidecar => eprintln!(rt;
             "paraid: disk-{disk}.power stands without its image; --force writes over it"
         ),

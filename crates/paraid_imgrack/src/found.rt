@@ -10,8 +10,8 @@ pub(crate) enum Found {
     Open(File),
     /// Nothing.
     Nothing,
-    /// What is no file, as a folder, a pipe or a device, or what the device cannot read.
-    Lost,
+    /// What is no file, as a folder, a pipe or a device; or what the device cannot read, and why.
+    Lost(Option<io::Error>),
     /// It is there, and this process cannot open it.
     Shut,
 }
@@ -20,30 +20,30 @@ pub(crate) enum Found {
 pub(crate) fn find<F: Files<File = File>>(files: &F, name: &str) -> Found {
     match fs::metadata(files, name) {
         Ok(found) if found.is_file() => open(files, name),
-        Ok(_) => Found::Lost,
-        Err(error) => find_unseen(files, name, &error),
+        Ok(_) => Found::Lost(None),
+        Err(error) => find_unseen(files, name, error),
     }
 }
 
 fn open<F: Files<File = File>>(files: &F, name: &str) -> Found {
     match OpenOptions::new().read(true).write(true).open(files, name) {
         Ok(file) => Found::Open(file),
-        Err(error) => by_error(&error),
+        Err(error) => by_error(error),
     }
 }
 
 /// What stands under a name of which this is told instead: nothing, or a link that leads nowhere, as
 /// to a drive that is not mounted.
-fn find_unseen<F: Files<File = File>>(files: &F, name: &str, error: &io::Error) -> Found {
+fn find_unseen<F: Files<File = File>>(files: &F, name: &str, error: io::Error) -> Found {
     match fs::symlink_metadata(files, name) {
         Err(other) if other.kind() == io::ErrorKind::NotFound => Found::Nothing,
         _ => by_error(error),
     }
 }
 
-fn by_error(error: &io::Error) -> Found {
-    if is_of_device(error) {
-        Found::Lost
+fn by_error(error: io::Error) -> Found {
+    if is_of_device(&error) {
+        Found::Lost(Some(error))
     } else {
         Found::Shut
     }

@@ -33,6 +33,8 @@ pub enum Hindrance {
 pub enum Claim {
     /// An image that has the label or the log of an array.
     Image,
+    /// An image that cannot be read.
+    Unread,
     /// A sidecar whose image is not there.
     Sidecar,
 }
@@ -76,14 +78,14 @@ impl Image {
         ensures { IfOk result (λ image. IsLoaded (image_slot image)) }
     {
         let names = Names::new(alloc, disk)?;
-        let Some(power) = names.load(files) else {
-            return Ok(Image::absent(names, Some(Hindrance::Shut)));
+        let Some((power, cause)) = names.load(files) else {
+            return Ok(Image::absent(names, Some(Hindrance::Shut), None));
         };
         if power == Power::Absent {
-            return Ok(Image::absent(names, None));
+            return Ok(Image::absent(names, None, cause));
         }
         match open_image(files, names.image.as_str()) {
-            Ok(Some((file, size))) => Ok(Image {
+            Opened::Image(file, size) => Ok(Image {
                 names,
                 file: Some(file),
                 power,
@@ -96,13 +98,13 @@ impl Image {
                 cause: None,
                 attached: false,
             }),
-            Ok(None) => Ok(Image::absent(names, None)),
-            Err(hindrance) => Ok(Image::absent(names, Some(hindrance))),
+            Opened::Lost(cause) => Ok(Image::absent(names, None, cause)),
+            Opened::Hindered(hindrance) => Ok(Image::absent(names, Some(hindrance), None)),
         }
     }
 
-    /// No disk.
-    fn absent(names: Names, hindrance: Option<Hindrance>) -> Image
+    /// No disk, and what hinders work on it, or why it is lost where its device has failed.
+    fn absent(names: Names, hindrance: Option<Hindrance>, cause: Option<io::Error>) -> Image
         ensures { IsLoaded (image_slot result) }
     {
         Image {
@@ -115,19 +117,26 @@ impl Image {
             hindrance,
             tail: Tail::Other,
             misfit: None,
-            cause: None,
+            cause,
             attached: false,
         }
     }
 
-    /// Reads the label of an image that spins. A parked one is left alone.
+    /// Reads the label of an image that spins. A parked one is left alone. Where it cannot be read,
+    /// the next call on the disk fails: the image may be a wrong one.
     pub(crate) fn read_label(&mut self) -> Option<Label>
         ensures { image_slot self.new ≡ image_slot self.old }
     {
         if self.power != Power::Spinning {
             return None;
         }
-        self.tail = tail_of(&self.file, self.size);
+        match tail_of(&self.file, self.size) {
+            Ok(tail) => self.tail = tail,
+            Err(error) => {
+                self.cause = self.cause.or(Some(error));
+                self.file = None;
+            }
+        }
         label_in(&self.tail)
     }
 
@@ -154,7 +163,8 @@ impl Image {
         if self.power != Power::Spinning {
             return None;
         }
-        log_disks(&self.file, 1)
+        let file = self.file.as_ref()?;
+        disks_at(file, self.size, 1).unwrap_or(None)
     }
 
     /// What a new array would write over.
@@ -165,7 +175,7 @@ impl Image {
         match find(files, self.names.image.as_str()) {
             Found::Open(file) => claim_of(&Some(file)),
             Found::Nothing if self.names.has_sidecar(files) => Some(Claim::Sidecar),
-            Found::Nothing | Found::Lost | Found::Shut => None,
+            Found::Nothing | Found::Lost(_) | Found::Shut => None,
         }
     }
 
@@ -174,7 +184,10 @@ impl Image {
         if self.hindrance.is_some() || self.file.is_some() {
             return self.hindrance;
         }
-        open_image(files, self.names.image.as_str()).err()
+        match open_image(files, self.names.image.as_str()) {
+            Opened::Hindered(hindrance) => Some(hindrance),
+            Opened::Image(_, _) | Opened::Lost(_) => None,
+        }
     }
 
     pub(crate) fn read<F: Files<File = File>>(
@@ -244,7 +257,10 @@ impl Image {
             (record (image_slot self.old) { power = Spinning }) false (is_ok result) }
     {
         if let Some(identity) = identity {
-            self.tail = tail_of(&self.file, self.size);
+            match tail_of(&self.file, self.size) {
+                Ok(tail) => self.tail = tail,
+                Err(error) => return Err(self.fail_by(files, error)),
+            }
             self.misfit = identity.late_misfit_of(&label_in(&self.tail), disk);
             if self.misfit.is_some() {
                 return Err(self.fail(files));
@@ -339,22 +355,29 @@ fn not_open() -> io::Error {
     io::Error::from(io::ErrorKind::NotFound)
 }
 
-/// The image with its lock, and how many blocks it has, or None where there is no disk.
-fn open_image<F: Files<File = File>>(
-    files: &F,
-    name: &str,
-) -> Result<Option<(File, u32)>, Hindrance> {
+/// What became of an image that was to be opened.
+#[derive(Drop)]
+enum Opened {
+    /// It has its lock, and so many blocks.
+    Image(File, u32),
+    /// There is no disk; why, where its device has failed.
+    Lost(Option<io::Error>),
+    Hindered(Hindrance),
+}
+
+fn open_image<F: Files<File = File>>(files: &F, name: &str) -> Opened {
     let file = match find(files, name) {
         Found::Open(file) => file,
-        Found::Nothing | Found::Lost => return Ok(None),
-        Found::Shut => return Err(Hindrance::Shut),
+        Found::Nothing => return Opened::Lost(None),
+        Found::Lost(cause) => return Opened::Lost(cause),
+        Found::Shut => return Opened::Hindered(Hindrance::Shut),
     };
     if is_locked(&file) {
-        return Err(Hindrance::Busy);
+        return Opened::Hindered(Hindrance::Busy);
     }
     match file.metadata() {
-        Ok(found) => Ok(Some((file, whole_blocks(found.len())))),
-        Err(_) => Ok(None),
+        Ok(found) => Opened::Image(file, whole_blocks(found.len())),
+        Err(error) => Opened::Lost(Some(error)),
     }
 }
 
@@ -464,10 +487,10 @@ fn sync_blocks(file: &Option<File>) -> io::Result<()> {
     Ok(())
 }
 
-fn tail_of(file: &Option<File>, size: u32) -> Tail {
+fn tail_of(file: &Option<File>, size: u32) -> io::Result<Tail> {
     match file {
         Some(file) => read_tail(file, size),
-        None => Tail::Other,
+        None => Ok(Tail::Other),
     }
 }
 
@@ -478,7 +501,7 @@ fn label_in(tail: &Tail) -> Option<Label> {
     }
 }
 
-/// Writes a label where one can stand. Where there is no room for it, it is left out.
+/// Writes a label where one can stand, and syncs the image. Where there is no room for it, it is left out.
 fn put_label(file: &Option<File>, size: u32, tail: &Tail, label: &Label) -> io::Result<bool>
     ensures { IfOk result (λ given. given ≡ true → tail.now ≢ Other) }
 {
@@ -489,10 +512,13 @@ fn put_label(file: &Option<File>, size: u32, tail: &Tail, label: &Label) -> io::
         return Ok(false);
     }
     match write_label(file, size, label) {
-        Ok(()) => Ok(true),
-        Err(error) if is_want_of_room(&error) => Ok(false),
-        Err(error) => Err(error),
+        Ok(()) => {}
+        Err(error) if is_want_of_room(&error) => return Ok(false),
+        Err(error) => return Err(error),
     }
+    // (where this fails, blocks that were written before are lost too, also for want of room)
+    file.sync_data()?;
+    Ok(true)
 }
 
 /// Gives an image the label of this generation, where it can have one. Its error is one of the device.
@@ -516,29 +542,32 @@ fn mark_image(
 const MAGIC: &[u8; 8] = b"PARAIDAR";
 
 /// The number of disks that a meta at this place says, if one is there.
-fn log_disks(file: &Option<File>, place: Place) -> Option<u8> {
-    let file = file.as_ref()?;
+fn disks_at(file: &File, size: u32, place: Place) -> io::Result<Option<u8>> {
+    if size <= place {
+        return Ok(None);
+    }
     let mut meta = [0; BLOCK_SIZE];
-    if file.read_exact_at(&mut meta, offset(place)).is_err() {
-        return None;
-    }
+    file.read_exact_at(&mut meta, offset(place))?;
     if meta[..8] == MAGIC[..] && 3 <= meta[10] && meta[10] <= 8 {
-        return Some(meta[10]);
+        return Ok(Some(meta[10]));
     }
-    None
+    Ok(None)
 }
 
-/// Whether an image has the label of an array, or a log.
+/// Whether an image has the label of an array, or a log, or may have them since it cannot be read.
 fn claim_of(file: &Option<File>) -> Option<Claim> {
-    let size = match file {
-        Some(file) => whole_blocks(file.metadata().ok()?.len()),
-        None => return None,
-    };
-    if let Tail::Label(_) = tail_of(file, size) {
-        return Some(Claim::Image);
+    let file = file.as_ref()?;
+    match is_of_array(file) {
+        Ok(true) => Some(Claim::Image),
+        Ok(false) => None,
+        Err(_) => Some(Claim::Unread),
     }
-    if log_disks(file, 1).is_some() || log_disks(file, 2).is_some() {
-        return Some(Claim::Image);
+}
+
+fn is_of_array(file: &File) -> io::Result<bool> {
+    let size = whole_blocks(file.metadata()?.len());
+    if let Tail::Label(_) = read_tail(file, size)? {
+        return Ok(true);
     }
-    None
+    Ok(disks_at(file, size, 1)?.is_some() || disks_at(file, size, 2)?.is_some())
 }

@@ -43,12 +43,18 @@ impl Names {
     }
 
     /// The power that the sidecar tells, or None where it is shut. A missing one tells `Spinning`,
-    /// and one that is unknown or cannot be read tells `Absent`.
-    pub(crate) fn load<F: Files<File = File>>(&self, files: &F) -> Option<Power> {
+    /// and one that is unknown or cannot be read tells `Absent`; why, where its device has failed.
+    pub(crate) fn load<F: Files<File = File>>(
+        &self,
+        files: &F,
+    ) -> Option<(Power, Option<io::Error>)> {
         match find(files, self.sidecar.as_str()) {
-            Found::Open(file) => Some(power_in(&file).unwrap_or(Power::Absent)),
-            Found::Nothing => Some(Power::Spinning),
-            Found::Lost => Some(Power::Absent),
+            Found::Open(file) => match power_in(&file) {
+                Ok(power) => Some((power, None)),
+                Err(error) => Some((Power::Absent, Some(error))),
+            },
+            Found::Nothing => Some((Power::Spinning, None)),
+            Found::Lost(cause) => Some((Power::Absent, cause)),
             Found::Shut => None,
         }
     }

@@ -24,22 +24,18 @@ fn end(size: u32) -> u64
     size as u64 * BLOCK_SIZE as u64
 }
 
-/// What stands behind the blocks of an image of this size. What cannot be read is left alone.
-pub(crate) fn read_tail(file: &File, size: u32) -> Tail {
-    let Ok(found) = file.metadata() else {
-        return Tail::Other;
-    };
-    if found.len() == end(size) {
-        return Tail::Room;
+/// What stands behind the blocks of an image of this size.
+pub(crate) fn read_tail(file: &File, size: u32) -> io::Result<Tail> {
+    let length = file.metadata()?.len();
+    if length == end(size) {
+        return Ok(Tail::Room);
     }
-    if found.len() != end(size) + LABEL_SIZE as u64 {
-        return Tail::Other;
+    if length != end(size) + LABEL_SIZE as u64 {
+        return Ok(Tail::Other);
     }
     let mut text = [0; LABEL_SIZE];
-    match file.read_exact_at(&mut text, end(size)) {
-        Ok(()) => tail_of(&text),
-        Err(_) => Tail::Other,
-    }
+    file.read_exact_at(&mut text, end(size))?;
+    Ok(tail_of(&text))
 }
 
 fn tail_of(text: &[u8; LABEL_SIZE]) -> Tail {
@@ -50,10 +46,9 @@ fn tail_of(text: &[u8; LABEL_SIZE]) -> Tail {
     }
 }
 
-/// Writes a label. When it returns, the disk has it.
+/// Writes a label, which the disk has once the image is synced.
 pub(crate) fn write_label(file: &File, size: u32, label: &Label) -> io::Result<()> {
-    file.write_all_at(&label.text(), end(size))?;
-    file.sync_data()
+    file.write_all_at(&label.text(), end(size))
 }
 
 /// Keeps the room of a label behind the blocks of a new image.
