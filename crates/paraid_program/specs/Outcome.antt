@@ -48,7 +48,7 @@ pub record IsArrayMade (force : Bool) (rack : RackUse) (setup : Setup) : Type 0 
   pub others : (d : ℕ) → setup.geometry.disks ≤ d → rack.new d ≡ rack.old d
   -- without force no log disk said that it belonged to an array
   pub free : force ≡ false → RanBetween rack.before rack.after (λ start s. IsUnclaimed start)
-  pub calls : Ran rack.before rack.after (λ start calls. AreFormatCalls force setup.geometry.disks (disk_size setup.geometry) calls)
+  pub calls : Ran rack.before rack.after (λ start calls. AreFormatCalls force setup.geometry.disks (disk_size setup.geometry) start calls)
   pub synced : (t : Trail) → rack.after ≡ Some t → (d p : ℕ) → d < setup.geometry.disks → (now t).loose d p ≡ false
   pub empty : RanBetween rack.before rack.after (BecomesEmpty rack.slots setup)
 
@@ -56,7 +56,7 @@ pub record IsArrayMade (force : Bool) (rack : RackUse) (setup : Setup) : Type 0 
 pub record IsArrayUnmade (force : Bool) (rack : RackUse) (setup : Setup) (fault : FormatFault) : Type 0 where
   pub cause : IsFormatRefusal force setup.geometry.disks rack.slots rack.old rack.new rack.before rack.after fault
   pub others : (d : ℕ) → setup.geometry.disks ≤ d → rack.new d ≡ rack.old d
-  pub calls : Ran rack.before rack.after (λ start calls. AreFormatCalls force setup.geometry.disks (disk_size setup.geometry) calls)
+  pub calls : Ran rack.before rack.after (λ start calls. AreFormatCalls force setup.geometry.disks (disk_size setup.geometry) start calls)
 
 -- How a format came out that met no fault of the sink: its status, and the line that tells it.
 pub data FormatOutcome (force : Bool) (rack : RackUse) (source : SourceUse) : ℕ → List ℕ → Type 0 where

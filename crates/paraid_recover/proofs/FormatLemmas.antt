@@ -1,7 +1,7 @@
 -- The disks of a new array.
 use Rattle.paraid_rack.specs.Calls.{AreReads}
-use Rattle.std.specs.Prelude.{◌≡◌, ◌≢◌, ℕ, ◌≤◌, ◌<◌, true, false, Bool, [], Option}
-use Rattle.std.proofs.Common.{zero, suc, refl, sym, ◌∙◌, ap, arith, inl, inr}
+use Rattle.std.specs.Prelude.{◌≡◌, ◌≢◌, ℕ, ◌≤◌, ◌<◌, true, false, Bool, List, [], Option}
+use Rattle.std.proofs.Common.{zero, suc, refl, sym, ◌∙◌, ap, subst, arith, inl, inr}
 use Rattle.std.proofs.lemmas.Bool.{cases_eq, cases_lt}
 use Rattle.paraid_base.specs.declared.block.Block.{Block}
 use Rattle.paraid_base.specs.Regions.{disk_size}
@@ -16,8 +16,12 @@ use Rattle.paraid_image.specs.Sides.{is_open}
 use Rattle.paraid_recover.specs.Attached.{AreFreshDisks, BecomesFormatted, IsMetaWritten, fresh_slot}
 use Rattle.paraid_recover.specs.Calls.{AreAttaches, AreFormatCalls, AreMetaCalls, AreMakingCalls}
 use Rattle.paraid_recover.specs.First.{first_meta}
+use Rattle.paraid_recover.specs.Between.{RanBetween}
+use Rattle.paraid_recover.specs.Found.{IsUnclaimed}
+use Rattle.paraid_recover.proofs.ToldLemmas.{same_trail}
+use Rattle.paraid_rack.specs.declared.call.Call.{Call}
 use Rattle.paraid_rack.specs.Told.{Ran}
-use Rattle.paraid_rack.specs.Trail.{Trail}
+use Rattle.paraid_rack.specs.Trail.{Trail, now}
 use Rattle.std.proofs.lemmas.List.{append-nil}
 use Rattle.paraid_recover.proofs.AttachLemmas.{ran_then, ran_weaker}
 
@@ -98,16 +102,35 @@ attaches_and_logs count size {old} {mid} {new} =
     (λ s cs ds are logs. record { attaches = cs; writes = ds; is = refl; first = are; second = logs }) old mid new
 
 pub only_reads : (force : Bool) (count size : ℕ) {old new : Option Trail} → Ran old new (λ start calls. AreReads calls × (force ≡ true → calls ≡ []))
-    → Ran old new (λ start calls. AreFormatCalls force count size calls)
+    → Ran old new (λ start calls. AreFormatCalls force count size start calls)
 only_reads force count size {old} {new} =
-    ran_weaker (λ start calls. AreReads calls × (force ≡ true → calls ≡ [])) (λ start calls. AreFormatCalls force count size calls)
+    ran_weaker (λ start calls. AreReads calls × (force ≡ true → calls ≡ [])) (λ start calls. AreFormatCalls force count size start calls)
     (λ s cs are. record { reads = cs; rest = []; is = sym (append-nil cs); are_reads = are.0; forced = are.1; makes = inl refl }) old new
 
+-- reads after which the array can be made
+ReadsFree : Bool → Disks → List Call → Type 0
+ReadsFree force start calls = AreReads calls × (force ≡ true → calls ≡ []) × (force ≡ false → IsUnclaimed start)
+
+reads_free : (force : Bool) {old new : Option Trail} → Ran old new (λ start calls. AreReads calls × (force ≡ true → calls ≡ []))
+    → (force ≡ false → RanBetween old new (λ start s. IsUnclaimed start)) → Ran old new (ReadsFree force)
+unfolding ReadsFree
+reads_free force {old} {new} ran free t tells =
+    let r = ran t tells in
+    record {
+      from = r.from;
+      was = r.was;
+      calls = r.calls;
+      is = r.is;
+      holds = (r.holds.0, r.holds.1, λ not. let m = free not t tells in subst (λ (u : Trail). IsUnclaimed (now u)) (same_trail old m.0 r.from m.1 r.was) m.2);
+    }
+
 pub reads_and_rest : (force : Bool) (count size : ℕ) {old mid new : Option Trail} → Ran old mid (λ start calls. AreReads calls × (force ≡ true → calls ≡ []))
-    → Ran mid new (λ start calls. AreMakingCalls count size calls) → Ran old new (λ start calls. AreFormatCalls force count size calls)
-reads_and_rest force count size {old} {mid} {new} =
-    ran_then (λ start calls. AreReads calls × (force ≡ true → calls ≡ [])) (λ start calls. AreMakingCalls count size calls) (λ start calls. AreFormatCalls force count size calls)
-    (λ s cs ds are makes. record { reads = cs; rest = ds; is = refl; are_reads = are.0; forced = are.1; makes = inr makes }) old mid new
+    → (force ≡ false → RanBetween old mid (λ start s. IsUnclaimed start))
+    → Ran mid new (λ start calls. AreMakingCalls count size calls) → Ran old new (λ start calls. AreFormatCalls force count size start calls)
+unfolding ReadsFree
+reads_and_rest force count size {old} {mid} {new} reads free makes =
+    ran_then (ReadsFree force) (λ start calls. AreMakingCalls count size calls) (λ start calls. AreFormatCalls force count size start calls)
+    (λ s cs ds are makes. record { reads = cs; rest = ds; is = refl; are_reads = are.0; forced = are.1; makes = inr (are.2, makes) }) old mid new (reads_free force reads free) makes
 
 -- the slots after the metas
 pub made_fresh : (count size : ℕ) (a b c e : ℕ → Slot) → ((d : ℕ) → d < count → b d ≡ fresh_slot size (a d)) → c 0 ≡ record (b 0) { unsynced = false } → ((d : ℕ) → d ≢ 0 → c d ≡ b d)

@@ -1,10 +1,12 @@
 -- Which calls make an array.
-use Rattle.std.specs.Prelude.{◌≡◌, ℕ, ◌+◌, ◌<◌, ◌≤◌, ◌⊎◌, Bool, true, List, [], ◌∷◌, ◌++◌, Option}
+use Rattle.std.specs.Prelude.{◌≡◌, ℕ, ◌+◌, ◌<◌, ◌≤◌, ◌⊎◌, Bool, true, false, List, [], ◌∷◌, ◌++◌, Option}
 use Rattle.paraid_rack.specs.declared.call.Call.{Call}
+use Rattle.paraid_rack.specs.Disks.{Disks}
 use Rattle.paraid_rack.specs.Told.{Ran}
 use Rattle.paraid_rack.specs.Trail.{Trail, run}
 use Rattle.paraid_rack.specs.declared.call.Call.TheVariants.{Read, Write, Sync, Park, SpinUp, Attach}
 use Rattle.paraid_rack.specs.Calls.{AreReads}
+use Rattle.paraid_recover.specs.Found.{IsUnclaimed}
 
 -- Only reads were made from the one record to the other; and the disks are as they were.
 abbrev pub OnlyReads : Option Trail → Option Trail → Type 0
@@ -47,11 +49,12 @@ pub record AreMakingCalls (count size : ℕ) (calls : List Call) : Type 0 where
   pub first : AreAttaches size 0 count attaches
   pub second : AreMetaCalls writes
 
--- reads, unless they are not asked for; then the calls that make the array
-pub record AreFormatCalls (force : Bool) (count size : ℕ) (calls : List Call) : Type 0 where
+-- Reads, unless they are not asked for; then the calls that make the array. There are such only where
+-- no log disk says that it belongs to an array, or where that does not matter.
+pub record AreFormatCalls (force : Bool) (count size : ℕ) (start : Disks) (calls : List Call) : Type 0 where
   pub reads : List Call
   pub rest : List Call
   pub is : calls ≡ reads ++ rest
   pub are_reads : AreReads reads
   pub forced : force ≡ true → reads ≡ []
-  pub makes : (rest ≡ []) ⊎ AreMakingCalls count size rest
+  pub makes : (rest ≡ []) ⊎ ((force ≡ false → IsUnclaimed start) × AreMakingCalls count size rest)

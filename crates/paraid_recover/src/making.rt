@@ -110,7 +110,7 @@ pub fn format<R: Rack>(setup: &Setup, force: bool, rack: &mut R) -> Result<(), F
     ensures free { OnOk result (force ≡ false → RanBetween (R.told rack.old) (R.told rack.new)
         (λ start s. IsUnclaimed start)) }
     ensures calls { Ran (R.told rack.old) (R.told rack.new) (λ start calls. AreFormatCalls force
-        setup.now.geometry.disks (disk_size setup.now.geometry) calls) }
+        setup.now.geometry.disks (disk_size setup.now.geometry) start calls) }
     ensures refused { IfErr result (IsFormatRefusal force setup.now.geometry.disks
         (R.slot_count rack.old) (R.slot rack.old) (R.slot rack.new) (R.told rack.old)
         (R.told rack.new)) }

@@ -29,7 +29,7 @@ returns-in-Err-make g c = record {
   others = λ d high. c.make.ensures.others d high ∙ c.test.ensures.others d (let low = c.args.setup.now.geometry.disks_low in omega arith);
   formatted = tt;
   free = tt;
-  calls = reads_and_rest c.args.force _ _ c.test.ensures.reads c.make.ensures.calls;
+  calls = reads_and_rest c.args.force _ _ c.test.ensures.reads c.in-Ok.ensures.free c.make.ensures.calls;
   refused = inl (subst (λ (s : Slot). HasRisen s.faults (g.R.Rack.slot c.make.new.rack c.in-Err-make.disk).faults) (c.in-Ok.ensures.same c.in-Err-make.disk) c.in-Err-make.ensures.risen);
 }
 
@@ -44,7 +44,7 @@ returns-in-Ok-make g c = record {
       (λ start mid end is made. subst (λ (u : Disks). becomes (g.R.Rack.slot_count c.args.rack.now) u end) is made) _ _ _ (quiet_now c.in-Ok.ensures.quiet)
       (λ t tells. let m = c.in-Ok-make.ensures.formatted t tells in (m.0, m.1, subst (λ (n : ℕ). becomes n (now m.0) (now t)) c.test.ensures.slots m.2));
   free = λ not t tells. let m = c.make.ensures.calls t tells in c.in-Ok.ensures.free not m.from m.was;
-  calls = reads_and_rest c.args.force _ _ c.test.ensures.reads c.make.ensures.calls;
+  calls = reads_and_rest c.args.force _ _ c.test.ensures.reads c.in-Ok.ensures.free c.make.ensures.calls;
   refused = tt;
 }
 
