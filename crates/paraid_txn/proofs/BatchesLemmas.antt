@@ -1,9 +1,10 @@
 -- What a batch holds, by the place of a target in its order and by the target.
 use Rattle.std.proofs.Common.{◌≡◌, ◌≢◌, ℕ, zero, suc, ◌<◌, Bool, true, false, ◌&&◌, ◌||◌, List, [], ◌∷◌, ◌++◌, length, get_or, set, map, refl, sym, ◌∙◌, ap, subst, inl, inr, arith}
-use Rattle.std.specs.Prelude.{◌==◌, AllPairs}
+use Rattle.std.specs.Prelude.{◌==◌, AllPairs, Contains}
 use Rattle.std.specs.List.{list_any}
 use Rattle.std.proofs.lemmas.Bool.{and_from, and_parts, eq-eqb, eqb-true, false_from_ne_true, or_cases, or_from, or_left, or_parts, or_right, true≢false}
 use Rattle.std.proofs.lemmas.List.{length-map, map-set, map_push}
+use Rattle.std.proofs.lemmas.List.Elements.{Contains-get_or}
 use Rattle.std.proofs.lemmas.List.Quantifiers.{all_pairs_push}
 use Rattle.paraid_base.specs.declared.block.Block.{Block}
 use Rattle.paraid_base.specs.Xor.{zero_block}
@@ -74,6 +75,15 @@ pub names_place-at : (b : Batch) (at : ℕ) (t : Target) → at < length b → g
 names_place-at [] at t below is = absurd (omega arith)
 names_place-at (w ∷ b) zero t below is = or_left (is_same w.0 t) (names_place b t.disk t.place) (is_same-true w.0 t is)
 names_place-at (w ∷ b) (suc at) t below is = or_right (is_same w.0 t) (names_place b t.disk t.place) (names_place-at b at t (omega arith) is)
+
+-- and so is its block
+pub target_block-at : (b : Batch) (at : ℕ) → at < length b → Contains b (get_or (targets b) at no_target, get_or (batch_blocks b) at zero_block)
+target_block-at b at below = subst (Contains b) (staged_at b at) (Contains-get_or b at (no_target, zero_block) below)
+  where
+    staged_at : (b : Batch) (at : ℕ) → get_or b at (no_target, zero_block) ≡ (get_or (targets b) at no_target, get_or (batch_blocks b) at zero_block)
+    staged_at [] at = refl
+    staged_at (w ∷ b) zero = refl
+    staged_at (w ∷ b) (suc at) = staged_at b at
 
 -- a place that is named is that of some target
 pub names_place-found : (b : Batch) (d p : ℕ) → names_place b d p ≡ true

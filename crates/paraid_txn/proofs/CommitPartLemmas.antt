@@ -1,6 +1,6 @@
 -- What one call leaves, and one part of a commit after another.
 use Rattle.std.proofs.Common.{◌≡◌, ℕ, ◌<◌, ◌≤◌, Bool, true, false, List, [], ◌∷◌, ◌++◌, Option, Some, None, Result, Ok, Err, refl, sym, ◌∙◌, ap, subst, inl, inr, arith}
-use Rattle.std.specs.Prelude.{◌≢◌, ◌⊎◌, All, IfOk, IsErrAnd, OnOk}
+use Rattle.std.specs.Prelude.{◌≢◌, ◌⊎◌, All, Contains, IfOk, IsErrAnd, OnOk}
 use Rattle.std.proofs.lemmas.Bool.{cases_Bool, cases_eq, true≢false}
 use Rattle.paraid_base.specs.declared.block.Block.{Block}
 use Rattle.paraid_base.specs.declared.fault.Two.{Two}
@@ -278,9 +278,9 @@ module _ {R A : Type 0} {g : Ghosts R} {skip : Option ℕ} {disk : ℕ} {a b : L
   pub logs_sync : disk < 2 → CommitPart g (IsThisCall skip disk (λ done. Sync disk done)) a b r s result → CommitPart g (UsesLog skip) a b r s result
   logs_sync low part = CommitPart_milder (λ c is. subst (UsesLog skip) (sym is.2) (low, is.0)) part
 
-  pub writes_target : (batch : Batch) (p : ℕ) {block : Block} → names_place batch disk p ≡ true → CommitPart g (IsThisCall skip disk (λ done. Write disk p block done)) a b r s result
+  pub writes_target : (batch : Batch) (p : ℕ) {block : Block} → (names_place batch disk p ≡ true) × Contains batch (record { disk = disk; place = p }, block) → CommitPart g (IsThisCall skip disk (λ done. Write disk p block done)) a b r s result
       → CommitPart g (UsesTarget skip batch) a b r s result
-  writes_target batch p on part = CommitPart_milder (λ c is. subst (UsesTarget skip batch) (sym is.2) (is.0, on)) part
+  writes_target batch p on part = CommitPart_milder (λ c is. subst (UsesTarget skip batch) (sym is.2) (is.0, on.0, on.1)) part
 
   pub syncs_target : (batch : Batch) → names_disk batch disk ≡ true → CommitPart g (IsThisCall skip disk (λ done. Sync disk done)) a b r s result
       → CommitPart g (UsesTarget skip batch) a b r s result

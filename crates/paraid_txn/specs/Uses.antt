@@ -1,6 +1,6 @@
 -- Which calls are made: those of a commit are on the log of each log disk that it does not leave
 -- alone, and on the targets of its batch.
-use Rattle.std.specs.Prelude.{◌≡◌, ◌≢◌, ℕ, ◌<◌, ◌⊎◌, Bool, true, List, [], ◌∷◌, Option, Some}
+use Rattle.std.specs.Prelude.{◌≡◌, ◌≢◌, ℕ, ◌<◌, ◌⊎◌, Bool, true, List, [], ◌∷◌, Option, Some, Contains}
 use Rattle.paraid_base.specs.Log.{log_most}
 use Rattle.paraid_rack.specs.declared.call.Call.{Call}
 use Rattle.paraid_rack.specs.declared.call.Call.TheVariants.{Read, Write, Sync, Park, SpinUp, Attach}
@@ -29,10 +29,10 @@ UsesLog skip (Park d done) = ⊥
 UsesLog skip (SpinUp d done) = ⊥
 UsesLog skip (Attach d size done) = ⊥
 
--- a write of a target of the batch, or a sync of a disk that has one, which is not skipped
+-- a write of the block for a target of the batch, or a sync of a disk that has one, which is not skipped
 abbrev pub UsesTarget : Option ℕ → Batch → Call → Type 0
 UsesTarget skip batch (Read d p done) = ⊥
-UsesTarget skip batch (Write d p b done) = (skip ≢ Some d) × (names_place batch d p ≡ true)
+UsesTarget skip batch (Write d p b done) = (skip ≢ Some d) × (names_place batch d p ≡ true) × Contains batch (record { disk = d; place = p }, b)
 UsesTarget skip batch (Sync d done) = (skip ≢ Some d) × (names_disk batch d ≡ true)
 UsesTarget skip batch (Park d done) = ⊥
 UsesTarget skip batch (SpinUp d done) = ⊥

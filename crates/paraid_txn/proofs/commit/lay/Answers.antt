@@ -1,4 +1,4 @@
-use Rattle.std.specs.Prelude.{◌≡◌, ◌≢◌, ℕ, ◌+◌, ◌<◌, ◌≤◌, true, get_or, length, Some}
+use Rattle.std.specs.Prelude.{◌≡◌, ◌≢◌, ℕ, ◌+◌, ◌<◌, ◌≤◌, true, get_or, length, Some, Contains}
 use Rattle.std.proofs.Common.{inl, ap, arith, refl, subst, sym, ◌∙◌, rules}
 use Rattle.paraid_base.specs.Log.{log_least}
 use Rattle.paraid_base.specs.Xor.{zero_block}
@@ -14,7 +14,7 @@ use Rattle.paraid_txn.proofs.ReadyLemmas.{targets_stay_ready}
 use Rattle.paraid_txn.proofs.DownLemmas.{StaySyncedBut-both, StaySyncedBut-weaker}
 use Rattle.paraid_txn.proofs.CommitPartLemmas.{CommitPart_answer, CommitPart_none, CommitPart_raised, CommitPart_then, writes_target}
 use Rattle.paraid_image.proofs.NeutralLemmas.{length-targets}
-use Rattle.paraid_txn.proofs.BatchesLemmas.{names_place-at, names_disk-at}
+use Rattle.paraid_txn.proofs.BatchesLemmas.{names_place-at, names_disk-at, target_block-at}
 use Rattle.paraid_txn.proofs.TargetsLemmas.{target_at}
 use Rattle.paraid_txn.proofs.CrashSpecificationLemmas.{crash_failed, crash_ran}
 use Rattle.paraid_txn.proofs.commit.lay.Given.{Over}
@@ -34,9 +34,13 @@ past_log g c =
     let long = length-targets c.args.batch.now in
     rw c.target-target.ensures (c.requires.past_log c.loop-at.at no_target (omega arith))
 
--- it is a target of the batch
-named : (g : Over) (c : After-put g) → let t = c.target-target.result in names_place c.args.batch.now t.disk t.place ≡ true
-named g c = names_place-at c.args.batch.now c.loop-at.at c.target-target.result (omega arith) (sym c.target-target.ensures)
+-- it is a target of the batch, and the block is its own
+named : (g : Over) (c : After-put g) → let t = c.target-target.result in
+    (names_place c.args.batch.now t.disk t.place ≡ true) × Contains c.args.batch.now (t, c.block.result.now)
+named g c = (
+  names_place-at c.args.batch.now c.loop-at.at c.target-target.result (omega arith) (sym c.target-target.ensures),
+  rw (c.target-target.ensures, c.block.ensures) (target_block-at c.args.batch.now c.loop-at.at (omega arith)),
+)
 
 -- a disk that is wet after it is one that has targets
 wet : (g : Over) (c : After-put g) → StaySyncedBut (λ d. (names_disk c.args.batch.now d ≡ true) × (c.args.skip ≢ Some d))
