@@ -1,5 +1,5 @@
 -- The calls of a mount after an interrupted commit was ended leave all blocks past the log.
-use Rattle.std.specs.Prelude.{◌≡◌, ℕ, ◌≤◌, ◌⊎◌, Bool, List, [], ◌∷◌, ◌++◌, Option, Some, None, IsSome}
+use Rattle.std.specs.Prelude.{◌≡◌, ℕ, ◌<◌, ◌≤◌, ◌⊎◌, Bool, List, [], ◌∷◌, ◌++◌, Option, Some, None, IsSome}
 use Rattle.std.proofs.Common.{refl, sym, ◌∙◌, ap, subst, arith, inl, inr}
 use Rattle.std.proofs.lemmas.Bool.{cases_eq}
 use Rattle.paraid_base.specs.declared.block.Block.{Block}
@@ -24,7 +24,8 @@ use Rattle.paraid_txn.proofs.CommitPartLemmas.{ran_milder}
 use Rattle.paraid_view.specs.Reads.{ShowsContents}
 use Rattle.paraid_recover.specs.Map.{HasMap, KeepsFar, ShowsMap}
 use Rattle.paraid_recover.specs.Powers.{IsPowerCall}
-use Rattle.paraid_recover.specs.Quiet.{IsInLog, IsReadOrSync}
+use Rattle.paraid_recover.specs.HeardSides.{ReadsLogs}
+use Rattle.paraid_recover.specs.Quiet.{IsInLog, IsReadOrSync, WritesOnlyLogs}
 use Rattle.paraid_recover.proofs.MapEndLemmas.{bit_same, map_disk_zero}
 
 abbrev pub IsFar : (Call → Type 0) → Type 0
@@ -48,6 +49,24 @@ quiet_far n (Park e done) s uses d p far = absurd uses
 quiet_far n (SpinUp e done) s uses d p far = absurd uses
 quiet_far n (Attach e size done) s uses d p far = absurd uses
 
+pub logs_far : IsFar WritesOnlyLogs
+unfolding step
+logs_far (Read e q done) s uses d p far = refl
+logs_far (Write e q b done) s uses d p far = write_block_other s e q b done d p (λ same at. let low : q < log_least = uses in absurd (omega arith))
+logs_far (Sync e done) s uses d p far = refl
+logs_far (Park e done) s uses d p far = absurd uses
+logs_far (SpinUp e done) s uses d p far = absurd uses
+logs_far (Attach e size done) s uses d p far = absurd uses
+
+pub reads_far : IsFar ReadsLogs
+unfolding step
+reads_far (Read e q done) s uses d p far = refl
+reads_far (Write e q b done) s uses d p far = absurd uses
+reads_far (Sync e done) s uses d p far = absurd uses
+reads_far (Park e done) s uses d p far = absurd uses
+reads_far (SpinUp e done) s uses d p far = absurd uses
+reads_far (Attach e size done) s uses d p far = absurd uses
+
 pub turn_far : (m : Meta) → IsFar (IsPowerCall m)
 unfolding step
 turn_far m (Read e q done) s uses d p far = absurd uses
@@ -67,7 +86,7 @@ each_far uses is s (c ∷ cs) each d p far = each_far uses is (step c s) cs each
 pub far_ran : (uses : Call → Type 0) (old new : Option Trail) → IsFar uses → Ran old new (EachCall uses) → KeepsFar old new
 far_ran uses old new is ran = ran_milder (EachCall uses) far_by (each_far uses is) ran
 
-run_append : (s : Disks) (cs ds : List Call) → run s (cs ++ ds) ≡ run (run s cs) ds
+pub run_append : (s : Disks) (cs ds : List Call) → run s (cs ++ ds) ≡ run (run s cs) ds
 run_append s [] ds = refl
 run_append s (c ∷ cs) ds = run_append (step c s) cs ds
 

@@ -29,6 +29,7 @@ pub mod KeepsDirtyLemmas
 pub mod ExaminedHeldLemmas
 pub mod ShownLemmas
 pub mod FarLemmas
+pub mod BatchFarLemmas
 pub mod MapEndLemmas
 pub mod MapServedLemmas
 pub mod ExaminedLemmas

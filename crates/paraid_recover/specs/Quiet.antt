@@ -22,6 +22,15 @@ IsInLog n (Park d done) = ⊥
 IsInLog n (SpinUp d done) = ⊥
 IsInLog n (Attach d size done) = ⊥
 
+-- a read or a sync, or a write below the end of the log
+abbrev pub WritesOnlyLogs : Call → Type 0
+WritesOnlyLogs (Read d p done) = Unit {0}
+WritesOnlyLogs (Write d p b done) = p < log_least
+WritesOnlyLogs (Sync d done) = Unit {0}
+WritesOnlyLogs (Park d done) = ⊥
+WritesOnlyLogs (SpinUp d done) = ⊥
+WritesOnlyLogs (Attach d size done) = ⊥
+
 -- a read, a write or a sync
 abbrev pub IsStill : Call → Type 0
 IsStill (Read d p done) = Unit {0}

@@ -1,13 +1,13 @@
 -- What a step of a mount asks for, and what it leaves of the store and of what was recovered.
-use Rattle.std.specs.Prelude.{◌≡◌, ℕ, ◌+◌, ◌<◌, ◌≤◌, ◌⊎◌, Bool, List, length, Option, Some, None, Result, OnOk, IfErr}
+use Rattle.std.specs.Prelude.{◌≡◌, ℕ, ◌+◌, ◌<◌, ◌≤◌, ◌⊎◌, Bool, List, length, Option, Some, None, Result, OnOk, IfErr, Contains}
 use Rattle.paraid_base.specs.declared.fault.Two.{Two}
-use Rattle.paraid_base.specs.Log.{worn_at}
+use Rattle.paraid_base.specs.Log.{log_least, worn_at}
 use Rattle.paraid_base.specs.Told.{HasRisen}
 use Rattle.paraid_dirty.specs.Table.{is_dirty}
 use Rattle.paraid_rack.specs.declared.call.Power.TheVariants.{Absent}
 use Rattle.paraid_rack.specs.declared.rack.Rack.{Ghosts}
 use Rattle.paraid_rack.specs.Told.{Ran}
-use Rattle.paraid_rack.specs.Trail.{Trail, now}
+use Rattle.paraid_rack.specs.Trail.{Trail, now, run}
 use Rattle.paraid_record.specs.declared.meta.Meta.{Meta}
 use Rattle.paraid_record.specs.Range.{IsInRange}
 use Rattle.paraid_image.specs.Out.{named_out}
@@ -20,7 +20,7 @@ use Rattle.paraid_txn.specs.Uses.{EachCall, UsesLog}
 use Rattle.paraid_recover.specs.declared.hearing.Heard.{Heard}
 use Rattle.paraid_recover.specs.HeardSides.{AtMost, IsHeardAt, IsHeardBy, IsInForm, ReadsLogs}
 use Rattle.paraid_recover.specs.HeldMoments.{Recovers, RecoversHeld}
-use Rattle.paraid_recover.specs.Map.{IsNarrow}
+use Rattle.paraid_recover.specs.Map.{IsNarrow, KeepsFar}
 use Rattle.paraid_recover.specs.MountCalls.{OnlyMountCalls}
 use Rattle.paraid_recover.specs.Mounted.{AreAllSynced, IsFit}
 use Rattle.paraid_recover.specs.StandingMetas.{StandsInMoments, StandsThroughMount}
@@ -57,7 +57,7 @@ pub record KeepsStore {R A : Type 0} {g : Ghosts R} (out : ℕ → Type 0) (old 
   pub gone : IfErr result (AreGoneSince out (g.slot (store_rack old)) (g.slot (store_rack new)))
 
 -- The same of a step that also powers disks: no count of faults falls, and only a disk that has failed is absent then and was
--- not before.
+-- not before. No block past the log changes.
 pub record KeepsPowered {R A : Type 0} {g : Ghosts R} (out : ℕ → Type 0) (old new : Store R g) (result : Result A Two) : Type 0 where
   pub slots : g.slot_count (store_rack new) ≡ g.slot_count (store_rack old)
   pub two : IfErr result (AreTwoDownBeside out (g.slot (store_rack old)) (g.slot (store_rack new)))
@@ -66,6 +66,7 @@ pub record KeepsPowered {R A : Type 0} {g : Ghosts R} (out : ℕ → Type 0) (ol
   pub failed : (d : ℕ) → (g.slot (store_rack new) d).power ≡ Absent
       → ((g.slot (store_rack old) d).power ≡ Absent) ⊎ HasRisen (g.slot (store_rack old) d).faults (g.slot (store_rack new) d).faults
   pub absent : (d : ℕ) → (g.slot (store_rack old) d).power ≡ Absent → (g.slot (store_rack new) d).power ≡ Absent
+  pub far : KeepsFar (g.told (store_rack old)) (g.told (store_rack new))
 
 -- Each call is one that a mount may make. What was recovered is held at each moment, and its meta stands, or one that a mount
 -- makes of it.
@@ -92,12 +93,15 @@ pub record HasStood {R : Type 0} {g : Ghosts R} (store : Store R g) (m : Meta) :
   pub synced : AreAllSynced m (g.slot (store_rack store))
 
 -- The same from the rack whose log disk `x` stood and said this: it has as many slots as before, and no count of faults falls.
+-- Past the log each block is as it was, or is the one that the batch has for its place.
 pub record MountsOn {R : Type 0} (g : Ghosts R) (x : ℕ) (said : LogState) (old new : R) : Type 0 where
   pub slots : g.slot_count new ≡ g.slot_count old
   pub later : (d : ℕ) → (g.slot old d).faults ≤ (g.slot new d).faults
   pub allowed : OnlyMountCalls said.meta (g.told old) (g.told new)
   pub metas : StandsThroughMount x said (g.told old) (g.told new)
   pub holds : (slots : ℕ) → RecoversHeld slots x said (g.told old) (g.told new)
+  pub far : Ran (g.told old) (g.told new) (λ start calls. (d p : ℕ) → log_least ≤ p
+      → ((run start calls).block d p ≡ start.block d p) ⊎ Contains said.batch (record { disk = d; place = p }, (run start calls).block d p))
 
 -- This was heard of the log disk, or nothing where it is absent; it is in form.
 pub record HasHeard {R : Type 0} (g : Ghosts R) (rack : R) (disk : ℕ) (heard : Option Heard) (batch : Batch) : Type 0 where

@@ -18,7 +18,7 @@ ghost use Rattle.paraid_recover.specs.HeldMoments.{EndsHeld, IsOutAtEnd, Recover
 ghost use Rattle.paraid_recover.specs.Map.{HasMap, HasMapAtEnd, IsNarrow};
 ghost use Rattle.paraid_recover.specs.RecoveryMark.{to_mark, with_mark};
 ghost use Rattle.paraid_recover.specs.Powers.{IsPowerCall};
-ghost use Rattle.paraid_recover.specs.Quiet.{IsStill};
+ghost use Rattle.paraid_recover.specs.Quiet.{IsStill, WritesOnlyLogs};
 ghost use Rattle.paraid_rack.specs.Told.{Ran};
 ghost use Rattle.paraid_txn.specs.Uses.{EachCall};
 ghost use Rattle.paraid_recover.specs.Mount.{HasMounted, IsCauseOfRefusal};
@@ -65,7 +65,7 @@ fn settle<R: Rack>(
         × ((d : ℕ) → lost ≡ Some d → (e : ℕ) → named_of meta.now.out ≡ Some e → e ≡ d)
         × IsMarkAtMoment meta.now lost (R.told (store_rack store.old)) (R.told (store_rack store.new))) }
     ensures still { Ran (R.told (store_rack store.old)) (R.told (store_rack store.new))
-        (EachCall IsStill) }
+        (EachCall WritesOnlyLogs) }
     ensures ends { IfOk result (λ m. (slots x : ℕ) (said : LogState) (old : Option Trail)
         → said.meta ≡ meta.now → Recovers slots x said old (R.told (store_rack store.old))
         → EndsHeld slots x said m old (R.told (store_rack store.new))) }

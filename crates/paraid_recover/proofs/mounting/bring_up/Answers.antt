@@ -16,6 +16,7 @@ use Rattle.paraid_txn.specs.Stores.{store_out, store_rack}
 use Rattle.paraid_recover.specs.HeldMoments.{Recovers, RecoversHeld}
 use Rattle.paraid_recover.specs.MountCalls.{OnlyMountCalls}
 use Rattle.paraid_recover.specs.Mounted.{IsFit}
+use Rattle.paraid_recover.proofs.BatchFarLemmas.{ChangesByBatch, batch_ran, far_after}
 use Rattle.paraid_recover.proofs.EndsLemmas.{ends_resumed}
 use Rattle.paraid_recover.proofs.FitLemmas.{fit_stays, two_named, two_sooner}
 use Rattle.paraid_recover.proofs.GoneLemmas.{gone_beside, gone_sooner, none_comes, out_named_twice}
@@ -117,6 +118,13 @@ all_metas g c =
       ];
     }
 
+-- past the log there is what was there, or what the batch has
+all_far : (g : Over) (c : After-raise g) → ChangesByBatch c.args.batch (g.R.Rack.told c.args.rack) (g.R.Rack.told (store_rack c.raise.new.store))
+all_far g c =
+    let old = g.R.Rack.told c.args.rack in
+    let told_1 = g.R.Rack.told (store_rack c.in-Ok.store) in
+    far_after c.args.batch old told_1 (g.R.Rack.told (store_rack c.raise.new.store)) (batch_ran c.args.standing.now.meta c.args.batch old told_1 c.in-Ok.ensures.calls) c.raise.ensures.kept.far
+
 pub returns-in-Err : goal.returns-in-Err
 returns-in-Err g c = record {
   mounts = tt;
@@ -137,6 +145,7 @@ returns-in-Err g c = record {
     holds = λ slots.
         let at = (goal.at.returns-in-Err g c).After-resume in
         resumes_held slots c.args.standing.now.side (said g at) (g.R.Rack.told c.args.rack) (g.R.Rack.told c.in-Err.refused.rack) c.in-Err.ensures.refused;
+    far = batch_ran c.args.standing.now.meta c.args.batch (g.R.Rack.told c.args.rack) (g.R.Rack.told c.in-Err.refused.rack) c.in-Err.ensures.refused_calls;
   };
   servable = tt;
   nothing = tt;
@@ -179,6 +188,8 @@ returns-in-Err-raise g c = record {
         let s = log_state c.args.standing.now.gate_open c.args.standing.now.meta c.args.batch in
         subst (λ (r : _). RecoversHeld slots c.args.standing.now.side s (g.R.Rack.told c.args.rack) (g.R.Rack.told r)) (sym c.close.ensures)
         (c.raise.ensures.recovers.holds slots c.args.standing.now.side s (g.R.Rack.told c.args.rack) refl (resumed g at slots));
+    far =
+        subst (λ (r : _). ChangesByBatch c.args.batch (g.R.Rack.told c.args.rack) (g.R.Rack.told r)) (sym c.close.ensures) (all_far g (goal.at.returns-in-Err-raise g c).After-raise);
   };
   servable = tt;
   nothing = tt;
@@ -211,6 +222,7 @@ returns-in-Ok-raise g c = record {
     holds = λ slots.
         let at = (goal.at.returns-in-Ok-raise g c).After-raise in
         c.raise.ensures.recovers.holds slots c.args.standing.now.side (log_state c.args.standing.now.gate_open c.args.standing.now.meta c.args.batch) (g.R.Rack.told c.args.rack) refl (resumed g at slots);
+    far = all_far g (goal.at.returns-in-Ok-raise g c).After-raise;
   };
   refused = tt;
   servable = c.in-Ok-raise.ensures.servable;

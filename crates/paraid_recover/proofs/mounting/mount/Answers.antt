@@ -16,6 +16,8 @@ use Rattle.paraid_dirty.specs.Table.{is_dirty}
 use Rattle.paraid_recover.specs.Mount.{HasSettled}
 use Rattle.paraid_recover.specs.Mount.IsCauseOfRefusal.{examined, no_memory, two_down, witnessed}
 use Rattle.paraid_recover.specs.HeardSides.{ReadsLogs}
+use Rattle.paraid_recover.proofs.BatchFarLemmas.{far_before}
+use Rattle.paraid_recover.proofs.FarLemmas.{far_ran, reads_far}
 use Rattle.paraid_recover.proofs.ExaminedLemmas.{fit_examined}
 use Rattle.paraid_recover.proofs.MapServedLemmas.{map_sooner}
 use Rattle.paraid_recover.proofs.MountCallsLemmas.{reads_then}
@@ -117,6 +119,8 @@ settled g c =
         stands = stands_later _ _ _ _ (c.in_default-heed.ensures.ok.reads.unchanged refl) c.in-Ok-examine.ensures.stands;
         holds = c.in-Ok-bring_up.ensures.mounts.holds;
         metas = c.in-Ok-bring_up.ensures.mounts.metas;
+        far = far_before c.examine.new.batch (g.R.Rack.told c.args.rack) (g.R.Rack.told c.heed.new.rack) (g.R.Rack.told (store_rack c.in-Ok-bring_up.mounted.store))
+            (far_ran ReadsLogs _ _ reads_far (calls_then ReadsLogs c.examine.ensures.calls (logs_calls (omega arith) c.in_default-heed.ensures.ok.reads.calls))) c.in-Ok-bring_up.ensures.mounts.far;
       };
       standing = ends.0;
       lost = ends.1;
@@ -179,6 +183,8 @@ returns g c = record {
         stands = stands_later _ _ _ _ (c.in_default-heed.ensures.ok.reads.unchanged refl) c.in-Ok-examine.ensures.stands;
         holds = c.in-Err-bring_up.ensures.refused.holds;
         metas = c.in-Err-bring_up.ensures.refused.metas;
+        far = far_before c.examine.new.batch (g.R.Rack.told c.args.rack) (g.R.Rack.told c.heed.new.rack) (g.R.Rack.told c.in-Err-bring_up.refused.rack)
+            (far_ran ReadsLogs _ _ reads_far (calls_then ReadsLogs c.examine.ensures.calls (logs_calls (omega arith) c.in_default-heed.ensures.ok.reads.calls))) c.in-Err-bring_up.ensures.refused.far;
       })
       (g.met.R.Rack.agrees c.heed.new.rack) (examined_later _ _ _ _ _ _ _ _ (c.in_default-heed.ensures.ok.reads.same refl) (c.in_default-heed.ensures.ok.reads.unchanged refl) c.in-Ok-examine.ensures.ok) two.1 two.2 two.3;
   refused_later = λ d. let a = c.examine.ensures.powers.no_fall d in let same = ap (λ (k : Slot). k.faults) (c.in_default-heed.ensures.ok.reads.same refl d) in let b = c.in-Err-bring_up.ensures.refused.later d in omega arith;

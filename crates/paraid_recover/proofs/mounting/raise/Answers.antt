@@ -24,7 +24,10 @@ use Rattle.paraid_recover.specs.Mounted.{IsServable, with_loss}
 use Rattle.paraid_dirty.specs.Table.{is_dirty}
 use Rattle.paraid_recover.specs.Powers.{IsPowerCall, IsPowerChanged}
 use Rattle.paraid_recover.proofs.BearerLemmas.{borne_turned, marked_turned}
-use Rattle.paraid_recover.proofs.FarLemmas.{far_ran, map_on, turn_far}
+use Rattle.paraid_recover.proofs.FarLemmas.{far_ran, far_then, logs_far, map_on, turn_far}
+use Rattle.paraid_recover.proofs.StillLemmas.{logs_still}
+use Rattle.paraid_recover.specs.Map.{KeepsFar}
+use Rattle.paraid_recover.specs.Quiet.{WritesOnlyLogs}
 use Rattle.paraid_recover.proofs.MapServedLemmas.{named_or_absent}
 use Rattle.paraid_recover.proofs.MarkMomentLemmas.{mark_by_slots, mark_sooner}
 use Rattle.paraid_recover.proofs.GoneLemmas.{gone_beside, gone_sooner, none_comes, out_marked, stays_absent}
@@ -112,6 +115,14 @@ absent g c d gone =
     let b = g.R.Rack.slot (store_rack c.settle.new.store) in
     stays_absent b (g.R.Rack.slot (store_rack c.power_disks.new.store)) d (λ e. (c.power_disks.ensures.turned e).there) (stays_absent a b d (none_comes a b c.settle.ensures.kept.powers) gone)
 
+-- no block past the log changes
+kept_far : (g : Over) (c : After-power_disks g) → KeepsFar (g.R.Rack.told (store_rack c.args.store.now)) (g.R.Rack.told (store_rack c.power_disks.new.store))
+kept_far g c =
+    let told_1 = g.R.Rack.told (store_rack c.settle.new.store) in
+    let told_2 = g.R.Rack.told (store_rack c.power_disks.new.store) in
+    far_then (g.R.Rack.told (store_rack c.args.store.now)) told_1 told_2 (far_ran WritesOnlyLogs _ told_1 logs_far c.settle.ensures.still)
+    (far_ran (IsPowerCall c.in-Ok.standing) told_1 told_2 (turn_far c.in-Ok.standing) c.power_disks.ensures.calls)
+
 pub settle-requires : goal.settle-requires
 settle-requires g c = record { empty = c.requires.empty; can = c.requires.can }
 
@@ -157,6 +168,7 @@ returns-in-Err g c = record {
         let a = g.R.Rack.slot (store_rack c.args.store.now) in
         let b = g.R.Rack.slot (store_rack c.settle.new.store) in
         stays_absent a b d (none_comes a b c.settle.ensures.kept.powers) gone;
+    far = far_ran WritesOnlyLogs _ _ logs_far c.settle.ensures.still;
   };
   servable = tt;
   recovers = record {
@@ -164,7 +176,7 @@ returns-in-Err g c = record {
     holds = c.settle.ensures.recovers.holds;
     metas = c.settle.ensures.recovers.metas;
   };
-  split = (g.R.Rack.told (store_rack c.settle.new.store), c.settle.ensures.still, inl refl);
+  split = (g.R.Rack.told (store_rack c.settle.new.store), logs_still _ _ c.settle.ensures.still, inl refl);
   ends = tt;
   map = tt;
   out = tt;
@@ -204,6 +216,7 @@ returns-in-Err-power_disks g c = record {
     later = later g (goal.at.returns-in-Err-power_disks g c).After-power_disks;
     failed = λ d gone. failed _ (g.R.Rack.slot (store_rack c.settle.new.store) d) _ c.in-Ok.standing d (c.settle.ensures.kept.each d) (c.settle.ensures.kept.powers.no_fall d) (c.power_disks.ensures.turned d) gone;
     absent = absent g (goal.at.returns-in-Err-power_disks g c).After-power_disks;
+    far = kept_far g (goal.at.returns-in-Err-power_disks g c).After-power_disks;
   };
   servable = tt;
   recovers = record {
@@ -212,7 +225,7 @@ returns-in-Err-power_disks g c = record {
     metas = metas g (goal.at.returns-in-Err-power_disks g c).After-power_disks;
   };
   split =
-      (g.R.Rack.told (store_rack c.settle.new.store), c.settle.ensures.still, inr (powers g (goal.at.returns-in-Err-power_disks g c).After-power_disks));
+      (g.R.Rack.told (store_rack c.settle.new.store), logs_still _ _ c.settle.ensures.still, inr (powers g (goal.at.returns-in-Err-power_disks g c).After-power_disks));
   ends = tt;
   map = tt;
   out = tt;
@@ -231,6 +244,7 @@ returns g c = record {
     later = later g (goal.at.returns g c).After-power_disks;
     failed = λ d gone. failed _ (g.R.Rack.slot (store_rack c.settle.new.store) d) _ c.in-Ok.standing d (c.settle.ensures.kept.each d) (c.settle.ensures.kept.powers.no_fall d) (c.power_disks.ensures.turned d) gone;
     absent = absent g (goal.at.returns g c).After-power_disks;
+    far = kept_far g (goal.at.returns g c).After-power_disks;
   };
   servable =
       let at = (goal.at.returns g c).After-power_disks in
@@ -253,7 +267,7 @@ returns g c = record {
     holds = holds g (goal.at.returns g c).After-power_disks;
     metas = metas g (goal.at.returns g c).After-power_disks;
   };
-  split = (g.R.Rack.told (store_rack c.settle.new.store), c.settle.ensures.still, inr (powers g (goal.at.returns g c).After-power_disks));
+  split = (g.R.Rack.told (store_rack c.settle.new.store), logs_still _ _ c.settle.ensures.still, inr (powers g (goal.at.returns g c).After-power_disks));
   ends =
       let at = (goal.at.returns g c).After-power_disks in
       let given = c.in-Ok.ensures.given in (

@@ -21,7 +21,7 @@ use Rattle.paraid_recover.specs.MountCalls.{OnlyMountCalls}
 use Rattle.paraid_recover.specs.RecoveryMark.{to_mark}
 use Rattle.paraid_recover.specs.Mounted.{IsFit}
 use Rattle.paraid_dirty.specs.Table.{is_dirty}
-use Rattle.paraid_recover.specs.Quiet.{IsInLog, IsReadOrSync, IsStill}
+use Rattle.paraid_recover.specs.Quiet.{IsInLog, IsReadOrSync, WritesOnlyLogs}
 use Rattle.paraid_recover.proofs.FarLemmas.{far_ran, log_far, map_on, map_read, quiet_far}
 use Rattle.paraid_recover.proofs.FitLemmas.{can_sync, log_ready, each_then, fit_stays, fit_with_mark, map_ready, marked_absent, marks, one_read, quiet_reads, quiet_syncs, spared_both, two_by_out, two_at, two_sooner}
 use Rattle.paraid_recover.proofs.GoneLemmas.{gone_beside, gone_sooner, none_comes, out_by_name, out_unmarked, stays_absent}
@@ -30,7 +30,7 @@ use Rattle.paraid_recover.proofs.RenewLemmas.{version_marked}
 use Rattle.paraid_recover.specs.StandingMetas.{StandsInMoments}
 use Rattle.paraid_recover.proofs.QuietCallsLemmas.{quiet_recovers}
 use Rattle.paraid_recover.proofs.RestMetasLemmas.{quiet_metas}
-use Rattle.paraid_recover.proofs.StillLemmas.{log_still, quiet_still, still_then}
+use Rattle.paraid_recover.proofs.StillLemmas.{log_logs, logs_then, quiet_logs}
 use Rattle.paraid_recover.proofs.mounting.settle.Given.{Over}
 use Rattle.paraid_recover.proofs.mounting.settle.Goals as goal
 use Rattle.paraid_recover.proofs.mounting.settle.Goals.{After-mark_out, After-read_map, After-sync_all}
@@ -193,24 +193,24 @@ synced_metas g c slots x said old is r metas =
     (quiet_recovers slots x said old told_0 told_1 (subst (λ (n : ℕ). Ran told_0 told_1 (EachCall (IsReadOrSync n))) n_is reads) r)
     (read_metas g (goal.at.After-sync_all g c).After-read_map slots x said old is reads r metas)
 
--- there are only reads, writes and syncs
+-- there are only reads, syncs and writes of logs
 map_still : (g : Over) (c : After-read_map g) → Ran (g.R.Rack.told (store_rack c.args.store.now)) (g.R.Rack.told (store_rack c.read_map.new.store)) (EachCall (IsReadOrSync c.args.store.now.disks))
-    → Ran (g.R.Rack.told (store_rack c.args.store.now)) (g.R.Rack.told (store_rack c.read_map.new.store)) (EachCall IsStill)
-map_still g c reads = quiet_still c.args.store.now.disks (g.R.Rack.told (store_rack c.args.store.now)) (g.R.Rack.told (store_rack c.read_map.new.store)) reads
+    → Ran (g.R.Rack.told (store_rack c.args.store.now)) (g.R.Rack.told (store_rack c.read_map.new.store)) (EachCall WritesOnlyLogs)
+map_still g c reads = quiet_logs c.args.store.now.disks (g.R.Rack.told (store_rack c.args.store.now)) (g.R.Rack.told (store_rack c.read_map.new.store)) reads
 
-sync_still : (g : Over) (c : After-sync_all g) → Ran (g.R.Rack.told (store_rack c.args.store.now)) (g.R.Rack.told (store_rack c.sync_all.new.self)) (EachCall IsStill)
+sync_still : (g : Over) (c : After-sync_all g) → Ran (g.R.Rack.told (store_rack c.args.store.now)) (g.R.Rack.told (store_rack c.sync_all.new.self)) (EachCall WritesOnlyLogs)
 sync_still g c =
     let told_0 = g.R.Rack.told (store_rack c.args.store.now) in
     let told_1 = g.R.Rack.told (store_rack c.read_map.new.store) in
     let told_2 = g.R.Rack.told (store_rack c.sync_all.new.self) in
-    still_then told_0 told_1 told_2 (map_still g (goal.at.After-sync_all g c).After-read_map (quiet_reads c.args.store.now.disks told_0 told_1 c.in_default.ensures.read.calls))
-    (quiet_still c.read_map.new.store.disks told_1 told_2 (quiet_syncs c.read_map.new.store.disks _ told_1 told_2 c.sync_all.ensures.calls))
+    logs_then told_0 told_1 told_2 (map_still g (goal.at.After-sync_all g c).After-read_map (quiet_reads c.args.store.now.disks told_0 told_1 c.in_default.ensures.read.calls))
+    (quiet_logs c.read_map.new.store.disks told_1 told_2 (quiet_syncs c.read_map.new.store.disks _ told_1 told_2 c.sync_all.ensures.calls))
 
-all_still : (g : Over) (c : After-mark_out g) → Ran (g.R.Rack.told (store_rack c.args.store.now)) (g.R.Rack.told (store_rack c.mark_out.new.store)) (EachCall IsStill)
+all_still : (g : Over) (c : After-mark_out g) → Ran (g.R.Rack.told (store_rack c.args.store.now)) (g.R.Rack.told (store_rack c.mark_out.new.store)) (EachCall WritesOnlyLogs)
 all_still g c =
     let told_2 = g.R.Rack.told (store_rack c.sync_all.new.self) in
     let told_3 = g.R.Rack.told (store_rack c.mark_out.new.store) in
-    still_then (g.R.Rack.told (store_rack c.args.store.now)) told_2 told_3 (sync_still g (goal.at.After-mark_out g c).After-sync_all) (log_still c.sync_all.new.self.disks told_2 told_3 c.mark_out.ensures.calls)
+    logs_then (g.R.Rack.told (store_rack c.args.store.now)) told_2 told_3 (sync_still g (goal.at.After-mark_out g c).After-sync_all) (log_logs c.sync_all.new.self.disks told_2 told_3 c.mark_out.ensures.calls)
 
 -- which disks are absent since, where two are down
 abbrev out_at : (g : Over) (c : After-read_map g) → (ℕ → Slot) → Option ℕ → ℕ → Type 0
