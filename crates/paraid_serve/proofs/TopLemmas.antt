@@ -41,12 +41,11 @@ wrote_last span p bytes text line before after code status out e = elim e.whole 
     taken n line is = take_all n line (omega (arith, is))
 
 -- and its form
-form_last : (seen seen_now : Shown) (bytes text line : List ℕ) (before after : Option (List ℕ)) (code status : ℕ) → OutputForm seen seen_now bytes code (text ++ line) → (e : EndsWithLine before after line code status) → HasForm seen seen_now bytes status (text ++ take e.count line)
+form_last : (seen seen_now : Shown) (bytes text line : List ℕ) (before after : Option (List ℕ)) (code status : ℕ) → OutputForm seen seen_now bytes code text line → (e : EndsWithLine before after line code status) → HasForm seen seen_now bytes status (text ++ take e.count line)
 form_last seen seen_now bytes text line before after code status out e = elim e.whole [
-  | inl four ↦ form_last_line four code (text ++ line) (drop e.count line) out
-      (ap (λ x. text ++ x) (sym (take-append-drop e.count line)) ∙ sym (append_assoc text (take e.count line) (drop e.count line)))
-  | inr all ↦ form_whole (subst (λ (k : ℕ). OutputForm seen seen_now bytes k (text ++ take e.count line)) (sym all.1)
-      (subst (λ (x : List ℕ). OutputForm seen seen_now bytes code (text ++ x)) (sym (taken e.count line all.0)) out))
+  | inl four ↦ form_last_line four code text line e.count out refl
+  | inr all ↦ form_whole text line (subst (λ (k : ℕ). OutputForm seen seen_now bytes k text line) (sym all.1) out)
+      (ap (λ (x : List ℕ). text ++ x) (taken e.count line all.0))
 ]
   where
     taken : (n : ℕ) (line : List ℕ) → n ≡ length line → take n line ≡ line
@@ -84,7 +83,7 @@ module _ (seen seen_now : Shown) (span : Span) (stood : Point → Type 0) (sourc
       → GrowsByBytes sink.written_before within.written_before (mount_line writes gear) → (s : ServesSession seen seen_now span stood (streams_of source_is within) result) → EndsWithLine within.written sink.written line code status
       → (IsSome span.now → (p : Point) → stood p → OutputText span p s.bytes code (begins_with p ++ s.text ++ line))
       → (code ≡ 10 → length s.bytes ≡ 2 ^ 40) → (IsWholeStatus code → (length s.bytes < 2 ^ 40) × AtEnd source_is.left)
-      → OutputForm seen seen_now s.bytes code ((first_line seen ++ s.text) ++ line)
+      → OutputForm seen seen_now s.bytes code (first_line seen ++ s.text) line
       → ProgramRun seen seen_now span stood (streams_of source_is sink) status
   finish result line code status head s end out full all form = record {
     bytes = s.bytes;
@@ -92,7 +91,7 @@ module _ (seen seen_now : Shown) (span : Span) (stood : Point → Type 0) (sourc
     given = s.given;
     grows = GrowsByBytes-then sink.written_before within.written sink.written (mount_line writes gear ++ s.text) (take end.count line) (GrowsByBytes-then sink.written_before within.written_before within.written (mount_line writes gear) s.text head s.grows) end.grows;
     full = λ ten. full (the_code status code (length line) end.count 10 end.whole ten (λ e. absurd (omega (arith, e))));
-    form = form_last seen seen_now s.bytes (mount_line writes gear ++ s.text) line within.written sink.written code status (subst (λ (x : List ℕ). OutputForm seen seen_now s.bytes code ((x ++ s.text) ++ line)) (sym shows) form) end;
+    form = form_last seen seen_now s.bytes (mount_line writes gear ++ s.text) line within.written sink.written code status (subst (λ (x : List ℕ). OutputForm seen seen_now s.bytes code (x ++ s.text) line) (sym shows) form) end;
     all = λ is. all (whole_code status code (length line) end.count end.whole is);
     wrote = λ t p at_p. subst (λ (x : List ℕ). WritesOutput span p s.bytes status ((x ++ s.text) ++ take end.count line)) (sym (head_is p at_p))
         (wrote_last span p s.bytes (begins_with p ++ s.text) line within.written sink.written code status

@@ -1,5 +1,5 @@
 -- The whole text of a run, by its status.
-use Rattle.std.specs.Prelude.{◌≡◌, ℕ, ◌<◌, ◌^◌, ◌⊎◌, List, [], ◌∷◌, ◌++◌, length, codes, Some, IsSome}
+use Rattle.std.specs.Prelude.{◌≡◌, ℕ, ◌<◌, ◌^◌, ◌⊎◌, List, [], ◌∷◌, ◌++◌, length, take, codes, Some, IsSome}
 use Rattle.paraid_base.specs.declared.event.Answer.TheVariants.{Flushed, Halted}
 use Rattle.paraid_base.specs.declared.event.Event.TheVariants.{Flush}
 use Rattle.paraid_base.specs.declared.fault.Halt.{Halt}
@@ -60,23 +60,24 @@ pub data WritesOutput (span : Span) (p : Point) (bytes : List ℕ) (status : ℕ
       → (c : Stretch span p (events_in lines)) → begins_with p ++ replies c.turns ≡ text ++ rest
       → WritesOutput span p bytes status text
 
--- The form of a whole text, by the status, whatever the rack holds: the first line tells the writes and the gear with which the
--- array was seen first, each answer has its cause, and so has the flush at the end.
-pub data OutputForm (old new : Shown) (bytes : List ℕ) : ℕ → List ℕ → Type 0 where
+-- The form of a whole text, by the status, whatever the rack holds: what stands before the last line, and the last line. The first line tells
+-- the writes and the gear with which the array was seen first, each answer has its cause, and so has the flush at the end.
+pub data OutputForm (old new : Shown) (bytes : List ℕ) : ℕ → List ℕ → List ℕ → Type 0 where
   done : (writes : ℕ) (replies : List ℕ) (mid : Shown) → HasAnswers old (lines_of bytes) replies mid → HasCause mid Flush (Flushed writes) new
-      → OutputForm old new bytes 0 (first_line old ++ replies ++ end_line writes)
+      → OutputForm old new bytes 0 (first_line old ++ replies) (end_line writes)
   halted : (halt : Halt) (replies : List ℕ) (mid : Shown) → HasAnswers old (lines_of bytes) replies mid → HasCause mid Flush (Halted halt) new
-      → OutputForm old new bytes (status_of_halt halt) (first_line old ++ replies ++ halt_line halt)
+      → OutputForm old new bytes (status_of_halt halt) (first_line old ++ replies) (halt_line halt)
   source : (replies : List ℕ) → HasAnswers old (whole_lines bytes) replies new
-      → OutputForm old new bytes 3 (first_line old ++ replies ++ codes "source\n")
+      → OutputForm old new bytes 3 (first_line old ++ replies) (codes "source\n")
   too_long : (replies : List ℕ) → HasAnswers old (whole_lines bytes) replies new
-      → OutputForm old new bytes 10 (first_line old ++ replies ++ codes "toolong\n")
+      → OutputForm old new bytes 10 (first_line old ++ replies) (codes "toolong\n")
 
--- The form of what was written: of a whole text; or at 4 of a first part of such a text, or of the first line, and then nothing was
--- served; or of the answers up to one that was written in part, and then nothing more was served.
+-- The form of what was written: of a whole text; or at 4 of one whose last line is cut, or of a first part of the first line, and then
+-- nothing was served; or of the answers up to one that is cut, and then nothing more was served.
 pub data HasForm (old new : Shown) (bytes : List ℕ) (status : ℕ) (text : List ℕ) : Type 0 where
-  whole : OutputForm old new bytes status text → HasForm old new bytes status text
-  last_line : status ≡ 4 → (code : ℕ) (full rest : List ℕ) → OutputForm old new bytes code full → full ≡ text ++ rest → HasForm old new bytes status text
+  whole : (front last : List ℕ) → OutputForm old new bytes status front last → text ≡ front ++ last → HasForm old new bytes status text
+  last_line : status ≡ 4 → (code : ℕ) (front last : List ℕ) (count : ℕ) → OutputForm old new bytes code front last → text ≡ front ++ take count last
+      → HasForm old new bytes status text
   at_first_line : status ≡ 4 → bytes ≡ [] → new ≡ old → (rest : List ℕ) → first_line old ≡ text ++ rest → HasForm old new bytes status text
   answers : status ≡ 4 → (part : List ℕ) → BeginsAnswers old bytes part new → text ≡ first_line old ++ part → HasForm old new bytes status text
 

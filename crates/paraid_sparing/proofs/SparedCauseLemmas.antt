@@ -1,6 +1,6 @@
 -- From the causes of a line to those of all lines and of the whole text.
 use Rattle.std.proofs.Common.{◌≡◌, ℕ, ◌-◌, List, [], ◌∷◌, ◌++◌, length, take, drop, codes, Option, Some, None, refl, sym, ap, ◌∙◌, inl, inr, arith, subst, take-append-drop}
-use Rattle.std.proofs.lemmas.List.{append_assoc, take_all}
+use Rattle.std.proofs.lemmas.List.{take_all}
 use Rattle.paraid_base.specs.declared.event.Answer.{Answer}
 use Rattle.paraid_base.specs.declared.event.Answer.TheVariants.{Flushed, Halted}
 use Rattle.paraid_base.specs.declared.event.Event.{Event}
@@ -17,7 +17,7 @@ use Rattle.paraid_sparing.specs.SparedCauses.{BeginsCauses, CausedText, CausesFl
 use Rattle.paraid_sparing.specs.SparedCauses.CausedText.{done as text_done, halted as text_halted, source as text_source, too_long as text_long}
 use Rattle.paraid_sparing.specs.SparedCauses.HasLineCauses.{alone, spared}
 use Rattle.paraid_sparing.specs.SparedCauses.HaveLineCauses.{more as one_more, none as no_line}
-use Rattle.paraid_sparing.specs.SparedCauses.HasSparedCauses.{answers as caused_answers, at_first_line as caused_first, last_line as caused_last, whole as caused_whole}
+use Rattle.paraid_sparing.specs.SparedCauses.HasSparedCauses.{answers as caused_answers, at_first_line as caused_first, last_lines as caused_last, whole as caused_whole}
 use Rattle.paraid_sparing.specs.Sparing.{Stock, due_when, spare_line, stock_line, stock_when, used}
 use Rattle.paraid_sparing.specs.Texts.{spares_line}
 use Rattle.paraid_sparing.proofs.TextLemmas.{line_alike}
@@ -82,33 +82,32 @@ pool_line : (pool : Pool) (wait : ℕ) (j : Stock) (x : Shown) (disks : ℕ) →
 pool_line pool wait j x disks keeps same = line_alike (left_of pool) j.left (spins_of pool) j.spins disks x.setup.geometry.disks keeps.left same (let high = x.setup.geometry.disks_high in omega (arith, same, high)) keeps.spins
 
 module _ (wait : ℕ) (x : Shown) (k : Stock) (y : Shown) (bytes : List ℕ) (pool : Pool) (disks : ℕ) (same : disks ≡ x.setup.geometry.disks) (head : List ℕ) (head_is : head ≡ first_line x) where
-  pub done_caused : (writes : ℕ) (text : List ℕ) → CausesFlush wait x k (lines_of bytes) text (Flushed writes) y pool → CausedText wait x k y bytes 0 ((head ++ text) ++ (spares_line (left_of pool) (spins_of pool) disks ++ end_line writes))
-  done_caused writes text f = rw head_is (subst (λ (l : List ℕ). CausedText wait x k y bytes 0 ((first_line x ++ text) ++ (l ++ end_line writes))) (sym (pool_line pool wait f.before.stock x disks f.before.keeps same))
+  pub done_caused : (writes : ℕ) (text : List ℕ) → CausesFlush wait x k (lines_of bytes) text (Flushed writes) y pool → CausedText wait x k y bytes 0 (head ++ text) (spares_line (left_of pool) (spins_of pool) disks ++ end_line writes)
+  done_caused writes text f = rw head_is (subst (λ (l : List ℕ). CausedText wait x k y bytes 0 (first_line x ++ text) (l ++ end_line writes)) (sym (pool_line pool wait f.before.stock x disks f.before.keeps same))
       (text_done writes text f.mid f.before.stock f.before.all f.cause))
 
   pub halted_caused : (halt : Halt) (text : List ℕ) → CausesFlush wait x k (lines_of bytes) text (Halted halt) y pool
-      → CausedText wait x k y bytes (status_of_halt halt) ((head ++ text) ++ (spares_line (left_of pool) (spins_of pool) disks ++ halt_line halt))
-  halted_caused halt text f = rw head_is (subst (λ (l : List ℕ). CausedText wait x k y bytes (status_of_halt halt) ((first_line x ++ text) ++ (l ++ halt_line halt))) (sym (pool_line pool wait f.before.stock x disks f.before.keeps same))
+      → CausedText wait x k y bytes (status_of_halt halt) (head ++ text) (spares_line (left_of pool) (spins_of pool) disks ++ halt_line halt)
+  halted_caused halt text f = rw head_is (subst (λ (l : List ℕ). CausedText wait x k y bytes (status_of_halt halt) (first_line x ++ text) (l ++ halt_line halt)) (sym (pool_line pool wait f.before.stock x disks f.before.keeps same))
       (text_halted halt text f.mid f.before.stock f.before.all f.cause))
 
 module _ (wait : ℕ) (x : Shown) (k : Stock) (y : Shown) (bytes : List ℕ) (pool : Pool) (head : List ℕ) (head_is : head ≡ first_line x) where
-  pub source_caused : (text : List ℕ) → CausesLines wait x k (whole_lines bytes) text y pool → CausedText wait x k y bytes 3 ((head ++ text) ++ codes "source\n")
+  pub source_caused : (text : List ℕ) → CausesLines wait x k (whole_lines bytes) text y pool → CausedText wait x k y bytes 3 (head ++ text) (codes "source\n")
   source_caused text l = rw head_is (text_source text l.stock l.all)
 
-  pub too_long_caused : (text : List ℕ) → CausesLines wait x k (whole_lines bytes) text y pool → CausedText wait x k y bytes 10 ((head ++ text) ++ codes "toolong\n")
+  pub too_long_caused : (text : List ℕ) → CausesLines wait x k (whole_lines bytes) text y pool → CausedText wait x k y bytes 10 (head ++ text) (codes "toolong\n")
   too_long_caused text l = rw head_is (text_long text l.stock l.all)
 
   pub sink_caused : (text : List ℕ) → BeginsCauses wait x k bytes text y → HasSparedCauses wait x k y bytes 4 (head ++ text)
   sink_caused text b = caused_answers refl text b (ap (λ (l : List ℕ). l ++ text) head_is)
 
 -- what was written of a text that ends with this line
-pub last_caused : (wait : ℕ) (x : Shown) (k : Stock) (y : Shown) (bytes text line : List ℕ) (before after : Option (List ℕ)) (code status : ℕ) → CausedText wait x k y bytes code (text ++ line) → (e : EndsWithLine before after line code status)
+pub last_caused : (wait : ℕ) (x : Shown) (k : Stock) (y : Shown) (bytes text line : List ℕ) (before after : Option (List ℕ)) (code status : ℕ) → CausedText wait x k y bytes code text line → (e : EndsWithLine before after line code status)
     → HasSparedCauses wait x k y bytes status (text ++ take e.count line)
 last_caused wait x k y bytes text line before after code status out e = elim e.whole [
-  | inl four ↦ caused_last four code (text ++ line) (drop e.count line) out
-      (ap (λ l. text ++ l) (sym (take-append-drop e.count line)) ∙ sym (append_assoc text (take e.count line) (drop e.count line)))
-  | inr all ↦ caused_whole (subst (λ (n : ℕ). CausedText wait x k y bytes n (text ++ take e.count line)) (sym all.1)
-      (subst (λ (l : List ℕ). CausedText wait x k y bytes code (text ++ l)) (sym (taken e.count line all.0)) out))
+  | inl four ↦ caused_last four code text line e.count out refl
+  | inr all ↦ caused_whole text line (subst (λ (n : ℕ). CausedText wait x k y bytes n text line) (sym all.1) out)
+      (ap (λ (l : List ℕ). text ++ l) (taken e.count line all.0))
 ]
   where
     taken : (n : ℕ) (line : List ℕ) → n ≡ length line → take n line ≡ line

@@ -87,7 +87,7 @@ module _ (seen seen_now : Shown) (span : Span) (supply : Supply) (stood : Point 
       → GrowsByBytes sink.written_before within.written_before (mount_line writes gear) → (s : ServesSpared seen seen_now span supply.wait supply.stock stood (streams_of source_is within) pool result) → EndsWithLine within.written sink.written line code status
       → (IsSome span.now → (p : Point) → stood p → SparedText span supply p s.bytes code ((begins_with p ++ s.text) ++ line))
       → (code ≡ 10 → length s.bytes ≡ 2 ^ 40) → (IsWholeStatus code → (length s.bytes < 2 ^ 40) × AtEnd source_is.left)
-      → CausedText supply.wait seen supply.stock seen_now s.bytes code ((mount_line writes gear ++ s.text) ++ line)
+      → CausedText supply.wait seen supply.stock seen_now s.bytes code (mount_line writes gear ++ s.text) line
       → SparedRun seen seen_now span supply stood (streams_of source_is sink) status
   finish result line code status head s end out full all caused = record {
     bytes = s.bytes;

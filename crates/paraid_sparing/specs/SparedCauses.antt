@@ -76,19 +76,21 @@ HaveSparedCauses wait old k pool (Err Source) bytes text new = CausesLines wait 
 HaveSparedCauses wait old k pool (Err TooLong) bytes text new = CausesLines wait old k (whole_lines bytes) text new pool
 HaveSparedCauses wait old k pool (Err Sink) bytes text new = (b : BeginsCauses wait old k bytes text new) × Keeps pool wait b.i
 
--- The whole text of a run with spares by its status, with the cause of each answer, of each spare and of the flush at the end.
-pub data CausedText (wait : ℕ) (old : Shown) (k : Stock) (new : Shown) (bytes : List ℕ) : ℕ → List ℕ → Type 0 where
+-- The whole text of a run with spares by its status, with the cause of each answer, of each spare and of the flush at the end: what
+-- stands before the last lines, and the last lines.
+pub data CausedText (wait : ℕ) (old : Shown) (k : Stock) (new : Shown) (bytes : List ℕ) : ℕ → List ℕ → List ℕ → Type 0 where
   done : (writes : ℕ) (text : List ℕ) (mid : Shown) (j : Stock) → HaveLineCauses wait old k (lines_of bytes) text mid j → HasCause mid Flush (Flushed writes) new
-      → CausedText wait old k new bytes 0 ((first_line old ++ text) ++ (stock_line j old.setup ++ end_line writes))
+      → CausedText wait old k new bytes 0 (first_line old ++ text) (stock_line j old.setup ++ end_line writes)
   halted : (halt : Halt) (text : List ℕ) (mid : Shown) (j : Stock) → HaveLineCauses wait old k (lines_of bytes) text mid j → HasCause mid Flush (Halted halt) new
-      → CausedText wait old k new bytes (status_of_halt halt) ((first_line old ++ text) ++ (stock_line j old.setup ++ halt_line halt))
-  source : (text : List ℕ) (j : Stock) → HaveLineCauses wait old k (whole_lines bytes) text new j → CausedText wait old k new bytes 3 ((first_line old ++ text) ++ codes "source\n")
-  too_long : (text : List ℕ) (j : Stock) → HaveLineCauses wait old k (whole_lines bytes) text new j → CausedText wait old k new bytes 10 ((first_line old ++ text) ++ codes "toolong\n")
+      → CausedText wait old k new bytes (status_of_halt halt) (first_line old ++ text) (stock_line j old.setup ++ halt_line halt)
+  source : (text : List ℕ) (j : Stock) → HaveLineCauses wait old k (whole_lines bytes) text new j → CausedText wait old k new bytes 3 (first_line old ++ text) (codes "source\n")
+  too_long : (text : List ℕ) (j : Stock) → HaveLineCauses wait old k (whole_lines bytes) text new j → CausedText wait old k new bytes 10 (first_line old ++ text) (codes "toolong\n")
 
--- What was written, with its causes: a whole text; or at 4 a first part of such a text, or of the first line, and then nothing was
--- served; or what tells the lines up to one that was told in part, and then nothing more was served.
+-- What was written, with its causes: a whole text; or at 4 one whose last lines are cut, or a first part of the first line, and then
+-- nothing was served; or what tells the lines up to one that is cut, and then nothing more was served.
 pub data HasSparedCauses (wait : ℕ) (old : Shown) (k : Stock) (new : Shown) (bytes : List ℕ) (status : ℕ) (text : List ℕ) : Type 0 where
-  whole : CausedText wait old k new bytes status text → HasSparedCauses wait old k new bytes status text
-  last_line : status ≡ 4 → (code : ℕ) (full rest : List ℕ) → CausedText wait old k new bytes code full → full ≡ text ++ rest → HasSparedCauses wait old k new bytes status text
+  whole : (front last : List ℕ) → CausedText wait old k new bytes status front last → text ≡ front ++ last → HasSparedCauses wait old k new bytes status text
+  last_lines : status ≡ 4 → (code : ℕ) (front last : List ℕ) (count : ℕ) → CausedText wait old k new bytes code front last → text ≡ front ++ take count last
+      → HasSparedCauses wait old k new bytes status text
   at_first_line : status ≡ 4 → bytes ≡ [] → new ≡ old → (rest : List ℕ) → first_line old ≡ text ++ rest → HasSparedCauses wait old k new bytes status text
   answers : status ≡ 4 → (part : List ℕ) → BeginsCauses wait old k bytes part new → text ≡ first_line old ++ part → HasSparedCauses wait old k new bytes status text
