@@ -1,6 +1,6 @@
 -- From the causes of generated lines to those of the whole text of `gen`.
 use Rattle.std.proofs.Common.{◌≡◌, ℕ, ◌+◌, List, [], ◌∷◌, ◌++◌, length, take, drop, Option, refl, sym, ap, ◌∙◌, inl, inr, arith, subst, take-append-drop, add-one}
-use Rattle.std.proofs.lemmas.List.{append_assoc, take_all}
+use Rattle.std.proofs.lemmas.List.{take_all}
 use Rattle.paraid_base.specs.declared.event.Answer.{Answer}
 use Rattle.paraid_base.specs.declared.event.Answer.TheVariants.{Flushed, Halted}
 use Rattle.paraid_base.specs.declared.event.Event.{Event}
@@ -44,36 +44,35 @@ causes_more {x} {mid} {number} {i} {tally} c event answer y blocks new count is 
 
 -- the lines before the flush
 pub tells_generated : (x mid : Shown) (number count : ℕ) (tally : Tally) (writes gear gear_now energy : ℕ) → mount_line writes gear ≡ first_line x → CountsCauses x number count tally mid → gear_now ≡ mid.gear → energy ≡ mid.energy
-    → TellsGenerated x number count (mount_line writes gear ++ summary count tally gear_now energy) mid
+    → TellsGenerated x number count (mount_line writes gear) (summary count tally gear_now energy) mid
 tells_generated x mid number count tally writes gear gear_now energy shows counts geared used = record {
   tally = tally;
   counts = counts;
-  is = ap (λ (l : List ℕ). l ++ summary count tally gear_now energy) shows ∙ ap (λ (n : ℕ). first_line x ++ summary count tally n energy) geared
-      ∙ ap (λ (n : ℕ). first_line x ++ summary count tally mid.gear n) used;
+  begins = shows;
+  sums = ap (λ (n : ℕ). summary count tally n energy) geared ∙ ap (λ (n : ℕ). summary count tally mid.gear n) used;
 }
 
 -- the last line, or a first part of it
-pub gen_caused : (x y : Shown) (number count : ℕ) (text line : List ℕ) (before after : Option (List ℕ)) (code status : ℕ) → GenCaused x y number count code (text ++ line)
+pub gen_caused : (x y : Shown) (number count : ℕ) (text line : List ℕ) (before after : Option (List ℕ)) (code status : ℕ) → GenCaused x y number count code text line
     → (e : EndsWithLine before after line code status) → HasGenCauses x y number count status (text ++ take e.count line)
 gen_caused x y number count text line before after code status out e = elim e.whole [
-  | inl four ↦ last_line four code (text ++ line) (drop e.count line) out
-      (ap (λ l. text ++ l) (sym (take-append-drop e.count line)) ∙ sym (append_assoc text (take e.count line) (drop e.count line)))
-  | inr all ↦ whole (subst (λ (k : ℕ). GenCaused x y number count k (text ++ take e.count line)) (sym all.1)
-      (subst (λ (l : List ℕ). GenCaused x y number count code (text ++ l)) (sym (taken e.count line all.0)) out))
+  | inl four ↦ last_line four code text line e.count out refl
+  | inr all ↦ whole text line (subst (λ (k : ℕ). GenCaused x y number count k text line) (sym all.1) out)
+      (ap (λ (l : List ℕ). text ++ l) (taken e.count line all.0))
 ]
   where
     taken : (n : ℕ) (line : List ℕ) → n ≡ length line → take n line ≡ line
     taken n line is = take_all n line (omega (arith, is))
 
-pub flushed_caused : (x mid y : Shown) (number count : ℕ) (text : List ℕ) (writes : ℕ) → TellsGenerated x number count text mid → HasCause mid Flush (Flushed writes) y → GenCaused x y number count 0 (text ++ end_line writes)
-flushed_caused x mid y number count text writes lines cause = done writes text mid lines cause
+pub flushed_caused : (x mid y : Shown) (number count : ℕ) (head rest : List ℕ) (writes : ℕ) → TellsGenerated x number count head rest mid → HasCause mid Flush (Flushed writes) y → GenCaused x y number count 0 (head ++ rest) (end_line writes)
+flushed_caused x mid y number count head rest writes lines cause = done writes head rest mid lines cause
 
-pub halt_caused : (x mid y : Shown) (number count : ℕ) (text : List ℕ) (halt : Halt) → TellsGenerated x number count text mid → HasCause mid Flush (Halted halt) y → GenCaused x y number count (status_of_halt halt) (text ++ halt_line halt)
-halt_caused x mid y number count text halt lines cause = halted halt text mid lines cause
+pub halt_caused : (x mid y : Shown) (number count : ℕ) (head rest : List ℕ) (halt : Halt) → TellsGenerated x number count head rest mid → HasCause mid Flush (Halted halt) y → GenCaused x y number count (status_of_halt halt) (head ++ rest) (halt_line halt)
+halt_caused x mid y number count head rest halt lines cause = halted halt head rest mid lines cause
 
 -- the sink failed within the summary, or at the first line
-pub cut_summary : (x mid : Shown) (number count : ℕ) (head rest : List ℕ) (n : ℕ) → TellsGenerated x number count (head ++ rest) mid → HasGenCauses x mid number count 4 (head ++ take n rest)
-cut_summary x mid number count head rest n lines = before_flush refl (head ++ rest) (drop n rest) lines (ap (λ l. head ++ l) (sym (take-append-drop n rest)) ∙ sym (append_assoc head (take n rest) (drop n rest)))
+pub cut_summary : (x mid : Shown) (number count : ℕ) (head rest : List ℕ) (n : ℕ) → TellsGenerated x number count head rest mid → HasGenCauses x mid number count 4 (head ++ take n rest)
+cut_summary x mid number count head rest n lines = before_flush refl head rest n lines refl
 
 pub cut_first : (x : Shown) (number count : ℕ) (head : List ℕ) (n : ℕ) → head ≡ first_line x → HasGenCauses x x number count 4 (take n head)
 cut_first x number count head n is = at_first_line refl refl (drop n head) (sym is ∙ sym (take-append-drop n head))

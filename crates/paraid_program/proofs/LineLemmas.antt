@@ -103,7 +103,7 @@ no_line_run seen slots setup stood told kept writes gear number count counts in_
       (sym (mount_is p writes gear (counts p at_p) (in_gear p at_p)) ∙ sym (take-append-drop part.0 (mount_line writes gear)));
 }
 
-module _ (seen mid : Shown) (slots : ℕ) (setup : Setup) (stood : Point → Type 0) (start middle : Option Trail) (kept : SinkUse) (second : Option (List ℕ)) (writes gear number count : ℕ) (counts : (p : Point) → stood p → writes ≡ length p.history) (in_gear : (p : Point) → stood p → gear ≡ p.state.gear) (tally : Tally) (stands : Point → Type 0) (counted : IsSome middle → (p : Point) → stood p → CountsLines (span_of slots setup start middle) p number count tally stands) (gear_now energy : ℕ) (in_gear_now : (q : Point) → stands q → gear_now ≡ q.state.gear) (used : (q : Point) → stands q → energy ≡ q.energy) (caused : TellsGenerated seen number count (mount_line writes gear ++ summary count tally gear_now energy) mid) (head : GrowsByBytes kept.written_before second (mount_line writes gear)) where
+module _ (seen mid : Shown) (slots : ℕ) (setup : Setup) (stood : Point → Type 0) (start middle : Option Trail) (kept : SinkUse) (second : Option (List ℕ)) (writes gear number count : ℕ) (counts : (p : Point) → stood p → writes ≡ length p.history) (in_gear : (p : Point) → stood p → gear ≡ p.state.gear) (tally : Tally) (stands : Point → Type 0) (counted : IsSome middle → (p : Point) → stood p → CountsLines (span_of slots setup start middle) p number count tally stands) (gear_now energy : ℕ) (in_gear_now : (q : Point) → stands q → gear_now ≡ q.state.gear) (used : (q : Point) → stands q → energy ≡ q.energy) (caused : TellsGenerated seen number count (mount_line writes gear) (summary count tally gear_now energy) mid) (head : GrowsByBytes kept.written_before second (mount_line writes gear)) where
   summary_is : (p : Point) (c : CountsLines (span_of slots setup start middle) p number count tally stands) → summary count tally gear_now energy ≡ summary count (tally_of empty_tally c.all.turns) c.all.end.state.gear c.all.end.energy
   summary_is p c =
       ap (λ (t : Tally). summary count t gear_now energy) c.counts
@@ -131,7 +131,7 @@ module _ (seen mid : Shown) (slots : ℕ) (setup : Setup) (stood : Point → Typ
     ends : (answer : Answer) (line : List ℕ) (code : ℕ) → ((q : Point) → stands q → Ran middle final (GoesOn slots_now setup_now q Flush answer new_stood))
         → EndsWithLine third kept.written line code status
         → ((p : Point) (e : Flushes (span_of slots setup start final) p number count answer) → GenOutput (span_of slots setup start final) p number count code (first_lines p count e.lines.turns e.lines.end ++ line))
-        → GenCaused seen seen_now number count code ((mount_line writes gear ++ summary count tally gear_now energy) ++ line)
+        → GenCaused seen seen_now number count code (mount_line writes gear ++ summary count tally gear_now energy) line
         → GenRun seen seen_now (span_of slots setup start final) stood (record { number = number; count = count; sink = kept }) status
     ends answer line code goes end out full =
         let text = mount_line writes gear ++ summary count tally gear_now energy in
@@ -149,11 +149,11 @@ module _ (seen mid : Shown) (slots : ℕ) (setup : Setup) (stood : Point → Typ
 
     pub done_gen : (writes_now : ℕ) → HasCause mid Flush (Flushed writes_now) seen_now → ((q : Point) → stands q → Ran middle final (GoesOn slots_now setup_now q Flush (Flushed writes_now) new_stood)) → EndsWithLine third kept.written (end_line writes_now) 0 status
         → GenRun seen seen_now (span_of slots setup start final) stood (record { number = number; count = count; sink = kept }) status
-    done_gen writes_now cause goes end = ends (Flushed writes_now) (end_line writes_now) 0 goes end (λ p e. done writes_now e) (flushed_caused seen mid seen_now number count (mount_line writes gear ++ summary count tally gear_now energy) writes_now caused cause)
+    done_gen writes_now cause goes end = ends (Flushed writes_now) (end_line writes_now) 0 goes end (λ p e. done writes_now e) (flushed_caused seen mid seen_now number count (mount_line writes gear) (summary count tally gear_now energy) writes_now caused cause)
 
     pub halted_gen : (halt : Halt) → HasCause mid Flush (Halted halt) seen_now → ((q : Point) → stands q → Ran middle final (GoesOn slots_now setup_now q Flush (Halted halt) new_stood)) → EndsWithLine third kept.written (halt_line halt) (status_of_halt halt) status
         → GenRun seen seen_now (span_of slots setup start final) stood (record { number = number; count = count; sink = kept }) status
-    halted_gen halt cause goes end = ends (Halted halt) (halt_line halt) (status_of_halt halt) goes end (λ p e. halted halt e) (halt_caused seen mid seen_now number count (mount_line writes gear ++ summary count tally gear_now energy) halt caused cause)
+    halted_gen halt cause goes end = ends (Halted halt) (halt_line halt) (status_of_halt halt) goes end (λ p e. halted halt e) (halt_caused seen mid seen_now number count (mount_line writes gear) (summary count tally gear_now energy) halt caused cause)
 
 pub gen_headline : (seen seen_now : Shown) (span : Span) (began : ℕ) (stood : Point → Type 0) (gen : GenStreams) (status : ℕ)
     → IsMountedFromEach span.slots span.setup began span.start stood → GenRun seen seen_now span stood gen status → GenHeadline seen seen_now span began gen status

@@ -1,5 +1,5 @@
 -- Why `gen` tells what it tells, whatever the rack holds: each line is answered with its cause, and counted by its answer.
-use Rattle.std.specs.Prelude.{◌≡◌, ℕ, List, [], ◌∷◌, ◌++◌}
+use Rattle.std.specs.Prelude.{◌≡◌, ℕ, List, [], ◌∷◌, ◌++◌, take}
 use Rattle.paraid_base.specs.declared.event.Answer.{Answer}
 use Rattle.paraid_base.specs.declared.event.Answer.TheVariants.{Flushed, Halted}
 use Rattle.paraid_base.specs.declared.event.Event.{Event}
@@ -27,20 +27,25 @@ pub record CountsCauses (old : Shown) (number count : ℕ) (tally : Tally) (new 
 
 -- The lines before the last one: that of the mount, and the summary, with the gear that is seen then: that of the meta, or after a
 -- halt the one before it.
-pub record TellsGenerated (old : Shown) (number count : ℕ) (text : List ℕ) (new : Shown) : Type 0 where
+pub record TellsGenerated (old : Shown) (number count : ℕ) (head rest : List ℕ) (new : Shown) : Type 0 where
   pub tally : Tally
   pub counts : CountsCauses old number count tally new
-  pub is : text ≡ first_line old ++ summary count tally new.gear new.energy
+  pub begins : head ≡ first_line old
+  pub sums : rest ≡ summary count tally new.gear new.energy
 
--- The whole text of `gen` by its status, with the cause of the flush at the end.
-pub data GenCaused (old new : Shown) (number count : ℕ) : ℕ → List ℕ → Type 0 where
-  done : (writes : ℕ) (text : List ℕ) (mid : Shown) → TellsGenerated old number count text mid → HasCause mid Flush (Flushed writes) new → GenCaused old new number count 0 (text ++ end_line writes)
-  halted : (halt : Halt) (text : List ℕ) (mid : Shown) → TellsGenerated old number count text mid → HasCause mid Flush (Halted halt) new → GenCaused old new number count (status_of_halt halt) (text ++ halt_line halt)
+-- The whole text of `gen` by its status, with the cause of the flush at the end: what stands before the last line, and the last line.
+pub data GenCaused (old new : Shown) (number count : ℕ) : ℕ → List ℕ → List ℕ → Type 0 where
+  done : (writes : ℕ) (head rest : List ℕ) (mid : Shown) → TellsGenerated old number count head rest mid → HasCause mid Flush (Flushed writes) new
+      → GenCaused old new number count 0 (head ++ rest) (end_line writes)
+  halted : (halt : Halt) (head rest : List ℕ) (mid : Shown) → TellsGenerated old number count head rest mid → HasCause mid Flush (Halted halt) new
+      → GenCaused old new number count (status_of_halt halt) (head ++ rest) (halt_line halt)
 
--- What was written, with its causes: the whole text of the status; or at 4 a first part of such a text, or of the lines before the
--- flush, or of the first line, and then no event was made.
+-- What was written, with its causes: the whole text of the status; or at 4 one whose last line is cut, or the lines before it with a
+-- cut summary, and then nothing was flushed, or a first part of the first line, and then no event was made.
 pub data HasGenCauses (old new : Shown) (number count status : ℕ) (text : List ℕ) : Type 0 where
-  whole : GenCaused old new number count status text → HasGenCauses old new number count status text
-  last_line : status ≡ 4 → (code : ℕ) (full rest : List ℕ) → GenCaused old new number count code full → full ≡ text ++ rest → HasGenCauses old new number count status text
-  before_flush : status ≡ 4 → (full rest : List ℕ) → TellsGenerated old number count full new → full ≡ text ++ rest → HasGenCauses old new number count status text
+  whole : (front last : List ℕ) → GenCaused old new number count status front last → text ≡ front ++ last → HasGenCauses old new number count status text
+  last_line : status ≡ 4 → (code : ℕ) (front last : List ℕ) (n : ℕ) → GenCaused old new number count code front last → text ≡ front ++ take n last
+      → HasGenCauses old new number count status text
+  before_flush : status ≡ 4 → (head rest : List ℕ) (n : ℕ) → TellsGenerated old number count head rest new → text ≡ head ++ take n rest
+      → HasGenCauses old new number count status text
   at_first_line : status ≡ 4 → new ≡ old → (rest : List ℕ) → first_line old ≡ text ++ rest → HasGenCauses old new number count status text
