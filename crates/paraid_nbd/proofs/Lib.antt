@@ -5,3 +5,4 @@ pub mod ErrorLemmas
 pub mod WriteLemmas
 pub mod ServiceLemmas
 pub mod UniqueLemmas
+pub mod AskedLemmas

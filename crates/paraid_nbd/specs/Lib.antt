@@ -6,4 +6,5 @@ pub mod Export
 pub mod Handshake
 pub mod Service
 pub mod Performing
+pub mod Asked
 pub mod Errors

@@ -1,7 +1,10 @@
 //! The bytes of a block device, read and written at any place.
 ghost use Rattle.std.specs.Prelude.{◌≡◌, ◌*◌, ◌+◌, ◌-◌, ◌/◌, ◌%◌, ◌^◌, ◌<◌, ◌≤◌, ℕ, [], length, min, slice_index, OnOk, OnErr, IsTrue};
 ghost use Rattle.paraid_base.specs.History.{History, after_all};
-ghost use Rattle.paraid_nbd.specs.Errors.{KeepsHalted, KeepsServed};
+ghost use Rattle.paraid_base.specs.declared.event.Event.TheVariants.{Read, Write};
+ghost use Rattle.paraid_base.specs.Pairs.{single_pair};
+ghost use Rattle.paraid_nbd.specs.Asked.{KeepsBy, IsOneRead, IsOneWrite, IsRestRead, IsPartWritten, AreBytesRead, ArePartsWritten};
+ghost use Rattle.paraid_nbd.specs.Asked.{KeepsHalted, HaltsAtOnce, IsRestHalted, IsPartHalted, IsReadHalted, IsWriteHalted};
 ghost use Rattle.paraid_nbd.specs.Export.{ForEachState, KeepsOn, HaltsHere, blocks_joined, export_bytes, HasRead, HasBytes, HasRest, HasBlock, HasPart, HasWritten, Stops};
 
 use paraid_base::{BLOCK_SIZE, Block, BlockFault, BlockNo, Halt};
@@ -38,8 +41,10 @@ fn read_block<B: Blocks>(blocks: &mut B, block: BlockNo, into: &mut Block) -> Re
     ensures size { B.block_count blocks.new ≡ B.block_count blocks.old }
     ensures told { IsTrue (B.tells blocks.new) → IsTrue (B.tells blocks.old) }
     ensures keeps { KeepsOn B.kept blocks.old blocks.new }
-    ensures serves { OnOk result (KeepsServed B.kept blocks.old blocks.new) }
-    ensures halts { OnErr result (KeepsHalted B.kept blocks.old blocks.new) }
+    ensures serves { OnOk result (KeepsBy B.kept blocks.old blocks.new
+        (IsOneRead block into.new)) }
+    ensures halts { OnErr result (KeepsHalted B.kept blocks.old blocks.new
+        (HaltsAtOnce (Read block))) }
     ensures read { OnOk result ((first : B) → ForEachState (B.stands blocks.old) (B.halted blocks.old) (B.kept first blocks.old)
         (B.tells blocks.new) (λ s events. HasRead (B.stands blocks.new) (B.halted blocks.new) (B.kept first blocks.new) s events block into.new)) }
     ensures stops { OnErr result ((first : B) → ForEachState (B.stands blocks.old) (B.halted blocks.old) (B.kept first blocks.old)
@@ -58,8 +63,10 @@ fn write_block<B: Blocks>(blocks: &mut B, block: BlockNo, bytes: &Block) -> Resu
     ensures size { B.block_count blocks.new ≡ B.block_count blocks.old }
     ensures told { IsTrue (B.tells blocks.new) → IsTrue (B.tells blocks.old) }
     ensures keeps { KeepsOn B.kept blocks.old blocks.new }
-    ensures serves { OnOk result (KeepsServed B.kept blocks.old blocks.new) }
-    ensures halts { OnErr result (KeepsHalted B.kept blocks.old blocks.new) }
+    ensures serves { OnOk result (KeepsBy B.kept blocks.old blocks.new
+        (IsOneWrite block bytes.now)) }
+    ensures halts { OnErr result (KeepsHalted B.kept blocks.old blocks.new
+        (HaltsAtOnce (Write (single_pair block bytes.now)))) }
     ensures written { OnOk result ((first : B) → ForEachState (B.stands blocks.old) (B.halted blocks.old) (B.kept first blocks.old)
         (B.tells blocks.new) (λ s events. HasBlock (B.stands blocks.new) (B.halted blocks.new) (B.kept first blocks.new) s events block bytes.now)) }
     ensures stops { OnErr result ((first : B) → ForEachState (B.stands blocks.old) (B.halted blocks.old) (B.kept first blocks.old)
@@ -88,8 +95,10 @@ pub(crate) fn read_bytes<B: Blocks>(
     ensures size { B.block_count blocks.new ≡ B.block_count blocks.old }
     ensures told { IsTrue (B.tells blocks.new) → IsTrue (B.tells blocks.old) }
     ensures keeps { KeepsOn B.kept blocks.old blocks.new }
-    ensures serves { OnOk result (KeepsServed B.kept blocks.old blocks.new) }
-    ensures halts { OnErr result (KeepsHalted B.kept blocks.old blocks.new) }
+    ensures serves { OnOk result (KeepsBy B.kept blocks.old blocks.new
+        (AreBytesRead offset into.new)) }
+    ensures halts { OnErr result (KeepsHalted B.kept blocks.old blocks.new
+        (IsReadHalted offset (length into.old))) }
     ensures read { OnOk result ((first : B) → ForEachState (B.stands blocks.old) (B.halted blocks.old) (B.kept first blocks.old)
         (B.tells blocks.new) (λ s events. HasBytes (B.stands blocks.new) (B.halted blocks.new) (B.kept first blocks.new) s events offset into.new)) }
     ensures stops { OnErr result ((first : B) → ForEachState (B.stands blocks.old) (B.halted blocks.old) (B.kept first blocks.old)
@@ -115,8 +124,10 @@ pub(crate) fn write_bytes<B: Blocks>(blocks: &mut B, offset: u64, from: &[u8]) -
     ensures size { B.block_count blocks.new ≡ B.block_count blocks.old }
     ensures told { IsTrue (B.tells blocks.new) → IsTrue (B.tells blocks.old) }
     ensures keeps { KeepsOn B.kept blocks.old blocks.new }
-    ensures serves { OnOk result (KeepsServed B.kept blocks.old blocks.new) }
-    ensures halts { OnErr result (KeepsHalted B.kept blocks.old blocks.new) }
+    ensures serves { OnOk result (KeepsBy B.kept blocks.old blocks.new
+        (ArePartsWritten offset from.now)) }
+    ensures halts { OnErr result (KeepsHalted B.kept blocks.old blocks.new
+        (IsWriteHalted offset from.now)) }
     ensures written { OnOk result ((first : B) → ForEachState (B.stands blocks.old) (B.halted blocks.old) (B.kept first blocks.old)
         (B.tells blocks.new) (λ s events. HasWritten (B.stands blocks.new) (B.halted blocks.new) (B.kept first blocks.new) s events offset from.now)) }
     ensures stops { OnErr result ((first : B) → ForEachState (B.stands blocks.old) (B.halted blocks.old) (B.kept first blocks.old)
@@ -139,8 +150,10 @@ fn write_part<B: Blocks>(blocks: &mut B, part: Part, bytes: &[u8]) -> Result<(),
     ensures size { B.block_count blocks.new ≡ B.block_count blocks.old }
     ensures told { IsTrue (B.tells blocks.new) → IsTrue (B.tells blocks.old) }
     ensures keeps { KeepsOn B.kept blocks.old blocks.new }
-    ensures serves { OnOk result (KeepsServed B.kept blocks.old blocks.new) }
-    ensures halts { OnErr result (KeepsHalted B.kept blocks.old blocks.new) }
+    ensures serves { OnOk result (KeepsBy B.kept blocks.old blocks.new
+        (IsPartWritten part.block part.start bytes.now)) }
+    ensures halts { OnErr result (KeepsHalted B.kept blocks.old blocks.new
+        (IsPartHalted part.block part.start bytes.now)) }
     ensures written { OnOk result ((first : B) → ForEachState (B.stands blocks.old) (B.halted blocks.old) (B.kept first blocks.old)
         (B.tells blocks.new) (λ s events. HasPart (B.stands blocks.new) (B.halted blocks.new) (B.kept first blocks.new) s events part.block part.start bytes.now)) }
     ensures stops { OnErr result ((first : B) → ForEachState (B.stands blocks.old) (B.halted blocks.old) (B.kept first blocks.old)
@@ -159,8 +172,10 @@ fn read_rest<B: Blocks>(blocks: &mut B, part: Part, into: &mut Block) -> Result<
     ensures size { B.block_count blocks.new ≡ B.block_count blocks.old }
     ensures told { IsTrue (B.tells blocks.new) → IsTrue (B.tells blocks.old) }
     ensures keeps { KeepsOn B.kept blocks.old blocks.new }
-    ensures serves { OnOk result (KeepsServed B.kept blocks.old blocks.new) }
-    ensures halts { OnErr result (KeepsHalted B.kept blocks.old blocks.new) }
+    ensures serves { OnOk result (KeepsBy B.kept blocks.old blocks.new
+        (IsRestRead part.length part.block into.new)) }
+    ensures halts { OnErr result (KeepsHalted B.kept blocks.old blocks.new
+        (IsRestHalted part.length part.block)) }
     ensures read { OnOk result ((first : B) → ForEachState (B.stands blocks.old) (B.halted blocks.old) (B.kept first blocks.old)
         (B.tells blocks.new) (λ s events. HasRest (B.stands blocks.new) (B.halted blocks.new) (B.kept first blocks.new) s events part.block part.length into.new)) }
     ensures stops { OnErr result ((first : B) → ForEachState (B.stands blocks.old) (B.halted blocks.old) (B.kept first blocks.old)

@@ -1,6 +1,7 @@
 //! The service: the options, and then one request after the other.
 ghost use Rattle.std.specs.Prelude.{◌≡◌, ◌≢◌, ◌*◌, ◌+◌, ◌^◌, ◌≤◌, ◌<◌, ◌++◌, ℕ, List, [], length, take, min, IfOk, IfErr, OnOk, IsTrue};
-ghost use Rattle.paraid_nbd.specs.Errors.{ComesOver};
+ghost use Rattle.paraid_nbd.specs.Asked.{KeepsBy};
+ghost use Rattle.paraid_nbd.specs.Errors.{ComesBy};
 ghost use Rattle.paraid_nbd.specs.Export.{ForEachState, KeepsOn};
 ghost use Rattle.paraid_nbd.specs.Requests.{IsRequestMagic, content_length, outcome_of, reply_head};
 ghost use Rattle.paraid_nbd.specs.Performing.{Fills, Performs, TakesContent, said_with};
@@ -210,7 +211,8 @@ fn perform<B: Blocks>(
     requires room { Fills request.now outcome content.old }
     ensures performs { (first : B) → ForEachState (B.stands blocks.old) (B.halted blocks.old) (B.kept first blocks.old)
         (B.tells blocks.new) (λ s events. Performs size (B.stands blocks.new) (B.halted blocks.new) (B.kept first blocks.new) s events request.now content.old content.new result) }
-    ensures comes { ComesOver B.kept blocks.old blocks.new size request.now result }
+    ensures comes { KeepsBy B.kept blocks.old blocks.new
+        (ComesBy size request.now content.old content.new result) }
     ensures many { request.now.command ≡ Command.Read → result ≡ Outcome.Done
         → length content.new ≡ request.now.length }
     ensures size { B.block_count blocks.new ≡ B.block_count blocks.old }
@@ -238,7 +240,8 @@ fn perform_read<B: Blocks>(blocks: &mut B, request: &Request, content: &mut [u8]
         (B.tells blocks.new) (λ s events. Performs (512 * B.block_count blocks.old)
         (B.stands blocks.new) (B.halted blocks.new) (B.kept first blocks.new)
         s events request.now content.old content.new result) }
-    ensures comes { ComesOver B.kept blocks.old blocks.new (512 * B.block_count blocks.old) request.now result }
+    ensures comes { KeepsBy B.kept blocks.old blocks.new
+        (ComesBy (512 * B.block_count blocks.old) request.now content.old content.new result) }
     ensures size { B.block_count blocks.new ≡ B.block_count blocks.old }
     ensures told { IsTrue (B.tells blocks.new) → IsTrue (B.tells blocks.old) }
     ensures keeps { KeepsOn B.kept blocks.old blocks.new }
@@ -259,7 +262,8 @@ fn perform_write<B: Blocks>(blocks: &mut B, request: &Request, content: &mut [u8
         (B.tells blocks.new) (λ s events. Performs (512 * B.block_count blocks.old)
         (B.stands blocks.new) (B.halted blocks.new) (B.kept first blocks.new)
         s events request.now content.old content.new result) }
-    ensures comes { ComesOver B.kept blocks.old blocks.new (512 * B.block_count blocks.old) request.now result }
+    ensures comes { KeepsBy B.kept blocks.old blocks.new
+        (ComesBy (512 * B.block_count blocks.old) request.now content.old content.new result) }
     ensures size { B.block_count blocks.new ≡ B.block_count blocks.old }
     ensures told { IsTrue (B.tells blocks.new) → IsTrue (B.tells blocks.old) }
     ensures keeps { KeepsOn B.kept blocks.old blocks.new }
@@ -280,7 +284,8 @@ fn perform_flush<B: Blocks>(blocks: &mut B, request: &Request, content: &mut [u8
         (B.tells blocks.new) (λ s events. Performs (512 * B.block_count blocks.old)
         (B.stands blocks.new) (B.halted blocks.new) (B.kept first blocks.new)
         s events request.now content.old content.new result) }
-    ensures comes { ComesOver B.kept blocks.old blocks.new (512 * B.block_count blocks.old) request.now result }
+    ensures comes { KeepsBy B.kept blocks.old blocks.new
+        (ComesBy (512 * B.block_count blocks.old) request.now content.old content.new result) }
     ensures size { B.block_count blocks.new ≡ B.block_count blocks.old }
     ensures told { IsTrue (B.tells blocks.new) → IsTrue (B.tells blocks.old) }
     ensures keeps { KeepsOn B.kept blocks.old blocks.new }

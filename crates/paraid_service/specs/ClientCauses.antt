@@ -33,7 +33,7 @@ pub record Midpoint : Type 0 where
 -- reply could not be written whole.
 pub data EndsByReply (size : ℕ) (m : Midpoint) (x : Streams) (taken : ℕ) (end : NbdEnd) (events : Answers) : Type 0 where
   unread : StopsRequest m.left x.source.left m.at taken m.low x.source.faults end → GrowsByBytes m.said x.sink.written [] → events ≡ [] → EndsByReply size m x taken end events
-  unsent : (p : RequestParts) (out : List ℕ) → IsRequest p → Takes m.left x.source.left m.at taken (request_bytes p) → IsReplyTo size (request_in p.head) out events
+  unsent : (p : RequestParts) (out : List ℕ) → IsRequest p → Takes m.left x.source.left m.at taken (request_bytes p) → IsReplyTo size (request_in p.head) p.content out events
       → IsUnsent m.said x.sink.written out m.sink_low x.sink.faults end → EndsByReply size m x taken end events
 
 -- Requests were answered, one after the other, from one point to the end. These are all their events.

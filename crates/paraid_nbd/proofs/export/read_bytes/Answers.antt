@@ -1,21 +1,25 @@
 use Rattle.std.proofs.lemmas.Result.{err_from_is_err_and}
-use Rattle.std.proofs.Common.{◌≡◌, ◌≤◌, ◌+◌, ◌-◌, ◌++◌, ℕ, List, length, take, drop, arith, refl, sym, ap, ◌∙◌, subst, OnErr, Result, Ok, Err, length-drop}
+use Rattle.std.proofs.Common.{inl, ◌≡◌, ◌≤◌, ◌+◌, ◌-◌, ◌++◌, ℕ, List, length, take, drop, arith, refl, sym, ap, ◌∙◌, subst, OnErr, Result, Ok, Err, length-drop}
 use borrow.Rule.Slice.PartMut.{put_mid}
 use Rattle.std.proofs.lemmas.List.{length-take-le, take_all}
 use Rattle.std.proofs.lemmas.Slice.{take-put_mid}
 use Rattle.paraid_nbd.specs.Export.{HasBytes}
 use Rattle.paraid_nbd.proofs.TakingLemmas.{length-put_mid}
-use Rattle.paraid_nbd.proofs.ErrorLemmas.{halts_on_then, serves_on_none, serves_on_then}
+use Rattle.paraid_nbd.proofs.ErrorLemmas.{by_none, by_then, halts_on_then}
+use Rattle.paraid_nbd.specs.Asked.{AreBytesRead, KeepsBy}
+use Rattle.paraid_nbd.specs.Asked.AreBytesRead.{Nothing_read}
+use Rattle.paraid_nbd.proofs.AskedLemmas.{asked_read, asked_read_halts, at_start_next, next_part}
 use Rattle.paraid_nbd.proofs.DeviceLemmas.{bytes_none, bytes_more, halts_later, keeps_none, keeps_then}
 use Rattle.paraid_nbd.proofs.export.read_bytes.Goals as goal
 
 pub loop-done-init : goal.loop-done-init
 loop-done-init g c = record {
   within = omega arith;
+  whole = inl refl;
   size = refl;
   told = λ t. t;
   keeps = keeps_none _ _;
-  serves = serves_on_none _ _;
+  serves = by_none _ _ Nothing_read;
   read = λ first tells s events is kept. bytes_none c.args.offset is kept;
 }
 
@@ -33,7 +37,9 @@ returns-in_err-read_block g c =
       told = λ t. c.loop-done.invariant.told (c.in_err-read_block.ensures.told t);
       keeps = keeps_then _ _ _ _ i.keeps e.keeps;
       serves = rw (err_from_is_err_and c.from_residual.result c.from_residual.ensures.1).1 tt;
-      halts = on_err c.from_residual.result (halts_on_then _ _ _ _ i.serves e.halts);
+      halts = on_err c.from_residual.result (halts_on_then _ _ _ _
+          (asked_read_halts c.args.offset c.loop-done.done c.at-part.result.block (length c.args.into.now) (take c.loop-done.done c.loop-done.into) (length-take-le c.loop-done.done c.loop-done.into i.within) c.at-part.ensures.block (omega (arith, c.loop-done-test.true, c.loop-done.auto.into)))
+          i.serves e.halts);
       read = rw p.1 tt;
       stops = on_err c.from_residual.result (λ first tells s events is kept.
           let r = i.read first (e.told tells) s events is kept in
@@ -58,14 +64,18 @@ loop-done-preserved g c =
     ap length piece ∙ length-take-le part.length (drop part.start c.read_block.new.into.bytes) (omega (arith, length-drop part.start c.read_block.new.into.bytes, c.read_block.new.into.whole)) in
     let k : ℕ = done + part.length - done in
     let k_is : k ≡ part.length = omega arith in
+    let same : length (put_mid done k c.loop-done.into c.copy_from_slice.new.self) ≡ length c.loop-done.into = length-put_mid done k c.loop-done.into c.copy_from_slice.new.self (many ∙ sym k_is) (omega (arith, k_is, within)) in
     let all : take (done + part.length) (put_mid done k c.loop-done.into c.copy_from_slice.new.self) ≡ take done c.loop-done.into ++ take part.length (drop part.start c.read_block.new.into.bytes) =
     take-put_mid done k c.loop-done.into c.copy_from_slice.new.self (done + part.length) (omega (arith, many)) i.within ∙ ap (λ (x : List ℕ). take done c.loop-done.into ++ x) piece in
     record {
-      within = rw (length-put_mid done k c.loop-done.into c.copy_from_slice.new.self (many ∙ sym k_is) (omega (arith, k_is, within))) within;
+      within = rw same within;
+      whole = rw same (at_start_next c.args.offset done (length c.loop-done.into) part.length place.length c.loop-done-test.true);
       size = e.size ∙ i.size;
       told = λ t. i.told (e.told t);
       keeps = keeps_then _ _ _ _ i.keeps e.keeps;
-      serves = serves_on_then _ _ _ _ i.serves e.serves;
+      serves = rw all (by_then _ _ _ _
+          (asked_read c.args.offset done part.block part.start part.length (take done c.loop-done.into) c.read_block.new.into front place.block place.start (next_part c.args.offset done (length c.loop-done.into) part.length place.length c.loop-done-test.true i.whole))
+          i.serves e.serves);
       read = λ first tells s events is kept.
           let r = i.read first (e.told tells) s events is kept in
           rw all (bytes_more part.block part.start part.length c.read_block.new.into r (omega (arith, place.block, place.start, front)) inside (omega (arith, place.length, place.start, c.loop-done-test.true)) (e.read first tells s (events ++ r.new) r.now r.kept_is));
@@ -76,7 +86,9 @@ returns g c = record {
   size = c.loop-done.invariant.size;
   told = c.loop-done.invariant.told;
   keeps = c.loop-done.invariant.keeps;
-  serves = c.loop-done.invariant.serves;
+  serves =
+      let b = g.B.Blocks in
+      subst (λ (x : List ℕ). KeepsBy b.kept c.args.blocks.now c.loop-done.blocks (AreBytesRead c.args.offset x)) (take_all c.loop-done.done c.loop-done.into (omega (arith, c.loop-done-test.false))) c.loop-done.invariant.serves;
   halts = tt;
   read = λ first tells s events is kept.
       let b = g.B.Blocks in

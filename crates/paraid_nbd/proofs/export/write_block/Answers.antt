@@ -1,6 +1,6 @@
 use Rattle.std.proofs.Common.{refl, rules}
 use Rattle.paraid_nbd.proofs.DeviceLemmas.{halted_call, keeps_call}
-use Rattle.paraid_nbd.proofs.ErrorLemmas.{halts_on_call, serves_on_call}
+use Rattle.paraid_nbd.proofs.ErrorLemmas.{by_call, halts_on_call}
 use Rattle.paraid_nbd.proofs.export.write_block.Goals as goal
 
 pub returns-in-Err-Halt : goal.returns-in-Err-Halt
@@ -21,4 +21,4 @@ pub returns-in-Ok-clause-keeps : goal.returns-in-Ok-clause-keeps
 returns-in-Ok-clause-keeps g c = keeps_call _ _ _ _ c.write.ensures.events
 
 pub returns-in-Ok-clause-serves : goal.returns-in-Ok-clause-serves
-returns-in-Ok-clause-serves g c = serves_on_call _ _ _ _ c.in-Ok.ensures.events refl
+returns-in-Ok-clause-serves g c = by_call _ _ _ _ c.in-Ok.ensures.events (_, refl)

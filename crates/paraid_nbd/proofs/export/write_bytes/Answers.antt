@@ -1,9 +1,11 @@
-use Rattle.std.proofs.Common.{◌≡◌, ◌≤◌, ◌+◌, ◌-◌, ◌%◌, ◌++◌, ◌<◌, ◌⊎◌, inl, inr, ℕ, List, Result, Ok, Err, OnErr, length, take, drop, min, arith, refl, ap, ◌∙◌, subst}
-use Rattle.std.proofs.lemmas.Bool.{cases_lt}
+use Rattle.std.proofs.Common.{◌≡◌, ◌≤◌, ◌+◌, ◌-◌, ◌%◌, ◌++◌, ◌<◌, ◌⊎◌, inl, inr, ℕ, List, Result, Ok, Err, OnErr, length, take, drop, arith, refl, ap, ◌∙◌, subst}
 use Rattle.std.proofs.lemmas.List.{take_all}
 use Rattle.std.proofs.lemmas.Result.{err_from_is_err_and}
 use Rattle.paraid_nbd.specs.Export.{HasWritten}
-use Rattle.paraid_nbd.proofs.ErrorLemmas.{halts_on_then, serves_on_none, serves_on_then}
+use Rattle.paraid_nbd.proofs.ErrorLemmas.{by_none, by_then, halts_on_then}
+use Rattle.paraid_nbd.specs.Asked.{ArePartsWritten, KeepsBy}
+use Rattle.paraid_nbd.specs.Asked.ArePartsWritten.{Nothing_written}
+use Rattle.paraid_nbd.proofs.AskedLemmas.{asked_write, asked_write_halts, at_start_next, next_part}
 use Rattle.paraid_nbd.proofs.DeviceLemmas.{keeps_none, keeps_then}
 use Rattle.paraid_nbd.proofs.WriteLemmas.{written_none, written_more, stops_after}
 use Rattle.paraid_nbd.proofs.export.write_bytes.Goals as goal
@@ -15,7 +17,7 @@ loop-done-init g c = record {
   size = refl;
   told = λ t. t;
   keeps = keeps_none _ _;
-  serves = serves_on_none _ _;
+  serves = by_none _ _ Nothing_written;
   written = λ first tells s events is kept. written_none s c.args.offset is kept;
 }
 
@@ -27,12 +29,20 @@ pub returns-in_err-write_part : goal.returns-in_err-write_part
 returns-in_err-write_part g c =
     let i = c.loop-done.invariant in
     let e = c.in_err-write_part.ensures in
+    let done = c.loop-done.done in
+    let part = c.at-part.result in
+    let place = c.at-part.ensures in
+    let n_is : done + part.length - done ≡ part.length = omega arith in
+    let piece : take (done + part.length - done) (drop done c.args.from.now) ≡ take part.length (drop done c.args.from.now) = ap (λ (x : ℕ). take x (drop done c.args.from.now)) n_is in
+    let within : done + part.length ≤ length c.args.from.now = omega (arith, place.length, i.within) in
     record {
       size = c.in_err-write_part.ensures.size ∙ c.loop-done.invariant.size;
       told = λ t. c.loop-done.invariant.told (c.in_err-write_part.ensures.told t);
       keeps = keeps_then _ _ _ _ i.keeps e.keeps;
       serves = rw (err_from_is_err_and c.from_residual.result c.from_residual.ensures.1).1 tt;
-      halts = on_err c.from_residual.result (halts_on_then _ _ _ _ i.serves e.halts);
+      halts = on_err c.from_residual.result (halts_on_then _ _ _ _
+          (asked_write_halts c.args.offset done part.block part.start part.length c.args.from.now _ within piece place.block place.start (next_part c.args.offset done (length c.args.from.now) part.length place.length c.loop-done-test.true i.whole))
+          i.serves e.halts);
       written = rw (err_from_is_err_and c.from_residual.result c.from_residual.ensures.1).1 tt;
       stops = on_err c.from_residual.result (λ first tells s events is kept.
           let r = i.written first (e.told tells) s events is kept in
@@ -43,12 +53,6 @@ start_side : (offset done size start : ℕ) → start ≡ (offset + done) % 512 
 start_side offset done size start is lt (inl first) = inl first
 start_side offset done size start is lt (inr (inl whole)) = inr (is ∙ whole)
 start_side offset done size start is lt (inr (inr last)) = absurd (omega arith)
-
-next_whole : (offset done size n : ℕ) → n ≡ min (size - done) (512 - (offset + done) % 512) → done < size → (done + n ≡ 0) ⊎ (((offset + (done + n)) % 512 ≡ 0) ⊎ (done + n ≡ size))
-next_whole offset done size n is lt = elim (cases_lt (size - done) (512 - (offset + done) % 512)) [
-  | inl less ↦ inr (inr (omega arith))
-  | inr more ↦ inr (inl (omega arith))
-]
 
 pub loop-done-preserved : goal.loop-done-preserved
 loop-done-preserved g c =
@@ -62,11 +66,13 @@ loop-done-preserved g c =
     let within : done + part.length ≤ length c.args.from.now = omega (arith, place.length, i.within) in
     record {
       within = within;
-      whole = next_whole c.args.offset done (length c.args.from.now) part.length place.length c.loop-done-test.true;
+      whole = at_start_next c.args.offset done (length c.args.from.now) part.length place.length c.loop-done-test.true;
       size = e.size ∙ i.size;
       told = λ t. i.told (e.told t);
       keeps = keeps_then _ _ _ _ i.keeps e.keeps;
-      serves = serves_on_then _ _ _ _ i.serves e.serves;
+      serves = by_then _ _ _ _
+          (asked_write c.args.offset done part.block part.start part.length c.args.from.now _ within piece place.block place.start (next_part c.args.offset done (length c.args.from.now) part.length place.length c.loop-done-test.true i.whole))
+          i.serves e.serves;
       written = λ first tells s events is kept.
           let r = i.written first (e.told tells) s events is kept in
           written_more done c.args.from.now part.block part.start part.length _ r (omega (arith, place.block, place.start)) (omega (arith, place.start, place.length)) (omega (arith, place.length, place.start, c.loop-done-test.true)) within
@@ -78,7 +84,9 @@ returns g c = record {
   size = c.loop-done.invariant.size;
   told = c.loop-done.invariant.told;
   keeps = c.loop-done.invariant.keeps;
-  serves = c.loop-done.invariant.serves;
+  serves =
+      let b = g.B.Blocks in
+      subst (λ (x : List ℕ). KeepsBy b.kept c.args.blocks.now c.loop-done.blocks (ArePartsWritten c.args.offset x)) (take_all c.loop-done.done c.args.from.now (omega (arith, c.loop-done-test.false))) c.loop-done.invariant.serves;
   halts = tt;
   written = λ first tells s events is kept.
       let b = g.B.Blocks in

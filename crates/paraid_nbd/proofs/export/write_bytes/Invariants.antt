@@ -1,5 +1,5 @@
 use Rattle.std.proofs.Common.{◌≡◌, ◌≤◌, ◌-◌, ◌+◌, ◌%◌, ◌⊎◌, length, take, IsTrue}
-use Rattle.paraid_nbd.specs.Errors.{KeepsServed}
+use Rattle.paraid_nbd.specs.Asked.{ArePartsWritten, KeepsBy}
 use Rattle.paraid_nbd.specs.Export.{ForEachState, KeepsOn, HasWritten}
 use Rattle.paraid_nbd.proofs.export.write_bytes.Given as goal
 
@@ -12,7 +12,7 @@ invariant-loop-done g l =
       size : b.block_count l.blocks ≡ b.block_count l.initial.blocks;
       told : IsTrue (b.tells l.blocks) → IsTrue (b.tells l.initial.blocks);
       keeps : KeepsOn b.kept l.initial.blocks l.blocks;
-      serves : KeepsServed b.kept l.initial.blocks l.blocks;
+      serves : KeepsBy b.kept l.initial.blocks l.blocks (ArePartsWritten l.offset (take l.done l.from));
       written : (first : _) → ForEachState (b.stands l.initial.blocks) (b.halted l.initial.blocks) (b.kept first l.initial.blocks) (b.tells l.blocks)
           (λ s events. HasWritten (b.stands l.blocks) (b.halted l.blocks) (b.kept first l.blocks) s events l.offset (take l.done l.from));
     }

@@ -31,7 +31,7 @@ pub returns-in_default : goal.returns-in_default
 returns-in_default g c = record {
   performs = λ first tells s events is kept.
       refused_performs c.args.size s c.args.request.now c.args.content.now c.args.content.now c.args.outcome c.requires.outcome c.in_default.not-Done is kept;
-  comes = comes_by_itself _ _ c.args.size c.args.request.now c.args.outcome c.requires.outcome c.in_default.not-Done;
+  comes = comes_by_itself _ _ c.args.size c.args.request.now c.args.content.now c.args.content.now c.args.outcome c.requires.outcome c.in_default.not-Done;
   many = λ read done. absurd (c.in_default.not-Done done);
   size = refl;
   told = λ t. t;
@@ -60,7 +60,7 @@ perform_read-requires g c = record {
 pub returns-in-Read : goal.returns-in-Read
 returns-in-Read g c = record {
   performs = λ first tells s events is kept. at_size c.requires.size (c.perform_read.ensures.performs first tells s events is kept);
-  comes = comes_at _ _ _ _ _ _ _ c.requires.size c.perform_read.ensures.comes;
+  comes = comes_at _ _ _ _ _ _ _ _ _ c.requires.size c.perform_read.ensures.comes;
   many = λ read done. c.perform_read.auto.content ∙ c.requires.room ∙ part_read _ _ c.args.request.now.length c.in-Read.is c.in-Done.is;
   size = c.perform_read.ensures.size;
   told = c.perform_read.ensures.told;
@@ -78,7 +78,7 @@ perform_write-requires g c = record {
 pub returns-in-Write : goal.returns-in-Write
 returns-in-Write g c = record {
   performs = λ first tells s events is kept. at_size c.requires.size (c.perform_write.ensures.performs first tells s events is kept);
-  comes = comes_at _ _ _ _ _ _ _ c.requires.size c.perform_write.ensures.comes;
+  comes = comes_at _ _ _ _ _ _ _ _ _ c.requires.size c.perform_write.ensures.comes;
   many = λ read done. absurd (let z : Read ≡ Write = sym read ∙ c.in-Write.is in cc);
   size = c.perform_write.ensures.size;
   told = c.perform_write.ensures.told;
@@ -96,7 +96,7 @@ perform_flush-requires g c = record {
 pub returns-in-Flush : goal.returns-in-Flush
 returns-in-Flush g c = record {
   performs = λ first tells s events is kept. at_size c.requires.size (c.perform_flush.ensures.performs first tells s events is kept);
-  comes = comes_at _ _ _ _ _ _ _ c.requires.size c.perform_flush.ensures.comes;
+  comes = comes_at _ _ _ _ _ _ _ _ _ c.requires.size c.perform_flush.ensures.comes;
   many = λ read done. absurd (let z : Read ≡ Flush = sym read ∙ c.in-Flush.is in cc);
   size = c.perform_flush.ensures.size;
   told = c.perform_flush.ensures.told;

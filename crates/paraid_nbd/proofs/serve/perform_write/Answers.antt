@@ -1,11 +1,12 @@
 use Rattle.paraid_nbd.proofs.ErrorLemmas.{comes_by_all, comes_by_halt}
+use Rattle.paraid_nbd.specs.declared.request.Command.TheVariants.{Write}
 use Rattle.paraid_nbd.proofs.ServiceLemmas.{write_performs, stops_performs}
 use Rattle.paraid_nbd.proofs.serve.perform_write.Goals as goal
 
 pub returns-in-Ok : goal.returns-in-Ok
 returns-in-Ok g c = record {
   performs = λ first tells s events is kept. write_performs _ c.args.request.now c.args.content.now c.args.content.now c.requires.command c.requires.done c.requires.room (c.in-Ok.ensures.written first tells s events is kept);
-  comes = comes_by_all _ _ _ _ c.args.request.now c.requires.done c.in-Ok.ensures.serves;
+  comes = comes_by_all _ _ _ _ c.args.request.now c.args.content.now c.args.content.now Write c.requires.command c.requires.done c.in-Ok.ensures.serves;
   size = c.in-Ok.ensures.size;
   told = c.in-Ok.ensures.told;
   keeps = c.in-Ok.ensures.keeps;
@@ -14,7 +15,7 @@ returns-in-Ok g c = record {
 pub returns-in-Err : goal.returns-in-Err
 returns-in-Err g c = record {
   performs = λ first tells s events is kept. stops_performs _ s c.args.request.now c.args.content.now c.args.content.now c.requires.command c.requires.done (c.in-Err.ensures.stops first tells s events is kept);
-  comes = comes_by_halt _ _ _ _ c.args.request.now c.requires.done c.in-Err.ensures.halts;
+  comes = comes_by_halt _ _ _ _ c.args.request.now c.args.content.now c.args.content.now Write c.requires.command c.requires.done c.in-Err.ensures.halts;
   size = c.in-Err.ensures.size;
   told = c.in-Err.ensures.told;
   keeps = c.in-Err.ensures.keeps;

@@ -60,7 +60,7 @@ returns g c =
               grows = f;
             };
         replies = λ first events kept.
-            let x = reply_over _ _ _ c.args.size c.in_ok-request.request h.head c.perform-outcome.result c.perform-outcome.new.content h.is c.perform-outcome.ensures.comes c.perform-outcome.ensures.many first events kept in
+            let x = reply_over _ _ _ c.args.size c.in_ok-request.request h.head _ t.content c.perform-outcome.result c.perform-outcome.new.content h.is c.perform-outcome.ensures.comes (λ w d. t.held w (c.outcome-outcome.ensures ∙ d)) c.perform-outcome.ensures.many first events kept in
             record { out = said_with c.in_ok-request.request c.perform-outcome.result c.perform-outcome.new.content; new = x.0; reply = x.1; kept_is = x.2; grows = f };
       }) c.reply.ensures.sends;
       ends = MatchResult-weaker c.reply.result c.reply.ensures.unsent (λ x e. tt) (λ e f. UnsentAnswer (record { magic = h.magic; head = h.head; content = t.content }) (request_taken t.content h t.whole) (Takes-last h.magic h.head t.content h.takes t.takes) f.is f.cause
@@ -76,7 +76,7 @@ returns g c =
             unsent = f;
           })
           (λ first events kept.
-          let x = reply_over _ _ _ c.args.size c.in_ok-request.request h.head c.perform-outcome.result c.perform-outcome.new.content h.is c.perform-outcome.ensures.comes c.perform-outcome.ensures.many first events kept in
+          let x = reply_over _ _ _ c.args.size c.in_ok-request.request h.head _ t.content c.perform-outcome.result c.perform-outcome.new.content h.is c.perform-outcome.ensures.comes (λ w d. t.held w (c.outcome-outcome.ensures ∙ d)) c.perform-outcome.ensures.many first events kept in
           record { out = said_with c.in_ok-request.request c.perform-outcome.result c.perform-outcome.new.content; new = x.0; reply = x.1; kept_is = x.2; unsent = f }));
       size = c.perform-outcome.ensures.size;
       told = c.perform-outcome.ensures.told;
