@@ -6,7 +6,7 @@ use Rattle.paraid_rack.specs.Slots.{Slot}
 use Rattle.paraid_rack.specs.Told.{Ran}
 use Rattle.paraid_rack.specs.Trail.{Trail}
 use Rattle.paraid_record.specs.declared.meta.Meta.{Meta}
-use Rattle.paraid_image.specs.Lost.{first_lost}
+use Rattle.paraid_image.specs.Lost.{EndsByLoss}
 use Rattle.paraid_image.specs.Out.{named_out}
 use Rattle.paraid_txn.specs.declared.store.Store.{Store}
 use Rattle.paraid_txn.specs.Stores.{disks_of, store_rack}
@@ -30,8 +30,9 @@ module _ {R : Type 0} {g : _} (count : R → ℕ) (slot : R → ℕ → Slot) (t
     calls = read.calls;
     off = off;
     left = λ none. subst (λ (f : Option ℕ). AreLeft f (slot (store_rack a.store)) (slot (store_rack store))) (sym is) read.left;
-    first = λ none. subst (λ (f : Option ℕ). Ran (told (store_rack a.store)) (told (store_rack store)) (λ s cs. first_lost cs ≡ f)) (sym is) read.first;
+    ends = λ none. subst (λ (f : Option ℕ). Ran (told (store_rack a.store)) (told (store_rack store)) (λ s cs. EndsByLoss f cs)) (sym is) read.ends;
     over = λ e k. let z : None ≡ Some e = sym whole ∙ k in cc;
+    still = λ e k. let z : None ≡ Some e = sym whole ∙ k in cc;
     below = λ e none k. below e (sym is ∙ k);
   }
 

@@ -15,12 +15,13 @@ use Rattle.paraid_rack.specs.Trail.{Trail, now, run}
 use Rattle.paraid_rack.proofs.AtomsLemmas.{at_use, with_at_same}
 use Rattle.paraid_rack.proofs.TrailsLemmas.{Ran-call, now-extend}
 use Rattle.paraid_record.specs.declared.meta.Meta.{Meta}
+use Rattle.paraid_record.specs.declared.meta.Setup.{Setup}
 use Rattle.paraid_image.specs.Calls.{disk_of, is_done}
-use Rattle.paraid_image.specs.Lost.{BearsLoss, TellsLosses, fails_on, first_lost}
+use Rattle.paraid_image.specs.Lost.{BearsLoss, EndsByLoss, TellsLosses, fails_on, first_lost}
 use Rattle.paraid_image.specs.Out.{named_out, or_else, out_disk}
 use Rattle.paraid_image.proofs.CallLemmas.{decide_some}
 use Rattle.paraid_image.proofs.FailedCallLemmas.{failed_is_loss}
-use Rattle.paraid_image.proofs.LostLemmas.{absent_failed, fails_split, first_fails, only_lost, ran_beside, ran_says, ran_tells, tells_failed}
+use Rattle.paraid_image.proofs.LostLemmas.{absent_failed, bears_unhurt, fails_split, first_fails, only_lost, ran_beside, ran_says, ran_tells, tells_failed}
 use Rattle.paraid_txn.specs.Losses.{IsOnlyOut, IsOutOfCommit}
 use Rattle.paraid_txn.specs.Losses.IsOutOfCommit.{is_absent, was_named, is_named}
 use Rattle.paraid_txn.specs.Stores.{store_rack}
@@ -80,6 +81,28 @@ module _ (u : Call → Type 0) (transfers : (c : Call) → u c → IsTransfer c)
     | inr later ↦ let k = failed_gone (step c s) cs e each.2 later in (there_before s c e (transfers c each.1) k.0, k.1)
   ]
 
+  failed_low : (n : ℕ) → ((c : Call) → u c → disk_of c < n) → (s : Disks) (cs : List Call) (e : ℕ) → EachCall u s cs → fails_on e cs ≡ true → e < n
+  failed_low n low s [] e each failed = absurd (false≢true failed)
+  failed_low n low s (c ∷ cs) e each failed = elim (fails_split c cs e failed) [
+    | inl here ↦ subst (λ (x : ℕ). x < n) here.1 (low c each.1)
+    | inr later ↦ failed_low n low (step c s) cs e each.2 later
+  ]
+
+  -- Where each disk that is absent afterwards is named out, each that failed is the one that is named.
+  pub ran_out : (n : ℕ) → ((c : Call) → u c → disk_of c < n) → (told told_then : Option Trail) (new : ℕ → Slot) → ((t : Trail) → told_then ≡ Some t → Agrees (now t) new) → (out : Option ℕ)
+      → ((d : ℕ) → d < n → is_present (new d).power ≡ false → out ≡ Some d) → Ran told told_then (EachCall u) → Ran told told_then (λ s cs. (d : ℕ) → fails_on d cs ≡ true → out ≡ Some d)
+  ran_out n low told told_then new agrees_then out absent ran t tells =
+      let r = ran t tells in
+      record {
+        from = r.from;
+        was = r.was;
+        calls = r.calls;
+        is = r.is;
+        holds = λ d failed.
+            let there : (run (now r.from) r.calls).power d ≡ (new d).power = ap (λ (x : Disks). x.power d) (sym (ap now r.is ∙ now-extend r.from r.calls)) ∙ (agrees_then t tells).power d in
+            absent d (failed_low n low (now r.from) r.calls d r.holds failed) (ap is_present (sym there) ∙ (failed_gone (now r.from) r.calls d r.holds failed).1);
+      }
+
   -- The disk that is marked as lost is the first that failed.
   module _ (s : Disks) (cs : List Call) (each : EachCall u s cs) (old new : ℕ → Slot) (at : (d : ℕ) → s.power d ≡ (old d).power) (at_then : (d : ℕ) → (run s cs).power d ≡ (new d).power)
       (m z : Meta) (marks : MarksLost old new m z) (absent : (d : ℕ) → d < m.setup.geometry.disks → is_present (old d).power ≡ false → named_out m.out ≡ Some d) where
@@ -117,7 +140,7 @@ module _ (u : Call → Type 0) (transfers : (c : Call) → u c → IsTransfer c)
     still_named (Some d) is x named = named_then (Some d) is ∙ ap (λ (k : ℕ). Some k) (sym (marks.alone d x is named))
 
     marked_bears : BearsLoss (named_out m.out) (named_out z.out) cs
-    marked_bears = record { first = first_is marks.lost refl; stays = still_named marks.lost refl }
+    marked_bears = record { first = first_is marks.lost refl; stays = still_named marks.lost refl; only = λ d failed. named_then (Some d) (only_marked d failed) }
 
   -- Of the calls from one record to another, in which one disk at most is lost.
   pub ran_marked : (told told_then : Option Trail) (old new : ℕ → Slot) → ((t : Trail) → told ≡ Some t → Agrees (now t) old) → ((t : Trail) → told_then ≡ Some t → Agrees (now t) new) → (m z : Meta) → MarksLost old new m z
@@ -136,8 +159,8 @@ module _ (u : Call → Type 0) (transfers : (c : Call) → u c → IsTransfer c)
 -- Two disks are lost
 
 -- the second one failed while another was out
-pub lose_tells : (out lost : Option ℕ) (two : Two) (old new : Option Trail) → (lost ≡ Some two.second) × (out ≡ Some two.first) × (two.first ≢ two.second) → Ran old new (λ s cs. first_lost cs ≡ lost) → Ran old new (λ s cs. TellsLosses out two cs)
-lose_tells out lost two old new both ran = ran_beside out two old new both.1 both.2 (subst (λ (o : Option ℕ). Ran old new (λ s cs. first_lost cs ≡ o)) both.0 ran)
+pub lose_tells : (out lost : Option ℕ) (two : Two) (old new : Option Trail) → (lost ≡ Some two.second) × (out ≡ Some two.first) × (two.first ≢ two.second) → Ran old new (λ s cs. EndsByLoss lost cs) → Ran old new (λ s cs. TellsLosses out two cs)
+lose_tells out lost two old new both ran = ran_beside out two old new both.1 both.2 (subst (λ (o : Option ℕ). Ran old new (λ s cs. EndsByLoss o cs)) both.0 ran)
 
 -- in one call
 pub call_tells : (out : Option ℕ) (two : Two) (c : Call) (old new : Option Trail) → GrowsByCall old new c → is_done c ≡ false → (Some (disk_of c) ≡ Some two.second) × (out ≡ Some two.first) × (two.first ≢ two.second) → Ran old new (λ s cs. TellsLosses out two cs)
@@ -181,7 +204,7 @@ out_tells power m absent two old new ran = subst (λ (o : Option ℕ). Ran old n
 -- none has failed in the first part, and two are lost in the second
 pub tells_unhurt : (out : Option ℕ) (two : Two) (old between new : Option Trail) → Ran old between (λ s cs. first_lost cs ≡ None) → Ran between new (λ s cs. TellsLosses out two cs) → Ran old new (λ s cs. TellsLosses out two cs)
 tells_unhurt out two old between new first second = ran_tells out out two old between new
-    (ran_says (λ cs. first_lost cs ≡ None) (BearsLoss out out) (λ cs none. record { first = λ is. none ∙ sym is; stays = λ d is. is }) old between first) second
+    (ran_says (λ cs. first_lost cs ≡ None) (BearsLoss out out) (λ cs none. bears_unhurt out cs none) old between first) second
 
 -- Cores
 
@@ -192,6 +215,15 @@ sync_transfer n copied (Sync d done) is = tt
 sync_transfer n copied (Park d done) is = absurd is
 sync_transfer n copied (SpinUp d done) is = absurd is
 sync_transfer n copied (Attach d size done) is = absurd is
+
+-- Where the core can be used on, each disk that failed is the one that is named out.
+pub data_out : {R : Type 0} {g : _} (slot : R → ℕ → Slot) (told : R → Option Trail) → ((rack : R) (t : Trail) → told rack ≡ Some t → Agrees (now t) (slot rack)) → (old mid : Core R g) → mid.meta.setup ≡ old.meta.setup
+    → ((d : ℕ) → d < mid.meta.setup.geometry.disks → is_present (slot (store_rack mid.store) d).power ≡ false → named_out mid.meta.out ≡ Some d) → MakesDataCalls told old mid
+    → Ran (told (store_rack old.store)) (told (store_rack mid.store)) (λ s cs. (d : ℕ) → fails_on d cs ≡ true → named_out mid.meta.out ≡ Some d)
+data_out slot told agrees old mid same absent ran =
+    ran_out (IsDataCall old.meta.setup.geometry.disks (gone_out old.meta.out)) (λ c is. (data_transfer old.meta.setup.geometry.disks (gone_out old.meta.out) c is).2) old.meta.setup.geometry.disks (λ c is. is.0) (told (store_rack old.store)) (told (store_rack mid.store))
+    (slot (store_rack mid.store)) (agrees (store_rack mid.store)) (named_out mid.meta.out)
+    (subst (λ (z : Setup). (d : ℕ) → d < z.geometry.disks → is_present (slot (store_rack mid.store) d).power ≡ false → named_out mid.meta.out ≡ Some d) same absent) ran
 
 module _ {R : Type 0} {g : _} (slot : R → ℕ → Slot) (told : R → Option Trail) (agrees : (rack : R) (t : Trail) → told rack ≡ Some t → Agrees (now t) (slot rack)) (old mid : Core R g)
     (absent : (d : ℕ) → d < old.meta.setup.geometry.disks → is_present (slot (store_rack old.store) d).power ≡ false → named_out old.meta.out ≡ Some d) (marks : CoreMarksLost slot old mid) where

@@ -1,13 +1,13 @@
 -- How one step of a plan follows the other.
-use Rattle.std.specs.Prelude.{◌≡◌, ◌≢◌, ℕ, ◌<◌, Option, Some, None, IsSome}
+use Rattle.std.specs.Prelude.{[], ◌≡◌, ◌≢◌, ℕ, ◌<◌, Option, Some, None, IsSome}
 use Rattle.std.proofs.Common.{refl, sym, ◌∙◌, ap, subst}
 use Rattle.paraid_rack.specs.Slots.{Slot}
 use Rattle.paraid_rack.specs.Told.{Ran}
 use Rattle.paraid_rack.specs.Trail.{Trail}
 use Rattle.paraid_record.specs.declared.meta.Meta.{Meta}
-use Rattle.paraid_image.specs.Lost.{first_lost}
+use Rattle.paraid_image.specs.Lost.{EndsByLoss}
 use Rattle.paraid_image.specs.Out.{named_out}
-use Rattle.paraid_image.proofs.LostLemmas.{ran_first, ran_past}
+use Rattle.paraid_image.proofs.LostLemmas.{ran_ends}
 use Rattle.paraid_rack.proofs.TrailsLemmas.{Ran-none}
 use Rattle.paraid_txn.specs.Stores.{disks_of, store_rack}
 use Rattle.paraid_view.specs.Reads.{AreLeft, AreArrayReads, AreOffDisk}
@@ -30,8 +30,9 @@ module _ {R : Type 0} {g : _} (count : R → ℕ) (slot : R → ℕ → Slot) (t
     calls = ran_none (told (store_rack a.store)) (disks_of a.store);
     off = off_none (named_out a.meta.out) (told (store_rack a.store));
     left = λ none. subst (λ (f : Option ℕ). AreLeft f (slot (store_rack a.store)) (slot (store_rack a.store))) (sym none) (left_none (slot (store_rack a.store)));
-    first = λ none. Ran-none (λ s cs. first_lost cs ≡ a.failed) (λ s. sym none) (told (store_rack a.store));
+    ends = λ none. Ran-none (λ s cs. EndsByLoss a.failed cs) (λ s. subst (λ (f : Option ℕ). EndsByLoss f []) (sym none) refl) (told (store_rack a.store));
     over = λ e is. (is, refl);
+    still = λ e is. refl;
     below = λ e none is. let z : None ≡ Some e = sym none ∙ is in cc;
   }
 
@@ -48,12 +49,11 @@ module _ {R : Type 0} {g : _} (count : R → ℕ) (slot : R → ℕ → Slot) (t
         let o = q.over e is in
         subst (λ (s : ℕ → Slot). AreLeft c.failed sa s) (sym o.1) (subst (λ (f : Option ℕ). AreLeft f sa (slot (store_rack b.store))) (is ∙ sym o.0) (p.left none))
 
-    first_by : (f : Option ℕ) → b.failed ≡ f → a.failed ≡ None → Ran (told (store_rack a.store)) (told (store_rack c.store)) (λ s cs. first_lost cs ≡ c.failed)
-    first_by None is none = ran_first c.failed (told (store_rack a.store)) (told (store_rack b.store)) (told (store_rack c.store))
-        (subst (λ (f : Option ℕ). Ran (told (store_rack a.store)) (told (store_rack b.store)) (λ s cs. first_lost cs ≡ f)) is (p.first none)) (q.first is)
-    first_by (Some e) is none = subst (λ (f : Option ℕ). Ran (told (store_rack a.store)) (told (store_rack c.store)) (λ s cs. first_lost cs ≡ f)) (sym (q.over e is).0)
-        (ran_past e (AreArrayReads (disks_of b.store)) (told (store_rack a.store)) (told (store_rack b.store)) (told (store_rack c.store))
-        (subst (λ (f : Option ℕ). Ran (told (store_rack a.store)) (told (store_rack b.store)) (λ s cs. first_lost cs ≡ f)) is (p.first none)) q.calls)
+    ends_by : (f : Option ℕ) → b.failed ≡ f → a.failed ≡ None → Ran (told (store_rack a.store)) (told (store_rack c.store)) (λ s cs. EndsByLoss c.failed cs)
+    ends_by None is none = ran_ends c.failed (told (store_rack a.store)) (told (store_rack b.store)) (told (store_rack c.store))
+        (subst (λ (f : Option ℕ). Ran (told (store_rack a.store)) (told (store_rack b.store)) (λ s cs. EndsByLoss f cs)) is (p.ends none)) (q.ends is)
+    ends_by (Some e) is none = subst (λ (f : Option ℕ). Ran (told (store_rack a.store)) (told (store_rack c.store)) (λ s cs. EndsByLoss f cs)) (is ∙ sym (q.over e is).0)
+        (subst (λ (t : Option Trail). Ran (told (store_rack a.store)) t (λ s cs. EndsByLoss b.failed cs)) (sym (q.still e is)) (p.ends none))
 
     below_by : (f : Option ℕ) → b.failed ≡ f → (e : ℕ) → a.failed ≡ None → c.failed ≡ Some e → (e < disks_of a.store) × (named_out a.meta.out ≢ Some e)
     below_by None is e none at =
@@ -80,8 +80,9 @@ module _ {R : Type 0} {g : _} (count : R → ℕ) (slot : R → ℕ → Slot) (t
       off = off_then (named_out a.meta.out) (told (store_rack a.store)) (told (store_rack b.store)) (told (store_rack c.store)) p.off
           (subst (λ (m : Meta). Ran (told (store_rack b.store)) (told (store_rack c.store)) (AreOffDisk (named_out m.out))) p.meta q.off);
       left = left_by b.failed refl;
-      first = first_by b.failed refl;
+      ends = ends_by b.failed refl;
       over = λ e is. let o = p.over e is in let k = q.over e o.0 in (k.0, k.1 ∙ o.1);
+      still = λ e is. q.still e (p.over e is).0 ∙ p.still e is;
       below = below_by b.failed refl;
     }
 

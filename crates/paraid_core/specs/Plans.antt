@@ -8,7 +8,7 @@ use Rattle.paraid_rack.specs.Slots.{Slot}
 use Rattle.paraid_rack.specs.Told.{Ran}
 use Rattle.paraid_rack.specs.Trail.{Trail, now}
 use Rattle.paraid_record.specs.declared.meta.Meta.{Meta}
-use Rattle.paraid_image.specs.Lost.{first_lost}
+use Rattle.paraid_image.specs.Lost.{EndsByLoss}
 use Rattle.paraid_image.specs.Out.{named_out}
 use Rattle.paraid_image.specs.Sides.{Batch}
 use Rattle.paraid_image.specs.Standing.{Contents, contents}
@@ -43,7 +43,7 @@ pub record ServesPlan {R : Type 0} {g : _} (count : R → ℕ) (slot : R → ℕ
   pub whole : core.failed ≡ None
 
 -- The second core comes from the first by reads and by what a plan stages: only the draft and the
--- changes of dirty bits have grown, and one disk has failed, or none.
+-- changes of dirty bits have grown, and one disk has failed, or none. No call follows the one that failed.
 pub record LeadsTo {R : Type 0} {g : _} (count : R → ℕ) (slot : R → ℕ → Slot) (told : R → Option Trail) (a b : Core R g) : Type 0 where
   pub slots : count (store_rack b.store) ≡ count (store_rack a.store)
   pub same : IsSameStore a.store b.store
@@ -56,6 +56,7 @@ pub record LeadsTo {R : Type 0} {g : _} (count : R → ℕ) (slot : R → ℕ �
   pub calls : Ran (told (store_rack a.store)) (told (store_rack b.store)) (AreArrayReads (disks_of a.store))
   pub off : Ran (told (store_rack a.store)) (told (store_rack b.store)) (AreOffDisk (named_out a.meta.out))
   pub left : a.failed ≡ None → AreLeft b.failed (slot (store_rack a.store)) (slot (store_rack b.store))
-  pub first : a.failed ≡ None → Ran (told (store_rack a.store)) (told (store_rack b.store)) (λ s cs. first_lost cs ≡ b.failed)
+  pub ends : a.failed ≡ None → Ran (told (store_rack a.store)) (told (store_rack b.store)) (λ s cs. EndsByLoss b.failed cs)
   pub over : (e : ℕ) → a.failed ≡ Some e → (b.failed ≡ Some e) × (slot (store_rack b.store) ≡ slot (store_rack a.store))
+  pub still : (e : ℕ) → a.failed ≡ Some e → told (store_rack b.store) ≡ told (store_rack a.store)
   pub below : (e : ℕ) → a.failed ≡ None → b.failed ≡ Some e → (e < disks_of a.store) × (named_out a.meta.out ≢ Some e)

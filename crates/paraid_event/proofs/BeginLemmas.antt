@@ -29,12 +29,12 @@ use Rattle.paraid_machine.specs.Energy.{energy_after, spin_up_energy}
 use Rattle.paraid_machine.specs.Machine.{IsEventStep, begin, go_down, go_up, outcomes, refusal_else, ration_refusal, shift_refusal}
 use Rattle.paraid_machine.specs.Moves.{begun_down, begun_up, first_worn}
 use Rattle.paraid_moves.specs.MoveMetas.{meta_after_begin}
-use Rattle.paraid_session.specs.Turn.{GoesOn, IsMark, IsUnhurt, LosesSecondDisk, Point, bounds_at, makes_no_call, point_wear, watch_of}
+use Rattle.paraid_session.specs.Turn.{GoesOn, IsFirstDown, IsMark, IsUnhurt, LosesSecondDisk, Point, bounds_at, makes_no_call, point_wear, watch_of}
 use Rattle.paraid_session.specs.Turn.IsFirstDown.{lost}
 use Rattle.paraid_session.specs.Turn.IsSecondLossEnergy.{own}
 use Rattle.paraid_session.specs.Turn.IsSecondLossGear.{same}
 use Rattle.paraid_session.specs.Turn.IsTurn.{answered, two as second_loss}
-use Rattle.paraid_session.specs.Watch.{Bounds, Down as DownDisks, Each, HoldsWhileServing, IsAllowed, IsServing, Watch, down_from_out, fails_on, first_lost, nobody, only, several, watch_all}
+use Rattle.paraid_session.specs.Watch.{Bounds, Down as DownDisks, Each, HoldsWhileServing, IsAllowed, IsServing, Watch, down_from_out, first_lost, nobody, only, several, watch_all}
 use Rattle.paraid_session.proofs.LayerLemmas.{first_fails}
 use Rattle.paraid_session.specs.Resting.{watch_at}
 use Rattle.paraid_recover.proofs.BaseLemmas.{each_append}
@@ -48,8 +48,10 @@ use Rattle.paraid_event.proofs.UpLemmas.{up_append}
 use Rattle.paraid_event.proofs.UsedLemmas.{part_ups}
 use Rattle.paraid_event.specs.Service.{IsStateOf, Service}
 use Rattle.paraid_event.specs.Stands.{IsMidway, ServiceStandsFor, StandsAt, StandsIn}
-use Rattle.paraid_event.proofs.EndLemmas.{IsOnly, fails_tail, only_is, only_serving}
+use Rattle.paraid_event.proofs.EndLemmas.{IsOnly, only_is, only_serving}
 use Rattle.paraid_event.proofs.FailLemmas.{attach_append, watch_append}
+use Rattle.paraid_event.proofs.LastCallLemmas.{alone_unhurt, ends_event}
+use Rattle.paraid_image.proofs.LostLemmas.{ends_later}
 use Rattle.paraid_event.proofs.LostLemmas.{capped_own, loses_told, one_outcome}
 use Rattle.paraid_event.proofs.MarksLemmas.{marked_setup, same_ticks}
 use Rattle.paraid_event.proofs.PartLemmas.{IsSettled, part_attaches, part_committed, part_each, part_epoch, part_failed, part_marks, part_only, part_powered, part_stands, part_state, part_room}
@@ -354,10 +356,6 @@ module _ (told : Option Trail) (k k1 k2 : Service) (setup : Setup) (p : Point) (
       let served = holds keeps in
       begun_turn cs part ends keeps k3 begins lower lo3 le3 ds (subst (λ (m : Meta). AreEventCalls k2 p.history p.low m (watch_all cs w0).disks ds) same_meta served.0) served.1 fit told_then end)
 
-fails_later : (cs ds : List Call) (e : ℕ) → fails_on e ds ≡ true → fails_on e (cs ++ ds) ≡ true
-fails_later [] ds e is = is
-fails_later (c ∷ cs) ds e is = fails_tail c (cs ++ ds) e (fails_later cs ds e is)
-
 -- a shift that may begin makes calls
 module _ (told : Option Trail) (k : Service) (setup : Setup) (p : Point) (at : StandsAt told k setup p) (to : ℕ) (steady : p.state.phase ≡ Steady) (no_out : p.state.out ≡ No) where
   pub free : shift_refusal p.state.phase p.state.out ≡ None
@@ -395,9 +393,9 @@ module _ (told : Option Trail) (k k1 k2 : Service) (setup : Setup) (p : Point) (
       → LosesSecondDisk k.slots setup p AskDown two (cs ++ ds) (record p { disks = run p.disks (cs ++ ds); halt = Some (HaltTwo two) })
   loses_marked cs part ends keeps ds part2 tells = record {
     fit = fit;
-    first = lost (ap named_out no_out) (first_append cs ds (none_lost told k k1 k2 setup p at to shift some steady no_out unworn lo1 le1 cs part ends) ∙ first_of tells.first);
-    second = fails_later cs ds two.second tells.second;
+    first = first_down;
     apart = tells.apart;
+    ends = ends_event k.slots setup p AskDown two (cs ++ ds) first_down (ends_later two cs ds (alone_unhurt two.first cs unhurt) tells.ends);
     busy = down_busy told k setup p at to steady no_out some unworn;
     moments = each_append (HoldsWhileServing k.slots p.history p.low (bounds_at setup p p.state)) (IsAllowed setup None) w_first cs ds
         (each1 told k k1 k2 setup p at to shift some steady no_out unworn lo1 le1 cs part ends)
@@ -418,6 +416,12 @@ module _ (told : Option Trail) (k k1 k2 : Service) (setup : Setup) (p : Point) (
       first_of : (named_out k2.meta.out ≡ Some two.first) ⊎ ((named_out k2.meta.out ≡ None) × (first_lost ds ≡ Some two.first)) → first_lost ds ≡ Some two.first
       first_of (inl named) = absurd (no_name two.first named)
       first_of (inr none) = none.1
+
+      unhurt : first_lost cs ≡ None
+      unhurt = none_lost told k k1 k2 setup p at to shift some steady no_out unworn lo1 le1 cs part ends
+
+      first_down : IsFirstDown k.slots setup p AskDown (cs ++ ds) two.first
+      first_down = lost (ap named_out no_out) (first_append cs ds unhurt ∙ first_of tells.first)
 
   pub begun_loses : (mid told_then : Option Trail) → Ran told mid (ServesEvent k k1 p.history p.low p.history lo1) → ((t : Trail) → mid ≡ Some t → ServiceStandsFor k1 p.history p.low (now t) → ServiceStandsFor k2 p.history p.low (now t))
       → Ran mid told_then (λ s cs. LosesInEvent k2 p.history p.low s cs × TellsTwo k2 two s cs) → Ran told told_then (GoesOn k.slots setup p AskDown (Halted (HaltTwo two)) (IsHaltedFrom p (HaltTwo two)))

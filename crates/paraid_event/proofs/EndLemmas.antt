@@ -60,7 +60,7 @@ only_is (Some d) nobody is has = absurd (has d refl)
 only_is (Some d) (only e) is has = let z : Some d ≡ Some e = is in ap only (let same : e ≡ d = cc in same)
 only_is (Some d) several is has = absurd is
 
-only_after : (o : Option ℕ) (done : Bool) (e : ℕ) (down : Down) → (done ≡ false → o ≡ Some e) → IsOnly o down → IsOnly o (if done then down else with_down e down)
+pub only_after : (o : Option ℕ) (done : Bool) (e : ℕ) (down : Down) → (done ≡ false → o ≡ Some e) → IsOnly o down → IsOnly o (if done then down else with_down e down)
 only_after o true e down failed is = is
 only_after o false e nobody failed is = failed refl
 only_after o false e (only d) failed is = by (e == d) refl

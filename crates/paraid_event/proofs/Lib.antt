@@ -4,6 +4,7 @@ pub mod PointLemmas
 pub mod LogsLemmas
 pub mod ChainLemmas
 pub mod EndLemmas
+pub mod LastCallLemmas
 pub mod TurnLemmas
 pub mod EventLemmas
 pub mod GivenLemmas

@@ -35,6 +35,7 @@ use Rattle.paraid_event.specs.Parts.{AreEventCalls, LosesInEvent}
 use Rattle.paraid_event.specs.Service.{Service}
 use Rattle.paraid_event.specs.Stands.{StandsAt}
 use Rattle.paraid_event.proofs.EventLemmas.{all_missing_none, one_missing_none}
+use Rattle.paraid_event.proofs.LastCallLemmas.{ends_event}
 use Rattle.paraid_event.proofs.TurnLemmas.{each, once}
 
 -- of one outcome its answer is the answer
@@ -61,8 +62,8 @@ module _ (told told_then : Option Trail) (k : Service) (setup : Setup) (p : Poin
     loses cs part tells = record {
       fit = fit;
       first = first_down event cs tells;
-      second = tells.second;
       apart = tells.apart;
+      ends = ends_event k.slots setup p event two cs (first_down event cs tells) tells.ends;
       busy = busy;
       moments = subst (λ (z : Bounds). Each (HoldsWhileServing k.slots p.history p.low z) (IsAllowed setup (replaced_by event)) (watch_of p event (Halted (HaltTwo two))) cs) (sym bounds)
           (subst (λ (z : Watch). Each (HoldsWhileServing k.slots p.history p.low (bounds_at setup p p.state)) (IsAllowed setup (replaced_by event)) z cs) (sym starts)

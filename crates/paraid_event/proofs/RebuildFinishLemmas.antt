@@ -46,6 +46,8 @@ use Rattle.paraid_event.specs.Steps.{AreStepCalls, GoesInSteps, IsOnly, IsUnderw
 use Rattle.paraid_event.specs.Ticks.{CountsTick, IsHaltedWith}
 use Rattle.paraid_event.proofs.EndLemmas.{fails_split}
 use Rattle.paraid_event.proofs.FailLemmas.{watch_append}
+use Rattle.paraid_event.proofs.LastCallLemmas.{alone_named}
+use Rattle.paraid_image.proofs.LostLemmas.{ends_later}
 use Rattle.paraid_event.proofs.ParkBackLemmas.{IsEnded, ended_gone, ended_parked, ended_spinning, lost_by, park_calls}
 use Rattle.paraid_event.proofs.RebuildEndLemmas.{back_state, ended_turn, failed_low}
 use Rattle.paraid_event.proofs.RebuildTickLemmas.{failed_off, none_first, out1, rebuild_loses, underway1}
@@ -72,11 +74,12 @@ BackFrom k back h lo most d s cs = (base : Meta) (w : Watch) → w.disks ≡ s �
 abbrev LosesFrom : Service → History → ℕ → ℕ → ℕ → Two → Disks → List Call → Type 0
 LosesFrom k h lo most d two s cs = (base : Meta) (w : Watch) → w.disks ≡ s → IsUnderway k h lo base w → named_out k.meta.out ≡ Some d → AreStepCalls k h lo most base w cs × TellsLosses (Some d) two cs
 
-later_losses : (d : ℕ) (two : Two) (cs ds : List Call) → TellsLosses (Some d) two ds → TellsLosses (Some d) two (cs ++ ds)
-later_losses d two cs ds tells = record {
+later_losses : (d : ℕ) (two : Two) (cs ds : List Call) → ((e : ℕ) → fails_on e cs ≡ true → Some d ≡ Some e) → TellsLosses (Some d) two ds → TellsLosses (Some d) two (cs ++ ds)
+later_losses d two cs ds alone tells = record {
   second = fails_later cs ds two.second tells.second;
   apart = tells.apart;
   first = elim tells.first [ inl was ↦ inl was | inr none ↦ absurd (let z : Some d ≡ None = none.0 in cc) ];
+  ends = ends_later two cs ds (λ e fails. alone_named (Some d) (first_lost ds) two.first tells.first e (alone e fails)) tells.ends;
 }
 
 module _ (j copied joined : Service) (h : History) (lo d : ℕ) (there : gone_out j.meta.out ≡ None) (same : copied.meta ≡ j.meta) (slots : copied.slots ≡ j.slots) (mark : joined ≡ record copied { meta = meta_with_out copied.meta No }) where
@@ -110,7 +113,7 @@ module _ (j copied joined : Service) (h : History) (lo d : ℕ) (there : gone_ou
       let part = subst (λ (z : Service). LosesInEvent z h lo (watch_all cs w).disks ds) mark (subst (λ (u : Disks). LosesInEvent joined h lo u ds) (sym end) loses.0) keeps in
       let second = rejoin_calls copied d fresh.0 h lo goes.0.base_then (watch_all cs w) goes.0.ends fresh.1 keeps ds part in (
         calls_then j copied h lo 0 1 base goes.0.base_then w cs ds goes.0.leaves.slots goes.0.leaves.setup goes.0.leaves.ticks goes.0.room goes.0.calls second,
-        later_losses d two cs ds loses.1,
+        later_losses d two cs ds (λ e fails. sym (ap named_out fresh.1) ∙ goes.0.leaves.failed e fails) loses.1,
       )
 
 -- parts of the event before
@@ -125,7 +128,7 @@ lose_before k j h lo most more d two named s cs ds steps from base w same at =
     let goes = steps base w same at in
     let second = from goes.base_then (watch_all cs w) (watched_disks w cs ∙ ap (λ (u : Disks). run u cs) same) goes.ends (goes.leaves.still d named) in (
       calls_then k j h lo most more base goes.base_then w cs ds goes.leaves.slots goes.leaves.setup goes.leaves.ticks goes.room goes.calls second.0,
-      subst (λ (o : Option ℕ). TellsLosses o two (cs ++ ds)) (sym named) (later_losses d two cs ds second.1),
+      subst (λ (o : Option ℕ). TellsLosses o two (cs ++ ds)) (sym named) (later_losses d two cs ds (λ e fails. sym (goes.leaves.still d named) ∙ goes.leaves.failed e fails) second.1),
     )
 
 -- The event ends so.

@@ -34,7 +34,7 @@ use Rattle.paraid_image.proofs.FailedCallLemmas.{failed_is_loss}
 use Rattle.paraid_machine.specs.Energy.{energy_after, tick_energy}
 use Rattle.paraid_machine.specs.Machine.{IsEventStep, outcomes, rebuild, report, tick_by_out}
 use Rattle.paraid_machine.specs.Moves.{after_loss, state_with_tick, units_to_rebuild}
-use Rattle.paraid_session.specs.Turn.{GoesOn, IsMark, IsUnhurt, LosesSecondDisk, Point, bounds_at, makes_no_call, point_wear, tells_begin}
+use Rattle.paraid_session.specs.Turn.{GoesOn, IsFirstDown, IsMark, IsUnhurt, LosesSecondDisk, Point, bounds_at, makes_no_call, point_wear, tells_begin}
 use Rattle.paraid_session.specs.Turn.IsFirstDown.{out as first_out}
 use Rattle.paraid_session.specs.Turn.IsSecondLossEnergy.{own}
 use Rattle.paraid_session.specs.Turn.IsSecondLossGear.{same}
@@ -55,6 +55,7 @@ use Rattle.paraid_event.specs.Steps.{AreStepCalls, GoesInSteps, IsOnly, IsUnderw
 use Rattle.paraid_event.specs.Ticks.{CountsTick, IsHaltedWith}
 use Rattle.paraid_event.proofs.EndLemmas.{fails_split, only_from, only_is, only_serving}
 use Rattle.paraid_event.proofs.IdleLemmas.{stands_in, state_then, used}
+use Rattle.paraid_event.proofs.LastCallLemmas.{ends_event}
 use Rattle.paraid_event.proofs.LostLemmas.{one_outcome}
 use Rattle.paraid_event.proofs.PointLemmas.{stands_mark}
 use Rattle.paraid_event.proofs.TurnLemmas.{absent_named, fresh_there, out_low}
@@ -187,16 +188,19 @@ module _ (told : Option Trail) (k k1 : Service) (setup : Setup) (p : Point) (at 
       by true one = ap makes_no_call (sym (one_outcome (report (record s1 { out = No }) count (Rebuilt d)) answer new one))
       by false one = ap makes_no_call (sym (one_outcome (report (record s1 { out = Fresh d (rebuilt + count) }) count Moving) answer new one))
 
+  first_down : (two : Two) (cs : List Call) → TellsTwo k1 two p.disks cs → IsFirstDown k.slots setup p Tick cs two.first
+  first_down two cs tells = first_out (elim tells.first [
+    | inl was ↦ ap named_out state1.out ∙ was
+    | inr none ↦ let z : Some d ≡ None = ap named_out (sym out1) ∙ none.0 in cc
+  ])
+
   -- a second disk is lost
   tick_lost : (two : Two) (cs : List Call) → AreStepCalls k1 p.history p.low most p.meta w0 cs → TellsTwo k1 two p.disks cs → LosesSecondDisk k.slots setup p Tick two cs (halted_point two cs)
   tick_lost two cs calls tells = record {
     fit = fit;
-    first = first_out (elim tells.first [
-      | inl was ↦ ap named_out state1.out ∙ was
-      | inr none ↦ let z : Some d ≡ None = ap named_out (sym out1) ∙ none.0 in cc
-    ]);
-    second = tells.second;
+    first = first_down two cs tells;
     apart = tells.apart;
+    ends = ends_event k.slots setup p Tick two cs (first_down two cs tells) tells.ends;
     busy = tick_busy;
     moments = moments cs calls;
     once = let a = calls.attaches in omega (arith, a);

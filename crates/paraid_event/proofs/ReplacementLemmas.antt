@@ -39,7 +39,7 @@ use Rattle.paraid_machine.specs.Energy.{energy_of}
 use Rattle.paraid_machine.specs.Machine.{IsEventStep, outcomes, put_in, quietly, refresh, with_fresh_disk, without_fresh_disk}
 use Rattle.paraid_moves.specs.MoveMetas.{meta_with_out}
 use Rattle.paraid_machine.specs.Moves.{after_loss, without_spin_ups}
-use Rattle.paraid_session.specs.Turn.{GoesOn, IsMark, IsUnhurt, LosesSecondDisk, Point, awaited_by, bounds_at, is_flush, makes_no_call, point_wear, watch_of, tells_begin}
+use Rattle.paraid_session.specs.Turn.{GoesOn, IsFirstDown, IsMark, IsUnhurt, LosesSecondDisk, Point, awaited_by, bounds_at, is_flush, makes_no_call, point_wear, watch_of, tells_begin}
 use Rattle.paraid_session.specs.Turn.IsFirstDown.{out as first_out}
 use Rattle.paraid_session.specs.Turn.IsSecondLossEnergy.{own}
 use Rattle.paraid_session.specs.Turn.IsSecondLossGear.{same}
@@ -58,11 +58,14 @@ use Rattle.paraid_session.specs.Ups.{up_count}
 use Rattle.paraid_event.proofs.UpLemmas.{up_append}
 use Rattle.paraid_event.proofs.UsedLemmas.{part_ups}
 use Rattle.paraid_event.specs.Service.{IsStateOf, Service}
+use Rattle.paraid_image.specs.Lost.{EndsBySecond}
 use Rattle.paraid_event.specs.Stands.{IsMidway, ServiceStandsFor, StandsAt, StandsIn}
 use Rattle.paraid_event.proofs.AttachingLemmas.{attach_each, attach_only, attach_powered, attach_rests, attach_spins, attach_stands, each_end, fails_beside, forgotten}
 use Rattle.paraid_event.proofs.BeginLemmas.{first_append}
-use Rattle.paraid_event.proofs.EndLemmas.{IsOnly, failed_absent, fails_tail, only_is, only_serving}
+use Rattle.paraid_event.proofs.EndLemmas.{IsOnly, failed_absent, only_is, only_serving}
 use Rattle.paraid_event.proofs.FailLemmas.{watch_append}
+use Rattle.paraid_event.proofs.LastCallLemmas.{ends_event}
+use Rattle.paraid_image.proofs.LostLemmas.{ends_later}
 use Rattle.paraid_event.proofs.LostLemmas.{capped_own, one_outcome}
 use Rattle.paraid_event.proofs.MarksLemmas.{gone_is_named, kept_fill, kept_out, kept_phase, lost_fill, lost_out, lost_phase, marked_setup, same_gear, same_ticks, still_named}
 use Rattle.paraid_event.proofs.PartLemmas.{IsSettled, part_attaches, part_calls, part_committed, part_each, part_epoch, part_failed, part_marks, part_only, part_powered, part_stands, part_state}
@@ -85,10 +88,6 @@ below_test a b l = grind (arith, nat_tests)
 
 equal_test : (a b : ℕ) → a ≡ b → (a == b) ≡ true
 equal_test a b same_disk = grind (arith, nat_tests)
-
-fails_later : (cs ds : List Call) (e : ℕ) → fails_on e ds ≡ true → fails_on e (cs ++ ds) ≡ true
-fails_later [] ds e is = is
-fails_later (c ∷ cs) ds e is = fails_tail c (cs ++ ds) e (fails_later cs ds e is)
 
 attach_after : (cs ds : List Call) → attach_count cs ≡ 0 → attach_count (cs ++ ds) ≡ attach_count ds
 attach_after [] ds none = refl
@@ -364,13 +363,16 @@ module _ (told : Option Trail) (k : Service) (setup : Setup) (p : Point) (at : S
           let one = subst (λ (t : Bool). Contains (if t then refresh None p.state d else quietly None (NotOut d) p.state) (answer, new)) same_disk found in
           ap makes_no_call (sym (one_outcome (Replaced d, with_fresh_disk p.state d) answer new one))
 
-  loses_second : (two : Two) (all : List Call) → two.first ≡ d → fails_on two.second all ≡ true → two.first ≢ two.second → Held w0 all → attach_count all ≤ 1
+  first_by : (two : Two) (all : List Call) → two.first ≡ d → IsFirstDown k.slots setup p (Replace d) all two.first
+  first_by two all first_is = first_out (is_out ∙ ap (λ (x : ℕ). Some x) (sym first_is))
+
+  loses_second : (two : Two) (all : List Call) → two.first ≡ d → EndsBySecond two all → two.first ≢ two.second → Held w0 all → attach_count all ≤ 1
       → LosesSecondDisk k.slots setup p (Replace d) two all (record p { disks = run p.disks all; halt = Some (HaltTwo two) })
-  loses_second two all first_is fails apart moments once = record {
+  loses_second two all first_is ends apart moments once = record {
     fit = fit;
-    first = first_out (is_out ∙ ap (λ (x : ℕ). Some x) (sym first_is));
-    second = fails;
+    first = first_by two all first_is;
     apart = apart;
+    ends = ends_event k.slots setup p (Replace d) two all (first_by two all first_is) ends;
     busy = replace_busy;
     moments = subst (λ (w : Watch). Held w all) (sym starts) moments;
     once = once;
@@ -442,7 +444,7 @@ module _ (told : Option Trail) (k : Service) (setup : Setup) (p : Point) (at : S
     -- a second disk is lost in the commit of the mark
     pub marked_lost : (two : Two) (cs : List Call) → AreEventCalls k1 p.history p.low p.meta p.disks cs → TellsTwo k1 two p.disks cs
         → LosesSecondDisk k.slots setup p (Replace d) two cs (record p { disks = run p.disks cs; halt = Some (HaltTwo two) })
-    marked_lost two cs part tells = loses_second two cs first_is tells.second tells.apart (marked_each cs part)
+    marked_lost two cs part tells = loses_second two cs first_is tells.ends tells.apart (marked_each cs part)
         (let a = part_attaches k1 p.history p.low p.meta w0 mid1 cs part in omega (arith, a))
       where
         first_is : two.first ≡ d
@@ -668,7 +670,7 @@ module _ (told : Option Trail) (k : Service) (setup : Setup) (p : Point) (at : S
         -- a second disk is lost in the commit of the fresh one
         pub fresh_lost : (two : Two) (ds : List Call) → AreEventCalls k3 p.history p.low ends.keeps.base v2.disks ds → TellsTwo k3 two v2.disks ds
             → LosesSecondDisk k.slots setup p (Replace d) two (cs ++ (attach true ∷ ds)) (record p { disks = run p.disks (cs ++ (attach true ∷ ds)); halt = Some (HaltTwo two) })
-        fresh_lost two ds part3 tells = loses_second two (cs ++ (attach true ∷ ds)) first_is (fails_later cs (attach true ∷ ds) two.second (fails_tail (attach true) ds two.second tells.second)) tells.apart
+        fresh_lost two ds part3 tells = loses_second two (cs ++ (attach true ∷ ds)) first_is (ends_later two cs (attach true ∷ ds) alone (ends_later two (attach true ∷ []) ds (λ e fails. absurd (false≢true fails)) tells.ends)) tells.apart
             (all_each ds part3) (let one = all_once ds part3 in omega (arith, one))
           where
             first_is : two.first ≡ d
@@ -676,6 +678,9 @@ module _ (told : Option Trail) (k : Service) (setup : Setup) (p : Point) (at : S
               | inl was ↦ let z : Some d ≡ Some two.first = was in cc
               | inr none ↦ let z : Some d ≡ None = none.0 in cc
             ]
+
+            alone : (e : ℕ) → fails_on e cs ≡ true → e ≡ two.first
+            alone e fails = let z : Some d ≡ Some e = sym named2 ∙ part_failed k1 p.history p.low p.meta w0 mid1 cs part k2 p.history (length p.history) ends e fails in let first = first_is in cc
 
         -- that it is there is committed
         module _ (ds : List Call) (part3 : AreEventCalls k3 p.history p.low ends.keeps.base v2.disks ds) (k4 : Service) (ends3 : EndsEvent k3 k4 p.history (length p.history) v2.disks ds) (commits3 : CommitsAll k3 k4) where

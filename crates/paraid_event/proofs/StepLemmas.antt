@@ -32,6 +32,8 @@ use Rattle.paraid_event.specs.Steps.{AreStepCalls, GoesInSteps, IsOnly, IsUnderw
 use Rattle.paraid_event.proofs.BeginLemmas.{first_append}
 use Rattle.paraid_event.proofs.ChainLemmas.{data_within, transfer_each}
 use Rattle.paraid_event.proofs.EndLemmas.{fails_tail, only_serving}
+use Rattle.paraid_event.proofs.LastCallLemmas.{alone_named}
+use Rattle.paraid_image.proofs.LostLemmas.{ends_later}
 use Rattle.paraid_event.proofs.FailLemmas.{attach_append, fails_append, watch_append}
 use Rattle.paraid_event.proofs.MarksLemmas.{newly_named, same_ticks, still_named}
 use Rattle.paraid_event.proofs.PartLemmas.{part_attaches, part_awaited, part_base, part_calls, part_data, part_each, part_failed, part_marks, part_only, part_powered, part_setup, part_shown, part_stands, part_room}
@@ -96,6 +98,7 @@ module _ (k j : Service) (h : History) (lo most more : ℕ) (Mid : Meta → Watc
       ]
       | inr none ↦ inr (none_before (named_out k.meta.out) refl none.0, first_append cs ds (none_lost (first_lost cs) refl none.0) ∙ none.1)
     ];
+    ends = ends_later two cs ds (λ e fails. alone_named (named_out j.meta.out) (first_lost ds) two.first tells.first e (first.leaves.failed e fails)) tells.ends;
   }
     where
       by_name : first_lost cs ≡ Some two.first → (o : Option ℕ) → named_out k.meta.out ≡ o → (named_out k.meta.out ≡ Some two.first) ⊎ ((named_out k.meta.out ≡ None) × (first_lost (cs ++ ds) ≡ Some two.first))

@@ -26,7 +26,7 @@ use Rattle.paraid_image.specs.Shown.{accepted_write, with_flush}
 use Rattle.paraid_core.specs.CoreInvariant.{AreCopiesSynced}
 use Rattle.paraid_machine.specs.Energy.{energy_after}
 use Rattle.paraid_machine.specs.Machine.{IsEventStep}
-use Rattle.paraid_session.specs.Turn.{GoesOn, IsMark, IsSecondLossEnergy, IsUnhurt, Point, awaited_by, bounds_at, bounds_of, is_flush, makes_no_call, point_wear, replaced_by, watch_of, tells_attach, tells_begin}
+use Rattle.paraid_session.specs.Turn.{GoesOn, IsFirstDown, IsMark, IsSecondLossEnergy, IsUnhurt, Point, awaited_by, bounds_at, bounds_of, is_flush, makes_no_call, point_wear, replaced_by, watch_of, tells_attach, tells_begin}
 use Rattle.paraid_session.specs.Turn.IsFirstDown.{lost, out as was_out}
 use Rattle.paraid_session.specs.Turn.IsSecondLossGear.{same as same_gear}
 use Rattle.paraid_session.specs.Turn.IsTurn.{answered, two as second_loss}
@@ -42,6 +42,7 @@ use Rattle.paraid_event.specs.Stands.{StandsAt, StandsIn}
 use Rattle.paraid_event.specs.Steps.{AreStepCalls, GoesInSteps, IsOnly, IsUnderway}
 use Rattle.paraid_event.specs.Ticks.{IsHaltedWith}
 use Rattle.paraid_event.proofs.EndLemmas.{only_from, only_is, only_serving}
+use Rattle.paraid_event.proofs.LastCallLemmas.{ends_event}
 use Rattle.paraid_event.proofs.PointLemmas.{stands_mark}
 use Rattle.paraid_event.proofs.TurnLemmas.{absent_named, fresh_there, out_low}
 
@@ -76,6 +77,12 @@ module _ (told_then : Option Trail) (k k1 : Service) (setup : Setup) (p : Point)
   each_of calls = subst (λ (z : Bounds). Each (HoldsWhileServing k.slots p.history p.low z) (IsAllowed setup (replaced_by event)) w0 cs) (sym bounds)
       (subst (λ (n : ℕ). Each (HoldsWhileServing n p.history p.low b) (IsAllowed setup (replaced_by event)) w0 cs) slots1 (calls.moments b (replaced_by event) setup1 ticks (omega (arith, few))))
 
+  first_down : (two : Two) → k1.meta.out ≡ p.state.out → TellsTwo k1 two p.disks cs → IsFirstDown k.slots setup p event cs two.first
+  first_down two same_out tells = elim tells.first [
+    | inl named ↦ was_out (ap named_out (sym same_out) ∙ named)
+    | inr none ↦ lost (ap named_out (sym same_out) ∙ none.0) none.1
+  ]
+
   -- where a second disk is lost
   pub steps_lost : (two : Two) (used : ℕ) → watch_of p event (Halted (HaltTwo two)) ≡ w0 → k1.meta.out ≡ p.state.out → AreStepCalls k1 p.history p.low most p.meta w0 cs → TellsTwo k1 two p.disks cs
       → ((answer : Answer) (new : PowerState) → IsUnhurt setup p event answer new → makes_no_call answer ≡ false) → IsSecondLossEnergy setup p event used
@@ -84,12 +91,9 @@ module _ (told_then : Option Trail) (k k1 : Service) (setup : Setup) (p : Point)
     record p { disks = run p.disks cs; energy = used; halt = Some (HaltTwo two) },
     second_loss two going not_bad refl (record {
       fit = fit;
-      first = elim tells.first [
-        | inl named ↦ was_out (ap named_out (sym same_out) ∙ named)
-        | inr none ↦ lost (ap named_out (sym same_out) ∙ none.0) none.1
-      ];
-      second = tells.second;
+      first = first_down two same_out tells;
       apart = tells.apart;
+      ends = ends_event k.slots setup p event two cs (first_down two same_out tells) tells.ends;
       busy = busy;
       moments = subst (λ (u : Watch). Each (HoldsWhileServing k.slots p.history p.low (bounds_of setup p event)) (IsAllowed setup (replaced_by event)) u cs) (sym starts) (each_of calls);
       once = let a = calls.attaches in omega (arith, a);

@@ -42,9 +42,12 @@ use Rattle.paraid_event.specs.Lost.{IsHaltedFrom, TellsTwo}
 use Rattle.paraid_event.specs.Marked.{MarksTakenOut}
 use Rattle.paraid_event.specs.Parts.{AreEventCalls, EndsEvent, LosesInEvent, ServesEvent}
 use Rattle.paraid_event.specs.Service.{Service}
+use Rattle.paraid_image.specs.Lost.{EndsBySecond}
 use Rattle.paraid_event.specs.Stands.{IsMidway, ServiceStandsFor, StandsAt}
-use Rattle.paraid_event.proofs.EndLemmas.{IsOnly, fails_tail, only_serving}
+use Rattle.paraid_event.proofs.EndLemmas.{IsOnly, only_serving}
 use Rattle.paraid_event.proofs.FailLemmas.{attach_append, taken_midway}
+use Rattle.paraid_event.proofs.LastCallLemmas.{ends_event}
+use Rattle.paraid_image.proofs.LostLemmas.{ends_later}
 use Rattle.paraid_event.proofs.MarksLemmas.{marked_setup, same_ticks}
 use Rattle.paraid_event.proofs.PartLemmas.{part_attaches, part_each, part_failed, part_marks, part_only, part_stands, part_room}
 use Rattle.paraid_event.proofs.TurnLemmas.{absent_named, each, fresh_there, once, out_low}
@@ -70,10 +73,6 @@ first_append (c ∷ cs) ds e is = by (is_done c) is (λ z. first_append cs ds e 
     by : (t : Bool) → (if t then first_lost cs else Some (disk_of c)) ≡ Some e → (first_lost cs ≡ Some e → first_lost (cs ++ ds) ≡ Some e) → (if t then first_lost (cs ++ ds) else Some (disk_of c)) ≡ Some e
     by true z f = f z
     by false z f = z
-
-fails_later : (cs ds : List Call) (e : ℕ) → fails_on e ds ≡ true → fails_on e (cs ++ ds) ≡ true
-fails_later [] ds e is = is
-fails_later (c ∷ cs) ds e is = fails_tail c (cs ++ ds) e (fails_later cs ds e is)
 
 none_fails : (ds : List Call) (e : ℕ) → fails_on e (before_loss ds) ≡ true → ⊥
 none_fails [] e is = false≢true is
@@ -181,13 +180,13 @@ module _ (told : Option Trail) (k : Service) (setup : Setup) (p : Point) (at : S
   asked_each : (cs : List Call) → AreEventCalls k p.history p.low p.meta p.disks cs → Held w0 cs
   asked_each cs part = part_each k p.history p.low p.meta w0 mid0 cs part b at.same_setup ticks_fit (omega arith) None
 
-  ends_session : (cs : List Call) → IsFirstDown k.slots setup p (Fail d) cs two.first → fails_on two.second cs ≡ true → two.first ≢ two.second → Held (watched_if (two.first == d)) cs → attach_count cs ≤ 1
+  ends_session : (cs : List Call) → IsFirstDown k.slots setup p (Fail d) cs two.first → EndsBySecond two cs → two.first ≢ two.second → Held (watched_if (two.first == d)) cs → attach_count cs ≤ 1
       → LosesSecondDisk k.slots setup p (Fail d) two cs (record p { disks = run p.disks cs; halt = Some (HaltTwo two) })
-  ends_session cs first second apart moments attaches = record {
+  ends_session cs first ends apart moments attaches = record {
     fit = fit;
     first = first;
-    second = second;
     apart = apart;
+    ends = ends_event k.slots setup p (Fail d) two cs first ends;
     busy = taken_busy;
     moments = moments;
     once = attaches;
@@ -201,7 +200,7 @@ module _ (told : Option Trail) (k : Service) (setup : Setup) (p : Point) (at : S
   -- in the commit of what is staged
   staged_turn : (cs : List Call) → AreEventCalls k p.history p.low p.meta p.disks cs → TellsTwo k two p.disks cs
       → LosesSecondDisk k.slots setup p (Fail d) two cs (record p { disks = run p.disks cs; halt = Some (HaltTwo two) })
-  staged_turn cs part tells = ends_session cs first tells.second tells.apart (moments (two.first == d)) (once told k setup p at cs part)
+  staged_turn cs part tells = ends_session cs first tells.ends tells.apart (moments (two.first == d)) (once told k setup p at cs part)
     where
       first : IsFirstDown k.slots setup p (Fail d) cs two.first
       first = elim tells.first [ inl was ↦ absurd (none_named two.first was) | inr none ↦ lost (ap named_out no_out) none.1 ]
@@ -315,7 +314,8 @@ module _ (told : Option Trail) (k : Service) (setup : Setup) (p : Point) (at : S
               (each_append (HoldsWhileServing k.slots p.history p.low b) (IsAllowed setup None) w0 cs ds (asked_each cs part) each2)
 
           marked_turn : LosesSecondDisk k.slots setup p (Fail d) two (cs ++ ds) (record p { disks = run p.disks (cs ++ ds); halt = Some (HaltTwo two) })
-          marked_turn = ends_session (cs ++ ds) (subst (IsFirstDown k.slots setup p (Fail d) (cs ++ ds)) (sym first_is) first) (fails_later cs ds two.second tells.second) tells.apart moments
+          marked_turn = ends_session (cs ++ ds) (subst (IsFirstDown k.slots setup p (Fail d) (cs ++ ds)) (sym first_is) first)
+              (ends_later two cs ds (λ e fails. marks.alone e (part_failed k p.history p.low p.meta w0 mid0 cs part k1 p.history all ends e fails) ∙ sym first_is) tells.ends) tells.apart moments
               (let a = attach_append cs ds (part_attaches k p.history p.low p.meta w0 mid0 cs part) (part_attaches k2 p.history all ends.keeps.base v1 mid2 ds part2) in omega (arith, a))
 
     pub marked_lost : (mid told_then : Option Trail) → Ran told mid (ServesEvent k k1 p.history p.low p.history all) → ((t : Trail) → mid ≡ Some t → ServiceStandsFor k1 p.history all (now t) → ServiceStandsFor k2 p.history all (now t))

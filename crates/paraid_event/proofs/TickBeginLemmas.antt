@@ -33,7 +33,7 @@ use Rattle.paraid_machine.specs.Energy.{begun_energy, energy_after, tick_energy}
 use Rattle.paraid_machine.specs.Machine.{IsEventStep, begin_by_tick, decide, outcomes, report, shift_down, tick_by_out, tick_by_phase}
 use Rattle.paraid_machine.specs.Moves.{begun_down, first_worn, state_with_tick}
 use Rattle.paraid_moves.specs.MoveMetas.{meta_after_begin}
-use Rattle.paraid_session.specs.Turn.{GoesOn, IsMark, IsUnhurt, LosesSecondDisk, Point, bounds_at, makes_no_call, point_wear}
+use Rattle.paraid_session.specs.Turn.{GoesOn, IsFirstDown, IsMark, IsUnhurt, LosesSecondDisk, Point, bounds_at, makes_no_call, point_wear}
 use Rattle.paraid_session.specs.Turn.IsFirstDown.{lost}
 use Rattle.paraid_session.specs.Turn.IsSecondLossEnergy.{own}
 use Rattle.paraid_session.specs.Turn.IsSecondLossGear.{same}
@@ -51,6 +51,7 @@ use Rattle.paraid_event.specs.Stands.{IsMidway, ServiceStandsFor, StandsAt, Stan
 use Rattle.paraid_event.specs.Ticks.{BeginsDownByTick, CountsTick, IsHaltedWith}
 use Rattle.paraid_event.proofs.EndLemmas.{IsOnly, only_is, only_serving}
 use Rattle.paraid_event.proofs.IdleLemmas.{stands_in, state_then, used}
+use Rattle.paraid_event.proofs.LastCallLemmas.{ends_event}
 use Rattle.paraid_event.proofs.MarksLemmas.{marked_setup, same_ticks}
 use Rattle.paraid_event.proofs.PartLemmas.{IsSettled, part_attaches, part_committed, part_each, part_epoch, part_marks, part_only, part_powered, part_stands, part_state}
 use Rattle.paraid_event.proofs.PointLemmas.{stands_mark}
@@ -197,12 +198,15 @@ module _ (told : Option Trail) (k k1 k2 : Service) (setup : Setup) (p : Point) (
     abbrev halted_point : Two → List Call → Point
     halted_point two ds = record p { disks = run p.disks ds; energy = k1.energy; halt = Some (HaltTwo two) }
 
+    first_down : (two : Two) (ds : List Call) → TellsTwo k2 two p.disks ds → IsFirstDown k.slots setup p Tick ds two.first
+    first_down two ds tells = elim tells.first [ inl named ↦ absurd (no_name2 two.first named) | inr none ↦ lost (ap named_out no_out) none.1 ]
+
     tick_lost : (two : Two) (ds : List Call) → AreEventCalls k2 p.history p.low p.meta p.disks ds → TellsTwo k2 two p.disks ds → LosesSecondDisk k.slots setup p Tick two ds (halted_point two ds)
     tick_lost two ds part tells = record {
       fit = fit;
-      first = elim tells.first [ inl named ↦ absurd (no_name2 two.first named) | inr none ↦ lost (ap named_out no_out) none.1 ];
-      second = tells.second;
+      first = first_down two ds tells;
       apart = tells.apart;
+      ends = ends_event k.slots setup p Tick two ds (first_down two ds tells) tells.ends;
       busy = tick_busy;
       moments = each2 ds part;
       once = let a = part_attaches k2 p.history p.low p.meta w0 mid2 ds part in omega (arith, a);

@@ -53,9 +53,12 @@ use Rattle.paraid_event.specs.Service.{IsStateOf, Service}
 use Rattle.paraid_event.specs.Stands.{IsMidway, ServiceStandsFor, StandsAt, StandsIn}
 use Rattle.paraid_event.specs.Upshift.{EndsShiftUp, MarksShiftUp, OpensShiftUp}
 use Rattle.paraid_event.specs.Lost.{IsHaltedFrom, TellsTwo}
+use Rattle.paraid_image.specs.Lost.{EndsBySecond}
 use Rattle.paraid_event.proofs.BeginLemmas.{first_append}
-use Rattle.paraid_event.proofs.EndLemmas.{IsOnly, failed_absent, fails_tail, only_is, only_serving}
+use Rattle.paraid_event.proofs.EndLemmas.{IsOnly, failed_absent, only_is, only_serving}
 use Rattle.paraid_event.proofs.FailLemmas.{attach_append, watch_append}
+use Rattle.paraid_event.proofs.LastCallLemmas.{alone_named, alone_unhurt, ends_event}
+use Rattle.paraid_image.proofs.LostLemmas.{ends_later}
 use Rattle.paraid_event.proofs.MarksLemmas.{marked_setup, newly_named, same_ticks, still_named}
 use Rattle.paraid_event.proofs.PartLemmas.{IsSettled, part_attaches, part_awaited, part_calls, part_committed, part_each, part_epoch, part_failed, part_marks, part_only, part_stands, part_state, part_room}
 use Rattle.paraid_event.proofs.PointLemmas.{stands_mark}
@@ -116,10 +119,6 @@ one_outcome outcome answer new is = by is.0 is.1 is.2
     by zero low at = ap (λ (z : Answer × PowerState). z.0) at
     by (suc x) low at = absurd (omega arith)
 
-fails_later : (cs ds : List Call) (e : ℕ) → fails_on e ds ≡ true → fails_on e (cs ++ ds) ≡ true
-fails_later [] ds e is = is
-fails_later (c ∷ cs) ds e is = fails_tail c (cs ++ ds) e (fails_later cs ds e is)
-
 module _ (told : Option Trail) (k k1 k2 : Service) (setup : Setup) (p : Point) (at : StandsAt told k setup p) (to : ℕ) (up : MarksShiftUp k k1 k2 to) (some : next_higher setup.geometry p.state.gear ≡ Some to)
     (steady : p.state.phase ≡ Steady) (no_out : p.state.out ≡ No) (lo1 : ℕ) (le1 : p.low ≤ lo1) (fit : point_wear p < worn_at) where
   abbrev w0 : Watch
@@ -150,13 +149,13 @@ module _ (told : Option Trail) (k k1 k2 : Service) (setup : Setup) (p : Point) (
       let free = subst (λ (o : Option Answer). Contains (begin o None p.state to (begun_up to p.state)) (answer, new)) (ap (λ (x : Phase). shift_refusal x p.state.out) steady ∙ ap (λ (o : Out). shift_refusal Steady o) no_out) there in
       ap makes_no_call (sym (one_outcome (Shift p.state.gear to, begun_up to p.state) answer new free))
 
-  begins_lost : (two : Two) (cs : List Call) → first_lost cs ≡ Some two.first → fails_on two.second cs ≡ true → two.first ≢ two.second → Each (HoldsWhileServing k.slots p.history p.low b) (IsAllowed setup None) w0 cs → attach_count cs ≡ 0
+  begins_lost : (two : Two) (cs : List Call) → first_lost cs ≡ Some two.first → EndsBySecond two cs → two.first ≢ two.second → Each (HoldsWhileServing k.slots p.history p.low b) (IsAllowed setup None) w0 cs → attach_count cs ≡ 0
       → LosesSecondDisk k.slots setup p AskUp two cs (record p { disks = run p.disks cs; halt = Some (HaltTwo two) })
-  begins_lost two cs first second apart moments attaches = record {
+  begins_lost two cs first ends apart moments attaches = record {
     fit = fit;
     first = lost (ap named_out no_out) first;
-    second = second;
     apart = apart;
+    ends = ends_event k.slots setup p AskUp two cs (lost (ap named_out no_out) first) ends;
     busy = raise_busy;
     moments = moments;
     once = omega (arith, attaches);
@@ -302,7 +301,8 @@ module _ (told : Option Trail) (k k1 k2 : Service) (setup : Setup) (p : Point) (
           no_name2 e named = absurd (no_one (sym (ap (λ (m : Meta). named_out m.out) meta2 ∙ ap named_out up.whole) ∙ named))
 
           opened_lost : LosesSecondDisk k.slots setup p AskUp two (cs ++ ds) (record p { disks = run p.disks (cs ++ ds); halt = Some (HaltTwo two) })
-          opened_lost = begins_lost two (cs ++ ds) (first_append cs ds none_lost ∙ elim tells.first [ inl named ↦ absurd (no_name2 two.first named) | inr none ↦ none.1 ]) (fails_later cs ds two.second tells.second) tells.apart
+          opened_lost = begins_lost two (cs ++ ds) (first_append cs ds none_lost ∙ elim tells.first [ inl named ↦ absurd (no_name2 two.first named) | inr none ↦ none.1 ])
+              (ends_later two cs ds (alone_unhurt two.first cs none_lost) tells.ends) tells.apart
               (each_append (HoldsWhileServing k.slots p.history p.low b) (IsAllowed setup None) w0 cs ds each1 each2)
               (attach_append cs ds (part_attaches k p.history p.low p.meta w0 mid0 cs part) (part_attaches k2 p.history p.low ends.keeps.base v1 mid2 ds part2))
 
@@ -424,8 +424,13 @@ module _ (told : Option Trail) (k k1 k2 : Service) (setup : Setup) (p : Point) (
                 | inr none ↦ first_append ds es (none_opening none.0) ∙ none.1
               ]
 
+              alone : (e : ℕ) → fails_on e ds ≡ true → e ≡ two.first
+              alone e fails = alone_named (named_out k3.meta.out) (first_lost es) two.first tells.first e
+                  (part_failed k2 p.history p.low ends.keeps.base v1 mid2 ds part2 k3 p.history lo3 ends2 e fails)
+
               raised_lost : LosesSecondDisk k.slots setup p AskUp two (cs ++ (ds ++ es)) (record p { disks = run p.disks (cs ++ (ds ++ es)); halt = Some (HaltTwo two) })
-              raised_lost = begins_lost two (cs ++ (ds ++ es)) (first_append cs (ds ++ es) none_lost ∙ first_of) (fails_later cs (ds ++ es) two.second (fails_later ds es two.second tells.second)) tells.apart each_all none_attached
+              raised_lost = begins_lost two (cs ++ (ds ++ es)) (first_append cs (ds ++ es) none_lost ∙ first_of)
+                  (ends_later two cs (ds ++ es) (alone_unhurt two.first cs none_lost) (ends_later two ds es alone tells.ends)) tells.apart each_all none_attached
 
             module _ (k4 : Service) (ends_up : EndsShiftUp k k4 to) (ends3 : EndsPowered k3 k4 p.history p.low v3.disks es) where
               marks4 : IsMarkedBy v4.disks.power k3.meta k4.meta

@@ -1,5 +1,5 @@
 -- Which disk failed first in some calls, and then in others.
-use Rattle.std.proofs.Common.{◌≡◌, ◌≢◌, ℕ, ◌⊎◌, Bool, true, false, List, [], ◌∷◌, ◌++◌, Option, Some, None, refl, sym, ap, ◌∙◌, inl, inr, subst, arith, if◌then◌else◌}
+use Rattle.std.proofs.Common.{◌≡◌, ◌≢◌, ℕ, ◌⊎◌, Bool, true, false, List, [], ◌∷◌, ◌++◌, Option, Some, None, refl, sym, ap, ◌∙◌, inl, inr, subst, arith, append_assoc, if◌then◌else◌}
 use Rattle.std.specs.Prelude.{◌==◌}
 use Rattle.std.proofs.lemmas.Bool.{false≢true}
 use Rattle.std.proofs.lemmas.Bool.Decides.{nat_tests}
@@ -14,7 +14,7 @@ use Rattle.paraid_rack.specs.Trail.{Trail, extend, run}
 use Rattle.paraid_rack.proofs.AtomsLemmas.{at_use}
 use Rattle.paraid_rack.proofs.TrailsLemmas.{extend-extend}
 use Rattle.paraid_image.specs.Calls.{disk_of, is_done}
-use Rattle.paraid_image.specs.Lost.{BearsLoss, TellsLosses, fails_on, first_lost}
+use Rattle.paraid_image.specs.Lost.{BearsLoss, EndsByFailure, EndsByLoss, EndsBySecond, TellsLosses, fails_on, first_lost}
 
 some_same : (a b : ℕ) → Some a ≡ Some b → b ≡ a
 some_same a b e = cc
@@ -103,6 +103,17 @@ first_fails (c ∷ cs) x is = by (is_done c) refl is (first_fails cs x)
 pub only_lost : (cs : List Call) (d : ℕ) → fails_on d cs ≡ true → ((e : ℕ) → fails_on e cs ≡ true → e ≡ d) → first_lost cs ≡ Some d
 only_lost cs d is alone = let x = fails_first cs d is in x.1 ∙ ap (λ (k : ℕ). Some k) (alone x.0 (first_fails cs x.0 x.1))
 
+-- where none has failed first, none has failed
+none_fails : (cs : List Call) (d : ℕ) → first_lost cs ≡ None → fails_on d cs ≡ true → ⊥
+none_fails cs d none is = let x = fails_first cs d is in none_some x.0 (sym none ∙ x.1)
+
+-- a single call fails on its own disk
+one_fails : (c : Call) (d : ℕ) → fails_on d (c ∷ []) ≡ true → disk_of c ≡ d
+one_fails c d is = elim (fails_split c [] d is) [
+  | inl here ↦ here.1
+  | inr later ↦ absurd (false≢true later)
+]
+
 -- One call and then others
 
 pub fails_earlier : (cs ds : List Call) (e : ℕ) → fails_on e cs ≡ true → fails_on e (cs ++ ds) ≡ true
@@ -142,6 +153,71 @@ first_later (c ∷ cs) ds none = by (is_done c) none (λ z. first_later cs ds z)
     by true z f = f z
     by false z f = absurd (none_some (disk_of c) (sym z))
 
+-- Calls that end by the one that failed on this disk
+
+ending_first : (d : ℕ) (cs : List Call) → EndsByFailure d cs → first_lost cs ≡ Some d
+ending_first d cs e = ap first_lost e.is ∙ first_later e.before (e.last ∷ []) e.none ∙ (rw e.failed (ap (λ (k : ℕ). Some k) e.on))
+
+ending_only : (d : ℕ) (cs : List Call) → EndsByFailure d cs → (x : ℕ) → fails_on x cs ≡ true → x ≡ d
+ending_only d cs e x is = elim (fails_append e.before (e.last ∷ []) x (sym (ap (fails_on x) e.is) ∙ is)) [
+  | inl early ↦ absurd (none_fails e.before x e.none early)
+  | inr last ↦ sym (one_fails e.last x last) ∙ e.on
+]
+
+-- the first disk that failed in calls that end by that
+loss_first : (lost : Option ℕ) (cs : List Call) → EndsByLoss lost cs → first_lost cs ≡ lost
+loss_first None cs e = e
+loss_first (Some d) cs e = ending_first d cs e
+
+-- no other one failed
+loss_only : (lost : Option ℕ) (cs : List Call) → EndsByLoss lost cs → (x : ℕ) → fails_on x cs ≡ true → lost ≡ Some x
+loss_only None cs e x is = absurd (none_fails cs x e is)
+loss_only (Some d) cs e x is = ap (λ (k : ℕ). Some k) (sym (ending_only d cs e x is))
+
+failure_later : (d : ℕ) (cs ds : List Call) → first_lost cs ≡ None → EndsByFailure d ds → EndsByFailure d (cs ++ ds)
+failure_later d cs ds none e = record {
+  before = cs ++ e.before;
+  last = e.last;
+  is = ap (λ (l : List Call). cs ++ l) e.is ∙ sym (append_assoc cs e.before (e.last ∷ []));
+  failed = e.failed;
+  on = e.on;
+  none = first_later cs e.before none ∙ e.none;
+}
+
+-- calls of which none failed may come before
+loss_later : (lost : Option ℕ) (cs ds : List Call) → first_lost cs ≡ None → EndsByLoss lost ds → EndsByLoss lost (cs ++ ds)
+loss_later None cs ds none e = first_later cs ds none ∙ e
+loss_later (Some d) cs ds none e = failure_later d cs ds none e
+
+-- one call
+pub loss_failed : (d : ℕ) (c : Call) → is_done c ≡ false → disk_of c ≡ d → EndsByFailure d (c ∷ [])
+loss_failed d c failed on = record { before = []; last = c; is = refl; failed = failed; on = on; none = refl }
+
+-- Before calls that end by the failure of the second disk others may come in which none failed but the first.
+pub ends_later : (two : Two) (cs ds : List Call) → ((d : ℕ) → fails_on d cs ≡ true → d ≡ two.first) → EndsBySecond two ds → EndsBySecond two (cs ++ ds)
+ends_later two cs ds first e = record {
+  before = cs ++ e.before;
+  last = e.last;
+  is = ap (λ (l : List Call). cs ++ l) e.is ∙ sym (append_assoc cs e.before (e.last ∷ []));
+  failed = e.failed;
+  on = e.on;
+  alone = λ d is. elim (fails_append cs e.before d is) [
+    | inl early ↦ first d early
+    | inr later ↦ e.alone d later
+  ];
+}
+
+-- the disk that failed last is the second
+second_ends : (two : Two) (cs : List Call) → EndsByFailure two.second cs → EndsBySecond two cs
+second_ends two cs e = record {
+  before = e.before;
+  last = e.last;
+  is = e.is;
+  failed = e.failed;
+  on = e.on;
+  alone = λ d is. absurd (none_fails e.before d e.none is);
+}
+
 -- One part and then another
 
 bears_by : (was mid now : Option ℕ) (cs ds : List Call) → BearsLoss was mid cs → BearsLoss mid now ds → (o : Option ℕ) → mid ≡ o → was ≡ None → first_lost (cs ++ ds) ≡ now
@@ -152,6 +228,10 @@ pub bears_then : (was mid now : Option ℕ) (cs ds : List Call) → BearsLoss wa
 bears_then was mid now cs ds a b = record {
   first = bears_by was mid now cs ds a b mid refl;
   stays = λ d is. b.stays d (a.stays d is);
+  only = λ d is. elim (fails_append cs ds d is) [
+    | inl early ↦ b.stays d (a.only d early)
+    | inr later ↦ b.only d later
+  ];
 }
 
 told_by : (was mid : Option ℕ) (two : Two) (cs ds : List Call) → BearsLoss was mid cs → (mid ≡ Some two.first) ⊎ ((mid ≡ None) × (first_lost ds ≡ Some two.first)) → (o : Option ℕ) → was ≡ o
@@ -161,43 +241,64 @@ told_by was mid two cs ds a (inl named) (Some x) is = inl (is ∙ sym (a.stays x
 told_by was mid two cs ds a (inr none) None is = inr (is, first_later cs ds (a.first is ∙ none.0) ∙ none.1)
 told_by was mid two cs ds a (inr none) (Some x) is = absurd (none_some x (sym none.0 ∙ a.stays x is))
 
+-- the one that has failed by then is the first
+first_by : (mid : Option ℕ) (x : ℕ) (d : ℕ) {P : Type 0} → mid ≡ Some d → (mid ≡ Some x) ⊎ ((mid ≡ None) × P) → d ≡ x
+first_by mid x d is (inl named) = some_same x d (sym named ∙ is)
+first_by mid x d is (inr none) = absurd (none_some d (sym none.0 ∙ is))
+
 -- two disks are lost in the second part
 pub tells_then : (was mid : Option ℕ) (two : Two) (cs ds : List Call) → BearsLoss was mid cs → TellsLosses mid two ds → TellsLosses was two (cs ++ ds)
 tells_then was mid two cs ds a b = record {
   second = fails_later cs ds two.second b.second;
   apart = b.apart;
   first = told_by was mid two cs ds a b.first was refl;
+  ends = ends_later two cs ds (λ d is. first_by mid two.first d (a.only d is) b.first) b.ends;
 }
 
 -- no call
 pub bears_none : (out : Option ℕ) → BearsLoss out out []
-bears_none out = record { first = λ none. sym none; stays = λ d is. is }
+bears_none out = record { first = λ none. sym none; stays = λ d is. is; only = λ d is. absurd (false≢true is) }
+
+-- calls of which none failed
+pub bears_unhurt : (out : Option ℕ) (cs : List Call) → first_lost cs ≡ None → BearsLoss out out cs
+bears_unhurt out cs none = record { first = λ is. none ∙ sym is; stays = λ d is. is; only = λ d is. absurd (none_fails cs d none is) }
+
+-- calls that end by the first failure
+pub bears_ending : (lost : Option ℕ) (cs : List Call) → EndsByLoss lost cs → BearsLoss None lost cs
+bears_ending lost cs e = record { first = λ is. loss_first lost cs e; stays = λ d is. absurd (none_some d is); only = λ d is. loss_only lost cs e d is }
 
 -- one call that is done
 pub bears_done : (out : Option ℕ) (c : Call) → is_done c ≡ true → BearsLoss out out (c ∷ [])
-bears_done out c done = record { first = λ none. rw done (sym none); stays = λ d is. is }
+bears_done out c done = bears_unhurt out (c ∷ []) (rw done refl)
 
 -- one that fails, which is borne where no other disk was out
 pub bears_failed : (was now : Option ℕ) (c : Call) → is_done c ≡ false → now ≡ Some (disk_of c) → ((x : ℕ) → was ≡ Some x → x ≡ disk_of c) → BearsLoss was now (c ∷ [])
-bears_failed was now c failed is alone = record { first = λ none. rw failed (sym is); stays = λ d out. is ∙ ap (λ (k : ℕ). Some k) (sym (alone d out)) }
+bears_failed was now c failed is alone = record {
+  first = λ none. rw failed (sym is);
+  stays = λ d out. is ∙ ap (λ (k : ℕ). Some k) (sym (alone d out));
+  only = λ d fails. is ∙ ap (λ (k : ℕ). Some k) (one_fails c d fails);
+}
 
 -- and else it is the second
 pub tells_failed : (out : Option ℕ) (two : Two) (c : Call) → is_done c ≡ false → out ≡ Some two.first → two.first ≢ two.second → two.second ≡ disk_of c → TellsLosses out two (c ∷ [])
-tells_failed out two c failed is apart here = record { second = rw here (fails_head c [] failed); apart = apart; first = inl is }
+tells_failed out two c failed is apart here = record {
+  second = rw here (fails_head c [] failed);
+  apart = apart;
+  first = inl is;
+  ends = second_ends two (c ∷ []) (loss_failed two.second c failed (sym here));
+}
 
--- the first disk that failed is marked as out where none was, and else it is the second
-pub bears_first : (was now : Option ℕ) (cs : List Call) → first_lost cs ≡ now → ((x : ℕ) → was ≡ Some x → now ≡ Some x) → BearsLoss was now cs
-bears_first was now cs first stays = record { first = λ none. first; stays = stays }
-
-pub tells_first : (out : Option ℕ) (two : Two) (cs : List Call) → out ≡ Some two.first → two.first ≢ two.second → first_lost cs ≡ Some two.second → TellsLosses out two cs
-tells_first out two cs is apart first = record { second = first_fails cs two.second first; apart = apart; first = inl is }
+-- calls that end by a failure, where another disk was out
+pub tells_first : (out : Option ℕ) (two : Two) (cs : List Call) → out ≡ Some two.first → two.first ≢ two.second → EndsByLoss (Some two.second) cs → TellsLosses out two cs
+tells_first out two cs is apart e = record { second = first_fails cs two.second (ending_first two.second cs e); apart = apart; first = inl is; ends = second_ends two cs e }
 
 -- one fails, and then another
-pub tells_both : (two : Two) (cs ds : List Call) → two.first ≢ two.second → first_lost cs ≡ Some two.first → first_lost ds ≡ Some two.second → TellsLosses None two (cs ++ ds)
+pub tells_both : (two : Two) (cs ds : List Call) → two.first ≢ two.second → EndsByLoss (Some two.first) cs → EndsByLoss (Some two.second) ds → TellsLosses None two (cs ++ ds)
 tells_both two cs ds apart first second = record {
-  second = fails_later cs ds two.second (first_fails ds two.second second);
+  second = fails_later cs ds two.second (first_fails ds two.second (ending_first two.second ds second));
   apart = apart;
-  first = inr (refl, first_earlier cs ds two.first first);
+  first = inr (refl, first_earlier cs ds two.first (ending_first two.first cs first));
+  ends = ends_later two cs ds (λ d is. ending_only two.first cs first d is) (second_ends two ds second);
 }
 
 -- What is told of the calls of two parts, by what is told of each
@@ -219,21 +320,13 @@ ran_says P Q more old new ran t tells =
     let r = ran t tells in
     record { from = r.from; was = r.was; calls = r.calls; is = r.is; holds = more r.calls r.holds }
 
-pub ran_any : (Q : Disks → List Call → Type 0) (old new : Option Trail) → Ran old new Q → Ran old new (λ s cs. Unit {0})
-ran_any Q old new ran t tells =
-    let r = ran t tells in
-    record { from = r.from; was = r.was; calls = r.calls; is = r.is; holds = tt }
+-- some calls of which none failed, and then others
+pub ran_ends : (lost : Option ℕ) (old between new : Option Trail) → Ran old between (λ s cs. first_lost cs ≡ None) → Ran between new (λ s cs. EndsByLoss lost cs) → Ran old new (λ s cs. EndsByLoss lost cs)
+ran_ends lost old between new first second = ran_parts (λ cs. first_lost cs ≡ None) (EndsByLoss lost) (EndsByLoss lost) (λ cs ds a b. loss_later lost cs ds a b) old between new first second
 
--- some calls in which this disk failed first, or none, and then others
-pub ran_first : (lost : Option ℕ) (old between new : Option Trail) → Ran old between (λ s cs. first_lost cs ≡ None) → Ran between new (λ s cs. first_lost cs ≡ lost) → Ran old new (λ s cs. first_lost cs ≡ lost)
-ran_first lost old between new first second = ran_parts (λ cs. first_lost cs ≡ None) (λ cs. first_lost cs ≡ lost) (λ cs. first_lost cs ≡ lost) (λ cs ds a b. first_later cs ds a ∙ b) old between new first second
-
-pub ran_past : (e : ℕ) (Q : Disks → List Call → Type 0) (old between new : Option Trail) → Ran old between (λ s cs. first_lost cs ≡ Some e) → Ran between new Q → Ran old new (λ s cs. first_lost cs ≡ Some e)
-ran_past e Q old between new first second = ran_parts (λ cs. first_lost cs ≡ Some e) (λ cs. Unit {0}) (λ cs. first_lost cs ≡ Some e) (λ cs ds a b. first_earlier cs ds e a) old between new first (ran_any Q between new second)
-
--- the disk that failed first is the second one that is lost
-pub ran_beside : (out : Option ℕ) (two : Two) (old new : Option Trail) → out ≡ Some two.first → two.first ≢ two.second → Ran old new (λ s cs. first_lost cs ≡ Some two.second) → Ran old new (λ s cs. TellsLosses out two cs)
-ran_beside out two old new is apart ran = ran_says (λ cs. first_lost cs ≡ Some two.second) (TellsLosses out two) (λ cs first. tells_first out two cs is apart first) old new ran
+-- the disk that failed last is the second one that is lost
+pub ran_beside : (out : Option ℕ) (two : Two) (old new : Option Trail) → out ≡ Some two.first → two.first ≢ two.second → Ran old new (λ s cs. EndsByLoss (Some two.second) cs) → Ran old new (λ s cs. TellsLosses out two cs)
+ran_beside out two old new is apart ran = ran_says (EndsByLoss (Some two.second)) (TellsLosses out two) (λ cs e. tells_first out two cs is apart e) old new ran
 
 -- two disks are lost in the second part
 pub ran_tells : (was mid : Option ℕ) (two : Two) (old between new : Option Trail) → Ran old between (λ s cs. BearsLoss was mid cs) → Ran between new (λ s cs. TellsLosses mid two cs) → Ran old new (λ s cs. TellsLosses was two cs)

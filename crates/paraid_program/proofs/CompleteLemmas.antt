@@ -1,6 +1,7 @@
 -- From what a command that mounts has done to how it ends, on a rack that held a history.
 use Rattle.paraid_record.specs.declared.meta.Meta.{Meta}
 use Rattle.std.proofs.Common.{Bool, ◌≡◌, ℕ, ◌⊎◌, List, [], ◌∷◌, ◌++◌, length, Option, Some, inl, inr, refl, sym, ap, ◌∙◌, subst, arith, append_assoc}
+use Rattle.std.proofs.lemmas.List.{append-nil}
 use Rattle.std.proofs.lemmas.List.{take_all}
 use Rattle.paraid_base.specs.declared.event.Answer.TheVariants.{Flushed, Halted}
 use Rattle.paraid_base.specs.declared.event.Event.{Event}
@@ -161,20 +162,20 @@ module _ {rack : RackUse} (h : HeldHistory rack) where
           (same : h.said.meta.setup ≡ service.array.meta.setup) where
         -- the calls of the command, where a session of these turns followed
         session_calls : (events : List Event) (halt : Halt) (e : EndsStretch (served_span rack service) p events (Halted halt)) (m : MeetsHalt rack.slots h.said.meta.setup p e.all.turns halt)
-            → h.last ≡ extend h.first (cs ++ (turn_calls m.before ++ (m.turn.calls ++ turn_calls m.rest)))
+            → h.last ≡ extend h.first (cs ++ (turn_calls m.before ++ m.turn.calls))
         session_calls events halt e m =
             same_trail rack.after h.last e.all.to h.at_last e.all.is
             ∙ e.all.calls
             ∙ ap (λ (u : Trail). extend u (turn_calls e.all.turns)) (same_trail service.told e.all.from t e.all.was here ∙ split)
             ∙ extend-extend h.first cs (turn_calls e.all.turns)
-            ∙ ap (λ (l : List Call). extend h.first (cs ++ l)) (ap turn_calls m.split ∙ calls_split m.before m.rest m.turn)
+            ∙ ap (λ (l : List Call). extend h.first (cs ++ l)) (ap turn_calls m.split ∙ calls_split m.before m.rest m.turn ∙ ap (λ (l : List Call). turn_calls m.before ++ l) (ap (λ (l : List Call). m.turn.calls ++ l) m.silent ∙ append-nil m.turn.calls))
 
-        at_cause : (turns : List Turn) (halt : Halt) (m : MeetsHalt rack.slots h.said.meta.setup p turns halt) → h.last ≡ extend h.first (cs ++ (turn_calls m.before ++ (m.turn.calls ++ turn_calls m.rest)))
+        at_cause : (turns : List Turn) (halt : Halt) (m : MeetsHalt rack.slots h.said.meta.setup p turns halt) → h.last ≡ extend h.first (cs ++ (turn_calls m.before ++ m.turn.calls))
             → status ≡ status_of_halt halt → HaltsAt rack.slots h.said.meta.setup m.from m.turn m.to halt → Comes
         at_cause turns halt m calls is (lost pair told l) = hindered (hinder (two (is ∙ ap status_of_halt told) pair
-            (record { base = base; mount = cs; begun = p; begins = starts; turns = m.before; from = m.from; went = m.went; turn = m.turn; to = m.to; here = l; rest = turn_calls m.rest; calls = calls })))
+            (record { base = base; mount = cs; begun = p; begins = starts; turns = m.before; from = m.from; went = m.went; turn = m.turn; to = m.to; here = l; calls = calls })))
         at_cause turns halt m calls is (worn_out many told l) = hindered (hinder (worn (is ∙ ap status_of_halt told) many
-            (record { base = base; mount = cs; begun = p; begins = starts; turns = m.before; from = m.from; went = m.went; turn = m.turn; to = m.to; here = l; rest = turn_calls m.rest; calls = calls })))
+            (record { base = base; mount = cs; begun = p; begins = starts; turns = m.before; from = m.from; went = m.went; turn = m.turn; to = m.to; here = l; calls = calls })))
 
         -- A session that ends in a halt.
         pub halted_comes : (events : List Event) (halt : Halt) → EndsStretch (served_span rack service) p events (Halted halt) → status ≡ status_of_halt halt → Comes

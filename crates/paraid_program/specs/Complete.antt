@@ -39,7 +39,7 @@ pub record HeldHistory (rack : RackUse) : Type 0 where
   pub held : IsRunStart rack.slots (now first) history low down
   pub stands : Stands (now first) side said
 
--- The command mounted, and came to a turn of its session of which this holds. These were its calls.
+-- The command mounted, and came to a turn of its session of which this holds. These were all its calls: after that turn it made none.
 pub record ComesTo {rack : RackUse} (h : HeldHistory rack) (Q : Point → Turn → Point → Type 0) : Type 0 where
   pub base : ℕ → ℕ
   pub mount : List Call
@@ -51,8 +51,7 @@ pub record ComesTo {rack : RackUse} (h : HeldHistory rack) (Q : Point → Turn �
   pub turn : Turn
   pub to : Point
   pub here : Q from turn to
-  pub rest : List Call
-  pub calls : h.last ≡ extend h.first (mount ++ (turn_calls turns ++ (turn.calls ++ rest)))
+  pub calls : h.last ≡ extend h.first (mount ++ (turn_calls turns ++ turn.calls))
 
 -- What hinders a command that mounts, with the status that it has then.
 pub data Hinders {rack : RackUse} (h : HeldHistory rack) (sink : SinkUse) (status : ℕ) : Type 0 where

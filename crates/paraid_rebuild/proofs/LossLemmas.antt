@@ -1,5 +1,5 @@
 -- A second disk that is lost in a rebuild or in a replacement, in an event of a session.
-use Rattle.std.proofs.Common.{◌≡◌, ℕ, ◌+◌, ◌<◌, ◌≤◌, List, ◌++◌, Option, Some, None, sym, ◌∙◌, inl, inr, subst, arith}
+use Rattle.std.proofs.Common.{true, ◌≡◌, ℕ, ◌+◌, ◌<◌, ◌≤◌, List, ◌++◌, Option, Some, None, sym, ◌∙◌, inl, inr, subst, arith}
 use Rattle.paraid_base.specs.declared.fault.Two.{Two}
 use Rattle.paraid_base.specs.History.{History}
 use Rattle.paraid_base.specs.States.{gone_out, named_out}
@@ -7,7 +7,8 @@ use Rattle.paraid_rack.specs.declared.call.Call.{Call}
 use Rattle.paraid_rack.specs.Disks.{Disks}
 use Rattle.paraid_rack.specs.Told.{CrashTriple, Ran, Through}
 use Rattle.paraid_rack.specs.Trail.{Trail}
-use Rattle.paraid_image.specs.Lost.{TellsLosses}
+use Rattle.paraid_image.specs.Lost.{BearsLoss, TellsLosses, fails_on}
+use Rattle.paraid_image.proofs.LostLemmas.{ran_says, ran_tells}
 use Rattle.paraid_txn.specs.Commit.{IsOldOrNew}
 use Rattle.paraid_txn.specs.Stores.{store_rack}
 use Rattle.paraid_txn.specs.Uses.{EachCall}
@@ -32,7 +33,7 @@ use Rattle.paraid_event.proofs.ChainLemmas.{data_within, transfer_each}
 use Rattle.paraid_event.proofs.GivenLemmas.{commit_loses}
 use Rattle.paraid_event.proofs.GivenStepLemmas.{between_lost}
 use Rattle.paraid_event.proofs.PartLemmas.{part_attaches, part_calls}
-use Rattle.paraid_event.proofs.StepLemmas.{fails_later, lose_then, loses_bound, part_loses, ran_both, ran_then}
+use Rattle.paraid_event.proofs.StepLemmas.{lose_then, loses_bound, part_loses, ran_both, ran_then}
 use Rattle.paraid_rebuild.specs.Replacing.{LosesCopies, LosesFresh, LosesJoining}
 
 -- what a function says of it, by its core before and after
@@ -66,20 +67,18 @@ LosesEnding count told old new disk = λ two. (samples : List ℕ) (served energ
 pub tells_by : (told told_then : Option Trail) (o p : Option ℕ) (two : Two) → o ≡ p → Ran told told_then (λ s cs. TellsLosses o two cs) → Ran told told_then (λ s cs. TellsLosses p two cs)
 tells_by told told_then o p two is tells = subst (λ (q : Option ℕ). Ran told told_then (λ s cs. TellsLosses q two cs)) is tells
 
--- what is told of two losses beside a disk that is out is so after other calls
-later : (o p : Option ℕ) (d : ℕ) (two : Two) → o ≡ Some d → p ≡ Some d → (cs ds : List Call) → TellsLosses p two ds → TellsLosses o two (cs ++ ds)
-later o p d two was still cs ds tells = record {
-  second = fails_later cs ds two.second tells.second;
-  apart = tells.apart;
-  first = elim tells.first [
-    | inl named ↦ inl (was ∙ sym still ∙ named)
-    | inr none ↦ let z : None ≡ Some d = sym none.0 ∙ still in cc
-  ];
+-- beside a disk that is out no other one fails
+beside : (o p : Option ℕ) (d : ℕ) → o ≡ Some d → p ≡ Some d → (cs : List Call) → ((e : ℕ) → fails_on e cs ≡ true → p ≡ Some e) → BearsLoss o p cs
+beside o p d was still cs only = record {
+  first = λ none. let z : None ≡ Some d = sym none ∙ was in cc;
+  stays = λ x is. still ∙ sym was ∙ is;
+  only = only;
 }
 
-pub tells_later : (P : Disks → List Call → Type 0) (told mid told_then : Option Trail) (o p : Option ℕ) (d : ℕ) (two : Two) → o ≡ Some d → p ≡ Some d → Ran told mid P → Ran mid told_then (λ s cs. TellsLosses p two cs) → Ran told told_then (λ s cs. TellsLosses o two cs)
-tells_later P told mid told_then o p d two was still first second =
-    ran_both P (λ s cs. TellsLosses p two cs) (λ s cs. TellsLosses o two cs) (λ s cs ds x y. later o p d two was still cs ds y) told mid told_then first second
+-- what is told of two losses beside a disk that is out is so after other calls, in which no other one failed
+pub tells_later : (told mid told_then : Option Trail) (o p : Option ℕ) (d : ℕ) (two : Two) → o ≡ Some d → p ≡ Some d → Ran told mid (λ s cs. (e : ℕ) → fails_on e cs ≡ true → p ≡ Some e) → Ran mid told_then (λ s cs. TellsLosses p two cs) → Ran told told_then (λ s cs. TellsLosses o two cs)
+tells_later told mid told_then o p d two was still first second =
+    ran_tells o p two told mid told_then (ran_says (λ cs. (e : ℕ) → fails_on e cs ≡ true → p ≡ Some e) (BearsLoss o p) (λ cs x. beside o p d was still cs x) told mid first) second
 
 -- Calls between two commits in which a second disk is lost are parts of an event with no commit.
 module _ (k : Service) (h : History) (lo : ℕ) (base : Meta) (w : Watch) (at : IsMidway k h lo base w) (cs : List Call) (part : AreEventCalls k h lo base w.disks cs) (past : EachCall (IsDataCall k.meta.setup.geometry.disks (gone_out k.meta.out)) w.disks cs) where

@@ -14,7 +14,7 @@ ghost use Rattle.paraid_recover.specs.Map.{IsMapReady, IsNarrow, ReadsMap, Reads
 ghost use Rattle.paraid_txn.specs.Losses.{AreFailedOrWell, AreGoneSince};
 ghost use Rattle.paraid_txn.specs.Stores.{disks_of, store_out, store_rack};
 ghost use Rattle.paraid_txn.specs.Uses.{EachCall};
-ghost use Rattle.paraid_view.specs.Reads.{HaveLostTwo, HaveRead, ShowsContents, lost_by};
+ghost use Rattle.paraid_view.specs.Reads.{HaveLostTwo, HaveRead, HaveReadOn, ShowsContents, lost_by};
 
 use paraid_base::{Block, DiskNo, Geometry, MAP_START, Place, Row, Two};
 use paraid_dirty::DirtyTable;
@@ -164,7 +164,7 @@ pub fn read_map<R: Rack>(
     requires narrow { IsNarrow (is_dirty table.old) }
     ensures rows { length table.new ≡ length table.old }
     ensures narrow { IsNarrow (is_dirty table.new) }
-    ensures read { IfOk result (λ lost. HaveRead R.slot_count R.slot R.told (disks_of store.old)
+    ensures read { IfOk result (λ lost. HaveReadOn R.slot_count R.slot R.told (disks_of store.old)
         lost store.old store.new) }
     ensures each { AreFailedOrWell (R.slot (store_rack store.old)) (R.slot (store_rack store.new)) }
     ensures calls { Ran (R.told (store_rack store.old)) (R.told (store_rack store.new))

@@ -9,7 +9,7 @@ use Rattle.paraid_base.specs.declared.fault.Two.{Two}
 use Rattle.paraid_rack.specs.declared.call.Call.{Call}
 use Rattle.paraid_rack.specs.Trail.{Trail}
 use Rattle.paraid_record.specs.declared.meta.Setup.{Setup}
-use Rattle.paraid_serve.specs.Stretch.{EndsStretch, Turn, TurnsLead, span_of}
+use Rattle.paraid_serve.specs.Stretch.{EndsStretch, Turn, TurnsLead, span_of, turn_calls}
 use Rattle.paraid_session.specs.Turn.{IsTurn, IsWorn, LosesSecondDisk, Point, halt_told}
 use Rattle.paraid_session.specs.Turn.IsTurn.{again, answered, bad, two, worn}
 use Rattle.paraid_serve.proofs.OutcomeLemmas.{step_goes}
@@ -25,7 +25,7 @@ pub data HaltsAt (slots : ℕ) (setup : Setup) (p : Point) (t : Turn) (q : Point
   lost : (pair : Two) → halt ≡ HaltTwo pair → LosesSecondDisk slots setup p t.event pair t.calls q → HaltsAt slots setup p t q halt
   worn_out : (count : ℕ) → halt ≡ Worn count → IsWorn p t.event count → HaltsAt slots setup p t q halt
 
--- the turn in which it halts
+-- the turn in which it halts, after which no call is made
 pub record MeetsHalt (slots : ℕ) (setup : Setup) (p : Point) (turns : List Turn) (halt : Halt) : Type 0 where
   pub before : List Turn
   pub turn : Turn
@@ -35,6 +35,7 @@ pub record MeetsHalt (slots : ℕ) (setup : Setup) (p : Point) (turns : List Tur
   pub went : TurnsLead slots setup p before from
   pub to : Point
   pub cause : HaltsAt slots setup from turn to halt
+  pub silent : turn_calls rest ≡ []
 
 module _ (slots : ℕ) (setup : Setup) where
   turn_stays : (p q : Point) (t : Turn) (halt : Halt) → p.halt ≡ Some halt → IsTurn slots setup p t.event t.answer t.calls q → q ≡ p
@@ -51,6 +52,20 @@ module _ (slots : ℕ) (setup : Setup) where
       let same = turn_stays p went.0 t halt is went.1 in
       halted_stays went.0 q ts halt (ap (λ (z : Point). z.halt) same ∙ is) went.2 ∙ same
 
+  turn_silent : (p q : Point) (t : Turn) (halt : Halt) → p.halt ≡ Some halt → IsTurn slots setup p t.event t.answer t.calls q → t.calls ≡ []
+  turn_silent p q t halt is (answered going apart a) = absurd (none_some p.halt halt going is)
+  turn_silent p q t halt is (two pair going apart told l) = absurd (none_some p.halt halt going is)
+  turn_silent p q t halt is (worn count going apart told w none same) = none
+  turn_silent p q t halt is (again h was apart told none same) = none
+  turn_silent p q t halt is (bad b told none same) = none
+
+  -- and no call is made
+  halted_silent : (p q : Point) (ts : List Turn) (halt : Halt) → p.halt ≡ Some halt → TurnsLead slots setup p ts q → turn_calls ts ≡ []
+  halted_silent p q [] halt is went = refl
+  halted_silent p q (t ∷ ts) halt is went =
+      let same = turn_stays p went.0 t halt is went.1 in
+      ap (λ (cs : List Call). cs ++ turn_calls ts) (turn_silent p went.0 t halt is went.1) ∙ halted_silent went.0 q ts halt (ap (λ (z : Point). z.halt) same ∙ is) went.2
+
   one_before : (p mid : Point) (t : Turn) (ts : List Turn) (halt : Halt) → IsTurn slots setup p t.event t.answer t.calls mid → MeetsHalt slots setup mid ts halt → MeetsHalt slots setup p (t ∷ ts) halt
   one_before p mid t ts halt turn m = record {
     before = t ∷ m.before;
@@ -61,10 +76,12 @@ module _ (slots : ℕ) (setup : Setup) where
     went = (mid, turn, m.went);
     to = m.to;
     cause = m.cause;
+    silent = m.silent;
   }
 
-  at_once : (p mid : Point) (t : Turn) (ts : List Turn) (halt : Halt) → HaltsAt slots setup p t mid halt → MeetsHalt slots setup p (t ∷ ts) halt
-  at_once p mid t ts halt cause = record { before = []; turn = t; rest = ts; split = refl; from = p; went = refl; to = mid; cause = cause }
+  at_once : (p mid q : Point) (t : Turn) (ts : List Turn) (own halt : Halt) → HaltsAt slots setup p t mid halt → mid.halt ≡ Some own → TurnsLead slots setup mid ts q → MeetsHalt slots setup p (t ∷ ts) halt
+  at_once p mid q t ts own halt cause here went =
+      record { before = []; turn = t; rest = ts; split = refl; from = p; went = refl; to = mid; cause = cause; silent = halted_silent mid q ts own here went }
 
   -- the halt that came in a turn is the last one
   kept_halt : (mid q : Point) (ts : List Turn) (own halt : Halt) → mid.halt ≡ Some own → TurnsLead slots setup mid ts q → q.halt ≡ Some halt → halt ≡ own
@@ -73,9 +90,9 @@ module _ (slots : ℕ) (setup : Setup) where
   meets_by : (p mid q : Point) (t : Turn) (ts : List Turn) (halt : Halt) → p.halt ≡ None → IsTurn slots setup p t.event t.answer t.calls mid → TurnsLead slots setup mid ts q → q.halt ≡ Some halt
       → (mid.halt ≡ None → MeetsHalt slots setup mid ts halt) → MeetsHalt slots setup p (t ∷ ts) halt
   meets_by p mid q t ts halt none (answered going apart a) went is later = one_before p mid t ts halt (answered going apart a) (later a.going)
-  meets_by p mid q t ts halt none (two pair going apart told l) went is later = at_once p mid t ts halt (lost pair (kept_halt mid q ts (HaltTwo pair) halt l.halted went is) l)
+  meets_by p mid q t ts halt none (two pair going apart told l) went is later = at_once p mid q t ts (HaltTwo pair) halt (lost pair (kept_halt mid q ts (HaltTwo pair) halt l.halted went is) l) l.halted went
   meets_by p mid q t ts halt none (worn count going apart told w no_calls same) went is later =
-      at_once p mid t ts halt (worn_out count (kept_halt mid q ts (Worn count) halt (ap (λ (z : Point). z.halt) same) went is) w)
+      at_once p mid q t ts (Worn count) halt (worn_out count (kept_halt mid q ts (Worn count) halt (ap (λ (z : Point). z.halt) same) went is) w) (ap (λ (z : Point). z.halt) same) went
   meets_by p mid q t ts halt none (again h was apart told no_calls same) went is later = absurd (none_some p.halt h none was)
   meets_by p mid q t ts halt none (bad b told no_calls same) went is later = one_before p mid t ts halt (bad b told no_calls same) (later (ap (λ (z : Point). z.halt) same ∙ none))
 

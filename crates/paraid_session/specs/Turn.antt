@@ -28,7 +28,7 @@ use Rattle.paraid_machine.specs.Energy.{energy_after, tick_energy}
 use Rattle.paraid_machine.specs.Machine.{IsEventStep}
 use Rattle.paraid_machine.specs.Moves.{state_with_tick}
 use Rattle.paraid_session.specs.Ups.{up_count}
-use Rattle.paraid_session.specs.Watch.{Bounds, Down, Each, IsAllowed, HoldsWhileServing, IsServing, Watch, attach_count, before_loss, down_from_out, fails_on, first_lost, watch_all, with_down}
+use Rattle.paraid_session.specs.Watch.{Bounds, Down, Each, EndsServing, IsAllowed, HoldsWhileServing, IsServing, Watch, attach_count, before_loss, down_from_out, first_lost, watch_all, with_down}
 
 -- A session between two events: the disks; the writes that were accepted, and how many of them no
 -- stop takes away; the meta that stands; the state; the energy that was used; by disk the spin-ups
@@ -226,8 +226,9 @@ pub data IsSecondLossGear (setup : Setup) (p : Point) (event : Event) (gear : �
 pub record LosesSecondDisk (slots : ℕ) (setup : Setup) (p : Point) (event : Event) (two : Two) (calls : List Call) (q : Point) : Type 0 where
   pub fit : point_wear p < worn_at
   pub first : IsFirstDown slots setup p event calls two.first
-  pub second : fails_on two.second calls ≡ true
   pub apart : two.first ≢ two.second
+  -- its last call is the one that failed on the second disk: none comes after it
+  pub ends : EndsServing two (watch_of p event (Halted (HaltTwo two))) calls
   pub busy : (answer : Answer) (new : PowerState) → IsUnhurt setup p event answer new → makes_no_call answer ≡ false
   pub moments : Each (HoldsWhileServing slots p.history p.low (bounds_of setup p event)) (IsAllowed setup (replaced_by event)) (watch_of p event (Halted (HaltTwo two))) calls
   pub once : attach_count calls ≤ 1

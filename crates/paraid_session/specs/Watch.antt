@@ -1,5 +1,6 @@
 -- What is watched from call to call: the disks, which of them are down, and what the calls owe.
-use Rattle.std.specs.Prelude.{◌≡◌, ◌≢◌, ℕ, ◌+◌, ◌<◌, ◌≤◌, ◌==◌, ◌&&◌, Bool, true, List, [], ◌∷◌, slice_index, Option, Some, None, if◌then◌else◌}
+use Rattle.std.specs.Prelude.{◌≡◌, ◌≢◌, ℕ, ◌+◌, ◌<◌, ◌≤◌, ◌==◌, ◌&&◌, Bool, true, false, List, [], ◌∷◌, ◌++◌, slice_index, Option, Some, None, if◌then◌else◌}
+use Rattle.paraid_base.specs.declared.fault.Two.{Two}
 use Rattle.paraid_base.specs.History.{History}
 use Rattle.paraid_base.specs.Regions.{disk_size}
 use Rattle.paraid_rack.specs.declared.call.Call.{Call}
@@ -70,6 +71,16 @@ watch call w = record {
 abbrev pub watch_all : List Call → Watch → Watch
 watch_all [] w = w
 watch_all (call ∷ calls) w = watch_all calls (watch call w)
+
+-- The last of these calls failed on the second disk, and up to it one disk at most was down. So none
+-- comes after two are down.
+pub record EndsServing (two : Two) (w : Watch) (calls : List Call) : Type 0 where
+  pub before : List Call
+  pub last : Call
+  pub is : calls ≡ before ++ (last ∷ [])
+  pub failed : is_done last ≡ false
+  pub on : disk_of last ≡ two.second
+  pub serving : IsServing (watch_all before w).down
 
 -- P at each moment of these calls, the first and the last too, and each call is allowed
 abbrev pub Each : (Watch → Type 0) → (Watch → Call → Type 0) → Watch → List Call → Type 0

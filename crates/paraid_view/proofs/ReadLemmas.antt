@@ -19,9 +19,9 @@ use Rattle.paraid_rack.proofs.AtomsLemmas.{read_block-same, with_at_other, with_
 use Rattle.paraid_rack.proofs.TrailsLemmas.{Ran-call, Ran-none, Ran-then, now-extend}
 use Rattle.paraid_txn.specs.declared.store.Store.{Store}
 use Rattle.paraid_txn.specs.Losses.{IsLostNow}
-use Rattle.paraid_image.specs.Lost.{first_lost}
+use Rattle.paraid_image.specs.Lost.{EndsByLoss, first_lost}
 use Rattle.paraid_image.specs.Sides.{Batch, has_place}
-use Rattle.paraid_image.proofs.LostLemmas.{ran_first}
+use Rattle.paraid_image.proofs.LostLemmas.{loss_failed, ran_ends}
 use Rattle.paraid_image.specs.Standing.{Contents, overlaid_block}
 use Rattle.paraid_txn.specs.Stores.{IsSameStore, store_rack}
 use Rattle.paraid_view.specs.Reads.{AreLeft, AreArrayReads, AreOffDisk, HaveRead, ShowsContents, lost_by}
@@ -138,7 +138,7 @@ module _ {R : Type 0} {g : _} (count : R → ℕ) (slot : R → ℕ → Slot) (t
     same = record { disks = refl; epoch = refl; named = refl };
     left = left_none (slot (store_rack s));
     calls = ran_none (told (store_rack s)) n;
-    first = Ran-none (λ s cs. first_lost cs ≡ None) (λ s. refl) (told (store_rack s));
+    ends = Ran-none (λ s cs. first_lost cs ≡ None) (λ s. refl) (told (store_rack s));
   }
 
   pub read_then : (n k : ℕ) (lost : Option ℕ) (a b c : Store R g) → k ≡ n → HaveRead count slot told n None a b → HaveRead count slot told k lost b c → HaveRead count slot told n lost a c
@@ -148,7 +148,7 @@ module _ {R : Type 0} {g : _} (count : R → ℕ) (slot : R → ℕ → Slot) (t
     left = left_then lost (slot (store_rack a)) (slot (store_rack b)) (slot (store_rack c)) first.left second.left;
     calls = ran_then (told (store_rack a)) (told (store_rack b)) (told (store_rack c)) n first.calls
         (subst (λ (m : ℕ). Ran (told (store_rack b)) (told (store_rack c)) (AreArrayReads m)) is second.calls);
-    first = ran_first lost (told (store_rack a)) (told (store_rack b)) (told (store_rack c)) first.first second.first;
+    ends = ran_ends lost (told (store_rack a)) (told (store_rack b)) (told (store_rack c)) first.ends second.ends;
   }
 
 -- what a `?` hands on
@@ -202,9 +202,9 @@ shows_after n old new batch f ran shows t tells =
     (reads_show n batch f (now r.from) r.calls r.holds (shows r.from r.was))
 
 -- the disk of one read that fails
-one_lost : (d p : ℕ) (result : Result (Unit {0}) ℕ) (done : Bool) → ((e : ℕ) → result ≡ Err e → (e ≡ d) × (done ≡ false)) → (result ≡ Ok tt → done ≡ true) → first_lost (Read d p done ∷ []) ≡ lost_by result
+one_lost : (d p : ℕ) (result : Result (Unit {0}) ℕ) (done : Bool) → ((e : ℕ) → result ≡ Err e → (e ≡ d) × (done ≡ false)) → (result ≡ Ok tt → done ≡ true) → EndsByLoss (lost_by result) (Read d p done ∷ [])
 one_lost d p (Ok tt) done failed ok = rw (ok refl) refl
-one_lost d p (Err x) done failed ok = let f = failed x refl in rw f.1 (ap Some (sym f.0))
+one_lost d p (Err x) done failed ok = let f = failed x refl in loss_failed x (Read d p done) f.1 (sym f.0)
 
 -- one read
 module _ {R : Type 0} {g : _} (count : R → ℕ) (slot : R → ℕ → Slot) (told : R → Option Trail) (agrees : (rack : R) (t : Trail) → told rack ≡ Some t → Agrees (now t) (slot rack)) where
@@ -217,7 +217,7 @@ module _ {R : Type 0} {g : _} (count : R → ℕ) (slot : R → ℕ → Slot) (t
     same = same;
     left = left_touched (slot (store_rack a)) (slot (store_rack b)) d result done touched failed ok;
     calls = ran_one (told (store_rack a)) (told (store_rack b)) n d p done low (λ t tells. (agrees (store_rack a) t tells).power d ∙ spins) grows;
-    first = Ran-call (λ s cs. first_lost cs ≡ lost_by result) (told (store_rack a)) (told (store_rack b)) (Read d p done) grows (λ t is. one_lost d p result done failed ok);
+    ends = Ran-call (λ s cs. EndsByLoss (lost_by result) cs) (told (store_rack a)) (told (store_rack b)) (Read d p done) grows (λ t is. one_lost d p result done failed ok);
   }
 
 -- a place of a disk that spins is there

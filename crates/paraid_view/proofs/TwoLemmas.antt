@@ -11,10 +11,10 @@ use Rattle.paraid_rack.specs.Trail.{Trail}
 use Rattle.paraid_txn.specs.declared.store.Store.{Store}
 use Rattle.paraid_txn.specs.Losses.{StaySynced, OnlyLosesSlots}
 use Rattle.paraid_txn.specs.Stores.{store_rack}
-use Rattle.paraid_image.specs.Lost.{TellsLosses, first_lost}
+use Rattle.paraid_image.specs.Lost.{BearsLoss, EndsByLoss, TellsLosses}
 use Rattle.paraid_image.proofs.CallLemmas.{decide_some}
-use Rattle.paraid_image.proofs.LostLemmas.{ran_beside, ran_parts, ran_past, tells_both}
-use Rattle.paraid_view.specs.Reads.{AreLeft, AreArrayReads, HaveLostTwo, HaveRead}
+use Rattle.paraid_image.proofs.LostLemmas.{bears_ending, bears_then, bears_unhurt, ran_beside, ran_parts, ran_says, tells_both}
+use Rattle.paraid_view.specs.Reads.{AreLeft, AreArrayReads, HaveLostTwo, HaveRead, HaveReadOn}
 use Rattle.paraid_view.proofs.ReadLemmas.{left_same, ran_then}
 
 abbrev pub two_of : ℕ → ℕ → Two
@@ -63,7 +63,7 @@ module _ {R : Type 0} {g : _} (count : R → ℕ) (slot : R → ℕ → Slot) (t
     spared = left_spared (Some e) (slot (store_rack a)) (slot (store_rack b)) read.left;
     synced = left_synced (Some e) (slot (store_rack a)) (slot (store_rack b)) read.left;
     calls = read.calls;
-    tells = ran_beside out (two_of first e) (told (store_rack a)) (told (store_rack b)) is apart read.first;
+    tells = ran_beside out (two_of first e) (told (store_rack a)) (told (store_rack b)) is apart read.ends;
   }
 
   -- one fails, and then another
@@ -80,17 +80,29 @@ module _ {R : Type 0} {g : _} (count : R → ℕ) (slot : R → ℕ → Slot) (t
     spared = spared_then (slot (store_rack a)) (slot (store_rack b)) (slot (store_rack c)) (left_spared (Some first) (slot (store_rack a)) (slot (store_rack b)) one.left) (left_spared (Some e) (slot (store_rack b)) (slot (store_rack c)) two.left);
     synced = synced_then (Some e) (slot (store_rack a)) (slot (store_rack b)) (slot (store_rack c)) (left_synced (Some first) (slot (store_rack a)) (slot (store_rack b)) one.left) two.left;
     calls = ran_then (told (store_rack a)) (told (store_rack b)) (told (store_rack c)) n one.calls (subst (λ (m : ℕ). Ran (told (store_rack b)) (told (store_rack c)) (AreArrayReads m)) is two.calls);
-    tells = ran_parts (λ cs. first_lost cs ≡ Some first) (λ cs. first_lost cs ≡ Some e) (TellsLosses out (two_of first e))
+    tells = ran_parts (EndsByLoss (Some first)) (EndsByLoss (Some e)) (TellsLosses out (two_of first e))
         (λ cs ds x y. subst (λ (o : Option ℕ). TellsLosses o (two_of first e) (cs ++ ds)) (sym none) (tells_both (two_of first e) cs ds apart x y))
-        (told (store_rack a)) (told (store_rack b)) (told (store_rack c)) one.first two.first;
+        (told (store_rack a)) (told (store_rack b)) (told (store_rack c)) one.ends two.ends;
+  }
+
+  -- reads that need no other disk
+  pub read_on : (n : ℕ) (a b : Store R g) → HaveRead count slot told n None a b → HaveReadOn count slot told n None a b
+  read_on n a b read = record {
+    slots = read.slots;
+    same = read.same;
+    left = read.left;
+    calls = read.calls;
+    borne = ran_says (EndsByLoss None) (BearsLoss None None) (λ cs none. bears_unhurt None cs none) (told (store_rack a)) (told (store_rack b)) read.ends;
   }
 
   -- one fails, and the rest is read without it
-  pub read_beside : (n k e : ℕ) (a b c : Store R g) → k ≡ n → HaveRead count slot told n (Some e) a b → HaveRead count slot told k None b c → HaveRead count slot told n (Some e) a c
+  pub read_beside : (n k e : ℕ) (a b c : Store R g) → k ≡ n → HaveRead count slot told n (Some e) a b → HaveRead count slot told k None b c → HaveReadOn count slot told n (Some e) a c
   read_beside n k e a b c is one two = record {
     slots = two.slots ∙ one.slots;
     same = record { disks = two.same.disks ∙ one.same.disks; epoch = two.same.epoch ∙ one.same.epoch; named = two.same.named ∙ one.same.named };
     left = subst (AreLeft (Some e) (slot (store_rack a))) (sym (left_same (slot (store_rack b)) (slot (store_rack c)) two.left)) one.left;
     calls = ran_then (told (store_rack a)) (told (store_rack b)) (told (store_rack c)) n one.calls (subst (λ (m : ℕ). Ran (told (store_rack b)) (told (store_rack c)) (AreArrayReads m)) is two.calls);
-    first = ran_past e (AreArrayReads k) (told (store_rack a)) (told (store_rack b)) (told (store_rack c)) one.first two.calls;
+    borne = ran_parts (EndsByLoss (Some e)) (EndsByLoss None) (BearsLoss None (Some e))
+        (λ cs ds x y. bears_then None (Some e) (Some e) cs ds (bears_ending (Some e) cs x) (bears_unhurt (Some e) ds y))
+        (told (store_rack a)) (told (store_rack b)) (told (store_rack c)) one.ends two.ends;
   }

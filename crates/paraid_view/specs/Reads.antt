@@ -15,7 +15,7 @@ use Rattle.paraid_record.specs.declared.meta.Meta.{Meta}
 use Rattle.paraid_txn.specs.declared.store.Store.{Store}
 use Rattle.paraid_base.specs.declared.fault.Two.{Two}
 use Rattle.paraid_txn.specs.Losses.{StaySynced, IsLostNow, OnlyLosesSlots, AreTwoDown}
-use Rattle.paraid_image.specs.Lost.{TellsLosses, first_lost}
+use Rattle.paraid_image.specs.Lost.{BearsLoss, EndsByLoss, TellsLosses}
 use Rattle.paraid_image.specs.Sides.{Batch, has_place}
 use Rattle.paraid_image.specs.Spot.{View, rising_to}
 use Rattle.paraid_image.specs.Standing.{Contents, overlaid_block}
@@ -58,13 +58,21 @@ abbrev pub lost_by : Result (Unit {0}) ℕ → Option ℕ
 lost_by (Ok it) = None
 lost_by (Err disk) = Some disk
 
--- Some reads were made, in which this disk, or none, has failed.
+-- Some reads were made, in which this disk, or none, has failed. No call follows the one that failed.
 pub record HaveRead {R : Type 0} {g : _} (count : R → ℕ) (slot : R → ℕ → Slot) (told : R → Option Trail) (n : ℕ) (lost : Option ℕ) (old new : Store R g) : Type 0 where
   pub slots : count (store_rack new) ≡ count (store_rack old)
   pub same : IsSameStore old new
   pub left : AreLeft lost (slot (store_rack old)) (slot (store_rack new))
   pub calls : Ran (told (store_rack old)) (told (store_rack new)) (AreArrayReads n)
-  pub first : Ran (told (store_rack old)) (told (store_rack new)) (λ s cs. first_lost cs ≡ lost)
+  pub ends : Ran (told (store_rack old)) (told (store_rack new)) (λ s cs. EndsByLoss lost cs)
+
+-- The same where the reads went on without the disk that failed.
+pub record HaveReadOn {R : Type 0} {g : _} (count : R → ℕ) (slot : R → ℕ → Slot) (told : R → Option Trail) (n : ℕ) (lost : Option ℕ) (old new : Store R g) : Type 0 where
+  pub slots : count (store_rack new) ≡ count (store_rack old)
+  pub same : IsSameStore old new
+  pub left : AreLeft lost (slot (store_rack old)) (slot (store_rack new))
+  pub calls : Ran (told (store_rack old)) (told (store_rack new)) (AreArrayReads n)
+  pub borne : Ran (told (store_rack old)) (told (store_rack new)) (λ s cs. BearsLoss None lost cs)
 
 -- with the batch laid over, the disks hold these blocks past the log
 abbrev pub ShowsContents : Option Trail → Batch → Contents → Type 0

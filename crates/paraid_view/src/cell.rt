@@ -9,7 +9,7 @@ ghost use Rattle.paraid_image.specs.Sound.{AreRowsZero, AreStripesZero};
 ghost use Rattle.paraid_image.specs.Standing.{Contents};
 ghost use Rattle.paraid_txn.specs.Stores.{disks_of, store_rack};
 ghost use Rattle.paraid_image.specs.Value.{near as near_of, soft_value, value as value_of};
-ghost use Rattle.paraid_view.specs.Reads.{AreOffDisk, CanRead, HaveLostTwo, HaveRead, ShowsContents, lost_by, seen_by};
+ghost use Rattle.paraid_view.specs.Reads.{AreOffDisk, CanRead, HaveLostTwo, HaveRead, HaveReadOn, ShowsContents, lost_by, seen_by};
 
 use crate::draft::Draft;
 use crate::laid::{read_laid, read_rest};
@@ -265,7 +265,7 @@ pub fn read_cell<R: Rack>(
     requires array { meta.now.setup.geometry.disks ≡ disks_of store.old }
     requires ready { CanRead (R.slot_count (store_rack store.old)) (R.slot (store_rack store.old))
         meta.now (out_disk (λ e. (R.slot (store_rack store.old) e).power) meta.now) }
-    ensures read { IfOk result (λ lost. HaveRead R.slot_count R.slot R.told (disks_of store.old)
+    ensures read { IfOk result (λ lost. HaveReadOn R.slot_count R.slot R.told (disks_of store.old)
         lost store.old store.new) }
     ensures below { IfOk result (λ lost. (e : ℕ) → lost ≡ Some e → e < disks_of store.old) }
     ensures off { Ran (R.told (store_rack store.old)) (R.told (store_rack store.new))

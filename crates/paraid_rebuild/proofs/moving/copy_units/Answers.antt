@@ -16,9 +16,9 @@ use Rattle.paraid_core.proofs.StepLemmas.{held_runs_then, leaves_none, leaves_th
 use Rattle.paraid_txn.specs.Commit.{gone_out}
 use Rattle.paraid_core.specs.Calls.{IsDataCall}
 use Rattle.paraid_core.proofs.KindLemmas.{calls_none}
+use Rattle.paraid_core.proofs.OrderLemmas.{data_out}
 use Rattle.paraid_rebuild.proofs.MovedLemmas.{data_then}
 use Rattle.paraid_image.specs.Lost.{TellsLosses}
-use Rattle.paraid_txn.specs.Uses.{EachCall}
 use Rattle.paraid_rebuild.proofs.LossLemmas.{tells_later}
 use Rattle.std.specs.Prelude.{◌<◌, ◌≤◌}
 use Rattle.paraid_base.specs.States.{has_out, rebuilt_count}
@@ -78,8 +78,9 @@ returns-in_err-done g c =
       calls = data_then c.args.core.now.meta c.loop-number.core.meta was.meta (g.R.Rack.told (store_rack c.args.core.now.store)) (g.R.Rack.told (store_rack c.loop-number.core.store)) (g.R.Rack.told (store_rack c.rebuild_unit.new.self.store)) was.calls c.rebuild_unit.ensures.copies.calls;
       tells =
           handed (λ two. Ran (g.R.Rack.told (store_rack a.store)) (g.R.Rack.told (store_rack new.store)) (λ s cs. TellsLosses (named_out a.meta.out) two cs)) from.result _ from.ensures.1
-          (tells_later (EachCall (IsDataCall a.meta.setup.geometry.disks (gone_out a.meta.out))) (g.R.Rack.told (store_rack a.store)) (g.R.Rack.told (store_rack l.store)) (g.R.Rack.told (store_rack new.store)) (named_out a.meta.out) (named_out l.meta.out) c.args.disk _
-          (ap named_out c.requires.can.fresh) (ap (λ (m : Meta). named_out m.out) was.meta ∙ ap named_out c.requires.can.fresh) was.calls c.in_err-done.ensures.copies.losses.tells);
+          (tells_later (g.R.Rack.told (store_rack a.store)) (g.R.Rack.told (store_rack l.store)) (g.R.Rack.told (store_rack new.store)) (named_out a.meta.out) (named_out l.meta.out) c.args.disk _
+          (ap named_out c.requires.can.fresh) (ap (λ (m : Meta). named_out m.out) was.meta ∙ ap named_out c.requires.can.fresh)
+          (data_out g.R.Rack.slot g.R.Rack.told g.met.R.Rack.agrees a l (ap (λ (m : Meta). m.setup) was.meta) was.leaves.ready.absent was.calls) c.in_err-done.ensures.copies.losses.tells);
       copied = λ is. none_done_as _ from.result _ _ from.ensures.1 is;
       stands = none_done _ from.result _ from.ensures.1;
       moments = λ h lo. held_runs_then g.R.Rack.slot_count g.R.Rack.slot g.R.Rack.told c.args.core.now c.loop-number.core was.leaves c.rebuild_unit.new.self (UnitsRebuilt g.R.Rack.slot_count c.args.core.now h lo c.args.first) (UnitsRebuilt g.R.Rack.slot_count c.loop-number.core h lo c.loop-number.number) h lo (was.copied h lo) (c.rebuild_unit.ensures.held.moments h lo);

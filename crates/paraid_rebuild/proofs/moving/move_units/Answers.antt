@@ -17,6 +17,7 @@ use Rattle.paraid_core.specs.CoreInvariant.{AreCopiesSynced}
 use Rattle.paraid_core.specs.Steps.{LeavesCore}
 use Rattle.paraid_core.specs.Units.{UnitsRebuilt}
 use Rattle.paraid_core.proofs.AfterLemmas.{handed}
+use Rattle.paraid_core.proofs.OrderLemmas.{data_out}
 use Rattle.paraid_core.proofs.StepLemmas.{held_runs_then, leaves_then, marked_from_setup, runs_end, runs_then, two_then}
 use Rattle.paraid_shift.specs.Serving.{IsCoreServing}
 use Rattle.paraid_shift.proofs.ServingLemmas.{serving_left}
@@ -124,8 +125,9 @@ returns-in_err-settle g c =
           (g.R.Rack.told (store_rack a.store)) (g.R.Rack.told (store_rack b.store)) (g.R.Rack.told (store_rack c.settle.new.self.store)) c.copy_units.ensures.calls c.settle.ensures.calls;
       tells =
           handed (λ two. Ran (g.R.Rack.told (store_rack a.store)) (g.R.Rack.told (store_rack d.store)) (λ s cs. TellsLosses (named_out a.meta.out) two cs)) from.result _ from.ensures.1
-          (tells_later (EachCall (IsDataCall a.meta.setup.geometry.disks (gone_out a.meta.out))) (g.R.Rack.told (store_rack a.store)) (g.R.Rack.told (store_rack b.store)) (g.R.Rack.told (store_rack d.store)) (named_out a.meta.out) (named_out b.meta.out) c.args.disk _
-          was (marked_named a.meta b.meta c.in_ok-done.ensures.leaves.meta c.args.disk was) c.copy_units.ensures.calls c.in_err-settle.ensures.keeps.stays.losses.tells);
+          (tells_later (g.R.Rack.told (store_rack a.store)) (g.R.Rack.told (store_rack b.store)) (g.R.Rack.told (store_rack d.store)) (named_out a.meta.out) (named_out b.meta.out) c.args.disk _
+          was (marked_named a.meta b.meta c.in_ok-done.ensures.leaves.meta c.args.disk was)
+          (data_out g.R.Rack.slot g.R.Rack.told g.met.R.Rack.agrees a b (marked_from_setup a.meta b.meta c.in_ok-done.ensures.leaves.meta) c.in_ok-done.ensures.leaves.ready.absent c.copy_units.ensures.calls) c.in_err-settle.ensures.keeps.stays.losses.tells);
       copied = λ is. none_done_as _ from.result _ _ from.ensures.1 is;
       stands = none_done _ from.result _ from.ensures.1;
       moments = λ h lo.

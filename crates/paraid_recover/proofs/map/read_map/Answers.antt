@@ -6,7 +6,7 @@ use Rattle.paraid_image.specs.Out.{is_out, or_else}
 use Rattle.paraid_image.specs.Spot.{map_disk as map_disk_of}
 use Rattle.paraid_txn.specs.Stores.{disks_of, store_out, store_rack}
 use Rattle.paraid_view.proofs.ReadLemmas.{shows_after}
-use Rattle.paraid_view.proofs.TwoLemmas.{read_beside, two_beside, two_lost}
+use Rattle.paraid_view.proofs.TwoLemmas.{read_beside, read_on, two_beside, two_lost}
 use Rattle.paraid_rack.specs.Disks.{is_present}
 use Rattle.paraid_rack.specs.Slots.{Slot}
 use Rattle.paraid_rack.specs.Told.{Ran}
@@ -93,7 +93,7 @@ pub returns-in_default : goal.returns-in_default
 returns-in_default g c = record {
   rows = c.read_map_of.ensures.rows;
   narrow = c.read_map_of.ensures.narrow;
-  read = c.in_default.ensures.read;
+  read = read_on g.R.Rack.slot_count g.R.Rack.slot g.R.Rack.told (disks_of c.args.store.now) c.args.store.now c.read_map_of.new.store c.in_default.ensures.read;
   each = left_well _ _ _ c.in_default.ensures.read.left;
   calls = first_calls g (goal.at.returns-in_default g c).After-read_map_of;
   alone = λ e is. absurd (none_is_not is);

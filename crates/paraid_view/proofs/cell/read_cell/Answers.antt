@@ -9,7 +9,7 @@ use Rattle.paraid_image.specs.Value.{value}
 use Rattle.paraid_view.proofs.ValueLemmas.{no_disk, same_disk}
 use Rattle.paraid_view.specs.Reads.{CanRead, seen_by}
 use Rattle.paraid_view.proofs.ReadLemmas.{off_nobody, off_same, shows_after}
-use Rattle.paraid_view.proofs.TwoLemmas.{read_beside, two_beside, two_lost}
+use Rattle.paraid_view.proofs.TwoLemmas.{read_beside, read_on, two_beside, two_lost}
 use Rattle.paraid_view.proofs.cell.read_cell.Goals as goal
 
 pub returns-in-Ok-clause-read : goal.returns-in-Ok-clause-read
@@ -71,7 +71,7 @@ returns-in-Ok-clause-two g c = tt
 
 pub returns-in_default : goal.returns-in_default
 returns-in_default g c = record {
-  read = c.in_default.ensures.read;
+  read = read_on g.R.Rack.slot_count g.R.Rack.slot g.R.Rack.told (disks_of c.args.store.now) c.args.store.now c.read_value.new.store c.in_default.ensures.read;
   below = λ e is. absurd (no_disk is);
   off = off_same _ _ _ _ (sym c.out_of-out.ensures) c.read_value.ensures.off;
   one = λ e is. absurd (no_disk is);

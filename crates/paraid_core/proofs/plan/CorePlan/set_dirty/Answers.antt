@@ -35,8 +35,9 @@ returns-clause-leads g c =
       calls = stay.calls;
       off = stay.off;
       left = stay.left;
-      first = stay.first;
+      ends = stay.ends;
       over = stay.over;
+      still = stay.still;
       below = stay.below;
     }
 

@@ -31,7 +31,7 @@ returns-in_default g c = record {
       spared = spared_then (g.R.Rack.slot (store_rack c.args.self.now.store)) (g.R.Rack.slot (store_rack c.read_unit.new.store)) (g.R.Rack.slot (store_rack c.write_unit.new.self.store)) (left_spared _ _ _ c.in_default.ensures.read.left) c.write_unit.ensures.copies.losses.spared;
       two = IfErr-weaker c.write_unit.result _ _ (λ two down. two_then g.R.Rack.slot_count g.R.Rack.slot g.R.Rack.told c.args.self.now (record c.args.self.now { store = c.read_unit.new.store })
           (gathered_leaves g.R.Rack.slot_count g.R.Rack.slot g.R.Rack.told c.args.self.now c.requires.serving.ready c.read_unit.new.store c.in_default.ensures.read c.requires.serving.serves.stays) c.write_unit.new.self c.write_unit.ensures.copies.losses.spared _ down) c.write_unit.ensures.copies.losses.two;
-      tells = IfErr-weaker c.write_unit.result _ _ (λ two down. tells_unhurt (named_out c.args.self.now.meta.out) _ _ (g.R.Rack.told (store_rack c.read_unit.new.store)) _ c.in_default.ensures.read.first down) c.write_unit.ensures.copies.losses.tells;
+      tells = IfErr-weaker c.write_unit.result _ _ (λ two down. tells_unhurt (named_out c.args.self.now.meta.out) _ _ (g.R.Rack.told (store_rack c.read_unit.new.store)) _ c.in_default.ensures.read.ends down) c.write_unit.ensures.copies.losses.tells;
       marks = on_ok_weaker c.write_unit.result (λ was_so. let m = c.args.self.now.meta in
           let left = c.in_default.ensures.read.left in
           marks_then _ (g.R.Rack.slot (store_rack c.read_unit.new.store)) _ m m _ (marks_read m m None _ _ m.epoch m.writes left refl (λ d is. let z : None ≡ Some d = is in cc) (λ d x is. let z : None ≡ Some d = is in cc)) was_so (left_spared _ _ _ left) c.write_unit.ensures.copies.losses.spared) c.write_unit.ensures.copies.losses.marks;
@@ -107,7 +107,7 @@ returns g c = record {
             apart = λ is. c.in-Err.ensures.failed (sym is);
             second = (c.in-Err.ensures.read.left.failed _ refl).risen;
           };
-      tells = ran_beside (named_out c.args.self.now.meta.out) _ _ _ (ap named_out c.requires.fresh) (λ is. c.in-Err.ensures.failed (sym is)) c.in-Err.ensures.read.first;
+      tells = ran_beside (named_out c.args.self.now.meta.out) _ _ _ (ap named_out c.requires.fresh) (λ is. c.in-Err.ensures.failed (sym is)) c.in-Err.ensures.read.ends;
       marks = tt;
     };
     calls = calls_whole _ _ _ (sym c.requires.serving.ready.array_is) (ap gone_out c.requires.fresh) _ _ c.in-Err.ensures.read.calls;

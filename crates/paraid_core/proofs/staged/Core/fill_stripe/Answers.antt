@@ -35,7 +35,7 @@ returns-in_default g c = record {
       spared = spared_then (g.R.Rack.slot (store_rack c.args.self.now.store)) (g.R.Rack.slot (store_rack c.gather.new.store)) (g.R.Rack.slot (store_rack c.write_members.new.self.store)) (left_spared _ _ _ c.in_default.ensures.read.left) c.write_members.ensures.copies.losses.spared;
       two = IfErr-weaker c.write_members.result _ _ (λ two down. two_then g.R.Rack.slot_count g.R.Rack.slot g.R.Rack.told c.args.self.now (record c.args.self.now { store = c.gather.new.store })
           (gathered_leaves g.R.Rack.slot_count g.R.Rack.slot g.R.Rack.told c.args.self.now c.requires.serving.ready c.gather.new.store c.in_default.ensures.read c.requires.serving.serves.stays) c.write_members.new.self c.write_members.ensures.copies.losses.spared _ down) c.write_members.ensures.copies.losses.two;
-      tells = IfErr-weaker c.write_members.result _ _ (λ two down. tells_unhurt (named_out c.args.self.now.meta.out) _ _ (g.R.Rack.told (store_rack c.gather.new.store)) _ c.in_default.ensures.read.first down) c.write_members.ensures.copies.losses.tells;
+      tells = IfErr-weaker c.write_members.result _ _ (λ two down. tells_unhurt (named_out c.args.self.now.meta.out) _ _ (g.R.Rack.told (store_rack c.gather.new.store)) _ c.in_default.ensures.read.ends down) c.write_members.ensures.copies.losses.tells;
       marks = on_ok_weaker c.write_members.result (λ was_so. let m = c.args.self.now.meta in
           let left = c.in_default.ensures.read.left in
           marks_then _ (g.R.Rack.slot (store_rack c.gather.new.store)) _ m m _ (marks_read m m None _ _ m.epoch m.writes left refl (λ d is. let z : None ≡ Some d = is in cc) (λ d x is. let z : None ≡ Some d = is in cc)) was_so (left_spared _ _ _ left) c.write_members.ensures.copies.losses.spared) c.write_members.ensures.copies.losses.marks;
@@ -91,7 +91,7 @@ returns g c = record {
       two =
           let old = c.args.self.now in
           IfErr-weaker c.put_out.result _ _ (λ two down. two_lost (named_of old.store) (named_out old.meta.out) _ _ c.in-Err.disk _ c.requires.serving.serves.stays (c.in-Err.ensures.read.left.failed _ refl).risen down) c.put_out.ensures.two;
-      tells = IfErr-weaker c.put_out.result _ _ (λ two down. lose_tells (named_out c.args.self.now.meta.out) (Some c.in-Err.disk) _ _ _ down c.in-Err.ensures.read.first) c.put_out.ensures.two;
+      tells = IfErr-weaker c.put_out.result _ _ (λ two down. lose_tells (named_out c.args.self.now.meta.out) (Some c.in-Err.disk) _ _ _ down c.in-Err.ensures.read.ends) c.put_out.ensures.two;
       marks = on_ok_weaker c.put_out.result (λ put. let m = c.args.self.now.meta in
           let low : (d : ℕ) → Some c.in-Err.disk ≡ Some d → d < m.setup.geometry.disks =
           (λ d is. subst (λ (z : ℕ). z < m.setup.geometry.disks) (some_is c.in-Err.disk d is) (subst (λ (z : ℕ). c.in-Err.disk < z) (sym c.requires.serving.ready.array_is) c.in-Err.ensures.below)) in

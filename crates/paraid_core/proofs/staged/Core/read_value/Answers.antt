@@ -22,7 +22,7 @@ use Rattle.paraid_core.proofs.ReadyLemmas.{IsLostOnly, left_lost_only}
 use Rattle.paraid_core.proofs.KindLemmas.{calls_off, gone_named, reads_of}
 use Rattle.paraid_image.proofs.CallLemmas.{out_named}
 use Rattle.paraid_core.proofs.LostMarkLemmas.{marks_read}
-use Rattle.paraid_core.proofs.OrderLemmas.{lose_tells, out_tells}
+use Rattle.paraid_core.proofs.OrderLemmas.{out_tells}
 use Rattle.paraid_rack.specs.Told.{Ran}
 use Rattle.paraid_image.specs.Lost.{TellsLosses}
 use Rattle.paraid_core.proofs.staged.Core.read_value.Given.{Over}
@@ -44,6 +44,12 @@ module _ (g : Over) (c : After-lose g) where
   none_out : (d x : ℕ) → lost_in m c.in_ok-lost.lost ≡ Some d → named_out m.out ≡ Some x → x ≡ d
   none_out d x is k =
       let none = c.in_ok-lost.ensures.one d (sym same ∙ is) in
+      let z : None ≡ Some x = sym none ∙ named_is_out (λ e. (g.R.Rack.slot (store_rack c.args.self.now.store) e).power) m x k in cc
+
+  -- none was out where one was lost
+  never : (d x : ℕ) → c.in_ok-lost.lost ≡ Some d → named_out m.out ≡ Some x → ⊥
+  never d x is k =
+      let none = c.in_ok-lost.ensures.one d is in
       let z : None ≡ Some x = sym none ∙ named_is_out (λ e. (g.R.Rack.slot (store_rack c.args.self.now.store) e).power) m x k in cc
 
   only : IsLostOnly m.setup.geometry.disks (lost_in m c.in_ok-lost.lost) (g.R.Rack.slot (store_rack c.args.self.now.store)) (g.R.Rack.slot (store_rack c.read_cell.new.store))
@@ -123,7 +129,7 @@ returns g c = record {
           two =
               let old = c.args.self.now in
               IfErr-weaker c.lose.result _ _ (λ two both. record { first = inl (down_named (named_of old.store) old.meta c.requires.serving.ready.one _ both.1); apart = both.2; second = (c.in_ok-lost.ensures.read.left.failed _ both.0).risen }) c.lose.ensures.two;
-          tells = IfErr-weaker c.lose.result _ _ (λ two down. lose_tells (named_out c.args.self.now.meta.out) c.in_ok-lost.lost _ _ _ down c.in_ok-lost.ensures.read.first) c.lose.ensures.two;
+          tells = IfErr-weaker c.lose.result _ _ (λ two down. absurd (never g c two.second two.first down.0 down.1)) c.lose.ensures.two;
           marks = on_ok_weaker c.lose.result (λ put. let m = c.args.self.now.meta in
               marks_read m c.lose.new.meta c.in_ok-lost.lost _ _ m.epoch m.writes c.in_ok-lost.ensures.read.left put.marked (low g c) (λ d x is k. put.alone d x is k (low g c d is))) (both_put c.lose.result c.args.self.now.meta c.lose.new.meta c.in_ok-lost.lost c.lose.ensures.marked c.lose.ensures.alone);
         };

@@ -225,7 +225,7 @@ returns-in_err-lose g c = record {
             let led = c.draft_writes.ensures.leads in
             let both = c.in_err-lose.ensures.two in
             handed (λ two. Ran (g.R.Rack.told (store_rack c.args.self.now.store)) (g.R.Rack.told (store_rack c.draft_writes.new.self.store)) (λ s cs. TellsLosses (named_out c.args.self.now.meta.out) two cs)) c.from_residual.result _ c.from_residual.ensures.1
-            (lose_tells (named_out c.args.self.now.meta.out) c.draft_writes.new.self.failed _ _ _ (both.0, sym (ap (λ (z : Meta). named_out z.out) led.meta) ∙ both.1, both.2) (led.first refl));
+            (lose_tells (named_out c.args.self.now.meta.out) c.draft_writes.new.self.failed _ _ _ (both.0, sym (ap (λ (z : Meta). named_out z.out) led.meta) ∙ both.1, both.2) (led.ends refl));
         marks = none_done _ c.from_residual.result _ c.from_residual.ensures.1;
       };
       ready = none_done _ c.from_residual.result _ c.from_residual.ensures.1;
