@@ -5,3 +5,4 @@ pub mod Course
 pub mod Resting
 pub mod Faults
 pub mod Ups
+pub mod Powers
