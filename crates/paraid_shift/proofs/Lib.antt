@@ -1,4 +1,5 @@
 pub mod ServingLemmas
+pub mod FitsLemmas
 pub mod UnitLemmas
 pub mod MovingLemmas
 pub mod CopiedLemmas

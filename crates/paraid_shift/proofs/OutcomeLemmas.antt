@@ -21,6 +21,7 @@ use Rattle.paraid_core.proofs.ChainLemmas.{marked_epoch}
 use Rattle.paraid_core.proofs.StepLemmas.{runs_none}
 use Rattle.paraid_shift.specs.Outcomes.{CommitsInEvent, MarksGroup, PowersDisks, ServesOn}
 use Rattle.paraid_shift.specs.Serving.{IsCoreServing, LeavesArray, RestsInShift}
+use Rattle.paraid_shift.proofs.FitsLemmas.{fits_committed, fits_marked}
 use Rattle.paraid_shift.proofs.LossLemmas.{core_bears_none, core_bears_then}
 use Rattle.paraid_shift.proofs.PowersLemmas.{powered_none, powered_then}
 use Rattle.paraid_shift.proofs.ServingLemmas.{array_marked, chain, leaves_array_none, leaves_array_then, marked_none, marked_then, none_known}
@@ -62,7 +63,7 @@ both_low a b c n m bound le first second = omega arith
 
 module _ {R : Type 0} {g : _} (count : R → ℕ) (slot : R → ℕ → Slot) where
   pub serves_none : (a : Core R g) (n : ℕ) → IsCoreServing count slot a → ServesOn count slot a a n
-  serves_none a n serving = record { serving = serving; leaves = leaves_array_none count slot a; absent = λ q. q; later = le_self a.meta.epoch; epoch = le_more a.meta.epoch n }
+  serves_none a n serving = record { serving = serving; leaves = leaves_array_none count slot a; absent = λ q. q; fits = λ f. f; later = le_self a.meta.epoch; epoch = le_more a.meta.epoch n }
     where
       le_self : (e : ℕ) → e ≤ e
       le_self e = omega arith
@@ -75,23 +76,24 @@ module _ {R : Type 0} {g : _} (count : R → ℕ) (slot : R → ℕ → Slot) wh
     serving = second.serving;
     leaves = leaves_array_then count slot a b c first.leaves second.leaves;
     absent = λ q. second.absent (first.absent q);
+    fits = λ f. second.fits (first.fits f);
     later = le_then a.meta.epoch b.meta.epoch c.meta.epoch first.later second.later;
     epoch = both_low a.meta.epoch b.meta.epoch c.meta.epoch n m bound le first.epoch second.epoch;
   }
 
   pub serves_within : (a b : Core R g) (n bound : ℕ) → n ≤ bound → ServesOn count slot a b n → ServesOn count slot a b bound
-  serves_within a b n bound le on = record { serving = on.serving; leaves = on.leaves; absent = on.absent; later = on.later; epoch = more a.meta.epoch b.meta.epoch le on.epoch }
+  serves_within a b n bound le on = record { serving = on.serving; leaves = on.leaves; absent = on.absent; fits = on.fits; later = on.later; epoch = more a.meta.epoch b.meta.epoch le on.epoch }
     where
       more : (e f : ℕ) → n ≤ bound → f ≤ e + n → f ≤ e + bound
       more e f le low = omega arith
 
   module _ (told : R → Option Trail) where
     -- a commit is one
-    pub serves_committed : (a b : Core R g) → CommitsInEvent count slot told a b → ServesOn count slot a b 1
-    serves_committed a b k = record { serving = k.serving; leaves = k.leaves; absent = λ q. k.absent; later = next_later a.meta.epoch b.meta.epoch k.epoch; epoch = next_low a.meta.epoch b.meta.epoch k.epoch }
+    pub serves_committed : (a b : Core R g) → OnlyLosesSlots (slot (store_rack a.store)) (slot (store_rack b.store)) → CommitsInEvent count slot told a b → ServesOn count slot a b 1
+    serves_committed a b spared k = record { serving = k.serving; leaves = k.leaves; absent = λ q. k.absent; fits = fits_committed (slot (store_rack a.store)) (slot (store_rack b.store)) a.meta b.meta (a.meta.epoch + 1) spared k.meta k.serving.ready.absent; later = next_later a.meta.epoch b.meta.epoch k.epoch; epoch = next_low a.meta.epoch b.meta.epoch k.epoch }
 
-    pub serves_group : (a b : Core R g) (most units n : ℕ) → MarksGroup count slot told a b most units → ServesOn count slot a b n
-    serves_group a b most units n k = record { serving = k.serving; leaves = k.leaves; absent = k.absent; later = marked_later a.meta b.meta k.meta; epoch = marked_low a.meta b.meta n k.meta }
+    pub serves_group : (a b : Core R g) (most units n : ℕ) → OnlyLosesSlots (slot (store_rack a.store)) (slot (store_rack b.store)) → MarksGroup count slot told a b most units → ServesOn count slot a b n
+    serves_group a b most units n spared k = record { serving = k.serving; leaves = k.leaves; absent = k.absent; fits = fits_marked (slot (store_rack a.store)) (slot (store_rack b.store)) a.meta b.meta spared k.meta k.serving.ready.absent; later = marked_later a.meta b.meta k.meta; epoch = marked_low a.meta b.meta n k.meta }
 
     -- disks were powered one after the other
     pub powers_none : (a : Core R g) → PowersDisks count slot told a a

@@ -14,15 +14,16 @@ use Rattle.paraid_core.specs.declared.staged.Core.{Core}
 use Rattle.paraid_core.specs.Cores.{CoreStandsFor, IsCoreHeldSinceCommit}
 use Rattle.paraid_core.specs.Steps.{IsMarkedFrom, IsNamedOrAbsent}
 use Rattle.paraid_shift.specs.Losing.{CoreBearsLoss}
-use Rattle.paraid_shift.specs.Serving.{HasBegunUp, IsComingUp, IsCoreServing, LeavesArray, RestsInShift, StaysAtRest}
+use Rattle.paraid_shift.specs.Serving.{HasBegunUp, IsComingUp, IsCoreServing, KeepsFit, LeavesArray, RestsInShift, StaysAtRest}
 use Rattle.paraid_shift.specs.Steps.{CommitsMark, CoreLosesInEvent, CoreLosesInSteps, CoreServesMarked, CoreStepsInEvent, CoreStepsToMark, MarksPowered, OpensUp}
 use Rattle.paraid_shift.specs.Units.{AreCellsDone, AreUnitsDone, CoreCountsMoved}
 
--- The core serves as it did, at most so many commits later; the epoch has not fallen.
+-- The core serves as it did, at most so many commits later; the epoch has not fallen, and the slots fit the meta still.
 pub record ServesOn {R : Type 0} {g : _} (count : R → ℕ) (slot : R → ℕ → Slot) (old new : Core R g) (commits : ℕ) : Type 0 where
   pub serving : IsCoreServing count slot new
   pub leaves : LeavesArray count slot old new
   pub absent : IsNamedOrAbsent slot old → IsNamedOrAbsent slot new
+  pub fits : KeepsFit slot old new
   pub later : old.meta.epoch ≤ new.meta.epoch
   pub epoch : new.meta.epoch ≤ old.meta.epoch + commits
 

@@ -16,7 +16,7 @@ use Rattle.paraid_core.specs.Cores.{core_down}
 use Rattle.paraid_core.specs.Lost.{CoreMarksLost}
 use Rattle.paraid_core.specs.Steps.{IsHeldStill, IsNamedOrAbsent, LeavesCore}
 use Rattle.paraid_shift.specs.Outcomes.{PowersDisks}
-use Rattle.paraid_shift.specs.Serving.{IsCoreServing, IsHeldFromRest, LeavesArray, StandsFromRest}
+use Rattle.paraid_shift.specs.Serving.{IsCoreServing, IsHeldFromRest, KeepsFit, LeavesArray, StandsFromRest}
 use Rattle.paraid_shift.specs.Steps.{MakesPowerCalls}
 
 -- Units can be moved: the core serves, no disk is out, and nothing is staged.
@@ -85,9 +85,10 @@ pub record KeepsContents {R : Type 0} {g : Ghosts R} (old new : Core R g) : Type
   pub moments : IsHeldStill g.slot_count g.told old new
 
 -- The core serves after a commit with which a shift begins or ends, with nothing staged. The array is as it was, and the
--- disk that is out is the one that the commit names, or absent.
+-- disk that is out is the one that the commit names, or absent; and the slots fit the meta still.
 pub record ServesShifted {R : Type 0} {g : Ghosts R} (old new : Core R g) : Type 0 where
   pub serving : IsCoreServing g.slot_count g.slot new
   pub leaves : LeavesArray g.slot_count g.slot old new
   pub absent : IsNamedOrAbsent g.slot new
+  pub fits : KeepsFit g.slot old new
   pub nothing : new.batch ≡ []

@@ -11,6 +11,7 @@ use Rattle.paraid_rack.specs.Told.{CrashTriple, Ran}
 use Rattle.paraid_rack.specs.Trail.{Trail}
 use Rattle.paraid_record.specs.declared.meta.Meta.{Meta}
 use Rattle.paraid_image.specs.Out.{named_out}
+use Rattle.paraid_session.specs.Powers.{FitsSlots}
 use Rattle.paraid_txn.specs.Stores.{named_of, store_rack}
 use Rattle.paraid_core.specs.declared.staged.Core.{Core}
 use Rattle.paraid_core.specs.CellCopies.{CellsCopied}
@@ -53,6 +54,10 @@ pub record LeavesArray {R : Type 0} {g : _} (count : R → ℕ) (slot : R → �
   pub writes : new.meta.writes ≡ old.meta.writes
   pub turned : OnlyTurnsDisks (slot (store_rack old.store)) (slot (store_rack new.store))
   pub down : IsDownAfter (core_down old) (core_down new) (slot (store_rack old.store)) (slot (store_rack new.store))
+
+-- Slots that fit the meta before fit it still.
+abbrev pub KeepsFit : {R : Type 0} {g : _} → (R → ℕ → Slot) → Core R g → Core R g → Type 0
+KeepsFit slot old new = FitsSlots (slot (store_rack old.store)) old.meta → FitsSlots (slot (store_rack new.store)) new.meta
 
 -- The core stands for these writes, and the shift that is under way, or none, is that of the last commit.
 abbrev pub StandsInShift : {R : Type 0} {g : _} → (R → ℕ) → Core R g → History → ℕ → Disks → Type 0

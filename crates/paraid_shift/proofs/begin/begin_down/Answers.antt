@@ -20,6 +20,7 @@ use Rattle.paraid_shift.proofs.LossLemmas.{commit_is_lost, marks_lost}
 use Rattle.std.specs.Prelude.{◌<◌, ◌^◌}
 use Rattle.std.proofs.Common.{ℕ}
 use Rattle.paraid_shift.proofs.ServingLemmas.{copies_kept}
+use Rattle.paraid_shift.proofs.FitsLemmas.{fits_begun_down}
 use Rattle.paraid_shift.proofs.begin.begin_down.Goals as goal
 
 pub returns-in_err-commit : goal.returns-in_err-commit
@@ -80,6 +81,8 @@ returns g c =
             (array_marked g.R.Rack.slot_count g.R.Rack.slot a b marks.marks.store (ap (λ (m : Meta). m.setup) marks.meta) (ap (λ (m : Meta). m.out) marks.meta) (ap (λ (m : Meta). m.version) marks.meta) (ap (λ (m : Meta). m.writes) marks.meta))
             record { slots = all.stays.losses.slots; setup = done.stays.setup; version = marked_version (record b.meta { epoch = b.meta.epoch + 1 }) new.meta done.meta.meta; writes = done.cells.writes; turned = turns_lost _ _ all.stays.losses.spared; down = done.stays.down };
         absent = done.meta.absent;
+        fits = fits_begun_down (g.R.Rack.slot (store_rack a.store)) (g.R.Rack.slot (store_rack new.store)) a.meta new.meta c.args.to (a.meta.epoch + 1) a.meta.spins c.requires.can.steady spared
+            (subst (λ (z : Meta). IsMarkedFrom (record z { epoch = z.epoch + 1 }) new.meta) marks.meta done.meta.meta) done.stays.ready.absent;
         nothing = done.nothing;
       };
       meta = subst (λ (z : Meta). IsMarkedFrom (record z { epoch = z.epoch + 1 }) new.meta) marks.meta done.meta.meta;

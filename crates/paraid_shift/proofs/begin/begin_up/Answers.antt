@@ -8,7 +8,7 @@ use Rattle.paraid_base.specs.declared.state.Phase.TheVariants.{Steady, Up}
 use Rattle.paraid_base.specs.States.{rising_to}
 use Rattle.paraid_image.specs.Power.{power_by_gear}
 use Rattle.paraid_moves.specs.MoveMetas.{meta_after_begin}
-use Rattle.paraid_txn.specs.Stores.{store_rack}
+use Rattle.paraid_txn.specs.Stores.{named_of, store_rack}
 use Rattle.paraid_event.specs.Service.{service_of}
 use Rattle.paraid_event.proofs.ShiftStepLemmas.{up_in_steps}
 use Rattle.paraid_shift.proofs.PowersLemmas.{not_fresh, rises_same, rising_same, rising_spins, turns_are_powers}
@@ -17,6 +17,7 @@ use Rattle.paraid_core.specs.Cores.{CoreStandsFor}
 use Rattle.paraid_shift.specs.Serving.{RestsInShift}
 use Rattle.paraid_shift.proofs.ServingLemmas.{chain, chain_held, marked_gear, marked_then}
 use Rattle.paraid_shift.proofs.LossLemmas.{powers_are_lost, rise_lost, up_lost}
+use Rattle.paraid_shift.proofs.FitsLemmas.{fits_begun_up}
 use Rattle.paraid_shift.proofs.begin.begin_up.Goals as goal
 
 pub returns-in_err-commit_up : goal.returns-in_err-commit_up
@@ -76,6 +77,9 @@ returns g c =
         serving = two.serving;
         leaves = leaves_array_then g.R.Rack.slot_count g.R.Rack.slot a b n one.leaves two.turns.powers.leaves;
         absent = two.turns.powers.absent one.absent;
+        fits = fits_begun_up (g.R.Rack.slot (store_rack a.store)) (g.R.Rack.slot (store_rack b.store)) (g.R.Rack.slot (store_rack n.store)) a.meta b.meta n.meta c.args.to (a.meta.epoch + 1) one.meta.spins (named_of n.store)
+            c.requires.can.steady c.requires.can.whole c.requires.next.below c.in_ok-commit_up.ensures.rack.spared one.meta.is (marked_then _ b.meta n.meta one.meta.is two.turns.powers.meta)
+            two.others two.serving.serves two.serving.large two.serving.ready.absent;
         nothing = two.nothing;
       };
       meta = record { spins = one.meta.spins; is = marked_then _ b.meta n.meta one.meta.is two.turns.powers.meta; raised = one.meta.raised; others = one.meta.others };

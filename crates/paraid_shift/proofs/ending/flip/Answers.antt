@@ -1,4 +1,4 @@
-use Rattle.std.specs.Prelude.{ℕ}
+use Rattle.std.specs.Prelude.{ℕ, ◌+◌}
 use Rattle.std.proofs.Common.{◌≡◌, ◌∙◌, refl, ap, arith, sym, inl, inr}
 use Rattle.paraid_base.specs.declared.state.Phase.TheVariants.{Steady}
 use Rattle.paraid_base.specs.States.{phase_to}
@@ -18,6 +18,7 @@ use Rattle.paraid_shift.proofs.LossLemmas.{flip_lost, park_lost, powers_are_lost
 use Rattle.std.specs.Prelude.{◌≤◌}
 use Rattle.paraid_record.specs.declared.meta.Setup.{Setup}
 use Rattle.paraid_core.proofs.AfterLemmas.{gear_high}
+use Rattle.paraid_shift.proofs.FitsLemmas.{fits_flipped}
 use Rattle.paraid_shift.proofs.ending.flip.Goals as goal
 
 pub returns-in_err-commit_gear : goal.returns-in_err-commit_gear
@@ -80,6 +81,9 @@ returns g c =
         serving = two.serving;
         leaves = leaves_array_then g.R.Rack.slot_count g.R.Rack.slot a b n one.leaves two.turns.powers.leaves;
         absent = two.turns.powers.absent one.absent;
+        fits = fits_flipped (g.R.Rack.slot (store_rack a.store)) (g.R.Rack.slot (store_rack b.store)) (g.R.Rack.slot (store_rack n.store)) a.meta b.meta n.meta (a.meta.epoch + 1) _
+            c.requires.can.serving.ready.in_range c.requires.can.whole (ap (λ (z : Meta). z.gear) c.meta.ensures) c.requires.can.shifts c.in_ok-commit_gear.ensures.rack.spared one.meta
+            (marked_then _ b.meta n.meta one.meta two.turns.powers.meta) two.parked two.others two.serving.large two.serving.ready.absent;
         nothing = two.nothing;
       };
       meta = marked_then _ b.meta n.meta one.meta two.turns.powers.meta;

@@ -29,7 +29,7 @@ returns g c =
     let C = CommitsInEvent g.R.Rack.slot_count g.R.Rack.slot g.R.Rack.told a b in
     let done = c.commit.ensures.commits in
     record {
-      serves = ok_map {X = C} _ (λ k. serves_committed g.R.Rack.slot_count g.R.Rack.slot g.R.Rack.told a b k) done;
+      serves = ok_map {X = C} _ (λ k. serves_committed g.R.Rack.slot_count g.R.Rack.slot g.R.Rack.told a b c.commit.ensures.rack.spared k) done;
       nothing = ok_map {X = C} _ (λ k. k.nothing) done;
       meta = ok_map {X = C} _ (λ k. subst (λ (e : ℕ). IsMarkedFrom (record a.meta { epoch = e }) b.meta) (sym k.epoch) k.meta) done;
       table = c.commit.ensures.table;

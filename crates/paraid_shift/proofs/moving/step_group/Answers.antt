@@ -33,7 +33,7 @@ returns-then-count-eq0 g c =
     let none = c.if-count-eq0.true in
     record {
       steps = record {
-        serves = serves_group g.R.Rack.slot_count g.R.Rack.slot g.R.Rack.told a b c.args.most c.in_ok-count.count 1 marks;
+        serves = serves_group g.R.Rack.slot_count g.R.Rack.slot g.R.Rack.told a b c.args.most c.in_ok-count.count 1 c.in_ok-count.ensures.rack.spared marks;
         few = omega arith;
         moves = record {
           moves = core_moves_so g.R.Rack.slot_count a b _ _ none marks.moves;
@@ -52,7 +52,7 @@ returns-then-has_ended g c =
     let marks = c.in_ok-count.ensures.marks in
     record {
       steps = record {
-        serves = serves_group g.R.Rack.slot_count g.R.Rack.slot g.R.Rack.told a b c.args.most c.in_ok-count.count 1 marks;
+        serves = serves_group g.R.Rack.slot_count g.R.Rack.slot g.R.Rack.told a b c.args.most c.in_ok-count.count 1 c.in_ok-count.ensures.rack.spared marks;
         few = marks.few;
         moves = record {
           moves = marks.moves;
@@ -90,7 +90,7 @@ returns g c =
     record {
       steps = record {
         serves = serves_then g.R.Rack.slot_count g.R.Rack.slot a b new 0 1 1 (omega arith)
-            (serves_group g.R.Rack.slot_count g.R.Rack.slot g.R.Rack.told a b c.args.most c.in_ok-count.count 0 marks) (serves_committed g.R.Rack.slot_count g.R.Rack.slot g.R.Rack.told b new made);
+            (serves_group g.R.Rack.slot_count g.R.Rack.slot g.R.Rack.told a b c.args.most c.in_ok-count.count 0 c.in_ok-count.ensures.rack.spared marks) (serves_committed g.R.Rack.slot_count g.R.Rack.slot g.R.Rack.told b new c.in_ok-commit.ensures.rack.spared made);
         few = marks.few;
         moves = record {
           moves = core_moves_so g.R.Rack.slot_count a new _ _ (omega arith)

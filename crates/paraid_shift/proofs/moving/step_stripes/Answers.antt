@@ -9,6 +9,8 @@ use Rattle.paraid_shift.proofs.PartLemmas.{keeps_done, keeps_later, keeps_raised
 use Rattle.paraid_core.proofs.ChainLemmas.{marked_epoch}
 use Rattle.paraid_shift.proofs.AnswerLemmas.{none_done_if}
 use Rattle.paraid_shift.specs.Units.{AreCellsDone, AreUnitsDone}
+use Rattle.paraid_txn.specs.Stores.{store_rack}
+use Rattle.paraid_shift.proofs.FitsLemmas.{fits_committed, fits_filled, fits_marked}
 use Rattle.paraid_shift.proofs.MovedLossLemmas.{marks_lose}
 use Rattle.paraid_shift.proofs.MovingLemmas.{core_moves_none, core_moves_same, core_moves_so, core_moves_then, core_stripes_move, done_committed, stripes_done}
 use Rattle.paraid_shift.proofs.OutcomeLemmas.{serves_none}
@@ -124,6 +126,7 @@ returns-then-not-done g c =
           serving = marks.serving;
           leaves = marks.leaves;
           absent = marks.absent;
+          fits = fits_marked (g.R.Rack.slot (store_rack a.store)) (g.R.Rack.slot (store_rack b.store)) a.meta b.meta c.in_ok-done.ensures.rack.spared lost marks.serving.ready.absent;
           later = epoch_kept a.meta.epoch b.meta.epoch (ap (λ (m : Meta). m.epoch) lost.is ∙ marked_epoch lost.lost a.meta);
           epoch = same_epoch a.meta.epoch b.meta.epoch (ap (λ (m : Meta). m.epoch) lost.is ∙ marked_epoch lost.lost a.meta);
         };
@@ -155,6 +158,7 @@ returns-then-has_ended g c =
           serving = marks.serving;
           leaves = marks.leaves;
           absent = marks.absent;
+          fits = fits_filled (g.R.Rack.slot (store_rack a.store)) (g.R.Rack.slot (store_rack b.store)) a.meta b.meta _ c.in_ok-done.ensures.rack.spared meta marks.serving.ready.absent;
           later = epoch_kept a.meta.epoch b.meta.epoch (ap (λ (m : Meta). m.epoch) meta);
           epoch = same_epoch a.meta.epoch b.meta.epoch (ap (λ (m : Meta). m.epoch) meta);
         };
@@ -205,6 +209,8 @@ returns g c =
           serving = made.serving;
           leaves = leaves_array_then g.R.Rack.slot_count g.R.Rack.slot a b new marks.leaves made.leaves;
           absent = λ q. made.absent;
+          fits = λ f. fits_committed (g.R.Rack.slot (store_rack b.store)) (g.R.Rack.slot (store_rack new.store)) b.meta new.meta (b.meta.epoch + 1) c.in_ok-commit.ensures.rack.spared made.meta made.serving.ready.absent
+              (fits_filled (g.R.Rack.slot (store_rack a.store)) (g.R.Rack.slot (store_rack b.store)) a.meta b.meta _ c.in_ok-done.ensures.rack.spared meta marks.serving.ready.absent f);
           later = epoch_next a.meta.epoch b.meta.epoch new.meta.epoch (ap (λ (m : Meta). m.epoch) meta) made.epoch;
           epoch = next_epoch a.meta.epoch b.meta.epoch new.meta.epoch (ap (λ (m : Meta). m.epoch) meta) made.epoch;
         };
