@@ -2,6 +2,7 @@ pub mod ResultLemmas
 pub mod ServiceLemmas
 pub mod CommitLemmas
 pub mod OutLemmas
+pub mod FitsLemmas
 pub mod RefusalLemmas
 pub mod DecisionLemmas
 pub mod MachineLemmas

@@ -5,21 +5,25 @@ use Rattle.std.proofs.Common.{refl, sym, ◌∙◌, ap, subst, arith, inl, inr}
 use Rattle.paraid_base.specs.declared.state.Out.{Out}
 use Rattle.paraid_base.specs.declared.state.Out.TheVariants.{Fresh, Gone, No}
 use Rattle.paraid_base.specs.Regions.{disk_size}
-use Rattle.paraid_base.specs.States.{gone_out}
+use Rattle.paraid_base.specs.States.{gone_out, rising_to}
 use Rattle.paraid_rack.specs.Disks.{is_present}
 use Rattle.paraid_rack.specs.Slots.{Slot}
 use Rattle.paraid_record.specs.declared.meta.Meta.{Meta}
 use Rattle.paraid_record.specs.declared.meta.Setup.{Setup}
 use Rattle.paraid_image.specs.Mark.{meta_after_loss}
 use Rattle.paraid_image.specs.Out.{named_out}
+use Rattle.paraid_image.specs.Power.{power_by_gear}
+use Rattle.paraid_session.specs.Powers.{FitsSlots}
 use Rattle.paraid_txn.specs.Stores.{store_rack}
 use Rattle.paraid_core.specs.declared.staged.Core.{Core}
 use Rattle.paraid_core.specs.CoreInvariant.{is_copied, meta_with_lost}
 use Rattle.paraid_core.specs.Cores.{CanCoreServe, IsCoreReady}
 use Rattle.paraid_core.specs.Lost.{CoreMarksLost, MarksLost}
 use Rattle.paraid_core.specs.Steps.{AreUnsyncedCopied, IsMarkedFrom, OnlyTurnsDisks}
-use Rattle.paraid_shift.specs.Serving.{AreAllLarge, IsCoreServing, LeavesArray}
+use Rattle.paraid_shift.specs.Serving.{AreAllLarge, IsCoreServing, KeepsFit, LeavesArray}
 use Rattle.paraid_core.proofs.StepLemmas.{marked_from_setup}
+use Rattle.paraid_shift.proofs.FitsLemmas.{power_same}
+use Rattle.paraid_upkeep.proofs.FitsLemmas.{rises_lost}
 use Rattle.paraid_shift.proofs.ServingLemmas.{copies_kept, large_then, leaves_array_none, leaves_array_then, marked_named}
 use Rattle.paraid_upkeep.specs.Service.{IsInService, IsOutKnown, LeavesInService}
 
@@ -37,12 +41,37 @@ large_lost old new m m_then marks setup large d low not =
     by None is e = ap (λ (z : Meta). named_out z.out) marks.is ∙ ap (λ (o : Option ℕ). named_out (meta_with_lost o m).out) e ∙ is
     by (Some x) is e = ap (λ (z : Meta). named_out z.out) marks.is ∙ ap (λ (o : Option ℕ). named_out (meta_with_lost o m).out) e ∙ ap Some (sym (marks.alone x d e is))
 
+-- and it is powered as before
+fits_well : (old new : ℕ → Slot) (m m_then : Meta) → MarksLost old new m m_then → m_then.setup ≡ m.setup → FitsSlots old m → FitsSlots new m_then
+fits_well old new m m_then marks setup fits = record { powers = powers; large = large_lost old new m m_then marks setup fits.large }
+  where
+    as_lost : (o : Option ℕ) → marks.lost ≡ o → m_then ≡ record (meta_with_lost o m) { epoch = m_then.epoch; writes = m_then.writes }
+    as_lost o e = marks.is ∙ ap (λ (o : Option ℕ). record (meta_with_lost o m) { epoch = m_then.epoch; writes = m_then.writes }) e
+
+    stays : (d : ℕ) → named_out m.out ≡ Some d → (o : Option ℕ) → marks.lost ≡ o → named_out m_then.out ≡ Some d
+    stays d is None e = ap (λ (z : Meta). named_out z.out) (as_lost None e) ∙ is
+    stays d is (Some x) e = ap (λ (z : Meta). named_out z.out) (as_lost (Some x) e) ∙ ap Some (sym (marks.alone x d e is))
+
+    same_power : (d : ℕ) (o : Option ℕ) → marks.lost ≡ o → power_by_gear m.gear m.phase d ≡ power_by_gear m_then.gear m_then.phase d
+    same_power d None e = power_same m.gear m_then.gear d m.phase m_then.phase (ap (λ (z : Meta). z.gear) (as_lost None e)) (ap (λ (z : Meta). rising_to z.phase) (as_lost None e))
+    same_power d (Some x) e = power_same m.gear m_then.gear d m.phase m_then.phase (ap (λ (z : Meta). z.gear) (as_lost (Some x) e)) (ap (λ (z : Meta). rising_to z.phase) (as_lost (Some x) e) ∙ rises_lost m.phase)
+
+    powers : (d : ℕ) → d < m_then.setup.geometry.disks → named_out m_then.out ≢ Some d → (new d).power ≡ power_by_gear m_then.gear m_then.phase d
+    powers d low not =
+        let not_lost : marks.lost ≢ Some d = (λ is. not (ap (λ (z : Meta). named_out z.out) (as_lost (Some d) is))) in
+        (marks.others d not_lost).power
+        ∙ fits.powers d (subst (λ (z : Setup). d < z.geometry.disks) setup low) (λ is. not (stays d is marks.lost refl))
+        ∙ same_power d marks.lost refl
+
 -- where no disk is out none is gone
 pub none_gone : (o : Out) (d : ℕ) → o ≡ No → gone_out o ≢ Some d
 none_gone o d whole is = let z : None ≡ Some d = sym (ap gone_out whole) ∙ is in cc
 
 module _ {R : Type 0} {g : _} (count : R → ℕ) (slot : R → ℕ → Slot) where
   -- after a call
+  pub fits_then : (a b : Core R g) → CoreMarksLost slot a b → b.meta.setup ≡ a.meta.setup → KeepsFit slot a b
+  fits_then a b marks setup = fits_well (slot (store_rack a.store)) (slot (store_rack b.store)) a.meta b.meta marks setup
+
   pub service_then : (a b : Core R g) → IsInService count slot a → CoreMarksLost slot a b → b.meta.setup ≡ a.meta.setup → IsCoreReady count slot b → CanCoreServe slot b → b.draft ≡ [] → b.copied ≡ a.copied → IsInService count slot b
   service_then a b q marks setup ready serves draft copied = record {
     ready = ready;
@@ -73,11 +102,11 @@ module _ {R : Type 0} {g : _} (count : R → ℕ) (slot : R → ℕ → Slot) wh
 
   -- nothing is done
   pub in_service_none : (a : Core R g) → IsCoreServing count slot a → IsOutKnown slot a → LeavesInService count slot a a
-  in_service_none a q known = record { serving = q; leaves = leaves_array_none count slot a; known = known }
+  in_service_none a q known = record { serving = q; leaves = leaves_array_none count slot a; known = known; fits = λ f. f }
 
   -- one part after the other
-  pub in_service_then : (a b c : Core R g) → LeavesArray count slot a b → LeavesInService count slot b c → LeavesInService count slot a c
-  in_service_then a b c first second = record { serving = second.serving; leaves = leaves_array_then count slot a b c first second.leaves; known = second.known }
+  pub in_service_then : (a b c : Core R g) → LeavesArray count slot a b → KeepsFit slot a c → LeavesInService count slot b c → LeavesInService count slot a c
+  in_service_then a b c first fits second = record { serving = second.serving; leaves = leaves_array_then count slot a b c first second.leaves; known = second.known; fits = fits }
 
   pub service_serving : (a : Core R g) → IsInService count slot a → AreUnsyncedCopied slot a → IsCoreServing count slot a
   service_serving a q unsynced = record { ready = q.ready; serves = q.serves; draft = q.draft; copies_synced = q.copies_synced; unsynced = unsynced; large = q.large }

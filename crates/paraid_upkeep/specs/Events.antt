@@ -18,7 +18,7 @@ use Rattle.paraid_txn.specs.Stores.{named_of, store_rack}
 use Rattle.paraid_core.specs.declared.staged.Core.{Core}
 use Rattle.paraid_core.specs.Steps.{AreUnsyncedCopied}
 use Rattle.paraid_event.specs.Service.{IsStateOf, service_of}
-use Rattle.paraid_shift.specs.Serving.{IsCoreServing}
+use Rattle.paraid_shift.specs.Serving.{IsCoreServing, KeepsFit}
 use Rattle.paraid_upkeep.specs.declared.fault.FailFault.{FailFault}
 use Rattle.paraid_upkeep.specs.declared.fault.FailFault.TheVariants.{NoDisk as FailNoDisk, Out as FailOut}
 use Rattle.paraid_upkeep.specs.declared.fault.ReplaceFault.{ReplaceFault}
@@ -34,13 +34,14 @@ pub record ServesKnown {R : Type 0} {g : Ghosts R} (core : Core R g) : Type 0 wh
   pub known : IsOutKnown g.slot core
 
 -- The array is in service still, as it was. Copies may be unsynced on the same disks, and a disk that is out is known if
--- it was before.
+-- it was before; and the slots fit the meta still.
 pub record StaysInService {R : Type 0} {g : Ghosts R} (old new : Core R g) : Type 0 where
   pub service : IsInService g.slot_count g.slot new
   pub setup : new.meta.setup ≡ old.meta.setup
   pub writes : new.meta.writes ≡ old.meta.writes
   pub unsynced : AreUnsyncedCopied g.slot old → AreUnsyncedCopied g.slot new
   pub known : IsOutKnown g.slot old → IsOutKnown g.slot new
+  pub fits : KeepsFit g.slot old new
 
 -- The epoch has not fallen, and has risen by so many commits at most.
 pub record CommitsAtMost {R : Type 0} {g : Ghosts R} (old new : Core R g) (most : ℕ) : Type 0 where

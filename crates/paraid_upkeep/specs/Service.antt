@@ -10,7 +10,7 @@ use Rattle.paraid_core.specs.CoreInvariant.{AreCopiesSynced}
 use Rattle.paraid_core.specs.Cores.{CanCoreServe, IsCoreReady}
 use Rattle.paraid_core.specs.Steps.{IsNamedOrAbsent}
 use Rattle.paraid_core.specs.Units.{IsRebuilding}
-use Rattle.paraid_shift.specs.Serving.{AreAllLarge, IsCoreServing, LeavesArray}
+use Rattle.paraid_shift.specs.Serving.{AreAllLarge, IsCoreServing, KeepsFit, LeavesArray}
 
 -- Over every rack: the core can be read and written, no plan is under way, each copy is synced, and each disk that is
 -- not out has the size of the array.
@@ -27,11 +27,13 @@ pub record IsOutKnown {R : Type 0} {g : _} (slot : R → ℕ → Slot) (core : C
   pub named : (d : ℕ) → IsRebuilding core.meta d → named_of core.store ≡ Some d
   pub spins : (d : ℕ) → IsRebuilding core.meta d → (slot (store_rack core.store) d).power ≡ Spinning
 
--- What a part of an event leaves that was done: the core serves, the array is as it was, and the disk that is out is known.
+-- What a part of an event leaves that was done: the core serves, the array is as it was, the disk that is out is known, and the
+-- slots fit the meta still.
 pub record LeavesInService {R : Type 0} {g : _} (count : R → ℕ) (slot : R → ℕ → Slot) (old new : Core R g) : Type 0 where
   pub serving : IsCoreServing count slot new
   pub leaves : LeavesArray count slot old new
   pub known : IsOutKnown slot new
+  pub fits : KeepsFit slot old new
 
 -- What each call keeps, whether it was done or not: the rack has as many slots, no count of faults falls, and what is told is longer by the calls.
 pub record MakesCalls {R : Type 0} {g : _} (count : R → ℕ) (slot : R → ℕ → Slot) (told : R → Option Trail) (old new : Core R g) : Type 0 where

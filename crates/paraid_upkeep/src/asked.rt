@@ -14,7 +14,7 @@ ghost use Rattle.paraid_upkeep.specs.Turns.{CoreGoesOn, CoreHalts, asked_answer}
 ghost use Rattle.paraid_image.specs.Power.{PowerState};
 ghost use Rattle.paraid_record.specs.Range.{IsInRange};
 ghost use Rattle.paraid_shift.specs.Parts.{CanBeginShift, KeepsContents, KeepsRack, ServesShifted};
-ghost use Rattle.paraid_shift.specs.Serving.{IsCoreServing, LeavesArray};
+ghost use Rattle.paraid_shift.specs.Serving.{IsCoreServing, KeepsFit, LeavesArray};
 ghost use Rattle.paraid_shift.specs.Steps.{CoreLosesInSteps, CoreStepsInEvent};
 ghost use Rattle.paraid_txn.specs.Losses.{AreTwoDown};
 
@@ -93,6 +93,7 @@ pub fn ask_shift<R: Rack>(core: &mut Core<R>, direction: Direction) -> Result<As
         → MayGo direction (meta_of core.old).setup s to → HasBegunOrLost (meta_of core.new) to asked) }
     ensures marks { IfOk result (HasMarkedShift direction (meta_of core.old) (meta_of core.new)) }
     ensures known { OnOk result (IsOutKnown R.slot core.old → IsOutKnown R.slot core.new) }
+    ensures fits { OnOk result (KeepsFit R.slot core.old core.new) }
     ensures commits { OnOk result (CommitsAtMost core.old core.new 2) }
     // No cell becomes dirty or clean.
     ensures table { OnOk result (core_table core.new ≡ core_table core.old) }

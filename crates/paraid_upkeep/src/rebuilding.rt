@@ -1,6 +1,6 @@
 //! A disk that is out is replaced, and the ticks of its rebuild.
 ghost use Rattle.std.specs.Prelude.{◌≡◌, ℕ, ◌+◌, ◌^◌, ◌<◌, ◌≤◌, true, false, List, [], None, Ok, Some, OnOk, IfOk, IfErr, if◌then◌else◌};
-ghost use Rattle.paraid_base.specs.declared.state.Out.TheVariants.{Fresh, No};
+ghost use Rattle.paraid_base.specs.declared.state.Out.TheVariants.{Fresh, Gone, No};
 ghost use Rattle.paraid_base.specs.declared.state.TickEvent.TheVariants.{Gone as GoneInTick, Moving, Rebuilt};
 ghost use Rattle.paraid_base.specs.History.{History};
 ghost use Rattle.paraid_base.specs.Log.{worn_at};
@@ -16,9 +16,11 @@ ghost use Rattle.paraid_event.specs.Service.{service_of};
 ghost use Rattle.paraid_event.specs.Steps.{StepsInEvent};
 ghost use Rattle.paraid_gear.specs.declared.windows.Windows.{Windows as WindowsType};
 ghost use Rattle.paraid_image.specs.Mark.{meta_after_loss};
+ghost use Rattle.paraid_moves.specs.MoveMetas.{meta_with_out};
 ghost use Rattle.paraid_rack.specs.declared.call.Power.TheVariants.{Spinning};
 ghost use Rattle.paraid_rack.specs.Told.{Ran};
 ghost use Rattle.paraid_record.specs.Range.{rebuild_units as units_of_rebuild};
+ghost use Rattle.paraid_session.specs.Powers.{FitsSlots};
 ghost use Rattle.paraid_shift.specs.Serving.{IsCoreServing};
 ghost use Rattle.paraid_txn.specs.Losses.{AreTwoDown, IsLostNow};
 ghost use Rattle.paraid_rebuild.specs.Rebuilds.{CanRebuild};
@@ -39,6 +41,9 @@ fn park_back<R: Rack>(core: &mut Core<R>, disk: DiskNo) -> Result<bool, Two>
     requires disk { disk < (meta_of core.old).setup.geometry.disks }
     requires spins { (R.slot (core_rack core.old) disk).power ≡ Spinning }
     ensures serves { OnOk result (LeavesInService R.slot_count R.slot core.old core.new) }
+    // With it each disk is powered by the gear, where the others are.
+    ensures fits { OnOk result (FitsSlots (R.slot (core_rack core.old)) (meta_with_out (meta_of core.old) (Gone disk))
+        → FitsSlots (R.slot (core_rack core.new)) (meta_of core.new)) }
     ensures lost { result ≡ Ok false → IsLostNow (R.slot (core_rack core.old)) (R.slot (core_rack core.new)) disk }
     ensures same { result ≡ Ok true → meta_of core.new ≡ meta_of core.old }
     ensures marked { result ≡ Ok false → meta_of core.new ≡ meta_after_loss (meta_of core.old) disk }

@@ -11,6 +11,7 @@ ghost use Rattle.paraid_rebuild.specs.Replacing.{IsReplacedFrom, LeavesArrayBut}
 ghost use Rattle.paraid_rebuild.specs.Rebuilds.{KeepsCounts, LacksFreshDisk};
 ghost use Rattle.paraid_upkeep.specs.Events.{RefusesReplace, ServesKnown};
 ghost use Rattle.paraid_recover.specs.HeldMoments.{Extends};
+ghost use Rattle.paraid_shift.specs.Serving.{KeepsFit};
 
 use crate::fault::ReplaceFault;
 use paraid_base::{DiskNo, Two};
@@ -25,6 +26,7 @@ fn bring<R: Rack>(core: &mut Core<R>, disk: DiskNo) -> Result<Option<ReplaceFaul
     requires disk { disk < (meta_of core.old).setup.geometry.disks }
     requires epoch { (meta_of core.old).epoch < worn_at }
     ensures service { OnOk result (ServesKnown core.new) }
+    ensures fits { OnOk result (KeepsFit R.slot core.old core.new) }
     ensures leaves { OnOk result (LeavesArrayBut R.slot_count R.slot core.old core.new disk) }
     ensures fresh { result ≡ Ok None → IsReplacedFrom (meta_of core.old) (meta_of core.new) disk 2 (Fresh disk 0) }
     ensures lacks { result ≡ Ok (Some (NoFresh disk)) → LacksFreshDisk core.old core.new disk
@@ -52,6 +54,7 @@ pub fn replace<R: Rack>(core: &mut Core<R>, disk: DiskNo) -> Result<Option<Repla
     requires service { ServesKnown core.old }
     requires epoch { (meta_of core.old).epoch < worn_at }
     ensures service { OnOk result (ServesKnown core.new) }
+    ensures fits { OnOk result (KeepsFit R.slot core.old core.new) }
     ensures setup { OnOk result ((meta_of core.new).setup ≡ (meta_of core.old).setup) }
     ensures writes { OnOk result ((meta_of core.new).writes ≡ (meta_of core.old).writes) }
     ensures fresh { result ≡ Ok None → IsReplacedFrom (meta_of core.old) (meta_of core.new) disk 2 (Fresh disk 0) }

@@ -1,4 +1,4 @@
-use Rattle.std.proofs.Common.{◌≡◌, ◌∙◌, ℕ, subst, [], ◌∷◌, List, length, ap, arith, refl, sym}
+use Rattle.std.proofs.Common.{◌+◌, ◌≡◌, ◌∙◌, ℕ, subst, [], ◌∷◌, List, length, ap, arith, refl, sym}
 use Rattle.std.specs.Prelude.{true}
 use Rattle.paraid_core.specs.Steps.{IsMarkedFrom}
 use Rattle.paraid_image.specs.Sides.{Batch}
@@ -13,6 +13,7 @@ use Rattle.paraid_upkeep.proofs.OutLemmas.{known_then, none_marked}
 use Rattle.paraid_upkeep.proofs.ServiceLemmas.{service_then}
 use Rattle.paraid_upkeep.proofs.TurnLemmas.{commit_lost, commits, commits_none}
 use Rattle.paraid_upkeep.proofs.ToldLemmas.{extends_core, extends_none}
+use Rattle.paraid_shift.proofs.FitsLemmas.{fits_committed}
 use Rattle.paraid_upkeep.proofs.failing.commit_writes.Goals as goal
 
 none_in : {A : Type 0} (xs : List A) → length xs ≡ 0 → xs ≡ []
@@ -39,6 +40,7 @@ returns-then-staged-eq0 g c =
         writes = refl;
         unsynced = λ unsynced. unsynced;
         known = λ known. known;
+        fits = λ f. f;
       };
       nothing = none_in a.batch none;
       idle = λ is. refl;
@@ -91,6 +93,7 @@ returns g c =
         writes = done.cells.writes;
         unsynced = done.unsynced;
         known = λ known. known_then g.R.Rack.slot a b true known done.stays.losses.marks done.meta.named;
+        fits = fits_committed (g.R.Rack.slot (store_rack a.store)) (g.R.Rack.slot (store_rack b.store)) a.meta b.meta (a.meta.epoch + 1) done.stays.losses.spared done.meta.meta done.stays.ready.absent;
       };
       nothing = done.nothing;
       idle = λ none. absurd (c.if-staged-eq0.false (c.staged.ensures ∙ ap (λ (z : Batch). length z) none));

@@ -11,6 +11,7 @@ use Rattle.paraid_upkeep.proofs.OutLemmas.{marked_taken, gone_marked, known_gone
 use Rattle.paraid_upkeep.proofs.ServiceLemmas.{large_marked, service_then, unsynced_marked}
 use Rattle.paraid_upkeep.proofs.ToldLemmas.{extends_core, extends_store}
 use Rattle.paraid_upkeep.proofs.TurnLemmas.{can_mark, commits_taken, taken_lost}
+use Rattle.paraid_upkeep.proofs.FitsLemmas.{fits_lost}
 use Rattle.paraid_upkeep.proofs.failing.mark_gone.Goals as goal
 
 pub mark_out-requires : goal.mark_out-requires
@@ -63,6 +64,7 @@ returns g c =
     let new = c.commit.new.self in
     let marks = c.mark_out.ensures in
     let done = c.in_ok-commit.ensures in
+    let spared = subst (λ (z : _). OnlyLosesSlots (g.R.Rack.slot (store_rack z)) (g.R.Rack.slot (store_rack new.store))) marks.marks.store c.commit.ensures.stays.losses.spared in
     let gone = gone_marked (record b.meta { epoch = b.meta.epoch + 1 }) new.meta c.args.disk (ap (λ (m : Meta). m.out) marks.meta) done.meta.meta in
     record {
       stays = record {
@@ -80,6 +82,7 @@ returns g c =
         writes = done.cells.writes ∙ ap (λ (m : Meta). m.writes) marks.meta;
         unsynced = λ before. done.unsynced (unsynced_marked g.R.Rack.slot a b c.args.disk marks.marks.store marks.meta marks.marks.staged.copied c.requires.alone before);
         known = λ before. known_gone g.R.Rack.slot new c.args.disk gone done.meta.absent;
+        fits = fits_lost (g.R.Rack.slot (store_rack a.store)) (g.R.Rack.slot (store_rack new.store)) a.meta new.meta c.args.disk new.meta.epoch spared (marked_taken a.meta b.meta new.meta c.args.disk (b.meta.epoch + 1) marks.meta done.meta.meta) c.requires.alone done.stays.ready.absent;
       };
       taken = record {
         meta = marked_taken a.meta b.meta new.meta c.args.disk (b.meta.epoch + 1) marks.meta done.meta.meta;

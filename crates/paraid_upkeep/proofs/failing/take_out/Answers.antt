@@ -46,6 +46,7 @@ returns-then-disk-meta g c =
         writes = refl;
         unsynced = λ unsynced. unsynced;
         known = λ known. known;
+        fits = λ f. f;
       };
       marks = (a.meta.epoch, none_marked a.meta);
       refuses = record {
@@ -80,6 +81,7 @@ returns-in-Some g c =
         writes = refl;
         unsynced = λ unsynced. unsynced;
         known = λ known. known;
+        fits = λ f. f;
       };
       marks = (a.meta.epoch, none_marked a.meta);
       refuses = record {
@@ -247,6 +249,7 @@ returns g c =
         writes = done.stays.writes ∙ staged.stays.writes;
         unsynced = λ before. done.stays.unsynced (staged.stays.unsynced before);
         known = λ before. done.known;
+        fits = λ f. done.stays.fits (staged.stays.fits f);
       };
       marks = taken_then a.meta m.meta b.meta c.args.disk m.meta.epoch staged.meta alone done.taken.meta;
       refuses = record {

@@ -1,4 +1,4 @@
-use Rattle.std.proofs.Common.{ℕ, ◌<◌, ◌∙◌, refl, sym, ap, subst, Ok, []}
+use Rattle.std.proofs.Common.{true, false, ℕ, ◌<◌, ◌∙◌, refl, sym, ap, subst, Ok, []}
 use Rattle.paraid_base.specs.declared.state.Out.TheVariants.{No}
 use Rattle.paraid_base.proofs.ToldLemmas.{HasRisen-sooner}
 use Rattle.paraid_image.specs.Out.{named_out}
@@ -11,9 +11,11 @@ use Rattle.paraid_upkeep.specs.TickTurns.CoreLosesComing.{finishing, untold}
 use Rattle.paraid_upkeep.proofs.CommitLemmas.{few_later, few_none, few_then}
 use Rattle.paraid_upkeep.proofs.OutLemmas.{known_gone, leaves_back, leaves_out}
 use Rattle.paraid_upkeep.proofs.RebuildTurnLemmas.{comes_by, kept_epoch, lost_epoch, rejoined_mid}
-use Rattle.paraid_upkeep.proofs.ResultLemmas.{always_ok, done_not_dropped, either_way, if_done, if_err, none_done, none_done_as, none_done_if, on_ok}
+use Rattle.paraid_upkeep.proofs.ResultLemmas.{always_ok, done_not_dropped, either_way, if_done, if_err, none_done, none_done_as, none_done_if, of_done}
 use Rattle.paraid_upkeep.proofs.ServiceLemmas.{in_service_then}
 use Rattle.paraid_upkeep.proofs.ToldLemmas.{calls_then, calls_told}
+use Rattle.paraid_txn.specs.Stores.{store_rack}
+use Rattle.paraid_upkeep.proofs.FitsLemmas.{fits_lost, fits_rejoined, out_alone}
 use Rattle.paraid_upkeep.proofs.rebuilding.come_back.Goals as goal
 
 pub finish-requires : goal.finish-requires
@@ -50,6 +52,7 @@ returns-then-not-copied g c =
         leaves = leaves_out g.R.Rack.slot_count g.R.Rack.slot a b c.args.disk c.requires.can.serving.ready done.serves.serving.ready (ap named_out c.requires.can.fresh) (ap (λ (m : Meta). named_out m.out) meta) done.keeps.slots
             (ap (λ (m : Meta). m.setup) meta) (ap (λ (m : Meta). m.version) meta) (ap (λ (m : Meta). m.writes) meta) c.finish.ensures.keeps.spared;
         known = known_gone g.R.Rack.slot b c.args.disk (ap (λ (m : Meta). m.out) meta) done.absent;
+        fits = fits_lost (g.R.Rack.slot (store_rack a.store)) (g.R.Rack.slot (store_rack b.store)) a.meta b.meta c.args.disk b.meta.epoch c.finish.ensures.keeps.spared meta (out_alone (named_out a.meta.out) c.args.disk (ap named_out c.requires.can.fresh)) done.serves.serving.ready.absent;
       };
       commits = few_later a b 1 done.serves;
       rejoined = λ is. done_not_dropped _ _ is refl;
@@ -88,8 +91,12 @@ returns g c =
     let r = c.park_back.result in
     let leaves = leaves_back g.R.Rack.slot_count g.R.Rack.slot a b (done.named (ap Ok c.if-not-copied.false)) (ap (λ (m : Meta). m.out) meta) done.keeps.slots
     (ap (λ (m : Meta). m.setup) meta) (ap (λ (m : Meta). m.version) meta) (ap (λ (m : Meta). m.writes) meta) c.finish.ensures.keeps.spared in
+    let fits = fits_rejoined (g.R.Rack.slot (store_rack a.store)) (g.R.Rack.slot (store_rack b.store)) a.meta b.meta d b.meta.epoch c.finish.ensures.keeps.spared meta (ap named_out c.requires.can.fresh) done.serves.serving.ready.absent in
     record {
-      serves = on_ok _ _ r (λ left. in_service_then g.R.Rack.slot_count g.R.Rack.slot a b new leaves left) parked.serves;
+      serves =
+          either_way _ r
+          (λ is. in_service_then g.R.Rack.slot_count g.R.Rack.slot a b new leaves (λ f. of_done _ r true parked.fits is (fits f)) (of_done _ r true parked.serves is))
+          (λ is. in_service_then g.R.Rack.slot_count g.R.Rack.slot a b new leaves (λ f. of_done _ r false parked.fits is (fits f)) (of_done _ r false parked.serves is));
       commits =
           either_way _ r (λ is. few_then a b new 1 0 (few_later a b 1 done.serves) (few_none b new 0 (ap (λ (m : Meta). m.epoch) (parked.same is))))
           (λ is. few_then a b new 1 0 (few_later a b 1 done.serves) (few_none b new 0 (ap (λ (m : Meta). m.epoch) (parked.marked is))));

@@ -1,4 +1,4 @@
-use Rattle.std.proofs.Common.{◌∙◌, ap, arith, refl, Ok, []}
+use Rattle.std.proofs.Common.{◌+◌, ◌∙◌, ap, arith, refl, Ok, []}
 use Rattle.paraid_base.proofs.ToldLemmas.{HasRisen-later}
 use Rattle.paraid_image.specs.Out.{named_out}
 use Rattle.paraid_record.specs.declared.meta.Meta.{Meta}
@@ -15,6 +15,7 @@ use Rattle.paraid_upkeep.proofs.CommitLemmas.{few_one, few_then, few_within}
 use Rattle.paraid_upkeep.proofs.OutLemmas.{known_gone, leaves_out}
 use Rattle.paraid_upkeep.proofs.RebuildTurnLemmas.{part_halts, rebuild_gone}
 use Rattle.paraid_upkeep.proofs.ToldLemmas.{calls_then, calls_told}
+use Rattle.paraid_upkeep.proofs.FitsLemmas.{fits_lost, out_alone}
 use Rattle.paraid_upkeep.proofs.rebuilding.end_rebuild.Goals as goal
 
 pub commit_lost-requires : goal.commit_lost-requires
@@ -104,6 +105,9 @@ returns g c =
             (leaves_out g.R.Rack.slot_count g.R.Rack.slot b new c.args.disk lost.serves.serving.ready done.serves.serving.ready (ap (λ (m : Meta). named_out m.out) (lost.marked is)) (ap (λ (m : Meta). named_out m.out) done.gone)
             c.commit_lost.ensures.keeps.slots (ap (λ (m : Meta). m.setup) done.gone) (ap (λ (m : Meta). m.version) done.gone) (ap (λ (m : Meta). m.writes) done.gone) c.commit_lost.ensures.keeps.spared);
         known = known_gone g.R.Rack.slot new c.args.disk (ap (λ (m : Meta). m.out) done.gone) done.serves.absent;
+        fits = λ f.
+            fits_lost (g.R.Rack.slot (store_rack b.store)) (g.R.Rack.slot (store_rack new.store)) b.meta new.meta c.args.disk (b.meta.epoch + 1) c.commit_lost.ensures.keeps.spared done.gone (out_alone (named_out b.meta.out) c.args.disk (ap (λ (m : Meta). named_out m.out) (lost.marked is))) done.serves.serving.ready.absent
+            (lost.serves.fits f);
       };
       commits = few_then a b new 2 1 lost.commits (few_one b new (ap (λ (m : Meta). m.epoch) done.gone));
       rejoined = λ was. done_not_dropped _ _ was refl;

@@ -1,4 +1,5 @@
-use Rattle.std.proofs.Common.{ap, arith, false, true, []}
+use Rattle.std.proofs.Common.{ap, refl, arith, false, true, []}
+use Rattle.paraid_base.specs.declared.state.Out.TheVariants.{Fresh}
 use Rattle.paraid_image.specs.Out.{named_out}
 use Rattle.paraid_record.specs.declared.meta.Meta.{Meta}
 use Rattle.paraid_txn.specs.Stores.{store_rack}
@@ -7,6 +8,7 @@ use Rattle.paraid_upkeep.proofs.OutLemmas.{known_fresh, known_gone, leaves_out}
 use Rattle.paraid_upkeep.proofs.RebuildTurnLemmas.{part_halts, rebuild_gone, rebuild_moved}
 use Rattle.paraid_upkeep.proofs.ResultLemmas.{either_if, either_way, if_err, of_done, on_ok}
 use Rattle.paraid_upkeep.proofs.ToldLemmas.{calls_told}
+use Rattle.paraid_upkeep.proofs.FitsLemmas.{fits_lost, fits_out, out_alone}
 use Rattle.paraid_upkeep.proofs.rebuilding.move_units.Goals as goal
 
 pub step-requires : goal.step-requires
@@ -35,6 +37,7 @@ returns g c =
             leaves = leaves_out g.R.Rack.slot_count g.R.Rack.slot a b d c.requires.can.serving.ready serving.ready (ap named_out c.requires.can.fresh) (ap (λ (m : Meta). named_out m.out) meta) done.keeps.slots
                 (ap (λ (m : Meta). m.setup) meta) (ap (λ (m : Meta). m.version) meta) (ap (λ (m : Meta). m.writes) meta) done.keeps.spared;
             known = known_fresh g.R.Rack.slot b d (ap (λ (m : Meta). named_out m.out) meta) (of_done _ r true done.named is) ((done.moved is).spins);
+            fits = fits_out (g.R.Rack.slot (store_rack a.store)) (g.R.Rack.slot (store_rack b.store)) a.meta b.meta d b.meta.epoch (Fresh d c.args.end) done.keeps.spared meta (ap named_out c.requires.can.fresh) refl serving.ready.absent;
           })
           (λ is.
           let meta = (done.lost is).gone in
@@ -44,6 +47,7 @@ returns g c =
             leaves = leaves_out g.R.Rack.slot_count g.R.Rack.slot a b d c.requires.can.serving.ready serving.ready (ap named_out c.requires.can.fresh) (ap (λ (m : Meta). named_out m.out) meta) done.keeps.slots
                 (ap (λ (m : Meta). m.setup) meta) (ap (λ (m : Meta). m.version) meta) (ap (λ (m : Meta). m.writes) meta) done.keeps.spared;
             known = known_gone g.R.Rack.slot b d (ap (λ (m : Meta). m.out) meta) (of_done _ r false done.absent is);
+            fits = fits_lost (g.R.Rack.slot (store_rack a.store)) (g.R.Rack.slot (store_rack b.store)) a.meta b.meta d b.meta.epoch done.keeps.spared meta (out_alone (named_out a.meta.out) d (ap named_out c.requires.can.fresh)) serving.ready.absent;
           });
       commits = on_ok _ _ r (λ it. few_later a b 3 it) done.serves;
       moved = λ is. (done.moved is).meta;

@@ -17,6 +17,7 @@ use Rattle.paraid_upkeep.proofs.ServiceLemmas.{in_service_then}
 use Rattle.paraid_upkeep.proofs.ToldLemmas.{calls_then, calls_told}
 use Rattle.paraid_event.specs.Service.{service_of}
 use Rattle.paraid_rebuild.proofs.StepEventLemmas.{steps_within}
+use Rattle.paraid_upkeep.proofs.FitsLemmas.{fits_lost, fits_out, out_alone}
 use Rattle.paraid_upkeep.proofs.rebuilding.rejoin_disk.Goals as goal
 
 pub commit_staged-requires : goal.commit_staged-requires
@@ -57,6 +58,7 @@ returns-then-not-there g c =
         leaves = leaves_out g.R.Rack.slot_count g.R.Rack.slot a b c.args.disk c.requires.can.serving.ready done.serves.serving.ready (ap named_out c.requires.can.fresh) (ap (λ (m : Meta). named_out m.out) meta) c.commit_staged.ensures.keeps.slots
             (ap (λ (m : Meta). m.setup) meta) (ap (λ (m : Meta). m.version) meta) (ap (λ (m : Meta). m.writes) meta) c.commit_staged.ensures.keeps.spared;
         known = known_gone g.R.Rack.slot b c.args.disk (ap (λ (m : Meta). m.out) meta) (λ x is. inl (done.named ∙ sym (ap (λ (m : Meta). named_out m.out) meta) ∙ is));
+        fits = fits_lost (g.R.Rack.slot (store_rack a.store)) (g.R.Rack.slot (store_rack b.store)) a.meta b.meta c.args.disk (a.meta.epoch + 1) c.commit_staged.ensures.keeps.spared meta (out_alone (named_out a.meta.out) c.args.disk (ap named_out c.requires.can.fresh)) done.serves.serving.ready.absent;
       };
       commits = few_within a b 1 2 (omega arith) (few_later a b 1 done.serves);
       rejoined = λ is. done_not_dropped _ _ is refl;
@@ -104,7 +106,8 @@ returns g c =
     let leaves = leaves_out g.R.Rack.slot_count g.R.Rack.slot a m d c.requires.can.serving.ready done.serves.serving.ready (ap named_out c.requires.can.fresh) (ap (λ (z : Meta). named_out z.out) meta ∙ ap named_out c.requires.can.fresh) c.commit_staged.ensures.keeps.slots
     (ap (λ (z : Meta). z.setup) meta) (ap (λ (z : Meta). z.version) meta) (ap (λ (z : Meta). z.writes) meta) c.commit_staged.ensures.keeps.spared in
     record {
-      serves = on_ok _ _ r (λ left. in_service_then g.R.Rack.slot_count g.R.Rack.slot a m b leaves left) ended.serves;
+      serves = on_ok _ _ r (λ left. in_service_then g.R.Rack.slot_count g.R.Rack.slot a m b leaves
+          (λ f. left.fits (fits_out (g.R.Rack.slot (store_rack a.store)) (g.R.Rack.slot (store_rack m.store)) a.meta m.meta d m.meta.epoch a.meta.out c.commit_staged.ensures.keeps.spared meta (ap named_out c.requires.can.fresh) (ap named_out c.requires.can.fresh) done.serves.serving.ready.absent f)) left) ended.serves;
       commits = on_ok _ _ r (λ two. few_then a m b 1 1 (few_later a m 1 done.serves) two) ended.commits;
       rejoined = λ is. ended.rejoined is ∙ ap (λ (z : Meta). record z { epoch = b.meta.epoch; out = No }) meta;
       marked = λ is. ended.marked is ∙ ap (λ (z : Meta). record (meta_after_loss z d) { epoch = b.meta.epoch }) meta;

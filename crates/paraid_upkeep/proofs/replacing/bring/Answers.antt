@@ -1,6 +1,6 @@
 use Rattle.std.proofs.Common.{◌≡◌, ◌∙◌, ap, arith, inl, inr, refl, sym, None, Option, Some, Ok, []}
 use Rattle.std.specs.Prelude.{Result}
-use Rattle.paraid_base.specs.declared.state.Out.TheVariants.{Gone}
+use Rattle.paraid_base.specs.declared.state.Out.TheVariants.{Fresh, Gone}
 use Rattle.paraid_image.specs.Out.{named_out}
 use Rattle.paraid_record.specs.declared.meta.Meta.{Meta}
 use Rattle.paraid_core.proofs.AfterLemmas.{handed}
@@ -9,6 +9,8 @@ use Rattle.paraid_upkeep.specs.declared.fault.ReplaceFault.{ReplaceFault}
 use Rattle.paraid_upkeep.proofs.OutLemmas.{known_fresh, known_gone}
 use Rattle.paraid_upkeep.proofs.TurnLemmas.{replaced_halts, replaced_turn, unreplaced_turn}
 use Rattle.paraid_upkeep.proofs.ToldLemmas.{extends_core}
+use Rattle.paraid_txn.specs.Stores.{store_rack}
+use Rattle.paraid_upkeep.proofs.FitsLemmas.{fits_replaced}
 use Rattle.paraid_upkeep.proofs.replacing.bring.Goals as goal
 
 -- it was done or refused, and not for another reason
@@ -26,6 +28,7 @@ begin-requires g c = record {
 pub returns-in_err-there : goal.returns-in_err-there
 returns-in_err-there g c = record {
   service = none_done _ c.from_residual.result _ c.from_residual.ensures.1;
+  fits = none_done _ c.from_residual.result _ c.from_residual.ensures.1;
   leaves = none_done _ c.from_residual.result _ c.from_residual.ensures.1;
   fresh = λ is. none_done_as _ c.from_residual.result _ _ c.from_residual.ensures.1 is;
   lacks = λ is. none_done_as _ c.from_residual.result _ _ c.from_residual.ensures.1 is;
@@ -52,6 +55,7 @@ returns-then-there g c =
         serving = done.serves.serving;
         known = known_fresh g.R.Rack.slot b c.args.disk (ap (λ (m : Meta). named_out m.out) ((done.there is).fresh).is) done.serves.named ((done.there is).spins);
       };
+      fits = fits_replaced (g.R.Rack.slot (store_rack a.store)) (g.R.Rack.slot (store_rack b.store)) a.meta b.meta c.args.disk 2 (Fresh c.args.disk 0) done.leaves.spared ((done.there is).fresh) c.requires.out refl done.serves.serving.large done.serves.serving.ready.absent;
       leaves = done.leaves;
       fresh = λ was. (done.there is).fresh;
       lacks = λ was. done_not_refused _ _ refl was;
@@ -79,6 +83,10 @@ returns g c =
         serving = done.serves.serving;
         known = known_gone g.R.Rack.slot b c.args.disk gone done.serves.absent;
       };
+      fits = elim ((done.lacks not).gone) [
+        | inl one ↦ fits_replaced (g.R.Rack.slot (store_rack a.store)) (g.R.Rack.slot (store_rack b.store)) a.meta b.meta c.args.disk 1 (Gone c.args.disk) done.leaves.spared one c.requires.out refl done.serves.serving.large done.serves.serving.ready.absent
+        | inr two ↦ fits_replaced (g.R.Rack.slot (store_rack a.store)) (g.R.Rack.slot (store_rack b.store)) a.meta b.meta c.args.disk 2 (Gone c.args.disk) done.leaves.spared two c.requires.out refl done.serves.serving.large done.serves.serving.ready.absent
+      ];
       leaves = done.leaves;
       fresh = λ was. done_not_refused _ _ was refl;
       lacks = λ was. done.lacks not;

@@ -64,6 +64,7 @@ returns-then-disk-meta g c =
     let past = subst (λ (m : Meta). m.setup.geometry.disks ≤ c.args.disk) c.meta.ensures c.if-disk-meta.true in
     record {
       service = c.requires.service;
+      fits = λ f. f;
       setup = refl;
       writes = refl;
       fresh = λ is. missing_not_done _ c.args.disk refl is;
@@ -94,6 +95,7 @@ returns-then-not-names g c =
     let not = not_named (named_out a.meta.out) c.args.disk (subst (λ (o : Option ℕ). is_out o c.args.disk ≡ false) (ap named_out c.out.ensures) (sym c.names.ensures ∙ c.if-not-names.true)) in
     record {
       service = c.requires.service;
+      fits = λ f. f;
       setup = refl;
       writes = refl;
       fresh = λ is. there_not_done _ c.args.disk refl is;
@@ -134,6 +136,7 @@ returns g c =
     let out = is_named (named_out a.meta.out) c.args.disk (subst (λ (o : Option ℕ). is_out o c.args.disk ≡ true) (ap named_out c.out.ensures) (sym c.names.ensures ∙ c.if-not-names.false)) in
     record {
       service = brings.service;
+      fits = brings.fits;
       setup = on_ok _ _ r (λ left. left.setup) brings.leaves;
       writes = on_ok _ _ r (λ left. left.writes) brings.leaves;
       fresh = brings.fresh;

@@ -47,6 +47,7 @@ returns-in-Gone g c =
         serving = c.requires.service.serving;
         leaves = leaves_array_none g.R.Rack.slot_count g.R.Rack.slot a;
         known = c.requires.service.known;
+        fits = λ f. f;
       };
       turn = λ k setup p samples served energy held at fit counts. waits_told g.R.Rack.slot_count g.R.Rack.told a k setup p samples served energy at fit counts c.in-Gone.disk gone;
       halts = tt;

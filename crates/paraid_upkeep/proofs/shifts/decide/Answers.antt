@@ -106,7 +106,7 @@ returns-in_ok-begin_up-in-Ok g c =
     let a = c.args.core.now in
     let begun = c.in_ok-begin_up-in-Ok.ensures in
     record {
-      serves = record { serving = begun.shifted.serving; leaves = begun.shifted.leaves; known = known_marked g.R.Rack.slot _ c.begin_up.new.core begun.meta.is c.requires.whole begun.shifted.absent };
+      serves = record { serving = begun.shifted.serving; leaves = begun.shifted.leaves; known = known_marked g.R.Rack.slot _ c.begin_up.new.core begun.meta.is c.requires.whole begun.shifted.absent; fits = begun.shifted.fits };
       tells = λ samples held s of.
           let m = c.meta.result.now in
           let is = subst (λ (z : Meta). IsShiftStateOf z s) (sym c.meta.ensures) of in
@@ -182,7 +182,7 @@ returns-in_ok-begin_down-in-Ok-gear_below g c =
     let a = c.args.core.now in
     let begun = c.in_ok-begin_down-in-Ok-gear_below.ensures in
     record {
-      serves = record { serving = begun.shifted.serving; leaves = begun.shifted.leaves; known = known_marked g.R.Rack.slot _ c.begin_down.new.core begun.meta c.requires.whole begun.shifted.absent };
+      serves = record { serving = begun.shifted.serving; leaves = begun.shifted.leaves; known = known_marked g.R.Rack.slot _ c.begin_down.new.core begun.meta c.requires.whole begun.shifted.absent; fits = begun.shifted.fits };
       tells = λ samples held s of.
           let m = c.meta.result.now in
           let is = subst (λ (z : Meta). IsShiftStateOf z s) (sym c.meta.ensures) of in

@@ -73,6 +73,7 @@ returns-in-Some g c =
         serving = moved.serves.serving;
         leaves = moved.serves.leaves;
         known = known_gone g.R.Rack.slot b c.in-Some.disk (moved_gone g.R.Rack.slot_count a b c.in_ok-moved.moved.units (moved.moves c.requires.whole).moves c.in-Some.disk named) (moved.serves.absent (none_away g.R.Rack.slot a c.requires.whole));
+        fits = moved.serves.fits;
       };
       moves = lost_moves g.R.Rack.slot_count a b c.units_of_tick-units.result c.in_ok-moved.moved.units c.units_of_tick-units.ensures.units (moved.moves c.requires.whole) moved.few c.in-Some.disk named;
       commits = units_commits g.R.Rack.slot_count a c.units_of_tick-units.result c.units_of_tick-units.ensures.units g.R.Rack.slot b moved.serves;
@@ -92,7 +93,7 @@ returns-then-not-is_done g c =
     let steps = moved.steps (none_away g.R.Rack.slot a c.requires.whole) in
     let whole = no_name b.meta.out (sym moved.lost ∙ c.in_default.is) in
     record {
-      serves = record { serving = moved.serves.serving; leaves = moved.serves.leaves; known = known_whole g.R.Rack.slot b whole };
+      serves = record { serving = moved.serves.serving; leaves = moved.serves.leaves; known = known_whole g.R.Rack.slot b whole; fits = moved.serves.fits };
       moves =
           moving_moves g.R.Rack.slot_count a b c.units_of_tick-units.result c.in_ok-moved.moved.units c.units_of_tick-units.ensures.units (moved.moves c.requires.whole) moved.few whole moved.serves.leaves.setup
           (λ samples served energy. subst (TellsDone (service_of g.R.Rack.slot_count b samples served energy)) c.if-not-is_done.true (c.is_done.ensures.units samples served energy));
@@ -145,6 +146,7 @@ returns g c =
         serving = ended.shifted.serving;
         leaves = leaves_array_then g.R.Rack.slot_count g.R.Rack.slot a b new moved.serves.leaves ended.shifted.leaves;
         known = known_marked g.R.Rack.slot (record (meta_flipped_to b.meta (phase_to b.meta.phase)) { epoch = b.meta.epoch + 1 }) new ended.meta whole ended.shifted.absent;
+        fits = λ f. ended.shifted.fits (moved.serves.fits f);
       };
       moves =
           flipped_moves g.R.Rack.slot_count a b c.units_of_tick-units.result c.in_ok-moved.moved.units c.units_of_tick-units.ensures.units (moved.moves c.requires.whole) moved.few whole moved.serves.leaves.setup
