@@ -17,11 +17,12 @@ use Rattle.paraid_core.specs.Calls.{CommitsWhole, MakesDataCalls, MakesTransferC
 use Rattle.paraid_core.specs.Cores.{CanCoreServe, CoreStandsFor, IsCoreHeld, IsCoreReady, core_down, core_rack}
 use Rattle.paraid_core.specs.Lost.{CoreMarksLost, CoreTellsLosses}
 use Rattle.paraid_core.specs.Steps.{AreUnsyncedCopied}
+use Rattle.paraid_session.specs.Powers.{FitsSlots}
 use Rattle.paraid_session.specs.Turn.{Point}
 use Rattle.paraid_shift.specs.Serving.{IsCoreServing}
 use Rattle.paraid_upkeep.specs.Service.{IsOutKnown}
 use Rattle.paraid_upkeep.proofs.OutLemmas.{known_then}
-use Rattle.paraid_upkeep.proofs.ServiceLemmas.{service_serving, service_then, serving_service}
+use Rattle.paraid_upkeep.proofs.ServiceLemmas.{fits_then, service_serving, service_then, serving_service}
 use Rattle.paraid_event.specs.Lost.{TellsTwo}
 use Rattle.paraid_event.specs.Marks.{IsMarkedBy}
 use Rattle.paraid_event.specs.Parts.{LosesInEvent, ServesEvent}
@@ -59,13 +60,14 @@ module _ {R : Type 0} {g : _} (count : R → ℕ) (slot : R → ℕ → Slot) wh
     spins = q.spins;
   }
 
-  pub serving_of : (b : Core R g) (lengths : List ℕ) (setup : Setup) (slots : ℕ) → IsCoreServing count slot b → IsOutKnown slot b → lengths ≡ setup.windows → b.meta.setup ≡ setup → count (store_rack b.store) ≡ slots
+  pub serving_of : (b : Core R g) (lengths : List ℕ) (setup : Setup) (slots : ℕ) → IsCoreServing count slot b → IsOutKnown slot b → FitsSlots (slot (store_rack b.store)) b.meta → lengths ≡ setup.windows → b.meta.setup ≡ setup → count (store_rack b.store) ≡ slots
       → IsArrayServing count slot b lengths setup slots
-  serving_of b lengths setup slots serving known windows same same_slots = record {
+  serving_of b lengths setup slots serving known fits windows same same_slots = record {
     serving = serving;
     absent = λ d is not. elim (known.absent d is) [ inl named ↦ absurd (not named) | inr away ↦ away ];
     named = known.named;
     spins = known.spins;
+    fits = fits;
     windows = windows;
     same_setup = same;
     same_slots = same_slots;
@@ -78,7 +80,7 @@ module _ {R : Type 0} {g : _} (count : R → ℕ) (slot : R → ℕ → Slot) wh
   serving_then a b lengths setup slots flag q marks same same_slots ready serves draft copied unsynced names =
       serving_of b lengths setup slots
       (service_serving count slot b (service_then count slot a b (serving_service count slot a q.serving) marks same ready serves draft copied) (unsynced q.serving.unsynced))
-      (known_then slot a b flag (known_of a lengths setup slots q) marks names) q.windows (same ∙ q.same_setup) (same_slots ∙ q.same_slots)
+      (known_then slot a b flag (known_of a lengths setup slots q) marks names) (fits_then count slot a b marks same q.fits) q.windows (same ∙ q.same_setup) (same_slots ∙ q.same_slots)
 
 -- A disk that the last commit names out is named out by the meta: so the disk that is down is that one.
 module _ {R : Type 0} {g : _} (slot : R → ℕ → Slot) where

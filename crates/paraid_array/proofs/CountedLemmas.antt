@@ -11,6 +11,7 @@ use Rattle.paraid_core.specs.declared.staged.Core.{Core}
 use Rattle.paraid_core.specs.CoreInvariant.{AreCopiesSynced, is_copied}
 use Rattle.paraid_core.specs.Cores.{CanCoreServe, IsCoreReady}
 use Rattle.paraid_core.specs.Units.{IsRebuilding}
+use Rattle.paraid_session.specs.Powers.{FitsSlots}
 use Rattle.paraid_shift.specs.Serving.{AreAllLarge, IsCoreServing}
 use Rattle.paraid_upkeep.specs.Service.{IsOutKnown}
 
@@ -32,6 +33,10 @@ module _ {R : Type 0} {g : _} (count : R → ℕ) (slot : R → ℕ → Slot) (a
     unsynced = subst (λ (s : Store R g). AreCopiedBy s c.meta c.copied) (sym store) (subst (λ (m : Meta). AreCopiedBy a.store m c.copied) (sym meta) (subst (AreCopiedBy a.store a.meta) (sym copied) q.unsynced));
     large = subst (λ (s : Store R g). AreAllLarge (slot (store_rack s)) c.meta) (sym store) (subst (λ (m : Meta). AreAllLarge (slot (store_rack a.store)) m) (sym meta) q.large);
   }
+
+  pub fits_counted : FitsSlots (slot (store_rack a.store)) a.meta → FitsSlots (slot (store_rack c.store)) c.meta
+  fits_counted fits =
+      subst (λ (s : Store R g). FitsSlots (slot (store_rack s)) c.meta) (sym store) (subst (λ (m : Meta). FitsSlots (slot (store_rack a.store)) m) (sym meta) (record { powers = fits.powers; large = fits.large }))
 
   was_fresh : (d : ℕ) → IsRebuilding c.meta d → IsRebuilding a.meta d
   was_fresh d fresh = subst (λ (m : Meta). IsRebuilding m d) meta fresh

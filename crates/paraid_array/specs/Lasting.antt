@@ -10,6 +10,7 @@ use Rattle.paraid_rack.specs.Slots.{Slot}
 use Rattle.paraid_record.specs.declared.meta.Meta.{Meta}
 use Rattle.paraid_record.specs.declared.meta.Setup.{Setup}
 use Rattle.paraid_image.specs.Out.{named_out}
+use Rattle.paraid_session.specs.Powers.{FitsSlots}
 use Rattle.paraid_txn.specs.Stores.{named_of, store_rack}
 use Rattle.paraid_core.specs.declared.staged.Core.{Core}
 use Rattle.paraid_core.specs.Units.{IsRebuilding}
@@ -17,12 +18,14 @@ use Rattle.paraid_shift.specs.Serving.{IsCoreServing}
 use Rattle.paraid_array.specs.declared.ended.Ended.{Ended}
 
 -- Its core can serve, with this setup and over so many slots; the disk that is out is absent unless the last commit names it,
--- and one that is being rebuilt is named and spins; its windows have the lengths of the setup.
+-- and one that is being rebuilt is named and spins; each disk that is not out is powered by the gear; its windows have the lengths
+-- of the setup.
 pub record IsArrayServing {R : Type 0} {g : _} (count : R → ℕ) (slot : R → ℕ → Slot) (core : Core R g) (lengths : List ℕ) (setup : Setup) (slots : ℕ) : Type 0 where
   pub serving : IsCoreServing count slot core
   pub absent : (d : ℕ) → named_out core.meta.out ≡ Some d → named_of core.store ≢ Some d → is_present (slot (store_rack core.store) d).power ≡ false
   pub named : (d : ℕ) → IsRebuilding core.meta d → named_of core.store ≡ Some d
   pub spins : (d : ℕ) → IsRebuilding core.meta d → (slot (store_rack core.store) d).power ≡ Spinning
+  pub fits : FitsSlots (slot (store_rack core.store)) core.meta
   pub windows : lengths ≡ setup.windows
   pub same_setup : core.meta.setup ≡ setup
   pub same_slots : count (store_rack core.store) ≡ slots

@@ -10,6 +10,7 @@ use Rattle.paraid_core.specs.declared.staged.Core.{Core}
 use Rattle.paraid_serve.specs.Causes.{Shown, Shows}
 use Rattle.paraid_base.specs.declared.fault.Halt.{Halt}
 use Rattle.paraid_serve.specs.Calls.{IsAbsentOut, IsNotDouble}
+use Rattle.paraid_session.specs.Powers.{FitsSlots}
 use Rattle.paraid_session.specs.Turn.{Point}
 use Rattle.paraid_array.specs.declared.array.Array.{Array}
 use Rattle.paraid_array.specs.declared.ended.Ended.{Ended}
@@ -34,9 +35,9 @@ pub gear_going : (o : Option Ended) (now : ℕ) → halt_of_end o ≡ None → g
 gear_going None now e = refl
 gear_going (Some ended) now e = let z : Some ended.halt ≡ None = e in absurd cc
 
--- what is seen of it has its setup, its slots, its halt and its gear
-pub shown_as : {R : Type 0} {g : _} (slot : R → ℕ → Slot) (a : Array R g) → Shows (shown_of_array slot a) a.setup (slot_of_array slot a) (halt_of_end a.ended)
-shown_as slot a = record { setup = refl; slot = refl; halt = refl; gear = gear_going a.ended a.core.meta.gear }
+-- what is seen of it has its setup, its slots, its halt and its gear, and the slots fit its meta while they do
+pub shown_as : {R : Type 0} {g : _} (slot : R → ℕ → Slot) (a : Array R g) → (halt_of_end a.ended ≡ None → FitsSlots (slot_of_array slot a) a.core.meta) → Shows (shown_of_array slot a) a.setup (slot_of_array slot a) (halt_of_end a.ended)
+shown_as slot a fits = record { setup = refl; slot = refl; halt = refl; gear = gear_going a.ended a.core.meta.gear; fits = fits }
 
 -- what is seen of it with another setup, energy, halt, samples and number of requests
 abbrev shown_but : {R : Type 0} {g : _} → (R → ℕ → Slot) → Array R g → Setup → ℕ → Option Halt → List ℕ → ℕ → ℕ → Shown

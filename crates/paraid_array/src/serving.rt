@@ -88,7 +88,7 @@ impl<R: Rack> Serves for Array<R> {
 
     ghost worn = { λ array count is. (array.worn count is).0 };
 
-    ghost shows = { λ array. shown_as R.slot array };
+    ghost shows = { λ array. shown_as R.slot array (λ going. (array.serving (going_end array.ended going)).fits) };
 
     ghost agrees = { λ array p at. halt_at R.slot_count R.told array p at };
 

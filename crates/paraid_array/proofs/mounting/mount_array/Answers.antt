@@ -14,7 +14,7 @@ new-requires g c =
     let it = c.in-Ok.begun in
     let done = c.in-Ok.ensures in
     record {
-      serving = serving_of g.R.Rack.slot_count g.R.Rack.slot it.core (lengths_of it.windows) it.core.meta.setup c.slots-slots.result done.begun.serving done.begun.known done.lengths refl (done.slots ∙ sym c.slots-slots.ensures);
+      serving = serving_of g.R.Rack.slot_count g.R.Rack.slot it.core (lengths_of it.windows) it.core.meta.setup c.slots-slots.result done.begun.serving done.begun.known (record { powers = done.begun.powered.powers; large = done.begun.serving.large }) done.lengths refl (done.slots ∙ sym c.slots-slots.ensures);
       none = done.none;
     }
 

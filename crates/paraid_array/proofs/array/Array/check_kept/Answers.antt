@@ -3,6 +3,7 @@ use Rattle.paraid_array.specs.Laws.{gear_going}
 use Rattle.paraid_base.specs.declared.event.Event.TheVariants.{Flush}
 use Rattle.paraid_base.specs.declared.event.Answer.TheVariants.{Flushed}
 use Rattle.paraid_array.specs.Arrays.{shown_of_array}
+use Rattle.paraid_upkeep.proofs.ServiceLemmas.{fits_then}
 use Rattle.paraid_array.proofs.CauseLemmas.{accepted, commits_none, done_cause, plus_none, takes, two_cause}
 use Rattle.paraid_array.specs.Lasting.{halt_of_end}
 use Rattle.std.proofs.Common.{◌≡◌, ◌∙◌, refl, ap, Some, false, sym}
@@ -58,7 +59,8 @@ returns-in-Ok g c = record {
     slots = refl;
     cause = done_cause (shown_of_array g.R.Rack.slot c.args.self.now) _ Flush (takes (shown_of_array g.R.Rack.slot c.args.self.now) Flush (ap halt_of_end c.requires.going) c.requires.epoch c.requires.writes) refl refl (no_fall_counts (g.R.Rack.slot (store_rack c.args.self.now.core.store)) (g.R.Rack.slot (store_rack c.check.new.core.store)) c.check.ensures.leaves.spared.no_fall) (Flushed c.args.self.now.core.meta.writes) (ap halt_of_end c.requires.going) (gear_going c.args.self.now.ended _) (record { samples = refl; served = refl })
         (refl, accepted (shown_of_array g.R.Rack.slot c.args.self.now) _ 0 c.in-Ok.ensures.serves.marks (c.in-Ok.ensures.serves.writes ∙ plus_none c.args.self.now.core.meta.writes) refl, ap is_dirty c.in-Ok.ensures.serves.table)
-        (commits_none (shown_of_array g.R.Rack.slot c.args.self.now) _ 1 c.in-Ok.ensures.serves.epoch);
+        (commits_none (shown_of_array g.R.Rack.slot c.args.self.now) _ 1 c.in-Ok.ensures.serves.epoch)
+        (fits_then g.R.Rack.slot_count g.R.Rack.slot c.args.self.now.core c.check.new.core c.in-Ok.ensures.serves.marks c.in-Ok.ensures.serves.setup (c.args.self.now.serving c.requires.going).fits);
   };
   sound = λ some p at.
       at_point g.R.Rack.slot_count g.R.Rack.told c.args.self.now c.requires.going (c.in-Ok.checked.report ≡ no_faults) (λ h lo t tells stands. c.in-Ok.ensures.zeros h lo t tells stands some)

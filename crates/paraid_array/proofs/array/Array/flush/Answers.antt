@@ -31,7 +31,7 @@ returns-then-is_kept g c =
           quiet_answers g.R.Rack.slot_count g.R.Rack.slot g.R.Rack.told a Flush (Flushed c.meta.result.now.writes)
           (flush_kept g.R.Rack.slot_count g.R.Rack.slot g.R.Rack.told g.met.R.Rack.agrees a going fit.0 fit.1 (a.serving going).serving.ready (a.serving going).serving.copies_synced (c.if-is_kept.ensures.nothing refl) _ (ap (λ (m : Meta). m.writes) c.meta.ensures))
           (let x = shown_of_array g.R.Rack.slot a in
-          done_cause x x Flush (takes x Flush c.requires.going fit.0 fit.1) refl refl (same_counts x.slot) (Flushed c.meta.result.now.writes) c.requires.going (gear_going a.ended a.core.meta.gear) (record { samples = refl; served = refl }) (ap (λ (m : Meta). m.writes) c.meta.ensures, accepts_none x, refl) (commits_none x x 1 refl));
+          done_cause x x Flush (takes x Flush c.requires.going fit.0 fit.1) refl refl (same_counts x.slot) (Flushed c.meta.result.now.writes) c.requires.going (gear_going a.ended a.core.meta.gear) (record { samples = refl; served = refl }) (ap (λ (m : Meta). m.writes) c.meta.ensures, accepts_none x, refl) (commits_none x x 1 refl) (a.serving going).fits);
     }
 
 pub commit_all-requires : goal.commit_all-requires

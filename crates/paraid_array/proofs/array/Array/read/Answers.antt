@@ -1,5 +1,6 @@
 use Rattle.paraid_machine.specs.Machine.{block_count}
 use Rattle.paraid_array.specs.Arrays.{shown_of_array}
+use Rattle.paraid_array.specs.Laws.{going_end}
 use Rattle.paraid_array.proofs.CauseLemmas.{one_missing, quiet_cause, takes}
 use Rattle.std.proofs.Common.{ℕ, ◌<◌, ◌≤◌, refl, subst}
 use Rattle.paraid_base.specs.declared.event.Event.TheVariants.{Read}
@@ -26,7 +27,7 @@ returns-then-block-blocks g c =
           quiet_answers g.R.Rack.slot_count g.R.Rack.slot g.R.Rack.told a (Read c.args.block) (NoBlock c.args.block)
           (read_refused g.R.Rack.slot_count g.R.Rack.told a c.requires.going fit.0 fit.1 c.args.block (subst (λ (n : ℕ). n ≤ c.args.block) c.blocks-2.ensures.value c.if-block-blocks.true))
           (quiet_cause g.R.Rack.slot a (Read c.args.block) (NoBlock c.args.block) c.requires.going refl (takes (shown_of_array g.R.Rack.slot a) (Read c.args.block) c.requires.going fit.0 fit.1)
-          (one_missing (block_count a.setup) c.args.block (subst (λ (n : ℕ). n ≤ c.args.block) c.blocks-2.ensures.value c.if-block-blocks.true)) (record { samples = refl; served = refl }));
+          (one_missing (block_count a.setup) c.args.block (subst (λ (n : ℕ). n ≤ c.args.block) c.blocks-2.ensures.value c.if-block-blocks.true)) (record { samples = refl; served = refl }) (c.args.self.now.serving (going_end c.args.self.now.ended c.requires.going)).fits);
     }
 
 pub read_there-requires : goal.read_there-requires

@@ -4,6 +4,7 @@ use Rattle.std.proofs.Common.{◌∙◌, sym, ap}
 use Rattle.paraid_base.specs.declared.event.Event.TheVariants.{Read}
 use Rattle.paraid_base.specs.declared.event.Answer.TheVariants.{Value}
 use Rattle.paraid_array.specs.Arrays.{shown_of_array}
+use Rattle.paraid_upkeep.proofs.ServiceLemmas.{fits_then}
 use Rattle.paraid_array.proofs.CauseLemmas.{accepted, commits_once, done_cause, one_there, plus_none, takes, two_cause}
 use Rattle.paraid_record.specs.declared.meta.Setup.{Setup}
 use Rattle.paraid_machine.specs.Machine.{block_count}
@@ -70,7 +71,8 @@ returns-in-Ok g c = record {
       accepted (shown_of_array g.R.Rack.slot c.args.self.now) _ 0 c.in-Ok.ensures.commits.stays.losses.marks (c.in-Ok.ensures.writes ∙ plus_none c.args.self.now.core.meta.writes) refl,
       seen_read g.R.Rack.slot_count g.R.Rack.slot c.args.self.now c.read.new.self 0 (sample_of c.one_more-self.result) c.in-Ok.ensures.commits.stays.setup (c.args.self.now.serving c.requires.going).same_setup c.args.block c.in-Ok.ensures.bits,
     )
-        (commits_once (shown_of_array g.R.Rack.slot c.args.self.now) _ (read_commits_first c.args.self.now.core.meta c.args.self.now.core.dirty c.args.self.now.core.batch c.args.block) c.in-Ok.ensures.commits.epoch);
+        (commits_once (shown_of_array g.R.Rack.slot c.args.self.now) _ (read_commits_first c.args.self.now.core.meta c.args.self.now.core.dirty c.args.self.now.core.batch c.args.block) c.in-Ok.ensures.commits.epoch)
+        (fits_then g.R.Rack.slot_count g.R.Rack.slot c.args.self.now.core c.read.new.self c.in-Ok.ensures.commits.stays.losses.marks c.in-Ok.ensures.commits.stays.setup (c.args.self.now.serving c.requires.going).fits);
   };
 }
 

@@ -37,7 +37,7 @@ invariant_of-self g c =
     let done = c.in-Ok.ensures in
     record {
       serving = λ e. let q = a.serving e in serving_of g.R.Rack.slot_count g.R.Rack.slot c.replace.new.core (lengths_of a.windows) a.setup a.slots
-          done.service.serving done.service.known q.windows (done.setup ∙ q.same_setup) (done.keeps.slots ∙ q.same_slots);
+          done.service.serving done.service.known (done.fits q.fits) q.windows (done.setup ∙ q.same_setup) (done.keeps.slots ∙ q.same_slots);
       counted = c.replace.ensures.keeps.slots ∙ c.args.self.now.counted;
       worn = going_wear c.replace.new.core.meta c.args.self.now.ended c.requires.going;
       priced = c.args.self.now.priced;
@@ -63,7 +63,7 @@ returns-in-Ok g c = record {
         let done = c.in-Ok.ensures in
         let q = a.serving c.requires.going in
         subst (λ (z : Answer). HasCause (shown_of_array g.R.Rack.slot c.args.self.now) (Replace c.args.disk) z (shown_with g.R.Rack.slot c.args.self.now.setup c.replace.new.core c.args.self.now.ledger.total (samples_held c.args.self.now.windows) (sample_of c.args.self.now.served) c.args.self.now.ended)) (sym c.replace_told.ensures)
-        (replace_cause g.R.Rack.slot a c.replace.new.core c.args.self.now.ledger.total c.args.disk (takes (shown_of_array g.R.Rack.slot c.args.self.now) (Replace c.args.disk) (ap halt_of_end c.requires.going) c.requires.epoch c.requires.writes) q.same_setup refl (c.replace.ensures.keeps.later) done.writes done.table (λ past. (done.refuses.missing past).1) (λ low not. (done.refuses.in_place low not).1) c.in-Ok.refusal (ap halt_of_end c.requires.going) done.refuses.refused
+        (replace_cause g.R.Rack.slot a c.replace.new.core c.args.self.now.ledger.total c.args.disk (takes (shown_of_array g.R.Rack.slot c.args.self.now) (Replace c.args.disk) (ap halt_of_end c.requires.going) c.requires.epoch c.requires.writes) q.same_setup refl (c.replace.ensures.keeps.later) done.writes done.table (done.fits q.fits) (λ past. (done.refuses.missing past).1) (λ low not. (done.refuses.in_place low not).1) c.in-Ok.refusal (ap halt_of_end c.requires.going) done.refuses.refused
         (λ is. let there = done.replaced (ap Ok is) in (there.0, there.1, done.fresh (ap Ok is)))
         (λ is. ((done.lacks (ap Ok is)).risen, (done.lacks (ap Ok is)).gone)));
   };

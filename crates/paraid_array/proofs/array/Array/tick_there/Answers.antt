@@ -34,7 +34,7 @@ use Rattle.paraid_txn.specs.Losses.{AreTwoDown}
 use Rattle.paraid_txn.specs.Stores.{named_of, store_rack}
 use Rattle.paraid_array.specs.Used.{begun_spin_ups}
 use Rattle.paraid_array.proofs.CoreLemmas.{known_of, serving_of}
-use Rattle.paraid_array.proofs.CountedLemmas.{known_counted, serving_counted}
+use Rattle.paraid_array.proofs.CountedLemmas.{fits_counted, known_counted, serving_counted}
 use Rattle.paraid_array.proofs.EnergyLemmas.{begun_total}
 use Rattle.paraid_array.proofs.StandLemmas.{end_by}
 use Rattle.paraid_array.proofs.TickLemmas.{array_ticked, tick_halts, ticks_on}
@@ -71,7 +71,7 @@ invariant_of-self g c =
     let done = c.in-Ok.ensures in
     record {
       serving = λ e. let q = a.serving e in serving_of g.R.Rack.slot_count g.R.Rack.slot c.advance.new.core (lengths_of c.push.new.self) a.setup a.slots
-          done.serves.serving done.serves.known (c.push.ensures.lengths ∙ q.windows) (done.serves.leaves.setup ∙ ap (λ (m : Meta). m.setup) t.meta ∙ q.same_setup)
+          done.serves.serving done.serves.known (done.serves.fits (fits_counted g.R.Rack.slot_count g.R.Rack.slot a.core c.count_tick.new.self t.marks.store t.meta q.fits)) (c.push.ensures.lengths ∙ q.windows) (done.serves.leaves.setup ∙ ap (λ (m : Meta). m.setup) t.meta ∙ q.same_setup)
           (done.serves.leaves.slots ∙ ap (λ (s : Store _ _). g.R.Rack.slot_count s.rack) t.marks.store ∙ q.same_slots);
       counted = c.advance.ensures.calls.slots ∙ ap (λ (s : Store _ _). g.R.Rack.slot_count s.rack) c.count_tick.ensures.marks.store ∙ c.args.self.now.counted;
       worn = going_wear c.advance.new.core.meta c.args.self.now.ended c.requires.going;
@@ -145,7 +145,8 @@ returns-in-Ok g c = record {
               (λ whole steady is. idle (done.decides.idle (out ∙ whole) (phase ∙ steady) is))
               (λ whole steady. done.decides.table (out ∙ whole) (phase ∙ steady) ∙ t.marks.staged.table);
         })
-        (tick_commits g.R.Rack.slot_count g.R.Rack.slot a mid t.meta t.marks.staged.table new c.spin_up.new.self.total (samples_held c.push.new.self) q.same_setup done.commits);
+        (tick_commits g.R.Rack.slot_count g.R.Rack.slot a mid t.meta t.marks.staged.table new c.spin_up.new.self.total (samples_held c.push.new.self) q.same_setup done.commits)
+        (done.serves.fits (fits_counted g.R.Rack.slot_count g.R.Rack.slot a.core mid t.marks.store t.meta q.fits));
   };
 }
 

@@ -1,5 +1,6 @@
 use Rattle.paraid_serve.specs.Causes.{missing_answer}
 use Rattle.paraid_array.specs.Arrays.{shown_of_array}
+use Rattle.paraid_array.specs.Laws.{going_end}
 use Rattle.paraid_array.proofs.CauseLemmas.{quiet_cause, takes}
 use Rattle.std.proofs.Common.{ℕ, ◌<◌, ap, refl, subst}
 use Rattle.paraid_base.specs.declared.event.Event.TheVariants.{Write}
@@ -34,7 +35,7 @@ returns-in-Some-missing g c =
           quiet_answers g.R.Rack.slot_count g.R.Rack.slot g.R.Rack.told a (Write c.args.pairs.now) (NoBlock block)
           (write_refused g.R.Rack.slot_count g.R.Rack.told a c.requires.going fit.0 fit.1 c.args.pairs.now block (missing_is (block_count a.setup) entry block missing))
           (quiet_cause g.R.Rack.slot a (Write c.args.pairs.now) (NoBlock block) c.requires.going refl (takes (shown_of_array g.R.Rack.slot a) (Write c.args.pairs.now) c.requires.going fit.0 fit.1)
-          (ap missing_answer (missing_is (block_count a.setup) entry block missing)) (record { samples = refl; served = refl }));
+          (ap missing_answer (missing_is (block_count a.setup) entry block missing)) (record { samples = refl; served = refl }) (c.args.self.now.serving (going_end c.args.self.now.ended c.requires.going)).fits);
     }
 
 pub write_there-requires : goal.write_there-requires

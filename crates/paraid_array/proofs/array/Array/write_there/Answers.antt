@@ -3,6 +3,7 @@ use Rattle.paraid_array.specs.Laws.{gear_going}
 use Rattle.paraid_base.specs.declared.event.Event.TheVariants.{Write}
 use Rattle.paraid_base.specs.declared.event.Answer.TheVariants.{Wrote}
 use Rattle.paraid_array.specs.Arrays.{shown_of_array}
+use Rattle.paraid_upkeep.proofs.ServiceLemmas.{fits_then}
 use Rattle.paraid_array.proofs.CauseLemmas.{accepted, all_there, commits_once, done_cause, takes, two_cause}
 use Rattle.paraid_record.specs.declared.meta.Setup.{Setup}
 use Rattle.paraid_machine.specs.Machine.{block_count}
@@ -73,7 +74,8 @@ returns-in-Ok g c = record {
       accepted (shown_of_array g.R.Rack.slot c.args.self.now) _ 1 c.in-Ok.ensures.commits.stays.losses.marks c.in-Ok.ensures.writes refl,
       seen_write g.R.Rack.slot_count g.R.Rack.slot c.args.self.now c.write_many.new.self 0 (sample_of c.one_more-self.result) c.in-Ok.ensures.commits.stays.setup (c.args.self.now.serving c.requires.going).same_setup c.args.pairs.now c.in-Ok.ensures.bits,
     )
-        (commits_once (shown_of_array g.R.Rack.slot c.args.self.now) _ (commits_first c.args.self.now.core.batch (10 * c.args.pairs.now.count)) c.in-Ok.ensures.commits.epoch);
+        (commits_once (shown_of_array g.R.Rack.slot c.args.self.now) _ (commits_first c.args.self.now.core.batch (10 * c.args.pairs.now.count)) c.in-Ok.ensures.commits.epoch)
+        (fits_then g.R.Rack.slot_count g.R.Rack.slot c.args.self.now.core c.write_many.new.self c.in-Ok.ensures.commits.stays.losses.marks c.in-Ok.ensures.commits.stays.setup (c.args.self.now.serving c.requires.going).fits);
   };
 }
 
