@@ -98,20 +98,21 @@ module _ {rack : RackUse} (h : HeldHistory rack) (kept : SinkUse) (status : ℕ)
 
   module _ (service : ServiceStart) (stood : IsServed rack service) (begins : BeginsAt rack.before service.told rack.after service.began) (served : ServesVolumes rack given kept status service) where
     by_text : (base : ℕ → ℕ) (t : Trail) (cs : List Call) (p : Point) → service.told ≡ Some t → t ≡ extend h.first cs → IsBegun rack.slots (now h.first) h.said h.history h.low h.down base cs p → h.said.meta.setup ≡ service.array.meta.setup
-        → (code : ℕ) (text : List ℕ) → VolumesText (served_span rack service) p served.headline.bytes code text → status ≡ code → GrowsByBytes kept.written_before kept.written text → VolumesCome
-    by_text base t cs p here split starts same code text (text_done mid said a f) is grows =
-        whole is ((served.headline.all (inl is)).1, _, record { text = begins_with p ++ said; grows = grows })
-    by_text base t cs p here split starts same code text (text_halted mid halt met said a of_lines f) is grows =
+        → (code : ℕ) (text last : List ℕ) → VolumesText (served_span rack service) p served.headline.bytes code text last → status ≡ code → GrowsByBytes kept.written_before kept.written (text ++ last) → VolumesCome
+    by_text base t cs p here split starts same code text last (text_done mid front reply a f) is grows =
+        whole is ((served.headline.all (inl is)).1, _, record { text = begins_with p ++ (front ++ reply); grows = grows })
+    by_text base t cs p here split starts same code text last (text_halted mid halt met front reply a of_lines f) is grows =
         halted_comes h kept status (IsRunWhole given kept) Hindered other sunk service stood begins served.end
         base t cs p here split starts same (a.asked ++ f.asked) halt (flush_ends rack.slots service.array.meta.setup service.told mid rack.after p a.asked a.all (Halted halt) f) is
-    by_text base t cs p here split starts same code text (text_source met said a) is grows = hindered (source_failed is (heard is))
-    by_text base t cs p here split starts same code text (text_long ten met said a) is grows = hindered (too_long is served.headline.bytes served.headline.given ten)
+    by_text base t cs p here split starts same code text last (text_source met front reply a) is grows = hindered (source_failed is (heard is))
+    by_text base t cs p here split starts same code text last (text_long ten met front reply a) is grows = hindered (too_long is served.headline.bytes served.headline.given ten)
 
     by_output : (base : ℕ → ℕ) (t : Trail) (cs : List Call) (p : Point) → service.told ≡ Some t → t ≡ extend h.first cs → IsBegun rack.slots (now h.first) h.said h.history h.low h.down base cs p → h.said.meta.setup ≡ service.array.meta.setup
         → WritesVolumes (served_span rack service) p served.headline.bytes status served.headline.text → VolumesCome
-    by_output base t cs p here split starts same (wrote_whole out) = by_text base t cs p here split starts same status served.headline.text out refl served.headline.grows
-    by_output base t cs p here split starts same (wrote_last four code full rest out front) = hindered (other (sink_failed four (sunk four)))
-    by_output base t cs p here split starts same (wrote_answers four lines more said rest met cut a front) = hindered (other (sink_failed four (sunk four)))
+    by_output base t cs p here split starts same (wrote_whole said last out is) =
+        by_text base t cs p here split starts same status said last out refl (subst (λ (x : List ℕ). GrowsByBytes kept.written_before kept.written x) is served.headline.grows)
+    by_output base t cs p here split starts same (wrote_last four code said last count out is) = hindered (other (sink_failed four (sunk four)))
+    by_output base t cs p here split starts same (wrote_answers four before more line front reply count met split_lines a is) = hindered (other (sink_failed four (sunk four)))
     by_output base t cs p here split starts same (wrote_first four rest none c front) = hindered (other (sink_failed four (sunk four)))
 
   pub volumes_come : {U : Type 0} → MountsAndThen rack kept status U (ServesVolumes rack given kept status) → VolumesCome

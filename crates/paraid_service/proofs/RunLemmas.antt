@@ -37,14 +37,14 @@ no_entries : (a b : History) → a ≡ a ++ b → b ≡ []
 no_entries a b e = append_cancel_left a b [] (sym e ∙ sym (append-nil a))
 
 -- a halt that has not come came of no line
-no_cut : {count : ℕ} {s t : Held} {begun halt : Option Halt} {cut : Option VolLine} {lines : List (List ℕ)} {text : List ℕ} {log : VolLog} → LinesStep count s begun lines text log t halt cut → halt ≡ None → cut ≡ None
+no_cut : {count : ℕ} {s t : Held} {begun halt : Option Halt} {cut : Option VolLine} {lines : List (List ℕ)} {front reply : List ℕ} {log : VolLog} → LinesStep count s begun lines front reply log t halt cut → halt ≡ None → cut ≡ None
 no_cut none_yet none = refl
-no_cut (one_more t u lines line text said asked log more before ask step) none = refl
-no_cut (halting t lines line text asked log halt before ask not_bad not_list) none = absurd (let no : Some halt ≡ None = none in cc)
-no_cut (later t lines line text asked log halt cut before ask) none = absurd (let no : Some halt ≡ None = none in cc)
+no_cut (one_more t u lines line front reply said asked log more before ask step) none = refl
+no_cut (halting t lines line front reply asked log halt before ask not_bad not_list) none = absurd (let no : Some halt ≡ None = none in cc)
+no_cut (later t lines line front reply asked log halt cut before ask) none = absurd (let no : Some halt ≡ None = none in cc)
 
-uncut : {count : ℕ} {s t : Held} {begun : Option Halt} {cut : Option VolLine} {lines : List (List ℕ)} {text : List ℕ} {log : VolLog} → LinesStep count s begun lines text log t None cut → LinesStep count s begun lines text log t None None
-uncut {count} {s} {t} {begun} {cut} {lines} {text} {log} steps = subst (λ (c : Option VolLine). LinesStep count s begun lines text log t None c) (no_cut steps refl) steps
+uncut : {count : ℕ} {s t : Held} {begun : Option Halt} {cut : Option VolLine} {lines : List (List ℕ)} {front reply : List ℕ} {log : VolLog} → LinesStep count s begun lines front reply log t None cut → LinesStep count s begun lines front reply log t None None
+uncut {count} {s} {t} {begun} {cut} {lines} {front} {reply} {log} steps = subst (λ (c : Option VolLine). LinesStep count s begun lines front reply log t None c) (no_cut steps refl) steps
 
 module _ {B : Type 0} (g : Ghosts B) where
   pub life_on : (start : B) (h : History) (was : Held) (shelf : Shelf B g) (s : Held) (log : VolLog) → OnShelf g start (g.block_count start) h was shelf s log → LivesKept g start h was (device_in shelf) s log
@@ -62,9 +62,9 @@ module _ {B : Type 0} (g : Ghosts B) where
   -- ---- a line more
 
   module _ (old new : Shelf B g) (asked : VolLine) (said : List ℕ) where
-    more_says : (halt : Option Halt) (l : ServesShelf g old new asked said halt) (start : B) (lines : List (List ℕ)) (line text : List ℕ) → AsksVolumes line asked → (r : RunsLines g start lines text old None)
-        → (h : History) → g.stands start h → IsTrue (g.tells (device_in new)) → SaysLines g start h (lines ++ line ∷ []) (text ++ said) new halt
-    more_says None l start lines line text ask r h stands tells =
+    more_says : (halt : Option Halt) (l : ServesShelf g old new asked said halt) (start : B) (lines : List (List ℕ)) (line front reply : List ℕ) → AsksVolumes line asked → (r : RunsLines g start lines front reply old None)
+        → (h : History) → g.stands start h → IsTrue (g.tells (device_in new)) → SaysLines g start h (lines ++ line ∷ []) (front ++ reply) said new halt
+    more_says None l start lines line front reply ask r h stands tells =
         let y = r.says h stands (l.went.told tells) in
         let step = subst (λ (k : ℕ). OnShelf g start k h y.first old y.last y.log → StepsShelf (OnShelf g start k h y.first new) k y.last asked l.said y.log) r.went.size (λ o. l.step refl start h y.first y.last y.log o tells) (y.on refl) in
         record {
@@ -74,11 +74,11 @@ module _ {B : Type 0} (g : Ghosts B) where
           log = y.log ++ step.more;
           last = step.last;
           cut = None;
-          steps = subst (λ (x : List ℕ). LinesStep (g.block_count start) y.first y.begun (lines ++ line ∷ []) (text ++ x) (y.log ++ step.more) step.last None None) (sym l.printed) (one_more y.last step.last lines line text l.said asked y.log step.more (uncut y.steps) ask step.step);
+          steps = subst (λ (x : List ℕ). LinesStep (g.block_count start) y.first y.begun (lines ++ line ∷ []) (front ++ reply) x (y.log ++ step.more) step.last None None) (sym l.printed) (one_more y.last step.last lines line front reply l.said asked y.log step.more (uncut y.steps) ask step.step);
           on = λ none. step.on;
           broken = λ own e. absurd (let no : None ≡ Some own = e in cc);
         }
-    more_says (Some own) l start lines line text ask r h stands tells =
+    more_says (Some own) l start lines line front reply ask r h stands tells =
         let y = r.says h stands (l.went.told tells) in
         let why = l.halts own refl in
         let life = life_on start h y.first old y.last y.log (y.on refl) in
@@ -90,40 +90,40 @@ module _ {B : Type 0} (g : Ghosts B) where
           log = y.log;
           last = y.last;
           cut = Some asked;
-          steps = subst (λ (x : List ℕ). LinesStep (g.block_count start) y.first y.begun (lines ++ line ∷ []) (text ++ x) y.log y.last (Some own) (Some asked)) (sym (l.printed ∙ ap (λ (x : List ℕ). x ++ codes "\n") why.0))
-              (halting y.last lines line text asked y.log own (uncut y.steps) ask why.1 why.2);
+          steps = subst (λ (x : List ℕ). LinesStep (g.block_count start) y.first y.begun (lines ++ line ∷ []) (front ++ reply) x y.log y.last (Some own) (Some asked)) (sym (l.printed ∙ ap (λ (x : List ℕ). x ++ codes "\n") why.0))
+              (halting y.last lines line front reply asked y.log own (uncut y.steps) ask why.1 why.2);
           on = λ none. absurd (let no : Some own ≡ None = none in cc);
           broken = λ other e. record { before = life.events; rest = kept.more; all = kept.kept; life = life.life; came = kept.all };
         }
 
-    more_form : (halt : Option Halt) (l : ServesShelf g old new asked said halt) (lines : List (List ℕ)) (line text : List ℕ) → AsksVolumes line asked → HaveForm lines text None → HaveForm (lines ++ line ∷ []) (text ++ said) halt
-    more_form None l lines line text ask f =
-        record { begun = f.begun; form = subst (λ (x : List ℕ). FormsLines f.begun (lines ++ line ∷ []) (text ++ x) None) (sym l.printed) (form_more lines line text l.said asked f.form ask (l.reply refl)) }
-    more_form (Some own) l lines line text ask f =
+    more_form : (halt : Option Halt) (l : ServesShelf g old new asked said halt) (lines : List (List ℕ)) (line front reply : List ℕ) → AsksVolumes line asked → HaveForm lines front reply None → HaveForm (lines ++ line ∷ []) (front ++ reply) said halt
+    more_form None l lines line front reply ask f =
+        record { begun = f.begun; form = subst (λ (x : List ℕ). FormsLines f.begun (lines ++ line ∷ []) (front ++ reply) x None) (sym l.printed) (form_more lines line front reply l.said asked f.form ask (l.reply refl)) }
+    more_form (Some own) l lines line front reply ask f =
         let why = l.halts own refl in
         record {
           begun = f.begun;
-          form = subst (λ (x : List ℕ). FormsLines f.begun (lines ++ line ∷ []) (text ++ x) (Some own)) (sym (l.printed ∙ ap (λ (x : List ℕ). x ++ codes "\n") why.0)) (form_halting lines line text asked own f.form ask why.1 why.2);
+          form = subst (λ (x : List ℕ). FormsLines f.begun (lines ++ line ∷ []) (front ++ reply) x (Some own)) (sym (l.printed ∙ ap (λ (x : List ℕ). x ++ codes "\n") why.0)) (form_halting lines line front reply asked own f.form ask why.1 why.2);
         }
 
     pub runs_more : (halt : Option Halt) → ServesShelf g old new asked said halt → RunsOn g old new None halt asked said
-    runs_more halt l start lines line text ask r = record {
+    runs_more halt l start lines line front reply ask r = record {
       going = l.going;
       went = DeviceGoesOn-then g.block_count g.halts g.halted g.tells start (device_in old) (device_in new) r.went l.went;
       keeps = keeps_then g.kept start (device_in old) (device_in new) r.keeps (keeps_more g.kept g.tells (IsEventOf asked) (device_in old) (device_in new) l.keeps);
-      form = more_form halt l lines line text ask r.form;
+      form = more_form halt l lines line front reply ask r.form;
       halted = λ going. l.halted (r.halted going);
-      says = more_says halt l start lines line text ask r;
+      says = more_says halt l start lines line front reply ask r;
     }
 
   -- ---- a line after a halt
 
   pub runs_later : (shelf : Shelf B g) (asked : VolLine) (said : List ℕ) (own : Halt) → said ≡ halted_text own asked ++ codes "\n" → RunsOn g shelf shelf (Some own) (Some own) asked said
-  runs_later shelf asked said own printed start lines line text ask r = record {
+  runs_later shelf asked said own printed start lines line front reply ask r = record {
     going = r.going;
     went = r.went;
     keeps = r.keeps;
-    form = record { begun = r.form.begun; form = subst (λ (x : List ℕ). FormsLines r.form.begun (lines ++ line ∷ []) (text ++ x) (Some own)) (sym printed) (form_later lines line text asked own r.form.form ask) };
+    form = record { begun = r.form.begun; form = subst (λ (x : List ℕ). FormsLines r.form.begun (lines ++ line ∷ []) (front ++ reply) x (Some own)) (sym printed) (form_later lines line front reply asked own r.form.form ask) };
     halted = r.halted;
     says = λ h stands tells.
         let y = r.says h stands tells in
@@ -134,7 +134,7 @@ module _ {B : Type 0} (g : Ghosts B) where
           log = y.log;
           last = y.last;
           cut = y.cut;
-          steps = subst (λ (x : List ℕ). LinesStep (g.block_count start) y.first y.begun (lines ++ line ∷ []) (text ++ x) y.log y.last (Some own) y.cut) (sym printed) (later y.last lines line text asked y.log own y.cut y.steps ask);
+          steps = subst (λ (x : List ℕ). LinesStep (g.block_count start) y.first y.begun (lines ++ line ∷ []) (front ++ reply) x y.log y.last (Some own) y.cut) (sym printed) (later y.last lines line front reply asked y.log own y.cut y.steps ask);
           on = y.on;
           broken = y.broken;
         };
@@ -156,7 +156,7 @@ module _ {B : Type 0} (g : Ghosts B) where
   first_holds start h (Bare blocks) (Some s) on = absurd on
   first_holds start h (Bare blocks) None on = none_held on.no_table
 
-  first_says : (start : B) (shelf : Shelf B g) (halt : Option Halt) (o : OpensShelf g start shelf halt) → g.kept start start [] → (h : History) → g.stands start h → IsTrue (g.tells (device_in shelf)) → SaysLines g start h [] [] shelf halt
+  first_says : (start : B) (shelf : Shelf B g) (halt : Option Halt) (o : OpensShelf g start shelf halt) → g.kept start start [] → (h : History) → g.stands start h → IsTrue (g.tells (device_in shelf)) → SaysLines g start h [] [] [] shelf halt
   first_says start shelf None o begins h stands tells =
       let f = o.first refl start h (stands, [], begins, sym (append-nil h)) tells in
       record {
@@ -184,5 +184,5 @@ module _ {B : Type 0} (g : Ghosts B) where
         broken = λ other e. record { before = []; rest = kept.more; all = kept.kept; life = waits refl refl; came = kept.all };
       }
 
-  pub runs_first : (start : B) (shelf : Shelf B g) (halt : Option Halt) → OpensShelf g start shelf halt → g.kept start start [] → RunsLines g start [] [] shelf halt
+  pub runs_first : (start : B) (shelf : Shelf B g) (halt : Option Halt) → OpensShelf g start shelf halt → g.kept start start [] → RunsLines g start [] [] [] shelf halt
   runs_first start shelf halt o begins = record { going = o.going; went = o.went; keeps = keeps_more g.kept g.tells IsReadEvent start (device_in shelf) o.keeps; form = record { begun = halt; form = form_none }; halted = o.halted; says = first_says start shelf halt o begins }

@@ -1,5 +1,5 @@
 -- The lines of a session of volumes, as they are taken.
-use Rattle.std.proofs.Common.{◌≡◌, ℕ, ◌^◌, ◌<◌, ◌≤◌, Bool, true, false, List, [], ◌∷◌, ◌++◌, length, take, drop, IsTrue, Option, None, Result, Ok, Err, refl, sym, ap, ◌∙◌, arith, length-append, take-append-drop}
+use Rattle.std.proofs.Common.{◌≡◌, ℕ, ◌^◌, ◌<◌, ◌≤◌, Bool, true, false, List, [], ◌∷◌, ◌++◌, length, take, IsTrue, Option, None, Result, Ok, Err, refl, sym, ap, ◌∙◌, arith, length-append}
 use Rattle.std.proofs.lemmas.List.{append_assoc, append-nil}
 use Rattle.std.proofs.lemmas.Bool.{false≢true}
 use Rattle.paraid_base.specs.declared.block.Block.{Block}
@@ -58,7 +58,8 @@ volumes_long {before} {after} {old} {new} {n} bytes s = let a = s.answer in hear
 pub record Taken {B : Type 0} (g : Ghosts B) (start : B) (left_before left written_before written : Option (List ℕ)) (reader : Reading) (shelf : Shelf B g) (halt : Option Halt) : Type 0 where
   pub bytes : List ℕ
   pub answered : List (List ℕ)
-  pub text : List ℕ
+  pub front : List ℕ
+  pub reply : List ℕ
   pub given : Gives left_before left bytes
   -- whatever follows, the lines are those that were answered and those of what is left
   pub lines : (more : List ℕ) → (IsTrue reader.ended → more ≡ []) → lines_of (bytes ++ more) ≡ answered ++ lines_of (reader.rest ++ more)
@@ -68,8 +69,8 @@ pub record Taken {B : Type 0} (g : Ghosts B) (start : B) (left_before left writt
   pub fault : reader.fault ≡ None
   pub limit : reader.taken ≤ 2 ^ 40
   pub count : reader.taken ≡ length bytes
-  pub grows : GrowsByBytes written_before written text
-  pub runs : RunsLines g start answered text shelf halt
+  pub grows : GrowsByBytes written_before written (front ++ reply)
+  pub runs : RunsLines g start answered front reply shelf halt
 
 -- the lines of all bytes, one line on
 lines_more : (bytes got rest more : List ℕ) (lines ls : List (List ℕ)) (line : List ℕ) (f : List ℕ → List (List ℕ))
@@ -84,11 +85,12 @@ was_open : {a b : Bool} → (IsTrue a → IsTrue b) → b ≡ false → a ≡ fa
 was_open {a = true} {b} f e = absurd (false≢true (sym e ∙ f refl))
 was_open {a = false} {b} f e = refl
 
-pub taken_start : {B : Type 0} (g : Ghosts B) (start : B) (left written : Option (List ℕ)) (shelf : Shelf B g) (halt : Option Halt) → RunsLines g start [] [] shelf halt → Taken g start left left written written (fresh_reader 0) shelf halt
+pub taken_start : {B : Type 0} (g : Ghosts B) (start : B) (left written : Option (List ℕ)) (shelf : Shelf B g) (halt : Option Halt) → RunsLines g start [] [] [] shelf halt → Taken g start left left written written (fresh_reader 0) shelf halt
 taken_start g start left written shelf halt runs = record {
   bytes = [];
   answered = [];
-  text = [];
+  front = [];
+  reply = [];
   given = Gives-none left;
   lines = λ more none. refl;
   whole = λ f more. refl;
@@ -103,8 +105,8 @@ taken_start g start left written shelf halt runs = record {
 
 module _ {B : Type 0} {g : Ghosts B} {start : B} {left_before left after written_before written : Option (List ℕ)} {old new : Reading} {shelf : Shelf B g} {halt : Option Halt} (s : Taken g start left_before left written_before written old shelf halt) where
   module _ {bytes : Block} {asked : VolAsked} (heard : HearsAsked left after old new bytes asked) (later : Shelf B g) (halt_later : Option Halt) (said : List ℕ) (runs : RunsOn g shelf later halt halt_later (line_with asked bytes) said) where
-    ran : RunsLines g start (s.answered ++ heard.line.says.0 ∷ []) (s.text ++ said) later halt_later
-    ran = runs start s.answered heard.line.says.0 s.text heard.asks s.runs
+    ran : RunsLines g start (s.answered ++ heard.line.says.0 ∷ []) (s.front ++ s.reply) said later halt_later
+    ran = runs start s.answered heard.line.says.0 s.front s.reply heard.asks s.runs
 
     pub taken_more : new.fault ≡ None → (wrote : Option (List ℕ)) → GrowsByBytes written wrote said → Taken g start left_before after written_before wrote new later halt_later
     taken_more fault wrote grew =
@@ -114,7 +116,8 @@ module _ {B : Type 0} {g : Ghosts B} {start : B} {left_before left after written
         record {
           bytes = s.bytes ++ h.got;
           answered = s.answered ++ line ∷ [];
-          text = s.text ++ said;
+          front = s.front ++ s.reply;
+          reply = said;
           given = Gives-then left_before left after s.bytes h.got s.given h.given;
           lines = λ more none. lines_more s.bytes h.got old.rest more s.answered (lines_of (new.rest ++ more)) line lines_of (s.lines (h.got ++ more) (λ e. both_none h.got more (h.ended_before e) (none (h.stays_ended e)))) (n.lines more none);
           whole = λ f more. lines_more s.bytes h.got old.rest more s.answered (whole_lines (new.rest ++ more)) line whole_lines (s.whole (was_open h.stays_ended f) (h.got ++ more)) (n.whole f more);
@@ -123,7 +126,7 @@ module _ {B : Type 0} {g : Ghosts B} {start : B} {left_before left after written
           fault = fault;
           limit = h.limit;
           count = omega (arith, s.count, h.taken, length-append s.bytes h.got);
-          grows = GrowsByBytes-then written_before written wrote s.text said s.grows grew;
+          grows = GrowsByBytes-then written_before written wrote (s.front ++ s.reply) said s.grows grew;
           runs = ran;
         }
 
@@ -137,16 +140,19 @@ module _ {B : Type 0} {g : Ghosts B} {start : B} {left_before left after written
           bytes = s.bytes ++ h.got;
           given = Gives-then left_before left after s.bytes h.got s.given h.given;
           lines = s.answered ++ line ∷ [];
-          text = s.text ++ said;
-          told = s.text ++ take n said;
-          grows = GrowsByBytes-then written_before written wrote s.text (take n said) s.grows grew;
-          ends = (
-            (
-              lines_of new.rest,
-              s.lines h.got h.ended_before ∙ ap (λ x. s.answered ++ lines_of x) (sym (append-nil (old.rest ++ h.got))) ∙ ap (λ x. s.answered ++ x) (next.lines [] (λ e. refl)) ∙ ap (λ x. s.answered ++ line ∷ lines_of x) (append-nil new.rest) ∙ sym (append_assoc s.answered (line ∷ []) (lines_of new.rest)),
-            ),
-            (drop n said, ap (λ x. s.text ++ x) (sym (take-append-drop n said)) ∙ sym (append_assoc s.text (take n said) (drop n said))),
-          );
+          front = s.front ++ s.reply;
+          reply = said;
+          told = (s.front ++ s.reply) ++ take n said;
+          grows = GrowsByBytes-then written_before written wrote (s.front ++ s.reply) (take n said) s.grows grew;
+          ends = record {
+            before = s.answered;
+            line = line;
+            more = lines_of new.rest;
+            are = refl;
+            split = s.lines h.got h.ended_before ∙ ap (λ x. s.answered ++ lines_of x) (sym (append-nil (old.rest ++ h.got))) ∙ ap (λ x. s.answered ++ x) (next.lines [] (λ e. refl)) ∙ ap (λ x. s.answered ++ line ∷ lines_of x) (append-nil new.rest) ∙ sym (append_assoc s.answered (line ∷ []) (lines_of new.rest));
+            count = n;
+            cut = refl;
+          };
           runs = ran;
         }
 
@@ -156,8 +162,9 @@ module _ {B : Type 0} {g : Ghosts B} {start : B} {left_before left after written
     bytes = s.bytes ++ h.got;
     given = Gives-then left_before left after s.bytes h.got s.given h.given;
     lines = s.answered;
-    text = s.text;
-    told = s.text;
+    front = s.front;
+    reply = s.reply;
+    told = s.front ++ s.reply;
     grows = s.grows;
     ends = (
       sym (s.lines h.got h.ended_before ∙ ap (λ x. s.answered ++ lines_of x) h.says.0 ∙ append-nil s.answered),
@@ -176,8 +183,9 @@ module _ {B : Type 0} {g : Ghosts B} {start : B} {left_before left after written
     bytes = s.bytes ++ h.got;
     given = Gives-then left_before left after s.bytes h.got s.given h.given;
     lines = s.answered;
-    text = s.text;
-    told = s.text;
+    front = s.front;
+    reply = s.reply;
+    told = s.front ++ s.reply;
     grows = s.grows;
     ends = (fault_lines h, refl);
     runs = s.runs;
@@ -188,8 +196,9 @@ module _ {B : Type 0} {g : Ghosts B} {start : B} {left_before left after written
     bytes = s.bytes ++ h.got;
     given = Gives-then left_before left after s.bytes h.got s.given h.given;
     lines = s.answered;
-    text = s.text;
-    told = s.text;
+    front = s.front;
+    reply = s.reply;
+    told = s.front ++ s.reply;
     grows = s.grows;
     ends = (fault_lines h, refl, omega (arith, s.count, h.taken, length-append s.bytes h.got, full));
     runs = s.runs;

@@ -1,7 +1,7 @@
 -- The whole text of a session of volumes.
 use Rattle.std.proofs.Common.{◌≤◌, ◌<◌, ◌≡◌, ◌≢◌, ◌⊎◌, ◌^◌, ℕ, [], ◌∷◌, List, ◌++◌, ◌∙◌, length, take, drop, IsSome, refl, sym, ap, subst, inl, inr, arith, take-append-drop}
 use Rattle.std.specs.Prelude.{Option, Some, None, codes, is_some, if◌then◌else◌}
-use Rattle.std.proofs.lemmas.List.{append-nil, append_assoc, take_all}
+use Rattle.std.proofs.lemmas.List.{append-nil, take_all}
 use Rattle.paraid_base.specs.declared.event.Answer.{Answer}
 use Rattle.paraid_base.specs.declared.event.Answer.TheVariants.{Flushed, Halted}
 use Rattle.paraid_base.specs.declared.event.Event.TheVariants.{Flush}
@@ -62,10 +62,10 @@ use Rattle.paraid_service.proofs.PointLemmas.{flush_low, turns_history}
 use Rattle.paraid_service.proofs.RunLemmas.{life_on}
 
 -- What was said of lines, with the events that were kept and what a stop leaves of them.
-pub record SaysKept {B : Type 0} (b : BlocksGhosts B) (start : B) (h : History) (lines : List (List ℕ)) (text : List ℕ) (device : B) (halt : Option Halt) : Type 0 where
+pub record SaysKept {B : Type 0} (b : BlocksGhosts B) (start : B) (h : History) (lines : List (List ℕ)) (front reply : List ℕ) (device : B) (halt : Option Halt) : Type 0 where
   pub events : Answers
   pub kept : b.kept start device events
-  pub answers : AnswersLines (b.block_count start) h lines text events halt
+  pub answers : AnswersLines (b.block_count start) h lines front reply events halt
   pub leaves : halt ≡ None → (low : ℕ) → ((n : ℕ) → HasEvent events (Flush, Flushed n) → n ≤ low) → LeavesHeld (b.block_count start) (life_start answers.first h) low (h ++ entries_in events) answers.last answers.log
 
 leaves_of : (count : ℕ) (h : History) (first : Held) (made : Answers) (s : Held) (log : VolLog) → IsLifeOf count h first made s log → (low : ℕ) → ((n : ℕ) → HasEvent made (Flush, Flushed n) → n ≤ low) → LeavesHeld count (life_start first h) low (h ++ entries_in made) s log
@@ -80,8 +80,8 @@ none_came begun (Some asked) = tt
 none_came (Some halt) None = tt
 none_came None None = refl
 
-pub answers_of : {B : Type 0} (b : BlocksGhosts B) (start : B) (h : History) (lines : List (List ℕ)) (text : List ℕ) (shelf : Shelf B b) (halt : Option Halt) → SaysLines b start h lines text shelf halt → SaysKept b start h lines text (device_in shelf) halt
-answers_of b start h lines text shelf None y =
+pub answers_of : {B : Type 0} (b : BlocksGhosts B) (start : B) (h : History) (lines : List (List ℕ)) (front reply : List ℕ) (shelf : Shelf B b) (halt : Option Halt) → SaysLines b start h lines front reply shelf halt → SaysKept b start h lines front reply (device_in shelf) halt
+answers_of b start h lines front reply shelf None y =
     let l = life_on b start h y.first shelf y.last y.log (y.on refl) in
     record {
       events = l.events;
@@ -89,7 +89,7 @@ answers_of b start h lines text shelf None y =
       answers = record { first = y.first; begun = y.begun; begins = y.begins; log = y.log; last = y.last; cut = y.cut; steps = y.steps; before = l.events; rest = []; parts = sym (append-nil l.events); came = none_came y.begun y.cut; life = l.life };
       leaves = λ none. leaves_of (b.block_count start) h y.first l.events y.last y.log l.life;
     }
-answers_of b start h lines text shelf (Some own) y =
+answers_of b start h lines front reply shelf (Some own) y =
     let l = y.broken own refl in
     record {
       events = l.before ++ l.rest;
@@ -99,45 +99,45 @@ answers_of b start h lines text shelf (Some own) y =
     }
 
 -- a last line, written whole or in part
-with_last : {span : Span} {p : Point} {bytes : List ℕ} {before after : Option (List ℕ)} (said line : List ℕ) (code status : ℕ) → (e : EndsWithLine before after line code status) → VolumesText span p bytes code (said ++ line)
+with_last : {span : Span} {p : Point} {bytes : List ℕ} {before after : Option (List ℕ)} (said line : List ℕ) (code status : ℕ) → (e : EndsWithLine before after line code status) → VolumesText span p bytes code said line
     → WritesVolumes span p bytes status (said ++ take e.count line)
 with_last {span} {p} {bytes} {before} {after} said line code status e t = elim e.whole [
-  | inl four ↦ last_line four code (said ++ line) (drop e.count line) t (ap (λ (x : List ℕ). said ++ x) (sym (take-append-drop e.count line)) ∙ sym (append_assoc said (take e.count line) (drop e.count line)))
+  | inl four ↦ last_line four code said line e.count t refl
   | inr all ↦
       let full : take e.count line ≡ line = take_all e.count line (let n = all.0 in omega (arith, n)) in
-      subst (λ (x : List ℕ). WritesVolumes span p bytes status (said ++ x)) (sym full) (subst (λ (s : ℕ). WritesVolumes span p bytes s (said ++ line)) (sym all.1) (whole t))
+      whole said line (subst (λ (s : ℕ). VolumesText span p bytes s said line) (sym all.1) t) (ap (λ (x : List ℕ). said ++ x) full)
 ]
 
 abbrev device_stands : {A : Type 0} (g : Ghosts A) → Device A g → History → Type 0
 device_stands g device = StandsFor (g.stands (array_of device))
 
 -- the same of its form
-form_last : {bytes : List ℕ} {before after : Option (List ℕ)} (said line : List ℕ) (code status : ℕ) → (e : EndsWithLine before after line code status) → VolumesForm bytes code (said ++ line) → HasVolumesForm bytes status (said ++ take e.count line)
+form_last : {bytes : List ℕ} {before after : Option (List ℕ)} (said line : List ℕ) (code status : ℕ) → (e : EndsWithLine before after line code status) → VolumesForm bytes code said line → HasVolumesForm bytes status (said ++ take e.count line)
 form_last {bytes} {before} {after} said line code status e t = elim e.whole [
-  | inl four ↦ form_last_line four code (said ++ line) (drop e.count line) t (ap (λ (x : List ℕ). said ++ x) (sym (take-append-drop e.count line)) ∙ sym (append_assoc said (take e.count line) (drop e.count line)))
+  | inl four ↦ form_last_line four code said line e.count t refl
   | inr all ↦
       let full : take e.count line ≡ line = take_all e.count line (let n = all.0 in omega (arith, n)) in
-      subst (λ (x : List ℕ). HasVolumesForm bytes status (said ++ x)) (sym full) (subst (λ (s : ℕ). HasVolumesForm bytes s (said ++ line)) (sym all.1) (form_whole t))
+      form_whole said line (subst (λ (s : ℕ). VolumesForm bytes s said line) (sym all.1) t) (ap (λ (x : List ℕ). said ++ x) full)
 ]
 
 -- ---- the whole text, from what was answered
 
-module _ (span : Span) (mid : Option Trail) (p : Point) (bytes : List ℕ) (text told : List ℕ) (same : told ≡ text) where
-  done_at : (lines : List (List ℕ)) (met : Option Halt) (writes : ℕ) (a : AnswersFromPoint (record span { now = mid }) p lines text met) → lines ≡ lines_of bytes → met ≡ None → writes ≡ length a.all.end.history → FlushesLast (record span { start = mid }) a.all.end (Flushed writes)
-      → VolumesText span p bytes 0 ((begins_with p ++ told) ++ end_line writes)
+module _ (span : Span) (mid : Option Trail) (p : Point) (bytes : List ℕ) (front reply told : List ℕ) (same : told ≡ front ++ reply) where
+  done_at : (lines : List (List ℕ)) (met : Option Halt) (writes : ℕ) (a : AnswersFromPoint (record span { now = mid }) p lines front reply met) → lines ≡ lines_of bytes → met ≡ None → writes ≡ length a.all.end.history → FlushesLast (record span { start = mid }) a.all.end (Flushed writes)
+      → VolumesText span p bytes 0 (begins_with p ++ told) (end_line writes)
   done_at lines met writes a all none number flush =
-      subst (λ (l : List (List ℕ)). (a : AnswersFromPoint (record span { now = mid }) p l text met) → writes ≡ length a.all.end.history → FlushesLast (record span { start = mid }) a.all.end (Flushed writes) → VolumesText span p bytes 0 ((begins_with p ++ told) ++ end_line writes)) (sym all)
-      (subst (λ (o : Option Halt). (a : AnswersFromPoint (record span { now = mid }) p (lines_of bytes) text o) → writes ≡ length a.all.end.history → FlushesLast (record span { start = mid }) a.all.end (Flushed writes) → VolumesText span p bytes 0 ((begins_with p ++ told) ++ end_line writes)) (sym none)
+      subst (λ (l : List (List ℕ)). (a : AnswersFromPoint (record span { now = mid }) p l front reply met) → writes ≡ length a.all.end.history → FlushesLast (record span { start = mid }) a.all.end (Flushed writes) → VolumesText span p bytes 0 (begins_with p ++ told) (end_line writes)) (sym all)
+      (subst (λ (o : Option Halt). (a : AnswersFromPoint (record span { now = mid }) p (lines_of bytes) front reply o) → writes ≡ length a.all.end.history → FlushesLast (record span { start = mid }) a.all.end (Flushed writes) → VolumesText span p bytes 0 (begins_with p ++ told) (end_line writes)) (sym none)
       (λ a n f.
-      subst (λ (x : List ℕ). VolumesText span p bytes 0 ((begins_with p ++ x) ++ end_line writes)) (sym same)
-      (subst (λ (k : ℕ). VolumesText span p bytes 0 ((begins_with p ++ text) ++ end_line k)) (sym n) (done_text mid text a (subst (λ (k : ℕ). FlushesLast (record span { start = mid }) a.all.end (Flushed k)) n f)))))
+      subst (λ (x : List ℕ). VolumesText span p bytes 0 (begins_with p ++ x) (end_line writes)) (sym same)
+      (subst (λ (k : ℕ). VolumesText span p bytes 0 (begins_with p ++ (front ++ reply)) (end_line k)) (sym n) (done_text mid front reply a (subst (λ (k : ℕ). FlushesLast (record span { start = mid }) a.all.end (Flushed k)) n f)))))
       a number flush
 
-  halted_at : (lines : List (List ℕ)) (met : Option Halt) (own : Halt) (a : AnswersFromPoint (record span { now = mid }) p lines text met) → lines ≡ lines_of bytes → (met ≡ None) ⊎ (met ≡ Some own) → FlushesLast (record span { start = mid }) a.all.end (Halted own)
-      → VolumesText span p bytes (status_of_halt own) ((begins_with p ++ told) ++ halt_line own)
+  halted_at : (lines : List (List ℕ)) (met : Option Halt) (own : Halt) (a : AnswersFromPoint (record span { now = mid }) p lines front reply met) → lines ≡ lines_of bytes → (met ≡ None) ⊎ (met ≡ Some own) → FlushesLast (record span { start = mid }) a.all.end (Halted own)
+      → VolumesText span p bytes (status_of_halt own) (begins_with p ++ told) (halt_line own)
   halted_at lines met own a all why flush =
-      subst (λ (l : List (List ℕ)). (a : AnswersFromPoint (record span { now = mid }) p l text met) → FlushesLast (record span { start = mid }) a.all.end (Halted own) → VolumesText span p bytes (status_of_halt own) ((begins_with p ++ told) ++ halt_line own)) (sym all)
-      (λ a f. subst (λ (x : List ℕ). VolumesText span p bytes (status_of_halt own) ((begins_with p ++ x) ++ halt_line own)) (sym same) (halted_text mid own met text a why f))
+      subst (λ (l : List (List ℕ)). (a : AnswersFromPoint (record span { now = mid }) p l front reply met) → FlushesLast (record span { start = mid }) a.all.end (Halted own) → VolumesText span p bytes (status_of_halt own) (begins_with p ++ told) (halt_line own)) (sym all)
+      (λ a f. subst (λ (x : List ℕ). VolumesText span p bytes (status_of_halt own) (begins_with p ++ x) (halt_line own)) (sym same) (halted_text mid own met front reply a why f))
       a flush
 
 -- the halt of a device before its last flush
@@ -183,16 +183,16 @@ module _ {A : Type 0} (g : Ghosts A) where
     abbrev span_to : Option Trail → Span
     span_to final = span_of (g.slots (array_of first)) (g.setup (array_of first)) (g.told (array_of first)) final
 
-    abbrev Text : Option Trail → Point → List ℕ → ℕ → List ℕ → Type 0
-    Text final p bytes code text = VolumesText (span_to final) p bytes code text
+    abbrev Text : Option Trail → Point → List ℕ → ℕ → List ℕ → List ℕ → Type 0
+    Text final p bytes code said last = VolumesText (span_to final) p bytes code said last
 
     abbrev Run : Option Trail → Streams → ℕ → Type 0
     Run final streams status = VolumesRun (span_to final) (g.stands (array_of first)) streams status
 
     -- lines that a device answered, from a point at which its array stood
-    point_answers : (mid : Device A g) (p : Point) (lines : List (List ℕ)) (text : List ℕ) (halt : Option Halt) → (at : g.stands (array_of first) p) (is : IsSome (g.told (array_of mid))) → halt_of_device mid ≡ halt
-        → (x : SaysKept device_ghosts first p.history lines text mid halt) → (a : AnswersFromPoint (span_to (g.told (array_of mid))) p lines text halt) × g.stands (array_of mid) a.all.end
-    point_answers mid p lines text halt at is same x =
+    point_answers : (mid : Device A g) (p : Point) (lines : List (List ℕ)) (front reply : List ℕ) (halt : Option Halt) → (at : g.stands (array_of first) p) (is : IsSome (g.told (array_of mid))) → halt_of_device mid ≡ halt
+        → (x : SaysKept device_ghosts first p.history lines front reply mid halt) → (a : AnswersFromPoint (span_to (g.told (array_of mid))) p lines front reply halt) × g.stands (array_of mid) a.all.end
+    point_answers mid p lines front reply halt at is same x =
         let k = x.kept.leads is p at in
         let halted : k.all.end.halt ≡ halt = agrees (array_of mid) k.all.end k.stands ∙ array_halt mid ∙ same in
         let written : k.all.end.history ≡ p.history ++ entries_in x.events =
@@ -227,16 +227,16 @@ module _ {A : Type 0} (g : Ghosts A) where
         answered_mid : (e : Answers) × HasAnswered g (array_of first) (array_of (device_in shelf)) e
         answered_mid = let k = s.runs.keeps.grows first [] (answered_none g (array_of first)) in (k.0, k.1)
 
-        says_mid : IsSome (g.told (array_of (device_in shelf))) → (p : Point) → g.stands (array_of first) p → SaysKept device_ghosts first p.history s.lines s.text (device_in shelf) halt
-        says_mid is p at = answers_of device_ghosts first p.history s.lines s.text shelf halt (s.runs.says p.history (record { point = p; at = at; is = refl }) is)
+        says_mid : IsSome (g.told (array_of (device_in shelf))) → (p : Point) → g.stands (array_of first) p → SaysKept device_ghosts first p.history s.lines s.front s.reply (device_in shelf) halt
+        says_mid is p at = answers_of device_ghosts first p.history s.lines s.front s.reply shelf halt (s.runs.says p.history (record { point = p; at = at; is = refl }) is)
 
         answers_mid : (is : IsSome (g.told (array_of (device_in shelf)))) (p : Point) → g.stands (array_of first) p
-            → (a : AnswersFromPoint (span_to (g.told (array_of (device_in shelf)))) p s.lines s.text halt) × g.stands (array_of (device_in shelf)) a.all.end
-        answers_mid is p at = point_answers (device_in shelf) p s.lines s.text halt at is (s.runs.halted going) (says_mid is p at)
+            → (a : AnswersFromPoint (span_to (g.told (array_of (device_in shelf)))) p s.lines s.front s.reply halt) × g.stands (array_of (device_in shelf)) a.all.end
+        answers_mid is p at = point_answers (device_in shelf) p s.lines s.front s.reply halt at is (s.runs.halted going) (says_mid is p at)
 
         -- a last line behind the answers
         ends_line : (final : Option Trail) (line : List ℕ) (code status : ℕ) (e : EndsWithLine written x.sink.written line code status) → (status ≡ 10 → length s.bytes ≡ 2 ^ 40) → (IsWholeStatus status → (length s.bytes < 2 ^ 40) × AtEnd x.source.left)
-            → VolumesForm s.bytes code ((mount_line writes_seen gear_seen ++ s.told) ++ line) → (IsSome final → (p : Point) → g.stands (array_of first) p → Text final p s.bytes code ((begins_with p ++ s.told) ++ line)) → Run final x status
+            → VolumesForm s.bytes code (mount_line writes_seen gear_seen ++ s.told) line → (IsSome final → (p : Point) → g.stands (array_of first) p → Text final p s.bytes code (begins_with p ++ s.told) line) → Run final x status
         ends_line final line code status e full all form text = record {
           bytes = s.bytes;
           text = (mount_line writes_seen gear_seen ++ s.told) ++ take e.count line;
@@ -256,12 +256,12 @@ module _ {A : Type 0} (g : Ghosts A) where
           let mid = device_in shelf in
           let before = answered_mid Done s in
           let none : halt ≡ None = not_halted (halt_of_device mid) (halt_of_device last) halt (s.runs.halted going) f.again f.halted in
-          ends_line Done s (g.told (array_of last)) (end_line writes) 0 status e (λ ten. absurd (other _ _ _ _ _ e 10 (λ no. omega arith) (λ no. omega arith) ten)) (λ whole. (s.ends.2, s.ends.3)) (subst (λ (w : List ℕ). VolumesForm s.bytes 0 ((mount_line writes_seen gear_seen ++ w) ++ end_line writes)) (sym s.ends.1) (form_done writes_seen gear_seen writes s.text (subst (λ (l : List (List ℕ)). HaveForm l s.text None) s.ends.0 (subst (λ (o : Option Halt). HaveForm s.lines s.text o) none s.runs.form)))) (λ is p at.
+          ends_line Done s (g.told (array_of last)) (end_line writes) 0 status e (λ ten. absurd (other _ _ _ _ _ e 10 (λ no. omega arith) (λ no. omega arith) ten)) (λ whole. (s.ends.2, s.ends.3)) (subst (λ (w : List ℕ). VolumesForm s.bytes 0 (mount_line writes_seen gear_seen ++ w) (end_line writes)) (sym s.ends.1) (form_done writes_seen gear_seen writes s.front s.reply (subst (λ (l : List (List ℕ)). HaveForm l s.front s.reply None) s.ends.0 (subst (λ (o : Option Halt). HaveForm s.lines s.front s.reply o) none s.runs.form)))) (λ is p at.
           let here = told_then (g.told (array_of mid)) (g.told (array_of last)) (f.kept mid [] (answered_none g (array_of mid))).grows is in
           let y = answers_mid Done s here p at in
           let number : writes ≡ length y.0.all.end.history = f.number y.0.all.end.history (record { point = y.0.all.end; at = y.1; is = refl }) is writes refl in
           let behind = flush_behind mid last y.0.all.end (Flushed writes) None before.1.same_slots before.1.same_setup y.1 is f in
-          done_at (span_to (g.told (array_of last))) (g.told (array_of mid)) p s.bytes s.text s.told s.ends.1 s.lines halt writes y.0 s.ends.0 none number behind)
+          done_at (span_to (g.told (array_of last))) (g.told (array_of mid)) p s.bytes s.front s.reply s.told s.ends.1 s.lines halt writes y.0 s.ends.0 none number behind)
 
       -- all lines were answered, and the flush by a halt
       ran_halted : (last : Device A g) (own : Halt) (status : ℕ) → ServesVolumeLines device_ghosts first x.source.left_before x.source.left begun written shelf halt Done → HasFlushed g (device_in shelf) last (Halted own) (Some own)
@@ -270,10 +270,10 @@ module _ {A : Type 0} (g : Ghosts A) where
           let mid = device_in shelf in
           let before = answered_mid Done s in
           let met = met_by (halt_of_device mid) (halt_of_device last) halt own (s.runs.halted going) f.again f.halted in
-          ends_line Done s (g.told (array_of last)) (halt_line own) (status_of_halt own) status e (λ ten. absurd (other _ _ _ _ _ e 10 (λ no. omega (arith, no)) (no_halt_code own 10 (λ no. omega (arith, no)) (λ no. omega (arith, no))) ten)) (λ whole. (s.ends.2, s.ends.3)) (subst (λ (w : List ℕ). VolumesForm s.bytes (status_of_halt own) ((mount_line writes_seen gear_seen ++ w) ++ halt_line own)) (sym s.ends.1) (form_halted writes_seen gear_seen own halt s.text (subst (λ (l : List (List ℕ)). HaveForm l s.text halt) s.ends.0 s.runs.form) met)) (λ is p at.
+          ends_line Done s (g.told (array_of last)) (halt_line own) (status_of_halt own) status e (λ ten. absurd (other _ _ _ _ _ e 10 (λ no. omega (arith, no)) (no_halt_code own 10 (λ no. omega (arith, no)) (λ no. omega (arith, no))) ten)) (λ whole. (s.ends.2, s.ends.3)) (subst (λ (w : List ℕ). VolumesForm s.bytes (status_of_halt own) (mount_line writes_seen gear_seen ++ w) (halt_line own)) (sym s.ends.1) (form_halted writes_seen gear_seen own halt s.front s.reply (subst (λ (l : List (List ℕ)). HaveForm l s.front s.reply halt) s.ends.0 s.runs.form) met)) (λ is p at.
           let here = told_then (g.told (array_of mid)) (g.told (array_of last)) (f.kept mid [] (answered_none g (array_of mid))).grows is in
           let y = answers_mid Done s here p at in
-          halted_at (span_to (g.told (array_of last))) (g.told (array_of mid)) p s.bytes s.text s.told s.ends.1 s.lines halt own y.0 s.ends.0
+          halted_at (span_to (g.told (array_of last))) (g.told (array_of mid)) p s.bytes s.front s.reply s.told s.ends.1 s.lines halt own y.0 s.ends.0
           met (flush_behind mid last y.0.all.end (Halted own) (Some own) before.1.same_slots before.1.same_setup y.1 is f))
 
       pub ran : (last : Device A g) (end : LinesEnd) (status : ℕ) → ServesVolumeLines device_ghosts first x.source.left_before x.source.left begun written shelf halt end → EndsSession g (device_in shelf) last written x.sink.written end status → Run (g.told (array_of last)) x status
@@ -282,17 +282,17 @@ module _ {A : Type 0} (g : Ghosts A) where
       ran last Source status s (at_source status' same e) =
           subst (λ (d : Device A g). Run (g.told (array_of d)) x status) (sym same)
           (ends_line Source s (g.told (array_of (device_in shelf))) (codes "source\n") 3 status e (λ ten. absurd (other _ _ _ _ _ e 10 (λ no. omega (arith, no)) (λ no. omega (arith, no)) ten))
-          (λ whole. absurd (no_whole_status 3 status e (λ no. omega (arith, no)) (λ no. omega (arith, no)) (λ no. omega (arith, no)) whole)) (subst (λ (w : List ℕ). VolumesForm s.bytes 3 ((mount_line writes_seen gear_seen ++ w) ++ codes "source\n")) (sym s.ends.1) (form_source writes_seen gear_seen halt s.text (subst (λ (l : List (List ℕ)). HaveForm l s.text halt) s.ends.0 s.runs.form))) (λ is p at.
+          (λ whole. absurd (no_whole_status 3 status e (λ no. omega (arith, no)) (λ no. omega (arith, no)) (λ no. omega (arith, no)) whole)) (subst (λ (w : List ℕ). VolumesForm s.bytes 3 (mount_line writes_seen gear_seen ++ w) (codes "source\n")) (sym s.ends.1) (form_source writes_seen gear_seen halt s.front s.reply (subst (λ (l : List (List ℕ)). HaveForm l s.front s.reply halt) s.ends.0 s.runs.form))) (λ is p at.
           let y = answers_mid Source s is p at in
-          subst (λ (w : List ℕ). Text (g.told (array_of (device_in shelf))) p s.bytes 3 ((begins_with p ++ w) ++ codes "source\n")) (sym s.ends.1)
-          (source_text halt s.text (subst (λ (l : List (List ℕ)). AnswersFromPoint (span_to (g.told (array_of (device_in shelf)))) p l s.text halt) s.ends.0 y.0))))
+          subst (λ (w : List ℕ). Text (g.told (array_of (device_in shelf))) p s.bytes 3 (begins_with p ++ w) (codes "source\n")) (sym s.ends.1)
+          (source_text halt s.front s.reply (subst (λ (l : List (List ℕ)). AnswersFromPoint (span_to (g.told (array_of (device_in shelf)))) p l s.front s.reply halt) s.ends.0 y.0))))
       ran last TooLong status s (too_long status' same e) =
           subst (λ (d : Device A g). Run (g.told (array_of d)) x status) (sym same)
           (ends_line TooLong s (g.told (array_of (device_in shelf))) (codes "toolong\n") 10 status e (λ ten. s.ends.2)
-          (λ whole. absurd (no_whole_status 10 status e (λ no. omega (arith, no)) (λ no. omega (arith, no)) (λ no. omega (arith, no)) whole)) (subst (λ (w : List ℕ). VolumesForm s.bytes 10 ((mount_line writes_seen gear_seen ++ w) ++ codes "toolong\n")) (sym s.ends.1) (form_too_long writes_seen gear_seen halt s.text s.ends.2 (subst (λ (l : List (List ℕ)). HaveForm l s.text halt) s.ends.0 s.runs.form))) (λ is p at.
+          (λ whole. absurd (no_whole_status 10 status e (λ no. omega (arith, no)) (λ no. omega (arith, no)) (λ no. omega (arith, no)) whole)) (subst (λ (w : List ℕ). VolumesForm s.bytes 10 (mount_line writes_seen gear_seen ++ w) (codes "toolong\n")) (sym s.ends.1) (form_too_long writes_seen gear_seen halt s.front s.reply s.ends.2 (subst (λ (l : List (List ℕ)). HaveForm l s.front s.reply halt) s.ends.0 s.runs.form))) (λ is p at.
           let y = answers_mid TooLong s is p at in
-          subst (λ (w : List ℕ). Text (g.told (array_of (device_in shelf))) p s.bytes 10 ((begins_with p ++ w) ++ codes "toolong\n")) (sym s.ends.1)
-          (too_long_text s.ends.2 halt s.text (subst (λ (l : List (List ℕ)). AnswersFromPoint (span_to (g.told (array_of (device_in shelf)))) p l s.text halt) s.ends.0 y.0))))
+          subst (λ (w : List ℕ). Text (g.told (array_of (device_in shelf))) p s.bytes 10 (begins_with p ++ w) (codes "toolong\n")) (sym s.ends.1)
+          (too_long_text s.ends.2 halt s.front s.reply (subst (λ (l : List (List ℕ)). AnswersFromPoint (span_to (g.told (array_of (device_in shelf)))) p l s.front s.reply halt) s.ends.0 y.0))))
       ran last Sink status s (at_sink same after) =
           subst (λ (d : Device A g). Run (g.told (array_of d)) x 4) (sym same) (record {
             bytes = s.bytes;
@@ -301,10 +301,10 @@ module _ {A : Type 0} (g : Ghosts A) where
             grows = subst (λ (w : Option (List ℕ)). GrowsByBytes x.sink.written_before w (mount_line writes_seen gear_seen ++ s.told)) (sym after) (GrowsByBytes-then x.sink.written_before begun written (mount_line writes_seen gear_seen) s.told grew s.grows);
             full = λ ten. absurd (omega (arith, ten));
             all = λ whole. absurd (four_not_whole whole);
-            form = form_answers refl writes_seen gear_seen s.lines s.ends.0.0 s.text s.ends.1.0 halt s.ends.0.1 s.runs.form (ap (λ (w : List ℕ). mount_line writes_seen gear_seen ++ w) s.ends.1.1 ∙ sym (append_assoc (mount_line writes_seen gear_seen) s.told s.ends.1.0));
+            form = form_answers refl writes_seen gear_seen s.ends.before s.ends.more s.ends.line s.front s.reply s.ends.count halt s.ends.split (subst (λ (l : List (List ℕ)). HaveForm l s.front s.reply halt) s.ends.are s.runs.form) (ap (λ (w : List ℕ). mount_line writes_seen gear_seen ++ w) s.ends.cut);
             wrote = λ is p at.
-                answers refl s.lines s.ends.0.0 s.text s.ends.1.0 halt s.ends.0.1 (answers_mid Sink s is p at).0
-                (ap (λ (w : List ℕ). begins_with p ++ w) s.ends.1.1 ∙ sym (append_assoc (begins_with p) s.told s.ends.1.0) ∙ ap (λ (w : List ℕ). (w ++ s.told) ++ s.ends.1.0) (sym (mounted p at)));
+                answers refl s.ends.before s.ends.more s.ends.line s.front s.reply s.ends.count halt s.ends.split (subst (λ (l : List (List ℕ)). AnswersFromPoint (span_to (g.told (array_of (device_in shelf)))) p l s.front s.reply halt) s.ends.are (answers_mid Sink s is p at).0)
+                (ap (λ (w : List ℕ). w ++ s.told) (mounted p at) ∙ ap (λ (w : List ℕ). begins_with p ++ w) s.ends.cut);
           })
 
       -- what the array did in all

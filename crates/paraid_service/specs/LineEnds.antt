@@ -1,5 +1,5 @@
 -- How the lines of a session of volumes are taken, and how they end.
-use Rattle.std.specs.Prelude.{◌≡◌, ℕ, ◌^◌, ◌<◌, ◌++◌, List, length, Option, Some, None, Result, Ok, Err}
+use Rattle.std.specs.Prelude.{◌≡◌, ℕ, ◌^◌, ◌<◌, ◌++◌, List, [], ◌∷◌, length, take, Option, Some, None, Result, Ok, Err}
 use Rattle.paraid_base.specs.declared.block.Block.{Block}
 use Rattle.paraid_base.specs.declared.event.Event.{Event}
 use Rattle.paraid_base.specs.declared.fault.Halt.{Halt}
@@ -29,20 +29,31 @@ HearsVolumes before after old new bytes (Ok (Some asked)) = HearsAsked before af
 HearsVolumes before after old new bytes (Ok None) = HearsLine before after old new (Ok None)
 HearsVolumes before after old new bytes (Err fault) = HearsLine before after old new (Err fault)
 
--- these lines of the bytes were answered, and this text of the answers was written
-abbrev pub EndsLines : List ℕ → List (List ℕ) → List ℕ → List ℕ → Option (List ℕ) → LinesEnd → Type 0
-EndsLines bytes lines text written after Done = (lines ≡ lines_of bytes) × (written ≡ text) × (length bytes < 2 ^ 40) × AtEnd after
-EndsLines bytes lines text written after Source = (lines ≡ whole_lines bytes) × (written ≡ text)
-EndsLines bytes lines text written after TooLong = (lines ≡ whole_lines bytes) × (written ≡ text) × (length bytes ≡ 2 ^ 40)
-EndsLines bytes lines text written after Sink = ((more : List (List ℕ)) × (lines_of bytes ≡ lines ++ more)) × ((rest : List ℕ) × (text ≡ written ++ rest))
+-- The last of these lines of the bytes is the one whose answer is cut.
+pub record CutsLines (bytes : List ℕ) (lines : List (List ℕ)) (front reply written : List ℕ) : Type 0 where
+  pub before : List (List ℕ)
+  pub line : List ℕ
+  pub more : List (List ℕ)
+  pub are : lines ≡ before ++ line ∷ []
+  pub split : lines_of bytes ≡ (before ++ line ∷ []) ++ more
+  pub count : ℕ
+  pub cut : written ≡ front ++ take count reply
+
+-- these lines of the bytes were answered so, those before the last and the last, and this text of the answers was written
+abbrev pub EndsLines : List ℕ → List (List ℕ) → List ℕ → List ℕ → List ℕ → Option (List ℕ) → LinesEnd → Type 0
+EndsLines bytes lines front reply written after Done = (lines ≡ lines_of bytes) × (written ≡ front ++ reply) × (length bytes < 2 ^ 40) × AtEnd after
+EndsLines bytes lines front reply written after Source = (lines ≡ whole_lines bytes) × (written ≡ front ++ reply)
+EndsLines bytes lines front reply written after TooLong = (lines ≡ whole_lines bytes) × (written ≡ front ++ reply) × (length bytes ≡ 2 ^ 40)
+EndsLines bytes lines front reply written after Sink = CutsLines bytes lines front reply written
 
 -- Lines of the bytes that were taken were answered on a device.
 pub record ServesVolumeLines {B : Type 0} (g : Ghosts B) (start : B) (left_before left written_before written : Option (List ℕ)) (shelf : Shelf B g) (halt : Option Halt) (end : LinesEnd) : Type 0 where
   pub bytes : List ℕ
   pub given : Gives left_before left bytes
   pub lines : List (List ℕ)
-  pub text : List ℕ
+  pub front : List ℕ
+  pub reply : List ℕ
   pub told : List ℕ
   pub grows : GrowsByBytes written_before written told
-  pub ends : EndsLines bytes lines text told left end
-  pub runs : RunsLines g start lines text shelf halt
+  pub ends : EndsLines bytes lines front reply told left end
+  pub runs : RunsLines g start lines front reply shelf halt

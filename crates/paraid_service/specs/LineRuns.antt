@@ -22,28 +22,28 @@ pub record BrokenOff (kept : Answers → Type 0) (count : ℕ) (h : History) (fi
   pub life : IsLifeOf count h first before last log
   pub came : AreOfHalt begun cut rest
 
--- Lines were answered with this text since the device stood for this history.
-pub record SaysLines {B : Type 0} (g : Ghosts B) (start : B) (h : History) (lines : List (List ℕ)) (text : List ℕ) (shelf : Shelf B g) (halt : Option Halt) : Type 0 where
+-- Lines were answered so since the device stood for this history: those before the last, and the last.
+pub record SaysLines {B : Type 0} (g : Ghosts B) (start : B) (h : History) (lines : List (List ℕ)) (front reply : List ℕ) (shelf : Shelf B g) (halt : Option Halt) : Type 0 where
   pub first : Held
   pub begun : Option Halt
   pub begins : BeginsWith (g.block_count start) (after_all h) first begun
   pub log : VolLog
   pub last : Held
   pub cut : Option VolLine
-  pub steps : LinesStep (g.block_count start) first begun lines text log last halt cut
+  pub steps : LinesStep (g.block_count start) first begun lines front reply log last halt cut
   pub on : halt ≡ None → OnShelf g start (g.block_count start) h first shelf last log
   pub broken : (own : Halt) → halt ≡ Some own → BrokenOff (g.kept start (device_in shelf)) (g.block_count start) h first last log begun cut
 
 -- Lines were answered since the device was so.
-pub record RunsLines {B : Type 0} (g : Ghosts B) (start : B) (lines : List (List ℕ)) (text : List ℕ) (shelf : Shelf B g) (halt : Option Halt) : Type 0 where
+pub record RunsLines {B : Type 0} (g : Ghosts B) (start : B) (lines : List (List ℕ)) (front reply : List ℕ) (shelf : Shelf B g) (halt : Option Halt) : Type 0 where
   pub going : halt ≡ None → IsGoing shelf
   pub went : DeviceGoesOn g.block_count g.halts g.halted g.tells start (device_in shelf)
   pub keeps : KeepsOn g.kept start (device_in shelf)
-  pub form : HaveForm lines text halt
+  pub form : HaveForm lines front reply halt
   pub halted : g.halted start ≡ None → g.halted (device_in shelf) ≡ halt
-  pub says : (h : History) → g.stands start h → IsTrue (g.tells (device_in shelf)) → SaysLines g start h lines text shelf halt
+  pub says : (h : History) → g.stands start h → IsTrue (g.tells (device_in shelf)) → SaysLines g start h lines front reply shelf halt
 
 -- One line more is answered.
 abbrev pub RunsOn : {B : Type 0} (g : Ghosts B) → (old new : Shelf B g) → (halt_old halt_new : Option Halt) → VolLine → List ℕ → Type 0
-RunsOn {B} g old new halt_old halt_new asked said = (start : B) (lines : List (List ℕ)) (line text : List ℕ) → AsksVolumes line asked → RunsLines g start lines text old halt_old
-    → RunsLines g start (lines ++ line ∷ []) (text ++ said) new halt_new
+RunsOn {B} g old new halt_old halt_new asked said = (start : B) (lines : List (List ℕ)) (line front reply : List ℕ) → AsksVolumes line asked → RunsLines g start lines front reply old halt_old
+    → RunsLines g start (lines ++ line ∷ []) (front ++ reply) said new halt_new

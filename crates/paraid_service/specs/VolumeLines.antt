@@ -70,12 +70,12 @@ IsEventOf list = λ event. ⊥
 IsEventOf bad = λ event. ⊥
 
 -- Lines, one after the other, until a halt comes of one, or from a halt on: then each that asks for something is answered by it. Of
--- the halt is told from which line it came, if from one.
-pub data LinesStep (count : ℕ) (s : Held) (begun : Option Halt) : List (List ℕ) → List ℕ → VolLog → Held → Option Halt → Option VolLine → Type 0 where
-  none_yet : LinesStep count s begun [] [] [] s begun None
-  one_more : (t u : Held) (lines : List (List ℕ)) (line text said : List ℕ) (asked : VolLine) (log more : VolLog) → LinesStep count s begun lines text log t None None → AsksVolumes line asked → LineStep count t asked said more u
-      → LinesStep count s begun (lines ++ line ∷ []) (text ++ (said ++ codes "\n")) (log ++ more) u None None
-  halting : (t : Held) (lines : List (List ℕ)) (line text : List ℕ) (asked : VolLine) (log : VolLog) (halt : Halt) → LinesStep count s begun lines text log t None None → AsksVolumes line asked → (asked ≡ bad → ⊥) → (asked ≡ list → ⊥)
-      → LinesStep count s begun (lines ++ line ∷ []) (text ++ (halt_text halt ++ codes "\n")) log t (Some halt) (Some asked)
-  later : (t : Held) (lines : List (List ℕ)) (line text : List ℕ) (asked : VolLine) (log : VolLog) (halt : Halt) (cut : Option VolLine) → LinesStep count s begun lines text log t (Some halt) cut → AsksVolumes line asked
-      → LinesStep count s begun (lines ++ line ∷ []) (text ++ (halted_text halt asked ++ codes "\n")) log t (Some halt) cut
+-- the answers, those before the last stand apart, and then the last. Of the halt is told from which line it came, if from one.
+pub data LinesStep (count : ℕ) (s : Held) (begun : Option Halt) : List (List ℕ) → List ℕ → List ℕ → VolLog → Held → Option Halt → Option VolLine → Type 0 where
+  none_yet : LinesStep count s begun [] [] [] [] s begun None
+  one_more : (t u : Held) (lines : List (List ℕ)) (line front reply said : List ℕ) (asked : VolLine) (log more : VolLog) → LinesStep count s begun lines front reply log t None None → AsksVolumes line asked → LineStep count t asked said more u
+      → LinesStep count s begun (lines ++ line ∷ []) (front ++ reply) (said ++ codes "\n") (log ++ more) u None None
+  halting : (t : Held) (lines : List (List ℕ)) (line front reply : List ℕ) (asked : VolLine) (log : VolLog) (halt : Halt) → LinesStep count s begun lines front reply log t None None → AsksVolumes line asked → (asked ≡ bad → ⊥) → (asked ≡ list → ⊥)
+      → LinesStep count s begun (lines ++ line ∷ []) (front ++ reply) (halt_text halt ++ codes "\n") log t (Some halt) (Some asked)
+  later : (t : Held) (lines : List (List ℕ)) (line front reply : List ℕ) (asked : VolLine) (log : VolLog) (halt : Halt) (cut : Option VolLine) → LinesStep count s begun lines front reply log t (Some halt) cut → AsksVolumes line asked
+      → LinesStep count s begun (lines ++ line ∷ []) (front ++ reply) (halted_text halt asked ++ codes "\n") log t (Some halt) cut

@@ -1,5 +1,5 @@
 -- What a session of volumes promises.
-use Rattle.std.specs.Prelude.{◌≡◌, ℕ, ◌+◌, ◌<◌, ◌≤◌, ◌^◌, ◌⊎◌, List, [], ◌∷◌, ◌++◌, length, codes, Option, Some, None, IsSome}
+use Rattle.std.specs.Prelude.{◌≡◌, ℕ, ◌+◌, ◌<◌, ◌≤◌, ◌^◌, ◌⊎◌, List, [], ◌∷◌, ◌++◌, length, take, codes, Option, Some, None, IsSome}
 use Rattle.paraid_base.specs.Told.{AtEnd, Gives, GrowsByBytes}
 use Rattle.paraid_base.specs.declared.event.Answer.{Answer}
 use Rattle.paraid_base.specs.declared.event.Answer.TheVariants.{Flushed, Halted}
@@ -67,14 +67,14 @@ AreOfHalt None None rest = rest ≡ []
 
 -- Lines of `vol` were answered: by the steps of volumes, up to the first halt. Up to it the events that the array kept are those
 -- of a life; the others are those of the call in which it came.
-pub record AnswersLines (count : ℕ) (h : History) (lines : List (List ℕ)) (text : List ℕ) (events : Answers) (halt : Option Halt) : Type 0 where
+pub record AnswersLines (count : ℕ) (h : History) (lines : List (List ℕ)) (front reply : List ℕ) (events : Answers) (halt : Option Halt) : Type 0 where
   pub first : Held
   pub begun : Option Halt
   pub begins : BeginsWith count (after_all h) first begun
   pub log : VolLog
   pub last : Held
   pub cut : Option VolLine
-  pub steps : LinesStep count first begun lines text log last halt cut
+  pub steps : LinesStep count first begun lines front reply log last halt cut
   pub before : Answers
   pub rest : Answers
   pub parts : events ≡ before ++ rest
@@ -115,9 +115,9 @@ LeavesHeld count start low written None log = Unit {0}
 
 -- Lines of `vol` were answered from point p of a session on: these reads, writes and flushes and no other events are those of the
 -- array, its halt is that of the lines, and unless it has halted each stop leaves the volumes after a first part of the calls.
-pub record AnswersFromPoint (span : Span) (p : Point) (lines : List (List ℕ)) (text : List ℕ) (halt : Option Halt) : Type 0 where
+pub record AnswersFromPoint (span : Span) (p : Point) (lines : List (List ℕ)) (front reply : List ℕ) (halt : Option Halt) : Type 0 where
   pub events : Answers
-  pub answers : AnswersLines (block_count span.setup) p.history lines text events halt
+  pub answers : AnswersLines (block_count span.setup) p.history lines front reply events halt
   pub asked : List Event
   pub all : Stretch span p asked
   pub answered : answers_in all.turns ≡ events
@@ -132,25 +132,26 @@ pub record FlushesLast (span : Span) (p : Point) (answer : Answer) : Type 0 wher
   pub all : Stretch span p asked
   pub answered : answers_in all.turns ≡ (Flush, answer) ∷ []
 
--- The whole text of `vol` for these bytes, by its status, as that of `run`. After a halt in the lines the last flush gives it again.
-pub data VolumesText (span : Span) (p : Point) (bytes : List ℕ) : ℕ → List ℕ → Type 0 where
-  done : (mid : Option Trail) (text : List ℕ) (a : AnswersFromPoint (record span { now = mid }) p (lines_of bytes) text None) → FlushesLast (record span { start = mid }) a.all.end (Flushed (length a.all.end.history))
-      → VolumesText span p bytes 0 (begins_with p ++ text ++ end_line (length a.all.end.history))
-  halted : (mid : Option Trail) (halt : Halt) (met : Option Halt) (text : List ℕ) (a : AnswersFromPoint (record span { now = mid }) p (lines_of bytes) text met) → (met ≡ None) ⊎ (met ≡ Some halt) → FlushesLast (record span { start = mid }) a.all.end (Halted halt)
-      → VolumesText span p bytes (status_of_halt halt) (begins_with p ++ text ++ halt_line halt)
-  source : (met : Option Halt) (text : List ℕ) → AnswersFromPoint span p (whole_lines bytes) text met
-      → VolumesText span p bytes 3 (begins_with p ++ text ++ codes "source\n")
-  too_long : length bytes ≡ 2 ^ 40 → (met : Option Halt) (text : List ℕ) → AnswersFromPoint span p (whole_lines bytes) text met
-      → VolumesText span p bytes 10 (begins_with p ++ text ++ codes "toolong\n")
+-- The whole text of `vol` for these bytes, by its status, as that of `run`: what stands before the last line, and the last line. After a
+-- halt in the lines the last flush gives it again.
+pub data VolumesText (span : Span) (p : Point) (bytes : List ℕ) : ℕ → List ℕ → List ℕ → Type 0 where
+  done : (mid : Option Trail) (front reply : List ℕ) (a : AnswersFromPoint (record span { now = mid }) p (lines_of bytes) front reply None) → FlushesLast (record span { start = mid }) a.all.end (Flushed (length a.all.end.history))
+      → VolumesText span p bytes 0 (begins_with p ++ (front ++ reply)) (end_line (length a.all.end.history))
+  halted : (mid : Option Trail) (halt : Halt) (met : Option Halt) (front reply : List ℕ) (a : AnswersFromPoint (record span { now = mid }) p (lines_of bytes) front reply met) → (met ≡ None) ⊎ (met ≡ Some halt) → FlushesLast (record span { start = mid }) a.all.end (Halted halt)
+      → VolumesText span p bytes (status_of_halt halt) (begins_with p ++ (front ++ reply)) (halt_line halt)
+  source : (met : Option Halt) (front reply : List ℕ) → AnswersFromPoint span p (whole_lines bytes) front reply met
+      → VolumesText span p bytes 3 (begins_with p ++ (front ++ reply)) (codes "source\n")
+  too_long : length bytes ≡ 2 ^ 40 → (met : Option Halt) (front reply : List ℕ) → AnswersFromPoint span p (whole_lines bytes) front reply met
+      → VolumesText span p bytes 10 (begins_with p ++ (front ++ reply)) (codes "toolong\n")
 
--- What was written: the whole text of the status; or at 4 a first part of such a text, of the answers to a first part of the
--- lines, or of the first line.
+-- What was written: the whole text of the status; or at 4 one whose last line is cut, or a first part of the first line, and then nothing
+-- was asked of the array; or the answers up to one that is cut, and then no line behind it was served.
 pub data WritesVolumes (span : Span) (p : Point) (bytes : List ℕ) (status : ℕ) (text : List ℕ) : Type 0 where
-  whole : VolumesText span p bytes status text → WritesVolumes span p bytes status text
-  last_line : status ≡ 4 → (code : ℕ) (full rest : List ℕ) → VolumesText span p bytes code full → full ≡ text ++ rest
+  whole : (said last : List ℕ) → VolumesText span p bytes status said last → text ≡ said ++ last → WritesVolumes span p bytes status text
+  last_line : status ≡ 4 → (code : ℕ) (said last : List ℕ) (count : ℕ) → VolumesText span p bytes code said last → text ≡ said ++ take count last
       → WritesVolumes span p bytes status text
-  answers : status ≡ 4 → (lines more : List (List ℕ)) (said rest : List ℕ) (met : Option Halt) → lines_of bytes ≡ lines ++ more → AnswersFromPoint span p lines said met
-      → begins_with p ++ said ≡ text ++ rest → WritesVolumes span p bytes status text
+  answers : status ≡ 4 → (before more : List (List ℕ)) (line front reply : List ℕ) (count : ℕ) (met : Option Halt) → lines_of bytes ≡ (before ++ line ∷ []) ++ more → AnswersFromPoint span p (before ++ line ∷ []) front reply met
+      → text ≡ begins_with p ++ (front ++ take count reply) → WritesVolumes span p bytes status text
   first_line : status ≡ 4 → (rest : List ℕ) → bytes ≡ [] → Stretch span p [] → begins_with p ≡ text ++ rest → WritesVolumes span p bytes status text
 
 -- A session took these bytes and wrote this text. What it is is known where all is told, from each point at which the array stood.
