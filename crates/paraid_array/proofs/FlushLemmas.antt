@@ -35,7 +35,7 @@ pub tells_alike : {R : Type 0} {g : _} (count : R → ℕ) (told : R → Option 
     → Ran (told_of_array told a) (told_of_array told b) (TellsTwo (service_of count a.core samples requests a.ledger.total) x)
 tells_alike count told a b samples requests x ran t is =
     let r = ran t is in
-    record { from = r.from; was = r.was; calls = r.calls; is = r.is; holds = record { second = r.holds.second; apart = r.holds.apart; first = r.holds.first; ends = r.holds.ends } }
+    record { from = r.from; was = r.was; calls = r.calls; is = r.is; holds = record { apart = r.holds.apart; first = r.holds.first; ends = r.holds.ends } }
 
 module _ {R : Type 0} {g : _} (count : R → ℕ) (slot : R → ℕ → Slot) (told : R → Option Trail) (agrees : (x : R) (t : Trail) → told x ≡ Some t → Agrees (now t) (slot x)) (a b : Array R g) (going : a.ended ≡ None)
     (epoch : a.core.meta.epoch < worn_at) (writes : a.core.meta.writes < worn_at) (calls : MakesTransferCalls told a.core b.core) (whole : CommitsWhole count told a.core b.core) where

@@ -55,10 +55,7 @@ only_taken (Some d) two down is = by (two.first == d) refl
 ends_serving : (two : Two) (w : Watch) (cs : List Call) → IsOnly (Some two.first) w.down → EndsBySecond two cs → EndsServing two w cs
 ends_serving two w cs is ends = record {
   before = ends.before;
-  last = ends.last;
-  is = ends.is;
-  failed = ends.failed;
-  on = ends.on;
+  ends = ends.ends;
   serving = only_serving (Some two.first) (watch_all ends.before w).down (only_end (Some two.first) w ends.before is (λ e fails. ap (λ (x : ℕ). Some x) (sym (ends.alone e fails))));
 }
 

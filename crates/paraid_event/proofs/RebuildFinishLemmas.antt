@@ -47,13 +47,13 @@ use Rattle.paraid_event.specs.Ticks.{CountsTick, IsHaltedWith}
 use Rattle.paraid_event.proofs.EndLemmas.{fails_split}
 use Rattle.paraid_event.proofs.FailLemmas.{watch_append}
 use Rattle.paraid_event.proofs.LastCallLemmas.{alone_named}
-use Rattle.paraid_image.proofs.LostLemmas.{ends_later}
+use Rattle.paraid_image.proofs.LostLemmas.{ends_later, failing_fails}
 use Rattle.paraid_event.proofs.ParkBackLemmas.{IsEnded, ended_gone, ended_parked, ended_spinning, lost_by, park_calls}
 use Rattle.paraid_event.proofs.RebuildEndLemmas.{back_state, ended_turn, failed_low}
 use Rattle.paraid_event.proofs.RebuildTickLemmas.{failed_off, none_first, out1, rebuild_loses, underway1}
 use Rattle.paraid_event.proofs.RejoinLemmas.{GoesBack, back_after, calls_then, rejoin_calls, rejoined}
 use Rattle.paraid_event.proofs.ShownLemmas.{shown_rests}
-use Rattle.paraid_event.proofs.StepLemmas.{data_steps, fails_later, follow, goes_bound, lose_then, ran_both, ran_then}
+use Rattle.paraid_event.proofs.StepLemmas.{data_steps, follow, goes_bound, lose_then, ran_both, ran_then}
 use Rattle.paraid_event.proofs.StepMarkLemmas.{fresh_of}
 use Rattle.paraid_event.proofs.PreludeLemmas.{some_trail}
 
@@ -76,7 +76,6 @@ LosesFrom k h lo most d two s cs = (base : Meta) (w : Watch) → w.disks ≡ s �
 
 later_losses : (d : ℕ) (two : Two) (cs ds : List Call) → ((e : ℕ) → fails_on e cs ≡ true → Some d ≡ Some e) → TellsLosses (Some d) two ds → TellsLosses (Some d) two (cs ++ ds)
 later_losses d two cs ds alone tells = record {
-  second = fails_later cs ds two.second tells.second;
   apart = tells.apart;
   first = elim tells.first [ inl was ↦ inl was | inr none ↦ absurd (let z : Some d ≡ None = none.0 in cc) ];
   ends = ends_later two cs ds (λ e fails. alone_named (Some d) (first_lost ds) two.first tells.first e (alone e fails)) tells.ends;
@@ -331,7 +330,7 @@ one_call_loses_one mid told_then d two calls loses = by told_then refl
 
     never : (done : Bool) (cs : List Call) → cs ≡ Park d done ∷ [] → TellsLosses None two cs → ⊥
     never done cs is tells =
-        let second = second_is done (subst (λ (es : List Call). fails_on two.second es ≡ true) is tells.second) in
+        let second = second_is done (subst (λ (es : List Call). fails_on two.second es ≡ true) is (failing_fails two.second tells.ends.before cs tells.ends.ends)) in
         elim tells.first [
           | inl was ↦ absurd (no_one was)
           | inr first ↦ tells.apart (sym (first_is done (subst (λ (es : List Call). first_lost es ≡ Some two.first) is first.1)) ∙ second)

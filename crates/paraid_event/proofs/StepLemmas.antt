@@ -47,10 +47,6 @@ first_before (c ∷ cs) ds e is = by (is_done c) is (λ z. first_before cs ds e 
     by true z f = f z
     by false z f = z
 
-pub fails_later : (cs ds : List Call) (e : ℕ) → fails_on e ds ≡ true → fails_on e (cs ++ ds) ≡ true
-fails_later [] ds e is = is
-fails_later (c ∷ cs) ds e is = fails_tail c (cs ++ ds) e (fails_later cs ds e is)
-
 -- where one more disk may be down, at most that one is
 pub only_grows : (o p : Option ℕ) (down : Down) → ((d : ℕ) → o ≡ Some d → p ≡ Some d) → IsOnly o down → IsOnly p down
 only_grows o p nobody more is = tt
@@ -89,7 +85,6 @@ module _ (k j : Service) (h : History) (lo most more : ℕ) (Mid : Meta → Watc
   -- a disk that is named out after the first part was so before, or is the first that failed
   first_named : (two : Two) → TellsTwo j two (watch_all cs w).disks ds → TellsTwo k two w.disks (cs ++ ds)
   first_named two tells = record {
-    second = fails_later cs ds two.second tells.second;
     apart = tells.apart;
     first = elim tells.first [
       | inl named ↦ elim (first.leaves.newly two.first named) [

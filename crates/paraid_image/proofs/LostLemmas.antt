@@ -14,7 +14,7 @@ use Rattle.paraid_rack.specs.Trail.{Trail, extend, run}
 use Rattle.paraid_rack.proofs.AtomsLemmas.{at_use}
 use Rattle.paraid_rack.proofs.TrailsLemmas.{extend-extend}
 use Rattle.paraid_image.specs.Calls.{disk_of, is_done}
-use Rattle.paraid_image.specs.Lost.{BearsLoss, EndsByFailure, EndsByLoss, EndsBySecond, TellsLosses, fails_on, first_lost}
+use Rattle.paraid_image.specs.Lost.{BearsLoss, EndsByFailure, EndsByLoss, EndsBySecond, EndsFailing, TellsLosses, fails_on, first_lost}
 
 some_same : (a b : ℕ) → Some a ≡ Some b → b ≡ a
 some_same a b e = cc
@@ -155,13 +155,27 @@ first_later (c ∷ cs) ds none = by (is_done c) none (λ z. first_later cs ds z)
 
 -- Calls that end by the one that failed on this disk
 
+-- others may come before
+failing_later : (d : ℕ) (cs before ds : List Call) → EndsFailing d before ds → EndsFailing d (cs ++ before) (cs ++ ds)
+failing_later d cs before ds e = record {
+  last = e.last;
+  is = ap (λ (l : List Call). cs ++ l) e.is ∙ sym (append_assoc cs before (e.last ∷ []));
+  failed = e.failed;
+  on = e.on;
+}
+
+-- that disk has failed
+pub failing_fails : (d : ℕ) (before cs : List Call) → EndsFailing d before cs → fails_on d cs ≡ true
+failing_fails d before cs e = ap (fails_on d) e.is
+    ∙ fails_later before (e.last ∷ []) d (subst (λ (x : ℕ). fails_on x (e.last ∷ []) ≡ true) e.on (fails_head e.last [] e.failed))
+
 ending_first : (d : ℕ) (cs : List Call) → EndsByFailure d cs → first_lost cs ≡ Some d
-ending_first d cs e = ap first_lost e.is ∙ first_later e.before (e.last ∷ []) e.none ∙ (rw e.failed (ap (λ (k : ℕ). Some k) e.on))
+ending_first d cs e = ap first_lost e.ends.is ∙ first_later e.before (e.ends.last ∷ []) e.none ∙ (rw e.ends.failed (ap (λ (k : ℕ). Some k) e.ends.on))
 
 ending_only : (d : ℕ) (cs : List Call) → EndsByFailure d cs → (x : ℕ) → fails_on x cs ≡ true → x ≡ d
-ending_only d cs e x is = elim (fails_append e.before (e.last ∷ []) x (sym (ap (fails_on x) e.is) ∙ is)) [
+ending_only d cs e x is = elim (fails_append e.before (e.ends.last ∷ []) x (sym (ap (fails_on x) e.ends.is) ∙ is)) [
   | inl early ↦ absurd (none_fails e.before x e.none early)
-  | inr last ↦ sym (one_fails e.last x last) ∙ e.on
+  | inr last ↦ sym (one_fails e.ends.last x last) ∙ e.ends.on
 ]
 
 -- the first disk that failed in calls that end by that
@@ -175,14 +189,7 @@ loss_only None cs e x is = absurd (none_fails cs x e is)
 loss_only (Some d) cs e x is = ap (λ (k : ℕ). Some k) (sym (ending_only d cs e x is))
 
 failure_later : (d : ℕ) (cs ds : List Call) → first_lost cs ≡ None → EndsByFailure d ds → EndsByFailure d (cs ++ ds)
-failure_later d cs ds none e = record {
-  before = cs ++ e.before;
-  last = e.last;
-  is = ap (λ (l : List Call). cs ++ l) e.is ∙ sym (append_assoc cs e.before (e.last ∷ []));
-  failed = e.failed;
-  on = e.on;
-  none = first_later cs e.before none ∙ e.none;
-}
+failure_later d cs ds none e = record { before = cs ++ e.before; ends = failing_later d cs e.before ds e.ends; none = first_later cs e.before none ∙ e.none }
 
 -- calls of which none failed may come before
 loss_later : (lost : Option ℕ) (cs ds : List Call) → first_lost cs ≡ None → EndsByLoss lost ds → EndsByLoss lost (cs ++ ds)
@@ -191,16 +198,13 @@ loss_later (Some d) cs ds none e = failure_later d cs ds none e
 
 -- one call
 pub loss_failed : (d : ℕ) (c : Call) → is_done c ≡ false → disk_of c ≡ d → EndsByFailure d (c ∷ [])
-loss_failed d c failed on = record { before = []; last = c; is = refl; failed = failed; on = on; none = refl }
+loss_failed d c failed on = record { before = []; ends = record { last = c; is = refl; failed = failed; on = on }; none = refl }
 
 -- Before calls that end by the failure of the second disk others may come in which none failed but the first.
 pub ends_later : (two : Two) (cs ds : List Call) → ((d : ℕ) → fails_on d cs ≡ true → d ≡ two.first) → EndsBySecond two ds → EndsBySecond two (cs ++ ds)
 ends_later two cs ds first e = record {
   before = cs ++ e.before;
-  last = e.last;
-  is = ap (λ (l : List Call). cs ++ l) e.is ∙ sym (append_assoc cs e.before (e.last ∷ []));
-  failed = e.failed;
-  on = e.on;
+  ends = failing_later two.second cs e.before ds e.ends;
   alone = λ d is. elim (fails_append cs e.before d is) [
     | inl early ↦ first d early
     | inr later ↦ e.alone d later
@@ -209,14 +213,7 @@ ends_later two cs ds first e = record {
 
 -- the disk that failed last is the second
 second_ends : (two : Two) (cs : List Call) → EndsByFailure two.second cs → EndsBySecond two cs
-second_ends two cs e = record {
-  before = e.before;
-  last = e.last;
-  is = e.is;
-  failed = e.failed;
-  on = e.on;
-  alone = λ d is. absurd (none_fails e.before d e.none is);
-}
+second_ends two cs e = record { before = e.before; ends = e.ends; alone = λ d is. absurd (none_fails e.before d e.none is) }
 
 -- One part and then another
 
@@ -249,7 +246,6 @@ first_by mid x d is (inr none) = absurd (none_some d (sym none.0 ∙ is))
 -- two disks are lost in the second part
 pub tells_then : (was mid : Option ℕ) (two : Two) (cs ds : List Call) → BearsLoss was mid cs → TellsLosses mid two ds → TellsLosses was two (cs ++ ds)
 tells_then was mid two cs ds a b = record {
-  second = fails_later cs ds two.second b.second;
   apart = b.apart;
   first = told_by was mid two cs ds a b.first was refl;
   ends = ends_later two cs ds (λ d is. first_by mid two.first d (a.only d is) b.first) b.ends;
@@ -282,7 +278,6 @@ bears_failed was now c failed is alone = record {
 -- and else it is the second
 pub tells_failed : (out : Option ℕ) (two : Two) (c : Call) → is_done c ≡ false → out ≡ Some two.first → two.first ≢ two.second → two.second ≡ disk_of c → TellsLosses out two (c ∷ [])
 tells_failed out two c failed is apart here = record {
-  second = rw here (fails_head c [] failed);
   apart = apart;
   first = inl is;
   ends = second_ends two (c ∷ []) (loss_failed two.second c failed (sym here));
@@ -290,12 +285,11 @@ tells_failed out two c failed is apart here = record {
 
 -- calls that end by a failure, where another disk was out
 pub tells_first : (out : Option ℕ) (two : Two) (cs : List Call) → out ≡ Some two.first → two.first ≢ two.second → EndsByLoss (Some two.second) cs → TellsLosses out two cs
-tells_first out two cs is apart e = record { second = first_fails cs two.second (ending_first two.second cs e); apart = apart; first = inl is; ends = second_ends two cs e }
+tells_first out two cs is apart e = record { apart = apart; first = inl is; ends = second_ends two cs e }
 
 -- one fails, and then another
 pub tells_both : (two : Two) (cs ds : List Call) → two.first ≢ two.second → EndsByLoss (Some two.first) cs → EndsByLoss (Some two.second) ds → TellsLosses None two (cs ++ ds)
 tells_both two cs ds apart first second = record {
-  second = fails_later cs ds two.second (first_fails ds two.second (ending_first two.second ds second));
   apart = apart;
   first = inr (refl, first_earlier cs ds two.first (ending_first two.first cs first));
   ends = ends_later two cs ds (λ d is. ending_only two.first cs first d is) (second_ends two ds second);

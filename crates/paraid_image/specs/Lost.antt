@@ -14,13 +14,17 @@ abbrev pub fails_on : ℕ → List Call → Bool
 fails_on d [] = false
 fails_on d (call ∷ calls) = if is_done call then fails_on d calls else (if disk_of call == d then true else fails_on d calls)
 
--- The last of these calls failed on this disk, and no call before it failed.
-pub record EndsByFailure (disk : ℕ) (cs : List Call) : Type 0 where
-  pub before : List Call
+-- After those calls before it the last of these failed, on this disk.
+pub record EndsFailing (disk : ℕ) (before cs : List Call) : Type 0 where
   pub last : Call
   pub is : cs ≡ before ++ last ∷ []
   pub failed : is_done last ≡ false
   pub on : disk_of last ≡ disk
+
+-- The last of these calls failed on this disk, and no call before it failed.
+pub record EndsByFailure (disk : ℕ) (cs : List Call) : Type 0 where
+  pub before : List Call
+  pub ends : EndsFailing disk before cs
   pub none : first_lost before ≡ None
 
 -- no call failed; or only the last one did, on this disk
@@ -31,16 +35,12 @@ EndsByLoss (Some disk) cs = EndsByFailure disk cs
 -- The last of these calls is the one that failed on the second disk, and before it no disk failed but the first.
 pub record EndsBySecond (two : Two) (cs : List Call) : Type 0 where
   pub before : List Call
-  pub last : Call
-  pub is : cs ≡ before ++ last ∷ []
-  pub failed : is_done last ≡ false
-  pub on : disk_of last ≡ two.second
+  pub ends : EndsFailing two.second before cs
   pub alone : (d : ℕ) → fails_on d before ≡ true → d ≡ two.first
 
--- Two disks are lost: the second failed in these calls, and they ended by that; the first was out, or none was, and it
+-- Two disks are lost: these calls ended by the one that failed on the second; the first was out, or none was, and it
 -- failed first.
 pub record TellsLosses (out : Option ℕ) (two : Two) (cs : List Call) : Type 0 where
-  pub second : fails_on two.second cs ≡ true
   pub apart : two.first ≢ two.second
   pub first : (out ≡ Some two.first) ⊎ ((out ≡ None) × (first_lost cs ≡ Some two.first))
   pub ends : EndsBySecond two cs

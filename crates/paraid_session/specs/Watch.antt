@@ -1,5 +1,5 @@
 -- What is watched from call to call: the disks, which of them are down, and what the calls owe.
-use Rattle.std.specs.Prelude.{◌≡◌, ◌≢◌, ℕ, ◌+◌, ◌<◌, ◌≤◌, ◌==◌, ◌&&◌, Bool, true, false, List, [], ◌∷◌, ◌++◌, slice_index, Option, Some, None, if◌then◌else◌}
+use Rattle.std.specs.Prelude.{◌≡◌, ◌≢◌, ℕ, ◌+◌, ◌<◌, ◌≤◌, ◌==◌, ◌&&◌, Bool, true, false, List, [], ◌∷◌, slice_index, Option, Some, None, if◌then◌else◌}
 use Rattle.paraid_base.specs.declared.fault.Two.{Two}
 use Rattle.paraid_base.specs.History.{History}
 use Rattle.paraid_base.specs.Regions.{disk_size}
@@ -12,6 +12,7 @@ use Rattle.paraid_record.specs.declared.meta.Setup.{Setup}
 use Rattle.paraid_image.specs.Calls.{spin_ups_after, disk_of, is_attach, is_done}
 use Rattle.paraid_image.specs.HeldAt.{IsHeld}
 use Rattle.paraid_image.specs.Looked.{IsLooked}
+use Rattle.paraid_image.specs.Lost.{EndsFailing}
 pub use Rattle.paraid_image.specs.Lost.{fails_on, first_lost}
 use Rattle.paraid_image.specs.Out.{named_out}
 use Rattle.paraid_image.specs.Sides.{LogState}
@@ -76,10 +77,7 @@ watch_all (call ∷ calls) w = watch_all calls (watch call w)
 -- comes after two are down.
 pub record EndsServing (two : Two) (w : Watch) (calls : List Call) : Type 0 where
   pub before : List Call
-  pub last : Call
-  pub is : calls ≡ before ++ (last ∷ [])
-  pub failed : is_done last ≡ false
-  pub on : disk_of last ≡ two.second
+  pub ends : EndsFailing two.second before calls
   pub serving : IsServing (watch_all before w).down
 
 -- P at each moment of these calls, the first and the last too, and each call is allowed

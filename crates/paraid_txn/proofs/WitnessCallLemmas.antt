@@ -19,6 +19,7 @@ use Rattle.paraid_rack.proofs.TrailsLemmas.{extend-extend, now-extend}
 use Rattle.paraid_record.specs.declared.meta.Meta.{Meta}
 use Rattle.paraid_image.specs.Calls.{disk_of}
 use Rattle.paraid_image.specs.Lost.{TellsLosses, fails_on}
+use Rattle.paraid_image.proofs.LostLemmas.{failing_fails}
 use Rattle.paraid_image.specs.Out.{named_out, or_else}
 use Rattle.paraid_image.specs.Sides.{Batch, is_open}
 use Rattle.paraid_txn.specs.declared.losses.Losses.{Losses}
@@ -27,7 +28,7 @@ use Rattle.paraid_txn.specs.CommitPart.{CommitPart}
 use Rattle.paraid_txn.specs.Losses.{CanWrite, MayDo}
 use Rattle.paraid_txn.specs.Losses.MayDo.{skipped, absent, called}
 use Rattle.paraid_txn.specs.Uses.{EachCall, IsThisCall, UsesInCommit, UsesWitness}
-use Rattle.paraid_txn.specs.Witness.{CannotSet, IsFirstWitness, IsLastWitness, IsNoLog, MaySetAny, MaySetWitness, NoneJoins, SetsAfter, SetsBefore, SetsWitness}
+use Rattle.paraid_txn.specs.Witness.{CannotSet, IsFirstWitness, IsLastWitness, MaySetAny, MaySetWitness, NoneJoins, SetsAfter, SetsBefore, SetsWitness}
 use Rattle.paraid_txn.specs.Witness.CannotSet.{is_skipped, not_spinning, too_small}
 use Rattle.paraid_txn.specs.Witness.MaySetWitness.{cannot, sets}
 use Rattle.paraid_txn.specs.Witness.SetsAfter.{bears as bears_after, none as none_after}
@@ -78,7 +79,8 @@ module _ {skip : Option ℕ} {slot : ℕ → Slot} {x : ℕ} {b : Block} {old mi
   witness_refused (absent gone same) order = absurd (not_absent spins gone)
   witness_refused {two = two} (called not done grows) order = λ t tells.
       let g = grows t tells in
-      record { from = g.0; was = g.1; calls = Write 2 x b done ∷ []; is = g.2; holds = one_failed two.second x b done (told_calls order tells g.1 g.2).second }
+      let ends = (told_calls order tells g.1 g.2).ends in
+      record { from = g.0; was = g.1; calls = Write 2 x b done ∷ []; is = g.2; holds = one_failed two.second x b done (failing_fails two.second ends.before (Write 2 x b done ∷ []) ends.ends) }
 
   -- the write was made, and the sync too, unless the disk is absent by then
   pub witness_written : {new : Option Trail} {then : ℕ → Slot} → ((t : Trail) → old ≡ Some t → Agrees (now t) slot) → ((t : Trail) → mid ≡ Some t → Agrees (now t) then)
