@@ -7,6 +7,9 @@ use Rattle.paraid_rack.specs.declared.call.Power.{Power}
 use Rattle.paraid_rack.specs.declared.call.Power.TheVariants.{Absent, Parked, Spinning}
 use Rattle.paraid_rack.specs.Disks.{is_present}
 use Rattle.paraid_rack.specs.Slots.{Slot}
+use Rattle.paraid_rack.specs.Told.{Ran}
+use Rattle.paraid_rack.specs.Trail.{Trail}
+use Rattle.paraid_image.specs.Lost.{TellsLosses}
 use Rattle.paraid_image.specs.Out.{first_absent, or_else}
 use Rattle.paraid_image.proofs.OutLemmas.{first_absent_finds, first_absent_is}
 use Rattle.paraid_txn.specs.Losses.{AreGoneSince, IsOnlyOut, IsOutOfCommit, AreTwoDown, AreTwoDownBeside}
@@ -109,6 +112,12 @@ gone_beside power n before after down old new two is it = record {
   first = elim it.first [ inl was ↦ inl (first_is_out power n before after two.first (sym is ∙ was)) | inr gone ↦ inr gone ];
   second = it.second;
 }
+
+-- and which of them failed first, where one was out at most
+pub tells_beside : (power : ℕ → Power) (n : ℕ) (before after down : Option ℕ) (old new : Option Trail) (two : Two) → down ≡ or_else (first_absent power n) (or_else before after)
+    → Ran old new (λ s cs. TellsLosses down two cs) → (only : Option ℕ) → IsOnlyOut (IsOutOfCommit power n before after) only → Ran old new (λ s cs. TellsLosses only two cs)
+tells_beside power n before after down old new two is ran only one =
+    subst (λ (o : Option ℕ). Ran old new (λ s cs. TellsLosses o two cs)) (is ∙ first_only power n before after only one) ran
 
 -- and by one, where no other was out
 pub two_by : (out : ℕ → Type 0) (down : Option ℕ) (old new : ℕ → Slot) (two : Two) → ((e : ℕ) → out e → down ≡ Some e)

@@ -1,16 +1,16 @@
 -- What a store knows of the witnesses stays true, call by call.
-use Rattle.std.specs.Prelude.{◌≡◌, ◌≢◌, ℕ, ◌<◌, ◌≤◌, Bool, true, false, List, [], ◌∷◌, Option, Some, None}
+use Rattle.std.specs.Prelude.{◌≡◌, ◌≢◌, ℕ, ◌<◌, ◌≤◌, Bool, true, List, [], ◌∷◌, Option, Some, None}
 use Rattle.std.proofs.Common.{sym, ◌∙◌, ap, subst, refl}
 use Rattle.paraid_base.specs.declared.block.Block.{Block}
 use Rattle.paraid_rack.specs.Atoms.{IsSure}
 use Rattle.paraid_rack.specs.declared.call.Call.{Call}
 use Rattle.paraid_rack.specs.declared.call.Call.TheVariants.{Read, Write, Sync, Park, SpinUp, Attach}
 use Rattle.paraid_rack.specs.declared.call.Power.{Power}
-use Rattle.paraid_rack.specs.declared.call.Power.TheVariants.{Absent, Parked, Spinning}
+use Rattle.paraid_rack.specs.declared.call.Power.TheVariants.{Parked, Spinning}
 use Rattle.paraid_rack.specs.Disks.{Disks, IsPresent, after_attach, is_present, loose_after_sync, power_after, step, with_at}
 use Rattle.paraid_rack.specs.Slots.{Agrees, Slot}
 use Rattle.paraid_rack.specs.Told.{GrowsByCall, Ran}
-use Rattle.paraid_rack.specs.Trail.{Trail, extend, now, run}
+use Rattle.paraid_rack.specs.Trail.{Trail, now, run}
 use Rattle.paraid_rack.proofs.AtomsLemmas.{at_use, sync_sure, with_at_other, write_sure}
 use Rattle.paraid_rack.proofs.TrailsLemmas.{now-extend, now-more}
 use Rattle.paraid_image.specs.Sides.{is_open}

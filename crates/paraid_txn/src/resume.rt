@@ -16,8 +16,9 @@ ghost use Rattle.paraid_record.specs.Targets.{AreTargets};
 ghost use Rattle.paraid_txn.specs.Commit.{gone_out as gone_of};
 ghost use Rattle.paraid_txn.specs.CommitPart.{SyncedPart};
 ghost use Rattle.paraid_txn.specs.CrashSpecification.{CrashSpecification};
-ghost use Rattle.paraid_txn.specs.Losses.{AreGoneSince, StaySynced, AreFailedOrWell, IsOneOut, IsOutOfCommit, OnlyLosesSlots, AreTwoDownBeside};
+ghost use Rattle.paraid_txn.specs.Losses.{AreGoneSince, StaySynced, AreFailedOrWell, IsOneOut, IsOnlyOut, IsOutOfCommit, OnlyLosesSlots, AreTwoDownBeside};
 ghost use Rattle.paraid_txn.specs.Uses.{EachCall, Uses, UsesLog};
+ghost use Rattle.paraid_image.specs.Lost.{TellsLosses};
 ghost use Rattle.paraid_image.specs.Out.{named_out as named_of};
 ghost use Rattle.paraid_txn.specs.Ready.{AreTargetsReady, IsLogReady};
 ghost use Rattle.paraid_txn.specs.Resume.{CanResume, StandsWhileResumed, LeadsResume, HoldsThroughResume, AreDisksSame, EndsAsCommitted, EndsLaid, ShutSynced, ShutEnd, HoldsThroughShut, log_state};
@@ -239,6 +240,11 @@ impl<R: Rack> Store<R> {
             (IsOutOfCommit (λ e. (R.slot rack e).power) meta.now.setup.geometry.disks
             (named_of meta.now.out) (named_of meta.now.out))
             (R.slot rack) (R.slot refused.rack) refused.two) }
+        ensures refused_order { IfErr result (λ refused. (only : _) → IsOnlyOut
+            (IsOutOfCommit (λ e. (R.slot rack e).power) meta.now.setup.geometry.disks
+            (named_of meta.now.out) (named_of meta.now.out)) only
+            → Ran (R.told rack) (R.told refused.rack)
+            (λ start calls. TellsLosses only refused.two calls)) }
         ensures refused_slots { IfErr result (λ refused. R.slot_count refused.rack
             ≡ R.slot_count rack) }
         ensures refused_powers { IfErr result (λ refused. OnlyLosesSlots (R.slot rack)

@@ -2,8 +2,9 @@
 ghost use Rattle.std.specs.Prelude.{◌≡◌, ◌≢◌, ℕ, ◌<◌, ◌≤◌, Some, None, OnOk, IfErr};
 ghost use Rattle.paraid_rack.specs.declared.call.Power.TheVariants.{Spinning};
 ghost use Rattle.paraid_rack.specs.Told.{Ran};
+ghost use Rattle.paraid_image.specs.Lost.{TellsLosses};
 ghost use Rattle.paraid_txn.specs.CommitPart.{CommitPart};
-ghost use Rattle.paraid_txn.specs.Losses.{AreGoneSince, StaySynced, AreFailedOrWell, IsSyncedAt, IsOneOut, IsOutOfCommit, OnlyLosesSlots, AreTwoDownBeside};
+ghost use Rattle.paraid_txn.specs.Losses.{AreGoneSince, StaySynced, AreFailedOrWell, IsSyncedAt, IsOneOut, IsOnlyOut, IsOutOfCommit, OnlyLosesSlots, AreTwoDownBeside};
 ghost use Rattle.paraid_txn.specs.Uses.{CanSync, EachCall, UsesSync};
 
 use crate::calls::sync_slot;
@@ -81,6 +82,11 @@ impl<R: Rack> Store<R> {
         ensures gone { IfErr result (AreGoneSince (IsOutOfCommit (λ e. (R.slot (store_rack self.old) e).power)
             (disks_of self.old) (named_of self.old) None)
             (R.slot (store_rack self.old)) (R.slot (store_rack self.new))) }
+        ensures order { IfErr result (λ two. (only : _) → IsOnlyOut
+            (IsOutOfCommit (λ e. (R.slot (store_rack self.old) e).power)
+            (disks_of self.old) (named_of self.old) None) only
+            → Ran (R.told (store_rack self.old)) (R.told (store_rack self.new))
+            (λ start calls. TellsLosses only two calls)) }
         ensures calls { Ran (R.told (store_rack self.old)) (R.told (store_rack self.new))
             (EachCall (UsesSync (disks_of self.old) skip)) }
     {

@@ -1,7 +1,7 @@
 use Rattle.std.specs.Prelude.{◌≡◌}
 use Rattle.std.proofs.Common.{refl, ◌∙◌}
 use Rattle.paraid_image.specs.Out.{first_absent, named_out, or_else}
-use Rattle.paraid_txn.proofs.AloneLemmas.{gone_beside, two_beside}
+use Rattle.paraid_txn.proofs.AloneLemmas.{gone_beside, tells_beside, two_beside}
 use Rattle.paraid_txn.proofs.KnownLemmas.{nothing_known, still_enough}
 use Rattle.paraid_txn.proofs.OneLemmas.{one_stays}
 use Rattle.paraid_txn.proofs.store.Store.resume.Given.{Over}
@@ -37,6 +37,8 @@ returns-in-Err g c =
           (rw (← (c.adopt-store.ensures.rack), c.close.ensures) c.in-Err.ensures.leaves.part.two));
       refused_gone = (gone_beside _ _ _ _ _ _ _ _ (down_is g at.After-end_commit-ended)
           (rw (← (c.adopt-store.ensures.rack), c.close.ensures) c.in-Err.ensures.leaves.part.gone));
+      refused_order = (λ only is. tells_beside _ _ _ _ _ _ _ _ (down_is g at.After-end_commit-ended)
+          (rw (← (c.adopt-store.ensures.rack), c.close.ensures) c.in-Err.ensures.leaves.part.order) only is);
       refused_slots = rw (← (c.adopt-store.ensures.rack), c.close.ensures) c.end_commit-ended.ensures.leaves.slots;
       refused_powers = (let lasts = c.end_commit-ended.ensures.leaves.part.lasts in
           rw (← (c.adopt-store.ensures.rack), c.close.ensures) (record { power = lasts.power; size = lasts.size; no_fall = lasts.no_fall }));
@@ -65,6 +67,7 @@ returns g c =
           rw (← (c.adopt-store.ensures.rack)) (one_stays c.args.meta.now.setup.geometry.disks (named_out c.args.meta.now.out) (named_out c.args.meta.now.out) _ _ _ _ (λ e is. is) (down_by g at.After-end_commit-ended) part.lasts part.well));
       two = tt;
       refused_gone = tt;
+      refused_order = tt;
       refused_slots = tt;
       refused_powers = tt;
       refused_each = tt;
