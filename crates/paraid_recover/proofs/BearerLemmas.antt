@@ -1,5 +1,5 @@
 -- The calls on disk 2 by which witness is borne, and what they leave of the slots.
-use Rattle.std.specs.Prelude.{◌≡◌, ◌≢◌, ℕ, ◌<◌, ◌≤◌, ◌⊎◌, Bool, true, false, List, [], ◌∷◌, Option, Some, None, Result, Ok, Err, IfErr, IfOk}
+use Rattle.std.specs.Prelude.{◌≡◌, ◌≢◌, ℕ, ◌<◌, ◌≤◌, ◌⊎◌, Bool, true, false, List, [], ◌∷◌, Option, Some, None, Result, Ok, Err, IfErr, IfOk, if◌then◌else◌}
 use Rattle.std.proofs.Common.{refl, sym, ◌∙◌, ap, subst, arith, inl, inr, length-append}
 use Rattle.std.proofs.lemmas.Bool.{cases_Bool, cases_eq, cases_lt, false≢true, true≢false}
 use Rattle.paraid_base.specs.declared.block.Block.{Block}
@@ -22,7 +22,10 @@ use Rattle.paraid_rack.proofs.EffectsLemmas.{synced_step, wrote_step}
 use Rattle.paraid_rack.proofs.TrailsLemmas.{Ran-call, Ran-none, now-extend}
 use Rattle.paraid_base.specs.States.{gone_out}
 use Rattle.paraid_record.specs.declared.meta.Meta.{Meta}
+use Rattle.paraid_image.specs.Calls.{disk_of, is_done}
+use Rattle.paraid_image.specs.Lost.{EndsByLoss}
 use Rattle.paraid_image.specs.Out.{named_out}
+use Rattle.paraid_image.proofs.LostLemmas.{loss_failed, ran_ends}
 use Rattle.paraid_image.specs.Sides.{LogState, is_open}
 use Rattle.paraid_txn.specs.declared.store.Store.{Store}
 use Rattle.paraid_txn.specs.Losses.{AreFailedOrWell, AreGoneSince, AreTwoDownBeside, IsGoneSince, IsOneOut, IsOutOfCommit, IsSyncedAt, IsWell, OnlyLosesSlots, StaySynced}
@@ -80,6 +83,11 @@ module _ (a b : ℕ → Slot) (leaves : Slot) (dirt : Bool) (power : leaves.powe
       one_fall : (a 2).faults ≤ (b 2).faults
       one_fall = elim (cases_Bool ok) [ inl is ↦ let same = (slot_well ok c is).faults in omega arith | inr failed ↦ c.later failed ]
 
+-- one call is the last
+call_ends : (ok : Bool) (c : Call) → is_done c ≡ ok → disk_of c ≡ 2 → EndsByLoss (if ok then None else Some 2) (c ∷ [])
+call_ends true c done on = rw done refl
+call_ends false c failed on = loss_failed 2 c failed on
+
 module _ {R : Type 0} {l : _} (g : Ghosts R) (o : Option ℕ) where
   -- no call
   pub bearer_none : (s : Store R l) → IsOnBearer g o s s true
@@ -90,6 +98,7 @@ module _ {R : Type 0} {l : _} (g : Ghosts R) (o : Option ℕ) where
     powers = nothing_lost (g.slot (store_rack s));
     well = λ is. record { faults = refl; power = refl; size = refl };
     calls = Ran-none (EachCall (BearsAgainst o)) (λ s. tt) (g.told (store_rack s));
+    ends = Ran-none (λ s cs. EndsByLoss None cs) (λ s. refl) (g.told (store_rack s));
     risen = λ failed. absurd (true≢false failed);
     gone = λ failed. absurd (true≢false failed);
     still = λ none. refl;
@@ -99,9 +108,9 @@ module _ {R : Type 0} {l : _} (g : Ghosts R) (o : Option ℕ) where
   pub bearer_call : (old new : Store R l) (call : Bool → Call) (leaves : Slot) (dirt : Bool) (ok : Bool) → g.slot_count (store_rack new) ≡ g.slot_count (store_rack old) → IsSameStore old new
       → leaves.power ≡ (g.slot (store_rack old) 2).power → leaves.size ≡ (g.slot (store_rack old) 2).size → leaves.faults ≡ (g.slot (store_rack old) 2).faults
       → ChangesOneSlot (g.slot (store_rack old)) (g.slot (store_rack new)) 2 leaves dirt ok → GrowsByCall (g.told (store_rack old)) (g.told (store_rack new)) (call ok)
-      → BearsAgainst o (call ok) → ((s : Trail) → g.told (store_rack old) ≡ Some s → IsLawful (now s) (call ok)) → is_present (g.slot (store_rack old) 2).power ≡ true
+      → BearsAgainst o (call ok) → is_done (call ok) ≡ ok → ((s : Trail) → g.told (store_rack old) ≡ Some s → IsLawful (now s) (call ok)) → is_present (g.slot (store_rack old) 2).power ≡ true
       → IsOnBearer g o old new ok
-  bearer_call old new call leaves dirt ok slots same power size faults c grows bears lawful here = record {
+  bearer_call old new call leaves dirt ok slots same power size faults c grows bears does lawful here = record {
     slots = slots;
     same = same;
     others = c.others;
@@ -110,6 +119,7 @@ module _ {R : Type 0} {l : _} (g : Ghosts R) (o : Option ℕ) where
     calls = Ran-call (EachCall (BearsAgainst o)) (g.told (store_rack old)) (g.told (store_rack new)) (call ok) grows (λ s tells. (lawful s tells, bears, tt));
     risen = c.risen;
     gone = λ failed. record { there = here; absent = c.absent failed };
+    ends = Ran-call (λ s cs. EndsByLoss (if ok then None else Some 2) cs) (g.told (store_rack old)) (g.told (store_rack new)) (call ok) grows (λ s tells. call_ends ok (call ok) does (of_bearer o (call ok) bears).0);
     still = λ none. let who = of_bearer o (call ok) bears in absurd (none who.1 who.2);
   }
 
@@ -126,11 +136,12 @@ module _ {R : Type 0} {l : _} (g : Ghosts R) (o : Option ℕ) where
         others = λ d not. second.others d not ∙ first.others d not;
         powers = spared_then a b c first.powers second.powers;
         well = λ is.
-            let then = second.well is in
-            record { faults = then.faults ∙ was.faults; power = then.power ∙ was.power; size = then.size ∙ was.size };
+            let later = second.well is in
+            record { faults = later.faults ∙ was.faults; power = later.power ∙ was.power; size = later.size ∙ was.size };
         calls = calls_then (BearsAgainst o) (g.told (store_rack old)) (g.told (store_rack mid)) (g.told (store_rack new)) first.calls second.calls;
         risen = λ failed. HasRisen-sooner (a 2).faults (b 2).faults (c 2).faults (first.powers.no_fall 2) (second.risen failed);
         gone = λ failed. record { there = ap is_present (sym was.power) ∙ (second.gone failed).there; absent = (second.gone failed).absent };
+        ends = ran_ends (if done then None else Some 2) (g.told (store_rack old)) (g.told (store_rack mid)) (g.told (store_rack new)) first.ends second.ends;
         still = λ none. second.still none ∙ first.still none;
       }
 

@@ -1,6 +1,6 @@
 -- What a mount and its store know of the witness on disk 2.
 use Rattle.std.specs.Prelude.{◌≡◌, ℕ, Bool, true, Option, Some}
-use Rattle.std.proofs.Common.{sym, ◌∙◌, ap, subst}
+use Rattle.std.proofs.Common.{◌∙◌}
 use Rattle.paraid_rack.specs.Atoms.{IsSeen}
 use Rattle.paraid_rack.specs.Slots.{Agrees, Slot}
 use Rattle.paraid_rack.specs.Trail.{Trail, now}
@@ -11,7 +11,7 @@ use Rattle.paraid_txn.specs.Borne.{IsBorneNow}
 use Rattle.paraid_txn.specs.Losses.{IsSyncedAt}
 use Rattle.paraid_txn.specs.Stores.{IsSameStore, store_rack}
 use Rattle.paraid_txn.specs.declared.store.Store.{Store}
-use Rattle.paraid_recover.specs.Bearing.{BearsAgainst, HasBorne, IsNamedLog, IsOnBearer}
+use Rattle.paraid_recover.specs.Bearing.{HasBorne, IsNamedLog, IsOnBearer}
 use Rattle.paraid_recover.proofs.BearerLemmas.{bearer_none, borne_sure}
 
 -- what is seen and synced is borne
@@ -40,6 +40,7 @@ module _ {R : Type 0} {l : _} (g : Ghosts R) where
       calls = rw rack p.calls;
       risen = rw rack p.risen;
       gone = rw rack p.gone;
+      ends = rw rack p.ends;
       still = rw rack p.still;
     }
 

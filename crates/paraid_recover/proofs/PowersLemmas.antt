@@ -16,9 +16,12 @@ use Rattle.paraid_rack.specs.Told.{GrowsByCall, Ran}
 use Rattle.paraid_rack.specs.Trail.{Trail, now, run}
 use Rattle.paraid_rack.proofs.TrailsLemmas.{Ran-call, Ran-none, Ran-then}
 use Rattle.paraid_record.specs.declared.meta.Meta.{Meta}
+use Rattle.paraid_image.specs.Calls.{disk_of, is_done}
+use Rattle.paraid_image.specs.Lost.{BearsLoss, EndsByFailure, EndsByLoss, TellsLosses}
 use Rattle.paraid_image.specs.Out.{first_absent, named_out, or_else}
 use Rattle.paraid_image.specs.Power.{power_by_gear}
 use Rattle.paraid_image.specs.Spot.{rising_to}
+use Rattle.paraid_image.proofs.LostLemmas.{bears_ending, bears_none, bears_unhurt, loss_failed, ran_beside, ran_bears, ran_says, ran_tells}
 use Rattle.paraid_image.proofs.OutLemmas.{first_absent_finds, first_absent_is}
 use Rattle.paraid_txn.specs.declared.store.Lost.{Lost}
 use Rattle.paraid_txn.specs.declared.store.Lost.TheVariants.{One as LostOne, Two as LostTwo}
@@ -30,6 +33,7 @@ use Rattle.paraid_txn.specs.Uses.{EachCall}
 use Rattle.paraid_base.proofs.ToldLemmas.{HasRisen-later, HasRisen-sooner}
 use Rattle.paraid_txn.proofs.MeansLemmas.{absent_power}
 use Rattle.paraid_recover.specs.Powers.{ArePowered, HasPowered, HasChangedPower, IsPowered, IsPowerCall, IsPowerChanged, is_to_spin}
+use Rattle.paraid_recover.proofs.BeginsLemmas.{first_absent_by}
 
 each_append : (u : Call → Type 0) (s : Disks) (cs ds : List Call) → EachCall u s cs → EachCall u (run s cs) ds → EachCall u s (cs ++ ds)
 each_append u s [] ds first second = second
@@ -92,6 +96,7 @@ module _ {R : Type 0} {l : _} (g : Ghosts R) (m : Meta) (disk : ℕ) where
     kept = λ here. here;
     lost = tt;
     gone = tt;
+    ends = Ran-none (λ s cs. EndsByLoss None cs) (λ s. refl) (g.told (store_rack s));
   }
 
   module _ (old new : Store R l) (call : Bool → Call) (power : Power) where
@@ -139,12 +144,17 @@ module _ {R : Type 0} {l : _} (g : Ghosts R) (m : Meta) (disk : ℕ) where
     gone_is (Ok it) touched was = tt
     gone_is (Err x) touched was = record { there = was; absent = touched.absent refl }
 
+    -- a call that failed is the last
+    ends_is : (result : Result (Unit {0}) Lost) → is_done (call (is_ok result)) ≡ is_ok result → disk_of (call (is_ok result)) ≡ disk → EndsByLoss (if is_ok result then None else Some disk) (call (is_ok result) ∷ [])
+    ends_is (Ok it) does at = rw does refl
+    ends_is (Err x) does at = loss_failed disk (call false) does at
+
     pub turned_call : (result : Result (Unit {0}) Lost) → g.slot_count (store_rack new) ≡ g.slot_count (store_rack old) → IsSameStore old new
         → ChangesOneSlot a b disk (record (a disk) { power = power }) false (is_ok result) → GrowsByCall (g.told (store_rack old)) (g.told (store_rack new)) (call (is_ok result))
-        → ((done : Bool) → IsPowerCall m (call done)) → ((s : Trail) (done : Bool) → g.told (store_rack old) ≡ Some s → IsLawful (now s) (call done))
+        → ((done : Bool) → IsPowerCall m (call done)) → ((done : Bool) → (is_done (call done) ≡ done) × (disk_of (call done) ≡ disk)) → ((s : Trail) (done : Bool) → g.told (store_rack old) ≡ Some s → IsLawful (now s) (call done))
         → is_present (a disk).power ≡ true → is_present power ≡ true → power ≡ power_by_gear m.gear m.phase disk → named_out m.out ≢ Some disk
         → IfErr result (IsLostBy (store_out g.slot old) disk a b) → HasChangedPower g m disk old new result
-    turned_call result slots same touched grows turn lawful was is wanted not lost = record {
+    turned_call result slots same touched grows turn on lawful was is wanted not lost = record {
       slots = slots;
       same = same;
       others = touched.others;
@@ -154,10 +164,11 @@ module _ {R : Type 0} {l : _} (g : Ghosts R) (m : Meta) (disk : ℕ) where
       kept = kept_is result touched is;
       lost = lost;
       gone = gone_is result touched was;
+      ends = Ran-call (λ s cs. EndsByLoss (if is_ok result then None else Some disk) cs) (g.told (store_rack old)) (g.told (store_rack new)) (call (is_ok result)) grows (λ s tells. ends_is result (on (is_ok result)).0 (on (is_ok result)).1);
     }
 
   -- a failure is borne, or two are down
-  module _ (old new : Store R l) (low : disk < m.setup.geometry.disks) (out_by : store_out g.slot old ≡ or_else (named_out m.out) (first_absent (λ d. (g.slot (store_rack old) d).power) m.setup.geometry.disks)) where
+  module _ (old new : Store R l) (low : disk < m.setup.geometry.disks) (disks : old.disks ≡ m.setup.geometry.disks) (named : old.named ≡ named_out m.out) where
     abbrev n : ℕ
     n = m.setup.geometry.disks
 
@@ -166,6 +177,17 @@ module _ {R : Type 0} {l : _} (g : Ghosts R) (m : Meta) (disk : ℕ) where
 
     abbrev q : ℕ → Power
     q d = (g.slot (store_rack new) d).power
+
+    -- the disk that is out, by the meta and by the store
+    out_by : (power : ℕ → Power) → or_else old.named (first_absent power old.disks) ≡ or_else (named_out m.out) (first_absent power n)
+    out_by power = rw (disks, named) refl
+
+    out_now : IsSameStore old new → store_out g.slot new ≡ or_else old.named (first_absent q old.disks)
+    out_now same = ap (λ (o : Option ℕ). or_else o (first_absent q new.disks)) same.named ∙ ap (λ (k : ℕ). or_else old.named (first_absent q k)) same.disks
+
+    -- each other disk is there if it was
+    others_there : (result : Result (Unit {0}) Lost) → HasChangedPower g m disk old new result → (d : ℕ) → d ≢ disk → is_present (q d) ≡ is_present (p d)
+    others_there result t d apart = ap (λ (s : Slot). is_present s.power) (t.others d apart)
 
     still_out : (result : Result (Unit {0}) Lost) → HasChangedPower g m disk old new result → (d : ℕ) → d ≢ disk → IsOutOfCommit q n (named_out m.out) None d → IsOutOfCommit p n (named_out m.out) None d
     still_out result t d apart (is_absent below gone) = is_absent below (sym (ap (λ (s : Slot). s.power) (t.others d apart)) ∙ gone)
@@ -183,6 +205,8 @@ module _ {R : Type 0} {l : _} (g : Ghosts R) (m : Meta) (disk : ℕ) where
       one = λ one d e x y. one d e (was d x) (was e y);
       two = tt;
       gone = tt;
+      order = subst (λ (o : Option ℕ). Ran (g.told (store_rack old)) (g.told (store_rack new)) (λ s cs. BearsLoss (store_out g.slot old) o cs)) (sym still)
+          (ran_says (EndsByLoss None) (BearsLoss (store_out g.slot old) (store_out g.slot old)) (λ cs none. bears_unhurt (store_out g.slot old) cs none) (g.told (store_rack old)) (g.told (store_rack new)) t.ends);
     }
       where
         split : (d : ℕ) → d ≡ disk → IsOutOfCommit q n (named_out m.out) None d → (x : Bool) → is_present (p disk) ≡ x → IsOutOfCommit p n (named_out m.out) None d
@@ -193,6 +217,17 @@ module _ {R : Type 0} {l : _} (g : Ghosts R) (m : Meta) (disk : ℕ) where
 
         was : (d : ℕ) → IsOutOfCommit q n (named_out m.out) None d → IsOutOfCommit p n (named_out m.out) None d
         was d x = elim (cases_eq d disk) [ inl is ↦ split d is x (is_present (p disk)) refl | inr apart ↦ still_out (Ok tt) t d apart x ]
+
+        there : (x : Bool) → is_present (p disk) ≡ x → (y : Bool) → is_present (q disk) ≡ y → is_present (q disk) ≡ is_present (p disk)
+        there true here y is = t.kept here ∙ sym here
+        there false off true is = absurd (false≢true (sym off ∙ t.here.there is))
+        there false off false is = is ∙ sym off
+
+        still : store_out g.slot new ≡ store_out g.slot old
+        still = out_now t.same ∙ ap (λ (f : Option ℕ). or_else old.named f) (first_absent_by p q old.disks (λ e lt. elim (cases_eq e disk) [
+          | inl is ↦ subst (λ (k : ℕ). is_present (q k) ≡ is_present (p k)) (sym is) (there (is_present (p disk)) refl (is_present (q disk)) refl)
+          | inr apart ↦ others_there (Ok tt) t e apart
+        ]))
 
     pub powered_one : (lost : ℕ) → HasChangedPower g m disk old new (Err (LostOne lost)) → HasPowered g m disk old new (Ok tt)
     powered_one lost t = record {
@@ -205,6 +240,7 @@ module _ {R : Type 0} {l : _} (g : Ghosts R) (m : Meta) (disk : ℕ) where
       one = λ one d e x y. is one d x ∙ sym (is one e y);
       two = tt;
       gone = tt;
+      order = ran_says (EndsByFailure disk) (BearsLoss (store_out g.slot old) (store_out g.slot new)) (λ cs e. borne cs e) (g.told (store_rack old)) (g.told (store_rack new)) t.ends;
     }
       where
         is : IsOneOut n (named_out m.out) (g.slot (store_rack old)) → (d : ℕ) → IsOutOfCommit q n (named_out m.out) None d → d ≡ disk
@@ -213,9 +249,35 @@ module _ {R : Type 0} {l : _} (g : Ghosts R) (m : Meta) (disk : ℕ) where
           | inr apart ↦
               let was = still_out (Err (LostOne lost)) t d apart x in
               let found = out_found p n (named_out m.out) d was in
-              let first = t.lost.2 found.0 (out_by ∙ found.1) in
+              let first = t.lost.2 found.0 (out_by p ∙ found.1) in
               one d found.0 was (out_is p n (named_out m.out) found.0 found.1) ∙ first
         ]
+
+        -- the disk that failed is out then
+        out : (o : Option ℕ) → old.named ≡ o → (e : ℕ) → first_absent q old.disks ≡ Some e → or_else o (first_absent q old.disks) ≡ Some disk
+        out (Some x) name e is = ap (λ (k : ℕ). Some k) (t.lost.2 x (ap (λ (o : Option ℕ). or_else o (first_absent p old.disks)) name))
+        out None name e is = elim (cases_eq e disk) [
+          | inl same ↦ is ∙ ap (λ (k : ℕ). Some k) same
+          | inr apart ↦
+              let gone = first_absent_is q old.disks e is in
+              let before = first_absent_finds p old.disks e gone.0 (sym (others_there (Err (LostOne lost)) t e apart) ∙ gone.1) in
+              let first = t.lost.2 before.0 (ap (λ (o : Option ℕ). or_else o (first_absent p old.disks)) name ∙ before.1) in
+              absurd (false≢true (sym (first_absent_is p old.disks before.0 before.1).1 ∙ ap (λ (k : ℕ). is_present (p k)) first ∙ t.gone.there))
+        ]
+
+        now_out : store_out g.slot new ≡ Some disk
+        now_out =
+            let found = first_absent_finds q old.disks disk (let d = disks in omega arith) (ap is_present t.gone.absent) in
+            out_now t.same ∙ out old.named refl found.0 found.1
+
+        borne : (cs : List Call) → EndsByFailure disk cs → BearsLoss (store_out g.slot old) (store_out g.slot new) cs
+        borne cs e =
+            let b = bears_ending (Some disk) cs e in
+            record {
+              first = λ none. b.first refl ∙ sym now_out;
+              stays = λ d was. now_out ∙ ap (λ (k : ℕ). Some k) (sym (t.lost.2 d was));
+              only = λ d fails. now_out ∙ b.only d fails;
+            }
 
     pub powered_two : (two : Two) → HasChangedPower g m disk old new (Err (LostTwo two)) → HasPowered g m disk old new (Err two)
     powered_two two t = record {
@@ -227,14 +289,16 @@ module _ {R : Type 0} {l : _} (g : Ghosts R) (m : Meta) (disk : ℕ) where
       calls = t.calls;
       one = tt;
       two = record {
-        first = inl (out_is p n (named_out m.out) two.first (sym out_by ∙ t.lost.2));
+        first = inl (out_is p n (named_out m.out) two.first (sym (out_by p) ∙ t.lost.2));
         apart = λ is. t.lost.3 (is ∙ t.lost.0);
         second = subst (λ (k : ℕ). HasRisen (g.slot (store_rack old) k).faults (g.slot (store_rack new) k).faults) (sym t.lost.0) t.lost.1;
       };
       gone = record {
-        first = inl (out_is p n (named_out m.out) two.first (sym out_by ∙ t.lost.2));
+        first = inl (out_is p n (named_out m.out) two.first (sym (out_by p) ∙ t.lost.2));
         second = subst (IsGoneSince (g.slot (store_rack old)) (g.slot (store_rack new))) (sym t.lost.0) t.gone;
       };
+      order = ran_beside (store_out g.slot old) two (g.told (store_rack old)) (g.told (store_rack new)) t.lost.2 (λ is. t.lost.3 (is ∙ t.lost.0))
+          (subst (λ (k : ℕ). Ran (g.told (store_rack old)) (g.told (store_rack new)) (λ s cs. EndsByFailure k cs)) (sym t.lost.0) t.ends);
     }
 
 -- some disks, one after the other
@@ -250,6 +314,7 @@ module _ {R : Type 0} {l : _} (g : Ghosts R) (m : Meta) where
     one = λ one. one;
     two = tt;
     gone = tt;
+    order = Ran-none (λ c cs. BearsLoss (store_out g.slot s) (store_out g.slot s) cs) (λ c. bears_none (store_out g.slot s)) (g.told (store_rack s));
   }
 
   module _ (k : ℕ) (a b c : Store R l) where
@@ -288,6 +353,7 @@ module _ {R : Type 0} {l : _} (g : Ghosts R) (m : Meta) where
       one = λ one. q.one (p.one one);
       two = tt;
       gone = tt;
+      order = ran_bears (store_out g.slot a) (store_out g.slot b) (store_out g.slot c) (g.told (store_rack a)) (g.told (store_rack b)) (g.told (store_rack c)) p.order q.order;
     }
 
     was_out : ArePowered g m k a b (Ok tt) → (d : ℕ) → IsOutOfCommit (λ e. (y e).power) m.setup.geometry.disks (named_out m.out) None d
@@ -326,6 +392,8 @@ module _ {R : Type 0} {l : _} (g : Ghosts R) (m : Meta) where
         first = elim q.gone.first [ inl out ↦ out_since out | inr gone ↦ inr (since two.first gone) ];
         second = since two.second q.gone.second;
       });
+      order = subst (λ (x : Two). Ran (g.told (store_rack a)) (g.told (store_rack c)) (λ s cs. TellsLosses (store_out g.slot a) x cs)) (sym is)
+          (ran_tells (store_out g.slot a) (store_out g.slot b) two (g.told (store_rack a)) (g.told (store_rack b)) (g.told (store_rack c)) p.order q.order);
     }
       where
         since : (d : ℕ) → IsGoneSince y z d → IsGoneSince x z d

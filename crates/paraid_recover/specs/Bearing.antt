@@ -1,5 +1,5 @@
 -- A mount bears witness against a log disk that was named out.
-use Rattle.std.specs.Prelude.{◌≡◌, ◌≢◌, ℕ, ◌<◌, Bool, true, false, Option, Some}
+use Rattle.std.specs.Prelude.{◌≡◌, ◌≢◌, ℕ, ◌<◌, Bool, true, false, Option, Some, None, if◌then◌else◌}
 use Rattle.paraid_base.specs.History.{History}
 use Rattle.paraid_base.specs.Told.{HasRisen}
 use Rattle.paraid_rack.specs.declared.call.Call.{Call}
@@ -10,6 +10,7 @@ use Rattle.paraid_rack.specs.Slots.{Slot}
 use Rattle.paraid_rack.specs.Told.{Ran}
 use Rattle.paraid_rack.specs.Trail.{Trail, moments, now}
 use Rattle.paraid_image.specs.HeldAt.{IsHeld}
+use Rattle.paraid_image.specs.Lost.{EndsByLoss}
 use Rattle.paraid_image.specs.Out.{IsWeak}
 use Rattle.paraid_image.specs.Sides.{LogState, is_open}
 use Rattle.paraid_txn.specs.declared.store.Store.{Store}
@@ -43,6 +44,8 @@ pub record IsOnBearer {R : Type 0} {l : _} (g : Ghosts R) (named : Option ℕ) (
   pub calls : Ran (g.told (store_rack old)) (g.told (store_rack new)) (EachCall (BearsAgainst named))
   pub risen : done ≡ false → HasRisen (g.slot (store_rack old) 2).faults (g.slot (store_rack new) 2).faults
   pub gone : done ≡ false → IsGoneSince (g.slot (store_rack old)) (g.slot (store_rack new)) 2
+  -- the last one is that which failed, if one did
+  pub ends : Ran (g.told (store_rack old)) (g.told (store_rack new)) (λ s cs. EndsByLoss (if done then None else Some 2) cs)
   -- none, where no log disk is named
   pub still : ((x : ℕ) → IsNamedLog named x → ⊥) → g.told (store_rack new) ≡ g.told (store_rack old)
 

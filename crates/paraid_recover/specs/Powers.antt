@@ -1,5 +1,5 @@
 -- How a mount powers the disks by the gear, and what its spin-ups and parks leave.
-use Rattle.std.specs.Prelude.{◌≡◌, ◌≢◌, ℕ, ◌<◌, ◌≤◌, ◌||◌, nat_lt, Bool, true, false, Some, None, Result, OnOk, IfErr}
+use Rattle.std.specs.Prelude.{◌≡◌, ◌≢◌, ℕ, ◌<◌, ◌≤◌, ◌||◌, nat_lt, Bool, true, false, Some, None, Result, OnOk, IfErr, is_ok, if◌then◌else◌}
 use Rattle.paraid_base.specs.declared.fault.Two.{Two}
 use Rattle.paraid_base.specs.Told.{HasRisen}
 use Rattle.paraid_rack.specs.declared.call.Call.{Call}
@@ -9,6 +9,7 @@ use Rattle.paraid_rack.specs.Disks.{is_present}
 use Rattle.paraid_rack.specs.Slots.{Slot}
 use Rattle.paraid_rack.specs.Told.{Ran}
 use Rattle.paraid_record.specs.declared.meta.Meta.{Meta}
+use Rattle.paraid_image.specs.Lost.{AnswersLosses, EndsByLoss}
 use Rattle.paraid_image.specs.Out.{named_out}
 use Rattle.paraid_image.specs.Power.{power_by_gear}
 use Rattle.paraid_image.specs.Spot.{rising_to}
@@ -45,7 +46,7 @@ pub record IsPowerChanged (m : Meta) (d : ℕ) (old new : Slot) : Type 0 where
 abbrev pub IsPowered : Meta → (ℕ → Slot) → ℕ → Type 0
 IsPowered m slot d = named_out m.out ≢ Some d → is_present (slot d).power ≡ true → (slot d).power ≡ power_by_gear m.gear m.phase d
 
--- One disk is powered as the gear asks, or has failed.
+-- One disk is powered as the gear asks, or has failed and no call follows.
 pub record HasChangedPower {R : Type 0} {l : _} (g : Ghosts R) (m : Meta) (disk : ℕ) (old new : Store R l) (result : Result (Unit {0}) Lost) : Type 0 where
   pub slots : g.slot_count (store_rack new) ≡ g.slot_count (store_rack old)
   pub same : IsSameStore old new
@@ -56,8 +57,9 @@ pub record HasChangedPower {R : Type 0} {l : _} (g : Ghosts R) (m : Meta) (disk 
   pub kept : OnOk result (is_present (g.slot (store_rack old) disk).power ≡ true → is_present (g.slot (store_rack new) disk).power ≡ true)
   pub lost : IfErr result (IsLostBy (store_out g.slot old) disk (g.slot (store_rack old)) (g.slot (store_rack new)))
   pub gone : IfErr result (λ lost. IsGoneSince (g.slot (store_rack old)) (g.slot (store_rack new)) disk)
+  pub ends : Ran (g.told (store_rack old)) (g.told (store_rack new)) (λ s cs. EndsByLoss (if is_ok result then None else Some disk) cs)
 
--- The same, where a failure beside which none was out is borne; or two are down.
+-- The same, where a failure beside which none was out is borne; or two are down. Which disk failed first is told.
 pub record HasPowered {R : Type 0} {l : _} (g : Ghosts R) (m : Meta) (disk : ℕ) (old new : Store R l) (result : Result (Unit {0}) Two) : Type 0 where
   pub slots : g.slot_count (store_rack new) ≡ g.slot_count (store_rack old)
   pub same : IsSameStore old new
@@ -71,6 +73,7 @@ pub record HasPowered {R : Type 0} {l : _} (g : Ghosts R) (m : Meta) (disk : ℕ
       (g.slot (store_rack old)) (g.slot (store_rack new)))
   pub gone : IfErr result (AreGoneSince (IsOutOfCommit (λ d. (g.slot (store_rack old) d).power) m.setup.geometry.disks (named_out m.out) None)
       (g.slot (store_rack old)) (g.slot (store_rack new)))
+  pub order : Ran (g.told (store_rack old)) (g.told (store_rack new)) (λ s cs. AnswersLosses (store_out g.slot old) (store_out g.slot new) result cs)
 
 -- The first `k` disks are powered so, but for one that has failed and beside which none was out; or
 -- two are down.
@@ -87,3 +90,4 @@ pub record ArePowered {R : Type 0} {l : _} (g : Ghosts R) (m : Meta) (k : ℕ) (
       (g.slot (store_rack old)) (g.slot (store_rack new)))
   pub gone : IfErr result (AreGoneSince (IsOutOfCommit (λ d. (g.slot (store_rack old) d).power) m.setup.geometry.disks (named_out m.out) None)
       (g.slot (store_rack old)) (g.slot (store_rack new)))
+  pub order : Ran (g.told (store_rack old)) (g.told (store_rack new)) (λ s cs. AnswersLosses (store_out g.slot old) (store_out g.slot new) result cs)

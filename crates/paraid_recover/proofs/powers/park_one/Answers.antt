@@ -27,6 +27,7 @@ returns g c =
     let not = to_spin_not c.args.meta.now c.args.disk (rests g at.After-park) in
     turned_call g.R.Rack c.args.meta.now c.args.disk c.args.store.now c.park.new.self (λ (done : Bool). Park c.args.disk done) Parked c.park.result call.slots call.same call.slot call.told
     (λ done. (c.requires.low, not.0, not.1, c.requires.in_use))
+    (λ done. (refl, refl))
     (λ s done tells.
     let agrees = g.met.R.Rack.agrees (store_rack c.args.store.now) s tells in
     (agrees.power c.args.disk ∙ c.requires.spinning, none_loose _ _ c.args.disk agrees c.requires.synced))

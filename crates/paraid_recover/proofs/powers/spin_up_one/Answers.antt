@@ -28,5 +28,6 @@ returns g c =
     let up = to_spin_up c.args.meta.now c.args.disk (spins g at.After-spin_up) c.requires.high in
     turned_call g.R.Rack c.args.meta.now c.args.disk c.args.store.now c.spin_up.new.self (λ (done : Bool). SpinUp c.args.disk done) Spinning c.spin_up.result call.slots call.same call.slot call.told
     (λ done. (c.requires.low, c.requires.high, up.0, c.requires.in_use))
+    (λ done. (refl, refl))
     (λ s done tells. (g.met.R.Rack.agrees (store_rack c.args.store.now) s tells).power c.args.disk ∙ c.requires.parked)
     (ap is_present c.requires.parked) refl up.1 c.requires.in_use call.lost

@@ -19,7 +19,7 @@ read g c =
     let call = c.in-Ok.ensures in
     let a = g.R.Rack.slot (store_rack c.args.store.now) 2 in
     bearer_call g.R.Rack (Some c.args.disk) c.args.store.now c.read.new.self (λ done. Read 2 c.from.result done) a a.unsynced true call.slots call.same refl refl refl call.slot call.told
-    (refl, named g (goal.at.In-Ok g c).After-read) (λ s tells. (g.met.R.Rack.agrees (store_rack c.args.store.now) s tells).power 2 ∙ c.requires.spinning) (ap is_present c.requires.spinning)
+    (refl, named g (goal.at.In-Ok g c).After-read) refl (λ s tells. (g.met.R.Rack.agrees (store_rack c.args.store.now) s tells).power 2 ∙ c.requires.spinning) (ap is_present c.requires.spinning)
 
 pub returns-in_default-clause-borne : goal.returns-in_default-clause-borne
 returns-in_default-clause-borne g c =
@@ -28,7 +28,7 @@ returns-in_default-clause-borne g c =
     let a = g.R.Rack.slot (store_rack c.args.store.now) 2 in
     borne_failed g.R.Rack (Some c.args.disk) c.args.store.now c.read.new.self
     (bearer_call g.R.Rack (Some c.args.disk) c.args.store.now c.read.new.self (λ done. Read 2 c.from.result done) a a.unsynced false call.slots call.same refl refl refl call.slot call.told
-    (refl, named g at.After-read) (λ s tells. (g.met.R.Rack.agrees (store_rack c.args.store.now) s tells).power 2 ∙ c.requires.spinning) (ap is_present c.requires.spinning))
+    (refl, named g at.After-read) refl (λ s tells. (g.met.R.Rack.agrees (store_rack c.args.store.now) s tells).power 2 ∙ c.requires.spinning) (ap is_present c.requires.spinning))
 
 pub returns-then-opens-clause-borne : goal.returns-then-opens-clause-borne
 returns-then-opens-clause-borne g c =
