@@ -14,17 +14,13 @@ use Rattle.paraid_record.specs.declared.meta.Meta.{Meta}
 use Rattle.paraid_image.specs.Sides.{Batch}
 use Rattle.paraid_txn.specs.Uses.{EachCall, Uses}
 use Rattle.paraid_txn.proofs.CommitPartLemmas.{ran_milder}
-use Rattle.paraid_recover.specs.Map.{KeepsFar}
+use Rattle.paraid_recover.specs.Map.{ChangesByBatch, KeepsFar}
 use Rattle.paraid_recover.proofs.AttachLemmas.{ran_then}
 use Rattle.paraid_recover.proofs.FarLemmas.{run_append}
 
 -- the batch has this block for the place
 abbrev pub IsOf : Batch → ℕ → ℕ → Block → Type 0
 IsOf batch d p b = Contains batch (record { disk = d; place = p }, b)
-
--- Past the log each block is as it was, or is the one that the batch has for its place.
-abbrev pub ChangesByBatch : Batch → Option Trail → Option Trail → Type 0
-ChangesByBatch batch old new = Ran old new (λ start calls. (d p : ℕ) → log_least ≤ p → ((run start calls).block d p ≡ start.block d p) ⊎ IsOf batch d p ((run start calls).block d p))
 
 -- the block is the one before, or that of the batch
 abbrev IsOr : Batch → Disks → Disks → Type 0

@@ -1,5 +1,5 @@
--- What a mount reads of the dirty map.
-use Rattle.std.specs.Prelude.{◌≡◌, ◌≢◌, ℕ, ◌+◌, ◌<◌, ◌≤◌, ◌⊎◌, false, Bool, [], Option, Some, None}
+-- What a mount reads of the dirty map, and what it changes past the log.
+use Rattle.std.specs.Prelude.{◌≡◌, ◌≢◌, ℕ, ◌+◌, ◌<◌, ◌≤◌, ◌⊎◌, false, Bool, [], Option, Some, None, Contains}
 use Rattle.paraid_base.specs.declared.block.Block.{Block}
 use Rattle.paraid_base.specs.declared.geometry.Geometry.{Geometry}
 use Rattle.paraid_base.specs.Log.{log_least, map_start}
@@ -14,6 +14,7 @@ use Rattle.paraid_rack.specs.Told.{Ran}
 use Rattle.paraid_rack.specs.Trail.{Trail, now, run}
 use Rattle.paraid_record.specs.declared.meta.Meta.{Meta}
 use Rattle.paraid_image.specs.Content.{view_by}
+use Rattle.paraid_image.specs.Sides.{Batch}
 use Rattle.paraid_image.specs.Spot.{map_bit, map_disk}
 use Rattle.paraid_image.specs.Standing.{contents}
 use Rattle.paraid_txn.specs.Losses.{IsGoneSince}
@@ -51,6 +52,11 @@ ReadsMap g out (Attach d size done) = ⊥
 -- No block past the log has changed.
 abbrev pub KeepsFar : Option Trail → Option Trail → Type 0
 KeepsFar old new = Ran old new (λ start calls. (d p : ℕ) → log_least ≤ p → (run start calls).block d p ≡ start.block d p)
+
+-- Past the log each block is as it was, or is the one that the batch has for its place.
+abbrev pub ChangesByBatch : Batch → Option Trail → Option Trail → Type 0
+ChangesByBatch batch old new = Ran old new (λ start calls. (d p : ℕ) → log_least ≤ p
+    → ((run start calls).block d p ≡ start.block d p) ⊎ Contains batch (record { disk = d; place = p }, (run start calls).block d p))
 
 -- The table shows the map of this log disk, which was the lower one that was not out as the map was
 -- read; or it is the second one, where none was out and the first one failed in the reads.

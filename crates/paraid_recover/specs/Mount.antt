@@ -1,10 +1,9 @@
 -- What a mount promises: what is told of it, and why it is refused.
-use Rattle.std.specs.Prelude.{◌≡◌, ℕ, ◌<◌, ◌≤◌, ◌⊎◌, Bool, false, Option, Some, None, Contains}
+use Rattle.std.specs.Prelude.{◌≡◌, ℕ, ◌<◌, ◌≤◌, Bool, false, Option, Some, None}
 use Rattle.paraid_base.specs.declared.fault.Two.{Two}
-use Rattle.paraid_base.specs.Log.{log_least}
 use Rattle.paraid_rack.specs.Slots.{Agrees, Slot}
 use Rattle.paraid_rack.specs.Told.{Ran}
-use Rattle.paraid_rack.specs.Trail.{Trail, now, run}
+use Rattle.paraid_rack.specs.Trail.{Trail, now}
 use Rattle.paraid_record.specs.declared.meta.Meta.{Meta}
 use Rattle.paraid_image.specs.Out.{named_out}
 use Rattle.paraid_image.specs.Sides.{LogState, is_open, stored_block}
@@ -18,7 +17,7 @@ use Rattle.paraid_txn.specs.Losses.{AreGoneSince, IsOutOfCommit, AreTwoDownBesid
 use Rattle.paraid_txn.specs.Uses.{EachCall}
 use Rattle.paraid_recover.specs.EndOfMount.{IsMarkAtEnd, IsMarkAtMoment, KeepsDirty}
 use Rattle.paraid_recover.specs.HeldMoments.{EndsHeld, RecoversHeld, ShowsAtEnd}
-use Rattle.paraid_recover.specs.Map.{HasMapAtEnd}
+use Rattle.paraid_recover.specs.Map.{ChangesByBatch, HasMapAtEnd}
 use Rattle.paraid_recover.specs.Mounted.{IsStandingWithLoss, with_loss}
 use Rattle.paraid_recover.specs.MountCalls.{OnlyMountCalls}
 use Rattle.paraid_recover.specs.RecoveryMark.{with_mark}
@@ -39,9 +38,8 @@ pub record HasRecovered (side : ℕ) (said : LogState) (old new : Option Trail) 
   pub stands : (t : Trail) → read ≡ Some t → Stands (now t) side said
   pub holds : (slots : ℕ) → RecoversHeld slots side said read new
   pub metas : StandsThroughMount side said read new
-  -- Held or not, past the log each block is as it was, or is the one that the batch which was ended has for its place.
-  pub far : Ran old new (λ start calls. (d p : ℕ) → log_least ≤ p
-      → ((run start calls).block d p ≡ start.block d p) ⊎ Contains said.batch (record { disk = d; place = p }, (run start calls).block d p))
+  -- Held or not, past the log each block is as it was, or is of the batch that was ended.
+  pub far : ChangesByBatch said.batch old new
 
 -- At its end the disks are at rest under the meta that stands, of version 2, which is this one, but
 -- for a disk that was lost since the last commit; and hold the writes that it counts. These are then

@@ -1,13 +1,13 @@
 -- What a step of a mount asks for, and what it leaves of the store and of what was recovered.
-use Rattle.std.specs.Prelude.{◌≡◌, ℕ, ◌+◌, ◌<◌, ◌≤◌, ◌⊎◌, Bool, List, length, Option, Some, None, Result, OnOk, IfErr, Contains}
+use Rattle.std.specs.Prelude.{◌≡◌, ℕ, ◌+◌, ◌<◌, ◌≤◌, ◌⊎◌, Bool, List, length, Option, Some, None, Result, OnOk, IfErr}
 use Rattle.paraid_base.specs.declared.fault.Two.{Two}
-use Rattle.paraid_base.specs.Log.{log_least, worn_at}
+use Rattle.paraid_base.specs.Log.{worn_at}
 use Rattle.paraid_base.specs.Told.{HasRisen}
 use Rattle.paraid_dirty.specs.Table.{is_dirty}
 use Rattle.paraid_rack.specs.declared.call.Power.TheVariants.{Absent}
 use Rattle.paraid_rack.specs.declared.rack.Rack.{Ghosts}
 use Rattle.paraid_rack.specs.Told.{Ran}
-use Rattle.paraid_rack.specs.Trail.{Trail, now, run}
+use Rattle.paraid_rack.specs.Trail.{Trail, now}
 use Rattle.paraid_record.specs.declared.meta.Meta.{Meta}
 use Rattle.paraid_record.specs.Range.{IsInRange}
 use Rattle.paraid_image.specs.Out.{named_out}
@@ -20,7 +20,7 @@ use Rattle.paraid_txn.specs.Uses.{EachCall, UsesLog}
 use Rattle.paraid_recover.specs.declared.hearing.Heard.{Heard}
 use Rattle.paraid_recover.specs.HeardSides.{AtMost, IsHeardAt, IsHeardBy, IsInForm, ReadsLogs}
 use Rattle.paraid_recover.specs.HeldMoments.{Recovers, RecoversHeld}
-use Rattle.paraid_recover.specs.Map.{IsNarrow, KeepsFar}
+use Rattle.paraid_recover.specs.Map.{ChangesByBatch, IsNarrow, KeepsFar}
 use Rattle.paraid_recover.specs.MountCalls.{OnlyMountCalls}
 use Rattle.paraid_recover.specs.Mounted.{AreAllSynced, IsFit}
 use Rattle.paraid_recover.specs.StandingMetas.{StandsInMoments, StandsThroughMount}
@@ -93,15 +93,14 @@ pub record HasStood {R : Type 0} {g : Ghosts R} (store : Store R g) (m : Meta) :
   pub synced : AreAllSynced m (g.slot (store_rack store))
 
 -- The same from the rack whose log disk `x` stood and said this: it has as many slots as before, and no count of faults falls.
--- Past the log each block is as it was, or is the one that the batch has for its place.
+-- Past the log each block is as it was, or is of the batch.
 pub record MountsOn {R : Type 0} (g : Ghosts R) (x : ℕ) (said : LogState) (old new : R) : Type 0 where
   pub slots : g.slot_count new ≡ g.slot_count old
   pub later : (d : ℕ) → (g.slot old d).faults ≤ (g.slot new d).faults
   pub allowed : OnlyMountCalls said.meta (g.told old) (g.told new)
   pub metas : StandsThroughMount x said (g.told old) (g.told new)
   pub holds : (slots : ℕ) → RecoversHeld slots x said (g.told old) (g.told new)
-  pub far : Ran (g.told old) (g.told new) (λ start calls. (d p : ℕ) → log_least ≤ p
-      → ((run start calls).block d p ≡ start.block d p) ⊎ Contains said.batch (record { disk = d; place = p }, (run start calls).block d p))
+  pub far : ChangesByBatch said.batch (g.told old) (g.told new)
 
 -- This was heard of the log disk, or nothing where it is absent; it is in form.
 pub record HasHeard {R : Type 0} (g : Ghosts R) (rack : R) (disk : ℕ) (heard : Option Heard) (batch : Batch) : Type 0 where

@@ -16,7 +16,8 @@ use Rattle.paraid_txn.specs.Stores.{store_out, store_rack}
 use Rattle.paraid_recover.specs.HeldMoments.{Recovers, RecoversHeld}
 use Rattle.paraid_recover.specs.MountCalls.{OnlyMountCalls}
 use Rattle.paraid_recover.specs.Mounted.{IsFit}
-use Rattle.paraid_recover.proofs.BatchFarLemmas.{ChangesByBatch, batch_ran, far_after}
+use Rattle.paraid_recover.specs.Map.{ChangesByBatch}
+use Rattle.paraid_recover.proofs.BatchFarLemmas.{batch_ran, far_after}
 use Rattle.paraid_recover.proofs.EndsLemmas.{ends_resumed}
 use Rattle.paraid_recover.proofs.FitLemmas.{fit_stays, two_named, two_sooner}
 use Rattle.paraid_recover.proofs.GoneLemmas.{gone_beside, gone_sooner, none_comes, out_named_twice}
