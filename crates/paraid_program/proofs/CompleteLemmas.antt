@@ -90,7 +90,7 @@ unstarted : (slots : ℕ) (old new : ℕ → Slot) (before after : Option Trail)
 unstarted slots old new before after (for_memory is it) = it
 unstarted slots old new before after (examined is only) = record { lost = lost_without_memory slots old new after is; only = only }
 unstarted slots old new before after (witnessed read mid x said pair calls exam low is refuses) = absurd (let z : NoMemory ≡ TwoDown pair = is in cc)
-unstarted slots old new before after (two_down read x then pair it agrees exam is beside gone) = absurd (let z : NoMemory ≡ TwoDown pair = is in cc)
+unstarted slots old new before after (two_down read x then pair it agrees exam is beside gone ends) = absurd (let z : NoMemory ≡ TwoDown pair = is in cc)
 
 module _ {rack : RackUse} (h : HeldHistory rack) where
   -- what holds from each entry holds from this one

@@ -51,6 +51,7 @@ pub mod EndsLemmas
 pub mod RenewLemmas
 pub mod MountCallsLemmas
 pub mod GoneLemmas
+pub mod SecondLossLemmas
 mod RaisedLemmas
 mod LogReadsLemmas
 mod SyncedLemmas

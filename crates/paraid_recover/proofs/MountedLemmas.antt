@@ -270,7 +270,7 @@ module _ (count : ℕ) (old_slot new_slot : ℕ → Slot) (old new : Option Trai
   pub refused_from_each : IsCauseOfRefusal count old_slot new_slot old new fault → IsRefusedFromEach count began new (refusal_by_fault fault)
   refused_from_each (no_memory is unstarted) = subst (IsRefusedFromEach count began new) (sym (ap refusal_by_fault is)) (by_memory unstarted.only)
   refused_from_each (examined is only) = by_reads only is
-  refused_from_each (two_down read x then two it agrees exam is beside gone) = by_loss read x then two it exam is beside.apart gone
+  refused_from_each (two_down read x then two it agrees exam is beside gone ends) = by_loss read x then two it exam is beside.apart gone
   refused_from_each (witnessed read mid x said two calls exam low is refuses) = by_witness read mid x two calls low is refuses
 
 -- where no call is made only reads are told
@@ -293,5 +293,5 @@ mounted_extends count old_slot new_slot named m dirty old new it = ran_extends _
 pub refused_extends : (count : ℕ) (old_slot new_slot : ℕ → Slot) (old new : Option Trail) (fault : MountFault) → IsCauseOfRefusal count old_slot new_slot old new fault → Extends old new
 refused_extends count old_slot new_slot old new fault (no_memory is unstarted) = ran_extends _ old new unstarted.only.calls
 refused_extends count old_slot new_slot old new fault (examined is only) = ran_extends _ old new only.calls
-refused_extends count old_slot new_slot old new fault (two_down read x then two it agrees exam is beside gone) = ran_extends _ old new it.calls
+refused_extends count old_slot new_slot old new fault (two_down read x then two it agrees exam is beside gone ends) = ran_extends _ old new it.calls
 refused_extends count old_slot new_slot old new fault (witnessed read mid x said two calls exam low is refuses) = ran_extends _ old new calls

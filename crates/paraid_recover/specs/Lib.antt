@@ -28,4 +28,5 @@ pub mod RecordedSpins
 pub mod StartParts
 pub mod StartRefusals
 pub mod Witness
+pub mod SecondLoss
 pub mod Steps

@@ -5,6 +5,7 @@ use Rattle.paraid_rack.specs.Slots.{Agrees, Slot}
 use Rattle.paraid_rack.specs.Told.{Ran}
 use Rattle.paraid_rack.specs.Trail.{Trail, now}
 use Rattle.paraid_record.specs.declared.meta.Meta.{Meta}
+use Rattle.paraid_image.specs.Lost.{EndsBySecond}
 use Rattle.paraid_image.specs.Out.{named_out}
 use Rattle.paraid_image.specs.Sides.{LogState, is_open, stored_block}
 use Rattle.paraid_image.specs.Standing.{Stands, other_log}
@@ -106,10 +107,11 @@ pub data IsCauseOfRefusal (count : ℕ) (old new : ℕ → Slot) (told_old told_
       → IsExamined count old mid read side said → side < 2 → fault ≡ BothMissing two → IsWitnessRefusal side mid new told_new two
       → IsCauseOfRefusal count old new told_old told_new fault
   -- the first was out after the reads, by what stands then, or has failed since; then the second has;
-  -- one that failed is absent since
+  -- one that failed is absent since, and no call follows the one that failed on the second
   two_down : (read : ℕ → Slot) (side : ℕ) (said : LogState) (two : Two) (recovered : HasRecovered side said told_old told_new)
       → ((t : Trail) → recovered.read ≡ Some t → Agrees (now t) read)
       → IsExamined count old read recovered.read side said → fault ≡ BothMissing two
       → AreTwoDownBeside (IsOutOfCommit (λ d. (read d).power) said.meta.setup.geometry.disks (named_out said.meta.out) None) read new two
       → AreGoneSince (IsOutOfCommit (λ d. (read d).power) said.meta.setup.geometry.disks (named_out said.meta.out) None) read new two
+      → Ran recovered.read told_new (λ start calls. EndsBySecond two calls)
       → IsCauseOfRefusal count old new told_old told_new fault

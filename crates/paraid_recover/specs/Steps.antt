@@ -23,6 +23,7 @@ use Rattle.paraid_recover.specs.HeldMoments.{Recovers, RecoversHeld}
 use Rattle.paraid_recover.specs.Map.{ChangesByBatch, IsNarrow, KeepsFar}
 use Rattle.paraid_recover.specs.MountCalls.{OnlyMountCalls}
 use Rattle.paraid_recover.specs.Mounted.{AreAllSynced, IsFit}
+use Rattle.paraid_recover.specs.SecondLoss.{TellsSecondLoss}
 use Rattle.paraid_recover.specs.StandingMetas.{StandsInMoments, StandsThroughMount}
 
 -- The store stands by this meta, so a disk can be marked by a commit: an epoch is left, each disk has a slot, and the log can
@@ -47,7 +48,7 @@ pub record CanSettle {R : Type 0} {g : Ghosts R} (store : Store R g) (m : Meta) 
   pub narrow : IsNarrow (is_dirty table)
 
 -- The store keeps its slots and its disks. A slot changes only as it becomes absent; its disk has failed, or is well. The step
--- gives up only where two disks are down beside those of which `out` holds.
+-- gives up only where two disks are down beside those of which `out` holds, and makes no call after the second has failed.
 pub record KeepsStore {R A : Type 0} {g : Ghosts R} (out : ℕ → Type 0) (old new : Store R g) (result : Result A Two) : Type 0 where
   pub slots : g.slot_count (store_rack new) ≡ g.slot_count (store_rack old)
   pub disks : disks_of new ≡ disks_of old
@@ -55,6 +56,7 @@ pub record KeepsStore {R A : Type 0} {g : Ghosts R} (out : ℕ → Type 0) (old 
   pub each : AreFailedOrWell (g.slot (store_rack old)) (g.slot (store_rack new))
   pub two : IfErr result (AreTwoDownBeside out (g.slot (store_rack old)) (g.slot (store_rack new)))
   pub gone : IfErr result (AreGoneSince out (g.slot (store_rack old)) (g.slot (store_rack new)))
+  pub order : IfErr result (TellsSecondLoss out (g.told (store_rack old)) (g.told (store_rack new)))
 
 -- The same of a step that also powers disks: no count of faults falls, and only a disk that has failed is absent then and was
 -- not before. No block past the log changes.
@@ -62,6 +64,7 @@ pub record KeepsPowered {R A : Type 0} {g : Ghosts R} (out : ℕ → Type 0) (ol
   pub slots : g.slot_count (store_rack new) ≡ g.slot_count (store_rack old)
   pub two : IfErr result (AreTwoDownBeside out (g.slot (store_rack old)) (g.slot (store_rack new)))
   pub gone : IfErr result (AreGoneSince out (g.slot (store_rack old)) (g.slot (store_rack new)))
+  pub order : IfErr result (TellsSecondLoss out (g.told (store_rack old)) (g.told (store_rack new)))
   pub later : (d : ℕ) → (g.slot (store_rack old) d).faults ≤ (g.slot (store_rack new) d).faults
   pub failed : (d : ℕ) → (g.slot (store_rack new) d).power ≡ Absent
       → ((g.slot (store_rack old) d).power ≡ Absent) ⊎ HasRisen (g.slot (store_rack old) d).faults (g.slot (store_rack new) d).faults

@@ -10,6 +10,7 @@ ghost use Rattle.paraid_rack.specs.Disks.{is_present};
 ghost use Rattle.paraid_record.specs.declared.meta.Meta.{Meta as MetaType};
 ghost use Rattle.paraid_record.specs.Range.{IsInRange};
 ghost use Rattle.paraid_rack.specs.Trail.{Trail};
+ghost use Rattle.paraid_image.specs.Lost.{EndsBySecond};
 ghost use Rattle.paraid_image.specs.Out.{named_out as named_of};
 ghost use Rattle.paraid_image.specs.Sides.{LogState};
 ghost use Rattle.paraid_recover.specs.Bearing.{EndsBorne, IsBorneAgainst, IsNamedLog};
@@ -210,7 +211,8 @@ fn bring_up<R: Rack>(
         (R.slot rack) (R.slot refused.rack) two
         × AreGoneSince (IsOutOfCommit (λ e. (R.slot rack e).power)
         standing.now.meta.setup.geometry.disks (named_of standing.now.meta.out) None)
-        (R.slot rack) (R.slot refused.rack) two) }
+        (R.slot rack) (R.slot refused.rack) two
+        × Ran (R.told rack) (R.told refused.rack) (λ start calls. EndsBySecond two calls)) }
     ensures ends { IfOk result (λ it. (stands : MetaType) × (lost : Option ℕ)
         × (it.meta ≡ with_loss_of stands lost) × (stands.version ≡ 2)
         × ((mark : Option ℕ) × (stands ≡ with_mark standing.now.meta mark)

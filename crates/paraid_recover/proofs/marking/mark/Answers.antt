@@ -15,6 +15,7 @@ use Rattle.paraid_image.proofs.MarkLemmas.{marked_in_range}
 use Rattle.paraid_txn.proofs.RanLemmas.{commit_moments}
 use Rattle.paraid_recover.proofs.MarkHeldLemmas.{is_next, mark_held}
 use Rattle.paraid_recover.specs.RecoveryMark.{of_version_two}
+use Rattle.paraid_recover.specs.SecondLoss.{TellsSecondLoss}
 use Rattle.paraid_recover.proofs.RenewLemmas.{in_version_two}
 use Rattle.paraid_recover.proofs.OneMarkedLemmas.{one_marked}
 use Rattle.paraid_recover.proofs.marking.mark.Given.{Over}
@@ -56,6 +57,9 @@ returns g c = record {
     gone =
         subst (λ (o : Option ℕ). IfErr c.commit.result (AreGoneSince (IsOutOfCommit (λ e. (g.R.Rack.slot c.args.store.now.rack e).power) c.args.store.now.disks c.args.store.now.named o)
         (g.R.Rack.slot c.args.store.now.rack) (g.R.Rack.slot c.commit.new.self.rack))) (ap (λ (n : Meta). named_out n.out) c.next_marked-next.ensures) c.commit.ensures.gone;
+    order =
+        subst (λ (o : Option ℕ). IfErr c.commit.result (TellsSecondLoss (IsOutOfCommit (λ e. (g.R.Rack.slot c.args.store.now.rack e).power) c.args.store.now.disks c.args.store.now.named o)
+        (g.R.Rack.told c.args.store.now.rack) (g.R.Rack.told c.commit.new.self.rack))) (ap (λ (n : Meta). named_out n.out) c.next_marked-next.ensures) c.commit.ensures.order;
   };
   marked = record {
     synced = c.commit.ensures.synced;

@@ -2,9 +2,12 @@ use Rattle.std.specs.Prelude.{◌≡◌, ℕ, ◌≤◌, Option, Some, None}
 use Rattle.std.proofs.Common.{ap, arith, inl, inr, refl, subst, sym, ◌∙◌}
 use Rattle.paraid_rack.specs.declared.call.Power.{Power}
 use Rattle.paraid_rack.specs.Disks.{is_present}
+use Rattle.paraid_rack.specs.Told.{Ran}
 use Rattle.paraid_rack.specs.Trail.{Trail, now}
 use Rattle.paraid_record.specs.declared.meta.Meta.{Meta}
 use Rattle.paraid_record.specs.declared.meta.Setup.{Setup}
+use Rattle.paraid_base.specs.declared.fault.Two.{Two}
+use Rattle.paraid_image.specs.Lost.{EndsBySecond}
 use Rattle.paraid_image.specs.Out.{IsMissing, first_absent, named_out, or_else, out_disk}
 use Rattle.paraid_txn.proofs.MeansLemmas.{absent_power}
 use Rattle.paraid_recover.proofs.ShownLemmas.{shown}
@@ -25,7 +28,9 @@ use Rattle.paraid_recover.proofs.KeepsDirtyLemmas.{keeps_dirty}
 use Rattle.paraid_recover.proofs.MapServedLemmas.{loss_setup, map_served, map_sooner}
 use Rattle.paraid_recover.proofs.MarkMomentLemmas.{mark_later}
 use Rattle.paraid_recover.proofs.MountCallsLemmas.{mount_then, resume_calls}
+use Rattle.paraid_recover.specs.SecondLoss.{TellsSecondLoss}
 use Rattle.paraid_recover.specs.StandingMetas.{StandsThroughMount}
+use Rattle.paraid_recover.proofs.SecondLossLemmas.{out_more, still_tells, tells_end, tells_same}
 use Rattle.paraid_recover.proofs.RecoverLemmas.{grows, resumes_held}
 use Rattle.paraid_recover.proofs.ResumeMetasLemmas.{resumed_metas}
 use Rattle.paraid_recover.proofs.StillLemmas.{commit_still, still_then}
@@ -158,17 +163,35 @@ returns-in-Err g c = record {
       let power = (λ (e : ℕ). (a e).power) in
       let named = named_out m.out in
       let two = c.in-Err.refused.two in
+      let old = g.R.Rack.told c.args.rack in
+      let new = g.R.Rack.told c.in-Err.refused.rack in
       let out_0 = IsOutOfCommit power k named named in (
         two,
         refl,
         two_named k named a b two c.in-Err.ensures.two,
         gone_beside out_0 (IsOutOfCommit power k named None) a b two (out_named_twice power k named) c.in-Err.ensures.refused_gone,
+        tells_end k named a old new two c.requires.fit.one (tells_same out_0 (IsOutOfCommit power k named None) old new two (out_named_twice power k named) (out_more power k named named) c.in-Err.ensures.refused_order),
       );
   ends = tt;
   map = tt;
   borne = tt;
   marked = tt;
 }
+
+-- no call follows the one that failed on the second disk
+raise_ends : (g : Over) (c : After-raise g) (two : Two)
+    → TellsSecondLoss (IsOutOfCommit (λ e. (g.R.Rack.slot (store_rack c.in-Ok.store) e).power) c.args.standing.now.meta.setup.geometry.disks (named_out c.args.standing.now.meta.out) None)
+    (g.R.Rack.told (store_rack c.in-Ok.store)) (g.R.Rack.told (store_rack c.raise.new.store)) two
+    → Ran (g.R.Rack.told c.args.rack) (g.R.Rack.told (store_rack c.raise.new.store)) (λ s cs. EndsBySecond two cs)
+raise_ends g c two order =
+    let m = c.args.standing.now.meta in
+    let a = g.R.Rack.slot c.args.rack in
+    let old = g.R.Rack.told c.args.rack in
+    let told_1 = g.R.Rack.told (store_rack c.in-Ok.store) in
+    let new = g.R.Rack.told (store_rack c.raise.new.store) in
+    tells_end m.setup.geometry.disks (named_out m.out) a old new two c.requires.fit.one
+    (still_tells m a (g.R.Rack.slot (store_rack c.in-Ok.store)) old told_1 (g.met.R.Rack.agrees c.args.rack) (g.met.R.Rack.agrees (store_rack c.in-Ok.store)) (commit_still m c.args.batch old told_1 c.in-Ok.ensures.calls)
+    (resume_calls m old told_1 c.args.batch c.in-Ok.ensures.calls) c.in-Ok.ensures.one new two order)
 
 pub returns-in-Err-raise : goal.returns-in-Err-raise
 returns-in-Err-raise g c = record {
@@ -206,6 +229,8 @@ returns-in-Err-raise g c = record {
         refl,
         subst (λ (r : _). AreTwoDownBeside out a (g.R.Rack.slot r) two) (sym c.close.ensures) (two_sooner k (named_out m.out) a b d two c.in-Ok.ensures.each c.in-Ok.ensures.powers.no_fall c.raise.ensures.kept.later c.in-Err-raise.ensures.kept.two),
         subst (λ (r : _). AreGoneSince out a (g.R.Rack.slot r) two) (sym c.close.ensures) (gone_sooner k (named_out m.out) a b d (none_comes a b c.in-Ok.ensures.powers) c.raise.ensures.kept.absent two c.in-Err-raise.ensures.kept.gone),
+        subst (λ (r : _). Ran (g.R.Rack.told c.args.rack) (g.R.Rack.told r) (λ s cs. EndsBySecond two cs)) (sym c.close.ensures)
+            (raise_ends g (goal.at.returns-in-Err-raise g c).After-raise two c.in-Err-raise.ensures.kept.order),
       );
   ends = tt;
   map = tt;

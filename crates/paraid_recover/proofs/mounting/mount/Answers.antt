@@ -186,6 +186,6 @@ returns g c = record {
         far = far_before c.examine.new.batch (g.R.Rack.told c.args.rack) (g.R.Rack.told c.heed.new.rack) (g.R.Rack.told c.in-Err-bring_up.refused.rack)
             (far_ran ReadsLogs _ _ reads_far (calls_then ReadsLogs c.examine.ensures.calls (logs_calls (omega arith) c.in_default-heed.ensures.ok.reads.calls))) c.in-Err-bring_up.ensures.refused.far;
       })
-      (g.met.R.Rack.agrees c.heed.new.rack) (examined_later _ _ _ _ _ _ _ _ (c.in_default-heed.ensures.ok.reads.same refl) (c.in_default-heed.ensures.ok.reads.unchanged refl) c.in-Ok-examine.ensures.ok) two.1 two.2 two.3;
+      (g.met.R.Rack.agrees c.heed.new.rack) (examined_later _ _ _ _ _ _ _ _ (c.in_default-heed.ensures.ok.reads.same refl) (c.in_default-heed.ensures.ok.reads.unchanged refl) c.in-Ok-examine.ensures.ok) two.1 two.2 two.3 two.4;
   refused_later = λ d. let a = c.examine.ensures.powers.no_fall d in let same = ap (λ (k : Slot). k.faults) (c.in_default-heed.ensures.ok.reads.same refl d) in let b = c.in-Err-bring_up.ensures.refused.later d in omega arith;
 }

@@ -11,9 +11,11 @@ use Rattle.paraid_rack.specs.Told.{Ran}
 use Rattle.paraid_rack.specs.Trail.{Trail, now}
 use Rattle.paraid_record.specs.declared.meta.Meta.{Meta}
 use Rattle.paraid_record.specs.declared.meta.Setup.{Setup}
-use Rattle.paraid_image.specs.Out.{named_out}
+use Rattle.paraid_base.specs.declared.fault.Two.{Two}
+use Rattle.paraid_image.specs.Lost.{TellsLosses}
+use Rattle.paraid_image.specs.Out.{first_absent, named_out, or_else}
 use Rattle.paraid_image.specs.Sides.{LogState}
-use Rattle.paraid_txn.specs.Losses.{AreGoneSince, IsOutOfCommit, IsWell, AreTwoDownBeside}
+use Rattle.paraid_txn.specs.Losses.{AreGoneSince, IsOneOut, IsOutOfCommit, IsWell, AreTwoDownBeside}
 use Rattle.paraid_txn.specs.Uses.{EachCall}
 use Rattle.paraid_txn.specs.Stores.{store_out, store_rack}
 use Rattle.paraid_recover.specs.Bearing.{EndsBorne, IsNamedLog}
@@ -33,7 +35,9 @@ use Rattle.paraid_recover.proofs.MarkMomentLemmas.{mark_by_slots, mark_sooner}
 use Rattle.paraid_recover.proofs.GoneLemmas.{gone_beside, gone_sooner, none_comes, out_marked, stays_absent}
 use Rattle.paraid_recover.proofs.MountCallsLemmas.{mount_then, power_calls}
 use Rattle.paraid_recover.proofs.ServableLemmas.{disks_marked, names_stay, servable, two_marked, who_is_out}
+use Rattle.paraid_recover.specs.SecondLoss.{TellsSecondLoss}
 use Rattle.paraid_recover.specs.StandingMetas.{StandsInMoments}
+use Rattle.paraid_recover.proofs.SecondLossLemmas.{one_fewer, still_tells, tells_marked}
 use Rattle.paraid_recover.specs.StandingMetas.StandsForeseen.{marked}
 use Rattle.paraid_recover.proofs.RestMetasLemmas.{turns_metas}
 use Rattle.paraid_recover.proofs.TurnsLemmas.{turns_end, turns_hold}
@@ -162,6 +166,7 @@ returns-in-Err g c = record {
     slots = c.settle.ensures.kept.slots;
     two = c.in-Err.ensures.kept.two;
     gone = c.in-Err.ensures.kept.gone;
+    order = c.in-Err.ensures.kept.order;
     later = c.settle.ensures.kept.powers.no_fall;
     failed = λ d gone. elim (c.settle.ensures.kept.each d) [ inl risen ↦ inr risen | inr well ↦ inl (sym well.power ∙ gone) ];
     absent = λ d gone.
@@ -183,6 +188,31 @@ returns-in-Err g c = record {
   borne = tt;
   marked = tt;
 }
+
+-- which of two disks failed first, where the second does so as the disks are powered
+tells : (g : Over) (c : After-power_disks g) (two : Two)
+    → Ran (g.R.Rack.told (store_rack c.settle.new.store)) (g.R.Rack.told (store_rack c.power_disks.new.store)) (λ s cs. TellsLosses (store_out g.R.Rack.slot c.settle.new.store) two cs)
+    → TellsSecondLoss (IsOutOfCommit (λ e. (g.R.Rack.slot (store_rack c.args.store.now) e).power) c.args.meta.now.setup.geometry.disks (named_out c.args.meta.now.out) None)
+    (g.R.Rack.told (store_rack c.args.store.now)) (g.R.Rack.told (store_rack c.power_disks.new.store)) two
+tells g c two order =
+    let m = c.args.meta.now in
+    let x = c.in-Ok.standing in
+    let given = c.in-Ok.ensures.given in
+    let a = g.R.Rack.slot (store_rack c.args.store.now) in
+    let b = g.R.Rack.slot (store_rack c.settle.new.store) in
+    let told_0 = g.R.Rack.told (store_rack c.args.store.now) in
+    let told_1 = g.R.Rack.told (store_rack c.settle.new.store) in
+    let told_2 = g.R.Rack.told (store_rack c.power_disks.new.store) in
+    let power = (λ (e : ℕ). (b e).power) in
+    still_tells m a b told_0 told_1 (g.met.R.Rack.agrees (store_rack c.args.store.now)) (g.met.R.Rack.agrees (store_rack c.settle.new.store)) (logs_still told_0 told_1 c.settle.ensures.still) c.settle.ensures.recovers.allowed
+    (λ one.
+    one_fewer m.setup.geometry.disks (named_out m.out) (named_out x.out) b (λ e name. ap (λ (y : Meta). named_out y.out) given.1 ∙ names_stay m given.0 (λ d is. given.3 d is) e name)
+    (subst (λ (k : ℕ). IsOneOut k (named_out x.out) b) (disks_same g c) c.in-Ok.ensures.stood.fit.one))
+    told_2 two
+    (tells_marked m x given.0 b (store_out g.R.Rack.slot c.settle.new.store) told_1 told_2 two given.1 given.2 (λ d is. given.3 d is)
+    (ap (λ (o : Option ℕ). or_else o (first_absent power c.settle.new.store.disks)) (sym c.in-Ok.ensures.stood.named)
+    ∙ ap (λ (k : ℕ). or_else (named_out x.out) (first_absent power k)) (c.settle.ensures.kept.disks ∙ c.requires.can.disks ∙ sym (disks_same g c)))
+    order)
 
 pub returns-in-Err-power_disks : goal.returns-in-Err-power_disks
 returns-in-Err-power_disks g c = record {
@@ -213,6 +243,7 @@ returns-in-Err-power_disks g c = record {
         (gone_beside (IsOutOfCommit power k (named_out marked_is.out) None) (IsOutOfCommit power k (named_out m.out) None) b d two (out_marked m given.0 power given.2)
         (subst (λ (x : ℕ). AreGoneSince (IsOutOfCommit power x (named_out marked_is.out) None) b d two) (ap (λ (s : Setup). s.geometry.disks) (disks_marked m given.0))
         (subst (λ (x : Meta). AreGoneSince (IsOutOfCommit power x.setup.geometry.disks (named_out x.out) None) b d two) given.1 c.in-Err-power_disks.ensures.gone)));
+    order = tells g (goal.at.returns-in-Err-power_disks g c).After-power_disks c.in-Err-power_disks.two c.in-Err-power_disks.ensures.order;
     later = later g (goal.at.returns-in-Err-power_disks g c).After-power_disks;
     failed = λ d gone. failed _ (g.R.Rack.slot (store_rack c.settle.new.store) d) _ c.in-Ok.standing d (c.settle.ensures.kept.each d) (c.settle.ensures.kept.powers.no_fall d) (c.power_disks.ensures.turned d) gone;
     absent = absent g (goal.at.returns-in-Err-power_disks g c).After-power_disks;
@@ -241,6 +272,7 @@ returns g c = record {
     slots = c.power_disks.ensures.slots ∙ c.settle.ensures.kept.slots;
     two = tt;
     gone = tt;
+    order = tt;
     later = later g (goal.at.returns g c).After-power_disks;
     failed = λ d gone. failed _ (g.R.Rack.slot (store_rack c.settle.new.store) d) _ c.in-Ok.standing d (c.settle.ensures.kept.each d) (c.settle.ensures.kept.powers.no_fall d) (c.power_disks.ensures.turned d) gone;
     absent = absent g (goal.at.returns g c).After-power_disks;

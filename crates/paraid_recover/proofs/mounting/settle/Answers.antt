@@ -1,6 +1,7 @@
 use Rattle.std.specs.Prelude.{◌≡◌, ℕ, Option, Some, None}
 use Rattle.std.proofs.Common.{ap, arith, refl, subst, sym, ◌∙◌}
 use Rattle.paraid_base.specs.States.{gone_out}
+use Rattle.paraid_base.specs.declared.fault.Two.{Two}
 use Rattle.paraid_rack.specs.Slots.{Slot}
 use Rattle.paraid_rack.specs.Told.{Ran}
 use Rattle.paraid_rack.specs.Trail.{Trail, now}
@@ -27,10 +28,12 @@ use Rattle.paraid_recover.proofs.FitLemmas.{can_sync, log_ready, each_then, fit_
 use Rattle.paraid_recover.proofs.GoneLemmas.{gone_beside, gone_sooner, none_comes, out_by_name, out_unmarked, stays_absent}
 use Rattle.paraid_recover.proofs.MountCallsLemmas.{map_calls, mount_then, sync_calls}
 use Rattle.paraid_recover.proofs.RenewLemmas.{version_marked}
+use Rattle.paraid_recover.specs.SecondLoss.{TellsSecondLoss}
 use Rattle.paraid_recover.specs.StandingMetas.{StandsInMoments}
+use Rattle.paraid_recover.proofs.SecondLossLemmas.{out_more, still_tells, tells_out, tells_same}
 use Rattle.paraid_recover.proofs.QuietCallsLemmas.{quiet_recovers}
 use Rattle.paraid_recover.proofs.RestMetasLemmas.{quiet_metas}
-use Rattle.paraid_recover.proofs.StillLemmas.{log_logs, logs_then, quiet_logs}
+use Rattle.paraid_recover.proofs.StillLemmas.{log_logs, logs_still, logs_then, quiet_logs}
 use Rattle.paraid_recover.proofs.mounting.settle.Given.{Over}
 use Rattle.paraid_recover.proofs.mounting.settle.Goals as goal
 use Rattle.paraid_recover.proofs.mounting.settle.Goals.{After-mark_out, After-read_map, After-sync_all}
@@ -116,16 +119,17 @@ both_each g c =
     each_then _ _ _ c.read_map.ensures.each c.sync_all.ensures.each
     (left_spared c.in_default.field-0 (g.R.Rack.slot (store_rack c.args.store.now)) (g.R.Rack.slot (store_rack c.read_map.new.store)) c.in_default.ensures.read.left).no_fall c.sync_all.ensures.powers.no_fall
 
+-- one disk at most is out once the map was read
+read_one : (g : Over) (c : After-sync_all g) → IsOneOut c.args.meta.now.setup.geometry.disks (named_out c.args.meta.now.out) (slot_1 g c)
+read_one g c =
+    let m = c.args.meta.now in
+    one_read m.setup.geometry.disks (named_out m.out) c.in_default.field-0 (slot_0 g c) (slot_1 g c) c.in_default.ensures.read.left
+    (λ e is. sym (out_by g (goal.at.After-sync_all g c).After-read_map) ∙ (c.in_default.ensures.alone e is).1) c.requires.can.fit.one
+
 one_out : (g : Over) (c : After-mark_out g) → IsOneOut (n g c) (named_out c.args.meta.now.out) (g.R.Rack.slot (store_rack c.sync_all.new.self))
 one_out g c =
     let same = c.in_default.ensures.read.same in
-    let m = c.args.meta.now in
-    let slot = g.R.Rack.slot (store_rack c.args.store.now) in
-    let out_is : store_out g.R.Rack.slot c.args.store.now ≡ or_else (named_out m.out) (first_absent (λ d. (slot d).power) m.setup.geometry.disks) =
-    ap (λ (o : Option ℕ). or_else o (first_absent (λ d. (slot d).power) c.args.store.now.disks)) c.requires.can.named
-    ∙ ap (λ (k : ℕ). or_else (named_out m.out) (first_absent (λ d. (slot d).power) k)) c.requires.can.disks in
-    let read = one_read (n g c) (named_out m.out) c.in_default.field-0 slot (g.R.Rack.slot (store_rack c.read_map.new.store)) c.in_default.ensures.read.left
-    (λ e is. sym out_is ∙ (c.in_default.ensures.alone e is).1) c.requires.can.fit.one in
+    let read = read_one g (goal.at.After-mark_out g c).After-sync_all in
     subst (λ (o : Option ℕ). IsOneOut (n g c) o (g.R.Rack.slot (store_rack c.sync_all.new.self))) (same.named ∙ c.requires.can.named)
     (subst (λ (k : ℕ). IsOneOut k c.read_map.new.store.named (g.R.Rack.slot (store_rack c.sync_all.new.self))) (same.disks ∙ c.requires.can.disks)
     (c.in_default-sync_all.ensures.one
@@ -220,6 +224,50 @@ out_at g c slot mark = IsOutOfCommit (λ e. (slot e).power) c.args.meta.now.setu
 all_each : (g : Over) (c : After-mark_out g) → AreFailedOrWell (g.R.Rack.slot (store_rack c.args.store.now)) (g.R.Rack.slot (store_rack c.mark_out.new.store))
 all_each g c = each_then _ _ _ (both_each g c) c.mark_out.ensures.kept.each (both_spared g c).no_fall c.mark_out.ensures.kept.powers.no_fall
 
+-- which of two disks failed first, where the syncs end by the second
+abbrev out_0 : (g : Over) (c : After-sync_all g) → ℕ → Type 0
+out_0 g c = IsOutOfCommit (λ e. (slot_0 g c e).power) c.args.meta.now.setup.geometry.disks (named_out c.args.meta.now.out) None
+
+sync_tells : (g : Over) (c : After-sync_all g) (two : Two)
+    → TellsSecondLoss (IsOutOfCommit (λ e. (slot_1 g c e).power) c.read_map.new.store.disks c.read_map.new.store.named None) (g.R.Rack.told (store_rack c.read_map.new.store)) (g.R.Rack.told (store_rack c.sync_all.new.self)) two
+    → TellsSecondLoss (out_0 g c) (g.R.Rack.told (store_rack c.args.store.now)) (g.R.Rack.told (store_rack c.sync_all.new.self)) two
+sync_tells g c two order =
+    let m = c.args.meta.now in
+    let k = m.setup.geometry.disks in
+    let same = c.in_default.ensures.read.same in
+    let power = (λ (e : ℕ). (slot_1 g c e).power) in
+    let told_0 = g.R.Rack.told (store_rack c.args.store.now) in
+    let told_1 = g.R.Rack.told (store_rack c.read_map.new.store) in
+    let told_2 = g.R.Rack.told (store_rack c.sync_all.new.self) in
+    let at = (goal.at.After-sync_all g c).After-read_map in
+    still_tells m (slot_0 g c) (slot_1 g c) told_0 told_1 (g.met.R.Rack.agrees (store_rack c.args.store.now)) (g.met.R.Rack.agrees (store_rack c.read_map.new.store))
+    (logs_still told_0 told_1 (map_still g at (quiet_reads c.args.store.now.disks told_0 told_1 c.in_default.ensures.read.calls))) (map_allowed g at) (λ one. read_one g c) told_2 two
+    (subst (λ (o : Option ℕ). TellsSecondLoss (IsOutOfCommit power k o None) told_1 told_2 two) (same.named ∙ c.requires.can.named)
+    (subst (λ (x : ℕ). TellsSecondLoss (IsOutOfCommit power x c.read_map.new.store.named None) told_1 told_2 two) (same.disks ∙ c.requires.can.disks) order))
+
+-- and where the mark of a disk does
+mark_tells : (g : Over) (c : After-mark_out g) (two : Two)
+    → TellsSecondLoss (IsOutOfCommit (λ e. (g.R.Rack.slot (store_rack c.sync_all.new.self) e).power) c.sync_all.new.self.disks c.sync_all.new.self.named (to_mark (λ d. (g.R.Rack.slot (store_rack c.sync_all.new.self) d).power) c.args.meta.now))
+    (g.R.Rack.told (store_rack c.sync_all.new.self)) (g.R.Rack.told (store_rack c.mark_out.new.store)) two
+    → TellsSecondLoss (out_0 g (goal.at.After-mark_out g c).After-sync_all) (g.R.Rack.told (store_rack c.args.store.now)) (g.R.Rack.told (store_rack c.mark_out.new.store)) two
+mark_tells g c two order =
+    let m = c.args.meta.now in
+    let k = n g c in
+    let named = named_out m.out in
+    let b = g.R.Rack.slot (store_rack c.sync_all.new.self) in
+    let power = (λ (e : ℕ). (b e).power) in
+    let mark = to_mark power m in
+    let told_0 = g.R.Rack.told (store_rack c.args.store.now) in
+    let told_2 = g.R.Rack.told (store_rack c.sync_all.new.self) in
+    let told_3 = g.R.Rack.told (store_rack c.mark_out.new.store) in
+    let at = (goal.at.After-mark_out g c).After-sync_all in
+    still_tells m (slot_0 g at) b told_0 told_2 (g.met.R.Rack.agrees (store_rack c.args.store.now)) (g.met.R.Rack.agrees (store_rack c.sync_all.new.self))
+    (logs_still told_0 told_2 (sync_still g at)) (sync_allowed g at) (λ one. one_out g c) told_3 two
+    (tells_same (IsOutOfCommit power k named mark) (IsOutOfCommit power k named None) told_2 told_3 two
+    (out_unmarked power k named mark (λ d is. let it = marks power m d c.requires.can.fit.in_range is in (it.0, it.1))) (out_more power k named mark)
+    (subst (λ (o : Option ℕ). TellsSecondLoss (IsOutOfCommit power k o mark) told_2 told_3 two) (named_is g c)
+    (subst (λ (x : ℕ). TellsSecondLoss (IsOutOfCommit power x c.sync_all.new.self.named mark) told_2 told_3 two) (disks_is g c) order)))
+
 pub returns-in-Ok : goal.returns-in-Ok
 returns-in-Ok g c = record {
   rows = c.read_map.ensures.rows;
@@ -231,6 +279,7 @@ returns-in-Ok g c = record {
     each = all_each g (goal.at.returns-in-Ok g c).After-mark_out;
     two = tt;
     gone = tt;
+    order = tt;
   };
   stood = record {
     epoch = c.in-Ok.ensures.epoch;
@@ -325,6 +374,7 @@ returns-in-Err-mark_out g c = record {
         (out_unmarked power (n g at) (named_out m.out) mark (λ d is. let it = marks power m d c.requires.can.fit.in_range is in (it.0, it.1)))
         (subst (λ (o : Option ℕ). AreGoneSince (IsOutOfCommit power (n g at) o mark) b (slot_3 g at) two) (named_is g at)
         (subst (λ (k : ℕ). AreGoneSince (IsOutOfCommit power k c.sync_all.new.self.named mark) b (slot_3 g at) two) (disks_is g at) c.in-Err-mark_out.ensures.kept.gone)));
+    order = mark_tells g (goal.at.returns-in-Err-mark_out g c).After-mark_out c.in-Err-mark_out.two c.in-Err-mark_out.ensures.kept.order;
   };
   stood = tt;
   given = tt;
@@ -370,6 +420,7 @@ returns-in-Err-sync_all g c = record {
         (none_comes (slot_0 g at) (slot_1 g at) (first_spared g at)) (λ d. stays_absent (slot_1 g at) (slot_2 g at) d after) two
         (subst (λ (o : Option ℕ). AreGoneSince (IsOutOfCommit power k o None) (slot_1 g at) (slot_2 g at) two) (same.named ∙ c.requires.can.named)
         (subst (λ (x : ℕ). AreGoneSince (IsOutOfCommit power x c.read_map.new.store.named None) (slot_1 g at) (slot_2 g at) two) (same.disks ∙ c.requires.can.disks) c.in-Err-sync_all.ensures.gone));
+    order = sync_tells g (goal.at.returns-in-Err-sync_all g c).After-sync_all c.in-Err-sync_all.two c.in-Err-sync_all.ensures.order;
   };
   stood = tt;
   given = tt;
@@ -404,6 +455,11 @@ returns-in-Err g c = record {
         let a = g.R.Rack.slot (store_rack c.args.store.now) in
         gone_beside (λ d. out ≡ Some d) (out_at g at a None) a (g.R.Rack.slot (store_rack c.read_map.new.store)) _
         (out_by_name (λ d. (a d).power) c.args.meta.now.setup.geometry.disks (named_out c.args.meta.now.out) out (out_by g at)) c.in-Err.ensures.gone;
+    order =
+        let at = (goal.at.returns-in-Err g c).After-read_map in
+        let m = c.args.meta.now in
+        tells_out m.setup.geometry.disks (named_out m.out) (g.R.Rack.slot (store_rack c.args.store.now)) (store_out g.R.Rack.slot c.args.store.now) (g.R.Rack.told (store_rack c.args.store.now)) (g.R.Rack.told (store_rack c.read_map.new.store)) _
+        (out_by g at) c.in-Err.ensures.two.tells;
   };
   stood = tt;
   given = tt;

@@ -17,6 +17,7 @@ use Rattle.paraid_txn.proofs.CommitPartLemmas.{EachCall-milder, ran_milder}
 use Rattle.paraid_txn.proofs.SyncLemmas.{raised}
 use Rattle.paraid_recover.specs.Quiet.{IsInLog}
 use Rattle.paraid_recover.specs.RecoveryMark.{to_mark}
+use Rattle.paraid_recover.specs.SecondLoss.{TellsSecondLoss}
 use Rattle.paraid_recover.proofs.RaisedLemmas.{none_done_if}
 use Rattle.paraid_recover.proofs.OneMarkedLemmas.{in_log}
 use Rattle.paraid_recover.specs.HeldMoments.{EndsHeld, KeepsHeld, Recovers, RecoversHeld}
@@ -128,6 +129,10 @@ returns-in_err-mark g c = record {
         raised _ _ _ c.from_residual.ensures.1
         (subst (λ (o : Option ℕ). AreGoneSince (IsOutOfCommit (λ e. (g.R.Rack.slot c.args.store.now.rack e).power) c.args.store.now.disks c.args.store.now.named o)
         (g.R.Rack.slot c.args.store.now.rack) (g.R.Rack.slot c.mark.new.store.rack) c.in_err-mark.field-0.0) (sym c.in-Some.is ∙ c.unmarked.ensures.value) c.in_err-mark.ensures.kept.gone);
+    order =
+        raised _ _ _ c.from_residual.ensures.1
+        (subst (λ (o : Option ℕ). TellsSecondLoss (IsOutOfCommit (λ e. (g.R.Rack.slot c.args.store.now.rack e).power) c.args.store.now.disks c.args.store.now.named o)
+        (g.R.Rack.told c.args.store.now.rack) (g.R.Rack.told c.mark.new.store.rack) c.in_err-mark.field-0.0) (sym c.in-Some.is ∙ c.unmarked.ensures.value) c.in_err-mark.ensures.kept.order);
   };
   given = none_done_if _ c.from_residual.result _ c.from_residual.ensures.1;
   epoch = none_done_if _ c.from_residual.result _ c.from_residual.ensures.1;
@@ -153,6 +158,7 @@ returns g c = record {
     each = c.mark.ensures.kept.each;
     two = tt;
     gone = tt;
+    order = tt;
   };
   given =
       let at = goal.at.returns g c in
@@ -233,6 +239,7 @@ returns-in_default g c =
         each = c.renew.ensures.kept.each;
         two = subst (λ (o : Option ℕ). IfErr c.renew.result (AreTwoDownBeside (out o) a b)) none c.renew.ensures.kept.two;
         gone = subst (λ (o : Option ℕ). IfErr c.renew.result (AreGoneSince (out o) a b)) none c.renew.ensures.kept.gone;
+        order = subst (λ (o : Option ℕ). IfErr c.renew.result (TellsSecondLoss (out o) (g.R.Rack.told c.args.store.now.rack) (g.R.Rack.told c.renew.new.store.rack))) none c.renew.ensures.kept.order;
       };
       given = subst (λ (o : Option ℕ). IfOk c.renew.result (λ n. n ≡ with_mark m o)) none c.renew.ensures.given;
       epoch = c.renew.ensures.epoch;

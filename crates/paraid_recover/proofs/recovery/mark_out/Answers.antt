@@ -1,14 +1,17 @@
-use Rattle.std.specs.Prelude.{◌≡◌, ◌≤◌, ℕ, true, false, Option, Some}
+use Rattle.std.specs.Prelude.{◌≡◌, ◌≤◌, ℕ, true, false, Option, Some, None}
 use Rattle.std.proofs.Common.{ap, arith, inl, inr, refl, subst, sym, ◌∙◌}
+use Rattle.paraid_base.specs.declared.fault.Two.{Two}
 use Rattle.paraid_rack.specs.Slots.{Slot}
 use Rattle.paraid_rack.specs.Told.{Ran}
 use Rattle.paraid_rack.specs.Trail.{Trail, now}
 use Rattle.paraid_record.specs.declared.meta.Meta.{Meta}
 use Rattle.paraid_record.specs.declared.meta.Setup.{Setup}
+use Rattle.paraid_image.specs.Lost.{EndsByLoss}
 use Rattle.paraid_image.specs.Out.{named_out}
 use Rattle.paraid_rack.specs.Atoms.{IsSure}
 use Rattle.paraid_image.specs.Sides.{LogState, is_open}
-use Rattle.paraid_txn.specs.Losses.{AreFailedOrWell, IsSyncedAt, OnlyLosesSlots}
+use Rattle.paraid_txn.specs.Losses.{AreFailedOrWell, IsOneOut, IsOutOfCommit, IsSyncedAt, OnlyLosesSlots}
+use Rattle.paraid_txn.specs.Losses.IsOutOfCommit.{was_named}
 use Rattle.paraid_txn.specs.Stores.{store_rack}
 use Rattle.paraid_txn.specs.Uses.{EachCall}
 use Rattle.paraid_recover.specs.Bearing.{BearsAgainst, EndsBorne, IsBorneAgainst, IsNamedLog}
@@ -16,12 +19,16 @@ use Rattle.paraid_recover.specs.HeldMoments.{EndsHeld, Recovers, RecoversHeld}
 use Rattle.paraid_recover.specs.MountCalls.{OnlyMountCalls}
 use Rattle.paraid_recover.specs.Quiet.{IsInLog}
 use Rattle.paraid_recover.specs.RecoveryMark.{to_mark, with_mark}
+use Rattle.paraid_recover.specs.SecondLoss.{TellsSecondLoss}
 use Rattle.paraid_recover.specs.StandingMetas.{StandsInMoments}
 use Rattle.paraid_recover.specs.StandingMetas.StandsForeseen.{marked}
 use Rattle.paraid_recover.proofs.BearerLemmas.{bearer_calls, bearer_clean, bearer_each, bearer_gone, bearer_log, bearer_one, bearer_synced, bearer_two, borne_sure, can_bear, log_named, not_second, one_named, second_kept}
 use Rattle.paraid_recover.proofs.BearingLemmas.{bearing_ends, bearing_holds, bearing_metas}
 use Rattle.paraid_recover.proofs.FitLemmas.{each_then, marks, spared_both}
 use Rattle.paraid_recover.proofs.MountCallsLemmas.{calls_then, mount_then}
+use Rattle.paraid_recover.proofs.GoneLemmas.{out_unmarked}
+use Rattle.paraid_recover.proofs.SecondLossLemmas.{one_fewer, out_more, still_tells, tells_same, tells_second}
+use Rattle.paraid_recover.proofs.StillLemmas.{log_logs, logs_still}
 use Rattle.paraid_recover.proofs.ServableLemmas.{disks_marked, names_stay}
 use Rattle.paraid_recover.proofs.recovery.mark_out.Given.{Over}
 use Rattle.paraid_recover.proofs.recovery.mark_out.Goals as goal
@@ -53,6 +60,7 @@ returns-in-Err g c = record {
     each = c.mark_or_renew.ensures.kept.each;
     two = c.in-Err.ensures.kept.two;
     gone = c.in-Err.ensures.kept.gone;
+    order = c.in-Err.ensures.kept.order;
   };
   given = tt;
   epoch = tt;
@@ -134,6 +142,30 @@ metas g c slots x said old is r before =
     (c.mark_or_renew.ensures.recovers.holds slots x said old is r) (c.in-Ok.ensures.ends slots x said old is r)
     (λ s i. marked (mark g c) (c.in-Ok.ensures.given ∙ ap (λ (m : Meta). with_mark m (mark g c)) (sym is))) (c.mark_or_renew.ensures.recovers.metas slots x said old is r before)
 
+-- the log disk that the meta named out is down, and disk 2 fails
+tells : (g : Over) (c : After-bear_named g) (two : Two) → IsNamedLog (named_out c.args.meta.now.out) two.first × (two.second ≡ 2) → Ran (told_1 g c) (told_2 g c) (λ s cs. EndsByLoss (Some 2) cs)
+    → TellsSecondLoss (IsOutOfCommit (λ e. (slot_0 g c e).power) c.args.store.now.disks c.args.store.now.named (mark g c)) (told_0 g c) (told_2 g c) two
+tells g c two is fails =
+    let m = c.args.meta.now in
+    let n = m.setup.geometry.disks in
+    let named = named_out m.out in
+    let power = (λ (e : ℕ). (slot_0 g c e).power) in
+    subst (λ (k : ℕ). TellsSecondLoss (IsOutOfCommit power k c.args.store.now.named (mark g c)) (told_0 g c) (told_2 g c) two) (sym c.requires.can.disks)
+    (subst (λ (o : Option ℕ). TellsSecondLoss (IsOutOfCommit power n o (mark g c)) (told_0 g c) (told_2 g c) two) (sym c.requires.can.named)
+    (tells_same (IsOutOfCommit power n named None) (IsOutOfCommit power n named (mark g c)) (told_0 g c) (told_2 g c) two
+    (out_more power n named (mark g c)) (out_unmarked power n named (mark g c) (λ d to. let it = marks power m d c.requires.can.in_range to in (it.0, it.1)))
+    (still_tells m (slot_0 g c) (slot_1 g c) (told_0 g c) (told_1 g c) (g.met.R.Rack.agrees (store_rack c.args.store.now)) (g.met.R.Rack.agrees (store_rack c.mark_or_renew.new.store))
+    (logs_still (told_0 g c) (told_1 g c) (log_logs c.args.store.now.disks (told_0 g c) (told_1 g c) c.mark_or_renew.ensures.calls)) c.mark_or_renew.ensures.recovers.allowed
+    (λ one.
+    one_fewer n named (named_out c.in-Ok.stands.out) (slot_1 g c) (names g c)
+    (subst (λ (k : ℕ). IsOneOut k (named_out c.in-Ok.stands.out) (slot_1 g c)) c.requires.can.disks
+    (c.in-Ok.ensures.one
+    (subst (λ (k : ℕ). IsOneOut k c.args.store.now.named (slot_0 g c)) (sym c.requires.can.disks)
+    (subst (λ (o : Option ℕ). IsOneOut n o (slot_0 g c)) (sym c.requires.can.named) one)))))
+    (told_2 g c) two
+    (tells_second (IsOutOfCommit (λ e. (slot_1 g c e).power) n named None) (told_1 g c) (told_2 g c) two (was_named is.0.0) (let low = is.0.1 in let at = is.1 in omega arith)
+    (subst (λ (k : ℕ). Ran (told_1 g c) (told_2 g c) (λ s cs. EndsByLoss (Some k) cs)) (sym is.1) fails)))))
+
 pub returns-in-Err-bear_named : goal.returns-in-Err-bear_named
 returns-in-Err-bear_named g c =
     let at = (goal.at.returns-in-Err-bear_named g c).After-bear_named in
@@ -149,6 +181,7 @@ returns-in-Err-bear_named g c =
             c.in-Err-bear_named.ensures.two part c.mark_or_renew.ensures.kept.powers;
         gone = bearer_gone g.R.Rack o c.mark_or_renew.new.store c.bear_named.new.store (slot_0 g at) c.args.store.now.disks c.args.store.now.named (mark g at) c.in-Err-bear_named.two c.requires.can.named
             c.in-Err-bear_named.ensures.two part c.mark_or_renew.ensures.kept.powers;
+        order = tells g at c.in-Err-bear_named.two c.in-Err-bear_named.ensures.two part.ends;
       };
       given = tt;
       epoch = tt;
@@ -232,6 +265,7 @@ returns-in-Ok-bear_named g c =
         each = each g at (bearer_each g.R.Rack o mid new true part);
         two = tt;
         gone = tt;
+        order = tt;
       };
       given = c.in-Ok.ensures.given;
       epoch = c.in-Ok.ensures.epoch ∙ sym part.same.epoch;

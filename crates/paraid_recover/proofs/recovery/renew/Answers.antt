@@ -14,6 +14,8 @@ use Rattle.paraid_recover.specs.HeldMoments.{EndsHeld, Recovers, RecoversHeld}
 use Rattle.paraid_recover.specs.Quiet.{IsInLog}
 use Rattle.paraid_recover.specs.MountCalls.{OnlyMountCalls}
 use Rattle.paraid_recover.specs.RecoveryMark.{of_version_two}
+use Rattle.paraid_recover.specs.SecondLoss.{TellsSecondLoss}
+use Rattle.paraid_recover.proofs.SecondLossLemmas.{out_more, tells_same}
 use Rattle.paraid_recover.proofs.RaisedLemmas.{none_done_if}
 use Rattle.paraid_recover.proofs.SyncedLemmas.{nothing_failed, nothing_lost}
 use Rattle.paraid_recover.proofs.RenewLemmas.{renewed_two}
@@ -67,6 +69,7 @@ returns-then-meta-ne1 g c = record {
     each = nothing_failed _;
     two = tt;
     gone = tt;
+    order = tt;
   };
   given =
       let test = c.if-meta-ne1.true in
@@ -117,6 +120,15 @@ returns-in_err-commit g c = record {
         raised _ _ _ c.from_residual.ensures.1
         (gone_beside (IsOutOfCommit power n named named) (IsOutOfCommit power n named None) a b c.in_err-commit.field-0.0 (out_named_twice power n named)
         (subst (λ (o : Option ℕ). AreGoneSince (IsOutOfCommit power n named o) a b c.in_err-commit.field-0.0) (sym c.requires.can.named) c.in_err-commit.ensures.gone));
+    order =
+        let at = (goal.at.returns-in_err-commit g c).After-commit in
+        let n = c.args.store.now.disks in
+        let named = c.args.store.now.named in
+        let power = (λ (e : ℕ). (g.R.Rack.slot c.args.store.now.rack e).power) in
+        let two = c.in_err-commit.field-0.0 in
+        raised _ _ _ c.from_residual.ensures.1
+        (tells_same (IsOutOfCommit power n named named) (IsOutOfCommit power n named None) (told_0 g at) (told_1 g at) two (out_named_twice power n named) (out_more power n named named)
+        (subst (λ (o : Option ℕ). TellsSecondLoss (IsOutOfCommit power n named o) (told_0 g at) (told_1 g at) two) (sym c.requires.can.named) c.in_err-commit.ensures.order));
   };
   given = none_done_if _ c.from_residual.result _ c.from_residual.ensures.1;
   epoch = none_done_if _ c.from_residual.result _ c.from_residual.ensures.1;
@@ -144,6 +156,7 @@ returns g c = record {
     each = c.commit.ensures.each;
     two = tt;
     gone = tt;
+    order = tt;
   };
   given =
       let not = c.if-meta-ne1.false in
