@@ -9,8 +9,9 @@ use Rattle.paraid_core.specs.declared.staged.Core.{Core}
 use Rattle.paraid_core.specs.Begin.{IsPoweredBy}
 use Rattle.paraid_core.specs.Cores.{core_rack}
 use Rattle.paraid_recover.specs.Mount.{HasMounted}
-use Rattle.paraid_recover.specs.Mounted.{AreAllSynced, IsServable}
+use Rattle.paraid_recover.specs.Mounted.{IsServable}
 use Rattle.paraid_session.specs.Mount.{IsMountedFromEach}
+use Rattle.paraid_session.specs.Powers.{AreAllSynced}
 use Rattle.paraid_session.specs.Turn.{Point}
 use Rattle.paraid_recover.specs.FirstPoint.{IsFirstPoint}
 use Rattle.paraid_txn.specs.Stores.{disks_of, epoch_of, named_of}

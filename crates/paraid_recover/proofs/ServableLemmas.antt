@@ -28,7 +28,8 @@ use Rattle.paraid_txn.specs.Losses.IsOutOfCommit.{is_absent, was_named, is_named
 use Rattle.paraid_txn.proofs.MeansLemmas.{absent_power}
 use Rattle.paraid_recover.specs.HeldMoments.{IsOutAtEnd}
 use Rattle.paraid_recover.specs.RecoveryMark.{to_mark, to_mark_by, with_mark}
-use Rattle.paraid_recover.specs.Mounted.{AreAllSynced, IsFit, IsServable, with_loss}
+use Rattle.paraid_session.specs.Powers.{AreAllSynced}
+use Rattle.paraid_recover.specs.Mounted.{IsFit, IsServable, with_loss}
 use Rattle.paraid_recover.specs.Powers.{IsPowered, IsPowerChanged}
 use Rattle.paraid_recover.proofs.RenewLemmas.{renewed_out, renewed_setup}
 use Rattle.paraid_recover.proofs.FitLemmas.{fit_marked, gone_named, marks, spinning_if}

@@ -14,7 +14,7 @@ use Rattle.paraid_record.specs.declared.meta.Setup.{Setup}
 use Rattle.paraid_txn.specs.Ready.{IsLogReady}
 use Rattle.paraid_txn.specs.Uses.{CanSync}
 use Rattle.paraid_txn.specs.Losses.{AreFailedOrWell, IsSyncedAt, OnlyLosesSlots, StaySynced}
-use Rattle.paraid_recover.specs.Mounted.{AreAllSynced}
+use Rattle.paraid_session.specs.Powers.{AreAllSynced}
 use Rattle.paraid_recover.specs.RecoveryMark.{renewed_by, to_mark, to_mark_by, with_mark}
 use Rattle.paraid_recover.proofs.ServableLemmas.{disks_marked}
 

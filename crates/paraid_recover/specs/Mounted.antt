@@ -11,7 +11,8 @@ use Rattle.paraid_record.specs.Range.{IsInRange}
 use Rattle.paraid_image.specs.Mark.{marked_gone}
 use Rattle.paraid_image.specs.Out.{named_out}
 use Rattle.paraid_image.specs.Power.{power_by_gear}
-use Rattle.paraid_txn.specs.Losses.{IsSyncedAt, IsOneOut}
+use Rattle.paraid_session.specs.Powers.{AreAllSynced}
+use Rattle.paraid_txn.specs.Losses.{IsOneOut}
 use Rattle.paraid_recover.specs.RecoveryMark.{to_mark}
 
 -- The slots fit the meta: each disk of the array has its slot, and each that is there and not gone
@@ -25,10 +26,6 @@ pub record IsFit (count : ℕ) (slot : ℕ → Slot) (m : Meta) : Type 0 where
   pub awake : (d : ℕ) → d < m.gear → named_out m.out ≢ Some d → (slot d).power ≢ Parked
   pub fresh : (d rebuilt : ℕ) → m.out ≡ Fresh d rebuilt → (slot d).power ≢ Parked
   pub one : IsOneOut m.setup.geometry.disks (named_out m.out) slot
-
--- each disk of the array that is there and not gone has nothing unsynced
-abbrev pub AreAllSynced : Meta → (ℕ → Slot) → Type 0
-AreAllSynced m slot = (d : ℕ) → d < m.setup.geometry.disks → gone_out m.out ≢ Some d → IsSyncedAt slot d
 
 -- the meta in memory where this disk, or none, has been lost since the last commit
 abbrev pub with_loss : Meta → Option ℕ → Meta

@@ -12,6 +12,7 @@ use Rattle.paraid_record.specs.declared.meta.Meta.{Meta}
 use Rattle.paraid_record.specs.Range.{IsInRange}
 use Rattle.paraid_image.specs.Out.{named_out}
 use Rattle.paraid_image.specs.Sides.{Batch, LogState}
+use Rattle.paraid_session.specs.Powers.{AreAllSynced}
 use Rattle.paraid_txn.specs.declared.store.Store.{Store}
 use Rattle.paraid_txn.specs.Losses.{AreFailedOrWell, AreGoneSince, AreTwoDownBeside, IsOneOut, OnlyLosesSlots, StaySynced}
 use Rattle.paraid_txn.specs.Ready.{IsLogReady}
@@ -22,7 +23,7 @@ use Rattle.paraid_recover.specs.HeardSides.{AtMost, IsHeardAt, IsHeardBy, IsInFo
 use Rattle.paraid_recover.specs.HeldMoments.{Recovers, RecoversHeld}
 use Rattle.paraid_recover.specs.Map.{ChangesByBatch, IsNarrow, KeepsFar}
 use Rattle.paraid_recover.specs.MountCalls.{OnlyMountCalls}
-use Rattle.paraid_recover.specs.Mounted.{AreAllSynced, IsFit}
+use Rattle.paraid_recover.specs.Mounted.{IsFit}
 use Rattle.paraid_recover.specs.SecondLoss.{TellsSecondLoss}
 use Rattle.paraid_recover.specs.StandingMetas.{StandsInMoments, StandsThroughMount}
 

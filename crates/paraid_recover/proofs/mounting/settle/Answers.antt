@@ -14,7 +14,7 @@ use Rattle.paraid_txn.specs.Uses.{EachCall}
 use Rattle.paraid_view.proofs.TwoLemmas.{left_spared}
 use Rattle.paraid_recover.specs.EndOfMount.{IsMarkAtMoment}
 use Rattle.paraid_recover.specs.HeldMoments.{Recovers}
-use Rattle.paraid_recover.specs.Mounted.{AreAllSynced}
+use Rattle.paraid_session.specs.Powers.{AreAllSynced}
 use Rattle.paraid_recover.proofs.BearerLemmas.{bears_fit}
 use Rattle.paraid_recover.proofs.SyncedLemmas.{log_kept, marked_synced, sync_kept}
 use Rattle.paraid_recover.proofs.MarkMomentLemmas.{mark_before, mark_by_slots, mark_later}
