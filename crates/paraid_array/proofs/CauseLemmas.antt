@@ -37,7 +37,7 @@ use Rattle.paraid_serve.specs.Causes.{Accepts, Begins, CommitsFew, Counts, Does,
 use Rattle.paraid_serve.specs.Causes.HasReason.{done as reason_done, quiet as reason_quiet, two as reason_two, worn as reason_worn}
 use Rattle.paraid_serve.specs.Lost.{HaltsByTwoLost}
 use Rattle.paraid_serve.proofs.OwedLemmas.{no_halt_done, no_halt_quiet}
-use Rattle.paraid_array.specs.Laws.{gear_going}
+use Rattle.paraid_array.specs.Laws.{all_synced, gear_going}
 use Rattle.paraid_array.specs.declared.ended.Ended.{Ended}
 use Rattle.paraid_upkeep.specs.DiskRefusals.{HasMarkedTaken, IsFailRefused, IsReplaceRefused}
 use Rattle.paraid_upkeep.specs.Directions.{HasMarkedShift, IsRefusedTo, MayGo, asked_event}
@@ -60,12 +60,12 @@ use Rattle.paraid_upkeep.specs.declared.fault.ReplaceFault.TheVariants.{NoDisk a
 use Rattle.paraid_array.proofs.AnswerLemmas.{same_test}
 use Rattle.paraid_session.proofs.FaultLemmas.{same_counts}
 use Rattle.paraid_session.specs.Faults.{HaveNotFallen}
-use Rattle.paraid_session.specs.Powers.{FitsSlots}
+use Rattle.paraid_session.specs.Powers.{AreAllSynced, FitsSlots}
 use Rattle.paraid_session.specs.Turn.{halt_told, may_halt}
 use Rattle.paraid_array.specs.declared.array.Array.{Array}
 use Rattle.paraid_array.specs.Arrays.{shown_of_array}
-use Rattle.paraid_array.specs.Lasting.{gear_of_end, halt_of_end, samples_held}
-use Rattle.paraid_gear.specs.ThreeWindows.{sample_of}
+use Rattle.paraid_array.specs.Lasting.{IsArrayServing, gear_of_end, halt_of_end, samples_held}
+use Rattle.paraid_gear.specs.ThreeWindows.{lengths_of, sample_of}
 
 below_max : (a b : ℕ) → a < worn_at → b < worn_at → max a b < worn_at
 below_max a b x y = grind (arith)
@@ -110,11 +110,11 @@ pub commits_once : (x y : Shown) (first : Bool) → y.meta.epoch ≡ x.meta.epoc
 commits_once x y true is = commits_by x y 1 1 (omega arith) is
 commits_once x y false is = commits_by x y 0 1 (omega arith) is
 
-module _ {R : Type 0} {g : _} (slot : R → ℕ → Slot) (a : Array R g) where
+module _ {R : Type 0} {g : _} {count : R → ℕ} (slot : R → ℕ → Slot) (a : Array R g) where
   -- with no call
   pub quiet_cause : (event : Event) (answer : Answer) → halt_of_end a.ended ≡ None → halt_told answer ≡ None → Takes (shown_of_array slot a) event → quiet_answer (shown_of_array slot a) event ≡ Some answer
-      → Counts answer (shown_of_array slot a) (shown_of_array slot a) → FitsSlots (slot (core_rack a.core)) a.core.meta → HasCause (shown_of_array slot a) event answer (shown_of_array slot a)
-  quiet_cause event answer going no_halt takes is counts powered = record {
+      → Counts answer (shown_of_array slot a) (shown_of_array slot a) → IsArrayServing count slot a.core (lengths_of a.windows) a.setup a.slots → HasCause (shown_of_array slot a) event answer (shown_of_array slot a)
+  quiet_cause event answer going no_halt takes is counts q = record {
     reason = reason_quiet takes is (unchanged (shown_of_array slot a));
     setup = refl;
     halt = λ not. going ∙ sym no_halt;
@@ -122,7 +122,8 @@ module _ {R : Type 0} {g : _} (slot : R → ℕ → Slot) (a : Array R g) where
     counts = counts;
     commits = λ still. commits_none (shown_of_array slot a) (shown_of_array slot a) (most_commits (shown_of_array slot a) event) refl;
     later = same_counts (slot (core_rack a.core));
-    fits = λ still. powered;
+    fits = λ still. q.fits;
+    synced = λ still. all_synced slot a.core q.serving.copies_synced q.serving.unsynced;
   }
 
 same_marked : (o : Option ℕ) (m : Meta) → meta_with_lost o m ≡ meta_marked o m
@@ -145,16 +146,16 @@ halts_not o halt is none = let z : Some halt ≡ None = sym is ∙ none in cc
 
 -- The event was served, or two disks were lost in it.
 module _ (x y : Shown) (event : Event) (takes : Takes x event) (busy : quiet_answer x event ≡ None) (setup : y.setup ≡ x.setup) (later : HaveNotFallen x.slot y.slot) where
-  pub done_cause : (answer : Answer) → y.halt ≡ halt_told answer → (y.halt ≡ None → y.gear ≡ y.meta.gear) → Counts answer x y → Does x event answer y → CommitsFew x y (most_commits x event) → FitsSlots y.slot y.meta → HasCause x event answer y
-  done_cause answer halt gear counts does commits powered = record { reason = reason_done takes busy does; setup = setup; halt = λ not. halt; gear = λ not. told_gear x y answer halt gear (no_halt_done x y event answer does); counts = counts; commits = λ still. commits; later = later; fits = λ still. powered }
+  pub done_cause : (answer : Answer) → y.halt ≡ halt_told answer → (y.halt ≡ None → y.gear ≡ y.meta.gear) → Counts answer x y → Does x event answer y → CommitsFew x y (most_commits x event) → FitsSlots y.slot y.meta → AreAllSynced y.meta y.slot → HasCause x event answer y
+  done_cause answer halt gear counts does commits powered synced = record { reason = reason_done takes busy does; setup = setup; halt = λ not. halt; gear = λ not. told_gear x y answer halt gear (no_halt_done x y event answer does); counts = counts; commits = λ still. commits; later = later; fits = λ still. powered; synced = λ still. synced }
 
   pub two_cause : may_halt event ≡ true → y.gear ≡ x.gear → UsesOwn event x y → (pair : Two) → y.halt ≡ Some (HaltTwo pair) → HaltsByTwoLost (named_out x.meta.out) event x.slot y.slot (Some (HaltTwo pair)) → HasCause x event (Halted (HaltTwo pair)) y
-  two_cause asked gear used pair halt lost = record { reason = reason_two pair takes asked busy refl (lost pair refl) used; setup = setup; halt = λ not. halt; gear = λ not. gear; counts = tt; commits = λ still. absurd (halts_not y.halt (HaltTwo pair) halt still); later = later; fits = λ still. absurd (halts_not y.halt (HaltTwo pair) halt still) }
+  two_cause asked gear used pair halt lost = record { reason = reason_two pair takes asked busy refl (lost pair refl) used; setup = setup; halt = λ not. halt; gear = λ not. gear; counts = tt; commits = λ still. absurd (halts_not y.halt (HaltTwo pair) halt still); later = later; fits = λ still. absurd (halts_not y.halt (HaltTwo pair) halt still); synced = λ still. absurd (halts_not y.halt (HaltTwo pair) halt still) }
 
 -- it is worn
 pub worn_cause : (x y : Shown) (event : Event) (count : ℕ) → x.halt ≡ None → may_halt event ≡ true → worn_at ≤ count → count ≡ wear_shown x → IsUnchanged x y → y.setup ≡ x.setup → y.halt ≡ Some (Worn count) → y.gear ≡ x.gear
     → HaveNotFallen x.slot y.slot → HasCause x event (Halted (Worn count)) y
-worn_cause x y event count going asked many is same setup halt gear later = record { reason = reason_worn count going asked many is refl same; setup = setup; halt = λ not. halt; gear = λ not. gear; counts = tt; commits = λ still. absurd (halts_not y.halt (Worn count) halt still); later = later; fits = λ still. absurd (halts_not y.halt (Worn count) halt still) }
+worn_cause x y event count going asked many is same setup halt gear later = record { reason = reason_worn count going asked many is refl same; setup = setup; halt = λ not. halt; gear = λ not. gear; counts = tt; commits = λ still. absurd (halts_not y.halt (Worn count) halt still); later = later; fits = λ still. absurd (halts_not y.halt (Worn count) halt still); synced = λ still. absurd (halts_not y.halt (Worn count) halt still) }
 
 below_count : (a b : ℕ) → a < b → nat_lt a b ≡ true
 below_count a b l = grind (arith, nat_tests)
@@ -216,8 +217,8 @@ module _ {R : Type 0} {g : _} (slot : R → ℕ → Slot) (a : Array R g) (new :
 
 -- nothing was done for the event
 pub still_cause : (x y : Shown) (event : Event) (answer : Answer) → Takes x event → quiet_answer x event ≡ Some answer → IsUnchanged x y → y.setup ≡ x.setup → y.halt ≡ halt_told answer → (y.halt ≡ None → y.gear ≡ y.meta.gear) → Counts answer x y → HaveNotFallen x.slot y.slot
-    → FitsSlots y.slot y.meta → HasCause x event answer y
-still_cause x y event answer takes is same setup halt gear counts later powered = record { reason = reason_quiet takes is same; setup = setup; halt = λ not. halt; gear = λ not. told_gear x y answer halt gear (no_halt_quiet x event answer is); counts = counts; commits = λ still. commits_none x y (most_commits x event) (ap (λ (m : Meta). m.epoch) same.meta); later = later; fits = λ still. powered }
+    → FitsSlots y.slot y.meta → AreAllSynced y.meta y.slot → HasCause x event answer y
+still_cause x y event answer takes is same setup halt gear counts later powered synced = record { reason = reason_quiet takes is same; setup = setup; halt = λ not. halt; gear = λ not. told_gear x y answer halt gear (no_halt_quiet x event answer is); counts = counts; commits = λ still. commits_none x y (most_commits x event) (ap (λ (m : Meta). m.epoch) same.meta); later = later; fits = λ still. powered; synced = λ still. synced }
 
 -- why the disk that is out, or none, refuses
 no_refusal : (o : Out) → named_out o ≡ None → out_refusal o ≡ None
@@ -245,7 +246,7 @@ lost_meta m n e d none named (Some x) is =
 -- a disk that is taken out
 module _ {R : Type 0} {g : _} (slot : R → ℕ → Slot) (a : Array R g) (new : Core R g) (sum : ℕ) (d : ℕ) (takes : Takes (shown_of_array slot a) (Fail d)) (same_setup : a.core.meta.setup ≡ a.setup) (energy : sum ≡ a.ledger.total)
     (later : HaveNotFallen (slot (core_rack a.core)) (slot (core_rack new))) (writes : new.meta.writes ≡ a.core.meta.writes) (table : new.dirty ≡ a.core.dirty)
-    (commits : CommitsFew (shown_of_array slot a) (shown_with slot a.setup new sum (samples_held a.windows) (sample_of a.served) a.ended) 2) (powered : FitsSlots (slot (core_rack new)) new.meta)
+    (commits : CommitsFew (shown_of_array slot a) (shown_with slot a.setup new sum (samples_held a.windows) (sample_of a.served) a.ended) 2) (powered : FitsSlots (slot (core_rack new)) new.meta) (synced : AreAllSynced new.meta (slot (core_rack new)))
     (no_disk : a.core.meta.setup.geometry.disks ≤ d → new ≡ a.core)
     (out : (e : ℕ) → d < a.core.meta.setup.geometry.disks → named_out a.core.meta.out ≡ Some e → new ≡ a.core) where
   high : a.core.meta.setup.geometry.disks ≤ d → a.setup.geometry.disks ≤ d
@@ -268,20 +269,20 @@ module _ {R : Type 0} {g : _} (slot : R → ℕ → Slot) (a : Array R g) (new :
   fail_cause None going why taken marks lost =
       let t = taken refl in
       done_cause (shown_of_array slot a) (shown_with slot a.setup new sum (samples_held a.windows) (sample_of a.served) a.ended) (Fail d) takes (quietly_past (low t.0) ∙ no_refusal a.core.meta.out t.1) refl later (Failed d) going (gear_going a.ended new.meta.gear) (record { samples = refl; served = refl })
-      (refl, record { is = marks; dirty = ap is_dirty table; energy = λ fits. energy }) commits powered
+      (refl, record { is = marks; dirty = ap is_dirty table; energy = λ fits. energy }) commits powered synced
   fail_cause (Some (FailNoDisk e)) going why taken marks lost =
       still_cause (shown_of_array slot a) (shown_with slot a.setup new sum (samples_held a.windows) (sample_of a.served) a.ended) (Fail d) (NoDisk e) takes
-      (past_disks d a.setup.geometry.disks (out_refusal a.core.meta.out) (Some (NoDisk d)) (high why.1) ∙ ap (λ (z : ℕ). Some (NoDisk z)) (sym why.0)) (still (no_disk why.1)) refl going (gear_going a.ended new.meta.gear) (record { samples = refl; served = refl }) later powered
+      (past_disks d a.setup.geometry.disks (out_refusal a.core.meta.out) (Some (NoDisk d)) (high why.1) ∙ ap (λ (z : ℕ). Some (NoDisk z)) (sym why.0)) (still (no_disk why.1)) refl going (gear_going a.ended new.meta.gear) (record { samples = refl; served = refl }) later powered synced
   fail_cause (Some (FailOut e)) going why taken marks lost = elim why.1 [
     | inl was ↦ still_cause (shown_of_array slot a) (shown_with slot a.setup new sum (samples_held a.windows) (sample_of a.served) a.ended) (Fail d) (IsOut e) takes
-        (quietly_past (low why.0) ∙ out_refuses a.core.meta.out e was) (still (out e why.0 was)) refl going (gear_going a.ended new.meta.gear) (record { samples = refl; served = refl }) later powered
+        (quietly_past (low why.0) ∙ out_refuses a.core.meta.out e was) (still (out e why.0 was)) refl going (gear_going a.ended new.meta.gear) (record { samples = refl; served = refl }) later powered synced
     | inr now ↦ done_cause (shown_of_array slot a) (shown_with slot a.setup new sum (samples_held a.windows) (sample_of a.served) a.ended) (Fail d) takes (quietly_past (low why.0) ∙ no_refusal a.core.meta.out now.0) refl later (IsOut e) going (gear_going a.ended new.meta.gear) (record { samples = refl; served = refl })
-        (now.2, record { none = now.0; failed = lost e refl now.0; marks = record { is = lost_meta a.core.meta new.meta marks.0 e now.0 now.1 marks.1.lost marks.1.is; dirty = ap is_dirty table; energy = λ fits. energy } }) commits powered
+        (now.2, record { none = now.0; failed = lost e refl now.0; marks = record { is = lost_meta a.core.meta new.meta marks.0 e now.0 now.1 marks.1.lost marks.1.is; dirty = ap is_dirty table; energy = λ fits. energy } }) commits powered synced
   ]
 
 -- one that is replaced
 module _ {R : Type 0} {g : _} (slot : R → ℕ → Slot) (a : Array R g) (new : Core R g) (sum : ℕ) (d : ℕ) (takes : Takes (shown_of_array slot a) (Replace d)) (same_setup : a.core.meta.setup ≡ a.setup) (energy : sum ≡ a.ledger.total)
-    (later : HaveNotFallen (slot (core_rack a.core)) (slot (core_rack new))) (writes : new.meta.writes ≡ a.core.meta.writes) (table : new.dirty ≡ a.core.dirty) (powered : FitsSlots (slot (core_rack new)) new.meta)
+    (later : HaveNotFallen (slot (core_rack a.core)) (slot (core_rack new))) (writes : new.meta.writes ≡ a.core.meta.writes) (table : new.dirty ≡ a.core.dirty) (powered : FitsSlots (slot (core_rack new)) new.meta) (synced : AreAllSynced new.meta (slot (core_rack new)))
     (no_disk : a.core.meta.setup.geometry.disks ≤ d → new ≡ a.core)
     (in_place : d < a.core.meta.setup.geometry.disks → named_out a.core.meta.out ≢ Some d → new ≡ a.core) where
   low_replace : d < a.core.meta.setup.geometry.disks → d < a.setup.geometry.disks
@@ -326,21 +327,21 @@ module _ {R : Type 0} {g : _} (slot : R → ℕ → Slot) (a : Array R g) (new :
   replace_cause None going why there gone =
       let t = there refl in
       done_cause (shown_of_array slot a) (shown_with slot a.setup new sum (samples_held a.windows) (sample_of a.served) a.ended) (Replace d) takes (is_busy t.0 t.1) refl later (Replaced d) going (gear_going a.ended new.meta.gear) (record { samples = refl; served = refl })
-      (refl, replaces 2 (Fresh d 0) t.2) (replace_commits 2 (Fresh d 0) (omega arith) t.2) powered
+      (refl, replaces 2 (Fresh d 0) t.2) (replace_commits 2 (Fresh d 0) (omega arith) t.2) powered synced
   replace_cause (Some (ReplaceNoDisk e)) going why there gone =
       still_cause (shown_of_array slot a) (shown_with slot a.setup new sum (samples_held a.windows) (sample_of a.served) a.ended) (Replace d) (NoDisk e) takes
       (past_disks d a.setup.geometry.disks (if is_out (named_out a.core.meta.out) d then None else Some (NotOut d)) (Some (NoDisk d)) (subst (λ (z : Setup). z.geometry.disks ≤ d) same_setup why.1) ∙ ap (λ (z : ℕ). Some (NoDisk z)) (sym why.0))
-      (still_replace (no_disk why.1)) refl going (gear_going a.ended new.meta.gear) (record { samples = refl; served = refl }) later powered
+      (still_replace (no_disk why.1)) refl going (gear_going a.ended new.meta.gear) (record { samples = refl; served = refl }) later powered synced
   replace_cause (Some (ReplaceNotOut e)) going why there gone =
       still_cause (shown_of_array slot a) (shown_with slot a.setup new sum (samples_held a.windows) (sample_of a.served) a.ended) (Replace d) (NotOut e) takes
       (low_disks d a.setup.geometry.disks (if is_out (named_out a.core.meta.out) d then None else Some (NotOut d)) (Some (NoDisk d)) (low_replace why.1)
       ∙ ap (λ (t : Bool). if t then None else Some (NotOut d)) (in_test (named_out a.core.meta.out) why.2) ∙ ap (λ (z : ℕ). Some (NotOut z)) (sym why.0))
-      (still_replace (in_place why.1 why.2)) refl going (gear_going a.ended new.meta.gear) (record { samples = refl; served = refl }) later powered
+      (still_replace (in_place why.1 why.2)) refl going (gear_going a.ended new.meta.gear) (record { samples = refl; served = refl }) later powered synced
   replace_cause (Some (NoFresh e)) going why there gone =
       let t = gone (ap (λ (z : ℕ). Some (NoFresh z)) why.0) in
       done_cause (shown_of_array slot a) (shown_with slot a.setup new sum (samples_held a.windows) (sample_of a.served) a.ended) (Replace d) takes (is_busy why.1 why.2) refl later (NoFreshAnswer e) going (gear_going a.ended new.meta.gear) (record { samples = refl; served = refl })
       (why.0, t.0, elim t.1 [ inl once ↦ replaces 1 (Gone d) once | inr twice ↦ replaces 2 (Gone d) twice ])
-      (elim t.1 [ inl once ↦ replace_commits 1 (Gone d) (omega arith) once | inr twice ↦ replace_commits 2 (Gone d) (omega arith) twice ]) powered
+      (elim t.1 [ inl once ↦ replace_commits 1 (Gone d) (omega arith) once | inr twice ↦ replace_commits 2 (Gone d) (omega arith) twice ]) powered synced
 
 -- why a shift is refused by the machine, and the disks and phases that refuse it
 up_or : (setup : Setup) (s : PowerState) (next : Option ℕ) (phase : Phase) (out : Out) → next_higher setup.geometry s.gear ≡ next → s.phase ≡ phase → s.out ≡ out
@@ -423,7 +424,7 @@ module _ {R : Type 0} {g : _} (slot : R → ℕ → Slot) (a : Array R g) (new :
     (later : HaveNotFallen (slot (core_rack a.core)) (slot (core_rack new))) (writes : new.meta.writes ≡ a.core.meta.writes) (x : Asked)
     (energy : sum ≡ min (a.ledger.total + asked_energy a.setup a.core.meta.gear x) 18446744073709551615)
     (failed : named_out a.core.meta.out ≡ None → (d : ℕ) → named_out new.meta.out ≡ Some d → HasRisen (slot (core_rack a.core) d).faults (slot (core_rack new) d).faults)
-    (table : new.dirty ≡ a.core.dirty) (commits : CommitsFew (shown_of_array slot a) (shown_with slot a.setup new sum (samples_held a.windows) (sample_of a.served) a.ended) 2) (powered : FitsSlots (slot (core_rack new)) new.meta) where
+    (table : new.dirty ≡ a.core.dirty) (commits : CommitsFew (shown_of_array slot a) (shown_with slot a.setup new sum (samples_held a.windows) (sample_of a.served) a.ended) 2) (powered : FitsSlots (slot (core_rack new)) new.meta) (synced : AreAllSynced new.meta (slot (core_rack new))) where
   uses_nothing : asked_energy a.setup a.core.meta.gear x ≡ 0 → KeepsEnergy (shown_of_array slot a) (shown_with slot a.setup new sum (samples_held a.windows) (sample_of a.served) a.ended)
   uses_nothing none fits = energy ∙ ap (λ (n : ℕ). min (a.ledger.total + n) 18446744073709551615) none ∙ sym (by a.ledger.total fits)
     where
@@ -434,7 +435,7 @@ module _ {R : Type 0} {g : _} (slot : R → ℕ → Slot) (a : Array R g) (new :
       → HasCause (shown_of_array slot a) event (asked_answer a.core.meta.gear x) (shown_with slot a.setup new sum (samples_held a.windows) (sample_of a.served) a.ended)
   refused_cause event takes f is same quiet =
       subst (λ (z : Answer). HasCause (shown_of_array slot a) event z (shown_with slot a.setup new sum (samples_held a.windows) (sample_of a.served) a.ended)) (sym (ap (asked_answer a.core.meta.gear) is))
-      (still_cause (shown_of_array slot a) (shown_with slot a.setup new sum (samples_held a.windows) (sample_of a.served) a.ended) event (fault_answer f) takes quiet (unchanged_core slot a new sum same (uses_nothing (ap (asked_energy a.setup a.core.meta.gear) is))) refl (going ∙ sym (fault_going f)) (gear_going a.ended new.meta.gear) (fault_counts f (shown_of_array slot a) (shown_with slot a.setup new sum (samples_held a.windows) (sample_of a.served) a.ended) (record { samples = refl; served = refl })) later powered)
+      (still_cause (shown_of_array slot a) (shown_with slot a.setup new sum (samples_held a.windows) (sample_of a.served) a.ended) event (fault_answer f) takes quiet (unchanged_core slot a new sum same (uses_nothing (ap (asked_energy a.setup a.core.meta.gear) is))) refl (going ∙ sym (fault_going f)) (gear_going a.ended new.meta.gear) (fault_counts f (shown_of_array slot a) (shown_with slot a.setup new sum (samples_held a.windows) (sample_of a.served) a.ended) (record { samples = refl; served = refl })) later powered synced)
 
   -- what has begun by the meta
   begins_by : (m : Meta) (phase : Phase) (spins : List ℕ) (epoch : ℕ) (raised : ℕ → ℕ) → IsMarkedFrom (record (meta_after_begin m phase spins) { epoch = epoch }) new.meta → named_out a.core.meta.out ≡ None
@@ -496,7 +497,7 @@ module _ {R : Type 0} {g : _} (slot : R → ℕ → Slot) (a : Array R g) (new :
             done_cause (shown_of_array slot a) (shown_with slot a.setup new sum (samples_held a.windows) (sample_of a.served) a.ended) UpEvent takes goes.2 refl later (asked_answer a.core.meta.gear x) (going ∙ sym (asked_going a.core.meta.gear x)) (gear_going a.ended new.meta.gear)
             (asked_counts a.core.meta.gear x (shown_of_array slot a) (shown_with slot a.setup new sum (samples_held a.windows) (sample_of a.served) a.ended) (record { samples = refl; served = refl }))
             (begun_does (next_higher a.setup.geometry a.core.meta.gear) (λ to. Begins (shown_of_array slot a) (shown_with slot a.setup new sum (samples_held a.windows) (sample_of a.served) a.ended) (UpPhase to) (spins_up a.core.meta.gear to)) goes.0 goes.1.next (no_out a.core.meta.out goes.1.at_ease.whole) x refl (begins goes.0 s of (subst (λ (z : Setup). MayGoUp z s goes.0) (sym same_setup) goes.1))
-            (up_begins (no_out a.core.meta.out goes.1.at_ease.whole) marks) (up_stops marks)) commits powered
+            (up_begins (no_out a.core.meta.out goes.1.at_ease.whole) marks) (up_stops marks)) commits powered synced
       ]
 
   down_cause : Takes (shown_of_array slot a) DownEvent → ((f : ShiftFault) (s : PowerState) → IsShiftStateOf a.core.meta s → IsDownRefused a.core.meta.setup s f → ◌≡◌ {A = Result Asked Two} (Ok x) (Ok (Refused f)) × (new ≡ a.core))
@@ -512,7 +513,7 @@ module _ {R : Type 0} {g : _} (slot : R → ℕ → Slot) (a : Array R g) (new :
             done_cause (shown_of_array slot a) (shown_with slot a.setup new sum (samples_held a.windows) (sample_of a.served) a.ended) DownEvent takes goes.2 refl later (asked_answer a.core.meta.gear x) (going ∙ sym (asked_going a.core.meta.gear x)) (gear_going a.ended new.meta.gear)
             (asked_counts a.core.meta.gear x (shown_of_array slot a) (shown_with slot a.setup new sum (samples_held a.windows) (sample_of a.served) a.ended) (record { samples = refl; served = refl }))
             (begun_does (next_lower a.setup.geometry a.core.meta.gear) (λ to. Begins (shown_of_array slot a) (shown_with slot a.setup new sum (samples_held a.windows) (sample_of a.served) a.ended) (DownPhase to) (λ d. 0)) goes.0 goes.1.next (no_out a.core.meta.out goes.1.at_ease.whole) x refl (begins goes.0 s of (subst (λ (z : Setup). MayGoDown z s goes.0) (sym same_setup) goes.1))
-            (down_begins (no_out a.core.meta.out goes.1.at_ease.whole) marks) (down_stops marks)) commits powered
+            (down_begins (no_out a.core.meta.out goes.1.at_ease.whole) marks) (down_stops marks)) commits powered synced
       ]
 
   -- by the direction of the shift

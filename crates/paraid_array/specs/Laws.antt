@@ -1,5 +1,5 @@
 -- What an array keeps at any time, as its events are asked to.
-use Rattle.std.specs.Prelude.{◌≡◌, ℕ, ◌<◌, List, [], Option, Some, None}
+use Rattle.std.specs.Prelude.{◌≡◌, ℕ, ◌<◌, Bool, true, false, List, [], Option, Some, None}
 use Rattle.std.proofs.Common.{refl, sym, ap, ◌∙◌, subst}
 use Rattle.paraid_rack.specs.Slots.{Slot}
 use Rattle.paraid_rack.specs.Trail.{Trail}
@@ -7,10 +7,12 @@ use Rattle.paraid_record.specs.declared.meta.Setup.{Setup}
 use Rattle.paraid_image.specs.Out.{named_out}
 use Rattle.paraid_txn.specs.Stores.{store_rack}
 use Rattle.paraid_core.specs.declared.staged.Core.{Core}
+use Rattle.paraid_core.specs.CoreInvariant.{AreCopiesSynced}
+use Rattle.paraid_core.specs.Steps.{AreUnsyncedCopied}
 use Rattle.paraid_serve.specs.Causes.{Shown, Shows}
 use Rattle.paraid_base.specs.declared.fault.Halt.{Halt}
 use Rattle.paraid_serve.specs.Calls.{IsAbsentOut, IsNotDouble}
-use Rattle.paraid_session.specs.Powers.{FitsSlots}
+use Rattle.paraid_session.specs.Powers.{AreAllSynced, FitsSlots}
 use Rattle.paraid_session.specs.Turn.{Point}
 use Rattle.paraid_array.specs.declared.array.Array.{Array}
 use Rattle.paraid_array.specs.declared.ended.Ended.{Ended}
@@ -35,9 +37,18 @@ pub gear_going : (o : Option Ended) (now : ℕ) → halt_of_end o ≡ None → g
 gear_going None now e = refl
 gear_going (Some ended) now e = let z : Some ended.halt ≡ None = e in absurd cc
 
--- what is seen of it has its setup, its slots, its halt and its gear, and the slots fit its meta while they do
-pub shown_as : {R : Type 0} {g : _} (slot : R → ℕ → Slot) (a : Array R g) → (halt_of_end a.ended ≡ None → FitsSlots (slot_of_array slot a) a.core.meta) → Shows (shown_of_array slot a) a.setup (slot_of_array slot a) (halt_of_end a.ended)
-shown_as slot a fits = record { setup = refl; slot = refl; halt = refl; gear = gear_going a.ended a.core.meta.gear; fits = fits }
+-- each disk that is there and not gone is synced: only copies could be unsynced, and they are synced
+pub all_synced : {R : Type 0} {g : _} (slot : R → ℕ → Slot) (core : Core R g) → AreCopiesSynced core.meta.setup.geometry.disks core.copied → AreUnsyncedCopied slot core → AreAllSynced core.meta (slot (store_rack core.store))
+all_synced slot core copies unsynced d low not there = by (slot (store_rack core.store) d).unsynced refl
+  where
+    by : (b : Bool) → (slot (store_rack core.store) d).unsynced ≡ b → (slot (store_rack core.store) d).unsynced ≡ false
+    by false e = e
+    by true e = e ∙ sym (unsynced d low not there e) ∙ copies d low
+
+-- what is seen of it has its setup, its slots, its halt and its gear; until a halt the slots fit its meta, and its disks are synced
+pub shown_as : {R : Type 0} {g : _} (slot : R → ℕ → Slot) (a : Array R g) → (halt_of_end a.ended ≡ None → FitsSlots (slot_of_array slot a) a.core.meta)
+    → (halt_of_end a.ended ≡ None → AreAllSynced a.core.meta (slot_of_array slot a)) → Shows (shown_of_array slot a) a.setup (slot_of_array slot a) (halt_of_end a.ended)
+shown_as slot a fits synced = record { setup = refl; slot = refl; halt = refl; gear = gear_going a.ended a.core.meta.gear; fits = fits; synced = synced }
 
 -- what is seen of it with another setup, energy, halt, samples and number of requests
 abbrev shown_but : {R : Type 0} {g : _} → (R → ℕ → Slot) → Array R g → Setup → ℕ → Option Halt → List ℕ → ℕ → ℕ → Shown

@@ -65,7 +65,7 @@ impl<R: Rack> Array<R> {
 
 impl<R: Rack> Serves for Array<R> {
     ghost use Rattle.paraid_array.specs.Arrays.{ArrayStandsAt, halt_of_array, setup_of_array, shown_of_array, slot_of_array, slots_of_array, told_of_array};
-    ghost use Rattle.paraid_array.specs.Laws.{absent_out, going_end, halt_at, not_double, shown_as};
+    ghost use Rattle.paraid_array.specs.Laws.{absent_out, all_synced, going_end, halt_at, not_double, shown_as};
     ghost use Rattle.paraid_gear.specs.ThreeWindows.{lengths_of};
 
     ghost told = { told_of_array R.told };
@@ -88,7 +88,9 @@ impl<R: Rack> Serves for Array<R> {
 
     ghost worn = { λ array count is. (array.worn count is).0 };
 
-    ghost shows = { λ array. shown_as R.slot array (λ going. (array.serving (going_end array.ended going)).fits) };
+    ghost shows = { λ array. shown_as R.slot array (λ going. (array.serving (going_end array.ended going)).fits)
+        (λ going. all_synced R.slot array.core (array.serving (going_end array.ended going)).serving.copies_synced
+        (array.serving (going_end array.ended going)).serving.unsynced) };
 
     ghost agrees = { λ array p at. halt_at R.slot_count R.told array p at };
 

@@ -16,7 +16,7 @@ use Rattle.paraid_serve.specs.Causes.{CommitsFew, HasCause, HaveCauses, Shown, m
 use Rattle.paraid_serve.specs.Form.{HasAnswers, texts}
 use Rattle.paraid_serve.specs.Causes.HasReason.{again as reason_again, bad as reason_bad}
 use Rattle.paraid_session.proofs.FaultLemmas.{same_counts}
-use Rattle.paraid_session.specs.Powers.{FitsSlots}
+use Rattle.paraid_session.specs.Powers.{AreAllSynced, FitsSlots}
 use Rattle.paraid_serve.specs.Stretch.{events_in}
 use Rattle.paraid_serve.proofs.StretchLemmas.{events_in-push}
 
@@ -49,11 +49,11 @@ commits_none x most = record { later = le_same x.meta.epoch; few = none_more x.m
     le_same n = omega arith
 
 -- with nothing done
-pub bad_cause : (x : Shown) → (x.halt ≡ None → FitsSlots x.slot x.meta) → HasCause x Bad IsBad x
-bad_cause x fits = record { reason = reason_bad refl refl refl; setup = refl; halt = λ not. absurd (not refl); gear = λ not. absurd (not refl); counts = record { samples = refl; served = refl }; commits = λ going. commits_none x 0; later = same_counts x.slot; fits = fits }
+pub bad_cause : (x : Shown) → (x.halt ≡ None → FitsSlots x.slot x.meta) → (x.halt ≡ None → AreAllSynced x.meta x.slot) → HasCause x Bad IsBad x
+bad_cause x fits synced = record { reason = reason_bad refl refl refl; setup = refl; halt = λ not. absurd (not refl); gear = λ not. absurd (not refl); counts = record { samples = refl; served = refl }; commits = λ going. commits_none x 0; later = same_counts x.slot; fits = fits; synced = synced }
 
 pub again_cause : (x : Shown) (event : Event) (halt : Halt) → event ≢ Bad → x.halt ≡ Some halt → HasCause x event (Halted halt) x
-again_cause x event halt good is = record { reason = reason_again halt is good refl refl; setup = refl; halt = λ not. is; gear = λ not. refl; counts = tt; commits = λ going. commits_none x (most_commits x event); later = same_counts x.slot; fits = λ going. let z : None ≡ Some halt = sym going ∙ is in absurd cc }
+again_cause x event halt good is = record { reason = reason_again halt is good refl refl; setup = refl; halt = λ not. is; gear = λ not. refl; counts = tt; commits = λ going. commits_none x (most_commits x event); later = same_counts x.slot; fits = λ going. let z : None ≡ Some halt = sym going ∙ is in absurd cc; synced = λ going. let z : None ≡ Some halt = sym going ∙ is in absurd cc }
 
 pub causes_push : (old mid new : Shown) (events : List Event) (answers : List Answer) (event : Event) (answer : Answer) → HaveCauses old events answers mid → HasCause mid event answer new
     → HaveCauses old (events ++ event ∷ []) (answers ++ answer ∷ []) new

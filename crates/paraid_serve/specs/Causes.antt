@@ -33,7 +33,7 @@ use Rattle.paraid_rack.specs.Slots.{Slot}
 use Rattle.paraid_record.specs.declared.meta.Meta.{Meta}
 use Rattle.paraid_record.specs.declared.meta.Setup.{Setup}
 use Rattle.paraid_session.specs.Faults.{HaveNotFallen}
-use Rattle.paraid_session.specs.Powers.{FitsSlots}
+use Rattle.paraid_session.specs.Powers.{AreAllSynced, FitsSlots}
 use Rattle.paraid_session.specs.Turn.{halt_told, may_halt, own_energy}
 use Rattle.paraid_serve.specs.Lost.{AreTwoLost}
 
@@ -51,14 +51,15 @@ pub record Shown : Type 0 where
   pub served : ℕ
   pub halt : Option Halt
 
--- It is seen with this setup, these slots and this halt. While there is none it tells the gear of its meta, and its slots fit
--- that meta.
+-- It is seen with this setup, these slots and this halt. While there is none it tells the gear of its meta, its slots fit
+-- that meta, and each disk that is there and not gone is synced.
 pub record Shows (x : Shown) (own : Setup) (slots : ℕ → Slot) (ended : Option Halt) : Type 0 where
   pub setup : x.setup ≡ own
   pub slot : x.slot ≡ slots
   pub halt : x.halt ≡ ended
   pub gear : x.halt ≡ None → x.gear ≡ x.meta.gear
   pub fits : x.halt ≡ None → FitsSlots x.slot x.meta
+  pub synced : x.halt ≡ None → AreAllSynced x.meta x.slot
 
 -- the state that its events see, with what it has of the samples and the requests
 abbrev pub state_shown : Shown → PowerState
@@ -397,8 +398,9 @@ pub record HasCause (old : Shown) (event : Event) (answer : Answer) (new : Shown
   pub counts : Counts answer old new
   pub commits : new.halt ≡ None → CommitsFew old new (most_commits old event)
   pub later : HaveNotFallen old.slot new.slot
-  -- while it serves, its disks are powered by its gear
+  -- while it serves, its disks are powered by its gear, and each that is there and not gone is synced
   pub fits : new.halt ≡ None → FitsSlots new.slot new.meta
+  pub synced : new.halt ≡ None → AreAllSynced new.meta new.slot
 
 -- Each event is answered with a cause, one after the other.
 abbrev pub HaveCauses : Shown → List Event → List Answer → Shown → Type 0

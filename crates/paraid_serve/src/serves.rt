@@ -106,8 +106,8 @@ pub trait Serves {
     /// It halts by wear only after 2^62 commits or writes, or more.
     ghost worn: { (x : Self) → HaltsByWear (halted x) };
 
-    /// What is seen has its setup, its slots, its halt and its gear, and while there is no halt its disks are powered
-    /// by that gear.
+    /// What is seen has its setup, its slots, its halt and its gear. While there is no halt its disks are powered
+    /// by that gear, and each that is there and not gone is synced.
     ghost shows: { (x : Self) → Shows (shown x) (setup x) (slot x) (halted x) };
 
     /// A point tells the halt.

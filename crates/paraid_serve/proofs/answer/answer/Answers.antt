@@ -28,7 +28,7 @@ returns-in-Bad g c = record {
   few = tt;
   cause =
       let x = g.A.Serves.shown c.args.array.now in
-      subst (λ (a : Asked). HasCause x (event_with a c.args.pairs.now) IsBad x) (sym c.in-Bad.is) (bad_cause x (g.met.A.Serves.shows c.args.array.now).fits);
+      subst (λ (a : Asked). HasCause x (event_with a c.args.pairs.now) IsBad x) (sym c.in-Bad.is) (bad_cause x (g.met.A.Serves.shows c.args.array.now).fits (g.met.A.Serves.shows c.args.array.now).synced);
 }
 
 pub returns-in-Some : goal.returns-in-Some

@@ -1,6 +1,6 @@
 use Rattle.paraid_energy.specs.Account.{after_spin_ups}
 use Rattle.paraid_energy.proofs.AccountLemmas.{HasFigures-with_used}
-use Rattle.paraid_array.specs.Laws.{gear_going}
+use Rattle.paraid_array.specs.Laws.{all_synced, gear_going}
 use Rattle.paraid_upkeep.proofs.OutLemmas.{fails_newly}
 use Rattle.paraid_array.specs.Used.{asked_spin_ups}
 use Rattle.paraid_serve.specs.Causes.{HasCause, state_shown}
@@ -72,6 +72,7 @@ returns-in-Ok g c = record {
         (asked_cause g.R.Rack.slot a c.ask_shift.new.core c.spin_up.new.self.total q.same_setup (ap halt_of_end c.requires.going) (no_fall_counts (g.R.Rack.slot (store_rack c.args.self.now.core.store)) (g.R.Rack.slot (store_rack c.ask_shift.new.core.store)) c.ask_shift.ensures.calls.no_fall) done.leaves.writes x
         (asked_total a.setup a.ledger c.spin_up.new.self a.core.meta.gear x a.priced (c.spin_up.ensures ∙ ap (after_spin_ups a.ledger) (c.spin_ups_asked.ensures ∙ ap (λ (n : ℕ). asked_spin_ups n x) gear)))
         (fails_newly (g.R.Rack.slot (store_rack a.core.store)) (g.R.Rack.slot (store_rack c.ask_shift.new.core.store)) (named_out a.core.meta.out) (named_out c.ask_shift.new.core.meta.out) (named_of a.core.store) (named_of c.ask_shift.new.core.store) q.serving.serves.stays done.serving.serves.stays done.leaves.down) done.table (record { later = done.commits.later; few = done.commits.few }) (done.fits q.fits)
+        (all_synced g.R.Rack.slot c.ask_shift.new.core done.serving.copies_synced done.serving.unsynced)
         c.args.direction (takes (shown_of_array g.R.Rack.slot c.args.self.now) event (ap halt_of_end c.requires.going) c.requires.epoch c.requires.writes) done.refused done.begins done.marks);
   };
 }

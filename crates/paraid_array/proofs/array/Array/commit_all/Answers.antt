@@ -1,5 +1,5 @@
 use Rattle.paraid_serve.proofs.QuietLemmas.{used_nothing}
-use Rattle.paraid_array.specs.Laws.{gear_going}
+use Rattle.paraid_array.specs.Laws.{all_synced, gear_going}
 use Rattle.paraid_base.specs.declared.event.Event.TheVariants.{Flush}
 use Rattle.paraid_base.specs.declared.event.Answer.TheVariants.{Flushed}
 use Rattle.paraid_array.specs.Arrays.{shown_of_array}
@@ -62,7 +62,9 @@ returns-in-Ok g c = record {
     cause = done_cause (shown_of_array g.R.Rack.slot c.args.self.now) _ Flush (takes (shown_of_array g.R.Rack.slot c.args.self.now) Flush (ap halt_of_end c.requires.going) c.requires.epoch c.requires.writes) refl refl (no_fall_counts (g.R.Rack.slot (store_rack c.args.self.now.core.store)) (g.R.Rack.slot (store_rack c.commit.new.self.store)) c.commit.ensures.stays.losses.spared.no_fall) (Flushed c.meta-2.result.now.writes) (ap halt_of_end c.requires.going) (gear_going c.args.self.now.ended _) (record { samples = refl; served = refl })
         (ap (λ (m : Meta). m.writes) c.meta-2.ensures, accepted (shown_of_array g.R.Rack.slot c.args.self.now) _ 0 c.in-Ok.ensures.stays.losses.marks (c.in-Ok.ensures.cells.writes ∙ plus_none c.args.self.now.core.meta.writes) refl, ap is_dirty c.commit.ensures.cells.table)
         (commits_once (shown_of_array g.R.Rack.slot c.args.self.now) _ true c.in-Ok.ensures.meta.epoch)
-        (fits_then g.R.Rack.slot_count g.R.Rack.slot c.args.self.now.core c.commit.new.self c.in-Ok.ensures.stays.losses.marks c.in-Ok.ensures.stays.setup (c.args.self.now.serving c.requires.going).fits);
+        (fits_then g.R.Rack.slot_count g.R.Rack.slot c.args.self.now.core c.commit.new.self c.in-Ok.ensures.stays.losses.marks c.in-Ok.ensures.stays.setup (c.args.self.now.serving c.requires.going).fits)
+        (let q = (c.args.self.now.serving c.requires.going).serving in
+        all_synced g.R.Rack.slot c.commit.new.self (copies_kept c.args.self.now.core c.commit.new.self c.in-Ok.ensures.stays.setup c.commit.ensures.stays.copied q.copies_synced) (c.in-Ok.ensures.unsynced q.unsynced));
   };
 }
 

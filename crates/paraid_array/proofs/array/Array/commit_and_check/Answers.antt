@@ -1,5 +1,5 @@
 use Rattle.paraid_serve.proofs.QuietLemmas.{used_nothing}
-use Rattle.paraid_array.specs.Laws.{gear_going}
+use Rattle.paraid_array.specs.Laws.{all_synced, gear_going}
 use Rattle.std.proofs.Common.{◌∙◌, sym, ap}
 use Rattle.paraid_base.specs.declared.event.Event.TheVariants.{Flush}
 use Rattle.paraid_base.specs.declared.event.Answer.TheVariants.{Flushed}
@@ -68,7 +68,9 @@ returns-in-Ok g c = record {
     cause = done_cause (shown_of_array g.R.Rack.slot c.args.self.now) _ Flush (takes (shown_of_array g.R.Rack.slot c.args.self.now) Flush (ap halt_of_end c.requires.going) c.requires.epoch c.requires.writes) refl refl (no_fall_counts (g.R.Rack.slot (store_rack c.args.self.now.core.store)) (g.R.Rack.slot (store_rack c.commit_and_count.new.core.store)) c.commit_and_count.ensures.rack.no_fall) (Flushed c.args.self.now.core.meta.writes) (ap halt_of_end c.requires.going) (gear_going c.args.self.now.ended _) (record { samples = refl; served = refl })
         (refl, accepted (shown_of_array g.R.Rack.slot c.args.self.now) _ 0 c.in-Ok.ensures.leaves.marks (c.in-Ok.ensures.leaves.writes ∙ plus_none c.args.self.now.core.meta.writes) refl, ap is_dirty c.in-Ok.ensures.leaves.table)
         (commits_once (shown_of_array g.R.Rack.slot c.args.self.now) _ true c.in-Ok.ensures.leaves.epoch)
-        (fits_then g.R.Rack.slot_count g.R.Rack.slot c.args.self.now.core c.commit_and_count.new.core c.in-Ok.ensures.leaves.marks c.in-Ok.ensures.leaves.setup (c.args.self.now.serving c.requires.going).fits);
+        (fits_then g.R.Rack.slot_count g.R.Rack.slot c.args.self.now.core c.commit_and_count.new.core c.in-Ok.ensures.leaves.marks c.in-Ok.ensures.leaves.setup (c.args.self.now.serving c.requires.going).fits)
+        (let q = (c.args.self.now.serving c.requires.going).serving in
+        all_synced g.R.Rack.slot c.commit_and_count.new.core (copies_kept c.args.self.now.core c.commit_and_count.new.core c.in-Ok.ensures.leaves.setup c.commit_and_count.ensures.copied q.copies_synced) (c.in-Ok.ensures.leaves.unsynced q.unsynced));
   };
   sound = λ some p at.
       at_point g.R.Rack.slot_count g.R.Rack.told c.args.self.now c.requires.going (c.in-Ok.report ≡ no_faults) (λ h lo t tells stands. c.in-Ok.ensures.sound h lo t tells stands some)

@@ -1,5 +1,5 @@
 use Rattle.paraid_serve.proofs.QuietLemmas.{used_nothing}
-use Rattle.paraid_array.specs.Laws.{gear_going}
+use Rattle.paraid_array.specs.Laws.{all_synced, gear_going}
 use Rattle.std.proofs.Common.{Ok, sym, ◌∙◌, ap}
 use Rattle.paraid_serve.specs.Causes.{HasCause}
 use Rattle.paraid_array.specs.Arrays.{shown_of_array}
@@ -65,7 +65,8 @@ returns-in-Ok g c = record {
         let done = c.in-Ok.ensures in
         let q = a.serving c.requires.going in
         subst (λ (z : Answer). HasCause (shown_of_array g.R.Rack.slot c.args.self.now) (Fail c.args.disk) z (shown_with g.R.Rack.slot c.args.self.now.setup c.take_out.new.core c.args.self.now.ledger.total (samples_held c.args.self.now.windows) (sample_of c.args.self.now.served) c.args.self.now.ended)) (sym c.fail_told.ensures)
-        (fail_cause g.R.Rack.slot a c.take_out.new.core c.args.self.now.ledger.total c.args.disk (takes (shown_of_array g.R.Rack.slot c.args.self.now) (Fail c.args.disk) (ap halt_of_end c.requires.going) c.requires.epoch c.requires.writes) q.same_setup refl (no_fall_counts (g.R.Rack.slot (store_rack c.args.self.now.core.store)) (g.R.Rack.slot (store_rack c.take_out.new.core.store)) c.take_out.ensures.calls.no_fall) done.stays.writes c.take_out.ensures.table (record { later = done.commits.later; few = done.commits.few }) (done.stays.fits q.fits) (λ past. (done.refuses.no_disk past).1) (λ e low is. (done.refuses.out e low is).1) c.in-Ok.refusal (ap halt_of_end c.requires.going) done.refuses.refused (λ is. done.taken (ap Ok is)) done.marks done.refuses.lost);
+        (fail_cause g.R.Rack.slot a c.take_out.new.core c.args.self.now.ledger.total c.args.disk (takes (shown_of_array g.R.Rack.slot c.args.self.now) (Fail c.args.disk) (ap halt_of_end c.requires.going) c.requires.epoch c.requires.writes) q.same_setup refl (no_fall_counts (g.R.Rack.slot (store_rack c.args.self.now.core.store)) (g.R.Rack.slot (store_rack c.take_out.new.core.store)) c.take_out.ensures.calls.no_fall) done.stays.writes c.take_out.ensures.table (record { later = done.commits.later; few = done.commits.few }) (done.stays.fits q.fits)
+        (all_synced g.R.Rack.slot c.take_out.new.core done.stays.service.copies_synced (done.stays.unsynced q.serving.unsynced)) (λ past. (done.refuses.no_disk past).1) (λ e low is. (done.refuses.out e low is).1) c.in-Ok.refusal (ap halt_of_end c.requires.going) done.refuses.refused (λ is. done.taken (ap Ok is)) done.marks done.refuses.lost);
   };
 }
 

@@ -27,7 +27,7 @@ returns-then-block-blocks g c =
           quiet_answers g.R.Rack.slot_count g.R.Rack.slot g.R.Rack.told a (Read c.args.block) (NoBlock c.args.block)
           (read_refused g.R.Rack.slot_count g.R.Rack.told a c.requires.going fit.0 fit.1 c.args.block (subst (λ (n : ℕ). n ≤ c.args.block) c.blocks-2.ensures.value c.if-block-blocks.true))
           (quiet_cause g.R.Rack.slot a (Read c.args.block) (NoBlock c.args.block) c.requires.going refl (takes (shown_of_array g.R.Rack.slot a) (Read c.args.block) c.requires.going fit.0 fit.1)
-          (one_missing (block_count a.setup) c.args.block (subst (λ (n : ℕ). n ≤ c.args.block) c.blocks-2.ensures.value c.if-block-blocks.true)) (record { samples = refl; served = refl }) (c.args.self.now.serving (going_end c.args.self.now.ended c.requires.going)).fits);
+          (one_missing (block_count a.setup) c.args.block (subst (λ (n : ℕ). n ≤ c.args.block) c.blocks-2.ensures.value c.if-block-blocks.true)) (record { samples = refl; served = refl }) (c.args.self.now.serving (going_end c.args.self.now.ended c.requires.going)));
     }
 
 pub read_there-requires : goal.read_there-requires

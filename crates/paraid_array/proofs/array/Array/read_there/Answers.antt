@@ -1,5 +1,5 @@
 use Rattle.paraid_serve.proofs.QuietLemmas.{used_nothing}
-use Rattle.paraid_array.specs.Laws.{gear_going}
+use Rattle.paraid_array.specs.Laws.{all_synced, gear_going}
 use Rattle.std.proofs.Common.{◌∙◌, sym, ap}
 use Rattle.paraid_base.specs.declared.event.Event.TheVariants.{Read}
 use Rattle.paraid_base.specs.declared.event.Answer.TheVariants.{Value}
@@ -72,7 +72,9 @@ returns-in-Ok g c = record {
       seen_read g.R.Rack.slot_count g.R.Rack.slot c.args.self.now c.read.new.self 0 (sample_of c.one_more-self.result) c.in-Ok.ensures.commits.stays.setup (c.args.self.now.serving c.requires.going).same_setup c.args.block c.in-Ok.ensures.bits,
     )
         (commits_once (shown_of_array g.R.Rack.slot c.args.self.now) _ (read_commits_first c.args.self.now.core.meta c.args.self.now.core.dirty c.args.self.now.core.batch c.args.block) c.in-Ok.ensures.commits.epoch)
-        (fits_then g.R.Rack.slot_count g.R.Rack.slot c.args.self.now.core c.read.new.self c.in-Ok.ensures.commits.stays.losses.marks c.in-Ok.ensures.commits.stays.setup (c.args.self.now.serving c.requires.going).fits);
+        (fits_then g.R.Rack.slot_count g.R.Rack.slot c.args.self.now.core c.read.new.self c.in-Ok.ensures.commits.stays.losses.marks c.in-Ok.ensures.commits.stays.setup (c.args.self.now.serving c.requires.going).fits)
+        (let q = (c.args.self.now.serving c.requires.going).serving in
+        all_synced g.R.Rack.slot c.read.new.self (copies_kept c.args.self.now.core c.read.new.self c.in-Ok.ensures.commits.stays.setup c.read.ensures.commits.stays.copied q.copies_synced) (c.in-Ok.ensures.commits.unsynced q.unsynced));
   };
 }
 

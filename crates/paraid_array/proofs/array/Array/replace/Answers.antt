@@ -27,7 +27,7 @@ returns-then-disk-disks g c =
           quiet_answers g.R.Rack.slot_count g.R.Rack.slot g.R.Rack.told a (Replace c.args.disk) (NoDisk c.args.disk)
           (replace_refused g.R.Rack.slot_count g.R.Rack.told a c.requires.going fit.0 fit.1 c.args.disk (subst (λ (n : ℕ). n ≤ c.args.disk) c.disks.ensures.value c.if-disk-disks.true))
           (quiet_cause g.R.Rack.slot a (Replace c.args.disk) (NoDisk c.args.disk) c.requires.going refl (takes (shown_of_array g.R.Rack.slot a) (Replace c.args.disk) c.requires.going fit.0 fit.1)
-          (past_disks c.args.disk a.setup.geometry.disks (if is_out (named_out a.core.meta.out) c.args.disk then None else Some (NotOut c.args.disk)) (Some (NoDisk c.args.disk)) (subst (λ (n : ℕ). n ≤ c.args.disk) c.disks.ensures.value c.if-disk-disks.true)) (record { samples = refl; served = refl }) (c.args.self.now.serving (going_end c.args.self.now.ended c.requires.going)).fits);
+          (past_disks c.args.disk a.setup.geometry.disks (if is_out (named_out a.core.meta.out) c.args.disk then None else Some (NotOut c.args.disk)) (Some (NoDisk c.args.disk)) (subst (λ (n : ℕ). n ≤ c.args.disk) c.disks.ensures.value c.if-disk-disks.true)) (record { samples = refl; served = refl }) (c.args.self.now.serving (going_end c.args.self.now.ended c.requires.going)));
     }
 
 pub replace_there-requires : goal.replace_there-requires

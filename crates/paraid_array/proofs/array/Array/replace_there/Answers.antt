@@ -1,5 +1,5 @@
 use Rattle.paraid_serve.proofs.QuietLemmas.{used_nothing}
-use Rattle.paraid_array.specs.Laws.{gear_going}
+use Rattle.paraid_array.specs.Laws.{all_synced, gear_going}
 use Rattle.std.proofs.Common.{Ok, sym, ◌∙◌, ap}
 use Rattle.paraid_serve.specs.Causes.{HasCause}
 use Rattle.paraid_array.specs.Arrays.{shown_of_array}
@@ -63,7 +63,8 @@ returns-in-Ok g c = record {
         let done = c.in-Ok.ensures in
         let q = a.serving c.requires.going in
         subst (λ (z : Answer). HasCause (shown_of_array g.R.Rack.slot c.args.self.now) (Replace c.args.disk) z (shown_with g.R.Rack.slot c.args.self.now.setup c.replace.new.core c.args.self.now.ledger.total (samples_held c.args.self.now.windows) (sample_of c.args.self.now.served) c.args.self.now.ended)) (sym c.replace_told.ensures)
-        (replace_cause g.R.Rack.slot a c.replace.new.core c.args.self.now.ledger.total c.args.disk (takes (shown_of_array g.R.Rack.slot c.args.self.now) (Replace c.args.disk) (ap halt_of_end c.requires.going) c.requires.epoch c.requires.writes) q.same_setup refl (c.replace.ensures.keeps.later) done.writes done.table (done.fits q.fits) (λ past. (done.refuses.missing past).1) (λ low not. (done.refuses.in_place low not).1) c.in-Ok.refusal (ap halt_of_end c.requires.going) done.refuses.refused
+        (replace_cause g.R.Rack.slot a c.replace.new.core c.args.self.now.ledger.total c.args.disk (takes (shown_of_array g.R.Rack.slot c.args.self.now) (Replace c.args.disk) (ap halt_of_end c.requires.going) c.requires.epoch c.requires.writes) q.same_setup refl (c.replace.ensures.keeps.later) done.writes done.table (done.fits q.fits)
+        (all_synced g.R.Rack.slot c.replace.new.core done.service.serving.copies_synced done.service.serving.unsynced) (λ past. (done.refuses.missing past).1) (λ low not. (done.refuses.in_place low not).1) c.in-Ok.refusal (ap halt_of_end c.requires.going) done.refuses.refused
         (λ is. let there = done.replaced (ap Ok is) in (there.0, there.1, done.fresh (ap Ok is)))
         (λ is. ((done.lacks (ap Ok is)).risen, (done.lacks (ap Ok is)).gone)));
   };

@@ -14,5 +14,5 @@ returns g c = record {
       subst (λ (n : ℕ). AnswersEvent g.R.Rack.slot_count g.R.Rack.slot g.R.Rack.told c.args.self.now c.args.self.now Energy (IsEnergy n)) (sym c.energy.ensures.value)
       (quiet_answers g.R.Rack.slot_count g.R.Rack.slot g.R.Rack.told c.args.self.now Energy (IsEnergy c.args.self.now.ledger.total)
       (energy_asked g.R.Rack.slot_count g.R.Rack.told c.args.self.now c.requires.going)
-      (quiet_cause g.R.Rack.slot c.args.self.now Energy (IsEnergy c.args.self.now.ledger.total) c.requires.going refl (takes_question (shown_of_array g.R.Rack.slot c.args.self.now) Energy c.requires.going refl) refl (record { samples = refl; served = refl }) (c.args.self.now.serving (going_end c.args.self.now.ended c.requires.going)).fits));
+      (quiet_cause g.R.Rack.slot c.args.self.now Energy (IsEnergy c.args.self.now.ledger.total) c.requires.going refl (takes_question (shown_of_array g.R.Rack.slot c.args.self.now) Energy c.requires.going refl) refl (record { samples = refl; served = refl }) (c.args.self.now.serving (going_end c.args.self.now.ended c.requires.going))));
 }

@@ -17,5 +17,5 @@ returns g c = record {
       quiet_answers g.R.Rack.slot_count g.R.Rack.slot g.R.Rack.told c.args.self.now State (IsState c.status-beside.result c.disks.result)
       (state_told g.R.Rack.slot_count g.R.Rack.told c.args.self.now c.requires.going c.status-beside.result c.disks.result c.disks.ensures.value c.status-beside.ensures.point)
       (quiet_cause g.R.Rack.slot c.args.self.now State (IsState c.status-beside.result c.disks.result) c.requires.going refl (takes_question (shown_of_array g.R.Rack.slot c.args.self.now) State c.requires.going refl)
-      (state_answer c.args.self.now.setup.geometry.disks c.disks.result _ c.status-beside.result c.status-beside.ensures.shown c.disks.ensures.value) (record { samples = refl; served = refl }) (c.args.self.now.serving (going_end c.args.self.now.ended c.requires.going)).fits);
+      (state_answer c.args.self.now.setup.geometry.disks c.disks.result _ c.status-beside.result c.status-beside.ensures.shown c.disks.ensures.value) (record { samples = refl; served = refl }) (c.args.self.now.serving (going_end c.args.self.now.ended c.requires.going)));
 }

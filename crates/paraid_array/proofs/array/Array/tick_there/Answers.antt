@@ -1,6 +1,6 @@
 use Rattle.paraid_energy.specs.Account.{after_spin_ups}
 use Rattle.paraid_energy.proofs.AccountLemmas.{HasFigures-with_used}
-use Rattle.paraid_array.specs.Laws.{gear_going}
+use Rattle.paraid_array.specs.Laws.{all_synced, gear_going}
 use Rattle.std.proofs.Common.{Option, ◌⊎◌, sym, ◌∙◌, ap}
 use Rattle.std.proofs.Common.{◌≡◌, None, Some}
 use Rattle.paraid_upkeep.proofs.OutLemmas.{fails_newly}
@@ -146,7 +146,8 @@ returns-in-Ok g c = record {
               (λ whole steady. done.decides.table (out ∙ whole) (phase ∙ steady) ∙ t.marks.staged.table);
         })
         (tick_commits g.R.Rack.slot_count g.R.Rack.slot a mid t.meta t.marks.staged.table new c.spin_up.new.self.total (samples_held c.push.new.self) q.same_setup done.commits)
-        (done.serves.fits (fits_counted g.R.Rack.slot_count g.R.Rack.slot a.core mid t.marks.store t.meta q.fits));
+        (done.serves.fits (fits_counted g.R.Rack.slot_count g.R.Rack.slot a.core mid t.marks.store t.meta q.fits))
+        (all_synced g.R.Rack.slot new done.serves.serving.copies_synced done.serves.serving.unsynced);
   };
 }
 

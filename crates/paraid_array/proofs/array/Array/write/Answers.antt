@@ -35,7 +35,7 @@ returns-in-Some-missing g c =
           quiet_answers g.R.Rack.slot_count g.R.Rack.slot g.R.Rack.told a (Write c.args.pairs.now) (NoBlock block)
           (write_refused g.R.Rack.slot_count g.R.Rack.told a c.requires.going fit.0 fit.1 c.args.pairs.now block (missing_is (block_count a.setup) entry block missing))
           (quiet_cause g.R.Rack.slot a (Write c.args.pairs.now) (NoBlock block) c.requires.going refl (takes (shown_of_array g.R.Rack.slot a) (Write c.args.pairs.now) c.requires.going fit.0 fit.1)
-          (ap missing_answer (missing_is (block_count a.setup) entry block missing)) (record { samples = refl; served = refl }) (c.args.self.now.serving (going_end c.args.self.now.ended c.requires.going)).fits);
+          (ap missing_answer (missing_is (block_count a.setup) entry block missing)) (record { samples = refl; served = refl }) (c.args.self.now.serving (going_end c.args.self.now.ended c.requires.going)));
     }
 
 pub write_there-requires : goal.write_there-requires

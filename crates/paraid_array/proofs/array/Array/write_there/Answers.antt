@@ -1,5 +1,5 @@
 use Rattle.paraid_serve.proofs.QuietLemmas.{used_nothing}
-use Rattle.paraid_array.specs.Laws.{gear_going}
+use Rattle.paraid_array.specs.Laws.{all_synced, gear_going}
 use Rattle.paraid_base.specs.declared.event.Event.TheVariants.{Write}
 use Rattle.paraid_base.specs.declared.event.Answer.TheVariants.{Wrote}
 use Rattle.paraid_array.specs.Arrays.{shown_of_array}
@@ -75,7 +75,9 @@ returns-in-Ok g c = record {
       seen_write g.R.Rack.slot_count g.R.Rack.slot c.args.self.now c.write_many.new.self 0 (sample_of c.one_more-self.result) c.in-Ok.ensures.commits.stays.setup (c.args.self.now.serving c.requires.going).same_setup c.args.pairs.now c.in-Ok.ensures.bits,
     )
         (commits_once (shown_of_array g.R.Rack.slot c.args.self.now) _ (commits_first c.args.self.now.core.batch (10 * c.args.pairs.now.count)) c.in-Ok.ensures.commits.epoch)
-        (fits_then g.R.Rack.slot_count g.R.Rack.slot c.args.self.now.core c.write_many.new.self c.in-Ok.ensures.commits.stays.losses.marks c.in-Ok.ensures.commits.stays.setup (c.args.self.now.serving c.requires.going).fits);
+        (fits_then g.R.Rack.slot_count g.R.Rack.slot c.args.self.now.core c.write_many.new.self c.in-Ok.ensures.commits.stays.losses.marks c.in-Ok.ensures.commits.stays.setup (c.args.self.now.serving c.requires.going).fits)
+        (let q = (c.args.self.now.serving c.requires.going).serving in
+        all_synced g.R.Rack.slot c.write_many.new.self (copies_kept c.args.self.now.core c.write_many.new.self c.in-Ok.ensures.commits.stays.setup c.write_many.ensures.commits.stays.copied q.copies_synced) (c.in-Ok.ensures.commits.unsynced q.unsynced));
   };
 }
 
