@@ -59,7 +59,7 @@ module _ {rack : RackUse} (h : HeldHistory rack) (kept : SinkUse) (status : ℕ)
 
   pub plan_comes : (ups : ℕ) → PlanOutcome rack given kept ups status → PlanComes
   plan_comes ups (served meta dirty stood t) = by_lines meta dirty stood ups t.code t.lines t.outcome t.ends t.ends.whole
-  plan_comes ups (refused fault cause each ends) = less (AtEnd given.left × (cost : ℕ) × (gears : List ℕ) × TellsLast kept (plan_lines cost gears)) (IsUnstarted rack.old rack.new rack.before rack.after) ((IsUnstarted rack.old rack.new rack.before rack.after ⊎ ((meta : Meta) × (dirty : ℕ → ℕ → Bool) × IsServedBy rack meta dirty))) Hindered status inl
+  plan_comes ups (refused fault cause each ends unheard) = less (AtEnd given.left × (cost : ℕ) × (gears : List ℕ) × TellsLast kept (plan_lines cost gears)) (IsUnstarted rack.old rack.new rack.before rack.after) ((IsUnstarted rack.old rack.new rack.before rack.after ⊎ ((meta : Meta) × (dirty : ℕ → ℕ → Bool) × IsServedBy rack meta dirty))) Hindered status inl
       (refused_comes h kept status ((AtEnd given.left × (cost : ℕ) × (gears : List ℕ) × TellsLast kept (plan_lines cost gears))) Hindered (λ z. other (run_other z)) sunk fault cause each ends.count _ ends.whole)
 
 not_planned : (cause : Unplanned) (status : ℕ) → status ≡ unplanned_status cause → status ≡ 0 → ⊥

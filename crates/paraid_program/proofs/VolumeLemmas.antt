@@ -12,6 +12,7 @@ use Rattle.paraid_rack.proofs.TrailsLemmas.{extend-extend}
 use Rattle.paraid_record.specs.declared.meta.Setup.{Setup}
 use Rattle.paraid_recover.specs.Mount.{IsUnstarted}
 use Rattle.paraid_recover.proofs.ToldLemmas.{same_trail}
+use Rattle.paraid_serve.specs.Causes.{Shown}
 use Rattle.paraid_serve.specs.Output.{begins_with}
 use Rattle.paraid_serve.specs.Streams.{streams_of}
 use Rattle.paraid_serve.specs.Stretch.{EndsStretch, Stretch, Turn, TurnsLead, span_of, turn_calls, turn_events}
@@ -25,7 +26,7 @@ use Rattle.paraid_program.specs.Complete.{Completes, HeldHistory, HindersRun, Is
 use Rattle.paraid_program.specs.Complete.Completes.{hindered, whole}
 use Rattle.paraid_program.specs.Complete.Hinders.{sink_failed}
 use Rattle.paraid_program.specs.Complete.HindersRun.{other, source_failed, too_long}
-use Rattle.paraid_program.specs.Ends.{BeginsAt, IsEndOver, IsServed, MountsAndThen, ServiceStart, served_span}
+use Rattle.paraid_program.specs.Ends.{BeginsAt, IsEndOver, IsServed, MountsAndThen, ServiceStart, served_span, shown_served}
 use Rattle.paraid_program.specs.Ends.MountsAndThen.{mounted, refused}
 use Rattle.paraid_program.specs.Volumes.{ServesVolumes}
 use Rattle.paraid_program.proofs.CompleteLemmas.{from_point, halted_comes, refused_comes}
@@ -76,11 +77,13 @@ module _ (slots : ℕ) (setup : Setup) where
         }
 
 -- from what a mounted array serves to what the program does
-pub volumes_over : (rack : RackUse) (source : SourceUse) (sink : SinkUse) (status : ℕ) (service : ServiceStart) (slots : ℕ) (setup : Setup) (final : Option Trail)
-    → slots ≡ rack.slots → setup ≡ service.array.meta.setup → rack.after ≡ final → IsEndOver setup rack sink status
-    → VolumesHeadline (span_of slots setup service.told final) service.began (streams_of source sink) status → ServesVolumes rack source sink status service
-volumes_over rack source sink status service slots setup final e same f end h = record {
-  headline = over_span rack service slots setup final e same f (λ span. VolumesHeadline span service.began (streams_of source sink) status) h;
+pub volumes_over : (rack : RackUse) (source : SourceUse) (sink : SinkUse) (status : ℕ) (service : ServiceStart) (slots : ℕ) (setup : Setup) (final : Option Trail) → slots ≡ rack.slots → setup ≡ service.array.meta.setup → rack.after ≡ final → IsEndOver setup rack sink status
+    → (begun seen : Shown) → begun ≡ shown_served service.array → seen.slot ≡ rack.new → VolumesHeadline begun seen (span_of slots setup service.told final) service.began (streams_of source sink) status → ServesVolumes rack source sink status service
+volumes_over rack source sink status service slots setup final e same f end begun seen begins ends h = record {
+  seen = seen;
+  headline = subst (λ (y : Shown). VolumesHeadline y seen (served_span rack service) service.began (streams_of source sink) status) begins
+      (over_span rack service slots setup final e same f (λ span. VolumesHeadline begun seen span service.began (streams_of source sink) status) h);
+  last = ends;
   end = subst (λ (z : Setup). IsEndOver z rack sink status) same end;
 }
 

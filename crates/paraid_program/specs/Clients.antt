@@ -1,6 +1,6 @@
 -- What `nbd` does.
 use Rattle.std.specs.Prelude.{◌≡◌, ℕ, ◌*◌, [], Some, None}
-use Rattle.paraid_base.specs.Told.{Gives, GrowsByBytes, HasRisen}
+use Rattle.paraid_base.specs.Told.{GrowsByBytes, HasRisen}
 use Rattle.paraid_recover.specs.declared.fault.MountFault.{MountFault}
 use Rattle.paraid_serve.specs.Calls.{IsNotDouble}
 use Rattle.paraid_record.specs.declared.meta.Setup.{Setup}
@@ -13,7 +13,7 @@ use Rattle.paraid_service.specs.ClientCauses.{ClientCauses}
 use Rattle.paraid_service.specs.Clients.{ClientHeadline, LosesTwo, TakesClient}
 use Rattle.paraid_service.specs.Ends.{broken_status}
 use Rattle.paraid_program.specs.Complete.{HeldHistory, Hinders}
-use Rattle.paraid_program.specs.Ends.{BeginsAt, HandsBack, IsServed, ServiceStart, served_span, shown_served}
+use Rattle.paraid_program.specs.Ends.{BeginsAt, HandsBack, IsServed, IsUnheard, ServiceStart, served_span, shown_served}
 use Rattle.paraid_program.specs.MountFaults.{mount_fault_status}
 
 -- A client was served with a mounted array: its headline; over every rack what it was answered and why, by what was seen of the array
@@ -27,11 +27,11 @@ pub record ServesNbd (rack : RackUse) (source : SourceUse) (sink : SinkUse) (sta
   pub present : status ≡ 0 → IsNotDouble service.array.meta.setup rack.new
   pub two : status ≡ 5 → LosesTwo rack.old rack.new
 
--- A rack was not mounted, which the status tells, and nothing was taken or written; or it was, and then this holds of the array
+-- A rack was not mounted, which the status tells, the source was not heard and nothing was written; or it was, and then this holds of the array
 -- that is what stood on its disks.
 pub data ServesNbdOrNot (rack : RackUse) (source : SourceUse) (sink : SinkUse) (status : ℕ) : Type 0 where
   refused : (fault : MountFault) → HandsBack rack fault → status ≡ mount_fault_status fault
-      → Gives source.left_before source.left [] → GrowsByBytes sink.written_before sink.written [] → ServesNbdOrNot rack source sink status
+      → IsUnheard source → GrowsByBytes sink.written_before sink.written [] → ServesNbdOrNot rack source sink status
   mounted : (service : ServiceStart) → IsServed rack service → BeginsAt rack.before service.told rack.after service.began → ServesNbd rack source sink status service
       → ServesNbdOrNot rack source sink status
 

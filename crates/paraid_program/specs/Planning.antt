@@ -11,6 +11,7 @@ use Rattle.paraid_recover.specs.declared.fault.MountFault.{MountFault}
 use Rattle.paraid_serve.specs.Ending.{EndsWithLine, mount_line}
 use Rattle.paraid_serve.specs.Uses.{RackUse, SinkUse, SourceUse}
 use Rattle.paraid_session.specs.Mount.{IsRefusedFromEach}
+use Rattle.paraid_program.specs.Ends.{IsUnheard}
 use Rattle.paraid_program.specs.MountFaults.{mount_fault_line, mount_fault_status}
 use Rattle.paraid_program.specs.Showing.{BeganAt, IsServedBy}
 
@@ -34,12 +35,13 @@ pub record TellsPlan (meta : Meta) (ups : ℕ) (source : SourceUse) (sink : Sink
   pub outcome : PlanLines meta ups source code lines
   pub ends : EndsWithLine sink.written_before sink.written lines code status
 
--- A plan was told of an array that the mount serves, and the disks are as the mount left them; or the mount was refused.
+-- A plan was told of an array that the mount serves, and the disks are as the mount left them; or the mount was refused, and the
+-- source was not heard.
 pub data PlanOutcome (rack : RackUse) (source : SourceUse) (sink : SinkUse) (ups status : ℕ) : Type 0 where
   served : (meta : Meta) (dirty : ℕ → ℕ → Bool) → IsServedBy rack meta dirty
       → TellsPlan meta ups source sink status
       → PlanOutcome rack source sink ups status
   refused : (fault : MountFault) → IsCauseOfRefusal rack.slots rack.old rack.new rack.before rack.after fault
       → ((began : ℕ) → BeganAt rack.before began → IsRefusedFromEach rack.slots began rack.after (refusal_by_fault fault))
-      → EndsWithLine sink.written_before sink.written (mount_fault_line fault) (mount_fault_status fault) status
+      → EndsWithLine sink.written_before sink.written (mount_fault_line fault) (mount_fault_status fault) status → IsUnheard source
       → PlanOutcome rack source sink ups status

@@ -54,6 +54,7 @@ module _ {A : Type 0} (g : Ghosts A) (agrees : (x : A) (q : Point) → g.stands 
         events = c.events;
         t = c.t;
         client = c.answers;
+        kinds = c.kept_is.kinds;
         session = ends_with_status g a b c.events end status p at is e;
         left = λ asked went. stretch_leaves (span_between g a b) p asked went mark (here went.from went.was);
         synced = ends_synced g a b c.events end status p at is agrees mark here e;

@@ -10,5 +10,6 @@ pub mod PointLemmas
 pub mod ShelfLemmas
 pub mod RunLemmas
 pub mod TakeLemmas
+pub mod FormLemmas
 pub mod TextLemmas
 pub mod ReplyLemmas

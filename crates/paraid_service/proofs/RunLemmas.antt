@@ -14,11 +14,10 @@ use Rattle.paraid_volume.proofs.DeviceLemmas.{DeviceGoesOn-then}
 use Rattle.paraid_volume_lines.specs.Grammar.{AsksVolumes, VolLine}
 use Rattle.paraid_service.specs.declared.shelf.Shelf.{Shelf}
 use Rattle.paraid_service.specs.declared.shelf.Shelf.TheVariants.{Bare, Held as HeldShelf}
-use Rattle.paraid_service.specs.LineRuns.{RunsLines, RunsOn, SaysLines}
+use Rattle.paraid_service.specs.LineRuns.{KeepsLines, RunsLines, RunsOn, SaysLines}
 use Rattle.paraid_service.specs.Shelves.{OnFirst, OnShelf, OpensShelf, ServesShelf, StepsShelf, device_in}
 use Rattle.paraid_service.specs.VolumeLines.{Held, IsEventOf, LinesStep, halted_text}
-use Rattle.paraid_service.specs.VolumeForms.{FormsLines, HaveForm}
-use Rattle.paraid_service.specs.VolumeForms.FormsLines.{halting as form_halting, later as form_later, none_yet as form_none, one_more as form_more}
+use Rattle.paraid_service.specs.LineRuns.KeepsLines.{halting as form_halting, later as form_later, none_yet as form_none, one_more as form_more}
 use Rattle.paraid_service.specs.VolumeLines.LinesStep.{halting, later, none_yet, one_more}
 use Rattle.paraid_service.specs.VolumeSessions.{Holds, IsLifeOf, life_start}
 use Rattle.paraid_service.specs.VolumeSessions.BeginsWith.{known, unknown}
@@ -96,22 +95,21 @@ module _ {B : Type 0} (g : Ghosts B) where
           broken = λ other e. record { before = life.events; rest = kept.more; all = kept.kept; life = life.life; came = kept.all };
         }
 
-    more_form : (halt : Option Halt) (l : ServesShelf g old new asked said halt) (lines : List (List ℕ)) (line front reply : List ℕ) → AsksVolumes line asked → HaveForm lines front reply None → HaveForm (lines ++ line ∷ []) (front ++ reply) said halt
-    more_form None l lines line front reply ask f =
-        record { begun = f.begun; form = subst (λ (x : List ℕ). FormsLines f.begun (lines ++ line ∷ []) (front ++ reply) x None) (sym l.printed) (form_more lines line front reply l.said asked f.form ask (l.reply refl)) }
-    more_form (Some own) l lines line front reply ask f =
+    more_form : (halt : Option Halt) (l : ServesShelf g old new asked said halt) (start : B) (lines : List (List ℕ)) (line front reply : List ℕ) → AsksVolumes line asked → g.halted (device_in old) ≡ None → KeepsLines g start lines front reply (device_in old)
+        → KeepsLines g start (lines ++ line ∷ []) (front ++ reply) said (device_in new)
+    more_form None l start lines line front reply ask none f =
+        subst (λ (x : List ℕ). KeepsLines g start (lines ++ line ∷ []) (front ++ reply) x (device_in new)) (sym l.printed) (form_more lines line front reply l.said asked (device_in old) (device_in new) f none ask (l.reply refl) l.keeps (l.halted none))
+    more_form (Some own) l start lines line front reply ask none f =
         let why = l.halts own refl in
-        record {
-          begun = f.begun;
-          form = subst (λ (x : List ℕ). FormsLines f.begun (lines ++ line ∷ []) (front ++ reply) x (Some own)) (sym (l.printed ∙ ap (λ (x : List ℕ). x ++ codes "\n") why.0)) (form_halting lines line front reply asked own f.form ask why.1 why.2);
-        }
+        subst (λ (x : List ℕ). KeepsLines g start (lines ++ line ∷ []) (front ++ reply) x (device_in new)) (sym (l.printed ∙ ap (λ (x : List ℕ). x ++ codes "\n") why.0))
+        (form_halting lines line front reply asked own (device_in old) (device_in new) f none ask why.1 why.2 l.keeps (l.halted none))
 
     pub runs_more : (halt : Option Halt) → ServesShelf g old new asked said halt → RunsOn g old new None halt asked said
     runs_more halt l start lines line front reply ask r = record {
       going = l.going;
       went = DeviceGoesOn-then g.block_count g.halts g.halted g.tells start (device_in old) (device_in new) r.went l.went;
       keeps = keeps_then g.kept start (device_in old) (device_in new) r.keeps (keeps_more g.kept g.tells (IsEventOf asked) (device_in old) (device_in new) l.keeps);
-      form = more_form halt l lines line front reply ask r.form;
+      form = λ none. more_form halt l start lines line front reply ask (r.halted none) (r.form none);
       halted = λ going. l.halted (r.halted going);
       says = more_says halt l start lines line front reply ask r;
     }
@@ -123,7 +121,7 @@ module _ {B : Type 0} (g : Ghosts B) where
     going = r.going;
     went = r.went;
     keeps = r.keeps;
-    form = record { begun = r.form.begun; form = subst (λ (x : List ℕ). FormsLines r.form.begun (lines ++ line ∷ []) (front ++ reply) x (Some own)) (sym printed) (form_later lines line front reply asked own r.form.form ask) };
+    form = λ none. subst (λ (x : List ℕ). KeepsLines g start (lines ++ line ∷ []) (front ++ reply) x (device_in shelf)) (sym printed) (form_later lines line front reply asked own (device_in shelf) (r.form none) (r.halted none) ask);
     halted = r.halted;
     says = λ h stands tells.
         let y = r.says h stands tells in
@@ -185,4 +183,4 @@ module _ {B : Type 0} (g : Ghosts B) where
       }
 
   pub runs_first : (start : B) (shelf : Shelf B g) (halt : Option Halt) → OpensShelf g start shelf halt → g.kept start start [] → RunsLines g start [] [] [] shelf halt
-  runs_first start shelf halt o begins = record { going = o.going; went = o.went; keeps = keeps_more g.kept g.tells IsReadEvent start (device_in shelf) o.keeps; form = record { begun = halt; form = form_none }; halted = o.halted; says = first_says start shelf halt o begins }
+  runs_first start shelf halt o begins = record { going = o.going; went = o.went; keeps = keeps_more g.kept g.tells IsReadEvent start (device_in shelf) o.keeps; form = λ none. form_none (device_in shelf) o.keeps; halted = o.halted; says = first_says start shelf halt o begins }

@@ -22,9 +22,10 @@ use Rattle.paraid_rack.specs.Slots.{Slot}
 use Rattle.paraid_rack.specs.Trail.{Trail, now as disks_now}
 use Rattle.paraid_record.specs.declared.meta.Setup.{Setup}
 use Rattle.paraid_serve.specs.declared.serves.Serves.{Ghosts}
+use Rattle.paraid_serve.specs.Causes.{HasCause, Shown, Shows}
 use Rattle.paraid_serve.specs.Ending.{EndsWithLine, end_line, halt_line, mount_line, status_of_halt}
 use Rattle.paraid_serve.specs.Lost.{HaltsBySecondLoss, HaltsByWear, NamesTwoLost, TellsWear}
-use Rattle.paraid_serve.specs.Output.{IsServedStatus, IsWholeStatus, begins_with}
+use Rattle.paraid_serve.specs.Output.{IsServedStatus, IsWholeStatus, begins_with, first_line as line_shown}
 use Rattle.paraid_serve.specs.Streams.{Streams, streams_of}
 use Rattle.paraid_serve.specs.Stretch.{Span, span_of}
 use Rattle.paraid_serve.specs.Uses.{SinkUse}
@@ -43,21 +44,24 @@ use Rattle.paraid_service.specs.declared.run.LinesEnd.{LinesEnd}
 use Rattle.paraid_service.specs.declared.run.LinesEnd.TheVariants.{Done, Source, TooLong, Sink}
 use Rattle.paraid_service.specs.declared.shelf.Shelf.{Shelf}
 use Rattle.paraid_service.specs.LineEnds.{ServesVolumeLines}
-use Rattle.paraid_service.specs.LineRuns.{SaysLines}
+use Rattle.paraid_service.specs.LineRuns.{KeepsLines, SaysLines}
+use Rattle.paraid_service.specs.LineRuns.KeepsLines.{halting as keeps_halting, later as keeps_later, none_yet as keeps_none, one_more as keeps_more}
 use Rattle.paraid_service.specs.LinesEnds.{EndsSession, HasFlushed, device_kept}
 use Rattle.paraid_service.specs.LinesEnds.EndsSession.{at_sink, at_source, halted, kept, too_long}
 use Rattle.paraid_service.specs.Shelves.{device_in}
 use Rattle.paraid_volume_lines.specs.Grammar.{VolLine}
 use Rattle.paraid_service.specs.VolumeLines.{Held}
 use Rattle.paraid_service.specs.VolumeSessions.{AnswersFromPoint, AreOfHalt, AnswersLines, FlushesLast, FollowsForVolumes, HasEvent, IsLifeOf, LeavesHeld, VolumesHeadline, VolumesRun, VolumesText, WritesVolumes, life_start}
-use Rattle.paraid_service.specs.VolumeForms.{HasVolumesForm, HaveForm, VolumesForm}
+use Rattle.paraid_service.specs.VolumeForms.{FormsLines, HasVolumesForm, VolumesForm}
+use Rattle.paraid_service.specs.VolumeForms.FormsLines.{halting as forms_halting, later as forms_later, none_yet as forms_none, one_more as forms_more}
 use Rattle.paraid_service.specs.VolumeForms.VolumesForm.{done as form_done, halted as form_halted, source as form_source, too_long as form_too_long}
-use Rattle.paraid_service.specs.VolumeForms.HasVolumesForm.{answers as form_answers, first_line as form_first, last_line as form_last_line, whole as form_whole}
+use Rattle.paraid_service.specs.VolumeForms.HasVolumesForm.{answers as form_answers, at_first_line as form_first, last_line as form_last_line, whole as form_whole}
 use Rattle.paraid_service.specs.VolumeSessions.IsLifeOf.{lives, waits}
 use Rattle.paraid_service.specs.VolumeSessions.VolumesText.{done as done_text, halted as halted_text, source as source_text, too_long as too_long_text}
 use Rattle.paraid_service.specs.VolumeSessions.WritesVolumes.{answers, first_line, last_line, whole}
 use Rattle.paraid_service.proofs.EndLemmas.{synced_after}
 use Rattle.paraid_service.proofs.FlushLemmas.{within_low}
+use Rattle.paraid_service.proofs.FormLemmas.{form_caused, form_kinds}
 use Rattle.paraid_service.proofs.PointLemmas.{flush_low, turns_history}
 use Rattle.paraid_service.proofs.RunLemmas.{life_on}
 
@@ -112,12 +116,13 @@ abbrev device_stands : {A : Type 0} (g : Ghosts A) → Device A g → History �
 device_stands g device = StandsFor (g.stands (array_of device))
 
 -- the same of its form
-form_last : {bytes : List ℕ} {before after : Option (List ℕ)} (said line : List ℕ) (code status : ℕ) → (e : EndsWithLine before after line code status) → VolumesForm bytes code said line → HasVolumesForm bytes status (said ++ take e.count line)
-form_last {bytes} {before} {after} said line code status e t = elim e.whole [
+form_last : {old new : Shown} {bytes : List ℕ} {made : Answers} {before after : Option (List ℕ)} (said line : List ℕ) (code status : ℕ) → (e : EndsWithLine before after line code status) → VolumesForm old new bytes made code said line
+    → HasVolumesForm old new bytes made status (said ++ take e.count line)
+form_last {old} {new} {bytes} {made} {before} {after} said line code status e t = elim e.whole [
   | inl four ↦ form_last_line four code said line e.count t refl
   | inr all ↦
       let full : take e.count line ≡ line = take_all e.count line (let n = all.0 in omega (arith, n)) in
-      form_whole said line (subst (λ (s : ℕ). VolumesForm bytes s said line) (sym all.1) t) (ap (λ (x : List ℕ). said ++ x) full)
+      form_whole said line (subst (λ (s : ℕ). VolumesForm old new bytes made s said line) (sym all.1) t) (ap (λ (x : List ℕ). said ++ x) full)
 ]
 
 -- ---- the whole text, from what was answered
@@ -149,6 +154,11 @@ met_by : (old new met : Option Halt) (own : Halt) → old ≡ met → (IsSome ol
 met_by None new met own same again is = inl (sym same)
 met_by (Some other) new met own same again is = inr (sym same ∙ sym (again refl) ∙ is)
 
+-- the same of what is seen of it
+met_seen : (seen met : Option Halt) (own : Halt) → seen ≡ met → (met ≡ None) ⊎ (met ≡ Some own) → (seen ≡ None) ⊎ (seen ≡ Some own)
+met_seen seen met own same (inl none) = inl (same ∙ none)
+met_seen seen met own same (inr is) = inr (same ∙ is)
+
 -- ---- its status
 
 halt_status_is : (halt : Halt) → (status_of_halt halt ≡ 5) ⊎ (status_of_halt halt ≡ 12)
@@ -168,6 +178,13 @@ no_whole_status code status e zero five twelve it = elim it [
 four_not_whole : IsWholeStatus 4 → ⊥
 four_not_whole it = elim it [ inl is ↦ omega (arith, is) | inr (inl is) ↦ omega (arith, is) | inr (inr is) ↦ omega (arith, is) ]
 
+-- the first line is that of what is seen of the array
+pub mount_shown : {A : Type 0} (g : Ghosts A) (a : A) (writes gear : ℕ) → writes ≡ (g.shown a).meta.writes → gear ≡ (g.shown a).gear → Shows (g.shown a) (g.setup a) (g.slot a) (g.halted a) → g.halted a ≡ None → mount_line writes gear ≡ line_shown (g.shown a)
+mount_shown g a writes gear is at shows none = let here = at ∙ shows.gear (shows.halt ∙ none) in rw (is, here) refl
+
+pub grew_as : {before after : Option (List ℕ)} {text other : List ℕ} → text ≡ other → GrowsByBytes before after text → GrowsByBytes before after other
+grew_as {before} {after} is grew = subst (λ (w : List ℕ). GrowsByBytes before after w) is grew
+
 module _ {A : Type 0} (g : Ghosts A) where
   abbrev device_ghosts : BlocksGhosts (Device A g)
   device_ghosts = record {
@@ -179,15 +196,49 @@ module _ {A : Type 0} (g : Ghosts A) where
     kept = device_kept g;
   }
 
-  module _ (agrees : (x : A) (q : Point) → g.stands x q → q.halt ≡ g.halted x) (first : Device A g) where
+  -- what is seen of its array
+  abbrev seen_of : Device A g → Shown
+  seen_of d = g.shown (array_of d)
+
+  -- why the last flush is answered so
+  flush_cause : (mid last : Device A g) (answer : Answer) (halt : Option Halt) → HasFlushed g mid last answer halt → HasCause (seen_of mid) Flush answer (seen_of last)
+  flush_cause mid last answer halt f =
+      let c = (f.kept mid [] (answered_none g (array_of mid))).causes in
+      subst (λ (x : Shown). HasCause (seen_of mid) Flush answer x) (sym c.2) c.1
+
+  module _ (shows : (x : A) → (g.shown x).halt ≡ g.halted x) where
+    seen_halt : (d : Device A g) (halt : Option Halt) → halt_of_device d ≡ halt → (seen_of d).halt ≡ halt
+    seen_halt d halt is = shows (array_of d) ∙ array_halt d ∙ is
+
+    -- the answers to lines, by what is seen of the array
+    lines_form : (first : Device A g) {device : Device A g} {lines : List (List ℕ)} {front reply : List ℕ} → KeepsLines device_ghosts first lines front reply device
+        → (made : Answers) × FormsLines (seen_of first) lines front reply made (seen_of device)
+    lines_form first (keeps_none device keeps) = let m = keeps.grows first [] (answered_none g (array_of first)) in (m.more, forms_none m.more (seen_of device) m.all m.kept.causes)
+    lines_form first (keeps_more lines line front reply said asked old new before was ask is keeps going) =
+        let b = lines_form first before in
+        let m = keeps.grows old [] (answered_none g (array_of old)) in
+        (b.0 ++ m.more, forms_more lines line front reply said asked b.0 m.more (seen_of old) (seen_of new) b.1 (seen_halt old None was) ask is m.all m.kept.causes (seen_halt new None going))
+    lines_form first (keeps_halting lines line front reply asked own old new before was ask not_bad not_list keeps is) =
+        let b = lines_form first before in
+        let m = keeps.grows old [] (answered_none g (array_of old)) in
+        (b.0 ++ m.more, forms_halting lines line front reply asked own b.0 m.more (seen_of old) (seen_of new) b.1 (seen_halt old None was) ask not_bad not_list m.all m.kept.causes (seen_halt new (Some own) is))
+    lines_form first (keeps_later lines line front reply asked own device before is ask) =
+        let b = lines_form first before in
+        (b.0, forms_later lines line front reply asked own b.0 (seen_of device) b.1 (seen_halt device (Some own) is) ask)
+
+  module _ (agrees : (x : A) (q : Point) → g.stands x q → q.halt ≡ g.halted x) (shows : (x : A) → (g.shown x).halt ≡ g.halted x) (first : Device A g) where
     abbrev span_to : Option Trail → Span
     span_to final = span_of (g.slots (array_of first)) (g.setup (array_of first)) (g.told (array_of first)) final
 
     abbrev Text : Option Trail → Point → List ℕ → ℕ → List ℕ → List ℕ → Type 0
     Text final p bytes code said last = VolumesText (span_to final) p bytes code said last
 
-    abbrev Run : Option Trail → Streams → ℕ → Type 0
-    Run final streams status = VolumesRun (span_to final) (g.stands (array_of first)) streams status
+    abbrev Run : Option Trail → Shown → Streams → ℕ → Type 0
+    Run final now streams status = VolumesRun (seen_of first) now (span_to final) (g.stands (array_of first)) streams status
+
+    -- the line of the array as it is first
+    abbrev opening : List ℕ
+    opening = line_shown (seen_of first)
 
     -- lines that a device answered, from a point at which its array stood
     point_answers : (mid : Device A g) (p : Point) (lines : List (List ℕ)) (front reply : List ℕ) (halt : Option Halt) → (at : g.stands (array_of first) p) (is : IsSome (g.told (array_of mid))) → halt_of_device mid ≡ halt
@@ -220,12 +271,15 @@ module _ {A : Type 0} (g : Ghosts A) where
         subst (λ (n : ℕ). FlushesLast (span_of n (g.setup (array_of first)) (g.told (array_of mid)) (g.told (array_of last))) q answer) slots
         (subst (λ (z : Setup). FlushesLast (span_of (g.slots (array_of mid)) z (g.told (array_of mid)) (g.told (array_of last))) q answer) setup (record { asked = k.asked; all = k.all; answered = k.answered }))
 
-    module _ (going : halt_of_device first ≡ None) (x : Streams) {begun written : Option (List ℕ)} (shelf : Shelf (Device A g) device_ghosts) (halt : Option Halt) (writes_seen gear_seen : ℕ)
-        (grew : GrowsByBytes x.sink.written_before begun (mount_line writes_seen gear_seen)) (mounted : (p : Point) → g.stands (array_of first) p → mount_line writes_seen gear_seen ≡ begins_with p) where
+    module _ (going : halt_of_device first ≡ None) (x : Streams) {begun written : Option (List ℕ)} (shelf : Shelf (Device A g) device_ghosts) (halt : Option Halt)
+        (grew : GrowsByBytes x.sink.written_before begun opening) (mounted : (p : Point) → g.stands (array_of first) p → opening ≡ begins_with p) where
       module _ (end : LinesEnd) (s : ServesVolumeLines device_ghosts first x.source.left_before x.source.left begun written shelf halt end) where
         -- the events that were kept, whatever is told
         answered_mid : (e : Answers) × HasAnswered g (array_of first) (array_of (device_in shelf)) e
         answered_mid = let k = s.runs.keeps.grows first [] (answered_none g (array_of first)) in (k.0, k.1)
+
+        form_mid : (made : Answers) × FormsLines (seen_of first) s.lines s.front s.reply made (seen_of (device_in shelf))
+        form_mid = lines_form shows first (s.runs.form going)
 
         says_mid : IsSome (g.told (array_of (device_in shelf))) → (p : Point) → g.stands (array_of first) p → SaysKept device_ghosts first p.history s.lines s.front s.reply (device_in shelf) halt
         says_mid is p at = answers_of device_ghosts first p.history s.lines s.front s.reply shelf halt (s.runs.says p.history (record { point = p; at = at; is = refl }) is)
@@ -235,28 +289,32 @@ module _ {A : Type 0} (g : Ghosts A) where
         answers_mid is p at = point_answers (device_in shelf) p s.lines s.front s.reply halt at is (s.runs.halted going) (says_mid is p at)
 
         -- a last line behind the answers
-        ends_line : (final : Option Trail) (line : List ℕ) (code status : ℕ) (e : EndsWithLine written x.sink.written line code status) → (status ≡ 10 → length s.bytes ≡ 2 ^ 40) → (IsWholeStatus status → (length s.bytes < 2 ^ 40) × AtEnd x.source.left)
-            → VolumesForm s.bytes code (mount_line writes_seen gear_seen ++ s.told) line → (IsSome final → (p : Point) → g.stands (array_of first) p → Text final p s.bytes code (begins_with p ++ s.told) line) → Run final x status
-        ends_line final line code status e full all form text = record {
+        ends_line : (final : Option Trail) (now : Shown) (made : Answers) (line : List ℕ) (code status : ℕ) (e : EndsWithLine written x.sink.written line code status) → (status ≡ 10 → length s.bytes ≡ 2 ^ 40) → (IsWholeStatus status → (length s.bytes < 2 ^ 40) × AtEnd x.source.left)
+            → VolumesForm (seen_of first) now s.bytes made code (opening ++ s.told) line → (IsSome final → (p : Point) → g.stands (array_of first) p → Text final p s.bytes code (begins_with p ++ s.told) line) → Run final now x status
+        ends_line final now made line code status e full all form text = record {
           bytes = s.bytes;
-          text = (mount_line writes_seen gear_seen ++ s.told) ++ take e.count line;
+          text = (opening ++ s.told) ++ take e.count line;
           given = s.given;
-          grows = GrowsByBytes-then x.sink.written_before written x.sink.written (mount_line writes_seen gear_seen ++ s.told) (take e.count line) (GrowsByBytes-then x.sink.written_before begun written (mount_line writes_seen gear_seen) s.told grew s.grows) e.grows;
+          grows = GrowsByBytes-then x.sink.written_before written x.sink.written (opening ++ s.told) (take e.count line) (GrowsByBytes-then x.sink.written_before begun written (opening) s.told grew s.grows) e.grows;
           full = full;
           all = all;
-          form = form_last (mount_line writes_seen gear_seen ++ s.told) line code status e form;
+          events = made;
+          form = form_last (opening ++ s.told) line code status e form;
           wrote = λ is p at. subst (λ (x : List ℕ). WritesVolumes (span_to final) p s.bytes status ((x ++ s.told) ++ take e.count line)) (sym (mounted p at))
               (with_last (begins_with p ++ s.told) line code status e (text is p at));
         }
 
       -- all lines were answered, and the flush with a number
       ran_kept : (last : Device A g) (writes status : ℕ) → ServesVolumeLines device_ghosts first x.source.left_before x.source.left begun written shelf halt Done → HasFlushed g (device_in shelf) last (Flushed writes) None
-          → EndsWithLine written x.sink.written (end_line writes) 0 status → Run (g.told (array_of last)) x status
+          → EndsWithLine written x.sink.written (end_line writes) 0 status → Run (g.told (array_of last)) (seen_of last) x status
       ran_kept last writes status s f e =
           let mid = device_in shelf in
           let before = answered_mid Done s in
           let none : halt ≡ None = not_halted (halt_of_device mid) (halt_of_device last) halt (s.runs.halted going) f.again f.halted in
-          ends_line Done s (g.told (array_of last)) (end_line writes) 0 status e (λ ten. absurd (other _ _ _ _ _ e 10 (λ no. omega arith) (λ no. omega arith) ten)) (λ whole. (s.ends.2, s.ends.3)) (subst (λ (w : List ℕ). VolumesForm s.bytes 0 (mount_line writes_seen gear_seen ++ w) (end_line writes)) (sym s.ends.1) (form_done writes_seen gear_seen writes s.front s.reply (subst (λ (l : List (List ℕ)). HaveForm l s.front s.reply None) s.ends.0 (subst (λ (o : Option Halt). HaveForm s.lines s.front s.reply o) none s.runs.form)))) (λ is p at.
+          let made = (form_mid Done s).0 in
+          let form = subst (λ (l : List (List ℕ)). FormsLines (seen_of first) l s.front s.reply made (seen_of mid)) s.ends.0 (form_mid Done s).1 in
+          ends_line Done s (g.told (array_of last)) (seen_of last) (made ++ (Flush, Flushed writes) ∷ []) (end_line writes) 0 status e (λ ten. absurd (other _ _ _ _ _ e 10 (λ no. omega arith) (λ no. omega arith) ten)) (λ whole. (s.ends.2, s.ends.3)) (subst (λ (w : List ℕ). VolumesForm (seen_of first) (seen_of last) s.bytes (made ++ (Flush, Flushed writes) ∷ []) 0 (opening ++ w) (end_line writes)) (sym s.ends.1)
+          (form_done s.front s.reply made (seen_of mid) writes form (seen_halt shows mid None (s.runs.halted going ∙ none)) (flush_cause mid last (Flushed writes) None f))) (λ is p at.
           let here = told_then (g.told (array_of mid)) (g.told (array_of last)) (f.kept mid [] (answered_none g (array_of mid))).grows is in
           let y = answers_mid Done s here p at in
           let number : writes ≡ length y.0.all.end.history = f.number y.0.all.end.history (record { point = y.0.all.end; at = y.1; is = refl }) is writes refl in
@@ -265,43 +323,49 @@ module _ {A : Type 0} (g : Ghosts A) where
 
       -- all lines were answered, and the flush by a halt
       ran_halted : (last : Device A g) (own : Halt) (status : ℕ) → ServesVolumeLines device_ghosts first x.source.left_before x.source.left begun written shelf halt Done → HasFlushed g (device_in shelf) last (Halted own) (Some own)
-          → EndsWithLine written x.sink.written (halt_line own) (status_of_halt own) status → Run (g.told (array_of last)) x status
+          → EndsWithLine written x.sink.written (halt_line own) (status_of_halt own) status → Run (g.told (array_of last)) (seen_of last) x status
       ran_halted last own status s f e =
           let mid = device_in shelf in
           let before = answered_mid Done s in
           let met = met_by (halt_of_device mid) (halt_of_device last) halt own (s.runs.halted going) f.again f.halted in
-          ends_line Done s (g.told (array_of last)) (halt_line own) (status_of_halt own) status e (λ ten. absurd (other _ _ _ _ _ e 10 (λ no. omega (arith, no)) (no_halt_code own 10 (λ no. omega (arith, no)) (λ no. omega (arith, no))) ten)) (λ whole. (s.ends.2, s.ends.3)) (subst (λ (w : List ℕ). VolumesForm s.bytes (status_of_halt own) (mount_line writes_seen gear_seen ++ w) (halt_line own)) (sym s.ends.1) (form_halted writes_seen gear_seen own halt s.front s.reply (subst (λ (l : List (List ℕ)). HaveForm l s.front s.reply halt) s.ends.0 s.runs.form) met)) (λ is p at.
+          let made = (form_mid Done s).0 in
+          let form = subst (λ (l : List (List ℕ)). FormsLines (seen_of first) l s.front s.reply made (seen_of mid)) s.ends.0 (form_mid Done s).1 in
+          ends_line Done s (g.told (array_of last)) (seen_of last) (made ++ (Flush, Halted own) ∷ []) (halt_line own) (status_of_halt own) status e (λ ten. absurd (other _ _ _ _ _ e 10 (λ no. omega (arith, no)) (no_halt_code own 10 (λ no. omega (arith, no)) (λ no. omega (arith, no))) ten)) (λ whole. (s.ends.2, s.ends.3)) (subst (λ (w : List ℕ). VolumesForm (seen_of first) (seen_of last) s.bytes (made ++ (Flush, Halted own) ∷ []) (status_of_halt own) (opening ++ w) (halt_line own)) (sym s.ends.1)
+          (form_halted s.front s.reply made (seen_of mid) own form (met_seen (seen_of mid).halt halt own (seen_halt shows mid halt (s.runs.halted going)) met) (flush_cause mid last (Halted own) (Some own) f))) (λ is p at.
           let here = told_then (g.told (array_of mid)) (g.told (array_of last)) (f.kept mid [] (answered_none g (array_of mid))).grows is in
           let y = answers_mid Done s here p at in
           halted_at (span_to (g.told (array_of last))) (g.told (array_of mid)) p s.bytes s.front s.reply s.told s.ends.1 s.lines halt own y.0 s.ends.0
           met (flush_behind mid last y.0.all.end (Halted own) (Some own) before.1.same_slots before.1.same_setup y.1 is f))
 
-      pub ran : (last : Device A g) (end : LinesEnd) (status : ℕ) → ServesVolumeLines device_ghosts first x.source.left_before x.source.left begun written shelf halt end → EndsSession g (device_in shelf) last written x.sink.written end status → Run (g.told (array_of last)) x status
+      pub ran : (last : Device A g) (end : LinesEnd) (status : ℕ) → ServesVolumeLines device_ghosts first x.source.left_before x.source.left begun written shelf halt end → EndsSession g (device_in shelf) last written x.sink.written end status → Run (g.told (array_of last)) (seen_of last) x status
       ran last Done status s (kept writes status' f e) = ran_kept last writes status s f e
       ran last Done status s (halted own status' f e) = ran_halted last own status s f e
       ran last Source status s (at_source status' same e) =
-          subst (λ (d : Device A g). Run (g.told (array_of d)) x status) (sym same)
-          (ends_line Source s (g.told (array_of (device_in shelf))) (codes "source\n") 3 status e (λ ten. absurd (other _ _ _ _ _ e 10 (λ no. omega (arith, no)) (λ no. omega (arith, no)) ten))
-          (λ whole. absurd (no_whole_status 3 status e (λ no. omega (arith, no)) (λ no. omega (arith, no)) (λ no. omega (arith, no)) whole)) (subst (λ (w : List ℕ). VolumesForm s.bytes 3 (mount_line writes_seen gear_seen ++ w) (codes "source\n")) (sym s.ends.1) (form_source writes_seen gear_seen halt s.front s.reply (subst (λ (l : List (List ℕ)). HaveForm l s.front s.reply halt) s.ends.0 s.runs.form))) (λ is p at.
+          subst (λ (d : Device A g). Run (g.told (array_of d)) (seen_of d) x status) (sym same)
+          (ends_line Source s (g.told (array_of (device_in shelf))) (seen_of (device_in shelf)) (form_mid Source s).0 (codes "source\n") 3 status e (λ ten. absurd (other _ _ _ _ _ e 10 (λ no. omega (arith, no)) (λ no. omega (arith, no)) ten))
+          (λ whole. absurd (no_whole_status 3 status e (λ no. omega (arith, no)) (λ no. omega (arith, no)) (λ no. omega (arith, no)) whole)) (subst (λ (w : List ℕ). VolumesForm (seen_of first) (seen_of (device_in shelf)) s.bytes (form_mid Source s).0 3 (opening ++ w) (codes "source\n")) (sym s.ends.1)
+          (form_source s.front s.reply (form_mid Source s).0 (subst (λ (l : List (List ℕ)). FormsLines (seen_of first) l s.front s.reply (form_mid Source s).0 (seen_of (device_in shelf))) s.ends.0 (form_mid Source s).1))) (λ is p at.
           let y = answers_mid Source s is p at in
           subst (λ (w : List ℕ). Text (g.told (array_of (device_in shelf))) p s.bytes 3 (begins_with p ++ w) (codes "source\n")) (sym s.ends.1)
           (source_text halt s.front s.reply (subst (λ (l : List (List ℕ)). AnswersFromPoint (span_to (g.told (array_of (device_in shelf)))) p l s.front s.reply halt) s.ends.0 y.0))))
       ran last TooLong status s (too_long status' same e) =
-          subst (λ (d : Device A g). Run (g.told (array_of d)) x status) (sym same)
-          (ends_line TooLong s (g.told (array_of (device_in shelf))) (codes "toolong\n") 10 status e (λ ten. s.ends.2)
-          (λ whole. absurd (no_whole_status 10 status e (λ no. omega (arith, no)) (λ no. omega (arith, no)) (λ no. omega (arith, no)) whole)) (subst (λ (w : List ℕ). VolumesForm s.bytes 10 (mount_line writes_seen gear_seen ++ w) (codes "toolong\n")) (sym s.ends.1) (form_too_long writes_seen gear_seen halt s.front s.reply s.ends.2 (subst (λ (l : List (List ℕ)). HaveForm l s.front s.reply halt) s.ends.0 s.runs.form))) (λ is p at.
+          subst (λ (d : Device A g). Run (g.told (array_of d)) (seen_of d) x status) (sym same)
+          (ends_line TooLong s (g.told (array_of (device_in shelf))) (seen_of (device_in shelf)) (form_mid TooLong s).0 (codes "toolong\n") 10 status e (λ ten. s.ends.2)
+          (λ whole. absurd (no_whole_status 10 status e (λ no. omega (arith, no)) (λ no. omega (arith, no)) (λ no. omega (arith, no)) whole)) (subst (λ (w : List ℕ). VolumesForm (seen_of first) (seen_of (device_in shelf)) s.bytes (form_mid TooLong s).0 10 (opening ++ w) (codes "toolong\n")) (sym s.ends.1)
+          (form_too_long s.front s.reply (form_mid TooLong s).0 s.ends.2 (subst (λ (l : List (List ℕ)). FormsLines (seen_of first) l s.front s.reply (form_mid TooLong s).0 (seen_of (device_in shelf))) s.ends.0 (form_mid TooLong s).1))) (λ is p at.
           let y = answers_mid TooLong s is p at in
           subst (λ (w : List ℕ). Text (g.told (array_of (device_in shelf))) p s.bytes 10 (begins_with p ++ w) (codes "toolong\n")) (sym s.ends.1)
           (too_long_text s.ends.2 halt s.front s.reply (subst (λ (l : List (List ℕ)). AnswersFromPoint (span_to (g.told (array_of (device_in shelf)))) p l s.front s.reply halt) s.ends.0 y.0))))
       ran last Sink status s (at_sink same after) =
-          subst (λ (d : Device A g). Run (g.told (array_of d)) x 4) (sym same) (record {
+          subst (λ (d : Device A g). Run (g.told (array_of d)) (seen_of d) x 4) (sym same) (record {
             bytes = s.bytes;
-            text = mount_line writes_seen gear_seen ++ s.told;
+            text = opening ++ s.told;
             given = s.given;
-            grows = subst (λ (w : Option (List ℕ)). GrowsByBytes x.sink.written_before w (mount_line writes_seen gear_seen ++ s.told)) (sym after) (GrowsByBytes-then x.sink.written_before begun written (mount_line writes_seen gear_seen) s.told grew s.grows);
+            grows = subst (λ (w : Option (List ℕ)). GrowsByBytes x.sink.written_before w (opening ++ s.told)) (sym after) (GrowsByBytes-then x.sink.written_before begun written (opening) s.told grew s.grows);
             full = λ ten. absurd (omega (arith, ten));
             all = λ whole. absurd (four_not_whole whole);
-            form = form_answers refl writes_seen gear_seen s.ends.before s.ends.more s.ends.line s.front s.reply s.ends.count halt s.ends.split (subst (λ (l : List (List ℕ)). HaveForm l s.front s.reply halt) s.ends.are s.runs.form) (ap (λ (w : List ℕ). mount_line writes_seen gear_seen ++ w) s.ends.cut);
+            events = (form_mid Sink s).0;
+            form = form_answers refl s.ends.before s.ends.more s.ends.line s.front s.reply s.ends.count s.ends.split (subst (λ (l : List (List ℕ)). FormsLines (seen_of first) l s.front s.reply (form_mid Sink s).0 (seen_of (device_in shelf))) s.ends.are (form_mid Sink s).1) (ap (λ (w : List ℕ). opening ++ w) s.ends.cut);
             wrote = λ is p at.
                 answers refl s.ends.before s.ends.more s.ends.line s.front s.reply s.ends.count halt s.ends.split (subst (λ (l : List (List ℕ)). AnswersFromPoint (span_to (g.told (array_of (device_in shelf)))) p l s.front s.reply halt) s.ends.are (answers_mid Sink s is p at).0)
                 (ap (λ (w : List ℕ). w ++ s.told) (mounted p at) ∙ ap (λ (w : List ℕ). begins_with p ++ w) s.ends.cut);
@@ -317,17 +381,18 @@ module _ {A : Type 0} (g : Ghosts A) where
       all_answered last Sink status s (at_sink same after) = let k = answered_mid Sink s in (k.0, subst (λ (d : Device A g). HasAnswered g (array_of first) (array_of d) k.0) (sym same) k.1)
 
   -- the first line could not be written
-  pub ran_none : (a : A) (left : Option (List ℕ)) (count : ℕ) (sink : SinkUse) (writes gear n : ℕ) → GrowsByBytes sink.written_before sink.written (take n (mount_line writes gear)) → ((p : Point) → g.stands a p → mount_line writes gear ≡ begins_with p)
-      → VolumesRun (span_between g a a) (g.stands a) (streams_of (record { left_before = left; left = left; faults_before = count; faults = count }) sink) 4
-  ran_none a left count sink writes gear n grew mounted = record {
+  pub ran_none : (a : A) (left : Option (List ℕ)) (count : ℕ) (sink : SinkUse) (n : ℕ) → GrowsByBytes sink.written_before sink.written (take n (line_shown (g.shown a))) → ((p : Point) → g.stands a p → line_shown (g.shown a) ≡ begins_with p)
+      → VolumesRun (g.shown a) (g.shown a) (span_between g a a) (g.stands a) (streams_of (record { left_before = left; left = left; faults_before = count; faults = count }) sink) 4
+  ran_none a left count sink n grew mounted = record {
     bytes = [];
-    text = take n (mount_line writes gear);
+    text = take n (line_shown (g.shown a));
     given = Gives-none left;
     grows = grew;
     full = λ ten. absurd (omega (arith, ten));
     all = λ whole. absurd (four_not_whole whole);
-    form = form_first refl writes gear (drop n (mount_line writes gear)) refl (sym (take-append-drop n (mount_line writes gear)));
-    wrote = λ is p at. first_line refl (drop n (mount_line writes gear)) refl (stretch_none (g.slots a) (g.setup a) (g.told a) p is) (sym (mounted p at) ∙ sym (take-append-drop n (mount_line writes gear)));
+    events = [];
+    form = form_first refl refl refl refl (drop n (line_shown (g.shown a))) (sym (take-append-drop n (line_shown (g.shown a))));
+    wrote = λ is p at. first_line refl (drop n (line_shown (g.shown a))) refl (stretch_none (g.slots a) (g.setup a) (g.told a) p is) (sym (mounted p at) ∙ sym (take-append-drop n (line_shown (g.shown a))));
   }
       -- what a device answered, told of its arrays
 
@@ -354,12 +419,12 @@ module _ {A : Type 0} (g : Ghosts A) (old new : Device A g) where
 -- ---- from the first point of a session on
 
 module _ {A : Type 0} (g : Ghosts A) (agrees : (x : A) (q : Point) → g.stands x q → q.halt ≡ g.halted x) (a b : A) (events : Answers) (all : HasAnswered g a b events) (status : ℕ) (going : status ≡ 0 → g.halted b ≡ None)
-    {streams : Streams} (r : VolumesRun (span_between g a b) (g.stands a) streams status) where
+    {streams : Streams} (r : VolumesRun (g.shown a) (g.shown b) (span_between g a b) (g.stands a) streams status) where
   -- after an end with 0 no block is loose
   synced_at : IsSome (g.told b) → (p : Point) → g.stands a p → IsMark (g.slots a) (g.setup a) p → ((t : Trail) → g.told a ≡ Some t → p.disks ≡ disks_now t) → status ≡ 0 → (u : Trail) → g.told b ≡ Some u → AreSynced (disks_now u)
   synced_at is p at mark here zero = synced_after g a b p at is agrees mark here events all (going zero)
 
-  pub headline_of : (began : ℕ) → IsMountedFromEach (g.slots a) (g.setup a) began (g.told a) (g.stands a) → VolumesHeadline (span_between g a b) began streams status
+  pub headline_of : (began : ℕ) → IsMountedFromEach (g.slots a) (g.setup a) began (g.told a) (g.stands a) → VolumesHeadline (g.shown a) (g.shown b) (span_between g a b) began streams status
   headline_of began mounted = record {
     bytes = r.bytes;
     text = r.text;
@@ -367,6 +432,9 @@ module _ {A : Type 0} (g : Ghosts A) (agrees : (x : A) (q : Point) → g.stands 
     grows = r.grows;
     full = r.full;
     all = r.all;
+    events = r.events;
+    causes = form_caused r.form;
+    kinds = form_kinds r.form;
     form = r.form;
     said = λ is. IsMountedFromEach-follows (g.slots a) (g.setup a) began (g.told a) (g.stands a) (FollowsForVolumes (span_between g a b) r.bytes status r.text)
         (λ p mark here at. record { wrote = r.wrote is p at; left = λ asked c. stretch_leaves (span_between g a b) p asked c mark (here c.from c.was); synced = synced_at is p at mark here }) mounted;

@@ -9,7 +9,7 @@ use Rattle.paraid_base.specs.declared.fault.Two.{Two}
 use Rattle.paraid_base.specs.BlockAnswers.{Answers}
 use Rattle.paraid_base.specs.History.{History}
 use Rattle.paraid_base.specs.Told.{GrowsByBytes, HasRisen}
-use Rattle.paraid_device.specs.Devices.{answers_in}
+use Rattle.paraid_device.specs.Devices.{AreBlockEvents, answers_in}
 use Rattle.paraid_image.specs.Rest.{AreSynced}
 use Rattle.paraid_machine.specs.Machine.{block_count}
 use Rattle.paraid_nbd.specs.declared.ending.NbdEnd.{NbdEnd}
@@ -83,11 +83,12 @@ pub data EndsWithStatus (span : Span) (p : Point) (events : Answers) (end : NbdE
   kept : (writes : ℕ) → broken_status end ≡ None → status ≡ 0 → Keeps span p (events ++ (Flush, Flushed writes) ∷ []) → EndsWithStatus span p events end status
   halted : (halt : Halt) → broken_status end ≡ None → status ≡ status_of_halt halt → Keeps span p (events ++ (Flush, Halted halt) ∷ []) → EndsWithStatus span p events end status
 
--- What follows from the first point of a session.
+-- What follows from the first point of a session: the client was answered by reads, writes and flushes alone, and these were kept.
 pub record FollowsForClient (span : Span) (streams : Streams) (status : ℕ) (end : NbdEnd) (p : Point) : Type 0 where
   pub events : Answers
   pub t : Option History
   pub client : AnswersClient (512 * block_count span.setup) p.history streams end events t
+  pub kinds : AreBlockEvents events
   pub session : EndsWithStatus span p events end status
   -- each stop leaves what was flushed: so it is of each stretch of the session
   pub left : (asked : List Event) (c : Stretch span p asked) → IsLeftByStretch c

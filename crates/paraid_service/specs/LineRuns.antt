@@ -1,17 +1,18 @@
 -- Lines, one after the other, on a device.
-use Rattle.std.specs.Prelude.{◌≡◌, ℕ, ◌++◌, [], ◌∷◌, List, Option, Some, None, IsTrue}
+use Rattle.std.specs.Prelude.{◌≡◌, ℕ, ◌++◌, [], ◌∷◌, List, Option, Some, None, IsTrue, codes}
 use Rattle.paraid_base.specs.declared.fault.Halt.{Halt}
 use Rattle.paraid_base.specs.BlockAnswers.{Answers}
 use Rattle.paraid_base.specs.History.{History, after_all}
 use Rattle.paraid_blocks.specs.declared.blocks.Blocks.{Ghosts}
-use Rattle.paraid_volume.specs.Device.{DeviceGoesOn}
+use Rattle.paraid_trace.specs.Replies.{halt_text}
+use Rattle.paraid_volume.specs.Device.{DeviceGoesOn, IsReadEvent, KeepsMore}
 use Rattle.paraid_volume.specs.Lives.{VolLog}
-use Rattle.paraid_volume_lines.specs.Grammar.{AsksVolumes, VolLine}
+use Rattle.paraid_volume_lines.specs.Grammar.{AsksVolumes, VolLine, bad, list}
 use Rattle.paraid_service.specs.declared.shelf.Shelf.{Shelf}
 use Rattle.paraid_nbd.specs.Export.{KeepsOn}
 use Rattle.paraid_service.specs.Shelves.{IsGoing, OnShelf, device_in}
-use Rattle.paraid_service.specs.VolumeForms.{HaveForm}
-use Rattle.paraid_service.specs.VolumeLines.{Held, LinesStep}
+use Rattle.paraid_service.specs.VolumeForms.{IsReplyToLine}
+use Rattle.paraid_service.specs.VolumeLines.{Held, IsEventOf, LinesStep, halted_text}
 use Rattle.paraid_service.specs.VolumeSessions.{AreOfHalt, BeginsWith, IsLifeOf}
 
 -- The events that were kept before the call in which the halt came are those of a life; the others are of the line of that call.
@@ -34,12 +35,23 @@ pub record SaysLines {B : Type 0} (g : Ghosts B) (start : B) (h : History) (line
   pub on : halt ≡ None → OnShelf g start (g.block_count start) h first shelf last log
   pub broken : (own : Halt) → halt ≡ Some own → BrokenOff (g.kept start (device_in shelf)) (g.block_count start) h first last log begun cut
 
+-- Lines have answers of such a form, each by the device that the one before has left: by events of its kind that it kept, and by its
+-- halt as soon as it has one.
+pub data KeepsLines {B : Type 0} (g : Ghosts B) (start : B) : List (List ℕ) → List ℕ → List ℕ → B → Type 0 where
+  none_yet : (device : B) → KeepsMore g.kept g.tells IsReadEvent start device → KeepsLines g start [] [] [] device
+  one_more : (lines : List (List ℕ)) (line front reply said : List ℕ) (asked : VolLine) (old new : B) → KeepsLines g start lines front reply old → g.halted old ≡ None → AsksVolumes line asked → IsReplyToLine asked said
+      → KeepsMore g.kept g.tells (IsEventOf asked) old new → g.halted new ≡ None → KeepsLines g start (lines ++ line ∷ []) (front ++ reply) (said ++ codes "\n") new
+  halting : (lines : List (List ℕ)) (line front reply : List ℕ) (asked : VolLine) (halt : Halt) (old new : B) → KeepsLines g start lines front reply old → g.halted old ≡ None → AsksVolumes line asked → (asked ≡ bad → ⊥) → (asked ≡ list → ⊥)
+      → KeepsMore g.kept g.tells (IsEventOf asked) old new → g.halted new ≡ Some halt → KeepsLines g start (lines ++ line ∷ []) (front ++ reply) (halt_text halt ++ codes "\n") new
+  later : (lines : List (List ℕ)) (line front reply : List ℕ) (asked : VolLine) (halt : Halt) (device : B) → KeepsLines g start lines front reply device → g.halted device ≡ Some halt → AsksVolumes line asked
+      → KeepsLines g start (lines ++ line ∷ []) (front ++ reply) (halted_text halt asked ++ codes "\n") device
+
 -- Lines were answered since the device was so.
 pub record RunsLines {B : Type 0} (g : Ghosts B) (start : B) (lines : List (List ℕ)) (front reply : List ℕ) (shelf : Shelf B g) (halt : Option Halt) : Type 0 where
   pub going : halt ≡ None → IsGoing shelf
   pub went : DeviceGoesOn g.block_count g.halts g.halted g.tells start (device_in shelf)
   pub keeps : KeepsOn g.kept start (device_in shelf)
-  pub form : HaveForm lines front reply halt
+  pub form : g.halted start ≡ None → KeepsLines g start lines front reply (device_in shelf)
   pub halted : g.halted start ≡ None → g.halted (device_in shelf) ≡ halt
   pub says : (h : History) → g.stands start h → IsTrue (g.tells (device_in shelf)) → SaysLines g start h lines front reply shelf halt
 

@@ -1,15 +1,22 @@
--- The form of what a session of volumes writes, whatever the rack holds.
+-- The form of what a session of volumes writes, and the causes of its events, whatever the rack holds.
 use Rattle.std.specs.Prelude.{◌≡◌, ℕ, ◌^◌, ◌⊎◌, List, [], ◌∷◌, ◌++◌, length, take, true, codes, Option, Some, None, Ok}
 use Rattle.paraid_base.specs.declared.block.Block.{Block}
+use Rattle.paraid_base.specs.declared.event.Answer.TheVariants.{Flushed, Halted}
+use Rattle.paraid_base.specs.declared.event.Event.TheVariants.{Flush}
 use Rattle.paraid_base.specs.declared.fault.Halt.{Halt}
+use Rattle.paraid_base.specs.BlockAnswers.{Answers}
+use Rattle.paraid_device.specs.Devices.{HaveAnswerCauses}
 use Rattle.paraid_io.specs.Lines.{lines_of, whole_lines}
-use Rattle.paraid_serve.specs.Ending.{end_line, halt_line, mount_line, status_of_halt}
+use Rattle.paraid_serve.specs.Causes.{HasCause, Shown}
+use Rattle.paraid_serve.specs.Ending.{end_line, halt_line, status_of_halt}
+use Rattle.paraid_serve.specs.Output.{first_line}
 use Rattle.paraid_trace.specs.Replies.{halt_text}
+use Rattle.paraid_volume.specs.Device.{AreAll, IsReadEvent}
 use Rattle.paraid_volume.specs.declared.fault.VolFault.{VolFault}
 use Rattle.paraid_volume.specs.declared.fault.VolFault.TheVariants.{Small, NotVolumes, Already, NoVolume, NoBlock, Exists, NoExtents, Names, Space}
 use Rattle.paraid_volume_lines.specs.Grammar.{AsksVolumes, VolLine, bad, create, delete, flush, init, list, read, write}
 use Rattle.paraid_volume_lines.specs.Texts.{begun_text, created_text, deleted_text, fault_text, read_text}
-use Rattle.paraid_service.specs.VolumeLines.{halted_text}
+use Rattle.paraid_service.specs.VolumeLines.{IsEventOf, halted_text}
 
 -- a line may be refused so, where no halt came of it
 abbrev pub MayRefuse : VolLine → VolFault → Type 0
@@ -45,30 +52,33 @@ pub data IsReplyToLine : VolLine → List ℕ → Type 0 where
   refused : (line : VolLine) (fault : VolFault) → MayRefuse line fault → IsReplyToLine line (fault_text fault)
 
 -- Lines, one after the other, have answers of such a form, until one is answered by a halt, or from a halt on: then each that asks
--- for something is. Those before the last stand apart, and then the last.
-pub data FormsLines (begun : Option Halt) : List (List ℕ) → List ℕ → List ℕ → Option Halt → Type 0 where
-  none_yet : FormsLines begun [] [] [] begun
-  one_more : (lines : List (List ℕ)) (line front reply said : List ℕ) (asked : VolLine) → FormsLines begun lines front reply None → AsksVolumes line asked → IsReplyToLine asked said → FormsLines begun (lines ++ line ∷ []) (front ++ reply) (said ++ codes "\n") None
-  halting : (lines : List (List ℕ)) (line front reply : List ℕ) (asked : VolLine) (halt : Halt) → FormsLines begun lines front reply None → AsksVolumes line asked → (asked ≡ bad → ⊥) → (asked ≡ list → ⊥) → FormsLines begun (lines ++ line ∷ []) (front ++ reply) (halt_text halt ++ codes "\n") (Some halt)
-  later : (lines : List (List ℕ)) (line front reply : List ℕ) (asked : VolLine) (halt : Halt) → FormsLines begun lines front reply (Some halt) → AsksVolumes line asked → FormsLines begun (lines ++ line ∷ []) (front ++ reply) (halted_text halt asked ++ codes "\n") (Some halt)
+-- for something is. Those before the last stand apart, and then the last. The array that was seen so at first answered these events
+-- for them: reads before the first line, then for each line some of its kind, each with its cause; and a halt that is told is the one
+-- that is seen of the array then, with none before it.
+pub data FormsLines (old : Shown) : List (List ℕ) → List ℕ → List ℕ → Answers → Shown → Type 0 where
+  none_yet : (made : Answers) (now : Shown) → AreAll IsReadEvent made → HaveAnswerCauses old made now → FormsLines old [] [] [] made now
+  one_more : (lines : List (List ℕ)) (line front reply said : List ℕ) (asked : VolLine) (made more : Answers) (mid now : Shown) → FormsLines old lines front reply made mid → mid.halt ≡ None → AsksVolumes line asked → IsReplyToLine asked said
+      → AreAll (IsEventOf asked) more → HaveAnswerCauses mid more now → now.halt ≡ None → FormsLines old (lines ++ line ∷ []) (front ++ reply) (said ++ codes "\n") (made ++ more) now
+  halting : (lines : List (List ℕ)) (line front reply : List ℕ) (asked : VolLine) (halt : Halt) (made more : Answers) (mid now : Shown) → FormsLines old lines front reply made mid → mid.halt ≡ None → AsksVolumes line asked → (asked ≡ bad → ⊥) → (asked ≡ list → ⊥)
+      → AreAll (IsEventOf asked) more → HaveAnswerCauses mid more now → now.halt ≡ Some halt → FormsLines old (lines ++ line ∷ []) (front ++ reply) (halt_text halt ++ codes "\n") (made ++ more) now
+  later : (lines : List (List ℕ)) (line front reply : List ℕ) (asked : VolLine) (halt : Halt) (made : Answers) (now : Shown) → FormsLines old lines front reply made now → now.halt ≡ Some halt → AsksVolumes line asked
+      → FormsLines old (lines ++ line ∷ []) (front ++ reply) (halted_text halt asked ++ codes "\n") made now
 
--- These lines were answered in such a form, and the last halt that was told is this one.
-pub record HaveForm (lines : List (List ℕ)) (front reply : List ℕ) (halt : Option Halt) : Type 0 where
-  pub begun : Option Halt
-  pub form : FormsLines begun lines front reply halt
-
--- The form of a whole text for these bytes, by its status: the line of a mount with the answers, and the last line.
-pub data VolumesForm (bytes : List ℕ) : ℕ → List ℕ → List ℕ → Type 0 where
-  done : (writes gear number : ℕ) (front reply : List ℕ) → HaveForm (lines_of bytes) front reply None → VolumesForm bytes 0 (mount_line writes gear ++ (front ++ reply)) (end_line number)
-  halted : (writes gear : ℕ) (halt : Halt) (met : Option Halt) (front reply : List ℕ) → HaveForm (lines_of bytes) front reply met → (met ≡ None) ⊎ (met ≡ Some halt) → VolumesForm bytes (status_of_halt halt) (mount_line writes gear ++ (front ++ reply)) (halt_line halt)
-  source : (writes gear : ℕ) (met : Option Halt) (front reply : List ℕ) → HaveForm (whole_lines bytes) front reply met → VolumesForm bytes 3 (mount_line writes gear ++ (front ++ reply)) (codes "source\n")
-  too_long : (writes gear : ℕ) (met : Option Halt) (front reply : List ℕ) → length bytes ≡ 2 ^ 40 → HaveForm (whole_lines bytes) front reply met → VolumesForm bytes 10 (mount_line writes gear ++ (front ++ reply)) (codes "toolong\n")
+-- The form of a whole text for these bytes, by its status: the line of the array that was mounted with the answers, and the last line.
+-- All events of the array are those of the lines, and where all lines were answered a flush, by whose answer the last line is.
+pub data VolumesForm (old new : Shown) (bytes : List ℕ) : Answers → ℕ → List ℕ → List ℕ → Type 0 where
+  done : (front reply : List ℕ) (made : Answers) (mid : Shown) (number : ℕ) → FormsLines old (lines_of bytes) front reply made mid → mid.halt ≡ None → HasCause mid Flush (Flushed number) new
+      → VolumesForm old new bytes (made ++ (Flush, Flushed number) ∷ []) 0 (first_line old ++ (front ++ reply)) (end_line number)
+  halted : (front reply : List ℕ) (made : Answers) (mid : Shown) (halt : Halt) → FormsLines old (lines_of bytes) front reply made mid → (mid.halt ≡ None) ⊎ (mid.halt ≡ Some halt) → HasCause mid Flush (Halted halt) new
+      → VolumesForm old new bytes (made ++ (Flush, Halted halt) ∷ []) (status_of_halt halt) (first_line old ++ (front ++ reply)) (halt_line halt)
+  source : (front reply : List ℕ) (made : Answers) → FormsLines old (whole_lines bytes) front reply made new → VolumesForm old new bytes made 3 (first_line old ++ (front ++ reply)) (codes "source\n")
+  too_long : (front reply : List ℕ) (made : Answers) → length bytes ≡ 2 ^ 40 → FormsLines old (whole_lines bytes) front reply made new → VolumesForm old new bytes made 10 (first_line old ++ (front ++ reply)) (codes "toolong\n")
 
 -- The form of what was written: of a whole text; or at 4 of one whose last line is cut, or of a first part of the first line, and then
--- no byte was taken; or of the answers up to one that is cut.
-pub data HasVolumesForm (bytes : List ℕ) (status : ℕ) (text : List ℕ) : Type 0 where
-  whole : (said last : List ℕ) → VolumesForm bytes status said last → text ≡ said ++ last → HasVolumesForm bytes status text
-  last_line : status ≡ 4 → (code : ℕ) (said last : List ℕ) (count : ℕ) → VolumesForm bytes code said last → text ≡ said ++ take count last → HasVolumesForm bytes status text
-  answers : status ≡ 4 → (writes gear : ℕ) (before more : List (List ℕ)) (line front reply : List ℕ) (count : ℕ) (met : Option Halt) → lines_of bytes ≡ (before ++ line ∷ []) ++ more → HaveForm (before ++ line ∷ []) front reply met
-      → text ≡ mount_line writes gear ++ (front ++ take count reply) → HasVolumesForm bytes status text
-  first_line : status ≡ 4 → (writes gear : ℕ) (rest : List ℕ) → bytes ≡ [] → mount_line writes gear ≡ text ++ rest → HasVolumesForm bytes status text
+-- no byte was taken and no event was made; or of the answers up to one that is cut, and no event came after those of its line.
+pub data HasVolumesForm (old new : Shown) (bytes : List ℕ) (made : Answers) (status : ℕ) (text : List ℕ) : Type 0 where
+  whole : (said last : List ℕ) → VolumesForm old new bytes made status said last → text ≡ said ++ last → HasVolumesForm old new bytes made status text
+  last_line : status ≡ 4 → (code : ℕ) (said last : List ℕ) (count : ℕ) → VolumesForm old new bytes made code said last → text ≡ said ++ take count last → HasVolumesForm old new bytes made status text
+  answers : status ≡ 4 → (before more : List (List ℕ)) (line front reply : List ℕ) (count : ℕ) → lines_of bytes ≡ (before ++ line ∷ []) ++ more → FormsLines old (before ++ line ∷ []) front reply made new
+      → text ≡ first_line old ++ (front ++ take count reply) → HasVolumesForm old new bytes made status text
+  at_first_line : status ≡ 4 → bytes ≡ [] → made ≡ [] → new ≡ old → (rest : List ℕ) → first_line old ≡ text ++ rest → HasVolumesForm old new bytes made status text

@@ -11,9 +11,10 @@ use Rattle.paraid_base.specs.History.{History, after, after_all}
 use Rattle.paraid_session.specs.Mount.{IsMountedFromEach}
 use Rattle.paraid_io.specs.Lines.{lines_of, whole_lines}
 use Rattle.paraid_machine.specs.Machine.{block_count}
-use Rattle.paraid_device.specs.Devices.{AreBlockEvents, answers_in}
+use Rattle.paraid_device.specs.Devices.{AreBlockEvents, HaveAnswerCauses, answers_in}
 use Rattle.paraid_image.specs.Rest.{AreSynced}
 use Rattle.paraid_rack.specs.Trail.{Trail, now}
+use Rattle.paraid_serve.specs.Causes.{Shown}
 use Rattle.paraid_serve.specs.Ending.{end_line, halt_line, status_of_halt}
 use Rattle.paraid_serve.specs.Output.{IsLeftByStretch, IsWholeStatus, begins_with}
 use Rattle.paraid_serve.specs.Streams.{Streams}
@@ -154,15 +155,17 @@ pub data WritesVolumes (span : Span) (p : Point) (bytes : List ℕ) (status : �
       → text ≡ begins_with p ++ (front ++ take count reply) → WritesVolumes span p bytes status text
   first_line : status ≡ 4 → (rest : List ℕ) → bytes ≡ [] → Stretch span p [] → begins_with p ≡ text ++ rest → WritesVolumes span p bytes status text
 
--- A session took these bytes and wrote this text. What it is is known where all is told, from each point at which the array stood.
-pub record VolumesRun (span : Span) (stood : Point → Type 0) (streams : Streams) (status : ℕ) : Type 0 where
+-- A session took these bytes and wrote this text, by these events of the array. What it is is known where all is told, from each point
+-- at which the array stood.
+pub record VolumesRun (seen seen_now : Shown) (span : Span) (stood : Point → Type 0) (streams : Streams) (status : ℕ) : Type 0 where
   pub bytes : List ℕ
   pub text : List ℕ
   pub given : Gives streams.source.left_before streams.source.left bytes
   pub grows : GrowsByBytes streams.sink.written_before streams.sink.written text
   pub full : status ≡ 10 → length bytes ≡ 2 ^ 40
   pub all : IsWholeStatus status → (length bytes < 2 ^ 40) × AtEnd streams.source.left
-  pub form : HasVolumesForm bytes status text
+  pub events : Answers
+  pub form : HasVolumesForm seen seen_now bytes events status text
   pub wrote : IsSome span.now → (p : Point) → stood p → WritesVolumes span p bytes status text
 
 -- What follows from the first point of a session. After one that ends well no block of a disk that is there is loose, so no stop
@@ -172,14 +175,18 @@ pub record FollowsForVolumes (span : Span) (bytes : List ℕ) (status : ℕ) (te
   pub left : (asked : List Event) (c : Stretch span p asked) → IsLeftByStretch c
   pub synced : status ≡ 0 → (t : Trail) → span.now ≡ Some t → AreSynced (now t)
 
--- The headline of `vol`. The session took these bytes and wrote this text; where all is told, on a rack that held a history, the
--- text is what the lines are answered, the array kept the events of these answers, and each stop leaves what a session promises.
-pub record VolumesHeadline (span : Span) (began : ℕ) (streams : Streams) (status : ℕ) : Type 0 where
+-- The headline of `vol`. The session took these bytes and wrote this text; over every rack the array answered these reads, writes and
+-- flushes, each with its cause, and the text has the form of their answers; where all is told, on a rack that held a history, the text
+-- is what the lines are answered, the array kept the events of these answers, and each stop leaves what a session promises.
+pub record VolumesHeadline (seen seen_now : Shown) (span : Span) (began : ℕ) (streams : Streams) (status : ℕ) : Type 0 where
   pub bytes : List ℕ
   pub text : List ℕ
   pub given : Gives streams.source.left_before streams.source.left bytes
   pub grows : GrowsByBytes streams.sink.written_before streams.sink.written text
   pub full : status ≡ 10 → length bytes ≡ 2 ^ 40
   pub all : IsWholeStatus status → (length bytes < 2 ^ 40) × AtEnd streams.source.left
-  pub form : HasVolumesForm bytes status text
+  pub events : Answers
+  pub causes : HaveAnswerCauses seen events seen_now
+  pub kinds : AreBlockEvents events
+  pub form : HasVolumesForm seen seen_now bytes events status text
   pub said : IsSome span.now → IsMountedFromEach span.slots span.setup began span.start (FollowsForVolumes span bytes status text)

@@ -41,12 +41,12 @@ pub fn serve_volumes<S: Source, K: Sink, A: Serves>(
     array: A,
 ) -> Served<A>
     requires going { A.halted array ≡ None }
-    ensures run { VolumesRun
+    ensures run { VolumesRun (A.shown array) (A.shown result.array)
         (span_of (A.slots array) (A.setup array) (A.told array) (A.told result.array)) (A.stands array)
         (streams_of (source_use S.left S.faults source.old source.new)
         (sink_use K.written K.faults sink.old sink.new)) result.status }
     ensures headline { (began : ℕ) → IsMountedFromEach (A.slots array) (A.setup array) began (A.told array) (A.stands array)
-        → VolumesHeadline
+        → VolumesHeadline (A.shown array) (A.shown result.array)
         (span_of (A.slots array) (A.setup array) (A.told array) (A.told result.array)) began
         (streams_of (source_use S.left S.faults source.old source.new)
         (sink_use K.written K.faults sink.old sink.new)) result.status }

@@ -1,12 +1,12 @@
-use Rattle.std.proofs.Common.{◌∙◌, sym}
-use Rattle.paraid_base.proofs.ToldLemmas.{Gives-none, GrowsByBytes-none}
+use Rattle.std.proofs.Common.{◌∙◌, refl, sym}
+use Rattle.paraid_base.proofs.ToldLemmas.{GrowsByBytes-none}
 use Rattle.paraid_program.specs.Clients.ServesNbdOrNot.{mounted, refused}
 use Rattle.paraid_program.proofs.EndLemmas.{began_at_end, begins_at_end, end_moment, service_from}
 use Rattle.paraid_program.proofs.NbdLemmas.{nbd_over}
 use Rattle.paraid_program.proofs.client.nbd.Goals as goal
 
 pub returns-in-Err-clause-nbd : goal.returns-in-Err-clause-nbd
-returns-in-Err-clause-nbd g c = refused c.in-Err.field-0.fault c.in-Err.ensures.refused c.mount_fault_status.ensures (Gives-none _) (GrowsByBytes-none _)
+returns-in-Err-clause-nbd g c = refused c.in-Err.field-0.fault c.in-Err.ensures.refused c.mount_fault_status.ensures (refl, refl) (GrowsByBytes-none _)
 
 pub returns-in-Ok-clause-nbd : goal.returns-in-Ok-clause-nbd
 returns-in-Ok-clause-nbd g c =

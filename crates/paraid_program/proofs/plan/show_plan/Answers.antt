@@ -1,4 +1,4 @@
-use Rattle.std.proofs.Common.{ℕ, inl, inr, length, subst}
+use Rattle.std.proofs.Common.{ℕ, inl, inr, length, refl, subst}
 use Rattle.paraid_dirty.specs.Table.{is_dirty}
 use Rattle.paraid_program.specs.Planning.PlanOutcome.{refused, served}
 use Rattle.paraid_recover.specs.Mounted.{IsServable}
@@ -23,7 +23,7 @@ returns-in-Ok-clause-plans g c =
     }) c.tell_plan-status.ensures.told)
 
 pub returns-clause-plans : goal.returns-clause-plans
-returns-clause-plans g c = refused c.in-Err.field-0.fault c.in-Err.ensures.cause (λ began at. c.in-Err.ensures.refused began at) c.tell_refusal.ensures.tells
+returns-clause-plans g c = refused c.in-Err.field-0.fault c.in-Err.ensures.cause (λ began at. c.in-Err.ensures.refused began at) c.tell_refusal.ensures.tells (refl, refl)
 
 pub returns-in-Ok-clause-end : goal.returns-in-Ok-clause-end
 returns-in-Ok-clause-end g c zero = plan_ended c.in-Ok.field-0.meta c.args.ups _ c.tell_plan-status.result _ c.tell_plan-status.ensures.told zero

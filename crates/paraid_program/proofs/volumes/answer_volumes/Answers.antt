@@ -1,4 +1,4 @@
-use Rattle.std.proofs.Common.{rules, refl, ◌∙◌}
+use Rattle.std.proofs.Common.{rules, refl, sym, ◌∙◌}
 use Rattle.paraid_program.specs.Ends.MountsAndThen.{mounted, refused}
 use Rattle.paraid_program.proofs.EndLemmas.{began_at_end, begins_at_end, end_moment, end_over, run_is_refused, run_status, service_from}
 use Rattle.paraid_program.proofs.VolumeLemmas.{volumes_over}
@@ -24,6 +24,7 @@ returns-in-Ok g c = record {
       mounted (service_from before (g.O.Outside.served array) (g.A.Serves.told array)) e.served (begins_at_end _ _ _ _ e.grows c.unmount.ensures.told done.told)
       (volumes_over _ _ _ _ _ _ (g.A.Serves.setup array) _ e.slots e.setup c.unmount.ensures.told
       (end_over (g.A.Serves.setup array) _ _ _ (g.A.Serves.slot array) _ c.unmount.ensures.slot e.later done.present done.two done.worn)
+      (g.A.Serves.shown array) (g.A.Serves.shown c.serve_volumes-status.result.array) e.shown ((g.met.A.Serves.shows c.serve_volumes-status.result.array).slot ∙ sym c.unmount.ensures.slot)
       (done.headline began (e.mounted began (began_at_end before))));
   slots = c.unmount.ensures.slots ∙ c.serve_volumes-status.ensures.slots ∙ c.in-Ok.ensures.slots;
   status = run_status _ c.serve_volumes-status.ensures.status;

@@ -1,0 +1,107 @@
+-- The causes and the kinds of all events of a session of volumes, from those of its lines.
+use Rattle.std.proofs.Common.{◌≡◌, ℕ, List, [], ◌∷◌, ◌++◌, refl, sym, subst}
+use Rattle.paraid_base.specs.declared.event.Answer.{Answer}
+use Rattle.paraid_base.specs.declared.event.Event.{Event}
+use Rattle.paraid_base.specs.declared.event.Event.TheVariants.{Read, Write, Flush, Tick, Up, Down, Fail, Replace, State as AskState, Energy as AskEnergy, Bad}
+use Rattle.paraid_base.specs.BlockAnswers.{Answers}
+use Rattle.paraid_device.specs.Devices.{AreBlockEvents, HaveAnswerCauses, IsBlockEvent}
+use Rattle.paraid_serve.specs.Causes.{HasCause, Shown}
+use Rattle.paraid_volume.specs.Device.{AreAll, IsFlushEvent, IsReadEvent, IsReadOrWrite}
+use Rattle.paraid_volume.proofs.DeviceLemmas.{read_either, write_either}
+use Rattle.paraid_volume_lines.specs.Grammar.{VolLine, bad, create, delete, flush, init, list, read, write}
+use Rattle.paraid_service.specs.VolumeLines.{IsEventOf}
+use Rattle.paraid_service.specs.VolumeForms.{FormsLines, HasVolumesForm, VolumesForm}
+use Rattle.paraid_service.specs.VolumeForms.FormsLines.{halting, later, none_yet, one_more}
+use Rattle.paraid_service.specs.VolumeForms.VolumesForm.{done, halted, source, too_long}
+use Rattle.paraid_service.specs.VolumeForms.HasVolumesForm.{answers, at_first_line, last_line, whole}
+
+-- ---- the causes
+
+causes_joined : (old mid new : Shown) (a b : Answers) → HaveAnswerCauses old a mid → HaveAnswerCauses mid b new → HaveAnswerCauses old (a ++ b) new
+causes_joined old mid new [] b all more = subst (λ (x : Shown). HaveAnswerCauses x b new) all more
+causes_joined old mid new (e ∷ a) b all more = (all.0, all.1, causes_joined all.0 mid new a b all.2 more)
+
+lines_caused : {old now : Shown} {lines : List (List ℕ)} {front reply : List ℕ} {made : Answers} → FormsLines old lines front reply made now → HaveAnswerCauses old made now
+lines_caused (none_yet made now kinds causes) = causes
+lines_caused {old} (one_more lines line front reply said asked made more mid now before was ask is kinds causes going) = causes_joined old mid now made more (lines_caused before) causes
+lines_caused {old} (halting lines line front reply asked halt made more mid now before was ask not_bad not_list kinds causes is) = causes_joined old mid now made more (lines_caused before) causes
+lines_caused (later lines line front reply asked halt made now before is ask) = lines_caused before
+
+flushed_caused : (old mid new : Shown) (made : Answers) (answer : Answer) → HaveAnswerCauses old made mid → HasCause mid Flush answer new → HaveAnswerCauses old (made ++ (Flush, answer) ∷ []) new
+flushed_caused old mid new made answer causes is = causes_joined old mid new made ((Flush, answer) ∷ []) causes (new, is, refl)
+
+text_caused : {old new : Shown} {bytes : List ℕ} {made : Answers} {status : ℕ} {said last : List ℕ} → VolumesForm old new bytes made status said last → HaveAnswerCauses old made new
+text_caused {old} {new} (done front reply made mid number lines going is) = flushed_caused old mid new made _ (lines_caused lines) is
+text_caused {old} {new} (halted front reply made mid halt lines met is) = flushed_caused old mid new made _ (lines_caused lines) is
+text_caused (source front reply made lines) = lines_caused lines
+text_caused (too_long front reply made full lines) = lines_caused lines
+
+pub form_caused : {old new : Shown} {bytes : List ℕ} {made : Answers} {status : ℕ} {text : List ℕ} → HasVolumesForm old new bytes made status text → HaveAnswerCauses old made new
+form_caused (whole said last text is) = text_caused text
+form_caused (last_line four code said last count text is) = text_caused text
+form_caused (answers four before more line front reply count split lines is) = lines_caused lines
+form_caused {old} {new} (at_first_line four no_bytes none same rest is) = subst (λ (x : Answers). HaveAnswerCauses old x new) (sym none) same
+
+-- ---- the kinds
+
+either_kind : (event : Event) → IsReadOrWrite event → IsBlockEvent event
+either_kind (Read block) is = tt
+either_kind (Write pairs) is = tt
+either_kind Flush is = absurd is
+either_kind Tick is = absurd is
+either_kind Up is = absurd is
+either_kind Down is = absurd is
+either_kind (Fail disk) is = absurd is
+either_kind (Replace disk) is = absurd is
+either_kind AskState is = absurd is
+either_kind AskEnergy is = absurd is
+either_kind Bad is = absurd is
+
+flush_kind : (event : Event) → IsFlushEvent event → IsBlockEvent event
+flush_kind (Read block) is = absurd is
+flush_kind (Write pairs) is = absurd is
+flush_kind Flush is = tt
+flush_kind Tick is = absurd is
+flush_kind Up is = absurd is
+flush_kind Down is = absurd is
+flush_kind (Fail disk) is = absurd is
+flush_kind (Replace disk) is = absurd is
+flush_kind AskState is = absurd is
+flush_kind AskEnergy is = absurd is
+flush_kind Bad is = absurd is
+
+line_kind : (asked : VolLine) (event : Event) → IsEventOf asked event → IsBlockEvent event
+line_kind init event is = either_kind event is
+line_kind (create name extents) event is = either_kind event (write_either event is)
+line_kind (delete name) event is = either_kind event (write_either event is)
+line_kind (read name block) event is = either_kind event (read_either event is)
+line_kind (write name block bytes) event is = either_kind event (write_either event is)
+line_kind flush event is = flush_kind event is
+line_kind list event is = absurd is
+line_kind bad event is = absurd is
+
+kinds_of : (kind : Event → Type 0) → ((event : Event) → kind event → IsBlockEvent event) → (made : Answers) → AreAll kind made → AreBlockEvents made
+kinds_of kind each [] all = tt
+kinds_of kind each (e ∷ made) all = (each e.0 all.0, kinds_of kind each made all.1)
+
+kinds_joined : (a b : Answers) → AreBlockEvents a → AreBlockEvents b → AreBlockEvents (a ++ b)
+kinds_joined [] b all more = more
+kinds_joined (e ∷ a) b all more = (all.0, kinds_joined a b all.1 more)
+
+lines_kinds : {old now : Shown} {lines : List (List ℕ)} {front reply : List ℕ} {made : Answers} → FormsLines old lines front reply made now → AreBlockEvents made
+lines_kinds (none_yet made now kinds causes) = kinds_of IsReadEvent (λ event is. either_kind event (read_either event is)) made kinds
+lines_kinds (one_more lines line front reply said asked made more mid now before was ask is kinds causes going) = kinds_joined made more (lines_kinds before) (kinds_of (IsEventOf asked) (line_kind asked) more kinds)
+lines_kinds (halting lines line front reply asked halt made more mid now before was ask not_bad not_list kinds causes is) = kinds_joined made more (lines_kinds before) (kinds_of (IsEventOf asked) (line_kind asked) more kinds)
+lines_kinds (later lines line front reply asked halt made now before is ask) = lines_kinds before
+
+text_kinds : {old new : Shown} {bytes : List ℕ} {made : Answers} {status : ℕ} {said last : List ℕ} → VolumesForm old new bytes made status said last → AreBlockEvents made
+text_kinds (done front reply made mid number lines going is) = kinds_joined made _ (lines_kinds lines) (tt, tt)
+text_kinds (halted front reply made mid halt lines met is) = kinds_joined made _ (lines_kinds lines) (tt, tt)
+text_kinds (source front reply made lines) = lines_kinds lines
+text_kinds (too_long front reply made full lines) = lines_kinds lines
+
+pub form_kinds : {old new : Shown} {bytes : List ℕ} {made : Answers} {status : ℕ} {text : List ℕ} → HasVolumesForm old new bytes made status text → AreBlockEvents made
+form_kinds (whole said last text is) = text_kinds text
+form_kinds (last_line four code said last count text is) = text_kinds text
+form_kinds (answers four before more line front reply count split lines is) = lines_kinds lines
+form_kinds (at_first_line four no_bytes none same rest is) = subst AreBlockEvents (sym none) tt
