@@ -6,11 +6,12 @@ use Rattle.paraid_base.specs.declared.event.Event.TheVariants.{Read, Write, Flus
 use Rattle.paraid_base.specs.BlockAnswers.{Answers}
 use Rattle.paraid_device.specs.Devices.{AreBlockEvents, HaveAnswerCauses, IsBlockEvent}
 use Rattle.paraid_serve.specs.Causes.{HasCause, Shown}
-use Rattle.paraid_volume.specs.Device.{AreAll, IsFlushEvent, IsReadEvent, IsReadOrWrite}
+use Rattle.paraid_volume.specs.Device.{AreAll, IsFlushEvent, IsReadEvent, IsReadOrWrite, IsWriteEvent}
 use Rattle.paraid_volume.proofs.DeviceLemmas.{read_either, write_either}
 use Rattle.paraid_volume_lines.specs.Grammar.{VolLine, bad, create, delete, flush, init, list, read, write}
 use Rattle.paraid_service.specs.VolumeLines.{IsEventOf}
-use Rattle.paraid_service.specs.VolumeForms.{FormsLines, HasVolumesForm, VolumesForm}
+use Rattle.paraid_service.specs.VolumeForms.{FormsLines, HasVolumesForm, IsReplyToLine, Tabled, VolumesForm}
+use Rattle.paraid_service.specs.VolumeForms.IsReplyToLine.{begun, created, deleted, flushed, is_already, is_found, is_small, listed, no_table, no_task, refused, told, wrote}
 use Rattle.paraid_service.specs.VolumeForms.FormsLines.{halting, later, none_yet, one_more}
 use Rattle.paraid_service.specs.VolumeForms.VolumesForm.{done, halted, source, too_long}
 use Rattle.paraid_service.specs.VolumeForms.HasVolumesForm.{answers, at_first_line, last_line, whole}
@@ -21,25 +22,25 @@ causes_joined : (old mid new : Shown) (a b : Answers) → HaveAnswerCauses old a
 causes_joined old mid new [] b all more = subst (λ (x : Shown). HaveAnswerCauses x b new) all more
 causes_joined old mid new (e ∷ a) b all more = (all.0, all.1, causes_joined all.0 mid new a b all.2 more)
 
-lines_caused : {old now : Shown} {lines : List (List ℕ)} {front reply : List ℕ} {made : Answers} → FormsLines old lines front reply made now → HaveAnswerCauses old made now
-lines_caused (none_yet made now kinds causes) = causes
-lines_caused {old} (one_more lines line front reply said asked made more mid now before was ask is kinds causes going) = causes_joined old mid now made more (lines_caused before) causes
-lines_caused {old} (halting lines line front reply asked halt made more mid now before was ask not_bad not_list kinds causes is) = causes_joined old mid now made more (lines_caused before) causes
-lines_caused (later lines line front reply asked halt made now before is ask) = lines_caused before
+lines_caused : {old now : Shown} {lines : List (List ℕ)} {front reply : List ℕ} {made : Answers} {table : Tabled} → FormsLines old lines front reply made now table → HaveAnswerCauses old made now
+lines_caused (none_yet made now table tabled kinds causes) = causes
+lines_caused {old} (one_more lines line front reply said asked made more mid now was table before none ask is causes going) = causes_joined old mid now made more (lines_caused before) causes
+lines_caused {old} (halting lines line front reply asked halt made more mid now was table before none ask not_bad not_list kinds causes is) = causes_joined old mid now made more (lines_caused before) causes
+lines_caused (later lines line front reply asked halt made now table before is ask) = lines_caused before
 
 flushed_caused : (old mid new : Shown) (made : Answers) (answer : Answer) → HaveAnswerCauses old made mid → HasCause mid Flush answer new → HaveAnswerCauses old (made ++ (Flush, answer) ∷ []) new
 flushed_caused old mid new made answer causes is = causes_joined old mid new made ((Flush, answer) ∷ []) causes (new, is, refl)
 
 text_caused : {old new : Shown} {bytes : List ℕ} {made : Answers} {status : ℕ} {said last : List ℕ} → VolumesForm old new bytes made status said last → HaveAnswerCauses old made new
-text_caused {old} {new} (done front reply made mid number lines going is) = flushed_caused old mid new made _ (lines_caused lines) is
-text_caused {old} {new} (halted front reply made mid halt lines met is) = flushed_caused old mid new made _ (lines_caused lines) is
-text_caused (source front reply made lines) = lines_caused lines
-text_caused (too_long front reply made full lines) = lines_caused lines
+text_caused {old} {new} (done front reply made mid table number lines going is) = flushed_caused old mid new made _ (lines_caused lines) is
+text_caused {old} {new} (halted front reply made mid table halt lines met is) = flushed_caused old mid new made _ (lines_caused lines) is
+text_caused (source front reply made table lines) = lines_caused lines
+text_caused (too_long front reply made table full lines) = lines_caused lines
 
 pub form_caused : {old new : Shown} {bytes : List ℕ} {made : Answers} {status : ℕ} {text : List ℕ} → HasVolumesForm old new bytes made status text → HaveAnswerCauses old made new
 form_caused (whole said last text is) = text_caused text
 form_caused (last_line four code said last count text is) = text_caused text
-form_caused (answers four before more line front reply count split lines is) = lines_caused lines
+form_caused (answers four before more line front reply count table split lines is) = lines_caused lines
 form_caused {old} {new} (at_first_line four no_bytes none same rest is) = subst (λ (x : Answers). HaveAnswerCauses old x new) (sym none) same
 
 -- ---- the kinds
@@ -88,20 +89,35 @@ kinds_joined : (a b : Answers) → AreBlockEvents a → AreBlockEvents b → Are
 kinds_joined [] b all more = more
 kinds_joined (e ∷ a) b all more = (all.0, kinds_joined a b all.1 more)
 
-lines_kinds : {old now : Shown} {lines : List (List ℕ)} {front reply : List ℕ} {made : Answers} → FormsLines old lines front reply made now → AreBlockEvents made
-lines_kinds (none_yet made now kinds causes) = kinds_of IsReadEvent (λ event is. either_kind event (read_either event is)) made kinds
-lines_kinds (one_more lines line front reply said asked made more mid now before was ask is kinds causes going) = kinds_joined made more (lines_kinds before) (kinds_of (IsEventOf asked) (line_kind asked) more kinds)
-lines_kinds (halting lines line front reply asked halt made more mid now before was ask not_bad not_list kinds causes is) = kinds_joined made more (lines_kinds before) (kinds_of (IsEventOf asked) (line_kind asked) more kinds)
-lines_kinds (later lines line front reply asked halt made now before is ask) = lines_kinds before
+reply_kinds : {count : ℕ} {was table : Tabled} {asked : VolLine} {said : List ℕ} {made : Answers} → IsReplyToLine count was asked said made table → AreBlockEvents made
+reply_kinds (no_task was) = tt
+reply_kinds (no_table line not_init not_bad) = tt
+reply_kinds (is_small small) = tt
+reply_kinds (begun next made tabled all) = kinds_of IsReadOrWrite either_kind made all
+reply_kinds (is_found made large all) = kinds_of IsReadOrWrite either_kind made all
+reply_kinds (is_already table) = tt
+reply_kinds (created table next name extents id made none some least room tabled all) = kinds_of IsWriteEvent (line_kind (delete name)) made all
+reply_kinds (deleted table next name id made is tabled all) = kinds_of IsWriteEvent (line_kind (delete name)) made all
+reply_kinds (told table name id block place bytes is lies) = (tt, tt)
+reply_kinds (wrote table name id block place number bytes is lies) = (tt, tt)
+reply_kinds (flushed table number) = (tt, tt)
+reply_kinds (listed table text each) = tt
+reply_kinds (refused table line fault is) = tt
+
+lines_kinds : {old now : Shown} {lines : List (List ℕ)} {front reply : List ℕ} {made : Answers} {table : Tabled} → FormsLines old lines front reply made now table → AreBlockEvents made
+lines_kinds (none_yet made now table tabled kinds causes) = kinds_of IsReadEvent (λ event is. either_kind event (read_either event is)) made kinds
+lines_kinds (one_more lines line front reply said asked made more mid now was table before none ask is causes going) = kinds_joined made more (lines_kinds before) (reply_kinds is)
+lines_kinds (halting lines line front reply asked halt made more mid now was table before none ask not_bad not_list kinds causes is) = kinds_joined made more (lines_kinds before) (kinds_of (IsEventOf asked) (line_kind asked) more kinds)
+lines_kinds (later lines line front reply asked halt made now table before is ask) = lines_kinds before
 
 text_kinds : {old new : Shown} {bytes : List ℕ} {made : Answers} {status : ℕ} {said last : List ℕ} → VolumesForm old new bytes made status said last → AreBlockEvents made
-text_kinds (done front reply made mid number lines going is) = kinds_joined made _ (lines_kinds lines) (tt, tt)
-text_kinds (halted front reply made mid halt lines met is) = kinds_joined made _ (lines_kinds lines) (tt, tt)
-text_kinds (source front reply made lines) = lines_kinds lines
-text_kinds (too_long front reply made full lines) = lines_kinds lines
+text_kinds (done front reply made mid table number lines going is) = kinds_joined made _ (lines_kinds lines) (tt, tt)
+text_kinds (halted front reply made mid table halt lines met is) = kinds_joined made _ (lines_kinds lines) (tt, tt)
+text_kinds (source front reply made table lines) = lines_kinds lines
+text_kinds (too_long front reply made table full lines) = lines_kinds lines
 
 pub form_kinds : {old new : Shown} {bytes : List ℕ} {made : Answers} {status : ℕ} {text : List ℕ} → HasVolumesForm old new bytes made status text → AreBlockEvents made
 form_kinds (whole said last text is) = text_kinds text
 form_kinds (last_line four code said last count text is) = text_kinds text
-form_kinds (answers four before more line front reply count split lines is) = lines_kinds lines
+form_kinds (answers four before more line front reply count table split lines is) = lines_kinds lines
 form_kinds (at_first_line four no_bytes none same rest is) = subst AreBlockEvents (sym none) tt

@@ -20,11 +20,12 @@ use Rattle.paraid_volume.proofs.LivesLemmas.{life_shows}
 use Rattle.paraid_volume_lines.specs.Grammar.{VolLine, bad, create, delete, flush, list, read, write}
 use Rattle.paraid_volume_lines.specs.Lists.{TellsVolumes}
 use Rattle.paraid_volume_lines.specs.Texts.{created_text, deleted_text, fault_text, flushed_text, read_text, written_text}
-use Rattle.paraid_service.specs.LineSteps.{AnswersLine, KeepsFlush, ServesHeld}
+use Rattle.paraid_service.specs.LineSteps.{AnswersLine, KeepsFlush, RepliesHeld, ServesHeld}
 use Rattle.paraid_service.specs.VolumeLines.{IsEventOf, LineStep}
-use Rattle.paraid_service.specs.VolumeForms.{IsReplyToLine, MayRefuse}
-use Rattle.paraid_service.specs.VolumeForms.IsReplyToLine.{created, deleted, flushed, listed, refused, told, wrote}
+use Rattle.paraid_service.specs.VolumeForms.{IsReplyToLine}
+use Rattle.paraid_service.specs.VolumeForms.IsReplyToLine.{listed}
 use Rattle.paraid_service.specs.VolumeLines.LineStep.{lists}
+use Rattle.paraid_service.proofs.AnswerLemmas.{still_replies}
 
 -- ---- a refusal by a halt is told as the halt
 
@@ -56,47 +57,12 @@ pub flushed_halts : (r : Result ℕ VolFault) (own : Halt) → vol_halt_in r ≡
 flushed_halts (Ok number) own e = cc
 flushed_halts (Err fault) own e = fault_halts ℕ fault own e
 
--- ---- the form of an answer
-
--- a refusal by no halt has none, whatever the result would be
-same_none : (T : Type 0) (fault : VolFault) → vol_halt_in {A = T} (Err fault) ≡ None → vol_halt_in {A = Unit {0}} (Err fault) ≡ None
-same_none T (VolHalt halt) none = absurd (let no : Some halt ≡ None = none in cc)
-same_none T (Small blocks) none = refl
-same_none T NotVolumes none = refl
-same_none T Already none = refl
-same_none T (NoVolume id) none = refl
-same_none T (NoBlock block) none = refl
-same_none T (Exists id) none = refl
-same_none T NoExtents none = refl
-same_none T Names none = refl
-same_none T (Space free) none = refl
-
-pub create_replies : (name : List ℕ) (extents : ℕ) (r : Result ℕ VolFault) → IfErr r (λ fault. vol_halt_in {A = Unit {0}} (Err fault) ≡ None → MayRefuse (create name extents) fault) → vol_halt_in r ≡ None → IsReplyToLine (create name extents) (created_text name r)
-create_replies name extents (Ok id) may none = created name extents id
-create_replies name extents (Err fault) may none = refused (create name extents) fault (may (same_none ℕ fault none))
-
-pub delete_replies : (name : List ℕ) (there : Bool) → IsReplyToLine (delete name) (deleted_text name there)
-delete_replies name true = deleted name
-delete_replies name false = refused (delete name) (NoVolume 0) tt
-
-pub read_replies : (name : List ℕ) (block : ℕ) (r : Result (Unit {0}) VolFault) (bytes : Block) → IfErr r (λ fault. vol_halt_in {A = Unit {0}} (Err fault) ≡ None → MayRefuse (read name block) fault) → vol_halt_in r ≡ None → IsReplyToLine (read name block) (read_text name block r bytes)
-read_replies name block (Ok done) bytes may none = told name block bytes
-read_replies name block (Err fault) bytes may none = refused (read name block) fault (may none)
-
-pub write_replies : (name : List ℕ) (block : ℕ) (bytes : Block) (r : Result (Unit {0}) VolFault) → IfErr r (λ fault. vol_halt_in {A = Unit {0}} (Err fault) ≡ None → MayRefuse (write name block bytes) fault) → vol_halt_in r ≡ None → IsReplyToLine (write name block bytes) (written_text r)
-write_replies name block bytes (Ok done) may none = wrote name block bytes
-write_replies name block bytes (Err fault) may none = refused (write name block bytes) fault (may none)
-
-pub flush_replies : (r : Result ℕ VolFault) → IfErr r (λ fault. vol_halt_in {A = Unit {0}} (Err fault) ≡ None → MayRefuse flush fault) → vol_halt_in r ≡ None → IsReplyToLine flush (flushed_text r)
-flush_replies (Ok number) may none = flushed
-flush_replies (Err fault) may none = refused flush fault (may (same_none ℕ fault none))
-
 module _ {B : Type 0} (g : Ghosts B) where
   pub serves : (old new : Volumes B g) (line : VolLine) (now halt : Option Halt) (said text : List ℕ) → halted_of new ≡ now → halt ≡ now → DeviceGoesOn g.block_count g.halts g.halted g.tells (device_of old) (device_of new) → KeepsMore g.kept g.tells (IsEventOf line) (device_of old) (device_of new)
       → text ≡ said ++ codes "\n" → (line ≡ bad → ⊥) → (line ≡ list → ⊥) → ((own : Halt) → now ≡ Some own → said ≡ halt_text own)
       → (halted_of new ≡ None → (from : SinceHistory B) (start : ℕ) (log : VolLog) → (lived : HasLived (VolumesStandFor (DeviceHolds g.stands g.kept from) old) (g.block_count (device_of old)) start log) → IsTrue (g.tells (device_of new))
       → AnswersLine (VolumesStandFor (DeviceHolds g.stands g.kept from) old) (VolumesStandFor (DeviceHolds g.stands g.kept from) new) (g.block_count (device_of old)) start log lived line said)
-      → (halted_of new ≡ None → line ≡ flush → KeepsFlush g old new × (said ≡ codes "flushed")) → (now ≡ None → IsReplyToLine line said)
+      → (halted_of new ≡ None → line ≡ flush → KeepsFlush g old new × (said ≡ codes "flushed")) → (halted_of new ≡ None → RepliesHeld g old new line said)
       → ServesHeld g old new line text halt
   serves old new line now halt said text halted is went keeps printed not_bad not_list says step kept_flush reply = record {
     halted = halted ∙ sym is;
@@ -105,13 +71,13 @@ module _ {B : Type 0} (g : Ghosts B) where
     said = said;
     printed = printed;
     step = λ none. step (halted ∙ sym is ∙ none);
-    reply = λ none. reply (sym is ∙ none);
+    reply = λ none. reply (halted ∙ sym is ∙ none);
     flushes = λ none. kept_flush (halted ∙ sym is ∙ none);
     halts = λ own e. (says own (sym is ∙ e), not_bad, not_list);
   }
 
   -- a line that calls nothing
-  pub serves_none : (v : Volumes B g) (line : VolLine) (said text : List ℕ) → halted_of v ≡ None → text ≡ said ++ codes "\n" → (line ≡ flush → ⊥) → IsReplyToLine line said
+  pub serves_none : (v : Volumes B g) (line : VolLine) (said text : List ℕ) → halted_of v ≡ None → text ≡ said ++ codes "\n" → (line ≡ flush → ⊥) → IsReplyToLine (g.block_count (device_of v)) (Some (volume_table v)) line said [] (Some (volume_table v))
       → ((from : SinceHistory B) (start : ℕ) (log : VolLog) (lived : HasLived (VolumesStandFor (DeviceHolds g.stands g.kept from) v) (g.block_count (device_of v)) start log) → LineStep (g.block_count (device_of v)) (Some lived.state) line said [] (Some lived.state))
       → ServesHeld g v v line text None
   serves_none v line said text going printed not_flush reply step = record {
@@ -125,12 +91,12 @@ module _ {B : Type 0} (g : Ghosts B) where
       all = record { writes = lived.writes; state = lived.state; stands = lived.stands; life = subst (λ (l : VolLog). Life (g.block_count (device_of v)) start lived.writes lived.state l) (sym (append-nil log)) lived.life };
       step = step from start log lived;
     };
-    reply = λ none. reply;
+    reply = λ none. still_replies g v line said reply;
     flushes = λ none is. absurd (not_flush is);
     halts = λ own e. absurd (let no : None ≡ Some own = e in cc);
   }
 
   pub serves_list : (v : Volumes B g) (text : List ℕ) → halted_of v ≡ None → TellsVolumes (g.block_count (device_of v)) (volume_table v) text → ServesHeld g v v list text None
-  serves_list v text going tells = serves_none v list (codes "list" ++ tells.text) text going tells.printed (λ no. cc) (listed tells.text) (λ from start log lived.
+  serves_list v text going tells = serves_none v list (codes "list" ++ tells.text) text going tells.printed (λ no. cc) (listed (volume_table v) tells.text tells.each) (λ from start log lived.
       let shows = life_shows (g.block_count (device_of v)) start lived.writes lived.state log lived.life in
       lists lived.state tells.text refl (tells.each (after_all lived.writes) lived.state lived.stands.1 shows))

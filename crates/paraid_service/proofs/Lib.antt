@@ -4,6 +4,7 @@ pub mod EndLemmas
 pub mod HeadlineLemmas
 pub mod KeepLemmas
 pub mod LineLemmas
+pub mod AnswerLemmas
 pub mod HeldLemmas
 pub mod FlushLemmas
 pub mod PointLemmas

@@ -2,7 +2,7 @@
 use Rattle.std.proofs.Common.{◌≡◌, ℕ, ◌<◌, [], ◌∷◌, ◌++◌, List, length, true, refl, sym, ◌∙◌, subst}
 use Rattle.paraid_base.specs.declared.fault.Halt.{Halt}
 use Rattle.paraid_volume.specs.declared.fault.VolFault.TheVariants.{Halt as VolHalt, Small, NotVolumes, Already, NoVolume, NoBlock, Exists, NoExtents, Names, Space}
-use Rattle.paraid_volume.specs.Faults.{IsCreateFault, IsHalt, IsPlaceFault, vol_halt_in}
+use Rattle.paraid_volume.specs.Faults.{IsHalt}
 use Rattle.std.specs.Prelude.{Option, Some, None, Result, Ok, Err, OnOk, IfOk, IfErr, IsTrue, slice_index_or, codes}
 use Rattle.paraid_volume.specs.declared.fault.VolFault.{VolFault}
 use Rattle.std.proofs.lemmas.List.{append-nil}
@@ -23,7 +23,6 @@ use Rattle.paraid_volume.proofs.LivesLemmas.{life_shows}
 use Rattle.paraid_volume.proofs.RefusalLemmas.{has_name, name_has, named_live}
 use Rattle.paraid_service.specs.LineSteps.{AnswersLine, KeepsFlush}
 use Rattle.paraid_volume_lines.specs.Texts.{created_text, deleted_text, flushed_text, read_text, written_text}
-use Rattle.paraid_service.specs.VolumeForms.{MayRefuse}
 use Rattle.paraid_service.specs.VolumeLines.{named_in}
 use Rattle.paraid_volume_lines.specs.Lists.{name_text}
 use Rattle.paraid_volume_lines.specs.Grammar.{VolLine, create as CreateLine, delete as DeleteLine, flush as FlushLine, read as ReadLine, write as WriteLine}
@@ -42,7 +41,7 @@ pub if_err_with : {T E : Type 0} (P Q : E → Type 0) (r : Result T E) → ((e :
 if_err_with P Q (Ok x) f p = tt
 if_err_with P Q (Err e) f p = f e p
 
-no_halt : (halted : Option Halt) (fault : VolFault) → IsHalt halted fault → halted ≡ None → ⊥
+pub no_halt : (halted : Option Halt) (fault : VolFault) → IsHalt halted fault → halted ≡ None → ⊥
 no_halt halted (VolHalt halt) is none = let z : Some halt ≡ None = sym is ∙ none in cc
 no_halt halted (Small blocks) is none = is
 no_halt halted NotVolumes is none = is
@@ -113,53 +112,3 @@ pub flush_keeps : {B : Type 0} (g : Ghosts B) (old new : Volumes B g) (r : Resul
     → halted_of new ≡ None → KeepsFlush g old new × (flushed_text r ≡ codes "flushed")
 flush_keeps g old new (Ok number) err stands kept none = (record { number = number; kept = kept; counts = λ h s t. (stands h s t).0; stands = λ h s t. (stands h s t).1 }, refl)
 flush_keeps g old new (Err fault) err stands kept none = absurd (no_halt (halted_of new) fault err none)
-
--- ---- which refusals a line may have
-
-pub place_read : (name : List ℕ) (v count : ℕ) (content : ℕ → Block) (halted : Option Halt) (id b : ℕ) (fault : VolFault) → IsPlaceFault count content halted id b fault → vol_halt_in {A = Unit {0}} (Err fault) ≡ None → MayRefuse (ReadLine name v) fault
-place_read name v count content halted _ b (VolHalt halt) is none = absurd (let no : Some halt ≡ None = none in cc)
-place_read name v count content halted _ b (Small blocks) is none = absurd is
-place_read name v count content halted _ b NotVolumes is none = absurd is
-place_read name v count content halted _ b Already is none = absurd is
-place_read name v count content halted _ b (NoVolume id) is none = tt
-place_read name v count content halted _ b (NoBlock block) is none = tt
-place_read name v count content halted _ b (Exists id) is none = absurd is
-place_read name v count content halted _ b NoExtents is none = absurd is
-place_read name v count content halted _ b Names is none = absurd is
-place_read name v count content halted _ b (Space free) is none = absurd is
-
-pub place_write : (name : List ℕ) (v : ℕ) (bytes : Block) (count : ℕ) (content : ℕ → Block) (halted : Option Halt) (id b : ℕ) (fault : VolFault) → IsPlaceFault count content halted id b fault → vol_halt_in {A = Unit {0}} (Err fault) ≡ None → MayRefuse (WriteLine name v bytes) fault
-place_write name v bytes count content halted _ b (VolHalt halt) is none = absurd (let no : Some halt ≡ None = none in cc)
-place_write name v bytes count content halted _ b (Small blocks) is none = absurd is
-place_write name v bytes count content halted _ b NotVolumes is none = absurd is
-place_write name v bytes count content halted _ b Already is none = absurd is
-place_write name v bytes count content halted _ b (NoVolume id) is none = tt
-place_write name v bytes count content halted _ b (NoBlock block) is none = tt
-place_write name v bytes count content halted _ b (Exists id) is none = absurd is
-place_write name v bytes count content halted _ b NoExtents is none = absurd is
-place_write name v bytes count content halted _ b Names is none = absurd is
-place_write name v bytes count content halted _ b (Space free) is none = absurd is
-
-pub create_may : (word : List ℕ) (extents count : ℕ) (content : ℕ → Block) (halted : Option Halt) (name : Name) (n : ℕ) (fault : VolFault) → IsCreateFault count content halted name n fault → vol_halt_in {A = Unit {0}} (Err fault) ≡ None → MayRefuse (CreateLine word extents) fault
-create_may word extents count content halted name n (VolHalt halt) is none = absurd (let no : Some halt ≡ None = none in cc)
-create_may word extents count content halted name n (Small blocks) is none = absurd is
-create_may word extents count content halted name n NotVolumes is none = absurd is
-create_may word extents count content halted name n Already is none = absurd is
-create_may word extents count content halted name n (NoVolume id) is none = absurd is
-create_may word extents count content halted name n (NoBlock block) is none = absurd is
-create_may word extents count content halted name n (Exists id) is none = tt
-create_may word extents count content halted name n NoExtents is none = tt
-create_may word extents count content halted name n Names is none = tt
-create_may word extents count content halted name n (Space free) is none = tt
-
-pub flush_may : (halted : Option Halt) (fault : VolFault) → IsHalt halted fault → vol_halt_in {A = Unit {0}} (Err fault) ≡ None → MayRefuse FlushLine fault
-flush_may halted (VolHalt halt) is none = absurd (let no : Some halt ≡ None = none in cc)
-flush_may halted (Small blocks) is none = absurd is
-flush_may halted NotVolumes is none = absurd is
-flush_may halted Already is none = absurd is
-flush_may halted (NoVolume id) is none = absurd is
-flush_may halted (NoBlock block) is none = absurd is
-flush_may halted (Exists id) is none = absurd is
-flush_may halted NoExtents is none = absurd is
-flush_may halted Names is none = absurd is
-flush_may halted (Space free) is none = absurd is

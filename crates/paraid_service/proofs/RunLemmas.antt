@@ -15,7 +15,10 @@ use Rattle.paraid_volume_lines.specs.Grammar.{AsksVolumes, VolLine}
 use Rattle.paraid_service.specs.declared.shelf.Shelf.{Shelf}
 use Rattle.paraid_service.specs.declared.shelf.Shelf.TheVariants.{Bare, Held as HeldShelf}
 use Rattle.paraid_service.specs.LineRuns.{KeepsLines, RunsLines, RunsOn, SaysLines}
-use Rattle.paraid_service.specs.Shelves.{OnFirst, OnShelf, OpensShelf, ServesShelf, StepsShelf, device_in}
+use Rattle.paraid_service.specs.Shelves.{OnFirst, OnShelf, OpensShelf, ServesShelf, StepsShelf, device_in, table_in}
+use Rattle.paraid_service.specs.LineSteps.{KeepsReply}
+use Rattle.paraid_service.specs.VolumeForms.{AreTabled, IsReplyToLine}
+use Rattle.paraid_volume.specs.Values.{volume_table}
 use Rattle.paraid_service.specs.VolumeLines.{Held, IsEventOf, LinesStep, halted_text}
 use Rattle.paraid_service.specs.LineRuns.KeepsLines.{halting as form_halting, later as form_later, none_yet as form_none, one_more as form_more}
 use Rattle.paraid_service.specs.VolumeLines.LinesStep.{halting, later, none_yet, one_more}
@@ -95,21 +98,23 @@ module _ {B : Type 0} (g : Ghosts B) where
           broken = λ other e. record { before = life.events; rest = kept.more; all = kept.kept; life = life.life; came = kept.all };
         }
 
-    more_form : (halt : Option Halt) (l : ServesShelf g old new asked said halt) (start : B) (lines : List (List ℕ)) (line front reply : List ℕ) → AsksVolumes line asked → g.halted (device_in old) ≡ None → KeepsLines g start lines front reply (device_in old)
-        → KeepsLines g start (lines ++ line ∷ []) (front ++ reply) said (device_in new)
-    more_form None l start lines line front reply ask none f =
-        subst (λ (x : List ℕ). KeepsLines g start (lines ++ line ∷ []) (front ++ reply) x (device_in new)) (sym l.printed) (form_more lines line front reply l.said asked (device_in old) (device_in new) f none ask (l.reply refl) l.keeps (l.halted none))
-    more_form (Some own) l start lines line front reply ask none f =
+    more_form : (halt : Option Halt) (l : ServesShelf g old new asked said halt) (start : B) (lines : List (List ℕ)) (line front reply : List ℕ) → AsksVolumes line asked → g.block_count (device_in old) ≡ g.block_count start → g.halted (device_in old) ≡ None
+        → KeepsLines g start lines front reply old → KeepsLines g start (lines ++ line ∷ []) (front ++ reply) said new
+    more_form None l start lines line front reply ask size none f =
+        subst (λ (x : List ℕ). KeepsLines g start (lines ++ line ∷ []) (front ++ reply) x new) (sym l.printed)
+        (form_more lines line front reply l.said asked old new f none ask
+        (subst (λ (n : ℕ). KeepsReply g.kept (λ made. IsReplyToLine n (table_in old) asked l.said made (table_in new)) (device_in old) (device_in new)) size (l.reply refl)) (l.halted none))
+    more_form (Some own) l start lines line front reply ask size none f =
         let why = l.halts own refl in
-        subst (λ (x : List ℕ). KeepsLines g start (lines ++ line ∷ []) (front ++ reply) x (device_in new)) (sym (l.printed ∙ ap (λ (x : List ℕ). x ++ codes "\n") why.0))
-        (form_halting lines line front reply asked own (device_in old) (device_in new) f none ask why.1 why.2 l.keeps (l.halted none))
+        subst (λ (x : List ℕ). KeepsLines g start (lines ++ line ∷ []) (front ++ reply) x new) (sym (l.printed ∙ ap (λ (x : List ℕ). x ++ codes "\n") why.0))
+        (form_halting lines line front reply asked own old new f none ask why.1 why.2 l.keeps (l.halted none))
 
     pub runs_more : (halt : Option Halt) → ServesShelf g old new asked said halt → RunsOn g old new None halt asked said
     runs_more halt l start lines line front reply ask r = record {
       going = l.going;
       went = DeviceGoesOn-then g.block_count g.halts g.halted g.tells start (device_in old) (device_in new) r.went l.went;
       keeps = keeps_then g.kept start (device_in old) (device_in new) r.keeps (keeps_more g.kept g.tells (IsEventOf asked) (device_in old) (device_in new) l.keeps);
-      form = λ none. more_form halt l start lines line front reply ask (r.halted none) (r.form none);
+      form = λ none. more_form halt l start lines line front reply ask r.went.size (r.halted none) (r.form none);
       halted = λ going. l.halted (r.halted going);
       says = more_says halt l start lines line front reply ask r;
     }
@@ -121,7 +126,7 @@ module _ {B : Type 0} (g : Ghosts B) where
     going = r.going;
     went = r.went;
     keeps = r.keeps;
-    form = λ none. subst (λ (x : List ℕ). KeepsLines g start (lines ++ line ∷ []) (front ++ reply) x (device_in shelf)) (sym printed) (form_later lines line front reply asked own (device_in shelf) (r.form none) (r.halted none) ask);
+    form = λ none. subst (λ (x : List ℕ). KeepsLines g start (lines ++ line ∷ []) (front ++ reply) x shelf) (sym printed) (form_later lines line front reply asked own shelf (r.form none) (r.halted none) ask);
     halted = r.halted;
     says = λ h stands tells.
         let y = r.says h stands tells in
@@ -182,5 +187,9 @@ module _ {B : Type 0} (g : Ghosts B) where
         broken = λ other e. record { before = []; rest = kept.more; all = kept.kept; life = waits refl refl; came = kept.all };
       }
 
+  tabled_in : (start : B) (shelf : Shelf B g) → g.block_count (device_in shelf) ≡ g.block_count start → AreTabled (g.block_count start) (table_in shelf)
+  tabled_in start (HeldShelf volumes) size = subst (λ (n : ℕ). AreTabled n (Some (volume_table volumes))) size (volumes.large, volumes.valid)
+  tabled_in start (Bare blocks) size = tt
+
   pub runs_first : (start : B) (shelf : Shelf B g) (halt : Option Halt) → OpensShelf g start shelf halt → g.kept start start [] → RunsLines g start [] [] [] shelf halt
-  runs_first start shelf halt o begins = record { going = o.going; went = o.went; keeps = keeps_more g.kept g.tells IsReadEvent start (device_in shelf) o.keeps; form = λ none. form_none (device_in shelf) o.keeps; halted = o.halted; says = first_says start shelf halt o begins }
+  runs_first start shelf halt o begins = record { going = o.going; went = o.went; keeps = keeps_more g.kept g.tells IsReadEvent start (device_in shelf) o.keeps; form = λ none. form_none shelf (tabled_in start shelf o.went.size) o.keeps; halted = o.halted; says = first_says start shelf halt o begins }

@@ -12,7 +12,7 @@ use Rattle.paraid_blocks.specs.declared.blocks.Blocks.{Ghosts}
 use Rattle.paraid_volume.specs.declared.fault.VolFault.{VolFault}
 use Rattle.paraid_volume.specs.declared.fault.VolFault.TheVariants.{Halt as VolHalt, Small, NotVolumes, Already, NoVolume, NoBlock, Exists, NoExtents, Names, Space}
 use Rattle.paraid_volume.specs.declared.volumes.Volumes.{Volumes}
-use Rattle.paraid_volume.specs.Device.{DeviceGoesOn, DeviceHolds, IsReadEvent, IsReadOrWrite, KeepsMore, SinceHistory, entries_in}
+use Rattle.paraid_volume.specs.Device.{AreAll, DeviceGoesOn, DeviceHolds, IsReadEvent, IsReadOrWrite, KeepsMore, SinceHistory, entries_in}
 use Rattle.paraid_volume.specs.Faults.{IsAdoptFault, IsInitFault, vol_halt_in}
 use Rattle.paraid_volume.specs.Lives.{BeginsLife, HasLived, Life, VolLog, flush as FlushCall, flushed}
 use Rattle.paraid_volume.specs.Lives.Life.{begun, next}
@@ -21,7 +21,7 @@ use Rattle.paraid_volume_lines.specs.declared.asked.VolAsked.{VolAsked}
 use Rattle.paraid_volume_lines.specs.declared.asked.VolAsked.TheVariants.{Init as AskInit, Create as AskCreate, Delete as AskDelete, Read as AskRead, Write as AskWrite, Flush as AskFlush, List as AskList, Bad as AskBad}
 use Rattle.paraid_volume.specs.States.{VolumeState}
 use Rattle.paraid_volume.specs.Tables.{IsVolumeTable, extent_count, extent_size}
-use Rattle.paraid_volume.specs.Values.{VolumesStandFor, device_of, halted_of}
+use Rattle.paraid_volume.specs.Values.{VolumesStandFor, device_of, halted_of, volume_table}
 use Rattle.paraid_volume.proofs.DeviceLemmas.{DeviceGoesOn-none, KeepsMore-none, entries_in-append}
 use Rattle.paraid_volume.proofs.OneCallLemmas.{lived_flush}
 use Rattle.paraid_volume_lines.specs.Grammar.{VolLine, bad, flush, init, list}
@@ -32,8 +32,8 @@ use Rattle.paraid_service.specs.Shelves.{OnHeld, OnShelf, OpensShelf, ServesShel
 use Rattle.paraid_service.specs.VolumeLines.{Held, IsEventOf, LineStep}
 use Rattle.paraid_service.specs.VolumeLines.LineStep.{begins, calls}
 use Rattle.paraid_service.specs.VolumeLines.IsCallOf.{flushes}
-use Rattle.paraid_service.specs.VolumeForms.{IsReplyToLine, MayRefuse}
-use Rattle.paraid_service.specs.VolumeForms.IsReplyToLine.{begun as begun_reply, refused}
+use Rattle.paraid_service.specs.VolumeForms.{AreTabled, IsReplyToLine}
+use Rattle.paraid_service.specs.VolumeForms.IsReplyToLine.{begun as begun_reply, is_found}
 use Rattle.paraid_service.specs.VolumeSessions.{AreFlushesKept, life_start}
 use Rattle.paraid_service.proofs.FlushLemmas.{flush_kept, flush_or_not, flushes_append, flushes_later, no_flush}
 use Rattle.paraid_service.proofs.HeldLemmas.{fault_halts}
@@ -122,14 +122,14 @@ module _ {B : Type 0} (g : Ghosts B) where
   bare_steps blocks line said step first h was None log on = record { more = []; last = None; step = step; on = record { none = append-nil log ∙ on.none; bare = on.bare; holds = on.holds; no_table = on.no_table } }
 
   -- a line that leaves the device
-  pub on_bare : (blocks : B) (line : VolLine) (said text : List ℕ) → text ≡ said ++ codes "\n" → IsReplyToLine line said → LineStep (g.block_count blocks) None line said [] None → ServesShelf g (Bare blocks) (Bare blocks) line text None
+  pub on_bare : (blocks : B) (line : VolLine) (said text : List ℕ) → text ≡ said ++ codes "\n" → IsReplyToLine (g.block_count blocks) None line said [] None → LineStep (g.block_count blocks) None line said [] None → ServesShelf g (Bare blocks) (Bare blocks) line text None
   on_bare blocks line said text printed reply step = record {
     going = λ none. tt;
     went = DeviceGoesOn-none g.block_count g.halts g.halted g.tells blocks;
     keeps = KeepsMore-none g.kept g.tells (IsEventOf line) blocks;
     said = said;
     printed = printed;
-    reply = λ none. reply;
+    reply = λ none. record { grows = λ first events k. ([], subst (g.kept first blocks) (sym (append-nil events)) k, reply) };
     halted = λ going. going;
     step = λ none first h was s log on tells. bare_steps blocks line said step first h was s log on;
     halts = λ own e. absurd (let no : None ≡ Some own = e in cc);
@@ -170,7 +170,11 @@ module _ {B : Type 0} (g : Ghosts B) where
     keeps = keeps;
     said = begun_text (extent_count (g.block_count blocks)) (extent_size (g.block_count blocks));
     printed = printed;
-    reply = λ none. begun_reply (extent_count (g.block_count blocks)) (extent_size (g.block_count blocks));
+    reply = λ none. record {
+      grows = λ first events k.
+          let m = keeps.grows first events k in
+          (m.more, m.kept, begun_reply (volume_table volumes) m.more (subst (λ (n : ℕ). AreTabled n (Some (volume_table volumes))) went.size (volumes.large, volumes.valid)) m.all);
+    };
     halted = λ none. volumes.halted ∙ going;
     step = λ none first h was s log on tells. begin_steps blocks volumes large lived first h was s log on tells;
     halts = λ own e. absurd (let no : None ≡ Some own = e in cc);
@@ -201,17 +205,18 @@ module _ {B : Type 0} (g : Ghosts B) where
   init_halts count Names halted table large f = absurd f
   init_halts count (Space free) halted table large f = absurd f
 
-  init_may : (count : ℕ) (fault : VolFault) (halted : Option Halt) (table : Type 0) → vol_halt_in {A = Unit {0}} (Err fault) ≡ None → IsInitFault count halted table fault → MayRefuse init fault
-  init_may count (VolHalt halt) halted table none is = absurd (let no : Some halt ≡ None = none in cc)
-  init_may count (Small blocks) halted table none is = tt
-  init_may count NotVolumes halted table none is = absurd is
-  init_may count Already halted table none is = tt
-  init_may count (NoVolume id) halted table none is = absurd is
-  init_may count (NoBlock block) halted table none is = absurd is
-  init_may count (Exists id) halted table none is = absurd is
-  init_may count NoExtents halted table none is = absurd is
-  init_may count Names halted table none is = absurd is
-  init_may count (Space free) halted table none is = absurd is
+  init_reply : (count : ℕ) (fault : VolFault) (halted : Option Halt) (table : Type 0) → 7 ≤ count → vol_halt_in {A = Unit {0}} (Err fault) ≡ None → IsInitFault count halted table fault → (made : Answers) → AreAll IsReadOrWrite made
+      → IsReplyToLine count None init (fault_text fault) made None
+  init_reply count (VolHalt halt) halted table large none is made all = absurd (let no : Some halt ≡ None = none in cc)
+  init_reply count (Small n) halted table large none is made all = let small = is.1 in let no : ⊥ = omega (arith, small, large) in absurd no
+  init_reply count NotVolumes halted table large none is made all = absurd is
+  init_reply count Already halted table large none is made all = is_found made large all
+  init_reply count (NoVolume id) halted table large none is made all = absurd is
+  init_reply count (NoBlock block) halted table large none is made all = absurd is
+  init_reply count (Exists id) halted table large none is made all = absurd is
+  init_reply count NoExtents halted table large none is made all = absurd is
+  init_reply count Names halted table large none is made all = absurd is
+  init_reply count (Space free) halted table large none is made all = absurd is
 
   refused_steps : (blocks now : B) (fault : VolFault) → 7 ≤ g.block_count blocks
       → IsInitFault (g.block_count blocks) (g.halted now) ((h : History) → g.stands blocks h → IsTrue (g.tells now) → IsVolumeTable (g.block_count blocks) (after_all h)) fault
@@ -230,7 +235,11 @@ module _ {B : Type 0} (g : Ghosts B) where
     keeps = keeps;
     said = fault_text fault;
     printed = printed;
-    reply = λ none. refused init fault (init_may (g.block_count blocks) fault (g.halted now) _ none f);
+    reply = λ none. record {
+      grows = λ first events k.
+          let m = keeps.grows first events k in
+          (m.more, m.kept, init_reply (g.block_count blocks) fault (g.halted now) _ large none f m.more m.all);
+    };
     halted = λ going. init_halts (g.block_count blocks) fault (g.halted now) _ large f;
     step = refused_steps blocks now fault large f;
     halts = λ own e. (fault_halts (Unit {0}) fault own e, (λ no. let x : init ≡ bad = no in cc), (λ no. let x : init ≡ list = no in cc));
@@ -315,12 +324,12 @@ module _ {B : Type 0} (g : Ghosts B) where
 
 -- ---- a line where there is no table
 
-pub other_line : (asked : VolAsked) (bytes : Block) → (asked ≡ AskInit → ⊥) → (asked ≡ AskBad → ⊥) → (line_with asked bytes ≡ init → ⊥) × (line_with asked bytes ≡ bad → ⊥) × MayRefuse (line_with asked bytes) NotVolumes
+pub other_line : (asked : VolAsked) (bytes : Block) → (asked ≡ AskInit → ⊥) → (asked ≡ AskBad → ⊥) → (line_with asked bytes ≡ init → ⊥) × (line_with asked bytes ≡ bad → ⊥)
 other_line AskInit bytes not_init not_bad = absurd (not_init refl)
-other_line (AskCreate name extents) bytes not_init not_bad = ((λ e. cc), (λ e. cc), tt)
-other_line (AskDelete name) bytes not_init not_bad = ((λ e. cc), (λ e. cc), tt)
-other_line (AskRead name block) bytes not_init not_bad = ((λ e. cc), (λ e. cc), tt)
-other_line (AskWrite name block) bytes not_init not_bad = ((λ e. cc), (λ e. cc), tt)
-other_line AskFlush bytes not_init not_bad = ((λ e. cc), (λ e. cc), tt)
-other_line AskList bytes not_init not_bad = ((λ e. cc), (λ e. cc), tt)
+other_line (AskCreate name extents) bytes not_init not_bad = ((λ e. cc), (λ e. cc))
+other_line (AskDelete name) bytes not_init not_bad = ((λ e. cc), (λ e. cc))
+other_line (AskRead name block) bytes not_init not_bad = ((λ e. cc), (λ e. cc))
+other_line (AskWrite name block) bytes not_init not_bad = ((λ e. cc), (λ e. cc))
+other_line AskFlush bytes not_init not_bad = ((λ e. cc), (λ e. cc))
+other_line AskList bytes not_init not_bad = ((λ e. cc), (λ e. cc))
 other_line AskBad bytes not_init not_bad = absurd (not_bad refl)

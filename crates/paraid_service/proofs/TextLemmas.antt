@@ -48,11 +48,11 @@ use Rattle.paraid_service.specs.LineRuns.{KeepsLines, SaysLines}
 use Rattle.paraid_service.specs.LineRuns.KeepsLines.{halting as keeps_halting, later as keeps_later, none_yet as keeps_none, one_more as keeps_more}
 use Rattle.paraid_service.specs.LinesEnds.{EndsSession, HasFlushed, device_kept}
 use Rattle.paraid_service.specs.LinesEnds.EndsSession.{at_sink, at_source, halted, kept, too_long}
-use Rattle.paraid_service.specs.Shelves.{device_in}
+use Rattle.paraid_service.specs.Shelves.{device_in, table_in}
 use Rattle.paraid_volume_lines.specs.Grammar.{VolLine}
 use Rattle.paraid_service.specs.VolumeLines.{Held}
 use Rattle.paraid_service.specs.VolumeSessions.{AnswersFromPoint, AreOfHalt, AnswersLines, FlushesLast, FollowsForVolumes, HasEvent, IsLifeOf, LeavesHeld, VolumesHeadline, VolumesRun, VolumesText, WritesVolumes, life_start}
-use Rattle.paraid_service.specs.VolumeForms.{FormsLines, HasVolumesForm, VolumesForm}
+use Rattle.paraid_service.specs.VolumeForms.{AreTabled, FormsLines, HasVolumesForm, IsReplyToLine, VolumesForm}
 use Rattle.paraid_service.specs.VolumeForms.FormsLines.{halting as forms_halting, later as forms_later, none_yet as forms_none, one_more as forms_more}
 use Rattle.paraid_service.specs.VolumeForms.VolumesForm.{done as form_done, halted as form_halted, source as form_source, too_long as form_too_long}
 use Rattle.paraid_service.specs.VolumeForms.HasVolumesForm.{answers as form_answers, at_first_line as form_first, last_line as form_last_line, whole as form_whole}
@@ -206,27 +206,30 @@ module _ {A : Type 0} (g : Ghosts A) where
       let c = (f.kept mid [] (answered_none g (array_of mid))).causes in
       subst (λ (x : Shown). HasCause (seen_of mid) Flush answer x) (sym c.2) c.1
 
-  module _ (shows : (x : A) → (g.shown x).halt ≡ g.halted x) where
+  module _ (shows : (x : A) → Shows (g.shown x) (g.setup x) (g.slot x) (g.halted x)) where
     seen_halt : (d : Device A g) (halt : Option Halt) → halt_of_device d ≡ halt → (seen_of d).halt ≡ halt
-    seen_halt d halt is = shows (array_of d) ∙ array_halt d ∙ is
+    seen_halt d halt is = (shows (array_of d)).halt ∙ array_halt d ∙ is
 
     -- the answers to lines, by what is seen of the array
-    lines_form : (first : Device A g) {device : Device A g} {lines : List (List ℕ)} {front reply : List ℕ} → KeepsLines device_ghosts first lines front reply device
-        → (made : Answers) × FormsLines (seen_of first) lines front reply made (seen_of device)
-    lines_form first (keeps_none device keeps) = let m = keeps.grows first [] (answered_none g (array_of first)) in (m.more, forms_none m.more (seen_of device) m.all m.kept.causes)
-    lines_form first (keeps_more lines line front reply said asked old new before was ask is keeps going) =
+    lines_form : (first : Device A g) {shelf : Shelf (Device A g) device_ghosts} {lines : List (List ℕ)} {front reply : List ℕ} → KeepsLines device_ghosts first lines front reply shelf
+        → (made : Answers) × FormsLines (seen_of first) lines front reply made (seen_of (device_in shelf)) (table_in shelf)
+    lines_form first (keeps_none shelf tabled keeps) =
+        let m = keeps.grows first [] (answered_none g (array_of first)) in
+        (m.more, forms_none m.more (seen_of (device_in shelf)) (table_in shelf) (subst (λ (z : Setup). AreTabled (block_count z) (table_in shelf)) (sym (shows (array_of first)).setup) tabled) m.all m.kept.causes)
+    lines_form first (keeps_more lines line front reply said asked old new before was ask replies going) =
         let b = lines_form first before in
-        let m = keeps.grows old [] (answered_none g (array_of old)) in
-        (b.0 ++ m.more, forms_more lines line front reply said asked b.0 m.more (seen_of old) (seen_of new) b.1 (seen_halt old None was) ask is m.all m.kept.causes (seen_halt new None going))
+        let m = replies.grows (device_in old) [] (answered_none g (array_of (device_in old))) in
+        let is = subst (λ (z : Setup). IsReplyToLine (block_count z) (table_in old) asked said m.0 (table_in new)) (sym (shows (array_of first)).setup) m.2 in
+        (b.0 ++ m.0, forms_more lines line front reply said asked b.0 m.0 (seen_of (device_in old)) (seen_of (device_in new)) (table_in old) (table_in new) b.1 (seen_halt (device_in old) None was) ask is m.1.causes (seen_halt (device_in new) None going))
     lines_form first (keeps_halting lines line front reply asked own old new before was ask not_bad not_list keeps is) =
         let b = lines_form first before in
-        let m = keeps.grows old [] (answered_none g (array_of old)) in
-        (b.0 ++ m.more, forms_halting lines line front reply asked own b.0 m.more (seen_of old) (seen_of new) b.1 (seen_halt old None was) ask not_bad not_list m.all m.kept.causes (seen_halt new (Some own) is))
-    lines_form first (keeps_later lines line front reply asked own device before is ask) =
+        let m = keeps.grows (device_in old) [] (answered_none g (array_of (device_in old))) in
+        (b.0 ++ m.more, forms_halting lines line front reply asked own b.0 m.more (seen_of (device_in old)) (seen_of (device_in new)) (table_in old) (table_in new) b.1 (seen_halt (device_in old) None was) ask not_bad not_list m.all m.kept.causes (seen_halt (device_in new) (Some own) is))
+    lines_form first (keeps_later lines line front reply asked own shelf before is ask) =
         let b = lines_form first before in
-        (b.0, forms_later lines line front reply asked own b.0 (seen_of device) b.1 (seen_halt device (Some own) is) ask)
+        (b.0, forms_later lines line front reply asked own b.0 (seen_of (device_in shelf)) (table_in shelf) b.1 (seen_halt (device_in shelf) (Some own) is) ask)
 
-  module _ (agrees : (x : A) (q : Point) → g.stands x q → q.halt ≡ g.halted x) (shows : (x : A) → (g.shown x).halt ≡ g.halted x) (first : Device A g) where
+  module _ (agrees : (x : A) (q : Point) → g.stands x q → q.halt ≡ g.halted x) (shows : (x : A) → Shows (g.shown x) (g.setup x) (g.slot x) (g.halted x)) (first : Device A g) where
     abbrev span_to : Option Trail → Span
     span_to final = span_of (g.slots (array_of first)) (g.setup (array_of first)) (g.told (array_of first)) final
 
@@ -278,7 +281,7 @@ module _ {A : Type 0} (g : Ghosts A) where
         answered_mid : (e : Answers) × HasAnswered g (array_of first) (array_of (device_in shelf)) e
         answered_mid = let k = s.runs.keeps.grows first [] (answered_none g (array_of first)) in (k.0, k.1)
 
-        form_mid : (made : Answers) × FormsLines (seen_of first) s.lines s.front s.reply made (seen_of (device_in shelf))
+        form_mid : (made : Answers) × FormsLines (seen_of first) s.lines s.front s.reply made (seen_of (device_in shelf)) (table_in shelf)
         form_mid = lines_form shows first (s.runs.form going)
 
         says_mid : IsSome (g.told (array_of (device_in shelf))) → (p : Point) → g.stands (array_of first) p → SaysKept device_ghosts first p.history s.lines s.front s.reply (device_in shelf) halt
@@ -312,9 +315,9 @@ module _ {A : Type 0} (g : Ghosts A) where
           let before = answered_mid Done s in
           let none : halt ≡ None = not_halted (halt_of_device mid) (halt_of_device last) halt (s.runs.halted going) f.again f.halted in
           let made = (form_mid Done s).0 in
-          let form = subst (λ (l : List (List ℕ)). FormsLines (seen_of first) l s.front s.reply made (seen_of mid)) s.ends.0 (form_mid Done s).1 in
+          let form = subst (λ (l : List (List ℕ)). FormsLines (seen_of first) l s.front s.reply made (seen_of mid) (table_in shelf)) s.ends.0 (form_mid Done s).1 in
           ends_line Done s (g.told (array_of last)) (seen_of last) (made ++ (Flush, Flushed writes) ∷ []) (end_line writes) 0 status e (λ ten. absurd (other _ _ _ _ _ e 10 (λ no. omega arith) (λ no. omega arith) ten)) (λ whole. (s.ends.2, s.ends.3)) (subst (λ (w : List ℕ). VolumesForm (seen_of first) (seen_of last) s.bytes (made ++ (Flush, Flushed writes) ∷ []) 0 (opening ++ w) (end_line writes)) (sym s.ends.1)
-          (form_done s.front s.reply made (seen_of mid) writes form (seen_halt shows mid None (s.runs.halted going ∙ none)) (flush_cause mid last (Flushed writes) None f))) (λ is p at.
+          (form_done s.front s.reply made (seen_of mid) (table_in shelf) writes form (seen_halt shows mid None (s.runs.halted going ∙ none)) (flush_cause mid last (Flushed writes) None f))) (λ is p at.
           let here = told_then (g.told (array_of mid)) (g.told (array_of last)) (f.kept mid [] (answered_none g (array_of mid))).grows is in
           let y = answers_mid Done s here p at in
           let number : writes ≡ length y.0.all.end.history = f.number y.0.all.end.history (record { point = y.0.all.end; at = y.1; is = refl }) is writes refl in
@@ -329,9 +332,9 @@ module _ {A : Type 0} (g : Ghosts A) where
           let before = answered_mid Done s in
           let met = met_by (halt_of_device mid) (halt_of_device last) halt own (s.runs.halted going) f.again f.halted in
           let made = (form_mid Done s).0 in
-          let form = subst (λ (l : List (List ℕ)). FormsLines (seen_of first) l s.front s.reply made (seen_of mid)) s.ends.0 (form_mid Done s).1 in
+          let form = subst (λ (l : List (List ℕ)). FormsLines (seen_of first) l s.front s.reply made (seen_of mid) (table_in shelf)) s.ends.0 (form_mid Done s).1 in
           ends_line Done s (g.told (array_of last)) (seen_of last) (made ++ (Flush, Halted own) ∷ []) (halt_line own) (status_of_halt own) status e (λ ten. absurd (other _ _ _ _ _ e 10 (λ no. omega (arith, no)) (no_halt_code own 10 (λ no. omega (arith, no)) (λ no. omega (arith, no))) ten)) (λ whole. (s.ends.2, s.ends.3)) (subst (λ (w : List ℕ). VolumesForm (seen_of first) (seen_of last) s.bytes (made ++ (Flush, Halted own) ∷ []) (status_of_halt own) (opening ++ w) (halt_line own)) (sym s.ends.1)
-          (form_halted s.front s.reply made (seen_of mid) own form (met_seen (seen_of mid).halt halt own (seen_halt shows mid halt (s.runs.halted going)) met) (flush_cause mid last (Halted own) (Some own) f))) (λ is p at.
+          (form_halted s.front s.reply made (seen_of mid) (table_in shelf) own form (met_seen (seen_of mid).halt halt own (seen_halt shows mid halt (s.runs.halted going)) met) (flush_cause mid last (Halted own) (Some own) f))) (λ is p at.
           let here = told_then (g.told (array_of mid)) (g.told (array_of last)) (f.kept mid [] (answered_none g (array_of mid))).grows is in
           let y = answers_mid Done s here p at in
           halted_at (span_to (g.told (array_of last))) (g.told (array_of mid)) p s.bytes s.front s.reply s.told s.ends.1 s.lines halt own y.0 s.ends.0
@@ -344,7 +347,7 @@ module _ {A : Type 0} (g : Ghosts A) where
           subst (λ (d : Device A g). Run (g.told (array_of d)) (seen_of d) x status) (sym same)
           (ends_line Source s (g.told (array_of (device_in shelf))) (seen_of (device_in shelf)) (form_mid Source s).0 (codes "source\n") 3 status e (λ ten. absurd (other _ _ _ _ _ e 10 (λ no. omega (arith, no)) (λ no. omega (arith, no)) ten))
           (λ whole. absurd (no_whole_status 3 status e (λ no. omega (arith, no)) (λ no. omega (arith, no)) (λ no. omega (arith, no)) whole)) (subst (λ (w : List ℕ). VolumesForm (seen_of first) (seen_of (device_in shelf)) s.bytes (form_mid Source s).0 3 (opening ++ w) (codes "source\n")) (sym s.ends.1)
-          (form_source s.front s.reply (form_mid Source s).0 (subst (λ (l : List (List ℕ)). FormsLines (seen_of first) l s.front s.reply (form_mid Source s).0 (seen_of (device_in shelf))) s.ends.0 (form_mid Source s).1))) (λ is p at.
+          (form_source s.front s.reply (form_mid Source s).0 (table_in shelf) (subst (λ (l : List (List ℕ)). FormsLines (seen_of first) l s.front s.reply (form_mid Source s).0 (seen_of (device_in shelf)) (table_in shelf)) s.ends.0 (form_mid Source s).1))) (λ is p at.
           let y = answers_mid Source s is p at in
           subst (λ (w : List ℕ). Text (g.told (array_of (device_in shelf))) p s.bytes 3 (begins_with p ++ w) (codes "source\n")) (sym s.ends.1)
           (source_text halt s.front s.reply (subst (λ (l : List (List ℕ)). AnswersFromPoint (span_to (g.told (array_of (device_in shelf)))) p l s.front s.reply halt) s.ends.0 y.0))))
@@ -352,7 +355,7 @@ module _ {A : Type 0} (g : Ghosts A) where
           subst (λ (d : Device A g). Run (g.told (array_of d)) (seen_of d) x status) (sym same)
           (ends_line TooLong s (g.told (array_of (device_in shelf))) (seen_of (device_in shelf)) (form_mid TooLong s).0 (codes "toolong\n") 10 status e (λ ten. s.ends.2)
           (λ whole. absurd (no_whole_status 10 status e (λ no. omega (arith, no)) (λ no. omega (arith, no)) (λ no. omega (arith, no)) whole)) (subst (λ (w : List ℕ). VolumesForm (seen_of first) (seen_of (device_in shelf)) s.bytes (form_mid TooLong s).0 10 (opening ++ w) (codes "toolong\n")) (sym s.ends.1)
-          (form_too_long s.front s.reply (form_mid TooLong s).0 s.ends.2 (subst (λ (l : List (List ℕ)). FormsLines (seen_of first) l s.front s.reply (form_mid TooLong s).0 (seen_of (device_in shelf))) s.ends.0 (form_mid TooLong s).1))) (λ is p at.
+          (form_too_long s.front s.reply (form_mid TooLong s).0 (table_in shelf) s.ends.2 (subst (λ (l : List (List ℕ)). FormsLines (seen_of first) l s.front s.reply (form_mid TooLong s).0 (seen_of (device_in shelf)) (table_in shelf)) s.ends.0 (form_mid TooLong s).1))) (λ is p at.
           let y = answers_mid TooLong s is p at in
           subst (λ (w : List ℕ). Text (g.told (array_of (device_in shelf))) p s.bytes 10 (begins_with p ++ w) (codes "toolong\n")) (sym s.ends.1)
           (too_long_text s.ends.2 halt s.front s.reply (subst (λ (l : List (List ℕ)). AnswersFromPoint (span_to (g.told (array_of (device_in shelf)))) p l s.front s.reply halt) s.ends.0 y.0))))
@@ -365,7 +368,7 @@ module _ {A : Type 0} (g : Ghosts A) where
             full = λ ten. absurd (omega (arith, ten));
             all = λ whole. absurd (four_not_whole whole);
             events = (form_mid Sink s).0;
-            form = form_answers refl s.ends.before s.ends.more s.ends.line s.front s.reply s.ends.count s.ends.split (subst (λ (l : List (List ℕ)). FormsLines (seen_of first) l s.front s.reply (form_mid Sink s).0 (seen_of (device_in shelf))) s.ends.are (form_mid Sink s).1) (ap (λ (w : List ℕ). opening ++ w) s.ends.cut);
+            form = form_answers refl s.ends.before s.ends.more s.ends.line s.front s.reply s.ends.count (table_in shelf) s.ends.split (subst (λ (l : List (List ℕ)). FormsLines (seen_of first) l s.front s.reply (form_mid Sink s).0 (seen_of (device_in shelf)) (table_in shelf)) s.ends.are (form_mid Sink s).1) (ap (λ (w : List ℕ). opening ++ w) s.ends.cut);
             wrote = λ is p at.
                 answers refl s.ends.before s.ends.more s.ends.line s.front s.reply s.ends.count halt s.ends.split (subst (λ (l : List (List ℕ)). AnswersFromPoint (span_to (g.told (array_of (device_in shelf)))) p l s.front s.reply halt) s.ends.are (answers_mid Sink s is p at).0)
                 (ap (λ (w : List ℕ). w ++ s.told) (mounted p at) ∙ ap (λ (w : List ℕ). begins_with p ++ w) s.ends.cut);

@@ -12,12 +12,13 @@ use Rattle.paraid_volume.specs.Faults.{vol_halt_in}
 use Rattle.paraid_volume.specs.Lives.{Life, VolLog}
 use Rattle.paraid_volume.specs.States.{VolumeState}
 use Rattle.paraid_volume.specs.Tables.{IsVolumeTable}
-use Rattle.paraid_volume.specs.Values.{VolumesStandFor, device_of, halted_of}
+use Rattle.paraid_volume.specs.Values.{VolumesStandFor, device_of, halted_of, volume_table}
 use Rattle.paraid_volume_lines.specs.Grammar.{VolLine, bad, list}
 use Rattle.paraid_service.specs.declared.shelf.Shelf.{Shelf}
 use Rattle.paraid_service.specs.declared.shelf.Shelf.TheVariants.{Bare, Held as HeldShelf}
 use Rattle.paraid_service.specs.declared.shelf.Shelved.{Shelved}
-use Rattle.paraid_service.specs.VolumeForms.{IsReplyToLine}
+use Rattle.paraid_service.specs.LineSteps.{KeepsReply}
+use Rattle.paraid_service.specs.VolumeForms.{IsReplyToLine, Tabled}
 use Rattle.paraid_service.specs.VolumeLines.{Held, IsEventOf, LineStep}
 use Rattle.paraid_service.specs.VolumeSessions.{AreFlushesKept, life_start}
 
@@ -25,6 +26,11 @@ use Rattle.paraid_service.specs.VolumeSessions.{AreFlushesKept, life_start}
 abbrev pub device_in : {B : Type 0} {g : Ghosts B} → Shelf B g → B
 device_in (HeldShelf volumes) = device_of volumes
 device_in (Bare blocks) = blocks
+
+-- the table of its volumes
+abbrev pub table_in : {B : Type 0} {g : Ghosts B} → Shelf B g → Tabled
+table_in (HeldShelf volumes) = Some (volume_table volumes)
+table_in (Bare blocks) = None
 
 -- its volumes have not halted
 abbrev pub IsGoing : {B : Type 0} {g : Ghosts B} → Shelf B g → Type 0
@@ -81,7 +87,7 @@ pub record ServesShelf {B : Type 0} (g : Ghosts B) (old new : Shelf B g) (line :
   pub keeps : KeepsMore g.kept g.tells (IsEventOf line) (device_in old) (device_in new)
   pub said : List ℕ
   pub printed : text ≡ said ++ codes "\n"
-  pub reply : halt ≡ None → IsReplyToLine line said
+  pub reply : halt ≡ None → KeepsReply g.kept (λ made. IsReplyToLine (g.block_count (device_in old)) (table_in old) line said made (table_in new)) (device_in old) (device_in new)
   pub halted : g.halted (device_in old) ≡ None → g.halted (device_in new) ≡ halt
   pub step : halt ≡ None → (first : B) (h : History) (was s : Held) (log : VolLog) → OnShelf g first (g.block_count (device_in old)) h was old s log → IsTrue (g.tells (device_in new))
       → StepsShelf (OnShelf g first (g.block_count (device_in old)) h was new) (g.block_count (device_in old)) s line said log

@@ -1,8 +1,7 @@
 //! A line about a volume, as a step of volumes.
-ghost use Rattle.std.specs.Prelude.{◌≡◌, ℕ, ◌<◌, List, Err, IfErr, IfOk, IsTrue, None, codes, slice_index_or};
-ghost use Rattle.paraid_service.specs.VolumeForms.{MayRefuse};
+ghost use Rattle.std.specs.Prelude.{◌≡◌, ℕ, ◌<◌, List, IfOk, IsTrue, None, codes, slice_index_or};
 ghost use Rattle.paraid_volume_lines.specs.NameWords.{word_of};
-ghost use Rattle.paraid_service.specs.LineSteps.{AnswersLine, KeepsFlush};
+ghost use Rattle.paraid_service.specs.LineSteps.{AnswersLine, KeepsFlush, RepliesHeld};
 ghost use Rattle.paraid_volume_lines.specs.Grammar.{create as CreateLine, delete as DeleteLine, flush as FlushLine, read as ReadLine, write as WriteLine};
 ghost use Rattle.paraid_volume_lines.specs.Texts.{created_text, deleted_text, flushed_text, read_text, written_text};
 ghost use Rattle.paraid_volume.specs.Device.{DeviceGoesOn, DeviceHolds, IsFlushEvent, IsReadEvent, IsWriteEvent, KeepsMore, SinceHistory, halt_in};
@@ -26,6 +25,8 @@ pub fn delete_named<B: Blocks>(volumes: &mut Volumes<B>, name: &Name) -> Result<
         → (word : List ℕ) → ((k : ℕ) → k < 16 → slice_index_or word k 0 ≡ letter_of name.now k)
         → AnswersLine (VolumesStandFor (DeviceHolds B.stands B.kept from) volumes.old) (VolumesStandFor (DeviceHolds B.stands B.kept from) volumes.new)
         (B.block_count (device_of volumes.old)) start log lived (DeleteLine word) (deleted_text word there)) }
+    ensures reply { IfOk result (λ there. halted_of volumes.old ≡ None
+        → RepliesHeld B.Blocks volumes.old volumes.new (DeleteLine (word_of name.now)) (deleted_text (word_of name.now) there)) }
 {
     let Some(id) = volumes.find(name) else {
         return Ok(false);
@@ -53,8 +54,8 @@ pub fn read_named<B: Blocks>(
         → (word : List ℕ) → ((k : ℕ) → k < 16 → slice_index_or word k 0 ≡ letter_of name.now k)
         → AnswersLine (VolumesStandFor (DeviceHolds B.stands B.kept from) volumes.old) (VolumesStandFor (DeviceHolds B.stands B.kept from) volumes.new)
         (B.block_count (device_of volumes.old)) start log lived (ReadLine word block) (read_text word block result into.new) }
-    ensures refused { IfErr result (λ fault. vol_halt_in {A = Unit {0}} (Err fault) ≡ None
-        → MayRefuse (ReadLine (word_of name.now) block) fault) }
+    ensures reply { halted_of volumes.old ≡ None → halted_of volumes.new ≡ None
+        → RepliesHeld B.Blocks volumes.old volumes.new (ReadLine (word_of name.now) block) (read_text (word_of name.now) block result into.new) }
 {
     let Some(id) = volumes.find(name) else {
         return Err(VolFault::NoVolume { id: 0 });
@@ -78,8 +79,8 @@ pub fn write_named<B: Blocks>(
         → (word : List ℕ) → ((k : ℕ) → k < 16 → slice_index_or word k 0 ≡ letter_of name.now k)
         → AnswersLine (VolumesStandFor (DeviceHolds B.stands B.kept from) volumes.old) (VolumesStandFor (DeviceHolds B.stands B.kept from) volumes.new)
         (B.block_count (device_of volumes.old)) start log lived (WriteLine word block bytes.now) (written_text result) }
-    ensures refused { IfErr result (λ fault. vol_halt_in {A = Unit {0}} (Err fault) ≡ None
-        → MayRefuse (WriteLine (word_of name.now) block bytes.now) fault) }
+    ensures reply { halted_of volumes.old ≡ None → halted_of volumes.new ≡ None
+        → RepliesHeld B.Blocks volumes.old volumes.new (WriteLine (word_of name.now) block bytes.now) (written_text result) }
 {
     let Some(id) = volumes.find(name) else {
         return Err(VolFault::NoVolume { id: 0 });
@@ -102,8 +103,8 @@ pub fn create_named<B: Blocks>(
         → (word : List ℕ) → ((k : ℕ) → k < 16 → slice_index_or word k 0 ≡ letter_of name.now k)
         → AnswersLine (VolumesStandFor (DeviceHolds B.stands B.kept from) volumes.old) (VolumesStandFor (DeviceHolds B.stands B.kept from) volumes.new)
         (B.block_count (device_of volumes.old)) start log lived (CreateLine word extents) (created_text word result) }
-    ensures refused { IfErr result (λ fault. vol_halt_in {A = Unit {0}} (Err fault) ≡ None
-        → MayRefuse (CreateLine (word_of name.now) extents) fault) }
+    ensures reply { halted_of volumes.old ≡ None → halted_of volumes.new ≡ None
+        → RepliesHeld B.Blocks volumes.old volumes.new (CreateLine (word_of name.now) extents) (created_text (word_of name.now) result) }
 {
     volumes.create(name, extents)
 }
@@ -120,8 +121,8 @@ pub fn flush_volumes<B: Blocks>(volumes: &mut Volumes<B>) -> Result<u64, VolFaul
         (B.block_count (device_of volumes.old)) start log lived FlushLine (flushed_text result) }
     ensures flushed { halted_of volumes.new ≡ None
         → KeepsFlush B.Blocks volumes.old volumes.new × (flushed_text result ≡ codes "flushed") }
-    ensures refused { IfErr result (λ fault. vol_halt_in {A = Unit {0}} (Err fault) ≡ None
-        → MayRefuse FlushLine fault) }
+    ensures reply { halted_of volumes.old ≡ None → halted_of volumes.new ≡ None
+        → RepliesHeld B.Blocks volumes.old volumes.new FlushLine (flushed_text result) }
 {
     volumes.flush()
 }

@@ -1,5 +1,7 @@
 use Rattle.paraid_volume_lines.specs.NameWords.{word_of}
-use Rattle.paraid_service.proofs.LineLemmas.{create_may, create_line, if_err_with, if_ok_with}
+use Rattle.paraid_volume_lines.proofs.NameWordLemmas.{spells as word_spells}
+use Rattle.paraid_service.proofs.AnswerLemmas.{create_replies}
+use Rattle.paraid_service.proofs.LineLemmas.{create_line, if_err_with, if_ok_with}
 use Rattle.paraid_service.proofs.lines.create_named.Goals as goal
 
 pub returns : goal.returns
@@ -11,5 +13,7 @@ returns g c = record {
       let e = c.create.ensures in
       create_line _ _ _ start log lived c.args.name.now word c.args.extents c.create.result spells (if_ok_with _ _ c.create.result (λ id x. x from start log lived tells) e.lived)
       (if_err_with _ _ c.create.result (λ fault x. x going from start log lived tells) e.lived_refused);
-  refused = if_err_with _ _ c.create.result (create_may (word_of c.args.name.now) c.args.extents _ _ _ c.args.name.now _) c.create.ensures.fault;
+  reply = λ was none.
+      let e = c.create.ensures in
+      create_replies g.B.Blocks c.args.volumes.now c.create.new.self c.args.name.now (word_of c.args.name.now) c.args.extents c.create.result (word_spells c.args.name.now) was none e.went.size e.fault e.fresh e.some e.room e.id e.grown e.refused e.untouched;
 }

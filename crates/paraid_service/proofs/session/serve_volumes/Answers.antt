@@ -55,8 +55,8 @@ returns g c =
     let mounted : (q : Point) → g.A.Serves.stands (array_of first) q → first_line (g.A.Serves.shown (array_of first)) ≡ begins_with q = λ q stands. sym shown ∙ let here = rw c.new.ensures.array at stands in rw (c.writes.ensures.point c.requires.going q here, c.gear.ensures.point q here) refl in
     let streams : Streams = streams_of (source_use g.S.Source.left g.S.Source.faults c.args.source.now c.serve_lines-run.new.source) (sink_use g.K.Sink.written g.K.Sink.faults c.args.sink.now c.end_session-status.new.sink) in
     let run : VolumesRun (g.A.Serves.shown a) (g.A.Serves.shown b) (span_between g.A.Serves a b) (g.A.Serves.stands a) streams status
-    = rw (c.close.ensures, ← c.new.ensures.array) (ran g.A.Serves g.met.A.Serves.agrees (λ x. (g.met.A.Serves.shows x).halt) first c.new.ensures.going streams shelf halt opened mounted last end status lines ends) in
-    let every = all_answered g.A.Serves g.met.A.Serves.agrees (λ x. (g.met.A.Serves.shows x).halt) first c.new.ensures.going streams shelf halt opened mounted last end status lines ends in
+    = rw (c.close.ensures, ← c.new.ensures.array) (ran g.A.Serves g.met.A.Serves.agrees g.met.A.Serves.shows first c.new.ensures.going streams shelf halt opened mounted last end status lines ends) in
+    let every = all_answered g.A.Serves g.met.A.Serves.agrees g.met.A.Serves.shows first c.new.ensures.going streams shelf halt opened mounted last end status lines ends in
     let all = answered_at g.A.Serves first last a b every.0 c.new.ensures.array c.close.ensures every.1 in
     let going : status ≡ 0 → g.A.Serves.halted b ≡ None = λ zero. rw c.close.ensures (ends_going g.A.Serves end status ends zero) in
     let text = GrowsByBytes-then _ _ _ mount lines.told grew lines.grows in

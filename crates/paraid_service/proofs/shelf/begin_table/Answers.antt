@@ -1,14 +1,14 @@
 use Rattle.std.proofs.Common.{arith, refl}
 use Rattle.std.specs.Prelude.{codes}
 use Rattle.paraid_volume_lines.specs.Grammar.{init}
-use Rattle.paraid_volume.specs.declared.fault.VolFault.TheVariants.{Small}
-use Rattle.paraid_service.specs.VolumeForms.IsReplyToLine.{refused}
+use Rattle.paraid_service.specs.VolumeForms.IsReplyToLine.{is_small as reply_small}
 use Rattle.paraid_service.specs.VolumeLines.LineStep.{is_small}
 use Rattle.paraid_service.proofs.ShelfLemmas.{on_bare, on_begun, on_refused}
 use Rattle.paraid_service.proofs.shelf.begin_table.Goals as goal
 
 pub returns-then-count-lt7 : goal.returns-then-count-lt7
-returns-then-count-lt7 g c = on_bare g.B.Blocks c.args.blocks init (codes "small") c.tell_word.new.into c.tell_word.ensures (refused init (Small 0) tt) (is_small refl (let small = c.if-count-lt7.true in let is = c.blocks-count.ensures in omega (arith, small, is)))
+returns-then-count-lt7 g c = on_bare g.B.Blocks c.args.blocks init (codes "small") c.tell_word.new.into c.tell_word.ensures (reply_small (let small = c.if-count-lt7.true in let is = c.blocks-count.ensures in omega (arith, small, is)))
+    (is_small refl (let small = c.if-count-lt7.true in let is = c.blocks-count.ensures in omega (arith, small, is)))
 
 pub returns-in-Ok : goal.returns-in-Ok
 returns-in-Ok g c =
