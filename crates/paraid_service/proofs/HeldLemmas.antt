@@ -1,6 +1,6 @@
 -- Lines of volumes with their texts.
-use Rattle.std.proofs.Common.{◌≡◌, ℕ, [], Bool, true, false, List, ◌++◌, ◌∙◌, refl, sym, ap, subst}
-use Rattle.std.specs.Prelude.{Option, Some, None, Result, Ok, Err, IfErr, IsTrue, codes}
+use Rattle.std.proofs.Common.{◌≡◌, ℕ, [], List, ◌++◌, ◌∙◌, refl, sym, ap, subst}
+use Rattle.std.specs.Prelude.{Option, Some, None, Result, Ok, Err, IsTrue, codes}
 use Rattle.std.proofs.lemmas.List.{append-nil}
 use Rattle.std.proofs.lemmas.Option.{same_Some}
 use Rattle.paraid_base.specs.declared.block.Block.{Block}
@@ -17,9 +17,9 @@ use Rattle.paraid_volume.specs.Lives.{HasLived, Life, VolLog}
 use Rattle.paraid_volume.specs.Values.{VolumesStandFor, device_of, halted_of, volume_table}
 use Rattle.paraid_volume.proofs.DeviceLemmas.{DeviceGoesOn-none, KeepsMore-none}
 use Rattle.paraid_volume.proofs.LivesLemmas.{life_shows}
-use Rattle.paraid_volume_lines.specs.Grammar.{VolLine, bad, create, delete, flush, list, read, write}
+use Rattle.paraid_volume_lines.specs.Grammar.{VolLine, bad, flush, list}
 use Rattle.paraid_volume_lines.specs.Lists.{TellsVolumes}
-use Rattle.paraid_volume_lines.specs.Texts.{created_text, deleted_text, fault_text, flushed_text, read_text, written_text}
+use Rattle.paraid_volume_lines.specs.Texts.{created_text, fault_text, flushed_text, read_text, written_text}
 use Rattle.paraid_service.specs.LineSteps.{AnswersLine, KeepsFlush, RepliesHeld, ServesHeld}
 use Rattle.paraid_service.specs.VolumeLines.{IsEventOf, LineStep}
 use Rattle.paraid_service.specs.VolumeForms.{IsReplyToLine}
