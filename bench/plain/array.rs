@@ -1,6 +1,6 @@
 // The array: it is mounted, and its cells are read, also where a disk is out.
 use crate::commit::{Batch, Target};
-use crate::disk::{xor, Block, Disk, BLOCK_SIZE};
+use crate::disk::{sync_folder, xor, Block, Disk, BLOCK_SIZE};
 use crate::gears::Window;
 use crate::meta::{Layout, Meta, GATE, MAP, META, SLOTS};
 use std::io;
@@ -77,6 +77,7 @@ fn read_map(disk: &Disk, layout: &Layout) -> io::Result<Vec<u8>> {
 
 impl Array {
     pub fn mount() -> io::Result<Array> {
+        sync_folder()?;
         let slots: Vec<Option<Disk>> = (0..SLOTS).map(Disk::load).collect::<io::Result<_>>()?;
         let meta = hear_both(&slots)?;
         let disks: Option<Vec<Disk>> = slots.into_iter().take(meta.setup.disks).collect();

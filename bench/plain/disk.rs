@@ -31,7 +31,7 @@ pub struct Disk {
 }
 
 impl Disk {
-    // The disk of a slot, if there is one.
+    // The disk of a slot, if there is one. What a killed process wrote may be in the system's memory alone.
     pub fn load(slot: usize) -> io::Result<Option<Disk>> {
         let Some(spins) = spins(&format!("disk-{slot}.power"))? else {
             return Ok(None);
@@ -43,6 +43,9 @@ impl Disk {
         }
         let file = OpenOptions::new().read(true).write(true).open(name)?;
         let blocks = file.metadata()?.len() / BLOCK_SIZE as u64;
+        if spins {
+            file.sync_data()?;
+        }
         Ok(Some(Disk::new(slot, file, blocks, spins)))
     }
 
@@ -115,6 +118,7 @@ fn spins(name: &str) -> io::Result<Option<bool>> {
         Err(error) => return Err(error),
     }
     let file = File::open(name)?;
+    file.sync_data()?;
     let length = file.metadata()?.len();
     if length > MAX_SIDECAR {
         return Ok(None);
@@ -135,5 +139,10 @@ fn store_power(slot: usize, text: &[u8]) -> io::Result<()> {
     file.write_all(text)?;
     file.sync_all()?;
     fs::rename(next, format!("disk-{slot}.power"))?;
+    sync_folder()
+}
+
+// When it returns, the names of the folder are on the disk.
+pub fn sync_folder() -> io::Result<()> {
     File::open(".")?.sync_all()
 }

@@ -84,7 +84,7 @@ impl Image {
         if power == Power::Absent {
             return Ok(Image::absent(names, None, cause));
         }
-        match open_image(files, names.image.as_str()) {
+        match open_kept(files, &names, power) {
             Opened::Image(file, size) => Ok(Image {
                 names,
                 file: Some(file),
@@ -378,6 +378,22 @@ fn open_image<F: Files<File = File>>(files: &F, name: &str) -> Opened {
     match file.metadata() {
         Ok(found) => Opened::Image(file, whole_blocks(found.len())),
         Err(error) => Opened::Lost(Some(error)),
+    }
+}
+
+/// Opens an image at a load. What a process that was killed has written may be in the system's memory
+/// alone, so the disk takes it before anything is read. Where it does not, the sidecar says that the
+/// disk has failed: writes may be lost, and the system tells it once.
+fn open_kept<F: Files<File = File>>(files: &F, names: &Names, power: Power) -> Opened {
+    match open_image(files, names.image.as_str()) {
+        Opened::Image(file, size) if power == Power::Spinning => match file.sync_data() {
+            Ok(()) => Opened::Image(file, size),
+            Err(error) => {
+                names.store_failed(files);
+                Opened::Lost(Some(error))
+            }
+        },
+        opened => opened,
     }
 }
 

@@ -138,8 +138,9 @@ fn power_of(text: &[u8]) -> Power
     }
 }
 
-/// The power that an open sidecar tells.
+/// The power that an open sidecar tells. One that was written over is on the disk from then on.
 fn power_in(file: &File) -> io::Result<Power> {
+    file.sync_data()?;
     let length = file.metadata()?.len();
     if length > LONGEST as u64 {
         return Ok(Power::Absent);
@@ -158,6 +159,11 @@ fn overwrite<F: Files<File = File>>(files: &F, name: &str, text: &str) -> io::Re
     file.write_all_at(text.as_bytes(), 0)?;
     file.sync_all()?;
     sync_folder(files)
+}
+
+/// A sidecar that a process replaced which was then killed stays so, unless the folder's device fails.
+pub(crate) fn keep_sidecars<F: Files<File = File>>(files: &F) {
+    let _ = sync_folder(files);
 }
 
 /// When it returns, the names of the folder are on the disk.

@@ -4,6 +4,7 @@ ghost use Rattle.std.specs.Prelude.{◌≡◌, ℕ, ◌≤◌, length};
 use crate::found::has_descriptors;
 use crate::identity::Identity;
 use crate::image::{Hindrance, Image};
+use crate::power::keep_sidecars;
 use paraid_base::{BLOCK_SIZE, Block, DiskNo, Failed, NoMemory, Place};
 use paraid_gather::BulkRack;
 use paraid_rack::{Power, Rack};
@@ -45,6 +46,9 @@ impl<F: Files<File = File> + Drop> ImageRack<F> {
         let Ok(mut images) = Vec::with_capacity(alloc, slots as usize) else {
             return Err(NoMemory);
         };
+        if slots > 0 {
+            keep_sidecars(&files);
+        }
         for disk in 0..slots {
             images.push_reserved(Image::load(&files, alloc, disk)?);
         }
