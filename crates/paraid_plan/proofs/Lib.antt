@@ -24,3 +24,4 @@ pub mod RowBitsLemmas
 pub mod GrowthLemmas
 pub mod RoomLemmas
 pub mod LeavesLemmas
+pub mod AloneLemmas

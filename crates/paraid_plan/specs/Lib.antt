@@ -8,3 +8,4 @@ pub mod LossMark
 pub mod WrittenBits
 pub mod RowBits
 pub mod Leaves
+pub mod Alone

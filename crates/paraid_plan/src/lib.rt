@@ -5,6 +5,7 @@
 //! speak of no history: which blocks are held before and after is all that they say.
 #![tactic(auto)]
 
+mod alone;
 mod blocks;
 mod cell;
 mod desk;

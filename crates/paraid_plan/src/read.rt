@@ -13,6 +13,7 @@ ghost use Rattle.paraid_plan.specs.WriteTargets.{needs_new as needs_new_in, need
 ghost use Rattle.paraid_record.specs.Range.{IsInRange};
 ghost use Rattle.paraid_image.specs.Value.{value as value_of};
 
+use crate::alone::{alone, read_alone};
 use crate::blocks::keep_if;
 use crate::cell::{needs_new, needs_old};
 use crate::desk::{Lost, Plan};
@@ -269,5 +270,8 @@ pub(crate) fn read_row<P: Plan>(
 {
     let needed = needs_new(plan, m, r, p);
     let anew = is_made_anew(plan, m, given, r, p);
+    if let Some(one) = alone(m, given, needed, anew, p) {
+        return read_alone(plan, m, pairs, one, r, p, fixed);
+    }
     read_cells(plan, m, pairs, given, needed, anew, r, p, old, fixed)
 }
