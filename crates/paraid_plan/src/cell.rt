@@ -333,6 +333,7 @@ fn write_copies<P: Plan>(
 }
 
 /// Writes a cell whose value is `old`.
+#[inline(always)]
 pub fn write_cell<P: Plan>(
     plan: &mut P,
     m: &Meta,

@@ -43,7 +43,8 @@ fn is_passed<R: Rack>(rack: &R, skip: Option<DiskNo>, disk: DiskNo) -> bool
     skip == Some(disk) || rack.power(disk) == Power::Absent
 }
 
-/// Writes a block, unless the disk is skipped or absent.
+/// Writes a block, unless the disk is skipped or absent. Most calls that a commit makes are of this kind.
+#[inline(always)]
 pub fn put<R: Rack>(
     rack: &mut R,
     losses: &mut Losses,
@@ -95,6 +96,7 @@ pub fn sync_slot<R: Rack>(
 
 /// Writes a block in the log of a log disk and makes the disk keep it, unless it is skipped or
 /// absent.
+#[inline(always)]
 pub fn put_synced<R: Rack>(
     rack: &mut R,
     losses: &mut Losses,

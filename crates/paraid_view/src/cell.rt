@@ -72,6 +72,7 @@ fn read_soft<R: Rack>(
 }
 
 // The value of a cell that is not the hard place of the disk that is out.
+#[inline(always)]
 fn read_near<R: Rack>(
     store: &mut Store<R>,
     batch: &Batch,
@@ -165,7 +166,8 @@ fn add_near<R: Rack>(
 }
 
 /// The XOR of the values of a row's cells but for that on the disk that is out and that on one other.
-/// They may be one disk.
+/// They may be one disk. It is apart, with room for a block, since most reads have no disk out.
+#[inline(never)]
 pub fn read_others<R: Rack>(
     store: &mut Store<R>,
     batch: &Batch,
