@@ -88,11 +88,11 @@ pub(crate) fn undo(changes: &mut Changes, dirty: &mut DirtyTable)
     }
 }
 
-// Marks the disk of a target that is at this place.
+// Marks the disk of a target that is at this place. It branches nowhere, since no processor can guess which are.
 fn mark_at(staged: &mut [bool; 8], place: Place, target: Target) {
-    if target.place == place && target.disk < 8 {
-        staged[target.disk as usize] = true;
-    }
+    let at = (target.disk % 8) as usize;
+    let is = u8::from(target.place == place) & u8::from(target.disk < 8);
+    staged[at] = u8::from(staged[at]) | is != 0;
 }
 
 impl<R: Rack> Plan for Core<R> {

@@ -74,7 +74,8 @@ fn is_anew_in_any_gear<P: Plan>(
     rest < old
 }
 
-// The same where each cell has its value in its hard place and no disk is out: all are at one place of the disks.
+// The same where each cell has its value in its hard place and no disk is out: all are at one place of the disks. They
+// are counted without a branch, since no processor can guess which are staged.
 fn is_anew_in_place<P: Plan>(plan: &P, m: &Meta, given: &[Option<u8>; 8], r: Row, p: DiskNo) -> bool
     requires row { r < m.now.setup.geometry.rows }
 {
@@ -82,14 +83,10 @@ fn is_anew_in_place<P: Plan>(plan: &P, m: &Meta, given: &[Option<u8>; 8], r: Row
     let mut old = 0u8;
     let mut rest = 0u8;
     for d in 0..m.setup.geometry.disks {
-        if staged[d as usize] {
-            continue;
-        }
-        if is_changed(given, p, d) {
-            old = old.saturating_add(1);
-        } else {
-            rest = rest.saturating_add(1);
-        }
+        let read = u8::from(!staged[d as usize]);
+        let changed = u8::from(is_changed(given, p, d));
+        old = old.wrapping_add(read & changed);
+        rest = rest.wrapping_add(read & (changed ^ 1));
     }
     rest < old
 }

@@ -1,5 +1,5 @@
 //! Blocks that are written together, each with the place where it belongs.
-ghost use Rattle.std.specs.Prelude.{◌≡◌, ◌≢◌, ℕ, ◌<◌, ◌≤◌, ◌⊎◌, true, false, [], length, slice_index, get_or, vec_capacity, map, AllPairs, IfOk, IfErr, OnOk, MatchOption, is_ok, ◌||◌, nat_lt, ◌==◌};
+ghost use Rattle.std.specs.Prelude.{◌≡◌, ◌≢◌, ℕ, ◌+◌, ◌*◌, ◌<◌, ◌≤◌, ◌⊎◌, true, false, [], length, slice_index, get_or, vec_capacity, map, AllPairs, IfOk, IfErr, OnOk, MatchOption, is_ok, ◌||◌, nat_lt, ◌==◌};
 ghost use Rattle.std.specs.List.{list_any};
 ghost use Rattle.paraid_base.specs.declared.block.Block.{Block as BlockType};
 ghost use Rattle.paraid_base.specs.Log.{batch_room};
@@ -122,7 +122,7 @@ impl Batch {
             × (get_or (targets self.now) at no_target ≡ target)) }
     {
         for at in 0..self.staged.len() {
-            if self.staged[at].target == target {
+            if is_same(self.staged[at].target, target) {
                 return Some(at);
             }
         }
@@ -168,6 +168,21 @@ impl Batch {
     {
         is_one_on(&self.staged, disk)
     }
+}
+
+// A target as one number, so that a search compares two by one test.
+fn key(target: Target) -> u64
+    ensures { result ≡ 256 * target.place + target.disk }
+{
+    256 * u64::from(target.place) + u64::from(target.disk)
+}
+
+// Whether two targets are the same.
+fn is_same(one: Target, other: Target) -> bool
+    ensures same { result ≡ true → one ≡ other }
+    ensures other { result ≡ false → one ≢ other }
+{
+    key(one) == key(other)
 }
 
 // Whether one of these is on this disk.
