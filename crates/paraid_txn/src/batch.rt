@@ -152,14 +152,14 @@ impl Batch {
         ensures count { result.count ≡ length self.now }
         ensures distinct { AllPairs (λ s t. s ≢ t) (targets self.now) }
     {
-        let mut list = [Target { disk: 0, place: 0 }; MOST];
-        for at in 0..self.staged.len() {
-            list[at] = self.staged[at].target;
-        }
-        Targets {
+        let mut targets = Targets {
             count: self.staged.len() as u8,
-            list,
+            list: [Target { disk: 0, place: 0 }; MOST],
+        };
+        for at in 0..self.staged.len() {
+            targets.list[at] = self.staged[at].target;
         }
+        targets
     }
 
     /// Whether a target is on this disk.

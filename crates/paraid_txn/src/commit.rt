@@ -495,6 +495,15 @@ fn find_second(lost: Option<DiskNo>, named: Option<DiskNo>) -> Option<Two>
     Two::beside(named, lost?)
 }
 
+// Makes of a block the one that spells the targets of a batch.
+fn put_list(batch: &Batch, list: &mut Block)
+    ensures value { list.new.bytes ≡ targets_bytes (targets batch.now) }
+    ensures few { length (targets batch.now) ≤ batch_room }
+    ensures distinct { AllPairs (λ s t. s ≢ t) (targets batch.now) }
+{
+    write_targets(&batch.targets(), list);
+}
+
 // The block that spells the targets of a batch.
 pub fn spell_targets(batch: &Batch) -> Block
     ensures value { result.bytes ≡ targets_bytes (targets batch.now) }
@@ -502,7 +511,7 @@ pub fn spell_targets(batch: &Batch) -> Block
     ensures distinct { AllPairs (λ s t. s ≢ t) (targets batch.now) }
 {
     let mut list = Block::zero();
-    write_targets(&batch.targets(), &mut list);
+    put_list(batch, &mut list);
     list
 }
 
@@ -595,8 +604,10 @@ impl<R: Rack> Store<R> {
             epoch: self.epoch + 1,
             ..*meta
         };
-        let list = spell_targets(batch);
-        let spelled = spell_meta(&next);
+        let mut list = Block::zero();
+        put_list(batch, &mut list);
+        let mut spelled = Block::zero();
+        write_meta(&next, &mut spelled);
         let named = meta.out.named();
         let absent = find_absent(&self.rack, self.disks);
         let mut losses = Losses {

@@ -16,10 +16,11 @@ loop-at-preserved c =
     let all = length-targets batch in
     let here = target-read items batch c.self.view_is at c.index.result.now (omega arith) c.index.ensures in (
       search rules,
-      take_more_set c.loop-at.list at c.index.result.now.target (omega arith)
+      take_more_set c.loop-at.targets.list at c.index.result.now.target (omega arith)
           ∙ ap (λ (front : List Target). front ++ c.index.result.now.target ∷ []) c.loop-at.invariant.1
           ∙ ap (λ (t : Target). take at (targets batch) ++ t ∷ []) (sym here)
           ∙ sym (take_more (targets batch) at no_target (omega arith)),
+      c.loop-at.invariant.2,
     )
 
 pub returns-clause-value : goal.returns-clause-value
@@ -27,8 +28,9 @@ returns-clause-value c =
     let batch = c.args.self.now in
     let size = length-view c.self.inside.staged.items batch c.self.view_is in
     let all = length-targets batch in
-    let last : c.len.result ≡ c.loop-at.at = omega arith in
-    ap (λ (k : ℕ). take k c.loop-at.list) last ∙ c.loop-at.invariant.1 ∙ take_all c.loop-at.at (targets batch) (omega arith)
+    let count = c.loop-at.invariant.2 in
+    let last : c.loop-at.targets.count ≡ c.loop-at.at = omega (arith, count) in
+    ap (λ (k : ℕ). take k c.loop-at.targets.list) last ∙ c.loop-at.invariant.1 ∙ take_all c.loop-at.at (targets batch) (omega arith)
 
 pub returns-clause-distinct : goal.returns-clause-distinct
 returns-clause-distinct c = targets-apart c.self.inside.staged.items c.args.self.now c.self.view_is c.self.invariant.2

@@ -29,7 +29,7 @@ run_witnessed-requires g c = record {
   exists = search rules;
   log = c.requires.can.log;
   ready = c.requires.can.ready;
-  in_range = record { few = c.spell_targets-list.ensures.few; each = c.requires.can.each; distinct = c.spell_targets-list.ensures.distinct };
+  in_range = record { few = c.put_list.ensures.few; each = c.requires.can.each; distinct = c.put_list.ensures.distinct };
   absent = λ d is. (first_absent_is _ _ d (sym c.find_absent-absent.ensures ∙ is)).1;
   witness = c.requires.witness;
   none_lost = refl;
@@ -37,11 +37,11 @@ run_witnessed-requires g c = record {
 
 -- the blocks spell the next meta and the targets
 spelled : (g : Over) (c : After-run_witnessed g) (start : Disks)
-    → IsSpelled (job start (record c.args.meta.now { epoch = c.args.self.now.epoch + 1 }) c.args.batch.now c.spell_meta-spelled.result c.spell_targets-list.result c.opens_first-first.result)
+    → IsSpelled (job start (record c.args.meta.now { epoch = c.args.self.now.epoch + 1 }) c.args.batch.now c.write_meta.new.into c.put_list.new.list c.opens_first-first.result)
 spelled g c start = record {
-  meta = record { in_range = next_in_range c.args.meta.now c.args.self.now.epoch c.requires.can.in_range c.requires.can.epoch; bytes = c.spell_meta-spelled.ensures };
-  in_range = record { few = c.spell_targets-list.ensures.few; each = c.requires.can.each; distinct = c.spell_targets-list.ensures.distinct };
-  list = c.spell_targets-list.ensures.value;
+  meta = record { in_range = next_in_range c.args.meta.now c.args.self.now.epoch c.requires.can.in_range c.requires.can.epoch; bytes = c.write_meta.ensures };
+  in_range = record { few = c.put_list.ensures.few; each = c.requires.can.each; distinct = c.put_list.ensures.distinct };
+  list = c.put_list.ensures.value;
   first = c.opens_first-first.ensures.log_disk;
 }
 
