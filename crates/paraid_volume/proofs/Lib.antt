@@ -4,6 +4,7 @@ pub mod ExtentLemmas
 pub mod ShowsLemmas
 pub mod LaidLemmas
 pub mod ChangeLemmas
+pub mod CallLemmas
 pub mod ClearLemmas
 pub mod CreateLemmas
 pub mod LivesLemmas

@@ -6,6 +6,7 @@ pub mod NameValues
 pub mod Faults
 pub mod States
 pub mod Laid
+pub mod TableCalls
 pub mod Values
 pub mod Lives
 pub mod Isolation

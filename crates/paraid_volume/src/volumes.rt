@@ -36,6 +36,10 @@ impl<B: Blocks> Volumes<B> {
     ghost use Rattle.paraid_base.specs.BlockAnswers.{Answers};
     ghost use Rattle.paraid_base.specs.History.{History, after_all};
     ghost use Rattle.paraid_volume.specs.Device.{DeviceGoesOn, DeviceHolds, SinceHistory, KeepsMore, IsReadEvent, IsWriteEvent, IsFlushEvent, IsReadOrWrite};
+    ghost use Rattle.paraid_base.specs.Xor.{zero_block};
+    ghost use Rattle.paraid_volume.specs.declared.fault.VolFault.TheVariants.{Already as AlreadyFault};
+    ghost use Rattle.paraid_volume.specs.Laid.{IsWith, IsWithout};
+    ghost use Rattle.paraid_volume.specs.TableCalls.{AreOfCreate, AreOfInit, AreRefusedReads, AreTableReads, IsTableWrite, KeepsThen, table_reads};
     ghost use Rattle.paraid_volume.specs.Faults.{IsPlaceFault, IsAdoptFault, IsInitFault, IsIdFault, IsCreateFault, IsLeastFree, IsHalt, IsNew, IsServedBlock, vol_halt_in};
     ghost use Rattle.paraid_volume.specs.States.{VolumeState, ShowsVolumes, Adds, AddsNoVolume, Makes, IsPlace, with_volume, without_volume, with_block};
     ghost use Rattle.paraid_volume.specs.Tables.{IsLiveId, extents_owned, owner_in};
@@ -68,6 +72,10 @@ impl<B: Blocks> Volumes<B> {
         ensures lived { IfOk result (λ volumes. (from : SinceHistory B) (h : History) → DeviceHolds B.stands B.kept from blocks h
             → IsTrue (B.tells (device_of volumes))
             → HasLived (VolumesStandFor (DeviceHolds B.stands B.kept from) volumes) (B.block_count blocks) (length h) []) }
+        ensures reads { IfOk result (λ volumes. (first : B) (events : Answers) → B.kept first blocks events
+            → B.kept first (device_of volumes) (events ++ table_reads (volume_table volumes) 6)) }
+        ensures reads_refused { IfErr result (λ refused. KeepsThen B.kept
+            (AreRefusedReads (B.block_count blocks) refused.fault) blocks refused.blocks) }
     {
         let mut blocks = blocks;
         let count = blocks.blocks();
@@ -121,6 +129,11 @@ impl<B: Blocks> Volumes<B> {
         ensures lived { IfOk result (λ volumes. (from : SinceHistory B) (h : History) → DeviceHolds B.stands B.kept from blocks h
             → IsTrue (B.tells (device_of volumes))
             → BeginsLife (VolumesStandFor (DeviceHolds B.stands B.kept from) volumes) (B.block_count blocks) (length h + 1)) }
+        ensures empty { IfOk result (λ volumes. (k : ℕ) → 1 ≤ k → volume_table volumes k ≡ zero_block) }
+        ensures events { IfOk result (λ volumes. KeepsThen B.kept
+            (AreOfInit (B.block_count blocks) (volume_table volumes)) blocks (device_of volumes)) }
+        ensures found { IfErr result (λ refused. refused.fault ≡ AlreadyFault
+            → KeepsThen B.kept (AreTableReads (B.block_count blocks)) blocks refused.blocks) }
     {
         let mut blocks = blocks;
         let count = blocks.blocks();
@@ -377,6 +390,11 @@ impl<B: Blocks> Volumes<B> {
             → IsTrue (B.tells (device_of self.new))
             → LivesMore (VolumesStandFor (DeviceHolds B.stands B.kept from) self.old) (VolumesStandFor (DeviceHolds B.stands B.kept from) self.new)
             (B.block_count (device_of self.old)) start log lived (DeleteCall id) (Refused fault)) }
+        ensures next { OnOk result (IsWithout id (count_of (B.block_count (device_of self.old)))
+            (volume_table self.old) (volume_table self.new)) }
+        ensures event { OnOk result (KeepsThen B.kept
+            (IsTableWrite (volume_table self.old) (volume_table self.new))
+            (device_of self.old) (device_of self.new)) }
     {
         if let Some(halt) = self.halt {
             return Err(VolFault::Halt(halt));
@@ -464,6 +482,13 @@ impl<B: Blocks> Volumes<B> {
             → IsTrue (B.tells (device_of self.new))
             → LivesMore (VolumesStandFor (DeviceHolds B.stands B.kept from) self.old) (VolumesStandFor (DeviceHolds B.stands B.kept from) self.new)
             (B.block_count (device_of self.old)) start log lived (CreateCall (letter_of name.now) extents) (Refused fault)) }
+        ensures next { IfOk result (λ id. IsWith id name.now extents
+            (count_of (B.block_count (device_of self.old)))
+            (volume_table self.old) (volume_table self.new)) }
+        ensures events { IfOk result (λ id. KeepsThen B.kept
+            (AreOfCreate id (size_of (B.block_count (device_of self.old)))
+            (count_of (B.block_count (device_of self.old))) (volume_table self.old) (volume_table self.new))
+            (device_of self.old) (device_of self.new)) }
     {
         let id = self.new_id(name, extents)?;
         let next = self.table.with(id, name, extents, self.extents);

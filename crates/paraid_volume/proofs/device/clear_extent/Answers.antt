@@ -4,6 +4,8 @@ use Rattle.paraid_volume.specs.TableBlocks.{in_table}
 use Rattle.paraid_volume.specs.Tables.{owner_in}
 use Rattle.paraid_volume.proofs.ClearLemmas.{cleared_none, cleared_owned}
 use Rattle.paraid_volume.proofs.DeviceLemmas.{DeviceGoesOn-none, KeepsMore-none}
+use Rattle.std.proofs.Common.{◌+◌, ◌*◌}
+use Rattle.paraid_volume.proofs.CallLemmas.{KeepsThen-none, KeepsThen-weaker, span_size, zeros_other, zeros_owned}
 use Rattle.paraid_volume.proofs.device.clear_extent.Goals as goal
 
 pub returns : goal.returns
@@ -12,6 +14,9 @@ returns g c = record {
   grown = c.clear_blocks.ensures.grown;
   halt = c.clear_blocks.ensures.halt;
   clears = on_ok_weaker c.clear_blocks.result (λ f from h stands tells. cleared_owned _ h (owner_in (in_table c.args.table.now)) c.args.id c.args.size c.args.extent (sym c.owner.ensures ∙ c.if-owner-id.false) (f from h stands tells)) c.clear_blocks.ensures.clears;
+  events =
+      let owned = sym c.owner.ensures ∙ c.if-owner-id.false in
+      on_ok_weaker c.clear_blocks.result (KeepsThen-weaker g.B.Blocks.kept _ _ _ _ (λ x f. zeros_owned (owner_in (in_table c.args.table.now) c.args.extent) c.args.id (6 + c.args.extent * c.args.size) c.args.size _ x owned (span_size (6 + c.args.extent * c.args.size) c.args.size) f)) c.clear_blocks.ensures.events;
 }
 
 pub returns-then-owner-id : goal.returns-then-owner-id
@@ -20,6 +25,7 @@ returns-then-owner-id g c = record {
   grown = KeepsMore-none _ _ _ _;
   halt = c.requires.none;
   clears = λ from h stands tells. cleared_none _ h _ (λ b is. c.if-owner-id.true (c.owner.ensures ∙ is.0)) stands;
+  events = KeepsThen-none g.B.Blocks.kept _ _ (zeros_other _ _ _ (λ same. c.if-owner-id.true (c.owner.ensures ∙ same)));
 }
 
 pub owner-requires : goal.owner-requires

@@ -6,6 +6,8 @@ use Rattle.paraid_volume.specs.TableBlocks.{in_table}
 use Rattle.paraid_volume.specs.Tables.{owner_in}
 use Rattle.paraid_volume.proofs.ClearLemmas.{cleared_more, cleared_none}
 use Rattle.paraid_volume.proofs.DeviceLemmas.{DeviceGoesOn-none, DeviceGoesOn-then, KeepsMore-none, KeepsMore-then}
+use Rattle.paraid_volume.specs.TableCalls.{AreZerosTo, KeepsThen, owned_blocks}
+use Rattle.paraid_volume.proofs.CallLemmas.{KeepsThen-none, KeepsThen-then, zeros_extents}
 use Rattle.paraid_volume.proofs.device.clear_extents.Goals as goal
 
 pub loop-extent-init : goal.loop-extent-init
@@ -14,6 +16,7 @@ loop-extent-init g c = record {
   grown = KeepsMore-none _ _ _ _;
   none = c.requires.none;
   clears = λ from h stands tells. cleared_none _ h _ (λ b is. let below = is.below in omega (arith, below)) stands;
+  events = KeepsThen-none g.B.Blocks.kept _ _ tt;
 }
 
 pub clear_extent-requires-clause-fits : goal.clear_extent-requires-clause-fits
@@ -37,6 +40,7 @@ loop-extent-preserved g c =
       clears = λ from h stands tells.
           let first = inv.clears from h stands (c.clear_extent.ensures.went.told tells) in
           cleared_more _ _ h (owner_in (in_table c.args.table.now)) c.args.id c.args.size c.loop-extent.extent first (c.in_ok-clear_extent.ensures.clears from (h ++ first.more) first.stands tells);
+      events = KeepsThen-then g.B.Blocks.kept _ _ _ _ _ _ (λ x y first second. zeros_extents (owner_in (in_table c.args.table.now)) c.args.id c.args.size c.loop-extent.extent x y first second) inv.events c.in_ok-clear_extent.ensures.events;
     }
 
 pub returns : goal.returns
@@ -49,6 +53,11 @@ returns g c = record {
       let until = c.loop-extent.auto.extent-end in
       let same : c.loop-extent.extent ≡ c.args.extents = omega (arith, past, until) in
       subst (λ (n : ℕ). (from : SinceHistory _) → Clears (DeviceHolds g.B.Blocks.stands g.B.Blocks.kept from) g.B.Blocks.tells c.args.device.now c.loop-extent.device (InExtent (owner_in (in_table c.args.table.now)) c.args.id c.args.size n)) same c.loop-extent.invariant.clears;
+  events =
+      let past = c.loop-extent-test.false in
+      let until = c.loop-extent.auto.extent-end in
+      let same : c.loop-extent.extent ≡ c.args.extents = omega (arith, past, until) in
+      subst (λ (n : ℕ). KeepsThen g.B.Blocks.kept (AreZerosTo (owned_blocks (owner_in (in_table c.args.table.now)) c.args.id c.args.size n)) c.args.device.now c.loop-extent.device) same c.loop-extent.invariant.events;
 }
 
 pub returns-in_err-clear_extent : goal.returns-in_err-clear_extent
@@ -59,6 +68,9 @@ returns-in_err-clear_extent g c = record {
       let p = err_from_is_err_and c.from_residual.result c.from_residual.ensures.1 in
       rw (p.1, p.2) c.in_err-clear_extent.ensures.halt;
   clears =
+      let p = err_from_is_err_and c.from_residual.result c.from_residual.ensures.1 in
+      rw p.1 tt;
+  events =
       let p = err_from_is_err_and c.from_residual.result c.from_residual.ensures.1 in
       rw p.1 tt;
 }

@@ -2,6 +2,8 @@ use Rattle.std.proofs.lemmas.Result.{err_from_is_err_and, on_ok_weaker}
 use Rattle.std.proofs.Common.{◌++◌}
 use Rattle.paraid_base.specs.Pairs.{pairs_of}
 use Rattle.paraid_volume.proofs.DeviceLemmas.{KeepsMore-then, DeviceGoesOn-then}
+use Rattle.std.proofs.Common.{refl}
+use Rattle.paraid_volume.proofs.CallLemmas.{KeepsThen-then}
 use Rattle.paraid_volume.proofs.device.make.Goals as goal
 
 pub returns-in_err-clear_extents : goal.returns-in_err-clear_extents
@@ -12,6 +14,9 @@ returns-in_err-clear_extents g c = record {
       let p = err_from_is_err_and c.from_residual.result c.from_residual.ensures.1 in
       rw (p.1, p.2) c.in_err-clear_extents.ensures.halt;
   makes =
+      let p = err_from_is_err_and c.from_residual.result c.from_residual.ensures.1 in
+      rw p.1 tt;
+  events =
       let p = err_from_is_err_and c.from_residual.result c.from_residual.ensures.1 in
       rw p.1 tt;
 }
@@ -30,4 +35,7 @@ returns g c = record {
         zeros = cleared.zeros;
         laid = c.changes.ensures;
       }) c.write_table.ensures.adds;
+  events = on_ok_weaker c.write_table.result (KeepsThen-then g.B.Blocks.kept _ _ _ _ _ _
+      (λ x y clears write. record { zeros = x; last = y; parts = refl; clears = clears; writes = record { pairs = c.changes.result; number = write.0; laid = c.changes.ensures; is = write.1 } })
+      c.in_ok-clear_extents.ensures.events) c.write_table.ensures.event;
 }

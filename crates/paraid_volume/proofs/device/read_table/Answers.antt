@@ -4,6 +4,10 @@ use Rattle.paraid_base.specs.History.{after_all}
 use Rattle.paraid_volume.specs.TableBlocks.{in_table}
 use Rattle.paraid_volume.proofs.DeviceLemmas.{DeviceGoesOn-none, DeviceGoesOn-then, KeepsMore-none, KeepsMore-then}
 use Rattle.paraid_volume.proofs.Steps.{below_more}
+use Rattle.std.proofs.Common.{◌++◌, sym, subst}
+use Rattle.std.proofs.lemmas.List.{append-nil}
+use Rattle.paraid_volume.specs.TableCalls.{table_reads}
+use Rattle.paraid_volume.proofs.CallLemmas.{reads_halted, reads_more}
 use Rattle.paraid_volume.proofs.device.read_table.Goals as goal
 
 pub loop-at-init : goal.loop-at-init
@@ -13,6 +17,7 @@ loop-at-init g c = record {
   none = λ l. let no : ⊥ = omega (arith, l) in absurd no;
   keeps = λ from h stands tells. stands;
   read = λ h stands tells k l. let no : ⊥ = omega (arith, l) in absurd no;
+  reads = λ first events k. subst (g.B.Blocks.kept first c.args.device.now) (sym (append-nil events)) k;
 }
 
 pub read_block-requires-clause-size : goal.read_block-requires-clause-size
@@ -31,6 +36,8 @@ loop-at-preserved g c =
           below_more (λ (k : ℕ). in_table c.read_block.new.table k ≡ after_all h k) c.loop-at.at
           (λ k l. c.read_block.ensures.rest k (λ same. let no : ⊥ = omega (arith, l, same) in absurd no) ∙ before.read h stands was k l)
           (done.read h (before.keeps None h stands was) tells);
+      reads = reads_more g.B.Blocks.kept (in_table c.loop-at.table) (in_table c.read_block.new.table) c.loop-at.at c.args.device.now c.loop-at.device c.read_block.new.device
+          (λ k l. c.read_block.ensures.rest k (λ same. let no : ⊥ = omega (arith, l, same) in absurd no)) before.reads done.event;
     }
 
 pub returns : goal.returns
@@ -40,6 +47,12 @@ returns g c = record {
   halt = let past = c.loop-at-test.false in c.loop-at.invariant.none (omega (arith, past));
   keeps = c.loop-at.invariant.keeps;
   read = λ h stands tells k l. let past = c.loop-at-test.false in c.loop-at.invariant.read h stands tells k (omega (arith, past, l));
+  reads =
+      let past = c.loop-at-test.false in
+      let until = c.loop-at.auto.at-end in
+      let six : c.loop-at.at ≡ 6 = omega (arith, past, until) in
+      λ first events k. subst (λ (n : ℕ). g.B.Blocks.kept first c.loop-at.device (events ++ table_reads (in_table c.loop-at.table) n)) six (c.loop-at.invariant.reads first events k);
+  halted = tt;
 }
 
 pub returns-in_err-read_block : goal.returns-in_err-read_block
@@ -55,4 +68,10 @@ returns-in_err-read_block g c = record {
   read =
       let p = err_from_is_err_and c.from_residual.result c.from_residual.ensures.1 in
       rw p.1 tt;
+  reads =
+      let p = err_from_is_err_and c.from_residual.result c.from_residual.ensures.1 in
+      rw p.1 tt;
+  halted =
+      let p = err_from_is_err_and c.from_residual.result c.from_residual.ensures.1 in
+      rw (p.1, p.2) (reads_halted g.B.Blocks.kept (in_table c.loop-at.table) c.loop-at.at _ c.args.device.now c.loop-at.device c.read_block.new.device c.loop-at-test.true c.loop-at.invariant.reads c.in_err-read_block.ensures.halted);
 }

@@ -6,6 +6,7 @@ use Rattle.paraid_volume.proofs.LaidLemmas.{not_missing}
 use Rattle.paraid_volume.proofs.DeviceLemmas.{KeepsMore-one}
 use Rattle.std.proofs.Common.{refl}
 use Rattle.paraid_volume.proofs.DeviceLemmas.{holds_write}
+use Rattle.paraid_volume.proofs.CallLemmas.{KeepsThen-one}
 use Rattle.paraid_volume.proofs.device.write_table.Goals as goal
 
 pub unreachable-requires : goal.unreachable-requires
@@ -22,6 +23,7 @@ returns-in-Err-Halt g c = record {
   grown = KeepsMore-one _ _ _ _ _ _ _ c.write_many.ensures.events tt;
   halt = search rules;
   adds = tt;
+  event = tt;
 }
 
 pub returns-in-Ok : goal.returns-in-Ok
@@ -31,4 +33,5 @@ returns-in-Ok g c = record {
   halt = c.in-Ok.ensures.halt;
   adds = λ from h stands tells.
       holds_write g.B.Blocks.stands g.B.Blocks.kept from c.args.device.now c.write_many.new.self h c.args.pairs.now (pairs_of c.args.pairs.now) c.in-Ok.field-0 (λ s. (c.in-Ok.ensures.history h s tells).1) (λ first events k. c.in-Ok.ensures.events first events k) refl stands;
+  event = KeepsThen-one g.B.Blocks.kept _ _ _ _ _ (c.in-Ok.field-0, refl) (λ first events k. c.in-Ok.ensures.events first events k);
 }

@@ -10,6 +10,8 @@ use Rattle.paraid_volume.specs.Tables.{IsVolumeTable, extent_count, extent_size}
 use Rattle.paraid_volume.proofs.ExtentLemmas.{back, same_table}
 use Rattle.paraid_volume.proofs.StateLemmas.{lived_adopted}
 use Rattle.paraid_volume.proofs.DeviceLemmas.{DeviceGoesOn-none, KeepsMore-none, holds_stands}
+use Rattle.paraid_volume.specs.TableCalls.{table_reads}
+use Rattle.paraid_volume.proofs.CallLemmas.{KeepsThen-none}
 use Rattle.paraid_volume.proofs.volumes.Volumes.adopt.Goals as goal
 
 -- a halt is no want of one
@@ -43,6 +45,18 @@ returns-then-not-is_table g c = record {
   ok = tt;
   stands = tt;
   lived = tt;
+  reads = tt;
+  reads_refused = record {
+    made = table_reads (in_table c.read_table.new.table) 6;
+    all = record {
+      content = in_table c.read_table.new.table;
+      none = λ table.
+          let is : c.is_table.result ≡ true = c.is_table.ensures.1 (subst (λ (n : ℕ). IsVolumeTable n (in_table c.read_table.new.table)) (sym c.blocks-count.ensures) table) in
+          absurd (false≢true (sym c.if-not-is_table.true ∙ is));
+      are = refl;
+    };
+    grows = c.in_default.ensures.reads;
+  };
 }
 
 pub invariant_of-result : goal.invariant_of-result
@@ -81,6 +95,8 @@ returns g c = record {
       lived_adopted _ (g.B.Blocks.block_count c.args.blocks) h (read.keeps from h stands tells, same)
       (same_table (in_table c.read_table.new.table) (after_all h) same (g.B.Blocks.block_count c.args.blocks) large
       (subst (λ (n : ℕ). IsVolumeTable n (in_table c.read_table.new.table)) number (c.is_table.ensures.0 c.if-not-is_table.false)));
+  reads = c.in_default.ensures.reads;
+  reads_refused = tt;
 }
 
 pub returns-then-count-lt7 : goal.returns-then-count-lt7
@@ -95,6 +111,8 @@ returns-then-count-lt7 g c = record {
   ok = tt;
   stands = tt;
   lived = tt;
+  reads = tt;
+  reads_refused = KeepsThen-none g.B.Blocks.kept _ _ refl;
 }
 
 pub returns-in-Err : goal.returns-in-Err
@@ -109,6 +127,8 @@ returns-in-Err g c = record {
   ok = tt;
   stands = tt;
   lived = tt;
+  reads = tt;
+  reads_refused = c.in-Err.ensures.halted;
 }
 
 pub read_table-requires : goal.read_table-requires

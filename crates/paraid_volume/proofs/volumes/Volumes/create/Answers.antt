@@ -20,6 +20,7 @@ use Rattle.std.proofs.Common.{None}
 use Rattle.paraid_volume.specs.Lives.{create}
 use Rattle.paraid_volume.proofs.OneCallLemmas.{lived_create, lived_refused}
 use Rattle.paraid_volume.proofs.RefusalLemmas.{create_refused, free_is, least_unnamed, unused}
+use Rattle.paraid_volume.specs.TableCalls.{AreOfCreate, KeepsThen}
 use Rattle.paraid_volume.proofs.volumes.Volumes.create.Goals as goal
 
 not_below : (n k : ℕ) → 6 + n ≤ k → k < 6 → ⊥
@@ -155,6 +156,8 @@ returns-in_err-id g c =
       lived_refused = IfErr-weaker c.from_residual.result _ _
           (λ fault is none from start log lived tells. lived_refused _ _ _ start log lived (create (letter_of c.args.name.now) c.args.extents) fault (λ h stands. stands)
           (λ h s stands shows. create_refused _ (in_table v.table) (after_all h) s stands.1 shows v.large (halted_of v) none c.args.name.now c.args.extents fault is)) due;
+      next = rw p.1 tt;
+      events = rw p.1 tt;
     }
 
 pub returns-in-Err : goal.returns-in-Err
@@ -173,7 +176,21 @@ returns-in-Err g c = record {
   untouched = λ same. absurd (halts _ (same ∙ sym {a = None} c.in_ok-id.ensures.halt));
   lived = tt;
   lived_refused = λ none. absurd (halts _ none);
+  next = tt;
+  events = tt;
 }
+
+pub returns-in-Ok-clause-next : goal.returns-in-Ok-clause-next
+returns-in-Ok-clause-next g c =
+    subst (λ (n : ℕ). IsWith c.in_ok-id.id c.args.name.now c.args.extents n (in_table c.args.self.now.table) (in_table c.with-next.result)) c.args.self.now.counted c.with-next.ensures
+
+pub returns-in-Ok-clause-events : goal.returns-in-Ok-clause-events
+returns-in-Ok-clause-events g c =
+    let v = c.args.self.now in
+    let old = in_table v.table in
+    let next = in_table c.with-next.result in
+    subst (λ (x : ℕ). KeepsThen g.B.Blocks.kept (AreOfCreate c.in_ok-id.id x (extent_count (g.B.Blocks.block_count (device_of v))) old next) (device_of v) c.make.new.device) v.sized
+    (subst (λ (n : ℕ). KeepsThen g.B.Blocks.kept (AreOfCreate c.in_ok-id.id v.size n old next) (device_of v) c.make.new.device) v.counted c.in-Ok.ensures.events)
 
 pub returns-in-Ok-clause-halt : goal.returns-in-Ok-clause-halt
 returns-in-Ok-clause-halt g c = sym c.in_ok-id.ensures.halt

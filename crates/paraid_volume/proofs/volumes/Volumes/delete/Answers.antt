@@ -16,6 +16,7 @@ use Rattle.paraid_volume.specs.declared.fault.VolFault.TheVariants.{NoVolume}
 use Rattle.paraid_volume.specs.Lives.{delete}
 use Rattle.paraid_volume.proofs.OneCallLemmas.{lived_delete, lived_refused}
 use Rattle.paraid_volume.proofs.RefusalLemmas.{live_named, delete_refused}
+use Rattle.paraid_volume.proofs.CallLemmas.{KeepsThen-weaker}
 use Rattle.paraid_volume.proofs.volumes.Volumes.delete.Goals as goal
 
 -- a halt is no want of one
@@ -99,6 +100,8 @@ returns-then-not-is_live g c = record {
       lived_refused _ _ _ start log lived (delete c.args.id) (NoVolume c.args.id) (λ h stands. stands)
       (λ h s stands shows. delete_refused _ (in_table c.args.self.now.table) (after_all h) s stands.1 shows None refl c.args.id (NoVolume c.args.id)
       (refl, λ live. false≢true (sym c.if-not-is_live.true ∙ c.is_live.ensures.1 live)));
+  next = tt;
+  event = tt;
 }
 
 pub returns-in-Some : goal.returns-in-Some
@@ -114,6 +117,8 @@ returns-in-Some g c = record {
   untouched = λ same. refl;
   lived = tt;
   lived_refused = λ none. absurd (halts _ (sym c.in-Some.is ∙ none));
+  next = tt;
+  event = tt;
 }
 
 pub returns-in-Err : goal.returns-in-Err
@@ -129,7 +134,16 @@ returns-in-Err g c = record {
   untouched = λ same. absurd (halts _ (same ∙ c.in_default.is));
   lived = tt;
   lived_refused = λ none. absurd (halts _ none);
+  next = tt;
+  event = tt;
 }
+
+pub returns-in-Ok-clause-next : goal.returns-in-Ok-clause-next
+returns-in-Ok-clause-next g c = subst (λ (n : ℕ). IsWithout c.args.id n (in_table c.args.self.now.table) (in_table c.without-next.result)) c.args.self.now.counted c.without-next.ensures
+
+pub returns-in-Ok-clause-event : goal.returns-in-Ok-clause-event
+returns-in-Ok-clause-event g c =
+    KeepsThen-weaker g.B.Blocks.kept _ _ _ _ (λ x write. record { pairs = c.changes.result; number = write.0; laid = c.changes.ensures; is = write.1 }) c.in-Ok.ensures.event
 
 pub returns-in-Ok-clause-halt : goal.returns-in-Ok-clause-halt
 returns-in-Ok-clause-halt g c = c.in_default.is

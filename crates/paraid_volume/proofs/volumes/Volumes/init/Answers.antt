@@ -14,11 +14,23 @@ use Rattle.paraid_volume.proofs.LaidLemmas.{laid_table}
 use Rattle.paraid_volume.proofs.StateLemmas.{lived_begun}
 use Rattle.std.proofs.lemmas.Bool.{false≢true}
 use Rattle.paraid_volume.proofs.DeviceLemmas.{DeviceGoesOn-none, DeviceGoesOn-then, KeepsMore-none, KeepsMore-then, KeepsMore-weaker, read_either, write_either}
+use Rattle.paraid_volume.specs.declared.fault.VolFault.{VolFault}
+use Rattle.paraid_volume.specs.declared.fault.VolFault.TheVariants.{Already, Small}
+use Rattle.paraid_volume.specs.TableCalls.{table_reads}
+use Rattle.paraid_volume.proofs.CallLemmas.{KeepsThen-all, KeepsThen-then}
 use Rattle.paraid_volume.proofs.volumes.Volumes.init.Goals as goal
 
 -- a halt is no want of one
 halts : (h : Halt) → ◌≡◌ {A = Option Halt} (Some h) None → ⊥
 halts h e = cc
+
+-- a halt is no table that was found
+not_already : (h : Halt) → VolFault.Halt h ≡ Already → ⊥
+not_already h e = cc
+
+-- nor is a small device
+not_small : (n : ℕ) → Small n ≡ Already → ⊥
+not_small n e = cc
 
 -- no device has seven blocks and fewer
 few_not : (n : ℕ) → 7 ≤ n → n < 7 → ⊥
@@ -46,6 +58,17 @@ returns-then-is_table g c = record {
   ok = tt;
   stands = tt;
   lived = tt;
+  empty = tt;
+  events = tt;
+  found = λ already. record {
+    made = table_reads (in_table c.read_table.new.table) 6;
+    all = record {
+      content = in_table c.read_table.new.table;
+      table = subst (λ (n : ℕ). IsVolumeTable n (in_table c.read_table.new.table)) c.blocks-count.ensures (c.is_table.ensures.0 c.if-is_table.true);
+      are = refl;
+    };
+    grows = c.in_default.ensures.reads;
+  };
 }
 
 pub invariant_of-result : goal.invariant_of-result
@@ -102,6 +125,9 @@ returns-in-Err g c = record {
   ok = tt;
   stands = tt;
   lived = tt;
+  empty = tt;
+  events = tt;
+  found = λ already. absurd (not_already _ already);
 }
 
 pub returns-in-Err-write_table : goal.returns-in-Err-write_table
@@ -117,7 +143,31 @@ returns-in-Err-write_table g c = record {
   ok = tt;
   stands = tt;
   lived = tt;
+  empty = tt;
+  events = tt;
+  found = λ already. absurd (not_already _ already);
 }
+
+pub returns-clause-empty : goal.returns-clause-empty
+returns-clause-empty g c = c.empty-table.ensures.rest
+
+pub returns-clause-found : goal.returns-clause-found
+returns-clause-found g c = tt
+
+pub returns-clause-events : goal.returns-clause-events
+returns-clause-events g c =
+    let read = in_table c.read_table.new.table in
+    let made = c.in_default-write_table.ensures.event in
+    KeepsThen-then g.B.Blocks.kept _ _ _ _ _ _
+    (λ x y reads write. record { before = x; last = y; parts = refl; reads = reads; writes = λ old. record { pairs = c.whole.result; number = write.0; laid = c.whole.ensures old; is = write.1 } })
+    (KeepsThen-all g.B.Blocks.kept _ _ _ (table_reads read 6)
+    (record {
+      content = read;
+      none = λ table.
+          let is : c.is_table.result ≡ true = c.is_table.ensures.1 (subst (λ (n : ℕ). IsVolumeTable n read) (sym c.blocks-count.ensures) table) in
+          absurd (false≢true (sym c.if-is_table.false ∙ is));
+      are = refl;
+    }) c.in_default.ensures.reads) made
 
 pub returns-clause-grown : goal.returns-clause-grown
 returns-clause-grown g c = KeepsMore-then _ _ _ _ _ _ c.write_table.ensures.went.told (KeepsMore-weaker _ _ _ _ _ _ read_either c.read_table.ensures.grown) (KeepsMore-weaker _ _ _ _ _ _ write_either c.write_table.ensures.grown)
@@ -145,6 +195,9 @@ returns-then-count-lt7 g c = record {
   ok = tt;
   stands = tt;
   lived = tt;
+  empty = tt;
+  events = tt;
+  found = λ already. absurd (not_small _ already);
 }
 
 pub returns-clause-went : goal.returns-clause-went
