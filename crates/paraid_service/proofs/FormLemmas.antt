@@ -1,5 +1,8 @@
 -- The causes and the kinds of all events of a session of volumes, from those of its lines.
-use Rattle.std.proofs.Common.{ℕ, List, [], ◌∷◌, ◌++◌, refl, sym, subst}
+use Rattle.std.specs.Prelude.{Option}
+use Rattle.paraid_base.specs.declared.block.Block.{Block}
+use Rattle.paraid_base.specs.declared.fault.Halt.{Halt}
+use Rattle.std.proofs.Common.{zero, suc, ℕ, List, [], ◌∷◌, ◌++◌, refl, sym, subst}
 use Rattle.paraid_base.specs.declared.event.Answer.{Answer}
 use Rattle.paraid_base.specs.declared.event.Event.{Event}
 use Rattle.paraid_base.specs.declared.event.Event.TheVariants.{Read, Write, Flush, Tick, Up, Down, Fail, Replace, State as AskState, Energy as AskEnergy, Bad}
@@ -7,11 +10,13 @@ use Rattle.paraid_base.specs.BlockAnswers.{Answers}
 use Rattle.paraid_device.specs.Devices.{AreBlockEvents, HaveAnswerCauses, IsBlockEvent}
 use Rattle.paraid_serve.specs.Causes.{HasCause, Shown}
 use Rattle.paraid_volume.specs.Device.{AreAll, IsFlushEvent, IsReadEvent, IsReadOrWrite, IsWriteEvent}
+use Rattle.paraid_volume.specs.TableCalls.{AreOtherReads, AreZerosTo, IsTableWrite, table_reads}
 use Rattle.paraid_volume.proofs.DeviceLemmas.{read_either, write_either}
 use Rattle.paraid_volume_lines.specs.Grammar.{VolLine, bad, create, delete, flush, init, list, read, write}
 use Rattle.paraid_service.specs.VolumeLines.{IsEventOf}
-use Rattle.paraid_service.specs.VolumeForms.{FormsLines, HasVolumesForm, IsReplyToLine, Tabled, VolumesForm}
+use Rattle.paraid_service.specs.VolumeForms.{AreFirstReads, FormsLines, HasVolumesForm, IsReplyToLine, Tabled, VolumesForm}
 use Rattle.paraid_service.specs.VolumeForms.IsReplyToLine.{begun, created, deleted, flushed, is_already, is_found, is_small, listed, no_table, no_task, refused, told, wrote}
+use Rattle.paraid_service.specs.VolumeForms.AreFirstReads.{cut, gave, gave_none, too_small}
 use Rattle.paraid_service.specs.VolumeForms.FormsLines.{halting, later, none_yet, one_more}
 use Rattle.paraid_service.specs.VolumeForms.VolumesForm.{done, halted, source, too_long}
 use Rattle.paraid_service.specs.VolumeForms.HasVolumesForm.{answers, at_first_line, last_line, whole}
@@ -23,7 +28,7 @@ causes_joined old mid new [] b all more = subst (λ (x : Shown). HaveAnswerCause
 causes_joined old mid new (e ∷ a) b all more = (all.0, all.1, causes_joined all.0 mid new a b all.2 more)
 
 lines_caused : {old now : Shown} {lines : List (List ℕ)} {front reply : List ℕ} {made : Answers} {table : Tabled} → FormsLines old lines front reply made now table → HaveAnswerCauses old made now
-lines_caused (none_yet made now table tabled kinds causes) = causes
+lines_caused (none_yet made now table reads causes) = causes
 lines_caused {old} (one_more lines line front reply said asked made more mid now was table before none ask is causes going) = causes_joined old mid now made more (lines_caused before) causes
 lines_caused {old} (halting lines line front reply asked halt made more mid now was table before none ask not_bad not_list kinds causes is) = causes_joined old mid now made more (lines_caused before) causes
 lines_caused (later lines line front reply asked halt made now table before is ask) = lines_caused before
@@ -89,15 +94,37 @@ kinds_joined : (a b : Answers) → AreBlockEvents a → AreBlockEvents b → Are
 kinds_joined [] b all more = more
 kinds_joined (e ∷ a) b all more = (all.0, kinds_joined a b all.1 more)
 
+read_kinds : (content : ℕ → Block) (n : ℕ) → AreBlockEvents (table_reads content n)
+read_kinds content zero = tt
+read_kinds content (suc n) = kinds_joined (table_reads content n) _ (read_kinds content n) (tt, tt)
+
+other_kinds : {count : ℕ} (made : Answers) → AreOtherReads count made → AreBlockEvents made
+other_kinds made all = subst AreBlockEvents (sym all.are) (read_kinds all.content 6)
+
+zero_kinds : (blocks : List ℕ) (made : Answers) → AreZerosTo blocks made → AreBlockEvents made
+zero_kinds [] [] all = tt
+zero_kinds [] (e ∷ made) all = absurd all
+zero_kinds (block ∷ blocks) [] all = absurd all
+zero_kinds (block ∷ blocks) (e ∷ made) all = (subst IsBlockEvent (sym all.0) tt, zero_kinds blocks made all.2)
+
+write_kinds : {old new : ℕ → Block} (made : Answers) → IsTableWrite old new made → AreBlockEvents made
+write_kinds made all = subst AreBlockEvents (sym all.is) (tt, tt)
+
+first_kinds : {count : ℕ} {halt : Option Halt} {made : Answers} {table : Tabled} → AreFirstReads count halt made table → AreBlockEvents made
+first_kinds (too_small small) = tt
+first_kinds (gave table tabled) = read_kinds table 6
+first_kinds (gave_none made large all) = other_kinds made all
+first_kinds (cut halt made large all) = subst AreBlockEvents (sym all.are) (kinds_joined (table_reads all.content all.number) _ (read_kinds all.content all.number) (tt, tt))
+
 reply_kinds : {count : ℕ} {was table : Tabled} {asked : VolLine} {said : List ℕ} {made : Answers} → IsReplyToLine count was asked said made table → AreBlockEvents made
 reply_kinds (no_task was) = tt
 reply_kinds (no_table line not_init not_bad) = tt
 reply_kinds (is_small small) = tt
-reply_kinds (begun next made tabled all) = kinds_of IsReadOrWrite either_kind made all
-reply_kinds (is_found made large all) = kinds_of IsReadOrWrite either_kind made all
+reply_kinds (begun next made tabled empty all) = subst AreBlockEvents (sym all.parts) (kinds_joined all.before all.last (other_kinds all.before all.reads) (write_kinds all.last (all.writes next)))
+reply_kinds (is_found made large all) = subst AreBlockEvents (sym all.are) (read_kinds all.content 6)
 reply_kinds (is_already table) = tt
-reply_kinds (created table next name extents id made none some least room tabled all) = kinds_of IsWriteEvent (line_kind (delete name)) made all
-reply_kinds (deleted table next name id made is tabled all) = kinds_of IsWriteEvent (line_kind (delete name)) made all
+reply_kinds (created table next name extents id made none some least room tabled text with named all) = subst AreBlockEvents (sym all.parts) (kinds_joined all.zeros all.last (zero_kinds _ all.zeros all.clears) (write_kinds all.last all.writes))
+reply_kinds (deleted table next name id made is tabled without all) = write_kinds made all
 reply_kinds (told table name id block place bytes is lies) = (tt, tt)
 reply_kinds (wrote table name id block place number bytes is lies) = (tt, tt)
 reply_kinds (flushed table number) = (tt, tt)
@@ -105,7 +132,7 @@ reply_kinds (listed table text each) = tt
 reply_kinds (refused table line fault is) = tt
 
 lines_kinds : {old now : Shown} {lines : List (List ℕ)} {front reply : List ℕ} {made : Answers} {table : Tabled} → FormsLines old lines front reply made now table → AreBlockEvents made
-lines_kinds (none_yet made now table tabled kinds causes) = kinds_of IsReadEvent (λ event is. either_kind event (read_either event is)) made kinds
+lines_kinds (none_yet made now table reads causes) = first_kinds reads
 lines_kinds (one_more lines line front reply said asked made more mid now was table before none ask is causes going) = kinds_joined made more (lines_kinds before) (reply_kinds is)
 lines_kinds (halting lines line front reply asked halt made more mid now was table before none ask not_bad not_list kinds causes is) = kinds_joined made more (lines_kinds before) (kinds_of (IsEventOf asked) (line_kind asked) more kinds)
 lines_kinds (later lines line front reply asked halt made now table before is ask) = lines_kinds before

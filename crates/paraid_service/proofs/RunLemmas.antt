@@ -17,7 +17,7 @@ use Rattle.paraid_service.specs.declared.shelf.Shelf.TheVariants.{Bare, Held as 
 use Rattle.paraid_service.specs.LineRuns.{KeepsLines, RunsLines, RunsOn, SaysLines}
 use Rattle.paraid_service.specs.Shelves.{OnFirst, OnShelf, OpensShelf, ServesShelf, StepsShelf, device_in, table_in}
 use Rattle.paraid_service.specs.LineSteps.{KeepsReply}
-use Rattle.paraid_service.specs.VolumeForms.{AreTabled, IsReplyToLine}
+use Rattle.paraid_service.specs.VolumeForms.{AreFirstReads, IsReplyToLine}
 use Rattle.paraid_volume.specs.Values.{volume_table}
 use Rattle.paraid_service.specs.VolumeLines.{Held, IsEventOf, LinesStep, halted_text}
 use Rattle.paraid_service.specs.LineRuns.KeepsLines.{halting as form_halting, later as form_later, none_yet as form_none, one_more as form_more}
@@ -187,9 +187,5 @@ module _ {B : Type 0} (g : Ghosts B) where
         broken = λ other e. record { before = []; rest = kept.more; all = kept.kept; life = waits refl refl; came = kept.all };
       }
 
-  tabled_in : (start : B) (shelf : Shelf B g) → g.block_count (device_in shelf) ≡ g.block_count start → AreTabled (g.block_count start) (table_in shelf)
-  tabled_in start (HeldShelf volumes) size = subst (λ (n : ℕ). AreTabled n (Some (volume_table volumes))) size (volumes.large, volumes.valid)
-  tabled_in start (Bare blocks) size = tt
-
   pub runs_first : (start : B) (shelf : Shelf B g) (halt : Option Halt) → OpensShelf g start shelf halt → g.kept start start [] → RunsLines g start [] [] [] shelf halt
-  runs_first start shelf halt o begins = record { going = o.going; went = o.went; keeps = keeps_more g.kept g.tells IsReadEvent start (device_in shelf) o.keeps; form = λ none. form_none shelf (tabled_in start shelf o.went.size) o.keeps; halted = o.halted; says = first_says start shelf halt o begins }
+  runs_first start shelf halt o begins = record { going = o.going; went = o.went; keeps = keeps_more g.kept g.tells IsReadEvent start (device_in shelf) o.keeps; form = λ none. form_none shelf (subst (λ (x : Option Halt). KeepsReply g.kept (λ made. AreFirstReads (g.block_count start) x made (table_in shelf)) start (device_in shelf)) (sym (o.halted none)) o.reads); halted = o.halted; says = first_says start shelf halt o begins }

@@ -32,7 +32,11 @@ use Rattle.paraid_service.specs.Shelves.{OnHeld, OnShelf, OpensShelf, ServesShel
 use Rattle.paraid_service.specs.VolumeLines.{Held, IsEventOf, LineStep}
 use Rattle.paraid_service.specs.VolumeLines.LineStep.{begins, calls}
 use Rattle.paraid_service.specs.VolumeLines.IsCallOf.{flushes}
-use Rattle.paraid_service.specs.VolumeForms.{AreTabled, IsReplyToLine}
+use Rattle.paraid_base.specs.Xor.{zero_block}
+use Rattle.paraid_service.specs.LineSteps.{KeepsReply}
+use Rattle.paraid_volume.specs.TableCalls.{AreOfInit, AreRefusedReads, AreTableReads, KeepsThen, table_reads}
+use Rattle.paraid_service.specs.VolumeForms.{AreFirstReads, AreTabled, IsReplyToLine}
+use Rattle.paraid_service.specs.VolumeForms.AreFirstReads.{cut, gave, gave_none, too_small}
 use Rattle.paraid_service.specs.VolumeForms.IsReplyToLine.{begun as begun_reply, is_found}
 use Rattle.paraid_service.specs.VolumeSessions.{AreFlushesKept, life_start}
 use Rattle.paraid_service.proofs.FlushLemmas.{flush_kept, flush_or_not, flushes_append, flushes_later, no_flush}
@@ -161,19 +165,18 @@ module _ {B : Type 0} (g : Ghosts B) where
       }
 
   pub on_begun : (blocks : B) (volumes : Volumes B g) (text : List ℕ) → 7 ≤ g.block_count blocks → halted_of volumes ≡ None → DeviceGoesOn g.block_count g.halts g.halted g.tells blocks (device_of volumes) → KeepsMore g.kept g.tells IsReadOrWrite blocks (device_of volumes)
+      → ((k : ℕ) → 1 ≤ k → volume_table volumes k ≡ zero_block) → KeepsThen g.kept (AreOfInit (g.block_count blocks) (volume_table volumes)) blocks (device_of volumes)
       → text ≡ begun_text (extent_count (g.block_count blocks)) (extent_size (g.block_count blocks)) ++ codes "\n"
       → ((from : SinceHistory B) (h : History) → DeviceHolds g.stands g.kept from blocks h → IsTrue (g.tells (device_of volumes)) → BeginsLife (VolumesStandFor (DeviceHolds g.stands g.kept from) volumes) (g.block_count blocks) (length h + 1))
       → ServesShelf g (Bare blocks) (HeldShelf volumes) init text None
-  on_begun blocks volumes text large going went keeps printed lived = record {
+  on_begun blocks volumes text large going went keeps empty made printed lived = record {
     going = λ none. going;
     went = went;
     keeps = keeps;
     said = begun_text (extent_count (g.block_count blocks)) (extent_size (g.block_count blocks));
     printed = printed;
     reply = λ none. record {
-      grows = λ first events k.
-          let m = keeps.grows first events k in
-          (m.more, m.kept, begun_reply (volume_table volumes) m.more (subst (λ (n : ℕ). AreTabled n (Some (volume_table volumes))) went.size (volumes.large, volumes.valid)) m.all);
+      grows = λ first events k. (made.made, made.grows first events k, begun_reply (volume_table volumes) made.made (subst (λ (n : ℕ). AreTabled n (Some (volume_table volumes))) went.size (volumes.large, volumes.valid)) empty made.all);
     };
     halted = λ none. volumes.halted ∙ going;
     step = λ none first h was s log on tells. begin_steps blocks volumes large lived first h was s log on tells;
@@ -205,18 +208,18 @@ module _ {B : Type 0} (g : Ghosts B) where
   init_halts count Names halted table large f = absurd f
   init_halts count (Space free) halted table large f = absurd f
 
-  init_reply : (count : ℕ) (fault : VolFault) (halted : Option Halt) (table : Type 0) → 7 ≤ count → vol_halt_in {A = Unit {0}} (Err fault) ≡ None → IsInitFault count halted table fault → (made : Answers) → AreAll IsReadOrWrite made
-      → IsReplyToLine count None init (fault_text fault) made None
-  init_reply count (VolHalt halt) halted table large none is made all = absurd (let no : Some halt ≡ None = none in cc)
-  init_reply count (Small n) halted table large none is made all = let small = is.1 in let no : ⊥ = omega (arith, small, large) in absurd no
-  init_reply count NotVolumes halted table large none is made all = absurd is
-  init_reply count Already halted table large none is made all = is_found made large all
-  init_reply count (NoVolume id) halted table large none is made all = absurd is
-  init_reply count (NoBlock block) halted table large none is made all = absurd is
-  init_reply count (Exists id) halted table large none is made all = absurd is
-  init_reply count NoExtents halted table large none is made all = absurd is
-  init_reply count Names halted table large none is made all = absurd is
-  init_reply count (Space free) halted table large none is made all = absurd is
+  init_reply : (blocks now : B) (fault : VolFault) (halted : Option Halt) (table : Type 0) → 7 ≤ g.block_count blocks → vol_halt_in {A = Unit {0}} (Err fault) ≡ None → IsInitFault (g.block_count blocks) halted table fault
+      → (fault ≡ Already → KeepsThen g.kept (AreTableReads (g.block_count blocks)) blocks now) → KeepsReply g.kept (λ made. IsReplyToLine (g.block_count blocks) None init (fault_text fault) made None) blocks now
+  init_reply blocks now (VolHalt halt) halted table large none is found = absurd (let no : Some halt ≡ None = none in cc)
+  init_reply blocks now (Small n) halted table large none is found = let small = is.1 in let no : ⊥ = omega (arith, small, large) in absurd no
+  init_reply blocks now NotVolumes halted table large none is found = absurd is
+  init_reply blocks now Already halted table large none is found = let made = found refl in record { grows = λ first events k. (made.made, made.grows first events k, is_found made.made large made.all) }
+  init_reply blocks now (NoVolume id) halted table large none is found = absurd is
+  init_reply blocks now (NoBlock block) halted table large none is found = absurd is
+  init_reply blocks now (Exists id) halted table large none is found = absurd is
+  init_reply blocks now NoExtents halted table large none is found = absurd is
+  init_reply blocks now Names halted table large none is found = absurd is
+  init_reply blocks now (Space free) halted table large none is found = absurd is
 
   refused_steps : (blocks now : B) (fault : VolFault) → 7 ≤ g.block_count blocks
       → IsInitFault (g.block_count blocks) (g.halted now) ((h : History) → g.stands blocks h → IsTrue (g.tells now) → IsVolumeTable (g.block_count blocks) (after_all h)) fault
@@ -226,20 +229,16 @@ module _ {B : Type 0} (g : Ghosts B) where
   refused_steps blocks now fault large f none first h was None log on tells = absurd (on.no_table large (no_refusal blocks fault (g.halted now) _ large none f h on.holds.0 tells))
 
   pub on_refused : (blocks now : B) (fault : VolFault) (text : List ℕ) → 7 ≤ g.block_count blocks → DeviceGoesOn g.block_count g.halts g.halted g.tells blocks now → KeepsMore g.kept g.tells IsReadOrWrite blocks now
-      → text ≡ fault_text fault ++ codes "\n"
+      → (fault ≡ Already → KeepsThen g.kept (AreTableReads (g.block_count blocks)) blocks now) → text ≡ fault_text fault ++ codes "\n"
       → IsInitFault (g.block_count blocks) (g.halted now) ((h : History) → g.stands blocks h → IsTrue (g.tells now) → IsVolumeTable (g.block_count blocks) (after_all h)) fault
       → ServesShelf g (Bare blocks) (Bare now) init text (vol_halt_in {A = Unit {0}} (Err fault))
-  on_refused blocks now fault text large went keeps printed f = record {
+  on_refused blocks now fault text large went keeps found printed f = record {
     going = λ none. tt;
     went = went;
     keeps = keeps;
     said = fault_text fault;
     printed = printed;
-    reply = λ none. record {
-      grows = λ first events k.
-          let m = keeps.grows first events k in
-          (m.more, m.kept, init_reply (g.block_count blocks) fault (g.halted now) _ large none f m.more m.all);
-    };
+    reply = λ none. init_reply blocks now fault (g.halted now) _ large none f found;
     halted = λ going. init_halts (g.block_count blocks) fault (g.halted now) _ large f;
     step = refused_steps blocks now fault large f;
     halts = λ own e. (fault_halts (Unit {0}) fault own e, (λ no. let x : init ≡ bad = no in cc), (λ no. let x : init ≡ list = no in cc));
@@ -252,6 +251,7 @@ module _ {B : Type 0} (g : Ghosts B) where
     going = λ none. tt;
     went = DeviceGoesOn-none g.block_count g.halts g.halted g.tells blocks;
     keeps = KeepsMore-none g.kept g.tells IsReadEvent blocks;
+    reads = record { grows = λ first events k. ([], subst (g.kept first blocks) (sym (append-nil events)) k, too_small small) };
     halted = λ going. going;
     first = λ none first h holds tells. (None, record { none = refl; bare = refl; holds = holds; no_table = λ large. let no : ⊥ = omega (arith, small, large) in absurd no });
   }
@@ -266,12 +266,16 @@ module _ {B : Type 0} (g : Ghosts B) where
   life_starts count start w s log (next h more t u before call answer life step during shows number) none = absurd (let long = length_push before (call, answer) in let no : ⊥ = omega (arith, long, none) in no)
 
   pub open_held : (blocks : B) (volumes : Volumes B g) → halted_of volumes ≡ None → DeviceGoesOn g.block_count g.halts g.halted g.tells blocks (device_of volumes) → KeepsMore g.kept g.tells IsReadEvent blocks (device_of volumes)
+      → ((first : B) (events : Answers) → g.kept first blocks events → g.kept first (device_of volumes) (events ++ table_reads (volume_table volumes) 6))
       → ((from : SinceHistory B) (h : History) → DeviceHolds g.stands g.kept from blocks h → IsTrue (g.tells (device_of volumes)) → HasLived (VolumesStandFor (DeviceHolds g.stands g.kept from) volumes) (g.block_count blocks) (length h) [])
       → OpensShelf g blocks (HeldShelf volumes) None
-  open_held blocks volumes going went keeps lived = record {
+  open_held blocks volumes going went keeps reads lived = record {
     going = λ none. going;
     went = went;
     keeps = keeps;
+    reads = record {
+      grows = λ first events k. (table_reads (volume_table volumes) 6, reads first events k, gave (volume_table volumes) (subst (λ (n : ℕ). AreTabled n (Some (volume_table volumes))) went.size (volumes.large, volumes.valid)));
+    };
     halted = λ none. volumes.halted ∙ going;
     first = λ none first h holds tells.
         let l = lived (Some (first, h, [])) h holds tells in
@@ -308,14 +312,27 @@ module _ {B : Type 0} (g : Ghosts B) where
   adopt_halts count Names halted without large f = absurd f
   adopt_halts count (Space free) halted without large f = absurd f
 
+  first_reads : (count : ℕ) (fault : VolFault) (halted : Option Halt) (without : Type 0) → 7 ≤ count → IsAdoptFault count halted without fault → (made : Answers) → AreRefusedReads count fault made → AreFirstReads count (vol_halt_in {A = Unit {0}} (Err fault)) made None
+  first_reads count (VolHalt halt) halted without large f made all = cut halt made large all
+  first_reads count (Small n) halted without large f made all = let small = f.1 in let no : ⊥ = omega (arith, small, large) in absurd no
+  first_reads count NotVolumes halted without large f made all = gave_none made large all
+  first_reads count Already halted without large f made all = absurd f
+  first_reads count (NoVolume id) halted without large f made all = absurd f
+  first_reads count (NoBlock block) halted without large f made all = absurd f
+  first_reads count (Exists id) halted without large f made all = absurd f
+  first_reads count NoExtents halted without large f made all = absurd f
+  first_reads count Names halted without large f made all = absurd f
+  first_reads count (Space free) halted without large f made all = absurd f
+
   pub open_bare : (blocks now : B) (fault : VolFault) → 7 ≤ g.block_count blocks → DeviceGoesOn g.block_count g.halts g.halted g.tells blocks now → KeepsMore g.kept g.tells IsReadEvent blocks now
-      → IsAdoptFault (g.block_count blocks) (g.halted now) ((h : History) → g.stands blocks h → IsTrue (g.tells now) → IsVolumeTable (g.block_count blocks) (after_all h) → ⊥) fault
+      → KeepsThen g.kept (AreRefusedReads (g.block_count blocks) fault) blocks now → IsAdoptFault (g.block_count blocks) (g.halted now) ((h : History) → g.stands blocks h → IsTrue (g.tells now) → IsVolumeTable (g.block_count blocks) (after_all h) → ⊥) fault
       → (g.halted now ≡ None → (from : SinceHistory B) (h : History) → DeviceHolds g.stands g.kept from blocks h → IsTrue (g.tells now) → DeviceHolds g.stands g.kept from now h)
       → OpensShelf g blocks (Bare now) (vol_halt_in {A = Unit {0}} (Err fault))
-  open_bare blocks now fault large went keeps f stands = record {
+  open_bare blocks now fault large went keeps reads f stands = record {
     going = λ none. tt;
     went = went;
     keeps = keeps;
+    reads = record { grows = λ first events k. (reads.made, reads.grows first events k, first_reads (g.block_count blocks) fault (g.halted now) _ large f reads.made reads.all) };
     halted = λ going. adopt_halts (g.block_count blocks) fault (g.halted now) _ large f;
     first = λ none first h holds tells.
         let found = found_none blocks fault (g.halted now) _ large none f in

@@ -52,7 +52,7 @@ use Rattle.paraid_service.specs.Shelves.{device_in, table_in}
 use Rattle.paraid_volume_lines.specs.Grammar.{VolLine}
 use Rattle.paraid_service.specs.VolumeLines.{Held}
 use Rattle.paraid_service.specs.VolumeSessions.{AnswersFromPoint, AreOfHalt, AnswersLines, FlushesLast, FollowsForVolumes, HasEvent, IsLifeOf, LeavesHeld, VolumesHeadline, VolumesRun, VolumesText, WritesVolumes, life_start}
-use Rattle.paraid_service.specs.VolumeForms.{AreTabled, FormsLines, HasVolumesForm, IsReplyToLine, VolumesForm}
+use Rattle.paraid_service.specs.VolumeForms.{AreFirstReads, FormsLines, HasVolumesForm, IsReplyToLine, VolumesForm}
 use Rattle.paraid_service.specs.VolumeForms.FormsLines.{halting as forms_halting, later as forms_later, none_yet as forms_none, one_more as forms_more}
 use Rattle.paraid_service.specs.VolumeForms.VolumesForm.{done as form_done, halted as form_halted, source as form_source, too_long as form_too_long}
 use Rattle.paraid_service.specs.VolumeForms.HasVolumesForm.{answers as form_answers, at_first_line as form_first, last_line as form_last_line, whole as form_whole}
@@ -213,9 +213,11 @@ module _ {A : Type 0} (g : Ghosts A) where
     -- the answers to lines, by what is seen of the array
     lines_form : (first : Device A g) {shelf : Shelf (Device A g) device_ghosts} {lines : List (List ℕ)} {front reply : List ℕ} → KeepsLines device_ghosts first lines front reply shelf
         → (made : Answers) × FormsLines (seen_of first) lines front reply made (seen_of (device_in shelf)) (table_in shelf)
-    lines_form first (keeps_none shelf tabled keeps) =
-        let m = keeps.grows first [] (answered_none g (array_of first)) in
-        (m.more, forms_none m.more (seen_of (device_in shelf)) (table_in shelf) (subst (λ (z : Setup). AreTabled (block_count z) (table_in shelf)) (sym (shows (array_of first)).setup) tabled) m.all m.kept.causes)
+    lines_form first (keeps_none shelf reads) =
+        let m = reads.grows first [] (answered_none g (array_of first)) in
+        let here = subst (λ (z : Setup). AreFirstReads (block_count z) (halt_of_device (device_in shelf)) m.0 (table_in shelf)) (sym (shows (array_of first)).setup) m.2 in
+        let is = subst (λ (x : Option Halt). AreFirstReads (block_count (seen_of first).setup) x m.0 (table_in shelf)) (sym (seen_halt (device_in shelf) (halt_of_device (device_in shelf)) refl)) here in
+        (m.0, forms_none m.0 (seen_of (device_in shelf)) (table_in shelf) is m.1.causes)
     lines_form first (keeps_more lines line front reply said asked old new before was ask replies going) =
         let b = lines_form first before in
         let m = replies.grows (device_in old) [] (answered_none g (array_of (device_in old))) in

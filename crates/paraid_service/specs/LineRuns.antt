@@ -5,14 +5,14 @@ use Rattle.paraid_base.specs.BlockAnswers.{Answers}
 use Rattle.paraid_base.specs.History.{History, after_all}
 use Rattle.paraid_blocks.specs.declared.blocks.Blocks.{Ghosts}
 use Rattle.paraid_trace.specs.Replies.{halt_text}
-use Rattle.paraid_volume.specs.Device.{DeviceGoesOn, IsReadEvent, KeepsMore}
+use Rattle.paraid_volume.specs.Device.{DeviceGoesOn, KeepsMore}
 use Rattle.paraid_volume.specs.Lives.{VolLog}
 use Rattle.paraid_volume_lines.specs.Grammar.{AsksVolumes, VolLine, bad, list}
 use Rattle.paraid_service.specs.declared.shelf.Shelf.{Shelf}
 use Rattle.paraid_nbd.specs.Export.{KeepsOn}
 use Rattle.paraid_service.specs.LineSteps.{KeepsReply}
 use Rattle.paraid_service.specs.Shelves.{IsGoing, OnShelf, device_in, table_in}
-use Rattle.paraid_service.specs.VolumeForms.{AreTabled, IsReplyToLine}
+use Rattle.paraid_service.specs.VolumeForms.{AreFirstReads, IsReplyToLine}
 use Rattle.paraid_service.specs.VolumeLines.{Held, IsEventOf, LinesStep, halted_text}
 use Rattle.paraid_service.specs.VolumeSessions.{AreOfHalt, BeginsWith, IsLifeOf}
 
@@ -39,7 +39,7 @@ pub record SaysLines {B : Type 0} (g : Ghosts B) (start : B) (h : History) (line
 -- Lines have answers of such a form, each by what the one before has left: by the events that the device kept for it and by the table
 -- of the volumes, and by its halt as soon as it has one.
 pub data KeepsLines {B : Type 0} (g : Ghosts B) (start : B) : List (List ℕ) → List ℕ → List ℕ → Shelf B g → Type 0 where
-  none_yet : (shelf : Shelf B g) → AreTabled (g.block_count start) (table_in shelf) → KeepsMore g.kept g.tells IsReadEvent start (device_in shelf) → KeepsLines g start [] [] [] shelf
+  none_yet : (shelf : Shelf B g) → KeepsReply g.kept (λ made. AreFirstReads (g.block_count start) (g.halted (device_in shelf)) made (table_in shelf)) start (device_in shelf) → KeepsLines g start [] [] [] shelf
   one_more : (lines : List (List ℕ)) (line front reply said : List ℕ) (asked : VolLine) (old new : Shelf B g) → KeepsLines g start lines front reply old → g.halted (device_in old) ≡ None → AsksVolumes line asked
       → KeepsReply g.kept (λ made. IsReplyToLine (g.block_count start) (table_in old) asked said made (table_in new)) (device_in old) (device_in new) → g.halted (device_in new) ≡ None
       → KeepsLines g start (lines ++ line ∷ []) (front ++ reply) (said ++ codes "\n") new

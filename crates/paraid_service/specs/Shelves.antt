@@ -18,7 +18,7 @@ use Rattle.paraid_service.specs.declared.shelf.Shelf.{Shelf}
 use Rattle.paraid_service.specs.declared.shelf.Shelf.TheVariants.{Bare, Held as HeldShelf}
 use Rattle.paraid_service.specs.declared.shelf.Shelved.{Shelved}
 use Rattle.paraid_service.specs.LineSteps.{KeepsReply}
-use Rattle.paraid_service.specs.VolumeForms.{IsReplyToLine, Tabled}
+use Rattle.paraid_service.specs.VolumeForms.{AreFirstReads, IsReplyToLine, Tabled}
 use Rattle.paraid_service.specs.VolumeLines.{Held, IsEventOf, LineStep}
 use Rattle.paraid_service.specs.VolumeSessions.{AreFlushesKept, life_start}
 
@@ -98,5 +98,6 @@ pub record OpensShelf {B : Type 0} (g : Ghosts B) (blocks : B) (new : Shelf B g)
   pub going : halt ≡ None → IsGoing new
   pub went : DeviceGoesOn g.block_count g.halts g.halted g.tells blocks (device_in new)
   pub keeps : KeepsMore g.kept g.tells IsReadEvent blocks (device_in new)
+  pub reads : KeepsReply g.kept (λ made. AreFirstReads (g.block_count blocks) halt made (table_in new)) blocks (device_in new)
   pub halted : g.halted blocks ≡ None → g.halted (device_in new) ≡ halt
   pub first : halt ≡ None → (first : B) (h : History) → DeviceHolds g.stands g.kept (Some (first, h, [])) blocks h → IsTrue (g.tells (device_in new)) → (s : Held) × OnFirst g first (g.block_count blocks) h new s

@@ -6,6 +6,7 @@ use Rattle.paraid_base.specs.declared.event.Event.TheVariants.{Read, Write, Flus
 use Rattle.paraid_base.specs.declared.fault.Halt.{Halt}
 use Rattle.paraid_base.specs.BlockAnswers.{Answers}
 use Rattle.paraid_base.specs.Pairs.{single_pair}
+use Rattle.paraid_base.specs.Xor.{zero_block}
 use Rattle.paraid_device.specs.Devices.{HaveAnswerCauses}
 use Rattle.paraid_io.specs.Lines.{lines_of, whole_lines}
 use Rattle.paraid_machine.specs.Machine.{block_count}
@@ -13,8 +14,11 @@ use Rattle.paraid_serve.specs.Causes.{HasCause, Shown}
 use Rattle.paraid_serve.specs.Ending.{end_line, halt_line, status_of_halt}
 use Rattle.paraid_serve.specs.Output.{first_line}
 use Rattle.paraid_trace.specs.Replies.{halt_text}
-use Rattle.paraid_volume.specs.Device.{AreAll, IsReadEvent, IsReadOrWrite, IsWriteEvent}
+use Rattle.paraid_volume.specs.declared.name.Name.{Name}
+use Rattle.paraid_volume.specs.Device.{AreAll}
 use Rattle.paraid_volume.specs.Faults.{IsLeastFree}
+use Rattle.paraid_volume.specs.Laid.{IsWith, IsWithout}
+use Rattle.paraid_volume.specs.TableCalls.{AreHaltedReads, AreOfCreate, AreOfInit, AreOtherReads, AreTableReads, IsTableWrite, table_reads}
 use Rattle.paraid_volume.specs.States.{IsPlace, ShowsVolumes, VolumeState}
 use Rattle.paraid_volume.specs.Tables.{IsLiveId, IsSameTable, IsVolumeTable, extent_count, extent_size, extents_owned, name_in, owner_in}
 use Rattle.paraid_volume.specs.declared.fault.VolFault.{VolFault}
@@ -56,18 +60,27 @@ pub data IsLineRefused (count : ℕ) (table : ℕ → Block) : VolLine → VolFa
   past_read : (name : List ℕ) (id block : ℕ) → IsIdOf table name id → extent_size count * extents_of count table id ≤ block → IsLineRefused count table (read name block) (NoBlock block)
   past_write : (name : List ℕ) (id block : ℕ) (bytes : Block) → IsIdOf table name id → extent_size count * extents_of count table id ≤ block → IsLineRefused count table (write name block bytes) (NoBlock block)
 
+-- The reads before the first line, with the halt that came in them and the table that they gave: none of a device that is too small, and
+-- else those of its first six blocks, one after the other, up to a halt.
+pub data AreFirstReads (count : ℕ) : Option Halt → Answers → Tabled → Type 0 where
+  too_small : count < 7 → AreFirstReads count None [] None
+  gave : (table : ℕ → Block) → AreTabled count (Some table) → AreFirstReads count None (table_reads table 6) (Some table)
+  gave_none : (made : Answers) → 7 ≤ count → AreOtherReads count made → AreFirstReads count None made None
+  cut : (halt : Halt) (made : Answers) → 7 ≤ count → AreHaltedReads halt made → AreFirstReads count (Some halt) made None
+
 -- A line is answered so, by the table before it and by exactly these events of the array, if no halt comes of it; and the table after it.
 pub data IsReplyToLine (count : ℕ) : Tabled → VolLine → List ℕ → Answers → Tabled → Type 0 where
   no_task : (was : Tabled) → IsReplyToLine count was bad (codes "bad") [] was
   no_table : (line : VolLine) → (line ≡ init → ⊥) → (line ≡ bad → ⊥) → IsReplyToLine count None line (codes "novolumes") [] None
   is_small : count < 7 → IsReplyToLine count None init (codes "small") [] None
-  begun : (next : ℕ → Block) (made : Answers) → AreTabled count (Some next) → AreAll IsReadOrWrite made → IsReplyToLine count None init (begun_text (extent_count count) (extent_size count)) made (Some next)
-  is_found : (made : Answers) → 7 ≤ count → AreAll IsReadOrWrite made → IsReplyToLine count None init (codes "already") made None
+  begun : (next : ℕ → Block) (made : Answers) → AreTabled count (Some next) → ((k : ℕ) → 1 ≤ k → next k ≡ zero_block) → AreOfInit count next made → IsReplyToLine count None init (begun_text (extent_count count) (extent_size count)) made (Some next)
+  is_found : (made : Answers) → 7 ≤ count → AreTableReads count made → IsReplyToLine count None init (codes "already") made None
   is_already : (table : ℕ → Block) → IsReplyToLine count (Some table) init (codes "already") [] (Some table)
   created : (table next : ℕ → Block) (name : List ℕ) (extents id : ℕ) (made : Answers) → IsNoName table name → 0 < extents → IsLeastFree table id → extents ≤ extents_of count table 0
-      → AreTabled count (Some next) → AreAll IsWriteEvent made → IsReplyToLine count (Some table) (create name extents) (created_text name (Ok id)) made (Some next)
+      → AreTabled count (Some next) → (text : Name) → IsWith id text extents (extent_count count) table next → IsIdOf next name id → AreOfCreate id (extent_size count) (extent_count count) table next made
+      → IsReplyToLine count (Some table) (create name extents) (created_text name (Ok id)) made (Some next)
   deleted : (table next : ℕ → Block) (name : List ℕ) (id : ℕ) (made : Answers) → IsIdOf table name id
-      → AreTabled count (Some next) → AreAll IsWriteEvent made → IsReplyToLine count (Some table) (delete name) (deleted_text name true) made (Some next)
+      → AreTabled count (Some next) → IsWithout id (extent_count count) table next → IsTableWrite table next made → IsReplyToLine count (Some table) (delete name) (deleted_text name true) made (Some next)
   told : (table : ℕ → Block) (name : List ℕ) (id block place : ℕ) (bytes : Block) → IsIdOf table name id → IsPlace count table id block place
       → IsReplyToLine count (Some table) (read name block) (read_text name block (Ok tt) bytes) ((Read place, Value place bytes) ∷ []) (Some table)
   wrote : (table : ℕ → Block) (name : List ℕ) (id block place number : ℕ) (bytes : Block) → IsIdOf table name id → IsPlace count table id block place
@@ -79,10 +92,10 @@ pub data IsReplyToLine (count : ℕ) : Tabled → VolLine → List ℕ → Answe
 
 -- Lines, one after the other, are answered so, until one is answered by a halt, or from a halt on: then each that asks for something
 -- is. Those before the last stand apart, and then the last. The array that was seen so at first answered these events for them, each
--- with its cause: reads before the first line, and then those of each line. A halt that is told is the one that is seen of the array
+-- with its cause: the reads before the first line, and then those of each line. A halt that is told is the one that is seen of the array
 -- then, with none before it. The table of the volumes goes from line to line.
 pub data FormsLines (old : Shown) : List (List ℕ) → List ℕ → List ℕ → Answers → Shown → Tabled → Type 0 where
-  none_yet : (made : Answers) (now : Shown) (table : Tabled) → AreTabled (block_count old.setup) table → AreAll IsReadEvent made → HaveAnswerCauses old made now → FormsLines old [] [] [] made now table
+  none_yet : (made : Answers) (now : Shown) (table : Tabled) → AreFirstReads (block_count old.setup) now.halt made table → HaveAnswerCauses old made now → FormsLines old [] [] [] made now table
   one_more : (lines : List (List ℕ)) (line front reply said : List ℕ) (asked : VolLine) (made more : Answers) (mid now : Shown) (was table : Tabled) → FormsLines old lines front reply made mid was → mid.halt ≡ None → AsksVolumes line asked
       → IsReplyToLine (block_count old.setup) was asked said more table → HaveAnswerCauses mid more now → now.halt ≡ None → FormsLines old (lines ++ line ∷ []) (front ++ reply) (said ++ codes "\n") (made ++ more) now table
   halting : (lines : List (List ℕ)) (line front reply : List ℕ) (asked : VolLine) (halt : Halt) (made more : Answers) (mid now : Shown) (was table : Tabled) → FormsLines old lines front reply made mid was → mid.halt ≡ None → AsksVolumes line asked → (asked ≡ bad → ⊥) → (asked ≡ list → ⊥)

@@ -29,5 +29,5 @@ returns-in-Ok g c = record {
       deleted _ _ _ start log lived (volume_table c.args.volumes.now) lived.stands.1 c.args.name.now word spells c.in-Some.id there.0 there.1 (c.in-Ok.ensures.lived from start log lived tells);
   reply = λ was.
       let there = c.in-Some.ensures.some in
-      delete_replies g.B.Blocks c.args.volumes.now c.delete.new.self (word_of c.args.name.now) c.in-Some.id (is_id (volume_table c.args.volumes.now) c.args.name.now (word_of c.args.name.now) (word_spells c.args.name.now) c.in-Some.id there.0 there.1) c.delete.ensures.went.size c.delete.ensures.grown;
+      delete_replies g.B.Blocks c.args.volumes.now c.delete.new.self (word_of c.args.name.now) c.in-Some.id (is_id (volume_table c.args.volumes.now) c.args.name.now (word_of c.args.name.now) (word_spells c.args.name.now) c.in-Some.id there.0 there.1) c.delete.ensures.went.size c.in-Ok.ensures.next c.in-Ok.ensures.event;
 }

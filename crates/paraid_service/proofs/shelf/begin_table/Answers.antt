@@ -14,9 +14,9 @@ pub returns-in-Ok : goal.returns-in-Ok
 returns-in-Ok g c =
     let e = c.in-Ok.ensures in
     let is = c.blocks-count.ensures in
-    on_begun g.B.Blocks c.args.blocks c.in-Ok.volumes c.tell_begun.new.into (let large = c.if-count-lt7.false in omega (arith, large, is)) e.ok e.went e.grown (rw (c.extent_count.ensures.value, c.extent_size.ensures.value, is) at c.tell_begun.ensures) e.lived
+    on_begun g.B.Blocks c.args.blocks c.in-Ok.volumes c.tell_begun.new.into (let large = c.if-count-lt7.false in omega (arith, large, is)) e.ok e.went e.grown e.empty e.events (rw (c.extent_count.ensures.value, c.extent_size.ensures.value, is) at c.tell_begun.ensures) e.lived
 
 pub returns-in-Err : goal.returns-in-Err
 returns-in-Err g c =
     let e = c.in-Err.ensures in
-    rw c.leave.ensures (on_refused g.B.Blocks c.args.blocks c.in-Err.refused.blocks c.in-Err.refused.fault c.tell_fault.new.into (let large = c.if-count-lt7.false in let is = c.blocks-count.ensures in omega (arith, large, is)) e.went_refused e.grown_refused c.tell_fault.ensures e.refused)
+    rw c.leave.ensures (on_refused g.B.Blocks c.args.blocks c.in-Err.refused.blocks c.in-Err.refused.fault c.tell_fault.new.into (let large = c.if-count-lt7.false in let is = c.blocks-count.ensures in omega (arith, large, is)) e.went_refused e.grown_refused e.found c.tell_fault.ensures e.refused)

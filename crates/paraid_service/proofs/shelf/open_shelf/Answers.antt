@@ -8,9 +8,9 @@ returns-then-blocks-lt7-clause-opens g c = open_small g.B.Blocks c.args.blocks (
 pub returns-in-Ok-clause-opens : goal.returns-in-Ok-clause-opens
 returns-in-Ok-clause-opens g c =
     let e = c.in-Ok.ensures in
-    open_held g.B.Blocks c.args.blocks c.in-Ok.volumes e.ok e.went e.grown e.lived
+    open_held g.B.Blocks c.args.blocks c.in-Ok.volumes e.ok e.went e.grown e.reads e.lived
 
 pub returns-in-Err-clause-opens : goal.returns-in-Err-clause-opens
 returns-in-Err-clause-opens g c =
     let e = c.in-Err.ensures in
-    rw c.leave.ensures (open_bare g.B.Blocks c.args.blocks c.in-Err.refused.blocks c.in-Err.refused.fault (let large = c.if-blocks-lt7.false in let is = c.blocks-2.ensures in omega (arith, large, is)) e.went_refused e.grown_refused e.refused e.stands_refused)
+    rw c.leave.ensures (open_bare g.B.Blocks c.args.blocks c.in-Err.refused.blocks c.in-Err.refused.fault (let large = c.if-blocks-lt7.false in let is = c.blocks-2.ensures in omega (arith, large, is)) e.went_refused e.grown_refused e.reads_refused e.refused e.stands_refused)
