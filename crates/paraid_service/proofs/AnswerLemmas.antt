@@ -13,7 +13,7 @@ use Rattle.paraid_volume.specs.declared.fault.VolFault.{VolFault}
 use Rattle.paraid_volume.specs.declared.fault.VolFault.TheVariants.{Halt as VolHalt, Small, NotVolumes, Already, NoVolume, NoBlock, Exists, NoExtents, Names, Space}
 use Rattle.paraid_volume.specs.declared.name.Name.{Name}
 use Rattle.paraid_volume.specs.declared.volumes.Volumes.{Volumes}
-use Rattle.paraid_volume.specs.Laid.{IsWith, IsWithout}
+use Rattle.paraid_volume.specs.Laid.{AreChanges, IsWith, IsWithout}
 use Rattle.paraid_volume.specs.TableCalls.{AreOfCreate, IsTableWrite, KeepsThen}
 use Rattle.paraid_volume.specs.Faults.{IsCreateFault, IsHalt, IsLeastFree, IsNew, IsPlaceFault}
 use Rattle.paraid_volume.specs.NameValues.{IsNameOf, letter_of}
@@ -140,7 +140,7 @@ module _ {B : Type 0} (g : Ghosts B) (old new : Volumes B g) where
       quiet (create word extents) _ (still (none ∙ sym was)) kept (refused table_of (create word extents) fault (create_refused table_of name word spells blocks_of extents (halted_of new) none fault is))
 
   pub delete_replies : (word : List ℕ) (id : ℕ) → IsIdOf table_of word id → g.block_count (device_of new) ≡ blocks_of → IsWithout id (extent_count blocks_of) table_of (volume_table new)
-      → KeepsThen g.kept (IsTableWrite table_of (volume_table new)) (device_of old) (device_of new) → RepliesHeld g old new (delete word) (deleted_text word true)
+      → KeepsThen g.kept (IsTableWrite (AreChanges table_of (volume_table new) 6)) (device_of old) (device_of new) → RepliesHeld g old new (delete word) (deleted_text word true)
   delete_replies word id n size without made = record {
     grows = λ first events k. (made.made, made.grows first events k, deleted table_of (volume_table new) word id made.made n (tabled size) without made.all);
   }

@@ -2,6 +2,7 @@
 use Rattle.std.specs.Prelude.{Option}
 use Rattle.paraid_base.specs.declared.block.Block.{Block}
 use Rattle.paraid_base.specs.declared.fault.Halt.{Halt}
+use Rattle.paraid_base.specs.History.{Entry}
 use Rattle.std.proofs.Common.{zero, suc, ℕ, List, [], ◌∷◌, ◌++◌, refl, sym, subst}
 use Rattle.paraid_base.specs.declared.event.Answer.{Answer}
 use Rattle.paraid_base.specs.declared.event.Event.{Event}
@@ -9,7 +10,7 @@ use Rattle.paraid_base.specs.declared.event.Event.TheVariants.{Read, Write, Flus
 use Rattle.paraid_base.specs.BlockAnswers.{Answers}
 use Rattle.paraid_device.specs.Devices.{AreBlockEvents, HaveAnswerCauses, IsBlockEvent}
 use Rattle.paraid_serve.specs.Causes.{HasCause, Shown}
-use Rattle.paraid_volume.specs.Device.{AreAll, IsFlushEvent, IsReadEvent, IsReadOrWrite, IsWriteEvent}
+use Rattle.paraid_volume.specs.Device.{AreAll, IsFlushEvent, IsReadOrWrite}
 use Rattle.paraid_volume.specs.TableCalls.{AreOtherReads, AreZerosTo, IsTableWrite, table_reads}
 use Rattle.paraid_volume.proofs.DeviceLemmas.{read_either, write_either}
 use Rattle.paraid_volume_lines.specs.Grammar.{VolLine, bad, create, delete, flush, init, list, read, write}
@@ -107,7 +108,7 @@ zero_kinds [] (e ∷ made) all = absurd all
 zero_kinds (block ∷ blocks) [] all = absurd all
 zero_kinds (block ∷ blocks) (e ∷ made) all = (subst IsBlockEvent (sym all.0) tt, zero_kinds blocks made all.2)
 
-write_kinds : {old new : ℕ → Block} (made : Answers) → IsTableWrite old new made → AreBlockEvents made
+write_kinds : {are : Entry → Type 0} (made : Answers) → IsTableWrite are made → AreBlockEvents made
 write_kinds made all = subst AreBlockEvents (sym all.is) (tt, tt)
 
 first_kinds : {count : ℕ} {halt : Option Halt} {made : Answers} {table : Tabled} → AreFirstReads count halt made table → AreBlockEvents made
@@ -120,7 +121,7 @@ reply_kinds : {count : ℕ} {was table : Tabled} {asked : VolLine} {said : List 
 reply_kinds (no_task was) = tt
 reply_kinds (no_table line not_init not_bad) = tt
 reply_kinds (is_small small) = tt
-reply_kinds (begun next made tabled empty all) = subst AreBlockEvents (sym all.parts) (kinds_joined all.before all.last (other_kinds all.before all.reads) (write_kinds all.last (all.writes next)))
+reply_kinds (begun next made tabled empty all) = subst AreBlockEvents (sym all.parts) (kinds_joined all.before all.last (other_kinds all.before all.reads) (write_kinds all.last all.writes))
 reply_kinds (is_found made large all) = subst AreBlockEvents (sym all.are) (read_kinds all.content 6)
 reply_kinds (is_already table) = tt
 reply_kinds (created table next name extents id made none some least room tabled text with named all) = subst AreBlockEvents (sym all.parts) (kinds_joined all.zeros all.last (zero_kinds _ all.zeros all.clears) (write_kinds all.last all.writes))

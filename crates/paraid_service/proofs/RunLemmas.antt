@@ -18,7 +18,6 @@ use Rattle.paraid_service.specs.LineRuns.{KeepsLines, RunsLines, RunsOn, SaysLin
 use Rattle.paraid_service.specs.Shelves.{OnFirst, OnShelf, OpensShelf, ServesShelf, StepsShelf, device_in, table_in}
 use Rattle.paraid_service.specs.LineSteps.{KeepsReply}
 use Rattle.paraid_service.specs.VolumeForms.{AreFirstReads, IsReplyToLine}
-use Rattle.paraid_volume.specs.Values.{volume_table}
 use Rattle.paraid_service.specs.VolumeLines.{Held, IsEventOf, LinesStep, halted_text}
 use Rattle.paraid_service.specs.LineRuns.KeepsLines.{halting as form_halting, later as form_later, none_yet as form_none, one_more as form_more}
 use Rattle.paraid_service.specs.VolumeLines.LinesStep.{halting, later, none_yet, one_more}

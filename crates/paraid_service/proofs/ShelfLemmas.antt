@@ -12,7 +12,7 @@ use Rattle.paraid_blocks.specs.declared.blocks.Blocks.{Ghosts}
 use Rattle.paraid_volume.specs.declared.fault.VolFault.{VolFault}
 use Rattle.paraid_volume.specs.declared.fault.VolFault.TheVariants.{Halt as VolHalt, Small, NotVolumes, Already, NoVolume, NoBlock, Exists, NoExtents, Names, Space}
 use Rattle.paraid_volume.specs.declared.volumes.Volumes.{Volumes}
-use Rattle.paraid_volume.specs.Device.{AreAll, DeviceGoesOn, DeviceHolds, IsReadEvent, IsReadOrWrite, KeepsMore, SinceHistory, entries_in}
+use Rattle.paraid_volume.specs.Device.{DeviceGoesOn, DeviceHolds, IsReadEvent, IsReadOrWrite, KeepsMore, SinceHistory, entries_in}
 use Rattle.paraid_volume.specs.Faults.{IsAdoptFault, IsInitFault, vol_halt_in}
 use Rattle.paraid_volume.specs.Lives.{BeginsLife, HasLived, Life, VolLog, flush as FlushCall, flushed}
 use Rattle.paraid_volume.specs.Lives.Life.{begun, next}

@@ -17,7 +17,7 @@ use Rattle.paraid_trace.specs.Replies.{halt_text}
 use Rattle.paraid_volume.specs.declared.name.Name.{Name}
 use Rattle.paraid_volume.specs.Device.{AreAll}
 use Rattle.paraid_volume.specs.Faults.{IsLeastFree}
-use Rattle.paraid_volume.specs.Laid.{IsWith, IsWithout}
+use Rattle.paraid_volume.specs.Laid.{AreChanges, IsWith, IsWithout}
 use Rattle.paraid_volume.specs.TableCalls.{AreHaltedReads, AreOfCreate, AreOfInit, AreOtherReads, AreTableReads, IsTableWrite, table_reads}
 use Rattle.paraid_volume.specs.States.{IsPlace, ShowsVolumes, VolumeState}
 use Rattle.paraid_volume.specs.Tables.{IsLiveId, IsSameTable, IsVolumeTable, extent_count, extent_size, extents_owned, name_in, owner_in}
@@ -80,7 +80,7 @@ pub data IsReplyToLine (count : ℕ) : Tabled → VolLine → List ℕ → Answe
       → AreTabled count (Some next) → (text : Name) → IsWith id text extents (extent_count count) table next → IsIdOf next name id → AreOfCreate id (extent_size count) (extent_count count) table next made
       → IsReplyToLine count (Some table) (create name extents) (created_text name (Ok id)) made (Some next)
   deleted : (table next : ℕ → Block) (name : List ℕ) (id : ℕ) (made : Answers) → IsIdOf table name id
-      → AreTabled count (Some next) → IsWithout id (extent_count count) table next → IsTableWrite table next made → IsReplyToLine count (Some table) (delete name) (deleted_text name true) made (Some next)
+      → AreTabled count (Some next) → IsWithout id (extent_count count) table next → IsTableWrite (AreChanges table next 6) made → IsReplyToLine count (Some table) (delete name) (deleted_text name true) made (Some next)
   told : (table : ℕ → Block) (name : List ℕ) (id block place : ℕ) (bytes : Block) → IsIdOf table name id → IsPlace count table id block place
       → IsReplyToLine count (Some table) (read name block) (read_text name block (Ok tt) bytes) ((Read place, Value place bytes) ∷ []) (Some table)
   wrote : (table : ℕ → Block) (name : List ℕ) (id block place number : ℕ) (bytes : Block) → IsIdOf table name id → IsPlace count table id block place

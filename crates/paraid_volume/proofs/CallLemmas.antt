@@ -13,7 +13,7 @@ use Rattle.paraid_base.specs.declared.fault.Halt.{Halt}
 use Rattle.paraid_base.specs.BlockAnswers.{Answers}
 use Rattle.paraid_volume.specs.TableCalls.{AreHaltedReads, AreZerosTo, KeepsThen, owned_blocks, table_reads}
 
-one_more : (n : ℕ) → suc n ≡ n + 1
+pub one_more : (n : ℕ) → suc n ≡ n + 1
 one_more n = omega arith
 
 module _ {S : Type 0} (kept : S → S → Answers → Type 0) where

@@ -10,7 +10,8 @@ use Rattle.paraid_base.specs.Pairs.{pairs_of}
 use Rattle.paraid_base.specs.BlockAnswers.{IsFirstMissing}
 use Rattle.paraid_base.specs.History.{Entry, History, after_all, last_of}
 use Rattle.paraid_base.proofs.HistoryLemmas.{after_all-append, last_of-append}
-use Rattle.paraid_volume.specs.Laid.{IsLaid, owner_with}
+use Rattle.paraid_volume.specs.Laid.{AreChanges, IsLaid, owner_with}
+use Rattle.paraid_volume.specs.Laid.AreChanges.{names, other, same as unchanged}
 use Rattle.paraid_volume.specs.Tables.{IsSameTable, extents_owned}
 use Rattle.paraid_base.proofs.PlacesLemmas.{sum_before_more, sum_before_none}
 
@@ -62,6 +63,7 @@ pub record Laying (old new : ℕ → Block) (at : ℕ) (p : Pairs) : Type 0 wher
   pub here : (k : ℕ) → k < at → last_of k (old k) (pairs_of p) ≡ new k
   pub rest : (k : ℕ) (x : Block) → at ≤ k → last_of k x (pairs_of p) ≡ x
   pub below : All IsLow (pairs_of p)
+  pub exact : AreChanges old new at (pairs_of p)
 
 pub laying_first : (old new : ℕ → Block) (y : Block) (q : Pairs) → pairs_of q ≡ [] ++ (1, y) ∷ [] → q.count ≡ 1 → y ≡ new 1 → old 0 ≡ new 0 → Laying old new 2 q
 laying_first old new y q is count same head = record {
@@ -72,11 +74,12 @@ laying_first old new y q is count same head = record {
   ];
   rest = λ k x l. added_other [] (pairs_of q) 1 y is k x (λ e. let no : ⊥ = omega (arith, e, l) in absurd no);
   below = added_low [] (pairs_of q) 1 y is (omega arith) (All-nil IsLow);
+  exact = subst (AreChanges old new 2) (ap (λ (x : Block). (1, x) ∷ []) (sym same) ∙ sym is) names;
 }
 
 module _ (old new : ℕ → Block) (at : ℕ) (p : Pairs) (laying : Laying old new at p) where
-  pub laying_added : at < 6 → (y : Block) (q : Pairs) → pairs_of q ≡ pairs_of p ++ (at, y) ∷ [] → q.count ≡ p.count + 1 → y ≡ new at → Laying old new (at + 1) q
-  laying_added low y q is count same =
+  pub laying_added : at < 6 → ((old at).bytes ≡ (new at).bytes → ⊥) → (y : Block) (q : Pairs) → pairs_of q ≡ pairs_of p ++ (at, y) ∷ [] → q.count ≡ p.count + 1 → y ≡ new at → Laying old new (at + 1) q
+  laying_added low differs y q is count same =
       let few = laying.few in record {
         few = omega (arith, few, count);
         here = λ k l. elim (cases_eq at k) [
@@ -85,6 +88,7 @@ module _ (old new : ℕ → Block) (at : ℕ) (p : Pairs) (laying : Laying old n
         ];
         rest = λ k x l. added_other (pairs_of p) (pairs_of q) at y is k x (λ e. let no : ⊥ = omega (arith, e, l) in absurd no) ∙ laying.rest k x (omega (arith, l));
         below = added_low (pairs_of p) (pairs_of q) at y is low laying.below;
+        exact = subst (AreChanges old new (at + 1)) (ap (λ (x : Block). pairs_of p ++ (at, x) ∷ []) (sym same) ∙ sym is) (other at (pairs_of p) laying.exact differs);
       }
 
   pub laying_same : old at ≡ new at → Laying old new (at + 1) p
@@ -97,6 +101,7 @@ module _ (old new : ℕ → Block) (at : ℕ) (p : Pairs) (laying : Laying old n
         ];
         rest = λ k x l. laying.rest k x (omega (arith, l));
         below = laying.below;
+        exact = unchanged at (pairs_of p) laying.exact (ap (λ (x : Block). x.bytes) same);
       }
 
 -- owners after the first `count` free extents below `n` were given to `id`

@@ -1,5 +1,6 @@
 -- A write of the blocks of a table
-use Rattle.std.specs.Prelude.{◌≡◌, ℕ, ◌<◌, ◌≤◌, ◌≢◌, ◌++◌, ◌∷◌, [], take, ◌==◌, ◌&&◌, nat_lt, if◌then◌else◌, slice_index, All}
+use Rattle.std.proofs.Common.{zero, suc}
+use Rattle.std.specs.Prelude.{◌≡◌, ℕ, ◌+◌, ◌<◌, ◌≤◌, ◌≢◌, ◌++◌, ◌∷◌, [], take, ◌==◌, ◌&&◌, nat_lt, if◌then◌else◌, slice_index, All}
 use Rattle.paraid_base.specs.declared.block.Block.{Block}
 use Rattle.paraid_base.specs.History.{Entry, History, after_all, last_of}
 use Rattle.paraid_base.specs.Xor.{zero_block}
@@ -12,6 +13,17 @@ pub record IsLaid (old new : ℕ → Block) (entry : Entry) : Type 0 where
   pub here : (k : ℕ) → k < 6 → last_of k (old k) entry ≡ new k
   pub rest : (k : ℕ) (bytes : Block) → 6 ≤ k → last_of k bytes entry ≡ bytes
   pub below : All (λ (pair : ℕ × Block). pair.0 < 6) entry
+
+-- The pairs are block 1 and each later block below `n` whose bytes are others than before, in ascending order, with its new bytes.
+pub data AreChanges (old new : ℕ → Block) : ℕ → Entry → Type 0 where
+  names : AreChanges old new 2 ((1, new 1) ∷ [])
+  same : (n : ℕ) (entry : Entry) → AreChanges old new n entry → (old n).bytes ≡ (new n).bytes → AreChanges old new (n + 1) entry
+  other : (n : ℕ) (entry : Entry) → AreChanges old new n entry → ((old n).bytes ≡ (new n).bytes → ⊥) → AreChanges old new (n + 1) (entry ++ (n, new n) ∷ [])
+
+-- the first `n` blocks with their bytes
+abbrev pub table_pairs : (ℕ → Block) → ℕ → Entry
+table_pairs content zero = []
+table_pairs content (suc n) = table_pairs content n ++ (n, content n) ∷ []
 
 -- owners after each extent of `id` was made free
 abbrev pub owner_without : (ℕ → ℕ) → ℕ → ℕ → ℕ → ℕ

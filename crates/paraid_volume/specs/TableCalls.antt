@@ -1,5 +1,5 @@
 -- What is asked of a device for its table
-use Rattle.std.specs.Prelude.{◌≡◌, ℕ, ◌+◌, ◌*◌, ◌<◌, ◌≤◌, ◌==◌, ◌++◌, ◌∷◌, [], List, if◌then◌else◌}
+use Rattle.std.specs.Prelude.{◌≡◌, ℕ, ◌+◌, ◌*◌, ◌<◌, ◌==◌, ◌++◌, ◌∷◌, [], List, if◌then◌else◌}
 use Rattle.std.proofs.Common.{zero, suc}
 use Rattle.std.specs.List.{range_with_len}
 use Rattle.paraid_base.specs.declared.block.Block.{Block}
@@ -8,12 +8,13 @@ use Rattle.paraid_base.specs.declared.event.Event.TheVariants.{Read, Write}
 use Rattle.paraid_base.specs.declared.fault.Halt.{Halt}
 use Rattle.paraid_base.specs.declared.pairs.Pairs.{Pairs}
 use Rattle.paraid_base.specs.BlockAnswers.{Answers}
+use Rattle.paraid_base.specs.History.{Entry}
 use Rattle.paraid_base.specs.Pairs.{pairs_of, single_pair}
 use Rattle.paraid_base.specs.Xor.{zero_block}
 use Rattle.paraid_volume.specs.declared.fault.VolFault.{VolFault}
 use Rattle.paraid_volume.specs.declared.fault.VolFault.TheVariants.{Halt as VolHalt, NotVolumes}
-use Rattle.paraid_volume.specs.Laid.{IsLaid}
-use Rattle.paraid_volume.specs.Tables.{IsVolumeTable, extent_count, extent_size, owner_in}
+use Rattle.paraid_volume.specs.Laid.{AreChanges, table_pairs}
+use Rattle.paraid_volume.specs.Tables.{IsVolumeTable, owner_in}
 
 -- The events that were kept are kept, and then some of which this holds.
 pub record KeepsThen {S : Type 0} (kept : S → S → Answers → Type 0) (are : Answers → Type 0) (old new : S) : Type 0 where
@@ -51,20 +52,20 @@ AreRefusedReads count (VolHalt halt) made = AreHaltedReads halt made
 AreRefusedReads count NotVolumes made = AreOtherReads count made
 AreRefusedReads count fault made = made ≡ []
 
--- one write, which makes one table of another and changes nothing else
-pub record IsTableWrite (old new : ℕ → Block) (made : Answers) : Type 0 where
+-- one write of blocks of a table, of which this holds
+pub record IsTableWrite (are : Entry → Type 0) (made : Answers) : Type 0 where
   pub pairs : Pairs
   pub number : ℕ
-  pub laid : IsLaid old new (pairs_of pairs)
+  pub all : are (pairs_of pairs)
   pub is : made ≡ (Write pairs, Wrote number) ∷ []
 
--- the reads of no table, and one write, which makes this one of whatever was there
+-- the reads of no table, and one write of the whole of this one
 pub record AreOfInit (count : ℕ) (new : ℕ → Block) (made : Answers) : Type 0 where
   pub before : Answers
   pub last : Answers
   pub parts : made ≡ before ++ last
   pub reads : AreOtherReads count before
-  pub writes : (old : ℕ → Block) → IsTableWrite old new last
+  pub writes : IsTableWrite (λ entry. entry ≡ table_pairs new 6) last
 
 -- the blocks of the extents of `id`, of the first `n`, in ascending order
 abbrev pub owned_blocks : (ℕ → ℕ) → ℕ → ℕ → ℕ → List ℕ
@@ -77,10 +78,10 @@ AreZerosTo [] [] = Unit {0}
 AreZerosTo (b ∷ blocks) (e ∷ made) = (e.0 ≡ Write (single_pair b zero_block)) × ((number : ℕ) × (e.1 ≡ Wrote number)) × AreZerosTo blocks made
 AreZerosTo blocks made = ⊥
 
--- zeros to the blocks of `id`, and one write, which makes this table of the old one
+-- zeros to the blocks of `id`, and one write of what is new in this table
 pub record AreOfCreate (id size extents : ℕ) (old new : ℕ → Block) (made : Answers) : Type 0 where
   pub zeros : Answers
   pub last : Answers
   pub parts : made ≡ zeros ++ last
   pub clears : AreZerosTo (owned_blocks (owner_in new) id size extents) zeros
-  pub writes : IsTableWrite old new last
+  pub writes : IsTableWrite (AreChanges old new 6) last

@@ -39,7 +39,7 @@ impl Table {
     ghost use Rattle.paraid_base.specs.Pairs.{pairs_of};
     ghost use Rattle.paraid_base.specs.Xor.{zero_block};
     ghost use Rattle.paraid_volume.specs.Faults.{IsLeastFree};
-    ghost use Rattle.paraid_volume.specs.Laid.{IsLaid, IsWith, IsWithout};
+    ghost use Rattle.paraid_volume.specs.Laid.{AreChanges, IsLaid, table_pairs, IsWith, IsWithout};
     ghost use Rattle.paraid_volume.specs.Names.{IsField, IsFieldAt};
     ghost use Rattle.paraid_volume.specs.NameValues.{IsNameOf};
     ghost use Rattle.paraid_volume.specs.TableBlocks.{in_table};
@@ -434,7 +434,8 @@ impl Table {
 
     /// All six blocks, as one write.
     pub(crate) fn whole(&self) -> Pairs
-        ensures { (old : ℕ → BlockType) → IsLaid old (in_table self.now) (pairs_of result) }
+        ensures laid { (old : ℕ → BlockType) → IsLaid old (in_table self.now) (pairs_of result) }
+        ensures exact { pairs_of result ≡ table_pairs (in_table self.now) 6 }
     {
         let mut pairs = Pairs::one(0, &self.blocks[0]);
         for at in 1..6 {
@@ -454,7 +455,8 @@ impl Table {
     /// The second block and each later one that differs from this table's, as one write.
     pub(crate) fn changes(&self, new: &Table) -> Pairs
         requires { in_table self.now 0 ≡ in_table new.now 0 }
-        ensures { IsLaid (in_table self.now) (in_table new.now) (pairs_of result) }
+        ensures laid { IsLaid (in_table self.now) (in_table new.now) (pairs_of result) }
+        ensures exact { AreChanges (in_table self.now) (in_table new.now) 6 (pairs_of result) }
     {
         let mut pairs = Pairs::one(1, &new.blocks[1]);
         for at in 2..6 {

@@ -38,7 +38,7 @@ impl<B: Blocks> Volumes<B> {
     ghost use Rattle.paraid_volume.specs.Device.{DeviceGoesOn, DeviceHolds, SinceHistory, KeepsMore, IsReadEvent, IsWriteEvent, IsFlushEvent, IsReadOrWrite};
     ghost use Rattle.paraid_base.specs.Xor.{zero_block};
     ghost use Rattle.paraid_volume.specs.declared.fault.VolFault.TheVariants.{Already as AlreadyFault};
-    ghost use Rattle.paraid_volume.specs.Laid.{IsWith, IsWithout};
+    ghost use Rattle.paraid_volume.specs.Laid.{AreChanges, IsWith, IsWithout};
     ghost use Rattle.paraid_volume.specs.TableCalls.{AreOfCreate, AreOfInit, AreRefusedReads, AreTableReads, IsTableWrite, KeepsThen, table_reads};
     ghost use Rattle.paraid_volume.specs.Faults.{IsPlaceFault, IsAdoptFault, IsInitFault, IsIdFault, IsCreateFault, IsLeastFree, IsHalt, IsNew, IsServedBlock, vol_halt_in};
     ghost use Rattle.paraid_volume.specs.States.{VolumeState, ShowsVolumes, Adds, AddsNoVolume, Makes, IsPlace, with_volume, without_volume, with_block};
@@ -393,7 +393,7 @@ impl<B: Blocks> Volumes<B> {
         ensures next { OnOk result (IsWithout id (count_of (B.block_count (device_of self.old)))
             (volume_table self.old) (volume_table self.new)) }
         ensures event { OnOk result (KeepsThen B.kept
-            (IsTableWrite (volume_table self.old) (volume_table self.new))
+            (IsTableWrite (AreChanges (volume_table self.old) (volume_table self.new) 6))
             (device_of self.old) (device_of self.new)) }
     {
         if let Some(halt) = self.halt {

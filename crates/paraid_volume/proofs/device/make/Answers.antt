@@ -33,9 +33,9 @@ returns g c = record {
         stands = f from (h ++ cleared.more) cleared.stands tells;
         rest = cleared.rest;
         zeros = cleared.zeros;
-        laid = c.changes.ensures;
+        laid = c.changes.ensures.laid;
       }) c.write_table.ensures.adds;
   events = on_ok_weaker c.write_table.result (KeepsThen-then g.B.Blocks.kept _ _ _ _ _ _
-      (λ x y clears write. record { zeros = x; last = y; parts = refl; clears = clears; writes = record { pairs = c.changes.result; number = write.0; laid = c.changes.ensures; is = write.1 } })
+      (λ x y clears write. record { zeros = x; last = y; parts = refl; clears = clears; writes = record { pairs = c.changes.result; number = write.0; all = c.changes.ensures.exact; is = write.1 } })
       c.in_ok-clear_extents.ensures.events) c.write_table.ensures.event;
 }

@@ -54,7 +54,7 @@ invariant_of-self-in-Err g c =
 
 pub write_table-requires : goal.write_table-requires
 write_table-requires g c = record {
-  below = c.changes.ensures.below;
+  below = c.changes.ensures.laid.below;
   size = c.args.self.now.large;
 }
 
@@ -68,13 +68,13 @@ returns-in-Ok-clause-adds g c = λ from h s stands shows tells.
     let without = subst (λ (n : ℕ). IsWithout c.args.id n old next) v.counted c.without-next.ensures in
     let entry = pairs_of c.changes.result in
     let new = h ++ entry ∷ [] in
-    let same = laid_table h entry old next c.changes.ensures stands.1 in
+    let same = laid_table h entry old next c.changes.ensures.laid stands.1 in
     record {
       entry = entry;
       stands = (c.in-Ok.ensures.adds from h stands.0 tells, same);
       shows = shows_without count c.args.id (after_all h) (after_all new) v.large shows.table (same_live old (after_all h) stands.1 c.args.id live)
           (without_moved c.args.id (extent_count count) old next (after_all h) (after_all new) stands.1 same without)
-          (laid_rest h entry old next c.changes.ensures) s shows;
+          (laid_rest h entry old next c.changes.ensures.laid) s shows;
     }
 
 pub returns-in-Ok-clause-lived : goal.returns-in-Ok-clause-lived
@@ -143,7 +143,7 @@ returns-in-Ok-clause-next g c = subst (λ (n : ℕ). IsWithout c.args.id n (in_t
 
 pub returns-in-Ok-clause-event : goal.returns-in-Ok-clause-event
 returns-in-Ok-clause-event g c =
-    KeepsThen-weaker g.B.Blocks.kept _ _ _ _ (λ x write. record { pairs = c.changes.result; number = write.0; laid = c.changes.ensures; is = write.1 }) c.in-Ok.ensures.event
+    KeepsThen-weaker g.B.Blocks.kept _ _ _ _ (λ x write. record { pairs = c.changes.result; number = write.0; all = c.changes.ensures.exact; is = write.1 }) c.in-Ok.ensures.event
 
 pub returns-in-Ok-clause-halt : goal.returns-in-Ok-clause-halt
 returns-in-Ok-clause-halt g c = c.in_default.is

@@ -87,7 +87,7 @@ invariant_of-result g c =
 
 pub write_table-requires : goal.write_table-requires
 write_table-requires g c = record {
-  below = (c.whole.ensures (in_table c.empty-table.result)).below;
+  below = (c.whole.ensures.laid (in_table c.empty-table.result)).below;
   size = subst (λ (n : ℕ). 7 ≤ n) (c.blocks-count.ensures ∙ sym c.read_table.ensures.went.size) c.if-count-lt7.false;
 }
 
@@ -101,7 +101,7 @@ returns-clause-stands g c = λ from h stands tells.
     let entry = pairs_of c.whole.result in
     let new = h ++ entry ∷ [] in
     let t = in_table c.empty-table.result in
-    let same = laid_table h entry (after_all h) t (c.whole.ensures (after_all h)) (λ k l. refl) in record {
+    let same = laid_table h entry (after_all h) t (c.whole.ensures.laid (after_all h)) (λ k l. refl) in record {
       entry = entry;
       stands = (c.in_default-write_table.ensures.adds from h mid tells, same);
       shows = shows_nothing count (after_all new) large
@@ -159,7 +159,7 @@ returns-clause-events g c =
     let read = in_table c.read_table.new.table in
     let made = c.in_default-write_table.ensures.event in
     KeepsThen-then g.B.Blocks.kept _ _ _ _ _ _
-    (λ x y reads write. record { before = x; last = y; parts = refl; reads = reads; writes = λ old. record { pairs = c.whole.result; number = write.0; laid = c.whole.ensures old; is = write.1 } })
+    (λ x y reads write. record { before = x; last = y; parts = refl; reads = reads; writes = record { pairs = c.whole.result; number = write.0; all = c.whole.ensures.exact; is = write.1 } })
     (KeepsThen-all g.B.Blocks.kept _ _ _ (table_reads read 6)
     (record {
       content = read;
