@@ -5,7 +5,8 @@ use Rattle.std.specs.Prelude.{◌≡◌, ℕ, ◌<◌, ◌≤◌, ◌-◌, ◌^�
 abbrev pub told_bytes : Option (List ℕ) → List ℕ
 told_bytes o = unwrap_or o []
 
--- What was left is this piece and what is left now. What is told now was told before.
+-- What was left is this piece and what is left now. What is told now was told before. (Where nothing is told now, this holds
+-- of any piece.)
 pub record Gives (old new : Option (List ℕ)) (piece : List ℕ) : Type 0 where
   pub before : IsSome new → IsSome old
   pub bytes : IsSome new → told_bytes old ≡ piece ++ told_bytes new

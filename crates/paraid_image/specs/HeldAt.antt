@@ -25,7 +25,7 @@ pub record MayLose (i : Disks) (d : ℕ) : Type 0 where
   pub weak : (w : ℕ) → IsWeak i w → w ≡ d
 
 -- Each image of these disks holds a first part of `h` of at least `lo` writes, as it is and with
--- one more disk lost; a weak disk is the one that is down.
+-- one more disk lost. If an image has a weak disk, that is the one that is down.
 pub record IsHeld (slots : ℕ) (s : Disks) (h : History) (lo : ℕ) (down : Option ℕ) : Type 0 where
   pub whole : (i : Disks) → IsImage s i → IsSoundFrom slots i h lo
   pub lost : (i : Disks) (d : ℕ) → IsImage s i → MayLose i d → IsSoundFrom slots (lose d i) h lo

@@ -6,8 +6,8 @@ use Rattle.paraid_image.specs.HeldAt.{IsHeld}
 use Rattle.paraid_image.specs.Out.{IsWeak}
 use Rattle.paraid_image.specs.Rest.{AreSynced}
 
--- Disks that held a history: nothing is loose, each stop leaves a first part of it, and the disk
--- that is down is the weak one.
+-- A run may start here. Nothing is loose. Each stop leaves a first part of `h`, of at least `lo`
+-- writes. If a disk is down, it is the weak one of each image.
 pub record IsRunStart (slots : ℕ) (s : Disks) (h : History) (lo : ℕ) (down : Option ℕ) : Type 0 where
   pub synced : AreSynced s
   pub held : IsHeld slots s h lo down

@@ -18,7 +18,8 @@ abbrev pub with_flush : ℕ → Answer → ℕ
 with_flush low (Flushed number) = if nat_lt low number then number else low
 with_flush low answer = low
 
--- the state and one that an image shows have the same gear, phase, fill mark, out disk and spins
+-- The state and one that an image shows have the same gear, phase, fill mark, out disk and spins. (Of an image the slot of a
+-- disk that is absent shows it as gone, whether or not the meta names it.)
 pub record IsShown (state shown : PowerState) : Type 0 where
   pub gear : shown.gear ≡ state.gear
   pub phase : shown.phase ≡ state.phase

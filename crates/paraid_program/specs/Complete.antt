@@ -79,7 +79,8 @@ pub data HindersRun {rack : RackUse} (h : HeldHistory rack) (source : SourceUse)
   too_long : status ≡ 10 → (bytes : List ℕ) → Gives source.left_before source.left bytes → length bytes ≡ 2 ^ 40 → HindersRun h source sink status
   other : Hinders h sink status → HindersRun h source sink status
 
--- How a command comes out: all was done; or there was no memory; or something hindered it.
+-- How a command comes out: all was done; or there was no memory; or something hindered it, and the cause says with which
+-- status.
 pub data Completes (Whole Unstarted Hindered : Type 0) (status : ℕ) : Type 0 where
   whole : status ≡ 0 → Whole → Completes Whole Unstarted Hindered status
   no_memory : status ≡ 7 → Unstarted → Completes Whole Unstarted Hindered status

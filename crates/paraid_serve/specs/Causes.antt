@@ -37,8 +37,8 @@ use Rattle.paraid_session.specs.Powers.{AreAllSynced, FitsSlots}
 use Rattle.paraid_session.specs.Turn.{halt_told, may_halt, own_energy}
 use Rattle.paraid_serve.specs.Lost.{AreTwoLost}
 
--- What is seen of an array: what it is configured to be; the meta under which it serves, and its dirty cells; the slots of its
--- rack; the gear that it tells; the energy that it has used; the last samples, as many as its longest window has; the requests since the last tick, no
+-- What is seen of an array: what it is configured to be; the meta in memory under which it serves, and its dirty cells (what a
+-- mount found, as it begins; after it, no part of this says what a disk holds); the slots of its rack; the gear that it tells; the energy that it has used; the last samples, as many as its longest window has; the requests since the last tick, no
 -- more than a sample may have; and the halt that has come.
 pub record Shown : Type 0 where
   pub setup : Setup

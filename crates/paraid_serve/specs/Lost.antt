@@ -18,7 +18,8 @@ pub data IsDownBy (down : Option ℕ) (event : Event) (old new : ℕ → Slot) (
   has_failed : HasRisen (old d).faults (new d).faults → IsDownBy down event old new d
   is_taken_out : event ≡ Fail d → IsDownBy down event old new d
 
--- Two different disks were lost in an event: the first is down, and then the second has failed.
+-- Two different disks were lost: the first is down as the event ends, and the second has failed in it. In which order is not
+-- said here (`EndsServing` says it of the calls).
 pub record AreTwoLost (down : Option ℕ) (event : Event) (old new : ℕ → Slot) (two : Two) : Type 0 where
   pub first : IsDownBy down event old new two.first
   pub apart : two.first ≢ two.second

@@ -95,7 +95,7 @@ is_idle Waiting = true
 is_idle (Ration disk) = true
 is_idle event = false
 
--- an answer for which no call is made, unless one fails
+-- an answer with which an event has made no call, unless a call of it failed
 abbrev pub makes_no_call : Answer → Bool
 makes_no_call (NoBlock block) = true
 makes_no_call (Ticked report) = is_idle report.event
