@@ -30,8 +30,8 @@ pub record IsFailedSlot (old new : Slot) : Type 0 where
   pub risen : HasRisen old.faults new.faults
   pub later : old.faults ≤ new.faults
 
--- A done call leaves the slot so; a failed one leaves it absent, with its count risen and so
--- unsynced.
+-- A done call makes of the slot what `leaves` says. A failed one leaves it absent, of size 0, with
+-- its count risen, and unsynced just if `dirt`.
 pub record Becomes (old new leaves : Slot) (dirt ok : Bool) : Type 0 where
   pub done : ok ≡ true → new ≡ leaves
   pub absent : ok ≡ false → new.power ≡ Absent

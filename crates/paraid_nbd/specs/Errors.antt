@@ -15,8 +15,9 @@ use Rattle.paraid_nbd.specs.Handshake.{IsUnsent}
 use Rattle.paraid_nbd.specs.Performing.{said_with}
 use Rattle.paraid_nbd.specs.Requests.{RequestParts, outcome_of, request_in}
 
--- How a request came out, by the events that were kept in it, with the bytes that it brought and those that were found: it is refused
--- by what it says, and nothing was asked of the device; or what it asks for was asked and done; or the last of it was answered with a halt.
+-- How a request came out, by the events that were kept in it. By itself: it is refused by what it says, and there is no event. By all: it
+-- is done, by just its events. By a halt: a first part of its events, and then one that was answered with a halt. `content` are the bytes
+-- that it brought; `found` are those of a read, and mean something only where that was done.
 pub data ComesBy (size : ℕ) (r : Request) (content found : List ℕ) (outcome : Outcome) (events : Answers) : Type 0 where
   By_itself : outcome_of size r ≢ Done → outcome ≡ outcome_of size r → events ≡ [] → ComesBy size r content found outcome events
   By_all : outcome_of size r ≡ Done → outcome ≡ Done → Asks r.command r.offset content found events → ComesBy size r content found outcome events

@@ -80,7 +80,7 @@ abbrev pub write_events : Entry → List Event
 write_events [] = []
 write_events (w ∷ ws) = WriteEvent (single_pair w.0 w.1) ∷ write_events ws
 
--- A device that has not halted has the history h, and s is Some h; of one that has halted s is None.
+-- What a device holds: `Some h`, or None once it has halted. Of a halted device no contents are claimed.
 pub record IsDeviceState (stands : History → Type 0) (halted : Option Halt) (s : Option History) : Type 0 where
   pub serves : (h : History) → s ≡ Some h → stands h × (halted ≡ None)
   pub halts : s ≡ None → IsSome halted
@@ -103,7 +103,7 @@ WrittenFirst None offset bytes done = done ≡ []
 WrittenFirst (Some h) offset bytes done =
     (writes : Entry) × (m : ℕ) × (m ≤ length bytes) × AreBytesWritten h offset (take m bytes) writes × (changes done ≡ write_events writes)
 
--- what holds of each state and list of kept events of a device, if it still tells
+-- P holds of each state that a device may have and each list of the events that were kept until then, if it still tells
 abbrev pub ForEachState : (History → Type 0) → Option Halt → (Answers → Type 0) → Bool → (Option History → Answers → Type 0) → Type 0
 ForEachState stands halted kept tells P = IsTrue tells → (s : Option History) (events : Answers) → IsDeviceState stands halted s → kept events → P s events
 

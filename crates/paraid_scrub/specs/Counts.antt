@@ -77,8 +77,8 @@ total m out Fill = when_whole out m.fill
 total m out RebuiltUnit = rebuilt_count m.out
 total m out Mirror = if is_whole_below out 2 then map_count m.setup.geometry else 0
 
--- how many of a part of `size` members, which begins after `from` others, are among the first
--- `seen`
+-- All members stand in one row, kind by kind. Of its first `seen` so many are of the kind that begins after `from` others and
+-- has `size`.
 abbrev pub part : ℕ → ℕ → ℕ → ℕ
 part seen from size = min (seen - from) size
 
@@ -95,7 +95,8 @@ pub record AreCounts (v : View) (seen : ℕ) (report : CheckReport) : Type 0 whe
 abbrev pub all_members : View → ℕ
 all_members v = total v.meta v.out Row + total v.meta v.out Stripe + total v.meta v.out Fill + total v.meta v.out RebuiltUnit + total v.meta v.out Mirror
 
--- These are the counts of a first part of all that is looked at by this view: of all of it, unless a disk has failed.
+-- The counts of the first `seen` members of all that is looked at by this view. All were seen, or a disk has failed since: then
+-- nothing says how many were, and it may be none.
 pub record CountsByView (v : View) (old new : ℕ → Slot) (report : CheckReport) : Type 0 where
   pub seen : ℕ
   pub counts : AreCounts v seen report
