@@ -221,7 +221,7 @@ fn tell_misfits<H: Host>(rt: &H, rack: &ImageRack<&H>) -> Option<u8> {
 fn tell_causes<H: Host>(rt: &H, rack: &ImageRack<&H>) {
     for disk in 0..SLOTS {
         if let Some(cause) = rack.cause(disk) {
-            let _ = eprintln!(rt; "paraid: disk-{disk}.img failed: {cause}");
+            let _ = eprintln!(rt; "paraid: disk-{disk}.img or its sidecar failed: {cause}");
         }
     }
 }
