@@ -9,6 +9,9 @@ no_one e = cc
 pub gone_not_fresh : {d e used : ℕ} → Gone d ≡ Fresh e used → ⊥
 gone_not_fresh e = cc
 
+pub none_not_gone : {d : ℕ} → No ≡ Gone d → ⊥
+none_not_gone e = cc
+
 pub none_not_fresh : {d used : ℕ} → No ≡ Fresh d used → ⊥
 none_not_fresh e = cc
 

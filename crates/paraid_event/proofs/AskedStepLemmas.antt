@@ -94,7 +94,7 @@ module _ (told : Option Trail) (k : Service) (setup : Setup) (p : Point) (at : S
     begun_by cs tells goes none_written = by_name (named_out k2.meta.out) refl
       where
         turn_to : (new : PowerState) → IsStateOf k2 new → (first_lost cs ≡ None → new.phase ≢ Steady) → IsEventStep setup p.history p.energy p.state event (first_lost cs) (Shift p.state.gear to) new → GoesOn k.slots setup p event (Shift p.state.gear to) (StandsAt told_then k2 setup) p.disks cs
-        turn_to new state shifts machine = steps_turn told_then k k setup p event p.state at.going not_bad fit bounds ticks_fit at.same_setup refl most few cs k2 goes (Shift p.state.gear to) new starts tells machine state synced energy fits refl (λ a. refl) none_written refl refl refl (λ is first. other_base p.meta k.meta goes.base_then k2.meta p.disks.power (watch_all cs w0).disks.power at.shown goes.ends.shown (sym at.state.out ∙ no_out) (sym at.state.phase ∙ steady) (λ still. shifts first (state.phase ∙ still))) (λ e low. stands_made told k setup p at e low)
+        turn_to new state shifts machine = steps_turn told_then k k setup p event p.state at.going not_bad fit bounds ticks_fit at.same_setup refl most few cs k2 goes (Shift p.state.gear to) new starts tells machine state synced energy fits refl (λ a. refl) none_written refl refl refl (λ is first. other_base p.meta k.meta goes.base_then k2.meta p.disks.power (watch_all cs w0).disks.power at.shown goes.ends.shown (sym at.state.out ∙ no_out) (sym at.state.phase ∙ steady) (λ still. shifts first (state.phase ∙ still))) (λ e low. stands_made told k setup p at e low) no_out
 
         none_lost : k2.meta.out ≡ No → (o : Option ℕ) → first_lost cs ≡ o → first_lost cs ≡ None
         none_lost whole None is = is
@@ -179,7 +179,7 @@ module _ (told : Option Trail) (k : Service) (setup : Setup) (p : Point) (at : S
     hindered_by cs tells goes = steps_turn_by told_then k k setup p event p.state at.going not_bad fit bounds ticks_fit at.same_setup refl most few cs k2 goes (IsOut e) (after_loss p.state e) starts tells
         (subst (λ (o : Option ℕ). IsEventStep setup p.history p.energy p.state event o (IsOut e) (after_loss p.state e)) (sym failed) step)
         (goes_to.lost e named) synced (capped_own p.energy k.energy 0 k2.energy at.energy at.fits refl same_energy) (let f = at.fits in omega (arith, f, same_energy))
-        (λ quiet none. let z : Some e ≡ None = sym failed ∙ none in cc) (λ a. refl) none_written refl refl refl (λ is. absurd (false≢true is)) (λ x low. stands_made told k setup p at x low)
+        (λ quiet none. let z : Some e ≡ None = sym failed ∙ none in cc) (λ a. refl) none_written refl refl refl (λ is. absurd (false≢true is)) (λ x low. stands_made told k setup p at x low) no_out
       where
         failed : first_lost cs ≡ Some e
         failed = elim (goes.leaves.newly e named) [

@@ -39,7 +39,7 @@ use Rattle.paraid_session.proofs.LayerLemmas.{first_fails}
 use Rattle.paraid_session.specs.Resting.{watch_at}
 use Rattle.paraid_recover.proofs.BaseLemmas.{each_append}
 use Rattle.paraid_recover.proofs.DownLemmas.{watched_disks}
-use Rattle.paraid_event.proofs.ApartLemmas.{down_not_bad, no_one, up_not_bad}
+use Rattle.paraid_event.proofs.ApartLemmas.{down_not_bad, no_one, none_not_gone, up_not_bad}
 use Rattle.paraid_event.specs.Begins.{BeginsDown, MarksShiftDown}
 use Rattle.paraid_event.specs.Lost.{IsHaltedFrom, TellsTwo}
 use Rattle.paraid_event.specs.Marks.{ArePoweredByGear, IsMarkedBy, ShowsMeta}
@@ -318,6 +318,10 @@ module _ (told : Option Trail) (k k1 k2 : Service) (setup : Setup) (p : Point) (
         watched : watch_all (cs ++ ds) (watch_of p AskDown (Shift p.state.gear to)) ≡ v3
         watched = watch_append cs ds w0
 
+        -- the commit has brought all ticks
+        all_ticks : ends2.keeps.base.ticks ≡ s3.ticks
+        all_ticks = ap (λ (m : Meta). m.ticks) base3 ∙ sym (same_ticks v3.disks.power k2.meta k3.meta (part_marks k2 p.history p.low ends.keeps.base v1 mid2 ds part2 k3 p.history lo3 ends2)) ∙ sym state3.ticks
+
         begun_turn : point_wear p < worn_at → (told_then : Option Trail) → ((t : Trail) → told_then ≡ Some t → now t ≡ v3.disks) → GoesOn k.slots setup p AskDown (Shift p.state.gear to) (StandsAt told_then k3 setup) p.disks (cs ++ ds)
         begun_turn fit told_then tells = let there = begun_stands told_then tells in (
           begun_point,
@@ -335,7 +339,9 @@ module _ (told : Option Trail) (k k1 k2 : Service) (setup : Setup) (p : Point) (
             quiet = λ still none. absurd (false≢true still);
             serving = subst (λ (z : Watch). IsServing z.down) (sym watched) serving3;
             mark = subst (λ (m : ℕ). IsMark m setup begun_point) begins.slots (stands_mark told_then k3 setup begun_point there);
-            carried = λ is none. ap (λ (m : Meta). m.ticks) base3 ∙ sym (same_ticks v3.disks.power k2.meta k3.meta (part_marks k2 p.history p.low ends.keeps.base v1 mid2 ds part2 k3 p.history lo3 ends2)) ∙ sym state3.ticks;
+            carried = λ is none. all_ticks;
+            brought = λ moved. all_ticks;
+            named = λ e was is moved. absurd (none_not_gone (sym no_out ∙ was));
             flushed = λ f. absurd (false≢true f);
             disks = ap (λ (z : Watch). z.disks) (sym (watch_append cs ds w0)) ∙ watched_disks w0 (cs ++ ds);
             history = sym (append-nil p.history);

@@ -247,6 +247,8 @@ module _ (told : Option Trail) (k : Service) (setup : Setup) (p : Point) (at : S
           serving = subst (λ (z : Watch). IsServing z.down) (sym starts) (serving_from (named_out p.state.out));
           mark = rests.mark;
           carried = λ is none. absurd (false≢true (sym neither.1 ∙ is));
+          brought = λ moved. absurd (moved refl);
+          named = λ d was is moved. absurd (moved refl);
           flushed = λ f. absurd (false≢true (sym not_flush ∙ f));
           disks = refl;
           history = sym (append-nil p.history) ∙ ap (λ (more : History). p.history ++ more) (sym none);

@@ -33,7 +33,7 @@ use Rattle.paraid_session.specs.Watch.{Bounds, Down, Each, HoldsWhileServing, Is
 use Rattle.paraid_session.proofs.LayerLemmas.{IsIn, first_fails}
 use Rattle.paraid_recover.proofs.BaseLemmas.{each_append}
 use Rattle.paraid_recover.proofs.DownLemmas.{in_stays, watched_disks}
-use Rattle.paraid_event.proofs.ApartLemmas.{fail_not_bad, gone_not_fresh, no_one}
+use Rattle.paraid_event.proofs.ApartLemmas.{fail_not_bad, gone_not_fresh, no_one, none_not_gone}
 use Rattle.paraid_event.specs.Fails.{TakesOut}
 use Rattle.paraid_event.specs.Marks.{ArePoweredByGear, IsMarkedBy, ShowsMeta}
 use Rattle.paraid_event.specs.Parts.{AreEventCalls, EndsEvent, ServesEvent, committed_meta}
@@ -370,6 +370,8 @@ module _ (told : Option Trail) (k k1 k2 k3 : Service) (setup : Setup) (p : Point
             quiet = λ still none. absurd (false≢true still);
             serving = subst (λ (z : Watch). IsServing z.down) (sym watched) serving3;
             carried = λ is none. absurd (false≢true is);
+            brought = λ moved. ap (λ (m : Meta). m.ticks) base3 ∙ sym (same_ticks v3.disks.power k2.meta k3.meta marks3) ∙ sym failed_state.ticks;
+            named = λ e was is moved. absurd (none_not_gone (sym no_out ∙ was));
             mark = subst (λ (m : ℕ). IsMark m setup failed_point) takes.slots_then (stands_mark told_then k3 setup failed_point there);
             flushed = λ f. absurd (false≢true f);
             disks = ap (λ (z : Watch). z.disks) (sym (watch_append cs ds w0)) ∙ watched_disks w0 (cs ++ ds);

@@ -153,6 +153,8 @@ module _ (told : Option Trail) (k k_then : Service) (setup : Setup) (p : Point) 
         serving = serving_from (named_out p.state.out);
         mark = stands_mark told j setup q there;
         carried = λ is none. absurd (false≢true (sym not_begun ∙ is));
+        brought = λ moved. absurd (moved refl);
+        named = λ d was is moved. absurd (moved refl);
         flushed = λ f. absurd (false≢true f);
         disks = refl;
         history = sym (append-nil p.history);

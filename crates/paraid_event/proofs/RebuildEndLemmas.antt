@@ -25,7 +25,7 @@ use Rattle.paraid_session.specs.Watch.{Bounds, Each, HoldsWhileServing, IsAllowe
 use Rattle.paraid_session.proofs.LayerLemmas.{first_fails}
 use Rattle.paraid_session.specs.Resting.{watch_at}
 use Rattle.paraid_recover.proofs.DownLemmas.{watched_disks}
-use Rattle.paraid_event.proofs.ApartLemmas.{no_one, tick_not_bad}
+use Rattle.paraid_event.proofs.ApartLemmas.{gone_not_fresh, no_one, tick_not_bad}
 use Rattle.paraid_event.specs.RebuildEnds.{MarksRejoined}
 use Rattle.paraid_event.specs.RebuildTicks.{CountsRebuild}
 use Rattle.paraid_session.specs.Ups.{up_count}
@@ -78,7 +78,7 @@ module _ (told : Option Trail) (k k1 : Service) (setup : Setup) (p : Point) (at 
   ends_some few_left = subst (λ (c : ℕ). Contains {X = Answer × PowerState} (end_outcome left c ∷ []) ((report p.state left (Rebuilt d)).0, record s1 { out = No })) (sym (min_is left setup.rate few_left)) (ends_left left)
 
   -- The event has ended: the disk is back.
-  module _ (k2 : Service) (counts2 : CountsRebuild k k1 k2) (few_left : left ≤ setup.rate) (cs : List Call) (calls : AreStepCalls k1 p.history p.low bound p.meta w0 cs) (base : Meta) (ended : IsEnded k1 k2 p.history p.low d base (watch_all cs w0))
+  module _ (k2 : Service) (counts2 : CountsRebuild k k1 k2) (few_left : left ≤ setup.rate) (cs : List Call) (calls : AreStepCalls k1 p.history p.low bound p.meta w0 cs) (base : Meta) (brought2 : base.ticks ≡ k2.meta.ticks) (ended : IsEnded k1 k2 p.history p.low d base (watch_all cs w0))
       (none_out : k2.meta.out ≡ No) (state2 : IsStateOf k2 (record s1 { out = No }))
       (used2 : (e : ℕ) → e < k1.meta.setup.geometry.disks → up_count e cs + made_by k1.meta p.disks.power e ≤ slice_index k2.meta.spins e) where
     abbrev v : Watch
@@ -193,6 +193,8 @@ module _ (told : Option Trail) (k k1 : Service) (setup : Setup) (p : Point) (at 
         quiet = λ still none. absurd (false≢true (sym busy ∙ still));
         serving = serving2;
         carried = λ is none. absurd (false≢true is);
+        brought = λ moved. brought2 ∙ sym state2.ticks;
+        named = λ e was is moved. absurd (gone_not_fresh (sym was ∙ is_fresh));
         mark = subst (λ (m : ℕ). IsMark m setup q) (ended.slots ∙ slots1 told k k1 setup p at d rebuilt is_fresh counts fit bound few) (stands_mark told_then k2 setup q there);
         flushed = λ f. absurd (false≢true f);
         disks = watched_disks w0 cs;

@@ -371,7 +371,7 @@ module _ (told : Option Trail) (k k1 : Service) (setup : Setup) (p : Point) (at 
         was = r.was;
         calls = r.calls;
         is = r.is;
-        holds = ended_turn told k k1 setup p at d rebuilt is_fresh counts fit bound few k2 counts2 few_left r.calls it.calls it.base_then it.ended out2 state2 it.used told_then (λ u u_tells. ap now (some_trail u t (sym u_tells ∙ tells)) ∙ end);
+        holds = ended_turn told k k1 setup p at d rebuilt is_fresh counts fit bound few k2 counts2 few_left r.calls it.calls it.base_then it.brought it.ended out2 state2 it.used told_then (λ u u_tells. ap now (some_trail u t (sym u_tells ∙ tells)) ∙ end);
       }
 
   module _ (before mid told_then : Option Trail) (j back k2 : Service) (most : ℕ) (few : most + 1 ≤ 2 ^ 20) (counts2 : CountsRebuild k k1 k2) (steps : Ran told before (StepsInEvent k1 j h lo most)) where

@@ -43,7 +43,7 @@ use Rattle.paraid_session.specs.Watch.{Bounds, Down, Each, HoldsWhileServing, Is
 use Rattle.paraid_session.proofs.LayerLemmas.{absent_failed, fails_first, first_fails}
 use Rattle.paraid_session.specs.Resting.{watch_at}
 use Rattle.paraid_recover.proofs.DownLemmas.{watched_disks}
-use Rattle.paraid_event.proofs.ApartLemmas.{tick_not_bad}
+use Rattle.paraid_event.proofs.ApartLemmas.{gone_not_fresh, tick_not_bad}
 use Rattle.paraid_event.specs.Lost.{TellsTwo}
 use Rattle.paraid_event.specs.RebuildTicks.{CountsRebuild, MarksGoneAgain, MarksRebuilt}
 use Rattle.std.specs.Prelude.{slice_index}
@@ -339,6 +339,11 @@ module _ (told : Option Trail) (k k1 : Service) (setup : Setup) (p : Point) (at 
         quiet = λ still none. absurd (false≢true (sym busy ∙ still));
         serving = serving2;
         carried = λ is none. absurd (false≢true (sym not_begun ∙ is));
+        brought = λ moved_on. elim goes.carried [
+          | inl still ↦ absurd (moved_on still)
+          | inr brought ↦ brought ∙ sym state2.ticks
+        ];
+        named = λ e was is moved_on. absurd (gone_not_fresh (sym was ∙ is_fresh));
         mark = subst (λ (m : ℕ). IsMark m setup q) (goes.leaves.slots ∙ slots1) (stands_mark told_then k2 setup q there);
         flushed = λ f. absurd (false≢true f);
         disks = watched_disks w0 cs;

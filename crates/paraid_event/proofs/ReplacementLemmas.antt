@@ -1,5 +1,5 @@
 -- A disk that is replaced: its mark, a commit of that, the attach of a fresh one, and a commit that it is there.
-use Rattle.std.proofs.Common.{◌≡◌, ◌≢◌, ℕ, ◌+◌, ◌<◌, ◌≤◌, Bool, true, false, List, [], ◌∷◌, ◌++◌, length, Option, Some, None, refl, sym, ap, ◌∙◌, inl, inr, subst, arith, min, if◌then◌else◌}
+use Rattle.std.proofs.Common.{◌≡◌, ◌≢◌, ℕ, ◌+◌, ◌<◌, ◌≤◌, ◌⊎◌, Bool, true, false, List, [], ◌∷◌, ◌++◌, length, Option, Some, None, refl, sym, ap, ◌∙◌, inl, inr, subst, arith, min, if◌then◌else◌}
 use Rattle.std.specs.Prelude.{◌==◌, nat_lt, Contains, slice_index}
 use Rattle.std.proofs.lemmas.Bool.{false≢true}
 use Rattle.std.proofs.lemmas.Bool.Decides.{nat_tests}
@@ -204,7 +204,8 @@ module _ (told : Option Trail) (k : Service) (setup : Setup) (p : Point) (at : S
   -- The event is answered, and the array stands after it.
   module _ (fresh_came : Bool) (kf : Service) (base : Meta) (all : List Call) (vf : Watch) (watched_all : watch_all all w0 ≡ vf) (mid : IsMidway kf p.history p.low base vf) (is_only : IsOnly (Some d) vf.down) (copies : AreCopiesSynced kf.meta.setup.geometry.disks kf.copied)
       (setup_is : kf.meta.setup ≡ setup) (shown : ShowsMeta vf.disks.power base kf.meta) (powered : ArePoweredByGear vf.disks.power kf.meta) (state : IsStateOf kf (state_of p.state d fresh_came))
-      (energy : kf.energy ≡ k.energy) (slots : kf.slots ≡ k.slots) (each : Held w0 all) (one : attach_count all ≡ 1) (none_up : (e : ℕ) → up_count e all ≡ 0) (loss : first_lost all ≡ loss_of d fresh_came) where
+      (energy : kf.energy ≡ k.energy) (slots : kf.slots ≡ k.slots) (each : Held w0 all) (one : attach_count all ≡ 1) (none_up : (e : ℕ) → up_count e all ≡ 0) (loss : first_lost all ≡ loss_of d fresh_came)
+      (brought : base.ticks ≡ kf.meta.ticks) (names : (base.out ≡ Gone d) ⊎ (base.out ≡ Fresh d 0)) where
     abbrev answer : Answer
     answer = answer_of d fresh_came
 
@@ -316,6 +317,9 @@ module _ (told : Option Trail) (k : Service) (setup : Setup) (p : Point) (at : S
         by true = refl
         by false = refl
 
+    said : (base.out ≡ Gone d) ⊎ ((base.out ≡ Fresh d 0) × (attach_count all ≡ 1))
+    said = elim names [ inl gone ↦ inl gone | inr fresh ↦ inr (fresh, one) ]
+
     whole : watch_all all (watch_of p (Replace d) answer) ≡ vf
     whole = ap (watch_all all) watched ∙ watched_all
 
@@ -333,6 +337,8 @@ module _ (told : Option Trail) (k : Service) (setup : Setup) (p : Point) (at : S
         serving = subst (λ (z : Watch). IsServing z.down) (sym whole) (only_serving (Some d) vf.down is_only);
         mark = subst (λ (m : ℕ). IsMark m setup q) slots (stands_mark told_then kf setup q there);
         carried = λ is none. absurd (false≢true (sym not_begun ∙ is));
+        brought = λ moved. brought ∙ sym state.ticks;
+        named = λ e was is moved. subst (λ (x : ℕ). (base.out ≡ Gone x) ⊎ ((base.out ≡ Fresh x 0) × (attach_count all ≡ 1))) (let z : Some d ≡ Some e = sym is_out ∙ ap named_out was in let same_disk : d ≡ e = cc in same_disk) said;
         flushed = λ f. absurd (false≢true (sym no_flush ∙ f));
         disks = ap (λ (z : Watch). z.disks) (sym watched_all) ∙ watched_disks w0 all;
         history = sym (append-nil p.history) ∙ ap (λ (more : History). p.history ++ more) (sym no_write);
@@ -605,7 +611,8 @@ module _ (told : Option Trail) (k : Service) (setup : Setup) (p : Point) (at : S
             (each_append (HoldsWhileServing k.slots p.history p.low b) (IsAllowed setup (Some d)) w0 cs (attach false ∷ []) each1 (attached_each false held))
             (let a = attach_after cs (attach false ∷ []) (part_attaches k1 p.history p.low p.meta w0 mid1 cs part) in omega (arith, a))
             (λ e. let a = up_append e cs (attach false ∷ []) in let x = part_ups k1 p.history p.low p.meta w0 mid1 cs part e in let z : up_count e (attach false ∷ []) ≡ 0 = refl in omega (arith, a, x, z))
-            (first_append cs (attach false ∷ []) none_lost) told_then tells
+            (first_append cs (attach false ∷ []) none_lost)
+            (ap (λ (m : Meta). m.ticks) base2 ∙ sym (same_ticks v1.disks.power k1.meta k2.meta marks2)) (inl base_out) told_then tells
 
       -- a fresh disk is there
       module _ (held : IsHeldWithOneMissing k2.slots k2.meta.setup.geometry.disks k2.named p.history p.low (step (attach true) v1.disks)) (keeps : ServiceStandsFor (with_fresh k2 d) p.history p.low (step (attach true) v1.disks)) where
@@ -782,7 +789,8 @@ module _ (told : Option Trail) (k : Service) (setup : Setup) (p : Point) (at : S
               → GoesOn k.slots setup p (Replace d) (answer_of d fresh_came) (StandsAt told_then k4 setup) p.disks all
           fresh_turn fresh_came is told_then tells = replaced_turn fresh_came k4 ends3.keeps.base all v4 (watch_append cs (attach true ∷ ds) w0) mid4 only4 commits3.copies_synced setup4 shown4 powered4
               (state_by fresh_came is) (commits3.energy ∙ commits.energy ∙ ap (λ (z : Service). z.energy) marks.mark) (commits3.counts.slots ∙ slots2)
-              (all_each ds part3) (all_once ds part3) (all_up ds part3) (first_append cs (attach true ∷ ds) none_lost ∙ loss_by fresh_came is) told_then tells
+              (all_each ds part3) (all_once ds part3) (all_up ds part3) (first_append cs (attach true ∷ ds) none_lost ∙ loss_by fresh_came is)
+              (ap (λ (m : Meta). m.ticks) base4 ∙ sym (same_ticks v4.disks.power k3.meta k4.meta marks4)) (inr (ap (λ (m : Meta). m.out) base4)) told_then tells
             where
               state_by : (t : Bool) → k4.meta.out ≡ out_of d t → IsStateOf k4 (state_of p.state d t)
               state_by true z = state_came z

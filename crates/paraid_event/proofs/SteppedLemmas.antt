@@ -33,6 +33,7 @@ use Rattle.paraid_session.specs.Turn.IsTurn.{answered, two as second_loss}
 use Rattle.paraid_session.specs.Watch.{Bounds, Down as DownDisks, Each, HoldsWhileServing, IsAllowed, IsServing, Watch, down_from_out, first_lost, watch_all}
 use Rattle.paraid_session.specs.Resting.{watch_at}
 use Rattle.paraid_recover.proofs.DownLemmas.{watched_disks}
+use Rattle.paraid_event.proofs.ApartLemmas.{none_not_gone}
 use Rattle.paraid_event.specs.Lost.{TellsTwo}
 use Rattle.std.specs.Prelude.{slice_index}
 use Rattle.paraid_event.specs.Steps.{made_by}
@@ -111,7 +112,7 @@ module _ (told_then : Option Trail) (k k1 : Service) (setup : Setup) (p : Point)
       (machine : IsEventStep setup p.history p.energy p.state event (first_lost cs) answer new) (state : IsStateOf k2 new) (synced : AreCopiesSynced k2.meta.setup.geometry.disks k2.copied)
       (energy : energy_after setup p.energy p.state answer ≡ k2.energy) (fits : k2.energy ≤ 18446744073709551615) (quiet : makes_no_call answer ≡ true → first_lost cs ≡ None → cs ≡ []) (awaits : (a : Option ℕ) → awaited_by answer a ≡ a)
       (none : accepted_write event answer ≡ []) (low : with_flush p.low answer ≡ p.low) (not_flush : is_flush answer ≡ false) (no_attach : tells_attach answer ≡ false) (begins : tells_begin answer ≡ true → first_lost cs ≡ None → goes.base_then ≢ p.meta)
-      (rest : (d : ℕ) → d < setup.geometry.disks → slice_index p.state.spins d ≤ made_by k1.meta p.disks.power d) where
+      (rest : (d : ℕ) → d < setup.geometry.disks → slice_index p.state.spins d ≤ made_by k1.meta p.disks.power d) (whole : p.state.out ≡ No) where
     abbrev q : Point
     q = record {
       disks = v.disks;
@@ -163,6 +164,11 @@ module _ (told_then : Option Trail) (k k1 : Service) (setup : Setup) (p : Point)
           | inl same ↦ absurd (begins is first same)
           | inr brought ↦ brought ∙ sym state.ticks
         ];
+        brought = λ moved. elim goes.carried [
+          | inl same ↦ absurd (moved same)
+          | inr brought ↦ brought ∙ sym state.ticks
+        ];
+        named = λ d was is moved. absurd (none_not_gone (sym whole ∙ was));
         mark = subst (λ (n : ℕ). IsMark n setup q) (goes.leaves.slots ∙ slots1) (stands_mark told_then k2 setup q there);
         flushed = λ f. absurd (false≢true (sym not_flush ∙ f));
         disks = watched_disks w0 cs;
@@ -181,9 +187,9 @@ module _ (told_then : Option Trail) (k k1 : Service) (setup : Setup) (p : Point)
       (machine : IsEventStep setup p.history p.energy p.state event (first_lost cs) answer new) (state : IsStateOf k2 new) (synced : AreCopiesSynced k2.meta.setup.geometry.disks k2.copied)
       (energy : energy_after setup p.energy p.state answer ≡ k2.energy) (fits : k2.energy ≤ 18446744073709551615) (busy : makes_no_call answer ≡ false) (awaits : (a : Option ℕ) → awaited_by answer a ≡ a)
       (none : accepted_write event answer ≡ []) (low : with_flush p.low answer ≡ p.low) (not_flush : is_flush answer ≡ false) (no_attach : tells_attach answer ≡ false) (begins : tells_begin answer ≡ true → first_lost cs ≡ None → goes.base_then ≢ p.meta)
-      (rest : (d : ℕ) → d < setup.geometry.disks → slice_index p.state.spins d ≤ made_by k1.meta p.disks.power d) where
+      (rest : (d : ℕ) → d < setup.geometry.disks → slice_index p.state.spins d ≤ made_by k1.meta p.disks.power d) (whole : p.state.out ≡ No) where
     pub steps_turn : GoesOn k.slots setup p event answer (StandsAt told_then k2 setup) p.disks cs
-    steps_turn = steps_turn_by k2 goes answer new starts tells machine state synced energy fits (λ still first. absurd (false≢true (sym busy ∙ still))) awaits none low not_flush no_attach begins rest
+    steps_turn = steps_turn_by k2 goes answer new starts tells machine state synced energy fits (λ still first. absurd (false≢true (sym busy ∙ still))) awaits none low not_flush no_attach begins rest whole
 
 -- From where an array stands an event is underway.
 pub event_underway : (told : Option Trail) (k : Service) (setup : Setup) (p : Point) → StandsAt told k setup p → IsUnderway k p.history p.low p.meta (watch_at p)

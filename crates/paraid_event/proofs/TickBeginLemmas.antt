@@ -41,7 +41,7 @@ use Rattle.paraid_session.specs.Turn.IsTurn.{answered, two as second_loss}
 use Rattle.paraid_session.specs.Watch.{Bounds, Down as DownDisks, Each, HoldsWhileServing, IsAllowed, IsServing, Watch, down_from_out, first_lost, nobody, only, several, watch_all}
 use Rattle.paraid_session.specs.Resting.{watch_at}
 use Rattle.paraid_recover.proofs.DownLemmas.{watched_disks}
-use Rattle.paraid_event.proofs.ApartLemmas.{no_one, tick_not_bad}
+use Rattle.paraid_event.proofs.ApartLemmas.{no_one, none_not_gone, tick_not_bad}
 use Rattle.paraid_event.specs.Lost.{TellsTwo}
 use Rattle.paraid_event.specs.Marks.{ArePoweredByGear, ShowsMeta}
 use Rattle.paraid_event.specs.Parts.{AreEventCalls, EndsEvent, LosesInEvent, ServesEvent, committed_meta}
@@ -307,6 +307,10 @@ module _ (told : Option Trail) (k k1 k2 : Service) (setup : Setup) (p : Point) (
             (subst (λ (o : Option ℕ). Contains {X = Answer × PowerState} (shift_down setup (first_lost ds) s1 to o) (answer, s3)) (sym unworn) (begun_among (first_lost ds)))));
       }
 
+      -- the commit has brought all ticks
+      all_ticks : ends.keeps.base.ticks ≡ s3.ticks
+      all_ticks = ap (λ (m : Meta). m.ticks) base3 ∙ sym (same_ticks v.disks.power k2.meta k3.meta (part_marks k2 p.history p.low p.meta w0 mid2 ds part k3 p.history lo3 ends)) ∙ sym state3.ticks
+
       begun_turn : (told_then : Option Trail) → ((t : Trail) → told_then ≡ Some t → now t ≡ v.disks) → GoesOn k.slots setup p Tick answer (StandsAt told_then k3 setup) p.disks ds
       begun_turn told_then tells = let there = begun_stands told_then tells in (
         begun_point,
@@ -319,7 +323,9 @@ module _ (told : Option Trail) (k k1 k2 : Service) (setup : Setup) (p : Point) (
           ups = λ e low. let z = part_ups k2 p.history p.low p.meta w0 mid2 ds part e in omega (arith, z);
           quiet = λ still none. absurd (false≢true still);
           serving = serving3;
-          carried = λ is none. ap (λ (m : Meta). m.ticks) base3 ∙ sym (same_ticks v.disks.power k2.meta k3.meta (part_marks k2 p.history p.low p.meta w0 mid2 ds part k3 p.history lo3 ends)) ∙ sym state3.ticks;
+          carried = λ is none. all_ticks;
+          brought = λ moved. all_ticks;
+          named = λ e was is moved. absurd (none_not_gone (sym no_out ∙ was));
           mark = subst (λ (m : ℕ). IsMark m setup begun_point) (begins.slots ∙ ap (λ (z : Service). z.slots) counts.is) (stands_mark told_then k3 setup begun_point there);
           flushed = λ f. absurd (false≢true f);
           disks = watched_disks w0 ds;

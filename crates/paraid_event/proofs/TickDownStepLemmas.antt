@@ -86,7 +86,7 @@ module _ (told : Option Trail) (k k1 : Service) (setup : Setup) (p : Point) (at 
     down_by cs tells goes = by_name (named_out k2.meta.out) refl
       where
         turn_to : (new : PowerState) (loss : Option ℕ) → first_lost cs ≡ loss → IsStateOf k2 new → (first_lost cs ≡ None → new.phase ≢ Steady) → Contains {X = Answer × PowerState} (begin_by_tick loss (begun_down to s1) to) (report new 0 (Begun to)) → GoesOn k.slots setup p Tick down_answer (StandsAt told_then k2 setup) p.disks cs
-        turn_to new loss first state shifts is = tick_answered told k k1 setup p at counts fit k2 (Begun to) 0 new state synced energy2 most few told_then refl cs goes tells
+        turn_to new loss first state shifts is = tick_answered told k k1 setup p at counts fit k2 (Begun to) 0 new state synced energy2 most few told_then no_out refl cs goes tells
             (λ begun none. other_base p.meta k.meta goes.base_then k2.meta p.disks.power (watch_all cs w0).disks.power at.shown goes.ends.shown (sym at.state.out ∙ no_out) (sym at.state.phase ∙ steady) (λ still. shifts none (state.phase ∙ still)))
             (lowered_step (first_lost cs) down_answer new (subst (λ (l : Option ℕ). Contains {X = Answer × PowerState} (begin_by_tick l (begun_down to s1) to) (down_answer, new)) (sym first) (down_among loss new state.gear is)))
 

@@ -138,11 +138,11 @@ module _ (told : Option Trail) (k k1 : Service) (setup : Setup) (p : Point) (at 
     abbrev answer : Answer
     answer = Ticked (record { gear = k2.meta.gear; moved = moved; event = event })
 
-    pub tick_answered : makes_no_call answer ≡ false → (cs : List Call) (goes : GoesInSteps k1 k2 p.history p.low most (IsUnderway k2 p.history p.low) p.meta w0 cs) → ((t : Trail) → told_then ≡ Some t → now t ≡ run p.disks cs) → (is_begun event ≡ true → first_lost cs ≡ None → goes.base_then ≢ p.meta)
+    pub tick_answered : p.state.out ≡ No → makes_no_call answer ≡ false → (cs : List Call) (goes : GoesInSteps k1 k2 p.history p.low most (IsUnderway k2 p.history p.low) p.meta w0 cs) → ((t : Trail) → told_then ≡ Some t → now t ≡ run p.disks cs) → (is_begun event ≡ true → first_lost cs ≡ None → goes.base_then ≢ p.meta)
         → IsEventStep setup p.history p.energy p.state Tick (first_lost cs) answer new → GoesOn k.slots setup p Tick answer (StandsAt told_then k2 setup) p.disks cs
-    tick_answered busy cs goes tells begins machine = steps_turn told_then k k1 setup p Tick s1 at.going (λ e. tick_not_bad e) fit refl ticks1 setup1 slots1 most few cs k2 goes answer new refl tells machine state synced
+    tick_answered no_out busy cs goes tells begins machine = steps_turn told_then k k1 setup p Tick s1 at.going (λ e. tick_not_bad e) fit refl ticks1 setup1 slots1 most few cs k2 goes answer new refl tells machine state synced
         (capped_sum p.energy k.energy (tick_energy setup p.state) (begun_energy setup p.state.gear event) k1.energy k2.energy at.energy energy1 energy)
-        (under_cap k2.energy (k1.energy + begun_energy setup p.state.gear event) energy) busy (λ a. refl) refl refl refl refl begins (λ e low. counted_made told k k1 setup p at counts e low)
+        (under_cap k2.energy (k1.energy + begun_energy setup p.state.gear event) energy) busy (λ a. refl) refl refl refl refl begins (λ e low. counted_made told k k1 setup p at counts e low) no_out
 
   -- from what is told of its parts
   pub tick_parts : (told_then : Option Trail) (Q : Disks → List Call → Type 0) (R : Disks → List Call → Type 0) → ((cs : List Call) → Q p.disks cs → ((t : Trail) → told_then ≡ Some t → now t ≡ run p.disks cs) → R p.disks cs) → Ran told told_then Q → Ran told told_then R
@@ -225,7 +225,7 @@ module _ (told : Option Trail) (k k1 : Service) (setup : Setup) (p : Point) (at 
       pub units_turn : MovesUnits k1 k2 count → k2.meta.out ≡ No → ended ≡ false → Ran told told_then (StepsInEvent k1 k2 p.history p.low most)
           → Ran told told_then (GoesOn k.slots setup p Tick (Ticked (record { gear = k2.meta.gear; moved = count; event = Moving })) (StandsAt told_then k2 setup))
       units_turn moves whole left = tick_parts told_then (StepsInEvent k1 k2 p.history p.low most) (GoesOn k.slots setup p Tick (Ticked (record { gear = k2.meta.gear; moved = count; event = Moving })) (StandsAt told_then k2 setup))
-          (λ cs steps tells. let goes = steps p.meta w0 refl tick_underway in tick_answered k2 Moving count (after_units setup count s1) state synced energy2 most few told_then refl cs goes tells (λ is. absurd (false≢true is))
+          (λ cs steps tells. let goes = steps p.meta w0 refl tick_underway in tick_answered k2 Moving count (after_units setup count s1) state synced energy2 most few told_then no_out refl cs goes tells (λ is. absurd (false≢true is))
           (moved_step (first_lost cs) (Ticked (record { gear = k2.meta.gear; moved = count; event = Moving })) (after_units setup count s1)
           (subst (λ (o : Option ℕ). Contains {X = Answer × PowerState} (move setup o s1 count ended) (Ticked (record { gear = k2.meta.gear; moved = count; event = Moving }), after_units setup count s1)) (sym (none_lost k2 most cs goes no_out whole)) among)))
         where
@@ -241,7 +241,7 @@ module _ (told : Option Trail) (k k1 : Service) (setup : Setup) (p : Point) (at 
       pub lost_turn : (m d : ℕ) → MovesUnits k1 k2 m → m ≤ count → named_out k2.meta.out ≡ Some d → Ran told told_then (StepsInEvent k1 k2 p.history p.low most)
           → Ran told told_then (GoesOn k.slots setup p Tick (Ticked (record { gear = k2.meta.gear; moved = m; event = Lost d })) (StandsAt told_then k2 setup))
       lost_turn m d moves le named = tick_parts told_then (StepsInEvent k1 k2 p.history p.low most) (GoesOn k.slots setup p Tick (Ticked (record { gear = k2.meta.gear; moved = m; event = Lost d })) (StandsAt told_then k2 setup))
-          (λ cs steps tells. let goes = steps p.meta w0 refl tick_underway in tick_answered k2 (Lost d) m (after_loss (after_units setup m s1) d) state synced energy2 most few told_then refl cs goes tells (λ is. absurd (false≢true is))
+          (λ cs steps tells. let goes = steps p.meta w0 refl tick_underway in tick_answered k2 (Lost d) m (after_loss (after_units setup m s1) d) state synced energy2 most few told_then no_out refl cs goes tells (λ is. absurd (false≢true is))
           (moved_step (first_lost cs) (Ticked (record { gear = k2.meta.gear; moved = m; event = Lost d })) (after_loss (after_units setup m s1) d)
           (subst (λ (o : Option ℕ). Contains {X = Answer × PowerState} (move setup o s1 count ended) (Ticked (record { gear = k2.meta.gear; moved = m; event = Lost d }), after_loss (after_units setup m s1) d)) (sym (lost_named k2 most cs goes no_out d named)) (among ended))))
         where
@@ -271,7 +271,7 @@ module _ (told : Option Trail) (k k1 : Service) (setup : Setup) (p : Point) (at 
           by_out cs tells goes o is = by_name (named_out k2.meta.out) refl
             where
               turn_to : (new : PowerState) (loss : Option ℕ) → first_lost cs ≡ loss → IsStateOf k2 new → Contains {X = Answer × PowerState} (move setup loss s1 count true) (report new count Flipped) → GoesOn k.slots setup p Tick (Ticked (record { gear = k2.meta.gear; moved = count; event = Flipped })) (StandsAt told_then k2 setup) p.disks cs
-              turn_to new loss first state is = tick_answered k2 Flipped count new state synced energy2 most few told_then refl cs goes tells (λ is. absurd (false≢true is))
+              turn_to new loss first state is = tick_answered k2 Flipped count new state synced energy2 most few told_then no_out refl cs goes tells (λ is. absurd (false≢true is))
                   (moved_step (first_lost cs) (Ticked (record { gear = k2.meta.gear; moved = count; event = Flipped })) new (subst (λ (l : Option ℕ). Contains {X = Answer × PowerState} (move setup l s1 count ended) (Ticked (record { gear = k2.meta.gear; moved = count; event = Flipped }), new)) (sym first) (among loss new state.gear is)))
 
               by_name : (n : Option ℕ) → named_out k2.meta.out ≡ n → GoesOn k.slots setup p Tick (Ticked (record { gear = k2.meta.gear; moved = count; event = Flipped })) (StandsAt told_then k2 setup) p.disks cs
@@ -316,7 +316,7 @@ module _ (told : Option Trail) (k k1 : Service) (setup : Setup) (p : Point) (at 
       up_by cs tells goes = by_name (named_out k2.meta.out) refl
         where
           turn_to : (new : PowerState) (loss : Option ℕ) → first_lost cs ≡ loss → IsStateOf k2 new → (first_lost cs ≡ None → new.phase ≢ Steady) → Contains {X = Answer × PowerState} (begin_by_tick loss (begun_up to s1) to) (report new 0 (Begun to)) → GoesOn k.slots setup p Tick up_answer (StandsAt told_then k2 setup) p.disks cs
-          turn_to new loss first state shifts is = tick_answered k2 (Begun to) 0 new state synced energy most few told_then refl cs goes tells
+          turn_to new loss first state shifts is = tick_answered k2 (Begun to) 0 new state synced energy most few told_then no_out refl cs goes tells
               (λ begun none. other_base p.meta k.meta goes.base_then k2.meta p.disks.power (watch_all cs w0).disks.power at.shown goes.ends.shown (sym at.state.out ∙ no_out) (sym at.state.phase ∙ steady) (λ still. shifts none (state.phase ∙ still)))
               (begun_step (first_lost cs) up_answer new (subst (λ (l : Option ℕ). Contains {X = Answer × PowerState} (begin_by_tick l (begun_up to s1) to) (up_answer, new)) (sym first) (up_among loss new state.gear is)))
 

@@ -309,6 +309,10 @@ module _ (told : Option Trail) (k : Service) (setup : Setup) (p : Point) (at : S
                   let same_disk : x ≡ d = (let z : Some x ≡ Some d = ap named_out (sym now_marks.0) ∙ lost_named d first in cc) in
                   of_loss d (now_marks.0 ∙ ap Gone same_disk) now_marks.1 now_marks.2
 
+      -- where another meta stands it is that of a commit
+      new_base : ends.keeps.base ≢ p.meta → ends.keeps.base ≡ committed_meta k
+      new_base moved = elim which_then [ inl old ↦ absurd (moved old) | inr new ↦ new ]
+
       -- the point after the event
       abbrev point_then : Answer → Event → PowerState → Point
       point_then answer event s = record {
@@ -368,6 +372,8 @@ module _ (told : Option Trail) (k : Service) (setup : Setup) (p : Point) (at : S
               quiet = quiet;
               serving = subst (λ (z : Watch). IsServing (watch_all cs z).down) (sym starts) serving;
               carried = λ is no_loss. absurd (false≢true (sym neither.1 ∙ is));
+              brought = λ moved. ap (λ (m : Meta). m.ticks) (new_base moved) ∙ sym (same_ticks v.disks.power k.meta k_then.meta marks) ∙ sym of.ticks;
+              named = λ d was is moved. inl (ap (λ (m : Meta). m.out) (new_base moved) ∙ sym at.state.out ∙ was);
               mark = subst (λ (m : ℕ). IsMark m setup (point_then answer event s)) slots (stands_mark told_then k_then setup (point_then answer event s) there);
               flushed = flushed;
               disks = disks_are;

@@ -42,7 +42,7 @@ use Rattle.paraid_session.proofs.LayerLemmas.{absent_failed, fails_first, first_
 use Rattle.paraid_session.specs.Resting.{watch_at}
 use Rattle.paraid_recover.proofs.BaseLemmas.{each_append}
 use Rattle.paraid_recover.proofs.DownLemmas.{watched_disks}
-use Rattle.paraid_event.proofs.ApartLemmas.{no_one, up_not_bad}
+use Rattle.paraid_event.proofs.ApartLemmas.{no_one, none_not_gone, up_not_bad}
 use Rattle.paraid_event.specs.Marks.{ArePoweredByGear, IsMarkedBy, ShowsMeta}
 use Rattle.paraid_event.specs.Parts.{AreEventCalls, EndsEvent, LosesInEvent, ServesEvent, committed_meta}
 use Rattle.paraid_event.specs.Powering.{AreDisksPowered, EndsPowered, PowersInEvent}
@@ -552,6 +552,10 @@ module _ (told : Option Trail) (k k1 k2 : Service) (setup : Setup) (p : Point) (
               watched : watch_all all (watch_of p AskUp (Shift p.state.gear to)) ≡ v4
               watched = watch_append cs (ds ++ es) w0 ∙ watch_append ds es v1
 
+              -- the commit has brought all ticks
+              all_ticks : ends2.keeps.base.ticks ≡ s4.ticks
+              all_ticks = ap (λ (m : Meta). m.ticks) base3 ∙ sym (same_ticks v3.disks.power k2.meta k3.meta marks3) ∙ sym (same_ticks v4.disks.power k3.meta k4.meta marks4) ∙ sym state4.ticks
+
               raised_turn : (told_then : Option Trail) → ((t : Trail) → told_then ≡ Some t → now t ≡ v4.disks) → GoesOn k.slots setup p AskUp (Shift p.state.gear to) (StandsAt told_then k4 setup) p.disks all
               raised_turn told_then tells = let there = raised_stands told_then tells in (
                 raised_point,
@@ -575,7 +579,9 @@ module _ (told : Option Trail) (k k1 k2 : Service) (setup : Setup) (p : Point) (
                       omega (arith, r, a, f, b2, c, m, l, x, y);
                   quiet = λ still none. absurd (false≢true still);
                   serving = subst (λ (z : Watch). IsServing z.down) (sym watched) serving4;
-                  carried = λ is none. ap (λ (m : Meta). m.ticks) base3 ∙ sym (same_ticks v3.disks.power k2.meta k3.meta marks3) ∙ sym (same_ticks v4.disks.power k3.meta k4.meta marks4) ∙ sym state4.ticks;
+                  carried = λ is none. all_ticks;
+                  brought = λ moved. all_ticks;
+                  named = λ e was is moved. absurd (none_not_gone (sym no_out ∙ was));
                   mark = subst (λ (m : ℕ). IsMark m setup raised_point) ends_up.counts.slots (stands_mark told_then k4 setup raised_point there);
                   flushed = λ f. absurd (false≢true f);
                   disks = ap (λ (z : Watch). z.disks) (sym watched) ∙ watched_disks w0 all;

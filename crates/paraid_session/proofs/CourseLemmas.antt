@@ -8,6 +8,7 @@ use Rattle.paraid_base.specs.declared.block.Block.{Block}
 use Rattle.paraid_base.specs.declared.event.Answer.TheVariants.{Flushed}
 use Rattle.paraid_base.specs.declared.event.Event.TheVariants.{Bad, Flush}
 use Rattle.paraid_base.specs.declared.state.Out.{Out}
+use Rattle.paraid_base.specs.declared.state.Out.TheVariants.{Gone, No}
 use Rattle.paraid_base.specs.Cells.{home_disk, home_row, parity_disk}
 use Rattle.paraid_base.specs.History.{History, after}
 use Rattle.paraid_base.specs.Log.{worn_at}
@@ -296,6 +297,8 @@ module _ (slots : ℕ) (s : Disks) (m : Meta) (f : IsFormatted slots s m) (small
       serving = rw nobody_is tt;
       mark = calm_mark slots t (next_meta m) (entry ∷ []) 1 calm_next whole_next written_state next_calm;
       carried = λ is none. absurd (false≢true is);
+      brought = λ moved. sym written_calm.ticks;
+      named = λ d was is moved. let z : No ≡ Gone d = sym written_calm.out ∙ was in cc;
       flushed = λ is r d low. calm_clean slots t (next_meta m) (entry ∷ []) 1 calm_next whole_next r d low ∙ sym (written_clean r d low);
       disks = refl;
       history = refl;

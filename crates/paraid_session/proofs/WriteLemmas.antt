@@ -136,6 +136,8 @@ module _ (slots : ℕ) (t : Disks) (m : Meta) (h : History) (lo : ℕ) (calm : I
     serving = rw nobody_is tt;
     mark = calm_mark slots t m (h ++ entry ∷ []) lo longer all (after_write m s) (write_calm m s c);
     carried = λ is none. absurd (false≢true is);
+    brought = λ moved. absurd (moved refl);
+    named = λ d was is moved. absurd (moved refl);
     flushed = λ f. absurd (false≢true f);
     disks = refl;
     history = refl;
@@ -324,6 +326,8 @@ module _ (slots : ℕ) (t : Disks) (m : Meta) (h : History) (lo : ℕ) (calm : I
     serving = rw down_then tt;
     mark = mark_less (h ++ entry ∷ []) longer (after_write m (after_loss s 2)) _ _ gone_state;
     carried = λ is none. absurd (false≢true is);
+    brought = λ moved. absurd (moved refl);
+    named = λ d was is moved. absurd (moved refl);
     flushed = λ f. absurd (false≢true f);
     disks = refl;
     history = refl;

@@ -1,5 +1,5 @@
 -- One event of a session: what is answered, and what its calls leave.
-use Rattle.std.specs.Prelude.{◌≡◌, ◌≢◌, ℕ, ◌+◌, ◌-◌, ◌^◌, ◌<◌, ◌≤◌, ◌==◌, min, max, slice_index, Bool, true, false, List, [], ◌++◌, length, Option, Some, None, if◌then◌else◌}
+use Rattle.std.specs.Prelude.{◌≡◌, ◌≢◌, ℕ, ◌+◌, ◌-◌, ◌^◌, ◌<◌, ◌≤◌, ◌⊎◌, ◌==◌, min, max, slice_index, Bool, true, false, List, [], ◌++◌, length, Option, Some, None, if◌then◌else◌}
 use Rattle.paraid_base.specs.declared.event.Answer.{Answer}
 use Rattle.paraid_base.specs.declared.event.Answer.TheVariants.{NoBlock, Flushed, Ticked, Shift, Top, Lowest, Shifting, Failed, Replaced, NoFresh, NoDisk, Out as IsOut, NotOut, Ration as RationUsed, State as IsState, Energy as EnergyUsed, Bad as IsBad, Halted}
 use Rattle.paraid_base.specs.declared.event.Event.{Event}
@@ -7,6 +7,7 @@ use Rattle.paraid_base.specs.declared.event.Event.TheVariants.{Tick, Fail, Repla
 use Rattle.paraid_base.specs.declared.fault.Halt.{Halt}
 use Rattle.paraid_base.specs.declared.fault.Halt.TheVariants.{Two as HaltTwo, Worn}
 use Rattle.paraid_base.specs.declared.fault.Two.{Two}
+use Rattle.paraid_base.specs.declared.state.Out.TheVariants.{Fresh, Gone}
 use Rattle.paraid_base.specs.declared.state.TickEvent.{TickEvent}
 use Rattle.paraid_base.specs.declared.state.TickEvent.TheVariants.{Steady, Waiting, Begun, Ration}
 use Rattle.paraid_base.specs.History.{History}
@@ -50,8 +51,10 @@ abbrev pub state_at : Point → PowerState
 state_at p = initial_state p.disks (closed_over p.meta)
 
 -- What holds between two events: each stop leaves the writes; the disks are at rest under the meta
--- that stands, and show the state; they are powered as the state says; and disk 2 bears witness
--- against a log disk that the meta names out.
+-- that stands, which has this setup and no more ticks than the state; they show the state, and are
+-- powered as it says; and disk 2 bears witness against a log disk that the meta names out. Of a log
+-- disk that is lost and not named yet nothing is said: the next commit names it (`named` of
+-- `IsAnswered`).
 pub record IsMark (slots : ℕ) (setup : Setup) (p : Point) : Type 0 where
   pub held : IsHeld slots p.disks p.history p.low (named_out p.state.out)
   pub rest : IsAtRest p.disks p.meta
@@ -184,6 +187,11 @@ pub record IsAnswered (slots : ℕ) (setup : Setup) (p : Point) (event : Event) 
   pub mark : IsMark slots setup q
   -- where no call has failed, the commit of a shift that begins has brought all ticks
   pub carried : tells_begin answer ≡ true → first_lost calls ≡ None → q.meta.ticks ≡ q.state.ticks
+  -- a commit brings all ticks
+  pub brought : q.meta ≢ p.meta → q.meta.ticks ≡ q.state.ticks
+  -- a commit names a disk that was gone before the event and is gone after it, or the fresh one that was attached for it and
+  -- lost in that commit
+  pub named : (d : ℕ) → p.state.out ≡ Gone d → q.state.out ≡ Gone d → q.meta ≢ p.meta → (q.meta.out ≡ Gone d) ⊎ ((q.meta.out ≡ Fresh d 0) × (attach_count calls ≡ 1))
   pub flushed : is_flush answer ≡ true → AreDirtyShown setup q
   pub disks : q.disks ≡ run p.disks calls
   pub history : q.history ≡ p.history ++ accepted_write event answer
