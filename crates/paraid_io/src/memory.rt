@@ -104,6 +104,7 @@ impl Source for MemSource {
         ensures keeps { OnErr result (Gives (Some (left_in self.old))
             (Some (left_in self.new)) []) }
         ensures later { faults_in self.old ≤ faults_in self.new }
+        ensures still { IfOk result (λ n. faults_in self.new ≡ faults_in self.old) }
         ensures cause { OnErr result (HasRisen (faults_in self.old) (faults_in self.new)) }
 
         // A call fails exactly where its number was given.
@@ -173,6 +174,7 @@ impl Sink for MemSink {
         ensures keeps { OnErr result (GrowsByBytes (Some (written_to self.old))
             (Some (written_to self.new)) []) }
         ensures later { faults_of self.old ≤ faults_of self.new }
+        ensures still { IfOk result (λ n. faults_of self.new ≡ faults_of self.old) }
         ensures cause { OnErr result (HasRisen (faults_of self.old) (faults_of self.new)) }
 
         // A call fails exactly where its number was given or the sink is full.

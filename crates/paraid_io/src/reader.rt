@@ -1,4 +1,4 @@
-ghost use Rattle.std.specs.Prelude.{◌≡◌, ℕ, ◌+◌, ◌-◌, ◌^◌, ◌<◌, ◌≤◌, List, [], ◌∷◌, ◌++◌, length, take, drop, MatchOption, IfSome, IfNone, IfOk, OnErr, ◌==◌, ◌↔◌, IsTrue};
+ghost use Rattle.std.specs.Prelude.{◌≡◌, ◌≢◌, ℕ, ◌+◌, ◌-◌, ◌^◌, ◌<◌, ◌≤◌, List, [], ◌∷◌, ◌++◌, length, take, drop, MatchOption, IfSome, IfNone, IfOk, OnErr, ◌==◌, ◌↔◌, IsTrue};
 ghost use Rattle.paraid_base.specs.Told.{Gives, HasRisen};
 ghost use Rattle.paraid_io.specs.Lines.{NoNewline};
 ghost use Rattle.paraid_io.specs.Reading.{Reading, fresh_reader, ReaderTakes, ReaderStep, HasCause, NeedsNoCall};
@@ -109,9 +109,10 @@ impl LineReader {
         length
     }
 
-    // Takes what the source gives in one call, or nothing at its end.
+    // Takes what the source gives in one call, or nothing at its end. No whole line is held before.
     fn fill<S: Source>(&mut self, source: &mut S) -> Result<usize, Failed>
         requires held { length self.old.rest ≤ 1100 }
+        requires plain { NoNewline self.old.rest }
         requires room { self.old.taken < 2 ^ 40 }
         ensures got { IfOk result (λ n. ReaderTakes (S.left source.old) (S.left source.new)
             self.old self.new n) }
@@ -121,6 +122,7 @@ impl LineReader {
         ensures ended { IfOk result (λ n. self.new.ended ≡ (n == 0)) }
         ensures fault { self.new.fault ≡ self.old.fault }
         ensures later { S.faults source.old ≤ S.faults source.new }
+        ensures still { IfOk result (λ n. S.faults source.new ≡ S.faults source.old) }
         ensures cause { OnErr result (HasRisen (S.faults source.old) (S.faults source.new)) }
     {
         let held = self.end - self.start;
@@ -185,6 +187,8 @@ impl LineReader {
         ensures cause { HasCause result self.new (S.faults source.old) (S.faults source.new) }
         ensures quiet { NeedsNoCall self.old → source.new ≡ source.old }
         ensures later { S.faults source.old ≤ S.faults source.new }
+        ensures still { result ≢ Err LineFault.Source
+            → S.faults source.new ≡ S.faults source.old }
     {
         let mut dropped = 0;
         let mut scanned = 0;
@@ -219,6 +223,8 @@ impl LineReader {
         ensures cause { self.old.fault ≡ None
             → HasCause result self.new (S.faults source.old) (S.faults source.new) }
         ensures later { S.faults source.old ≤ S.faults source.new }
+        ensures still { result ≢ Err LineFault.Source
+            → S.faults source.new ≡ S.faults source.old }
         ensures quiet { NeedsNoCall self.old → source.new ≡ source.old }
         ensures again { (f : LineFault) → self.old.fault ≡ Some f
             → (result ≡ Err f) × (self.new ≡ self.old) × (source.new ≡ source.old) }

@@ -21,6 +21,7 @@ pub trait Sink {
             (take n bytes.now)) }
         ensures keeps { OnErr result (GrowsByBytes (written self.old) (written self.new) []) }
         ensures later { faults self.old ≤ faults self.new }
+        ensures still { IfOk result (λ n. faults self.new ≡ faults self.old) }
         ensures cause { OnErr result (HasRisen (faults self.old) (faults self.new)) };
 }
 
@@ -32,6 +33,7 @@ pub fn write_all<K: Sink>(sink: &mut K, bytes: &[u8]) -> Result<(), Failed>
         × GrowsByBytes (K.written sink.old) (K.written sink.new) (take n bytes.now)) }
     ensures none { bytes.now ≡ [] → sink.new ≡ sink.old }
     ensures later { K.faults sink.old ≤ K.faults sink.new }
+    ensures still { OnOk result (K.faults sink.new ≡ K.faults sink.old) }
     ensures cause { OnErr result (HasRisen (K.faults sink.old) (K.faults sink.new)) }
 {
     let mut done = 0;

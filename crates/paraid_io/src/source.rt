@@ -23,5 +23,6 @@ pub trait Source {
             → told_bytes (left self.old) ≢ [] → 0 < n) }
         ensures keeps { OnErr result (Gives (left self.old) (left self.new) []) }
         ensures later { faults self.old ≤ faults self.new }
+        ensures still { IfOk result (λ n. faults self.new ≡ faults self.old) }
         ensures cause { OnErr result (HasRisen (faults self.old) (faults self.new)) };
 }

@@ -1,4 +1,4 @@
-use Rattle.std.proofs.Common.{◌≡◌, ap, ◌+◌, ◌-◌, ◌++◌, List, ℕ, length, take, drop, arith, length-take, length-drop}
+use Rattle.std.proofs.Common.{◌≡◌, ◌∙◌, ap, ◌+◌, ◌-◌, ◌++◌, List, ℕ, length, take, drop, arith, length-take, length-drop}
 use Rattle.std.proofs.Math.Seq.{take-add}
 use Rattle.std.proofs.lemmas.List.{take_rest}
 use Rattle.paraid_base.proofs.ToldLemmas.{GrowsByBytes-then}
@@ -17,5 +17,5 @@ loop-done-preserved g c =
       within = omega arith;
       grows = rw next_part all;
       none = λ empty. absurd (omega (arith, ap length empty, c.loop-done-test.true));
-      later = omega (arith, i.later, e.later);
+      still = e.still ∙ i.still;
     }

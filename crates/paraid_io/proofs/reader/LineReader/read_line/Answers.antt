@@ -1,3 +1,4 @@
+use Rattle.std.specs.Prelude.{Err}
 use Rattle.std.proofs.Common.{◌≡◌, ◌+◌, ◌<◌, ◌^◌, refl, sym, false, ap, ◌∙◌, subst, arith, rules}
 use Rattle.paraid_io.specs.Lines.{NoNewline}
 use Rattle.paraid_io.specs.Reading.{Reading}
@@ -12,7 +13,7 @@ loop-length-init g c = record {
   within = omega arith;
   plain = tt;
   quiet = λ n. refl;
-  later = omega arith;
+  still = refl;
 }
 
 pub returns-in-Some-clause-step : goal.returns-in-Some-clause-step
@@ -58,7 +59,7 @@ loop-length-preserved g c =
       within = rw c.held-scanned.ensures (scanned_within e.got);
       plain = rw c.held-scanned.ensures (scanned_plain e.got h.1);
       quiet = λ n. absurd (needs_a_call h.0 u h.1 short n);
-      later = omega (arith, c.loop-length.invariant.later, e.later);
+      still = e.still ∙ c.loop-length.invariant.still;
     }
 
 pub returns-in_default-fill : goal.returns-in_default-fill
@@ -74,4 +75,5 @@ returns-in_default-fill g c = record {
       let u = unended g (goal.at.returns-in_default-fill g c).After-room in
       λ n. absurd (needs_a_call h.0 u h.1 (omega (arith, h.0.limit, c.if-room-eq0.false, c.room.ensures)) n);
   later = search rules;
+  still = λ n. absurd (n (ap Err c.fail-in_default-fill.ensures.result));
 }
