@@ -22,6 +22,10 @@ module _ (before after : Option (List ℕ)) (line : List ℕ) (code status : ℕ
     | inr all ↦ apart (sym is ∙ all.1)
   ]
 
+  -- the status is that of the line, or 4
+  pub ends_there : status ≢ 4 → status ≢ code → ⊥
+  ends_there not apart = elim ends.whole [ inl four ↦ not four | inr all ↦ apart all.1 ]
+
 -- at 4 the sink has failed in the last line
 pub sink_failed : (code status a b c : ℕ) → (status ≢ code → (status ≡ 4) × HasRisen b c) → code ≢ 4 → a ≤ b → status ≡ 4 → HasRisen a c
 sink_failed code status a b c cause not before four = HasRisen-sooner a b c before (cause (λ is. not (sym is ∙ four))).1
@@ -37,6 +41,10 @@ halt_high (Worn count) n low is = omega arith
 -- counts do not fall from part to part
 pub not_fallen : (a b c : ℕ) → a ≤ b → b ≤ c → a ≤ c
 not_fallen a b c first second = omega arith
+
+-- a count that stands has not fallen
+pub stood : {a b : ℕ} → b ≡ a → a ≤ b
+stood is = omega (arith, is)
 
 -- answers that differ
 module _ {A E : Type 0} where

@@ -1,5 +1,5 @@
 -- The source and the sink of a command, as it found them and as it left them.
-use Rattle.std.specs.Prelude.{ℕ, List, Option}
+use Rattle.std.specs.Prelude.{◌≡◌, ◌≢◌, ℕ, List, Option}
 use Rattle.paraid_serve.specs.Uses.{SinkUse, SourceUse}
 
 -- What a command reads and what it writes.
@@ -28,3 +28,9 @@ sink_use written faults old new = record {
 -- these two together
 abbrev pub streams_of : SourceUse → SinkUse → Streams
 streams_of source sink = record { source = source; sink = sink }
+
+-- A fault ends the command, and its status names it: where it is not 4, the sink has counted none; where it is neither 3 nor 4, the
+-- source has counted none either.
+pub record IsUnhurt (given : SourceUse) (kept : SinkUse) (status : ℕ) : Type 0 where
+  pub sink : status ≢ 4 → kept.faults ≡ kept.faults_before
+  pub source : status ≢ 3 → status ≢ 4 → given.faults ≡ given.faults_before

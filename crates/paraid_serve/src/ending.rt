@@ -14,6 +14,7 @@ pub fn last<K: Sink>(sink: &mut K, line: &[u8], status: u8) -> u8
     ensures cause { result ≢ status
         → (result ≡ 4) × HasRisen (K.faults sink.old) (K.faults sink.new) }
     ensures later { K.faults sink.old ≤ K.faults sink.new }
+    ensures still { result ≢ 4 → K.faults sink.new ≡ K.faults sink.old }
 {
     match write_all(sink, line) {
         Ok(()) => status,

@@ -1,4 +1,4 @@
-ghost use Rattle.std.specs.Prelude.{◌≡◌, ℕ, ◌≤◌, Option, None, OnOk, IsErrOf, ◌^◌};
+ghost use Rattle.std.specs.Prelude.{◌≡◌, ◌≢◌, ℕ, ◌≤◌, Option, None, OnOk, IsErrOf, ◌^◌};
 ghost use Rattle.paraid_base.specs.Told.{HasRisen};
 ghost use Rattle.paraid_serve.specs.Heard.{HearsLine, heard_event};
 
@@ -17,6 +17,7 @@ pub fn hear<S: Source>(
         (heard_event result pairs.new) }
     ensures goes_on { OnOk result (reader.new.fault ≡ None) }
     ensures later { S.faults source.old ≤ S.faults source.new }
+    ensures still { result ≢ Err LineFault.Source → S.faults source.new ≡ S.faults source.old }
     ensures cause { IsErrOf result LineFault.Source
         → HasRisen (S.faults source.old) (S.faults source.new) }
     ensures too_long { (n : ℕ) → IsErrOf result (LineFault.TooLong n)

@@ -1,4 +1,4 @@
-ghost use Rattle.std.specs.Prelude.{◌≡◌, ◌≤◌, None, IfErr, IsErrOf, OnOk};
+ghost use Rattle.std.specs.Prelude.{◌≡◌, ◌≢◌, ◌≤◌, None, IfErr, IsErrOf, OnOk};
 ghost use Rattle.paraid_base.specs.Told.{HasRisen};
 ghost use Rattle.paraid_serve.specs.Calls.{Grows};
 ghost use Rattle.paraid_serve.specs.Session.{IsStopByWear, IsStopOfFailed, ServesSession};
@@ -36,6 +36,8 @@ pub fn session<S: Source, K: Sink, A: Serves>(
     ensures sink { IsErrOf result Stop.Sink → HasRisen (K.faults sink.old) (K.faults sink.new) }
     ensures later_source { S.faults source.old ≤ S.faults source.new }
     ensures later_sink { K.faults sink.old ≤ K.faults sink.new }
+    ensures still_source { result ≢ Err Stop.Source → S.faults source.new ≡ S.faults source.old }
+    ensures still_sink { result ≢ Err Stop.Sink → K.faults sink.new ≡ K.faults sink.old }
 {
     let mut reader = LineReader::new();
     let mut text = Text::new();

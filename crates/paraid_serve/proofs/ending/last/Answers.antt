@@ -16,6 +16,7 @@ returns-in-Ok g c =
       };
       cause = λ not. absurd (not refl);
       later = c.write_all.ensures.later;
+      still = λ not. c.in-Ok.ensures.still;
     }
 
 pub returns-in-Err : goal.returns-in-Err
@@ -25,4 +26,5 @@ returns-in-Err g c =
       ends = record { count = part.0; within = part.1; grows = part.2; whole = inl refl };
       cause = λ not. (refl, c.in-Err.ensures.cause);
       later = c.write_all.ensures.later;
+      still = λ not. absurd (not refl);
     }

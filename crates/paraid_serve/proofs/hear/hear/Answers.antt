@@ -1,4 +1,6 @@
-use Rattle.paraid_serve.proofs.StatusLemmas.{ok_not_err}
+use Rattle.std.specs.Prelude.{Err}
+use Rattle.std.proofs.Common.{ap}
+use Rattle.paraid_serve.proofs.StatusLemmas.{err_is, ok_not_err}
 use Rattle.paraid_serve.proofs.HearLemmas.{heard_end, heard_whole, heard_long, heard_fault, risen_by, taken_by}
 use Rattle.paraid_serve.proofs.hear.hear.Goals as goal
 
@@ -9,6 +11,7 @@ returns-in-Ok-Whole g c = record {
       heard_whole (rw c.in-Ok-Whole.field-0-is at (c.in-Ok-Whole.ensures.step c.requires)) e;
   goes_on = c.in-Ok-Whole.ensures.cause c.requires;
   later = c.next.ensures.later;
+  still = λ n. c.in-Ok-Whole.ensures.still (λ is. ok_not_err is);
   cause = λ is. absurd (ok_not_err is);
   too_long = λ n is. absurd (ok_not_err is);
 }
@@ -18,6 +21,7 @@ returns-in-Ok-Long g c = record {
   heard = heard_long (rw c.in-Ok-Long.field-0-is at (c.in-Ok-Long.ensures.step c.requires));
   goes_on = c.in-Ok-Long.ensures.cause c.requires;
   later = c.next.ensures.later;
+  still = λ n. c.in-Ok-Long.ensures.still (λ is. ok_not_err is);
   cause = λ is. absurd (ok_not_err is);
   too_long = λ n is. absurd (ok_not_err is);
 }
@@ -27,6 +31,7 @@ returns-in-Err g c = record {
   heard = heard_fault (c.in-Err.ensures.step c.requires);
   goes_on = tt;
   later = c.next.ensures.later;
+  still = λ n. c.in-Err.ensures.still (λ is. n (ap Err (err_is is)));
   cause = risen_by c.in-Err.fault _ _ _ (c.in-Err.ensures.cause c.requires);
   too_long = λ n. taken_by c.in-Err.fault _ _ _ n (c.in-Err.ensures.cause c.requires);
 }
@@ -36,6 +41,7 @@ returns-in-Ok-End g c = record {
   heard = heard_end (rw c.in-Ok-End.field-0-is at (c.in-Ok-End.ensures.step c.requires));
   goes_on = c.in-Ok-End.ensures.cause c.requires;
   later = c.next.ensures.later;
+  still = λ n. c.in-Ok-End.ensures.still (λ is. ok_not_err is);
   cause = λ is. absurd (ok_not_err is);
   too_long = λ n is. absurd (ok_not_err is);
 }
