@@ -1,5 +1,6 @@
 -- How what is taken adds up over calls
-use Rattle.std.proofs.Common.{◌≡◌, ℕ, ◌+◌, ◌-◌, ◌^◌, ◌<◌, ◌≤◌, List, [], ◌++◌, Option, length, take, drop, arith, sym, ◌∙◌, ap, length-append, subst}
+use Rattle.std.specs.Prelude.{Err, Ok, Result}
+use Rattle.std.proofs.Common.{◌≡◌, ◌≢◌, ℕ, ◌+◌, ◌-◌, ◌^◌, ◌<◌, ◌≤◌, List, [], ◌++◌, Option, length, take, drop, arith, sym, ◌∙◌, ap, length-append, subst}
 use Rattle.std.proofs.Math.Seq.{take-append-add}
 use Rattle.std.proofs.lemmas.List.{length-replicate, length-take-le, take-append-le, length-drop}
 use Rattle.std.specs.Prelude.{replicate}
@@ -14,6 +15,18 @@ later_then a b c l k = omega arith
 
 pub later_none : (a : ℕ) → a ≤ a
 later_none a = omega arith
+
+-- a count that stands has not fallen
+pub stood : {a b : ℕ} → b ≡ a → a ≤ b
+stood is = omega (arith, is)
+
+-- an answer that is no error is not this one
+pub ok_apart : {A E : Type 0} {x : A} {e : E} → ◌≢◌ {A = Result A E} (Ok x) (Err e)
+ok_apart is = cc
+
+-- an error that is passed on is not this one, where the answer is not
+pub passed : {A B E P : Type 0} {r : Result A E} {x e s : E} → r ≡ Err x → x ≡ e → (◌≢◌ {A = Result B E} (Err e) (Err s) → P) → r ≢ Err s → P
+passed is same still not = still (λ h. not cc)
 
 -- so many of the zeros of a buffer are as many
 pub cut_length : (n most : ℕ) → n ≤ most → length {A = ℕ} (take n (replicate most 0)) ≡ n

@@ -1,5 +1,5 @@
 //! Takes the bytes that a source gives, and counts them.
-ghost use Rattle.std.specs.Prelude.{◌≡◌, ◌≤◌, ◌^◌, ◌<◌, ℕ, List, length, take, IfOk, IfErr, OnOk};
+ghost use Rattle.std.specs.Prelude.{◌≡◌, ◌≢◌, ◌≤◌, ◌^◌, ◌<◌, ℕ, List, length, take, IfOk, IfErr, OnOk};
 
 use crate::NbdEnd;
 use paraid_io::Source;
@@ -36,6 +36,7 @@ impl Input {
         ensures lacks { IfErr result (λ e. Lacks (S.left source.old) (S.left source.new)
             self.old.taken self.new.taken 1 (S.faults source.old) (S.faults source.new) e) }
         ensures later { S.faults source.old ≤ S.faults source.new }
+        ensures still { result ≢ Err NbdEnd.Source → S.faults source.new ≡ S.faults source.old }
     {
         let room = MAX_TAKEN - self.taken;
         if room == 0 {
@@ -60,6 +61,7 @@ impl Input {
             self.old.taken self.new.taken (length into.old)
             (S.faults source.old) (S.faults source.new) e) }
         ensures later { S.faults source.old ≤ S.faults source.new }
+        ensures still { result ≢ Err NbdEnd.Source → S.faults source.new ≡ S.faults source.old }
     {
         let mut done = 0;
         while done < into.len() {
@@ -76,6 +78,7 @@ impl Input {
         ensures lacks { IfErr result (λ e. Lacks (S.left source.old) (S.left source.new)
             self.old.taken self.new.taken count (S.faults source.old) (S.faults source.new) e) }
         ensures later { S.faults source.old ≤ S.faults source.new }
+        ensures still { result ≢ Err NbdEnd.Source → S.faults source.new ≡ S.faults source.old }
     {
         let mut done = 0;
         while done < count {
@@ -94,6 +97,7 @@ impl Input {
         ensures lacks { IfErr result (λ e. Lacks (S.left source.old) (S.left source.new)
             self.old.taken self.new.taken count (S.faults source.old) (S.faults source.new) e) }
         ensures later { S.faults source.old ≤ S.faults source.new }
+        ensures still { result ≢ Err NbdEnd.Source → S.faults source.new ≡ S.faults source.old }
     {
         let mut bytes = [0; PIECE as usize];
         let piece = &mut bytes[..count as usize];

@@ -1,5 +1,5 @@
 //! The options that a client asks for before it reads and writes.
-ghost use Rattle.std.specs.Prelude.{◌≡◌, ◌↔◌, ◌+◌, ◌≤◌, ◌<◌, ◌++◌, ℕ, List, length, take, IfOk, IfErr, OnOk, IsTrue, [], if◌then◌else◌, replicate};
+ghost use Rattle.std.specs.Prelude.{◌≡◌, ◌≢◌, ◌↔◌, ◌+◌, ◌≤◌, ◌<◌, ◌++◌, ℕ, List, length, take, IfOk, IfErr, OnOk, IsTrue, [], if◌then◌else◌, replicate};
 ghost use Rattle.paraid_base.specs.Told.{GrowsByBytes};
 ghost use Rattle.paraid_nbd.specs.Handshake.{greeting, IsUnsent, TakesFlags, StopsFlags, TakesOption, StopsOption, TakesChoice, StopsChoice, AnswersOption, EndsOption, BeginsTransmission, EndsEarly};
 ghost use Rattle.paraid_nbd.specs.Numbers.{number_bytes};
@@ -71,6 +71,7 @@ pub(crate) fn send<K: Sink>(sink: &mut K, packet: &Packet) -> Result<(), NbdEnd>
     ensures unsent { IfErr result (λ e. IsUnsent (K.written sink.old) (K.written sink.new) packet.now
         (K.faults sink.old) (K.faults sink.new) e) }
     ensures later_sink { K.faults sink.old ≤ K.faults sink.new }
+    ensures still_sink { result ≢ Err NbdEnd.Sink → K.faults sink.new ≡ K.faults sink.old }
 {
     match write_all(sink, packet.as_slice()) {
         Ok(()) => Ok(()),
@@ -91,7 +92,9 @@ pub(crate) fn negotiate<S: Source, K: Sink>(
         input.old.taken input.new.taken (K.written sink.old) (K.written sink.new)
         (S.faults source.old) (S.faults source.new) (K.faults sink.old) (K.faults sink.new) e) }
     ensures later { S.faults source.old ≤ S.faults source.new }
+    ensures still { result ≢ Err NbdEnd.Source → S.faults source.new ≡ S.faults source.old }
     ensures later_sink { K.faults sink.old ≤ K.faults sink.new }
+    ensures still_sink { result ≢ Err NbdEnd.Sink → K.faults sink.new ≡ K.faults sink.old }
 {
     greet(sink)?;
     let no_zeros = take_flags(source, input)?;
@@ -108,6 +111,7 @@ fn greet<K: Sink>(sink: &mut K) -> Result<(), NbdEnd>
     ensures unsent { IfErr result (λ e. IsUnsent (K.written sink.old) (K.written sink.new) greeting
         (K.faults sink.old) (K.faults sink.new) e) }
     ensures later_sink { K.faults sink.old ≤ K.faults sink.new }
+    ensures still_sink { result ≢ Err NbdEnd.Sink → K.faults sink.new ≡ K.faults sink.old }
 {
     let mut packet = Packet::new();
     packet.put_bytes(b"NBDMAGIC");
@@ -124,6 +128,7 @@ fn take_flags<S: Source>(source: &mut S, input: &mut Input) -> Result<bool, NbdE
         input.old.taken input.new.taken
         (S.faults source.old) (S.faults source.new) e) }
     ensures later { S.faults source.old ≤ S.faults source.new }
+    ensures still { result ≢ Err NbdEnd.Source → S.faults source.new ≡ S.faults source.old }
 {
     let at = input.taken;
     let mut bytes = [0; 4];
@@ -149,7 +154,9 @@ fn option<S: Source, K: Sink>(
         input.old.taken input.new.taken (K.written sink.old) (K.written sink.new)
         (S.faults source.old) (S.faults source.new) (K.faults sink.old) (K.faults sink.new) e) }
     ensures later { S.faults source.old ≤ S.faults source.new }
+    ensures still { result ≢ Err NbdEnd.Source → S.faults source.new ≡ S.faults source.old }
     ensures later_sink { K.faults sink.old ≤ K.faults sink.new }
+    ensures still_sink { result ≢ Err NbdEnd.Sink → K.faults sink.new ≡ K.faults sink.old }
 {
     let number = take_option(source, input)?;
     let kind = kind_of(number);
@@ -172,6 +179,7 @@ fn take_magic<S: Source>(source: &mut S, input: &mut Input) -> Result<(), NbdEnd
         input.old.taken input.new.taken
         (S.faults source.old) (S.faults source.new) e) }
     ensures later { S.faults source.old ≤ S.faults source.new }
+    ensures still { result ≢ Err NbdEnd.Source → S.faults source.new ≡ S.faults source.old }
 {
     let at = input.taken;
     let mut magic = [0; 8];
@@ -191,6 +199,7 @@ fn take_head<S: Source>(source: &mut S, input: &mut Input) -> Result<(u32, u32),
     ensures lacks { IfErr result (λ e. Lacks (S.left source.old) (S.left source.new)
         input.old.taken input.new.taken 8 (S.faults source.old) (S.faults source.new) e) }
     ensures later { S.faults source.old ≤ S.faults source.new }
+    ensures still { result ≢ Err NbdEnd.Source → S.faults source.new ≡ S.faults source.old }
 {
     let mut head = [0; 8];
     input.fill(source, &mut head)?;
@@ -207,6 +216,7 @@ fn take_option<S: Source>(source: &mut S, input: &mut Input) -> Result<u32, NbdE
         input.old.taken input.new.taken
         (S.faults source.old) (S.faults source.new) e) }
     ensures later { S.faults source.old ≤ S.faults source.new }
+    ensures still { result ≢ Err NbdEnd.Source → S.faults source.new ≡ S.faults source.old }
 {
     take_magic(source, input)?;
     let at = input.taken + 4;
@@ -239,6 +249,7 @@ fn take_choice<S: Source>(
         input.old.taken input.new.taken count at
         (S.faults source.old) (S.faults source.new) e) }
     ensures later { S.faults source.old ≤ S.faults source.new }
+    ensures still { result ≢ Err NbdEnd.Source → S.faults source.new ≡ S.faults source.old }
 {
     let length = count as usize;
     if length < 6 || length > MAX_CHOICE {

@@ -38,7 +38,9 @@ pub fn serve_nbd<B: Blocks, S: Source, K: Sink>(
     ensures told { IsTrue (B.tells blocks.new) → IsTrue (B.tells blocks.old) }
     ensures keeps { KeepsOn B.kept blocks.old blocks.new }
     ensures later { S.faults source.old ≤ S.faults source.new }
+    ensures still { result ≢ NbdEnd.Source → S.faults source.new ≡ S.faults source.old }
     ensures later_sink { K.faults sink.old ≤ K.faults sink.new }
+    ensures still_sink { result ≢ NbdEnd.Sink → K.faults sink.new ≡ K.faults sink.old }
 {
     let size = 512 * u64::from(blocks.blocks());
     let room = size.min(u64::from(MAX_LENGTH)) as usize;
@@ -71,7 +73,9 @@ fn transmit<B: Blocks, S: Source, K: Sink>(
     ensures told { IsTrue (B.tells blocks.new) → IsTrue (B.tells blocks.old) }
     ensures keeps { KeepsOn B.kept blocks.old blocks.new }
     ensures later { S.faults source.old ≤ S.faults source.new }
+    ensures still { result ≢ NbdEnd.Source → S.faults source.new ≡ S.faults source.old }
     ensures later_sink { K.faults sink.old ≤ K.faults sink.new }
+    ensures still_sink { result ≢ NbdEnd.Sink → K.faults sink.new ≡ K.faults sink.old }
 {
     loop {
         if let Err(end) = serve_request(blocks, source, sink, input, size, buffer) {
@@ -101,7 +105,9 @@ fn serve_request<B: Blocks, S: Source, K: Sink>(
     ensures told { IsTrue (B.tells blocks.new) → IsTrue (B.tells blocks.old) }
     ensures keeps { KeepsOn B.kept blocks.old blocks.new }
     ensures later { S.faults source.old ≤ S.faults source.new }
+    ensures still { result ≢ Err NbdEnd.Source → S.faults source.new ≡ S.faults source.old }
     ensures later_sink { K.faults sink.old ≤ K.faults sink.new }
+    ensures still_sink { result ≢ Err NbdEnd.Sink → K.faults sink.new ≡ K.faults sink.old }
 {
     let request = take_request(source, input)?;
     let outcome = request.outcome(size);
@@ -118,6 +124,7 @@ fn take_magic<S: Source>(source: &mut S, input: &mut Input) -> Result<(), NbdEnd
     ensures stops { IfErr result (λ e. StopsRequest (S.left source.old) (S.left source.new) input.old.taken input.new.taken
         (S.faults source.old) (S.faults source.new) e) }
     ensures later { S.faults source.old ≤ S.faults source.new }
+    ensures still { result ≢ Err NbdEnd.Source → S.faults source.new ≡ S.faults source.old }
 {
     let at = input.taken;
     let mut magic = [0; 4];
@@ -134,6 +141,7 @@ fn take_request<S: Source>(source: &mut S, input: &mut Input) -> Result<Request,
     ensures stops { IfErr result (λ e. StopsRequest (S.left source.old) (S.left source.new) input.old.taken input.new.taken
         (S.faults source.old) (S.faults source.new) e) }
     ensures later { S.faults source.old ≤ S.faults source.new }
+    ensures still { result ≢ Err NbdEnd.Source → S.faults source.new ≡ S.faults source.old }
 {
     take_magic(source, input)?;
     let mut head = [0; 24];
@@ -161,6 +169,7 @@ fn take_content<S: Source>(
     ensures lacks { IfErr result (λ e. Lacks (S.left source.old) (S.left source.new) input.old.taken input.new.taken
         (content_length request.now.command request.now.length) (S.faults source.old) (S.faults source.new) e) }
     ensures later { S.faults source.old ≤ S.faults source.new }
+    ensures still { result ≢ Err NbdEnd.Source → S.faults source.new ≡ S.faults source.old }
 {
     match (request.command, outcome) {
         (Command::Write, _) => take_written(source, input, request, outcome, size, buffer),
@@ -186,6 +195,7 @@ fn take_written<S: Source>(
     ensures lacks { IfErr result (λ e. Lacks (S.left source.old) (S.left source.new) input.old.taken input.new.taken
         (content_length request.now.command request.now.length) (S.faults source.old) (S.faults source.new) e) }
     ensures later { S.faults source.old ≤ S.faults source.new }
+    ensures still { result ≢ Err NbdEnd.Source → S.faults source.new ≡ S.faults source.old }
 {
     let Outcome::Done = outcome else {
         input.skip(source, request.length)?;
@@ -307,6 +317,7 @@ fn reply<K: Sink>(
     ensures unsent { IfErr result (λ e. IsUnsent (K.written sink.old) (K.written sink.new) (said_with request.now outcome content.now)
         (K.faults sink.old) (K.faults sink.new) e) }
     ensures later_sink { K.faults sink.old ≤ K.faults sink.new }
+    ensures still_sink { result ≢ Err NbdEnd.Sink → K.faults sink.new ≡ K.faults sink.old }
 {
     let mut packet = Packet::new();
     packet.put_u32(REPLY);
@@ -325,6 +336,7 @@ fn send_read<K: Sink>(sink: &mut K, mut packet: Packet, content: &[u8]) -> Resul
     ensures unsent { IfErr result (λ e. IsUnsent (K.written sink.old) (K.written sink.new) (packet ++ content.now)
         (K.faults sink.old) (K.faults sink.new) e) }
     ensures later_sink { K.faults sink.old ≤ K.faults sink.new }
+    ensures still_sink { result ≢ Err NbdEnd.Sink → K.faults sink.new ≡ K.faults sink.old }
 {
     if content.len() <= AT_ONCE {
         packet.put_bytes(content);
@@ -340,6 +352,7 @@ fn send_bytes<K: Sink>(sink: &mut K, bytes: &[u8]) -> Result<(), NbdEnd>
     ensures unsent { IfErr result (λ e. IsUnsent (K.written sink.old) (K.written sink.new) bytes.now
         (K.faults sink.old) (K.faults sink.new) e) }
     ensures later_sink { K.faults sink.old ≤ K.faults sink.new }
+    ensures still_sink { result ≢ Err NbdEnd.Sink → K.faults sink.new ≡ K.faults sink.old }
 {
     match write_all(sink, bytes) {
         Ok(()) => Ok(()),

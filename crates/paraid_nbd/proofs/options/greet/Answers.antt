@@ -15,4 +15,5 @@ returns g c = record {
   greets = subst (λ (t : List ℕ). OnOk c.send.result (GrowsByBytes (g.K.Sink.written c.args.sink.now) (g.K.Sink.written c.send.new.sink) t)) (said g c) c.send.ensures.sends;
   unsent = subst (λ (t : List ℕ). IfErr c.send.result (λ e. IsUnsent (g.K.Sink.written c.args.sink.now) (g.K.Sink.written c.send.new.sink) t (g.K.Sink.faults c.args.sink.now) (g.K.Sink.faults c.send.new.sink) e)) (said g c) c.send.ensures.unsent;
   later_sink = search rules;
+  still_sink = search rules;
 }

@@ -1,6 +1,6 @@
-use Rattle.paraid_nbd.proofs.TakingLemmas.{Takes-none, Takes-then, later_then, room_falls}
+use Rattle.paraid_nbd.proofs.TakingLemmas.{Takes-none, Takes-then, later_then, room_falls, ok_apart, passed, stood}
 use Rattle.paraid_nbd.specs.Handshake.EndsEarly.{Ungreeted, Unflagged, AmongOptions}
-use Rattle.std.proofs.Common.{arith, ◌++◌, [], ◌∷◌, List, ℕ, sym, ◌∙◌, subst}
+use Rattle.std.proofs.Common.{arith, ◌++◌, [], ◌∷◌, List, ℕ, sym, ◌∙◌, subst, refl}
 use Rattle.std.proofs.lemmas.List.{append-nil, flat_map_more}
 use Rattle.std.proofs.lemmas.Result.{err_from_is_err_and}
 use Rattle.paraid_base.specs.Told.{GrowsByBytes}
@@ -18,7 +18,9 @@ returns-in_err-no_zeros g c =
       begins = rw p.1 tt;
       ends = rw (p.1, p.2) (Unflagged c.in_err-no_zeros.ensures.stops c.in_ok-greet.ensures.greets);
       later = c.in_err-no_zeros.ensures.later;
+      still = passed p.1 p.2 c.in_err-no_zeros.ensures.still;
       later_sink = c.in_ok-greet.ensures.later_sink;
+      still_sink = λ n. c.in_ok-greet.ensures.still_sink ok_apart;
     }
 
 pub returns-in_err-option : goal.returns-in_err-option
@@ -27,9 +29,11 @@ returns-in_err-option g c =
     let i = c.loop.invariant in
     record {
       begins = rw p.1 tt;
-      ends = rw (p.1, p.2) (AmongOptions _ _ _ i.greeted.0 c.in_ok-no_zeros.no_zeros i.greeted.1 _ _ i.greeted.2 i.later i.later_sink c.in_err-option.ensures.ends);
-      later = later_then _ _ _ c.loop.invariant.later c.in_err-option.ensures.later;
-      later_sink = later_then _ _ _ c.loop.invariant.later_sink c.in_err-option.ensures.later_sink;
+      ends = rw (p.1, p.2) (AmongOptions _ _ _ i.greeted.0 c.in_ok-no_zeros.no_zeros i.greeted.1 _ _ i.greeted.2 (stood i.still) (stood i.still_sink) c.in_err-option.ensures.ends);
+      later = later_then _ _ _ (stood c.loop.invariant.still) c.in_err-option.ensures.later;
+      still = λ n. passed p.1 p.2 c.in_err-option.ensures.still n ∙ c.loop.invariant.still;
+      later_sink = later_then _ _ _ (stood c.loop.invariant.still_sink) c.in_err-option.ensures.later_sink;
+      still_sink = λ n. passed p.1 p.2 c.in_err-option.ensures.still_sink n ∙ c.loop.invariant.still_sink;
     }
 
 pub returns-then-branch : goal.returns-then-branch
@@ -50,8 +54,10 @@ returns-then-branch g c =
         grows = GrowsByBytes-then _ _ _ _ _ i.greeted.2.grows a.grows;
       };
       ends = tt;
-      later = later_then _ _ _ c.loop.invariant.later c.in_ok-option.ensures.later;
-      later_sink = later_then _ _ _ c.loop.invariant.later_sink c.in_ok-option.ensures.later_sink;
+      later = later_then _ _ _ (stood c.loop.invariant.still) c.in_ok-option.ensures.later;
+      still = λ n. c.in_ok-option.ensures.still ok_apart ∙ c.loop.invariant.still;
+      later_sink = later_then _ _ _ (stood c.loop.invariant.still_sink) c.in_ok-option.ensures.later_sink;
+      still_sink = λ n. c.in_ok-option.ensures.still_sink ok_apart ∙ c.loop.invariant.still_sink;
     }
 
 pub loop-preserved : goal.loop-preserved
@@ -72,8 +78,8 @@ loop-preserved g c =
           grows = subst (λ (x : List ℕ). GrowsByBytes (g.K.Sink.written c.args.sink.now) (g.K.Sink.written c.option.new.sink) x) (flat_map_more (option_reply c.args.size z) greeting i.greeted.1 a.parts) (GrowsByBytes-then _ _ _ _ _ G.grows a.grows);
         },
       );
-      later = later_then _ _ _ i.later e.later;
-      later_sink = later_then _ _ _ i.later_sink e.later_sink;
+      still = e.still ok_apart ∙ i.still;
+      still_sink = e.still_sink ok_apart ∙ i.still_sink;
     }
 
 pub returns-in_err-greet : goal.returns-in_err-greet
@@ -83,7 +89,9 @@ returns-in_err-greet g c =
       begins = rw p.1 tt;
       ends = rw (p.1, p.2) (Ungreeted (Takes-none _ _) c.in_err-greet.ensures.unsent);
       later = omega arith;
+      still = λ n. refl;
       later_sink = c.in_err-greet.ensures.later_sink;
+      still_sink = passed p.1 p.2 c.in_err-greet.ensures.still_sink;
     }
 
 pub loop-init : goal.loop-init
@@ -100,8 +108,8 @@ loop-init g c =
           grows = subst (λ (x : List ℕ). GrowsByBytes (g.K.Sink.written c.args.sink.now) (g.K.Sink.written c.greet.new.sink) x) (sym (append-nil greeting)) c.in_ok-greet.ensures.greets;
         },
       );
-      later = c.in_ok-no_zeros.ensures.later;
-      later_sink = c.in_ok-greet.ensures.later_sink;
+      still = c.in_ok-no_zeros.ensures.still ok_apart;
+      still_sink = c.in_ok-greet.ensures.still_sink ok_apart;
     }
 
 pub loop-smaller : goal.loop-smaller

@@ -7,6 +7,7 @@ use Rattle.paraid_nbd.specs.declared.options.OptionKind.TheVariants.{Export, Abo
 use Rattle.paraid_nbd.specs.Options.{OptionParts, begins, kind_reply, option_kind, option_number, option_reply}
 use Rattle.paraid_nbd.specs.Handshake.{AnswersOption, IsUnsent, TakesOption}
 use Rattle.paraid_nbd.specs.Handshake.EndsOption.{Unread, Leaves, UnsentReply}
+use Rattle.paraid_nbd.proofs.TakingLemmas.{ok_apart, passed}
 use Rattle.paraid_nbd.proofs.options.option.Goals as goal
 
 reply_said : (size : ℕ) (no_zeros : Bool) (p : OptionParts) {new old : List ℕ} {kind : OptionKind} {n : ℕ} → new ≡ old ++ kind_reply size no_zeros kind n → old ≡ [] → kind ≡ option_kind n
@@ -36,7 +37,9 @@ returns-in_err-number g c =
       answers = rw p.1 tt;
       ends = rw (p.1, p.2) (Unread c.in_err-number.ensures.stops (GrowsByBytes-none _));
       later = c.in_err-number.ensures.later;
+      still = passed p.1 p.2 c.in_err-number.ensures.still;
       later_sink = omega arith;
+      still_sink = λ n. refl;
     }
 
 pub returns-in_err-send : goal.returns-in_err-send
@@ -48,7 +51,9 @@ returns-in_err-send g c =
       answers = rw p.1 tt;
       ends = rw (p.1, p.2) (UnsentReply t.parts t.is t.takes (subst (λ (x : List ℕ). IsUnsent (g.K.Sink.written c.args.sink.now) (g.K.Sink.written c.send.new.sink) x (g.K.Sink.faults c.args.sink.now) (g.K.Sink.faults c.send.new.sink) c.in_err-send.field-0.0) said c.in_err-send.ensures.unsent));
       later = c.in_ok-number.ensures.later;
+      still = λ n. c.in_ok-number.ensures.still ok_apart;
       later_sink = c.in_err-send.ensures.later_sink;
+      still_sink = passed p.1 p.2 c.in_err-send.ensures.still_sink;
     }
 
 pub returns-in-Abort : goal.returns-in-Abort
@@ -59,7 +64,9 @@ returns-in-Abort g c =
       answers = tt;
       ends = Leaves t.parts t.is (ap option_kind t.number_is ∙ sym c.kind_of-kind.ensures ∙ c.in-Abort.is) t.takes (subst (λ (x : List ℕ). GrowsByBytes (g.K.Sink.written c.args.sink.now) (g.K.Sink.written c.send.new.sink) x) said c.in_ok-send.ensures.sends) refl;
       later = c.in_ok-number.ensures.later;
+      still = λ n. c.in_ok-number.ensures.still ok_apart;
       later_sink = c.in_ok-send.ensures.later_sink;
+      still_sink = λ n. c.in_ok-send.ensures.still_sink ok_apart;
     }
 
 pub returns-in-Export : goal.returns-in-Export
@@ -70,7 +77,9 @@ returns-in-Export g c =
       answers = answered true t c.kind_of-kind.ensures (begins_with _ c.in-Export.is) said c.in_ok-send.ensures.sends;
       ends = tt;
       later = c.in_ok-number.ensures.later;
+      still = λ n. c.in_ok-number.ensures.still ok_apart;
       later_sink = c.in_ok-send.ensures.later_sink;
+      still_sink = λ n. c.in_ok-send.ensures.still_sink ok_apart;
     }
 
 pub returns-in-Names : goal.returns-in-Names
@@ -81,5 +90,7 @@ returns-in-Names g c =
       answers = answered false t c.kind_of-kind.ensures (goes_on_with _ c.in-Names.is) said c.in_ok-send.ensures.sends;
       ends = tt;
       later = c.in_ok-number.ensures.later;
+      still = λ n. c.in_ok-number.ensures.still ok_apart;
       later_sink = c.in_ok-send.ensures.later_sink;
+      still_sink = λ n. c.in_ok-send.ensures.still_sink ok_apart;
     }

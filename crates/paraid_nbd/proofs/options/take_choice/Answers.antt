@@ -2,7 +2,7 @@ use Rattle.std.proofs.Common.{◌≡◌, length, refl, sym, ◌∙◌, rules}
 use Rattle.std.proofs.lemmas.Bool.{false≢true}
 use Rattle.std.proofs.lemmas.Result.{err_from_is_err_and}
 use Rattle.paraid_nbd.specs.Handshake.StopsChoice.{CutChoice, NoChoice}
-use Rattle.paraid_nbd.proofs.TakingLemmas.{Lacks-of, cut_length, later_none}
+use Rattle.paraid_nbd.proofs.TakingLemmas.{Lacks-of, cut_length, later_none, ok_apart, passed}
 use Rattle.paraid_nbd.proofs.options.take_choice.Goals as goal
 
 pub returns-then-not-is_choice : goal.returns-then-not-is_choice
@@ -12,6 +12,7 @@ returns-then-not-is_choice g c =
       takes = tt;
       stops = NoChoice c.fill.new.into (c.if-length-lt6.false, c.if-length-gt-MAX_CHOICE.false) whole (λ h. false≢true (sym c.if-not-is_choice.true ∙ c.is_choice.ensures.1 h)) c.in_ok-fill.ensures.takes refl;
       later = c.in_ok-fill.ensures.later;
+      still = λ n. c.in_ok-fill.ensures.still ok_apart;
     }
 
 pub returns-in_err-fill : goal.returns-in_err-fill
@@ -21,6 +22,7 @@ returns-in_err-fill g c =
       takes = rw p.1 tt;
       stops = rw (p.1, p.2) (CutChoice (c.if-length-lt6.false, c.if-length-gt-MAX_CHOICE.false) (Lacks-of _ c.args.count (cut_length c.args.count 8192 c.if-length-gt-MAX_CHOICE.false) c.in_err-fill.ensures.lacks));
       later = c.in_err-fill.ensures.later;
+      still = passed p.1 p.2 c.in_err-fill.ensures.still;
     }
 
 pub returns : goal.returns
@@ -34,6 +36,7 @@ returns g c = record {
   };
   stops = tt;
   later = c.in_ok-fill.ensures.later;
+  still = λ n. c.in_ok-fill.ensures.still ok_apart;
 }
 
 pub slice_bounds-content-end : goal.slice_bounds-content-end
@@ -47,4 +50,5 @@ returns-then-length-lt6 g c = record {
   takes = tt;
   stops = search rules;
   later = later_none _;
+  still = λ n. refl;
 }

@@ -2,6 +2,7 @@ use Rattle.std.proofs.Common.{◌≡◌, length, arith, refl}
 use Rattle.std.proofs.lemmas.Result.{err_from_is_err_and}
 use Rattle.paraid_nbd.specs.Numbers.{number}
 use Rattle.paraid_nbd.specs.Handshake.StopsFlags.{CutFlags, WrongFlags}
+use Rattle.paraid_nbd.proofs.TakingLemmas.{ok_apart, passed}
 use Rattle.paraid_nbd.proofs.options.take_flags.Goals as goal
 
 pub returns-then-flags-gt3 : goal.returns-then-flags-gt3
@@ -13,6 +14,7 @@ returns-then-flags-gt3 g c =
       flags = tt;
       stops = WrongFlags c.fill.new.into c.in_ok-fill.ensures.takes whole (omega (arith, flags, c.if-flags-gt3.true)) refl;
       later = c.in_ok-fill.ensures.later;
+      still = λ n. c.in_ok-fill.ensures.still ok_apart;
     }
 
 pub returns : goal.returns
@@ -28,6 +30,7 @@ returns g c =
       };
       stops = tt;
       later = c.in_ok-fill.ensures.later;
+      still = λ n. c.in_ok-fill.ensures.still ok_apart;
     }
 
 pub returns-in_err-fill : goal.returns-in_err-fill
@@ -37,4 +40,5 @@ returns-in_err-fill g c =
       flags = rw p.1 tt;
       stops = rw (p.1, p.2) (CutFlags c.in_err-fill.ensures.lacks);
       later = c.in_err-fill.ensures.later;
+      still = passed p.1 p.2 c.in_err-fill.ensures.still;
     }

@@ -3,6 +3,7 @@ use Rattle.std.proofs.lemmas.List.{take_all}
 use Rattle.std.proofs.lemmas.Result.{err_from_is_err_and}
 use Rattle.paraid_nbd.specs.Numbers.{number}
 use Rattle.paraid_nbd.specs.Options.{option_length}
+use Rattle.paraid_nbd.proofs.TakingLemmas.{ok_apart, passed}
 use Rattle.paraid_nbd.proofs.options.take_head.Goals as goal
 
 pub returns-in_err-fill : goal.returns-in_err-fill
@@ -12,6 +13,7 @@ returns-in_err-fill g c =
       takes = rw p.1 tt;
       lacks = rw (p.1, p.2) c.in_err-fill.ensures.lacks;
       later = c.in_err-fill.ensures.later;
+      still = passed p.1 p.2 c.in_err-fill.ensures.still;
     }
 
 pub returns : goal.returns
@@ -24,4 +26,5 @@ returns g c =
       takes = (head, size, sym c.read_u32-number.ensures, count, c.in_ok-fill.ensures.takes);
       lacks = tt;
       later = c.in_ok-fill.ensures.later;
+      still = λ n. c.in_ok-fill.ensures.still ok_apart;
     }

@@ -4,6 +4,7 @@ use Rattle.paraid_nbd.specs.Numbers.{number}
 use Rattle.paraid_nbd.specs.Options.IsPartOption.{InMagic}
 use Rattle.paraid_nbd.specs.Options.IsWrongOption.{WrongMagic}
 use Rattle.paraid_nbd.specs.Handshake.StopsOption.{CutOption, WrongOption}
+use Rattle.paraid_nbd.proofs.TakingLemmas.{ok_apart, passed}
 use Rattle.paraid_nbd.proofs.options.take_magic.Goals as goal
 
 pub returns-in_err-fill : goal.returns-in_err-fill
@@ -14,6 +15,7 @@ returns-in_err-fill g c =
       takes = rw p.1 tt;
       stops = rw (p.1, p.2) (CutOption l.got l.takes (InMagic l.few) l.cause);
       later = c.in_err-fill.ensures.later;
+      still = passed p.1 p.2 c.in_err-fill.ensures.still;
     }
 
 pub returns-then-read_u64-ne-HAVE_OPTION : goal.returns-then-read_u64-ne-HAVE_OPTION
@@ -25,6 +27,7 @@ returns-then-read_u64-ne-HAVE_OPTION g c =
       takes = tt;
       stops = WrongOption c.fill.new.into c.args.input.now.taken c.in_ok-fill.ensures.takes (WrongMagic whole other refl) refl;
       later = c.in_ok-fill.ensures.later;
+      still = λ n. c.in_ok-fill.ensures.still ok_apart;
     }
 
 pub returns : goal.returns
@@ -36,4 +39,5 @@ returns g c =
       takes = (c.fill.new.into, (whole, magic), c.in_ok-fill.ensures.takes);
       stops = tt;
       later = c.in_ok-fill.ensures.later;
+      still = λ n. c.in_ok-fill.ensures.still ok_apart;
     }

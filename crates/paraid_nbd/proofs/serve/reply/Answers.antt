@@ -19,6 +19,7 @@ returns-in-Read-Done g c =
       sends = on_ok_weaker c.send_read.result (λ f. subst (λ (x : List ℕ). GrowsByBytes (g.K.Sink.written c.args.sink.now) (g.K.Sink.written c.send_read.new.sink) x) all f) c.send_read.ensures.sends;
       unsent = IfErr-weaker c.send_read.result _ _ (λ e f. subst (λ (x : List ℕ). IsUnsent (g.K.Sink.written c.args.sink.now) (g.K.Sink.written c.send_read.new.sink) x (g.K.Sink.faults c.args.sink.now) (g.K.Sink.faults c.send_read.new.sink) e) all f) c.send_read.ensures.unsent;
       later_sink = c.send_read.ensures.later_sink;
+      still_sink = c.send_read.ensures.still_sink;
     }
 
 pub returns-in_default : goal.returns-in_default
@@ -35,4 +36,5 @@ returns-in_default g c =
       sends = on_ok_weaker c.send.result (λ f. subst (λ (x : List ℕ). GrowsByBytes (g.K.Sink.written c.args.sink.now) (g.K.Sink.written c.send.new.sink) x) all f) c.send.ensures.sends;
       unsent = IfErr-weaker c.send.result _ _ (λ e f. subst (λ (x : List ℕ). IsUnsent (g.K.Sink.written c.args.sink.now) (g.K.Sink.written c.send.new.sink) x (g.K.Sink.faults c.args.sink.now) (g.K.Sink.faults c.send.new.sink) e) all f) c.send.ensures.unsent;
       later_sink = c.send.ensures.later_sink;
+      still_sink = c.send.ensures.still_sink;
     }

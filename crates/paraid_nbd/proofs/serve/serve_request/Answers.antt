@@ -1,5 +1,5 @@
 use Rattle.paraid_nbd.proofs.DeviceLemmas.{keeps_none}
-use Rattle.paraid_nbd.proofs.TakingLemmas.{later_then}
+use Rattle.paraid_nbd.proofs.TakingLemmas.{later_then, ok_apart, passed}
 use Rattle.std.proofs.Common.{arith, refl, sym, ◌∙◌, subst}
 use Rattle.std.proofs.lemmas.List.{length-take-le}
 use Rattle.std.proofs.lemmas.Result.{err_from_is_err_and, on_ok_weaker, MatchResult-weaker}
@@ -23,7 +23,9 @@ returns-in_err-request g c =
       told = λ t. t;
       keeps = keeps_none _ _;
       later = c.in_err-request.ensures.later;
+      still = passed p.1 p.2 c.in_err-request.ensures.still;
       later_sink = omega arith;
+      still_sink = λ n. refl;
     }
 
 pub returns-in_err-content : goal.returns-in_err-content
@@ -36,7 +38,9 @@ returns-in_err-content g c =
       told = λ t. t;
       keeps = keeps_none _ _;
       later = later_then _ _ _ c.in_ok-request.ensures.later c.in_err-content.ensures.later;
+      still = λ n. passed p.1 p.2 c.in_err-content.ensures.still n ∙ c.in_ok-request.ensures.still ok_apart;
       later_sink = omega arith;
+      still_sink = λ n. refl;
     }
 
 pub returns : goal.returns
@@ -82,7 +86,9 @@ returns g c =
       told = c.perform-outcome.ensures.told;
       keeps = c.perform-outcome.ensures.keeps;
       later = later_then _ _ _ c.in_ok-request.ensures.later c.in_ok-content.ensures.later;
+      still = λ n. c.in_ok-content.ensures.still ok_apart ∙ c.in_ok-request.ensures.still ok_apart;
       later_sink = c.reply.ensures.later_sink;
+      still_sink = c.reply.ensures.still_sink;
     }
 
 pub perform-outcome-requires : goal.perform-outcome-requires

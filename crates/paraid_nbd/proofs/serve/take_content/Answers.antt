@@ -49,6 +49,7 @@ returns-in-Write-default g c = record {
   takes = c.take_written.ensures.takes;
   lacks = c.take_written.ensures.lacks;
   later = c.take_written.ensures.later;
+  still = c.take_written.ensures.still;
 }
 
 pub returns-in_default : goal.returns-in_default
@@ -65,6 +66,7 @@ returns-in_default g c =
       };
       lacks = tt;
       later = later_none _;
+      still = λ n. refl;
     }
 
 pub returns-in_default-2 : goal.returns-in_default-2
@@ -81,6 +83,7 @@ returns-in_default-2 g c =
       };
       lacks = tt;
       later = later_none _;
+      still = λ n. refl;
     }
 
 pub returns-in-Read-Done : goal.returns-in-Read-Done
@@ -98,4 +101,5 @@ returns-in-Read-Done g c =
       };
       lacks = tt;
       later = later_none _;
+      still = λ n. refl;
     }

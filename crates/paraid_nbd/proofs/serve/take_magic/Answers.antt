@@ -3,6 +3,7 @@ use Rattle.std.proofs.lemmas.Result.{err_from_is_err_and}
 use Rattle.paraid_nbd.specs.Numbers.{number}
 use Rattle.paraid_nbd.specs.Requests.IsPartRequest.{InMagic}
 use Rattle.paraid_nbd.specs.Service.StopsRequest.{CutRequest, WrongRequest}
+use Rattle.paraid_nbd.proofs.TakingLemmas.{ok_apart, passed}
 use Rattle.paraid_nbd.proofs.serve.take_magic.Goals as goal
 
 pub returns-in_err-fill : goal.returns-in_err-fill
@@ -13,6 +14,7 @@ returns-in_err-fill g c =
       takes = rw p.1 tt;
       stops = rw (p.1, p.2) (CutRequest l.got l.takes (InMagic l.few) l.cause);
       later = c.in_err-fill.ensures.later;
+      still = passed p.1 p.2 c.in_err-fill.ensures.still;
     }
 
 pub returns-then-read_u32-ne-REQUEST : goal.returns-then-read_u32-ne-REQUEST
@@ -24,6 +26,7 @@ returns-then-read_u32-ne-REQUEST g c =
       takes = tt;
       stops = WrongRequest c.fill.new.into c.in_ok-fill.ensures.takes whole other refl;
       later = c.in_ok-fill.ensures.later;
+      still = λ n. c.in_ok-fill.ensures.still ok_apart;
     }
 
 pub returns : goal.returns
@@ -35,4 +38,5 @@ returns g c =
       takes = (c.fill.new.into, (whole, magic), c.in_ok-fill.ensures.takes);
       stops = tt;
       later = c.in_ok-fill.ensures.later;
+      still = λ n. c.in_ok-fill.ensures.still ok_apart;
     }

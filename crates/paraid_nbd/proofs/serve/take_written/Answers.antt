@@ -11,7 +11,7 @@ use Rattle.paraid_nbd.specs.Requests.{content_length}
 use Rattle.paraid_nbd.specs.declared.request.Request.{Request}
 use Rattle.paraid_nbd.specs.Taking.{Takes}
 use Rattle.paraid_nbd.proofs.ServiceLemmas.{write_fits}
-use Rattle.paraid_nbd.proofs.TakingLemmas.{Lacks-of}
+use Rattle.paraid_nbd.proofs.TakingLemmas.{Lacks-of, ok_apart, passed}
 use Rattle.paraid_nbd.proofs.serve.take_written.Goals as goal
 
 -- a request that is not done is about nothing of the buffer
@@ -51,6 +51,7 @@ returns-in_err-skip g c =
       takes = rw p.1 tt;
       lacks = rw (p.1, p.2) (Lacks-of _ _ whole c.in_err-skip.ensures.lacks);
       later = c.in_err-skip.ensures.later;
+      still = passed p.1 p.2 c.in_err-skip.ensures.still;
     }
 
 pub slice_bounds-fill-end : goal.slice_bounds-fill-end
@@ -70,6 +71,7 @@ returns-in_err-fill g c =
       takes = rw p.1 tt;
       lacks = rw (p.1, p.2) (Lacks-of _ _ (many ∙ whole) c.in_err-fill.ensures.lacks);
       later = c.in_err-fill.ensures.later;
+      still = passed p.1 p.2 c.in_err-fill.ensures.still;
     }
 
 pub returns : goal.returns
@@ -81,6 +83,7 @@ returns g c =
       takes = written_content r c.args.outcome c.fill.new.into _ c.requires.command c.in-Done.is (c.fill.auto.into ∙ many) c.in_ok-fill.ensures.takes;
       lacks = tt;
       later = c.in_ok-fill.ensures.later;
+      still = λ n. c.in_ok-fill.ensures.still ok_apart;
     }
 
 pub returns-in_default : goal.returns-in_default
@@ -99,4 +102,5 @@ returns-in_default g c =
       };
       lacks = tt;
       later = c.in_ok-skip.ensures.later;
+      still = λ n. c.in_ok-skip.ensures.still ok_apart;
     }

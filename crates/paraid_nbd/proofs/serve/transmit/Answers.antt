@@ -1,6 +1,6 @@
 use Rattle.std.proofs.Common.{◌++◌, ◌∷◌, [], arith, refl, ◌∙◌}
 use Rattle.paraid_nbd.proofs.DeviceLemmas.{keeps_none, keeps_then}
-use Rattle.paraid_nbd.proofs.TakingLemmas.{later_then, room_falls}
+use Rattle.paraid_nbd.proofs.TakingLemmas.{later_then, room_falls, ok_apart, stood}
 use Rattle.paraid_nbd.proofs.ServiceLemmas.{request_some, serves_none, serves_more}
 use Rattle.paraid_nbd.proofs.serve.transmit.Goals as goal
 
@@ -13,8 +13,8 @@ loop-end-init g c =
       room = refl;
       told = λ t. t;
       keeps = keeps_none _ _;
-      later = omega arith;
-      later_sink = omega arith;
+      still = refl;
+      still_sink = refl;
     }
 
 pub loop-end-preserved : goal.loop-end-preserved
@@ -29,8 +29,8 @@ loop-end-preserved g c =
       room = c.serve_request.auto.buffer ∙ i.room;
       told = λ t. i.told (e.told t);
       keeps = keeps_then _ _ _ _ i.keeps e.keeps;
-      later = omega (arith, i.later, e.later);
-      later_sink = omega (arith, i.later_sink, e.later_sink);
+      still = e.still ok_apart ∙ i.still;
+      still_sink = e.still_sink ok_apart ∙ i.still_sink;
     }
 
 pub returns-in-Err : goal.returns-in-Err
@@ -46,16 +46,18 @@ returns-in-Err g c =
         sink_low = g.K.Sink.faults c.loop-end.sink;
         requests = i.served.0;
         serves = i.served.1;
-        later = i.later;
-        later_sink = i.later_sink;
+        later = stood i.still;
+        later_sink = stood i.still_sink;
         told = c.serve_request.ensures.told;
         ends = c.in-Err.ensures.ends;
       };
       size = c.serve_request.ensures.size ∙ c.loop-end.invariant.size;
       told = λ t. c.loop-end.invariant.told (c.serve_request.ensures.told t);
       keeps = keeps_then _ _ _ _ i.keeps c.serve_request.ensures.keeps;
-      later = later_then _ _ _ c.loop-end.invariant.later c.serve_request.ensures.later;
-      later_sink = later_then _ _ _ c.loop-end.invariant.later_sink c.serve_request.ensures.later_sink;
+      later = later_then _ _ _ (stood c.loop-end.invariant.still) c.serve_request.ensures.later;
+      still = λ n. c.in-Err.ensures.still (λ is. n cc) ∙ c.loop-end.invariant.still;
+      later_sink = later_then _ _ _ (stood c.loop-end.invariant.still_sink) c.serve_request.ensures.later_sink;
+      still_sink = λ n. c.in-Err.ensures.still_sink (λ is. n cc) ∙ c.loop-end.invariant.still_sink;
     }
 
 pub loop-end-smaller : goal.loop-end-smaller

@@ -14,8 +14,8 @@ invariant-loop-end g l =
       room : length l.buffer ≡ length l.initial.buffer;
       told : IsTrue (b.tells l.blocks) → IsTrue (b.tells l.initial.blocks);
       keeps : KeepsOn b.kept l.initial.blocks l.blocks;
-      later : g.S.Source.faults l.initial.source ≤ g.S.Source.faults l.source;
-      later_sink : g.K.Sink.faults l.initial.sink ≤ g.K.Sink.faults l.sink;
+      still : g.S.Source.faults l.source ≡ g.S.Source.faults l.initial.source;
+      still_sink : g.K.Sink.faults l.sink ≡ g.K.Sink.faults l.initial.sink;
     }
 
 abbrev pub decreases-loop-end : goal.decreases-loop-end

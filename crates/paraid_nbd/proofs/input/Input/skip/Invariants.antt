@@ -6,7 +6,7 @@ abbrev pub invariant-loop-done : goal.invariant-loop-done
 invariant-loop-done g l = record {
   within : l.done ≤ l.count;
   takes : (got : List ℕ) × (length got ≡ l.done) × Takes (g.S.Source.left l.initial.source) (g.S.Source.left l.source) l.initial.self.taken l.self.taken got;
-  later : g.S.Source.faults l.initial.source ≤ g.S.Source.faults l.source;
+  still : g.S.Source.faults l.source ≡ g.S.Source.faults l.initial.source;
 }
 
 abbrev pub decreases-loop-done : goal.decreases-loop-done

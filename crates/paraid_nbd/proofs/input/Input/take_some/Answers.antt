@@ -29,6 +29,7 @@ returns-then-room-eq0 g c =
       takes = tt;
       lacks = record { got = []; takes = Takes-none _ _; few = omega arith; cause = (refl, omega (arith, full, limit)) };
       later = later_none _;
+      still = λ n. refl;
     }
 
 pub returns-in-Ok-eq0 : goal.returns-in-Ok-eq0
@@ -42,6 +43,7 @@ returns-in-Ok-eq0 g c =
       lacks = none_taken (subst (λ (n : ℕ). Gives (g.S.Source.left c.args.source.now) (g.S.Source.left c.read_some.new.self) (take n c.read_some.new.into)) c.in-Ok-eq0.field-0-test e.gives)
           (e.end c.in-Ok-eq0.field-0-test, omega (arith, room));
       later = c.read_some.ensures.later;
+      still = λ n. c.in-Ok-eq0.ensures.still;
     }
 
 pub returns-in-Ok : goal.returns-in-Ok
@@ -55,6 +57,7 @@ returns-in-Ok g c =
       takes = taken_first c.read_some.new.into _ within many c.in-Ok.ensures.gives;
       lacks = tt;
       later = c.read_some.ensures.later;
+      still = λ n. c.in-Ok.ensures.still;
     }
 
 pub returns-in-Err : goal.returns-in-Err
@@ -67,6 +70,7 @@ returns-in-Err g c =
       takes = tt;
       lacks = none_taken e.keeps (e.cause, omega (arith, room));
       later = c.read_some.ensures.later;
+      still = λ n. absurd (n refl);
     }
 
 pub overflow_sub-room : goal.overflow_sub-room
