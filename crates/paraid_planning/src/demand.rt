@@ -1,5 +1,5 @@
 //! A demand is read, and its plan is made.
-ghost use Rattle.std.specs.Prelude.{◌≡◌, ◌≤◌, IfOk, IfErr};
+ghost use Rattle.std.specs.Prelude.{◌≡◌, ◌≢◌, ◌≤◌, IfOk, IfErr};
 ghost use Rattle.paraid_planning.specs.Demand.{ReadsDemand, IsUnplanned};
 ghost use Rattle.paraid_planning.specs.Planned.{IsPlanned};
 
@@ -20,6 +20,7 @@ pub fn read_demand<S: Source>(alloc: Global, source: &mut S) -> Result<Vec<u32>,
     ensures unread { IfErr result (IsUnplanned (S.left source.old) (S.left source.new)
         (S.faults source.old) (S.faults source.new)) }
     ensures later { S.faults source.old ≤ S.faults source.new }
+    ensures still { result ≢ Err Unplanned.Source → S.faults source.new ≡ S.faults source.old }
 {
     let mut demand = Vec::new(alloc);
     let mut reader = LineReader::new();
@@ -61,6 +62,7 @@ pub fn plan_demand<S: Source>(
     ensures unplanned { IfErr result (IsUnplanned (S.left source.old) (S.left source.new)
         (S.faults source.old) (S.faults source.new)) }
     ensures later { S.faults source.old ≤ S.faults source.new }
+    ensures still { result ≢ Err Unplanned.Source → S.faults source.new ≡ S.faults source.old }
 {
     let demand = match read_demand(alloc, source) {
         Ok(demand) => demand,

@@ -1,5 +1,5 @@
 //! The next line of a demand.
-ghost use Rattle.std.specs.Prelude.{◌≡◌, ◌≤◌, ◌^◌, ℕ, None, OnOk, IsErrOf, IfSome, IfNone, decimal};
+ghost use Rattle.std.specs.Prelude.{◌≡◌, ◌≢◌, ◌≤◌, ◌^◌, ℕ, None, OnOk, IsErrOf, IfSome, IfNone, decimal};
 ghost use Rattle.paraid_base.specs.Told.{HasRisen};
 ghost use Rattle.paraid_planning.specs.Demand.{IsNoNumber};
 ghost use Rattle.paraid_planning.specs.Heard.{HearsNumber};
@@ -38,6 +38,7 @@ pub(crate) fn hear<S: Source>(reader: &mut LineReader, source: &mut S) -> Result
     ensures heard { HearsNumber (S.left source.old) (S.left source.new) reader.old reader.new result }
     ensures goes_on { OnOk result (reader.new.fault ≡ None) }
     ensures later { S.faults source.old ≤ S.faults source.new }
+    ensures still { result ≢ Err LineFault.Source → S.faults source.new ≡ S.faults source.old }
     ensures cause { IsErrOf result LineFault.Source
         → HasRisen (S.faults source.old) (S.faults source.new) }
     ensures too_long { (n : ℕ) → IsErrOf result (LineFault.TooLong n)

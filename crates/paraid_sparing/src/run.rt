@@ -1,5 +1,5 @@
 //! The session over all lines of a source.
-ghost use Rattle.std.specs.Prelude.{◌≡◌, ◌≤◌, ◌++◌, ℕ, None, IfErr, IsErrOf, OnErr, OnOk, take};
+ghost use Rattle.std.specs.Prelude.{◌≡◌, ◌≢◌, ◌≤◌, ◌++◌, ℕ, None, IfErr, IsErrOf, OnErr, OnOk, take};
 ghost use Rattle.paraid_base.specs.Told.{GrowsByBytes, HasRisen};
 ghost use Rattle.paraid_serve.specs.Calls.{Grows};
 ghost use Rattle.paraid_serve.specs.Session.{IsStopByWear, IsStopOfFailed};
@@ -25,6 +25,7 @@ fn tell<K: Sink>(sink: &mut K, line: &[u8], text: &[u8]) -> Result<(), Failed>
     ensures part { OnErr result ((n : ℕ) × GrowsByBytes (K.written sink.old) (K.written sink.new)
         (take n (line.now ++ text.now))) }
     ensures later { K.faults sink.old ≤ K.faults sink.new }
+    ensures still { OnOk result (K.faults sink.new ≡ K.faults sink.old) }
     ensures cause { OnErr result (HasRisen (K.faults sink.old) (K.faults sink.new)) }
 {
     let Ok(()) = write_all(sink, line) else {
@@ -62,6 +63,8 @@ pub fn session<S: Source, K: Sink, A: Serves>(
     ensures sink { IsErrOf result Stop.Sink → HasRisen (K.faults sink.old) (K.faults sink.new) }
     ensures later_source { S.faults source.old ≤ S.faults source.new }
     ensures later_sink { K.faults sink.old ≤ K.faults sink.new }
+    ensures still_source { result ≢ Err Stop.Source → S.faults source.new ≡ S.faults source.old }
+    ensures still_sink { result ≢ Err Stop.Sink → K.faults sink.new ≡ K.faults sink.old }
 {
     let mut reader = LineReader::new();
     let mut line = Text::new();

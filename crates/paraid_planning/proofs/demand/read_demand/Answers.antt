@@ -9,7 +9,7 @@ pub returns-in-Ok-Other-clause-unread : goal.returns-in-Ok-Other-clause-unread
 returns-in-Ok-Other-clause-unread g c = missed c.lines.invariant.gathered _ _ c.len.result (rw c.in-Ok-Other.field-0-is at c.in-Ok-Other.ensures.heard) (c.len.ensures ∙ c.lines.demand.ok.0)
 
 pub returns-in-Err-Source-clause-unread : goal.returns-in-Err-Source-clause-unread
-returns-in-Err-Source-clause-unread g c = source_failed c.lines.invariant.gathered _ _ c.in-Err-Source.ensures.heard (HasRisen-sooner _ _ _ c.lines.invariant.later (c.in-Err-Source.ensures.cause (ap Err c.in-Err-Source.field-0-is)))
+returns-in-Err-Source-clause-unread g c = source_failed c.lines.invariant.gathered _ _ c.in-Err-Source.ensures.heard (HasRisen-sooner _ _ _ (omega (arith, c.lines.invariant.still)) (c.in-Err-Source.ensures.cause (ap Err c.in-Err-Source.field-0-is)))
 
 pub returns-in-Err-TooLong-clause-unread : goal.returns-in-Err-TooLong-clause-unread
 returns-in-Err-TooLong-clause-unread g c = took_all c.lines.invariant.gathered _ _ c.in-Err-TooLong.ensures.heard (c.in-Err-TooLong.ensures.too_long c.in-Err-TooLong.field-0-0 (ap Err c.in-Err-TooLong.field-0-is))
@@ -23,7 +23,7 @@ lines-preserved g c =
     let room : length c.lines.demand.items < 1024 = omega (arith, c.if-len-ge-PERIODS.false, c.len-in-lines.ensures, c.lines.demand.ok.0) in
     rw c.in-Ok.ensures.items (record {
       gathered = gathered_more i.gathered (rw c.in-Ok-Number.field-0-is at c.in-Ok-Number.ensures.heard) c.in-Ok-Number.ensures.goes_on room;
-      later = omega (arith, i.later, c.in-Ok-Number.ensures.later);
+      still = c.in-Ok-Number.ensures.still (λ is. cc) ∙ i.still;
     })
 
 pub returns-in_default-clause-unread : goal.returns-in_default-clause-unread

@@ -1,11 +1,11 @@
-use Rattle.std.proofs.Common.{◌≤◌, ◌+◌, ◌-◌, ◌^◌, length}
+use Rattle.std.proofs.Common.{◌≡◌, ◌+◌, ◌-◌, ◌^◌, length}
 use Rattle.paraid_planning.proofs.GatheredLemmas.{Gathered}
 use Rattle.paraid_planning.proofs.demand.read_demand.Given as goal
 
 abbrev pub invariant-lines : goal.invariant-lines
 invariant-lines g l = record {
   gathered : Gathered (g.S.Source.left l.initial.source) (g.S.Source.left l.source) l.reader l.demand.items;
-  later : g.S.Source.faults l.initial.source ≤ g.S.Source.faults l.source;
+  still : g.S.Source.faults l.source ≡ g.S.Source.faults l.initial.source;
 }
 
 abbrev pub decreases-lines : goal.decreases-lines

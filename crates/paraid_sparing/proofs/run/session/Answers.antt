@@ -4,7 +4,7 @@ use Rattle.paraid_base.proofs.ToldLemmas.{HasRisen-sooner}
 use Rattle.paraid_serve.proofs.GrowsLemmas.{grows_none, grows_then, told_then}
 use Rattle.paraid_serve.proofs.HearLemmas.{less_to_take}
 use Rattle.paraid_serve.proofs.HaltLemmas.{no_event_yet}
-use Rattle.paraid_serve.proofs.StatusLemmas.{err_is, halt_not_sink, halt_not_source, not_fallen, ok_not_err, sink_not_source, source_not_sink, too_long_not_sink, too_long_not_source}
+use Rattle.paraid_serve.proofs.StatusLemmas.{err_is, halt_not_sink, halt_not_source, not_fallen, ok_not_err, sink_not_source, source_not_sink, stood, too_long_not_sink, too_long_not_source}
 use Rattle.paraid_sparing.proofs.Sofar.{ends_at_sink, ends_at_source, ends_halted, ends_too_long, ends_well, sofar_more, sofar_start}
 use Rattle.paraid_sparing.proofs.run.session.Goals as goal
 
@@ -16,8 +16,8 @@ lines-init g c = record {
   setup = refl;
   halt = sym c.requires.going;
   since = no_event_yet _ _ c.requires.going;
-  source = omega arith;
-  sink = omega arith;
+  source = refl;
+  sink = refl;
 }
 
 pub lines-preserved : goal.lines-preserved
@@ -33,8 +33,8 @@ lines-preserved g c =
       setup = e.setup ∙ i.setup;
       halt = e.halt;
       since = e.since (g.A.Serves.slot c.args.array.now) i.since;
-      source = not_fallen _ _ _ i.source c.in-Ok-Some.ensures.later;
-      sink = not_fallen _ _ _ i.sink k.later;
+      source = c.in-Ok-Some.ensures.still (λ is. ok_not_err is) ∙ i.source;
+      sink = k.still ∙ i.sink;
     }
 
 pub returns-in-Err-Source : goal.returns-in-Err-Source
@@ -46,10 +46,12 @@ returns-in-Err-Source g c = record {
   going = tt;
   failed = tt;
   worn = tt;
-  source = λ is. HasRisen-sooner _ _ _ c.lines.invariant.source (c.in-Err-Source.ensures.cause (ap Err c.in-Err-Source.field-0-is));
+  source = λ is. HasRisen-sooner _ _ _ (stood c.lines.invariant.source) (c.in-Err-Source.ensures.cause (ap Err c.in-Err-Source.field-0-is));
   sink = λ is. absurd (source_not_sink (err_is is));
-  later_source = not_fallen _ _ _ c.lines.invariant.source c.in-Err-Source.ensures.later;
-  later_sink = c.lines.invariant.sink;
+  later_source = not_fallen _ _ _ (stood c.lines.invariant.source) c.in-Err-Source.ensures.later;
+  later_sink = stood c.lines.invariant.sink;
+  still_source = λ n. absurd (n refl);
+  still_sink = λ n. c.lines.invariant.sink;
 }
 
 pub returns-in-Err-TooLong : goal.returns-in-Err-TooLong
@@ -63,8 +65,10 @@ returns-in-Err-TooLong g c = record {
   worn = tt;
   source = λ is. absurd (too_long_not_source (err_is is));
   sink = λ is. absurd (too_long_not_sink (err_is is));
-  later_source = not_fallen _ _ _ c.lines.invariant.source c.in-Err-TooLong.ensures.later;
-  later_sink = c.lines.invariant.sink;
+  later_source = not_fallen _ _ _ (stood c.lines.invariant.source) c.in-Err-TooLong.ensures.later;
+  later_sink = stood c.lines.invariant.sink;
+  still_source = λ n. c.in-Err-TooLong.ensures.still (λ is. cc (is, c.in-Err-TooLong.field-0-is)) ∙ c.lines.invariant.source;
+  still_sink = λ n. c.lines.invariant.sink;
 }
 
 pub returns-in_default : goal.returns-in_default
@@ -82,9 +86,11 @@ returns-in_default g c = record {
   failed = tt;
   worn = tt;
   source = λ is. absurd (sink_not_source (err_is is));
-  sink = λ is. HasRisen-sooner _ _ _ c.lines.invariant.sink c.in_default.ensures.cause;
-  later_source = not_fallen _ _ _ c.lines.invariant.source c.in-Ok-Some.ensures.later;
-  later_sink = not_fallen _ _ _ c.lines.invariant.sink c.tell.ensures.later;
+  sink = λ is. HasRisen-sooner _ _ _ (stood c.lines.invariant.sink) c.in_default.ensures.cause;
+  later_source = not_fallen _ _ _ (stood c.lines.invariant.source) c.in-Ok-Some.ensures.later;
+  later_sink = not_fallen _ _ _ (stood c.lines.invariant.sink) c.tell.ensures.later;
+  still_source = λ n. c.in-Ok-Some.ensures.still (λ is. ok_not_err is) ∙ c.lines.invariant.source;
+  still_sink = λ n. absurd (n refl);
 }
 
 pub returns-in-Ok-finish : goal.returns-in-Ok-finish
@@ -101,8 +107,10 @@ returns-in-Ok-finish g c = record {
   worn = tt;
   source = λ is. absurd (ok_not_err is);
   sink = λ is. absurd (ok_not_err is);
-  later_source = not_fallen _ _ _ c.lines.invariant.source c.in-Ok-None.ensures.later;
-  later_sink = c.lines.invariant.sink;
+  later_source = not_fallen _ _ _ (stood c.lines.invariant.source) c.in-Ok-None.ensures.later;
+  later_sink = stood c.lines.invariant.sink;
+  still_source = λ n. c.in-Ok-None.ensures.still (λ is. ok_not_err is) ∙ c.lines.invariant.source;
+  still_sink = λ n. c.lines.invariant.sink;
 }
 
 pub returns-in-Err : goal.returns-in-Err
@@ -119,8 +127,10 @@ returns-in-Err g c = record {
   worn = c.in-Err.ensures.worn;
   source = λ is. absurd (halt_not_source c.in-Err.halt (err_is is));
   sink = λ is. absurd (halt_not_sink c.in-Err.halt (err_is is));
-  later_source = not_fallen _ _ _ c.lines.invariant.source c.in-Ok-None.ensures.later;
-  later_sink = c.lines.invariant.sink;
+  later_source = not_fallen _ _ _ (stood c.lines.invariant.source) c.in-Ok-None.ensures.later;
+  later_sink = stood c.lines.invariant.sink;
+  still_source = λ n. c.in-Ok-None.ensures.still (λ is. ok_not_err is) ∙ c.lines.invariant.source;
+  still_sink = λ n. c.lines.invariant.sink;
 }
 
 pub hear-requires : goal.hear-requires

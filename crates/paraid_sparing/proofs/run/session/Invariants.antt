@@ -14,8 +14,8 @@ invariant-lines g l = record {
   setup : g.A.Serves.setup l.array ≡ g.A.Serves.setup l.initial.array;
   halt : l.halt ≡ g.A.Serves.halted l.array;
   since : HasServedSince (g.A.Serves.slot l.initial.array) (g.A.Serves.slot l.array) (g.A.Serves.halted l.array);
-  source : g.S.Source.faults l.initial.source ≤ g.S.Source.faults l.source;
-  sink : g.K.Sink.faults l.initial.sink ≤ g.K.Sink.faults l.sink;
+  source : g.S.Source.faults l.source ≡ g.S.Source.faults l.initial.source;
+  sink : g.K.Sink.faults l.sink ≡ g.K.Sink.faults l.initial.sink;
 }
 
 abbrev pub decreases-lines : goal.decreases-lines

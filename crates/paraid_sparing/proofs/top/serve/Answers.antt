@@ -1,6 +1,7 @@
-use Rattle.std.proofs.Common.{ap, sym, ◌∙◌}
+use Rattle.std.proofs.Common.{ap, refl, sym, ◌∙◌}
 use Rattle.paraid_base.proofs.ToldLemmas.{GrowsByBytes-then}
 use Rattle.paraid_record.specs.declared.meta.Setup.{Setup}
+use Rattle.paraid_serve.proofs.StatusLemmas.{ends_there, err_is, halt_not_sink, halt_not_source, ok_not_err, source_not_sink, too_long_not_sink, too_long_not_source}
 use Rattle.paraid_serve.proofs.TopLemmas.{shown_line}
 use Rattle.paraid_serve.specs.Streams.{sink_use}
 use Rattle.paraid_spare.specs.Pools.{left_of, spins_of}
@@ -50,3 +51,39 @@ returns-in-Err-Halt-clause-worn g c twelve =
     tells_wear_after _ _ _ _ (spares_line (left_of c.session.new.pool) (spins_of c.session.new.pool) c.disks-disks.result) c.in-Err-Halt.halt _ (rw c.in-Err-Halt.field-0-is at c.in-Err-Halt.ensures.worn)
     (GrowsByBytes-then _ _ _ _ _ (rw (c.as_slice.ensures.value, c.mount_text.ensures) at c.in-Ok.ensures.grows) session.grows)
     (rw (c.as_slice-in-Err-Halt.ensures.value, c.reply.ensures.value, c.halt_status.ensures) at c.tell_end-in-Err-Halt.ensures.ends) twelve
+
+pub returns-in-Ok-session-clause-unhurt : goal.returns-in-Ok-session-clause-unhurt
+returns-in-Ok-session-clause-unhurt g c = record {
+  sink = λ n. c.tell_end.ensures.still n ∙ c.in-Ok-session.ensures.still_sink (λ is. ok_not_err is) ∙ c.in-Ok.ensures.still;
+  source = λ n m. c.in-Ok-session.ensures.still_source (λ is. ok_not_err is);
+}
+
+pub returns-in-Err-Source-clause-unhurt : goal.returns-in-Err-Source-clause-unhurt
+returns-in-Err-Source-clause-unhurt g c = record {
+  sink = λ n. c.last.ensures.still n ∙ c.in-Err-Source.ensures.still_sink (λ is. source_not_sink (sym c.in-Err-Source.field-0-is ∙ err_is is)) ∙ c.in-Ok.ensures.still;
+  source = λ n m. absurd (ends_there _ _ _ _ _ c.last.ensures.ends m n);
+}
+
+pub returns-in-Err-TooLong-clause-unhurt : goal.returns-in-Err-TooLong-clause-unhurt
+returns-in-Err-TooLong-clause-unhurt g c = record {
+  sink = λ n. c.last-in-Err-TooLong.ensures.still n ∙ c.in-Err-TooLong.ensures.still_sink (λ is. too_long_not_sink (sym c.in-Err-TooLong.field-0-is ∙ err_is is)) ∙ c.in-Ok.ensures.still;
+  source = λ n m. c.in-Err-TooLong.ensures.still_source (λ is. too_long_not_source (sym c.in-Err-TooLong.field-0-is ∙ err_is is));
+}
+
+pub returns-in-Err-Sink-clause-unhurt : goal.returns-in-Err-Sink-clause-unhurt
+returns-in-Err-Sink-clause-unhurt g c = record {
+  sink = λ n. absurd (n refl);
+  source = λ n m. absurd (m refl);
+}
+
+pub returns-in-Err-Halt-clause-unhurt : goal.returns-in-Err-Halt-clause-unhurt
+returns-in-Err-Halt-clause-unhurt g c = record {
+  sink = λ n. c.tell_end-in-Err-Halt.ensures.still n ∙ c.in-Err-Halt.ensures.still_sink (λ is. halt_not_sink c.in-Err-Halt.halt (sym c.in-Err-Halt.field-0-is ∙ err_is is)) ∙ c.in-Ok.ensures.still;
+  source = λ n m. c.in-Err-Halt.ensures.still_source (λ is. halt_not_source c.in-Err-Halt.halt (sym c.in-Err-Halt.field-0-is ∙ err_is is));
+}
+
+pub returns-in_default-clause-unhurt : goal.returns-in_default-clause-unhurt
+returns-in_default-clause-unhurt g c = record {
+  sink = λ n. absurd (n refl);
+  source = λ n m. absurd (m refl);
+}
