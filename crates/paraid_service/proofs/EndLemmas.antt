@@ -1,5 +1,5 @@
 -- What the end of a service says of the array, and its status.
-use Rattle.std.proofs.Common.{◌≡◌, ℕ, ◌⊎◌, ◌<◌, Option, Some, None, IsSome, inl, inr, refl, sym, ◌∙◌, subst, arith}
+use Rattle.std.proofs.Common.{◌≡◌, ◌≢◌, ℕ, ◌⊎◌, ◌<◌, Option, Some, None, IsSome, inl, inr, refl, sym, ◌∙◌, subst, arith}
 use Rattle.paraid_base.specs.declared.fault.Halt.{Halt}
 use Rattle.paraid_base.specs.declared.fault.Halt.TheVariants.{Two as HaltTwo, Worn}
 use Rattle.paraid_base.specs.BlockAnswers.{Answers}
@@ -120,6 +120,15 @@ module _ {A : Type 0} (g : Ghosts A) (first last : A) (events : Answers) (end : 
   ends_sink (broken e k) is = broken_sink end status e is
   ends_sink (flushed e (kept writes zero going k)) is = absurd (omega (arith, zero, is))
   ends_sink (flushed e (halted halt told now k)) is = absurd (low_not_halt halt status 4 told is (omega arith))
+
+  -- a fault of the source ends with 3, and one of the sink with 4
+  pub not_at_source : EndsService g first last events end status → status ≢ 3 → end ≢ Source
+  not_at_source (broken e k) not is = not (sym (some_number 3 status (rw is at e)))
+  not_at_source (flushed e k) not is = none_number 3 (sym (rw is at e))
+
+  pub not_at_sink : EndsService g first last events end status → status ≢ 4 → end ≢ Sink
+  not_at_sink (broken e k) not is = not (sym (some_number 4 status (rw is at e)))
+  not_at_sink (flushed e k) not is = none_number 4 (sym (rw is at e))
 
   pub ends_answered : EndsService g first last events end status → (es : Answers) × HasAnswered g first last es
   ends_answered (broken e k) = (events, k)

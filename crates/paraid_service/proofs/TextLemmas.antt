@@ -32,7 +32,7 @@ use Rattle.paraid_serve.specs.Uses.{SinkUse}
 use Rattle.paraid_serve.proofs.ExitLemmas.{stretch_leaves}
 use Rattle.paraid_serve.proofs.GrowsLemmas.{told_then}
 use Rattle.paraid_serve.proofs.HaltLemmas.{names_two, tells_wear}
-use Rattle.paraid_serve.proofs.StatusLemmas.{halt_served, other, served}
+use Rattle.paraid_serve.proofs.StatusLemmas.{ends_there, halt_served, other, served}
 use Rattle.paraid_serve.proofs.StretchLemmas.{stretch_none}
 use Rattle.paraid_session.specs.Turn.{IsMark, Point}
 use Rattle.paraid_session.specs.Mount.{IsMountedFromEach}
@@ -461,6 +461,20 @@ module _ {A : Type 0} (g : Ghosts A) {old new : Device A g} {before after : Opti
   ends_three Source status (at_source status' same e) is = refl
   ends_three TooLong status (too_long status' same e) is = absurd (other _ _ _ _ _ e 3 (λ no. omega (arith, no)) (λ no. omega (arith, no)) is)
   ends_three Sink status (at_sink same w) is = absurd (omega (arith, is))
+
+  -- a fault of the source ends with 3, or with 4 by the last line
+  pub not_at_source : (end : LinesEnd) (status : ℕ) → EndsSession g old new before after end status → status ≢ 3 → status ≢ 4 → end ≢ Source
+  not_at_source Done status ends not nor is = cc
+  not_at_source Source status (at_source status' same e) not nor is = ends_there _ _ _ _ _ e nor not
+  not_at_source TooLong status ends not nor is = cc
+  not_at_source Sink status ends not nor is = cc
+
+  -- one of the sink ends with 4
+  pub not_at_sink : (end : LinesEnd) (status : ℕ) → EndsSession g old new before after end status → status ≢ 4 → end ≢ Sink
+  not_at_sink Done status ends not is = cc
+  not_at_sink Source status ends not is = cc
+  not_at_sink TooLong status ends not is = cc
+  not_at_sink Sink status (at_sink same w) not is = not refl
 
   pub ends_going : (end : LinesEnd) (status : ℕ) → EndsSession g old new before after end status → status ≡ 0 → g.halted (array_of new) ≡ None
   ends_going Done status (kept writes status' f e) is = array_halt new ∙ f.halted

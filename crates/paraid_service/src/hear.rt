@@ -1,4 +1,4 @@
-ghost use Rattle.std.specs.Prelude.{◌≡◌, ℕ, ◌≤◌, None, OnOk, IsErrOf, ◌^◌};
+ghost use Rattle.std.specs.Prelude.{◌≡◌, ◌≢◌, ℕ, ◌≤◌, None, OnOk, IsErrOf, ◌^◌};
 ghost use Rattle.paraid_base.specs.Told.{HasRisen};
 ghost use Rattle.paraid_service.specs.LineEnds.{HearsVolumes};
 
@@ -16,6 +16,7 @@ pub(crate) fn hear_volumes<S: Source>(
     ensures heard { HearsVolumes (S.left source.old) (S.left source.new) reader.old reader.new bytes.new result }
     ensures goes_on { OnOk result (reader.new.fault ≡ None) }
     ensures later { S.faults source.old ≤ S.faults source.new }
+    ensures still { result ≢ Err LineFault.Source → S.faults source.new ≡ S.faults source.old }
     ensures cause { IsErrOf result LineFault.Source
         → HasRisen (S.faults source.old) (S.faults source.new) }
     ensures too_long { (n : ℕ) → IsErrOf result (LineFault.TooLong n)

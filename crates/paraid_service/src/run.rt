@@ -1,5 +1,5 @@
 //! The lines of a session of volumes.
-ghost use Rattle.std.specs.Prelude.{◌≡◌, ◌≤◌};
+ghost use Rattle.std.specs.Prelude.{◌≡◌, ◌≢◌, ◌≤◌};
 ghost use Rattle.paraid_base.specs.Told.{HasRisen};
 ghost use Rattle.paraid_service.specs.LineEnds.{ServesVolumeLines};
 ghost use Rattle.paraid_service.specs.declared.run.LinesEnd.TheVariants.{Sink as AtSink, Source as AtSource};
@@ -43,6 +43,8 @@ pub fn serve_lines<S: Source, K: Sink, B: Blocks>(
     ensures sink { result.end ≡ AtSink → HasRisen (K.faults sink.old) (K.faults sink.new) }
     ensures later_source { S.faults source.old ≤ S.faults source.new }
     ensures later_sink { K.faults sink.old ≤ K.faults sink.new }
+    ensures still_source { result.end ≢ AtSource → S.faults source.new ≡ S.faults source.old }
+    ensures still_sink { result.end ≢ AtSink → K.faults sink.new ≡ K.faults sink.old }
 {
     let mut reader = LineReader::new();
     let mut text = Text::new();

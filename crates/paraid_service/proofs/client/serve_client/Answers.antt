@@ -5,7 +5,7 @@ use Rattle.paraid_device.specs.Laws.{answered_none}
 use Rattle.paraid_serve.specs.Calls.{IsNotDouble}
 use Rattle.paraid_serve.specs.Streams.{Streams, sink_use, source_use, streams_of}
 use Rattle.paraid_service.proofs.CauseLemmas.{service_cause}
-use Rattle.paraid_service.proofs.EndLemmas.{ends_answered, ends_going, ends_sink, ends_source, ends_status, ends_two}
+use Rattle.paraid_service.proofs.EndLemmas.{ends_answered, ends_going, ends_sink, ends_source, ends_status, ends_two, not_at_sink, not_at_source}
 use Rattle.paraid_service.proofs.HeadlineLemmas.{ends_at, headline_at}
 use Rattle.paraid_service.proofs.ReplyLemmas.{caused_at, client_replied}
 use Rattle.paraid_service.proofs.client.serve_client.Goals as goal
@@ -34,4 +34,8 @@ returns g c =
       two = λ five. ends_two g.A.Serves a b k.0 end status c.requires.going e five;
       source = λ three. cause.source (ends_source g.A.Serves a b k.0 end status e three);
       sink = λ four. cause.sink (ends_sink g.A.Serves a b k.0 end status e four);
+      unhurt = record {
+        sink = λ n. c.serve_nbd-end.ensures.still_sink (not_at_sink g.A.Serves a b k.0 end status e n);
+        source = λ n m. c.serve_nbd-end.ensures.still (not_at_source g.A.Serves a b k.0 end status e n);
+      };
     }

@@ -1,6 +1,6 @@
-use Rattle.std.proofs.Common.{ap, arith}
+use Rattle.std.proofs.Common.{ap, refl, ◌∙◌}
 use Rattle.std.specs.Prelude.{Err}
-use Rattle.paraid_serve.proofs.StatusLemmas.{not_fallen}
+use Rattle.paraid_serve.proofs.StatusLemmas.{ok_not_err}
 use Rattle.paraid_service.proofs.RunLemmas.{runs_first}
 use Rattle.paraid_service.proofs.TakeLemmas.{ends_at_sink, ends_at_source, ends_done, ends_too_long, taken_more, taken_start}
 use Rattle.paraid_service.proofs.run.serve_lines.Goals as goal
@@ -8,8 +8,8 @@ use Rattle.paraid_service.proofs.run.serve_lines.Goals as goal
 pub lines-init : goal.lines-init
 lines-init g c = record {
   taken = rw c.new-reader.ensures (taken_start g.B.Blocks c.args.blocks _ _ c.open_shelf-shelved.result.shelf c.open_shelf-shelved.result.halt (runs_first g.B.Blocks c.args.blocks c.open_shelf-shelved.result.shelf c.open_shelf-shelved.result.halt c.open_shelf-shelved.ensures.opens c.open_shelf-shelved.ensures.begins));
-  source = omega arith;
-  sink = omega arith;
+  source = refl;
+  sink = refl;
 }
 
 pub returns-in-Ok-None-clause-lines : goal.returns-in-Ok-None-clause-lines
@@ -27,8 +27,8 @@ lines-preserved g c =
     let k = c.in-Ok.ensures in
     record {
       taken = taken_more i.taken (rw c.in-Ok-Some.field-0-is at c.in-Ok-Some.ensures.heard) c.answer_volume_line-shelved.result.shelf c.answer_volume_line-shelved.result.halt c.answer_volume_line-shelved.new.into c.answer_volume_line-shelved.ensures.runs c.in-Ok-Some.ensures.goes_on _ (rw c.as_slice.ensures.value at k.grows);
-      source = not_fallen _ _ _ i.source c.in-Ok-Some.ensures.later;
-      sink = not_fallen _ _ _ i.sink k.later;
+      source = c.in-Ok-Some.ensures.still (λ is. ok_not_err is) ∙ i.source;
+      sink = k.still ∙ i.sink;
     }
 
 pub returns-in_default-clause-lines : goal.returns-in_default-clause-lines

@@ -10,7 +10,7 @@ use Rattle.paraid_serve.specs.Streams.{Streams, sink_use, source_use, streams_of
 use Rattle.paraid_session.specs.Turn.{Point}
 use Rattle.paraid_serve.proofs.GrowsLemmas.{grows_none}
 use Rattle.paraid_serve.proofs.HaltLemmas.{no_event_yet}
-use Rattle.paraid_service.proofs.TextLemmas.{all_answered, answered_at, ends_going, ends_served, ends_three, ends_two, ends_worn, grew_as, headline_of, mount_shown, ran, ran_none, sink_cause}
+use Rattle.paraid_service.proofs.TextLemmas.{all_answered, answered_at, ends_going, ends_served, ends_three, ends_two, ends_worn, grew_as, headline_of, mount_shown, not_at_sink, not_at_source, ran, ran_none, sink_cause}
 use Rattle.paraid_service.specs.VolumeSessions.{VolumesRun}
 use Rattle.paraid_service.proofs.session.serve_volumes.Goals as goal
 
@@ -33,6 +33,7 @@ returns-in_default g c =
       worn = λ twelve. absurd (omega (arith, twelve));
       source = λ three. absurd (omega (arith, three));
       sink = λ four. c.in_default.ensures.cause;
+      unhurt = record { sink = λ n. absurd (n refl); source = λ n m. absurd (m refl) };
     }
 
 pub returns : goal.returns
@@ -72,4 +73,8 @@ returns g c =
       worn = λ twelve. ends_worn g.A.Serves _ (mount ++ lines.told) text (g.met.A.Serves.worn (array_of last)) end status ends twelve;
       source = λ three. c.serve_lines-run.ensures.source (ends_three g.A.Serves end status ends three);
       sink = sink_cause end _ _ _ _ status k.later c.serve_lines-run.ensures.later_sink c.end_session-status.ensures.later c.serve_lines-run.ensures.sink c.end_session-status.ensures.cause;
+      unhurt = record {
+        sink = λ n. c.end_session-status.ensures.still n ∙ c.serve_lines-run.ensures.still_sink (not_at_sink g.A.Serves end status ends n) ∙ k.still;
+        source = λ n m. c.serve_lines-run.ensures.still_source (not_at_source g.A.Serves end status ends n m);
+      };
     }
