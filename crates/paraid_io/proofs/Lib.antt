@@ -2,3 +2,4 @@ pub mod LineLemmas
 pub mod NewlineLemmas
 pub mod BufferLemmas
 pub mod Midway
+pub mod WriteLemmas

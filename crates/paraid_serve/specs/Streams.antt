@@ -31,6 +31,6 @@ streams_of source sink = record { source = source; sink = sink }
 
 -- A fault ends the command, and its status names it: where it is not 4, the sink has counted none; where it is neither 3 nor 4, the
 -- source has counted none either.
-pub record IsUnhurt (given : SourceUse) (kept : SinkUse) (status : ℕ) : Type 0 where
+pub record EndsAtFaults (given : SourceUse) (kept : SinkUse) (status : ℕ) : Type 0 where
   pub sink : status ≢ 4 → kept.faults ≡ kept.faults_before
   pub source : status ≢ 3 → status ≢ 4 → given.faults ≡ given.faults_before

@@ -4,7 +4,7 @@ ghost use Rattle.paraid_session.specs.Mount.{IsMountedFromEach};
 ghost use Rattle.paraid_serve.specs.Calls.{Grows, IsNotDouble};
 ghost use Rattle.paraid_serve.specs.Lost.{NamesTwoLost, TellsWear};
 ghost use Rattle.paraid_serve.specs.Output.{Headline, IsServedStatus, ProgramRun};
-ghost use Rattle.paraid_serve.specs.Streams.{IsUnhurt, sink_use, source_use, streams_of};
+ghost use Rattle.paraid_serve.specs.Streams.{EndsAtFaults, sink_use, source_use, streams_of};
 ghost use Rattle.paraid_serve.specs.Stretch.{span_of};
 
 use crate::ending::{end_text, halt_status, last, mount_text};
@@ -31,7 +31,7 @@ pub fn serve<S: Source, K: Sink, A: Serves>(source: &mut S, sink: &mut K, array:
     ensures worn { result ≡ 12 → TellsWear (K.written sink.old) (K.written sink.new) }
     ensures source { result ≡ 3 → HasRisen (S.faults source.old) (S.faults source.new) }
     ensures sink { result ≡ 4 → HasRisen (K.faults sink.old) (K.faults sink.new) }
-    ensures unhurt { IsUnhurt (source_use S.left S.faults source.old source.new)
+    ensures unhurt { EndsAtFaults (source_use S.left S.faults source.old source.new)
         (sink_use K.written K.faults sink.old sink.new) result }
 {
     let mut text = Text::new();
@@ -77,7 +77,7 @@ pub fn serve_mounted<S: Source, K: Sink, A: Serves>(
     ensures worn { result ≡ 12 → TellsWear (K.written sink.old) (K.written sink.new) }
     ensures source { result ≡ 3 → HasRisen (S.faults source.old) (S.faults source.new) }
     ensures sink { result ≡ 4 → HasRisen (K.faults sink.old) (K.faults sink.new) }
-    ensures unhurt { IsUnhurt (source_use S.left S.faults source.old source.new)
+    ensures unhurt { EndsAtFaults (source_use S.left S.faults source.old source.new)
         (sink_use K.written K.faults sink.old sink.new) result }
 {
     serve(source, sink, array)

@@ -5,7 +5,7 @@ ghost use Rattle.paraid_device.specs.declared.device.Device.{Device as DeviceTyp
 ghost use Rattle.paraid_device.specs.Devices.{HasAnswered, array_of};
 ghost use Rattle.paraid_session.specs.Mount.{IsMountedFromEach};
 ghost use Rattle.paraid_serve.specs.Calls.{Grows, IsNotDouble};
-ghost use Rattle.paraid_serve.specs.Streams.{IsUnhurt, sink_use, source_use, streams_of};
+ghost use Rattle.paraid_serve.specs.Streams.{EndsAtFaults, sink_use, source_use, streams_of};
 ghost use Rattle.paraid_serve.specs.Stretch.{span_of};
 ghost use Rattle.paraid_service.specs.ClientCauses.{ClientCauses};
 ghost use Rattle.paraid_service.specs.Clients.{ClientHeadline, IsClientStatus, LosesTwo};
@@ -83,7 +83,7 @@ pub fn serve_client<S: Source, K: Sink, A: Serves>(
     ensures two { result.status ≡ 5 → LosesTwo (A.slot array) (A.slot result.array) }
     ensures source { result.status ≡ 3 → HasRisen (S.faults source.old) (S.faults source.new) }
     ensures sink { result.status ≡ 4 → HasRisen (K.faults sink.old) (K.faults sink.new) }
-    ensures unhurt { IsUnhurt (source_use S.left S.faults source.old source.new)
+    ensures unhurt { EndsAtFaults (source_use S.left S.faults source.old source.new)
         (sink_use K.written K.faults sink.old sink.new) result.status }
 {
     let mut device = Device::new(array);

@@ -4,7 +4,7 @@ ghost use Rattle.paraid_base.specs.Told.{HasRisen};
 ghost use Rattle.paraid_serve.specs.Calls.{Grows, IsNotDouble};
 ghost use Rattle.paraid_serve.specs.Lost.{NamesTwoLost, TellsWear};
 ghost use Rattle.paraid_serve.specs.Output.{IsServedStatus};
-ghost use Rattle.paraid_serve.specs.Streams.{IsUnhurt, sink_use, source_use, streams_of};
+ghost use Rattle.paraid_serve.specs.Streams.{EndsAtFaults, sink_use, source_use, streams_of};
 ghost use Rattle.paraid_serve.specs.Stretch.{span_of};
 ghost use Rattle.paraid_service.specs.LinesEnds.{EndsSession};
 ghost use Rattle.paraid_service.specs.declared.run.LinesEnd.TheVariants.{Done, Sink as AtSink};
@@ -59,7 +59,7 @@ pub fn serve_volumes<S: Source, K: Sink, A: Serves>(
     ensures worn { result.status ≡ 12 → TellsWear (K.written sink.old) (K.written sink.new) }
     ensures source { result.status ≡ 3 → HasRisen (S.faults source.old) (S.faults source.new) }
     ensures sink { result.status ≡ 4 → HasRisen (K.faults sink.old) (K.faults sink.new) }
-    ensures unhurt { IsUnhurt (source_use S.left S.faults source.old source.new)
+    ensures unhurt { EndsAtFaults (source_use S.left S.faults source.old source.new)
         (sink_use K.written K.faults sink.old sink.new) result.status }
 {
     let mut text = Text::new();

@@ -23,7 +23,7 @@ returns-in-Ok-session g c = record {
   worn = λ is. absurd (other _ _ _ _ _ c.last.ensures.ends 12 (λ e. omega arith) (λ e. omega arith) is);
   source = λ is. absurd (other _ _ _ _ _ c.last.ensures.ends 3 (λ e. omega arith) (λ e. omega arith) is);
   sink = λ is. sink_failed _ _ _ _ _ c.last.ensures.cause (λ e. omega arith) (not_fallen _ _ _ c.write_all.ensures.later c.session.ensures.later_sink) is;
-  unhurt = record { sink = λ n. c.last.ensures.still n ∙ c.in-Ok-session.ensures.still_sink (λ is. ok_not_err is) ∙ c.in-Ok.ensures.still; source = λ n m. c.in-Ok-session.ensures.still_source (λ is. ok_not_err is); };
+  unhurt = record { sink = λ n. c.last.ensures.still n ∙ c.in-Ok-session.ensures.still_sink (λ is. ok_not_err is) ∙ c.in-Ok.ensures.still; source = λ n m. c.in-Ok-session.ensures.still_source (λ is. ok_not_err is) };
 }
 
 pub returns-in-Err-Source : goal.returns-in-Err-Source
@@ -38,7 +38,7 @@ returns-in-Err-Source g c = record {
   worn = λ is. absurd (other _ _ _ _ _ c.last-in-Err-Source.ensures.ends 12 (λ e. omega arith) (λ e. omega arith) is);
   source = λ is. c.in-Err-Source.ensures.source (ap Err c.in-Err-Source.field-0-is);
   sink = λ is. sink_failed _ _ _ _ _ c.last-in-Err-Source.ensures.cause (λ e. omega arith) (not_fallen _ _ _ c.write_all.ensures.later c.session.ensures.later_sink) is;
-  unhurt = record { sink = λ n. c.last-in-Err-Source.ensures.still n ∙ c.in-Err-Source.ensures.still_sink (λ is. source_not_sink (sym c.in-Err-Source.field-0-is ∙ err_is is)) ∙ c.in-Ok.ensures.still; source = λ n m. absurd (ends_there _ _ _ _ _ c.last-in-Err-Source.ensures.ends m n); };
+  unhurt = record { sink = λ n. c.last-in-Err-Source.ensures.still n ∙ c.in-Err-Source.ensures.still_sink (λ is. source_not_sink (sym c.in-Err-Source.field-0-is ∙ err_is is)) ∙ c.in-Ok.ensures.still; source = λ n m. absurd (ends_there _ _ _ _ _ c.last-in-Err-Source.ensures.ends m n) };
 }
 
 pub returns-in-Err-TooLong : goal.returns-in-Err-TooLong
@@ -53,7 +53,7 @@ returns-in-Err-TooLong g c = record {
   worn = λ is. absurd (other _ _ _ _ _ c.last-in-Err-TooLong.ensures.ends 12 (λ e. omega arith) (λ e. omega arith) is);
   source = λ is. absurd (other _ _ _ _ _ c.last-in-Err-TooLong.ensures.ends 3 (λ e. omega arith) (λ e. omega arith) is);
   sink = λ is. sink_failed _ _ _ _ _ c.last-in-Err-TooLong.ensures.cause (λ e. omega arith) (not_fallen _ _ _ c.write_all.ensures.later c.session.ensures.later_sink) is;
-  unhurt = record { sink = λ n. c.last-in-Err-TooLong.ensures.still n ∙ c.in-Err-TooLong.ensures.still_sink (λ is. too_long_not_sink (sym c.in-Err-TooLong.field-0-is ∙ err_is is)) ∙ c.in-Ok.ensures.still; source = λ n m. c.in-Err-TooLong.ensures.still_source (λ is. too_long_not_source (sym c.in-Err-TooLong.field-0-is ∙ err_is is)); };
+  unhurt = record { sink = λ n. c.last-in-Err-TooLong.ensures.still n ∙ c.in-Err-TooLong.ensures.still_sink (λ is. too_long_not_sink (sym c.in-Err-TooLong.field-0-is ∙ err_is is)) ∙ c.in-Ok.ensures.still; source = λ n m. c.in-Err-TooLong.ensures.still_source (λ is. too_long_not_source (sym c.in-Err-TooLong.field-0-is ∙ err_is is)) };
 }
 
 pub returns-in-Err-Sink : goal.returns-in-Err-Sink
@@ -68,7 +68,7 @@ returns-in-Err-Sink g c = record {
   worn = λ is. absurd (omega (arith, is));
   source = λ is. absurd (omega (arith, is));
   sink = λ is. HasRisen-sooner _ _ _ c.write_all.ensures.later (c.in-Err-Sink.ensures.sink (ap Err c.in-Err-Sink.field-0-is));
-  unhurt = record { sink = λ n. absurd (n refl); source = λ n m. absurd (m refl); };
+  unhurt = record { sink = λ n. absurd (n refl); source = λ n m. absurd (m refl) };
 }
 
 pub returns-in-Err-Halt : goal.returns-in-Err-Halt
@@ -92,7 +92,7 @@ returns-in-Err-Halt g c = record {
       (rw (c.as_slice-in-Err-Halt.ensures.value, c.reply.ensures.value, c.halt_status.ensures) at c.last-in-Err-Halt.ensures.ends) twelve;
   source = λ is. absurd (other _ _ _ _ _ c.last-in-Err-Halt.ensures.ends 3 (λ e. omega arith) (λ e. halt_high c.in-Err-Halt.halt 3 (omega arith) (e ∙ c.halt_status.ensures)) is);
   sink = λ is. sink_failed _ _ _ _ _ c.last-in-Err-Halt.ensures.cause (λ e. halt_high c.in-Err-Halt.halt 4 (omega arith) (sym e ∙ c.halt_status.ensures)) (not_fallen _ _ _ c.write_all.ensures.later c.session.ensures.later_sink) is;
-  unhurt = record { sink = λ n. c.last-in-Err-Halt.ensures.still n ∙ c.in-Err-Halt.ensures.still_sink (λ is. halt_not_sink c.in-Err-Halt.halt (sym c.in-Err-Halt.field-0-is ∙ err_is is)) ∙ c.in-Ok.ensures.still; source = λ n m. c.in-Err-Halt.ensures.still_source (λ is. halt_not_source c.in-Err-Halt.halt (sym c.in-Err-Halt.field-0-is ∙ err_is is)); };
+  unhurt = record { sink = λ n. c.last-in-Err-Halt.ensures.still n ∙ c.in-Err-Halt.ensures.still_sink (λ is. halt_not_sink c.in-Err-Halt.halt (sym c.in-Err-Halt.field-0-is ∙ err_is is)) ∙ c.in-Ok.ensures.still; source = λ n m. c.in-Err-Halt.ensures.still_source (λ is. halt_not_source c.in-Err-Halt.halt (sym c.in-Err-Halt.field-0-is ∙ err_is is)) };
 }
 
 pub returns-in_default : goal.returns-in_default
@@ -106,7 +106,7 @@ returns-in_default g c = record {
   worn = λ is. absurd (omega (arith, is));
   source = λ is. absurd (omega (arith, is));
   sink = λ is. c.in_default.ensures.cause;
-  unhurt = record { sink = λ n. absurd (n refl); source = λ n m. absurd (m refl); };
+  unhurt = record { sink = λ n. absurd (n refl); source = λ n m. absurd (m refl) };
 }
 
 pub session-requires : goal.session-requires

@@ -1,0 +1,16 @@
+-- How the bytes that were written grow from call to call.
+use Rattle.std.proofs.Common.{◌≡◌, ℕ, ◌+◌, ◌-◌, ◌≤◌, List, ◌++◌, Option, length, take, drop, arith, length-take, length-drop}
+use Rattle.std.proofs.Math.Seq.{take-add}
+use Rattle.std.proofs.lemmas.List.{take_rest}
+use Rattle.paraid_base.specs.Told.{GrowsByBytes}
+use Rattle.paraid_base.proofs.ToldLemmas.{GrowsByBytes-then}
+
+-- of these bytes so many were written, and then so many more
+pub part_more : (a b c : Option (List ℕ)) (bytes : List ℕ) (done n : ℕ) → GrowsByBytes a b (take done bytes) → GrowsByBytes b c (take n (take (length bytes - done) (drop done bytes)))
+    → GrowsByBytes a c (take (done + n) bytes)
+part_more a b c bytes done n first more =
+    let all = GrowsByBytes-then a b c _ _ first more in
+    rw (take-add done n bytes) (rw (take_rest bytes done) at all)
+
+pub part_within : (bytes : List ℕ) (done n : ℕ) → done ≤ length bytes → n ≤ length (take (length bytes - done) (drop done bytes)) → done + n ≤ length bytes
+part_within bytes done n within more = omega (arith, within, simp (length-take, length-drop) at more)
