@@ -1,5 +1,5 @@
 //! The word `check`.
-ghost use Rattle.std.specs.Prelude.{◌≡◌, ℕ, [], ◌∷◌};
+ghost use Rattle.std.specs.Prelude.{◌≡◌, ◌≢◌, ℕ, [], ◌∷◌};
 ghost use Rattle.paraid_program.specs.Statuses.{IsOneOf};
 ghost use Rattle.paraid_base.specs.Told.{HasRisen};
 ghost use Rattle.paraid_recover.specs.Calls.{OnlyReads};
@@ -49,6 +49,7 @@ fn tell_counts<K: Sink, R: Rack, A: Serves, O: Outside<R, A>>(
         (K.written sink.old) (K.written sink.new) }
     ensures worn { result ≡ 12 → TellsWear (K.written sink.old) (K.written sink.new) }
     ensures sink { result ≡ 4 → HasRisen (K.faults sink.old) (K.faults sink.new) }
+    ensures still { result ≢ 4 → K.faults sink.new ≡ K.faults sink.old }
 {
     let mut text = Text::new();
     match outside.check(array) {
@@ -76,6 +77,7 @@ pub fn check<K: Sink, R: Rack, A: Serves, O: Outside<R, A>>(
     ensures slots { R.slot_count result.rack ≡ R.slot_count rack }
     ensures status { IsOneOf (0 ∷ 4 ∷ 5 ∷ 6 ∷ 7 ∷ 12 ∷ 13 ∷ []) result.status }
     ensures sink { result.status ≡ 4 → HasRisen (K.faults sink.old) (K.faults sink.new) }
+    ensures still { result.status ≢ 4 → K.faults sink.new ≡ K.faults sink.old }
 {
     match outside.mount(rack) {
         Ok(mut array) => {

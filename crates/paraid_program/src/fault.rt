@@ -1,5 +1,5 @@
 //! Why an array was not mounted: the last line, and its status.
-ghost use Rattle.std.specs.Prelude.{◌≡◌, ◌≤◌, [], ◌++◌, length, codes, decimal};
+ghost use Rattle.std.specs.Prelude.{◌≡◌, ◌≢◌, ◌≤◌, [], ◌++◌, length, codes, decimal};
 ghost use Rattle.paraid_base.specs.Told.{HasRisen};
 ghost use Rattle.paraid_serve.specs.Ending.{EndsWithLine};
 ghost use Rattle.paraid_program.specs.MountFaults.{mount_fault_line, mount_fault_status as mount_fault_status_of};
@@ -76,6 +76,7 @@ pub(crate) fn tell_refusal<K: Sink>(sink: &mut K, fault: MountFault) -> u8
     ensures tells { EndsWithLine (K.written sink.old) (K.written sink.new) (mount_fault_line fault)
         (mount_fault_status_of fault) result }
     ensures sink { result ≡ 4 → HasRisen (K.faults sink.old) (K.faults sink.new) }
+    ensures still { result ≢ 4 → K.faults sink.new ≡ K.faults sink.old }
 {
     let mut text = Text::new();
     mount_fault_text(&mut text, fault);

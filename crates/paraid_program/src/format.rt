@@ -1,10 +1,10 @@
 //! The command: what came of it, and the line that tells it.
-ghost use Rattle.std.specs.Prelude.{◌≡◌, IfOk, IfErr};
+ghost use Rattle.std.specs.Prelude.{◌≡◌, ◌≢◌, IfOk, IfErr};
 ghost use Rattle.paraid_base.specs.Told.{AtEnd, HasRisen};
 ghost use Rattle.paraid_program.specs.Outcome.{Formats, IsRefusalCause, IsFormatStatus, IsArrayMade};
 ghost use Rattle.paraid_program.specs.Reading.{IsConfigured};
 ghost use Rattle.paraid_program.specs.Racks.{rack_use};
-ghost use Rattle.paraid_serve.specs.Streams.{sink_use, source_use};
+ghost use Rattle.paraid_serve.specs.Streams.{EndsAtFaults, sink_use, source_use};
 
 use crate::Refusal;
 use crate::format_text::{formatted_text, refusal_status, refusal_text};
@@ -32,6 +32,7 @@ fn make_array<S: Source, R: Rack>(
     ensures refused { IfErr result (IsRefusalCause force
         (rack_use R.slot_count R.slot R.told rack.old rack.new)
         (source_use S.left S.faults source.old source.new)) }
+    ensures still { result ≢ Err Refusal.Source → S.faults source.new ≡ S.faults source.old }
 {
     let setup = match read_setup(alloc, source) {
         Ok(setup) => setup,
@@ -65,6 +66,8 @@ pub fn format_array<S: Source, K: Sink, R: Rack>(
     ensures end { result ≡ 0 → AtEnd (S.left source.new) }
     ensures source { result ≡ 3 → HasRisen (S.faults source.old) (S.faults source.new) }
     ensures sink { result ≡ 4 → HasRisen (K.faults sink.old) (K.faults sink.new) }
+    ensures unhurt { EndsAtFaults (source_use S.left S.faults source.old source.new)
+        (sink_use K.written K.faults sink.old sink.new) result }
 {
     let mut text = Text::new();
     match make_array(alloc, force, source, rack) {

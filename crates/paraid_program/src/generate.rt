@@ -1,4 +1,4 @@
-ghost use Rattle.std.specs.Prelude.{◌≡◌, ℕ, ◌≤◌, ◌<◌, None, IsSome};
+ghost use Rattle.std.specs.Prelude.{◌≡◌, ◌≢◌, ℕ, ◌≤◌, ◌<◌, None, IsSome};
 ghost use Rattle.paraid_base.specs.Told.{HasRisen};
 ghost use Rattle.paraid_rack.specs.Slots.{Slot};
 ghost use Rattle.paraid_serve.specs.Calls.{Grows, IsNotDouble};
@@ -73,6 +73,7 @@ pub fn serve_generated<K: Sink, A: Serves>(
         (K.written sink.old) (K.written sink.new) }
     ensures worn { result ≡ 12 → TellsWear (K.written sink.old) (K.written sink.new) }
     ensures sink { result ≡ 4 → HasRisen (K.faults sink.old) (K.faults sink.new) }
+    ensures still { result ≢ 4 → K.faults sink.new ≡ K.faults sink.old }
 {
     let mut text = Text::new();
     mount_text(&mut text, array.writes(), array.gear());
@@ -121,6 +122,7 @@ pub fn serve_generated_mounted<K: Sink, A: Serves>(
         (K.written sink.old) (K.written sink.new) }
     ensures worn { result ≡ 12 → TellsWear (K.written sink.old) (K.written sink.new) }
     ensures sink { result ≡ 4 → HasRisen (K.faults sink.old) (K.faults sink.new) }
+    ensures still { result ≢ 4 → K.faults sink.new ≡ K.faults sink.old }
 {
     serve_generated(sink, array, number, lines)
 }

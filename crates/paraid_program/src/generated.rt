@@ -1,5 +1,5 @@
 //! The word `gen`.
-ghost use Rattle.std.specs.Prelude.{◌≡◌, ◌≤◌, [], ◌∷◌};
+ghost use Rattle.std.specs.Prelude.{◌≡◌, ◌≢◌, ◌≤◌, [], ◌∷◌};
 ghost use Rattle.paraid_program.specs.Statuses.{IsOneOf};
 ghost use Rattle.paraid_base.specs.Told.{HasRisen};
 ghost use Rattle.paraid_program.specs.Ends.{MountsAndThen, ServesGenerated};
@@ -30,6 +30,7 @@ pub fn generate<K: Sink, R: Rack, A: Serves, O: Outside<R, A>>(
     ensures slots { R.slot_count result.rack ≡ R.slot_count rack }
     ensures status { IsOneOf (0 ∷ 4 ∷ 5 ∷ 6 ∷ 7 ∷ 12 ∷ []) result.status }
     ensures sink { result.status ≡ 4 → HasRisen (K.faults sink.old) (K.faults sink.new) }
+    ensures still { result.status ≢ 4 → K.faults sink.new ≡ K.faults sink.old }
 {
     match outside.mount(rack) {
         Ok(mut array) => {

@@ -5,7 +5,7 @@ ghost use Rattle.paraid_base.specs.Told.{AtEnd, HasRisen};
 ghost use Rattle.paraid_serve.specs.Ending.{EndsWithLine};
 ghost use Rattle.paraid_program.specs.Planning.{PlanOutcome, TellsPlan, unplanned_status as unplanned_status_of};
 ghost use Rattle.paraid_program.specs.Racks.{rack_use};
-ghost use Rattle.paraid_serve.specs.Streams.{sink_use, source_use};
+ghost use Rattle.paraid_serve.specs.Streams.{EndsAtFaults, sink_use, source_use};
 
 use crate::fault::tell_refusal;
 use crate::outside::Ended;
@@ -39,6 +39,7 @@ fn tell_lines<K: Sink>(sink: &mut K, first: &[u8], lines: &[u8], status: u8) -> 
         status result }
     ensures cause { result ≢ status
         → (result ≡ 4) × HasRisen (K.faults sink.old) (K.faults sink.new) }
+    ensures still { result ≢ 4 → K.faults sink.new ≡ K.faults sink.old }
 {
     let Ok(()) = write_all(sink, first) else {
         return status::SINK;
@@ -59,6 +60,8 @@ fn tell_plan<S: Source, K: Sink>(
         (sink_use K.written K.faults sink.old sink.new) result }
     ensures status { IsOneOf (0 ∷ 3 ∷ 4 ∷ 7 ∷ 10 ∷ 15 ∷ []) result }
     ensures sink { result ≡ 4 → HasRisen (K.faults sink.old) (K.faults sink.new) }
+    ensures unhurt { EndsAtFaults (source_use S.left S.faults source.old source.new)
+        (sink_use K.written K.faults sink.old sink.new) result }
 {
     let mut first = Text::new();
     mount_text(&mut first, meta.writes, meta.gear);
@@ -99,6 +102,8 @@ pub fn show_plan<S: Source, K: Sink, R: Rack>(
     ensures end { result.status ≡ 0 → AtEnd (S.left source.new) }
     ensures source { result.status ≡ 3 → HasRisen (S.faults source.old) (S.faults source.new) }
     ensures sink { result.status ≡ 4 → HasRisen (K.faults sink.old) (K.faults sink.new) }
+    ensures unhurt { EndsAtFaults (source_use S.left S.faults source.old source.new)
+        (sink_use K.written K.faults sink.old sink.new) result.status }
 {
     match mount(alloc, rack) {
         Ok(Mounted { store, meta, .. }) => {

@@ -1,5 +1,5 @@
 //! The configuration is taken from a source: all of it, or more bytes than one may have.
-ghost use Rattle.std.specs.Prelude.{◌≡◌, ◌≤◌, length, IfOk, IfErr, OnOk};
+ghost use Rattle.std.specs.Prelude.{◌≡◌, ◌≢◌, ◌≤◌, length, IfOk, IfErr, OnOk};
 ghost use Rattle.paraid_base.specs.Told.{AtEnd, Gives};
 ghost use Rattle.paraid_record.specs.Range.{IsSetupInRange};
 ghost use Rattle.paraid_program.specs.Reading.{IsConfigured, IsUnread};
@@ -27,6 +27,7 @@ pub fn read_all<S: Source>(alloc: Global, source: &mut S) -> Result<Vec<u8>, Ref
     ensures unread { IfErr result (IsUnread
         (source_use S.left S.faults source.old source.new)) }
     ensures later { S.faults source.old ≤ S.faults source.new }
+    ensures still { result ≢ Err Refusal.Source → S.faults source.new ≡ S.faults source.old }
 {
     let mut bytes = Vec::new(alloc);
     let mut piece = [0; PIECE];
@@ -53,6 +54,7 @@ pub fn read_setup<S: Source>(alloc: Global, source: &mut S) -> Result<Setup, Ref
     ensures unread { IfErr result (IsUnread
         (source_use S.left S.faults source.old source.new)) }
     ensures later { S.faults source.old ≤ S.faults source.new }
+    ensures still { result ≢ Err Refusal.Source → S.faults source.new ≡ S.faults source.old }
 {
     match read_all(alloc, source) {
         Ok(bytes) => match read_config(alloc, &bytes) {

@@ -1,5 +1,5 @@
 //! The state of an array, as its meta and its dirty table have it.
-ghost use Rattle.std.specs.Prelude.{◌≡◌, ◌≤◌, length};
+ghost use Rattle.std.specs.Prelude.{◌≡◌, ◌≢◌, ◌≤◌, length};
 ghost use Rattle.paraid_base.specs.Told.{HasRisen};
 ghost use Rattle.paraid_dirty.specs.Table.{is_dirty};
 ghost use Rattle.paraid_serve.specs.Ending.{EndsWithLine};
@@ -40,6 +40,7 @@ pub fn tell_state<K: Sink>(sink: &mut K, meta: &Meta, table: &DirtyTable) -> u8
     ensures tells { EndsWithLine (K.written sink.old) (K.written sink.new)
         (status_lines meta.now (is_dirty table.now)) 0 result }
     ensures sink { result ≡ 4 → HasRisen (K.faults sink.old) (K.faults sink.new) }
+    ensures still { result ≢ 4 → K.faults sink.new ≡ K.faults sink.old }
     ensures later { K.faults sink.old ≤ K.faults sink.new }
 {
     let mut line = Text::new();

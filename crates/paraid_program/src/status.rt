@@ -1,5 +1,5 @@
 //! The command `status`: mounts an array and tells its state in two lines, or why it was not mounted.
-ghost use Rattle.std.specs.Prelude.{◌≡◌, [], ◌∷◌};
+ghost use Rattle.std.specs.Prelude.{◌≡◌, ◌≢◌, [], ◌∷◌};
 ghost use Rattle.paraid_program.specs.Statuses.{IsOneOf};
 ghost use Rattle.paraid_base.specs.Told.{HasRisen};
 ghost use Rattle.paraid_program.specs.Showing.{Shows};
@@ -24,6 +24,7 @@ pub fn show_state<K: Sink, R: Rack>(alloc: Global, sink: &mut K, rack: R) -> End
     ensures slots { R.slot_count result.rack ≡ R.slot_count rack }
     ensures status { IsOneOf (0 ∷ 4 ∷ 5 ∷ 6 ∷ 7 ∷ 12 ∷ []) result.status }
     ensures sink { result.status ≡ 4 → HasRisen (K.faults sink.old) (K.faults sink.new) }
+    ensures still { result.status ≢ 4 → K.faults sink.new ≡ K.faults sink.old }
 {
     match mount(alloc, rack) {
         Ok(

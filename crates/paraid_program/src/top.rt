@@ -1,4 +1,4 @@
-ghost use Rattle.std.specs.Prelude.{◌≡◌, ◌≤◌, map, string_bytes, [], ◌∷◌};
+ghost use Rattle.std.specs.Prelude.{◌≡◌, ◌≢◌, ◌≤◌, map, string_bytes, [], ◌∷◌};
 ghost use Rattle.paraid_program.specs.Statuses.{IsOneOf};
 ghost use Rattle.paraid_base.specs.Told.{AtEnd, HasRisen};
 ghost use Rattle.paraid_serve.specs.Ending.{EndsWithLine};
@@ -12,7 +12,7 @@ ghost use Rattle.paraid_program.specs.CommandCompletes.{CompletesCommand};
 ghost use Rattle.paraid_program.specs.CommandDoes.{DoesCommand, ReadsSource, TakesSource};
 ghost use Rattle.paraid_words.specs.declared.command.Command.{Command as CommandType};
 ghost use Rattle.paraid_program.specs.Racks.{rack_use};
-ghost use Rattle.paraid_serve.specs.Streams.{sink_use, source_use};
+ghost use Rattle.paraid_serve.specs.Streams.{EndsAtFaults, sink_use, source_use};
 ghost use Rattle.paraid_sparing.specs.Session.{fresh_stock};
 
 use crate::arrays::Arrays;
@@ -45,6 +45,8 @@ fn format<S: Source, K: Sink, R: Rack>(
     ensures end { result.status ≡ 0 → AtEnd (S.left source.new) }
     ensures source { result.status ≡ 3 → HasRisen (S.faults source.old) (S.faults source.new) }
     ensures sink { result.status ≡ 4 → HasRisen (K.faults sink.old) (K.faults sink.new) }
+    ensures unhurt { EndsAtFaults (source_use S.left S.faults source.old source.new)
+        (sink_use K.written K.faults sink.old sink.new) result.status }
 {
     let status = format_array(alloc, force, source, sink, &mut rack);
     Ended { status, rack }
@@ -68,6 +70,8 @@ fn run<S: Source, K: Sink, R: Rack>(
     ensures end { result.status ≡ 0 → AtEnd (S.left source.new) }
     ensures source { result.status ≡ 3 → HasRisen (S.faults source.old) (S.faults source.new) }
     ensures sink { result.status ≡ 4 → HasRisen (K.faults sink.old) (K.faults sink.new) }
+    ensures unhurt { EndsAtFaults (source_use S.left S.faults source.old source.new)
+        (sink_use K.written K.faults sink.old sink.new) result.status }
 {
     let arrays = Arrays::new(alloc);
     runs::run::<S, K, R, Array<R>, Arrays>(&arrays, source, sink, rack)
@@ -94,6 +98,8 @@ fn run_with_spares<S: Source, K: Sink, R: Rack>(
     ensures end { result.status ≡ 0 → AtEnd (S.left source.new) }
     ensures source { result.status ≡ 3 → HasRisen (S.faults source.old) (S.faults source.new) }
     ensures sink { result.status ≡ 4 → HasRisen (K.faults sink.old) (K.faults sink.new) }
+    ensures unhurt { EndsAtFaults (source_use S.left S.faults source.old source.new)
+        (sink_use K.written K.faults sink.old sink.new) result.status }
 {
     let arrays = Arrays::new(alloc);
     spares::run_with_spares::<S, K, R, Array<R>, Arrays>(&arrays, source, sink, rack, stock, wait)
@@ -115,6 +121,7 @@ fn generate<K: Sink, R: Rack>(
     ensures slots { R.slot_count result.rack ≡ R.slot_count rack }
     ensures status { IsOneOf (0 ∷ 4 ∷ 5 ∷ 6 ∷ 7 ∷ 12 ∷ []) result.status }
     ensures sink { result.status ≡ 4 → HasRisen (K.faults sink.old) (K.faults sink.new) }
+    ensures still { result.status ≢ 4 → K.faults sink.new ≡ K.faults sink.old }
 {
     let arrays = Arrays::new(alloc);
     generated::generate::<K, R, Array<R>, Arrays>(&arrays, sink, rack, number, lines)
@@ -129,6 +136,7 @@ fn check<K: Sink, R: Rack>(alloc: Global, sink: &mut K, rack: R) -> Ended<R>
     ensures slots { R.slot_count result.rack ≡ R.slot_count rack }
     ensures status { IsOneOf (0 ∷ 4 ∷ 5 ∷ 6 ∷ 7 ∷ 12 ∷ 13 ∷ []) result.status }
     ensures sink { result.status ≡ 4 → HasRisen (K.faults sink.old) (K.faults sink.new) }
+    ensures still { result.status ≢ 4 → K.faults sink.new ≡ K.faults sink.old }
 {
     let arrays = Arrays::new(alloc);
     checks::check::<K, R, Array<R>, Arrays>(&arrays, sink, rack)
@@ -148,6 +156,8 @@ fn nbd<S: Source, K: Sink, R: Rack>(
     ensures status { IsOneOf (0 ∷ 3 ∷ 4 ∷ 5 ∷ 6 ∷ 7 ∷ 10 ∷ 12 ∷ 14 ∷ []) result.status }
     ensures source { result.status ≡ 3 → HasRisen (S.faults source.old) (S.faults source.new) }
     ensures sink { result.status ≡ 4 → HasRisen (K.faults sink.old) (K.faults sink.new) }
+    ensures unhurt { EndsAtFaults (source_use S.left S.faults source.old source.new)
+        (sink_use K.written K.faults sink.old sink.new) result.status }
 {
     let arrays = Arrays::new(alloc);
     client::nbd::<S, K, R, Array<R>, Arrays>(alloc, &arrays, source, sink, rack)
@@ -171,6 +181,8 @@ fn vol<S: Source, K: Sink, R: Rack>(
     ensures end { result.status ≡ 0 → AtEnd (S.left source.new) }
     ensures source { result.status ≡ 3 → HasRisen (S.faults source.old) (S.faults source.new) }
     ensures sink { result.status ≡ 4 → HasRisen (K.faults sink.old) (K.faults sink.new) }
+    ensures unhurt { EndsAtFaults (source_use S.left S.faults source.old source.new)
+        (sink_use K.written K.faults sink.old sink.new) result.status }
 {
     let arrays = Arrays::new(alloc);
     volumes::answer_volumes::<S, K, R, Array<R>, Arrays>(&arrays, source, sink, rack)
@@ -233,6 +245,8 @@ pub fn paraid<S: Source, K: Sink, R: Rack>(
 
     ensures source { result.status ≡ 3 → HasRisen (S.faults source.old) (S.faults source.new) }
     ensures sink { result.status ≡ 4 → HasRisen (K.faults sink.old) (K.faults sink.new) }
+    ensures unhurt { EndsAtFaults (source_use S.left S.faults source.old source.new)
+        (sink_use K.written K.faults sink.old sink.new) result.status }
 {
     match read_words(words) {
         Some(Command::Format { force }) => format(alloc, force, source, sink, rack),

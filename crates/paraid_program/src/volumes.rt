@@ -5,7 +5,7 @@ ghost use Rattle.paraid_base.specs.Told.{HasRisen};
 ghost use Rattle.paraid_program.specs.Volumes.{ServesVolumes};
 ghost use Rattle.paraid_program.specs.Ends.{IsUnheard, MountsAndThen};
 ghost use Rattle.paraid_program.specs.Racks.{rack_use};
-ghost use Rattle.paraid_serve.specs.Streams.{sink_use, source_use};
+ghost use Rattle.paraid_serve.specs.Streams.{EndsAtFaults, sink_use, source_use};
 
 use crate::fault::tell_refusal;
 use crate::outside::{Ended, Outside};
@@ -32,6 +32,8 @@ pub fn answer_volumes<S: Source, K: Sink, R: Rack, A: Serves, O: Outside<R, A>>(
     ensures status { IsOneOf (0 ∷ 3 ∷ 4 ∷ 5 ∷ 6 ∷ 7 ∷ 10 ∷ 12 ∷ []) result.status }
     ensures source { result.status ≡ 3 → HasRisen (S.faults source.old) (S.faults source.new) }
     ensures sink { result.status ≡ 4 → HasRisen (K.faults sink.old) (K.faults sink.new) }
+    ensures unhurt { EndsAtFaults (source_use S.left S.faults source.old source.new)
+        (sink_use K.written K.faults sink.old sink.new) result.status }
 {
     match outside.mount(rack) {
         Ok(array) => {

@@ -10,6 +10,7 @@ returns-in-Err g c = record {
   slots = c.in-Err.ensures.refused_slots;
   status = check_is_refused c.in-Err.field-0.fault _ _ _ _ c.tell_refusal.ensures.tells;
   sink = search rules;
+  still = c.tell_refusal.ensures.still;
 }
 
 pub returns-in-Ok : goal.returns-in-Ok
@@ -25,4 +26,5 @@ returns-in-Ok g c = record {
   slots = c.unmount.ensures.slots ∙ c.tell_counts-status.ensures.slots ∙ c.in-Ok.ensures.slots;
   status = check_status_of _ c.tell_counts-status.ensures.status;
   sink = search rules;
+  still = c.tell_counts-status.ensures.still;
 }

@@ -49,6 +49,7 @@ returns-in-Ok g c = record {
   two = λ five. counts_no_halt c.in-Ok.report _ _ _ _ (rw c.check_status.ensures at c.last.ensures.ends) (inl five);
   worn = λ twelve. counts_no_halt c.in-Ok.report _ _ _ _ (rw c.check_status.ensures at c.last.ensures.ends) (inr twelve);
   sink = search rules;
+  still = c.last.ensures.still;
 }
 
 pub returns-in-Err : goal.returns-in-Err
@@ -68,4 +69,5 @@ returns-in-Err g c = record {
       (two_owed g.A.Serves c.args.array.now c.check.new.array (g.met.A.Serves.shows c.args.array.now) (g.met.A.Serves.shows c.check.new.array) Flush (Halted c.in-Err.halt) (rw c.in-Err.is at c.check.ensures.cause) apart c.requires.going) (rw (c.as_slice-in-Err.ensures.value, c.reply.ensures.value, c.halt_status.ensures) at c.last-in-Err.ensures.ends);
   worn = halt_tells_wear c.in-Err.halt _ _ _ _ (halted g (goal.at.returns-in-Err g c).In-Err) (g.met.A.Serves.worn c.check.new.array) (rw (c.as_slice-in-Err.ensures.value, c.reply.ensures.value, c.halt_status.ensures) at c.last-in-Err.ensures.ends);
   sink = search rules;
+  still = c.last-in-Err.ensures.still;
 }

@@ -22,3 +22,9 @@ returns-in-Ok-clause-nbd g c =
 
 pub returns-in-Ok-clause-slots : goal.returns-in-Ok-clause-slots
 returns-in-Ok-clause-slots g c = c.unmount.ensures.slots ∙ c.serve_client-status.ensures.slots ∙ c.in-Ok.ensures.slots
+
+pub returns-in-Err-clause-unhurt : goal.returns-in-Err-clause-unhurt
+returns-in-Err-clause-unhurt g c = record { sink = λ n. refl; source = λ n m. refl }
+
+pub returns-in-Ok-clause-unhurt : goal.returns-in-Ok-clause-unhurt
+returns-in-Ok-clause-unhurt g c = c.serve_client-status.ensures.unhurt

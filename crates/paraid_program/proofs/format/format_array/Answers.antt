@@ -1,8 +1,9 @@
-use Rattle.std.proofs.Common.{◌∙◌, ℕ, arith, inl, inr, subst, sym, rules}
+use Rattle.std.proofs.Common.{◌∙◌, ℕ, arith, inl, inr, subst, sym, rules, ap}
 use Rattle.paraid_program.proofs.OutcomeLemmas.{refused, status_is}
 use Rattle.paraid_program.specs.Lines.{formatted_line, refusal_line, refusal_status}
 use Rattle.paraid_program.specs.Outcome.{IsFormatStatus}
 use Rattle.paraid_program.specs.Outcome.FormatOutcome.{done}
+use Rattle.paraid_serve.proofs.StatusLemmas.{ends_there, err_is, ok_not_err}
 use Rattle.paraid_program.proofs.format.format_array.Goals as goal
 
 pub returns-in-Ok : goal.returns-in-Ok
@@ -18,6 +19,7 @@ returns-in-Ok g c = record {
   end = λ zero. c.in-Ok.ensures.configured.end;
   source = λ three. elim c.last.ensures.ends.whole [ inl failed ↦ absurd (omega (arith, three, failed)) | inr told ↦ absurd (omega (arith, three, told.1)) ];
   sink = λ four. (c.last.ensures.cause (λ e. omega (arith, four, e))).1;
+  unhurt = record { sink = c.last.ensures.still; source = λ n m. c.in-Ok.ensures.still (λ is. ok_not_err is) };
 }
 
 pub returns-in-Err : goal.returns-in-Err
@@ -42,4 +44,8 @@ returns-in-Err g c = record {
     | inr told ↦ (rw ((status_is c.in-Err.refusal).source (sym (told.1 ∙ c.refusal_status.ensures) ∙ three)) at c.in-Err.ensures.refused).0.cause
   ];
   sink = λ four. (c.last-in-Err.ensures.cause (λ e. (status_is c.in-Err.refusal).not_sink (sym (e ∙ c.refusal_status.ensures) ∙ four))).1;
+  unhurt = record {
+    sink = c.last-in-Err.ensures.still;
+    source = λ n m. c.in-Err.ensures.still (λ is. ends_there _ _ _ _ _ c.last-in-Err.ensures.ends m (λ e. n (e ∙ c.refusal_status.ensures ∙ ap refusal_status (err_is is))));
+  };
 }

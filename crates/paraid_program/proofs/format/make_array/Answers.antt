@@ -1,6 +1,7 @@
 use Rattle.std.proofs.Common.{subst, ℕ, rules}
 use Rattle.paraid_rack.specs.Slots.{AreSlots}
 use Rattle.paraid_program.proofs.MadeLemmas.{becomes_empty, enough, synced}
+use Rattle.paraid_serve.proofs.StatusLemmas.{ok_not_err}
 use Rattle.paraid_program.proofs.format.make_array.Goals as goal
 
 pub returns-in-Ok-format : goal.returns-in-Ok-format
@@ -22,4 +23,5 @@ returns-in-Ok-format g c = record {
         empty = becomes_empty slots c.in-Ok.setup _ _ e.formatted;
       };
   refused = search rules;
+  still = λ n. c.in-Ok.ensures.still (λ is. ok_not_err is);
 }

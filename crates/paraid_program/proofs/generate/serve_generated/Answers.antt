@@ -21,6 +21,7 @@ returns-in_default-write_all g c = record {
   two = search rules;
   worn = search rules;
   sink = search rules;
+  still = λ n. absurd (n refl);
 }
 
 pub returns-in_default : goal.returns-in_default
@@ -33,6 +34,7 @@ returns-in_default g c = record {
   two = search rules;
   worn = search rules;
   sink = search rules;
+  still = λ n. absurd (n refl);
 }
 
 pub returns-in-Ok-finish : goal.returns-in-Ok-finish
@@ -52,6 +54,7 @@ returns-in-Ok-finish g c = record {
   two = search rules;
   worn = search rules;
   sink = search rules;
+  still = λ n. c.last.ensures.still n ∙ c.in-Ok-write_all.ensures.still ∙ c.in-Ok.ensures.still;
 }
 
 pub returns-in-Err : goal.returns-in-Err
@@ -78,4 +81,5 @@ returns-in-Err g c = record {
       (GrowsByBytes-then _ _ _ _ _ (rw (c.as_slice.ensures.value, c.mount_text.ensures) at c.in-Ok.ensures.grows) (rw (c.as_slice-2.ensures.value, c.summary_text.ensures) at c.in-Ok-write_all.ensures.grows))
       (rw (c.as_slice-in-Err.ensures.value, c.reply.ensures.value, c.halt_status.ensures) at c.last-in-Err.ensures.ends) twelve;
   sink = search rules;
+  still = λ n. c.last-in-Err.ensures.still n ∙ c.in-Ok-write_all.ensures.still ∙ c.in-Ok.ensures.still;
 }

@@ -12,4 +12,5 @@ returns g c = record {
   two = search rules;
   worn = search rules;
   sink = search rules;
+  still = c.serve_generated.ensures.still;
 }

@@ -9,6 +9,7 @@ returns-in-Err g c = record {
   slots = c.in-Err.ensures.refused_slots;
   status = generate_is_refused c.in-Err.field-0.fault _ _ _ _ c.tell_refusal.ensures.tells;
   sink = search rules;
+  still = c.tell_refusal.ensures.still;
 }
 
 pub returns-in-Ok : goal.returns-in-Ok
@@ -24,4 +25,5 @@ returns-in-Ok g c = record {
   slots = c.unmount.ensures.slots ∙ c.serve_generated_mounted-status.ensures.slots ∙ c.in-Ok.ensures.slots;
   status = generate_status _ c.serve_generated_mounted-status.ensures.status;
   sink = search rules;
+  still = c.serve_generated_mounted-status.ensures.still;
 }

@@ -36,3 +36,9 @@ returns-clause-status g c = elim c.tell_refusal.ensures.tells.whole [
   | inl four ↦ inr (inr (inl four))
   | inr all ↦ refused_plan_status c.in-Err.field-0.fault c.tell_refusal.result all.1
 ]
+
+pub returns-in-Ok-clause-unhurt : goal.returns-in-Ok-clause-unhurt
+returns-in-Ok-clause-unhurt g c = c.tell_plan-status.ensures.unhurt
+
+pub returns-clause-unhurt : goal.returns-clause-unhurt
+returns-clause-unhurt g c = record { sink = c.tell_refusal.ensures.still; source = λ n m. refl }

@@ -1,4 +1,4 @@
-use Rattle.std.proofs.Common.{◌<◌, ◌≤◌, ◌-◌, ◌++◌, length, take, arith, rules}
+use Rattle.std.proofs.Common.{◌<◌, ◌≤◌, ◌-◌, ◌++◌, length, take, arith, rules, ◌∙◌, refl}
 use Rattle.paraid_base.proofs.ToldLemmas.{Gives-none, Gives-then}
 use Rattle.paraid_program.proofs.ReadingLemmas.{less_room, still_short, too_long}
 use Rattle.paraid_program.proofs.read.read_all.Goals as goal
@@ -19,10 +19,11 @@ returns-then-count-len g c = record {
         cause = too_long c.loop-count.bytes.items c.read_some.new.into c.in-Ok.count within many;
       };
   later = search rules;
+  still = λ n. c.in-Ok.ensures.still ∙ c.loop-count.invariant.still;
 }
 
 pub loop-count-init : goal.loop-count-init
-loop-count-init g c = rw c.new-bytes.ensures.items (record { given = Gives-none _; short = omega arith; later = omega arith })
+loop-count-init g c = rw c.new-bytes.ensures.items (record { given = Gives-none _; short = omega arith; still = refl })
 
 pub loop-count-preserved : goal.loop-count-preserved
 loop-count-preserved g c =
@@ -32,7 +33,7 @@ loop-count-preserved g c =
     rw c.in-Ok-extend_from_slice.ensures.items (record {
       given = Gives-then _ _ _ _ _ i.given e.gives;
       short = still_short c.loop-count.bytes.items c.read_some.new.into c.in-Ok.count i.short few;
-      later = omega (arith, i.later, e.later);
+      still = e.still ∙ i.still;
     })
 
 pub loop-count-smaller : goal.loop-count-smaller
@@ -55,4 +56,5 @@ returns-in_default-extend_from_slice g c = record {
         cause = still_short c.loop-count.bytes.items c.read_some.new.into c.in-Ok.count i.short few;
       };
   later = search rules;
+  still = λ n. c.in-Ok.ensures.still ∙ c.loop-count.invariant.still;
 }

@@ -1,4 +1,4 @@
-use Rattle.std.proofs.Common.{◌≤◌, ◌-◌, length}
+use Rattle.std.proofs.Common.{◌≡◌, ◌≤◌, ◌-◌, length}
 use Rattle.paraid_base.specs.Told.{Gives}
 use Rattle.paraid_program.proofs.read.read_all.Given as goal
 
@@ -6,7 +6,7 @@ abbrev pub invariant-loop-count : goal.invariant-loop-count
 invariant-loop-count g l = record {
   given : Gives (g.S.Source.left l.initial.source) (g.S.Source.left l.source) l.bytes.items;
   short : length l.bytes.items ≤ 65536;
-  later : g.S.Source.faults l.initial.source ≤ g.S.Source.faults l.source;
+  still : g.S.Source.faults l.source ≡ g.S.Source.faults l.initial.source;
 }
 
 abbrev pub decreases-loop-count : goal.decreases-loop-count

@@ -1,6 +1,7 @@
 use Rattle.std.proofs.Common.{ℕ, List, subst, rules}
 use Rattle.paraid_config.specs.Config.{IsConfigRefusal}
 use Rattle.paraid_program.proofs.ReadingLemmas.{IsMisread-refused}
+use Rattle.paraid_serve.proofs.StatusLemmas.{ok_not_err}
 use Rattle.paraid_program.proofs.read.read_setup.Goals as goal
 
 pub returns-in-Ok : goal.returns-in-Ok
@@ -16,4 +17,5 @@ returns-in-Ok g c = record {
         cause = IsMisread-refused c.in-Ok.bytes.items _ fault e.end (subst (λ (bytes : List ℕ). IsConfigRefusal bytes fault) c.deref.ensures.value c.in-Err-read_config.ensures.err);
       };
   later = search rules;
+  still = λ n. c.in-Ok.ensures.still (λ is. ok_not_err is);
 }

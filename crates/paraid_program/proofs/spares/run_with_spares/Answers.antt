@@ -10,6 +10,7 @@ returns-in-Err g c = record {
   status = run_is_refused c.in-Err.field-0.fault _ _ _ _ c.tell_refusal.ensures.tells;
   source = search rules;
   sink = search rules;
+  unhurt = record { sink = c.tell_refusal.ensures.still; source = λ n m. refl };
 }
 
 pub returns-in-Ok : goal.returns-in-Ok
@@ -26,4 +27,5 @@ returns-in-Ok g c = record {
   status = run_status _ c.serve_mounted-status.ensures.status;
   source = search rules;
   sink = search rules;
+  unhurt = c.serve_mounted-status.ensures.unhurt;
 }

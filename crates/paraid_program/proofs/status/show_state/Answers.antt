@@ -32,6 +32,7 @@ returns-in-Ok g c = record {
   slots = ap g.R.Rack.slot_count c.close.ensures ∙ c.in-Ok.ensures.slots;
   status = elim c.tell_state-status.ensures.tells.whole [ inl failed ↦ inr (inl failed) | inr told ↦ inl told.1 ];
   sink = c.tell_state-status.ensures.sink;
+  still = c.tell_state-status.ensures.still;
 }
 
 pub returns : goal.returns
@@ -45,4 +46,5 @@ returns g c = record {
   slots = c.in-Err.ensures.refused_slots;
   status = elim c.tell_refusal.ensures.tells.whole [ inl failed ↦ inr (inl failed) | inr told ↦ refused_status c.in-Err.field-0.fault _ told.1 ];
   sink = c.tell_refusal.ensures.sink;
+  still = c.tell_refusal.ensures.still;
 }

@@ -1,4 +1,4 @@
-use Rattle.std.proofs.Common.{◌≡◌, ap, ◌∙◌, Some}
+use Rattle.std.proofs.Common.{◌≡◌, ap, ◌∙◌, Some, refl}
 use Rattle.paraid_words.specs.declared.command.Command.TheVariants.{Format, Run, Spare, Status, Check, Gen, Nbd, Vol, Plan}
 use Rattle.paraid_program.proofs.CompleteLemmas.{check_comes, gen_comes, run_comes, status_comes}
 use Rattle.paraid_program.proofs.FormatLemmas.{format_comes}
@@ -205,3 +205,33 @@ returns-in-Some-Vol-clause-words g c none = absurd (none Vol (asks _ _ c.read_wo
 
 pub returns-in-Some-Vol-clause-untouched : goal.returns-in-Some-Vol-clause-untouched
 returns-in-Some-Vol-clause-untouched g c none = absurd (none Vol (asks _ _ c.read_words.ensures.exact Vol (vol_is g (goal.at.returns-in-Some-Vol-clause-untouched g c).In-Some-Vol)))
+
+pub returns-in-Some-Format-clause-unhurt : goal.returns-in-Some-Format-clause-unhurt
+returns-in-Some-Format-clause-unhurt g c = c.format.ensures.unhurt
+
+pub returns-in-Some-Run-clause-unhurt : goal.returns-in-Some-Run-clause-unhurt
+returns-in-Some-Run-clause-unhurt g c = c.run.ensures.unhurt
+
+pub returns-in-Some-Spare-clause-unhurt : goal.returns-in-Some-Spare-clause-unhurt
+returns-in-Some-Spare-clause-unhurt g c = c.run_with_spares.ensures.unhurt
+
+pub returns-in-Some-Nbd-clause-unhurt : goal.returns-in-Some-Nbd-clause-unhurt
+returns-in-Some-Nbd-clause-unhurt g c = c.nbd.ensures.unhurt
+
+pub returns-in-Some-Vol-clause-unhurt : goal.returns-in-Some-Vol-clause-unhurt
+returns-in-Some-Vol-clause-unhurt g c = c.vol.ensures.unhurt
+
+pub returns-in-Some-Plan-clause-unhurt : goal.returns-in-Some-Plan-clause-unhurt
+returns-in-Some-Plan-clause-unhurt g c = c.show_plan.ensures.unhurt
+
+pub returns-in-Some-Status-clause-unhurt : goal.returns-in-Some-Status-clause-unhurt
+returns-in-Some-Status-clause-unhurt g c = record { sink = c.show_state.ensures.still; source = λ n m. refl }
+
+pub returns-in-Some-Check-clause-unhurt : goal.returns-in-Some-Check-clause-unhurt
+returns-in-Some-Check-clause-unhurt g c = record { sink = c.check.ensures.still; source = λ n m. refl }
+
+pub returns-in-Some-Gen-clause-unhurt : goal.returns-in-Some-Gen-clause-unhurt
+returns-in-Some-Gen-clause-unhurt g c = record { sink = c.generate.ensures.still; source = λ n m. refl }
+
+pub returns-in-None-clause-unhurt : goal.returns-in-None-clause-unhurt
+returns-in-None-clause-unhurt g c = record { sink = c.last.ensures.still; source = λ n m. refl }
