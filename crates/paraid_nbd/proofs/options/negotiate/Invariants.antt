@@ -1,4 +1,4 @@
-use Rattle.std.proofs.Common.{◌≡◌, ℕ, List, ◌≤◌, ◌-◌, ◌^◌}
+use Rattle.std.proofs.Common.{◌≡◌, ℕ, List, ◌-◌, ◌^◌}
 use Rattle.paraid_nbd.specs.Options.{OptionParts}
 use Rattle.paraid_nbd.specs.Handshake.{IsGreeted}
 use Rattle.paraid_nbd.proofs.options.negotiate.Given as goal

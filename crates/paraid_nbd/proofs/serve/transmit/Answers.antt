@@ -1,4 +1,4 @@
-use Rattle.std.proofs.Common.{◌++◌, ◌∷◌, [], arith, refl, ◌∙◌}
+use Rattle.std.proofs.Common.{◌++◌, ◌∷◌, [], refl, ◌∙◌}
 use Rattle.paraid_nbd.proofs.DeviceLemmas.{keeps_none, keeps_then}
 use Rattle.paraid_nbd.proofs.TakingLemmas.{later_then, room_falls, ok_apart, stood}
 use Rattle.paraid_nbd.proofs.ServiceLemmas.{request_some, serves_none, serves_more}

@@ -1,4 +1,4 @@
-use Rattle.std.proofs.Common.{◌≡◌, ◌≤◌, ◌-◌, ◌^◌, List, length, IsTrue}
+use Rattle.std.proofs.Common.{◌≡◌, ◌-◌, ◌^◌, List, length, IsTrue}
 use Rattle.paraid_nbd.specs.Requests.{RequestParts}
 use Rattle.paraid_nbd.specs.Export.{KeepsOn}
 use Rattle.paraid_nbd.specs.Service.{ServesAll}

@@ -1,4 +1,4 @@
-use Rattle.std.proofs.Common.{◌≡◌, ◌≤◌, ◌+◌, ◌-◌, ◌^◌, length}
+use Rattle.std.proofs.Common.{◌≡◌, ◌+◌, ◌-◌, ◌^◌, length}
 use Rattle.paraid_serve.specs.Calls.{Grows}
 use Rattle.paraid_serve.specs.Lost.{HasServedSince}
 use Rattle.paraid_serve.proofs.Sofar.{Sofar}

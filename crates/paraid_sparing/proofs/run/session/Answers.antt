@@ -1,5 +1,5 @@
 use Rattle.std.specs.Prelude.{Err}
-use Rattle.std.proofs.Common.{ap, sym, ◌∙◌, arith, refl}
+use Rattle.std.proofs.Common.{ap, sym, ◌∙◌, refl}
 use Rattle.paraid_base.proofs.ToldLemmas.{HasRisen-sooner}
 use Rattle.paraid_serve.proofs.GrowsLemmas.{grows_none, grows_then, told_then}
 use Rattle.paraid_serve.proofs.HearLemmas.{less_to_take}
