@@ -5,6 +5,7 @@ ghost use Rattle.paraid_base.specs.Xor.{xor, zero_block};
 ghost use Rattle.paraid_plan.specs.Alone.{IsWrittenAlone};
 ghost use Rattle.paraid_plan.specs.Desk.{Desk, sees};
 ghost use Rattle.paraid_plan.specs.Leaves.{Leaves, StaysAsWas};
+ghost use Rattle.paraid_plan.specs.WriteTargets.{needs_new as needs_new_in};
 ghost use Rattle.paraid_record.specs.Range.{IsInRange};
 ghost use Rattle.paraid_image.specs.Value.{value as value_of};
 
@@ -73,7 +74,9 @@ pub(crate) fn alone(
     anew: bool,
     p: DiskNo,
 ) -> Option<Given>
-    ensures { IfSome result (λ one. IsWrittenAlone m.now given.now p one.disk one.at) }
+    ensures alone { IfSome result (λ one. IsWrittenAlone m.now given.now p one.disk one.at) }
+    ensures needed { IfSome result (λ one. needed ≡ true) }
+    ensures of_old { IfSome result (λ one. anew ≡ false) }
 {
     if !needed || anew || !is_plain(m, p) {
         return None;
@@ -94,7 +97,7 @@ fn xor_both(to: &mut Block, one: &Block, other: &Block)
     }
 }
 
-/// Makes the new parity of a row of its old one, and of the old and the new bytes of one cell.
+/// Makes the new parity of a row, which is needed, of its old one, and of the old and the new bytes of one cell.
 pub(crate) fn read_alone<P: Plan>(
     plan: &mut P,
     m: &Meta,
@@ -110,6 +113,7 @@ pub(crate) fn read_alone<P: Plan>(
     requires disk { one.disk < m.now.setup.geometry.disks }
     requires parity_disk { p < m.now.setup.geometry.disks }
     requires few { one.at < 8 }
+    requires needed { needs_new_in (sees m.now (P.desk plan.old)) r p ≡ true }
     ensures sum { OnOk result (P.tells plan.new → sum.new ≡ xor (value_of (sees m.now (P.desk plan.old)) r one.disk)
         (xor (value_of (sees m.now (P.desk plan.old)) r p) (get_or pairs.now.bytes one.at zero_block))) }
     ensures reads { Leaves P.Plan (StaysAsWas P.Plan m.now plan.old plan.new) plan.old plan.new result }

@@ -40,7 +40,7 @@ returns-in-Some g c =
     let ws = pairs_of c.args.pairs.now in
     let row = value (sees m (g.P.Plan.desk c.args.plan.now)) c.args.r in
     let one = c.in-Some.one in
-    let is = c.in-Some.ensures in
+    let is = c.in-Some.ensures.alone in
     record {
       old = on_ok_weaker c.read_alone.result (λ f tells.
           alone_old m (g.P.Plan.desk c.args.plan.now) ws c.args.r c.args.p one.disk one.at c.args.pairs.now.bytes c.args.given.now c.args.old.now row c.requires.parity c.requires.given is) c.read_alone.ensures.sum;
