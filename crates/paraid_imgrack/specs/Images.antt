@@ -3,6 +3,7 @@ use Rattle.std.specs.Prelude.{◌≡◌, ◌≤◌, ℕ, Bool, true, false, List
 use Rattle.paraid_base.specs.Told.{HasRisen}
 use Rattle.paraid_rack.specs.declared.call.Power.TheVariants.{Spinning, Absent}
 use Rattle.paraid_rack.specs.Slots.{Slot}
+use Rattle.paraid_imgrack.specs.declared.identity.Identity.{Identity}
 use Rattle.paraid_imgrack.specs.declared.image.Image.{Image}
 
 -- a slot that does not exist
@@ -39,3 +40,8 @@ pub record Becomes (old new leaves : Slot) (dirt ok : Bool) : Type 0 where
   pub unsynced : ok ≡ false → new.unsynced ≡ dirt
   pub risen : ok ≡ false → HasRisen old.faults new.faults
   pub later : ok ≡ false → old.faults ≤ new.faults
+
+-- the labels of the images say all that they are to say
+pub record IsTold (i : Identity) : Type 0 where
+  pub marked : i.is_new ≡ false
+  pub told : i.has_news ≡ false

@@ -193,6 +193,7 @@ impl Identity {
     pub(crate) fn mark(&mut self, disk: usize)
         ensures newer { self.new.generation ≡ self.old.generation }
         ensures again { self.new.is_new ≡ self.old.is_new }
+        ensures news { disk < 8 → self.new.has_news ≡ true }
     {
         if disk < 8 {
             self.known[disk] = self.generation;

@@ -1,7 +1,7 @@
 //! The labels of all images: they are read before the first call, and each load gives them a new
 //! generation, and so does each disk that is attached.
-ghost use Rattle.std.specs.Prelude.{◌≡◌, map};
-ghost use Rattle.paraid_imgrack.specs.Images.{image_slot};
+ghost use Rattle.std.specs.Prelude.{◌≡◌, map, false, Some, IfSome};
+ghost use Rattle.paraid_imgrack.specs.Images.{image_slot, IsTold};
 
 use crate::identity::{Identity, Labels, Misfit};
 use crate::image::Claim;
@@ -72,11 +72,13 @@ impl<F: Files<File = File> + Drop> ImageRack<F> {
     }
 
     /// Each image that spins gets the new generation, and once all have it, what is known of the
-    /// others. It is done once in a load, and once for each disk that is attached since.
+    /// others. It is done once in a load, and once for each disk that is attached since. Of a disk that
+    /// is spun up in between, which has its label by then, the others know it from the next sync on.
     ///
     /// So no label knows more than what the disks keep, and a stop between two leaves none refused.
     pub(crate) fn renew_labels(&mut self)
-        ensures { map image_slot self.new.images.items ≡ map image_slot self.old.images.items }
+        ensures slots { map image_slot self.new.images.items ≡ map image_slot self.old.images.items }
+        ensures told { IfSome self.new.identity IsTold }
     {
         if self.are_labels_due() {
             self.give_labels();
@@ -86,25 +88,32 @@ impl<F: Files<File = File> + Drop> ImageRack<F> {
     // It is apart from the test whether labels are due, since in most syncs they are not.
     #[inline(never)]
     fn give_labels(&mut self)
-        ensures { map image_slot self.new.images.items ≡ map image_slot self.old.images.items }
+        ensures slots { map image_slot self.new.images.items ≡ map image_slot self.old.images.items }
+        ensures told { IfSome self.new.identity IsTold }
     {
-        self.mark_images();
-        self.end_load();
+        if let Some(identity) = self.identity {
+            let marked = self.mark_images(identity);
+            self.tell(marked);
+        }
     }
 
-    fn are_labels_due(&self) -> bool {
+    fn are_labels_due(&self) -> bool
+        ensures { result ≡ false → IfSome self.now.identity IsTold }
+    {
         match &self.identity {
-            Some(identity) => identity.is_new,
+            Some(identity) => identity.is_new || identity.has_news,
             None => false,
         }
     }
 
-    fn mark_images(&mut self)
-        ensures { map image_slot self.new.images.items ≡ map image_slot self.old.images.items }
+    /// Gives the images that spin a new generation, and says what is known from then on.
+    fn mark_images(&mut self, identity: Identity) -> Identity
+        ensures slots { map image_slot self.new.images.items ≡ map image_slot self.old.images.items }
+        ensures marked { result.is_new ≡ false }
     {
-        let Some(identity) = self.identity else {
-            return;
-        };
+        if !identity.is_new {
+            return identity;
+        }
         let mut next = identity;
         next.is_new = false;
         for disk in 0..self.images.len() {
@@ -112,7 +121,7 @@ impl<F: Files<File = File> + Drop> ImageRack<F> {
                 next.mark(disk);
             }
         }
-        self.identity = Some(next);
+        next
     }
 
     /// Whether the image in a slot of the array has the label of this generation from now on.
@@ -125,27 +134,32 @@ impl<F: Files<File = File> + Drop> ImageRack<F> {
         self.images[disk].give_label(&identity.label(disk as u8))
     }
 
-    /// At the end, too: what was spun up or attached since the load is made known to the others.
+    /// At the end, too: what was spun up or attached since the last sync is made known to the others.
     pub fn end_load(&mut self)
         ensures { map image_slot self.new.images.items ≡ map image_slot self.old.images.items }
     {
-        let Some(mut identity) = self.identity else {
-            return;
-        };
-        if !identity.has_news {
-            return;
+        if let Some(identity) = self.identity {
+            self.tell(identity);
         }
+    }
+
+    /// Makes the news known to the images that have a label of this generation.
+    fn tell(&mut self, identity: Identity)
+        ensures slots { map image_slot self.new.images.items ≡ map image_slot self.old.images.items }
+        ensures told { self.new.identity ≡ Some (record identity { has_news = false }) }
+    {
         for disk in 0..self.images.len() {
             self.mark_again(disk, &identity);
         }
-        identity.has_news = false;
-        self.identity = Some(identity);
+        let mut told = identity;
+        told.has_news = false;
+        self.identity = Some(told);
     }
 
     fn mark_again(&mut self, disk: usize, identity: &Identity)
         ensures { map image_slot self.new.images.items ≡ map image_slot self.old.images.items }
     {
-        if identity.is_marked(disk) {
+        if identity.has_news && identity.is_marked(disk) {
             let _is_marked = self.mark_image(disk, identity);
         }
     }

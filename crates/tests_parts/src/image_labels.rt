@@ -60,21 +60,23 @@ enum Deed {
     Restore,
     /// One command works with the disks.
     Load,
-    /// One works with them, and parks disk 2.
+    /// One works with them, and parks disk 1.
     Park,
+    /// One spins up disk 1 between two syncs, and does not end its load.
+    Wake,
     /// One attaches disk 1 anew. A copy of it is made before, after the labels were written.
     Replace,
-    /// The label of disk 2 gets the number of another array.
+    /// The label of disk 1 gets the number of another array.
     Rename,
     /// The label of disk 0 is cut away.
     Strip,
     /// One command makes three disks of four blocks, with labels.
     Format,
-    /// One finds that disk 2 is not spun up, since it is of another array.
+    /// One finds that disk 1 is not spun up, since it is of another array.
     Refuse,
 }
 
-use Deed::{Copy, Format, Load, Look, Park, Refuse, Rename, Replace, Restore, Strip, Swap};
+use Deed::{Copy, Format, Load, Look, Park, Refuse, Rename, Replace, Restore, Strip, Swap, Wake};
 
 /// A deed, and the number of what a rack then finds.
 type Row = (Deed, u8);
@@ -88,6 +90,13 @@ const RESTORED: u8 = 2;
 
 const REPLACED: u8 = 3;
 
+const WOKEN: u8 = 4;
+
+/// The image of disk 1 has an older generation than the others know.
+fn old(generation: u64, known: u64) -> [Option<Misfit>; 3] {
+    [None, Some(Misfit::Old { generation, known }), None]
+}
+
 /// Why each image does not belong into its slot.
 fn misfits(number: u8) -> [Option<Misfit>; 3] {
     match number {
@@ -96,27 +105,14 @@ fn misfits(number: u8) -> [Option<Misfit>; 3] {
             Some(Misfit::Moved { disk: 2 }),
             Some(Misfit::Moved { disk: 1 }),
         ],
-        RESTORED => [
-            None,
-            Some(Misfit::Old {
-                generation: 1,
-                known: 2,
-            }),
-            None,
-        ],
-        REPLACED => [
-            None,
-            Some(Misfit::Old {
-                generation: 3,
-                known: 4,
-            }),
-            None,
-        ],
+        RESTORED => old(1, 2),
+        REPLACED => old(3, 4),
+        WOKEN => old(6, 7),
         _ => [None; 3],
     }
 }
 
-const ROWS: [Row; 16] = [
+const ROWS: [Row; 21] = [
     (Look, FIT),
     (Swap, SWAPPED),
     (Swap, FIT),
@@ -133,6 +129,12 @@ const ROWS: [Row; 16] = [
     (Strip, FIT),
     (Load, FIT),
     // A parked image is not looked at before it is spun up.
+    (Park, FIT),
+    (Copy, FIT),
+    // Of one that was spun up, the others know it from the next sync on.
+    (Wake, FIT),
+    (Restore, WOKEN),
+    (Restore, FIT),
     (Park, FIT),
     (Rename, FIT),
 ];
@@ -157,9 +159,17 @@ fn sync_all<F: Files<File = File> + Drop>(rack: &mut ImageRack<F>) -> bool {
     done
 }
 
-/// Works with the disks, and parks disk 2 where that is asked.
+/// Works with the disks, and parks disk 1 where that is asked.
 fn use_all<F: Files<File = File> + Drop>(rack: &mut ImageRack<F>, parks: bool) -> bool {
-    rack.has_fitting_images() && sync_all(rack) && (!parks || is_called(rack, 2, Step::Park))
+    rack.has_fitting_images() && sync_all(rack) && (!parks || is_called(rack, 1, Step::Park))
+}
+
+/// Spins up disk 1 between two syncs.
+fn wake<F: Files<File = File> + Drop>(rack: &mut ImageRack<F>) -> bool {
+    rack.has_fitting_images()
+        && is_called(rack, 0, Step::Sync)
+        && is_called(rack, 1, Step::SpinUp)
+        && is_called(rack, 0, Step::Sync)
 }
 
 /// Attaches disk 1 anew.
@@ -177,11 +187,11 @@ fn format<F: Files<File = File> + Drop>(rack: &mut ImageRack<F>) -> bool {
     done
 }
 
-/// Whether disk 2 is not spun up, since it is of another array.
+/// Whether disk 1 is not spun up, since it is of another array.
 fn refuses_late<F: Files<File = File> + Drop>(rack: &mut ImageRack<F>) -> bool {
     rack.has_fitting_images()
-        && !is_called(rack, 2, Step::SpinUp)
-        && rack.misfit(2) == Some(Misfit::Foreign)
+        && !is_called(rack, 1, Step::SpinUp)
+        && rack.misfit(1) == Some(Misfit::Foreign)
 }
 
 /// What one command does with its rack.
@@ -193,6 +203,7 @@ fn use_rack<H: Files, F: Files<File = File> + Drop>(
     match deed {
         Load => use_all(rack, false),
         Park => use_all(rack, true),
+        Wake => wake(rack),
         Replace => use_all(rack, false) && copy(host) && attach_one(rack),
         Format => format(rack),
         Refuse => refuses_late(rack),
@@ -215,12 +226,12 @@ fn is_renamed(bytes: &mut [u8]) -> bool {
     true
 }
 
-/// The image of disk 2 gets the label of another array.
+/// The image of disk 1 gets the label of another array.
 fn relabel<H: Files + AllocGlobal>(host: &H) -> bool {
-    let Some(mut bytes) = bytes_in(host, image(2)) else {
+    let Some(mut bytes) = bytes_in(host, image(1)) else {
         return false;
     };
-    is_renamed(&mut bytes) && make_file(host, image(2), &bytes)
+    is_renamed(&mut bytes) && make_file(host, image(1), &bytes)
 }
 
 /// Has one command work with the disks.
@@ -237,7 +248,7 @@ fn act<H: Files<File = File> + AllocGlobal + Abort>(host: &H, deed: Deed) -> boo
         Rename => relabel(host),
         // The four blocks are left.
         Strip => cut(host, image(0), 2048),
-        Load | Park | Replace | Format | Refuse => use_disks(host, deed),
+        Load | Park | Wake | Replace | Format | Refuse => use_disks(host, deed),
     }
 }
 

@@ -7,8 +7,8 @@ use Rattle.paraid_imgrack.proofs.rack.ImageRackRack.sync.Goals as goal
 
 pub returns : goal.returns
 returns g c = record {
-  slots = length-set _ _ _ ∙ length_kept c.args.self.now.images.items c.renew_labels.new.self.images.items c.renew_labels.ensures;
+  slots = length-set _ _ _ ∙ length_kept c.args.self.now.images.items c.renew_labels.new.self.images.items c.renew_labels.ensures.slots;
   slot = touched_after c.args.self.now.images.items c.renew_labels.new.self.images.items c.args.disk c.index_mut.result.now _
-      (λ (s : Slot). record s { unsynced = false }) (λ (s : Slot). s.unsynced) _ c.renew_labels.ensures c.requires.exists c.index_mut.ensures.value c.sync.ensures;
+      (λ (s : Slot). record s { unsynced = false }) (λ (s : Slot). s.unsynced) _ c.renew_labels.ensures.slots c.requires.exists c.index_mut.ensures.value c.sync.ensures;
   told = λ t e. nothing_told t e;
 }

@@ -1,6 +1,6 @@
 use Rattle.std.proofs.Common.{◌≡◌, map}
 use Rattle.paraid_imgrack.specs.Images.{image_slot}
-use Rattle.paraid_imgrack.proofs.rack.ImageRack.end_load.Given as goal
+use Rattle.paraid_imgrack.proofs.rack.ImageRack.tell.Given as goal
 
 abbrev pub invariant-loop-disk : goal.invariant-loop-disk
 invariant-loop-disk g l = map image_slot l.self.images.items ≡ map image_slot l.fn.self.images.items
