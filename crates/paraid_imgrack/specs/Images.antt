@@ -41,7 +41,7 @@ pub record Becomes (old new leaves : Slot) (dirt ok : Bool) : Type 0 where
   pub risen : ok ≡ false → HasRisen old.faults new.faults
   pub later : ok ≡ false → old.faults ≤ new.faults
 
--- the labels of the images say all that they are to say
+-- no new generation and no news are left to tell to the images
 pub record IsTold (i : Identity) : Type 0 where
   pub marked : i.is_new ≡ false
   pub told : i.has_news ≡ false
