@@ -343,7 +343,7 @@ class Control:
             self.take_away()
             self.socket.bind(path)
         except OSError as fault:  # (that of a path that is too long has its text alone)
-            raise RuntimeError(f"control={path} cannot be made: {fault.strerror or fault}") from fault
+            raise RuntimeError(f"control={path} cannot be made: {fault.strerror or fault}") from None
         finally:
             os.umask(old)
         self.socket.listen()
