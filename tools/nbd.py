@@ -6,8 +6,8 @@
 Each request becomes lines of one `paraid run`, in the order in which they come, and a clock sends the
 ticks by which the array shifts. So a write is answered when the run has accepted it, and a flush when
 the disks hold all writes that were answered before it. docs/paraid-nbd.8 tells the rest."""
-import binascii, collections, contextlib, errno, os, re, select, shutil, socket, stat, subprocess, sys, syslog
-import threading, time
+import binascii, collections, contextlib, errno, os, re, resource, select, shutil, signal, socket, stat, subprocess
+import sys, syslog, threading, time
 import nbdkit
 
 API_VERSION = 2
@@ -17,6 +17,7 @@ PAIRS, LINE = 8, 1100  # of one write: its blocks at most, and the bytes of its 
 MANY = 128  # lines that are sent as one, so that no request keeps the others waiting for long
 ASKED = re.compile(rb"(s|e|up|down|(fail|replace) (0|[1-9][0-9]{0,9}))\n")
 HALTS = (b"two ", b"worn ")
+SIGNALS = (signal.SIGTERM, signal.SIGINT, signal.SIGQUIT, signal.SIGHUP)  # by which nbdkit ends
 ASIDE = b"paraid: "  # begins a line of standard error, and no answer
 HERE = os.path.dirname(os.path.realpath(__file__))
 
@@ -404,8 +405,68 @@ class Control:
             pass
 
 
+def sockets():
+    """Gives the sockets of this process: the name that the system has for each, and a copy that is to be closed."""
+    try:
+        numbers = os.listdir("/proc/self/fd")
+    except OSError:
+        numbers = []
+    for number in numbers:
+        with contextlib.suppress(OSError):  # it was closed meanwhile
+            name = os.readlink(f"/proc/self/fd/{number}")
+            if name.startswith("socket:"):
+                yield name, socket.socket(fileno=os.dup(int(number)))
+
+
+def address(of):
+    """What a socket that was accepted shares with the one that listens: the path or the port."""
+    at = of.getsockname()
+    return of.family, at[1] if isinstance(at, tuple) else at
+
+
+class Ending:
+    """Ends nbdkit at a signal. By itself it waits for each client to go, also for one that rests. So it
+    gets no more of what they send: each has its request under way answered, and then its end."""
+
+    def __init__(self, array):
+        self.array, self.over, self.before, self.addresses = array, threading.Event(), set(), set()
+        for name, it in sockets():
+            with it:
+                self.before.add(name)
+                if it.getsockopt(socket.SOL_SOCKET, socket.SO_ACCEPTCONN):
+                    self.addresses.add(address(it))
+        self.addresses.discard((socket.AF_UNIX, given["control"]))
+        self.told, self.teller = socket.socketpair()
+        threading.Thread(target=self.run, daemon=True).start()
+        if self.addresses:
+            # The main thread runs no Python until the clients have gone, but a signal is written there at once.
+            self.teller.setblocking(False)
+            signal.set_wakeup_fd(self.teller.fileno(), warn_on_full_buffer=False)
+            for number in SIGNALS:
+                signal.signal(number, lambda *_: None)
+                signal.siginterrupt(number, False)
+
+    def run(self):
+        self.told.recv(1)
+        nbdkit.shutdown()
+        if clock is not None:
+            clock.stop.set()  # one that is fast leaves no time in which nothing is under way
+        with contextlib.suppress(OSError, ValueError):  # the clients may have taken all files that it may open
+            most = resource.getrlimit(resource.RLIMIT_NOFILE)[1]
+            resource.setrlimit(resource.RLIMIT_NOFILE, (most, most))
+        how, quiet = socket.SHUT_RD, 0
+        while not self.over.wait(0.1 if quiet else 0):
+            for name, it in sockets():
+                with it, contextlib.suppress(OSError):
+                    if name not in self.before and address(it) in self.addresses:
+                        it.shutdown(how)
+            quiet = 1 if self.array.work.locked() else quiet + 1
+            if quiet > 10:  # for a second nothing was under way: who is left does not take what was answered
+                how = socket.SHUT_RDWR
+
+
 given = {"array": None, "program": None, "tick": "1", "control": None, "limit": str(2**39)}
-array = clock = control = rights = None
+array = clock = control = ending = rights = None
 
 
 def config(key, value):
@@ -450,7 +511,7 @@ def get_ready():
 
 
 def after_fork():
-    global clock
+    global clock, ending
     if rights != (os.geteuid(), os.getegid()):
         if control is not None:
             control.close()
@@ -459,16 +520,21 @@ def after_fork():
         clock = Clock(array, given["tick"])
     if control is not None:
         control.start(array)
+    ending = Ending(array)
 
 
 def cleanup():
     """The clients have gone: ends the run, which flushes."""
+    if ending is not None:
+        ending.over.set()
     if control is not None:
         control.close()
     if clock is not None:
         clock.close()
     if array is not None:
         log(array.close())
+    for number in SIGNALS:  # from here on a second one would end it by force
+        signal.signal(number, signal.SIG_IGN)
 
 
 def open(readonly):
