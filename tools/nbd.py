@@ -69,6 +69,7 @@ class Run:
         self.both.register(self.output, select.POLLIN)
         self.sent, self.ended, self.last, self.aside, self.rest = 0, None, b"", b"it said nothing", b""
         self.mounted = self.first_line()
+        self.last, self.aside, self.failed = b"", b"it told no cause", False
 
     def first_line(self):
         """Passes over what comes before the line of the mount."""
@@ -135,13 +136,14 @@ class Run:
         return answers
 
     def close(self):
-        """Ends the input, so the run flushes, and waits for its end. Tells the last line, or why there is none."""
+        """Ends the input, so the run flushes, and waits for its end. Tells the last line, or why there is none; the
+        run has failed if it ended before, or without a line."""
         why, said = self.ended, []
         with contextlib.suppress(OSError):  # it may have been closed before
             self.input.shutdown(socket.SHUT_WR)
         while lines := self.take_lines():
             said = lines
-        self.ended = why or self.ended
+        self.ended, self.failed = why or self.ended, bool(why) or not said
         self.input.close()
         return text(said[-1]) if said else self.ended
 
@@ -425,8 +427,8 @@ def address(of):
 
 
 class Ending:
-    """Ends nbdkit at a signal. By itself it waits for each client to go, also for one that rests. So it
-    gets no more of what they send: each has its request under way answered, and then its end."""
+    """Ends nbdkit at a signal, and once no run serves. By itself it waits for each client to go, also for one that
+    rests. So it gets no more of what they send: each has its request under way answered, and then its end."""
 
     def __init__(self, array):
         self.array, self.over, self.before, self.addresses = array, threading.Event(), set(), set()
@@ -447,7 +449,7 @@ class Ending:
                 signal.siginterrupt(number, False)
 
     def run(self):
-        self.told.recv(1)
+        self.wait()
         nbdkit.shutdown()
         if clock is not None:
             clock.stop.set()  # one that is fast leaves no time in which nothing is under way
@@ -464,9 +466,26 @@ class Ending:
             if quiet > 10:  # for a second nothing was under way: who is left does not take what was answered
                 how = socket.SHUT_RDWR
 
+    def wait(self):
+        """Waits for a signal, or until no run serves."""
+        while True:
+            run, either = self.array.run, select.poll()
+            either.register(self.told, select.POLLIN)
+            either.register(run.output, 0)  # so its end alone is told
+            ready = dict(either.poll(1000))
+            if self.told.fileno() in ready:
+                return
+            if ready or run.ended:
+                try:
+                    self.array.ask_one(b"s")  # the next run may have begun
+                except Refused:
+                    if is_captive():
+                        self.told.recv(1)
+                    return
+
 
 given = {"array": None, "program": None, "tick": "1", "control": None, "limit": str(2**39)}
-array = clock = control = ending = rights = None
+array = clock = control = ending = rights = mounter = None
 
 
 def config(key, value):
@@ -502,8 +521,8 @@ def thread_model():
 
 def get_ready():
     """Mounts the array while nbdkit can still tell a refusal to who started it."""
-    global array, control, rights
-    rights = os.geteuid(), os.getegid()
+    global array, control, rights, mounter
+    rights, mounter = (os.geteuid(), os.getegid()), os.getpid()
     array = Array(given["program"], given["array"], given["limit"])
     if given["control"] is not None:
         control = Control(given["control"])
@@ -523,6 +542,12 @@ def after_fork():
     ending = Ending(array)
 
 
+def is_captive():
+    """Whether nbdkit serves the command of its --run. It goes on without a run then, since that command may still
+    ask, and its status is not asked for."""
+    return os.getppid() == mounter
+
+
 def cleanup():
     """The clients have gone: ends the run, which flushes."""
     if ending is not None:
@@ -533,6 +558,8 @@ def cleanup():
         clock.close()
     if array is not None:
         log(array.close())
+        if array.run.failed and not is_captive():
+            os._exit(1)  # the status of nbdkit would be 0
     for number in SIGNALS:  # from here on a second one would end it by force
         signal.signal(number, signal.SIG_IGN)
 
