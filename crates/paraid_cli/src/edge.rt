@@ -1,22 +1,23 @@
 //! What stands between the program and the system: no stream may become an image, one command works
 //! in a folder, and images that are there and do not belong or cannot be opened are not taken for
 //! lost ones.
+ghost use Rattle.std.specs.Prelude.{◌≡◌, ◌⊎◌, IfOk, map, string_bytes};
+ghost use Rattle.paraid_cli.specs.CommandEnd.{EndsAsked, EndsUnasked, EndsWithStreams, IsOwnStatus};
+ghost use Rattle.paraid_words.specs.Words.{AskFor};
+ghost use Rattle.paraid_words.specs.declared.command.Command.{Command as CommandType};
 
 use crate::logs::hold_array;
+use crate::served::{SLOTS, serve_gathered};
 use paraid_base::NoMemory;
-use paraid_gather::Gathered;
 use paraid_imgrack::{Claim, Hindrance, ImageRack};
 use paraid_io::{StdSink, StdSource};
-use paraid_program::{Ended, paraid};
-use paraid_rack::{Power, Rack};
+use paraid_program::Ended;
+use paraid_rack::Rack;
 use paraid_serve::status;
-use paraid_words::Command;
+use paraid_words::{Command, read_words};
 use std::fs::{self, File, Files};
 use std::io::{self, Eprint, Input, Print};
 use std::os::fd::AsRawFd;
-
-/// The number of image files at most.
-const SLOTS: u8 = 8;
 
 /// The status where another command works here, or the folder cannot be opened.
 const BUSY: u8 = 16;
@@ -55,7 +56,20 @@ impl Folder {
 }
 
 /// Does what the words ask for with the images of the current folder, and gives the status.
-pub(crate) fn work<H: Host>(rt: &H, words: &Vec<String>, command: &Command) -> u8 {
+pub(crate) fn answer_words<H: Host>(rt: &H, words: &Vec<String>) -> u8
+    ensures asked { EndsAsked (map string_bytes words.now.items) result }
+    ensures unasked { EndsUnasked (map string_bytes words.now.items) result }
+{
+    match read_words(words) {
+        Some(command) => work(rt, words, &command),
+        None => tell_words(rt, words),
+    }
+}
+
+/// Does the command that the words ask for, unless another one works here or a stream is closed.
+fn work<H: Host>(rt: &H, words: &Vec<String>, command: &Command) -> u8
+    ensures { EndsAsked (map string_bytes words.now.items) result }
+{
     let Ok(folder) = Folder::open(rt) else {
         return work_nowhere(rt, command);
     };
@@ -73,7 +87,9 @@ pub(crate) fn work<H: Host>(rt: &H, words: &Vec<String>, command: &Command) -> u
 }
 
 /// Answers words that are no command. The program tells which there are, and touches no image.
-pub(crate) fn tell_words<H: Host>(rt: &H, words: &Vec<String>) -> u8 {
+fn tell_words<H: Host>(rt: &H, words: &Vec<String>) -> u8
+    ensures { EndsUnasked (map string_bytes words.now.items) result }
+{
     let Ok(rack) = ImageRack::load(rt, rt.alloc(), 0) else {
         return status::NO_MEMORY;
     };
@@ -98,7 +114,9 @@ fn reads_input(command: &Command) -> bool {
 }
 
 /// Writes the last line, unless a client reads the output, and gives the status.
-fn end<H: Host>(rt: &H, command: &Command, line: &str, status: u8) -> u8 {
+fn end<H: Host>(rt: &H, command: &Command, line: &str, status: u8) -> u8
+    ensures { (result ≡ status) ⊎ (result ≡ 4) }
+{
     if let Command::Nbd = command {
         return status;
     }
@@ -109,7 +127,9 @@ fn end<H: Host>(rt: &H, command: &Command, line: &str, status: u8) -> u8 {
 }
 
 /// Without the folder no image is served. Where descriptors are wanting, one is shut.
-fn work_nowhere<H: Host>(rt: &H, command: &Command) -> u8 {
+fn work_nowhere<H: Host>(rt: &H, command: &Command) -> u8
+    ensures { IsOwnStatus result }
+{
     let hindrance = match ImageRack::load(rt, rt.alloc(), SLOTS) {
         Ok(rack) => rack.hindrance(),
         Err(_) => return status::NO_MEMORY,
@@ -123,7 +143,9 @@ fn work_nowhere<H: Host>(rt: &H, command: &Command) -> u8 {
     }
 }
 
-fn work_there<H: Host>(rt: &H, words: &Vec<String>, command: &Command) -> u8 {
+fn work_there<H: Host>(rt: &H, words: &Vec<String>, command: &Command) -> u8
+    ensures { EndsAsked (map string_bytes words.now.items) result }
+{
     let Ok(mut rack) = ImageRack::load(rt, rt.alloc(), SLOTS) else {
         return status::NO_MEMORY;
     };
@@ -153,7 +175,9 @@ fn hindrance_of<H: Host>(rack: &ImageRack<&H>, command: &Command) -> Option<(u8,
     }
 }
 
-fn tell_hindrance<H: Host>(rt: &H, command: &Command, disk: u8, hindrance: Hindrance) -> u8 {
+fn tell_hindrance<H: Host>(rt: &H, command: &Command, disk: u8, hindrance: Hindrance) -> u8
+    ensures { IsOwnStatus result }
+{
     match hindrance {
         Hindrance::Busy => {
             let _ = eprintln!(rt;
@@ -227,7 +251,9 @@ fn tell_causes<H: Host>(rt: &H, rack: &ImageRack<&H>) {
 }
 
 /// The last line of a command that is refused for an image.
-fn refuse<H: Host>(rt: &H, command: &Command, disk: u8) -> u8 {
+fn refuse<H: Host>(rt: &H, command: &Command, disk: u8) -> u8
+    ensures { IsOwnStatus result }
+{
     if let Command::Nbd = command {
         return status::NOT_AN_ARRAY;
     }
@@ -237,32 +263,18 @@ fn refuse<H: Host>(rt: &H, command: &Command, disk: u8) -> u8 {
     }
 }
 
-/// Hands the program the standard streams and this rack, whose writes are gathered. All that it wrote
-/// is in the files when it returns.
+/// Hands the program the standard streams and this rack.
 fn serve<'a, H: Host>(
     rt: &'a H,
     words: &Vec<String>,
     rack: ImageRack<&'a H>,
-) -> Result<Ended<ImageRack<&'a H>>, NoMemory> {
+) -> Result<Ended<ImageRack<&'a H>>, NoMemory>
+    ensures told { IfOk result (λ ended. (c : CommandType) → AskFor c (map string_bytes words.now.items)
+        → EndsWithStreams (⟦<ImageRack<&'a H> as Rack>⟧.slot_count rack.entry)
+        (⟦<ImageRack<&'a H> as Rack>⟧.slot rack.entry) c ended.status) }
+    ensures words { IfOk result (λ ended. EndsUnasked (map string_bytes words.now.items) ended.status) }
+{
     let mut source = StdSource::new(rt.reader());
     let mut sink = StdSink::new(io::writer(rt));
-    let gathered = Gathered::new(rt.alloc(), rack)?;
-    let Ended { status, mut rack } = paraid(rt.alloc(), words, &mut source, &mut sink, gathered);
-    for disk in 0..SLOTS {
-        write_out(&mut rack, disk);
-    }
-    Ok(Ended {
-        status,
-        rack: rack.into_rack(),
-    })
-}
-
-/// Writes into its file what waits for a disk, if that spins.
-fn write_out<H: Host>(rack: &mut Gathered<ImageRack<&H>>, disk: u8) {
-    if disk >= rack.slots() {
-        return;
-    }
-    if let Power::Spinning = rack.power(disk) {
-        let _ = rack.write_out(disk);
-    }
+    serve_gathered(rt.alloc(), words, &mut source, &mut sink, rack)
 }

@@ -3,9 +3,9 @@
 
 mod edge;
 mod logs;
+mod served;
 
 use paraid_serve::status;
-use paraid_words::read_words;
 use std::process::ExitCode;
 use std::{env, io};
 
@@ -23,8 +23,5 @@ fn main(rt: HostRuntime) -> ExitCode {
         Err(error) if error.kind() == io::ErrorKind::InvalidData => {}
         Err(_) => return ExitCode::from(status::NO_MEMORY),
     }
-    if let Some(command) = read_words(&words) {
-        return ExitCode::from(edge::work(&rt, &words, &command));
-    }
-    ExitCode::from(edge::tell_words(&rt, &words))
+    ExitCode::from(edge::answer_words(&rt, &words))
 }

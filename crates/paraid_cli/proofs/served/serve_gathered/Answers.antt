@@ -1,0 +1,24 @@
+use Rattle.std.proofs.Common.{None, ap}
+use Rattle.paraid_cli.proofs.CommandEndLemmas.{slots_alone}
+use Rattle.paraid_gather.specs.Above.{slots_above}
+use Rattle.paraid_gather.specs.Gathers.{waiting_in}
+use Rattle.paraid_cli.proofs.served.serve_gathered.Goals as goal
+
+pub returns-clause-told : goal.returns-clause-told
+returns-clause-told g c command asked =
+    let taken = c.in_ok-gathered.gathered in
+    let left = c.paraid-status.result.rack in
+    let is = c.in_ok-gathered.ensures in
+    record {
+      rack = record {
+        slots = g.R.Rack.slot_count taken.rack;
+        old = slots_above (g.R.Rack.slot taken.rack) (waiting_in taken);
+        new = slots_above (g.R.Rack.slot left.rack) (waiting_in left);
+        before = None;
+        after = None;
+      };
+      count = ap g.R.Rack.slot_count is.rack;
+      before = slots_alone g.R.Rack.slot taken.rack c.args.rack (waiting_in taken) is.rack is.none;
+      does = c.paraid-status.ensures.does command asked;
+      complete = c.paraid-status.ensures.complete command asked;
+    }

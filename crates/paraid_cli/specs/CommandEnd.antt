@@ -1,0 +1,33 @@
+-- How `main` ends: with the status of a command, or with one of its own.
+use Rattle.std.specs.Prelude.{◌≡◌, ℕ, ◌⊎◌, List, [], ◌∷◌}
+use Rattle.paraid_program.specs.CommandCompletes.{CompletesCommand}
+use Rattle.paraid_program.specs.CommandDoes.{DoesCommand}
+use Rattle.paraid_program.specs.Statuses.{IsOneOf}
+use Rattle.paraid_rack.specs.Slots.{Slot}
+use Rattle.paraid_serve.specs.Uses.{RackUse, SinkUse, SourceUse}
+use Rattle.paraid_words.specs.declared.command.Command.{Command}
+use Rattle.paraid_words.specs.Words.{AskFor}
+
+-- A command was done with a rack that had these slots, with this source and this sink, and ended with this status.
+pub record EndsCommand (slots : ℕ) (slot : ℕ → Slot) (source : SourceUse) (sink : SinkUse) (c : Command) (status : ℕ) : Type 0 where
+  pub rack : RackUse
+  pub count : rack.slots ≡ slots
+  pub before : (d : ℕ) → rack.old d ≡ slot d
+  pub does : DoesCommand rack source sink status c
+  pub complete : CompletesCommand rack source sink status c
+
+-- the same with some source and some sink
+abbrev pub EndsWithStreams : ℕ → (ℕ → Slot) → Command → ℕ → Type 0
+EndsWithStreams slots slot c status = (source : SourceUse) × (sink : SinkUse) × EndsCommand slots slot source sink c status
+
+-- A status of the edge's own: a closed or failed stream, an image that is refused, no memory, or another command here.
+abbrev pub IsOwnStatus : ℕ → Type 0
+IsOwnStatus status = IsOneOf (3 ∷ 4 ∷ 6 ∷ 7 ∷ 16 ∷ []) status
+
+-- The command that the words ask for ended with this status over some rack, or the status is the edge's own.
+abbrev pub EndsAsked : List (List ℕ) → ℕ → Type 0
+EndsAsked words status = (c : Command) → AskFor c words → ((slots : ℕ) × (slot : ℕ → Slot) × EndsWithStreams slots slot c status) ⊎ IsOwnStatus status
+
+-- Words that ask for no command ended with this status: they were answered, the output failed, or there was no memory.
+abbrev pub EndsUnasked : List (List ℕ) → ℕ → Type 0
+EndsUnasked words status = ((c : Command) → AskFor c words → ⊥) → IsOneOf (2 ∷ 4 ∷ 7 ∷ []) status
