@@ -1,5 +1,5 @@
-use Rattle.std.proofs.Common.{inl}
+use Rattle.std.proofs.Common.{inr}
 use Rattle.paraid_cli.proofs.edge.work_there.Goals as goal
 
 pub returns : goal.returns
-returns g c command asked = inl (_, _, c.in-Ok-serve.ensures.told command asked)
+returns g c command asked = inr (_, _, c.in-Ok-serve.ensures.told command asked)
