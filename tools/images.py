@@ -6,6 +6,7 @@ range: there is no sum to test. A missing image, one that is no file, and a side
 neither `spinning` nor `parked` are absent disks; a link counts as its file, and one that leads nowhere
 is a disk that is shut. The size of a disk is its image's length divided by 512, rounded down: a label
 may follow the last block, of the form of crates/paraid_imgrack."""
+import ctypes
 import errno
 import io
 import os
@@ -285,9 +286,9 @@ class Folder:
         return word.decode() if word in (b"spinning", b"parked") else "absent"
 
     def is_read_only(self, disk, devices):
-        """Whether the image or the sidecar of a disk lies on one of these devices."""
+        """Whether the image or the sidecar of a disk lies on one of these devices, or takes no writes itself."""
         names = self.image(disk), os.path.join(self.path, f"disk-{disk}.power")
-        return any(found(name) == "file" and os.stat(name).st_dev in devices for name in names)
+        return any(found(name) == "file" and (os.stat(name).st_dev in devices or is_fixed(name)) for name in names)
 
     def size(self, disk):
         """The blocks of a disk, 0 where there is none."""
@@ -329,6 +330,16 @@ class Folder:
             except PermissionError:
                 self.files[disk] = os.open(self.image(disk), flags)
         return self.files[disk]
+
+
+def is_fixed(name):
+    """Whether a file takes no writes, whoever asks, though its mount does: it is immutable, or in a subvolume
+    of btrfs that is read-only. Where only this user may not write, others may."""
+    if os.access(name, os.W_OK) or os.statvfs(name).f_flag & os.ST_RDONLY:
+        return False
+    # (os.access does not say why)
+    library = ctypes.CDLL(None, use_errno=True)
+    return library.access(os.fsencode(name), os.W_OK) != 0 and ctypes.get_errno() in (errno.EPERM, errno.EROFS)
 
 
 def read_only_devices(mounts="/proc/self/mountinfo"):
