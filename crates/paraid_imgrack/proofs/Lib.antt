@@ -1,2 +1,3 @@
 pub mod ImagesLemmas
+pub mod LooksLemmas
 pub mod SidecarLemmas

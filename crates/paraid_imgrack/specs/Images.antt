@@ -1,10 +1,15 @@
 -- What is always told of a slot, as its image has it.
-use Rattle.std.specs.Prelude.{◌≡◌, ◌≤◌, ℕ, Bool, true, false, List, map, get_or}
+use Rattle.std.specs.Prelude.{◌≡◌, ◌≤◌, ◌<◌, ◌⊎◌, ℕ, Bool, true, false, List, Option, None, Some, IfSome, map, get_or}
 use Rattle.paraid_base.specs.Told.{HasRisen}
 use Rattle.paraid_rack.specs.declared.call.Power.TheVariants.{Spinning, Absent}
 use Rattle.paraid_rack.specs.Slots.{Slot}
 use Rattle.paraid_imgrack.specs.declared.identity.Identity.{Identity}
+use Rattle.paraid_imgrack.specs.declared.identity.Misfit.{Misfit}
+use Rattle.paraid_imgrack.specs.declared.image.Hindrance.{Hindrance}
+use Rattle.paraid_imgrack.specs.declared.image.Hindrance.TheVariants.{Crowded}
 use Rattle.paraid_imgrack.specs.declared.image.Image.{Image}
+use Rattle.paraid_imgrack.specs.declared.label.Label.{Label}
+use Rattle.paraid_imgrack.specs.Labels.{FitsSlot, read_label_of}
 
 -- a slot that does not exist
 abbrev pub vacant_slot : Slot
@@ -45,3 +50,39 @@ pub record Becomes (old new leaves : Slot) (dirt ok : Bool) : Type 0 where
 pub record IsTold (i : Identity) : Type 0 where
   pub marked : i.is_new ≡ false
   pub told : i.has_news ≡ false
+
+-- the label of an image that spins, as it was read
+abbrev pub image_label : Image → Option Label
+image_label i = read_label_of i.power i.tail
+
+-- what hinders work on the disk
+abbrev pub image_hindrance : Image → Option Hindrance
+image_hindrance i = i.hindrance
+
+-- why the image does not belong into its slot
+abbrev pub image_misfit : Image → Option Misfit
+image_misfit i = i.misfit
+
+-- the same three of the slot of this number
+abbrev pub label_at : List Image → ℕ → Option Label
+label_at images d = get_or (map image_label images) d None
+
+abbrev pub hindrance_at : List Image → ℕ → Option Hindrance
+hindrance_at images d = get_or (map image_hindrance images) d None
+
+abbrev pub misfit_at : List Image → ℕ → Option Misfit
+misfit_at images d = get_or (map image_misfit images) d None
+
+-- each label that was read in a slot of the array is one of its slot
+abbrev pub Fit : List Image → Identity → Type 0
+Fit images i = (d : ℕ) → d < i.disks → IfSome (label_at images d) (λ l. FitsSlot i l d)
+
+-- A look at labels changes neither slots nor what hinders.
+pub record IsLook (old new : List Image) : Type 0 where
+  pub slots : map image_slot new ≡ map image_slot old
+  pub hindrances : map image_hindrance new ≡ map image_hindrance old
+
+-- The first disk that is hindered, and why; or none is, and too few files may be open.
+abbrev pub FirstHindrance : List Image → ℕ → Hindrance → Type 0
+FirstHindrance images d h = ((hindrance_at images d ≡ Some h) × ((e : ℕ) → e < d → hindrance_at images e ≡ None))
+    ⊎ (((e : ℕ) → hindrance_at images e ≡ None) × ((d ≡ 0) × (h ≡ Crowded)))

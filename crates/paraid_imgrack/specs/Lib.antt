@@ -1,3 +1,5 @@
 pub mod Images
+pub mod Labels
 pub mod Laws
+pub mod Looks
 pub mod Sidecar

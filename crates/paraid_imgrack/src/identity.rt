@@ -1,6 +1,7 @@
 //! Which array the labels of some images name, and which images do not belong into their slots.
-ghost use Rattle.std.specs.Prelude.{◌≡◌, ◌≤◌, ◌<◌, true, slice_index, None};
+ghost use Rattle.std.specs.Prelude.{◌≡◌, ◌<◌, ◌≤◌, true, false, slice_index, Some, IfSome, IfNone};
 ghost use Rattle.paraid_base.specs.Told.{HasRisen};
+ghost use Rattle.paraid_imgrack.specs.Labels.{AreUnnamed, FitsSlot, IsNamed, IsOneOf, Suits, array_of, label_in};
 
 use crate::label::Label;
 use paraid_base::DiskNo;
@@ -58,7 +59,9 @@ pub(crate) struct Identity {
 
 impl Identity {
     /// That of an array of which nothing is known.
-    pub(crate) fn new(array: [u8; 16], disks: u8) -> Identity {
+    pub(crate) fn new(array: [u8; 16], disks: u8) -> Identity
+        ensures { array_of (Some result) ≡ Some (array, disks) }
+    {
         Identity {
             array,
             disks,
@@ -71,21 +74,34 @@ impl Identity {
     }
 
     /// That of the array which these labels name, if there are any, for the next load.
-    pub(crate) fn of(labels: &Labels) -> Option<Identity> {
+    pub(crate) fn of(labels: &Labels) -> Option<Identity>
+        ensures none { IfNone result (AreUnnamed (label_in labels.now)) }
+        ensures named { IfSome result (IsNamed (label_in labels.now)) }
+    {
         let named = named(labels)?;
         let mut identity = Identity::new(named.array, named.disks);
         for slot in 0..8 {
-            if let Some(label) = labels[slot]
-                && identity.is_right(&label, slot as u8)
-            {
-                identity.learn(&label, slot);
-            }
+            identity.learn_from(labels, slot);
         }
         Some(identity)
     }
 
+    /// Takes over what the label of a slot says, if it is of the array.
+    fn learn_from(&mut self, labels: &Labels, slot: usize)
+        requires { slot < 8 }
+        ensures { array_of (Some self.new) ≡ array_of (Some self.old) }
+    {
+        if let Some(label) = labels[slot]
+            && self.is_right(&label, slot as u8)
+        {
+            self.learn(&label, slot);
+        }
+    }
+
     /// Takes over what a label of the array says.
-    fn learn(&mut self, label: &Label, slot: usize) {
+    fn learn(&mut self, label: &Label, slot: usize)
+        ensures { array_of (Some self.new) ≡ array_of (Some self.old) }
+    {
         if slot < 8 {
             self.seen[slot] = label.generation;
         }
@@ -114,7 +130,10 @@ impl Identity {
     }
 
     /// Why an image with this label does not belong into a slot of the array.
-    pub(crate) fn misfit_of(&self, label: &Option<Label>, slot: DiskNo) -> Option<Misfit> {
+    pub(crate) fn misfit_of(&self, label: &Option<Label>, slot: DiskNo) -> Option<Misfit>
+        ensures read { slot < self.now.disks → IfSome label.now (λ l. Suits self.now l slot result) }
+        ensures none { IfSome result (λ _. slot < self.now.disks) }
+    {
         match label {
             Some(label) if slot < self.disks => self.misfit(label, slot),
             _ => None,
@@ -122,9 +141,7 @@ impl Identity {
     }
 
     fn misfit(&self, label: &Label, slot: DiskNo) -> Option<Misfit>
-        ensures disk { result ≡ None → label.now.disk ≡ slot }
-        ensures age { result ≡ None → slot < 8
-            → slice_index self.now.known slot ≤ label.now.generation }
+        ensures { Suits self.now label.now slot result }
     {
         if label.array != self.array {
             return Some(Misfit::Foreign);
@@ -132,10 +149,11 @@ impl Identity {
         if label.disk != slot {
             return Some(Misfit::Moved { disk: label.disk });
         }
-        if label.generation < self.known_of(slot) {
+        let known = self.known_of(slot);
+        if label.generation < known {
             return Some(Misfit::Old {
                 generation: label.generation,
-                known: self.known_of(slot),
+                known,
             });
         }
         None
@@ -152,7 +170,10 @@ impl Identity {
     }
 
     /// The same of an image that was parked until now: it may also be the newest one.
-    pub(crate) fn late_misfit_of(&self, label: &Option<Label>, slot: DiskNo) -> Option<Misfit> {
+    pub(crate) fn late_misfit_of(&self, label: &Option<Label>, slot: DiskNo) -> Option<Misfit>
+        ensures { IfNone result (slot < self.now.disks
+            → IfSome label.now (λ l. FitsSlot self.now l slot)) }
+    {
         if let Some(misfit) = self.misfit_of(label, slot) {
             return Some(misfit);
         }
@@ -184,6 +205,7 @@ impl Identity {
     pub(crate) fn renew(&mut self)
         ensures newer { HasRisen self.old.generation self.new.generation }
         ensures again { self.new.is_new ≡ true }
+        ensures known { array_of (Some self.new) ≡ array_of (Some self.old) }
     {
         self.generation = self.generation.saturating_add(1);
         self.is_new = true;
@@ -194,6 +216,7 @@ impl Identity {
         ensures newer { self.new.generation ≡ self.old.generation }
         ensures again { self.new.is_new ≡ self.old.is_new }
         ensures news { disk < 8 → self.new.has_news ≡ true }
+        ensures known { array_of (Some self.new) ≡ array_of (Some self.old) }
     {
         if disk < 8 {
             self.known[disk] = self.generation;
@@ -208,36 +231,68 @@ impl Identity {
 ///
 /// So a new array is told from images of an older, wider one, which stand in slots past its own. A
 /// label in a slot past those of its array names none.
-fn named(labels: &Labels) -> Option<Label> {
+fn named(labels: &Labels) -> Option<Label>
+    ensures none { IfNone result (AreUnnamed (label_in labels.now)) }
+    ensures one { IfSome result (IsOneOf (label_in labels.now)) }
+{
     let first = first(labels)?;
     if is_whole(labels, &first) {
         return Some(first);
     }
     let mut most = first;
     for slot in 0..8 {
-        if let Some(label) = labels[slot]
-            && count(labels, &most) < count(labels, &label)
-        {
-            most = label;
-        }
+        most = commoner(labels, most, slot);
     }
     Some(most)
 }
 
+/// The label of a slot, if more images are of its array than of that of this one, or else this one.
+fn commoner(labels: &Labels, most: Label, slot: usize) -> Label
+    requires slot { slot < 8 }
+    requires one { IsOneOf (label_in labels.now) most }
+    ensures { IsOneOf (label_in labels.now) result }
+{
+    let Some(label) = labels[slot] else {
+        return most;
+    };
+    if count(labels, &most) < count(labels, &label) {
+        label
+    } else {
+        most
+    }
+}
+
 /// Whether a slot is one of the array that a label names.
-fn is_within(slot: usize, label: &Label) -> bool {
+fn is_within(slot: usize, label: &Label) -> bool
+    ensures { result ≡ false → label.now.disks ≤ slot }
+{
     slot < label.disks as usize
 }
 
-fn first(labels: &Labels) -> Option<Label> {
+fn first(labels: &Labels) -> Option<Label>
+    ensures none { IfNone result (AreUnnamed (label_in labels.now)) }
+    ensures one { IfSome result (IsOneOf (label_in labels.now)) }
+{
     for slot in 0..8 {
-        if let Some(label) = labels[slot]
-            && is_within(slot, &label)
-        {
+        if let Some(label) = named_in(labels, slot) {
             return Some(label);
         }
     }
     None
+}
+
+/// The label of a slot, if that is one of its array.
+fn named_in(labels: &Labels, slot: usize) -> Option<Label>
+    requires { slot < 8 }
+    ensures none { IfNone result (IfSome (label_in labels.now slot) (λ l. l.disks ≤ slot)) }
+    ensures one { IfSome result (λ l. label_in labels.now slot ≡ Some l) }
+{
+    let label = labels[slot]?;
+    if is_within(slot, &label) {
+        Some(label)
+    } else {
+        None
+    }
 }
 
 /// Whether the images in the slots of a label's array are all of that one.

@@ -1,7 +1,8 @@
 //! One disk of the rack: a call on it is done, or it leaves the disk absent and counted as failed.
-ghost use Rattle.std.specs.Prelude.{◌≡◌, ◌≢◌, ℕ, ◌*◌, ◌/◌, ◌<◌, min, true, false, length, slice_index, IfOk, IfSome, OnOk};
+ghost use Rattle.std.specs.Prelude.{◌≡◌, ◌≢◌, ℕ, ◌*◌, ◌/◌, ◌<◌, min, true, false, length, slice_index, None, Some, IfOk, IfSome, OnOk};
 ghost use Rattle.paraid_base.specs.Told.{HasRisen};
 ghost use Rattle.paraid_imgrack.specs.declared.tail.Tail.TheVariants.{Other};
+ghost use Rattle.paraid_imgrack.specs.Labels.{array_of, label_of};
 ghost use Rattle.paraid_rack.specs.declared.call.Power.TheVariants.{Spinning, Parked, Absent};
 
 use crate::found::{Found, find, is_locked, is_want_of_room};
@@ -65,7 +66,7 @@ pub(crate) struct Image {
 
 impl Image {
     ghost use Rattle.std.specs.Prelude.{is_ok};
-    ghost use Rattle.paraid_imgrack.specs.Images.{image_slot, IsLoaded, IsFailedSlot, Becomes};
+    ghost use Rattle.paraid_imgrack.specs.Images.{image_hindrance, image_label, image_slot, IsLoaded, IsFailedSlot, Becomes};
 
     /// The disk as its files tell it.
     ///
@@ -125,7 +126,9 @@ impl Image {
     /// Reads the label of an image that spins. A parked one is left alone. Where it cannot be read,
     /// the next call on the disk fails: the image may be a wrong one.
     pub(crate) fn read_label(&mut self) -> Option<Label>
-        ensures { image_slot self.new ≡ image_slot self.old }
+        ensures slot { image_slot self.new ≡ image_slot self.old }
+        ensures hindrance { image_hindrance self.new ≡ image_hindrance self.old }
+        ensures kept { result ≡ image_label self.new }
     {
         if self.power != Power::Spinning {
             return None;
@@ -138,6 +141,16 @@ impl Image {
             }
         }
         label_in(&self.tail)
+    }
+
+    /// The label of an image that spins, as it was read.
+    pub(crate) fn label(&self) -> Option<Label>
+        ensures { result ≡ image_label self.now }
+    {
+        match self.power {
+            Power::Spinning => label_in(&self.tail),
+            Power::Parked | Power::Absent => None,
+        }
     }
 
     /// Gives a disk that spins this label, and says whether it has it now. There may be no room for
@@ -180,7 +193,9 @@ impl Image {
     }
 
     /// What hinders that the disk is attached anew, also where it has failed.
-    pub(crate) fn hinders_attach<F: Files<File = File>>(&self, files: &F) -> Option<Hindrance> {
+    pub(crate) fn hinders_attach<F: Files<File = File>>(&self, files: &F) -> Option<Hindrance>
+        ensures { result ≡ None → image_hindrance self.now ≡ None }
+    {
         if self.hindrance.is_some() || self.file.is_some() {
             return self.hindrance;
         }
@@ -253,8 +268,9 @@ impl Image {
         disk: DiskNo,
     ) -> Result<(), Failed>
         requires { (image_slot self.old).power ≡ Parked }
-        ensures { Becomes (image_slot self.old) (image_slot self.new)
+        ensures slot { Becomes (image_slot self.old) (image_slot self.new)
             (record (image_slot self.old) { power = Spinning }) false (is_ok result) }
+        ensures known { array_of identity.new ≡ array_of identity.old }
     {
         if let Some(identity) = identity {
             match tail_of(&self.file, self.size) {
@@ -302,6 +318,7 @@ impl Image {
             (λ new. HasRisen old.generation new.generation))) }
         ensures again { OnOk result (IfSome identity.old (λ old. IfSome identity.new
             (λ new. new.is_new ≡ true))) }
+        ensures known { array_of identity.new ≡ array_of identity.old }
     {
         self.file = None; // and its lock
         match make_image(files, &self.names, size) {
@@ -510,7 +527,9 @@ fn tail_of(file: &Option<File>, size: u32) -> io::Result<Tail> {
     }
 }
 
-fn label_in(tail: &Tail) -> Option<Label> {
+fn label_in(tail: &Tail) -> Option<Label>
+    ensures { result ≡ label_of tail.now }
+{
     match tail {
         Tail::Label(label) => Some(*label),
         Tail::Room | Tail::Other => None,
@@ -547,6 +566,7 @@ fn mark_image(
 ) -> io::Result<()>
     ensures newer { identity.new.generation ≡ identity.old.generation }
     ensures again { identity.new.is_new ≡ identity.old.is_new }
+    ensures known { array_of (Some identity.new) ≡ array_of (Some identity.old) }
 {
     if disk < identity.disks && put_label(file, size, tail, &identity.label(disk))? {
         identity.mark(disk as usize);

@@ -1,7 +1,9 @@
 //! The labels of all images: they are read before the first call, and each load gives them a new
 //! generation, and so does each disk that is attached.
-ghost use Rattle.std.specs.Prelude.{◌≡◌, map, false, Some, IfSome};
-ghost use Rattle.paraid_imgrack.specs.Images.{image_slot, IsTold};
+ghost use Rattle.std.specs.Prelude.{◌≡◌, ◌≢◌, ◌<◌, ℕ, map, true, false, length, Some, IfSome, IsSome};
+ghost use Rattle.paraid_imgrack.specs.Images.{Fit, image_label, image_misfit, image_slot, label_at, misfit_at, IsLook, IsTold};
+ghost use Rattle.paraid_imgrack.specs.Labels.{FitsSlot, Names, array_of, label_in};
+ghost use Rattle.paraid_imgrack.specs.Looks.{IsFitting};
 
 use crate::identity::{Identity, Labels, Misfit};
 use crate::image::Claim;
@@ -36,17 +38,23 @@ impl<F: Files<File = File> + Drop> ImageRack<F> {
 
     /// Reads the labels of the images that spin, and says whether each belongs into its slot. Nothing
     /// is written before the first sync. A rack whose images do not fit is to be used no more.
-    pub fn has_fitting_images(&mut self) -> bool {
+    pub fn has_fitting_images(&mut self) -> bool
+        ensures look { IsLook self.old.images.items self.new.images.items }
+        ensures fits { result ≡ true → IsFitting self.new }
+        ensures misfit { result ≡ false → (d : ℕ) × IsSome (misfit_at self.new.images.items d) }
+    {
         let labels = self.read_labels();
         let Some(identity) = self.identify(&labels) else {
             return true;
         };
         self.identity = Some(identity);
-        self.fits(&identity, &labels)
+        self.fits(&identity)
     }
 
     /// Why the image in a slot does not belong there, where one was read.
-    pub fn misfit(&self, disk: DiskNo) -> Option<Misfit> {
+    pub fn misfit(&self, disk: DiskNo) -> Option<Misfit>
+        ensures { result ≡ misfit_at self.now.images.items disk }
+    {
         if (disk as usize) < self.images.len() {
             self.images[disk as usize].misfit
         } else {
@@ -79,6 +87,7 @@ impl<F: Files<File = File> + Drop> ImageRack<F> {
     pub(crate) fn renew_labels(&mut self)
         ensures slots { map image_slot self.new.images.items ≡ map image_slot self.old.images.items }
         ensures told { IfSome self.new.identity IsTold }
+        ensures known { array_of self.new.identity ≡ array_of self.old.identity }
     {
         if self.are_labels_due() {
             self.give_labels();
@@ -90,6 +99,7 @@ impl<F: Files<File = File> + Drop> ImageRack<F> {
     fn give_labels(&mut self)
         ensures slots { map image_slot self.new.images.items ≡ map image_slot self.old.images.items }
         ensures told { IfSome self.new.identity IsTold }
+        ensures known { array_of self.new.identity ≡ array_of self.old.identity }
     {
         if let Some(identity) = self.identity {
             let marked = self.mark_images(identity);
@@ -110,6 +120,7 @@ impl<F: Files<File = File> + Drop> ImageRack<F> {
     fn mark_images(&mut self, identity: Identity) -> Identity
         ensures slots { map image_slot self.new.images.items ≡ map image_slot self.old.images.items }
         ensures marked { result.is_new ≡ false }
+        ensures known { array_of (Some result) ≡ array_of (Some identity) }
     {
         if !identity.is_new {
             return identity;
@@ -136,7 +147,8 @@ impl<F: Files<File = File> + Drop> ImageRack<F> {
 
     /// At the end, too: what was spun up or attached since the last sync is made known to the others.
     pub fn end_load(&mut self)
-        ensures { map image_slot self.new.images.items ≡ map image_slot self.old.images.items }
+        ensures slots { map image_slot self.new.images.items ≡ map image_slot self.old.images.items }
+        ensures known { array_of self.new.identity ≡ array_of self.old.identity }
     {
         if let Some(identity) = self.identity {
             self.tell(identity);
@@ -164,19 +176,33 @@ impl<F: Files<File = File> + Drop> ImageRack<F> {
         }
     }
 
-    fn read_labels(&mut self) -> Labels {
+    fn read_labels(&mut self) -> Labels
+        ensures look { IsLook self.old.images.items self.new.images.items }
+        ensures labels { (d : ℕ) → d < 8 → label_in result d ≡ label_at self.new.images.items d }
+    {
         let mut labels = [None; 8];
         for disk in 0..self.images.len() {
-            if disk < 8 {
-                labels[disk] = self.images[disk].read_label();
-            }
+            self.read_label(disk, &mut labels);
         }
         labels
     }
 
+    fn read_label(&mut self, disk: usize, labels: &mut Labels)
+        requires { disk < length self.old.images.items }
+        ensures look { IsLook self.old.images.items self.new.images.items }
+        ensures here { label_in labels.new disk ≡ label_at self.new.images.items disk }
+        ensures others { (e : ℕ) → e ≢ disk → label_in labels.new e ≡ label_in labels.old e }
+        ensures kept { (e : ℕ) → e ≢ disk
+            → label_at self.new.images.items e ≡ label_at self.old.images.items e }
+    {
+        labels[disk] = self.images[disk].read_label();
+    }
+
     /// The array that the images are of, by their labels. One without labels gets a number, where
     /// all of its disks that are there spin, so that none of them has a label that was not read.
-    fn identify(&self, labels: &Labels) -> Option<Identity> {
+    fn identify(&self, labels: &Labels) -> Option<Identity>
+        ensures { Names (label_in labels.now) result }
+    {
         if let Some(identity) = Identity::of(labels) {
             return Some(identity);
         }
@@ -210,17 +236,38 @@ impl<F: Files<File = File> + Drop> ImageRack<F> {
     }
 
     /// Whether each label is one of its slot. Why one is not is kept with its image.
-    fn fits(&mut self, identity: &Identity, labels: &Labels) -> bool {
+    fn fits(&mut self, identity: &Identity) -> bool
+        ensures look { IsLook self.old.images.items self.new.images.items }
+        ensures labels { map image_label self.new.images.items ≡ map image_label self.old.images.items }
+        ensures known { self.new.identity ≡ self.old.identity }
+        ensures fits { result ≡ true → Fit self.new.images.items identity.now }
+        ensures misfit { result ≡ false → (d : ℕ) × IsSome (misfit_at self.new.images.items d) }
+    {
         let mut fits = true;
         for disk in 0..self.images.len() {
-            if disk < 8
-                && let Some(misfit) = identity.misfit_of(&labels[disk], disk as u8)
-            {
-                self.images[disk].misfit = Some(misfit);
-                fits = false;
-            }
+            fits &= self.fits_slot(disk, identity);
         }
         fits
+    }
+
+    fn fits_slot(&mut self, disk: usize, identity: &Identity) -> bool
+        requires { disk < length self.old.images.items }
+        ensures look { IsLook self.old.images.items self.new.images.items }
+        ensures labels { map image_label self.new.images.items ≡ map image_label self.old.images.items }
+        ensures known { self.new.identity ≡ self.old.identity }
+        ensures fits { result ≡ true → disk < identity.now.disks
+            → IfSome (label_at self.new.images.items disk) (λ l. FitsSlot identity.now l disk) }
+        ensures same { result ≡ true
+            → map image_misfit self.new.images.items ≡ map image_misfit self.old.images.items }
+        ensures misfit { result ≡ false → IsSome (misfit_at self.new.images.items disk) }
+    {
+        match identity.misfit_of(&self.images[disk].label(), disk as u8) {
+            Some(misfit) => {
+                self.images[disk].misfit = Some(misfit);
+                false
+            }
+            None => true,
+        }
     }
 
     fn count_attached(&self) -> u8 {

@@ -5,6 +5,7 @@
 //! What the files hold is told by no clause: that a file keeps what was written to it is a premise.
 #![tactic(auto)]
 
+mod closed;
 mod found;
 mod identity;
 mod image;
@@ -14,6 +15,7 @@ mod power;
 mod rack;
 mod tail;
 
+pub use closed::Closed;
 pub use identity::Misfit;
 pub use image::{Claim, Hindrance};
 pub use label::{LABEL_SIZE, Label};

@@ -29,8 +29,10 @@ pub struct ImageRack<F> {
 }
 
 impl<F: Files<File = File> + Drop> ImageRack<F> {
-    ghost use Rattle.std.specs.Prelude.{◌<◌, IfOk, None};
-    ghost use Rattle.paraid_imgrack.specs.Images.{IsLoaded};
+    ghost use Rattle.std.specs.Prelude.{◌<◌, IfOk, IfNone, IfSome, None};
+    ghost use Rattle.paraid_imgrack.specs.Images.{IsLoaded, FirstHindrance, hindrance_at};
+    ghost use Rattle.paraid_imgrack.specs.Looks.{IsUnhindered, IsUntouched};
+    ghost use Rattle.paraid_imgrack.specs.declared.image.Hindrance.TheVariants.{Crowded};
 
     /// The rack of the disks 0 to `slots - 1`, as their files tell them.
     ///
@@ -42,6 +44,7 @@ impl<F: Files<File = File> + Drop> ImageRack<F> {
         ensures told { IfOk result (λ rack. ⟦<ImageRack<F> as Rack>⟧.told rack ≡ None) }
         ensures loaded { IfOk result (λ rack. (d : ℕ) → d < slots
             → IsLoaded (⟦<ImageRack<F> as Rack>⟧.slot rack d)) }
+        ensures untouched { IfOk result IsUntouched }
     {
         let Ok(mut images) = Vec::with_capacity(alloc, slots as usize) else {
             return Err(NoMemory);
@@ -61,9 +64,12 @@ impl<F: Files<File = File> + Drop> ImageRack<F> {
 
     /// The first disk that is there and can be neither served nor called lost, and why. The slot is
     /// absent; what is done to the others then would take the disk out of the array.
-    pub fn hindrance(&self) -> Option<(DiskNo, Hindrance)> {
+    pub fn hindrance(&self) -> Option<(DiskNo, Hindrance)>
+        ensures none { IfNone result (IsUnhindered self.now) }
+        ensures first { IfSome result (λ found. FirstHindrance self.now.images.items found.0 found.1) }
+    {
         for disk in 0..self.images.len() {
-            if let Some(hindrance) = self.images[disk].hindrance {
+            if let Some(hindrance) = self.hindrance_in(disk) {
                 return Some((disk as u8, hindrance));
             }
         }
@@ -71,10 +77,12 @@ impl<F: Files<File = File> + Drop> ImageRack<F> {
     }
 
     /// The same before disks are attached anew, so also of the image of a disk that has failed.
-    pub fn hinders_attach(&self) -> Option<(DiskNo, Hindrance)> {
+    pub fn hinders_attach(&self) -> Option<(DiskNo, Hindrance)>
+        ensures { IfNone result (IsUnhindered self.now) }
+    {
         let mut absent: u8 = 0;
         for disk in 0..self.images.len() {
-            if let Some(hindrance) = self.images[disk].hinders_attach(&self.files) {
+            if let Some(hindrance) = self.hinders_attach_in(disk) {
                 return Some((disk as u8, hindrance));
             }
             if self.images[disk].power == Power::Absent {
@@ -84,8 +92,24 @@ impl<F: Files<File = File> + Drop> ImageRack<F> {
         self.crowd(absent.saturating_add(SPARE))
     }
 
+    fn hindrance_in(&self, disk: usize) -> Option<Hindrance>
+        requires { disk < length self.now.images.items }
+        ensures { result ≡ hindrance_at self.now.images.items disk }
+    {
+        self.images[disk].hindrance
+    }
+
+    fn hinders_attach_in(&self, disk: usize) -> Option<Hindrance>
+        requires { disk < length self.now.images.items }
+        ensures { result ≡ None → hindrance_at self.now.images.items disk ≡ None }
+    {
+        self.images[disk].hinders_attach(&self.files)
+    }
+
     /// Too few files more may be open: a sidecar could not be stored, and its disk would be lost.
-    fn crowd(&self, count: u8) -> Option<(DiskNo, Hindrance)> {
+    fn crowd(&self, count: u8) -> Option<(DiskNo, Hindrance)>
+        ensures { IfSome result (λ found. found ≡ (0, Crowded)) }
+    {
         if has_descriptors(&self.files, count) {
             None
         } else {

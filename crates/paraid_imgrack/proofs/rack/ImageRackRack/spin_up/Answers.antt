@@ -10,7 +10,7 @@ pub returns : goal.returns
 returns g c = record {
   slots = length-set _ _ _;
   slot = touched_at c.args.self.now.images.items c.args.disk c.index_mut.result.now _
-      (λ (s : Slot). record s { power = Spinning }) (λ (s : Slot). false) _ c.requires.exists c.index_mut.ensures.value c.spin_up.ensures;
+      (λ (s : Slot). record s { power = Spinning }) (λ (s : Slot). false) _ c.requires.exists c.index_mut.ensures.value c.spin_up.ensures.slot;
   told = λ t e. nothing_told t e;
 }
 

@@ -1,0 +1,139 @@
+-- What a walk over the images finds of their labels and of what hinders them.
+use Rattle.std.proofs.Common.{◌≡◌, ◌≢◌, ℕ, ◌<◌, ◌≤◌, ◌+◌, ◌⊎◌, Bool, true, false, ◌&&◌, List, [], ◌∷◌, length, Option, None, Some, IfSome, IsSome, IsSomeAnd, unwrap_or, refl, map, get_or, set, sym, ◌∙◌, ap, subst, arith, inl, inr, zero, suc}
+use Rattle.std.proofs.lemmas.Bool.{cases_lt, false≢true}
+use Rattle.std.proofs.lemmas.List.{get_or-set_other, get_or-set_same, length-map, map-set}
+use Rattle.paraid_imgrack.specs.declared.identity.Identity.{Identity}
+use Rattle.paraid_imgrack.specs.declared.image.Image.{Image}
+use Rattle.paraid_imgrack.specs.Images.{Fit, IsLook, image_label, image_misfit, label_at, misfit_at}
+use Rattle.paraid_imgrack.specs.Labels.{AreUnnamed, FitsSlot, IsNamed, Names, IsOneOf, array_of, label_in}
+use Rattle.paraid_imgrack.specs.declared.label.Label.{Label}
+
+get_or_past : {A : Type 0} (l : List A) (d : ℕ) (x : A) → length l ≤ d → get_or l d x ≡ x
+get_or_past [] d x past = refl
+get_or_past (y ∷ l) zero x past = absurd (omega arith)
+get_or_past (y ∷ l) (suc d) x past = get_or_past l d x (omega arith)
+
+-- of a slot that is not there nothing is told
+pub none_past : {A : Type 0} (f : Image → Option A) (images : List Image) (d : ℕ) → length images ≤ d → get_or (map f images) d None ≡ None
+none_past f images d past = get_or_past (map f images) d None (rw (length-map images f) past)
+
+-- what holds of each slot below the end holds of each slot
+pub none_whole : {A : Type 0} (f : Image → Option A) (images : List Image) → ((d : ℕ) → d < length images → get_or (map f images) d None ≡ None)
+    → (d : ℕ) → get_or (map f images) d None ≡ None
+none_whole f images below d = elim (cases_lt d (length images)) [
+  | inl within ↦ below d within
+  | inr past ↦ none_past f images d (omega (arith, past))
+]
+
+-- what is told of an image that was put into a slot, and of the others
+pub told-set_same : {A : Type 0} (f : Image → Option A) (images : List Image) (d : ℕ) (x : Image) → d < length images → get_or (map f (set images d x)) d None ≡ f x
+told-set_same f images d x within = ap (λ (l : List _). get_or l d None) (map-set f images d x) ∙ get_or-set_same (map f images) d (f x) None (rw (length-map images f) within)
+
+pub told-set_other : {A : Type 0} (f : Image → Option A) (images : List Image) (d : ℕ) (x : Image) (e : ℕ) → e ≢ d → get_or (map f (set images d x)) e None ≡ get_or (map f images) e None
+told-set_other f images d x e not = ap (λ (l : List _). get_or l e None) (map-set f images d x) ∙ get_or-set_other (map f images) d e (f x) None not
+
+pub label_here : (labels : List (Option Label)) (images : List Image) (d : ℕ) (x : Image) (l : Option Label) → d < length labels → d < length images → l ≡ image_label x
+    → label_in (set labels d l) d ≡ label_at (set images d x) d
+label_here labels images d x l room within is = get_or-set_same labels d l None room ∙ is ∙ sym (told-set_same image_label images d x within)
+
+pub IsLook-then : (a b c : List Image) → IsLook a b → IsLook b c → IsLook a c
+IsLook-then a b c first second = record { slots = second.slots ∙ first.slots; hindrances = second.hindrances ∙ first.hindrances }
+
+-- the labels that were read in the first slots of the array are of their slots
+abbrev pub FitBelow : List Image → Identity → ℕ → Type 0
+FitBelow images i n = (d : ℕ) → d < n → d < i.disks → IfSome (label_at images d) (λ l. FitsSlot i l d)
+
+pub FitBelow-next : (old new : List Image) (i : Identity) (n : ℕ) → map image_label new ≡ map image_label old → FitBelow old i n
+    → (n < i.disks → IfSome (label_at new n) (λ l. FitsSlot i l n)) → FitBelow new i (n + 1)
+FitBelow-next old new i n same fit at d below within = elim (cases_lt d n) [
+  | inl before ↦ subst (λ (labels : List (Option _)). IfSome (get_or labels d None) (λ l. FitsSlot i l d)) (sym same) (fit d before within)
+  | inr past ↦ let is : d ≡ n = omega (arith, below, past) in subst (λ (k : ℕ). k < i.disks → IfSome (label_at new k) (λ l. FitsSlot i l k)) (sym is) at within
+]
+
+pub FitBelow-whole : (images : List Image) (i : Identity) (n : ℕ) → length images ≤ n → FitBelow images i n → Fit images i
+FitBelow-whole images i n all fit d within = elim (cases_lt d n) [
+  | inl below ↦ fit d below within
+  | inr past ↦ rw (none_past image_label images d (omega (arith, past, all))) tt
+]
+
+pub misfit_kept : (old new : List Image) → map image_misfit new ≡ map image_misfit old → (d : ℕ) × IsSome (misfit_at old d) → (d : ℕ) × IsSome (misfit_at new d)
+misfit_kept old new same (d, is) = (d, subst (λ (misfits : List (Option _)). IsSome (get_or misfits d None)) (sym same) is)
+
+-- what a walk knows that asks each image whether it fits
+pub record FitsSoFar (start now : List Image) (i : Identity) (n : ℕ) (fits : Bool) : Type 0 where
+  pub look : IsLook start now
+  pub labels : map image_label now ≡ map image_label start
+  pub fit : fits ≡ true → FitBelow now i n
+  pub misfit : fits ≡ false → (d : ℕ) × IsSome (misfit_at now d)
+
+pub FitsSoFar-none : (start : List Image) (i : Identity) → FitsSoFar start start i 0 true
+FitsSoFar-none start i = record {
+  look = record { slots = refl; hindrances = refl };
+  labels = refl;
+  fit = λ _ d below. absurd (omega (arith, below));
+  misfit = λ e. absurd (false≢true (sym e));
+}
+
+pub FitsSoFar-next : (start old new : List Image) (i : Identity) (n : ℕ) (fits result : Bool) → FitsSoFar start old i n fits → IsLook old new
+    → map image_label new ≡ map image_label old
+    → (result ≡ true → n < i.disks → IfSome (label_at new n) (λ l. FitsSlot i l n))
+    → (result ≡ true → map image_misfit new ≡ map image_misfit old)
+    → (result ≡ false → IsSome (misfit_at new n)) → FitsSoFar start new i (n + 1) (fits && result)
+FitsSoFar-next start old new i n true true so look labels fit same misfit = record {
+  look = IsLook-then start old new so.look look;
+  labels = labels ∙ so.labels;
+  fit = λ _. FitBelow-next old new i n labels (so.fit refl) (fit refl);
+  misfit = λ e. absurd (false≢true (sym e));
+}
+FitsSoFar-next start old new i n false true so look labels fit same misfit = record {
+  look = IsLook-then start old new so.look look;
+  labels = labels ∙ so.labels;
+  fit = λ e. absurd (false≢true e);
+  misfit = λ _. misfit_kept old new (same refl) (so.misfit refl);
+}
+FitsSoFar-next start old new i n true false so look labels fit same misfit = record {
+  look = IsLook-then start old new so.look look;
+  labels = labels ∙ so.labels;
+  fit = λ e. absurd (false≢true e);
+  misfit = λ _. (n, misfit refl);
+}
+FitsSoFar-next start old new i n false false so look labels fit same misfit = record {
+  look = IsLook-then start old new so.look look;
+  labels = labels ∙ so.labels;
+  fit = λ e. absurd (false≢true e);
+  misfit = λ _. (n, misfit refl);
+}
+
+-- one slot more of which nothing is told
+pub none_next : {A : Type 0} (told : ℕ → Option A) (n : ℕ) → ((d : ℕ) → d < n → told d ≡ None) → told n ≡ None → (d : ℕ) → d < n + 1 → told d ≡ None
+none_next told n before at d below = elim (cases_lt d n) [
+  | inl less ↦ before d less
+  | inr past ↦ let is : d ≡ n = omega (arith, below, past) in ap told is ∙ at
+]
+
+abbrev shown : Option (List ℕ × ℕ) → List ℕ × ℕ
+shown o = unwrap_or o ([], 0)
+
+-- what takes over the array that one of the labels says is named by it
+pub IsNamed-by : (labels : ℕ → Option Label) (l : Label) (i : Identity) → IsOneOf labels l → array_of (Some i) ≡ Some (l.array, l.disks) → IsNamed labels i
+IsNamed-by labels l i (d, (below, is)) same = (d, (below, rw is (sym (ap (λ (o : Option (List ℕ × ℕ)). (shown o).0) same), sym (ap (λ (o : Option (List ℕ × ℕ)). (shown o).1) same))))
+
+pub IsNamed-same : (labels : ℕ → Option Label) (old new : Identity) → array_of (Some new) ≡ array_of (Some old) → IsNamed labels old → IsNamed labels new
+IsNamed-same labels old new same (d, (below, is)) = (d, (below, subst (λ (o : Option (List ℕ × ℕ)). IsSomeAnd (labels d) (λ l. (l.array ≡ (shown o).0) × (l.disks ≡ (shown o).1))) (sym same) is))
+
+unnamed_by : (labels : ℕ → Option Label) (at : ℕ → Option Label) → ((d : ℕ) → d < 8 → labels d ≡ at d) → AreUnnamed labels → AreUnnamed at
+unnamed_by labels at is none d below = subst (λ (o : Option Label). IfSome o (λ l. l.disks ≤ d)) (is d below) (none d below)
+
+named_by : (labels : ℕ → Option Label) (at : ℕ → Option Label) (i : Identity) → ((d : ℕ) → d < 8 → labels d ≡ at d) → IsNamed labels i → IsNamed at i
+named_by labels at i is (d, (below, so)) = (d, (below, subst (λ (o : Option Label). IsSomeAnd o (λ l. (l.array ≡ i.array) × (l.disks ≡ i.disks))) (is d below) so))
+
+-- what was read names the array, and each label fits
+pub IsFitting-by : (labels : List (Option Label)) (read now : List Image) (i : Identity) (known : Option Identity) → Names (label_in labels) (Some i)
+    → ((d : ℕ) → d < 8 → label_in labels d ≡ label_at read d) → map image_label now ≡ map image_label read → known ≡ Some i → Fit now i
+    → AreUnnamed (label_at now) ⊎ IsSomeAnd known (λ j. IsNamed (label_at now) j × Fit now j)
+IsFitting-by labels read now i known names is same known_is fit =
+    let at : (d : ℕ) → d < 8 → label_in labels d ≡ label_at now d = (λ d below. is d below ∙ sym (ap (λ (l : List (Option Label)). get_or l d None) same)) in
+    elim names [
+      | inl none ↦ inl (unnamed_by (label_in labels) (label_at now) at none)
+      | inr named ↦ inr (subst (λ (o : Option Identity). IsSomeAnd o (λ j. IsNamed (label_at now) j × Fit now j)) (sym known_is) (named_by (label_in labels) (label_at now) i at named, fit))
+    ]

@@ -1,0 +1,60 @@
+-- What labels say of an image and of its array.
+use Rattle.std.specs.Prelude.{◌≡◌, ◌≢◌, ◌<◌, ◌≤◌, ◌⊎◌, ℕ, List, Option, None, Some, IfSome, IsSomeAnd, option_map, slice_index, slice_index_or}
+use Rattle.paraid_imgrack.specs.declared.identity.Identity.{Identity}
+use Rattle.paraid_imgrack.specs.declared.identity.Misfit.{Misfit}
+use Rattle.paraid_imgrack.specs.declared.identity.Misfit.TheVariants.{Moved, Foreign, Old, New}
+use Rattle.paraid_imgrack.specs.declared.label.Label.{Label}
+use Rattle.paraid_imgrack.specs.declared.tail.Tail.{Tail}
+use Rattle.paraid_imgrack.specs.declared.tail.Tail.TheVariants.{Room, Label as HasLabel, Other}
+use Rattle.paraid_rack.specs.declared.call.Power.{Power}
+use Rattle.paraid_rack.specs.declared.call.Power.TheVariants.{Spinning, Parked, Absent}
+
+-- Which array is known, and how many disks it has: where this stays, a known array is not forgotten.
+abbrev pub array_of : Option Identity → Option (List ℕ × ℕ)
+array_of known = option_map (λ (i : Identity). (i.array, i.disks)) known
+
+-- An image with this label belongs into this slot: it is of the array and of the slot, and no older than it is known to be.
+pub record FitsSlot (i : Identity) (l : Label) (slot : ℕ) : Type 0 where
+  pub array : l.array ≡ i.array
+  pub disk : l.disk ≡ slot
+  pub age : slot < 8 → slice_index i.known slot ≤ l.generation
+
+-- that an image with this label belongs into this slot, or why it does not
+abbrev pub Suits : Identity → Label → ℕ → Option Misfit → Type 0
+Suits i l slot None = FitsSlot i l slot
+Suits i l slot (Some Foreign) = l.array ≢ i.array
+Suits i l slot (Some (Moved disk)) = (disk ≡ l.disk) × (l.disk ≢ slot)
+Suits i l slot (Some (Old generation known)) = (generation ≡ l.generation) × ((generation < known) × (slot < 8 → known ≡ slice_index i.known slot))
+Suits i l slot (Some (New generation)) = ⊥
+
+-- the label behind the blocks
+abbrev pub label_of : Tail → Option Label
+label_of Room = None
+label_of (HasLabel l) = Some l
+label_of Other = None
+
+-- the same of an image with this power: of one that spins alone it is read
+abbrev pub read_label_of : Power → Tail → Option Label
+read_label_of Spinning tail = label_of tail
+read_label_of Parked tail = None
+read_label_of Absent tail = None
+
+-- the label of a slot
+abbrev pub label_in : List (Option Label) → ℕ → Option Label
+label_in labels d = slice_index_or labels d None
+
+-- no label says that its slot is one of its array
+abbrev pub AreUnnamed : (ℕ → Option Label) → Type 0
+AreUnnamed labels = (d : ℕ) → d < 8 → IfSome (labels d) (λ l. l.disks ≤ d)
+
+-- one of the labels says that this is the array, and how many disks it has
+abbrev pub IsNamed : (ℕ → Option Label) → Identity → Type 0
+IsNamed labels i = (d : ℕ) × ((d < 8) × IsSomeAnd (labels d) (λ l. (l.array ≡ i.array) × (l.disks ≡ i.disks)))
+
+-- what is known of the array by its labels, where there is any
+abbrev pub Names : (ℕ → Option Label) → Option Identity → Type 0
+Names labels known = AreUnnamed labels ⊎ IsSomeAnd known (IsNamed labels)
+
+-- one of the labels
+abbrev pub IsOneOf : (ℕ → Option Label) → Label → Type 0
+IsOneOf labels l = (d : ℕ) × ((d < 8) × (labels d ≡ Some l))
