@@ -219,6 +219,9 @@ fn claimed<H: Host>(rt: &H, rack: &mut ImageRack<&H>) -> Option<u8> {
         Claim::Image => eprintln!(rt;
             "paraid: disk-{disk}.img is of an array; --force writes over it"
         ),
+        Claim::Data => eprintln!(rt;
+            "paraid: disk-{disk}.img holds data; --force writes over it"
+        ),
         Claim::Unread => eprintln!(rt;
             "paraid: disk-{disk}.img cannot be read; --force writes over it"
         ),

@@ -6,10 +6,11 @@ ghost use Rattle.paraid_imgrack.specs.Labels.{array_of, label_of};
 ghost use Rattle.paraid_rack.specs.declared.call.Power.TheVariants.{Spinning, Parked, Absent};
 
 use crate::found::{Found, find, is_locked, is_want_of_room};
+use crate::fresh::{create_image, holds_data, is_of_another_array};
 use crate::identity::{Identity, Misfit};
 use crate::label::Label;
 use crate::power::Names;
-use crate::tail::{Tail, keep_room, read_tail, write_label};
+use crate::tail::{Tail, read_tail, write_label};
 use paraid_base::{BLOCK_SIZE, Block, DiskNo, Failed, NoMemory, Place};
 use paraid_rack::Power;
 use std::alloc::Global;
@@ -34,6 +35,8 @@ pub enum Hindrance {
 pub enum Claim {
     /// An image that has the label or the log of an array.
     Image,
+    /// A file that is no image of an array and does not hold zeros alone.
+    Data,
     /// An image that cannot be read.
     Unread,
     /// A sidecar whose image is not there.
@@ -303,7 +306,7 @@ impl Image {
     }
 
     /// The image is newer than each that has a label, also than the one that it replaces. The others
-    /// know it from the next sync on.
+    /// know it from the next sync on. An image of another array is left as it is, and the disk has failed.
     pub(crate) fn attach<F: Files<File = File>>(
         &mut self,
         files: &F,
@@ -321,6 +324,10 @@ impl Image {
         ensures known { array_of identity.new ≡ array_of identity.old }
     {
         self.file = None; // and its lock
+        if is_of_another_array(files, self.names.image.as_str(), identity) {
+            self.misfit = Some(Misfit::Foreign);
+            return Err(self.fail(files));
+        }
         match make_image(files, &self.names, size) {
             Ok(file) => self.file = Some(file),
             Err(error) => return Err(self.fail_by(files, error)),
@@ -361,7 +368,7 @@ impl Image {
 }
 
 /// The offset of a block in an image, in bytes.
-fn offset(place: Place) -> u64
+pub(crate) fn offset(place: Place) -> u64
     ensures { result ≡ place * 512 }
 {
     place as u64 * BLOCK_SIZE as u64
@@ -415,7 +422,7 @@ fn open_kept<F: Files<File = File>>(files: &F, names: &Names, power: Power) -> O
 }
 
 /// How many whole blocks a file of this many bytes has, at most `u32::MAX`.
-fn whole_blocks(length: u64) -> u32
+pub(crate) fn whole_blocks(length: u64) -> u32
     ensures { result ≡ min (length / 512) 4294967295 }
 {
     (length / BLOCK_SIZE as u64).min(u32::MAX as u64) as u32
@@ -427,41 +434,6 @@ fn make_image<F: Files<File = File>>(files: &F, names: &Names, size: u32) -> io:
     let file = create_image(files, names.image.as_str(), size)?;
     names.store(files, Power::Spinning)?;
     Ok(file)
-}
-
-/// A file of so many blocks of zeros, which the disk has when it returns. Where there is no room for
-/// it, it is left empty, and the room is given back.
-fn create_image<F: Files<File = File>>(files: &F, name: &str, size: u32) -> io::Result<File> {
-    let file = OpenOptions::new()
-        .read(true)
-        .write(true)
-        .create(true)
-        .open(files, name)?;
-    if is_locked(&file) {
-        return Err(io::Error::from(io::ErrorKind::WouldBlock));
-    }
-    file.set_len(0)?;
-    if let Err(error) = fill_image(&file, size) {
-        let _ = file.set_len(0);
-        return Err(error);
-    }
-    Ok(file)
-}
-
-/// How many blocks of zeros are written at once.
-const PIECE: u32 = 128;
-
-static ZEROS: [u8; PIECE as usize * BLOCK_SIZE] = [0; PIECE as usize * BLOCK_SIZE];
-
-/// Writes each block, so that no later write of one needs room that a full file system does not have.
-fn fill_image(file: &File, size: u32) -> io::Result<()> {
-    for piece in 0..size / PIECE {
-        file.write_all_at(&ZEROS, offset(piece * PIECE))?;
-    }
-    let rest = size % PIECE;
-    file.write_all_at(&ZEROS[..rest as usize * BLOCK_SIZE], offset(size - rest))?;
-    keep_room(file, size)?;
-    file.sync_all()
 }
 
 /// The bytes come straight into the block. After an error they are any.
@@ -590,11 +562,19 @@ fn disks_at(file: &File, size: u32, place: Place) -> io::Result<Option<u8>> {
     Ok(None)
 }
 
-/// Whether an image has the label of an array, or a log, or may have them since it cannot be read.
+/// Whether an image has the label of an array, or a log, or other data, or may have them since it cannot be read.
 fn claim_of(file: &Option<File>) -> Option<Claim> {
     let file = file.as_ref()?;
     match is_of_array(file) {
         Ok(true) => Some(Claim::Image),
+        Ok(false) => claim_by_data(file),
+        Err(_) => Some(Claim::Unread),
+    }
+}
+
+fn claim_by_data(file: &File) -> Option<Claim> {
+    match holds_data(file) {
+        Ok(true) => Some(Claim::Data),
         Ok(false) => None,
         Err(_) => Some(Claim::Unread),
     }

@@ -7,6 +7,7 @@
 
 mod closed;
 mod found;
+mod fresh;
 mod identity;
 mod image;
 mod label;

@@ -1,0 +1,104 @@
+//! What stands in the place of a new image, and how that is made.
+ghost use Rattle.std.specs.Prelude.{◌+◌, ◌<◌, ◌^◌};
+
+use crate::found::{Found, find, is_locked};
+use crate::identity::Identity;
+use crate::image::{offset, whole_blocks};
+use crate::tail::{Tail, keep_room, read_tail};
+use paraid_base::BLOCK_SIZE;
+use std::fs::{self, File, Files, OpenOptions};
+use std::io;
+use std::os::unix::fs::FileExt;
+
+/// Whether the image in the place of a new one has the label of another array than this.
+pub(crate) fn is_of_another_array<F: Files<File = File>>(
+    files: &F,
+    name: &str,
+    identity: &Option<Identity>,
+) -> bool {
+    let Some(identity) = identity else {
+        return false;
+    };
+    let Found::Open(file) = find(files, name) else {
+        return false;
+    };
+    let Ok(found) = file.metadata() else {
+        return false;
+    };
+    match read_tail(&file, whole_blocks(found.len())) {
+        Ok(Tail::Label(label)) => label.array != identity.array,
+        _ => false,
+    }
+}
+
+/// A file of so many blocks of zeros, which the disk has when it returns. Where there is no room for
+/// it, it is left empty, and the room is given back. Through a link that leads nowhere, as to a drive
+/// that is not mounted, no file is made.
+pub(crate) fn create_image<F: Files<File = File>>(
+    files: &F,
+    name: &str,
+    size: u32,
+) -> io::Result<File> {
+    let is_there = fs::symlink_metadata(files, name).is_ok();
+    let file = OpenOptions::new()
+        .read(true)
+        .write(true)
+        .create(!is_there)
+        .open(files, name)?;
+    if is_locked(&file) {
+        return Err(io::Error::from(io::ErrorKind::WouldBlock));
+    }
+    file.set_len(0)?;
+    if let Err(error) = fill_image(&file, size) {
+        let _ = file.set_len(0);
+        return Err(error);
+    }
+    Ok(file)
+}
+
+/// How many blocks of zeros are written at once.
+const PIECE: u32 = 128;
+
+static ZEROS: [u8; PIECE as usize * BLOCK_SIZE] = [0; PIECE as usize * BLOCK_SIZE];
+
+/// Writes each block, so that no later write of one needs room that a full file system does not have.
+fn fill_image(file: &File, size: u32) -> io::Result<()> {
+    for piece in 0..size / PIECE {
+        file.write_all_at(&ZEROS, offset(piece * PIECE))?;
+    }
+    let rest = size % PIECE;
+    file.write_all_at(&ZEROS[..rest as usize * BLOCK_SIZE], offset(size - rest))?;
+    keep_room(file, size)?;
+    file.sync_all()
+}
+
+/// How many bytes at each end of a file are looked at: there file systems, tables of partitions and
+/// other arrays have their marks.
+const END: u64 = 1 << 20;
+
+/// How many bytes are read at once.
+const STEP: u64 = 4096;
+
+/// Whether a file has another byte than zero in its first or its last MiB.
+pub(crate) fn holds_data(file: &File) -> io::Result<bool> {
+    let length = file.metadata()?.len();
+    let end = length.min(END);
+    Ok(has_bytes(file, 0, end)? || has_bytes(file, length - end, end)?)
+}
+
+/// Whether one of so many bytes from a place on is not zero.
+fn has_bytes(file: &File, from: u64, count: u64) -> io::Result<bool>
+    requires { from + count < 2 ^ 64 }
+{
+    let mut bytes = [0; STEP as usize];
+    for step in 0..count / STEP {
+        file.read_exact_at(&mut bytes, from + step * STEP)?;
+        if &bytes[..] != &ZEROS[..STEP as usize] {
+            return Ok(true);
+        }
+    }
+    let rest = count % STEP;
+    let bytes = &mut bytes[..rest as usize];
+    file.read_exact_at(bytes, from + (count - rest))?;
+    Ok(&*bytes != &ZEROS[..rest as usize])
+}
