@@ -2,7 +2,7 @@
 ghost use Rattle.std.specs.Prelude.{◌≡◌, ◌≢◌, ℕ, ◌*◌, ◌/◌, ◌<◌, min, true, false, length, slice_index, None, Some, IfOk, IfSome, OnOk};
 ghost use Rattle.paraid_base.specs.Told.{HasRisen};
 ghost use Rattle.paraid_imgrack.specs.declared.tail.Tail.TheVariants.{Other};
-ghost use Rattle.paraid_imgrack.specs.Labels.{array_of, label_of};
+ghost use Rattle.paraid_imgrack.specs.Labels.{FitsSlot, array_of, label_of};
 ghost use Rattle.paraid_rack.specs.declared.call.Power.TheVariants.{Spinning, Parked, Absent};
 
 use crate::found::{Found, find, is_locked, is_want_of_room};
@@ -273,30 +273,54 @@ impl Image {
         requires { (image_slot self.old).power ≡ Parked }
         ensures slot { Becomes (image_slot self.old) (image_slot self.new)
             (record (image_slot self.old) { power = Spinning }) false (is_ok result) }
+        ensures fits { OnOk result (IfSome identity.old (λ i. disk < i.disks
+            → IfSome (label_of self.new.tail) (λ l. FitsSlot i l disk))) }
         ensures known { array_of identity.new ≡ array_of identity.old }
     {
-        if let Some(identity) = identity {
-            match tail_of(&self.file, self.size) {
-                Ok(tail) => self.tail = tail,
-                Err(error) => return Err(self.fail_by(files, error)),
+        match identity {
+            Some(identity) => {
+                self.look(files, identity, disk)?;
+                self.switch(files, Power::Spinning)
             }
-            self.misfit = identity.late_misfit_of(&label_in(&self.tail), disk);
-            if self.misfit.is_some() {
-                return Err(self.fail(files));
-            }
-            if let Err(error) = mark_image(&self.file, self.size, &self.tail, identity, disk) {
-                return Err(self.fail_by(files, error));
-            }
+            None => self.switch(files, Power::Spinning),
         }
-        self.switch(files, Power::Spinning)
+    }
+
+    /// Reads the label of a parked image, and gives it the one of this generation if it fits.
+    fn look<F: Files<File = File>>(
+        &mut self,
+        files: &F,
+        identity: &mut Identity,
+        disk: DiskNo,
+    ) -> Result<(), Failed>
+        requires { (image_slot self.old).power ≡ Parked }
+        ensures slot { Becomes (image_slot self.old) (image_slot self.new) (image_slot self.old)
+            false (is_ok result) }
+        ensures fits { OnOk result (disk < identity.old.disks
+            → IfSome (label_of self.new.tail) (λ l. FitsSlot identity.old l disk)) }
+        ensures known { array_of (Some identity.new) ≡ array_of (Some identity.old) }
+    {
+        match tail_of(&self.file, self.size) {
+            Ok(tail) => self.tail = tail,
+            Err(error) => return Err(self.fail_by(files, error)),
+        }
+        self.misfit = identity.late_misfit_of(&label_in(&self.tail), disk);
+        if self.misfit.is_some() {
+            return Err(self.fail(files));
+        }
+        match mark_image(&self.file, self.size, &self.tail, identity, disk) {
+            Ok(()) => Ok(()),
+            Err(error) => Err(self.fail_by(files, error)),
+        }
     }
 
     /// A synced disk gets this power.
     fn switch<F: Files<File = File>>(&mut self, files: &F, power: Power) -> Result<(), Failed>
         requires present { power ≢ Absent }
         requires synced { (image_slot self.old).unsynced ≡ false }
-        ensures { Becomes (image_slot self.old) (image_slot self.new)
+        ensures slot { Becomes (image_slot self.old) (image_slot self.new)
             (record (image_slot self.old) { power = power }) false (is_ok result) }
+        ensures kept { OnOk result (self.new.tail ≡ self.old.tail) }
     {
         match self.names.store(files, power) {
             Ok(()) => self.power = power,
