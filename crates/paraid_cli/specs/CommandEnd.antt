@@ -24,9 +24,13 @@ EndsWithStreams slots slot c status = (source : SourceUse) × (sink : SinkUse) �
 abbrev pub IsOwnStatus : ℕ → Type 0
 IsOwnStatus status = IsOneOf (3 ∷ 4 ∷ 6 ∷ 7 ∷ 16 ∷ []) status
 
--- The status is the edge's own, or the command that the words ask for ended with it over some rack.
-abbrev pub EndsAsked : List (List ℕ) → ℕ → Type 0
-EndsAsked words status = (c : Command) → AskFor c words → IsOwnStatus status ⊎ ((slots : ℕ) × (slot : ℕ → Slot) × EndsWithStreams slots slot c status)
+-- the same over some slots
+abbrev pub EndsWithSlots : Command → ℕ → Type 0
+EndsWithSlots c status = (slots : ℕ) × (slot : ℕ → Slot) × EndsWithStreams slots slot c status
+
+-- The status is the edge's own, or the command that the words ask for ended with it.
+abbrev pub EndsAsked : (Command → ℕ → Type 0) → List (List ℕ) → ℕ → Type 0
+EndsAsked ended words status = (c : Command) → AskFor c words → IsOwnStatus status ⊎ ended c status
 
 -- Words that ask for no command ended with this status: they were answered, the output failed, or there was no memory.
 abbrev pub EndsUnasked : List (List ℕ) → ℕ → Type 0

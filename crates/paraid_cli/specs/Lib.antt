@@ -1,1 +1,2 @@
 pub mod CommandEnd
+pub mod Ready

@@ -1,18 +1,19 @@
 //! What stands between the program and the system: no stream may become an image, one command works
 //! in a folder, and images that are there and do not belong or cannot be opened are not taken for
 //! lost ones.
-ghost use Rattle.std.specs.Prelude.{◌≡◌, ◌⊎◌, IfOk, map, string_bytes};
-ghost use Rattle.paraid_cli.specs.CommandEnd.{EndsAsked, EndsUnasked, EndsWithStreams, IsOwnStatus};
+ghost use Rattle.std.specs.Prelude.{◌≡◌, ◌⊎◌, ◌<◌, ℕ, None, IfNone, map, string_bytes};
+ghost use Rattle.paraid_cli.specs.CommandEnd.{EndsAsked, EndsUnasked, IsOwnStatus};
+ghost use Rattle.paraid_cli.specs.Ready.{IsReady, IsSound, IsWhole};
+ghost use Rattle.paraid_imgrack.specs.Images.{misfit_at};
+ghost use Rattle.paraid_imgrack.specs.Looks.{images_of, IsUnhindered};
 ghost use Rattle.paraid_words.specs.Words.{AskFor};
 ghost use Rattle.paraid_words.specs.declared.command.Command.{Command as CommandType};
 
-use crate::logs::hold_array;
-use crate::served::{SLOTS, serve_gathered};
+use crate::program::Program;
+use crate::served::SLOTS;
 use paraid_base::NoMemory;
 use paraid_imgrack::{Claim, Hindrance, ImageRack};
-use paraid_io::{StdSink, StdSource};
 use paraid_program::Ended;
-use paraid_rack::Rack;
 use paraid_serve::status;
 use paraid_words::{Command, read_words};
 use std::fs::{self, File, Files};
@@ -56,19 +57,32 @@ impl Folder {
 }
 
 /// Does what the words ask for with the images of the current folder, and gives the status.
-pub(crate) fn answer_words<H: Host>(rt: &H, words: &Vec<String>) -> u8
-    ensures asked { EndsAsked (map string_bytes words.now.items) result }
+pub(crate) fn answer_words<'a, H: Host, P: Program<&'a H>>(
+    rt: &'a H,
+    program: &P,
+    words: &Vec<String>,
+) -> u8
+    ensures asked { EndsAsked (P.ended program.now) (map string_bytes words.now.items) result }
     ensures unasked { EndsUnasked (map string_bytes words.now.items) result }
 {
     match read_words(words) {
-        Some(command) => work(rt, words, &command),
-        None => tell_words(rt, words),
+        Some(command) => work(rt, program, words, &command),
+        None => match program.tell(words) {
+            Ok(status) => status,
+            Err(NoMemory) => status::NO_MEMORY,
+        },
     }
 }
 
 /// Does the command that the words ask for, unless another one works here or a stream is closed.
-fn work<H: Host>(rt: &H, words: &Vec<String>, command: &Command) -> u8
-    ensures { EndsAsked (map string_bytes words.now.items) result }
+fn work<'a, H: Host, P: Program<&'a H>>(
+    rt: &'a H,
+    program: &P,
+    words: &Vec<String>,
+    command: &Command,
+) -> u8
+    requires { (c : CommandType) → AskFor c (map string_bytes words.now.items) → c ≡ command.now }
+    ensures { EndsAsked (P.ended program.now) (map string_bytes words.now.items) result }
 {
     let Ok(folder) = Folder::open(rt) else {
         return work_nowhere(rt, command);
@@ -83,25 +97,7 @@ fn work<H: Host>(rt: &H, words: &Vec<String>, command: &Command) -> u8
         let _ = eprintln!(rt; "paraid: another command works in this folder");
         return BUSY;
     }
-    work_there(rt, words, command)
-}
-
-/// Answers words that are no command. The program tells which there are, and touches no image.
-fn tell_words<H: Host>(rt: &H, words: &Vec<String>) -> u8
-    ensures { EndsUnasked (map string_bytes words.now.items) result }
-{
-    let Ok(rack) = ImageRack::load(rt, rt.alloc(), 0) else {
-        return status::NO_MEMORY;
-    };
-    match serve(rt, words, rack) {
-        Ok(
-            Ended {
-                status,
-                rack: _rack,
-            },
-        ) => status,
-        Err(NoMemory) => status::NO_MEMORY,
-    }
+    work_there(rt, program, words, command)
 }
 
 /// Whether a command reads the standard input.
@@ -143,8 +139,14 @@ fn work_nowhere<H: Host>(rt: &H, command: &Command) -> u8
     }
 }
 
-fn work_there<H: Host>(rt: &H, words: &Vec<String>, command: &Command) -> u8
-    ensures { EndsAsked (map string_bytes words.now.items) result }
+fn work_there<'a, H: Host, P: Program<&'a H>>(
+    rt: &'a H,
+    program: &P,
+    words: &Vec<String>,
+    command: &Command,
+) -> u8
+    requires { (c : CommandType) → AskFor c (map string_bytes words.now.items) → c ≡ command.now }
+    ensures { EndsAsked (P.ended program.now) (map string_bytes words.now.items) result }
 {
     let Ok(mut rack) = ImageRack::load(rt, rt.alloc(), SLOTS) else {
         return status::NO_MEMORY;
@@ -152,10 +154,10 @@ fn work_there<H: Host>(rt: &H, words: &Vec<String>, command: &Command) -> u8
     if let Some((disk, hindrance)) = hindrance_of(&rack, command) {
         return tell_hindrance(rt, command, disk, hindrance);
     }
-    if let Some(disk) = refused(rt, &mut rack, command) {
+    if let Some(disk) = refused(rt, program, &mut rack, command) {
         return refuse(rt, command, disk);
     }
-    let Ok(Ended { status, mut rack }) = serve(rt, words, rack) else {
+    let Ok(Ended { status, mut rack }) = program.serve(words, rack) else {
         return status::NO_MEMORY;
     };
     match command {
@@ -163,12 +165,14 @@ fn work_there<H: Host>(rt: &H, words: &Vec<String>, command: &Command) -> u8
         Command::Format { .. } => (),
         _ => rack.end_load(),
     }
-    let _ = tell_misfits(rt, &rack);
-    tell_causes(rt, &rack);
+    let _ = tell_misfits(rt, rack.images());
+    tell_causes(rt, rack.images());
     status
 }
 
-fn hindrance_of<H: Host>(rack: &ImageRack<&H>, command: &Command) -> Option<(u8, Hindrance)> {
+fn hindrance_of<H: Host>(rack: &ImageRack<&H>, command: &Command) -> Option<(u8, Hindrance)>
+    ensures { IfNone result (IsUnhindered rack.now) }
+{
     match command {
         Command::Format { .. } => rack.hinders_attach(),
         _ => rack.hindrance(),
@@ -199,22 +203,32 @@ fn tell_hindrance<H: Host>(rt: &H, command: &Command, disk: u8, hindrance: Hindr
 }
 
 /// The first image for which the command is refused. Why is told.
-fn refused<H: Host>(rt: &H, rack: &mut ImageRack<&H>, command: &Command) -> Option<u8> {
+fn refused<'a, H: Host, P: Program<&'a H>>(
+    rt: &'a H,
+    program: &P,
+    rack: &mut ImageRack<&'a H>,
+    command: &Command,
+) -> Option<u8>
+    requires { IsWhole rack.old }
+    ensures { IfNone result (IsReady (P.free program.now) command.now rack.new) }
+{
     match command {
         Command::Format { force: true } => None,
-        Command::Format { force: false } => claimed(rt, rack),
-        _ if rack.has_fitting_images() => None,
-        _ => tell_misfits(rt, rack),
+        Command::Format { force: false } => claimed(rt, program, rack),
+        _ => unfit(rt, rack),
     }
 }
 
-/// The first image that a new array would write over. An array whose log can be read is told by the
-/// program itself.
-fn claimed<H: Host>(rt: &H, rack: &mut ImageRack<&H>) -> Option<u8> {
-    let (disk, claim) = rack.claim()?;
-    if hold_array(rack) {
-        return None;
-    }
+/// The first image that a new array would write over.
+fn claimed<'a, H: Host, P: Program<&'a H>>(
+    rt: &'a H,
+    program: &P,
+    rack: &mut ImageRack<&'a H>,
+) -> Option<u8>
+    requires { IsWhole rack.old }
+    ensures { IfNone result (P.free program.now (images_of rack.new)) }
+{
+    let (disk, claim) = program.claimed(rack)?;
     let _ = match claim {
         Claim::Image => eprintln!(rt;
             "paraid: disk-{disk}.img is of an array; --force writes over it"
@@ -232,16 +246,34 @@ fn claimed<H: Host>(rt: &H, rack: &mut ImageRack<&H>) -> Option<u8> {
     Some(disk)
 }
 
+/// The first image that does not belong into its slot.
+fn unfit<H: Host>(rt: &H, rack: &mut ImageRack<&H>) -> Option<u8>
+    requires { IsWhole rack.old }
+    ensures { IfNone result (IsSound rack.new) }
+{
+    if rack.has_fitting_images() {
+        return None;
+    }
+    tell_misfits(rt, rack)
+}
+
 /// Tells which images do not belong into their slots, and gives the first.
-fn tell_misfits<H: Host>(rt: &H, rack: &ImageRack<&H>) -> Option<u8> {
+fn tell_misfits<H: Host>(rt: &H, rack: &ImageRack<&H>) -> Option<u8>
+    ensures { IfNone result ((d : ℕ) → d < 8 → misfit_at (images_of rack.now) d ≡ None) }
+{
     let mut first = None;
     for disk in 0..SLOTS {
-        if let Some(misfit) = rack.misfit(disk) {
-            let _ = eprintln!(rt; "paraid: disk-{disk}.img {misfit}");
-            first = first.or(Some(disk));
-        }
+        first = first.or(tell_misfit(rt, rack, disk));
     }
     first
+}
+
+fn tell_misfit<H: Host>(rt: &H, rack: &ImageRack<&H>, disk: u8) -> Option<u8>
+    ensures { IfNone result (misfit_at (images_of rack.now) disk ≡ None) }
+{
+    let misfit = rack.misfit(disk)?;
+    let _ = eprintln!(rt; "paraid: disk-{disk}.img {misfit}");
+    Some(disk)
 }
 
 /// Tells why disks have failed.
@@ -264,20 +296,4 @@ fn refuse<H: Host>(rt: &H, command: &Command, disk: u8) -> u8
         Ok(()) => status::NOT_AN_ARRAY,
         Err(_) => status::SINK,
     }
-}
-
-/// Hands the program the standard streams and this rack.
-fn serve<'a, H: Host>(
-    rt: &'a H,
-    words: &Vec<String>,
-    rack: ImageRack<&'a H>,
-) -> Result<Ended<ImageRack<&'a H>>, NoMemory>
-    ensures told { IfOk result (λ ended. (c : CommandType) → AskFor c (map string_bytes words.now.items)
-        → EndsWithStreams (⟦<ImageRack<&'a H> as Rack>⟧.slot_count rack.entry)
-        (⟦<ImageRack<&'a H> as Rack>⟧.slot rack.entry) c ended.status) }
-    ensures words { IfOk result (λ ended. EndsUnasked (map string_bytes words.now.items) ended.status) }
-{
-    let mut source = StdSource::new(rt.reader());
-    let mut sink = StdSink::new(io::writer(rt));
-    serve_gathered(rt.alloc(), words, &mut source, &mut sink, rack)
 }

@@ -3,8 +3,11 @@
 
 mod edge;
 mod logs;
+mod program;
 mod served;
+mod streams;
 
+use crate::streams::Standard;
 use paraid_serve::status;
 use std::process::ExitCode;
 use std::{env, io};
@@ -23,5 +26,5 @@ fn main(rt: HostRuntime) -> ExitCode {
         Err(error) if error.kind() == io::ErrorKind::InvalidData => {}
         Err(_) => return ExitCode::from(status::NO_MEMORY),
     }
-    ExitCode::from(edge::answer_words(&rt, &words))
+    ExitCode::from(edge::answer_words(&rt, &Standard { rt: &rt }, &words))
 }

@@ -1,0 +1,31 @@
+-- With which rack a command may be served.
+use Rattle.std.specs.Prelude.{◌≡◌, ℕ, List, length, false, true}
+use Rattle.paraid_imgrack.specs.declared.image.Image.{Image}
+use Rattle.paraid_imgrack.specs.declared.rack.ImageRack.{ImageRack}
+use Rattle.paraid_imgrack.specs.Looks.{images_of, IsFitting, IsUnhindered, IsUntouched}
+use Rattle.paraid_words.specs.declared.command.Command.{Command}
+use Rattle.paraid_words.specs.declared.command.Command.TheVariants.{Format, Run, Spare, Status, Check, Gen, Nbd, Vol, Plan}
+
+-- all slots are there, no disk was touched since the load, and each disk that is there can be served
+pub record IsWhole {F : Type 0} (rack : ImageRack F) : Type 0 where
+  pub slots : length (images_of rack) ≡ 8
+  pub untouched : IsUntouched rack
+  pub unhindered : IsUnhindered rack
+
+-- the same, and each image is one of its slot
+pub record IsSound {F : Type 0} (rack : ImageRack F) : Type 0 where
+  pub whole : IsWhole rack
+  pub fitting : IsFitting rack
+
+-- A new array is made only where it may be, or where that is forced; all else needs images that are of their slots.
+abbrev pub IsReady : {F : Type 0} → (List Image → Type 0) → Command → ImageRack F → Type 0
+IsReady free (Format false) rack = free (images_of rack)
+IsReady free (Format true) rack = IsWhole rack
+IsReady free Run rack = IsSound rack
+IsReady free (Spare stock wait) rack = IsSound rack
+IsReady free Status rack = IsSound rack
+IsReady free Check rack = IsSound rack
+IsReady free (Gen number lines) rack = IsSound rack
+IsReady free Nbd rack = IsSound rack
+IsReady free Vol rack = IsSound rack
+IsReady free (Plan ups) rack = IsSound rack
