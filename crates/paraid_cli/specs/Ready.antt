@@ -1,18 +1,18 @@
 -- With which rack a command may be served.
-use Rattle.std.specs.Prelude.{◌≡◌, ℕ, List, length, false, true}
+use Rattle.std.specs.Prelude.{◌≡◌, List, length, false, true}
 use Rattle.paraid_imgrack.specs.declared.image.Image.{Image}
 use Rattle.paraid_imgrack.specs.declared.rack.ImageRack.{ImageRack}
-use Rattle.paraid_imgrack.specs.Looks.{images_of, IsFitting, IsUnhindered, IsUntouched}
+use Rattle.paraid_imgrack.specs.Looks.{images_of, IsFitting, IsUnhindered, IsUncalled}
 use Rattle.paraid_words.specs.declared.command.Command.{Command}
 use Rattle.paraid_words.specs.declared.command.Command.TheVariants.{Format, Run, Spare, Status, Check, Gen, Nbd, Vol, Plan}
 
 -- all slots are there, no disk was touched since the load, and each disk that is there can be served
 pub record IsWhole {F : Type 0} (rack : ImageRack F) : Type 0 where
   pub slots : length (images_of rack) ≡ 8
-  pub untouched : IsUntouched rack
+  pub untouched : IsUncalled rack
   pub unhindered : IsUnhindered rack
 
--- the same, and each image is one of its slot
+-- The rack is whole, and each image is one of its slot.
 pub record IsSound {F : Type 0} (rack : ImageRack F) : Type 0 where
   pub whole : IsWhole rack
   pub fitting : IsFitting rack

@@ -233,9 +233,7 @@ fn claimed<'a, H: Host, P: Program<&'a H>>(
         Claim::Image => eprintln!(rt;
             "paraid: disk-{disk}.img is of an array; --force writes over it"
         ),
-        Claim::Data => eprintln!(rt;
-            "paraid: disk-{disk}.img holds data; --force writes over it"
-        ),
+        Claim::Data => eprintln!(rt; "paraid: disk-{disk}.img holds data; --force writes over it"),
         Claim::Unread => eprintln!(rt;
             "paraid: disk-{disk}.img cannot be read; --force writes over it"
         ),

@@ -1,54 +1,52 @@
 //! The program over a rack whose writes are gathered. All that it wrote is in the files when it returns.
-ghost use Rattle.std.specs.Prelude.{IfOk, map, string_bytes};
+ghost use Rattle.std.specs.Prelude.{◌≡◌, IfOk, Some, map, string_bytes};
 ghost use Rattle.paraid_cli.specs.CommandEnd.{EndsCommand};
+ghost use Rattle.paraid_gather.specs.Above.{told_above};
+ghost use Rattle.paraid_rack.specs.Trail.{Trail};
 ghost use Rattle.paraid_serve.specs.Ending.{EndsWithLine};
 ghost use Rattle.paraid_serve.specs.Streams.{sink_use, source_use};
 ghost use Rattle.paraid_words.specs.Words.{AskFor, usage_line};
 ghost use Rattle.paraid_words.specs.declared.command.Command.{Command as CommandType};
 
 use paraid_base::NoMemory;
-use paraid_gather::{BulkRack, Gathered};
+use paraid_gather::{BulkRack, Finished, Gathered, Noted};
 use paraid_io::{Sink, Source};
 use paraid_program::{Ended, paraid};
-use paraid_rack::{Power, Rack};
 use std::alloc::Global;
 
 /// The number of image files at most.
 pub(crate) const SLOTS: u8 = 8;
 
-/// Hands the program these streams and this rack, whose writes are gathered.
-pub(crate) fn serve_gathered<S: Source, K: Sink, R: BulkRack + Drop>(
+/// What a command has left: its status, the rack, in which all is written, and the log.
+#[derive(Drop)]
+pub(crate) struct Served<R, L> {
+    pub(crate) status: u8,
+    pub(crate) rack: R,
+    pub(crate) log: L,
+}
+
+/// Hands the program these streams and this rack, whose writes are gathered, and notes its calls in the
+/// log, which begins with the record that the rack has.
+pub(crate) fn serve_gathered<S: Source, K: Sink, R: BulkRack + Drop, L: Noted + Drop>(
     alloc: Global,
     words: &Vec<String>,
     source: &mut S,
     sink: &mut K,
     rack: R,
-) -> Result<Ended<R>, NoMemory>
-    ensures told { IfOk result (λ ended. (c : CommandType) → AskFor c (map string_bytes words.now.items)
+    log: L,
+) -> Result<Served<R, L>, NoMemory>
+    requires begun { (t : Trail) → L.noted log ≡ Some t → R.told rack ≡ Some t }
+    ensures told { IfOk result (λ served. (c : CommandType) → AskFor c (map string_bytes words.now.items)
         → EndsCommand (R.slot_count rack) (R.slot rack)
+        (told_above (R.told rack) (L.noted log)) (R.told served.rack) (L.noted served.log)
         (source_use S.left S.faults source.old source.new)
-        (sink_use K.written K.faults sink.old sink.new) c ended.status) }
-    ensures words { IfOk result (λ ended. ((c : CommandType)
+        (sink_use K.written K.faults sink.old sink.new) c served.status) }
+    ensures words { IfOk result (λ served. ((c : CommandType)
         → AskFor c (map string_bytes words.now.items) → ⊥)
-        → EndsWithLine (K.written sink.old) (K.written sink.new) usage_line 2 ended.status) }
+        → EndsWithLine (K.written sink.old) (K.written sink.new) usage_line 2 served.status) }
 {
-    let gathered = Gathered::new(alloc, rack)?;
-    let Ended { status, mut rack } = paraid(alloc, words, source, sink, gathered);
-    for disk in 0..SLOTS {
-        write_out(&mut rack, disk);
-    }
-    Ok(Ended {
-        status,
-        rack: rack.into_rack(),
-    })
-}
-
-/// Writes into its file what waits for a disk, if that spins.
-fn write_out<R: BulkRack + Drop>(rack: &mut Gathered<R>, disk: u8) {
-    if disk >= rack.slots() {
-        return;
-    }
-    if let Power::Spinning = rack.power(disk) {
-        let _ = rack.write_out(disk);
-    }
+    let gathered = Gathered::new(alloc, rack, log)?;
+    let Ended { status, rack } = paraid(alloc, words, source, sink, gathered);
+    let Finished { rack, log } = rack.finish();
+    Ok(Served { status, rack, log })
 }

@@ -7,8 +7,9 @@ ghost use Rattle.paraid_words.specs.declared.command.Command.{Command as Command
 use crate::edge::Host;
 use crate::logs::hold_array;
 use crate::program::Program;
-use crate::served::serve_gathered;
+use crate::served::{Served, serve_gathered};
 use paraid_base::{DiskNo, NoMemory};
+use paraid_gather::Unnoted;
 use paraid_imgrack::{Claim, Closed, ImageRack};
 use paraid_io::{StdSink, StdSource};
 use paraid_program::Ended;
@@ -74,5 +75,10 @@ fn serve<'a, H: Host>(
 {
     let mut source = StdSource::new(rt.reader());
     let mut sink = StdSink::new(io::writer(rt));
-    serve_gathered(rt.alloc(), words, &mut source, &mut sink, rack)
+    let Served {
+        status,
+        rack,
+        log: Unnoted,
+    } = serve_gathered(rt.alloc(), words, &mut source, &mut sink, rack, Unnoted)?;
+    Ok(Ended { status, rack })
 }

@@ -1,3 +1,4 @@
+pub mod TurnsLemmas
 pub mod AboveLemmas
 pub mod OutLemmas
 pub mod FollowsLemmas
@@ -5,3 +6,6 @@ pub mod SlotsLemmas
 pub mod DoesLemmas
 pub mod WholeLemmas
 pub mod BulkLemmas
+pub mod GatheringLemmas
+pub mod StandsLemmas
+pub mod FinishLemmas

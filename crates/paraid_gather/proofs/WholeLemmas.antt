@@ -1,5 +1,5 @@
 -- A call on one disk, said of the whole rack.
-use Rattle.std.proofs.Common.{◌≡◌, ◌≢◌, zero, suc, [], ◌∷◌, ◌++◌, Result, Ok, Err, inl, inr, ℕ, ◌<◌, ◌≤◌, Bool, List, length, map, get_or, set, refl, sym, ◌∙◌, ap, subst, arith}
+use Rattle.std.proofs.Common.{◌≡◌, ◌≢◌, zero, suc, [], ◌∷◌, ◌++◌, Result, Ok, Err, is_ok, true, inl, inr, ℕ, ◌<◌, ◌≤◌, Bool, List, length, map, get_or, set, refl, sym, ◌∙◌, ap, subst, arith}
 use Rattle.std.specs.Prelude.{OnOk}
 use Rattle.std.proofs.lemmas.Bool.{cases_eq}
 use Rattle.std.proofs.lemmas.List.{map-set, get_or-set_same, get_or-set_other, length-map, get_or-map}
@@ -35,7 +35,7 @@ module _ (runs : List Run) (d : ℕ) (y : Run) (within : d < length runs) where
   unfolding waiting_at
   set_same = ap (λ (l : List Waiting). get_or l d none_waits) (map-set run_of runs d y) ∙ get_or-set_same (map run_of runs) d (run_of y) none_waits (simp length-map (omega arith))
 
-  set_other : (e : ℕ) → e ≢ d → waiting_at (set runs d y) e ≡ waiting_at runs e
+  pub set_other : (e : ℕ) → e ≢ d → waiting_at (set runs d y) e ≡ waiting_at runs e
   unfolding waiting_at
   set_other e not = ap (λ (l : List Waiting). get_or l e none_waits) (map-set run_of runs d y) ∙ get_or-set_other (map run_of runs) d e (run_of y) none_waits not
 
@@ -60,9 +60,9 @@ pub none_start : (runs : List Run) → runs ≡ [] → (d : ℕ) → waiting_at 
 unfolding waiting_at
 none_start runs is d = ap (λ (l : List Run). get_or (map run_of l) d none_waits) is
 
-pub any_ok : {A E : Type 0} {P : Type 0} (r : Result A E) → P → OnOk r P
-any_ok (Ok a) h = h
-any_ok (Err e) h = tt
+pub on_ok : {A E : Type 0} {P : Type 0} (r : Result A E) → (is_ok r ≡ true → P) → OnOk r P
+on_ok (Ok a) h = h refl
+on_ok (Err e) h = tt
 
 pub with_own : (w : ℕ → Waiting) (d : ℕ) → with_at w d (w d) ≡ w
 with_own w d = λ i e. same_at w d e i

@@ -1,9 +1,10 @@
 -- The rack above a rack, for whose disks blocks wait: what it holds, and what a stop may leave of it.
-use Rattle.std.specs.Prelude.{◌≡◌, ◌⊎◌, ◌||◌, ℕ, true, false, List, Option, Some, None}
+use Rattle.std.specs.Prelude.{◌≡◌, ◌⊎◌, ◌||◌, ℕ, Bool, true, false, List, Option, Some, None}
+use Rattle.paraid_rack.specs.declared.call.Call.TheVariants.{Sync}
 use Rattle.paraid_rack.specs.Slots.{Slot}
 use Rattle.paraid_rack.specs.Disks.{Disks, IsPresent, IsImage}
 use Rattle.paraid_rack.specs.Trail.{Trail}
-use Rattle.paraid_rack.specs.Told.{Ran, CrashTriple}
+use Rattle.paraid_rack.specs.Told.{GrowsByCall, Ran, CrashTriple}
 use Rattle.paraid_gather.specs.Waiting.{Waiting, waiting, waits}
 
 -- The disks `s` of the rack above, where those below are so and these blocks wait. A block that waits
@@ -34,3 +35,14 @@ slot_above slot w = record slot { unsynced = slot.unsynced || waits w }
 -- the slots of the rack above: unsynced also where blocks wait
 abbrev pub slots_above : (ℕ → Slot) → (ℕ → Waiting) → ℕ → Slot
 slots_above slot w = λ d. slot_above (slot d) (w d)
+
+-- What a rack above tells: what is noted of its calls, where the rack below tells its record.
+abbrev pub told_above : Option Trail → Option Trail → Option Trail
+told_above None noted = None
+told_above (Some below) noted = noted
+
+-- What is told where what waits for disk d was written out: no call where that is done, and else a sync
+-- that has failed.
+abbrev pub TellsOut : Bool → ℕ → Option Trail → Option Trail → Type 0
+TellsOut true d old new = (t : Trail) → new ≡ Some t → old ≡ Some t
+TellsOut false d old new = GrowsByCall old new (Sync d false)

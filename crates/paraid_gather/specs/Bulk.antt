@@ -1,9 +1,10 @@
 -- What a write of blocks that follow one another does to the disks.
-use Rattle.std.specs.Prelude.{◌≡◌, ◌⊎◌, ℕ, Bool, true, false, List, Some, None}
+use Rattle.std.specs.Prelude.{◌≡◌, ◌⊎◌, ℕ, Bool, true, false, List, [], Some, None}
 use Rattle.paraid_rack.specs.declared.call.Call.{Call}
 use Rattle.paraid_rack.specs.Disks.{Disks, lose}
 use Rattle.paraid_rack.specs.Trail.{run}
 use Rattle.paraid_rack.specs.Told.{Through}
+use Rattle.paraid_gather.specs.Turns.{turns}
 use Rattle.paraid_gather.specs.Waiting.{Waiting, waiting}
 
 -- the same powers and sizes
@@ -23,8 +24,9 @@ pub record IsBetween (s : Disks) (d : ℕ) (w : Waiting) (ok : Bool) (t : Disks)
   pub loose : (e p : ℕ) → (e ≡ d → waiting w p ≡ None) → t.loose e p ≡ s.loose e p
   pub powers : HasPowersOf s t ⊎ HasPowersOf (left_by ok d s) t
 
--- the calls of such a write, each moment of which may be the last
+-- the calls of such a write, each moment of which may be the last; no disk is turned on or off
 pub record WritesBlocks (d : ℕ) (w : Waiting) (ok : Bool) (s : Disks) (cs : List Call) : Type 0 where
   pub moments : Through (IsBetween s d w ok) s cs
   pub powers : HasPowersOf (left_by ok d s) (run s cs)
+  pub turned : turns cs ≡ []
   pub bytes : ok ≡ true → (p : ℕ) (b : List ℕ) → waiting w p ≡ Some b → ((run s cs).block d p).bytes ≡ b

@@ -1,6 +1,10 @@
 pub mod Waiting
+pub mod Turns
 pub mod Bulk
 pub mod Above
 pub mod Does
+pub mod Gathering
+pub mod Stands
+pub mod Finish
 pub mod Gathers
 pub mod Laws

@@ -1,12 +1,14 @@
 //! Calls on one disk, with the blocks that wait for it.
-ghost use Rattle.std.specs.Prelude.{◌≡◌, ◌<◌, ℕ, true, false, Some, is_ok};
+ghost use Rattle.std.specs.Prelude.{◌≡◌, ◌<◌, ℕ, true, false, [], ◌∷◌, Some, is_ok};
 ghost use Rattle.paraid_rack.specs.declared.call.Call.TheVariants.{Attach, Read, Sync, Write};
 ghost use Rattle.paraid_rack.specs.declared.call.Power.TheVariants.{Spinning as Turning};
 ghost use Rattle.paraid_rack.specs.Disks.{Disks, step, with_at};
+ghost use Rattle.paraid_rack.specs.Told.{Ran};
 ghost use Rattle.paraid_rack.specs.Trail.{Trail, now};
 ghost use Rattle.paraid_gather.specs.Above.{IsAbove, slot_above};
 ghost use Rattle.paraid_gather.specs.Bulk.{left_by};
 ghost use Rattle.paraid_gather.specs.Does.{DoesAbove};
+ghost use Rattle.paraid_gather.specs.Turns.{TurnsAs};
 ghost use Rattle.paraid_gather.specs.Waiting.{Fits, Joins, Waiting, run_of, waits};
 
 use crate::bulk::BulkRack;
@@ -27,6 +29,7 @@ pub(crate) fn write_out<R: BulkRack>(
         (slot_above (R.slot rack.old disk) (run_of run.old))
         (slot_above (R.slot rack.old disk) (run_of run.old)).unsynced
         (is_ok result) (left_by (is_ok result) disk) }
+    ensures turns { Ran (R.told rack.old) (R.told rack.new) (TurnsAs []) }
     ensures empty { is_ok result ≡ true → waits (run_of run.new) ≡ false }
     ensures spins { is_ok result ≡ true → (R.slot rack.new disk).power ≡ Turning }
     ensures waited { is_ok result ≡ false → waits (run_of run.old) ≡ true }
@@ -55,6 +58,7 @@ fn make_room<R: BulkRack>(
         (slot_above (R.slot rack.old disk) (run_of run.old))
         (slot_above (R.slot rack.old disk) (run_of run.old)).unsynced
         (is_ok result) (left_by (is_ok result) disk) }
+    ensures turns { Ran (R.told rack.old) (R.told rack.new) (TurnsAs []) }
     ensures joins { is_ok result ≡ true → Joins (run_of run.new) place }
     ensures waited { is_ok result ≡ false → waits (run_of run.old) ≡ true }
 {
@@ -76,9 +80,10 @@ pub(crate) fn write<R: BulkRack>(
     requires spinning { (R.slot rack.old disk).power ≡ Turning }
     requires within { place < (R.slot rack.old disk).size }
     requires fits { Fits (R.slot rack.old disk) (run_of run.old) }
-    ensures { DoesAbove R.Rack disk (run_of run.old) (run_of run.new) rack.old rack.new
+    ensures does { DoesAbove R.Rack disk (run_of run.old) (run_of run.new) rack.old rack.new
         (record (slot_above (R.slot rack.old disk) (run_of run.old)) { unsynced = true }) true
         (is_ok result) (step (Write disk place block.now (is_ok result))) }
+    ensures turns { Ran (R.told rack.old) (R.told rack.new) (TurnsAs []) }
 {
     let Ok(()) = make_room(rack, run, disk, place) else {
         return Err(Failed);
@@ -103,6 +108,7 @@ pub(crate) fn read<R: BulkRack>(
         (slot_above (R.slot rack.old disk) (run_of run.now))
         (slot_above (R.slot rack.old disk) (run_of run.now)).unsynced
         (is_ok result) (step (Read disk place (is_ok result))) }
+    ensures turns { Ran (R.told rack.old) (R.told rack.new) (TurnsAs []) }
     ensures bytes { is_ok result ≡ true → (t : Trail) (w : ℕ → Waiting) (s : Disks)
         → R.told rack.old ≡ Some t → IsAbove (now t) (with_at w disk (run_of run.now)) s
         → into.new ≡ s.block disk place }
@@ -119,10 +125,11 @@ pub(crate) fn sync<R: BulkRack>(rack: &mut R, run: &mut Run, disk: DiskNo) -> Re
     requires exists { disk < R.slot_count rack.old }
     requires spinning { (R.slot rack.old disk).power ≡ Turning }
     requires fits { Fits (R.slot rack.old disk) (run_of run.old) }
-    ensures { DoesAbove R.Rack disk (run_of run.old) (run_of run.new) rack.old rack.new
+    ensures does { DoesAbove R.Rack disk (run_of run.old) (run_of run.new) rack.old rack.new
         (record (slot_above (R.slot rack.old disk) (run_of run.old)) { unsynced = false })
         (slot_above (R.slot rack.old disk) (run_of run.old)).unsynced
         (is_ok result) (step (Sync disk (is_ok result))) }
+    ensures turns { Ran (R.told rack.old) (R.told rack.new) (TurnsAs []) }
 {
     let Ok(()) = write_out(rack, run, disk) else {
         return Err(Failed);
@@ -139,11 +146,13 @@ pub(crate) fn attach<R: BulkRack>(
 ) -> Result<(), Failed>
     requires exists { disk < R.slot_count rack.old }
     requires fits { Fits (R.slot rack.old disk) (run_of run.old) }
-    ensures { DoesAbove R.Rack disk (run_of run.old) (run_of run.new) rack.old rack.new
+    ensures does { DoesAbove R.Rack disk (run_of run.old) (run_of run.new) rack.old rack.new
         (record (slot_above (R.slot rack.old disk) (run_of run.old))
         { power = Turning; size = size; unsynced = false })
         (slot_above (R.slot rack.old disk) (run_of run.old)).unsynced
         (is_ok result) (step (Attach disk size (is_ok result))) }
+    ensures turns { Ran (R.told rack.old) (R.told rack.new)
+        (TurnsAs (Attach disk size (is_ok result) ∷ [])) }
 {
     let Ok(()) = rack.attach(disk, size) else {
         return Err(Failed);

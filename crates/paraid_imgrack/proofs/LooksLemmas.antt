@@ -5,7 +5,7 @@ use Rattle.std.proofs.lemmas.List.{get_or-set_other, get_or-set_same, length-map
 use Rattle.paraid_imgrack.specs.declared.identity.Identity.{Identity}
 use Rattle.paraid_imgrack.specs.declared.image.Image.{Image}
 use Rattle.paraid_imgrack.specs.Images.{Fit, IsLook, image_label, image_misfit, label_at, misfit_at}
-use Rattle.paraid_imgrack.specs.Labels.{AreUnnamed, FitsSlot, IsNamed, Names, IsOneOf, array_of, label_in}
+use Rattle.paraid_imgrack.specs.Labels.{AreUnnamed, FitsSlot, IsNamed, Names, IsAmong, known_array, label_in}
 use Rattle.paraid_imgrack.specs.declared.label.Label.{Label}
 
 get_or_past : {A : Type 0} (l : List A) (d : ℕ) (x : A) → length l ≤ d → get_or l d x ≡ x
@@ -115,10 +115,10 @@ abbrev shown : Option (List ℕ × ℕ) → List ℕ × ℕ
 shown o = unwrap_or o ([], 0)
 
 -- what takes over the array that one of the labels says is named by it
-pub IsNamed-by : (labels : ℕ → Option Label) (l : Label) (i : Identity) → IsOneOf labels l → array_of (Some i) ≡ Some (l.array, l.disks) → IsNamed labels i
+pub IsNamed-by : (labels : ℕ → Option Label) (l : Label) (i : Identity) → IsAmong labels l → known_array (Some i) ≡ Some (l.array, l.disks) → IsNamed labels i
 IsNamed-by labels l i (d, (below, is)) same = (d, (below, rw is (sym (ap (λ (o : Option (List ℕ × ℕ)). (shown o).0) same), sym (ap (λ (o : Option (List ℕ × ℕ)). (shown o).1) same))))
 
-pub IsNamed-same : (labels : ℕ → Option Label) (old new : Identity) → array_of (Some new) ≡ array_of (Some old) → IsNamed labels old → IsNamed labels new
+pub IsNamed-same : (labels : ℕ → Option Label) (old new : Identity) → known_array (Some new) ≡ known_array (Some old) → IsNamed labels old → IsNamed labels new
 IsNamed-same labels old new same (d, (below, is)) = (d, (below, subst (λ (o : Option (List ℕ × ℕ)). IsSomeAnd (labels d) (λ l. (l.array ≡ (shown o).0) × (l.disks ≡ (shown o).1))) (sym same) is))
 
 unnamed_by : (labels : ℕ → Option Label) (at : ℕ → Option Label) → ((d : ℕ) → d < 8 → labels d ≡ at d) → AreUnnamed labels → AreUnnamed at

@@ -63,13 +63,15 @@ image_hindrance i = i.hindrance
 abbrev pub image_misfit : Image → Option Misfit
 image_misfit i = i.misfit
 
--- the same three of the slot of this number
+-- the label of the slot of this number, as it was read
 abbrev pub label_at : List Image → ℕ → Option Label
 label_at images d = get_or (map image_label images) d None
 
+-- what hinders work on the disk of the slot of this number
 abbrev pub hindrance_at : List Image → ℕ → Option Hindrance
 hindrance_at images d = get_or (map image_hindrance images) d None
 
+-- why the image of the slot of this number does not belong there
 abbrev pub misfit_at : List Image → ℕ → Option Misfit
 misfit_at images d = get_or (map image_misfit images) d None
 

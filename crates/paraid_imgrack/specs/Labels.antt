@@ -10,8 +10,8 @@ use Rattle.paraid_rack.specs.declared.call.Power.{Power}
 use Rattle.paraid_rack.specs.declared.call.Power.TheVariants.{Spinning, Parked, Absent}
 
 -- Which array is known, and how many disks it has: where this stays, a known array is not forgotten.
-abbrev pub array_of : Option Identity → Option (List ℕ × ℕ)
-array_of known = option_map (λ (i : Identity). (i.array, i.disks)) known
+abbrev pub known_array : Option Identity → Option (List ℕ × ℕ)
+known_array known = option_map (λ (i : Identity). (i.array, i.disks)) known
 
 -- An image with this label belongs into this slot: it is of the array and of the slot, and no older than it is known to be.
 pub record FitsSlot (i : Identity) (l : Label) (slot : ℕ) : Type 0 where
@@ -33,7 +33,7 @@ label_of Room = None
 label_of (HasLabel l) = Some l
 label_of Other = None
 
--- the same of an image with this power: of one that spins alone it is read
+-- the label of an image with this power and this tail: it is read of one that spins alone
 abbrev pub read_label_of : Power → Tail → Option Label
 read_label_of Spinning tail = label_of tail
 read_label_of Parked tail = None
@@ -56,5 +56,5 @@ abbrev pub Names : (ℕ → Option Label) → Option Identity → Type 0
 Names labels known = AreUnnamed labels ⊎ IsSomeAnd known (IsNamed labels)
 
 -- one of the labels
-abbrev pub IsOneOf : (ℕ → Option Label) → Label → Type 0
-IsOneOf labels l = (d : ℕ) × ((d < 8) × (labels d ≡ Some l))
+abbrev pub IsAmong : (ℕ → Option Label) → Label → Type 0
+IsAmong labels l = (d : ℕ) × ((d < 8) × (labels d ≡ Some l))

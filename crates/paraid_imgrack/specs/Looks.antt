@@ -10,8 +10,8 @@ abbrev pub images_of : {F : Type 0} → ImageRack F → List Image
 images_of rack = rack.images.items
 
 -- no image was spun up, parked, synced or attached, and no call has failed
-abbrev pub IsUntouched : {F : Type 0} → ImageRack F → Type 0
-IsUntouched rack = (d : ℕ) → d < length rack.images.items → IsLoaded (image_slot_at rack.images.items d)
+abbrev pub IsUncalled : {F : Type 0} → ImageRack F → Type 0
+IsUncalled rack = (d : ℕ) → d < length rack.images.items → IsLoaded (image_slot_at rack.images.items d)
 
 -- each disk that is there can be served
 abbrev pub IsUnhindered : {F : Type 0} → ImageRack F → Type 0

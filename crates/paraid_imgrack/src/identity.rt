@@ -1,7 +1,7 @@
 //! Which array the labels of some images name, and which images do not belong into their slots.
 ghost use Rattle.std.specs.Prelude.{◌≡◌, ◌<◌, ◌≤◌, true, false, slice_index, Some, IfSome, IfNone};
 ghost use Rattle.paraid_base.specs.Told.{HasRisen};
-ghost use Rattle.paraid_imgrack.specs.Labels.{AreUnnamed, FitsSlot, IsNamed, IsOneOf, Suits, array_of, label_in};
+ghost use Rattle.paraid_imgrack.specs.Labels.{AreUnnamed, FitsSlot, IsNamed, IsAmong, Suits, known_array, label_in};
 
 use crate::label::Label;
 use paraid_base::DiskNo;
@@ -60,7 +60,7 @@ pub(crate) struct Identity {
 impl Identity {
     /// That of an array of which nothing is known.
     pub(crate) fn new(array: [u8; 16], disks: u8) -> Identity
-        ensures { array_of (Some result) ≡ Some (array, disks) }
+        ensures { known_array (Some result) ≡ Some (array, disks) }
     {
         Identity {
             array,
@@ -89,7 +89,7 @@ impl Identity {
     /// Takes over what the label of a slot says, if it is of the array.
     fn learn_from(&mut self, labels: &Labels, slot: usize)
         requires { slot < 8 }
-        ensures { array_of (Some self.new) ≡ array_of (Some self.old) }
+        ensures { known_array (Some self.new) ≡ known_array (Some self.old) }
     {
         if let Some(label) = labels[slot]
             && self.is_right(&label, slot as u8)
@@ -100,7 +100,7 @@ impl Identity {
 
     /// Takes over what a label of the array says.
     fn learn(&mut self, label: &Label, slot: usize)
-        ensures { array_of (Some self.new) ≡ array_of (Some self.old) }
+        ensures { known_array (Some self.new) ≡ known_array (Some self.old) }
     {
         if slot < 8 {
             self.seen[slot] = label.generation;
@@ -205,7 +205,7 @@ impl Identity {
     pub(crate) fn renew(&mut self)
         ensures newer { HasRisen self.old.generation self.new.generation }
         ensures again { self.new.is_new ≡ true }
-        ensures known { array_of (Some self.new) ≡ array_of (Some self.old) }
+        ensures known { known_array (Some self.new) ≡ known_array (Some self.old) }
     {
         self.generation = self.generation.saturating_add(1);
         self.is_new = true;
@@ -216,7 +216,7 @@ impl Identity {
         ensures newer { self.new.generation ≡ self.old.generation }
         ensures again { self.new.is_new ≡ self.old.is_new }
         ensures news { disk < 8 → self.new.has_news ≡ true }
-        ensures known { array_of (Some self.new) ≡ array_of (Some self.old) }
+        ensures known { known_array (Some self.new) ≡ known_array (Some self.old) }
     {
         if disk < 8 {
             self.known[disk] = self.generation;
@@ -233,7 +233,7 @@ impl Identity {
 /// label in a slot past those of its array names none.
 fn named(labels: &Labels) -> Option<Label>
     ensures none { IfNone result (AreUnnamed (label_in labels.now)) }
-    ensures one { IfSome result (IsOneOf (label_in labels.now)) }
+    ensures one { IfSome result (IsAmong (label_in labels.now)) }
 {
     let first = first(labels)?;
     if is_whole(labels, &first) {
@@ -249,8 +249,8 @@ fn named(labels: &Labels) -> Option<Label>
 /// The label of a slot, if more images are of its array than of that of this one, or else this one.
 fn commoner(labels: &Labels, most: Label, slot: usize) -> Label
     requires slot { slot < 8 }
-    requires one { IsOneOf (label_in labels.now) most }
-    ensures { IsOneOf (label_in labels.now) result }
+    requires one { IsAmong (label_in labels.now) most }
+    ensures { IsAmong (label_in labels.now) result }
 {
     let Some(label) = labels[slot] else {
         return most;
@@ -271,7 +271,7 @@ fn is_within(slot: usize, label: &Label) -> bool
 
 fn first(labels: &Labels) -> Option<Label>
     ensures none { IfNone result (AreUnnamed (label_in labels.now)) }
-    ensures one { IfSome result (IsOneOf (label_in labels.now)) }
+    ensures one { IfSome result (IsAmong (label_in labels.now)) }
 {
     for slot in 0..8 {
         if let Some(label) = named_in(labels, slot) {

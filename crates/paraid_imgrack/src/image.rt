@@ -2,7 +2,7 @@
 ghost use Rattle.std.specs.Prelude.{◌≡◌, ◌≢◌, ℕ, ◌*◌, ◌/◌, ◌<◌, min, true, false, length, slice_index, None, Some, IfOk, IfSome, OnOk};
 ghost use Rattle.paraid_base.specs.Told.{HasRisen};
 ghost use Rattle.paraid_imgrack.specs.declared.tail.Tail.TheVariants.{Other};
-ghost use Rattle.paraid_imgrack.specs.Labels.{FitsSlot, array_of, label_of};
+ghost use Rattle.paraid_imgrack.specs.Labels.{FitsSlot, known_array, label_of};
 ghost use Rattle.paraid_rack.specs.declared.call.Power.TheVariants.{Spinning, Parked, Absent};
 
 use crate::found::{Found, find, is_locked, is_want_of_room};
@@ -275,7 +275,7 @@ impl Image {
             (record (image_slot self.old) { power = Spinning }) false (is_ok result) }
         ensures fits { OnOk result (IfSome identity.old (λ i. disk < i.disks
             → IfSome (label_of self.new.tail) (λ l. FitsSlot i l disk))) }
-        ensures known { array_of identity.new ≡ array_of identity.old }
+        ensures known { known_array identity.new ≡ known_array identity.old }
     {
         match identity {
             Some(identity) => {
@@ -298,7 +298,7 @@ impl Image {
             false (is_ok result) }
         ensures fits { OnOk result (disk < identity.old.disks
             → IfSome (label_of self.new.tail) (λ l. FitsSlot identity.old l disk)) }
-        ensures known { array_of (Some identity.new) ≡ array_of (Some identity.old) }
+        ensures known { known_array (Some identity.new) ≡ known_array (Some identity.old) }
     {
         match tail_of(&self.file, self.size) {
             Ok(tail) => self.tail = tail,
@@ -345,7 +345,7 @@ impl Image {
             (λ new. HasRisen old.generation new.generation))) }
         ensures again { OnOk result (IfSome identity.old (λ old. IfSome identity.new
             (λ new. new.is_new ≡ true))) }
-        ensures known { array_of identity.new ≡ array_of identity.old }
+        ensures known { known_array identity.new ≡ known_array identity.old }
     {
         self.file = None; // and its lock
         if is_of_another_array(files, self.names.image.as_str(), identity) {
@@ -562,7 +562,7 @@ fn mark_image(
 ) -> io::Result<()>
     ensures newer { identity.new.generation ≡ identity.old.generation }
     ensures again { identity.new.is_new ≡ identity.old.is_new }
-    ensures known { array_of (Some identity.new) ≡ array_of (Some identity.old) }
+    ensures known { known_array (Some identity.new) ≡ known_array (Some identity.old) }
 {
     if disk < identity.disks && put_label(file, size, tail, &identity.label(disk))? {
         identity.mark(disk as usize);

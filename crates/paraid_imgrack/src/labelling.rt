@@ -2,7 +2,7 @@
 //! generation, and so does each disk that is attached.
 ghost use Rattle.std.specs.Prelude.{◌≡◌, ◌≢◌, ◌<◌, ℕ, map, true, false, length, Some, IfSome, IsSome};
 ghost use Rattle.paraid_imgrack.specs.Images.{Fit, image_label, image_misfit, image_slot, label_at, misfit_at, IsLook, IsTold};
-ghost use Rattle.paraid_imgrack.specs.Labels.{FitsSlot, Names, array_of, label_in};
+ghost use Rattle.paraid_imgrack.specs.Labels.{FitsSlot, Names, known_array, label_in};
 ghost use Rattle.paraid_imgrack.specs.Looks.{IsFitting};
 
 use crate::identity::{Identity, Labels, Misfit};
@@ -87,7 +87,7 @@ impl<F: Files<File = File> + Drop> ImageRack<F> {
     pub(crate) fn renew_labels(&mut self)
         ensures slots { map image_slot self.new.images.items ≡ map image_slot self.old.images.items }
         ensures told { IfSome self.new.identity IsTold }
-        ensures known { array_of self.new.identity ≡ array_of self.old.identity }
+        ensures known { known_array self.new.identity ≡ known_array self.old.identity }
     {
         if self.are_labels_due() {
             self.give_labels();
@@ -99,7 +99,7 @@ impl<F: Files<File = File> + Drop> ImageRack<F> {
     fn give_labels(&mut self)
         ensures slots { map image_slot self.new.images.items ≡ map image_slot self.old.images.items }
         ensures told { IfSome self.new.identity IsTold }
-        ensures known { array_of self.new.identity ≡ array_of self.old.identity }
+        ensures known { known_array self.new.identity ≡ known_array self.old.identity }
     {
         if let Some(identity) = self.identity {
             let marked = self.mark_images(identity);
@@ -120,7 +120,7 @@ impl<F: Files<File = File> + Drop> ImageRack<F> {
     fn mark_images(&mut self, identity: Identity) -> Identity
         ensures slots { map image_slot self.new.images.items ≡ map image_slot self.old.images.items }
         ensures marked { result.is_new ≡ false }
-        ensures known { array_of (Some result) ≡ array_of (Some identity) }
+        ensures known { known_array (Some result) ≡ known_array (Some identity) }
     {
         if !identity.is_new {
             return identity;
@@ -148,7 +148,7 @@ impl<F: Files<File = File> + Drop> ImageRack<F> {
     /// At the end, too: what was spun up or attached since the last sync is made known to the others.
     pub fn end_load(&mut self)
         ensures slots { map image_slot self.new.images.items ≡ map image_slot self.old.images.items }
-        ensures known { array_of self.new.identity ≡ array_of self.old.identity }
+        ensures known { known_array self.new.identity ≡ known_array self.old.identity }
     {
         if let Some(identity) = self.identity {
             self.tell(identity);

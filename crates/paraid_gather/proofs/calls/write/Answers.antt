@@ -7,15 +7,18 @@ use Rattle.paraid_gather.specs.Bulk.{left_by}
 use Rattle.paraid_gather.proofs.DoesLemmas.{does_lost_write, does_write, does_same, does_then, not_parked, or_true}
 use Rattle.paraid_gather.proofs.calls.write.Goals as goal
 
-pub returns-in_default : goal.returns-in_default
-returns-in_default g c =
+pub returns-in_default-clause-does : goal.returns-in_default-clause-does
+returns-in_default-clause-does g c =
     let run = run_of c.args.run.now in
     let slot = g.R.Rack.slot c.args.rack.now c.args.disk in
     does_lost_write g.R.Rack c.args.rack.now c.make_room.new.rack c.args.disk run (run_of c.make_room.new.run) _ _ (slot.unsynced || waits run) true c.args.place c.args.block.now
     (or_true slot.unsynced (waits run) (c.in_default.ensures.waited refl)) c.in_default.ensures.does
 
-pub returns : goal.returns
-returns g c =
+pub returns-in_default-clause-turns : goal.returns-in_default-clause-turns
+returns-in_default-clause-turns g c = c.in_default.ensures.turns
+
+pub returns-clause-does : goal.returns-clause-does
+returns-clause-does g c =
     let d = c.args.disk in
     let run = run_of c.args.run.now in
     let between = run_of c.make_room.new.run in
@@ -28,3 +31,6 @@ returns g c =
     (does_write g.R.Rack c.make_room.new.rack d between run' c.args.place c.args.block.now
     (record { within = λ is. c.put.ensures.within slot.size inside (c.in-Ok.ensures.does.fits.within is); still = λ is. not_parked slot.power spins is })
     c.put.ensures.any (λ t is. ap is_present ((g.met.R.Rack.agrees c.make_room.new.rack t is).power d ∙ spins)) c.put.ensures.waiting)
+
+pub returns-clause-turns : goal.returns-clause-turns
+returns-clause-turns g c = c.in-Ok.ensures.turns

@@ -1,15 +1,16 @@
-use Rattle.std.proofs.Common.{false, length, set, ◌∙◌, subst, is_ok}
+use Rattle.std.proofs.Common.{Bool, false, length, set, ◌∙◌, subst, is_ok}
 use Rattle.std.proofs.lemmas.List.{length-set}
 use Rattle.paraid_rack.specs.declared.call.Call.TheVariants.{Sync}
 use Rattle.paraid_rack.specs.Slots.{Slot}
 use Rattle.paraid_rack.specs.Disks.{step}
+use Rattle.paraid_rack.specs.Told.{GrowsByCall}
 use Rattle.paraid_gather.specs.Waiting.{Waiting, Fits, run_of, waiting_at}
-use Rattle.paraid_gather.specs.Laws.{none_told}
+use Rattle.paraid_gather.proofs.StandsLemmas.{grows_above, stands_sync}
 use Rattle.paraid_gather.proofs.WholeLemmas.{does_whole, disk_within, waiting_here, with_this, with_new}
 use Rattle.paraid_gather.proofs.gathered.GatheredRack.sync.Goals as goal
 
-pub sync-requires-clause-fits : goal.sync-requires-clause-fits
-sync-requires-clause-fits g c =
+pub sync-result-requires-clause-fits : goal.sync-result-requires-clause-fits
+sync-result-requires-clause-fits g c =
     let gathered = c.args.self.now in
     let within = disk_within _ c.args.disk (length gathered.runs.items) c.requires.exists (g.met.R.Rack.slots_hold gathered.rack).few gathered.eight in
     subst (λ (v : Waiting). Fits (g.R.Rack.slot gathered.rack c.args.disk) v) (waiting_here gathered.runs.items c.args.disk c.index_mut.result.now within c.index_mut.ensures.value) (gathered.fits c.args.disk)
@@ -20,11 +21,18 @@ invariant_of-self g c =
     let runs = gathered.runs.items in
     let d = c.args.disk in
     let y = c.index_mut.result.now in
-    let x = c.sync.new.run in
+    let x = c.sync-result.new.run in
+    let ok = is_ok c.sync-result.result in
     let within = disk_within _ d (length runs) c.requires.exists (g.met.R.Rack.slots_hold gathered.rack).few gathered.eight in
-    let whole = does_whole g.R.Rack gathered.rack c.sync.new.rack d (run_of y) (run_of x) (waiting_at runs) (waiting_at (set runs d x)) (λ (z : Slot). record z { unsynced = false }) (λ (z : Slot). z.unsynced) (is_ok c.sync.result) (step (Sync d (is_ok c.sync.result)))
-    (with_this runs d y within c.index_mut.ensures.value) (with_new runs d x within) (waiting_here runs d y within c.index_mut.ensures.value) gathered.fits c.sync.ensures in
-    record { eight = length-set _ _ _ ∙ gathered.eight; fits = whole.fits }
+    let whole = does_whole g.R.Rack gathered.rack c.sync-result.new.rack d (run_of y) (run_of x) (waiting_at runs) (waiting_at (set runs d x)) (λ (z : Slot). record z { unsynced = false }) (λ (z : Slot). z.unsynced) ok (step (Sync d ok))
+    (with_this runs d y within c.index_mut.ensures.value) (with_new runs d x within) (waiting_here runs d y within c.index_mut.ensures.value) gathered.fits c.sync-result.ensures.does in
+    let grows = subst (λ (v : Bool). GrowsByCall (g.L.Noted.noted gathered.log) (g.L.Noted.noted c.note.new.self) (Sync d v)) c.is_ok-done.ensures.value c.note.ensures in
+    record {
+      eight = length-set _ _ _ ∙ gathered.eight;
+      fits = whole.fits;
+      stands = stands_sync g.R.Rack gathered.rack c.sync-result.new.rack d (waiting_at runs) (waiting_at (set runs d x)) (g.L.Noted.noted gathered.log) (g.L.Noted.noted c.note.new.self) (g.met.R.Rack.agrees c.sync-result.new.rack) gathered.stands
+          ok c.sync-result.ensures.turns whole c.requires.spinning grows;
+    }
 
 pub returns : goal.returns
 returns g c =
@@ -32,8 +40,15 @@ returns g c =
     let runs = gathered.runs.items in
     let d = c.args.disk in
     let y = c.index_mut.result.now in
-    let x = c.sync.new.run in
+    let x = c.sync-result.new.run in
+    let ok = is_ok c.sync-result.result in
     let within = disk_within _ d (length runs) c.requires.exists (g.met.R.Rack.slots_hold gathered.rack).few gathered.eight in
-    let whole = does_whole g.R.Rack gathered.rack c.sync.new.rack d (run_of y) (run_of x) (waiting_at runs) (waiting_at (set runs d x)) (λ (z : Slot). record z { unsynced = false }) (λ (z : Slot). z.unsynced) (is_ok c.sync.result) (step (Sync d (is_ok c.sync.result)))
-    (with_this runs d y within c.index_mut.ensures.value) (with_new runs d x within) (waiting_here runs d y within c.index_mut.ensures.value) gathered.fits c.sync.ensures in
-    record { slots = whole.slots; slot = whole.slot; told = λ t e. none_told t e; above = whole.told }
+    let whole = does_whole g.R.Rack gathered.rack c.sync-result.new.rack d (run_of y) (run_of x) (waiting_at runs) (waiting_at (set runs d x)) (λ (z : Slot). record z { unsynced = false }) (λ (z : Slot). z.unsynced) ok (step (Sync d ok))
+    (with_this runs d y within c.index_mut.ensures.value) (with_new runs d x within) (waiting_here runs d y within c.index_mut.ensures.value) gathered.fits c.sync-result.ensures.does in
+    let grows = subst (λ (v : Bool). GrowsByCall (g.L.Noted.noted gathered.log) (g.L.Noted.noted c.note.new.self) (Sync d v)) c.is_ok-done.ensures.value c.note.ensures in
+    record {
+      slots = whole.slots;
+      slot = whole.slot;
+      told = grows_above (g.R.Rack.told gathered.rack) (g.R.Rack.told c.sync-result.new.rack) (g.L.Noted.noted gathered.log) (g.L.Noted.noted c.note.new.self) (waiting_at runs) (waiting_at (set runs d x)) (Sync d ok) whole.told grows;
+      above = whole.told;
+    }
