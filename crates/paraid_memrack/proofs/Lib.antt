@@ -9,3 +9,4 @@ pub mod PlanLemmas
 pub mod RackLemmas
 pub mod FirstLemmas
 pub mod LawfulLemmas
+pub mod ListLemmas

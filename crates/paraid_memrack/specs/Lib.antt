@@ -7,4 +7,5 @@ pub mod Stop
 pub mod Versions
 pub mod Past
 pub mod Rules
+pub mod Lists
 pub mod Laws

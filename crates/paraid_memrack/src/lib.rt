@@ -5,6 +5,7 @@
 //! moment: the rack that this leaves begins as an image, with each loose block as a test picks it.
 #![tactic(auto)]
 
+mod list;
 mod log;
 mod past;
 mod plan;
@@ -14,6 +15,7 @@ mod slot;
 mod stop;
 mod versions;
 
+pub use list::CallList;
 pub use plan::Planned;
 pub use rack::MemRack;
 pub use stop::Pick;

@@ -7,12 +7,14 @@ ghost use Rattle.paraid_memrack.specs.Slots.{told_slot_at, full_slot_at};
 ghost use Rattle.paraid_memrack.specs.ToldLawful.{AreToldLawful, AreToldLawful-prop};
 ghost use Rattle.paraid_memrack.specs.Tells.{told_by, beginning_of, AreSlotsOf};
 
+use crate::list::{CallList, starts_of};
 use crate::log::{Log, Start};
 use crate::plan::Planned;
 use crate::replay::left;
 use crate::slot::{MemSlot, absent_slots, fail, fill, first_slots, mark_synced, put, remove, turn};
 use crate::stop::Pick;
 use paraid_base::{Block, DiskNo, Failed, NoMemory, Place};
+use paraid_gather::BulkRack;
 use paraid_rack::{Call, Power, Rack};
 use std::alloc::Global;
 
@@ -42,6 +44,7 @@ impl MemRack {
     ghost use Rattle.paraid_rack.specs.Alike.{IsAlike};
     ghost use Rattle.paraid_rack.specs.Disks.{Disks, IsImage, lose};
     ghost use Rattle.paraid_rack.specs.Trail.{disks, initial};
+    ghost use Rattle.paraid_memrack.specs.Lists.{noted_in};
     ghost use Rattle.paraid_memrack.specs.Stop.{IsPicked};
     ghost use Rattle.paraid_memrack.specs.Tells.{no_beginning};
     ghost use Rattle.paraid_memrack.specs.Rules.{rack_slot_count, slots_of, told_of, rules_of, listed_calls, fails_next, Notes, no_disks, no_disk, start_of, before_calls, first_slot};
@@ -133,6 +136,19 @@ impl MemRack {
     {
         self.log.lose(self.alloc, disk);
         remove(&mut self.slots, self.alloc, disk);
+    }
+
+    /// A list that tells what this rack tells, before any call, to note the calls above it.
+    pub fn list(&self, alloc: Global) -> Result<CallList, NoMemory>
+        requires unused { listed_calls self.now ≡ [] }
+        ensures { IfOk result (λ list. noted_in list ≡ told_of self.now) }
+    {
+        let start = starts_of(alloc, &self.log.start)?;
+        Ok(CallList {
+            tells: self.log.tells,
+            start,
+            calls: Vec::new(alloc),
+        })
     }
 
     /// The number of calls that are listed.
@@ -441,3 +457,6 @@ impl Rack for MemRack {
         Ok(())
     }
 }
+
+// It writes blocks one after the other, and lists a call for each.
+impl BulkRack for MemRack {}

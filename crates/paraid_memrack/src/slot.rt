@@ -57,8 +57,8 @@ pub fn first_slots(alloc: Global, start: &Vec<Start>) -> Result<Vec<MemSlot>, No
     Ok(slots)
 }
 
-// The same blocks again.
-fn copies_of(alloc: Global, blocks: &Vec<Block>) -> Result<Vec<Block>, NoMemory>
+/// The same blocks again.
+pub fn copies_of(alloc: Global, blocks: &Vec<Block>) -> Result<Vec<Block>, NoMemory>
     ensures { IfOk result (λ copies. copies.items ≡ blocks.now.items) }
 {
     let Ok(mut copies) = Vec::with_capacity(alloc, blocks.len()) else {

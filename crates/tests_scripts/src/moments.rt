@@ -2,7 +2,7 @@
 
 use crate::changes::without;
 use crate::lines::{add_line, add_word, trace_of};
-use crate::runs::{Faults, Left, checked, played, ran, stopped, whole};
+use crate::runs::{Conditions, Left, checked, played, ran, stopped, whole};
 use paraid_base::DiskNo;
 use paraid_memrack::{MemRack, Pick};
 use paraid_rack::Rack;
@@ -139,7 +139,7 @@ fn add_end(text: &mut String, told: &str) -> Option<()> {
 
 // Adds those of a run over all blocks, with a check after it.
 fn add_next(alloc: Global, text: &mut String, disks: &MemRack) -> Option<()> {
-    let next = whole(alloc, READS, &Faults::none(alloc), disks)?;
+    let next = whole(alloc, READS, &Conditions::plain(alloc), disks)?;
     add_end(text, with_check(alloc, next)?.text.as_str())
 }
 
@@ -154,8 +154,8 @@ fn end_of(alloc: Global, left: &Left) -> Option<String> {
 
 /// A run over these lines of which the blocks and the last line are told, and then those of a run over all blocks, with
 /// a check after it.
-pub fn ended(alloc: Global, lines: &str, faults: &Faults, disks: &MemRack) -> Option<Left> {
-    let left = whole(alloc, lines, faults, disks)?;
+pub fn ended(alloc: Global, lines: &str, conditions: &Conditions, disks: &MemRack) -> Option<Left> {
+    let left = whole(alloc, lines, conditions, disks)?;
     let text = end_of(alloc, &left)?;
     Some(Left {
         status: left.status,
@@ -205,11 +205,11 @@ pub fn stops(
     alloc: Global,
     lines: &str,
     out: DiskNo,
-    faults: &Faults,
+    conditions: &Conditions,
     disks: &MemRack,
 ) -> Option<String> {
-    let mount = whole(alloc, "", faults, disks)?.disks.calls();
-    let left = whole(alloc, lines, faults, disks)?;
+    let mount = whole(alloc, "", conditions, disks)?.disks.calls();
+    let left = whole(alloc, lines, conditions, disks)?;
     let mut sights = Sights::new(alloc);
     for moment in 0..=left.disks.calls() {
         let out = if moment > mount { out } else { NO_DISK };
@@ -236,7 +236,7 @@ fn see_mount(
     moment: u32,
     sights: &mut Sights,
 ) -> Option<()> {
-    let mounted = whole(alloc, "", &Faults::none(alloc), disks)?.disks;
+    let mounted = whole(alloc, "", &Conditions::plain(alloc), disks)?.disks;
     for again in 0..=mounted.calls() {
         let left = stopped(alloc, &mounted, again, pick_at(again), &[])?;
         see(alloc, without(alloc, &left, out)?, moment, sights)?;
@@ -251,11 +251,11 @@ pub fn stops_twice(
     alloc: Global,
     lines: &str,
     out: DiskNo,
-    faults: &Faults,
+    conditions: &Conditions,
     disks: &MemRack,
 ) -> Option<String> {
-    let mount = whole(alloc, "", faults, disks)?.disks.calls();
-    let left = whole(alloc, lines, faults, disks)?;
+    let mount = whole(alloc, "", conditions, disks)?.disks.calls();
+    let left = whole(alloc, lines, conditions, disks)?;
     let mut sights = Sights::new(alloc);
     for moment in mount..=left.disks.calls() {
         let image = stopped(alloc, &left.disks, moment, pick_at(moment), &[])?;
@@ -270,12 +270,12 @@ pub fn leaves(
     words: &str,
     first: &str,
     last: &str,
-    faults: &Faults,
+    conditions: &Conditions,
     disks: &MemRack,
 ) -> Option<String> {
     let (first, last) = (trace_of(alloc, first)?, trace_of(alloc, last)?);
-    let left = ran(alloc, words, first.as_bytes(), faults, disks)?;
-    let none = Faults::none(alloc);
+    let left = ran(alloc, words, first.as_bytes(), conditions, disks)?;
+    let none = Conditions::plain(alloc);
     let mut sights = Sights::new(alloc);
     for moment in 0..=left.disks.calls() {
         let image = stopped(alloc, &left.disks, moment, pick_at(moment), &[])?;

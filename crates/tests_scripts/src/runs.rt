@@ -4,6 +4,7 @@ ghost use Rattle.std.specs.Prelude.{None};
 
 use crate::lines::{digits_of, trace_before, trace_of};
 use paraid_base::{DiskNo, Failed};
+use paraid_gather::{Finished, Gathered};
 use paraid_io::{MemSink, MemSource, Source};
 use paraid_memrack::{MemRack, Pick, Planned};
 use paraid_program::{Ended, paraid};
@@ -12,34 +13,37 @@ use std::alloc::Global;
 /// The number of a call that no run here has. So many calls of a run are listed.
 pub const NEVER: u32 = 4000;
 
-/// Which calls fail, and how many bytes one call of the source gives at most.
+/// Which calls fail, how many bytes one call of the source gives at most, and whether writes are gathered.
 #[derive(Drop)]
-pub struct Faults {
+pub struct Conditions {
     pub disks: Vec<Planned>,
     pub source: u32,
     pub sink: u32,
     pub most: usize,
+    pub gathers: bool,
 }
 
-impl Faults {
-    /// No call fails.
-    pub fn none(alloc: Global) -> Faults {
-        Faults {
+impl Conditions {
+    /// No call fails, and writes are not gathered.
+    pub fn plain(alloc: Global) -> Conditions {
+        Conditions {
             disks: Vec::new(alloc),
             source: NEVER,
             sink: NEVER,
             most: usize::MAX,
+            gathers: false,
         }
     }
 
     /// One call of a disk fails.
-    pub fn on_disk(alloc: Global, disk: DiskNo, nth: u32) -> Option<Faults> {
+    pub fn on_disk(alloc: Global, disk: DiskNo, nth: u32) -> Option<Conditions> {
         let disks = vec![in alloc; Planned::OnDisk { disk, nth }].ok()?;
-        Some(Faults {
+        Some(Conditions {
             disks,
             source: NEVER,
             sink: NEVER,
             most: usize::MAX,
+            gathers: false,
         })
     }
 }
@@ -105,12 +109,12 @@ impl Source for Pieces {
 }
 
 // A source of this input.
-fn source_of(alloc: Global, input: &[u8], faults: &Faults) -> Option<Pieces> {
+fn source_of(alloc: Global, input: &[u8], conditions: &Conditions) -> Option<Pieces> {
     let bytes = input.to_vec(alloc).ok()?;
-    let fails = vec![in alloc; faults.source].ok()?;
+    let fails = vec![in alloc; conditions.source].ok()?;
     Some(Pieces {
         source: MemSource::new(bytes, fails),
-        most: faults.most,
+        most: conditions.most,
     })
 }
 
@@ -129,22 +133,63 @@ fn written(alloc: Global, words: &str, sink: &MemSink) -> Option<String> {
     String::from_str(alloc, text).ok()
 }
 
+// The program over disks on which no call was made, whose writes are gathered, as `main` calls it over files. The calls
+// above are noted.
+fn gathered(
+    alloc: Global,
+    words: &Vec<String>,
+    source: &mut Pieces,
+    sink: &mut MemSink,
+    disks: MemRack,
+) -> Option<Ended<MemRack>> {
+    if disks.calls() != 0 {
+        return None;
+    }
+    let log = disks.list(alloc).ok()?;
+    let rack = Gathered::new(alloc, disks, log).ok()?;
+    let Ended { status, rack } = paraid(alloc, words, source, sink, rack);
+    let Finished { rack, log: _calls } = rack.finish();
+    Some(Ended { status, rack })
+}
+
+// The program over these disks.
+fn called(
+    alloc: Global,
+    words: &Vec<String>,
+    source: &mut Pieces,
+    sink: &mut MemSink,
+    disks: MemRack,
+    gathers: bool,
+) -> Option<Ended<MemRack>> {
+    if gathers {
+        return gathered(alloc, words, source, sink, disks);
+    }
+    Some(paraid(alloc, words, source, sink, disks))
+}
+
 // What the program does with these words over this input and these disks. These calls of the source and of the sink
 // fail.
 fn ran_on(
     alloc: Global,
     words: &str,
     input: &[u8],
-    faults: &Faults,
+    conditions: &Conditions,
     disks: MemRack,
 ) -> Option<Left> {
     let list = list_of(alloc, words)?;
-    let mut source = source_of(alloc, input, faults)?;
-    let mut sink = sink_of(alloc, faults.sink)?;
+    let mut source = source_of(alloc, input, conditions)?;
+    let mut sink = sink_of(alloc, conditions.sink)?;
     let Ended {
         status,
         rack: disks,
-    } = paraid(alloc, &list, &mut source, &mut sink, disks);
+    } = called(
+        alloc,
+        &list,
+        &mut source,
+        &mut sink,
+        disks,
+        conditions.gathers,
+    )?;
     let text = written(alloc, words, &sink)?;
     Some(Left {
         status,
@@ -156,7 +201,13 @@ fn ran_on(
 /// A run over the lines of this text to their end, in which no call fails.
 pub fn played(alloc: Global, text: &str, disks: MemRack) -> Option<Left> {
     let trace = trace_of(alloc, text)?;
-    ran_on(alloc, "run", trace.as_bytes(), &Faults::none(alloc), disks)
+    ran_on(
+        alloc,
+        "run",
+        trace.as_bytes(),
+        &Conditions::plain(alloc),
+        disks,
+    )
 }
 
 /// What the program does with these words over this input and these disks, which stay as they are.
@@ -164,25 +215,25 @@ pub fn ran(
     alloc: Global,
     words: &str,
     input: &[u8],
-    faults: &Faults,
+    conditions: &Conditions,
     disks: &MemRack,
 ) -> Option<Left> {
-    let disks = restarted(alloc, disks, &faults.disks)?;
-    ran_on(alloc, words, input, faults, disks)
+    let disks = restarted(alloc, disks, &conditions.disks)?;
+    ran_on(alloc, words, input, conditions, disks)
 }
 
 /// A check of these disks, in which no call fails.
 pub fn checked(alloc: Global, disks: MemRack) -> Option<Left> {
-    ran_on(alloc, "check", b"", &Faults::none(alloc), disks)
+    ran_on(alloc, "check", b"", &Conditions::plain(alloc), disks)
 }
 
 /// What these words and then a check tell, on a new array of eight disks of up to 17516 blocks, none of whose calls is
 /// listed, with the greater status.
 pub fn unlisted(alloc: Global, words: &str, configuration: &str) -> Option<Left> {
     let bare = MemRack::new(alloc, 8, 17_516, 0, Vec::new(alloc)).ok()?;
-    let faults = Faults::none(alloc);
-    let made = ran_on(alloc, "format", configuration.as_bytes(), &faults, bare)?;
-    let left = ran_on(alloc, words, b"", &faults, made.disks)?;
+    let conditions = Conditions::plain(alloc);
+    let made = ran_on(alloc, "format", configuration.as_bytes(), &conditions, bare)?;
+    let left = ran_on(alloc, words, b"", &conditions, made.disks)?;
     let mut text = left.text;
     let found = checked(alloc, left.disks)?;
     text.push_str(found.text.as_str()).ok()?;
@@ -194,33 +245,49 @@ pub fn unlisted(alloc: Global, words: &str, configuration: &str) -> Option<Left>
 }
 
 /// A run over the lines of this text to their end.
-pub fn whole(alloc: Global, text: &str, faults: &Faults, disks: &MemRack) -> Option<Left> {
+pub fn whole(alloc: Global, text: &str, conditions: &Conditions, disks: &MemRack) -> Option<Left> {
     let trace = trace_of(alloc, text)?;
-    ran(alloc, "run", trace.as_bytes(), faults, disks)
+    ran(alloc, "run", trace.as_bytes(), conditions, disks)
 }
 
 /// The same, with no newline at the end.
-pub fn unended(alloc: Global, text: &str, faults: &Faults, disks: &MemRack) -> Option<Left> {
+pub fn unended(
+    alloc: Global,
+    text: &str,
+    conditions: &Conditions,
+    disks: &MemRack,
+) -> Option<Left> {
     let mut trace = trace_of(alloc, text)?;
     let _newline = trace.pop();
-    ran(alloc, "run", trace.as_bytes(), faults, disks)
+    ran(alloc, "run", trace.as_bytes(), conditions, disks)
 }
 
 // A run that is cut off after this trace, with no flush at its end: the source fails there.
-fn cut(alloc: Global, trace: &String, faults: &Faults, disks: &MemRack) -> Option<Left> {
-    let disks = restarted(alloc, disks, &faults.disks)?;
-    let mut streams = Faults::none(alloc);
+fn cut(alloc: Global, trace: &String, conditions: &Conditions, disks: &MemRack) -> Option<Left> {
+    let disks = restarted(alloc, disks, &conditions.disks)?;
+    let mut streams = Conditions::plain(alloc);
     streams.source = 1;
-    streams.sink = faults.sink;
+    streams.sink = conditions.sink;
+    streams.gathers = conditions.gathers;
     ran_on(alloc, "run", trace.as_bytes(), &streams, disks)
 }
 
 /// A run that is cut off after the lines of this text.
-pub fn cut_off(alloc: Global, text: &str, faults: &Faults, disks: &MemRack) -> Option<Left> {
-    cut(alloc, &trace_of(alloc, text)?, faults, disks)
+pub fn cut_off(
+    alloc: Global,
+    text: &str,
+    conditions: &Conditions,
+    disks: &MemRack,
+) -> Option<Left> {
+    cut(alloc, &trace_of(alloc, text)?, conditions, disks)
 }
 
 /// A run that is cut off before the last of them.
-pub fn cut_before(alloc: Global, text: &str, faults: &Faults, disks: &MemRack) -> Option<Left> {
-    cut(alloc, &trace_before(alloc, text)?, faults, disks)
+pub fn cut_before(
+    alloc: Global,
+    text: &str,
+    conditions: &Conditions,
+    disks: &MemRack,
+) -> Option<Left> {
+    cut(alloc, &trace_before(alloc, text)?, conditions, disks)
 }

@@ -1,4 +1,4 @@
-//! The disks, the configuration and the faults to come, and what each line of the script makes of them.
+//! The disks, the configuration and the conditions to come, and what each line of the script makes of them.
 
 use crate::changes::{byte_at, changed, put_back, without};
 use crate::lines::{
@@ -6,7 +6,7 @@ use crate::lines::{
 };
 use crate::moments::{Sights, ended, leaves, stops, stops_twice};
 use crate::runs::{
-    Faults, Left, bare, cut_before, cut_off, ran, restarted, stopped, unended, unlisted, whole,
+    Conditions, Left, bare, cut_before, cut_off, ran, restarted, stopped, unended, unlisted, whole,
 };
 use crate::tallies::{calls_on, changes_in, counted, places_on, priced, priced_mount};
 use paraid_memrack::{MemRack, Pick, Planned};
@@ -20,8 +20,8 @@ pub struct Stage {
     disks: MemRack,
     /// All disks as they were when they were last set aside.
     kept: MemRack,
-    /// Those of the next command that runs the program.
-    faults: Faults,
+    /// Those of the next command that runs the program: which calls fail in it, and how it is run.
+    conditions: Conditions,
 }
 
 /// What kind of command a line is.
@@ -43,7 +43,7 @@ fn kind_of(word: &str) -> Kind {
         Kind::Make
     } else if is_any(word, "park fresh fill byte") {
         Kind::Change
-    } else if is_any(word, "fail failcall source sink pieces") {
+    } else if is_any(word, "fail failcall source sink pieces gather") {
         Kind::Plan
     } else {
         Kind::Run
@@ -71,7 +71,7 @@ fn with_status(alloc: Global, mut text: String, status: u8) -> Option<String> {
 fn array(alloc: Global, configuration: &str, slots: u8) -> Option<MemRack> {
     let disks = bare(alloc, slots)?;
     let input = configuration.as_bytes();
-    let left = ran(alloc, "format", input, &Faults::none(alloc), &disks)?;
+    let left = ran(alloc, "format", input, &Conditions::plain(alloc), &disks)?;
     if left.status != 0 {
         return None;
     }
@@ -79,37 +79,37 @@ fn array(alloc: Global, configuration: &str, slots: u8) -> Option<MemRack> {
 }
 
 // What an event costs, which is the last of these lines.
-fn cost(alloc: Global, lines: &str, faults: &Faults, disks: &MemRack) -> Option<String> {
-    let first = cut_before(alloc, lines, faults, disks)?.disks.calls();
-    priced(alloc, &cut_off(alloc, lines, faults, disks)?, first)
+fn cost(alloc: Global, lines: &str, conditions: &Conditions, disks: &MemRack) -> Option<String> {
+    let first = cut_before(alloc, lines, conditions, disks)?.disks.calls();
+    priced(alloc, &cut_off(alloc, lines, conditions, disks)?, first)
 }
 
 // What a stop before a call of a run leaves, which is cut off after these lines. The number of the call comes first.
-fn stop(alloc: Global, text: &str, faults: &Faults, disks: &MemRack) -> Option<MemRack> {
+fn stop(alloc: Global, text: &str, conditions: &Conditions, disks: &MemRack) -> Option<MemRack> {
     let (moment, lines) = first_number(text);
-    let left = cut_off(alloc, lines, faults, disks)?;
+    let left = cut_off(alloc, lines, conditions, disks)?;
     stopped(alloc, &left.disks, moment, Pick::New, &[])
 }
 
 // The calls on a disk in a run. The number of the disk comes first.
-fn calls(alloc: Global, text: &str, faults: &Faults, disks: &MemRack) -> Option<String> {
+fn calls(alloc: Global, text: &str, conditions: &Conditions, disks: &MemRack) -> Option<String> {
     let (disk, lines) = first_byte(text);
-    calls_on(alloc, &whole(alloc, lines, faults, disks)?.disks, disk)
+    calls_on(alloc, &whole(alloc, lines, conditions, disks)?.disks, disk)
 }
 
 // The first line and the calls of a mount.
-fn mount(alloc: Global, faults: &Faults, disks: &MemRack) -> Option<String> {
-    priced_mount(alloc, &whole(alloc, "", faults, disks)?)
+fn mount(alloc: Global, conditions: &Conditions, disks: &MemRack) -> Option<String> {
+    priced_mount(alloc, &whole(alloc, "", conditions, disks)?)
 }
 
 // The writes past the log in a run.
-fn changes(alloc: Global, lines: &str, faults: &Faults, disks: &MemRack) -> Option<String> {
-    changes_in(alloc, &whole(alloc, lines, faults, disks)?.disks)
+fn changes(alloc: Global, lines: &str, conditions: &Conditions, disks: &MemRack) -> Option<String> {
+    changes_in(alloc, &whole(alloc, lines, conditions, disks)?.disks)
 }
 
 // The places past the log that a run leaves.
-fn places(alloc: Global, lines: &str, faults: &Faults, disks: &MemRack) -> Option<String> {
-    places_on(alloc, &whole(alloc, lines, faults, disks)?.disks)
+fn places(alloc: Global, lines: &str, conditions: &Conditions, disks: &MemRack) -> Option<String> {
+    places_on(alloc, &whole(alloc, lines, conditions, disks)?.disks)
 }
 
 // What is told after stops. The number of a disk comes first.
@@ -117,21 +117,26 @@ fn told_stops(
     alloc: Global,
     word: &str,
     text: &str,
-    faults: &Faults,
+    conditions: &Conditions,
     disks: &MemRack,
 ) -> Option<String> {
     let (out, lines) = first_byte(text);
     if word == "stops" {
-        return stops(alloc, lines, out, faults, disks);
+        return stops(alloc, lines, out, conditions, disks);
     }
-    stops_twice(alloc, lines, out, faults, disks)
+    stops_twice(alloc, lines, out, conditions, disks)
 }
 
 // What these words tell over the lines after the second `<`, after stops in them over those after the first one.
-fn told_leaves(alloc: Global, text: &str, faults: &Faults, disks: &MemRack) -> Option<String> {
+fn told_leaves(
+    alloc: Global,
+    text: &str,
+    conditions: &Conditions,
+    disks: &MemRack,
+) -> Option<String> {
     let (words, lines) = text.split_once(" < ")?;
     let (first, last) = lines.split_once(" < ")?;
-    leaves(alloc, words, first, last, faults, disks)
+    leaves(alloc, words, first, last, conditions, disks)
 }
 
 // What these words tell, and a check after them.
@@ -141,14 +146,14 @@ fn long(alloc: Global, words: &str, configuration: &str) -> Option<String> {
 }
 
 // This call of the source or of the sink fails.
-fn on_stream(alloc: Global, word: &str, nth: u32) -> Faults {
-    let mut faults = Faults::none(alloc);
+fn on_stream(alloc: Global, word: &str, nth: u32) -> Conditions {
+    let mut conditions = Conditions::plain(alloc);
     if word == "source" {
-        faults.source = nth;
+        conditions.source = nth;
     } else {
-        faults.sink = nth;
+        conditions.sink = nth;
     }
-    faults
+    conditions
 }
 
 impl Stage {
@@ -157,12 +162,12 @@ impl Stage {
         let configuration = configured(alloc, "", "config", "")?;
         let disks = bare(alloc, 5)?;
         let kept = bare(alloc, 5)?;
-        let faults = Faults::none(alloc);
+        let conditions = Conditions::plain(alloc);
         Some(Stage {
             configuration,
             disks,
             kept,
-            faults,
+            conditions,
         })
     }
 
@@ -207,14 +212,18 @@ impl Stage {
     fn plan(&mut self, word: &str, rest: &str) -> Option<()> {
         let (nth, _rest) = first_number(rest);
         match word {
-            "source" => self.faults.source = nth,
-            "sink" => self.faults.sink = nth,
-            "pieces" => self.faults.most = nth as usize,
-            "failcall" => self.faults.disks.push(Planned::AtCall(nth)).ok()?,
+            "source" => self.conditions.source = nth,
+            "sink" => self.conditions.sink = nth,
+            "pieces" => self.conditions.most = nth as usize,
+            "gather" => self.conditions.gathers = true,
+            "failcall" => self.conditions.disks.push(Planned::AtCall(nth)).ok()?,
             _ => {
                 let (disk, rest) = first_byte(rest);
                 let (nth, _rest) = first_number(rest);
-                self.faults.disks.push(Planned::OnDisk { disk, nth }).ok()?;
+                self.conditions
+                    .disks
+                    .push(Planned::OnDisk { disk, nth })
+                    .ok()?;
             }
         }
         Some(())
@@ -229,18 +238,24 @@ impl Stage {
         } else {
             self.tell(alloc, word, rest)
         };
-        self.faults = Faults::none(alloc);
+        self.conditions = Conditions::plain(alloc);
         told
     }
 
-    fn left_by(&self, alloc: Global, word: &str, rest: &str, faults: &Faults) -> Option<Left> {
+    fn left_by(
+        &self,
+        alloc: Global,
+        word: &str,
+        rest: &str,
+        conditions: &Conditions,
+    ) -> Option<Left> {
         match word {
-            "run" => whole(alloc, rest, faults, &self.disks),
-            "part" => unended(alloc, rest, faults, &self.disks),
-            "ends" => ended(alloc, rest, faults, &self.disks),
-            "bytes" => self.left_by_bytes(alloc, "run", bytes_of(alloc, rest)?, faults),
-            "client" => self.left_by_bytes(alloc, "nbd", bytes_by_digits(alloc, rest)?, faults),
-            _ => self.left_by_words(alloc, rest, faults),
+            "run" => whole(alloc, rest, conditions, &self.disks),
+            "part" => unended(alloc, rest, conditions, &self.disks),
+            "ends" => ended(alloc, rest, conditions, &self.disks),
+            "bytes" => self.left_by_bytes(alloc, "run", bytes_of(alloc, rest)?, conditions),
+            "client" => self.left_by_bytes(alloc, "nbd", bytes_by_digits(alloc, rest)?, conditions),
+            _ => self.left_by_words(alloc, rest, conditions),
         }
     }
 
@@ -249,21 +264,21 @@ impl Stage {
         alloc: Global,
         words: &str,
         bytes: Vec<u8>,
-        faults: &Faults,
+        conditions: &Conditions,
     ) -> Option<Left> {
-        ran(alloc, words, bytes.as_slice(), faults, &self.disks)
+        ran(alloc, words, bytes.as_slice(), conditions, &self.disks)
     }
 
     // What the program does with these words over the lines after a `<`, or over the configuration.
-    fn left_by_words(&self, alloc: Global, text: &str, faults: &Faults) -> Option<Left> {
+    fn left_by_words(&self, alloc: Global, text: &str, conditions: &Conditions) -> Option<Left> {
         match text.split_once(" <") {
             Some((words, lines)) => {
                 let trace = trace_of(alloc, lines.trim_start())?;
-                ran(alloc, words, trace.as_bytes(), faults, &self.disks)
+                ran(alloc, words, trace.as_bytes(), conditions, &self.disks)
             }
             None => {
                 let input = self.configuration.as_bytes();
-                ran(alloc, text, input, faults, &self.disks)
+                ran(alloc, text, input, conditions, &self.disks)
             }
         }
     }
@@ -273,20 +288,21 @@ impl Stage {
         &self,
         alloc: Global,
         command: &str,
-        faults: &Faults,
+        conditions: &Conditions,
         nth: u32,
         sights: &mut Sights,
     ) -> Option<()> {
         let (word, rest) = first_word(command);
-        let left = self.left_by(alloc, word, rest, faults)?;
+        let left = self.left_by(alloc, word, rest, conditions)?;
         sights.note_run(alloc, &left, nth)
     }
 
     // Notes that where the call of this number of each disk fails.
     fn see_disks(&self, alloc: Global, command: &str, nth: u32, sights: &mut Sights) -> Option<()> {
         for disk in 0..self.disks.slots() {
-            let faults = Faults::on_disk(alloc, disk, nth)?;
-            self.see(alloc, command, &faults, nth, sights)?;
+            let mut conditions = Conditions::on_disk(alloc, disk, nth)?;
+            conditions.gathers = self.conditions.gathers;
+            self.see(alloc, command, &conditions, nth, sights)?;
         }
         Some(())
     }
@@ -299,8 +315,8 @@ impl Stage {
         let mut sights = Sights::new(alloc);
         for nth in 0..count {
             if is_any(word, "source sink") {
-                let faults = on_stream(alloc, word, nth);
-                self.see(alloc, command, &faults, nth, &mut sights)?;
+                let conditions = on_stream(alloc, word, nth);
+                self.see(alloc, command, &conditions, nth, &mut sights)?;
             } else {
                 self.see_disks(alloc, rest, nth, &mut sights)?;
             }
@@ -313,28 +329,28 @@ impl Stage {
             status,
             text,
             disks,
-        } = self.left_by(alloc, word, rest, &self.faults)?;
+        } = self.left_by(alloc, word, rest, &self.conditions)?;
         self.disks = disks;
         with_status(alloc, text, status)
     }
 
     fn stop(&mut self, alloc: Global, rest: &str) -> Option<String> {
-        self.disks = stop(alloc, rest, &self.faults, &self.disks)?;
+        self.disks = stop(alloc, rest, &self.conditions, &self.disks)?;
         Some(String::new(alloc))
     }
 
     // What a command tells that leaves the disks as they are.
     fn tell(&self, alloc: Global, word: &str, rest: &str) -> Option<String> {
-        let (faults, disks) = (&self.faults, &self.disks);
+        let (conditions, disks) = (&self.conditions, &self.disks);
         match word {
-            "cost" => cost(alloc, rest, faults, disks),
-            "mount" => mount(alloc, faults, disks),
-            "calls" => calls(alloc, rest, faults, disks),
-            "changes" => changes(alloc, rest, faults, disks),
-            "places" => places(alloc, rest, faults, disks),
+            "cost" => cost(alloc, rest, conditions, disks),
+            "mount" => mount(alloc, conditions, disks),
+            "calls" => calls(alloc, rest, conditions, disks),
+            "changes" => changes(alloc, rest, conditions, disks),
+            "places" => places(alloc, rest, conditions, disks),
             "made" => counted(alloc, disks, 0),
-            "stops" | "again" => told_stops(alloc, word, rest, faults, disks),
-            "leaves" => told_leaves(alloc, rest, faults, disks),
+            "stops" | "again" => told_stops(alloc, word, rest, conditions, disks),
+            "leaves" => told_leaves(alloc, rest, conditions, disks),
             "each" => self.each(alloc, rest),
             "long" => long(alloc, rest, self.configuration.as_str()),
             "look" => byte_at(alloc, disks, rest),
