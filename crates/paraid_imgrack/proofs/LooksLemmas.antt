@@ -1,11 +1,12 @@
 -- What a walk over the images finds of their labels and of what hinders them.
-use Rattle.std.proofs.Common.{◌≡◌, ◌≢◌, ℕ, ◌<◌, ◌≤◌, ◌+◌, ◌⊎◌, Bool, true, false, ◌&&◌, List, [], ◌∷◌, length, Option, None, Some, IfSome, IsSome, IsSomeAnd, unwrap_or, refl, map, get_or, set, sym, ◌∙◌, ap, subst, arith, inl, inr, zero, suc}
+use Rattle.std.proofs.Common.{◌≡◌, ◌≢◌, ℕ, ◌<◌, ◌≤◌, ◌+◌, ◌⊎◌, Bool, true, false, ◌&&◌, List, [], ◌∷◌, length, Option, None, Some, IfSome, IsSome, IsSomeAnd, unwrap_or, refl, map, get_or, set, slice_index, sym, ◌∙◌, ap, subst, arith, inl, inr, zero, suc}
 use Rattle.std.proofs.lemmas.Bool.{cases_lt, false≢true}
 use Rattle.std.proofs.lemmas.List.{get_or-set_other, get_or-set_same, length-map, map-set}
+use Rattle.paraid_base.specs.Told.{HasRisen}
 use Rattle.paraid_imgrack.specs.declared.identity.Identity.{Identity}
 use Rattle.paraid_imgrack.specs.declared.image.Image.{Image}
 use Rattle.paraid_imgrack.specs.Images.{Fit, IsLook, image_label, image_misfit, label_at, misfit_at}
-use Rattle.paraid_imgrack.specs.Labels.{AreUnnamed, FitsSlot, IsNamed, Names, IsAmong, known_array, label_in}
+use Rattle.paraid_imgrack.specs.Labels.{AreUnnamed, FitsSlot, IsLearned, IsNamed, IsNoLess, IsTaken, Names, IsAmong, known_array, label_in}
 use Rattle.paraid_imgrack.specs.declared.label.Label.{Label}
 
 get_or_past : {A : Type 0} (l : List A) (d : ℕ) (x : A) → length l ≤ d → get_or l d x ≡ x
@@ -127,13 +128,60 @@ unnamed_by labels at is none d below = subst (λ (o : Option Label). IfSome o (�
 named_by : (labels : ℕ → Option Label) (at : ℕ → Option Label) (i : Identity) → ((d : ℕ) → d < 8 → labels d ≡ at d) → IsNamed labels i → IsNamed at i
 named_by labels at i is (d, (below, so)) = (d, (below, subst (λ (o : Option Label). IsSomeAnd o (λ l. (l.array ≡ i.array) × (l.disks ≡ i.disks))) (is d below) so))
 
--- what was read names the array, and each label fits
+learned_by : (labels : ℕ → Option Label) (at : ℕ → Option Label) (i : Identity) → ((d : ℕ) → d < 8 → labels d ≡ at d) → IsLearned labels i → IsLearned at i
+learned_by labels at i is so d below = subst (λ (o : Option Label). IfSome o (λ l. d < i.disks → l.disk ≡ d → l.array ≡ i.array → IsTaken i l)) (is d below) (so d below)
+
+-- what is known after a walk over the first disks that a label knows of
+pub record LearnsBelow (old now : Identity) (l : Label) (n : ℕ) : Type 0 where
+  pub same : known_array (Some now) ≡ known_array (Some old)
+  pub kept : IsNoLess old now
+  pub known : (e : ℕ) → e < n → slice_index l.known e ≤ slice_index now.known e
+  pub past : HasRisen l.generation now.generation
+
+-- what the labels of the first slots say is known
+abbrev pub LearnedBelow : (ℕ → Option Label) → Identity → ℕ → Type 0
+LearnedBelow labels i n = (d : ℕ) → d < n → IfSome (labels d) (λ l. d < i.disks → l.disk ≡ d → l.array ≡ i.array → IsTaken i l)
+
+taken_kept : (old new : Identity) (l : Label) → IsNoLess old new → IsTaken old l → IsTaken new l
+taken_kept old new l kept taken = record {
+  known = λ e below. omega (arith, taken.known e below, kept.known e);
+  past = record {
+    risen = elim taken.past.risen [
+      | inl less ↦ inl (omega (arith, less, kept.generation))
+      | inr most ↦ inr (omega (arith, most, kept.generation))
+    ];
+  };
+}
+
+owed_kept : (o : Option Label) (old new : Identity) (d : ℕ) → known_array (Some new) ≡ known_array (Some old) → IsNoLess old new
+    → IfSome o (λ l. d < old.disks → l.disk ≡ d → l.array ≡ old.array → IsTaken old l) → IfSome o (λ l. d < new.disks → l.disk ≡ d → l.array ≡ new.array → IsTaken new l)
+owed_kept None old new d same kept owed = tt
+owed_kept (Some l) old new d same kept owed = λ within disk array. taken_kept old new l kept (owed (omega (arith, within, ap (λ (o : Option (List ℕ × ℕ)). (shown o).1) same)) disk (array ∙ ap (λ (o : Option (List ℕ × ℕ)). (shown o).0) same))
+
+owed_new : (o : Option Label) (old new : Identity) (d : ℕ) → known_array (Some new) ≡ known_array (Some old)
+    → IfSome o (λ l. d < old.disks → l.disk ≡ d → l.array ≡ old.array → IsTaken new l) → IfSome o (λ l. d < new.disks → l.disk ≡ d → l.array ≡ new.array → IsTaken new l)
+owed_new None old new d same owed = tt
+owed_new (Some l) old new d same owed = λ within disk array. owed (omega (arith, within, ap (λ (o : Option (List ℕ × ℕ)). (shown o).1) same)) disk (array ∙ ap (λ (o : Option (List ℕ × ℕ)). (shown o).0) same)
+
+pub LearnedBelow-none : (labels : ℕ → Option Label) (i : Identity) → LearnedBelow labels i 0
+LearnedBelow-none labels i d below = absurd (omega (arith, below))
+
+pub LearnedBelow-next : (labels : ℕ → Option Label) (old new : Identity) (n : ℕ) → known_array (Some new) ≡ known_array (Some old) → IsNoLess old new
+    → IfSome (labels n) (λ l. n < old.disks → l.disk ≡ n → l.array ≡ old.array → IsTaken new l) → LearnedBelow labels old n → LearnedBelow labels new (n + 1)
+LearnedBelow-next labels old new n same kept at learned d below = elim (cases_lt d n) [
+  | inl before ↦ owed_kept (labels d) old new d same kept (learned d before)
+  | inr past ↦ let is : d ≡ n = omega (arith, below, past) in
+      subst (λ (k : ℕ). IfSome (labels k) (λ l. k < new.disks → l.disk ≡ k → l.array ≡ new.array → IsTaken new l)) (sym is) (owed_new (labels n) old new n same at)
+]
+
+-- what was read names the array, what its labels know is known, and each label fits
 pub IsFitting-by : (labels : List (Option Label)) (read now : List Image) (i : Identity) (known : Option Identity) → Names (label_in labels) (Some i)
     → ((d : ℕ) → d < 8 → label_in labels d ≡ label_at read d) → map image_label now ≡ map image_label read → known ≡ Some i → Fit now i
-    → AreUnnamed (label_at now) ⊎ IsSomeAnd known (λ j. IsNamed (label_at now) j × Fit now j)
+    → AreUnnamed (label_at now) ⊎ IsSomeAnd known (λ j. IsNamed (label_at now) j × (IsLearned (label_at now) j × Fit now j))
 IsFitting-by labels read now i known names is same known_is fit =
     let at : (d : ℕ) → d < 8 → label_in labels d ≡ label_at now d = (λ d below. is d below ∙ sym (ap (λ (l : List (Option Label)). get_or l d None) same)) in
     elim names [
       | inl none ↦ inl (unnamed_by (label_in labels) (label_at now) at none)
-      | inr named ↦ inr (subst (λ (o : Option Identity). IsSomeAnd o (λ j. IsNamed (label_at now) j × Fit now j)) (sym known_is) (named_by (label_in labels) (label_at now) i at named, fit))
+      | inr named ↦ inr (subst (λ (o : Option Identity). IsSomeAnd o (λ j. IsNamed (label_at now) j × (IsLearned (label_at now) j × Fit now j))) (sym known_is)
+          (named_by (label_in labels) (label_at now) i at named.0, (learned_by (label_in labels) (label_at now) i at named.1, fit)))
     ]

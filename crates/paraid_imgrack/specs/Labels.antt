@@ -1,5 +1,6 @@
 -- What labels say of an image and of its array.
 use Rattle.std.specs.Prelude.{◌≡◌, ◌≢◌, ◌<◌, ◌≤◌, ◌⊎◌, ℕ, List, Option, None, Some, IfSome, IsSomeAnd, option_map, slice_index, slice_index_or}
+use Rattle.paraid_base.specs.Told.{HasRisen}
 use Rattle.paraid_imgrack.specs.declared.identity.Identity.{Identity}
 use Rattle.paraid_imgrack.specs.declared.identity.Misfit.{Misfit}
 use Rattle.paraid_imgrack.specs.declared.identity.Misfit.TheVariants.{Moved, Foreign, Old, New}
@@ -51,9 +52,23 @@ AreUnnamed labels = (d : ℕ) → d < 8 → IfSome (labels d) (λ l. l.disks ≤
 abbrev pub IsNamed : (ℕ → Option Label) → Identity → Type 0
 IsNamed labels i = (d : ℕ) × ((d < 8) × IsSomeAnd (labels d) (λ l. (l.array ≡ i.array) × (l.disks ≡ i.disks)))
 
--- what is known of the array by its labels, where there is any
+-- Each disk's image is known to be at least as new as this label knows it, and the generation that labels get next is above its own.
+pub record IsTaken (i : Identity) (l : Label) : Type 0 where
+  pub known : (e : ℕ) → e < 8 → slice_index l.known e ≤ slice_index i.known e
+  pub past : HasRisen l.generation i.generation
+
+-- what the labels of the array in their slots say of how new images are, is known
+abbrev pub IsLearned : (ℕ → Option Label) → Identity → Type 0
+IsLearned labels i = (d : ℕ) → d < 8 → IfSome (labels d) (λ l. d < i.disks → l.disk ≡ d → l.array ≡ i.array → IsTaken i l)
+
+-- no image is known to be less new than before, and the generation that labels get next has not fallen
+pub record IsNoLess (old new : Identity) : Type 0 where
+  pub known : (e : ℕ) → slice_index old.known e ≤ slice_index new.known e
+  pub generation : old.generation ≤ new.generation
+
+-- what is known of the array by its labels, where there is any: which it is, and how new its images are
 abbrev pub Names : (ℕ → Option Label) → Option Identity → Type 0
-Names labels known = AreUnnamed labels ⊎ IsSomeAnd known (IsNamed labels)
+Names labels known = AreUnnamed labels ⊎ IsSomeAnd known (λ i. IsNamed labels i × IsLearned labels i)
 
 -- one of the labels
 abbrev pub IsAmong : (ℕ → Option Label) → Label → Type 0

@@ -3,7 +3,7 @@ use Rattle.std.specs.Prelude.{◌≡◌, ◌<◌, ◌⊎◌, ℕ, List, None, Is
 use Rattle.paraid_imgrack.specs.declared.image.Image.{Image}
 use Rattle.paraid_imgrack.specs.declared.rack.ImageRack.{ImageRack}
 use Rattle.paraid_imgrack.specs.Images.{IsLoaded, Fit, hindrance_at, image_slot_at, label_at}
-use Rattle.paraid_imgrack.specs.Labels.{AreUnnamed, IsNamed}
+use Rattle.paraid_imgrack.specs.Labels.{AreUnnamed, IsLearned, IsNamed}
 
 -- the images of a rack
 abbrev pub images_of : {F : Type 0} → ImageRack F → List Image
@@ -17,7 +17,7 @@ IsUncalled rack = (d : ℕ) → d < length rack.images.items → IsLoaded (image
 abbrev pub IsUnhindered : {F : Type 0} → ImageRack F → Type 0
 IsUnhindered rack = (d : ℕ) → hindrance_at rack.images.items d ≡ None
 
--- One of the labels that were read names the array, and each that was read in a slot of it is one of its slot; or none names an array.
+-- One of the labels that were read names the array, what those of the array know is learned, and each that was read in a slot of it is one of its slot; or none names an array.
 abbrev pub IsFitting : {F : Type 0} → ImageRack F → Type 0
 IsFitting rack = AreUnnamed (label_at rack.images.items)
-    ⊎ IsSomeAnd rack.identity (λ i. IsNamed (label_at rack.images.items) i × Fit rack.images.items i)
+    ⊎ IsSomeAnd rack.identity (λ i. IsNamed (label_at rack.images.items) i × (IsLearned (label_at rack.images.items) i × Fit rack.images.items i))

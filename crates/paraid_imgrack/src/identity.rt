@@ -1,7 +1,7 @@
 //! Which array the labels of some images name, and which images do not belong into their slots.
-ghost use Rattle.std.specs.Prelude.{◌≡◌, ◌<◌, ◌≤◌, true, false, slice_index, Some, IfSome, IfNone};
+ghost use Rattle.std.specs.Prelude.{◌≡◌, ◌<◌, ◌≤◌, ℕ, true, false, slice_index, Some, IfSome, IfNone};
 ghost use Rattle.paraid_base.specs.Told.{HasRisen};
-ghost use Rattle.paraid_imgrack.specs.Labels.{AreUnnamed, FitsSlot, IsNamed, IsAmong, Suits, known_array, label_in};
+ghost use Rattle.paraid_imgrack.specs.Labels.{AreUnnamed, FitsSlot, IsLearned, IsNamed, IsNoLess, IsAmong, IsTaken, Suits, known_array, label_in};
 
 use crate::label::Label;
 use paraid_base::DiskNo;
@@ -77,6 +77,7 @@ impl Identity {
     pub(crate) fn of(labels: &Labels) -> Option<Identity>
         ensures none { IfNone result (AreUnnamed (label_in labels.now)) }
         ensures named { IfSome result (IsNamed (label_in labels.now)) }
+        ensures learned { IfSome result (IsLearned (label_in labels.now)) }
     {
         let named = named(labels)?;
         let mut identity = Identity::new(named.array, named.disks);
@@ -89,7 +90,10 @@ impl Identity {
     /// Takes over what the label of a slot says, if it is of the array.
     fn learn_from(&mut self, labels: &Labels, slot: usize)
         requires { slot < 8 }
-        ensures { known_array (Some self.new) ≡ known_array (Some self.old) }
+        ensures same { known_array (Some self.new) ≡ known_array (Some self.old) }
+        ensures kept { IsNoLess self.old self.new }
+        ensures taken { IfSome (label_in labels.now slot) (λ l. slot < self.old.disks → l.disk ≡ slot
+            → l.array ≡ self.old.array → IsTaken self.new l) }
     {
         if let Some(label) = labels[slot]
             && self.is_right(&label, slot as u8)
@@ -100,20 +104,24 @@ impl Identity {
 
     /// Takes over what a label of the array says.
     fn learn(&mut self, label: &Label, slot: usize)
-        ensures { known_array (Some self.new) ≡ known_array (Some self.old) }
+        ensures same { known_array (Some self.new) ≡ known_array (Some self.old) }
+        ensures kept { IsNoLess self.old self.new }
+        ensures taken { IsTaken self.new label.now }
     {
         if slot < 8 {
             self.seen[slot] = label.generation;
         }
         self.generation = self.generation.max(label.generation.saturating_add(1));
         for disk in 0..8 {
-            self.known[disk] = self.known[disk].max(label.known[disk]);
+            raise(&mut self.known, disk, label.known[disk]);
         }
     }
 
     /// Whether a label is of this slot and of this array.
     fn is_right(&self, label: &Label, slot: DiskNo) -> bool
-        ensures { result ≡ true → label.now.disk ≡ slot }
+        ensures slot { result ≡ true → label.now.disk ≡ slot }
+        ensures right { slot < self.now.disks → label.now.disk ≡ slot → label.now.array ≡ self.now.array
+            → result ≡ true }
     {
         slot < self.disks && label.disk == slot && label.array == self.array
     }
@@ -224,6 +232,15 @@ impl Identity {
             self.has_news = true;
         }
     }
+}
+
+/// The image of a disk is at least so new.
+fn raise(known: &mut [u64; 8], disk: usize, generation: u64)
+    requires { disk < 8 }
+    ensures here { generation ≤ slice_index known.new disk }
+    ensures kept { (e : ℕ) → slice_index known.old e ≤ slice_index known.new e }
+{
+    known[disk] = known[disk].max(generation);
 }
 
 /// A label of the array that the images are of: the first one, where no image of its array's slots is

@@ -1,8 +1,11 @@
-use Rattle.paraid_imgrack.proofs.LooksLemmas.{IsNamed-by, IsNamed-same}
+use Rattle.paraid_imgrack.proofs.LooksLemmas.{IsNamed-by, IsNamed-same, LearnedBelow-next, LearnedBelow-none}
 use Rattle.paraid_imgrack.proofs.identity.Identity.of.Goals as goal
 
 pub loop-slot-init : goal.loop-slot-init
-loop-slot-init c = IsNamed-by _ c.in_ok-named.named c.new-identity.result c.in_ok-named.ensures.one c.new-identity.ensures
+loop-slot-init c = (IsNamed-by _ c.in_ok-named.named c.new-identity.result c.in_ok-named.ensures.one c.new-identity.ensures, LearnedBelow-none _ _)
 
 pub loop-slot-preserved : goal.loop-slot-preserved
-loop-slot-preserved c = IsNamed-same _ c.loop-slot.identity c.learn_from.new.self c.learn_from.ensures c.loop-slot.invariant
+loop-slot-preserved c = (
+  IsNamed-same _ c.loop-slot.identity c.learn_from.new.self c.learn_from.ensures.same c.loop-slot.invariant.0,
+  LearnedBelow-next _ c.loop-slot.identity c.learn_from.new.self c.loop-slot.slot c.learn_from.ensures.same c.learn_from.ensures.kept c.learn_from.ensures.taken c.loop-slot.invariant.1,
+)

@@ -1,5 +1,6 @@
+use Rattle.paraid_imgrack.proofs.LooksLemmas.{LearnedBelow}
 use Rattle.paraid_imgrack.specs.Labels.{IsNamed, label_in}
 use Rattle.paraid_imgrack.proofs.identity.Identity.of.Given as goal
 
 abbrev pub invariant-loop-slot : goal.invariant-loop-slot
-invariant-loop-slot l = IsNamed (label_in l.fn.labels) l.identity
+invariant-loop-slot l = IsNamed (label_in l.fn.labels) l.identity × LearnedBelow (label_in l.fn.labels) l.identity l.slot
