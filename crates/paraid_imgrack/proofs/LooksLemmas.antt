@@ -6,7 +6,7 @@ use Rattle.paraid_base.specs.Told.{HasRisen}
 use Rattle.paraid_imgrack.specs.declared.identity.Identity.{Identity}
 use Rattle.paraid_imgrack.specs.declared.image.Image.{Image}
 use Rattle.paraid_imgrack.specs.Images.{Fit, IsLook, image_label, image_misfit, label_at, misfit_at}
-use Rattle.paraid_imgrack.specs.Labels.{AreUnnamed, FitsSlot, IsLearned, IsNamed, IsNoLess, IsTaken, Names, IsAmong, known_array, label_in}
+use Rattle.paraid_imgrack.specs.Labels.{AreUnnamed, FitsSlot, IsLearned, IsNamed, IsNoLess, IsTakenOver, Names, IsAmong, known_array, label_in}
 use Rattle.paraid_imgrack.specs.declared.label.Label.{Label}
 
 get_or_past : {A : Type 0} (l : List A) (d : ℕ) (x : A) → length l ≤ d → get_or l d x ≡ x
@@ -129,7 +129,7 @@ named_by : (labels : ℕ → Option Label) (at : ℕ → Option Label) (i : Iden
 named_by labels at i is (d, (below, so)) = (d, (below, subst (λ (o : Option Label). IsSomeAnd o (λ l. (l.array ≡ i.array) × (l.disks ≡ i.disks))) (is d below) so))
 
 learned_by : (labels : ℕ → Option Label) (at : ℕ → Option Label) (i : Identity) → ((d : ℕ) → d < 8 → labels d ≡ at d) → IsLearned labels i → IsLearned at i
-learned_by labels at i is so d below = subst (λ (o : Option Label). IfSome o (λ l. d < i.disks → l.disk ≡ d → l.array ≡ i.array → IsTaken i l)) (is d below) (so d below)
+learned_by labels at i is so d below = subst (λ (o : Option Label). IfSome o (λ l. d < i.disks → l.disk ≡ d → l.array ≡ i.array → IsTakenOver i l)) (is d below) (so d below)
 
 -- what is known after a walk over the first disks that a label knows of
 pub record LearnsBelow (old now : Identity) (l : Label) (n : ℕ) : Type 0 where
@@ -140,9 +140,9 @@ pub record LearnsBelow (old now : Identity) (l : Label) (n : ℕ) : Type 0 where
 
 -- what the labels of the first slots say is known
 abbrev pub LearnedBelow : (ℕ → Option Label) → Identity → ℕ → Type 0
-LearnedBelow labels i n = (d : ℕ) → d < n → IfSome (labels d) (λ l. d < i.disks → l.disk ≡ d → l.array ≡ i.array → IsTaken i l)
+LearnedBelow labels i n = (d : ℕ) → d < n → IfSome (labels d) (λ l. d < i.disks → l.disk ≡ d → l.array ≡ i.array → IsTakenOver i l)
 
-taken_kept : (old new : Identity) (l : Label) → IsNoLess old new → IsTaken old l → IsTaken new l
+taken_kept : (old new : Identity) (l : Label) → IsNoLess old new → IsTakenOver old l → IsTakenOver new l
 taken_kept old new l kept taken = record {
   known = λ e below. omega (arith, taken.known e below, kept.known e);
   past = record {
@@ -154,12 +154,12 @@ taken_kept old new l kept taken = record {
 }
 
 owed_kept : (o : Option Label) (old new : Identity) (d : ℕ) → known_array (Some new) ≡ known_array (Some old) → IsNoLess old new
-    → IfSome o (λ l. d < old.disks → l.disk ≡ d → l.array ≡ old.array → IsTaken old l) → IfSome o (λ l. d < new.disks → l.disk ≡ d → l.array ≡ new.array → IsTaken new l)
+    → IfSome o (λ l. d < old.disks → l.disk ≡ d → l.array ≡ old.array → IsTakenOver old l) → IfSome o (λ l. d < new.disks → l.disk ≡ d → l.array ≡ new.array → IsTakenOver new l)
 owed_kept None old new d same kept owed = tt
 owed_kept (Some l) old new d same kept owed = λ within disk array. taken_kept old new l kept (owed (omega (arith, within, ap (λ (o : Option (List ℕ × ℕ)). (shown o).1) same)) disk (array ∙ ap (λ (o : Option (List ℕ × ℕ)). (shown o).0) same))
 
 owed_new : (o : Option Label) (old new : Identity) (d : ℕ) → known_array (Some new) ≡ known_array (Some old)
-    → IfSome o (λ l. d < old.disks → l.disk ≡ d → l.array ≡ old.array → IsTaken new l) → IfSome o (λ l. d < new.disks → l.disk ≡ d → l.array ≡ new.array → IsTaken new l)
+    → IfSome o (λ l. d < old.disks → l.disk ≡ d → l.array ≡ old.array → IsTakenOver new l) → IfSome o (λ l. d < new.disks → l.disk ≡ d → l.array ≡ new.array → IsTakenOver new l)
 owed_new None old new d same owed = tt
 owed_new (Some l) old new d same owed = λ within disk array. owed (omega (arith, within, ap (λ (o : Option (List ℕ × ℕ)). (shown o).1) same)) disk (array ∙ ap (λ (o : Option (List ℕ × ℕ)). (shown o).0) same)
 
@@ -167,11 +167,11 @@ pub LearnedBelow-none : (labels : ℕ → Option Label) (i : Identity) → Learn
 LearnedBelow-none labels i d below = absurd (omega (arith, below))
 
 pub LearnedBelow-next : (labels : ℕ → Option Label) (old new : Identity) (n : ℕ) → known_array (Some new) ≡ known_array (Some old) → IsNoLess old new
-    → IfSome (labels n) (λ l. n < old.disks → l.disk ≡ n → l.array ≡ old.array → IsTaken new l) → LearnedBelow labels old n → LearnedBelow labels new (n + 1)
+    → IfSome (labels n) (λ l. n < old.disks → l.disk ≡ n → l.array ≡ old.array → IsTakenOver new l) → LearnedBelow labels old n → LearnedBelow labels new (n + 1)
 LearnedBelow-next labels old new n same kept at learned d below = elim (cases_lt d n) [
   | inl before ↦ owed_kept (labels d) old new d same kept (learned d before)
   | inr past ↦ let is : d ≡ n = omega (arith, below, past) in
-      subst (λ (k : ℕ). IfSome (labels k) (λ l. k < new.disks → l.disk ≡ k → l.array ≡ new.array → IsTaken new l)) (sym is) (owed_new (labels n) old new n same at)
+      subst (λ (k : ℕ). IfSome (labels k) (λ l. k < new.disks → l.disk ≡ k → l.array ≡ new.array → IsTakenOver new l)) (sym is) (owed_new (labels n) old new n same at)
 ]
 
 -- what was read names the array, what its labels know is known, and each label fits

@@ -53,13 +53,13 @@ abbrev pub IsNamed : (ℕ → Option Label) → Identity → Type 0
 IsNamed labels i = (d : ℕ) × ((d < 8) × IsSomeAnd (labels d) (λ l. (l.array ≡ i.array) × (l.disks ≡ i.disks)))
 
 -- Each disk's image is known to be at least as new as this label knows it, and the generation that labels get next is above its own.
-pub record IsTaken (i : Identity) (l : Label) : Type 0 where
+pub record IsTakenOver (i : Identity) (l : Label) : Type 0 where
   pub known : (e : ℕ) → e < 8 → slice_index l.known e ≤ slice_index i.known e
   pub past : HasRisen l.generation i.generation
 
 -- what the labels of the array in their slots say of how new images are, is known
 abbrev pub IsLearned : (ℕ → Option Label) → Identity → Type 0
-IsLearned labels i = (d : ℕ) → d < 8 → IfSome (labels d) (λ l. d < i.disks → l.disk ≡ d → l.array ≡ i.array → IsTaken i l)
+IsLearned labels i = (d : ℕ) → d < 8 → IfSome (labels d) (λ l. d < i.disks → l.disk ≡ d → l.array ≡ i.array → IsTakenOver i l)
 
 -- no image is known to be less new than before, and the generation that labels get next has not fallen
 pub record IsNoLess (old new : Identity) : Type 0 where

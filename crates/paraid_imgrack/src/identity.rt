@@ -1,7 +1,7 @@
 //! Which array the labels of some images name, and which images do not belong into their slots.
 ghost use Rattle.std.specs.Prelude.{◌≡◌, ◌<◌, ◌≤◌, ℕ, true, false, slice_index, Some, IfSome, IfNone};
 ghost use Rattle.paraid_base.specs.Told.{HasRisen};
-ghost use Rattle.paraid_imgrack.specs.Labels.{AreUnnamed, FitsSlot, IsLearned, IsNamed, IsNoLess, IsAmong, IsTaken, Suits, known_array, label_in};
+ghost use Rattle.paraid_imgrack.specs.Labels.{AreUnnamed, FitsSlot, IsLearned, IsNamed, IsNoLess, IsAmong, IsTakenOver, Suits, known_array, label_in};
 
 use crate::label::Label;
 use paraid_base::DiskNo;
@@ -93,7 +93,7 @@ impl Identity {
         ensures same { known_array (Some self.new) ≡ known_array (Some self.old) }
         ensures kept { IsNoLess self.old self.new }
         ensures taken { IfSome (label_in labels.now slot) (λ l. slot < self.old.disks → l.disk ≡ slot
-            → l.array ≡ self.old.array → IsTaken self.new l) }
+            → l.array ≡ self.old.array → IsTakenOver self.new l) }
     {
         if let Some(label) = labels[slot]
             && self.is_right(&label, slot as u8)
@@ -106,14 +106,14 @@ impl Identity {
     fn learn(&mut self, label: &Label, slot: usize)
         ensures same { known_array (Some self.new) ≡ known_array (Some self.old) }
         ensures kept { IsNoLess self.old self.new }
-        ensures taken { IsTaken self.new label.now }
+        ensures taken { IsTakenOver self.new label.now }
     {
         if slot < 8 {
             self.seen[slot] = label.generation;
         }
         self.generation = self.generation.max(label.generation.saturating_add(1));
         for disk in 0..8 {
-            raise(&mut self.known, disk, label.known[disk]);
+            raise_known(&mut self.known, disk, label.known[disk]);
         }
     }
 
@@ -235,7 +235,7 @@ impl Identity {
 }
 
 /// The image of a disk is at least so new.
-fn raise(known: &mut [u64; 8], disk: usize, generation: u64)
+fn raise_known(known: &mut [u64; 8], disk: usize, generation: u64)
     requires { disk < 8 }
     ensures here { generation ≤ slice_index known.new disk }
     ensures kept { (e : ℕ) → slice_index known.old e ≤ slice_index known.new e }
