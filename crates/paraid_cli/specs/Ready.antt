@@ -2,14 +2,14 @@
 use Rattle.std.specs.Prelude.{◌≡◌, List, length, false, true}
 use Rattle.paraid_imgrack.specs.declared.image.Image.{Image}
 use Rattle.paraid_imgrack.specs.declared.rack.ImageRack.{ImageRack}
-use Rattle.paraid_imgrack.specs.Looks.{images_of, IsFitting, IsUnhindered, IsUncalled}
+use Rattle.paraid_imgrack.specs.Looks.{images_of, IsFitting, IsUnhindered, IsAsOpened}
 use Rattle.paraid_words.specs.declared.command.Command.{Command}
 use Rattle.paraid_words.specs.declared.command.Command.TheVariants.{Format, Run, Spare, Status, Check, Gen, Nbd, Vol, Plan}
 
--- all slots are there, no disk was touched since the load, and each disk that is there can be served
+-- all slots are there and look as their images were opened, and each disk that is there can be served
 pub record IsWhole {F : Type 0} (rack : ImageRack F) : Type 0 where
   pub slots : length (images_of rack) ≡ 8
-  pub untouched : IsUncalled rack
+  pub opened : IsAsOpened rack
   pub unhindered : IsUnhindered rack
 
 -- The rack is whole, and each image is one of its slot.

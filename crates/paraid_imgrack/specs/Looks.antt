@@ -9,9 +9,9 @@ use Rattle.paraid_imgrack.specs.Labels.{AreUnnamed, IsLearned, IsNamed}
 abbrev pub images_of : {F : Type 0} → ImageRack F → List Image
 images_of rack = rack.images.items
 
--- no image was spun up, parked, synced or attached, and no call has failed
-abbrev pub IsUncalled : {F : Type 0} → ImageRack F → Type 0
-IsUncalled rack = (d : ℕ) → d < length rack.images.items → IsLoaded (image_slot_at rack.images.items d)
+-- each slot looks as its image was opened: a disk that spins is unsynced, and no call has failed
+abbrev pub IsAsOpened : {F : Type 0} → ImageRack F → Type 0
+IsAsOpened rack = (d : ℕ) → d < length rack.images.items → IsLoaded (image_slot_at rack.images.items d)
 
 -- each disk that is there can be served
 abbrev pub IsUnhindered : {F : Type 0} → ImageRack F → Type 0

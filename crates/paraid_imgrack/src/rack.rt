@@ -31,7 +31,7 @@ pub struct ImageRack<F> {
 impl<F: Files<File = File> + Drop> ImageRack<F> {
     ghost use Rattle.std.specs.Prelude.{◌<◌, IfOk, IfNone, IfSome, None};
     ghost use Rattle.paraid_imgrack.specs.Images.{IsLoaded, FirstHindrance, hindrance_at};
-    ghost use Rattle.paraid_imgrack.specs.Looks.{IsUnhindered, IsUncalled};
+    ghost use Rattle.paraid_imgrack.specs.Looks.{IsUnhindered, IsAsOpened};
     ghost use Rattle.paraid_imgrack.specs.declared.image.Hindrance.TheVariants.{Crowded};
 
     /// The rack of the disks 0 to `slots - 1`, as their files tell them.
@@ -44,7 +44,7 @@ impl<F: Files<File = File> + Drop> ImageRack<F> {
         ensures told { IfOk result (λ rack. ⟦<ImageRack<F> as Rack>⟧.told rack ≡ None) }
         ensures loaded { IfOk result (λ rack. (d : ℕ) → d < slots
             → IsLoaded (⟦<ImageRack<F> as Rack>⟧.slot rack d)) }
-        ensures untouched { IfOk result IsUncalled }
+        ensures opened { IfOk result IsAsOpened }
     {
         let Ok(mut images) = Vec::with_capacity(alloc, slots as usize) else {
             return Err(NoMemory);

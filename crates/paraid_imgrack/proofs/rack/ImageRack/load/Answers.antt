@@ -17,5 +17,5 @@ invariant_of-result g c = record { few = omega (arith, c.loop-disk.invariant.1.n
 pub returns-clause-loaded : goal.returns-clause-loaded
 returns-clause-loaded g c d below = c.loop-disk.invariant.1.loaded d (omega (arith, below, c.loop-disk-test.false))
 
-pub returns-clause-untouched : goal.returns-clause-untouched
-returns-clause-untouched g c d below = c.loop-disk.invariant.1.loaded d (omega (arith, below, c.loop-disk.invariant.1.number))
+pub returns-clause-opened : goal.returns-clause-opened
+returns-clause-opened g c d below = c.loop-disk.invariant.1.loaded d (omega (arith, below, c.loop-disk.invariant.1.number))
