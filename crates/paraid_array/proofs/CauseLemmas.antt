@@ -25,15 +25,14 @@ use Rattle.paraid_rack.specs.Slots.{Slot}
 use Rattle.paraid_record.specs.declared.meta.Meta.{Meta}
 use Rattle.paraid_record.specs.declared.meta.Setup.{Setup}
 use Rattle.paraid_dirty.specs.Table.{is_dirty}
-use Rattle.paraid_core.specs.CoreInvariant.{meta_with_lost}
 use Rattle.paraid_core.specs.Cores.{core_rack}
 use Rattle.paraid_core.specs.Lost.{MarksLost}
 use Rattle.paraid_core.specs.Steps.{IsMarkedFrom}
-use Rattle.paraid_image.specs.Mark.{meta_after_loss}
+use Rattle.paraid_image.specs.Mark.{meta_after_loss, meta_with_lost}
 use Rattle.paraid_moves.specs.MoveMetas.{meta_after_begin}
 use Rattle.paraid_rebuild.specs.Replacing.{IsReplacedFrom}
 use Rattle.paraid_core.specs.declared.staged.Core.{Core}
-use Rattle.paraid_serve.specs.Causes.{Accepts, Begins, CommitsFew, Counts, Does, DoesShift, HasCause, HasCounted, IsUnchanged, KeepsEnergy, Replaces, Shown, Takes, UsesOwn, down_refusal, gear_after, meta_marked, missing_answer, most_commits, quiet_answer, spins_up, state_shown, up_refusal, wear_shown}
+use Rattle.paraid_serve.specs.Causes.{Accepts, Begins, CommitsFew, Counts, Does, DoesShift, HasCause, HasCounted, IsUnchanged, KeepsEnergy, Replaces, Shown, Takes, UsesOwn, down_refusal, gear_after, missing_answer, most_commits, quiet_answer, spins_up, state_shown, up_refusal, wear_shown}
 use Rattle.paraid_serve.specs.Causes.HasReason.{done as reason_done, quiet as reason_quiet, two as reason_two, worn as reason_worn}
 use Rattle.paraid_serve.specs.Lost.{HaltsByTwoLost}
 use Rattle.paraid_serve.proofs.OwedLemmas.{no_halt_done, no_halt_quiet}
@@ -126,7 +125,7 @@ module _ {R : Type 0} {g : _} {count : R → ℕ} (slot : R → ℕ → Slot) (a
     synced = λ still. all_synced slot a.core q.serving.copies_synced q.serving.unsynced;
   }
 
-same_marked : (o : Option ℕ) (m : Meta) → meta_with_lost o m ≡ meta_marked o m
+same_marked : (o : Option ℕ) (m : Meta) → meta_with_lost o m ≡ meta_with_lost o m
 same_marked None m = refl
 same_marked (Some d) m = refl
 
@@ -371,9 +370,9 @@ no_out o e = rw e refl
 
 -- what the marks of a begin leave of the meta
 pub begun_meta : (o : Option ℕ) (m n : Meta) (phase : Phase) (spins : List ℕ) (epoch : ℕ) → n ≡ meta_with_lost o (record (meta_after_begin m phase spins) { epoch = epoch })
-    → n ≡ record (meta_marked o (record m { phase = phase; fill = 0 })) { epoch = n.epoch; spins = n.spins }
-begun_meta None m n phase spins epoch is = subst (λ (z : Meta). z ≡ record (meta_marked None (record m { phase = phase; fill = 0 })) { epoch = z.epoch; spins = z.spins }) (sym is) refl
-begun_meta (Some d) m n phase spins epoch is = subst (λ (z : Meta). z ≡ record (meta_marked (Some d) (record m { phase = phase; fill = 0 })) { epoch = z.epoch; spins = z.spins }) (sym is) refl
+    → n ≡ record (meta_with_lost o (record m { phase = phase; fill = 0 })) { epoch = n.epoch; spins = n.spins }
+begun_meta None m n phase spins epoch is = subst (λ (z : Meta). z ≡ record (meta_with_lost None (record m { phase = phase; fill = 0 })) { epoch = z.epoch; spins = z.spins }) (sym is) refl
+begun_meta (Some d) m n phase spins epoch is = subst (λ (z : Meta). z ≡ record (meta_with_lost (Some d) (record m { phase = phase; fill = 0 })) { epoch = z.epoch; spins = z.spins }) (sym is) refl
 
 pub begun_spins : (o : Option ℕ) (m n : Meta) → n ≡ meta_with_lost o m → n.spins ≡ m.spins
 begun_spins None m n is = ap (λ (z : Meta). z.spins) is

@@ -15,9 +15,9 @@ use Rattle.paraid_rack.specs.Trail.{Trail, now}
 use Rattle.paraid_record.specs.declared.meta.Meta.{Meta}
 use Rattle.paraid_image.specs.Out.{named_out}
 use Rattle.paraid_image.specs.Spot.{View}
+use Rattle.paraid_image.specs.Mark.{meta_with_lost}
 use Rattle.paraid_txn.specs.Stores.{named_of}
 use Rattle.paraid_core.specs.declared.staged.Core.{Core}
-use Rattle.paraid_core.specs.CoreInvariant.{meta_with_lost}
 use Rattle.paraid_core.specs.Calls.{MakesTransferCalls}
 use Rattle.paraid_core.specs.Cores.{CanCoreServe, core_down, core_rack}
 use Rattle.paraid_core.specs.Lost.{CoreMarksLost, CoreTellsLosses, MakesReads, MarksLost}

@@ -8,6 +8,7 @@ use Rattle.paraid_base.specs.declared.event.Event.TheVariants.{Bad}
 use Rattle.paraid_base.specs.declared.fault.Halt.{Halt}
 use Rattle.paraid_base.specs.declared.fault.Halt.TheVariants.{Worn}
 use Rattle.paraid_base.specs.Log.{worn_at}
+use Rattle.paraid_base.specs.BlockAnswers.{accepted_write}
 use Rattle.paraid_gear.specs.ThreeWindows.{HoldLastSamples, sample_of}
 use Rattle.paraid_rack.specs.declared.call.Call.{Call}
 use Rattle.paraid_rack.specs.Disks.{Disks}
@@ -15,7 +16,6 @@ use Rattle.paraid_rack.specs.Told.{Ran}
 use Rattle.paraid_rack.specs.Trail.{Trail}
 use Rattle.paraid_record.specs.declared.meta.Meta.{Meta}
 use Rattle.paraid_record.specs.declared.meta.Setup.{Setup}
-use Rattle.paraid_image.specs.Shown.{accepted_write}
 use Rattle.paraid_core.specs.declared.staged.Core.{Core}
 use Rattle.paraid_core.specs.Cores.{core_rack}
 use Rattle.paraid_session.specs.Turn.{GoesOn, Point, halt_told, may_halt, point_wear, with_halt}

@@ -7,13 +7,12 @@ use Rattle.paraid_dirty.specs.Table.{is_dirty}
 use Rattle.paraid_image.specs.Power.{PowerState}
 use Rattle.paraid_gear.specs.ThreeWindows.{HoldLastSamples, sample_of}
 use Rattle.paraid_rack.specs.Slots.{Slot}
-use Rattle.paraid_rack.specs.Told.{Ran}
+use Rattle.paraid_rack.specs.Told.{Extends, Ran}
 use Rattle.paraid_rack.specs.Trail.{Trail}
 use Rattle.paraid_record.specs.declared.meta.Meta.{Meta}
 use Rattle.paraid_record.specs.declared.meta.Setup.{Setup}
 use Rattle.paraid_core.specs.declared.staged.Core.{Core}
 use Rattle.paraid_core.specs.Cores.{core_rack}
-use Rattle.paraid_recover.specs.HeldMoments.{Extends}
 use Rattle.paraid_serve.specs.Causes.{HasCause, Shown}
 use Rattle.paraid_session.specs.Turn.{GoesOn, Point}
 use Rattle.paraid_event.specs.Counts.{with_counts_of}

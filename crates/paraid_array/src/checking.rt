@@ -4,9 +4,8 @@ ghost use Rattle.paraid_base.specs.declared.event.Answer.TheVariants.{Flushed, H
 ghost use Rattle.paraid_base.specs.declared.event.Event.TheVariants.{Flush as FlushEvent};
 ghost use Rattle.paraid_base.specs.Log.{worn_at};
 ghost use Rattle.paraid_core.specs.Cores.{batch_of, meta_of};
-ghost use Rattle.paraid_rack.specs.Told.{Ran};
+ghost use Rattle.paraid_rack.specs.Told.{Extends, Ran};
 ghost use Rattle.paraid_recover.specs.Calls.{OnlyReads};
-ghost use Rattle.paraid_recover.specs.HeldMoments.{Extends};
 ghost use Rattle.paraid_scrub.specs.Counts.{AreWithinMembers, no_faults};
 ghost use Rattle.paraid_serve.specs.Causes.{HasCause};
 ghost use Rattle.paraid_session.specs.Turn.{GoesOn, Point};

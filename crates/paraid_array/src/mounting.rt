@@ -1,7 +1,7 @@
 //! A mount that gives an array in service.
 ghost use Rattle.std.specs.Prelude.{◌≡◌, ℕ, ◌≤◌, None, Some, IfErr, IfOk};
 ghost use Rattle.paraid_rack.specs.Trail.{Trail, moments};
-ghost use Rattle.paraid_recover.specs.HeldMoments.{Extends};
+ghost use Rattle.paraid_rack.specs.Told.{Extends};
 ghost use Rattle.paraid_recover.specs.Mount.{IsCauseOfRefusal};
 ghost use Rattle.paraid_array.specs.Begun.{IsMountedCore};
 ghost use Rattle.paraid_session.specs.Mount.{IsMountedFromEach, IsRefusedFromEach};

@@ -4,14 +4,21 @@ use Rattle.paraid_base.specs.declared.block.Block.{Block}
 use Rattle.paraid_base.specs.declared.event.Answer.{Answer}
 use Rattle.paraid_base.specs.declared.event.Answer.TheVariants.{Value, NoBlock, Wrote, Flushed, Halted}
 use Rattle.paraid_base.specs.declared.event.Event.{Event}
+use Rattle.paraid_base.specs.declared.event.Event.TheVariants.{Write}
 use Rattle.paraid_base.specs.declared.fault.BlockFault.{BlockFault}
 use Rattle.paraid_base.specs.declared.fault.BlockFault.TheVariants.{NoBlock as BlockMissing, Halt as BlockHalt}
 use Rattle.paraid_base.specs.declared.fault.Halt.{Halt}
 use Rattle.paraid_base.specs.History.{Entry, History}
+use Rattle.paraid_base.specs.Pairs.{pairs_of}
 
 -- events with their answers, the first event first
 abbrev pub Answers : Type 0
 Answers = List (Event × Answer)
+
+-- the entry that an event adds: that of a write that was accepted; no other event has one
+abbrev pub accepted_write : Event → Answer → History
+accepted_write (Write pairs) (Wrote number) = pairs_of pairs ∷ []
+accepted_write event answer = []
 
 -- the answer to the read of a block that gave these bytes
 abbrev pub answer_to_read : ℕ → Block → Result (Unit {0}) BlockFault → Answer

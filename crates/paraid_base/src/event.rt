@@ -60,7 +60,7 @@ pub enum Answer {
     NotOut { disk: DiskNo },
     /// No fresh disk could be had in this slot.
     NoFresh { disk: DiskNo },
-    /// This disk has used its ration of spin-ups.
+    /// No shift down: it would park this disk, whose spin-ups have reached the ration.
     Ration { disk: DiskNo },
     /// The state of an array of so many disks.
     State { status: Status, disks: u8 },

@@ -120,18 +120,6 @@ impl Geometry {
         self.soft_start(self.disks + 1)
     }
 
-    /// The least gear.
-    pub fn first_gear(&self) -> u8
-        ensures gear { IsGear self.now result }
-        ensures least { (a : ℕ) → a < result → slice_index_or self.now.gears a false ≡ false }
-    {
-        let mut a = 3;
-        while a < self.disks && !self.gears[a as usize] {
-            a += 1;
-        }
-        a
-    }
-
     /// Whether a number is a gear.
     pub fn is_gear(&self, a: u8) -> bool
         ensures { result ≡ slice_index_or self.now.gears a false }

@@ -1,5 +1,5 @@
 ghost use Rattle.std.specs.Prelude.{◌≡◌};
-ghost use Rattle.paraid_base.specs.States.{gone_out, has_out, is_down as falls, is_fresh as is_rebuilt, is_gone as is_lost, is_out, named_out, phase_beside, phase_to, rebuilt_count, rising_to as rises_to};
+ghost use Rattle.paraid_base.specs.States.{gone_out, has_out, is_down as is_down_in, is_fresh as is_fresh_in, is_gone as is_gone_in, is_out, named_out, phase_beside, phase_to, rebuilt_count, rising_to as rising_to_of};
 
 use crate::{DiskNo, Halt};
 
@@ -27,7 +27,7 @@ impl Phase {
 
     /// The gear that a shift up goes to, or 0.
     pub fn rising_to(self) -> u8
-        ensures { result ≡ rises_to self }
+        ensures { result ≡ rising_to_of self }
     {
         match self {
             Phase::Up { to } => to,
@@ -37,7 +37,7 @@ impl Phase {
 
     /// Whether a shift down is under way.
     pub fn is_down(self) -> bool
-        ensures { result ≡ falls self }
+        ensures { result ≡ is_down_in self }
     {
         match self {
             Phase::Down { .. } => true,
@@ -127,7 +127,7 @@ impl Out {
 
     /// Whether this disk is out and has not been replaced.
     pub fn is_gone(self, disk: DiskNo) -> bool
-        ensures { result ≡ is_lost self disk }
+        ensures { result ≡ is_gone_in self disk }
     {
         match self {
             Out::Gone { disk: out } => disk == out,
@@ -137,7 +137,7 @@ impl Out {
 
     /// Whether this disk is being rebuilt.
     pub fn is_fresh(self, disk: DiskNo) -> bool
-        ensures { result ≡ is_rebuilt self disk }
+        ensures { result ≡ is_fresh_in self disk }
     {
         match self {
             Out::Fresh { disk: out, .. } => disk == out,
@@ -163,9 +163,10 @@ pub enum TickEvent {
     Rebuilt { disk: DiskNo },
     /// The disk that was being rebuilt failed again.
     Gone { disk: DiskNo },
-    /// This disk was lost in a shift, which stands still from then on.
+    /// This disk was lost in a shift. A shift up goes on once it is rebuilt; a shift down is given up.
     Lost { disk: DiskNo },
-    /// A shift down was due, and this disk has used its ration of spin-ups.
+    /// A shift down was due and did not begin: it would park this disk, whose spin-ups have reached the
+    /// ration.
     Ration { disk: DiskNo },
 }
 

@@ -21,10 +21,11 @@ use Rattle.paraid_txn.specs.Losses.IsOutOfCommit.{is_absent, is_named, was_named
 use Rattle.paraid_image.specs.Out.{first_absent, named_out, or_else, out_disk}
 use Rattle.paraid_image.specs.Sides.{Batch}
 use Rattle.paraid_image.specs.Spot.{rising_to}
+use Rattle.paraid_image.specs.Mark.{meta_with_lost}
 use Rattle.paraid_image.proofs.OutLemmas.{first_absent_is, named_below}
 use Rattle.paraid_txn.proofs.StoreLemmas.{next_in_range}
 use Rattle.std.proofs.lemmas.List.Elements.{All-nil}
-use Rattle.paraid_core.specs.CoreInvariant.{CanServe, AreSlotsReady, lost_in, meta_with_lost}
+use Rattle.paraid_core.specs.CoreInvariant.{CanServe, AreSlotsReady, lost_in}
 use Rattle.paraid_core.proofs.ReadyLemmas.{IsLostOnly, ready_lost, ready_same, serve_lost, serve_same, some_is}
 
 pub gear_high : (m : Meta) → IsInRange m → m.gear ≤ m.setup.geometry.disks

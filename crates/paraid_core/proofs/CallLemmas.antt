@@ -18,6 +18,7 @@ use Rattle.paraid_image.specs.Sides.{Batch, is_open, stored_block}
 use Rattle.paraid_image.specs.Content.{view_by}
 use Rattle.paraid_image.specs.Sound.{ContentOk}
 use Rattle.paraid_image.specs.Standing.{Contents, contents}
+use Rattle.paraid_image.specs.Mark.{meta_with_lost}
 use Rattle.paraid_base.specs.Regions.{map_count}
 use Rattle.paraid_dirty.specs.Table.{is_dirty}
 use Rattle.paraid_moves.specs.Copying.{IsCopying}
@@ -25,7 +26,7 @@ use Rattle.paraid_txn.specs.Losses.{OnlyLosesSlots}
 use Rattle.paraid_txn.specs.Stores.{IsSameStore, disks_of, epoch_of, named_of, store_rack}
 use Rattle.paraid_core.specs.declared.staged.Core.{Core}
 use Rattle.paraid_core.specs.Cores.{IsCoreReady, CanCoreServe, CoreStandsFor}
-use Rattle.paraid_core.specs.CoreInvariant.{CanServe, IsHeldWithOneMissing, IsWitnessBorne, AreSlotsReady, HoldsBetweenCalls, is_copied, lost_in, meta_with_lost}
+use Rattle.paraid_core.specs.CoreInvariant.{CanServe, IsHeldWithOneMissing, IsWitnessBorne, AreSlotsReady, HoldsBetweenCalls, is_copied, lost_in}
 use Rattle.paraid_core.specs.Steps.{IsNamedOrAbsent, IsStillOut, LeavesCore}
 use Rattle.paraid_core.proofs.AfterLemmas.{lost_in_is, marked_setup, ready_after, ready_moved, serve_after}
 use Rattle.paraid_core.proofs.MomentLemmas.{beside, failed_holding}

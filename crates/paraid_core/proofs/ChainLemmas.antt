@@ -11,6 +11,7 @@ use Rattle.paraid_base.proofs.ToldLemmas.{HasRisen-later, HasRisen-sooner}
 use Rattle.paraid_image.specs.Out.{named_out, or_else}
 use Rattle.paraid_image.specs.Sides.{Batch}
 use Rattle.paraid_image.specs.HeldAt.{IsHeld}
+use Rattle.paraid_image.specs.Mark.{meta_with_lost}
 use Rattle.paraid_image.proofs.HeldLemmas.{IsHeld-more}
 use Rattle.paraid_rack.specs.Disks.{Disks}
 use Rattle.paraid_rack.specs.Slots.{Slot}
@@ -22,7 +23,7 @@ use Rattle.paraid_record.specs.declared.meta.Setup.{Setup}
 use Rattle.paraid_txn.specs.Losses.{OnlyLosesSlots, AreTwoDown, IsLostNow}
 use Rattle.paraid_core.specs.Down.{HasLostOne, IsDownAfter}
 use Rattle.paraid_core.specs.Room.{commits_first}
-use Rattle.paraid_core.specs.CoreInvariant.{IsHeldWithOneMissing, HoldsBetweenCalls, lost_in, meta_with_lost}
+use Rattle.paraid_core.specs.CoreInvariant.{IsHeldWithOneMissing, HoldsBetweenCalls, lost_in}
 use Rattle.paraid_core.proofs.AfterLemmas.{lost_in_was}
 use Rattle.paraid_core.proofs.MomentLemmas.{beside}
 use Rattle.paraid_core.proofs.MomentLemmas.Holding.{intact}

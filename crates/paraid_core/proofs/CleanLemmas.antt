@@ -20,6 +20,7 @@ use Rattle.paraid_image.specs.Sides.{Batch, has_place}
 use Rattle.paraid_image.specs.Spot.{View, rising_to}
 use Rattle.paraid_image.specs.Standing.{Contents, contents, overlaid_block}
 use Rattle.paraid_image.specs.Value.{value}
+use Rattle.paraid_image.specs.Mark.{meta_with_lost}
 use Rattle.paraid_plan.specs.WriteTargets.{is_written, overlaid_blocks, soft_count, target_if}
 use Rattle.paraid_plan.specs.StoredCells.{IsUnitKept}
 use Rattle.paraid_plan.specs.StoredCells.IsUnitKept.{there, rebuilt}
@@ -35,7 +36,7 @@ use Rattle.paraid_record.specs.declared.meta.Meta.{Meta}
 use Rattle.paraid_record.specs.declared.targets.Target.{Target}
 use Rattle.paraid_record.specs.Range.{IsInRange}
 use Rattle.paraid_core.specs.Cleaning.{cleaning, is_cleaned, read_commits_first}
-use Rattle.paraid_core.specs.CoreInvariant.{HoldsBetweenCalls, meta_with_lost}
+use Rattle.paraid_core.specs.CoreInvariant.{HoldsBetweenCalls}
 use Rattle.paraid_core.specs.Room.{commits_first}
 use Rattle.paraid_core.proofs.CommitLemmas.{out_all}
 use Rattle.paraid_core.proofs.WriteLemmas.{contents_laid, laid_there}

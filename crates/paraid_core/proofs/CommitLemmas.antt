@@ -1,6 +1,6 @@
 -- What a commit leaves of what a core stands for.
 use Rattle.paraid_image.proofs.AlikeLemmas.{stands_alike}
-use Rattle.paraid_image.specs.Mark.{meta_after_loss}
+use Rattle.paraid_image.specs.Mark.{meta_after_loss, meta_with_lost}
 use Rattle.std.specs.Prelude.{◌≡◌, ◌≢◌, ℕ, ◌+◌, ◌*◌, ◌<◌, ◌≤◌, ◌⊎◌, ◌&&◌, nat_lt, Bool, true, false, List, [], ◌∷◌, ◌++◌, drop, Option, Some, None, length}
 use Rattle.std.proofs.Common.{refl, sym, ◌∙◌, ap, subst, arith, inl, inr}
 use Rattle.std.proofs.lemmas.Bool.{cases_Bool}
@@ -44,7 +44,7 @@ use Rattle.paraid_moves.proofs.NextLemmas.{holds_now, next_gone, next_same, rest
 use Rattle.paraid_txn.specs.Losses.{CanWrite}
 use Rattle.paraid_core.specs.Fills.{KeepsFilled}
 use Rattle.paraid_core.specs.Replaced.{KeepsCommitted}
-use Rattle.paraid_core.specs.CoreInvariant.{AreCopiesSynced, IsHeldWithOneMissing, IsWitnessBorne, HoldsBetweenCalls, meta_with_lost}
+use Rattle.paraid_core.specs.CoreInvariant.{AreCopiesSynced, IsHeldWithOneMissing, IsWitnessBorne, HoldsBetweenCalls}
 use Rattle.paraid_core.proofs.AfterLemmas.{down_named}
 pub use Rattle.paraid_core.proofs.LostDiskLemmas.{out_all}
 use Rattle.paraid_core.proofs.ReadsLemmas.{knows_named, through_last}

@@ -15,6 +15,7 @@ use Rattle.paraid_image.specs.Out.{named_out, out_disk}
 use Rattle.paraid_image.specs.Sides.{Batch, has_place}
 use Rattle.paraid_image.specs.Standing.{Contents, contents}
 use Rattle.paraid_image.specs.Value.{value}
+use Rattle.paraid_image.specs.Mark.{meta_with_lost}
 use Rattle.paraid_moves.specs.MoveMetas.{AreCellsCopied}
 use Rattle.paraid_moves.proofs.CellLemmas.{copies_cell, write_is_written}
 use Rattle.paraid_rack.specs.declared.call.Call.TheVariants.{Write}
@@ -31,7 +32,7 @@ use Rattle.paraid_txn.specs.Stores.{disks_of, named_of, store_rack}
 use Rattle.paraid_view.specs.Reads.{AreArrayReads, HaveRead, ShowsContents, seen_by}
 use Rattle.paraid_core.specs.declared.staged.Core.{Core}
 use Rattle.paraid_core.specs.CellCopies.{CellsCopied, CopyingCell, IsCopyingCell, KeepsCellCopies, copied_with}
-use Rattle.paraid_core.specs.CoreInvariant.{HoldsBetweenCalls, IsHeldWithOneMissing, lost_in, meta_with_lost}
+use Rattle.paraid_core.specs.CoreInvariant.{HoldsBetweenCalls, IsHeldWithOneMissing, lost_in}
 use Rattle.paraid_core.specs.Cores.{CoreStandsFor, IsCoreHeldSinceCommit, IsCoreReady}
 use Rattle.paraid_core.specs.Steps.{IsMarkedAt, IsStillOut}
 use Rattle.paraid_core.proofs.AfterLemmas.{rise_high}

@@ -5,7 +5,8 @@ use Rattle.paraid_base.specs.declared.fault.Two.{Two}
 use Rattle.paraid_base.specs.Told.{HasRisen}
 use Rattle.paraid_record.specs.declared.meta.Meta.{Meta}
 use Rattle.paraid_image.specs.Out.{named_out, or_else}
-use Rattle.paraid_core.specs.CoreInvariant.{lost_in, meta_with_lost}
+use Rattle.paraid_image.specs.Mark.{meta_with_lost}
+use Rattle.paraid_core.specs.CoreInvariant.{lost_in}
 use Rattle.paraid_core.specs.Steps.{IsPutOut}
 use Rattle.paraid_rack.specs.Slots.{Slot}
 use Rattle.paraid_txn.specs.Losses.{AreTwoDown}

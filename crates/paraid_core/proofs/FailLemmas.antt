@@ -3,6 +3,7 @@ use Rattle.std.specs.Prelude.{◌≡◌, ℕ, ◌<◌, true, Option, Some, None,
 use Rattle.std.proofs.Common.{refl, sym, ◌∙◌, ap, subst}
 use Rattle.std.proofs.lemmas.Bool.{false≢true}
 use Rattle.paraid_image.specs.Out.{named_out, or_else}
+use Rattle.paraid_image.specs.Mark.{meta_with_lost}
 use Rattle.paraid_rack.specs.Slots.{Slot}
 use Rattle.paraid_rack.specs.Trail.{Trail}
 use Rattle.paraid_record.specs.declared.meta.Meta.{Meta}
@@ -11,7 +12,7 @@ use Rattle.paraid_core.specs.declared.staged.Core.{Core}
 use Rattle.paraid_core.specs.Cores.{IsCoreReady, CanCoreServe}
 use Rattle.paraid_core.specs.Down.{HasLostOne}
 use Rattle.paraid_core.specs.Plans.{LeadsTo, without_draft}
-use Rattle.paraid_core.specs.CoreInvariant.{lost_in, meta_with_lost}
+use Rattle.paraid_core.specs.CoreInvariant.{lost_in}
 use Rattle.paraid_core.proofs.AfterLemmas.{lost_in_is}
 
 pub is_err_then : {A E : Type 0} (r : Result A E) (P : Type 0) → is_err r ≡ true → IfErr r (λ e. P) → P

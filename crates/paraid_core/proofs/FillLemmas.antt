@@ -27,6 +27,7 @@ use Rattle.paraid_image.specs.Out.{named_out, out_disk}
 use Rattle.paraid_image.specs.Sides.{Batch}
 use Rattle.paraid_image.specs.Spot.{map_bit, map_disk}
 use Rattle.paraid_image.specs.Standing.{Contents, contents}
+use Rattle.paraid_image.specs.Mark.{meta_with_lost}
 use Rattle.paraid_moves.specs.MoveMetas.{copied_value, copies, view_with_out, copied_block}
 use Rattle.paraid_txn.specs.declared.store.Store.{Store}
 use Rattle.paraid_txn.specs.Stores.{disks_of, named_of, store_rack}
@@ -34,7 +35,7 @@ use Rattle.paraid_view.specs.Reads.{AreArrayReads, CanRead, HaveRead, ShowsConte
 use Rattle.paraid_core.specs.declared.staged.Core.{Core}
 use Rattle.paraid_core.specs.Cores.{IsCoreHeldSinceCommit, IsCoreReady, CanCoreServe}
 use Rattle.paraid_core.specs.Fills.{Filled, IsFilling, member}
-use Rattle.paraid_core.specs.CoreInvariant.{HoldsBetweenCalls, lost_in, meta_with_lost}
+use Rattle.paraid_core.specs.CoreInvariant.{HoldsBetweenCalls, lost_in}
 use Rattle.paraid_core.specs.Steps.{IsStillOut, LeavesCore}
 use Rattle.paraid_core.proofs.AfterLemmas.{lost_in_there}
 use Rattle.paraid_core.proofs.CallLemmas.{call_leaves}

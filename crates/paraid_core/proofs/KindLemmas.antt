@@ -21,11 +21,12 @@ use Rattle.paraid_record.specs.declared.meta.Meta.{Meta}
 use Rattle.paraid_record.specs.declared.meta.Setup.{Setup}
 use Rattle.paraid_image.specs.Out.{named_out, or_else}
 use Rattle.paraid_image.specs.Sides.{Batch}
+use Rattle.paraid_image.specs.Mark.{meta_with_lost}
 use Rattle.paraid_txn.specs.Commit.{gone_out}
 use Rattle.paraid_txn.specs.Uses.{EachCall, UsesInCommit, UsesLog, UsesTarget, UsesWitness}
 use Rattle.paraid_view.specs.Reads.{AreArrayReads, AreOffDisk}
 use Rattle.paraid_core.specs.Calls.{IsCopySync, IsDataCall, IsOneCall, IsTransferCall}
-use Rattle.paraid_core.specs.CoreInvariant.{is_copied, meta_with_lost}
+use Rattle.paraid_core.specs.CoreInvariant.{is_copied}
 use Rattle.paraid_core.specs.Room.{commits_first}
 use Rattle.paraid_core.specs.Steps.{IsMarkedFrom}
 use Rattle.paraid_view.proofs.ReadLemmas.{ran_then}

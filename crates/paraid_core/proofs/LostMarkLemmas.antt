@@ -8,11 +8,11 @@ use Rattle.paraid_base.specs.States.{phase_beside}
 use Rattle.paraid_base.proofs.ToldLemmas.{HasRisen-later, HasRisen-sooner}
 use Rattle.paraid_rack.specs.Slots.{ChangesOneSlot, Slot}
 use Rattle.paraid_record.specs.declared.meta.Meta.{Meta}
-use Rattle.paraid_image.specs.Mark.{meta_after_loss}
+use Rattle.paraid_image.specs.Mark.{meta_after_loss, meta_with_lost}
 use Rattle.paraid_image.specs.Out.{named_out}
 use Rattle.paraid_txn.specs.Losses.{IsLostNow, IsWell, OnlyLosesSlots}
 use Rattle.paraid_view.specs.Reads.{AreLeft}
-use Rattle.paraid_core.specs.CoreInvariant.{lost_in, meta_with_lost}
+use Rattle.paraid_core.specs.CoreInvariant.{lost_in}
 use Rattle.paraid_core.specs.Lost.{LosesDisk, MarksLost}
 use Rattle.paraid_core.proofs.AfterLemmas.{lost_in_is}
 use Rattle.paraid_core.proofs.ReadyLemmas.{some_is}

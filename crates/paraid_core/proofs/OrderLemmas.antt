@@ -12,6 +12,7 @@ use Rattle.paraid_rack.specs.Lawful.{IsLawful}
 use Rattle.paraid_rack.specs.Slots.{Agrees, Slot}
 use Rattle.paraid_rack.specs.Told.{GrowsByCall, Ran}
 use Rattle.paraid_rack.specs.Trail.{Trail, now, run}
+use Rattle.paraid_rack.specs.Calls.{IsTransfer}
 use Rattle.paraid_rack.proofs.AtomsLemmas.{at_use, with_at_same}
 use Rattle.paraid_rack.proofs.TrailsLemmas.{Ran-call, now-extend}
 use Rattle.paraid_record.specs.declared.meta.Meta.{Meta}
@@ -19,6 +20,7 @@ use Rattle.paraid_record.specs.declared.meta.Setup.{Setup}
 use Rattle.paraid_image.specs.Calls.{disk_of, is_done}
 use Rattle.paraid_image.specs.Lost.{BearsLoss, EndsByLoss, TellsLosses, fails_on, first_lost}
 use Rattle.paraid_image.specs.Out.{named_out, or_else, out_disk}
+use Rattle.paraid_image.specs.Mark.{meta_with_lost}
 use Rattle.paraid_image.proofs.CallLemmas.{decide_some}
 use Rattle.paraid_image.proofs.FailedCallLemmas.{failed_is_loss}
 use Rattle.paraid_image.proofs.LostLemmas.{absent_failed, bears_unhurt, fails_split, first_fails, only_lost, ran_beside, ran_says, ran_tells, tells_failed}
@@ -28,8 +30,7 @@ use Rattle.paraid_txn.specs.Stores.{store_rack}
 use Rattle.paraid_txn.specs.Commit.{gone_out}
 use Rattle.paraid_txn.specs.Uses.{EachCall}
 use Rattle.paraid_core.specs.declared.staged.Core.{Core}
-use Rattle.paraid_core.specs.Calls.{IsCopySync, IsDataCall, IsTransfer, IsTransferCall, MakesCopySyncs, MakesDataCalls, MakesTransferCalls}
-use Rattle.paraid_core.specs.CoreInvariant.{meta_with_lost}
+use Rattle.paraid_core.specs.Calls.{IsCopySync, IsDataCall, IsTransferCall, MakesCopySyncs, MakesDataCalls, MakesTransferCalls}
 use Rattle.paraid_core.specs.Lost.{CoreMarksLost, CoreTellsLosses, MarksLost}
 use Rattle.paraid_core.proofs.KindLemmas.{data_transfer}
 use Rattle.paraid_core.proofs.LostDiskLemmas.{out_all}

@@ -1,5 +1,5 @@
 -- What reads leave of what a core stands for.
-use Rattle.paraid_image.specs.Mark.{meta_after_loss}
+use Rattle.paraid_image.specs.Mark.{meta_after_loss, meta_with_lost}
 use Rattle.std.specs.Prelude.{◌≡◌, ◌≢◌, ℕ, ◌-◌, ◌*◌, ◌<◌, nat_lt, Bool, true, false, List, [], ◌∷◌, Option, Some, None, length, if◌then◌else◌}
 use Rattle.std.proofs.Common.{refl, sym, ◌∙◌, ap, subst, arith, inl, inr}
 use Rattle.std.proofs.lemmas.Bool.{cases_eq}
@@ -31,7 +31,7 @@ use Rattle.paraid_image.specs.Sound.{AreRowsZero, AreStripesZero, ContentOk}
 use Rattle.paraid_image.specs.Standing.{Contents, contents, overlaid_block}
 use Rattle.paraid_image.specs.Value.{value}
 use Rattle.paraid_view.specs.Reads.{AreLeft, AreArrayReads, ShowsContents, seen_by}
-use Rattle.paraid_core.specs.CoreInvariant.{IsHeldWithOneMissing, HoldsBetweenCalls, lost_in, meta_with_lost}
+use Rattle.paraid_core.specs.CoreInvariant.{IsHeldWithOneMissing, HoldsBetweenCalls, lost_in}
 use Rattle.paraid_core.proofs.DirtyLemmas.{value_dirty}
 use Rattle.paraid_core.proofs.LostDiskLemmas.{keeps_lost}
 use Rattle.paraid_core.proofs.MomentLemmas.{reads_held}

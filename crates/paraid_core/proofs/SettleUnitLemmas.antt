@@ -13,11 +13,12 @@ use Rattle.paraid_record.specs.declared.meta.Meta.{Meta}
 use Rattle.paraid_image.specs.Content.{view_by}
 use Rattle.paraid_image.specs.Sound.{AreRebuilt}
 use Rattle.paraid_image.specs.Standing.{Contents}
+use Rattle.paraid_image.specs.Mark.{meta_with_lost}
 use Rattle.paraid_moves.specs.Copying.{IsCopying}
 use Rattle.paraid_moves.proofs.CopyCommitLemmas.{copying_sync}
 use Rattle.paraid_txn.specs.Stores.{named_of, store_rack}
 use Rattle.paraid_core.specs.declared.staged.Core.{Core}
-use Rattle.paraid_core.specs.CoreInvariant.{HoldsBetweenCalls, IsWitnessBorne, is_copied, meta_with_lost}
+use Rattle.paraid_core.specs.CoreInvariant.{HoldsBetweenCalls, IsWitnessBorne, is_copied}
 use Rattle.paraid_core.specs.Cores.{IsCoreHeldSinceCommit}
 use Rattle.paraid_core.specs.Fills.{IsShiftCommitted}
 use Rattle.paraid_core.specs.Steps.{IsCleared, IsMarkedFrom, LeavesCore}

@@ -1,5 +1,5 @@
 -- One call of a core after the other.
-use Rattle.paraid_image.specs.Mark.{meta_after_loss}
+use Rattle.paraid_image.specs.Mark.{meta_after_loss, meta_with_lost}
 use Rattle.std.specs.Prelude.{◌≡◌, ℕ, ◌<◌, ◌⊎◌, Bool, true, false, List, [], Option, Some, None}
 use Rattle.std.proofs.Common.{refl, sym, ◌∙◌, ap, subst, arith, inl, inr}
 use Rattle.std.proofs.lemmas.Bool.{cases_Bool, false≢true}
@@ -23,7 +23,7 @@ use Rattle.paraid_txn.specs.Stores.{named_of, store_rack}
 use Rattle.paraid_view.proofs.TwoLemmas.{spared_then}
 use Rattle.paraid_core.specs.declared.staged.Core.{Core}
 use Rattle.paraid_core.specs.Cores.{IsCoreHeldSinceCommit, IsCoreReady, CoreStandsFor}
-use Rattle.paraid_core.specs.CoreInvariant.{IsHeldWithOneMissing, HoldsBetweenCalls, is_copied, meta_with_lost}
+use Rattle.paraid_core.specs.CoreInvariant.{IsHeldWithOneMissing, HoldsBetweenCalls, is_copied}
 use Rattle.paraid_core.specs.Fills.{Filled, StaysFilled}
 use Rattle.paraid_core.specs.Steps.{IsHeldStill, IsMarkedFrom, IsStillOut, LeavesCore, StandsStill}
 use Rattle.paraid_core.proofs.AfterLemmas.{marked_setup}

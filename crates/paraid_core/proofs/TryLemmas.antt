@@ -6,6 +6,7 @@ use Rattle.paraid_base.specs.History.{History}
 use Rattle.paraid_dirty.specs.Table.{is_dirty}
 use Rattle.paraid_image.specs.Out.{named_out, or_else, out_disk}
 use Rattle.paraid_image.specs.Sides.{Batch}
+use Rattle.paraid_image.specs.Mark.{meta_with_lost}
 use Rattle.paraid_rack.specs.declared.call.Power.TheVariants.{Absent}
 use Rattle.paraid_rack.specs.Disks.{Disks, step}
 use Rattle.paraid_rack.specs.Slots.{Agrees, Slot}
@@ -21,7 +22,7 @@ use Rattle.paraid_base.specs.declared.fault.Two.{Two}
 use Rattle.paraid_core.specs.declared.staged.Core.{Core}
 use Rattle.paraid_core.specs.Cores.{IsCoreReady, CanCoreServe}
 use Rattle.paraid_core.specs.Plans.{LeadsTo, without_draft}
-use Rattle.paraid_core.specs.CoreInvariant.{CanServe, IsHeldWithOneMissing, AreSlotsReady, HoldsBetweenCalls, lost_in, meta_with_lost}
+use Rattle.paraid_core.specs.CoreInvariant.{CanServe, IsHeldWithOneMissing, AreSlotsReady, HoldsBetweenCalls, lost_in}
 use Rattle.paraid_core.proofs.AfterLemmas.{down_named, lost_in_is, lost_in_low, out_is_named, ready_after, ready_moved, serve_after}
 use Rattle.paraid_core.proofs.ReadsLemmas.{knows_named, reads_moments, reads_stand}
 use Rattle.paraid_core.proofs.ReadyLemmas.{IsLostOnly, left_lost_only}

@@ -13,7 +13,8 @@ use Rattle.paraid_record.specs.declared.meta.Meta.{Meta}
 use Rattle.paraid_txn.specs.Losses.{IsSyncedAt, OnlyLosesSlots, StaySynced}
 use Rattle.paraid_txn.specs.Stores.{store_rack}
 use Rattle.paraid_core.specs.declared.staged.Core.{Core}
-use Rattle.paraid_core.specs.CoreInvariant.{is_copied, meta_with_lost}
+use Rattle.paraid_core.specs.CoreInvariant.{is_copied}
+use Rattle.paraid_image.specs.Mark.{meta_with_lost}
 use Rattle.paraid_core.specs.Lost.{MarksLost}
 use Rattle.paraid_core.specs.Steps.{AreUnsyncedCopied, IsCleared, IsMarkedAt, IsMarkedFrom}
 

@@ -2,7 +2,7 @@
 use Rattle.std.specs.Prelude.{◌≡◌, ◌≢◌, ℕ, ◌+◌, ◌<◌, ◌≤◌, Bool, true, List, [], ◌∷◌, Option, Some}
 use Rattle.paraid_rack.specs.declared.call.Call.{Call}
 use Rattle.paraid_rack.specs.declared.call.Call.TheVariants.{Read, Write, Sync, Park, SpinUp, Attach}
-use Rattle.paraid_rack.specs.Calls.{disk_of}
+use Rattle.paraid_rack.specs.Calls.{IsTransfer, disk_of}
 use Rattle.paraid_rack.specs.Disks.{Disks}
 use Rattle.paraid_rack.specs.Lawful.{IsLawful}
 use Rattle.paraid_rack.specs.Told.{Ran, Through}
@@ -16,15 +16,6 @@ use Rattle.paraid_txn.specs.Uses.{EachCall}
 use Rattle.paraid_core.specs.declared.staged.Core.{Core}
 use Rattle.paraid_core.specs.CoreInvariant.{is_copied}
 use Rattle.paraid_core.specs.Cores.{CoreStandsFor}
-
--- the call reads, writes or syncs
-abbrev pub IsTransfer : Call → Type 0
-IsTransfer (Read d p done) = Unit {0}
-IsTransfer (Write d p b done) = Unit {0}
-IsTransfer (Sync d done) = Unit {0}
-IsTransfer (Park d done) = ⊥
-IsTransfer (SpinUp d done) = ⊥
-IsTransfer (Attach d size done) = ⊥
 
 -- the call reads, syncs, or writes past the log
 abbrev pub IsPastLog : Call → Type 0

@@ -1,5 +1,4 @@
 -- What a core stands for: the meta of the last commit, and all that is staged over it.
-use Rattle.paraid_image.specs.Mark.{meta_after_loss}
 use Rattle.std.specs.Prelude.{◌≡◌, ◌≢◌, ℕ, ◌+◌, ◌*◌, ◌<◌, ◌≤◌, true, false, List, Bool, length, Option, Some, None, All, nat_lt, slice_index_or, if◌then◌else◌}
 use Rattle.paraid_base.specs.declared.state.Out.TheVariants.{Fresh}
 use Rattle.paraid_base.specs.History.{History}
@@ -84,11 +83,6 @@ pub record CanServe (slot : ℕ → Slot) (named : Option ℕ) (m : Meta) : Type
   pub spins : (d : ℕ) → d < rising_to m.phase → named_out m.out ≢ Some d → (slot d).power ≡ Spinning
   pub large : (d : ℕ) → d < rising_to m.phase → named_out m.out ≢ Some d → disk_size m.setup.geometry ≤ (slot d).size
   pub stays : (d : ℕ) → named ≡ Some d → named_out m.out ≡ Some d
-
--- the meta after a disk was lost, or none
-abbrev pub meta_with_lost : Option ℕ → Meta → Meta
-meta_with_lost None m = m
-meta_with_lost (Some d) m = meta_after_loss m d
 
 -- the disk that was lost, if it is one of the array
 abbrev pub lost_in : Meta → Option ℕ → Option ℕ

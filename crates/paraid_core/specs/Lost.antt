@@ -6,13 +6,12 @@ use Rattle.paraid_rack.specs.Trail.{Trail}
 use Rattle.paraid_base.specs.declared.fault.Two.{Two}
 use Rattle.paraid_record.specs.declared.meta.Meta.{Meta}
 use Rattle.paraid_image.specs.Lost.{TellsLosses}
-use Rattle.paraid_image.specs.Mark.{meta_after_loss}
+use Rattle.paraid_image.specs.Mark.{meta_after_loss, meta_with_lost}
 use Rattle.paraid_image.specs.Out.{named_out}
 use Rattle.paraid_txn.specs.Losses.{IsLostNow, IsWell}
 use Rattle.paraid_txn.specs.Stores.{store_rack}
 use Rattle.paraid_view.specs.Reads.{AreArrayReads}
 use Rattle.paraid_core.specs.declared.staged.Core.{Core}
-use Rattle.paraid_core.specs.CoreInvariant.{meta_with_lost}
 
 -- The meta is as it was, with its counts of commits and writes as they are now, but for the marks of a disk that was lost:
 -- no other one was out, it has failed in the call and is absent. No other disk has failed.

@@ -9,10 +9,11 @@ use Rattle.paraid_rack.specs.Told.{Ran, CrashTriple}
 use Rattle.paraid_rack.specs.Trail.{Trail}
 use Rattle.paraid_record.specs.declared.meta.Meta.{Meta}
 use Rattle.paraid_image.specs.Out.{named_out}
+use Rattle.paraid_image.specs.Mark.{meta_with_lost}
 use Rattle.paraid_txn.specs.Losses.{OnlyLosesSlots}
 use Rattle.paraid_txn.specs.Stores.{IsSameStore, named_of, store_rack}
 use Rattle.paraid_core.specs.Cores.{IsCoreHeldSinceCommit, IsCoreReady, CanCoreServe, CoreStandsFor}
-use Rattle.paraid_core.specs.CoreInvariant.{is_copied, lost_in, meta_with_lost}
+use Rattle.paraid_core.specs.CoreInvariant.{is_copied, lost_in}
 use Rattle.paraid_core.specs.declared.staged.Core.{Core}
 
 -- the meta is as it was, but for the marks of a disk that was lost while no other one was out

@@ -12,26 +12,12 @@ ghost use Rattle.paraid_core.specs.Gathering.{CanGather};
 
 use paraid_base::{Block, DiskNo};
 use paraid_dirty::DirtyTable;
-use paraid_layout::{cell_at, soft_parity};
+use paraid_layout::{cell_at, index_among, soft_parity};
 use paraid_parity::xor_into;
 use paraid_rack::Rack;
 use paraid_record::Meta;
 use paraid_txn::{Batch, Store};
 use paraid_view::{Draft, read_value};
-
-// The index of a disk in a stripe whose parity is on another disk.
-fn index_among(parity: DiskNo, disk: DiskNo, gear: u8) -> u8
-    requires apart { disk ≢ parity }
-    requires below { disk < gear }
-    requires parity { parity < gear }
-    ensures value { result ≡ place_among parity disk }
-    ensures low { result < gear - 1 }
-{
-    if disk < parity {
-        return disk;
-    }
-    disk - 1
-}
 
 // Changes one of the blocks.
 fn put(blocks: &mut [Block; 8], at: DiskNo, block: &Block)

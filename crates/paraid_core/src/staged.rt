@@ -5,8 +5,9 @@ ghost use Rattle.paraid_txn.specs.Losses.{StaySynced};
 ghost use Rattle.paraid_core.specs.Steps.{AreUnsyncedCopied};
 ghost use Rattle.paraid_core.specs.Replaced.{HaveComeUp};
 ghost use Rattle.paraid_core.specs.Steps.{IsPutOut};
-ghost use Rattle.paraid_core.specs.CoreInvariant.{AreCopiesSynced, lost_in, meta_with_lost};
+ghost use Rattle.paraid_core.specs.CoreInvariant.{AreCopiesSynced, lost_in};
 ghost use Rattle.paraid_image.specs.Out.{named_out as named_out_of};
+ghost use Rattle.paraid_image.specs.Mark.{meta_with_lost};
 ghost use Rattle.paraid_core.specs.Committing.{CommitsMeta, CommitsStaged, StandsCommitted, StandsSinceCommit};
 ghost use Rattle.paraid_core.specs.Serving.{CanBeCommitted, IsCoreInService, KeepsCells, StagesNothing, StaysReady};
 

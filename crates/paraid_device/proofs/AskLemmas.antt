@@ -6,11 +6,10 @@ use Rattle.paraid_base.specs.declared.event.Answer.TheVariants.{Halted}
 use Rattle.paraid_base.specs.declared.event.Event.{Event}
 use Rattle.paraid_base.specs.declared.event.Event.TheVariants.{Bad}
 use Rattle.paraid_base.specs.declared.fault.Halt.{Halt}
-use Rattle.paraid_rack.specs.Told.{Ran}
+use Rattle.paraid_rack.specs.Told.{Extends, Ran}
 use Rattle.paraid_image.specs.Out.{named_out}
 use Rattle.paraid_session.specs.Turn.{GoesOn, Point}
 use Rattle.paraid_serve.specs.declared.serves.Serves.{Ghosts}
-use Rattle.paraid_serve.specs.Calls.{Grows}
 use Rattle.paraid_serve.specs.Causes.{HasCause, Shows}
 use Rattle.paraid_serve.proofs.FormLemmas.{again_cause}
 use Rattle.paraid_serve.proofs.GrowsLemmas.{grows_none}
@@ -38,7 +37,7 @@ module _ {A : Type 0} (g : Ghosts A) where
 
   -- one that serves answers
   pub asks_served : (a b : A) (event : Event) (answer : Answer) → g.halted a ≡ None → ((p : Point) → g.stands a p → Ran (g.told a) (g.told b) (GoesOn (g.slots a) (g.setup a) p event answer (g.stands b)))
-      → Grows (g.told a) (g.told b) → g.slots b ≡ g.slots a → event ≢ Bad
+      → Extends (g.told a) (g.told b) → g.slots b ≡ g.slots a → event ≢ Bad
       → Shows (g.shown a) (g.setup a) (g.slot a) (g.halted a) → Shows (g.shown b) (g.setup b) (g.slot b) (g.halted b) → HasCause (g.shown a) event answer (g.shown b) → AsksArray g a b event answer
   asks_served a b event answer going turn grows slots good shows_a shows_b cause = record {
     turn = turn;

@@ -13,13 +13,12 @@ use Rattle.paraid_base.specs.declared.fault.Halt.{Halt}
 use Rattle.paraid_base.specs.declared.pairs.Pairs.{Pairs}
 use Rattle.paraid_base.specs.declared.state.Out.{Out}
 use Rattle.paraid_base.specs.declared.state.Out.TheVariants.{No, Gone, Fresh}
-use Rattle.paraid_base.specs.BlockAnswers.{AfterFlush, AfterWrite, IsFirstMissing, answer_to_flush}
+use Rattle.paraid_base.specs.BlockAnswers.{AfterFlush, AfterWrite, IsFirstMissing, accepted_write, answer_to_flush}
 use Rattle.paraid_base.specs.History.{Entry, History, after_all}
 use Rattle.paraid_base.specs.Pairs.{pairs_of}
 use Rattle.paraid_record.specs.declared.meta.Setup.{Setup}
 use Rattle.paraid_rack.specs.declared.call.Call.{Call}
 use Rattle.paraid_image.specs.Power.{PowerState}
-use Rattle.paraid_image.specs.Shown.{accepted_write}
 use Rattle.paraid_machine.specs.Machine.{Outcomes, around, around_loss, block_count, blocks_named, first_missing, if_alone, outcomes, serve}
 use Rattle.paraid_machine.specs.Moves.{all_written, block_read, with_one_served, after_loss}
 use Rattle.paraid_trace.specs.Answered.{answer_of, answer_with}

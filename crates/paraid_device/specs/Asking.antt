@@ -5,10 +5,9 @@ use Rattle.paraid_base.specs.declared.event.Answer.TheVariants.{Halted}
 use Rattle.paraid_base.specs.declared.event.Event.{Event}
 use Rattle.paraid_base.specs.declared.fault.Halt.{Halt}
 use Rattle.paraid_rack.specs.Slots.{Slot}
-use Rattle.paraid_rack.specs.Told.{Ran}
+use Rattle.paraid_rack.specs.Told.{Extends, Ran}
 use Rattle.paraid_session.specs.Turn.{GoesOn, Point, halt_told}
 use Rattle.paraid_serve.specs.declared.serves.Serves.{Ghosts}
-use Rattle.paraid_serve.specs.Calls.{Grows}
 use Rattle.paraid_serve.specs.Causes.{HasCause}
 use Rattle.paraid_serve.specs.Lost.{HasServedSince}
 use Rattle.paraid_trace.specs.Answered.{answer_with}
@@ -23,7 +22,7 @@ answer_asked (Err halt) beside = Halted halt
 -- The array answers an event with its cause, or has halted.
 pub record AsksArray {A : Type 0} (g : Ghosts A) (old new : A) (event : Event) (answer : Answer) : Type 0 where
   pub turn : (p : Point) → g.stands old p → Ran (g.told old) (g.told new) (GoesOn (g.slots old) (g.setup old) p event answer (g.stands new))
-  pub grows : Grows (g.told old) (g.told new)
+  pub grows : Extends (g.told old) (g.told new)
   pub same_slots : g.slots new ≡ g.slots old
   pub same_setup : g.setup new ≡ g.setup old
   pub halt : g.halted new ≡ halt_told answer

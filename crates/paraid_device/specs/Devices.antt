@@ -6,9 +6,9 @@ use Rattle.paraid_base.specs.declared.fault.Halt.{Halt}
 use Rattle.paraid_base.specs.BlockAnswers.{Answers}
 use Rattle.paraid_base.specs.History.{History}
 use Rattle.paraid_rack.specs.Slots.{Slot}
+use Rattle.paraid_rack.specs.Told.{Extends}
 use Rattle.paraid_session.specs.Turn.{Point}
 use Rattle.paraid_serve.specs.declared.serves.Serves.{Ghosts}
-use Rattle.paraid_serve.specs.Calls.{Grows}
 use Rattle.paraid_serve.specs.Causes.{HasCause, Shown}
 use Rattle.paraid_serve.specs.Lost.{HasServedSince}
 use Rattle.paraid_serve.specs.Stretch.{Span, Stretch, Turn, span_of}
@@ -69,7 +69,7 @@ AreBlockEvents (e ∷ events) = IsBlockEvent e.0 × AreBlockEvents events
 pub record HasAnswered {A : Type 0} (g : Ghosts A) (first now : A) (events : Answers) : Type 0 where
   pub same_slots : g.slots now ≡ g.slots first
   pub same_setup : g.setup now ≡ g.setup first
-  pub grows : Grows (g.told first) (g.told now)
+  pub grows : Extends (g.told first) (g.told now)
   pub kinds : AreBlockEvents events
   pub causes : HaveAnswerCauses (g.shown first) events (g.shown now)
   pub since : (start : ℕ → Slot) → HasServedSince start (g.slot first) (g.halted first) → HasServedSince start (g.slot now) (g.halted now)

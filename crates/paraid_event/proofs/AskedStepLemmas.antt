@@ -13,6 +13,7 @@ use Rattle.paraid_base.specs.declared.state.Phase.TheVariants.{Steady, Down, Up}
 use Rattle.paraid_base.specs.Gears.{next_higher, next_lower}
 use Rattle.paraid_base.specs.Log.{worn_at}
 use Rattle.paraid_base.specs.States.{named_out}
+use Rattle.paraid_base.specs.BlockAnswers.{accepted_write}
 use Rattle.paraid_rack.specs.declared.call.Call.{Call}
 use Rattle.paraid_rack.specs.Disks.{Disks}
 use Rattle.paraid_rack.specs.Told.{Ran}
@@ -20,7 +21,6 @@ use Rattle.paraid_rack.specs.Trail.{Trail, now, run}
 use Rattle.paraid_rack.proofs.TrailsLemmas.{now-extend}
 use Rattle.paraid_record.specs.declared.meta.Setup.{Setup}
 use Rattle.paraid_image.specs.Power.{PowerState}
-use Rattle.paraid_image.specs.Shown.{accepted_write}
 use Rattle.paraid_core.specs.CoreInvariant.{AreCopiesSynced}
 use Rattle.paraid_machine.specs.Energy.{energy_after, spin_up_energy}
 use Rattle.paraid_machine.specs.Machine.{IsEventStep, begin, go_down, go_up, outcomes, ration_refusal, refusal_else, shift_refusal}

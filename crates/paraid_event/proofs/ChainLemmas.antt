@@ -8,6 +8,7 @@ use Rattle.paraid_rack.specs.declared.call.Call.TheVariants.{Read, Write, Sync, 
 use Rattle.paraid_rack.specs.Disks.{Disks, IsImage, IsPresent, is_present, lose, step}
 use Rattle.paraid_rack.specs.Lawful.{IsLawful}
 use Rattle.paraid_rack.specs.Told.{Through}
+use Rattle.paraid_rack.specs.Calls.{IsTransfer}
 use Rattle.paraid_record.specs.declared.meta.Meta.{Meta}
 use Rattle.paraid_record.specs.declared.meta.Setup.{Setup}
 use Rattle.paraid_image.specs.Calls.{disk_of, is_attach}
@@ -17,12 +18,12 @@ use Rattle.paraid_image.specs.Sides.{Batch, LogState}
 use Rattle.paraid_image.specs.Standing.{Stands}
 use Rattle.paraid_image.proofs.StandingLemmas.{Stands-same}
 use Rattle.paraid_moves.specs.Copying.{IsCopying}
-use Rattle.paraid_core.specs.Calls.{IsDataCall, IsPastLog, IsTransfer, IsTransferCall}
+use Rattle.paraid_core.specs.Calls.{IsDataCall, IsPastLog, IsTransferCall}
 use Rattle.paraid_core.specs.CoreInvariant.{IsHeldWithOneMissing}
 use Rattle.paraid_session.specs.Watch.{Bounds, Each, HoldsWhileServing, IsAllowed, IsHeldWhileServing, IsServing, Watch, watch, watch_all}
 use Rattle.paraid_session.proofs.LayerLemmas.{IsHeldMissing, IsIn, each_both, each_held, each_map}
 use Rattle.paraid_recover.specs.StartCalls.{IsSpinUpRecorded}
-use Rattle.paraid_recover.specs.RecordedSpins.{IsStill, IsWithinBoundsAt, StaysWithin, StaysWithinAt}
+use Rattle.paraid_recover.specs.RecordedSpins.{IsWithinBoundsAt, StaysWithin, StaysWithinAt}
 use Rattle.paraid_recover.proofs.CallsLemmas.{each_map as each_call_map}
 use Rattle.paraid_recover.proofs.DownLemmas.{in_absent, in_stays, several_in}
 use Rattle.paraid_recover.proofs.SpinsLemmas.{looked_power}
@@ -51,14 +52,6 @@ past_transfer (Sync d done) past = tt
 past_transfer (Park d done) past = absurd past
 past_transfer (SpinUp d done) past = absurd past
 past_transfer (Attach d size done) past = absurd past
-
-still_transfer : (c : Call) → IsTransfer c → IsStill c
-still_transfer (Read d p done) is = tt
-still_transfer (Write d p b done) is = tt
-still_transfer (Sync d done) is = tt
-still_transfer (Park d done) is = absurd is
-still_transfer (SpinUp d done) is = absurd is
-still_transfer (Attach d size done) is = absurd is
 
 pub no_attach : (c : Call) → IsTransfer c → is_attach c ≡ false
 no_attach (Read d p done) is = refl
@@ -220,7 +213,7 @@ module _ (k : Service) (h : History) (lo : ℕ) (base : Meta) (w : Watch) (at : 
         → Through (IsHeldWithOneMissing k.slots n out g low) w.disks cs → Each (StaysWithinAt b w.spun w.disks) (λ (v : Watch) (c : Call). Unit {0}) w cs
         → Each (HoldsWhileServing k.slots g low b) (IsAllowed b.setup asked) w cs
     transfer_each asked cs out g low outs calls through within =
-        let still = each_still b w.spun w.disks w cs (λ d. refl) (λ d h. refl) (each_call_map (IsTransferCall n skip) IsStill (λ c is. still_transfer c is.2) w.disks cs calls) within in
+        let still = each_still b w.spun w.disks w cs (λ d. refl) (λ d h. refl) (each_call_map (IsTransferCall n skip) IsTransfer (λ c is. is.2) w.disks cs calls) within in
         let held = each_held k.slots n out g low w cs (through_map _ (IsHeldMissing k.slots n out g low) (λ s is. held_missing k.slots n out g low s (λ d named. (outs d named).0) is) w.disks cs through)
         (λ d missing. elim missing.is [ inl gone ↦ at.absent_down d missing.disk gone | inr named ↦ (outs d named).1 ]) in
         let allowed = allowed_each asked w cs start_follows calls in

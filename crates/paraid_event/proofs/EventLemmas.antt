@@ -16,6 +16,7 @@ use Rattle.paraid_base.specs.History.{Entry, History, after_all}
 use Rattle.paraid_base.specs.Log.{worn_at}
 use Rattle.paraid_base.specs.Pairs.{pairs_of}
 use Rattle.paraid_base.specs.States.{has_out, named_out}
+use Rattle.paraid_base.specs.BlockAnswers.{accepted_write}
 use Rattle.paraid_dirty.specs.Table.{is_dirty}
 use Rattle.paraid_rack.specs.declared.call.Call.{Call}
 use Rattle.paraid_rack.specs.Disks.{Disks}
@@ -39,7 +40,7 @@ use Rattle.paraid_event.specs.Parts.{AreEventCalls, EndsEvent, ServesEvent}
 use Rattle.paraid_event.specs.Service.{IsStateOf, Service}
 use Rattle.paraid_event.specs.Stands.{StandsAt}
 use Rattle.paraid_machine.specs.Energy.{energy_of}
-use Rattle.paraid_image.specs.Shown.{accepted_write, with_flush}
+use Rattle.paraid_image.specs.Shown.{with_flush}
 use Rattle.paraid_event.proofs.PointLemmas.{stands_resting}
 use Rattle.paraid_event.proofs.MarksLemmas.{still_named}
 use Rattle.paraid_event.proofs.TurnLemmas.{lost_among, dirty_shown, lost_named, marks, state_after, state_then, turn, TellsNeither}

@@ -16,8 +16,9 @@ use Rattle.paraid_record.specs.declared.meta.Setup.{Setup}
 use Rattle.paraid_image.specs.Out.{first_absent}
 use Rattle.paraid_image.specs.Power.{out_after, power_by_gear}
 use Rattle.paraid_image.specs.Sides.{Batch}
+use Rattle.paraid_image.specs.Mark.{meta_with_lost}
 use Rattle.paraid_core.specs.Calls.{IsDataCall, IsTransferCall}
-use Rattle.paraid_core.specs.CoreInvariant.{HoldsBetweenCalls, IsHeldWithOneMissing, meta_with_lost}
+use Rattle.paraid_core.specs.CoreInvariant.{HoldsBetweenCalls, IsHeldWithOneMissing}
 use Rattle.paraid_core.specs.Lost.{MarksLost}
 use Rattle.paraid_core.proofs.CommitLemmas.{both_of}
 use Rattle.paraid_txn.specs.Commit.{IsOldOrNew}

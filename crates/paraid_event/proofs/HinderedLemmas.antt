@@ -12,6 +12,7 @@ use Rattle.paraid_base.specs.declared.state.Phase.TheVariants.{Steady}
 use Rattle.paraid_base.specs.Gears.{next_higher, next_lower}
 use Rattle.paraid_base.specs.Log.{worn_at}
 use Rattle.paraid_base.specs.States.{named_out}
+use Rattle.paraid_base.specs.BlockAnswers.{accepted_write}
 use Rattle.paraid_dirty.specs.Table.{is_dirty}
 use Rattle.paraid_rack.specs.declared.call.Call.{Call}
 use Rattle.paraid_rack.specs.Disks.{Disks, is_present}
@@ -19,7 +20,6 @@ use Rattle.paraid_rack.specs.Told.{Ran}
 use Rattle.paraid_rack.specs.Trail.{Trail, now, run}
 use Rattle.paraid_record.specs.declared.meta.Setup.{Setup}
 use Rattle.paraid_image.specs.Power.{PowerState}
-use Rattle.paraid_image.specs.Shown.{accepted_write}
 use Rattle.paraid_machine.specs.Machine.{IsEventStep, outcomes}
 use Rattle.paraid_machine.specs.Moves.{after_loss, first_worn}
 use Rattle.paraid_session.specs.Turn.{GoesOn, Point, bounds_at, bounds_of, point_wear, watch_of}

@@ -16,8 +16,8 @@ use Rattle.paraid_image.specs.Out.{first_absent, or_else, out_disk}
 use Rattle.paraid_image.specs.Power.{PowerState, gone_of, out_after, out_state, power_beside, power_by_gear, power_of, state_by}
 use Rattle.paraid_image.specs.Shown.{IsShown}
 use Rattle.paraid_image.specs.Spins.{first_used}
+use Rattle.paraid_image.specs.Mark.{meta_with_lost}
 use Rattle.paraid_image.proofs.OutLemmas.{first_absent_finds, first_absent_is}
-use Rattle.paraid_core.specs.CoreInvariant.{meta_with_lost}
 use Rattle.paraid_event.proofs.ApartLemmas.{gone_not_fresh, no_one, none_not_fresh}
 use Rattle.paraid_event.specs.Marks.{ArePoweredByGear, IsMarkedBy, ShowsMeta}
 use Rattle.paraid_event.specs.Service.{IsStateOf, Service}

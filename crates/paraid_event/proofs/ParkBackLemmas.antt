@@ -18,7 +18,8 @@ use Rattle.paraid_rack.proofs.AtomsLemmas.{with_at_other, with_at_same}
 use Rattle.paraid_record.specs.declared.meta.Meta.{Meta}
 use Rattle.paraid_record.specs.declared.meta.Setup.{Setup}
 use Rattle.paraid_image.specs.Power.{power_by_gear}
-use Rattle.paraid_core.specs.CoreInvariant.{IsHeldWithOneMissing, meta_with_lost}
+use Rattle.paraid_image.specs.Mark.{meta_with_lost}
+use Rattle.paraid_core.specs.CoreInvariant.{IsHeldWithOneMissing}
 use Rattle.paraid_session.specs.Watch.{IsServing, Watch, watch_all}
 use Rattle.paraid_event.proofs.ApartLemmas.{gone_not_fresh, no_one, none_not_fresh}
 use Rattle.paraid_event.specs.Marks.{ArePoweredByGear, IsMarkedBy, ShowsMeta}

@@ -19,8 +19,8 @@ use Rattle.paraid_record.specs.declared.meta.Meta.{Meta}
 use Rattle.paraid_record.specs.declared.meta.Setup.{Setup}
 use Rattle.paraid_image.specs.Calls.{is_attach}
 use Rattle.paraid_image.specs.Lost.{TellsLosses, fails_on, first_lost}
+use Rattle.paraid_image.specs.Mark.{meta_with_lost}
 use Rattle.paraid_core.specs.Calls.{IsOneCall}
-use Rattle.paraid_core.specs.CoreInvariant.{meta_with_lost}
 use Rattle.paraid_core.proofs.CommitLemmas.{both_of}
 use Rattle.paraid_machine.specs.Machine.{report}
 use Rattle.paraid_machine.specs.Moves.{state_with_tick, units_to_rebuild}

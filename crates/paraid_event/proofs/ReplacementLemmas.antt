@@ -17,6 +17,7 @@ use Rattle.paraid_base.specs.History.{History}
 use Rattle.paraid_base.specs.Log.{worn_at}
 use Rattle.paraid_base.specs.Regions.{disk_size}
 use Rattle.paraid_base.specs.States.{gone_out, has_out, named_out, phase_beside, rising_to}
+use Rattle.paraid_base.specs.BlockAnswers.{accepted_write}
 use Rattle.paraid_dirty.specs.Table.{is_dirty}
 use Rattle.paraid_rack.specs.declared.call.Call.{Call}
 use Rattle.paraid_rack.specs.declared.call.Call.TheVariants.{Attach}
@@ -30,7 +31,7 @@ use Rattle.paraid_image.specs.Calls.{is_attach}
 use Rattle.paraid_image.specs.Mark.{meta_after_loss}
 use Rattle.paraid_image.specs.Power.{PowerState, out_after, power_by_gear}
 use Rattle.paraid_image.specs.Out.{first_absent}
-use Rattle.paraid_image.specs.Shown.{accepted_write, with_flush}
+use Rattle.paraid_image.specs.Shown.{with_flush}
 use Rattle.paraid_image.specs.Spins.{first_used}
 use Rattle.paraid_core.specs.CoreInvariant.{AreCopiesSynced, IsHeldWithOneMissing}
 use Rattle.paraid_core.specs.Fills.{IsShiftCommitted}

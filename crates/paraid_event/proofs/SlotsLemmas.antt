@@ -9,7 +9,7 @@ use Rattle.paraid_rack.specs.Told.{Ran}
 use Rattle.paraid_rack.specs.Trail.{Trail, now}
 use Rattle.paraid_record.specs.declared.meta.Meta.{Meta}
 use Rattle.paraid_record.specs.declared.meta.Setup.{Setup}
-use Rattle.paraid_core.specs.CoreInvariant.{meta_with_lost}
+use Rattle.paraid_image.specs.Mark.{meta_with_lost}
 use Rattle.paraid_core.specs.Lost.{MarksLost}
 use Rattle.paraid_session.specs.Turn.{Point}
 use Rattle.paraid_event.proofs.ApartLemmas.{gone_not_fresh, no_one}

@@ -6,7 +6,7 @@ use Rattle.paraid_base.specs.States.{named_out, phase_beside, phase_to}
 use Rattle.paraid_dirty.specs.Table.{is_dirty}
 use Rattle.paraid_record.specs.declared.meta.Meta.{Meta}
 use Rattle.paraid_image.specs.Power.{PowerState}
-use Rattle.paraid_core.specs.CoreInvariant.{meta_with_lost}
+use Rattle.paraid_image.specs.Mark.{meta_with_lost}
 use Rattle.paraid_machine.specs.Moves.{after_flip, after_loss, after_units, begun_down, begun_up, with_spin_ups}
 use Rattle.paraid_moves.specs.MoveMetas.{meta_after_begin, meta_flipped_to}
 use Rattle.paraid_event.proofs.ApartLemmas.{no_one}

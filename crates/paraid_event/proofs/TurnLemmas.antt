@@ -20,13 +20,14 @@ use Rattle.paraid_record.specs.declared.meta.Setup.{Setup}
 use Rattle.paraid_image.specs.Calls.{is_attach}
 use Rattle.paraid_image.specs.Rest.{closed_over}
 use Rattle.paraid_base.specs.Regions.{map_count}
+use Rattle.paraid_base.specs.BlockAnswers.{accepted_write}
 use Rattle.paraid_image.specs.Content.{view_by}
 use Rattle.paraid_image.specs.Sides.{Batch}
 use Rattle.paraid_image.specs.Spot.{map_bit, map_disk}
 use Rattle.paraid_image.specs.Standing.{contents}
 use Rattle.paraid_image.specs.Power.{PowerState, initial_state, state_by}
 use Rattle.paraid_image.specs.Out.{out_disk}
-use Rattle.paraid_image.specs.Shown.{accepted_write, with_flush}
+use Rattle.paraid_image.specs.Shown.{with_flush}
 use Rattle.paraid_image.proofs.HeldLemmas.{IsHeld-more}
 use Rattle.paraid_image.proofs.OutLemmas.{out_missing}
 use Rattle.paraid_core.proofs.MomentLemmas.{base_in_range}

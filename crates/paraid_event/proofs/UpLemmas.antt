@@ -17,11 +17,12 @@ use Rattle.paraid_rack.proofs.AtomsLemmas.{with_at_other, with_at_same}
 use Rattle.paraid_record.specs.declared.meta.Meta.{Meta}
 use Rattle.paraid_record.specs.declared.meta.Setup.{Setup}
 use Rattle.paraid_image.specs.Spins.{first_used}
-use Rattle.paraid_core.specs.Calls.{IsTransfer, IsTransferCall}
+use Rattle.paraid_core.specs.Calls.{IsTransferCall}
 use Rattle.paraid_recover.specs.Powers.{IsPowerCall}
 use Rattle.paraid_session.specs.Ups.{up_count, ups_by}
 use Rattle.paraid_txn.specs.Uses.{EachCall}
 use Rattle.paraid_rack.specs.Trail.{Trail}
+use Rattle.paraid_rack.specs.Calls.{IsTransfer}
 use Rattle.paraid_session.specs.Turn.{Point}
 use Rattle.paraid_event.specs.Marks.{ArePoweredByGear}
 use Rattle.paraid_event.specs.Service.{Service}

@@ -7,7 +7,7 @@ use Rattle.paraid_rack.specs.declared.call.Power.TheVariants.{Spinning}
 use Rattle.paraid_rack.specs.Disks.{is_present}
 use Rattle.paraid_record.specs.declared.meta.Meta.{Meta}
 use Rattle.paraid_image.specs.Power.{out_state, power_by_gear}
-use Rattle.paraid_core.specs.CoreInvariant.{meta_with_lost}
+use Rattle.paraid_image.specs.Mark.{meta_with_lost}
 
 -- The meta is as it was, with its counts as they are now, but for the mark of a disk that was lost:
 -- that one is absent. Each disk that is absent is named out, and one that is being rebuilt is there.

@@ -1,5 +1,5 @@
 -- The metas by which a lost disk is marked.
-use Rattle.std.specs.Prelude.{ℕ, true}
+use Rattle.std.specs.Prelude.{ℕ, true, Option, None, Some}
 use Rattle.paraid_base.specs.declared.state.Out.TheVariants.{Gone}
 use Rattle.paraid_record.specs.declared.meta.Meta.{Meta}
 use Rattle.paraid_image.specs.Power.{phase_beside}
@@ -11,3 +11,8 @@ marked_gone m d e = record m { epoch = e; phase = phase_beside true m.phase; fil
 -- disk `d` has gone out; a disk that is lost ends a shift down
 abbrev pub meta_after_loss : Meta → ℕ → Meta
 meta_after_loss m d = record m { phase = phase_beside true m.phase; fill = 0; out = Gone d }
+
+-- the meta after a disk was lost, or none
+abbrev pub meta_with_lost : Option ℕ → Meta → Meta
+meta_with_lost None m = m
+meta_with_lost (Some d) m = meta_after_loss m d

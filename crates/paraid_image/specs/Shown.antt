@@ -1,17 +1,8 @@
 -- What an event adds to the history and to the writes that are kept, and when a state shows another.
-use Rattle.std.specs.Prelude.{◌≡◌, ℕ, nat_lt, [], ◌∷◌, if◌then◌else◌}
+use Rattle.std.specs.Prelude.{◌≡◌, ℕ, nat_lt, [], if◌then◌else◌}
 use Rattle.paraid_base.specs.declared.event.Answer.{Answer}
-use Rattle.paraid_base.specs.declared.event.Answer.TheVariants.{Flushed, Wrote}
-use Rattle.paraid_base.specs.declared.event.Event.{Event}
-use Rattle.paraid_base.specs.declared.event.Event.TheVariants.{Write}
-use Rattle.paraid_base.specs.History.{History}
-use Rattle.paraid_base.specs.Pairs.{pairs_of}
+use Rattle.paraid_base.specs.declared.event.Answer.TheVariants.{Flushed}
 use Rattle.paraid_image.specs.Power.{PowerState}
-
--- the write that an event adds, if it was accepted
-abbrev pub accepted_write : Event → Answer → History
-accepted_write (Write pairs) (Wrote number) = pairs_of pairs ∷ []
-accepted_write event answer = []
 
 -- the greatest number that a flush among these events answered, or this one
 abbrev pub with_flush : ℕ → Answer → ℕ

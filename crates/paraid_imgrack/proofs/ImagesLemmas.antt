@@ -4,9 +4,9 @@ use Rattle.std.proofs.Math.Seq.{get_or-append_seam}
 use Rattle.std.proofs.lemmas.Bool.{cases_lt}
 use Rattle.std.proofs.lemmas.List.{map-set, map-append, length-append, get_or_append_left, get_or-set_same, get_or-set_other, length-map, get_or-map}
 use Rattle.paraid_base.specs.Told.{HasRisen}
-use Rattle.paraid_rack.specs.Slots.{Slot, ChangesOneSlot}
+use Rattle.paraid_rack.specs.Slots.{ChangesOneSlot, Slot, vacant_slot}
 use Rattle.paraid_imgrack.specs.declared.image.Image.{Image}
-use Rattle.paraid_imgrack.specs.Images.{vacant_slot, image_slot, image_slot_at, IsLoaded, Becomes}
+use Rattle.paraid_imgrack.specs.Images.{image_slot, image_slot_at, IsLoaded, Becomes}
 
 -- the slot of an image in its place
 pub image_slot_at-get_or : (images : List Image) (d : ℕ) (i : Image) → d < length images → i ≡ get_or images d i → image_slot_at images d ≡ image_slot i

@@ -2,7 +2,7 @@
 use Rattle.std.specs.Prelude.{◌≡◌, ◌≤◌, ◌<◌, ◌⊎◌, ℕ, Bool, true, false, List, Option, None, Some, IfSome, map, get_or}
 use Rattle.paraid_base.specs.Told.{HasRisen}
 use Rattle.paraid_rack.specs.declared.call.Power.TheVariants.{Spinning, Absent}
-use Rattle.paraid_rack.specs.Slots.{Slot}
+use Rattle.paraid_rack.specs.Slots.{Slot, vacant_slot}
 use Rattle.paraid_imgrack.specs.declared.identity.Identity.{Identity}
 use Rattle.paraid_imgrack.specs.declared.identity.Misfit.{Misfit}
 use Rattle.paraid_imgrack.specs.declared.image.Hindrance.{Hindrance}
@@ -10,10 +10,6 @@ use Rattle.paraid_imgrack.specs.declared.image.Hindrance.TheVariants.{Crowded}
 use Rattle.paraid_imgrack.specs.declared.image.Image.{Image}
 use Rattle.paraid_imgrack.specs.declared.label.Label.{Label}
 use Rattle.paraid_imgrack.specs.Labels.{FitsSlot, read_label_of}
-
--- a slot that does not exist
-abbrev pub vacant_slot : Slot
-vacant_slot = record { power = Absent; size = 0; unsynced = false; faults = 0 }
 
 -- what is told of an image
 abbrev pub image_slot : Image → Slot

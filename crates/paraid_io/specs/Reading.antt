@@ -5,7 +5,7 @@ use Rattle.paraid_io.specs.declared.line.Line.TheVariants.{Whole, Long, End}
 use Rattle.paraid_io.specs.declared.line.LineFault.{LineFault}
 use Rattle.paraid_io.specs.declared.line.LineFault.TheVariants.{Source, TooLong}
 use Rattle.paraid_base.specs.Told.{Gives, AtEnd, HasRisen}
-use Rattle.paraid_io.specs.Lines.{NoNewline, whole_lines}
+use Rattle.paraid_io.specs.Lines.{NoNewline, lines_of, whole_lines}
 
 -- what is seen of a reader: the bytes in no line yet, the last line, the bytes taken, whether the end
 -- was given, and the fault that is kept
@@ -34,6 +34,13 @@ pub record ReaderTakes (before after : Option (List ℕ)) (old new : Reading) (n
   pub taken : new.taken ≡ old.taken + n
   pub limit : new.taken ≤ 2 ^ 40
   pub end : n ≡ 0 → AtEnd after
+
+-- The bytes that are in no line yet begin with this line, whatever follows them, and what the reader
+-- holds now is left of them.
+pub record IsNextLine (bytes line : List ℕ) (new : Reading) : Type 0 where
+  pub lines : (more : List ℕ) → (IsTrue new.ended → more ≡ []) → lines_of (bytes ++ more) ≡ line ∷ lines_of (new.rest ++ more)
+  pub whole : new.ended ≡ false → (more : List ℕ) → whole_lines (bytes ++ more) ≡ line ∷ whole_lines (new.rest ++ more)
+  pub shorter : length new.rest < length bytes
 
 -- The first line of the input is this one, and this is the rest. The last line may lack its
 -- newline, at the end.

@@ -13,5 +13,6 @@ mod place;
 mod soft;
 
 pub use cell::{block_at, home, parity_disk};
-pub use place::{hard_place, map_place, soft_place};
+pub use index::index_among;
+pub use place::{hard_place, soft_place};
 pub use soft::{cell_at, soft_of, soft_parity};

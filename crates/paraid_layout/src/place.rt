@@ -1,23 +1,13 @@
-//! The place on its disk of each hard block, each soft block and each block of the dirty map.
+//! The place on its disk of each hard block and of each soft block.
 //!
 //! A disk begins with the gate, the metas and the log at places 0 to 99. Then come the dirty
 //! map, the hard blocks and the soft regions of the gears in ascending order.
 ghost use Rattle.std.specs.Prelude.{◌≡◌, ◌+◌, ◌<◌, ◌≤◌};
 ghost use Rattle.paraid_base.specs.Log.{map_start};
-ghost use Rattle.paraid_base.specs.Regions.{IsGear, disk_size, hard_place_of, map_count, map_place_of, soft_place_of};
+ghost use Rattle.paraid_base.specs.Regions.{IsGear, disk_size, hard_place_of, map_count, soft_place_of};
 ghost use Rattle.paraid_base.specs.Soft.{stripe_count};
 
 use paraid_base::{Geometry, Place, Row};
-
-/// The place of the dirty map's block with the byte of row `r`, which is byte `r % 512` of it.
-pub fn map_place(g: &Geometry, r: Row) -> Place
-    requires { r < g.now.rows }
-    ensures value { result ≡ map_place_of g.now r }
-    ensures after_log { map_start g.now ≤ result }
-    ensures in_map { result < map_start g.now + map_count g.now }
-{
-    g.map_start() + r / 512
-}
 
 /// The place of row `r`'s cell on each disk.
 pub fn hard_place(g: &Geometry, r: Row) -> Place

@@ -1,6 +1,5 @@
 -- What decides which calls of a rack in memory fail, and what it tells.
 use Rattle.std.specs.Prelude.{◌≡◌, ℕ, Bool, false, List, [], length, map, replicate, Option}
-use Rattle.paraid_rack.specs.declared.call.Power.TheVariants.{Absent}
 use Rattle.paraid_rack.specs.declared.call.Call.{Call}
 use Rattle.paraid_rack.specs.Slots.{Slot}
 use Rattle.paraid_rack.specs.Trail.{Beginning, Trail, beginning}
@@ -62,6 +61,3 @@ no_disks count = before_calls (replicate count no_beginning)
 abbrev pub first_slot : List Beginning → ℕ → Slot
 first_slot start d = record { power = (beginning start d).power; size = length (beginning start d).blocks; unsynced = false; faults = 0 }
 
--- a slot with no disk that never failed
-abbrev pub no_disk : Slot
-no_disk = record { power = Absent; size = 0; unsynced = false; faults = 0 }

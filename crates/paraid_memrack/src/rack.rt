@@ -44,10 +44,11 @@ impl MemRack {
     ghost use Rattle.paraid_rack.specs.Alike.{IsAlike};
     ghost use Rattle.paraid_rack.specs.Disks.{Disks, IsImage, lose};
     ghost use Rattle.paraid_rack.specs.Trail.{disks, initial};
+    ghost use Rattle.paraid_rack.specs.Slots.{vacant_slot};
     ghost use Rattle.paraid_memrack.specs.Lists.{noted_in};
     ghost use Rattle.paraid_memrack.specs.Stop.{IsPicked};
     ghost use Rattle.paraid_memrack.specs.Tells.{no_beginning};
-    ghost use Rattle.paraid_memrack.specs.Rules.{rack_slot_count, slots_of, told_of, rules_of, listed_calls, fails_next, Notes, no_disks, no_disk, start_of, before_calls, first_slot};
+    ghost use Rattle.paraid_memrack.specs.Rules.{rack_slot_count, slots_of, told_of, rules_of, listed_calls, fails_next, Notes, no_disks, start_of, before_calls, first_slot};
 
     /// A rack of `slots` absent slots, whose calls fail as `plan` says.
     ///
@@ -62,7 +63,7 @@ impl MemRack {
     ) -> Result<Self, NoMemory>
         requires { slots ≤ 8 }
         ensures slots { IfOk result (λ rack. rack_slot_count rack ≡ slots) }
-        ensures absent { IfOk result (λ rack. (d : ℕ) → slots_of rack d ≡ no_disk) }
+        ensures absent { IfOk result (λ rack. (d : ℕ) → slots_of rack d ≡ vacant_slot) }
         ensures told { IfOk result (λ rack. told_of rack ≡ Some (no_disks slots)) }
         ensures listed { IfOk result (λ rack. listed_calls rack ≡ []) }
         ensures rules { IfOk result (λ rack. rules_of rack

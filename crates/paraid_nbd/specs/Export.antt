@@ -85,12 +85,6 @@ pub record IsDeviceState (stands : History → Type 0) (halted : Option Halt) (s
   pub serves : (h : History) → s ≡ Some h → stands h × (halted ≡ None)
   pub halts : s ≡ None → IsSome halted
 
--- Nothing was written, and what was kept grew by reads.
-pub record OnlyReadsDevice (kept : Answers → Type 0) (events : Answers) : Type 0 where
-  pub new : Answers
-  pub reads : changes new ≡ []
-  pub kept_is : kept (events ++ new)
-
 -- The last call gave a halt; before it these events were kept.
 pub record HaltsAtLast (kept : Answers → Type 0) (events done : Answers) : Type 0 where
   pub event : Event

@@ -7,10 +7,10 @@ use Rattle.paraid_base.specs.Told.{AtEnd, Gives, HasRisen, told_bytes}
 use Rattle.paraid_base.proofs.ToldLemmas.{Gives-none, Gives-then}
 use Rattle.paraid_io.specs.declared.line.LineFault.{LineFault}
 use Rattle.paraid_io.specs.Lines.{lines_of, whole_lines}
-use Rattle.paraid_io.specs.Reading.{Reading, fresh_reader}
+use Rattle.paraid_io.specs.Reading.{IsNextLine, Reading, fresh_reader}
 use Rattle.paraid_planning.specs.Demand.{AreFewAndSmall, BeginsDemand, FirstMiss, IsNoNumber, ReadsDemand, IsUnplanned}
 use Rattle.paraid_planning.specs.Demand.FirstMiss.{empty, line as miss}
-use Rattle.paraid_planning.specs.Heard.{HearsNumber, TakesLine}
+use Rattle.paraid_planning.specs.Heard.{HearsNumber}
 use Rattle.paraid_planning.specs.declared.hear.Spoken.{Spoken}
 use Rattle.paraid_planning.specs.declared.hear.Spoken.TheVariants.{Number, Other, End}
 use Rattle.paraid_planning.specs.declared.unplanned.Unplanned.TheVariants.{Source, TooLong, NoMemory, Demand}
@@ -91,7 +91,7 @@ module _ {before left after : Option (List ℕ)} {old new : Reading} {numbers : 
   all_given {r} h = Gives-then before left after s.bytes h.got s.given h.given
 
   -- the lines with one more, whatever follows
-  more_lines : {r : Result Spoken LineFault} → (h : HearsNumber left after old new r) (line : List ℕ) → TakesLine (old.rest ++ h.got) line new → (more : List ℕ) → (IsTrue new.ended → more ≡ [])
+  more_lines : {r : Result Spoken LineFault} → (h : HearsNumber left after old new r) (line : List ℕ) → IsNextLine (old.rest ++ h.got) line new → (more : List ℕ) → (IsTrue new.ended → more ≡ [])
       → lines_of ((s.bytes ++ h.got) ++ more) ≡ (map decimal numbers ++ line ∷ []) ++ lines_of (new.rest ++ more)
   more_lines {r} h line n more none = lines_more s.bytes h.got old.rest more (map decimal numbers) (lines_of (new.rest ++ more)) line lines_of
       (s.lines (h.got ++ more) (λ e. both_none h.got more (h.ended_before e) (none (h.stays_ended e)))) (n.lines more none)
@@ -99,7 +99,7 @@ module _ {before left after : Option (List ℕ)} {old new : Reading} {numbers : 
   pub gathered_more : {k : ℕ} → (h : HearsNumber left after old new (Ok (Number k))) → new.fault ≡ None → length numbers < 1024 → Gathered before after new (numbers ++ k ∷ [])
   gathered_more {k} h fault room =
       let small : k ≤ 1048576 = h.says.0 in
-      let n : TakesLine (old.rest ++ h.got) (decimal k) new = h.says.1 in
+      let n : IsNextLine (old.rest ++ h.got) (decimal k) new = h.says.1 in
       let pushed = map_push decimal numbers k in
       record {
         bytes = s.bytes ++ h.got;
@@ -116,7 +116,7 @@ module _ {before left after : Option (List ℕ)} {old new : Reading} {numbers : 
       }
 
   -- a line that is no number, or one too many
-  misses : {r : Result Spoken LineFault} → (h : HearsNumber left after old new r) (line : List ℕ) → TakesLine (old.rest ++ h.got) line new → IsNoNumber line ⊎ (length numbers ≡ 1024) → FirstMiss (s.bytes ++ h.got) after (length numbers)
+  misses : {r : Result Spoken LineFault} → (h : HearsNumber left after old new r) (line : List ℕ) → IsNextLine (old.rest ++ h.got) line new → IsNoNumber line ⊎ (length numbers ≡ 1024) → FirstMiss (s.bytes ++ h.got) after (length numbers)
   misses {r} h line n why = miss numbers line s.are (record {
     ended = new.ended;
     at_end = ended h;

@@ -5,7 +5,7 @@ use Rattle.std.proofs.lemmas.Fmt.{length-decimal-le}
 use Rattle.std.proofs.lemmas.List.{append_assoc, append-nil}
 use Rattle.paraid_base.specs.Told.{HasRisen}
 use Rattle.paraid_io.specs.Lines.{lines_of, whole_lines, NoNewline}
-use Rattle.paraid_io.specs.Reading.{HasCause, Reading, CutsOff, ReaderStep}
+use Rattle.paraid_io.specs.Reading.{CutsOff, HasCause, IsNextLine, ReaderStep, Reading}
 use Rattle.paraid_io.specs.declared.line.Line.{Line}
 use Rattle.paraid_io.specs.declared.line.Line.TheVariants.{End as NoLine, Whole, Long}
 use Rattle.paraid_io.specs.declared.line.LineFault.{LineFault}
@@ -14,7 +14,7 @@ use Rattle.paraid_io.proofs.LineLemmas.{lines_of-cut, lines_of-last, whole_lines
 use Rattle.paraid_trace.specs.LineEvents.{number_of}
 use Rattle.paraid_trace.proofs.NumberLemmas.{IsNumber-number_of, number_of-IsNumber}
 use Rattle.paraid_planning.specs.Demand.{IsNoNumber}
-use Rattle.paraid_planning.specs.Heard.{HearsNumber, IsSpoken, TakesLine}
+use Rattle.paraid_planning.specs.Heard.{HearsNumber, IsSpoken}
 use Rattle.paraid_planning.specs.declared.hear.Spoken.{Spoken}
 use Rattle.paraid_planning.specs.declared.hear.Spoken.TheVariants.{Number, Other, End}
 
@@ -61,7 +61,7 @@ some_length : (line : List ℕ) → line ≢ [] → 0 < length line
 some_length [] p = absurd (p refl)
 some_length (x ∷ line) p = omega arith
 
-takes_line : (input line : List ℕ) (new : Reading) → CutsOff input line new.rest new.ended → TakesLine input line new
+takes_line : (input line : List ℕ) (new : Reading) → CutsOff input line new.rest new.ended → IsNextLine input line new
 takes_line input line new c = elim c.cut [
   | inl e ↦ record {
     lines = λ more none. ap (λ x. lines_of (x ++ more)) e ∙ cut_lines line new.rest more c.plain;

@@ -1,23 +1,17 @@
 -- One call that takes the next line of a demand.
-use Rattle.std.specs.Prelude.{◌≡◌, ℕ, ◌+◌, ◌<◌, ◌≤◌, ◌^◌, false, List, [], ◌∷◌, ◌++◌, length, decimal, IsTrue, Option, Result, Ok, Err}
+use Rattle.std.specs.Prelude.{◌≡◌, ℕ, ◌+◌, ◌≤◌, ◌^◌, false, List, [], ◌++◌, length, decimal, IsTrue, Option, Result, Ok, Err}
 use Rattle.paraid_base.specs.Told.{AtEnd, Gives}
 use Rattle.paraid_io.specs.declared.line.LineFault.{LineFault}
-use Rattle.paraid_io.specs.Lines.{lines_of, whole_lines}
-use Rattle.paraid_io.specs.Reading.{Reading}
+use Rattle.paraid_io.specs.Lines.{whole_lines}
+use Rattle.paraid_io.specs.Reading.{IsNextLine, Reading}
 use Rattle.paraid_planning.specs.Demand.{IsNoNumber}
 use Rattle.paraid_planning.specs.declared.hear.Spoken.{Spoken}
 use Rattle.paraid_planning.specs.declared.hear.Spoken.TheVariants.{Number, Other, End}
 
--- The bytes that are in no line yet begin with this line, whatever follows them, and these are left.
-pub record TakesLine (bytes line : List ℕ) (new : Reading) : Type 0 where
-  pub lines : (more : List ℕ) → (IsTrue new.ended → more ≡ []) → lines_of (bytes ++ more) ≡ line ∷ lines_of (new.rest ++ more)
-  pub whole : new.ended ≡ false → (more : List ℕ) → whole_lines (bytes ++ more) ≡ line ∷ whole_lines (new.rest ++ more)
-  pub shorter : length new.rest < length bytes
-
 -- what an answer says of the bytes that were held before and taken in the call
 abbrev pub IsSpoken : Result Spoken LineFault → List ℕ → Reading → Type 0
-IsSpoken (Ok (Number number)) bytes new = (number ≤ 1048576) × TakesLine bytes (decimal number) new
-IsSpoken (Ok Other) bytes new = (line : List ℕ) × IsNoNumber line × TakesLine bytes line new
+IsSpoken (Ok (Number number)) bytes new = (number ≤ 1048576) × IsNextLine bytes (decimal number) new
+IsSpoken (Ok Other) bytes new = (line : List ℕ) × IsNoNumber line × IsNextLine bytes line new
 IsSpoken (Ok End) bytes new = (bytes ≡ []) × (new.rest ≡ []) × IsTrue new.ended
 IsSpoken (Err fault) bytes new = (whole_lines bytes ≡ []) × (new.ended ≡ false)
 

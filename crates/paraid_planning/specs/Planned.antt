@@ -1,6 +1,6 @@
 -- The plan of a demand that was read, and its lines.
 use Rattle.std.specs.Prelude.{◌≡◌, ℕ, ◌≤◌, List, ◌++◌, codes, decimal, min, Option}
-use Rattle.std.specs.List.{flat_map}
+use Rattle.paraid_trace.specs.StateTexts.{numbers_text}
 use Rattle.paraid_record.specs.declared.meta.Setup.{Setup}
 use Rattle.paraid_schedule.specs.Cost.{schedule_cost, spin_ups}
 use Rattle.paraid_schedule.specs.Plan.{IsLeastCost}
@@ -9,13 +9,9 @@ use Rattle.paraid_planning.specs.Demand.{ReadsDemand}
 use Rattle.paraid_planning.specs.declared.unplanned.Unplanned.{Unplanned}
 use Rattle.paraid_planning.specs.declared.unplanned.Unplanned.TheVariants.{Source, TooLong, NoMemory, Demand}
 
--- a space and the gear, for each gear
-abbrev pub gear_words : List ℕ → List ℕ
-gear_words gears = flat_map (λ gear. codes " " ++ decimal gear) gears
-
 -- the lines of gears and what they cost
 abbrev pub plan_lines : ℕ → List ℕ → List ℕ
-plan_lines cost gears = codes "plan cost " ++ decimal cost ++ codes "\ngears" ++ gear_words gears ++ codes "\n"
+plan_lines cost gears = codes "plan cost " ++ decimal cost ++ codes "\ngears" ++ numbers_text gears ++ codes "\n"
 
 -- Of the demand that the source gave, these are the lines of a schedule with at most `ups` steps up, and no more than
 -- the ration. No such schedule costs less.

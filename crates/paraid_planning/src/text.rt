@@ -1,6 +1,7 @@
 //! The lines of a plan, and the line that tells why there is none.
 ghost use Rattle.std.specs.Prelude.{◌≡◌, [], ◌++◌, ◌≤◌, length, codes, decimal, IfOk, OnOk};
-ghost use Rattle.paraid_planning.specs.Planned.{gear_words, plan_lines, unplanned_line};
+ghost use Rattle.paraid_planning.specs.Planned.{plan_lines, unplanned_line};
+ghost use Rattle.paraid_trace.specs.StateTexts.{numbers_text};
 
 use crate::Unplanned;
 use paraid_base::NoMemory;
@@ -30,7 +31,7 @@ fn push_word(text: &mut Vec<u8>, word: &[u8], number: u64) -> Result<(), NoMemor
 
 // A word for each gear.
 fn push_gears(text: &mut Vec<u8>, gears: &[u8]) -> Result<(), NoMemory>
-    ensures { OnOk result (text.new.items ≡ text.old.items ++ gear_words gears.now) }
+    ensures { OnOk result (text.new.items ≡ text.old.items ++ numbers_text gears.now) }
 {
     for gear in gears {
         let Ok(()) = push_word(text, b" ", u64::from(*gear)) else {

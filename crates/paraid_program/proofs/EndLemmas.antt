@@ -5,6 +5,7 @@ use Rattle.paraid_recover.specs.declared.fault.MountFault.{MountFault}
 use Rattle.paraid_recover.specs.declared.fault.MountFault.TheVariants.{NotFormatted, BadLog, BadMeta, Size, Power, Two as TwoDown, Worn, NoMemory}
 use Rattle.paraid_rack.specs.Slots.{Slot}
 use Rattle.paraid_rack.specs.Trail.{Trail, moments}
+use Rattle.paraid_rack.specs.Told.{Extends}
 use Rattle.paraid_record.specs.declared.meta.Setup.{Setup}
 use Rattle.paraid_session.specs.Faults.{HaveNotFallen}
 use Rattle.paraid_serve.specs.Ending.{EndsWithLine}
@@ -17,7 +18,6 @@ use Rattle.paraid_serve.specs.Stretch.{Span, span_of}
 use Rattle.paraid_serve.specs.Uses.{RackUse, SinkUse, SourceUse}
 use Rattle.paraid_serve.proofs.HaltLemmas.{names_since}
 use Rattle.paraid_program.specs.Generating.{GenHeadline, IsGenStatus}
-use Rattle.paraid_recover.specs.HeldMoments.{Extends}
 use Rattle.paraid_program.specs.MountFaults.{mount_fault_status}
 use Rattle.paraid_program.specs.Showing.{BeganAt}
 use Rattle.paraid_program.specs.Spares.{ServesSpares}

@@ -6,7 +6,7 @@ use Rattle.paraid_base.specs.declared.event.Event.TheVariants.{Flush}
 use Rattle.paraid_base.specs.declared.fault.Halt.{Halt}
 use Rattle.paraid_rack.specs.Calls.{AreReads}
 use Rattle.paraid_rack.specs.Slots.{Slot}
-use Rattle.paraid_rack.specs.Told.{Ran}
+use Rattle.paraid_rack.specs.Told.{Extends, Ran}
 use Rattle.paraid_rack.specs.Trail.{Trail, extend, moments, now}
 use Rattle.paraid_rack.specs.declared.call.Call.{Call}
 use Rattle.paraid_record.specs.declared.meta.Meta.{Meta}
@@ -27,7 +27,6 @@ use Rattle.paraid_serve.specs.Uses.{RackUse, SinkUse, SourceUse}
 use Rattle.paraid_session.specs.Turn.{Point}
 use Rattle.paraid_program.specs.Generating.{GenHeadline, GenStreams}
 use Rattle.paraid_recover.specs.declared.fault.MountFault.{MountFault}
-use Rattle.paraid_recover.specs.HeldMoments.{Extends}
 use Rattle.paraid_recover.specs.Map.{HasBitsOf}
 use Rattle.paraid_recover.specs.Mount.{IsCauseOfRefusal}
 use Rattle.paraid_recover.specs.StartRefusals.{refusal_by_fault}

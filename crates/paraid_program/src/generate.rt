@@ -1,7 +1,8 @@
 ghost use Rattle.std.specs.Prelude.{◌≡◌, ◌≢◌, ℕ, ◌≤◌, ◌<◌, None, IsSome};
 ghost use Rattle.paraid_base.specs.Told.{HasRisen};
 ghost use Rattle.paraid_rack.specs.Slots.{Slot};
-ghost use Rattle.paraid_serve.specs.Calls.{Grows, IsNotDouble};
+ghost use Rattle.paraid_rack.specs.Told.{Extends};
+ghost use Rattle.paraid_serve.specs.Calls.{IsNotDouble};
 ghost use Rattle.paraid_serve.specs.Lost.{HasServedSince, NamesTwoLost, TellsWear};
 ghost use Rattle.paraid_session.specs.Mount.{IsMountedFromEach};
 ghost use Rattle.paraid_session.specs.Turn.{Point};
@@ -35,7 +36,7 @@ pub fn answer_lines<A: Serves>(
         number lines result (A.stands array.new) }
     // Over every rack each answer has its cause.
     ensures causes { CountsCauses (A.shown array.old) number lines result (A.shown array.new) }
-    ensures told { Grows (A.told array.old) (A.told array.new) }
+    ensures told { Extends (A.told array.old) (A.told array.new) }
     ensures slots { A.slots array.new ≡ A.slots array.old }
     ensures setup { A.setup array.new ≡ A.setup array.old }
     ensures halt { halt.new ≡ A.halted array.new }
@@ -65,7 +66,7 @@ pub fn serve_generated<K: Sink, A: Serves>(
     ensures run { GenRun (A.shown array.old) (A.shown array.new)
         (span_of (A.slots array.old) (A.setup array.old) (A.told array.old) (A.told array.new))
         (A.stands array.old) (record { number = number; count = lines; sink = (sink_use K.written K.faults sink.old sink.new) }) result }
-    ensures told { Grows (A.told array.old) (A.told array.new) }
+    ensures told { Extends (A.told array.old) (A.told array.new) }
     ensures slots { A.slots array.new ≡ A.slots array.old }
     ensures status { IsGenStatus result }
     ensures present { result ≡ 0 → IsNotDouble (A.setup array.old) (A.slot array.new) }
@@ -114,7 +115,7 @@ pub fn serve_generated_mounted<K: Sink, A: Serves>(
         → GenHeadline (A.shown array.old) (A.shown array.new)
         (span_of (A.slots array.old) (A.setup array.old) (A.told array.old) (A.told array.new)) began
         (record { number = number; count = lines; sink = (sink_use K.written K.faults sink.old sink.new) }) result }
-    ensures told { Grows (A.told array.old) (A.told array.new) }
+    ensures told { Extends (A.told array.old) (A.told array.new) }
     ensures slots { A.slots array.new ≡ A.slots array.old }
     ensures status { IsGenStatus result }
     ensures present { result ≡ 0 → IsNotDouble (A.setup array.old) (A.slot array.new) }

@@ -2,9 +2,8 @@ ghost use Rattle.std.specs.Prelude.{◌≡◌, ℕ, length, None, IfErr, IfOk, I
 ghost use Rattle.paraid_base.specs.declared.event.Answer.TheVariants.{Flushed, Halted};
 ghost use Rattle.paraid_base.specs.declared.event.Event.TheVariants.{Flush as FlushEvent};
 ghost use Rattle.paraid_array.specs.Checked.{answer_to_check};
-ghost use Rattle.paraid_rack.specs.Told.{Ran};
+ghost use Rattle.paraid_rack.specs.Told.{Extends, Ran};
 ghost use Rattle.paraid_recover.specs.Calls.{OnlyReads};
-ghost use Rattle.paraid_recover.specs.HeldMoments.{Extends};
 ghost use Rattle.paraid_scrub.specs.Counts.{AreWithinMembers, no_faults};
 ghost use Rattle.paraid_serve.specs.Causes.{HasCause};
 ghost use Rattle.paraid_session.specs.Faults.{HaveNotFallen};

@@ -21,6 +21,15 @@ is_done (Park d done) = done
 is_done (SpinUp d done) = done
 is_done (Attach d size done) = done
 
+-- the call reads, writes or syncs
+abbrev pub IsTransfer : Call → Type 0
+IsTransfer (Read d p done) = Unit {0}
+IsTransfer (Write d p b done) = Unit {0}
+IsTransfer (Sync d done) = Unit {0}
+IsTransfer (Park d done) = ⊥
+IsTransfer (SpinUp d done) = ⊥
+IsTransfer (Attach d size done) = ⊥
+
 -- the call is a read
 abbrev pub IsRead : Call → Type 0
 IsRead (Read d p done) = Unit {0}

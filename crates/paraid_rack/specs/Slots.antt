@@ -12,6 +12,10 @@ pub record Slot : Type 0 where
   pub unsynced : Bool
   pub faults : ℕ
 
+-- what is told of a slot that does not exist, or that never had a disk
+abbrev pub vacant_slot : Slot
+vacant_slot = record { power = Absent; size = 0; unsynced = false; faults = 0 }
+
 -- A call on one slot: a done call leaves it so; a failed one leaves it absent, with its count
 -- risen and so unsynced. No other slot changes.
 pub record ChangesOneSlot (old new : ℕ → Slot) (disk : ℕ) (leaves : Slot) (dirt : Bool) (ok : Bool) : Type 0 where

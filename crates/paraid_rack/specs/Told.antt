@@ -26,6 +26,10 @@ pub record Came (old : Option Trail) (t : Trail) (Q : Disks → List Call → Ty
 abbrev pub Ran : Option Trail → Option Trail → (Disks → List Call → Type 0) → Type 0
 Ran old new Q = (t : Trail) → new ≡ Some t → Came old t Q
 
+-- Where the record is told after this part, it was told before, and is longer by some calls.
+abbrev pub Extends : Option Trail → Option Trail → Type 0
+Extends old new = Ran old new (λ start calls. Unit {0})
+
 -- from A, with P at each moment, to B
 pub record CrashTriple (P A B : Disks → Type 0) (s : Disks) (cs : List Call) : Type 0 where
   pub goes : A s → Through P s cs × B (run s cs)

@@ -10,10 +10,10 @@ use Rattle.paraid_rack.specs.Trail.{Trail}
 use Rattle.paraid_record.specs.declared.meta.Meta.{Meta}
 use Rattle.paraid_record.specs.declared.meta.Setup.{Setup}
 use Rattle.paraid_core.specs.Calls.{IsCopySync, IsDataCall}
-use Rattle.paraid_core.specs.CoreInvariant.{meta_with_lost}
 use Rattle.paraid_core.specs.Lost.{MarksLost}
 use Rattle.paraid_core.proofs.KindLemmas.{calls_milder, calls_then, sync_data}
 use Rattle.paraid_image.specs.Out.{named_out}
+use Rattle.paraid_image.specs.Mark.{meta_with_lost}
 use Rattle.paraid_txn.specs.Commit.{gone_out}
 use Rattle.paraid_txn.specs.Losses.{OnlyLosesSlots}
 use Rattle.paraid_txn.specs.Uses.{EachCall}

@@ -17,7 +17,8 @@ use Rattle.paraid_rack.proofs.TrailsLemmas.{Ran-none, now-extend}
 use Rattle.paraid_record.specs.declared.meta.Meta.{Meta}
 use Rattle.paraid_core.specs.Calls.{IsOneCall, IsTransferCall}
 use Rattle.paraid_core.specs.declared.staged.Core.{Core}
-use Rattle.paraid_core.specs.CoreInvariant.{AreCopiesSynced, IsHeldWithOneMissing, meta_with_lost}
+use Rattle.paraid_core.specs.CoreInvariant.{AreCopiesSynced, IsHeldWithOneMissing}
+use Rattle.paraid_image.specs.Mark.{meta_with_lost}
 use Rattle.paraid_core.specs.Lost.{MarksLost}
 use Rattle.paraid_core.specs.Replaced.{KeepsCommitted}
 use Rattle.paraid_core.proofs.CommitLemmas.{both_of}

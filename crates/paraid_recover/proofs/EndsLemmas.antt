@@ -6,6 +6,7 @@ use Rattle.paraid_base.specs.History.{History}
 use Rattle.paraid_rack.specs.declared.call.Power.TheVariants.{Spinning}
 use Rattle.paraid_rack.specs.Disks.{Disks, is_present}
 use Rattle.paraid_rack.specs.Trail.{Trail, disks, extend, moments, now}
+use Rattle.paraid_rack.specs.Told.{Extends}
 use Rattle.paraid_record.specs.declared.meta.Meta.{Meta}
 use Rattle.paraid_image.specs.HeldAt.{IsHeld}
 use Rattle.paraid_image.specs.Out.{IsMissing, IsWeak, named_out, out_disk}
@@ -17,7 +18,7 @@ use Rattle.paraid_txn.specs.Commit.{EndsCommitted, IsEitherMissing, IsNext}
 use Rattle.paraid_txn.specs.Resume.{IsBroken, EndsAsCommitted}
 use Rattle.paraid_txn.proofs.RanLemmas.{commits_now, settles_now}
 use Rattle.paraid_recover.specs.Bearing.{EndsBorne, IsNewlyNamed}
-use Rattle.paraid_recover.specs.HeldMoments.{EndsHeld, Extends, IsAbsentOne, IsAbsentSince, KeepsHeld, RecoversHeld}
+use Rattle.paraid_recover.specs.HeldMoments.{EndsHeld, IsAbsentOne, IsAbsentSince, KeepsHeld, RecoversHeld}
 use Rattle.paraid_recover.proofs.RecoverLemmas.{disks_before, disks_last, middle}
 use Rattle.paraid_recover.proofs.HeldAtRestLemmas.{rest_held}
 use Rattle.paraid_recover.proofs.QuietCallsLemmas.{resting_from, resting_held}

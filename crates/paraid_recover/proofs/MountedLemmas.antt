@@ -7,7 +7,7 @@ use Rattle.paraid_base.specs.States.{gone_out}
 use Rattle.paraid_rack.specs.declared.call.Call.{Call}
 use Rattle.paraid_rack.specs.Disks.{Disks, IsPresent}
 use Rattle.paraid_rack.specs.Slots.{Agrees, Slot}
-use Rattle.paraid_rack.specs.Told.{CrashTriple, Ran}
+use Rattle.paraid_rack.specs.Told.{CrashTriple, Extends, Ran}
 use Rattle.paraid_rack.specs.Trail.{Trail, disks, extend, moments, now, run}
 use Rattle.paraid_rack.proofs.TrailsLemmas.{Ran-none, extend-extend, now-extend}
 use Rattle.paraid_record.specs.declared.meta.Meta.{Meta}
@@ -27,7 +27,7 @@ use Rattle.paraid_recover.specs.declared.fault.MountFault.{MountFault}
 use Rattle.paraid_recover.specs.declared.fault.MountFault.TheVariants.{Two as BothMissing}
 use Rattle.paraid_recover.specs.Examined.{IsExamined, IsRefused}
 use Rattle.paraid_recover.proofs.DirtyKeptLemmas.{shown_dirty}
-use Rattle.paraid_recover.specs.HeldMoments.{Extends, IsAbsentSince}
+use Rattle.paraid_recover.specs.HeldMoments.{IsAbsentSince}
 use Rattle.paraid_recover.specs.Mount.{HasMounted, HasOnlyRead, HasRecovered, IsCauseOfRefusal, IsUnstarted}
 use Rattle.paraid_recover.specs.Mount.IsCauseOfRefusal.{examined, no_memory, two_down, witnessed}
 use Rattle.paraid_recover.specs.MountCalls.{IsMountCall}

@@ -10,11 +10,12 @@ use Rattle.paraid_txn.specs.Commit.{IsEitherMissing, IsOneMissing}
 use Rattle.paraid_image.specs.Out.{IsMissing, named_out}
 use Rattle.paraid_txn.specs.Resume.{StandsWhileResumed}
 use Rattle.paraid_rack.specs.Slots.{Slot}
+use Rattle.paraid_rack.specs.Told.{Extends}
 use Rattle.paraid_txn.specs.Ready.{AreTargetsReady}
 use Rattle.paraid_image.specs.Sides.{Batch, LogState, targets}
 use Rattle.paraid_txn.proofs.HeldResumeLemmas.{held_resumes}
 use Rattle.paraid_txn.proofs.RanLemmas.{resume_moments}
-use Rattle.paraid_recover.specs.HeldMoments.{Extends, IsAbsentOne, RecoversHeld}
+use Rattle.paraid_recover.specs.HeldMoments.{IsAbsentOne, RecoversHeld}
 
 -- what is told of the moments before stays
 pub disks_before : (t : Trail) (calls : List Call) (j : ℕ) → j ≤ moments t → disks (extend t calls) j ≡ disks t j

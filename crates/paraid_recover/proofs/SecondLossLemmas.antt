@@ -11,6 +11,7 @@ use Rattle.paraid_rack.specs.Disks.{Disks, is_present, power_after, step, with_a
 use Rattle.paraid_rack.specs.Slots.{Agrees, Slot}
 use Rattle.paraid_rack.specs.Told.{Ran}
 use Rattle.paraid_rack.specs.Trail.{Trail, now, run}
+use Rattle.paraid_rack.specs.Calls.{IsTransfer}
 use Rattle.paraid_rack.proofs.AtomsLemmas.{at_use, with_at_same}
 use Rattle.paraid_rack.proofs.TrailsLemmas.{now-extend}
 use Rattle.paraid_record.specs.declared.meta.Meta.{Meta}
@@ -27,7 +28,6 @@ use Rattle.paraid_txn.specs.Uses.{EachCall}
 use Rattle.paraid_txn.proofs.MeansLemmas.{absent_power}
 use Rattle.paraid_txn.proofs.WitnessLemmas.{same_calls}
 use Rattle.paraid_recover.specs.MountCalls.{IsMountCall, OnlyMountCalls}
-use Rattle.paraid_recover.specs.Quiet.{IsStill}
 use Rattle.paraid_recover.specs.RecoveryMark.{with_mark}
 use Rattle.paraid_recover.specs.SecondLoss.{TellsSecondLoss}
 use Rattle.paraid_recover.proofs.GoneLemmas.{out_marked}
@@ -102,7 +102,7 @@ touched_there s e true d here = at_use (λ (p : Power). is_present p ≡ true) (
 touched_there s e false d here = at_use (λ (p : Power). is_present p ≡ true) (is_present (s.power d) ≡ true) s.power e Absent d
     (λ at there. absurd (false≢true there)) (λ other there. there) here
 
-there_before : (s : Disks) (c : Call) (d : ℕ) → IsStill c → is_present ((step c s).power d) ≡ true → is_present (s.power d) ≡ true
+there_before : (s : Disks) (c : Call) (d : ℕ) → IsTransfer c → is_present ((step c s).power d) ≡ true → is_present (s.power d) ≡ true
 unfolding step
 there_before s (Read e p done) d is here = touched_there s e done d here
 there_before s (Write e p b done) d is here = touched_there s e done d here
@@ -114,7 +114,7 @@ there_before s (Attach e size done) d is here = absurd is
 failed_off : (s : Disks) (c : Call) → is_done c ≡ false → is_present ((step c s).power (disk_of c)) ≡ false
 failed_off s c failed = let l = failed_is_loss s c failed in ap is_present (l.power (disk_of c) ∙ with_at_same s.power (disk_of c) Absent (disk_of c) refl)
 
-off_stays : (s : Disks) (cs : List Call) (d : ℕ) → EachCall IsStill s cs → is_present (s.power d) ≡ false → is_present ((run s cs).power d) ≡ false
+off_stays : (s : Disks) (cs : List Call) (d : ℕ) → EachCall IsTransfer s cs → is_present (s.power d) ≡ false → is_present ((run s cs).power d) ≡ false
 off_stays s [] d each off = off
 off_stays s (c ∷ cs) d each off = off_stays (step c s) cs d each.2 (by (is_present ((step c s).power d)) refl)
   where
@@ -122,7 +122,7 @@ off_stays s (c ∷ cs) d each off = off_stays (step c s) cs d each.2 (by (is_pre
     by false is = is
     by true is = absurd (false≢true (sym off ∙ there_before s c d each.1 is))
 
-failed_gone : (s : Disks) (cs : List Call) (e : ℕ) → EachCall IsStill s cs → fails_on e cs ≡ true → is_present ((run s cs).power e) ≡ false
+failed_gone : (s : Disks) (cs : List Call) (e : ℕ) → EachCall IsTransfer s cs → fails_on e cs ≡ true → is_present ((run s cs).power e) ≡ false
 failed_gone s [] e each failed = absurd (false≢true failed)
 failed_gone s (c ∷ cs) e each failed = elim (fails_split c cs e failed) [
   | inl here ↦ off_stays (step c s) cs e each.2 (subst (λ (x : ℕ). is_present ((step c s).power x) ≡ false) here.1 (failed_off s c here.0))
@@ -159,7 +159,7 @@ module _ (P Q : ℕ → Type 0) (was then : Option ℕ) (cs : List Call) (before
 
 -- Reads, writes and syncs of the disks of an array, after which one disk at most is out by the same meta.
 module _ (m : Meta) (a b : ℕ → Slot) (old new : Option Trail) (agrees : (t : Trail) → old ≡ Some t → Agrees (now t) a) (agrees_then : (t : Trail) → new ≡ Some t → Agrees (now t) b)
-    (still : Ran old new (EachCall IsStill)) (allowed : OnlyMountCalls m old new) (one : IsOneOut m.setup.geometry.disks (named_out m.out) a → IsOneOut m.setup.geometry.disks (named_out m.out) b) where
+    (still : Ran old new (EachCall IsTransfer)) (allowed : OnlyMountCalls m old new) (one : IsOneOut m.setup.geometry.disks (named_out m.out) a → IsOneOut m.setup.geometry.disks (named_out m.out) b) where
   abbrev n : ℕ
   n = m.setup.geometry.disks
 
@@ -175,7 +175,7 @@ module _ (m : Meta) (a b : ℕ → Slot) (old new : Option Trail) (agrees : (t :
   only_then : (was : Option ℕ) → IsOnlyOut P was → IsOnlyOut Q then
   only_then was before = only_out n (named_out m.out) b (one (one_of n (named_out m.out) a was before))
 
-  module _ (s : Disks) (cs : List Call) (at : (d : ℕ) → s.power d ≡ (a d).power) (at_then : (d : ℕ) → (run s cs).power d ≡ (b d).power) (each : EachCall IsStill s cs) (low : EachCall (IsMountCall n (gone_out m.out)) s cs) where
+  module _ (s : Disks) (cs : List Call) (at : (d : ℕ) → s.power d ≡ (a d).power) (at_then : (d : ℕ) → (run s cs).power d ≡ (b d).power) (each : EachCall IsTransfer s cs) (low : EachCall (IsMountCall n (gone_out m.out)) s cs) where
     stays : (d : ℕ) → P d → Q d
     stays d (is_absent below gone) = is_absent below (absent_power (b d).power (ap is_present (sym (at_then d)) ∙ off_stays s cs d each (ap is_present (at d ∙ gone))))
     stays d (was_named is) = was_named is

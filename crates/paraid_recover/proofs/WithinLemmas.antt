@@ -8,6 +8,7 @@ use Rattle.paraid_rack.specs.declared.call.Call.TheVariants.{Read, Write, Sync, 
 use Rattle.paraid_rack.specs.declared.call.Power.{Power}
 use Rattle.paraid_rack.specs.Disks.{Disks, IsPresent, is_present}
 use Rattle.paraid_rack.specs.Trail.{Trail, disks, extend, moments, now, run}
+use Rattle.paraid_rack.specs.Calls.{IsTransfer}
 use Rattle.paraid_rack.proofs.TrailsLemmas.{extend-extend}
 use Rattle.paraid_record.specs.declared.meta.Meta.{Meta}
 use Rattle.paraid_record.specs.declared.meta.Setup.{Setup}
@@ -32,7 +33,7 @@ use Rattle.paraid_session.specs.Watch.{Bounds, Down, Each, IsServing, Watch, nob
 use Rattle.paraid_session.proofs.LayerLemmas.{IsIn, each_at}
 use Rattle.paraid_recover.specs.HeardSides.{ReadsLogs}
 use Rattle.paraid_recover.specs.StartCalls.{IsSpinUpRecorded}
-use Rattle.paraid_recover.specs.RecordedSpins.{AreSpinUpsRecorded, HasRecord, IsStill, OnlyStands, StaysWithin, StaysWithinAt}
+use Rattle.paraid_recover.specs.RecordedSpins.{AreSpinUpsRecorded, HasRecord, OnlyStands, StaysWithin, StaysWithinAt}
 use Rattle.paraid_recover.proofs.BaseLemmas.{each_append}
 use Rattle.paraid_recover.proofs.CallsLemmas.{each_map}
 use Rattle.paraid_recover.proofs.DownLemmas.{absent_weak, each_of, in_absent, in_stays, watched_disks, weak_in}
@@ -54,7 +55,7 @@ each_first P A w [] [] each = each
 each_first P A w [] (d ∷ ds) each = each.0
 each_first P A w (c ∷ cs) ds each = (each.0, each.1, each_first P A (watch c w) cs ds each.2)
 
-reads_still : (c : Call) → ReadsLogs c → IsStill c
+reads_still : (c : Call) → ReadsLogs c → IsTransfer c
 reads_still (Read d p done) is = tt
 reads_still (Write d p b done) is = absurd is
 reads_still (Sync d done) is = absurd is
@@ -99,7 +100,7 @@ out_covered power m beside v absent named is = split (named_out m.out) refl is
 pub reads_within : (slots : ℕ) (s : Disks) (h : History) (lo : ℕ) (down : Option ℕ) → IsRunStart slots s h lo down → (x : ℕ) (said : LogState) → Stands s x said
     → (base : ℕ → ℕ) (ticks : ℕ) → IsBase s x said base ticks → (rs : List Call) → EachCall ReadsLogs s rs → Each (StaysWithin (mount_bounds said ticks)) IsSpinUpRecorded (start_watch s down base) rs
 reads_within slots s h lo down start x said stood base ticks is_base rs each =
-    each_still (mount_bounds said ticks) base s (start_watch s down base) rs (λ d. refl) (λ d here. refl) (each_map ReadsLogs IsStill reads_still s rs each)
+    each_still (mount_bounds said ticks) base s (start_watch s down base) rs (λ d. refl) (λ d here. refl) (each_map ReadsLogs IsTransfer reads_still s rs each)
     (each_of (StaysWithinAt (mount_bounds said ticks) base s) (start_watch s down base) rs (λ k le serving z i o looked stands.
     read_within slots s h lo down start x said stood base ticks is_base (take k rs) (each_take ReadsLogs s rs k each) serving i z o
     (subst (λ (u : Disks). IsLooked u i) (watched_disks (start_watch s down base) (take k rs)) looked) stands))
@@ -111,7 +112,7 @@ module _ (slots : ℕ) (from read settled t : Trail) (rs ls1 ls2 : List Call) (r
     (foreseen : (h : History) (lo m : ℕ) (was down : Option ℕ) → IsBroken (now read) side then_said → IsHeld slots (now read) h lo was → moments read ≤ m → m ≤ moments t
     → IsAbsentSince then_said.meta.setup.geometry.disks t (moments read) m down → ((v : ℕ) → IsWeak (now read) v → down ≡ Some v)
     → (i : Disks) (z : ℕ) (o : LogState) → IsLooked (disks t m) i → Stands i z o → StandsForeseen (now read) side then_said i o.meta)
-    (still : EachCall IsStill (now read) ls1) where
+    (still : EachCall IsTransfer (now read) ls1) where
   abbrev s : Disks
   s = now from
 
@@ -173,7 +174,7 @@ module _ (slots : ℕ) (from read settled t : Trail) (rs ls1 ls2 : List Call) (r
   -- up to the powers
   pub still_within : Each (StaysWithin b) IsSpinUpRecorded w (rs ++ ls1)
   still_within = each_still b base s w (rs ++ ls1) (λ d. refl) (λ d here. refl)
-      (calls_append IsStill s rs ls1 (each_map ReadsLogs IsStill reads_still s rs each) (subst (λ (u : Disks). EachCall IsStill u ls1) read_end still))
+      (calls_append IsTransfer s rs ls1 (each_map ReadsLogs IsTransfer reads_still s rs each) (subst (λ (u : Disks). EachCall IsTransfer u ls1) read_end still))
       (each_first (StaysWithinAt b base s) (λ (v : Watch) (c : Call). Unit {0}) w (rs ++ ls1) ls2
       (subst (Each (StaysWithinAt b base s) (λ (v : Watch) (c : Call). Unit {0}) w) (sym (append_assoc rs ls1 ls2)) (each_of (StaysWithinAt b base s) w calls at_each)))
 
@@ -183,7 +184,7 @@ module _ (slots : ℕ) (from read settled t : Trail) (rs ls1 ls2 : List Call) (r
       let reads_serving = serving_before (watch_all rs w) ls1 (subst IsServing (down_append w rs ls1) serving) in
       let is_broken = broken_end slots from read settled rs ls1 read_is settled_is each h lo down start x said stood side then_said then_stands base serving in
       let based = then_based slots s h lo down start x said stood base rs each side then_said stands_read reads_serving ticks is_base (single_read is_broken) in
-      let end = still_end w (rs ++ ls1) d (calls_append IsStill s rs ls1 (each_map ReadsLogs IsStill reads_still s rs each) (subst (λ (u : Disks). EachCall IsStill u ls1) read_end still)) in
+      let end = still_end w (rs ++ ls1) d (calls_append IsTransfer s rs ls1 (each_map ReadsLogs IsTransfer reads_still s rs each) (subst (λ (u : Disks). EachCall IsTransfer u ls1) read_end still)) in
       let power : (watch_all (rs ++ ls1) w).disks.power d ≡ s.power d = end.1 here in
       let used = same_used then_said.meta (watch_all (rs ++ ls1) w).disks.power s.power d power in
       let least = based.recorded d in

@@ -5,7 +5,7 @@ use Rattle.paraid_base.specs.Regions.{map_count}
 use Rattle.paraid_image.specs.Content.{view_by}
 use Rattle.paraid_image.specs.Standing.{contents}
 use Rattle.paraid_rack.specs.Disks.{Disks, is_present}
-use Rattle.paraid_rack.specs.Told.{Ran}
+use Rattle.paraid_rack.specs.Told.{Extends}
 use Rattle.paraid_rack.specs.Trail.{Trail, disks, moments, now}
 use Rattle.paraid_record.specs.declared.meta.Meta.{Meta}
 use Rattle.paraid_image.specs.Rest.{IsAtRest}
@@ -48,10 +48,6 @@ EndsHeld slots x said m old new = (t : Trail) → new ≡ Some t → (s : Trail)
     → IsHeld slots (now s) h lo was → IsAbsentSince said.meta.setup.geometry.disks t (moments s) (moments t) down
     → ((w : ℕ) → IsWeak (now s) w → down ≡ Some w)
     → IsAtRest (now t) m × IsHeld slots (now t) (take m.writes h) m.writes (out_disk (now t).power m))
-
--- The record is longer by some calls.
-abbrev pub Extends : Option Trail → Option Trail → Type 0
-Extends old new = Ran old new (λ start calls. Unit {0})
 
 -- So it is from the one record to the other, which is longer by some calls, and at the end the meta
 -- that stood is kept.

@@ -30,12 +30,3 @@ WritesOnlyLogs (Sync d done) = Unit {0}
 WritesOnlyLogs (Park d done) = ⊥
 WritesOnlyLogs (SpinUp d done) = ⊥
 WritesOnlyLogs (Attach d size done) = ⊥
-
--- a read, a write or a sync
-abbrev pub IsStill : Call → Type 0
-IsStill (Read d p done) = Unit {0}
-IsStill (Write d p b done) = Unit {0}
-IsStill (Sync d done) = Unit {0}
-IsStill (Park d done) = ⊥
-IsStill (SpinUp d done) = ⊥
-IsStill (Attach d size done) = ⊥

@@ -9,7 +9,6 @@ use Rattle.paraid_image.specs.Out.{named_out}
 use Rattle.paraid_image.specs.Sides.{LogState}
 use Rattle.paraid_image.specs.Spins.{first_used}
 use Rattle.paraid_image.specs.Standing.{Stands}
-pub use Rattle.paraid_recover.specs.Quiet.{IsStill}
 use Rattle.paraid_session.specs.Watch.{Bounds, IsServing, IsWithinBounds, Watch}
 
 -- while one disk at most is down, this meta stands in each image that is looked at

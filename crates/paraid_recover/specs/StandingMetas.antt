@@ -4,6 +4,7 @@ use Rattle.paraid_base.specs.History.{History}
 use Rattle.paraid_rack.specs.Disks.{Disks, is_present}
 use Rattle.paraid_rack.specs.Told.{Ran}
 use Rattle.paraid_rack.specs.Trail.{Trail, disks, moments, now}
+use Rattle.paraid_rack.specs.Calls.{IsTransfer}
 use Rattle.paraid_record.specs.declared.meta.Meta.{Meta}
 use Rattle.paraid_image.specs.HeldAt.{IsHeld, MayLose}
 use Rattle.paraid_image.specs.Looked.{IsLooked}
@@ -12,7 +13,6 @@ use Rattle.paraid_image.specs.Sides.{LogState, Says}
 use Rattle.paraid_image.specs.Standing.{Stands, other_log}
 use Rattle.paraid_recover.specs.HeldMoments.{EndsHeld, IsAbsentSince, IsOutAtEnd}
 use Rattle.paraid_recover.specs.Powers.{IsPowerCall}
-use Rattle.paraid_recover.specs.Quiet.{IsStill}
 use Rattle.paraid_recover.specs.RecoveryMark.{with_mark}
 use Rattle.paraid_txn.specs.Resume.{IsBroken}
 use Rattle.paraid_txn.specs.Uses.{EachCall}
@@ -49,5 +49,5 @@ pub record IsPoweredFrom (x : ℕ) (said : LogState) (read settled new : Option 
 pub record StandsThroughMount (x : ℕ) (said : LogState) (read new : Option Trail) : Type 0 where
   pub foreseen : (slots : ℕ) → StandsInMoments slots x said read new
   pub settled : Option Trail
-  pub still : Ran read settled (EachCall IsStill)
+  pub still : Ran read settled (EachCall IsTransfer)
   pub powers : (new ≡ settled) ⊎ IsPoweredFrom x said read settled new

@@ -9,6 +9,7 @@ ghost use Rattle.paraid_rack.specs.Disks.{Disks, IsImage, IsPresent, is_present,
 ghost use Rattle.paraid_rack.specs.Slots.{Agrees, Slot};
 ghost use Rattle.paraid_rack.specs.Told.{Ran, Through};
 ghost use Rattle.paraid_rack.specs.Trail.{Trail, disks, extend, moments, now, run};
+ghost use Rattle.paraid_rack.specs.Calls.{IsTransfer};
 ghost use Rattle.paraid_record.specs.declared.meta.Meta.{Meta as MetaType};
 ghost use Rattle.paraid_image.specs.HeldAt.{IsHeld, MayLose};
 ghost use Rattle.paraid_image.specs.Looked.{IsLooked};
@@ -34,7 +35,7 @@ ghost use Rattle.paraid_recover.specs.FirstPoint.{first_point};
 ghost use Rattle.paraid_recover.specs.StartHeld.{HoldsAfter};
 ghost use Rattle.paraid_recover.specs.StandingMetas.{StandsForeseen};
 ghost use Rattle.paraid_recover.specs.StartParts.{AreMountCalls, EndsRefused, EndsServed};
-ghost use Rattle.paraid_recover.specs.RecordedSpins.{AreSpinUpsRecorded, HasRecord, IsStill, IsWithinBoundsAt, OnlyStands, StaysWithin, StaysWithinAt};
+ghost use Rattle.paraid_recover.specs.RecordedSpins.{AreSpinUpsRecorded, HasRecord, IsWithinBoundsAt, OnlyStands, StaysWithin, StaysWithinAt};
 ghost use Rattle.paraid_txn.specs.Resume.{IsBroken};
 ghost use Rattle.paraid_txn.specs.Uses.{EachCall, Uses, UsesInCommit, UsesSync};
 
@@ -182,7 +183,7 @@ pub fn a_mount_with_a_loss_begins_with_the_state_after_it()
 pub fn a_recovery_spins_no_disk_up()
     ensures { (b : Bounds) (s : Disks) (w : Watch) (cs : List CallType)
         → ((d : ℕ) → IsPresent w.disks d → w.disks.power d ≡ s.power d)
-        → EachCall IsStill w.disks cs
+        → EachCall IsTransfer w.disks cs
         → Each (StaysWithinAt b w.spun s) (λ v c. Unit {0}) w cs
         → Each (StaysWithin b) IsSpinUpRecorded w cs }
 {}

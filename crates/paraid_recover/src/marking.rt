@@ -1,10 +1,10 @@
 //! A disk that is absent is marked gone.
 ghost use Rattle.std.specs.Prelude.{◌≡◌, ℕ, ◌+◌, ◌-◌, ◌<◌, [], true, Some, OnOk};
 ghost use Rattle.paraid_rack.specs.declared.call.Power.TheVariants.{Absent};
-ghost use Rattle.paraid_recover.specs.HeldMoments.{Extends, KeepsHeld};
+ghost use Rattle.paraid_recover.specs.HeldMoments.{KeepsHeld};
 ghost use Rattle.paraid_image.specs.Rest.{IsAtRest};
 ghost use Rattle.paraid_txn.specs.Commit.{EndsCommitted, IsWholeOrAbsent};
-ghost use Rattle.paraid_rack.specs.Told.{Ran};
+ghost use Rattle.paraid_rack.specs.Told.{Extends, Ran};
 ghost use Rattle.paraid_txn.specs.Losses.{IsOutOfCommit};
 ghost use Rattle.paraid_txn.specs.Uses.{EachCall, UsesInCommit};
 ghost use Rattle.paraid_image.specs.Mark.{marked_gone as marked_of};

@@ -19,8 +19,9 @@ ghost use Rattle.paraid_recover.specs.HeldMoments.{EndsHeld, IsOutAtEnd, Recover
 ghost use Rattle.paraid_recover.specs.Map.{HasMap, HasMapAtEnd, IsNarrow};
 ghost use Rattle.paraid_recover.specs.RecoveryMark.{to_mark, with_mark};
 ghost use Rattle.paraid_recover.specs.Powers.{IsPowerCall};
-ghost use Rattle.paraid_recover.specs.Quiet.{IsStill, WritesOnlyLogs};
+ghost use Rattle.paraid_recover.specs.Quiet.{WritesOnlyLogs};
 ghost use Rattle.paraid_rack.specs.Told.{Ran};
+ghost use Rattle.paraid_rack.specs.Calls.{IsTransfer};
 ghost use Rattle.paraid_txn.specs.Uses.{EachCall};
 ghost use Rattle.paraid_recover.specs.Mount.{HasMounted, IsCauseOfRefusal};
 ghost use Rattle.paraid_recover.specs.Mounted.{IsFit, IsServable, IsStandingWithLoss, with_loss as with_loss_of};
@@ -127,7 +128,7 @@ fn raise<R: Rack>(
     ensures servable { IfOk result (λ m. IsServable (R.slot_count (store_rack store.new))
         (R.slot (store_rack store.new)) (epoch_of store.new) (disks_of store.new)
         (named_by store.new) m (length table.new)) }
-    ensures split { (mid : Option Trail) × Ran (R.told (store_rack store.old)) mid (EachCall IsStill)
+    ensures split { (mid : Option Trail) × Ran (R.told (store_rack store.old)) mid (EachCall IsTransfer)
         × ((R.told (store_rack store.new) ≡ mid) ⊎ ((mark : Option ℕ)
         × ((slots x : ℕ) (said : LogState) (old : Option Trail) → said.meta ≡ meta.now
         → Recovers slots x said old (R.told (store_rack store.old))

@@ -2,7 +2,7 @@
 ghost use Rattle.std.specs.Prelude.{◌≡◌, ℕ, ◌≤◌, [], length, Some, IfErr, IfOk};
 ghost use Rattle.paraid_dirty.specs.Table.{is_dirty};
 ghost use Rattle.paraid_rack.specs.Trail.{Trail, moments};
-ghost use Rattle.paraid_recover.specs.HeldMoments.{Extends};
+ghost use Rattle.paraid_rack.specs.Told.{Extends};
 ghost use Rattle.paraid_recover.specs.Mount.{HasMounted, IsCauseOfRefusal};
 ghost use Rattle.paraid_recover.specs.Mounted.{IsServable};
 ghost use Rattle.paraid_session.specs.Mount.{IsMountedFromEach, IsRefusedFromEach};

@@ -22,12 +22,12 @@ use Rattle.paraid_image.specs.Out.{named_out}
 use Rattle.paraid_image.specs.Sides.{has_place}
 use Rattle.paraid_image.specs.Spot.{View}
 use Rattle.paraid_image.specs.Standing.{Contents, contents}
+use Rattle.paraid_image.specs.Mark.{meta_with_lost}
 use Rattle.paraid_txn.specs.Losses.{IsWell, StaySynced}
 use Rattle.paraid_txn.specs.Stores.{store_rack}
 use Rattle.paraid_view.specs.Reads.{AreArrayReads}
 use Rattle.paraid_core.specs.declared.staged.Core.{Core}
 use Rattle.paraid_core.specs.Calls.{IsDataCall, IsOneCall, MakesDataCalls, MakesOneCall}
-use Rattle.paraid_core.specs.CoreInvariant.{meta_with_lost}
 use Rattle.paraid_core.specs.Lost.{CoreMarksLost, MakesReads, MarksLost}
 use Rattle.paraid_core.specs.Steps.{LeavesCore, StandsStill}
 use Rattle.paraid_core.specs.Units.{IsRebuilding}

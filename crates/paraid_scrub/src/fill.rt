@@ -15,22 +15,8 @@ use crate::member::differs;
 use crate::stored::Stored;
 use crate::value::read_value;
 use paraid_base::{Block, DiskNo};
-use paraid_layout::{cell_at, soft_parity, soft_place};
+use paraid_layout::{cell_at, index_among, soft_parity, soft_place};
 use paraid_parity::{is_zero, xor_into};
-
-// The index of a disk in a stripe whose parity is on another disk.
-fn index_among(parity: DiskNo, disk: DiskNo, gear: u8) -> u8
-    requires apart { disk ≢ parity }
-    requires below { disk < gear }
-    requires parity { parity < gear }
-    ensures value { result ≡ place_among parity disk }
-    ensures low { result < gear - 1 }
-{
-    if disk < parity {
-        return disk;
-    }
-    disk - 1
-}
 
 fn either(a: bool, b: bool) -> bool
     ensures { IsTrue result ↔ (IsTrue a ⊎ IsTrue b) }

@@ -3,7 +3,7 @@ use Rattle.std.proofs.Common.{◌≡◌, ◌≢◌, ℕ, ◌+◌, ◌-◌, ◌^�
 use Rattle.std.proofs.lemmas.List.{append_assoc, append-nil}
 use Rattle.std.proofs.lemmas.Bool.{false≢true}
 use Rattle.paraid_io.specs.Lines.{lines_of, whole_lines, NoNewline}
-use Rattle.paraid_io.specs.Reading.{HasCause, Reading, CutsOff, ReaderStep}
+use Rattle.paraid_io.specs.Reading.{CutsOff, HasCause, IsNextLine, ReaderStep, Reading}
 use Rattle.paraid_io.specs.declared.line.Line.{Line}
 use Rattle.paraid_io.specs.declared.line.Line.TheVariants.{End, Whole, Long}
 use Rattle.paraid_io.specs.declared.line.LineFault.{LineFault}
@@ -14,7 +14,7 @@ use Rattle.paraid_trace.proofs.LineLemmas.{event_of-long}
 use Rattle.paraid_base.specs.Told.{HasRisen}
 use Rattle.paraid_base.specs.declared.event.Event.{Event}
 use Rattle.paraid_base.specs.declared.event.Event.TheVariants.{Bad}
-use Rattle.paraid_serve.specs.Heard.{IsNextLine, HearsLine, IsHeardEvent}
+use Rattle.paraid_serve.specs.Heard.{HearsLine, IsHeardEvent}
 
 cut_lines : (line rest more : List ℕ) → NoNewline line → lines_of ((line ++ 10 ∷ rest) ++ more) ≡ line ∷ lines_of (rest ++ more)
 cut_lines line rest more plain = ap lines_of (append_assoc line (10 ∷ rest) more) ∙ lines_of-cut line (rest ++ more) plain

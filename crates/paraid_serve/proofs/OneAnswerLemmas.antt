@@ -19,12 +19,13 @@ use Rattle.paraid_base.specs.Pairs.{pairs_of}
 use Rattle.paraid_gear.specs.declared.decision.Decision.{Decision}
 use Rattle.paraid_gear.specs.declared.decision.Decision.TheVariants.{Down as DecideDown, Stay, Up as DecideUp}
 use Rattle.paraid_image.specs.Power.{PowerState}
+use Rattle.paraid_image.specs.Mark.{meta_with_lost}
 use Rattle.paraid_machine.specs.Machine.{blocks_named}
 use Rattle.paraid_machine.specs.Moves.{after_flip, after_units, first_worn, units_left, units_of_tick, units_to_rebuild}
 use Rattle.paraid_record.specs.declared.meta.Meta.{Meta}
 use Rattle.paraid_session.specs.Turn.{may_halt}
 use Rattle.paraid_serve.specs.Alike.{AreAlike, NoneFails}
-use Rattle.paraid_serve.specs.Causes.{Advances, Begins, Decides, Does, DoesFail, DoesFlush, DoesRead, DoesReplace, DoesShift, DoesTick, DoesWrite, GoesDown, HasCause, HasReason, MovesBy, MovesOn, ReachesOrLoses, Rebuilds, Shown, Takes, TicksBy, decision_shown, meta_marked, quiet_answer, shown_ticked, state_shown, wear_shown}
+use Rattle.paraid_serve.specs.Causes.{Advances, Begins, Decides, Does, DoesFail, DoesFlush, DoesRead, DoesReplace, DoesShift, DoesTick, DoesWrite, GoesDown, HasCause, HasReason, MovesBy, MovesOn, ReachesOrLoses, Rebuilds, Shown, Takes, TicksBy, decision_shown, quiet_answer, shown_ticked, state_shown, wear_shown}
 use Rattle.paraid_serve.specs.Causes.HasReason.{again, bad, done, quiet, two, worn}
 
 -- what an answer to a request tells
@@ -249,7 +250,7 @@ module _ (old x y : Shown) (none_x : NoneFails old x) (none_y : NoneFails old y)
   rebuilds_same d rebuilt m n e f (ended is all most gear) (moving is2 few2 more2 gear2) = absurd (omega (arith, all, most, few2, more2))
   rebuilds_same d rebuilt m n e f (ended is all most gear) (ended is2 all2 most2 gear2) = record { count = all ∙ sym all2; event = is ∙ sym is2; gear = gear ∙ sym gear2 }
 
-  marked_gear : (lost : Option ℕ) (m : Meta) → (meta_marked lost m).gear ≡ m.gear
+  marked_gear : (lost : Option ℕ) (m : Meta) → (meta_with_lost lost m).gear ≡ m.gear
   marked_gear None m = refl
   marked_gear (Some d) m = refl
 

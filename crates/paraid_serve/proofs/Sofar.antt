@@ -11,13 +11,13 @@ use Rattle.paraid_base.specs.Told.{Gives, GrowsByBytes, AtEnd, told_bytes}
 use Rattle.paraid_base.proofs.ToldLemmas.{Gives-none, Gives-then, GrowsByBytes-none, GrowsByBytes-then}
 use Rattle.paraid_io.specs.declared.line.LineFault.{LineFault}
 use Rattle.paraid_io.specs.Lines.{lines_of, whole_lines}
-use Rattle.paraid_io.specs.Reading.{Reading, fresh_reader}
+use Rattle.paraid_io.specs.Reading.{IsNextLine, Reading, fresh_reader}
 use Rattle.paraid_rack.specs.Told.{Ran}
 use Rattle.paraid_rack.specs.Trail.{Trail}
 use Rattle.paraid_record.specs.declared.meta.Setup.{Setup}
 use Rattle.paraid_trace.specs.LineEvents.{event_of}
 use Rattle.paraid_trace.specs.Replies.{reply_of}
-use Rattle.paraid_serve.specs.Heard.{HearsLine, IsNextLine}
+use Rattle.paraid_serve.specs.Heard.{HearsLine}
 use Rattle.paraid_serve.specs.Causes.{HasCause, Shown}
 use Rattle.paraid_serve.specs.Form.{HasAnswers}
 use Rattle.paraid_serve.specs.Session.{ServesSession}

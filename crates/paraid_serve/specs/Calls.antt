@@ -2,8 +2,6 @@
 use Rattle.std.specs.Prelude.{◌≡◌, ℕ, ◌<◌, false, Option, Some}
 use Rattle.paraid_rack.specs.Disks.{is_present}
 use Rattle.paraid_rack.specs.Slots.{Slot}
-use Rattle.paraid_rack.specs.Told.{Ran}
-use Rattle.paraid_rack.specs.Trail.{Trail}
 use Rattle.paraid_record.specs.declared.meta.Setup.{Setup}
 
 -- at most one of the array's disks is absent
@@ -15,6 +13,3 @@ IsNotDouble setup slot = (d e : ℕ) → d < setup.geometry.disks → e < setup.
 abbrev pub IsAbsentOut : Setup → Option ℕ → (ℕ → Slot) → Type 0
 IsAbsentOut setup down slot = (d : ℕ) → d < setup.geometry.disks → is_present (slot d).power ≡ false → down ≡ Some d
 
--- Where the record is told after this part, it was told before, and is longer by some calls.
-abbrev pub Grows : Option Trail → Option Trail → Type 0
-Grows old new = Ran old new (λ start calls. Unit {0})

@@ -23,7 +23,7 @@ use Rattle.paraid_gear.specs.declared.decision.Decision.{Decision}
 use Rattle.paraid_gear.specs.declared.decision.Decision.TheVariants.{Down as DecideDown, Stay, Up as DecideUp}
 use Rattle.paraid_gear.specs.Decision.{decision}
 use Rattle.paraid_gear.specs.ThreeWindows.{sample_of}
-use Rattle.paraid_image.specs.Mark.{meta_after_loss}
+use Rattle.paraid_image.specs.Mark.{meta_after_loss, meta_with_lost}
 use Rattle.paraid_image.specs.Out.{is_out, named_out}
 use Rattle.paraid_image.specs.Power.{PowerState}
 use Rattle.paraid_machine.specs.Energy.{energy_after}
@@ -133,11 +133,6 @@ UsesOwn event old new = old.energy ≤ 18446744073709551615 → new.energy ≡ m
 abbrev pub HasFailed : Shown → Shown → ℕ → Type 0
 HasFailed old new d = HasRisen (old.slot d).faults (new.slot d).faults
 
--- the meta with the marks of a disk that is lost, or of none
-abbrev pub meta_marked : Option ℕ → Meta → Meta
-meta_marked None m = m
-meta_marked (Some d) m = meta_after_loss m d
-
 -- The dirty cells are those that this change makes of the ones before, by the meta as it is then.
 abbrev pub ChangesCells : (PowerState → PowerState) → Shown → Shown → Type 0
 ChangesCells change old new = (r d : ℕ) → r < old.setup.geometry.rows → new.dirty r d ≡ (change (record (state_shown new) { dirty = old.dirty })).dirty r d
@@ -151,7 +146,7 @@ pub record Reaches (old new : Shown) (s : PowerState) : Type 0 where
 -- while no other one was out. So many writes were accepted, and no energy was used.
 pub record Accepts (old new : Shown) (count : ℕ) : Type 0 where
   pub lost : Option ℕ
-  pub is : new.meta ≡ record (meta_marked lost old.meta) { epoch = new.meta.epoch; writes = new.meta.writes }
+  pub is : new.meta ≡ record (meta_with_lost lost old.meta) { epoch = new.meta.epoch; writes = new.meta.writes }
   pub alone : (d x : ℕ) → lost ≡ Some d → named_out old.meta.out ≡ Some x → x ≡ d
   pub failed : (d : ℕ) → lost ≡ Some d → HasFailed old new d
   pub writes : new.meta.writes ≡ old.meta.writes + count
@@ -173,7 +168,7 @@ pub record LosesFirst (old new : Shown) (d : ℕ) : Type 0 where
 -- cell became dirty or clean.
 pub record Begins (old new : Shown) (phase : Phase) (raised : ℕ → ℕ) : Type 0 where
   pub lost : Option ℕ
-  pub is : new.meta ≡ record (meta_marked lost (record old.meta { phase = phase; fill = 0 })) { epoch = new.meta.epoch; spins = new.meta.spins }
+  pub is : new.meta ≡ record (meta_with_lost lost (record old.meta { phase = phase; fill = 0 })) { epoch = new.meta.epoch; spins = new.meta.spins }
   pub failed : (d : ℕ) → lost ≡ Some d → HasFailed old new d
   pub spins : (d : ℕ) → slice_index new.meta.spins d ≡ slice_index old.meta.spins d + raised d
   pub dirty : new.dirty ≡ old.dirty

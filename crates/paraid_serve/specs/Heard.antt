@@ -1,20 +1,14 @@
 -- One call that takes the next line and says what it asks for.
-use Rattle.std.specs.Prelude.{◌≡◌, ℕ, ◌+◌, ◌^◌, ◌<◌, ◌≤◌, false, List, [], ◌∷◌, ◌++◌, length, IsTrue, Option, Some, None, Result, Ok, Err}
+use Rattle.std.specs.Prelude.{◌≡◌, ℕ, ◌+◌, ◌^◌, ◌<◌, ◌≤◌, false, List, [], ◌++◌, length, IsTrue, Option, Some, None, Result, Ok, Err}
 use Rattle.paraid_base.specs.Told.{Gives, AtEnd}
 use Rattle.paraid_io.specs.declared.line.LineFault.{LineFault}
-use Rattle.paraid_io.specs.Lines.{lines_of, whole_lines}
-use Rattle.paraid_io.specs.Reading.{Reading}
+use Rattle.paraid_io.specs.Lines.{whole_lines}
+use Rattle.paraid_io.specs.Reading.{IsNextLine, Reading}
 use Rattle.paraid_base.specs.declared.event.Event.{Event}
 use Rattle.paraid_base.specs.declared.pairs.Pairs.{Pairs}
 use Rattle.paraid_trace.specs.declared.asked.Asked.{Asked}
 use Rattle.paraid_trace.specs.Asked.{event_with}
 use Rattle.paraid_trace.specs.LineEvents.{event_of}
-
--- The bytes that are in no line yet begin with this line, whatever follows them, and these are left.
-pub record IsNextLine (bytes line : List ℕ) (new : Reading) : Type 0 where
-  pub lines : (more : List ℕ) → (IsTrue new.ended → more ≡ []) → lines_of (bytes ++ more) ≡ line ∷ lines_of (new.rest ++ more)
-  pub whole : new.ended ≡ false → (more : List ℕ) → whole_lines (bytes ++ more) ≡ line ∷ whole_lines (new.rest ++ more)
-  pub shorter : length new.rest < length bytes
 
 -- the event that is asked for, where there is a next line
 abbrev pub heard_event : Result (Option Asked) LineFault → Pairs → Result (Option Event) LineFault

@@ -3,12 +3,11 @@ ghost use Rattle.paraid_base.specs.BlockAnswers.{answer_to_flush, flush_halt_of}
 ghost use Rattle.paraid_base.specs.declared.event.Event.TheVariants.{Flush as FlushEvent, Write as WriteEvent};
 ghost use Rattle.paraid_base.specs.declared.pairs.Pairs.{Pairs as PairsType};
 ghost use Rattle.paraid_rack.specs.Slots.{Slot};
-ghost use Rattle.paraid_rack.specs.Told.{Ran};
+ghost use Rattle.paraid_rack.specs.Told.{Extends, Ran};
 ghost use Rattle.paraid_trace.specs.Answered.{answer_of, answer_with};
 ghost use Rattle.paraid_trace.specs.Asked.{event_with};
 ghost use Rattle.paraid_trace.specs.declared.answered.Beside.{Beside as BesideType};
 ghost use Rattle.paraid_trace.specs.Replies.{HasFewDisks};
-ghost use Rattle.paraid_serve.specs.Calls.{Grows};
 ghost use Rattle.paraid_serve.specs.Causes.{HasCause};
 ghost use Rattle.paraid_serve.specs.Lost.{HasServedSince, HaltsByWear};
 ghost use Rattle.paraid_session.specs.Turn.{GoesOn, Point, halt_told};
@@ -72,7 +71,7 @@ pub fn answer<A: Serves>(
     ensures turn { (p : Point) → A.stands array.old p → Ran (A.told array.old) (A.told array.new)
         (GoesOn (A.slots array.old) (A.setup array.old) p (event_with asked pairs.now)
         (answer_with result beside.new) (A.stands array.new)) }
-    ensures told { Grows (A.told array.old) (A.told array.new) }
+    ensures told { Extends (A.told array.old) (A.told array.new) }
     ensures slots { A.slots array.new ≡ A.slots array.old }
     ensures setup { A.setup array.new ≡ A.setup array.old }
     ensures halt { halt.new ≡ A.halted array.new }
@@ -98,7 +97,7 @@ pub fn answer_event<A: Serves>(array: &mut A, halt: &mut Option<Halt>, event: &E
     requires halt { halt.old ≡ A.halted array.old }
     ensures turn { (p : Point) → A.stands array.old p → Ran (A.told array.old) (A.told array.new)
         (GoesOn (A.slots array.old) (A.setup array.old) p event.now result (A.stands array.new)) }
-    ensures told { Grows (A.told array.old) (A.told array.new) }
+    ensures told { Extends (A.told array.old) (A.told array.new) }
     ensures slots { A.slots array.new ≡ A.slots array.old }
     ensures setup { A.setup array.new ≡ A.setup array.old }
     ensures halt { halt.new ≡ A.halted array.new }
@@ -122,7 +121,7 @@ pub fn finish<A: Serves>(array: &mut A, halt: Option<Halt>) -> Result<u64, Halt>
     ensures turn { (p : Point) → A.stands array.old p → Ran (A.told array.old) (A.told array.new)
         (GoesOn (A.slots array.old) (A.setup array.old) p FlushEvent (answer_to_flush result)
         (A.stands array.new)) }
-    ensures told { Grows (A.told array.old) (A.told array.new) }
+    ensures told { Extends (A.told array.old) (A.told array.new) }
     ensures slots { A.slots array.new ≡ A.slots array.old }
     ensures setup { A.setup array.new ≡ A.setup array.old }
     ensures going { OnOk result (A.halted array.new ≡ None) }

@@ -5,12 +5,12 @@ ghost use Rattle.paraid_base.specs.declared.fault.Halt.{Halt as HaltType};
 ghost use Rattle.paraid_image.specs.Out.{named_out};
 ghost use Rattle.paraid_machine.specs.Machine.{block_count, state_status};
 ghost use Rattle.paraid_rack.specs.Slots.{Slot};
-ghost use Rattle.paraid_rack.specs.Told.{Ran};
+ghost use Rattle.paraid_rack.specs.Told.{Extends, Ran};
 ghost use Rattle.paraid_rack.specs.Trail.{Trail};
 ghost use Rattle.paraid_record.specs.declared.meta.Setup.{Setup};
 ghost use Rattle.paraid_trace.specs.Answered.{answer_with};
 ghost use Rattle.paraid_trace.specs.Asked.{event_with};
-ghost use Rattle.paraid_serve.specs.Calls.{Grows, IsAbsentOut, IsNotDouble};
+ghost use Rattle.paraid_serve.specs.Calls.{IsAbsentOut, IsNotDouble};
 ghost use Rattle.paraid_serve.specs.Causes.{HasCause, Shown, Shows, state_shown};
 ghost use Rattle.paraid_serve.specs.Lost.{HaltsByWear};
 ghost use Rattle.paraid_session.specs.Turn.{GoesOn, Point};
@@ -49,7 +49,7 @@ pub trait Serves {
         ensures turn { (p : Point) → stands self.old p → Ran (told self.old) (told self.new)
             (GoesOn (slots self.old) (setup self.old) p (event_with asked pairs.now)
             (answer_with result beside.new) (stands self.new)) }
-        ensures told { Grows (told self.old) (told self.new) }
+        ensures told { Extends (told self.old) (told self.new) }
         ensures slots { slots self.new ≡ slots self.old }
         ensures cause { HasCause (shown self.old) (event_with asked pairs.now)
             (answer_with result beside.new) (shown self.new) };
@@ -60,7 +60,7 @@ pub trait Serves {
         ensures turn { (p : Point) → stands self.old p → Ran (told self.old) (told self.new)
             (GoesOn (slots self.old) (setup self.old) p FlushEvent (answer_to_flush result)
             (stands self.new)) }
-        ensures told { Grows (told self.old) (told self.new) }
+        ensures told { Extends (told self.old) (told self.new) }
         ensures slots { slots self.new ≡ slots self.old }
         ensures cause { HasCause (shown self.old) FlushEvent (answer_to_flush result) (shown self.new) };
 

@@ -1,7 +1,8 @@
 ghost use Rattle.std.specs.Prelude.{◌≡◌, ◌≢◌, ℕ, ◌≤◌, [], None, codes, decimal};
 ghost use Rattle.paraid_base.specs.Told.{HasRisen};
 ghost use Rattle.paraid_session.specs.Mount.{IsMountedFromEach};
-ghost use Rattle.paraid_serve.specs.Calls.{Grows, IsNotDouble};
+ghost use Rattle.paraid_serve.specs.Calls.{IsNotDouble};
+ghost use Rattle.paraid_rack.specs.Told.{Extends};
 ghost use Rattle.paraid_serve.specs.Lost.{NamesTwoLost, TellsWear};
 ghost use Rattle.paraid_serve.specs.Output.{Headline, IsServedStatus, ProgramRun};
 ghost use Rattle.paraid_serve.specs.Streams.{EndsAtFaults, sink_use, source_use, streams_of};
@@ -22,7 +23,7 @@ pub fn serve<S: Source, K: Sink, A: Serves>(source: &mut S, sink: &mut K, array:
         (A.stands array.old)
         (streams_of (source_use S.left S.faults source.old source.new)
         (sink_use K.written K.faults sink.old sink.new)) result }
-    ensures told { Grows (A.told array.old) (A.told array.new) }
+    ensures told { Extends (A.told array.old) (A.told array.new) }
     ensures slots { A.slots array.new ≡ A.slots array.old }
     ensures status { IsServedStatus result }
     ensures present { result ≡ 0 → IsNotDouble (A.setup array.old) (A.slot array.new) }
@@ -68,7 +69,7 @@ pub fn serve_mounted<S: Source, K: Sink, A: Serves>(
         (span_of (A.slots array.old) (A.setup array.old) (A.told array.old) (A.told array.new))
         began (streams_of (source_use S.left S.faults source.old source.new)
         (sink_use K.written K.faults sink.old sink.new)) result }
-    ensures told { Grows (A.told array.old) (A.told array.new) }
+    ensures told { Extends (A.told array.old) (A.told array.new) }
     ensures slots { A.slots array.new ≡ A.slots array.old }
     ensures status { IsServedStatus result }
     ensures present { result ≡ 0 → IsNotDouble (A.setup array.old) (A.slot array.new) }

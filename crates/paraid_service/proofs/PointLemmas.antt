@@ -8,20 +8,20 @@ use Rattle.paraid_base.specs.declared.event.Event.{Event}
 use Rattle.paraid_base.specs.declared.event.Event.TheVariants.{Read, Write, Flush, Tick, Up, Down, Fail, Replace, State, Energy, Bad}
 use Rattle.paraid_base.specs.declared.fault.Halt.{Halt}
 use Rattle.paraid_base.specs.declared.pairs.Pairs.{Pairs}
-use Rattle.paraid_base.specs.BlockAnswers.{Answers}
+use Rattle.paraid_base.specs.BlockAnswers.{Answers, accepted_write}
 use Rattle.paraid_base.specs.History.{History}
 use Rattle.paraid_device.specs.Devices.{answers_in}
-use Rattle.paraid_image.specs.Shown.{accepted_write, with_flush}
+use Rattle.paraid_image.specs.Shown.{with_flush}
 use Rattle.paraid_record.specs.declared.meta.Setup.{Setup}
 use Rattle.paraid_serve.specs.Stretch.{Turn, TurnsLead}
 use Rattle.paraid_session.specs.Turn.{IsTurn, Point}
 use Rattle.paraid_session.specs.Turn.IsTurn.{again, answered, bad, two, worn}
-use Rattle.paraid_volume.specs.Device.{entries_in, entry_in}
+use Rattle.paraid_volume.specs.Device.{entries_in}
 use Rattle.paraid_service.specs.VolumeSessions.{HasEvent}
 
 -- ---- the history
 
-same_written : (pairs : Pairs) (answer : Answer) → accepted_write (Write pairs) answer ≡ entry_in (Write pairs) answer
+same_written : (pairs : Pairs) (answer : Answer) → accepted_write (Write pairs) answer ≡ accepted_write (Write pairs) answer
 same_written pairs (Value block bytes) = refl
 same_written pairs (NoBlock block) = refl
 same_written pairs (Wrote number) = refl
@@ -43,7 +43,7 @@ same_written pairs (EnergyAnswer total) = refl
 same_written pairs IsBad = refl
 same_written pairs (Halted halt) = refl
 
-same_entry : (event : Event) (answer : Answer) → accepted_write event answer ≡ entry_in event answer
+same_entry : (event : Event) (answer : Answer) → accepted_write event answer ≡ accepted_write event answer
 same_entry (Write pairs) answer = same_written pairs answer
 same_entry (Read block) answer = refl
 same_entry Flush answer = refl
@@ -56,7 +56,7 @@ same_entry State answer = refl
 same_entry Energy answer = refl
 same_entry Bad answer = refl
 
-no_entry : (event : Event) (halt : Halt) → entry_in event (Halted halt) ≡ []
+no_entry : (event : Event) (halt : Halt) → accepted_write event (Halted halt) ≡ []
 no_entry (Write pairs) halt = refl
 no_entry (Read block) halt = refl
 no_entry Flush halt = refl
@@ -72,21 +72,21 @@ no_entry Bad halt = refl
 nothing_more : (h more : History) → more ≡ [] → h ≡ h ++ more
 nothing_more h more none = sym (append-nil h) ∙ ap (λ (x : History). h ++ x) (sym none)
 
-halted_entry : (event : Event) (answer : Answer) (halt : Halt) → answer ≡ Halted halt → entry_in event answer ≡ []
-halted_entry event answer halt is = ap (λ (a : Answer). entry_in event a) is ∙ no_entry event halt
+halted_entry : (event : Event) (answer : Answer) (halt : Halt) → answer ≡ Halted halt → accepted_write event answer ≡ []
+halted_entry event answer halt is = ap (λ (a : Answer). accepted_write event a) is ∙ no_entry event halt
 
 module _ (slots : ℕ) (setup : Setup) where
-  turn_history : (p q : Point) (t : Turn) → IsTurn slots setup p t.event t.answer t.calls q → q.history ≡ p.history ++ entry_in t.event t.answer
+  turn_history : (p q : Point) (t : Turn) → IsTurn slots setup p t.event t.answer t.calls q → q.history ≡ p.history ++ accepted_write t.event t.answer
   turn_history p q t (answered going apart a) = a.history ∙ ap (λ (x : History). p.history ++ x) (same_entry t.event t.answer)
   turn_history p q t (two pair going apart is i) = i.history ∙ nothing_more p.history _ (halted_entry t.event t.answer _ is)
   turn_history p q t (worn count going apart is w none same) = ap (λ (x : Point). x.history) same ∙ nothing_more p.history _ (halted_entry t.event t.answer _ is)
   turn_history p q t (again halt halted apart is none same) = ap (λ (x : Point). x.history) same ∙ nothing_more p.history _ (halted_entry t.event t.answer _ is)
-  turn_history p q t (bad is a none same) = ap (λ (x : Point). x.history) same ∙ nothing_more p.history _ (ap (λ (e : Event). entry_in e t.answer) is)
+  turn_history p q t (bad is a none same) = ap (λ (x : Point). x.history) same ∙ nothing_more p.history _ (ap (λ (e : Event). accepted_write e t.answer) is)
 
   pub turns_history : (p q : Point) (ts : List Turn) → TurnsLead slots setup p ts q → q.history ≡ p.history ++ entries_in (answers_in ts)
   turns_history p q [] went = ap (λ (x : Point). x.history) went ∙ sym (append-nil p.history)
   turns_history p q (t ∷ ts) went =
-      turns_history went.0 q ts went.2 ∙ ap (λ (x : History). x ++ entries_in (answers_in ts)) (turn_history p went.0 t went.1) ∙ append_assoc p.history (entry_in t.event t.answer) (entries_in (answers_in ts))
+      turns_history went.0 q ts went.2 ∙ ap (λ (x : History). x ++ entries_in (answers_in ts)) (turn_history p went.0 t went.1) ∙ append_assoc p.history (accepted_write t.event t.answer) (entries_in (answers_in ts))
 
   -- ---- the halt
 

@@ -11,8 +11,8 @@ use Rattle.paraid_io.specs.declared.line.Line.{Line}
 use Rattle.paraid_io.specs.declared.line.Line.TheVariants.{Whole, Long}
 use Rattle.paraid_io.specs.declared.line.LineFault.{LineFault}
 use Rattle.paraid_io.specs.Lines.{lines_of, whole_lines}
-use Rattle.paraid_io.specs.Reading.{Reading, ReaderStep, fresh_reader}
-use Rattle.paraid_serve.specs.Heard.{HearsLine, IsNextLine}
+use Rattle.paraid_io.specs.Reading.{IsNextLine, ReaderStep, Reading, fresh_reader}
+use Rattle.paraid_serve.specs.Heard.{HearsLine}
 use Rattle.paraid_serve.proofs.HearLemmas.{next_line}
 use Rattle.paraid_serve.proofs.Sofar.{heard_end, heard_in_time}
 use Rattle.paraid_trace.specs.LineEvents.{event_of}

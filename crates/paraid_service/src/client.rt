@@ -4,7 +4,8 @@ ghost use Rattle.paraid_base.specs.Told.{HasRisen};
 ghost use Rattle.paraid_device.specs.declared.device.Device.{Device as DeviceType};
 ghost use Rattle.paraid_device.specs.Devices.{HasAnswered, array_of};
 ghost use Rattle.paraid_session.specs.Mount.{IsMountedFromEach};
-ghost use Rattle.paraid_serve.specs.Calls.{Grows, IsNotDouble};
+ghost use Rattle.paraid_serve.specs.Calls.{IsNotDouble};
+ghost use Rattle.paraid_rack.specs.Told.{Extends};
 ghost use Rattle.paraid_serve.specs.Streams.{EndsAtFaults, sink_use, source_use, streams_of};
 ghost use Rattle.paraid_serve.specs.Stretch.{span_of};
 ghost use Rattle.paraid_service.specs.ClientCauses.{ClientCauses};
@@ -76,7 +77,7 @@ pub fn serve_client<S: Source, K: Sink, A: Serves>(
     ensures causes { ClientCauses (A.shown array) (A.shown result.array)
         (streams_of (source_use S.left S.faults source.old source.new)
         (sink_use K.written K.faults sink.old sink.new)) result.status }
-    ensures told { Grows (A.told array) (A.told result.array) }
+    ensures told { Extends (A.told array) (A.told result.array) }
     ensures slots { A.slots result.array ≡ A.slots array }
     ensures status { IsClientStatus result.status }
     ensures present { result.status ≡ 0 → IsNotDouble (A.setup array) (A.slot result.array) }

@@ -1,7 +1,8 @@
 //! A session of volumes on a mounted array.
 ghost use Rattle.std.specs.Prelude.{◌≡◌, ◌≢◌, ◌≤◌, ℕ, None};
 ghost use Rattle.paraid_base.specs.Told.{HasRisen};
-ghost use Rattle.paraid_serve.specs.Calls.{Grows, IsNotDouble};
+ghost use Rattle.paraid_serve.specs.Calls.{IsNotDouble};
+ghost use Rattle.paraid_rack.specs.Told.{Extends};
 ghost use Rattle.paraid_serve.specs.Lost.{NamesTwoLost, TellsWear};
 ghost use Rattle.paraid_serve.specs.Output.{IsServedStatus};
 ghost use Rattle.paraid_serve.specs.Streams.{EndsAtFaults, sink_use, source_use, streams_of};
@@ -50,7 +51,7 @@ pub fn serve_volumes<S: Source, K: Sink, A: Serves>(
         (span_of (A.slots array) (A.setup array) (A.told array) (A.told result.array)) began
         (streams_of (source_use S.left S.faults source.old source.new)
         (sink_use K.written K.faults sink.old sink.new)) result.status }
-    ensures told { Grows (A.told array) (A.told result.array) }
+    ensures told { Extends (A.told array) (A.told result.array) }
     ensures slots { A.slots result.array ≡ A.slots array }
     ensures status { IsServedStatus result.status }
     ensures present { result.status ≡ 0 → IsNotDouble (A.setup array) (A.slot result.array) }

@@ -12,6 +12,7 @@ use Rattle.paraid_base.specs.declared.state.TickEvent.{TickEvent}
 use Rattle.paraid_base.specs.declared.state.TickEvent.TheVariants.{Steady, Waiting, Begun, Ration}
 use Rattle.paraid_base.specs.History.{History}
 use Rattle.paraid_base.specs.Log.{worn_at}
+use Rattle.paraid_base.specs.BlockAnswers.{accepted_write}
 use Rattle.paraid_rack.specs.declared.call.Call.{Call}
 use Rattle.paraid_rack.specs.declared.call.Power.{Power}
 use Rattle.paraid_rack.specs.Atoms.{IsSure}
@@ -24,7 +25,7 @@ use Rattle.paraid_image.specs.HeldAt.{IsHeld}
 use Rattle.paraid_image.specs.Out.{named_out}
 use Rattle.paraid_image.specs.Power.{PowerState, initial_state, power_of}
 use Rattle.paraid_image.specs.Sides.{is_open}
-use Rattle.paraid_image.specs.Shown.{IsShown, with_flush, accepted_write}
+use Rattle.paraid_image.specs.Shown.{IsShown, with_flush}
 use Rattle.paraid_machine.specs.Energy.{energy_after, tick_energy}
 use Rattle.paraid_machine.specs.Machine.{IsEventStep}
 use Rattle.paraid_machine.specs.Moves.{state_with_tick}

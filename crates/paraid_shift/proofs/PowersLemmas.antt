@@ -25,14 +25,14 @@ use Rattle.paraid_rack.specs.Trail.{Trail, now, run, extend}
 use Rattle.paraid_rack.proofs.TrailsLemmas.{now-extend, Ran-none, extend-extend}
 use Rattle.paraid_record.specs.declared.meta.Meta.{Meta}
 use Rattle.paraid_record.specs.declared.meta.Setup.{Setup}
-use Rattle.paraid_image.specs.Mark.{meta_after_loss}
+use Rattle.paraid_image.specs.Mark.{meta_after_loss, meta_with_lost}
 use Rattle.paraid_image.specs.Power.{power_by_gear}
 use Rattle.paraid_image.specs.Sides.{Batch}
 use Rattle.paraid_recover.specs.Powers.{IsPowerCall}
 use Rattle.paraid_txn.specs.Stores.{named_of, store_rack}
 use Rattle.paraid_txn.specs.Uses.{EachCall}
 use Rattle.paraid_core.specs.declared.staged.Core.{Core}
-use Rattle.paraid_core.specs.CoreInvariant.{HoldsBetweenCalls, meta_with_lost}
+use Rattle.paraid_core.specs.CoreInvariant.{HoldsBetweenCalls}
 use Rattle.paraid_core.specs.Cores.{IsCoreHeldSinceCommit, IsCoreReady}
 use Rattle.paraid_core.specs.Steps.{IsMarkedFrom, OnlyTurnsDisks}
 use Rattle.paraid_core.proofs.CommitLemmas.{both_of}

@@ -19,13 +19,13 @@ use Rattle.paraid_rack.specs.Trail.{Trail, now, run}
 use Rattle.paraid_rack.proofs.TrailsLemmas.{then}
 use Rattle.paraid_record.specs.declared.meta.Meta.{Meta}
 use Rattle.paraid_record.specs.declared.meta.Setup.{Setup}
-use Rattle.paraid_image.specs.Mark.{meta_after_loss}
+use Rattle.paraid_image.specs.Mark.{meta_after_loss, meta_with_lost}
 use Rattle.paraid_image.specs.Out.{named_out, or_else}
 use Rattle.paraid_txn.specs.declared.store.Store.{Store}
 use Rattle.paraid_txn.specs.Losses.{AreTwoDown, OnlyLosesSlots}
 use Rattle.paraid_txn.specs.Stores.{IsSameStore, named_of, store_rack}
 use Rattle.paraid_core.specs.declared.staged.Core.{Core}
-use Rattle.paraid_core.specs.CoreInvariant.{AreCopiesSynced, IsHeldWithOneMissing, is_copied, meta_with_lost}
+use Rattle.paraid_core.specs.CoreInvariant.{AreCopiesSynced, IsHeldWithOneMissing, is_copied}
 use Rattle.paraid_core.specs.Cores.{CanCoreServe, CoreStandsFor, IsCoreHeldSinceCommit, IsCoreReady, core_down}
 use Rattle.paraid_core.specs.Fills.{KeepsFilled}
 use Rattle.paraid_core.specs.Down.{IsDownAfter}

@@ -15,12 +15,12 @@ use Rattle.paraid_base.specs.States.{named_out, phase_beside, phase_to, rising_t
 use Rattle.paraid_dirty.specs.Table.{IsFirstDirty, cell_count, dirty_count, is_dirty, row_count, table_with_bit}
 use Rattle.paraid_dirty.proofs.MaskLemmas.{sum_before_same}
 use Rattle.paraid_image.specs.Power.{PowerState}
+use Rattle.paraid_image.specs.Mark.{meta_with_lost}
 use Rattle.paraid_machine.specs.Moves.{after_loss, after_unit, after_units, first_dirty, is_dirty_number, state_with_bit, units_left}
 use Rattle.paraid_record.specs.declared.meta.Meta.{Meta}
 use Rattle.paraid_record.specs.declared.meta.Setup.{Setup}
 use Rattle.paraid_record.specs.Range.{IsInRange, IsPhaseInRange, fill_limit}
 use Rattle.paraid_base.specs.declared.geometry.Geometry.{Geometry}
-use Rattle.paraid_core.specs.CoreInvariant.{meta_with_lost}
 use Rattle.paraid_core.specs.Steps.{IsMarkedFrom}
 use Rattle.paraid_event.specs.Moving.{GoesToState, MovesUnits}
 use Rattle.paraid_event.specs.Service.{IsStateOf, Service}

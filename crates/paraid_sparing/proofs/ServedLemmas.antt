@@ -5,11 +5,10 @@ use Rattle.paraid_base.specs.declared.event.Answer.{Answer}
 use Rattle.paraid_base.specs.declared.event.Event.{Event}
 use Rattle.paraid_base.specs.declared.event.Event.TheVariants.{Replace}
 use Rattle.paraid_rack.specs.declared.call.Call.{Call}
-use Rattle.paraid_rack.specs.Told.{Came, Ran}
+use Rattle.paraid_rack.specs.Told.{Came, Extends, Ran}
 use Rattle.paraid_rack.specs.Trail.{Trail, extend}
 use Rattle.paraid_rack.proofs.TrailsLemmas.{extend-extend}
 use Rattle.paraid_record.specs.declared.meta.Setup.{Setup}
-use Rattle.paraid_serve.specs.Calls.{Grows}
 use Rattle.paraid_serve.specs.Stretch.{turn_with}
 use Rattle.paraid_session.specs.Turn.{GoesOn, Point}
 use Rattle.paraid_spare.specs.declared.pool.Pool.{Pool}
@@ -47,7 +46,7 @@ module _ (slots : ℕ) (setup : Setup) (wait : ℕ) (p : Point) (k : Stock) (eve
       }
 
   pub served_spared : (a b c : Option Trail) (d left slots_now : ℕ) (setup_now : Setup) (spare : Answer) (mid_stood : Point → Type 0) → slots_now ≡ slots → setup_now ≡ setup → left ≡ k.left → line ≡ spare_line spare (left - 1) → due_when wait k p.halt p.state.out event ≡ Some d
-      → Ran a b (GoesOn slots setup p (Replace d) spare mid_stood) → Grows b c → ((q : Point) → mid_stood q → Ran b c (GoesOn slots_now setup_now q event answer stood)) → ((q : Point) → stood q → Keeps pool wait (stock_when (used k) answer q.halt q.state.out))
+      → Ran a b (GoesOn slots setup p (Replace d) spare mid_stood) → Extends b c → ((q : Point) → mid_stood q → Ran b c (GoesOn slots_now setup_now q event answer stood)) → ((q : Point) → stood q → Keeps pool wait (stock_when (used k) answer q.halt q.state.out))
       → Ran a c (ServesLine slots setup wait p k event (line ++ text) stood pool)
   served_spared a b c d left slots_now setup_now spare mid_stood same_slots same_setup is_left line_is due first grows second kept t tells =
       let g = grows t tells in

@@ -11,7 +11,7 @@ use Rattle.paraid_base.specs.Told.{Gives, GrowsByBytes, AtEnd}
 use Rattle.paraid_base.proofs.ToldLemmas.{Gives-none, Gives-then, GrowsByBytes-none, GrowsByBytes-then}
 use Rattle.paraid_io.specs.declared.line.LineFault.{LineFault}
 use Rattle.paraid_io.specs.Lines.{lines_of, whole_lines}
-use Rattle.paraid_io.specs.Reading.{Reading, fresh_reader}
+use Rattle.paraid_io.specs.Reading.{IsNextLine, Reading, fresh_reader}
 use Rattle.paraid_rack.specs.declared.call.Call.{Call}
 use Rattle.paraid_rack.specs.Told.{Ran}
 use Rattle.paraid_rack.specs.Trail.{Trail, extend}
@@ -20,7 +20,7 @@ use Rattle.paraid_record.specs.declared.meta.Setup.{Setup}
 use Rattle.paraid_trace.specs.LineEvents.{event_of}
 use Rattle.paraid_serve.specs.declared.stop.Stop.TheVariants.{Source, TooLong, Sink, Halt as Halts}
 use Rattle.paraid_serve.specs.Causes.{HasCause, Shown}
-use Rattle.paraid_serve.specs.Heard.{HearsLine, IsNextLine}
+use Rattle.paraid_serve.specs.Heard.{HearsLine}
 use Rattle.paraid_serve.specs.Streams.{streams_of}
 use Rattle.paraid_serve.specs.Stretch.{Span, Turn, TurnsLead, events_in, span_of, turn_calls, turn_events}
 use Rattle.paraid_serve.proofs.Sofar.{heard_end, heard_in_time, sink_from, source_from}

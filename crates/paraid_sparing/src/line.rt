@@ -2,8 +2,7 @@
 ghost use Rattle.std.specs.Prelude.{◌≡◌, ◌<◌, ◌-◌, ◌++◌, ℕ};
 ghost use Rattle.paraid_base.specs.declared.event.Event.TheVariants.{Replace as ReplaceEvent};
 ghost use Rattle.paraid_rack.specs.Slots.{Slot};
-ghost use Rattle.paraid_rack.specs.Told.{Ran};
-ghost use Rattle.paraid_serve.specs.Calls.{Grows};
+ghost use Rattle.paraid_rack.specs.Told.{Extends, Ran};
 ghost use Rattle.paraid_serve.specs.Causes.{HasCause};
 ghost use Rattle.paraid_serve.specs.Lost.{HasServedSince};
 ghost use Rattle.paraid_session.specs.Turn.{GoesOn, Point};
@@ -38,7 +37,7 @@ fn put_in<A: Serves>(
     ensures turn { (p : Point) → A.stands array.old p → Ran (A.told array.old) (A.told array.new)
         (GoesOn (A.slots array.old) (A.setup array.old) p (ReplaceEvent disk)
         (answer_with result beside.new) (A.stands array.new)) }
-    ensures told { Grows (A.told array.old) (A.told array.new) }
+    ensures told { Extends (A.told array.old) (A.told array.new) }
     ensures slots { A.slots array.new ≡ A.slots array.old }
     ensures setup { A.setup array.new ≡ A.setup array.old }
     ensures halt { halt.new ≡ A.halted array.new }
@@ -78,7 +77,7 @@ fn answer_alone<A: Serves>(
     ensures turn { (p : Point) → A.stands array.old p → Ran (A.told array.old) (A.told array.new)
         (GoesOn (A.slots array.old) (A.setup array.old) p (event_with asked pairs.now)
         (answer_with result beside.new) (A.stands array.new)) }
-    ensures told { Grows (A.told array.old) (A.told array.new) }
+    ensures told { Extends (A.told array.old) (A.told array.new) }
     ensures slots { A.slots array.new ≡ A.slots array.old }
     ensures setup { A.setup array.new ≡ A.setup array.old }
     ensures halt { halt.new ≡ A.halted array.new }
@@ -117,7 +116,7 @@ pub fn answer_line<A: Serves>(
     // Over every rack a spare is put in exactly where one is due, and each answer has its cause.
     ensures causes { (wait : ℕ) (k : Stock) → Keeps pool.old wait k → CausesLine wait (A.shown array.old) k
         (event_with asked pairs.now) (line.new ++ text.new) (A.shown array.new) pool.new }
-    ensures told { Grows (A.told array.old) (A.told array.new) }
+    ensures told { Extends (A.told array.old) (A.told array.new) }
     ensures slots { A.slots array.new ≡ A.slots array.old }
     ensures setup { A.setup array.new ≡ A.setup array.old }
     ensures halt { halt.new ≡ A.halted array.new }

@@ -1,7 +1,7 @@
 //! The session over all lines of a source.
 ghost use Rattle.std.specs.Prelude.{◌≡◌, ◌≢◌, ◌≤◌, ◌++◌, ℕ, None, IfErr, IsErrOf, OnErr, OnOk, take};
 ghost use Rattle.paraid_base.specs.Told.{GrowsByBytes, HasRisen};
-ghost use Rattle.paraid_serve.specs.Calls.{Grows};
+ghost use Rattle.paraid_rack.specs.Told.{Extends};
 ghost use Rattle.paraid_serve.specs.Session.{IsStopByWear, IsStopOfFailed};
 ghost use Rattle.paraid_serve.specs.Streams.{sink_use, source_use, streams_of};
 ghost use Rattle.paraid_serve.specs.Stretch.{span_of};
@@ -52,7 +52,7 @@ pub fn session<S: Source, K: Sink, A: Serves>(
         (wait_of pool.old) (fresh_stock (left_of pool.old)) (A.stands array.old)
         (streams_of (source_use S.left S.faults source.old source.new)
         (sink_use K.written K.faults sink.old sink.new)) pool.new result }
-    ensures told { Grows (A.told array.old) (A.told array.new) }
+    ensures told { Extends (A.told array.old) (A.told array.new) }
     ensures slots { A.slots array.new ≡ A.slots array.old }
     ensures setup { A.setup array.new ≡ A.setup array.old }
     ensures going { OnOk result (A.halted array.new ≡ None) }

@@ -1,7 +1,8 @@
 //! A run with spares over a mounted array: its first line, its session, and its last lines.
 ghost use Rattle.std.specs.Prelude.{◌≡◌, ◌≢◌, ◌≤◌, ◌++◌, ℕ, None};
 ghost use Rattle.paraid_base.specs.Told.{HasRisen};
-ghost use Rattle.paraid_serve.specs.Calls.{Grows, IsNotDouble};
+ghost use Rattle.paraid_serve.specs.Calls.{IsNotDouble};
+ghost use Rattle.paraid_rack.specs.Told.{Extends};
 ghost use Rattle.paraid_serve.specs.Ending.{EndsWithLine};
 ghost use Rattle.paraid_serve.specs.Lost.{NamesTwoLost, TellsWear};
 ghost use Rattle.paraid_serve.specs.Output.{IsServedStatus};
@@ -54,7 +55,7 @@ pub fn serve<S: Source, K: Sink, A: Serves>(
         (record { wait = wait; stock = fresh_stock stock }) (A.stands array.old)
         (streams_of (source_use S.left S.faults source.old source.new)
         (sink_use K.written K.faults sink.old sink.new)) result }
-    ensures told { Grows (A.told array.old) (A.told array.new) }
+    ensures told { Extends (A.told array.old) (A.told array.new) }
     ensures slots { A.slots array.new ≡ A.slots array.old }
     ensures status { IsServedStatus result }
     ensures present { result ≡ 0 → IsNotDouble (A.setup array.old) (A.slot array.new) }
@@ -105,7 +106,7 @@ pub fn serve_mounted<S: Source, K: Sink, A: Serves>(
         (record { wait = wait; stock = fresh_stock stock }) began
         (streams_of (source_use S.left S.faults source.old source.new)
         (sink_use K.written K.faults sink.old sink.new)) result }
-    ensures told { Grows (A.told array.old) (A.told array.new) }
+    ensures told { Extends (A.told array.old) (A.told array.new) }
     ensures slots { A.slots array.new ≡ A.slots array.old }
     ensures status { IsServedStatus result }
     ensures present { result ≡ 0 → IsNotDouble (A.setup array.old) (A.slot array.new) }

@@ -19,13 +19,13 @@ out_text No = codes "none"
 out_text (Gone disk) = decimal disk ++ codes " gone"
 out_text (Fresh disk rebuilt) = decimal disk ++ codes " rebuilt " ++ decimal rebuilt
 
--- one space and a number for each disk
-abbrev pub spins_text : List ℕ → List ℕ
-spins_text spins = flat_map (λ count. codes " " ++ decimal count) spins
+-- one space and a number, for each of these
+abbrev pub numbers_text : List ℕ → List ℕ
+numbers_text numbers = flat_map (λ number. codes " " ++ decimal number) numbers
 
 -- the state of an array of so many disks
 abbrev pub state_text : Status → ℕ → List ℕ
 state_text status disks =
     codes "state " ++ decimal status.gear ++ codes " " ++ phase_text status.phase
     ++ codes " dirty " ++ decimal status.dirty ++ codes " fill " ++ decimal status.fill
-    ++ codes " out " ++ out_text status.out ++ codes " spins" ++ spins_text (take disks status.spins)
+    ++ codes " out " ++ out_text status.out ++ codes " spins" ++ numbers_text (take disks status.spins)

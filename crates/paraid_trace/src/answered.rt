@@ -31,7 +31,7 @@ pub enum Brief {
     NotOut { disk: DiskNo },
     /// No fresh disk could be had in this slot.
     NoFresh { disk: DiskNo },
-    /// This disk has used its ration of spin-ups.
+    /// No shift down: it would park this disk, whose spin-ups have reached the ration.
     Ration { disk: DiskNo },
     /// The energy since the mount, in millijoules.
     Energy { total: u64 },

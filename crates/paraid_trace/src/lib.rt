@@ -1,7 +1,7 @@
-//! The lines of a trace: the event that each line asks for, the line that tells each answer, and
-//! the events of the trace that a number stands for.
+//! The lines of a trace: what each line asks for, the line that tells each answer, and the generator
+//! of traces.
 //!
-//! The grammar stands in `specs/Grammar.antt` as printed text, and `parse_line` answers an event
+//! The grammar stands in `specs/Grammar.antt` as printed text, and `read_line` answers an event
 //! exactly for its lines. `reply` writes a line from a table of answers. Nothing here takes memory.
 #![tactic(auto)]
 
@@ -18,6 +18,6 @@ pub use answered::{Answered, Beside, Brief};
 pub use asked::Asked;
 pub use generator::generate;
 pub use hexes::block as block_from_hex;
-pub use line::{number, parse_line, read_line};
+pub use line::{number, read_line};
 pub use replies::{reply, reply_state, reply_with};
 pub use text::{MAX_TEXT, Text};

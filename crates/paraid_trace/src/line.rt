@@ -19,40 +19,10 @@ use paraid_base::{Block, BlockNo, Event, Pairs};
 /// The most bytes of a line that asks for something.
 const MAX_LINE: usize = 1100;
 
-/// The event that a line of the trace asks for, and `Bad` where it asks for none. The line comes
-/// without its newline. A line of more than 1,100 bytes asks for none.
-pub fn parse_line(line: &[u8]) -> Event
-    ensures value { result ≡ event_of line.now }
-    ensures event { result ≢ Bad → IsLineOf line.now result }
-    ensures only { (e : EventType) → IsLineOf line.now e → result ≡ e }
-    ensures long { 1100 < length line.now → result ≡ Bad }
-    ensures bad { result ≡ Bad → (e : EventType) → IsLineOf line.now e → ⊥ }
-{
-    let mut pairs = Pairs::one(0, &Block::zero());
-    let asked = read_line(line, &mut pairs);
-    event(asked, pairs)
-}
-
-fn event(asked: Asked, pairs: Pairs) -> Event
-    ensures { result ≡ event_with asked pairs }
-{
-    match asked {
-        Asked::Read { block } => Event::Read { block },
-        Asked::Write => Event::Write { pairs },
-        Asked::Flush => Event::Flush,
-        Asked::Tick => Event::Tick,
-        Asked::Up => Event::Up,
-        Asked::Down => Event::Down,
-        Asked::Fail { disk } => Event::Fail { disk },
-        Asked::Replace { disk } => Event::Replace { disk },
-        Asked::State => Event::State,
-        Asked::Energy => Event::Energy,
-        Asked::Bad => Event::Bad,
-    }
-}
-
-/// The same, with the pairs of a write kept in `pairs`. Where the line asks for no write they may
-/// be any.
+/// What a line of the trace asks for, and `Bad` where it asks for nothing. The line comes without its
+/// newline. A line of more than 1,100 bytes asks for nothing.
+///
+/// The pairs of a write are kept in `pairs`; where the line asks for no write they may be any.
 pub fn read_line(line: &[u8], pairs: &mut Pairs) -> Asked
     ensures value { event_with result pairs.new ≡ event_of line.now }
     ensures event { event_with result pairs.new ≢ Bad

@@ -3,7 +3,7 @@ ghost use Rattle.paraid_base.specs.declared.event.Answer.TheVariants.{State};
 ghost use Rattle.paraid_trace.specs.Answered.{answer_of, answer_with};
 ghost use Rattle.paraid_trace.specs.BlockTexts.{block_text};
 ghost use Rattle.paraid_trace.specs.Replies.{HasFewDisks, answer_text, halt_text, reply_of};
-ghost use Rattle.paraid_trace.specs.StateTexts.{out_text, phase_text, spins_text, state_text};
+ghost use Rattle.paraid_trace.specs.StateTexts.{numbers_text, out_text, phase_text, state_text};
 ghost use Rattle.paraid_trace.specs.TickTexts.{tick_text, tick_word as word_of};
 
 use crate::{Answered, Beside, Brief, Text};
@@ -221,7 +221,7 @@ fn tell_out(out: &Out, into: &mut Text)
 fn tell_spins(spins: &[u16], into: &mut Text)
     requires old { length into.old ≤ 700 }
     requires few { length spins.now ≤ 8 }
-    ensures value { into.new ≡ into.old ++ spins_text spins.now }
+    ensures value { into.new ≡ into.old ++ numbers_text spins.now }
     ensures length { length into.new ≤ length into.old + 41 * length spins.now }
 {
     for count in spins {

@@ -19,9 +19,10 @@ use Rattle.paraid_rack.specs.Trail.{Trail}
 use Rattle.paraid_record.specs.declared.meta.Meta.{Meta}
 use Rattle.paraid_record.specs.declared.meta.Setup.{Setup}
 use Rattle.paraid_image.specs.Power.{PowerState}
+use Rattle.paraid_image.specs.Mark.{meta_with_lost}
 use Rattle.paraid_moves.specs.MoveMetas.{meta_after_begin}
 use Rattle.paraid_core.specs.declared.staged.Core.{Core}
-use Rattle.paraid_core.specs.CoreInvariant.{AreCopiesSynced, meta_with_lost}
+use Rattle.paraid_core.specs.CoreInvariant.{AreCopiesSynced}
 use Rattle.paraid_core.specs.Cores.{core_rack}
 use Rattle.paraid_core.specs.Steps.{IsMarkedFrom, IsNamedOrAbsent}
 use Rattle.paraid_machine.specs.Energy.{energy_after, energy_of, spin_up_energy}

@@ -6,7 +6,7 @@ use Rattle.paraid_base.specs.declared.state.Out.{Out}
 use Rattle.paraid_base.specs.declared.state.Out.TheVariants.{Fresh, Gone, No}
 use Rattle.paraid_base.specs.declared.state.Phase.{Phase}
 use Rattle.paraid_base.specs.declared.state.Phase.TheVariants.{Down as DownPhase, Steady, Up as UpPhase}
-use Rattle.paraid_image.specs.Mark.{meta_after_loss}
+use Rattle.paraid_image.specs.Mark.{meta_after_loss, meta_with_lost}
 use Rattle.paraid_base.specs.States.{gone_out, phase_beside, rebuilt_count}
 use Rattle.paraid_base.specs.Told.{HasRisen}
 use Rattle.paraid_base.proofs.ToldLemmas.{HasRisen-later, HasRisen-sooner}
@@ -18,7 +18,6 @@ use Rattle.paraid_image.specs.Out.{named_out, or_else}
 use Rattle.paraid_txn.specs.Losses.{AreTwoDown, AreTwoDownBeside, OnlyLosesSlots}
 use Rattle.paraid_txn.specs.Stores.{named_of, store_rack}
 use Rattle.paraid_core.specs.declared.staged.Core.{Core}
-use Rattle.paraid_core.specs.CoreInvariant.{meta_with_lost}
 use Rattle.paraid_core.specs.Cores.{IsCoreReady, core_down}
 use Rattle.paraid_core.specs.Down.{IsDownAfter}
 use Rattle.paraid_core.specs.Lost.{CoreMarksLost}

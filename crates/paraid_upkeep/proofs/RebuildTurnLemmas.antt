@@ -21,7 +21,7 @@ use Rattle.paraid_record.specs.declared.meta.Meta.{Meta}
 use Rattle.paraid_record.specs.declared.meta.Setup.{Setup}
 use Rattle.paraid_record.specs.Range.{rebuild_units}
 use Rattle.paraid_image.specs.Lost.{TellsLosses}
-use Rattle.paraid_image.specs.Mark.{meta_after_loss}
+use Rattle.paraid_image.specs.Mark.{meta_after_loss, meta_with_lost}
 use Rattle.paraid_image.specs.Power.{PowerState}
 use Rattle.paraid_image.specs.Sides.{Batch}
 use Rattle.paraid_moves.specs.MoveMetas.{meta_with_out}
@@ -29,7 +29,7 @@ use Rattle.paraid_txn.specs.Stores.{named_of, store_rack}
 use Rattle.paraid_core.specs.declared.staged.Core.{Core}
 use Rattle.paraid_core.specs.Calls.{IsOneCall, MakesOneCall}
 use Rattle.paraid_core.specs.Cores.{CoreStandsFor, IsCoreHeldSinceCommit}
-use Rattle.paraid_core.specs.CoreInvariant.{AreCopiesSynced, HoldsBetweenCalls, IsHeldWithOneMissing, meta_with_lost}
+use Rattle.paraid_core.specs.CoreInvariant.{AreCopiesSynced, HoldsBetweenCalls, IsHeldWithOneMissing}
 use Rattle.paraid_core.specs.Steps.{IsMarkedFrom}
 use Rattle.paraid_core.specs.Fills.{Filled}
 use Rattle.paraid_core.proofs.CommitLemmas.{both_of}

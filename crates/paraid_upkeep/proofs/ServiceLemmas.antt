@@ -10,13 +10,13 @@ use Rattle.paraid_rack.specs.Disks.{is_present}
 use Rattle.paraid_rack.specs.Slots.{Slot}
 use Rattle.paraid_record.specs.declared.meta.Meta.{Meta}
 use Rattle.paraid_record.specs.declared.meta.Setup.{Setup}
-use Rattle.paraid_image.specs.Mark.{meta_after_loss}
+use Rattle.paraid_image.specs.Mark.{meta_after_loss, meta_with_lost}
 use Rattle.paraid_image.specs.Out.{named_out}
 use Rattle.paraid_image.specs.Power.{power_by_gear}
 use Rattle.paraid_session.specs.Powers.{FitsSlots}
 use Rattle.paraid_txn.specs.Stores.{store_rack}
 use Rattle.paraid_core.specs.declared.staged.Core.{Core}
-use Rattle.paraid_core.specs.CoreInvariant.{is_copied, meta_with_lost}
+use Rattle.paraid_core.specs.CoreInvariant.{is_copied}
 use Rattle.paraid_core.specs.Cores.{CanCoreServe, IsCoreReady}
 use Rattle.paraid_core.specs.Lost.{CoreMarksLost, MarksLost}
 use Rattle.paraid_core.specs.Steps.{AreUnsyncedCopied, IsMarkedFrom, OnlyTurnsDisks}

@@ -32,11 +32,12 @@ use Rattle.paraid_record.specs.declared.meta.Mode.TheVariants.{Access, Whole}
 use Rattle.paraid_record.specs.declared.meta.Setup.{Setup}
 use Rattle.paraid_record.specs.Range.{IsInRange, IsPhaseInRange}
 use Rattle.paraid_image.specs.Power.{PowerState}
+use Rattle.paraid_image.specs.Mark.{meta_with_lost}
 use Rattle.paraid_dirty.specs.Table.{is_dirty}
 use Rattle.paraid_moves.specs.MoveMetas.{meta_after_begin, meta_flipped_to}
 use Rattle.paraid_txn.specs.Stores.{store_rack}
 use Rattle.paraid_core.specs.declared.staged.Core.{Core}
-use Rattle.paraid_core.specs.CoreInvariant.{AreCopiesSynced, meta_with_lost}
+use Rattle.paraid_core.specs.CoreInvariant.{AreCopiesSynced}
 use Rattle.paraid_core.specs.Steps.{IsMarkedFrom, IsNamedOrAbsent}
 use Rattle.paraid_machine.specs.Energy.{begun_energy, spin_up_energy, tick_energy}
 use Rattle.paraid_machine.specs.Machine.{report}

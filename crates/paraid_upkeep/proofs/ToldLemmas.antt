@@ -3,10 +3,9 @@ use Rattle.std.proofs.Common.{◌≡◌, ◌≤◌, arith, inl, inr, ℕ, [], Li
 use Rattle.paraid_rack.specs.declared.call.Call.{Call}
 use Rattle.paraid_rack.specs.Disks.{Disks}
 use Rattle.paraid_rack.specs.Slots.{Slot}
-use Rattle.paraid_rack.specs.Told.{Ran}
+use Rattle.paraid_rack.specs.Told.{Extends, Ran}
 use Rattle.paraid_rack.specs.Trail.{Trail}
 use Rattle.paraid_rack.proofs.TrailsLemmas.{Ran-none, Ran-then}
-use Rattle.paraid_recover.specs.HeldMoments.{Extends}
 use Rattle.paraid_recover.proofs.MountedLemmas.{ran_extends}
 use Rattle.paraid_txn.specs.Stores.{store_rack}
 use Rattle.paraid_core.specs.declared.staged.Core.{Core}

@@ -10,7 +10,7 @@ ghost use Rattle.paraid_upkeep.specs.declared.fault.FailFault.TheVariants.{NoDis
 ghost use Rattle.paraid_upkeep.specs.DiskRefusals.{HasMarkedTaken};
 ghost use Rattle.paraid_upkeep.specs.Service.{IsInService, IsOutKnown, MakesCalls};
 ghost use Rattle.paraid_upkeep.specs.Turns.{CanMarkTaken, CoreCommits, CoreCommitsTaken, CoreGoesOn, CoreHalts, CoreLosesCommit, CoreLosesTaken, fail_answer};
-ghost use Rattle.paraid_recover.specs.HeldMoments.{Extends};
+ghost use Rattle.paraid_rack.specs.Told.{Extends};
 ghost use Rattle.paraid_txn.specs.Losses.{AreTwoDownBeside, OnlyLosesSlots};
 ghost use Rattle.paraid_rebuild.specs.Rebuilds.{SparesSlots};
 ghost use Rattle.paraid_upkeep.specs.Events.{CommitsAtMost, CommitsGone, RefusesFail, StaysInService};

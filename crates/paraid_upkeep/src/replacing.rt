@@ -10,7 +10,7 @@ ghost use Rattle.paraid_image.specs.Out.{named_out};
 ghost use Rattle.paraid_rebuild.specs.Replacing.{IsReplacedFrom, LeavesArrayBut};
 ghost use Rattle.paraid_rebuild.specs.Rebuilds.{KeepsCounts, LacksFreshDisk};
 ghost use Rattle.paraid_upkeep.specs.Events.{RefusesReplace, ServesKnown};
-ghost use Rattle.paraid_recover.specs.HeldMoments.{Extends};
+ghost use Rattle.paraid_rack.specs.Told.{Extends};
 ghost use Rattle.paraid_shift.specs.Serving.{KeepsFit};
 
 use crate::fault::ReplaceFault;

@@ -10,4 +10,3 @@ mod spot;
 pub use cell::{read_cell, read_others, read_value};
 pub use draft::Draft;
 pub use laid::{read_laid, read_rest};
-pub use spot::{Spot, place_of};

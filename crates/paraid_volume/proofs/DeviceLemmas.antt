@@ -7,7 +7,7 @@ use Rattle.std.proofs.lemmas.List.{append-nil}
 use Rattle.paraid_base.specs.declared.event.Answer.{Answer}
 use Rattle.paraid_base.specs.declared.event.Event.{Event}
 use Rattle.paraid_base.specs.declared.event.Event.TheVariants.{Read as ReadEvent, Write as WriteEvent, Flush as FlushEvent, Tick, Up, Down, Fail, Replace, State, Energy, Bad}
-use Rattle.paraid_base.specs.BlockAnswers.{Answers}
+use Rattle.paraid_base.specs.BlockAnswers.{Answers, accepted_write}
 use Rattle.paraid_base.specs.declared.event.Answer.TheVariants.{Wrote}
 use Rattle.paraid_base.specs.declared.pairs.Pairs.{Pairs}
 use Rattle.paraid_base.specs.History.{Entry, History}
@@ -15,7 +15,7 @@ use Rattle.paraid_base.specs.Pairs.{pairs_of}
 use Rattle.paraid_base.specs.declared.fault.Halt.{Halt}
 use Rattle.paraid_base.specs.Told.{HasRisen}
 use Rattle.paraid_base.proofs.ToldLemmas.{HasRisen-later, HasRisen-sooner}
-use Rattle.paraid_volume.specs.Device.{DeviceGoesOn, DeviceHolds, SinceHistory, entry_in, entries_in, AreAll, KeepsMore, IsReadEvent, IsWriteEvent, IsReadOrWrite}
+use Rattle.paraid_volume.specs.Device.{DeviceGoesOn, DeviceHolds, SinceHistory, entries_in, AreAll, KeepsMore, IsReadEvent, IsWriteEvent, IsReadOrWrite}
 
 pub DeviceGoesOn-none : {S : Type 0} (count halts : S → ℕ) (halted : S → Option Halt) (tells : S → Bool) (a : S) → DeviceGoesOn count halts halted tells a a
 DeviceGoesOn-none count halts halted tells a = record {
@@ -111,7 +111,7 @@ write_either Bad is = is
 
 pub entries_in-append : (a b : Answers) → entries_in (a ++ b) ≡ entries_in a ++ entries_in b
 entries_in-append [] b = refl
-entries_in-append (e ∷ a) b = ap (λ (x : History). entry_in e.0 e.1 ++ x) (entries_in-append a b) ∙ sym (append_assoc (entry_in e.0 e.1) (entries_in a) (entries_in b))
+entries_in-append (e ∷ a) b = ap (λ (x : History). accepted_write e.0 e.1 ++ x) (entries_in-append a b) ∙ sym (append_assoc (accepted_write e.0 e.1) (entries_in a) (entries_in b))
 
 pub holds_stands : {S : Type 0} (stands : S → History → Type 0) (kept : S → S → Answers → Type 0) (from : SinceHistory S) (a : S) (h : History) → DeviceHolds stands kept from a h → stands a h
 holds_stands stands kept None a h holds = holds
@@ -119,7 +119,7 @@ holds_stands stands kept (Some from) a h holds = holds.0
 
 -- a call that is no write was made
 pub holds_same : {S : Type 0} (stands : S → History → Type 0) (kept : S → S → Answers → Type 0) (from : SinceHistory S) (a b : S) (h : History) (e : Event) (answer : Answer)
-    → (stands a h → stands b h) → ((first : S) (events : Answers) → kept first a events → kept first b (events ++ (e, answer) ∷ [])) → entry_in e answer ≡ [] → DeviceHolds stands kept from a h → DeviceHolds stands kept from b h
+    → (stands a h → stands b h) → ((first : S) (events : Answers) → kept first a events → kept first b (events ++ (e, answer) ∷ [])) → accepted_write e answer ≡ [] → DeviceHolds stands kept from a h → DeviceHolds stands kept from b h
 holds_same stands kept None a b h e answer now keeps none holds = now holds
 holds_same stands kept (Some from) a b h e answer now keeps none holds = (
   now holds.0,

@@ -3,10 +3,7 @@ use Rattle.std.specs.Prelude.{◌≡◌, ℕ, ◌<◌, ◌≤◌, ◌+◌, ◌*�
 use Rattle.paraid_base.specs.declared.fault.Halt.{Halt}
 use Rattle.paraid_base.specs.declared.event.Event.{Event}
 use Rattle.paraid_base.specs.declared.event.Event.TheVariants.{Read, Write, Flush}
-use Rattle.paraid_base.specs.BlockAnswers.{Answers}
-use Rattle.paraid_base.specs.declared.event.Answer.{Answer}
-use Rattle.paraid_base.specs.declared.event.Answer.TheVariants.{Wrote}
-use Rattle.paraid_base.specs.Pairs.{pairs_of}
+use Rattle.paraid_base.specs.BlockAnswers.{Answers, accepted_write}
 use Rattle.paraid_base.specs.History.{History, after_all}
 use Rattle.paraid_base.specs.Xor.{zero_block}
 use Rattle.paraid_base.specs.Told.{HasRisen}
@@ -59,15 +56,10 @@ pub record More (holds : Answers → Type 0) (kind : Event → Type 0) (events :
 pub record KeepsMore {S : Type 0} (kept : S → S → Answers → Type 0) (tells : S → Bool) (kind : Event → Type 0) (old new : S) : Type 0 where
   pub grows : (first : S) (events : Answers) → kept first old events → More (kept first new) kind events
 
--- the entry of a write that was accepted; no other event has one
-abbrev pub entry_in : Event → Answer → History
-entry_in (Write pairs) (Wrote number) = pairs_of pairs ∷ []
-entry_in event answer = []
-
 -- the entries of the writes that were accepted among these events
 abbrev pub entries_in : Answers → History
 entries_in [] = []
-entries_in (e ∷ es) = entry_in e.0 e.1 ++ entries_in es
+entries_in (e ∷ es) = accepted_write e.0 e.1 ++ entries_in es
 
 -- a device as it was, a history, and the events that were kept since then with it; or none of these
 abbrev pub SinceHistory : Type 0 → Type 0

@@ -5,7 +5,7 @@ use Rattle.paraid_image.specs.Sides.{Batch}
 use Rattle.paraid_recover.specs.declared.fault.MountFault.TheVariants.{NoMemory}
 use Rattle.paraid_core.specs.CoreInvariant.{AreSlotsReady}
 use Rattle.paraid_core.specs.Cores.{CanCoreServe, IsCoreReady}
-use Rattle.paraid_recover.specs.HeldMoments.{Extends}
+use Rattle.paraid_rack.specs.Told.{Extends}
 use Rattle.paraid_recover.specs.Mount.IsCauseOfRefusal.{no_memory}
 use Rattle.paraid_recover.specs.Mounted.{IsServable, IsStandingWithLoss}
 use Rattle.paraid_recover.proofs.MountedLemmas.{refused_from_each, unstarted_here}

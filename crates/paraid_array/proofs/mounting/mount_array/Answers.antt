@@ -1,6 +1,6 @@
 use Rattle.std.proofs.Common.{ℕ, ◌≤◌, ap, refl, sym, ◌∙◌, subst}
 use Rattle.paraid_core.specs.Cores.{core_rack}
-use Rattle.paraid_recover.specs.HeldMoments.{Extends}
+use Rattle.paraid_rack.specs.Told.{Extends}
 use Rattle.paraid_gear.specs.ThreeWindows.{lengths_of}
 use Rattle.paraid_array.specs.Begun.{IsMountedCore}
 use Rattle.paraid_session.specs.Mount.{IsMountedFromEach}

@@ -12,7 +12,7 @@ use Rattle.paraid_txn.specs.Losses.{AreTwoDown}
 use Rattle.paraid_txn.specs.Losses.IsOutOfCommit.{was_named}
 use Rattle.paraid_image.specs.Out.{named_out, or_else}
 use Rattle.paraid_image.specs.Sides.{Batch}
-use Rattle.paraid_core.specs.CoreInvariant.{CanServe, AreSlotsReady, HoldsBetweenCalls, lost_in, meta_with_lost}
+use Rattle.paraid_core.specs.CoreInvariant.{CanServe, AreSlotsReady, HoldsBetweenCalls, lost_in}
 use Rattle.paraid_base.specs.History.{History}
 use Rattle.paraid_core.specs.Cores.{CoreStandsFor, IsCoreHeld}
 use Rattle.paraid_core.specs.Fills.{KeepsFilled}
@@ -30,6 +30,7 @@ use Rattle.paraid_txn.specs.Losses.IsOutOfCommit.{is_named}
 use Rattle.paraid_core.proofs.OrderLemmas.{commit_only}
 use Rattle.paraid_rack.specs.Told.{Ran, CrashTriple}
 use Rattle.paraid_image.specs.Lost.{TellsLosses}
+use Rattle.paraid_image.specs.Mark.{meta_with_lost}
 use Rattle.paraid_core.proofs.staged.Core.commit.Given.{Over}
 use Rattle.paraid_core.proofs.staged.Core.commit.Goals as goal
 use Rattle.paraid_core.proofs.ErrLemmas.{both_put, none_done, on_ok_any}

@@ -12,7 +12,7 @@ use Rattle.paraid_image.specs.Standing.{contents}
 use Rattle.paraid_view.specs.Reads.{ShowsContents}
 use Rattle.paraid_image.specs.Out.{named_out, or_else, out_disk}
 use Rattle.paraid_view.proofs.TwoLemmas.{left_spared}
-use Rattle.paraid_core.specs.CoreInvariant.{CanServe, lost_in, meta_with_lost}
+use Rattle.paraid_core.specs.CoreInvariant.{CanServe, lost_in}
 use Rattle.paraid_core.proofs.AfterLemmas.{down_named, handed, lost_in_is, lost_in_low, marked_setup, marked_writes, named_is_out, out_is_named, ready_after, ready_moved, serve_after, two_by}
 use Rattle.std.specs.Prelude.{false}
 use Rattle.paraid_core.specs.Cleaning.{is_cleaned}
@@ -25,6 +25,7 @@ use Rattle.paraid_core.proofs.LostMarkLemmas.{marks_read}
 use Rattle.paraid_core.proofs.OrderLemmas.{out_tells}
 use Rattle.paraid_rack.specs.Told.{Ran}
 use Rattle.paraid_image.specs.Lost.{TellsLosses}
+use Rattle.paraid_image.specs.Mark.{meta_with_lost}
 use Rattle.paraid_core.proofs.staged.Core.read_value.Given.{Over}
 use Rattle.paraid_core.proofs.staged.Core.read_value.Goals as goal
 use Rattle.paraid_core.proofs.ErrLemmas.{both_put, none_done}

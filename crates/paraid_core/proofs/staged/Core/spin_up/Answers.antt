@@ -11,9 +11,9 @@ use Rattle.paraid_rack.specs.Disks.{is_present, step}
 use Rattle.paraid_rack.specs.Slots.{Slot}
 use Rattle.paraid_record.specs.declared.meta.Meta.{Meta}
 use Rattle.paraid_txn.specs.Stores.{named_of, store_rack}
-use Rattle.paraid_image.specs.Mark.{meta_after_loss}
+use Rattle.paraid_image.specs.Mark.{meta_after_loss, meta_with_lost}
 use Rattle.paraid_core.specs.declared.staged.Core.{Core}
-use Rattle.paraid_core.specs.CoreInvariant.{CanServe, HoldsBetweenCalls, lost_in, meta_with_lost}
+use Rattle.paraid_core.specs.CoreInvariant.{CanServe, HoldsBetweenCalls, lost_in}
 use Rattle.paraid_core.proofs.AfterLemmas.{lost_in_there, ready_after, ready_moved}
 use Rattle.paraid_core.proofs.CallLemmas.{call_stands}
 use Rattle.paraid_core.specs.Fills.{KeepsFilled}

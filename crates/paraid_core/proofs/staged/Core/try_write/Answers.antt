@@ -4,7 +4,7 @@ use Rattle.paraid_dirty.specs.Table.{is_dirty}
 use Rattle.paraid_image.specs.Out.{named_out, or_else}
 use Rattle.paraid_record.specs.declared.meta.Meta.{Meta}
 use Rattle.paraid_txn.specs.Stores.{disks_of, epoch_of, named_of, store_rack}
-use Rattle.paraid_core.specs.CoreInvariant.{CanServe, AreSlotsReady, HoldsBetweenCalls, lost_in, meta_with_lost}
+use Rattle.paraid_core.specs.CoreInvariant.{CanServe, AreSlotsReady, HoldsBetweenCalls, lost_in}
 use Rattle.std.specs.Prelude.{◌^◌, ◌++◌, ◌∷◌, [], false}
 use Rattle.paraid_image.specs.Sides.{Batch}
 use Rattle.paraid_rack.specs.Disks.{is_present}
@@ -26,6 +26,7 @@ use Rattle.paraid_view.specs.Reads.{AreLeft}
 use Rattle.paraid_core.proofs.OrderLemmas.{lose_tells}
 use Rattle.paraid_rack.specs.Told.{Ran, CrashTriple}
 use Rattle.paraid_image.specs.Lost.{TellsLosses}
+use Rattle.paraid_image.specs.Mark.{meta_with_lost}
 use Rattle.paraid_core.proofs.AfterLemmas.{handed}
 use Rattle.paraid_core.proofs.staged.Core.try_write.Given.{Over}
 use Rattle.paraid_core.proofs.staged.Core.try_write.Goals as goal

@@ -1,6 +1,6 @@
 use Rattle.std.proofs.lemmas.Result.{IfErr-weaker, IfOk-at_ok, on_ok_weaker}
 use Rattle.paraid_core.specs.Steps.{IsPutOut}
-use Rattle.paraid_image.specs.Mark.{meta_after_loss}
+use Rattle.paraid_image.specs.Mark.{meta_after_loss, meta_with_lost}
 use Rattle.std.proofs.Common.{arith, ◌≡◌, ◌≢◌, ℕ, ◌∙◌, ◌<◌, Some, None, sym, ap, subst, refl, false}
 use Rattle.std.specs.Prelude.{Option, is_ok}
 use Rattle.paraid_base.specs.Told.{HasRisen}
@@ -10,7 +10,7 @@ use Rattle.paraid_rack.specs.Disks.{is_present, step}
 use Rattle.paraid_record.specs.declared.meta.Meta.{Meta}
 use Rattle.paraid_txn.specs.Stores.{named_of, store_rack}
 use Rattle.paraid_core.specs.declared.staged.Core.{Core}
-use Rattle.paraid_core.specs.CoreInvariant.{HoldsBetweenCalls, lost_in, meta_with_lost}
+use Rattle.paraid_core.specs.CoreInvariant.{HoldsBetweenCalls, lost_in}
 use Rattle.paraid_core.proofs.AfterLemmas.{lost_in_there}
 use Rattle.paraid_core.proofs.CallLemmas.{call_leaves, call_spared, call_stands, done_only, failed_only}
 use Rattle.paraid_core.proofs.ReadyLemmas.{some_is}
