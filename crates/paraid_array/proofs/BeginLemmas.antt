@@ -17,7 +17,7 @@ use Rattle.paraid_image.specs.Content.{view_by}
 use Rattle.paraid_image.specs.Out.{named_out}
 use Rattle.paraid_image.specs.Sides.{Batch}
 use Rattle.paraid_image.specs.Sound.{ContentOk}
-use Rattle.paraid_image.specs.Spins.{first_used}
+use Rattle.paraid_image.specs.Spins.{made_spin_ups}
 use Rattle.paraid_image.proofs.OutLemmas.{first_absent_is}
 use Rattle.paraid_image.specs.Standing.{contents}
 use Rattle.paraid_core.specs.declared.staged.Core.{Core}
@@ -176,7 +176,7 @@ module _ (count_then count : ℕ) (old slot : ℕ → Slot) (named : Option ℕ)
         keeps = subst (λ (x : Meta). HoldsBetweenCalls count named x table [] copied (take standing.writes first.history) standing.writes s) (sym meta_is)
             (subst (λ (o : Option ℕ). HoldsBetweenCalls count o (with_loss standing (to_mark s.power standing)) table [] copied (take standing.writes first.history) standing.writes s) (sym it.under.named_by) keeps);
         copies_synced = λ d low. synced d (subst (λ (z : Setup). d < z.geometry.disks) (sym setup_is) low);
-        recorded = λ d here. subst (λ (q : Point). first.spun d ≤ first_used standing q.disks.power d) at (first.recorded d (subst (λ (q : Point). IsPresent q.disks d) (sym at) here));
+        recorded = λ d here. subst (λ (q : Point). first.spun d ≤ made_spin_ups standing q.disks.power d) at (first.recorded d (subst (λ (q : Point). IsPresent q.disks d) (sym at) here));
         dirty = λ r d low. sym (first.cells r d low ∙ ap (λ (q : Point). q.state.dirty r d) at);
         samples = refl;
         served = refl;

@@ -131,7 +131,7 @@ module _ (slots : ℕ) (named : Option ℕ) (m : Meta) (table : List (List Bool)
     setup = k.next.setup;
     out = λ x e p q. sym (some_is d x p) ∙ sym (base_names e q);
     comes_in = λ x l here was not. absurd (not (ap Some (sym (base_names x was))));
-    fresh_shut = λ x u fresh l.
+    fresh_closed = λ x u fresh l.
         let z : Fresh d 0 ≡ Fresh x u = fresh.is in
         let y : d ≡ x = cc in
         subst (λ (e : ℕ). is_open (stored_block t e 0) ≡ false) y gate_shut;

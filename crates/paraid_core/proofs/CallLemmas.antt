@@ -240,7 +240,7 @@ module _ (slots : ℕ) (named : Option ℕ) (m : Meta) (table : List (List Bool)
       setup = k.next.setup;
       out = k.next.out;
       comes_in = k.next.comes_in;
-      fresh_shut = λ x u fresh l. ap is_open (stored_still s loose x 0) ∙ k.next.fresh_shut x u (record { is = fresh.is; present = fresh.present }) l;
+      fresh_closed = λ x u fresh l. ap is_open (stored_still s loose x 0) ∙ k.next.fresh_closed x u (record { is = fresh.is; present = fresh.present }) l;
     };
     writes = k.writes;
     brought = k.brought;

@@ -131,7 +131,7 @@ module _ (slots : ℕ) (named : Option ℕ) (m : Meta) (table : List (List Bool)
     setup = shape;
     out = λ x e p q. some_only x p ∙ sym (named_is e q);
     comes_in = λ x l here was not. absurd (not_here x (named_is x was) here);
-    fresh_shut = λ x u fresh l. let z : Gone d ≡ Fresh x u = fresh.is in cc;
+    fresh_closed = λ x u fresh l. let z : Gone d ≡ Fresh x u = fresh.is in cc;
   }
     where
       some_only : (x : ℕ) → Some d ≡ Some x → x ≡ d

@@ -55,7 +55,7 @@ module _ (m : Meta) (gear : ℕ) (phase : Phase) (fill ticks : ℕ) (spins : Lis
       setup = k.next.setup;
       out = k.next.out;
       comes_in = k.next.comes_in;
-      fresh_shut = λ x u fresh l. k.next.fresh_shut x u (record { is = fresh.is; present = fresh.present }) l;
+      fresh_closed = λ x u fresh l. k.next.fresh_closed x u (record { is = fresh.is; present = fresh.present }) l;
     };
     writes = k.writes;
     brought = k.brought;

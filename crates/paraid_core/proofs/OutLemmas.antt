@@ -108,7 +108,7 @@ module _ (m : Meta) (named : Option ℕ) (d : ℕ) (in_range : IsInRange m) (low
       setup = k.next.setup;
       out = λ x e p q. sym (some_is d x p) ∙ sym (named_is e q);
       comes_in = λ x l here was not. absurd (not (ap Some (sym (named_is x was))));
-      fresh_shut = λ x u fresh l. let z : Gone d ≡ Fresh x u = fresh.is in cc;
+      fresh_closed = λ x u fresh l. let z : Gone d ≡ Fresh x u = fresh.is in cc;
     }
 
     pub keeps_out : HoldsBetweenCalls slots named (meta_after_loss m d) table batch copied h lo s

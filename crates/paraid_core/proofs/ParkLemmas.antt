@@ -102,7 +102,7 @@ module _ (slots : ℕ) (named : Option ℕ) (m : Meta) (table : List (List Bool)
       setup = k.next.setup;
       out = k.next.out;
       comes_in = λ x l present was not. k.next.comes_in x l (sym (there x) ∙ present) was not;
-      fresh_shut = λ x n fresh l. ap is_open (stored_parked x 0) ∙ k.next.fresh_shut x n (record { is = fresh.is; present = sym (there x) ∙ fresh.present }) l;
+      fresh_closed = λ x n fresh l. ap is_open (stored_parked x 0) ∙ k.next.fresh_closed x n (record { is = fresh.is; present = sym (there x) ∙ fresh.present }) l;
     };
     writes = k.writes;
     brought = k.brought;

@@ -106,7 +106,7 @@ module _ (slots : ℕ) (named : Option ℕ) (m : Meta) (table : List (List Bool)
           let z : Some d ≡ Some x = sym (ap named_out base_fresh) ∙ was in
           let y : d ≡ x = cc in
           (units, base_fresh ∙ ap (λ (e : ℕ). Fresh e units) y);
-      fresh_shut = λ x u is l. let z : No ≡ Fresh x u = is.is in cc;
+      fresh_closed = λ x u is l. let z : No ≡ Fresh x u = is.is in cc;
     }
 
     pub keeps_joined : HoldsBetweenCalls slots named whole table [] copied h lo s

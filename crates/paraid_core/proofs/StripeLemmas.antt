@@ -170,7 +170,7 @@ module _ (slots : ℕ) (named : Option ℕ) (m : Meta) (table : List (List Bool)
       setup = k.next.setup;
       out = k.next.out;
       comes_in = k.next.comes_in;
-      fresh_shut = λ x n fresh l. let z : No ≡ Fresh x n = sym all_in ∙ fresh.is in cc;
+      fresh_closed = λ x n fresh l. let z : No ≡ Fresh x n = sym all_in ∙ fresh.is in cc;
     };
     writes = k.writes;
     brought = k.brought;

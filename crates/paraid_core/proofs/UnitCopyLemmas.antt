@@ -193,7 +193,7 @@ module _ (slots : ℕ) (named : Option ℕ) (m : Meta) (table : List (List Bool)
       setup = k.next.setup;
       out = k.next.out;
       comes_in = k.next.comes_in;
-      fresh_shut = λ x n is l. ap is_open (gate_still x) ∙ k.next.fresh_shut x n (record { is = is.is; present = is.present }) l;
+      fresh_closed = λ x n is l. ap is_open (gate_still x) ∙ k.next.fresh_closed x n (record { is = is.is; present = is.present }) l;
     };
     writes = k.writes;
     brought = k.brought;

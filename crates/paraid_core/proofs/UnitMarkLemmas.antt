@@ -99,7 +99,7 @@ module _ (m : Meta) (d end : ℕ) (fresh : IsRebuilding m d) where
         setup = k.next.setup;
         out = λ x e is base. k.next.out x e (named_is x is) base;
         comes_in = λ x l here base not. k.next.comes_in x l here base (λ is. not (sym (rebuilding_named m d fresh) ∙ is));
-        fresh_shut = λ x units is l. k.next.fresh_shut x (rebuilt_count m.out) (record { is = fresh_is x units is.is; present = is.present }) l;
+        fresh_closed = λ x units is l. k.next.fresh_closed x (rebuilt_count m.out) (record { is = fresh_is x units is.is; present = is.present }) l;
       };
       writes = k.writes;
       brought = k.brought;

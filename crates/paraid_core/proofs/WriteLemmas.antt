@@ -205,7 +205,7 @@ module _ (slots : ℕ) (named : Option ℕ) (m : Meta) (table table_then : List 
     named_by = k.named_by;
     borne = k.borne;
     epoch = k.epoch;
-    next = record { epoch = k.next.epoch; setup = k.next.setup; out = k.next.out; comes_in = k.next.comes_in; fresh_shut = λ d u fresh l. k.next.fresh_shut d u (record { is = fresh.is; present = fresh.present }) l };
+    next = record { epoch = k.next.epoch; setup = k.next.setup; out = k.next.out; comes_in = k.next.comes_in; fresh_closed = λ d u fresh l. k.next.fresh_closed d u (record { is = fresh.is; present = fresh.present }) l };
     writes = (let e = k.writes in let longer = length-append h (entry ∷ []) in omega arith);
     brought = λ none. absurd (let some = taken.some in omega (arith, none, some));
     staged = staged_then;

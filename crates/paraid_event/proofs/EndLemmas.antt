@@ -16,7 +16,7 @@ use Rattle.paraid_image.specs.Looked.IsLooked.{whole}
 use Rattle.paraid_image.specs.Rest.{closed_over}
 use Rattle.paraid_rack.specs.Told.{Through}
 use Rattle.paraid_rack.specs.Trail.{run}
-use Rattle.paraid_image.specs.Spins.{first_used}
+use Rattle.paraid_image.specs.Spins.{made_spin_ups}
 use Rattle.paraid_image.proofs.FailedCallLemmas.{failed_is_loss}
 use Rattle.paraid_core.specs.Calls.{IsDataCall, IsTransferCall}
 use Rattle.paraid_session.specs.Watch.{Down, IsServing, Watch, down_from_out, fails_on, nobody, only, several, watch, watch_all, with_down}
@@ -169,7 +169,7 @@ module _ (k k_then : Service) (h h_then : History) (lo lo_then : ℕ) (base : Me
       | inr gone ↦ end_follows.absent d gone.0 gone.1
     ]
 
-    recorded_by : (m : Meta) → ((d : ℕ) → d < n → IsPresent w.disks d → gone_out m.out ≢ Some d → w.spun d ≤ first_used m w.disks.power d) → (d : ℕ) → d < n → IsPresent v.disks d → gone_out m.out ≢ Some d → v.spun d ≤ first_used m v.disks.power d
+    recorded_by : (m : Meta) → ((d : ℕ) → d < n → IsPresent w.disks d → gone_out m.out ≢ Some d → w.spun d ≤ made_spin_ups m w.disks.power d) → (d : ℕ) → d < n → IsPresent v.disks d → gone_out m.out ≢ Some d → v.spun d ≤ made_spin_ups m v.disks.power d
     recorded_by m was d low here not =
         let power = end_follows.power d here in
         let count = end_follows.spun d in
@@ -177,7 +177,7 @@ module _ (k k_then : Service) (h h_then : History) (lo lo_then : ℕ) (base : Me
         let used = same_used m v.disks.power w.disks.power d power in
         omega (arith, count, before, used)
 
-    then_recorded : (d : ℕ) → d < k_then.meta.setup.geometry.disks → IsPresent v.disks d → gone_out k_then.meta.out ≢ Some d → v.spun d ≤ first_used k_then.meta v.disks.power d
+    then_recorded : (d : ℕ) → d < k_then.meta.setup.geometry.disks → IsPresent v.disks d → gone_out k_then.meta.out ≢ Some d → v.spun d ≤ made_spin_ups k_then.meta v.disks.power d
     then_recorded d low here not =
         let was = recorded_by k.meta at.recorded_next d (low_then d low) here (not_then d not) in
         let used = marked_used v.disks.power k.meta k_then.meta marks v.disks.power d in
@@ -227,12 +227,12 @@ module _ (k k_then : Service) (h h_then : History) (lo lo_then : ℕ) (base : Me
         base_ticks (inl old) = let z = ap (λ (m : Meta). m.ticks) old in let l = at.ticks in omega (arith, z, l)
         base_ticks (inr new) = let z = ap (λ (m : Meta). m.ticks) new in omega (arith, z)
 
-        recorded_base : (d : ℕ) → d < n → IsPresent v.disks d → gone_out keeps.base.out ≢ Some d → (keeps.base ≡ base) ⊎ (keeps.base ≡ committed_meta k) → v.spun d ≤ first_used keeps.base v.disks.power d
+        recorded_base : (d : ℕ) → d < n → IsPresent v.disks d → gone_out keeps.base.out ≢ Some d → (keeps.base ≡ base) ⊎ (keeps.base ≡ committed_meta k) → v.spun d ≤ made_spin_ups keeps.base v.disks.power d
         recorded_base d low here not (inl old) =
             let was = recorded_by base at.recorded d low here (λ is. not (ap (λ (m : Meta). gone_out m.out) old ∙ is)) in
-            let used = ap (λ (m : Meta). first_used m v.disks.power d) old in
+            let used = ap (λ (m : Meta). made_spin_ups m v.disks.power d) old in
             omega (arith, was, used)
         recorded_base d low here not (inr new) =
             let was = recorded_by k.meta at.recorded_next d low here (λ is. not (ap (λ (m : Meta). gone_out m.out) new ∙ is)) in
-            let used = ap (λ (m : Meta). first_used m v.disks.power d) new in
+            let used = ap (λ (m : Meta). made_spin_ups m v.disks.power d) new in
             omega (arith, was, used)

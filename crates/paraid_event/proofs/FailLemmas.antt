@@ -24,7 +24,7 @@ use Rattle.paraid_record.specs.declared.meta.Setup.{Setup}
 use Rattle.paraid_image.specs.Calls.{is_attach}
 use Rattle.paraid_image.specs.Mark.{meta_after_loss}
 use Rattle.paraid_image.specs.Power.{PowerState, power_by_gear}
-use Rattle.paraid_image.specs.Spins.{first_used}
+use Rattle.paraid_image.specs.Spins.{made_spin_ups}
 use Rattle.paraid_machine.specs.Machine.{IsEventStep, outcomes, take_out}
 use Rattle.paraid_machine.specs.Moves.{after_loss}
 use Rattle.paraid_session.specs.Turn.{GoesOn, IsMark, Point, bounds_at, point_wear, watch_of}
@@ -76,7 +76,7 @@ rising_beside (PhaseDown to) = refl
 rising_beside (Up to) = refl
 
 -- a disk that is taken out leaves the spin-ups and the powers
-taken_used : (m : Meta) (d : ℕ) (p : ℕ → Power) (e : ℕ) → first_used (meta_after_loss m d) p e ≡ first_used m p e
+taken_used : (m : Meta) (d : ℕ) (p : ℕ → Power) (e : ℕ) → made_spin_ups (meta_after_loss m d) p e ≡ made_spin_ups m p e
 taken_used m d p e = rw (rising_beside m.phase) refl
 
 taken_gear : (m : Meta) (d e : ℕ) → power_by_gear (meta_after_loss m d).gear (meta_after_loss m d).phase e ≡ power_by_gear m.gear m.phase e

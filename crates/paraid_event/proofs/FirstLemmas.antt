@@ -17,7 +17,7 @@ use Rattle.paraid_image.specs.Out.{first_absent}
 use Rattle.paraid_image.specs.Power.{gone_of, initial_state, out_after, out_state, state_by}
 use Rattle.paraid_image.specs.Rest.{closed_over}
 use Rattle.paraid_image.specs.Looked.IsLooked.{whole}
-use Rattle.paraid_image.specs.Spins.{first_used}
+use Rattle.paraid_image.specs.Spins.{made_spin_ups}
 use Rattle.paraid_recover.specs.Mounted.{with_loss}
 use Rattle.paraid_recover.specs.RecoveryMark.{to_mark}
 use Rattle.paraid_session.specs.Turn.{Point}
@@ -46,7 +46,7 @@ rising_beside Steady = refl
 rising_beside (Down to) = refl
 rising_beside (Up to) = refl
 
-loss_used : (m : Meta) (o : Option ℕ) (p : ℕ → Power) (d : ℕ) → first_used (with_loss m o) p d ≡ first_used m p d
+loss_used : (m : Meta) (o : Option ℕ) (p : ℕ → Power) (d : ℕ) → made_spin_ups (with_loss m o) p d ≡ made_spin_ups m p d
 loss_used m None p d = refl
 loss_used m (Some e) p d = rw (rising_beside m.phase) refl
 
@@ -175,7 +175,7 @@ module _ (told : Option Trail) (s : Disks) (standing : Meta) (h : History) (spun
       recorded = λ d low here not. begins.recorded d here;
       recorded_next = λ d low here not.
           let was = begins.recorded d here in
-          let used = ap (λ (m : Meta). first_used m s.power d) begins.meta ∙ loss_used standing mark s.power d in
+          let used = ap (λ (m : Meta). made_spin_ups m s.power d) begins.meta ∙ loss_used standing mark s.power d in
           omega (arith, was, used);
       awaited = λ d waits. sym (ap gone_out state_is) ∙ waits;
       ticks = let e = ap (λ (m : Meta). m.ticks) begins.meta ∙ loss_ticks standing mark in omega (arith, e);

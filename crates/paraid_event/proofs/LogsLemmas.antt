@@ -8,7 +8,7 @@ use Rattle.paraid_rack.specs.declared.call.Call.{Call}
 use Rattle.paraid_rack.specs.declared.call.Call.TheVariants.{Read, Write, Sync, Park, SpinUp, Attach}
 use Rattle.paraid_rack.specs.declared.call.Power.{Power}
 use Rattle.paraid_rack.specs.declared.call.Power.TheVariants.{Absent}
-use Rattle.paraid_rack.specs.Disks.{Disks, IsImage, IsPresent, is_present, lose, loose_after_sync, power_after, size_after, step, with_at}
+use Rattle.paraid_rack.specs.Disks.{Disks, IsImage, IsPresent, is_present, lose, loose_after, power_after, size_after, step, with_at}
 use Rattle.paraid_rack.proofs.AtomsLemmas.{with_at_other, with_at_same}
 use Rattle.paraid_record.specs.declared.meta.Meta.{Meta}
 use Rattle.paraid_image.specs.HeldAt.{MayLose}
@@ -67,14 +67,14 @@ written_away {A} f e p v x q apart = elim (cases_eq x e) [
   | inr other ↦ ap (λ (g : ℕ → A). g q) (with_at_other f e (with_at (f e) p v) x other)
 ]
 
-dry_at : (f : ℕ → Bool) (done : Bool) (q : ℕ) → f q ≡ false → loose_after_sync done f q ≡ false
+dry_at : (f : ℕ → Bool) (done : Bool) (q : ℕ) → f q ≡ false → loose_after done f q ≡ false
 dry_at f true q dry = refl
 dry_at f false q dry = dry
 
-dry_after : (f : ℕ → ℕ → Bool) (e : ℕ) (done : Bool) (x q : ℕ) → f x q ≡ false → with_at f e (loose_after_sync done (f e)) x q ≡ false
+dry_after : (f : ℕ → ℕ → Bool) (e : ℕ) (done : Bool) (x q : ℕ) → f x q ≡ false → with_at f e (loose_after done (f e)) x q ≡ false
 dry_after f e done x q dry = elim (cases_eq x e) [
-  | inl is ↦ ap (λ (g : ℕ → Bool). g q) (with_at_same f e (loose_after_sync done (f e)) x is) ∙ dry_at (f e) done q (ap (λ (k : ℕ). f k q) (sym is) ∙ dry)
-  | inr other ↦ ap (λ (g : ℕ → Bool). g q) (with_at_other f e (loose_after_sync done (f e)) x other) ∙ dry
+  | inl is ↦ ap (λ (g : ℕ → Bool). g q) (with_at_same f e (loose_after done (f e)) x is) ∙ dry_at (f e) done q (ap (λ (k : ℕ). f k q) (sym is) ∙ dry)
+  | inr other ↦ ap (λ (g : ℕ → Bool). g q) (with_at_other f e (loose_after done (f e)) x other) ∙ dry
 ]
 
 one_step : (s t : Disks) (c : Call) (x : ℕ) → IsPastLog c → IsLogHeld t (step c t) x

@@ -15,7 +15,7 @@ use Rattle.paraid_record.specs.declared.meta.Setup.{Setup}
 use Rattle.paraid_image.specs.Out.{first_absent, or_else, out_disk}
 use Rattle.paraid_image.specs.Power.{PowerState, gone_of, out_after, out_state, power_beside, power_by_gear, power_of, state_by}
 use Rattle.paraid_image.specs.Shown.{IsShown}
-use Rattle.paraid_image.specs.Spins.{first_used}
+use Rattle.paraid_image.specs.Spins.{made_spin_ups}
 use Rattle.paraid_image.specs.Mark.{meta_with_lost}
 use Rattle.paraid_image.proofs.OutLemmas.{first_absent_finds, first_absent_is}
 use Rattle.paraid_event.proofs.ApartLemmas.{gone_not_fresh, no_one, none_not_fresh}
@@ -177,7 +177,7 @@ module _ (power : ℕ → Power) (m new : Meta) (marks : IsMarkedBy power m new)
       each (Some d) = rising_beside m.phase
 
   -- it has recorded the same spin-ups
-  pub marked_used : (p : ℕ → Power) (d : ℕ) → first_used new p d ≡ first_used m p d
+  pub marked_used : (p : ℕ → Power) (d : ℕ) → made_spin_ups new p d ≡ made_spin_ups m p d
   marked_used p d = rw (same_gear, same_spins, same_rising) refl
 
   pub marked_gear : (d : ℕ) → power_by_gear new.gear new.phase d ≡ power_by_gear m.gear m.phase d

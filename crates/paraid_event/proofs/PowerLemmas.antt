@@ -27,7 +27,7 @@ use Rattle.paraid_image.specs.Out.{first_absent}
 use Rattle.paraid_image.specs.Power.{PowerState, out_after}
 use Rattle.paraid_image.specs.Rest.{closed_over}
 use Rattle.paraid_image.specs.Sides.{LogState}
-use Rattle.paraid_image.specs.Spins.{first_used}
+use Rattle.paraid_image.specs.Spins.{made_spin_ups}
 use Rattle.paraid_image.proofs.FailedCallLemmas.{failed_is_loss}
 use Rattle.paraid_core.specs.CoreInvariant.{IsHeldWithOneMissing}
 use Rattle.paraid_core.specs.Stood.{CanFail}
@@ -383,7 +383,7 @@ module _ (k : Service) (h : History) (lo : ℕ) (base : Meta) (w : Watch) (at : 
     base_is : IsServing v.down → keeps_there.0.base ≡ base
     base_is serving = let i = keeps_there.0.copies.copying image (self_image v.disks) in alone_end serving i.disk image said (whole (self_image v.disks)) i.log.stands
 
-    recorded_end : IsServing v.down → (d : ℕ) → d < n → IsPresent v.disks d → gone_out base.out ≢ Some d → v.spun d ≤ first_used base v.disks.power d
+    recorded_end : IsServing v.down → (d : ℕ) → d < n → IsPresent v.disks d → gone_out base.out ≢ Some d → v.spun d ≤ made_spin_ups base v.disks.power d
     recorded_end serving d low here not = one_recorded base d w cs calls alone_each (λ now_serving there. at.stands.recorded d low there not) serving here
 
     low_then : (d : ℕ) → d < k_then.meta.setup.geometry.disks → d < n
@@ -399,7 +399,7 @@ module _ (k : Service) (h : History) (lo : ℕ) (base : Meta) (w : Watch) (at : 
     none_end u [] none d is = none d is
     none_end u (c ∷ ds) none d is = none_end (watch c u) ds (none_after u.awaited c none) d is
 
-    base_used : (d : ℕ) → first_used k.meta v.disks.power d ≡ first_used base v.disks.power d
+    base_used : (d : ℕ) → made_spin_ups k.meta v.disks.power d ≡ made_spin_ups base v.disks.power d
     base_used d = rw (shows.gear, shows.spins, same_rising) refl
 
     -- The core stands after it.

@@ -16,7 +16,7 @@ use Rattle.paraid_image.specs.Calls.{is_attach}
 use Rattle.paraid_image.specs.Looked.IsLooked.{whole}
 use Rattle.paraid_image.specs.Power.{power_by_gear}
 use Rattle.paraid_image.specs.Rest.{closed_over}
-use Rattle.paraid_image.specs.Spins.{first_used}
+use Rattle.paraid_image.specs.Spins.{made_spin_ups}
 use Rattle.paraid_core.specs.Calls.{IsDataCall, IsTransferCall}
 use Rattle.paraid_moves.specs.MoveMetas.{meta_with_out}
 use Rattle.paraid_session.specs.Watch.{Bounds, Each, HoldsWhileServing, IsAllowed, IsServing, Watch, attach_count, fails_on, watch_all}
@@ -240,11 +240,11 @@ module _ (copied : Service) (d u : ℕ) (h : History) (lo : ℕ) (base : Meta) (
         | inr new ↦ new
       ]
 
-      after_spun : (e : ℕ) → e < n → IsPresent v.disks e → v.spun e ≤ first_used j.meta v.disks.power e
+      after_spun : (e : ℕ) → e < n → IsPresent v.disks e → v.spun e ≤ made_spin_ups j.meta v.disks.power e
       after_spun e is here =
           let power = follows.power e here in
           let count = follows.spun e in
-          let was : w.spun e ≤ first_used j.meta w.disks.power e = next_recorded e is (ap is_present (sym power) ∙ here) (λ gone. absurd (no_one gone)) in
+          let was : w.spun e ≤ made_spin_ups j.meta w.disks.power e = next_recorded e is (ap is_present (sym power) ∙ here) (λ gone. absurd (no_one gone)) in
           let used = same_used j.meta v.disks.power w.disks.power e power in
           omega (arith, count, was, used)
 
@@ -258,7 +258,7 @@ module _ (copied : Service) (d u : ℕ) (h : History) (lo : ℕ) (base : Meta) (
           stays = λ e said. absurd (no_one (ap (λ (m : Meta). named_out m.out) (sym base_is) ∙ moved_keeps.0.named_by ∙ said));
           recorded = λ e is here not.
               let was = after_spun e (below e is) here in
-              let used : first_used moved_keeps.0.base v.disks.power e ≡ first_used j.meta v.disks.power e = ap (λ (m : Meta). first_used m v.disks.power e) base_is in
+              let used : made_spin_ups moved_keeps.0.base v.disks.power e ≡ made_spin_ups j.meta v.disks.power e = ap (λ (m : Meta). made_spin_ups m v.disks.power e) base_is in
               omega (arith, was, used);
           recorded_next = λ e is here not.
               let was = after_spun e (below e is) here in

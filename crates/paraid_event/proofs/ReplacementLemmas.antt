@@ -32,7 +32,7 @@ use Rattle.paraid_image.specs.Mark.{meta_after_loss}
 use Rattle.paraid_image.specs.Power.{PowerState, out_after, power_by_gear}
 use Rattle.paraid_image.specs.Out.{first_absent}
 use Rattle.paraid_image.specs.Shown.{with_flush}
-use Rattle.paraid_image.specs.Spins.{first_used}
+use Rattle.paraid_image.specs.Spins.{made_spin_ups}
 use Rattle.paraid_core.specs.CoreInvariant.{AreCopiesSynced, IsHeldWithOneMissing}
 use Rattle.paraid_core.specs.Fills.{IsShiftCommitted}
 use Rattle.paraid_core.specs.Replaced.{KeepsCommitted}
@@ -118,7 +118,7 @@ loss_of d true = None
 loss_of d false = Some d
 
 -- the spin-ups that are recorded of other disks are as they were
-replaced_used : (m : Meta) (spins : List ℕ) (d : ℕ) (p : ℕ → Power) (e : ℕ) → slice_index spins e ≡ slice_index m.spins e → first_used (record (meta_after_loss m d) { spins = spins }) p e ≡ first_used m p e
+replaced_used : (m : Meta) (spins : List ℕ) (d : ℕ) (p : ℕ → Power) (e : ℕ) → slice_index spins e ≡ slice_index m.spins e → made_spin_ups (record (meta_after_loss m d) { spins = spins }) p e ≡ made_spin_ups m p e
 replaced_used m spins d p e is = rw (rising_beside m.phase, is) refl
 
 replaced_gear : (m : Meta) (d e : ℕ) → power_by_gear m.gear (phase_beside true m.phase) e ≡ power_by_gear m.gear m.phase e

@@ -10,7 +10,7 @@ use Rattle.paraid_base.specs.States.{gone_out, has_out, named_out, phase_beside,
 use Rattle.paraid_rack.specs.declared.call.Power.{Power}
 use Rattle.paraid_record.specs.declared.meta.Meta.{Meta}
 use Rattle.paraid_image.specs.Power.{power_by_gear}
-use Rattle.paraid_image.specs.Spins.{first_used, is_parked}
+use Rattle.paraid_image.specs.Spins.{made_spin_ups, is_parked}
 use Rattle.paraid_moves.specs.MoveMetas.{filled_to, meta_after_begin, meta_flipped_to, meta_with_out}
 use Rattle.paraid_event.specs.Marks.{ShowsMeta}
 use Rattle.paraid_event.specs.Service.{Service}
@@ -37,14 +37,14 @@ shown_settled power base m shows = record {
 }
 
 -- no more spin-ups are pending
-least_used : (m : Meta) (p : ℕ → Power) (d spins : ℕ) → spins ≡ slice_index m.spins d → first_used m p d ≤ spins
+least_used : (m : Meta) (p : ℕ → Power) (d spins : ℕ) → spins ≡ slice_index m.spins d → made_spin_ups m p d ≤ spins
 least_used m p d spins is = by (nat_le m.gear d && nat_lt d (rising_to m.phase) && is_parked (p d)) is
   where
     by : (t : Bool) → spins ≡ slice_index m.spins d → slice_index m.spins d - (if t then 1 else 0) ≤ spins
     by true same = omega (arith, same)
     by false same = omega (arith, same)
 
-flat_used : (m : Meta) (p : ℕ → Power) (d : ℕ) → rising_to m.phase ≡ 0 → first_used m p d ≡ slice_index m.spins d
+flat_used : (m : Meta) (p : ℕ → Power) (d : ℕ) → rising_to m.phase ≡ 0 → made_spin_ups m p d ≡ slice_index m.spins d
 flat_used m p d flat = by (nat_le m.gear d) (nat_lt d (rising_to m.phase)) (is_parked (p d)) refl flat
   where
     not_below : (a b : ℕ) → nat_lt a b ≡ true → b ≡ 0 → ⊥
@@ -57,7 +57,7 @@ flat_used m p d flat = by (nat_le m.gear d) (nat_lt d (rising_to m.phase)) (is_p
 
 -- a shift up that begins has one more spin-up recorded of each disk of which one is to be made
 up_used : (m : Meta) (spins : List ℕ) (to : ℕ) (p : ℕ → Power) (d : ℕ) → (m.gear ≤ d → d < to → slice_index spins d ≡ slice_index m.spins d + 1) → ((d < m.gear) ⊎ (to ≤ d) → slice_index spins d ≡ slice_index m.spins d)
-    → first_used m p d ≤ first_used (meta_after_begin m (Up to) spins) p d
+    → made_spin_ups m p d ≤ made_spin_ups (meta_after_begin m (Up to) spins) p d
 up_used m spins to p d raised others = by (nat_le m.gear d) (nat_lt d to) (is_parked (p d)) refl refl (least_used m p d (slice_index m.spins d) refl)
   where
     at_least : (a b : ℕ) → nat_le a b ≡ true → a ≤ b
@@ -72,7 +72,7 @@ up_used m spins to p d raised others = by (nat_le m.gear d) (nat_lt d to) (is_pa
     past : (a b : ℕ) → nat_lt a b ≡ false → b ≤ a
     past a b t = grind (arith, nat_tests)
 
-    by : (x y z : Bool) → nat_le m.gear d ≡ x → nat_lt d to ≡ y → first_used m p d ≤ slice_index m.spins d → first_used m p d ≤ slice_index spins d - (if (x && y && z) then 1 else 0)
+    by : (x y z : Bool) → nat_le m.gear d ≡ x → nat_lt d to ≡ y → made_spin_ups m p d ≤ slice_index m.spins d → made_spin_ups m p d ≤ slice_index spins d - (if (x && y && z) then 1 else 0)
     by true true true f g l = let r = raised (at_least m.gear d f) (below d to g) in omega (arith, r, l)
     by true true false f g l = let r = raised (at_least m.gear d f) (below d to g) in omega (arith, r, l)
     by true false z f g l = let r = others (inr (past d to g)) in omega (arith, r, l)
@@ -80,7 +80,7 @@ up_used m spins to p d raised others = by (nat_le m.gear d) (nat_lt d to) (is_pa
 
 module _ (k j : Service) (slots : j.slots ≡ k.slots) (named : j.named ≡ k.named) where
   marked : (m : Meta) → j.meta ≡ m → m.setup ≡ k.meta.setup → m.ticks ≡ k.meta.ticks → named_out m.out ≡ named_out k.meta.out → gone_out m.out ≡ gone_out k.meta.out → IsSettled m
-      → ((power : ℕ → Power) (d : ℕ) → first_used k.meta power d ≤ first_used m power d) → MarksInMemory k j
+      → ((power : ℕ → Power) (d : ℕ) → made_spin_ups k.meta power d ≤ made_spin_ups m power d) → MarksInMemory k j
   marked m is setup ticks names gone settled used = record {
     slots = slots;
     named = named;
@@ -89,7 +89,7 @@ module _ (k j : Service) (slots : j.slots ≡ k.slots) (named : j.named ≡ k.na
     names = ap (λ (z : Meta). named_out z.out) is ∙ names;
     gone = ap (λ (z : Meta). gone_out z.out) is ∙ gone;
     settled = subst IsSettled (sym is) settled;
-    used = λ power d low. subst (λ (z : Meta). first_used k.meta power d ≤ first_used z power d) (sym is) (used power d);
+    used = λ power d low. subst (λ (z : Meta). made_spin_ups k.meta power d ≤ made_spin_ups z power d) (sym is) (used power d);
   }
 
   -- stripes are marked as filled

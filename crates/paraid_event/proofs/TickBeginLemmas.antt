@@ -28,10 +28,10 @@ use Rattle.paraid_rack.proofs.TrailsLemmas.{now-extend}
 use Rattle.paraid_record.specs.declared.meta.Meta.{Meta}
 use Rattle.paraid_record.specs.declared.meta.Setup.{Setup}
 use Rattle.paraid_image.specs.Power.{PowerState, power_by_gear}
-use Rattle.paraid_image.specs.Spins.{first_used}
+use Rattle.paraid_image.specs.Spins.{made_spin_ups}
 use Rattle.paraid_machine.specs.Energy.{begun_energy, energy_after, tick_energy}
 use Rattle.paraid_machine.specs.Machine.{IsEventStep, begin_by_tick, decide, outcomes, report, shift_down, tick_by_out, tick_by_phase}
-use Rattle.paraid_machine.specs.Moves.{begun_down, first_worn, state_with_tick}
+use Rattle.paraid_machine.specs.Moves.{begun_down, first_spent, state_with_tick}
 use Rattle.paraid_moves.specs.MoveMetas.{meta_after_begin}
 use Rattle.paraid_session.specs.Turn.{GoesOn, IsFirstDown, IsMark, IsUnhurt, LosesSecondDisk, Point, bounds_at, makes_no_call, point_wear}
 use Rattle.paraid_session.specs.Turn.IsFirstDown.{lost}
@@ -63,7 +63,7 @@ only_more o nobody is = tt
 only_more o (only d) is = absurd (no_one is)
 only_more o several is = is
 
-begun_used : (m : Meta) (to : ℕ) (p : ℕ → Power) (d : ℕ) → rising_to m.phase ≡ 0 → first_used (meta_after_begin m (Down to) m.spins) p d ≡ first_used m p d
+begun_used : (m : Meta) (to : ℕ) (p : ℕ → Power) (d : ℕ) → rising_to m.phase ≡ 0 → made_spin_ups (meta_after_begin m (Down to) m.spins) p d ≡ made_spin_ups m p d
 begun_used m to p d steady = rw steady refl
 
 begun_gear : (m : Meta) (to d : ℕ) → rising_to m.phase ≡ 0 → power_by_gear m.gear (Down to) d ≡ power_by_gear m.gear m.phase d
@@ -89,7 +89,7 @@ one_outcome outcome answer new is = by is.0 is.1 is.2
     by (suc x) low at = absurd (omega arith)
 
 module _ (told : Option Trail) (k k1 k2 : Service) (setup : Setup) (p : Point) (at : StandsAt told k setup p) (to : ℕ) (counts : CountsTick k k1) (mark : k2 ≡ record k1 { meta = meta_after_begin k1.meta (Down to) k1.meta.spins }) (fit : point_wear p < worn_at) (lower : to < p.state.gear)
-    (steady : p.state.phase ≡ Steady) (no_out : p.state.out ≡ No) (down : decision setup p.state.gear (state_with_tick p.state).samples ≡ DecideDown to) (unworn : first_worn setup (state_with_tick p.state) to ≡ None) where
+    (steady : p.state.phase ≡ Steady) (no_out : p.state.out ≡ No) (down : decision setup p.state.gear (state_with_tick p.state).samples ≡ DecideDown to) (unworn : first_spent setup (state_with_tick p.state) to ≡ None) where
   abbrev w0 : Watch
   w0 = watch_at p
 

@@ -16,7 +16,7 @@ use Rattle.paraid_rack.specs.Trail.{run}
 use Rattle.paraid_rack.proofs.AtomsLemmas.{with_at_other, with_at_same}
 use Rattle.paraid_record.specs.declared.meta.Meta.{Meta}
 use Rattle.paraid_record.specs.declared.meta.Setup.{Setup}
-use Rattle.paraid_image.specs.Spins.{first_used}
+use Rattle.paraid_image.specs.Spins.{made_spin_ups}
 use Rattle.paraid_core.specs.Calls.{IsTransferCall}
 use Rattle.paraid_recover.specs.Powers.{IsPowerCall}
 use Rattle.paraid_session.specs.Ups.{up_count, ups_by}
@@ -49,7 +49,7 @@ none_up n o s [] d each = refl
 none_up n o s (c ∷ cs) d each = let a = transfer_ups d c each.1.2 in let b = none_up n o (step c s) cs d each.2 in omega (arith, a, b)
 
 -- at most what is recorded
-pub used_least : (m : Meta) (p : ℕ → Power) (d : ℕ) → first_used m p d ≤ slice_index m.spins d
+pub used_least : (m : Meta) (p : ℕ → Power) (d : ℕ) → made_spin_ups m p d ≤ slice_index m.spins d
 used_least m p d = omega arith
 
 not_parked : (was : Power) → is_present was ≡ false → is_parked was ≡ false
@@ -65,15 +65,15 @@ by_less false y z u n is = omega arith
 by_less x y z true n is = absurd (false≢true (sym is))
 
 -- a disk that is not parked has used all that is recorded
-pub used_all : (m : Meta) (p v : ℕ → Power) (d : ℕ) → is_parked (v d) ≡ false → first_used m p d ≤ first_used m v d
+pub used_all : (m : Meta) (p v : ℕ → Power) (d : ℕ) → is_parked (v d) ≡ false → made_spin_ups m p d ≤ made_spin_ups m v d
 used_all m p v d is = by_less (nat_le m.gear d) (nat_lt d (rising_to m.phase)) (is_parked (p d)) (is_parked (v d)) (slice_index m.spins d) is
 
 -- where a disk has the same power, or is absent, no less is used
-pub used_later : (m : Meta) (p v : ℕ → Power) (d : ℕ) → (is_present (v d) ≡ true → v d ≡ p d) → first_used m p d ≤ first_used m v d
+pub used_later : (m : Meta) (p v : ℕ → Power) (d : ℕ) → (is_present (v d) ≡ true → v d ≡ p d) → made_spin_ups m p d ≤ made_spin_ups m v d
 used_later m p v d same = by (is_present (v d)) refl
   where
-    by : (t : Bool) → is_present (v d) ≡ t → first_used m p d ≤ first_used m v d
-    by true here = subst (λ (z : Power). first_used m p d ≤ first_used m (λ e. z) d) (sym (same here)) (omega arith)
+    by : (t : Bool) → is_present (v d) ≡ t → made_spin_ups m p d ≤ made_spin_ups m v d
+    by true here = subst (λ (z : Power). made_spin_ups m p d ≤ made_spin_ups m (λ e. z) d) (sym (same here)) (omega arith)
     by false gone = used_all m p v d (not_parked (v d) gone)
 
 -- Disks that are powered by a meta that has recorded what is made.
@@ -102,11 +102,11 @@ ups_here e d same = grind (arith, nat_tests)
 ups_other : (e d : ℕ) → d ≢ e → ◌≡◌ {A = ℕ} (if e == d then 1 else 0) 0
 ups_other e d apart = grind (arith, nat_tests)
 
-same_used : (m : Meta) (p v : ℕ → Power) (d : ℕ) → v d ≡ p d → first_used m p d ≤ first_used m v d
+same_used : (m : Meta) (p v : ℕ → Power) (d : ℕ) → v d ≡ p d → made_spin_ups m p d ≤ made_spin_ups m v d
 same_used m p v d same = used_later m p v d (λ here. same)
 
 step_used : (m : Meta) → ((d : ℕ) → m.gear ≤ d → d < rising_to m.phase → 1 ≤ slice_index m.spins d) → (s : Disks) (c : Call) (d : ℕ) → IsLawful s c → IsPowerCall m c
-    → ups_by d c + first_used m s.power d ≤ first_used m (step c s).power d
+    → ups_by d c + made_spin_ups m s.power d ≤ made_spin_ups m (step c s).power d
 unfolding step
 step_used m has s (Read e p done) d lawful is = absurd is
 step_used m has s (Write e p b done) d lawful is = absurd is
@@ -137,7 +137,7 @@ step_used m has s (SpinUp e done) d lawful is = elim (cases_eq d e) [
 step_used m has s (Attach e size done) d lawful is = absurd is
 
 pub raised_used : (m : Meta) → ((d : ℕ) → m.gear ≤ d → d < rising_to m.phase → 1 ≤ slice_index m.spins d) → (s : Disks) (cs : List Call) (d : ℕ) → EachCall (IsPowerCall m) s cs
-    → up_count d cs + first_used m s.power d ≤ first_used m (run s cs).power d
+    → up_count d cs + made_spin_ups m s.power d ≤ made_spin_ups m (run s cs).power d
 raised_used m has s [] d each = omega arith
 raised_used m has s (c ∷ cs) d each = let a = step_used m has s c d each.0 each.1 in let b = raised_used m has (step c s) cs d each.2 in omega (arith, a, b)
 
@@ -174,27 +174,27 @@ is_out_by o d is = ap (λ (x : Option ℕ). is_out x d) is ∙ self_test d
 pub made_most : (m : Meta) (p : ℕ → Power) (d : ℕ) → made_by m p d ≤ slice_index m.spins d
 made_most m p d = by (is_out (gone_out m.out) d)
   where
-    by : (t : Bool) → (if t then slice_index m.spins d else first_used m p d) ≤ slice_index m.spins d
+    by : (t : Bool) → (if t then slice_index m.spins d else made_spin_ups m p d) ≤ slice_index m.spins d
     by true = omega arith
     by false = used_least m p d
 
-used_made : (m : Meta) (p : ℕ → Power) (d : ℕ) → first_used m p d ≤ made_by m p d
+used_made : (m : Meta) (p : ℕ → Power) (d : ℕ) → made_spin_ups m p d ≤ made_by m p d
 used_made m p d = by (is_out (gone_out m.out) d)
   where
-    by : (t : Bool) → first_used m p d ≤ (if t then slice_index m.spins d else first_used m p d)
+    by : (t : Bool) → made_spin_ups m p d ≤ (if t then slice_index m.spins d else made_spin_ups m p d)
     by true = used_least m p d
     by false = omega arith
 
 -- by what is so of all disks
-pub made_step : (u : ℕ) (m n : Meta) (p v : ℕ → Power) (d : ℕ) → (gone_out m.out ≡ Some d → (gone_out n.out ≡ Some d) × (u ≡ 0)) → slice_index m.spins d ≤ slice_index n.spins d → u + first_used m p d ≤ first_used n v d
+pub made_step : (u : ℕ) (m n : Meta) (p v : ℕ → Power) (d : ℕ) → (gone_out m.out ≡ Some d → (gone_out n.out ≡ Some d) × (u ≡ 0)) → slice_index m.spins d ≤ slice_index n.spins d → u + made_spin_ups m p d ≤ made_spin_ups n v d
     → u + made_by m p d ≤ made_by n v d
 made_step u m n p v d gone spins used = by (is_out (gone_out m.out) d) refl
   where
-    by : (t : Bool) → is_out (gone_out m.out) d ≡ t → u + (if t then slice_index m.spins d else first_used m p d) ≤ made_by n v d
+    by : (t : Bool) → is_out (gone_out m.out) d ≡ t → u + (if t then slice_index m.spins d else made_spin_ups m p d) ≤ made_by n v d
     by true is =
         let g = gone (out_is (gone_out m.out) d is) in
         let z = g.1 in
-        subst (λ (t : Bool). u + slice_index m.spins d ≤ (if t then slice_index n.spins d else first_used n v d)) (sym (is_out_by (gone_out n.out) d g.0)) (omega (arith, z, spins))
+        subst (λ (t : Bool). u + slice_index m.spins d ≤ (if t then slice_index n.spins d else made_spin_ups n v d)) (sym (is_out_by (gone_out n.out) d g.0)) (omega (arith, z, spins))
     by false is = let l = used_made n v d in omega (arith, used, l)
 
 by_rest : (x y z : Bool) (n : ℕ) → (y ≡ true → z ≡ false) → n ≤ n - (if (x && y && z) then 1 else 0)
@@ -204,7 +204,7 @@ by_rest true false z n f = omega arith
 by_rest false y z n f = omega arith
 
 -- where no disk is to be spun up all was made
-pub rest_used : (m : Meta) (p : ℕ → Power) (d : ℕ) → (nat_lt d (rising_to m.phase) ≡ true → is_parked (p d) ≡ false) → slice_index m.spins d ≤ first_used m p d
+pub rest_used : (m : Meta) (p : ℕ → Power) (d : ℕ) → (nat_lt d (rising_to m.phase) ≡ true → is_parked (p d) ≡ false) → slice_index m.spins d ≤ made_spin_ups m p d
 rest_used m p d up = by_rest (nat_le m.gear d) (nat_lt d (rising_to m.phase)) (is_parked (p d)) (slice_index m.spins d) up
 
 spins_by : (x y : Bool) → y ≡ true → is_parked (if x || y then Spinning else Parked) ≡ false
@@ -227,7 +227,7 @@ rest_made m p powered d low = split m.out refl
     split : (o : Out) → m.out ≡ o → slice_index m.spins d ≤ made_by m p d
     split No out = geared (λ named. no_one (sym (ap named_out out) ∙ named))
     split (Gone e) out = elim (cases_eq d e) [
-      | inl same ↦ subst (λ (t : Bool). slice_index m.spins d ≤ (if t then slice_index m.spins d else first_used m p d))
+      | inl same ↦ subst (λ (t : Bool). slice_index m.spins d ≤ (if t then slice_index m.spins d else made_spin_ups m p d))
           (sym (is_out_by (gone_out m.out) d (ap gone_out out ∙ ap (λ (x : ℕ). Some x) (sym same)))) (omega arith)
       | inr apart ↦ geared (λ named. other e apart (sym (ap named_out out) ∙ named))
     ]

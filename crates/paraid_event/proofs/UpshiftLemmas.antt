@@ -27,7 +27,7 @@ use Rattle.paraid_record.specs.declared.meta.Meta.{Meta}
 use Rattle.paraid_record.specs.declared.meta.Setup.{Setup}
 use Rattle.paraid_image.specs.Calls.{disk_of, is_done}
 use Rattle.paraid_image.specs.Power.{PowerState}
-use Rattle.paraid_image.specs.Spins.{first_used}
+use Rattle.paraid_image.specs.Spins.{made_spin_ups}
 use Rattle.paraid_machine.specs.Energy.{energy_after, spin_up_energy}
 use Rattle.paraid_machine.specs.Machine.{IsEventStep, begin, go_up, outcomes, shift_refusal}
 use Rattle.paraid_machine.specs.Moves.{begun_up, with_spin_ups}
@@ -82,7 +82,7 @@ only_more o several is = is
 
 -- a shift up that begins has one more spin-up recorded of each disk of which one is to be made
 begun_used : (m : Meta) (spins : List ℕ) (to : ℕ) (p : ℕ → Power) (d : ℕ) → (m.gear ≤ d → d < to → slice_index spins d ≡ slice_index m.spins d + 1) → ((d < m.gear) ⊎ (to ≤ d) → slice_index spins d ≡ slice_index m.spins d)
-    → first_used m p d ≤ first_used (meta_after_begin m (Up to) spins) p d
+    → made_spin_ups m p d ≤ made_spin_ups (meta_after_begin m (Up to) spins) p d
 begun_used m spins to p d raised others = by (nat_le m.gear d) (nat_lt d to) (is_parked (p d)) refl refl
   where
     at_least : (a b : ℕ) → nat_le a b ≡ true → a ≤ b
@@ -97,7 +97,7 @@ begun_used m spins to p d raised others = by (nat_le m.gear d) (nat_lt d to) (is
     past : (a b : ℕ) → nat_lt a b ≡ false → b ≤ a
     past a b t = grind (arith, nat_tests)
 
-    by : (x y z : Bool) → nat_le m.gear d ≡ x → nat_lt d to ≡ y → first_used m p d ≤ slice_index spins d - (if (x && y && z) then 1 else 0)
+    by : (x y z : Bool) → nat_le m.gear d ≡ x → nat_lt d to ≡ y → made_spin_ups m p d ≤ slice_index spins d - (if (x && y && z) then 1 else 0)
     by true true true f g = let r = raised (at_least m.gear d f) (below d to g) in omega (arith, r)
     by true true false f g = let r = raised (at_least m.gear d f) (below d to g) in omega (arith, r)
     by true false z f g = let r = others (inr (past d to g)) in omega (arith, r)

@@ -12,7 +12,7 @@ use Rattle.paraid_rack.specs.Disks.{Disks}
 use Rattle.paraid_rack.specs.Trail.{Trail}
 use Rattle.paraid_record.specs.declared.meta.Meta.{Meta}
 use Rattle.paraid_record.specs.declared.meta.Setup.{Setup}
-use Rattle.paraid_image.specs.Spins.{first_used}
+use Rattle.paraid_image.specs.Spins.{made_spin_ups}
 use Rattle.paraid_recover.specs.Powers.{IsPowerCall}
 use Rattle.paraid_recover.proofs.DownLemmas.{watched_disks}
 use Rattle.paraid_session.specs.Turn.{Point}
@@ -59,7 +59,7 @@ power_used k base w shows has cs each k_then marks d =
     let v = (watch_all cs w).disks.power in
     let same = marked_used v k.meta k_then.meta marks v d in
     let equal = ap (λ (l : List ℕ). slice_index l d) (same_spins v k.meta k_then.meta marks) in
-    let more = subst (λ (s : Disks). up_count d cs + first_used k.meta w.disks.power d ≤ first_used k.meta s.power d) (sym (watched_disks w cs)) (raised_used k.meta has_now w.disks cs d each) in
+    let more = subst (λ (s : Disks). up_count d cs + made_spin_ups k.meta w.disks.power d ≤ made_spin_ups k.meta s.power d) (sym (watched_disks w cs)) (raised_used k.meta has_now w.disks cs d each) in
     made_step (up_count d cs) k.meta k_then.meta w.disks.power v d
     (λ gone. (still_gone v k.meta k_then.meta marks d gone, none_raised k.meta w.disks cs d (gone_is_named k.meta.out d gone) each)) (omega (arith, equal)) (omega (arith, same, more))
   where

@@ -7,7 +7,7 @@ use Rattle.paraid_rack.specs.Slots.{Agrees, Slot}
 use Rattle.paraid_record.specs.declared.meta.Meta.{Meta}
 use Rattle.paraid_image.specs.Power.{initial_state}
 use Rattle.paraid_image.specs.Rest.{IsAtRest, closed_over}
-use Rattle.paraid_image.specs.Spins.{first_used}
+use Rattle.paraid_image.specs.Spins.{made_spin_ups}
 use Rattle.paraid_core.specs.CoreInvariant.{AreCopiesSynced}
 use Rattle.paraid_recover.specs.Mounted.{IsServable, with_loss}
 use Rattle.paraid_recover.specs.RecoveryMark.{to_mark}
@@ -29,7 +29,7 @@ pub record BeginsService (s : Disks) (standing : Meta) (h : History) (spun : ℕ
   pub meta : k.meta ≡ with_loss standing (to_mark s.power standing)
   pub keeps : ServiceStandsFor k (take standing.writes h) standing.writes s
   pub copies_synced : AreCopiesSynced standing.setup.geometry.disks k.copied
-  pub recorded : (d : ℕ) → IsPresent s d → spun d ≤ first_used standing s.power d
+  pub recorded : (d : ℕ) → IsPresent s d → spun d ≤ made_spin_ups standing s.power d
   pub dirty : (r d : ℕ) → r < standing.setup.geometry.rows → (initial_state s (closed_over standing)).dirty r d ≡ is_dirty k.table r d
   pub samples : k.samples ≡ []
   pub served : k.served ≡ 0

@@ -7,7 +7,7 @@ use Rattle.paraid_rack.specs.Disks.{Disks, IsPresent, is_present}
 use Rattle.paraid_rack.specs.Trail.{Trail, now}
 use Rattle.paraid_record.specs.declared.meta.Meta.{Meta}
 use Rattle.paraid_record.specs.declared.meta.Setup.{Setup}
-use Rattle.paraid_image.specs.Spins.{first_used}
+use Rattle.paraid_image.specs.Spins.{made_spin_ups}
 use Rattle.paraid_core.specs.CoreInvariant.{AreCopiesSynced, HoldsBetweenCalls}
 use Rattle.paraid_session.specs.Turn.{Point}
 use Rattle.paraid_session.specs.Watch.{Watch}
@@ -22,7 +22,7 @@ ServiceStandsFor k h lo = HoldsBetweenCalls k.slots k.named k.meta k.table k.bat
 
 -- Of disk `d` the spin-ups that were made are recorded by this meta, unless the disk is gone by it.
 abbrev pub IsRecordedBy : Meta → Watch → ℕ → Type 0
-IsRecordedBy m w d = IsPresent w.disks d → gone_out m.out ≢ Some d → w.spun d ≤ first_used m w.disks.power d
+IsRecordedBy m w d = IsPresent w.disks d → gone_out m.out ≢ Some d → w.spun d ≤ made_spin_ups m w.disks.power d
 
 -- Between two calls of its core, in an event: it stands for `h`, the meta `base` stands on the disks,
 -- and each disk that is absent or named out is down.

@@ -10,7 +10,7 @@ use Rattle.paraid_rack.specs.Disks.{Disks, IsPresent}
 use Rattle.paraid_rack.specs.Trail.{run}
 use Rattle.paraid_record.specs.declared.meta.Meta.{Meta}
 use Rattle.paraid_image.specs.Power.{power_by_gear}
-use Rattle.paraid_image.specs.Spins.{first_used}
+use Rattle.paraid_image.specs.Spins.{made_spin_ups}
 use Rattle.paraid_session.specs.Ups.{up_count}
 use Rattle.paraid_session.specs.Watch.{Bounds, Down, Each, HoldsWhileServing, IsAllowed, Watch, attach_count, fails_on, first_lost, nobody, only, several, watch_all}
 use Rattle.paraid_event.specs.Lost.{TellsTwo}
@@ -57,7 +57,7 @@ pub record AreStepCalls (k : Service) (h : History) (lo most : ℕ) (base : Meta
 -- how many of the spin-ups that a meta has recorded of disk `d` were made, by these powers: all but one that is to be made,
 -- and all of a disk that is gone
 abbrev pub made_by : Meta → (ℕ → Power) → ℕ → ℕ
-made_by m power d = if is_out (gone_out m.out) d then slice_index m.spins d else first_used m power d
+made_by m power d = if is_out (gone_out m.out) d then slice_index m.spins d else made_spin_ups m power d
 
 -- Of the service after them: a disk that failed is named out, and one that is named out was so or is the first that
 -- failed. Which disk is awaited stays.
@@ -106,7 +106,7 @@ pub record MarksInMemory (k k_then : Service) : Type 0 where
   pub names : named_out k_then.meta.out ≡ named_out k.meta.out
   pub gone : gone_out k_then.meta.out ≡ gone_out k.meta.out
   pub settled : IsSettled k_then.meta
-  pub used : (power : ℕ → Power) (d : ℕ) → d < k.meta.setup.geometry.disks → first_used k.meta power d ≤ first_used k_then.meta power d
+  pub used : (power : ℕ → Power) (d : ℕ) → d < k.meta.setup.geometry.disks → made_spin_ups k.meta power d ≤ made_spin_ups k_then.meta power d
 
 -- what is told of one call of a core that ends, from where the disks show its meta
 abbrev pub ServesShown : Service → Service → History → ℕ → ℕ → Disks → List Call → Type 0

@@ -17,12 +17,12 @@ use Rattle.paraid_rack.specs.Told.{GrowsByCall, Through, Ran}
 use Rattle.paraid_rack.specs.Trail.{Trail, run, now, extend}
 use Rattle.paraid_rack.proofs.AtomsLemmas.{with_at_same, with_at_other}
 use Rattle.paraid_rack.proofs.TrailsLemmas.{extend-extend}
-use Rattle.paraid_gather.specs.Turns.{turns}
+use Rattle.paraid_gather.specs.PowerCalls.{power_calls}
 use Rattle.paraid_gather.specs.Waiting.{Waiting, waiting}
 use Rattle.paraid_gather.specs.Bulk.{HasPowersOf, IsBetween, WritesBlocks, left_by}
 use Rattle.paraid_gather.proofs.AboveLemmas.{both_at, same_at, some_none}
 use Rattle.paraid_gather.proofs.FollowsLemmas.{through_map}
-use Rattle.paraid_gather.proofs.TurnsLemmas.{turns_append}
+use Rattle.paraid_gather.proofs.PowerCallsLemmas.{power_calls_append}
 
 run_push : (s : Disks) (cs : List Call) (c : Call) → run s (cs ++ c ∷ []) ≡ step c (run s cs)
 run_push s [] c = refl
@@ -53,7 +53,7 @@ ran_push Q Q' old mid new c more ran grows t told =
 pub record WritesBelow (d : ℕ) (w : Waiting) (k : ℕ) (s : Disks) (cs : List Call) : Type 0 where
   pub moments : Through (IsBetween s d w true) s cs
   pub powers : HasPowersOf s (run s cs)
-  pub turned : turns cs ≡ []
+  pub turned : power_calls cs ≡ []
   pub bytes : (p : ℕ) (b : List ℕ) → p < k → waiting w p ≡ Some b → ((run s cs).block d p).bytes ≡ b
 
 module _ (d : ℕ) (w : Waiting) where
@@ -110,7 +110,7 @@ module _ (d : ℕ) (w : Waiting) where
     one_more = record {
       moments = through_push (IsBetween s d w true) s cs (Write d k x true) below.moments (step_between s (run s cs) k x here last below.powers true);
       powers = subst (λ (z : Disks). HasPowersOf s z) (sym (run_push s cs (Write d k x true))) (step_powers s (run s cs) k x here last below.powers true);
-      turned = turns_append cs (Write d k x true ∷ []) ∙ ap (λ (l : List Call). l ++ []) below.turned;
+      turned = power_calls_append cs (Write d k x true ∷ []) ∙ ap (λ (l : List Call). l ++ []) below.turned;
       bytes = λ p b is at. ap (λ (z : Disks). (z.block d p).bytes) (run_push s cs (Write d k x true)) ∙ step_bytes s (run s cs) k x here last below.powers below.bytes p b is at;
     }
 
@@ -119,7 +119,7 @@ module _ (d : ℕ) (w : Waiting) where
       moments = through_push (IsBetween s d w false) s cs (Write d k x false) (through_map (IsBetween s d w true) (IsBetween s d w false) (milder s) s cs below.moments)
           (step_between s (run s cs) k x here last below.powers false);
       powers = subst (λ (z : Disks). HasPowersOf (lose d s) z) (sym (run_push s cs (Write d k x false))) (step_powers s (run s cs) k x here last below.powers false);
-      turned = turns_append cs (Write d k x false ∷ []) ∙ ap (λ (l : List Call). l ++ []) below.turned;
+      turned = power_calls_append cs (Write d k x false ∷ []) ∙ ap (λ (l : List Call). l ++ []) below.turned;
       bytes = λ is. absurd (false≢true is);
     }
 

@@ -15,8 +15,8 @@ use Rattle.paraid_rack.proofs.TrailsLemmas.{extend-extend, now-extend}
 use Rattle.paraid_gather.specs.Waiting.{AllFit, Waiting, none_waits, waits}
 use Rattle.paraid_gather.specs.Above.{IsAbove, LeavesImageOf, Follows, TellsOut, told_above}
 use Rattle.paraid_gather.specs.Bulk.{left_by}
-use Rattle.paraid_gather.specs.Turns.{TurnsAs, turns}
-use Rattle.paraid_gather.proofs.TurnsLemmas.{ran_both}
+use Rattle.paraid_gather.specs.PowerCalls.{PowersAs, power_calls}
+use Rattle.paraid_gather.proofs.PowerCallsLemmas.{ran_both}
 use Rattle.paraid_gather.specs.Finish.{EndsGathered, IsOver, NotesLost, WritesOut, failed_syncs}
 use Rattle.paraid_gather.proofs.AboveLemmas.{above_image, some_none}
 use Rattle.paraid_gather.proofs.DoesLemmas.{none_waiting}
@@ -27,7 +27,7 @@ use Rattle.paraid_gather.proofs.OutLemmas.{lost_sync_image, lost_sync}
 extend_none : (a : Trail) → extend a [] ≡ a
 extend_none a = ap (λ (l : List Call). record { start = a.start; calls = l }) (append-nil a.calls)
 
-over_more : (w w' : ℕ → Waiting) (b a : Trail) (cs ds : List Call) → IsOver w b a → length ds ≤ 1 → turns cs ≡ turns ds → Through (LeavesImageOf (now a) (run (now a) ds)) (now b) cs → IsAbove (run (now b) cs) w' (run (now a) ds)
+over_more : (w w' : ℕ → Waiting) (b a : Trail) (cs ds : List Call) → IsOver w b a → length ds ≤ 1 → power_calls cs ≡ power_calls ds → Through (LeavesImageOf (now a) (run (now a) ds)) (now b) cs → IsAbove (run (now b) cs) w' (run (now a) ds)
     → IsOver w' (extend b cs) (extend a ds)
 over_more w w' b a cs ds old one turned through last = record {
   above = subst (λ (x : Disks). IsAbove x w' (now (extend a ds))) (sym (now-extend b cs)) (subst (λ (y : Disks). IsAbove (run (now b) cs) w' y) (sym (now-extend a ds)) last);
@@ -40,7 +40,7 @@ writes_none told noted w b is = (b, is, [], λ a is. (a, is, sym (extend_none a)
 
 -- by these calls above, at most one
 writes_calls : (old new noted noted' : Option Trail) (w w' : ℕ → Waiting) (lost : List ℕ) (after : Disks → Disks) → length (failed_syncs lost) ≤ 1 → ((s : Disks) → run s (failed_syncs lost) ≡ after s)
-    → NotesLost lost noted noted' → Ran old new (TurnsAs (failed_syncs lost)) → ((s : Disks) → Follows old new w w' s (after s)) → WritesOut old new noted noted' w w'
+    → NotesLost lost noted noted' → Ran old new (PowersAs (failed_syncs lost)) → ((s : Disks) → Follows old new w w' s (after s)) → WritesOut old new noted noted' w w'
 writes_calls old new noted noted' w w' lost after one are notes turned follows b' is =
     let r = follows (now b') b' is in (
       r.from,
@@ -59,7 +59,7 @@ writes_calls old new noted noted' w w' lost after one are notes turned follows b
     )
 
 -- what waits for one disk is written out
-pub writes_one : (old new noted noted' : Option Trail) (w w' : ℕ → Waiting) (d : ℕ) (ok : Bool) → TellsOut ok d noted noted' → Ran old new (TurnsAs []) → ((s : Disks) → Follows old new w w' s (left_by ok d s)) → WritesOut old new noted noted' w w'
+pub writes_one : (old new noted noted' : Option Trail) (w w' : ℕ → Waiting) (d : ℕ) (ok : Bool) → TellsOut ok d noted noted' → Ran old new (PowersAs []) → ((s : Disks) → Follows old new w w' s (left_by ok d s)) → WritesOut old new noted noted' w w'
 writes_one old new noted noted' w w' d true tells turned follows = writes_calls old new noted noted' w w' [] (λ s. s) (omega arith) (λ s. refl) (λ t is. (t, tells t is, sym (extend_none t))) turned follows
 writes_one old new noted noted' w w' d false tells turned follows = writes_calls old new noted noted' w w' (d ∷ []) (λ s. step (Sync d false) s) (omega arith) (λ s. refl) tells turned
     (λ s. follows_onto old new w w' s (lose d s) w' (step (Sync d false) s) (lost_sync_image s d) (λ b. lost_sync s d b w') (follows s))

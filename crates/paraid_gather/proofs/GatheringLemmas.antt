@@ -9,8 +9,8 @@ use Rattle.paraid_rack.specs.Told.{Through}
 use Rattle.paraid_rack.specs.Trail.{Trail, run, now, disks, initial, extend, moments}
 use Rattle.paraid_rack.proofs.TrailsLemmas.{extend-extend, now-extend}
 use Rattle.paraid_gather.specs.Above.{LeavesImageOf}
-use Rattle.paraid_gather.specs.Turns.{turns}
-use Rattle.paraid_gather.proofs.TurnsLemmas.{turns_append}
+use Rattle.paraid_gather.specs.PowerCalls.{power_calls}
+use Rattle.paraid_gather.proofs.PowerCallsLemmas.{power_calls_append}
 use Rattle.paraid_gather.specs.Gathering.{CallGroup, IsGathered, AreGathered, LeavesImage, calls_above, calls_below}
 
 run_append : (s : Disks) (cs ds : List Call) → run s (cs ++ ds) ≡ run (run s cs) ds
@@ -32,7 +32,7 @@ calls_below_push : (gs : List CallGroup) (g : CallGroup) → calls_below (gs ++ 
 calls_below_push gs g = calls_below_append gs (g ∷ []) ∙ ap (λ (l : List Call). calls_below gs ++ l) (append-nil g.below)
 
 -- a part that is gathered from these disks is, from the same disks
-from_same : (s s' b b' : Disks) (g : CallGroup) → s ≡ s' → b ≡ b' → LeavesImage s b → length g.above ≤ 1 → turns g.below ≡ turns g.above → Through (LeavesImageOf s' (run s' g.above)) b' g.below → LeavesImage (run s' g.above) (run b' g.below) → AreGathered s b (g ∷ [])
+from_same : (s s' b b' : Disks) (g : CallGroup) → s ≡ s' → b ≡ b' → LeavesImage s b → length g.above ≤ 1 → power_calls g.below ≡ power_calls g.above → Through (LeavesImageOf s' (run s' g.above)) b' g.below → LeavesImage (run s' g.above) (run b' g.below) → AreGathered s b (g ∷ [])
 from_same s s' b b' g s_is b_is here one turned moments last = (
   here,
   one,
@@ -41,7 +41,7 @@ from_same s s' b b' g s_is b_is here one turned moments last = (
   subst (λ (x : Disks). LeavesImage (run x g.above) (run b g.below)) (sym s_is) (subst (λ (y : Disks). LeavesImage (run s' g.above) (run y g.below)) (sym b_is) last),
 )
 
-gathered_push : (s b : Disks) (gs : List CallGroup) (g : CallGroup) (s' b' : Disks) → run s (calls_above gs) ≡ s' → run b (calls_below gs) ≡ b' → AreGathered s b gs → length g.above ≤ 1 → turns g.below ≡ turns g.above
+gathered_push : (s b : Disks) (gs : List CallGroup) (g : CallGroup) (s' b' : Disks) → run s (calls_above gs) ≡ s' → run b (calls_below gs) ≡ b' → AreGathered s b gs → length g.above ≤ 1 → power_calls g.below ≡ power_calls g.above
     → Through (LeavesImageOf s' (run s' g.above)) b' g.below → LeavesImage (run s' g.above) (run b' g.below) → AreGathered s b (gs ++ g ∷ [])
 gathered_push s b [] g s' b' s_is b_is it one turned moments last = from_same s s' b b' g s_is b_is it one turned moments last
 gathered_push s b (x ∷ gs) g s' b' s_is b_is it one turned moments last = (
@@ -63,7 +63,7 @@ gathered_none t = record {
 }
 
 -- one group more
-pub gathered_more : (b a : Trail) (cs ds : List Call) → IsGathered b a → length ds ≤ 1 → turns cs ≡ turns ds → Through (LeavesImageOf (now a) (run (now a) ds)) (now b) cs → LeavesImage (run (now a) ds) (run (now b) cs)
+pub gathered_more : (b a : Trail) (cs ds : List Call) → IsGathered b a → length ds ≤ 1 → power_calls cs ≡ power_calls ds → Through (LeavesImageOf (now a) (run (now a) ds)) (now b) cs → LeavesImage (run (now a) ds) (run (now b) cs)
     → IsGathered (extend b cs) (extend a ds)
 gathered_more b a cs ds it one turned through last =
     let g : CallGroup = record { above = ds; below = cs } in
@@ -207,12 +207,12 @@ stop_of_gathered below above it m =
     (subst (λ (v : Trail). m ≤ moments (extend it.start (calls_below it.groups)) → (i : Disks) → IsImage (disks (extend it.start (calls_below it.groups)) m) i → (k : ℕ) × (k ≤ moments v) × IsImage (disks v k) i) (sym it.above_is)
     (stop_above it.start it.groups it.gathered m))
 
-turns_of_groups : (s b : Disks) (gs : List CallGroup) → AreGathered s b gs → turns (calls_below gs) ≡ turns (calls_above gs)
-turns_of_groups s b [] it = refl
-turns_of_groups s b (g ∷ gs) it = turns_append g.below (calls_below gs) ∙ ap (λ (l : List Call). l ++ turns (calls_below gs)) it.2
-    ∙ ap (λ (l : List Call). turns g.above ++ l) (turns_of_groups (run s g.above) (run b g.below) gs it.4) ∙ sym (turns_append g.above (calls_above gs))
+power_calls_of_groups : (s b : Disks) (gs : List CallGroup) → AreGathered s b gs → power_calls (calls_below gs) ≡ power_calls (calls_above gs)
+power_calls_of_groups s b [] it = refl
+power_calls_of_groups s b (g ∷ gs) it = power_calls_append g.below (calls_below gs) ∙ ap (λ (l : List Call). l ++ power_calls (calls_below gs)) it.2
+    ∙ ap (λ (l : List Call). power_calls g.above ++ l) (power_calls_of_groups (run s g.above) (run b g.below) gs it.4) ∙ sym (power_calls_append g.above (calls_above gs))
 
-pub turns_of_gathered : (below above : Trail) → IsGathered below above → turns below.calls ≡ turns above.calls
-turns_of_gathered below above it = ap (λ (u : Trail). turns u.calls) it.below_is ∙ turns_append it.start.calls (calls_below it.groups)
-    ∙ ap (λ (l : List Call). turns it.start.calls ++ l) (turns_of_groups (now it.start) (now it.start) it.groups it.gathered)
-    ∙ sym (turns_append it.start.calls (calls_above it.groups)) ∙ sym (ap (λ (u : Trail). turns u.calls) it.above_is)
+pub power_calls_of_gathered : (below above : Trail) → IsGathered below above → power_calls below.calls ≡ power_calls above.calls
+power_calls_of_gathered below above it = ap (λ (u : Trail). power_calls u.calls) it.below_is ∙ power_calls_append it.start.calls (calls_below it.groups)
+    ∙ ap (λ (l : List Call). power_calls it.start.calls ++ l) (power_calls_of_groups (now it.start) (now it.start) it.groups it.gathered)
+    ∙ sym (power_calls_append it.start.calls (calls_above it.groups)) ∙ sym (ap (λ (u : Trail). power_calls u.calls) it.above_is)

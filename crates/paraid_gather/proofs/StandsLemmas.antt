@@ -20,12 +20,12 @@ use Rattle.paraid_gather.specs.Above.{IsAbove, LeavesImageOf, Follows, TellsOut,
 use Rattle.paraid_gather.specs.Bulk.{left_by}
 use Rattle.paraid_gather.specs.Does.{DoesWhole}
 use Rattle.paraid_gather.specs.Laws.{both_told}
-use Rattle.paraid_gather.specs.Turns.{TurnsAs, turns}
+use Rattle.paraid_gather.specs.PowerCalls.{PowersAs, power_calls}
 use Rattle.paraid_gather.specs.Stands.{StandsOver, StandsWhereTold}
 use Rattle.paraid_gather.proofs.AboveLemmas.{above_image, above_start, same_at}
 use Rattle.paraid_gather.proofs.FollowsLemmas.{follows_onto}
 use Rattle.paraid_gather.proofs.GatheringLemmas.{gathered_none, gathered_more}
-use Rattle.paraid_gather.proofs.TurnsLemmas.{ran_both}
+use Rattle.paraid_gather.proofs.PowerCallsLemmas.{ran_both}
 use Rattle.paraid_gather.proofs.OutLemmas.{lost_sync_image, lost_sync}
 
 -- what is loose is unsynced
@@ -33,7 +33,7 @@ abbrev IsDirty : Disks → (ℕ → Slot) → Type 0
 IsDirty s slot = (d p : ℕ) → s.loose d p ≡ true → (slot d).unsynced ≡ true
 
 -- with these calls below, and these above, at most one
-stands_more : (slot slot' : ℕ → Slot) (w w' : ℕ → Waiting) (b a : Trail) (cs ds : List Call) → StandsOver slot w b a → Agrees (now (extend b cs)) slot' → length ds ≤ 1 → turns cs ≡ turns ds → AreLawful (now a) ds
+stands_more : (slot slot' : ℕ → Slot) (w w' : ℕ → Waiting) (b a : Trail) (cs ds : List Call) → StandsOver slot w b a → Agrees (now (extend b cs)) slot' → length ds ≤ 1 → power_calls cs ≡ power_calls ds → AreLawful (now a) ds
     → IsDirty (run (now a) ds) (slots_above slot' w') → Through (LeavesImageOf (now a) (run (now a) ds)) (now b) cs → IsAbove (run (now b) cs) w' (run (now a) ds) → StandsOver slot' w' (extend b cs) (extend a ds)
 stands_more slot slot' w w' b a cs ds old below one turned lawful dirty through last =
     let above : IsAbove (now (extend b cs)) w' (now (extend a ds)) =
@@ -51,7 +51,7 @@ stands_more slot slot' w w' b a cs ds old below one turned lawful dirty through 
 
 module _ (told told' noted noted' : Option Trail) (slot slot' : ℕ → Slot) (w w' : ℕ → Waiting) (agrees : (t : Trail) → told' ≡ Some t → Agrees (now t) slot') (stands : StandsWhereTold told noted slot w) where
   -- one call above
-  pub stands_call : (c : Call) → Ran told told' (TurnsAs (c ∷ [])) → ((s : Disks) → Follows told told' w w' s (step c s)) → GrowsByCall noted noted' c
+  pub stands_call : (c : Call) → Ran told told' (PowersAs (c ∷ [])) → ((s : Disks) → Follows told told' w w' s (step c s)) → GrowsByCall noted noted' c
       → ((s : Disks) → Agrees s (slots_above slot w) → IsLawful s c × IsDirty (step c s) (slots_above slot' w')) → StandsWhereTold told' noted' slot' w'
   stands_call c turned follows grows good b' a' b_is a_is =
       let n = grows a' a_is in
@@ -63,7 +63,7 @@ module _ (told told' noted noted' : Option Trail) (slot slot' : ℕ → Slot) (w
       (stands_more slot slot' w w' r.from n.0 r.calls (c ∷ []) old (subst (λ (u : Trail). Agrees (now u) slot') r.is (agrees b' b_is)) (omega arith) r.holds.1 (fit.0, tt) fit.1 end.0 end.1))
 
   -- what waits is written out, and no call above
-  pub stands_out : Ran told told' (TurnsAs []) → ((s : Disks) → Follows told told' w w' s s) → ((t : Trail) → noted' ≡ Some t → noted ≡ Some t) → ((d : ℕ) → (slots_above slot' w' d).unsynced ≡ (slots_above slot w d).unsynced) → StandsWhereTold told' noted' slot' w'
+  pub stands_out : Ran told told' (PowersAs []) → ((s : Disks) → Follows told told' w w' s s) → ((t : Trail) → noted' ≡ Some t → noted ≡ Some t) → ((d : ℕ) → (slots_above slot' w' d).unsynced ≡ (slots_above slot w d).unsynced) → StandsWhereTold told' noted' slot' w'
   stands_out turned follows same dirt b' a b_is a_is =
       let r = ran_both _ _ told told' (follows (now a)) turned b' b_is in
       let old = stands r.from a r.was (same a a_is) in
@@ -141,19 +141,19 @@ module _ {R : Type 0} (g : Ghosts R) (old new : R) (d : ℕ) (w w' : ℕ → Wai
   slots' : ℕ → Slot
   slots' = slots_above (g.slot new) w'
 
-  pub stands_read : (q : ℕ) (ok : Bool) → Ran (g.told old) (g.told new) (TurnsAs (Read d q ok ∷ [])) → DoesWhole g d w w' old new (λ (z : Slot). z) (λ (z : Slot). z.unsynced) ok (step (Read d q ok)) → (slots_above (g.slot old) w d).power ≡ Spinning
+  pub stands_read : (q : ℕ) (ok : Bool) → Ran (g.told old) (g.told new) (PowersAs (Read d q ok ∷ [])) → DoesWhole g d w w' old new (λ (z : Slot). z) (λ (z : Slot). z.unsynced) ok (step (Read d q ok)) → (slots_above (g.slot old) w d).power ≡ Spinning
       → GrowsByCall noted noted' (Read d q ok) → StandsWhereTold (g.told new) noted' (g.slot new) w'
   unfolding step
   stands_read q ok turned whole spins grows = stands_call (g.told old) (g.told new) noted noted' (g.slot old) (g.slot new) w w' agrees stands (Read d q ok) turned whole.told grows
       (λ s it. (it.power d ∙ spins, dirty_after _ _ d _ _ ok s (step (Read d q ok) s) it.loose whole.slot (λ e not p. refl) (λ _ p is. it.loose d p is) (λ _ p is. it.loose d p is)))
 
-  pub stands_write : (q : ℕ) (x : Block) (ok : Bool) → Ran (g.told old) (g.told new) (TurnsAs (Write d q x ok ∷ [])) → DoesWhole g d w w' old new (λ (z : Slot). record z { unsynced = true }) (λ (z : Slot). true) ok (step (Write d q x ok)) → (slots_above (g.slot old) w d).power ≡ Spinning
+  pub stands_write : (q : ℕ) (x : Block) (ok : Bool) → Ran (g.told old) (g.told new) (PowersAs (Write d q x ok ∷ [])) → DoesWhole g d w w' old new (λ (z : Slot). record z { unsynced = true }) (λ (z : Slot). true) ok (step (Write d q x ok)) → (slots_above (g.slot old) w d).power ≡ Spinning
       → GrowsByCall noted noted' (Write d q x ok) → StandsWhereTold (g.told new) noted' (g.slot new) w'
   unfolding step
   stands_write q x ok turned whole spins grows = stands_call (g.told old) (g.told new) noted noted' (g.slot old) (g.slot new) w w' agrees stands (Write d q x ok) turned whole.told grows
       (λ s it. (it.power d ∙ spins, dirty_after _ _ d _ _ ok s (step (Write d q x ok) s) it.loose whole.slot (λ e not p. ap (λ (f : ℕ → Bool). f p) (with_at_other s.loose d _ e not)) (λ _ p is. refl) (λ _ p is. refl)))
 
-  pub stands_sync : (ok : Bool) → Ran (g.told old) (g.told new) (TurnsAs (Sync d ok ∷ [])) → DoesWhole g d w w' old new (λ (z : Slot). record z { unsynced = false }) (λ (z : Slot). z.unsynced) ok (step (Sync d ok)) → (slots_above (g.slot old) w d).power ≡ Spinning
+  pub stands_sync : (ok : Bool) → Ran (g.told old) (g.told new) (PowersAs (Sync d ok ∷ [])) → DoesWhole g d w w' old new (λ (z : Slot). record z { unsynced = false }) (λ (z : Slot). z.unsynced) ok (step (Sync d ok)) → (slots_above (g.slot old) w d).power ≡ Spinning
       → GrowsByCall noted noted' (Sync d ok) → StandsWhereTold (g.told new) noted' (g.slot new) w'
   unfolding step
   stands_sync true turned whole spins grows = stands_call (g.told old) (g.told new) noted noted' (g.slot old) (g.slot new) w w' agrees stands (Sync d true) turned whole.told grows
@@ -169,7 +169,7 @@ module _ {R : Type 0} (g : Ghosts R) (old new : R) (d : ℕ) (w w' : ℕ → Wai
             (λ so. absurd (false≢true so)) (λ _ p is. it.loose d p (sym (ap (λ (f : ℕ → Bool). f p) (same_at s.loose d d)) ∙ is)),
       ))
 
-  pub stands_park : (ok : Bool) → Ran (g.told old) (g.told new) (TurnsAs (Park d ok ∷ [])) → DoesWhole g d w w' old new (λ (z : Slot). record z { power = Parked }) (λ (z : Slot). false) ok (step (Park d ok)) → (slots_above (g.slot old) w d).power ≡ Spinning
+  pub stands_park : (ok : Bool) → Ran (g.told old) (g.told new) (PowersAs (Park d ok ∷ [])) → DoesWhole g d w w' old new (λ (z : Slot). record z { power = Parked }) (λ (z : Slot). false) ok (step (Park d ok)) → (slots_above (g.slot old) w d).power ≡ Spinning
       → (slots_above (g.slot old) w d).unsynced ≡ false → GrowsByCall noted noted' (Park d ok) → StandsWhereTold (g.told new) noted' (g.slot new) w'
   unfolding step
   stands_park ok turned whole spins synced grows = stands_call (g.told old) (g.told new) noted noted' (g.slot old) (g.slot new) w w' agrees stands (Park d ok) turned whole.told grows
@@ -177,7 +177,7 @@ module _ {R : Type 0} (g : Ghosts R) (old new : R) (d : ℕ) (w w' : ℕ → Wai
       let still = λ (p : ℕ). not_loose (s.loose d p) _ (it.loose d p) synced in
       ((it.power d ∙ spins, still), dirty_after _ _ d _ _ ok s (step (Park d ok) s) it.loose whole.slot (λ e not p. refl) (λ _ p is. it.loose d p is) (λ _ p is. never_loose _ (still p) is)))
 
-  pub stands_spin_up : (ok : Bool) → Ran (g.told old) (g.told new) (TurnsAs (SpinUp d ok ∷ [])) → DoesWhole g d w w' old new (λ (z : Slot). record z { power = Spinning }) (λ (z : Slot). false) ok (step (SpinUp d ok)) → (slots_above (g.slot old) w d).power ≡ Parked
+  pub stands_spin_up : (ok : Bool) → Ran (g.told old) (g.told new) (PowersAs (SpinUp d ok ∷ [])) → DoesWhole g d w w' old new (λ (z : Slot). record z { power = Spinning }) (λ (z : Slot). false) ok (step (SpinUp d ok)) → (slots_above (g.slot old) w d).power ≡ Parked
       → (slots_above (g.slot old) w d).unsynced ≡ false → GrowsByCall noted noted' (SpinUp d ok) → StandsWhereTold (g.told new) noted' (g.slot new) w'
   unfolding step
   stands_spin_up ok turned whole parked synced grows = stands_call (g.told old) (g.told new) noted noted' (g.slot old) (g.slot new) w w' agrees stands (SpinUp d ok) turned whole.told grows
@@ -187,7 +187,7 @@ module _ {R : Type 0} (g : Ghosts R) (old new : R) (d : ℕ) (w w' : ℕ → Wai
             (λ _ p is. never_loose _ (not_loose (s.loose d p) _ (it.loose d p) synced) is),
       ))
 
-  pub stands_attach : (n : ℕ) (ok : Bool) → Ran (g.told old) (g.told new) (TurnsAs (Attach d n ok ∷ [])) → DoesWhole g d w w' old new (λ (z : Slot). record z { power = Spinning; size = n; unsynced = false }) (λ (z : Slot). z.unsynced) ok (step (Attach d n ok))
+  pub stands_attach : (n : ℕ) (ok : Bool) → Ran (g.told old) (g.told new) (PowersAs (Attach d n ok ∷ [])) → DoesWhole g d w w' old new (λ (z : Slot). record z { power = Spinning; size = n; unsynced = false }) (λ (z : Slot). z.unsynced) ok (step (Attach d n ok))
       → GrowsByCall noted noted' (Attach d n ok) → StandsWhereTold (g.told new) noted' (g.slot new) w'
   unfolding step
   stands_attach n true turned whole grows = stands_call (g.told old) (g.told new) noted noted' (g.slot old) (g.slot new) w w' agrees stands (Attach d n true) turned whole.told grows
@@ -204,7 +204,7 @@ module _ {R : Type 0} (g : Ghosts R) (old new : R) (d : ℕ) (w w' : ℕ → Wai
       ))
 
   -- what waits is written out, or fails to be
-  pub stands_written : (ok : Bool) → Ran (g.told old) (g.told new) (TurnsAs []) → DoesWhole g d w w' old new (λ (z : Slot). z) (λ (z : Slot). z.unsynced) ok (left_by ok d) → (slots_above (g.slot old) w d).power ≡ Spinning
+  pub stands_written : (ok : Bool) → Ran (g.told old) (g.told new) (PowersAs []) → DoesWhole g d w w' old new (λ (z : Slot). z) (λ (z : Slot). z.unsynced) ok (left_by ok d) → (slots_above (g.slot old) w d).power ≡ Spinning
       → TellsOut ok d noted noted' → StandsWhereTold (g.told new) noted' (g.slot new) w'
   stands_written true turned whole spins tells = stands_out (g.told old) (g.told new) noted noted' (g.slot old) (g.slot new) w w' agrees stands turned whole.told tells
       (λ e. elim (cases_eq e d) [

@@ -4,7 +4,7 @@ use Rattle.paraid_rack.specs.declared.call.Call.{Call}
 use Rattle.paraid_rack.specs.Disks.{Disks, lose}
 use Rattle.paraid_rack.specs.Trail.{run}
 use Rattle.paraid_rack.specs.Told.{Through}
-use Rattle.paraid_gather.specs.Turns.{turns}
+use Rattle.paraid_gather.specs.PowerCalls.{power_calls}
 use Rattle.paraid_gather.specs.Waiting.{Waiting, waiting}
 
 -- the same powers and sizes
@@ -28,5 +28,5 @@ pub record IsBetween (s : Disks) (d : ℕ) (w : Waiting) (ok : Bool) (t : Disks)
 pub record WritesBlocks (d : ℕ) (w : Waiting) (ok : Bool) (s : Disks) (cs : List Call) : Type 0 where
   pub moments : Through (IsBetween s d w ok) s cs
   pub powers : HasPowersOf (left_by ok d s) (run s cs)
-  pub turned : turns cs ≡ []
+  pub turned : power_calls cs ≡ []
   pub bytes : ok ≡ true → (p : ℕ) (b : List ℕ) → waiting w p ≡ Some b → ((run s cs).block d p).bytes ≡ b

@@ -5,7 +5,7 @@ use Rattle.paraid_rack.specs.Disks.{Disks, IsImage}
 use Rattle.paraid_rack.specs.Told.{Through}
 use Rattle.paraid_rack.specs.Trail.{Trail, run, now, extend}
 use Rattle.paraid_gather.specs.Above.{LeavesImageOf}
-use Rattle.paraid_gather.specs.Turns.{turns}
+use Rattle.paraid_gather.specs.PowerCalls.{power_calls}
 
 -- One call above, or none where what waits is written out, and the calls below that are made for it.
 pub record CallGroup : Type 0 where
@@ -32,7 +32,7 @@ LeavesImage s below = (i : Disks) → IsImage below i → IsImage s i
 -- up and attaches below what it does above.
 abbrev pub AreGathered : Disks → Disks → List CallGroup → Type 0
 AreGathered s b [] = LeavesImage s b
-AreGathered s b (g ∷ gs) = LeavesImage s b × (length g.above ≤ 1) × (turns g.below ≡ turns g.above) × Through (LeavesImageOf s (run s g.above)) b g.below × AreGathered (run s g.above) (run b g.below) gs
+AreGathered s b (g ∷ gs) = LeavesImage s b × (length g.above ≤ 1) × (power_calls g.below ≡ power_calls g.above) × Through (LeavesImageOf s (run s g.above)) b g.below × AreGathered (run s g.above) (run b g.below) gs
 
 -- What was called above was called below in groups, since a moment up to which both records are the same.
 pub record IsGathered (below above : Trail) : Type 0 where

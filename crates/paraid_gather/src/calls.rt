@@ -8,7 +8,7 @@ ghost use Rattle.paraid_rack.specs.Trail.{Trail, now};
 ghost use Rattle.paraid_gather.specs.Above.{IsAbove, slot_above};
 ghost use Rattle.paraid_gather.specs.Bulk.{left_by};
 ghost use Rattle.paraid_gather.specs.Does.{DoesAbove};
-ghost use Rattle.paraid_gather.specs.Turns.{TurnsAs};
+ghost use Rattle.paraid_gather.specs.PowerCalls.{PowersAs};
 ghost use Rattle.paraid_gather.specs.Waiting.{Fits, Joins, Waiting, run_of, waits};
 
 use crate::bulk::BulkRack;
@@ -29,7 +29,7 @@ pub(crate) fn write_out<R: BulkRack>(
         (slot_above (R.slot rack.old disk) (run_of run.old))
         (slot_above (R.slot rack.old disk) (run_of run.old)).unsynced
         (is_ok result) (left_by (is_ok result) disk) }
-    ensures turns { Ran (R.told rack.old) (R.told rack.new) (TurnsAs []) }
+    ensures power_calls { Ran (R.told rack.old) (R.told rack.new) (PowersAs []) }
     ensures empty { is_ok result ≡ true → waits (run_of run.new) ≡ false }
     ensures spins { is_ok result ≡ true → (R.slot rack.new disk).power ≡ Turning }
     ensures waited { is_ok result ≡ false → waits (run_of run.old) ≡ true }
@@ -58,7 +58,7 @@ fn make_room<R: BulkRack>(
         (slot_above (R.slot rack.old disk) (run_of run.old))
         (slot_above (R.slot rack.old disk) (run_of run.old)).unsynced
         (is_ok result) (left_by (is_ok result) disk) }
-    ensures turns { Ran (R.told rack.old) (R.told rack.new) (TurnsAs []) }
+    ensures power_calls { Ran (R.told rack.old) (R.told rack.new) (PowersAs []) }
     ensures joins { is_ok result ≡ true → Joins (run_of run.new) place }
     ensures waited { is_ok result ≡ false → waits (run_of run.old) ≡ true }
 {
@@ -83,7 +83,7 @@ pub(crate) fn write<R: BulkRack>(
     ensures does { DoesAbove R.Rack disk (run_of run.old) (run_of run.new) rack.old rack.new
         (record (slot_above (R.slot rack.old disk) (run_of run.old)) { unsynced = true }) true
         (is_ok result) (step (Write disk place block.now (is_ok result))) }
-    ensures turns { Ran (R.told rack.old) (R.told rack.new) (TurnsAs []) }
+    ensures power_calls { Ran (R.told rack.old) (R.told rack.new) (PowersAs []) }
 {
     let Ok(()) = make_room(rack, run, disk, place) else {
         return Err(Failed);
@@ -108,7 +108,7 @@ pub(crate) fn read<R: BulkRack>(
         (slot_above (R.slot rack.old disk) (run_of run.now))
         (slot_above (R.slot rack.old disk) (run_of run.now)).unsynced
         (is_ok result) (step (Read disk place (is_ok result))) }
-    ensures turns { Ran (R.told rack.old) (R.told rack.new) (TurnsAs []) }
+    ensures power_calls { Ran (R.told rack.old) (R.told rack.new) (PowersAs []) }
     ensures bytes { is_ok result ≡ true → (t : Trail) (w : ℕ → Waiting) (s : Disks)
         → R.told rack.old ≡ Some t → IsAbove (now t) (with_at w disk (run_of run.now)) s
         → into.new ≡ s.block disk place }
@@ -129,7 +129,7 @@ pub(crate) fn sync<R: BulkRack>(rack: &mut R, run: &mut Run, disk: DiskNo) -> Re
         (record (slot_above (R.slot rack.old disk) (run_of run.old)) { unsynced = false })
         (slot_above (R.slot rack.old disk) (run_of run.old)).unsynced
         (is_ok result) (step (Sync disk (is_ok result))) }
-    ensures turns { Ran (R.told rack.old) (R.told rack.new) (TurnsAs []) }
+    ensures power_calls { Ran (R.told rack.old) (R.told rack.new) (PowersAs []) }
 {
     let Ok(()) = write_out(rack, run, disk) else {
         return Err(Failed);
@@ -151,8 +151,8 @@ pub(crate) fn attach<R: BulkRack>(
         { power = Turning; size = size; unsynced = false })
         (slot_above (R.slot rack.old disk) (run_of run.old)).unsynced
         (is_ok result) (step (Attach disk size (is_ok result))) }
-    ensures turns { Ran (R.told rack.old) (R.told rack.new)
-        (TurnsAs (Attach disk size (is_ok result) ∷ [])) }
+    ensures power_calls { Ran (R.told rack.old) (R.told rack.new)
+        (PowersAs (Attach disk size (is_ok result) ∷ [])) }
 {
     let Ok(()) = rack.attach(disk, size) else {
         return Err(Failed);

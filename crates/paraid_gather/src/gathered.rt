@@ -46,7 +46,7 @@ impl<R: BulkRack + Drop, L: Noted + Drop> Gathered<R, L> {
     ghost use Rattle.paraid_gather.specs.Bulk.{left_by};
     ghost use Rattle.paraid_gather.specs.Finish.{EndsGathered, WritesOut};
     ghost use Rattle.paraid_gather.specs.Gathering.{IsGathered};
-    ghost use Rattle.paraid_gather.specs.Turns.{TurnsAs};
+    ghost use Rattle.paraid_gather.specs.PowerCalls.{PowersAs};
     ghost use Rattle.paraid_rack.specs.Told.{Ran};
     ghost use Rattle.paraid_gather.specs.Gathers.{log_of, rack_below, waiting_in};
     ghost use Rattle.paraid_gather.specs.Waiting.{waits};
@@ -92,7 +92,7 @@ impl<R: BulkRack + Drop, L: Noted + Drop> Gathered<R, L> {
         ensures noted { TellsOut (is_ok result) disk (L.noted (log_of self.old))
             (L.noted (log_of self.new)) }
         // No disk is turned on or off.
-        ensures turns { Ran (R.told (rack_below self.old)) (R.told (rack_below self.new)) (TurnsAs []) }
+        ensures power_calls { Ran (R.told (rack_below self.old)) (R.told (rack_below self.new)) (PowersAs []) }
         ensures empty { is_ok result ≡ true → waits (waiting_in self.new disk) ≡ false }
         ensures others { (d : ℕ) → d ≢ disk → waiting_in self.new d ≡ waiting_in self.old d }
     {

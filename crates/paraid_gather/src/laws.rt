@@ -4,7 +4,7 @@ ghost use Rattle.paraid_rack.specs.Disks.{Disks, IsImage};
 ghost use Rattle.paraid_rack.specs.Trail.{Trail, disks, moments};
 ghost use Rattle.paraid_gather.specs.Above.{IsAbove, LeavesImageOf};
 ghost use Rattle.paraid_gather.specs.Gathering.{CallGroup, IsGathered, LeavesImage, calls_above, calls_below};
-ghost use Rattle.paraid_gather.specs.Turns.{turns};
+ghost use Rattle.paraid_gather.specs.PowerCalls.{power_calls};
 ghost use Rattle.paraid_gather.specs.Waiting.{Waiting};
 
 /// What a stop leaves of the disks below is an image of the rack above.
@@ -40,6 +40,6 @@ pub fn a_stop_between_groups()
 {}
 
 /// The rack below parks, spins up and attaches what the rack above does, in the same order.
-pub fn a_gathered_rack_turns_as_above()
-    ensures { (below above : Trail) → IsGathered below above → turns below.calls ≡ turns above.calls }
+pub fn a_gathered_rack_powers_as_above()
+    ensures { (below above : Trail) → IsGathered below above → power_calls below.calls ≡ power_calls above.calls }
 {}

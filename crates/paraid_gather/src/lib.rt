@@ -15,7 +15,7 @@ mod run;
 pub use bulk::BulkRack;
 pub use gathered::{Finished, Gathered};
 pub use laws::{
-    a_gathered_rack_turns_as_above, a_stop_between_groups, a_stop_leaves_an_image,
+    a_gathered_rack_powers_as_above, a_stop_between_groups, a_stop_leaves_an_image,
     a_stop_of_a_gathered_rack_is_a_stop_above, a_stop_within_a_group,
 };
 pub use noted::{Noted, Unnoted};

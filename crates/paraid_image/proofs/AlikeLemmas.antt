@@ -68,7 +68,7 @@ module _ (j : Disks) (f : ℕ → ℕ → Block) (l : ℕ → ℕ → Bool) (sam
     writes = ok.writes;
     single = ok.single;
     standing_in = ok.standing_in;
-    fresh_shut = λ e rebuilt fresh low. ap is_open (stored_same e 0) ∙ ok.fresh_shut e rebuilt fresh low;
+    fresh_closed = λ e rebuilt fresh low. ap is_open (stored_same e 0) ∙ ok.fresh_closed e rebuilt fresh low;
     targets_spin = ok.targets_spin;
     formed = λ y low present in_array. let was = ok.formed y low present in_array in (was.0, says_now y was.0 was.1);
     paired = λ a c says_a says_c in_first in_second. ok.paired a c (says_then 0 a says_a) (says_then 1 c says_c) in_first in_second;

@@ -10,7 +10,7 @@ use Rattle.paraid_rack.specs.Disks.{Disks, IsImage, IsPresent, lose, step}
 use Rattle.paraid_record.specs.declared.meta.Meta.{Meta}
 use Rattle.paraid_image.specs.Close.{IsLaidBelow, shut_of}
 use Rattle.paraid_image.specs.Content.{view_by, view_of}
-use Rattle.paraid_image.specs.Gate.{GateTurns}
+use Rattle.paraid_image.specs.Gate.{MayToggleGate}
 use Rattle.paraid_image.specs.HeldAt.{IsHeld, IsSoundFrom, MayLose}
 use Rattle.paraid_image.specs.Neutral.{overwrite}
 use Rattle.paraid_image.specs.Out.{IsMissing, IsWeak, named_out, out_disk}
@@ -72,11 +72,11 @@ same_epoch_open n = grind (arith, nat_tests)
 record LogFacts (i : Disks) (m : Meta) (k : ℕ) : Type 0 where
   writes : m.writes ≡ k
   single : (d e : ℕ) → IsMissing i.power m d → IsMissing i.power m e → d ≡ e
-  fresh_shut : (d rebuilt : ℕ) → IsFresh i.power m d rebuilt → d < 2 → is_open (stored_block i d 0) ≡ false
+  fresh_closed : (d rebuilt : ℕ) → IsFresh i.power m d rebuilt → d < 2 → is_open (stored_block i d 0) ≡ false
   formed : (y : ℕ) → y < 2 → IsPresent i y → out_disk i.power m ≢ Some y → (other : LogState) × Says i y other
 
 log_facts : (i : Disks) (z : ℕ) (o : LogState) (k : ℕ) → LogOk i z o k → LogFacts i o.meta k
-log_facts i z o k ok = record { writes = ok.writes; single = ok.single; fresh_shut = ok.fresh_shut; formed = ok.formed }
+log_facts i z o k ok = record { writes = ok.writes; single = ok.single; fresh_closed = ok.fresh_closed; formed = ok.formed }
 
 module _ (slots : ℕ) (i : Disks) (h : History) (k x : ℕ) (said : LogState) (b : Block) (laid : IsLaidBelow i x said) (closed : is_open b ≡ false)
     (sound : IsSoundAt slots i h k) where
@@ -256,9 +256,9 @@ module _ (slots : ℕ) (i : Disks) (h : History) (k x : ℕ) (said : LogState) (
     writes = facts.writes;
     single = facts.single;
     standing_in = z_in;
-    fresh_shut = λ d rebuilt fresh l.
+    fresh_closed = λ d rebuilt fresh l.
         let away : d ≢ x = (λ e. x_in (ap named_out fresh.is ∙ ap Some e)) in
-        ap is_open (stored_else i x 0 b d 0 (λ is at. absurd (away is))) ∙ facts.fresh_shut d rebuilt fresh l;
+        ap is_open (stored_else i x 0 b d 0 (λ is at. absurd (away is))) ∙ facts.fresh_closed d rebuilt fresh l;
     targets_spin = λ t names not. let none = names.1 in absurd (omega arith);
     formed = λ w l there not. elim (cases_eq w x) [
       | inl is ↦ (shut, subst (λ (q : ℕ). Says now q shut) (sym is) says_x)
@@ -337,7 +337,7 @@ module _ (slots : ℕ) (i : Disks) (h : History) (k x : ℕ) (said : LogState) (
 -- closing the gate, as the image is and with a disk lost
 turns_closed : (slots : ℕ) (i : Disks) (h : History) (lo : ℕ) (down : Option ℕ) (x : ℕ) (said : LogState) → IsLaidBelow i x said
     → ((e : ℕ) → MayLose i e → e ≢ x → IsLaidBelow (lose e i) x said) → IsSoundFrom slots i h lo
-    → ((e : ℕ) → MayLose i e → IsSoundFrom slots (lose e i) h lo) → ((w : ℕ) → IsWeak i w → down ≡ Some w) → GateTurns slots i x h lo down
+    → ((e : ℕ) → MayLose i e → IsSoundFrom slots (lose e i) h lo) → ((w : ℕ) → IsWeak i w → down ≡ Some w) → MayToggleGate slots i x h lo down
 turns_closed slots i h lo down x said laid laid_lost s lost weak b turned =
     let was_open : is_open (stored_block i x 0) ≡ true = laid.says.gate ∙ laid.opened in
     let closed : is_open b ≡ false = elim (cases_Bool (is_open b)) [

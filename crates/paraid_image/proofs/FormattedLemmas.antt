@@ -149,7 +149,7 @@ module _ (slots : ℕ) (s : Disks) (m : Meta) (f : IsFormatted slots s m) where
     writes = f.writes;
     single = λ d e missing other. absurd (nothing_missing d missing);
     standing_in = nothing_named 0;
-    fresh_shut = λ d rebuilt fresh l. absurd (no_fresh d rebuilt fresh);
+    fresh_closed = λ d rebuilt fresh l. absurd (no_fresh d rebuilt fresh);
     targets_spin = λ t names not. let none = names.1 in absurd (omega arith);
     formed = λ y l there not. (said, says y l);
     paired = λ a b p q first second. alike (Says-same s 0 a said p (says 0 (omega arith)) ∙ sym (Says-same s 1 b said q (says 1 (omega arith))));

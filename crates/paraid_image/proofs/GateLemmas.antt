@@ -6,7 +6,7 @@ use Rattle.paraid_base.specs.declared.block.Block.{Block}
 use Rattle.paraid_base.specs.History.{History}
 use Rattle.paraid_rack.specs.declared.call.Call.TheVariants.{Write}
 use Rattle.paraid_rack.specs.Disks.{Disks, IsImage, lose, step}
-use Rattle.paraid_image.specs.Gate.{GateTurns, TurnsSound}
+use Rattle.paraid_image.specs.Gate.{MayToggleGate, IsSoundToggled}
 use Rattle.paraid_image.specs.HeldAt.{IsHeld, IsSoundFrom, MayLose}
 use Rattle.paraid_image.specs.Neutral.{overwrite}
 use Rattle.paraid_image.specs.Out.{IsWeak}
@@ -28,8 +28,8 @@ keeps_gate_lost i e x b same = elim (cases_eq x e) [
 ]
 
 -- the images after the write, by whether the gate has turned
-gate_leaves : (slots : ℕ) (i : Disks) (x : ℕ) (b : Block) (h : History) (lo : ℕ) (down : Option ℕ) → GateTurns slots i x h lo down → IsSoundFrom slots i h lo
-    → ((e : ℕ) → MayLose i e → IsSoundFrom slots (lose e i) h lo) → ((w : ℕ) → IsWeak i w → down ≡ Some w) → TurnsSound slots i x b h lo down
+gate_leaves : (slots : ℕ) (i : Disks) (x : ℕ) (b : Block) (h : History) (lo : ℕ) (down : Option ℕ) → MayToggleGate slots i x h lo down → IsSoundFrom slots i h lo
+    → ((e : ℕ) → MayLose i e → IsSoundFrom slots (lose e i) h lo) → ((w : ℕ) → IsWeak i w → down ≡ Some w) → IsSoundToggled slots i x b h lo down
 gate_leaves slots i x b h lo down turns whole lost weak = elim (same_bool (is_open b) (is_open (stored_block i x 0))) [
   | inl same ↦
       let keeps = keeps_gate i x b same in
@@ -44,11 +44,11 @@ gate_leaves slots i x b h lo down turns whole lost weak = elim (same_bool (is_op
 ]
 
 pub gate_write_holds : (slots : ℕ) (s : Disks) (h : History) (lo : ℕ) (down : Option ℕ) (x : ℕ) (b : Block)
-    → ((i : Disks) → IsImage s i → GateTurns slots i x h lo down) → IsHeld slots s h lo down → IsHeld slots (step (Write x 0 b true) s) h lo down
+    → ((i : Disks) → IsImage s i → MayToggleGate slots i x h lo down) → IsHeld slots s h lo down → IsHeld slots (step (Write x 0 b true) s) h lo down
 gate_write_holds slots s h lo down x b turns held =
     let before : Disks → Disks = λ (j : Disks). overwrite j x 0 (s.block x 0) in
     let is : (j : Disks) → overwrite (before j) x 0 (j.block x 0) ≡ j = λ (j : Disks). back_again j x 0 (s.block x 0) in
-    let leaves : (j : Disks) → IsImage (step (Write x 0 b true) s) j → TurnsSound slots (before j) x (j.block x 0) h lo down = λ j e.
+    let leaves : (j : Disks) → IsImage (step (Write x 0 b true) s) j → IsSoundToggled slots (before j) x (j.block x 0) h lo down = λ j e.
     let image = write_image s x 0 b j e in
     gate_leaves slots (before j) x (j.block x 0) h lo down (turns (before j) image) (held.whole (before j) image)
     (λ f may. held.lost (before j) f image may) (λ w weak. held.weak (before j) w image weak) in

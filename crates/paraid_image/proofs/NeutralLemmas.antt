@@ -187,7 +187,7 @@ module _ (i : Disks) (f : ℕ → ℕ → Block) (keeps : KeepsLog i f) where
     writes = ok.writes;
     single = ok.single;
     standing_in = ok.standing_in;
-    fresh_shut = λ e rebuilt fresh l. keeps.gate e l ∙ ok.fresh_shut e rebuilt fresh l;
+    fresh_closed = λ e rebuilt fresh l. keeps.gate e l ∙ ok.fresh_closed e rebuilt fresh l;
     targets_spin = ok.targets_spin;
     formed = λ y l present in_array. let was = ok.formed y l present in_array in (was.0, keeps.forth y was.0 l was.1);
     paired = λ a c says_a says_c in_first in_second.

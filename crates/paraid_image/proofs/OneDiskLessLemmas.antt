@@ -177,7 +177,7 @@ module _ (slots : ℕ) (i : Disks) (h : History) (k : ℕ) (d x : ℕ) (said : L
         writes = ok.writes;
         single = single slots i h k d said.meta said.batch in_range_of ok.single content below out_is;
         standing_in = λ named. apart (out_is y (out_named i.power said.meta y named));
-        fresh_shut = λ e rebuilt fresh l. absurd (no_fresh slots i h k d said.meta said.batch in_range_of ok.single content below out_is e rebuilt fresh);
+        fresh_closed = λ e rebuilt fresh l. absurd (no_fresh slots i h k d said.meta said.batch in_range_of ok.single content below out_is e rebuilt fresh);
         targets_spin = λ t names not.
             let away = not_out_now slots i h k d said.meta said.batch in_range_of ok.single content below out_is t.disk not in
             powers slots i h k d said.meta said.batch in_range_of ok.single content below out_is t.disk away ∙ ok.targets_spin t names (not_out_was slots i h k d said.meta said.batch in_range_of ok.single content below out_is t.disk away);

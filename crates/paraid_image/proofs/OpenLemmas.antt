@@ -10,7 +10,7 @@ use Rattle.paraid_rack.specs.declared.call.Call.TheVariants.{Write}
 use Rattle.paraid_rack.specs.Disks.{Disks, IsImage, IsPresent, lose, step}
 use Rattle.paraid_image.specs.Content.{view_by, view_of}
 use Rattle.paraid_image.specs.Neutral.{overwrite}
-use Rattle.paraid_image.specs.Gate.{GateTurns}
+use Rattle.paraid_image.specs.Gate.{MayToggleGate}
 use Rattle.paraid_image.specs.HeldAt.{IsHeld, IsSoundFrom, MayLose}
 use Rattle.paraid_image.specs.Open.{CanOpen, IsLoggedNext}
 use Rattle.paraid_image.specs.Out.{named_out, out_disk}
@@ -157,9 +157,9 @@ module _ (slots : ℕ) (i : Disks) (h : History) (k x : ℕ) (new : LogState) (b
     writes = next.writes;
     single = next.single;
     standing_in = z_in;
-    fresh_shut = λ d rebuilt fresh l.
+    fresh_closed = λ d rebuilt fresh l.
         let away : d ≢ x = (λ e. next.in_array (ap named_out fresh.is ∙ ap Some e)) in
-        ap is_open (stored_else i x 0 b d 0 (λ is at. absurd (away is))) ∙ next.fresh_shut d rebuilt fresh l;
+        ap is_open (stored_else i x 0 b d 0 (λ is at. absurd (away is))) ∙ next.fresh_closed d rebuilt fresh l;
     targets_spin = next.targets_spin;
     formed = λ w l there not. elim (cases_eq w x) [
       | inl is ↦ (new, subst (λ (q : ℕ). Says now q new) (sym is) says_x)
@@ -189,7 +189,7 @@ module _ (slots : ℕ) (i : Disks) (h : History) (k x : ℕ) (new : LogState) (b
 
 -- opening the gate, as the image is and with a disk lost
 turns_opened : (slots : ℕ) (i : Disks) (h : History) (k lo : ℕ) (down : Option ℕ) (x : ℕ) (new : LogState) → CanOpen slots i x new h k lo down
-    → ((e : ℕ) → MayLose i e → IsSoundFrom slots (lose e i) h lo) → GateTurns slots i x h lo down
+    → ((e : ℕ) → MayLose i e → IsSoundFrom slots (lose e i) h lo) → MayToggleGate slots i x h lo down
 turns_opened slots i h k lo down x new can lost b turned =
     let opened : is_open b ≡ true = elim (cases_Bool (is_open b)) [
       | inl opened ↦ opened

@@ -113,7 +113,7 @@ module _ (i : Disks) (q : ℕ → Power) (same : (x : ℕ) → is_present (q x) 
     writes = ok.writes;
     single = λ d e one two. ok.single d e (missing_then said.meta d one) (missing_then said.meta e two);
     standing_in = ok.standing_in;
-    fresh_shut = λ d rebuilt fresh l. ap is_open (stored_same d 0) ∙ ok.fresh_shut d rebuilt (fresh_then said.meta d rebuilt fresh) l;
+    fresh_closed = λ d rebuilt fresh l. ap is_open (stored_same d 0) ∙ ok.fresh_closed d rebuilt (fresh_then said.meta d rebuilt fresh) l;
     targets_spin = λ t names not. asks.spin t names (ok.targets_spin t names (λ o. not (out_same said.meta ∙ o)));
     formed = λ y l present not.
         let was = ok.formed y l (sym (same y) ∙ present) (λ o. not (out_same said.meta ∙ o)) in (was.0, says_now y was.0 was.1);

@@ -109,7 +109,7 @@ module _ (slots : ℕ) (i j : Disks) (h : History) (k d : ℕ) (power : (x : ℕ
     writes = sound.log.writes;
     single = λ e f p q. sound.log.single e f (missing_then e p) (missing_then f q);
     standing_in = sound.log.standing_in;
-    fresh_shut = λ e rebuilt fresh l. absurd (no_fresh j.power e rebuilt fresh);
+    fresh_closed = λ e rebuilt fresh l. absurd (no_fresh j.power e rebuilt fresh);
     targets_spin = λ t names not. let far = away t.disk not in power t.disk far ∙ sound.log.targets_spin t names (not_then t.disk far);
     formed = λ y l present not.
         let far = away y not in

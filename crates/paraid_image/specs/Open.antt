@@ -31,7 +31,7 @@ pub record IsLoggedNext (slots : ℕ) (i : Disks) (x : ℕ) (new : LogState) (h 
   pub in_array : named_out new.meta.out ≢ Some x
   -- a log disk that says it too is in the array
   pub other_in : Says i (other_log x) new → named_out new.meta.out ≢ Some (other_log x)
-  pub fresh_shut : (d rebuilt : ℕ) → IsFresh i.power new.meta d rebuilt → d < 2
+  pub fresh_closed : (d rebuilt : ℕ) → IsFresh i.power new.meta d rebuilt → d < 2
       → is_open (stored_block i d 0) ≡ false
   pub targets_spin : (t : Target) → Contains (targets new.batch) t
       → out_disk i.power new.meta ≢ Some t.disk → i.power t.disk ≡ Spinning

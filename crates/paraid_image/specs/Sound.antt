@@ -59,7 +59,7 @@ pub record LogOk (i : Disks) (x : ℕ) (said : LogState) (k : ℕ) : Type 0 wher
   pub single : (d e : ℕ) → IsMissing i.power said.meta d → IsMissing i.power said.meta e → d ≡ e
   pub standing_in : named_out said.meta.out ≢ Some x
   -- a log disk that is being rebuilt says nothing of a batch
-  pub fresh_shut : (d rebuilt : ℕ) → IsFresh i.power said.meta d rebuilt → d < 2
+  pub fresh_closed : (d rebuilt : ℕ) → IsFresh i.power said.meta d rebuilt → d < 2
       → is_open (stored_block i d 0) ≡ false
   pub targets_spin : (t : Target) → Contains (targets said.batch) t
       → out_disk i.power said.meta ≢ Some t.disk → i.power t.disk ≡ Spinning

@@ -11,5 +11,5 @@ pending_spin_ups m power d = if nat_le m.gear d && nat_lt d (rising_to m.phase) 
 
 -- the spin-ups that a meta has recorded and that were made: its spins, one less where one is still to
 -- be made
-abbrev pub first_used : Meta → (ℕ → Power) → ℕ → ℕ
-first_used m power d = slice_index m.spins d - pending_spin_ups m power d
+abbrev pub made_spin_ups : Meta → (ℕ → Power) → ℕ → ℕ
+made_spin_ups m power d = slice_index m.spins d - pending_spin_ups m power d

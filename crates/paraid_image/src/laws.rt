@@ -19,7 +19,7 @@ ghost use Rattle.paraid_record.specs.Range.{IsInRange};
 ghost use Rattle.paraid_image.specs.Calls.{disk_of, is_done};
 ghost use Rattle.paraid_image.specs.Formatted.{IsFormatted};
 ghost use Rattle.paraid_image.specs.Free.{IsFree, IsUnseen};
-ghost use Rattle.paraid_image.specs.Gate.{GateTurns};
+ghost use Rattle.paraid_image.specs.Gate.{MayToggleGate};
 ghost use Rattle.paraid_image.specs.RunStart.{IsRunStart};
 ghost use Rattle.paraid_image.specs.Looked.{IsHeldLooked, IsLooked};
 ghost use Rattle.paraid_image.specs.HeldAt.{IsHeldAt, IsHeld, MayLose};
@@ -188,7 +188,7 @@ pub fn a_formatted_array_is_at_rest()
 
 /// A disk that is spun up, or parked where nothing that stands, also with a disk lost, asks that it
 /// spins, leaves what is held.
-pub fn turns_leave_what_is_held()
+pub fn power_calls_leave_what_is_held()
     ensures spin_up { (slots : ℕ) (s : Disks) (h : History) (lo : ℕ) (down : Option ℕ) (d : ℕ)
         → s.power d ≡ Parked → IsHeld slots s h lo down
         → IsHeld slots (step (SpinUp d true) s) h lo down }
@@ -248,7 +248,7 @@ pub fn a_write_leaves_any_bytes()
 /// that turn it do.
 pub fn a_gate_is_open_or_closed()
     ensures { (slots : ℕ) (s : Disks) (h : History) (lo : ℕ) (down : Option ℕ) (x : ℕ)
-        (b : BlockType) → ((i : Disks) → IsImage s i → GateTurns slots i x h lo down)
+        (b : BlockType) → ((i : Disks) → IsImage s i → MayToggleGate slots i x h lo down)
         → IsHeld slots s h lo down → IsHeld slots (step (Write x 0 b true) s) h lo down }
 {}
 

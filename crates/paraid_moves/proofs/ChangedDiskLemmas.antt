@@ -131,7 +131,7 @@ module _ (i j : Disks) (m : Meta) (f : Contents) (d : ℕ) (c : IsCopyImage i m 
         let n = m.setup.geometry.disks_low in
         let low = stands_now.1.log_disk in
         stands_now.2 (missing stands_now.0 (record { disk = omega arith; is = inr named }));
-    fresh_shut = λ e u fresh l. absurd (no_fresh e u fresh);
+    fresh_closed = λ e u fresh l. absurd (no_fresh e u fresh);
     targets_spin = λ t names not. absurd (no_target t names);
     formed = λ y l present not. (said, says_now y l (λ is. not (out_now ∙ ap Some (sym is))));
     paired = λ a b p q first second. alike (is_said 0 a (omega arith) p ∙ sym (is_said 1 b (omega arith) q));

@@ -52,7 +52,7 @@ module _ (s i : Disks) (powers : i.power ≡ s.power) (forth : (x : ℕ) (said :
     writes = ok.writes;
     single = λ d e p q. ok.single d e (missing d p) (missing e q);
     standing_in = ok.standing_in;
-    fresh_shut = λ e u fresh l. gate e l ∙ ok.fresh_shut e u (record { is = fresh.is; present = at e ∙ fresh.present }) l;
+    fresh_closed = λ e u fresh l. gate e l ∙ ok.fresh_closed e u (record { is = fresh.is; present = at e ∙ fresh.present }) l;
     targets_spin = λ t is not. ap (λ (p : ℕ → Power). p t.disk) powers ∙ ok.targets_spin t is (λ o. not (ap (λ (p : ℕ → Power). out_disk p said.meta) powers ∙ o));
     formed = λ y l present not.
         let was = ok.formed y l (at y ∙ present) (λ o. not (ap (λ (p : ℕ → Power). out_disk p said.meta) powers ∙ o)) in

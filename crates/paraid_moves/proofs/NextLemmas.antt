@@ -24,7 +24,7 @@ module _ (s : Disks) (before after : Meta) (epoch : after.epoch ≡ before.epoch
     setup = setup;
     out = λ d e p q. let z : Some d ≡ Some e = sym p ∙ ap named_out same ∙ q in cc;
     comes_in = λ x l here was not. absurd (not (ap named_out same ∙ was));
-    fresh_shut = λ x u fresh l. rest.log.fresh_shut x u (record { is = sym same ∙ fresh.is; present = fresh.present }) l;
+    fresh_closed = λ x u fresh l. rest.log.fresh_closed x u (record { is = sym same ∙ fresh.is; present = fresh.present }) l;
   }
 
   -- a disk is marked as gone
@@ -34,7 +34,7 @@ module _ (s : Disks) (before after : Meta) (epoch : after.epoch ≡ before.epoch
     setup = setup;
     out = λ x e p q. let z : Some d ≡ Some x = sym (ap named_out is) ∙ p in let y : d ≡ x = cc in sym y ∙ sym (one e q);
     comes_in = λ x l here was not. absurd (not (ap named_out is ∙ ap Some (sym (one x was))));
-    fresh_shut = λ x u fresh l. let z : Gone d ≡ Fresh x u = sym is ∙ fresh.is in cc;
+    fresh_closed = λ x u fresh l. let z : Gone d ≡ Fresh x u = sym is ∙ fresh.is in cc;
   }
 
   -- it is marked as fresh, or units of it as rebuilt
@@ -46,7 +46,7 @@ module _ (s : Disks) (before after : Meta) (epoch : after.epoch ≡ before.epoch
         let z : Some d ≡ Some x = sym (ap named_out is) ∙ p in
         let y : Some d ≡ Some e = sym was ∙ q in cc;
     comes_in = λ x l here named not. absurd (not (ap named_out is ∙ sym was ∙ named));
-    fresh_shut = λ x u fresh l.
+    fresh_closed = λ x u fresh l.
         let z : Fresh d units ≡ Fresh x u = sym is ∙ fresh.is in
         let y : d ≡ x = cc in
         subst (λ (e : ℕ). is_open (stored_block s e 0) ≡ false) y (shut (subst (λ (e : ℕ). e < 2) (sym y) l));
@@ -62,7 +62,7 @@ module _ (s : Disks) (before after : Meta) (epoch : after.epoch ≡ before.epoch
         let z : Some d ≡ Some x = sym (ap named_out was) ∙ named in
         let y : d ≡ x = cc in
         (units, was ∙ ap (λ (e : ℕ). Fresh e units) y);
-    fresh_shut = λ x u fresh l. let z : No ≡ Fresh x u = sym is ∙ fresh.is in cc;
+    fresh_closed = λ x u fresh l. let z : No ≡ Fresh x u = sym is ∙ fresh.is in cc;
   }
 
 -- What the disks hold now, with all copies made, holds the history.

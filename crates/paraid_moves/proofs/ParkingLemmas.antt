@@ -109,7 +109,7 @@ module _ (i : Disks) (q : ℕ → Power) (same : AreTurned i.power q) where
     writes = ok.writes;
     single = λ d e one two. ok.single d e (missing_then m d one) (missing_then m e two);
     standing_in = ok.standing_in;
-    fresh_shut = λ d u fresh l. ap is_open (stored_turned d 0) ∙ ok.fresh_shut d u (record { is = fresh.is; present = sym (same d) ∙ fresh.present }) l;
+    fresh_closed = λ d u fresh l. ap is_open (stored_turned d 0) ∙ ok.fresh_closed d u (record { is = fresh.is; present = sym (same d) ∙ fresh.present }) l;
     targets_spin = λ t names not. absurd (no_target t names);
     formed = λ y l present not.
         let was = ok.formed y l (sym (same y) ∙ present) (λ o. not (out_turned i.power q m same ∙ o)) in (was.0, says_now y was.0 was.1);

@@ -6,7 +6,7 @@ use Rattle.paraid_rack.specs.declared.call.Power.{Power}
 use Rattle.paraid_rack.specs.declared.call.Power.TheVariants.{Absent}
 use Rattle.paraid_rack.specs.declared.call.Call.TheVariants.{Read, Write, Sync}
 use Rattle.paraid_base.specs.declared.block.Block.{Block}
-use Rattle.paraid_rack.specs.Disks.{Disks, IsPresent, is_present, with_at, power_after, loose_after_sync, size_after, step, IsImage, lose}
+use Rattle.paraid_rack.specs.Disks.{Disks, IsPresent, is_present, with_at, power_after, loose_after, size_after, step, IsImage, lose}
 use Rattle.paraid_rack.specs.Atoms.{IsSure, IsSeen, IsLeftByStop}
 
 pub with_at_same : {A : Type 0} (f : ℕ → A) (k : ℕ) (v : A) (j : ℕ) → j ≡ k → with_at f k v j ≡ v
@@ -128,18 +128,18 @@ module _ (s : Disks) where
   sync_loose : (d0 : ℕ) (done : Bool) (d p : ℕ) → s.loose d p ≡ false → (step (Sync d0 done) s).loose d p ≡ false
   unfolding step
   sync_loose d0 done d p was =
-      at_case (λ (f : ℕ → Bool). f p ≡ false) s.loose d0 (loose_after_sync done (s.loose d0)) d
+      at_case (λ (f : ℕ → Bool). f p ≡ false) s.loose d0 (loose_after done (s.loose d0)) d
       (λ is. cleared done (subst (λ (k : ℕ). s.loose k p ≡ false) is was))
       (λ not. was)
     where
-      cleared : (done : Bool) → s.loose d0 p ≡ false → loose_after_sync done (s.loose d0) p ≡ false
+      cleared : (done : Bool) → s.loose d0 p ≡ false → loose_after done (s.loose d0) p ≡ false
       cleared true h = refl
       cleared false h = h
 
   sync_clears : (d0 : ℕ) (done : Bool) (p : ℕ) → done ≡ true → (step (Sync d0 done) s).loose d0 p ≡ false
   unfolding step
   sync_clears d0 done p is =
-      ap (λ (f : ℕ → Bool). f p) (with_at_same s.loose d0 (loose_after_sync done (s.loose d0)) d0 refl) ∙ ap (λ (b : Bool). loose_after_sync b (s.loose d0) p) is
+      ap (λ (f : ℕ → Bool). f p) (with_at_same s.loose d0 (loose_after done (s.loose d0)) d0 refl) ∙ ap (λ (b : Bool). loose_after b (s.loose d0) p) is
 
   pub sync_sure : (d0 : ℕ) (done : Bool) (d p : ℕ) (Q : Block → Type 0) → IsSure s d p Q → IsSure (step (Sync d0 done) s) d p Q
   sync_sure d0 done d p Q sure = record {

@@ -45,9 +45,9 @@ size_after true size = size
 size_after false size = 0
 
 -- nothing is loose any more where the call is done
-abbrev pub loose_after_sync : Bool → (ℕ → Bool) → ℕ → Bool
-loose_after_sync true loose = λ p. false
-loose_after_sync false loose = loose
+abbrev pub loose_after : Bool → (ℕ → Bool) → ℕ → Bool
+loose_after true loose = λ p. false
+loose_after false loose = loose
 
 -- every block is zeros where the call is done
 abbrev pub after_attach : Bool → (ℕ → Block) → ℕ → Block
@@ -69,13 +69,13 @@ step (Write d p b done) s = record (with_power d done (s.power d) (s.size d) s) 
   loose = with_at s.loose d (with_at (s.loose d) p true);
 }
 step (Sync d done) s = record (with_power d done (s.power d) (s.size d) s) {
-  loose = with_at s.loose d (loose_after_sync done (s.loose d));
+  loose = with_at s.loose d (loose_after done (s.loose d));
 }
 step (Park d done) s = with_power d done Parked (s.size d) s
 step (SpinUp d done) s = with_power d done Spinning (s.size d) s
 step (Attach d size done) s = record (with_power d done Spinning size s) {
   block = with_at s.block d (after_attach done (s.block d));
-  loose = with_at s.loose d (loose_after_sync done (s.loose d));
+  loose = with_at s.loose d (loose_after done (s.loose d));
 }
 
 -- What a stop at this moment may leave: any bytes in a loose block, all else as it is.

@@ -6,7 +6,7 @@ use Rattle.paraid_base.specs.declared.block.Block.{Block}
 use Rattle.paraid_rack.specs.declared.call.Call.{Call}
 use Rattle.paraid_rack.specs.declared.call.Call.TheVariants.{Read, Write, Sync, Park, SpinUp, Attach}
 use Rattle.paraid_rack.specs.declared.call.Power.TheVariants.{Spinning}
-use Rattle.paraid_rack.specs.Disks.{Disks, after_attach, loose_after_sync, step}
+use Rattle.paraid_rack.specs.Disks.{Disks, after_attach, loose_after, step}
 use Rattle.paraid_rack.specs.Told.{GrowsByCall, Ran}
 use Rattle.paraid_rack.specs.Trail.{Trail, extend, now, run}
 use Rattle.paraid_rack.proofs.AtomsLemmas.{with_at_other, with_at_same}
@@ -114,8 +114,8 @@ attached_more k size start s a = record {
     | inr apart ↦ ap (λ (f : ℕ → Block). f p) (with_at_other s.block k (after_attach true (s.block k)) d apart) ∙ a.zeros d p (below_or_at d k low apart)
   ];
   synced = λ d p low. elim (cases_eq d k) [
-    | inl is ↦ ap (λ (f : ℕ → Bool). f p) (with_at_same s.loose k (loose_after_sync true (s.loose k)) d is)
-    | inr apart ↦ ap (λ (f : ℕ → Bool). f p) (with_at_other s.loose k (loose_after_sync true (s.loose k)) d apart) ∙ a.synced d p (below_or_at d k low apart)
+    | inl is ↦ ap (λ (f : ℕ → Bool). f p) (with_at_same s.loose k (loose_after true (s.loose k)) d is)
+    | inr apart ↦ ap (λ (f : ℕ → Bool). f p) (with_at_other s.loose k (loose_after true (s.loose k)) d apart) ∙ a.synced d p (below_or_at d k low apart)
   ];
-  others = λ d p high. ap (λ (f : ℕ → Bool). f p) (with_at_other s.loose k (loose_after_sync true (s.loose k)) d (λ is. absurd (omega arith))) ∙ a.others d p (omega arith);
+  others = λ d p high. ap (λ (f : ℕ → Bool). f p) (with_at_other s.loose k (loose_after true (s.loose k)) d (λ is. absurd (omega arith))) ∙ a.others d p (omega arith);
 }

@@ -12,7 +12,7 @@ use Rattle.paraid_image.specs.Rest.{AreSynced}
 use Rattle.paraid_image.specs.RunStart.{IsRunStart}
 use Rattle.paraid_image.specs.Sides.{LogState, Says}
 use Rattle.paraid_image.specs.Sound.{LogOk}
-use Rattle.paraid_image.specs.Spins.{first_used}
+use Rattle.paraid_image.specs.Spins.{made_spin_ups}
 use Rattle.paraid_image.specs.Standing.{Stands, other_log}
 use Rattle.paraid_image.proofs.AlikeLemmas.{sound_alike}
 use Rattle.paraid_image.proofs.CallLemmas.{lose_kept, says_not_lost, says_of_lost}
@@ -49,7 +49,7 @@ module _ (slots : ℕ) (s : Disks) (h : History) (lo : ℕ) (down : Option ℕ) 
 
   single : ((z : ℕ) (o : LogState) → MayLose s x → Stands (lose x s) z o → ⊥) → HasBase s x said
   unfolding HasBase
-  single none = ((λ d. first_used said.meta s.power d), said.meta.ticks, alone none (λ d. refl) refl)
+  single none = ((λ d. made_spin_ups said.meta s.power d), said.meta.ticks, alone none (λ d. refl) refl)
 
   -- without log disk `x` only the other one says something
   left_is : (z : ℕ) (o : LogState) → Stands (lose x s) z o → z ≡ y
@@ -65,7 +65,7 @@ module _ (slots : ℕ) (s : Disks) (h : History) (lo : ℕ) (down : Option ℕ) 
         says = says_forth s (lose x s) y other (lose_kept s x y (λ e. omega (arith, e, l))) says;
         first = λ o q. let back : other_log y ≡ x = omega (arith, l) in absurd (says_not_lost s x (other_log y) o q back);
       } in (
-        (λ d. min (first_used said.meta s.power d) (first_used other.meta s.power d)),
+        (λ d. min (made_spin_ups said.meta s.power d) (made_spin_ups other.meta s.power d)),
         max said.meta.ticks other.meta.ticks,
         lesser y other may there (λ d. refl) refl,
       )

@@ -10,7 +10,7 @@ use Rattle.paraid_image.specs.HeldAt.{MayLose}
 use Rattle.paraid_image.specs.Mark.{marked_gone}
 use Rattle.paraid_image.specs.Power.{phase_beside}
 use Rattle.paraid_image.specs.Sides.{LogState, Says}
-use Rattle.paraid_image.specs.Spins.{first_used}
+use Rattle.paraid_image.specs.Spins.{made_spin_ups}
 use Rattle.paraid_image.specs.Spot.{rising_to}
 use Rattle.paraid_image.specs.Standing.{Stands, other_log}
 use Rattle.paraid_image.proofs.CallLemmas.{lose_kept, says_not_lost}
@@ -25,7 +25,7 @@ rising_beside Steady = refl
 rising_beside (PhaseDown to) = refl
 rising_beside (Up to) = refl
 
-marked_used : (m : Meta) (d e : ℕ) (power : ℕ → Power) (b : ℕ) → first_used (marked_gone m d e) power b ≡ first_used m power b
+marked_used : (m : Meta) (d e : ℕ) (power : ℕ → Power) (b : ℕ) → made_spin_ups (marked_gone m d e) power b ≡ made_spin_ups m power b
 marked_used m d e power b = ap (λ (r : ℕ). slice_index m.spins b - (if (nat_le m.gear b && nat_lt b r && is_parked (power b)) then 1 else 0)) (rising_beside m.phase)
 
 -- the next meta has the setup, the ticks and the spin-ups
@@ -33,7 +33,7 @@ pub record IsNextOf (m next : Meta) : Type 0 where
   pub setup : next.setup ≡ m.setup
   pub epoch : next.epoch ≤ m.epoch + 1
   pub ticks : next.ticks ≡ m.ticks
-  pub used : (power : ℕ → Power) (b : ℕ) → first_used next power b ≡ first_used m power b
+  pub used : (power : ℕ → Power) (b : ℕ) → made_spin_ups next power b ≡ made_spin_ups m power b
 
 next_renewed : (m : Meta) (b : Bool) → IsNextOf m (renewed_by b m)
 next_renewed m true = record { setup = refl; epoch = omega arith; ticks = refl; used = λ power b. refl }
@@ -56,7 +56,7 @@ above_second : (a b c : ℕ) → c ≡ max a b → b ≤ c
 above_second a b c is = grind (arith)
 
 -- the base is at most what the meta that stands has recorded, and the ticks at least its own
-pub base_stood : (s : Disks) (x : ℕ) (said : LogState) (base : ℕ → ℕ) (ticks : ℕ) → IsBase s x said base ticks → ((d : ℕ) → base d ≤ first_used said.meta s.power d) × (said.meta.ticks ≤ ticks)
+pub base_stood : (s : Disks) (x : ℕ) (said : LogState) (base : ℕ → ℕ) (ticks : ℕ) → IsBase s x said base ticks → ((d : ℕ) → base d ≤ made_spin_ups said.meta s.power d) × (said.meta.ticks ≤ ticks)
 base_stood s x said base ticks (alone none is t) = ((λ d. let e = is d in omega (arith, e)), omega (arith, t))
 base_stood s x said base ticks (lesser y other may there is t) = ((λ d. below_first _ _ _ (is d)), above_first _ _ _ t)
 
@@ -70,10 +70,10 @@ module _ (s : Disks) (x : ℕ) (said : LogState) (stood_there : Stands s x said)
         first = λ k q. let back : other_log (other_log x) ≡ x = omega (arith, l) in absurd (says_not_lost s x (other_log (other_log x)) k q back);
       }
 
-  pub base_without : (base : ℕ → ℕ) (ticks : ℕ) (o : LogState) → IsBase s x said base ticks → MayLose s x → Says s (other_log x) o → ((d : ℕ) → base d ≤ first_used o.meta s.power d) × (o.meta.ticks ≤ ticks)
+  pub base_without : (base : ℕ → ℕ) (ticks : ℕ) (o : LogState) → IsBase s x said base ticks → MayLose s x → Says s (other_log x) o → ((d : ℕ) → base d ≤ made_spin_ups o.meta s.power d) × (o.meta.ticks ≤ ticks)
   base_without base ticks o (alone none is t) may says = absurd (none (other_log x) o may (without_stands o says))
   base_without base ticks o (lesser y other may_too there is t) may says =
       let same_log : other ≡ o = (Stands-same (lose x s) y (other_log x) other o there (without_stands o says)).1 in (
-        (λ d. subst (λ (k : LogState). base d ≤ first_used k.meta s.power d) same_log (below_second _ _ _ (is d))),
+        (λ d. subst (λ (k : LogState). base d ≤ made_spin_ups k.meta s.power d) same_log (below_second _ _ _ (is d))),
         subst (λ (k : LogState). k.meta.ticks ≤ ticks) same_log (above_second _ _ _ t),
       )

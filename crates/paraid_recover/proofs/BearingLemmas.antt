@@ -36,7 +36,7 @@ use Rattle.paraid_moves.specs.Copying.{HoldsWithCopies, IsCopyImage, IsCopying}
 use Rattle.paraid_moves.proofs.RunLemmas.{copies_held, copies_read, copies_sync}
 use Rattle.paraid_txn.proofs.CommitPartLemmas.{ran_milder}
 use Rattle.paraid_txn.proofs.ResumeImagesLemmas.{is_done as is_done_or_ahead}
-use Rattle.paraid_txn.specs.Resume.{IsBroken}
+use Rattle.paraid_txn.specs.Resume.{IsResumable}
 use Rattle.paraid_txn.specs.Uses.{EachCall}
 use Rattle.paraid_recover.specs.Bearing.{BearsAgainst, IsNamedLog}
 use Rattle.paraid_recover.specs.HeldMoments.{EndsHeld, IsAbsentSince, RecoversHeld}
@@ -257,7 +257,7 @@ module _ (slots x : ℕ) (said : LogState) (m : Meta) (o : Option ℕ) (old mid 
     at : (j : ℕ) → j ≤ moments end → disks t j ≡ disks end j
     at j le = ap (λ (u : Trail). disks u j) (ran t tells).is ∙ disks_before end (ran t tells).calls j le
 
-    module _ (h : History) (lo : ℕ) (was down : Option ℕ) (broken : IsBroken (now start) x said) (held : IsHeld slots (now start) h lo was)
+    module _ (h : History) (lo : ℕ) (was down : Option ℕ) (broken : IsResumable (now start) x said) (held : IsHeld slots (now start) h lo was)
         (weak : (w : ℕ) → IsWeak (now start) w → down ≡ Some w) where
       earlier : (j : ℕ) → moments start ≤ j → j ≤ moments end → IsAbsentSince n t (moments start) j down → IsHeld slots (disks t j) h lo down
       earlier j from to absent =
@@ -282,7 +282,7 @@ module _ (slots x : ℕ) (said : LogState) (m : Meta) (o : Option ℕ) (old mid 
 
         rest_mid : IsAtRest (now end) m
         rest_mid =
-            (subst (λ (u : Trail). IsBroken (now u) x said → IsHeld slots (now u) h lo was → IsAbsentSince n end (moments u) (moments end) down
+            (subst (λ (u : Trail). IsResumable (now u) x said → IsHeld slots (now u) h lo was → IsAbsentSince n end (moments u) (moments end) down
             → ((w : ℕ) → IsWeak (now u) w → down ≡ Some w) → IsAtRest (now end) m)
             same (λ b e a w. ((ends end told).2 h lo was down b e a w).0) broken held absent_mid weak)
 
@@ -329,7 +329,7 @@ module _ (slots x : ℕ) (said : LogState) (m : Meta) (o : Option ℕ) (old mid 
         (let from = (holds (end t tells) (told t tells)).2 in let more = longer t tells in omega arith),
         λ h lo j was down broken held from to absent weak i z k looked stands. elim (cases_lt (moments (end t tells)) j) [
           | inr le ↦
-              (subst (λ (u : Trail). IsBroken (now u) x said → IsHeld slots (now u) h lo was → moments u ≤ j → IsAbsentSince n (end t tells) (moments u) j down
+              (subst (λ (u : Trail). IsResumable (now u) x said → IsHeld slots (now u) h lo was → moments u ≤ j → IsAbsentSince n (end t tells) (moments u) j down
               → ((w : ℕ) → IsWeak (now u) w → down ≡ Some w) → StandsForeseen (now u) x said i k.meta) first
               (λ b e f a w. (metas (end t tells) (told t tells)).3 h lo j was down b e f le a w i z k (subst (λ (u : Disks). IsLooked u i) (at t tells j le) looked) stands))
               broken held from (λ q d q_from q_to l gone. absent q d q_from q_to l (ap (λ (u : Disks). is_present (u.power d)) (at t tells q (omega arith)) ∙ gone)) weak

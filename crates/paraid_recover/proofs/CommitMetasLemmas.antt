@@ -17,7 +17,7 @@ use Rattle.paraid_image.specs.Sides.{LogState}
 use Rattle.paraid_image.specs.Standing.{Stands}
 use Rattle.paraid_image.proofs.CallLemmas.{out_named}
 use Rattle.paraid_txn.specs.Commit.{ImageStandsForEither, IsEachImage, IsEitherMissing, IsNext, IsOldOrNew, IsOneMissing, IsWholeOrAbsent}
-use Rattle.paraid_txn.specs.Resume.{IsBroken}
+use Rattle.paraid_txn.specs.Resume.{IsResumable}
 use Rattle.paraid_txn.proofs.RanLemmas.{commit_moments}
 use Rattle.paraid_recover.specs.HeldMoments.{EndsHeld, IsAbsentSince, IsOutAtEnd}
 use Rattle.paraid_recover.specs.RecoveryMark.{with_mark}
@@ -60,7 +60,7 @@ module _ (slots x : ℕ) (said : LogState) (old mid new : Option Trail) (after :
     at : (j : ℕ) → j ≤ moments end → disks t j ≡ disks end j
     at j le = ap (λ (u : Trail). disks u j) (whole t tells).is ∙ disks_before end (whole t tells).calls j le
 
-    module _ (h : History) (lo : ℕ) (was down : Option ℕ) (broken : IsBroken (now start) x said) (held : IsHeld slots (now start) h lo was)
+    module _ (h : History) (lo : ℕ) (was down : Option ℕ) (broken : IsResumable (now start) x said) (held : IsHeld slots (now start) h lo was)
         (weak : (w : ℕ) → IsWeak (now start) w → down ≡ Some w) where
       earlier : (j : ℕ) → moments start ≤ j → j ≤ moments end → IsAbsentSince n t (moments start) j down
           → (i : Disks) (z : ℕ) (o : LogState) → IsLooked (disks t j) i → Stands i z o → StandsForeseen (now start) x said i o.meta

@@ -15,7 +15,7 @@ use Rattle.paraid_image.specs.Rest.{IsAtRest}
 use Rattle.paraid_image.specs.Sides.{Batch, LogState}
 use Rattle.paraid_image.proofs.CallLemmas.{out_named}
 use Rattle.paraid_txn.specs.Commit.{EndsCommitted, IsEitherMissing, IsNext}
-use Rattle.paraid_txn.specs.Resume.{IsBroken, EndsAsCommitted}
+use Rattle.paraid_txn.specs.Resume.{IsResumable, EndsAsCommitted}
 use Rattle.paraid_txn.proofs.RanLemmas.{commits_now, settles_now}
 use Rattle.paraid_recover.specs.Bearing.{EndsBorne, IsNewlyNamed}
 use Rattle.paraid_recover.specs.HeldMoments.{EndsHeld, IsAbsentOne, IsAbsentSince, KeepsHeld, RecoversHeld}
@@ -31,12 +31,12 @@ at_end slots s m h lo down rest held =
 
 -- what is said of a start, where the start is known
 pub at_start : {slots lo : ℕ} {h : History} {was down : Option ℕ} {x : ℕ} {P : Type 0} (a b t : Trail) (said : LogState) → a ≡ b
-    → (IsBroken (now a) x said → IsHeld slots (now a) h lo was → IsAbsentSince said.meta.setup.geometry.disks t (moments a) (moments t) down
+    → (IsResumable (now a) x said → IsHeld slots (now a) h lo was → IsAbsentSince said.meta.setup.geometry.disks t (moments a) (moments t) down
     → ((w : ℕ) → IsWeak (now a) w → down ≡ Some w) → P)
-    → IsBroken (now b) x said → IsHeld slots (now b) h lo was → IsAbsentSince said.meta.setup.geometry.disks t (moments b) (moments t) down
+    → IsResumable (now b) x said → IsHeld slots (now b) h lo was → IsAbsentSince said.meta.setup.geometry.disks t (moments b) (moments t) down
     → ((w : ℕ) → IsWeak (now b) w → down ≡ Some w) → P
 at_start {slots} {lo} {h} {was} {down} {x} {P} a b t said same it =
-    subst (λ (u : Trail). IsBroken (now u) x said → IsHeld slots (now u) h lo was → IsAbsentSince said.meta.setup.geometry.disks t (moments u) (moments t) down
+    subst (λ (u : Trail). IsResumable (now u) x said → IsHeld slots (now u) h lo was → IsAbsentSince said.meta.setup.geometry.disks t (moments u) (moments t) down
     → ((w : ℕ) → IsWeak (now u) w → down ≡ Some w) → P) same it
 
 some_same : (down : Option ℕ) (d e : ℕ) → down ≡ Some d → down ≡ Some e → d ≡ e
@@ -52,7 +52,7 @@ ends_resumed slots x said old new holds settles t tells =
       r.1,
       λ h lo was down broken held absent weak.
           let end = subst (λ (u : Disks). IsHeld slots u h lo down) (disks_last t) (r.3 h lo (moments t) was down broken held r.2 (omega arith) absent weak) in
-          let resumed = s.2 (subst (λ (u : Trail). IsBroken (now u) x said) (sym same) broken) in
+          let resumed = s.2 (subst (λ (u : Trail). IsResumable (now u) x said) (sym same) broken) in
           let missing : (d : ℕ) → IsEitherMissing (now t).power said.meta said.meta d → down ≡ Some d = λ d e.
           let one : IsMissing (now t).power said.meta d → down ≡ Some d = λ p. elim p.is [
             | inl gone ↦ absent (moments t) d r.2 (omega arith) p.disk (ap (λ (u : Disks). is_present (u.power d)) (disks_last t) ∙ gone)

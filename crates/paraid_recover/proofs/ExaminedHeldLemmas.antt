@@ -19,7 +19,7 @@ use Rattle.paraid_image.proofs.AlikeLemmas.{held_alike, sound_alike, weak_alike}
 use Rattle.paraid_image.proofs.FailedCallLemmas.{IsHeld-lost}
 use Rattle.paraid_image.proofs.StandingLemmas.{Stands-same}
 use Rattle.paraid_recover.specs.HeardSides.{AmongOne}
-use Rattle.paraid_txn.specs.Resume.{IsBroken}
+use Rattle.paraid_txn.specs.Resume.{IsResumable}
 use Rattle.paraid_txn.proofs.MeansLemmas.{absent_power}
 
 module _ (slots : ℕ) (s : Disks) (h : History) (lo : ℕ) (was down : Option ℕ) (synced : AreSynced s) (empty : (d : ℕ) → is_present (s.power d) ≡ false → s.size d ≡ 0)
@@ -93,7 +93,7 @@ module _ (slots : ℕ) (s : Disks) (h : History) (lo : ℕ) (was down : Option �
     pub start_weak : (w : ℕ) → IsWeak t w → down ≡ Some w
     start_weak w is = start_held.weak image w is_image (weak_alike t image w back_alike is)
 
-    pub start_broken : (x : ℕ) (said : LogState) → Stands t x said → IsBroken t x said
+    pub start_broken : (x : ℕ) (said : LogState) → Stands t x said → IsResumable t x said
     start_broken x said stands =
         let it = start_held.whole image is_image in
         let sound = sound_alike slots image t h it.k image_alike it.sound in

@@ -122,5 +122,5 @@ next_marked m d only s rest = record {
   setup = refl;
   out = λ a b p q. let is : d ≡ a = cc in sym is ∙ sym (only b q);
   comes_in = λ x l here is not. absurd (not (ap (λ (y : ℕ). Some y) (sym (only x is))));
-  fresh_shut = λ x u fresh l. let z : Gone d ≡ Fresh x u = fresh.is in cc;
+  fresh_closed = λ x u fresh l. let z : Gone d ≡ Fresh x u = fresh.is in cc;
 }

@@ -21,7 +21,7 @@ use Rattle.paraid_image.proofs.OutLemmas.{says_in_range}
 use Rattle.paraid_image.proofs.StandingLemmas.{Stands-same}
 use Rattle.paraid_rack.proofs.TrailsLemmas.{now-extend}
 use Rattle.paraid_txn.specs.Commit.{ImageStandsFor, IsEitherMissing, IsOneMissing}
-use Rattle.paraid_txn.specs.Resume.{EndsLaid, IsBroken}
+use Rattle.paraid_txn.specs.Resume.{EndsLaid, IsResumable}
 use Rattle.paraid_txn.proofs.RanLemmas.{ran_now}
 use Rattle.paraid_recover.specs.EndOfMount.{KeepsDirty}
 use Rattle.paraid_recover.specs.HeldMoments.{EndsHeld, IsAbsentSince, Recovers}
@@ -31,7 +31,7 @@ use Rattle.paraid_recover.proofs.QuietCallsLemmas.{content_at_rest}
 use Rattle.paraid_recover.proofs.RecoverLemmas.{disks_before}
 
 -- the blocks with the interrupted batch laid over hold a first part of the history
-module _ (slots : ℕ) (s : Disks) (x : ℕ) (said : LogState) (h : History) (lo : ℕ) (down : Option ℕ) (broken : IsBroken s x said) (held : IsHeld slots s h lo down) where
+module _ (slots : ℕ) (s : Disks) (x : ℕ) (said : LogState) (h : History) (lo : ℕ) (down : Option ℕ) (broken : IsResumable s x said) (held : IsHeld slots s h lo down) where
   abbrev image : Disks
   image = record s { loose = λ d p. false }
 
@@ -73,7 +73,7 @@ module _ (slots x : ℕ) (said : LogState) (m : Meta) (old mid new : Option Trai
     far_u : (d p : ℕ) → log_least ≤ p → (now t).block d p ≡ (now u).block d p
     far_u d p past = ap (λ (v : Disks). v.block d p) (ap now (far t tells).is ∙ now-extend u (far t tells).calls) ∙ (far t tells).holds d p past
 
-    module _ (h : History) (lo : ℕ) (was down : Option ℕ) (broken : IsBroken (now s) x said) (held : IsHeld slots (now s) h lo was)
+    module _ (h : History) (lo : ℕ) (was down : Option ℕ) (broken : IsResumable (now s) x said) (held : IsHeld slots (now s) h lo was)
         (absent : IsAbsentSince said.meta.setup.geometry.disks t (moments s) (moments t) down) (weak : (w : ℕ) → IsWeak (now s) w → down ≡ Some w) where
       abbrev AtMid : Type 0
       AtMid = IsAtRest (now u) said.meta × IsHeld slots (now u) (take said.meta.writes h) said.meta.writes (out_disk (now u).power said.meta)
@@ -84,7 +84,7 @@ module _ (slots x : ℕ) (said : LogState) (m : Meta) (old mid new : Option Trai
           let same : first.0 ≡ s = (let z : Some first.0 ≡ Some s = sym first.1 ∙ (ends t tells).1 in cc) in
           let absent_mid : IsAbsentSince said.meta.setup.geometry.disks u (moments s) (moments u) down = (λ k e from to low gone.
           absent k e from (let more = longer in omega arith) low (ap (λ (v : Disks). is_present (v.power e)) (at k to) ∙ gone)) in
-          (subst (λ (v : Trail). IsBroken (now v) x said → IsHeld slots (now v) h lo was → IsAbsentSince said.meta.setup.geometry.disks u (moments v) (moments u) down
+          (subst (λ (v : Trail). IsResumable (now v) x said → IsHeld slots (now v) h lo was → IsAbsentSince said.meta.setup.geometry.disks u (moments v) (moments u) down
           → ((w : ℕ) → IsWeak (now v) w → down ≡ Some w) → AtMid) same (first.2 h lo was down)) broken held absent_mid weak
 
       either : (d : ℕ) → IsEitherMissing (now u).power said.meta said.meta d → IsMissing (now u).power said.meta d
@@ -93,9 +93,9 @@ module _ (slots x : ℕ) (said : LogState) (m : Meta) (old mid new : Option Trai
 
       for : ImageStandsFor (now s) (now u) said.meta said.batch
       for =
-          let it = ran_now (λ start end. IsBroken start x said → IsOneMissing end.power said.meta said.meta → ImageStandsFor start end said.meta said.batch) old mid laid u told in
+          let it = ran_now (λ start end. IsResumable start x said → IsOneMissing end.power said.meta said.meta → ImageStandsFor start end said.meta said.batch) old mid laid u told in
           let same : it.0 ≡ s = (let z : Some it.0 ≡ Some s = sym it.1 ∙ (ends t tells).1 in cc) in
-          (subst (λ (v : Trail). IsBroken (now v) x said → IsOneMissing (now u).power said.meta said.meta → ImageStandsFor (now v) (now u) said.meta said.batch) same it.2)
+          (subst (λ (v : Trail). IsResumable (now v) x said → IsOneMissing (now u).power said.meta said.meta → ImageStandsFor (now v) (now u) said.meta said.batch) same it.2)
           broken (record { one = λ d e p q. rest_mid.0.log.single d e (either d p) (either e q) })
 
       closed : for.said ≡ closed_over said.meta

@@ -59,7 +59,7 @@ module _ (slots : ℕ) (s : Disks) (m : Meta) (d epoch : ℕ) (h : History) (lo 
     setup = refl;
     out = λ a b p q. let is : d ≡ a = cc in sym is ∙ sym (only b q);
     comes_in = λ x l here is not. absurd (not (ap (λ (y : ℕ). Some y) (sym (only x is))));
-    fresh_shut = λ x u fresh l. let z : Gone d ≡ Fresh x u = fresh.is in cc;
+    fresh_closed = λ x u fresh l. let z : Gone d ≡ Fresh x u = fresh.is in cc;
   }
 
   -- it holds as many writes as the meta counts

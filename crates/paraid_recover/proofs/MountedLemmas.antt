@@ -19,7 +19,7 @@ use Rattle.paraid_image.specs.Power.{initial_state}
 use Rattle.paraid_image.specs.Rest.{IsAtRest, closed_over}
 use Rattle.paraid_image.specs.RunStart.{IsRunStart}
 use Rattle.paraid_image.specs.Sides.{LogState, is_open}
-use Rattle.paraid_image.specs.Spins.{first_used}
+use Rattle.paraid_image.specs.Spins.{made_spin_ups}
 use Rattle.paraid_image.specs.Standing.{Stands, contents}
 use Rattle.paraid_rack.specs.Atoms.{IsSure}
 use Rattle.paraid_recover.specs.Bearing.{IsNamedLog}
@@ -50,7 +50,7 @@ use Rattle.paraid_recover.specs.Witness.{IsWitnessRefusal}
 use Rattle.paraid_recover.proofs.StartServedLemmas.{absent_end, beside_end, broken_end, ends_served, held_end, weak_end}
 use Rattle.paraid_recover.proofs.ToldLemmas.{IsToldOf, began_calls, began_disks, ran_at, same_trail, told_of, told_parts}
 use Rattle.paraid_txn.specs.Losses.{AreGoneSince, IsOutOfCommit}
-use Rattle.paraid_txn.specs.Resume.{IsBroken}
+use Rattle.paraid_txn.specs.Resume.{IsResumable}
 use Rattle.paraid_txn.specs.Uses.{EachCall}
 
 loss_setup : (m : Meta) (lost : Option ℕ) → (with_loss m lost).setup ≡ m.setup
@@ -108,7 +108,7 @@ module _ (count : ℕ) (old_slot new_slot : ℕ → Slot) (named : Option ℕ) (
       one : Option ℕ
       one = beside_end slots told.began told.read t told.rs told.ls told.read_is told.t_is told.each h lo down start x said stood side then_said then_stands parts.base serving
 
-      broken : IsBroken (now told.read) side then_said
+      broken : IsResumable (now told.read) side then_said
       broken = broken_end slots told.began told.read t told.rs told.ls told.read_is told.t_is told.each h lo down start x said stood side then_said then_stands parts.base serving
 
       held : IsHeld slots (now told.read) h lo one
@@ -129,13 +129,13 @@ module _ (count : ℕ) (old_slot new_slot : ℕ → Slot) (named : Option ℕ) (
       at_rest : Rests
       at_rest =
           let e = it.settled.ends slots t tells in
-          (subst (λ (u : Trail). IsBroken (now u) side then_said → IsHeld slots (now u) h lo one → IsAbsentSince then_said.meta.setup.geometry.disks t (moments u) (moments t) one
+          (subst (λ (u : Trail). IsResumable (now u) side then_said → IsHeld slots (now u) h lo one → IsAbsentSince then_said.meta.setup.geometry.disks t (moments u) (moments t) one
           → ((w : ℕ) → IsWeak (now u) w → one ≡ Some w) → Rests) (same_trail it.settled.recovered.read e.0 told.read e.1 told.reads) (e.2 h lo one one)) broken held absent weak
 
       cells : (r d : ℕ) → r < then_said.meta.setup.geometry.rows → (initial_state (now t) (closed_over standing)).dirty r d ≡ (initial_state (now told.read) then_said).dirty r d
       cells =
           let e = it.settled.cells slots t tells in
-          (subst (λ (u : Trail). IsBroken (now u) side then_said → IsHeld slots (now u) h lo one → IsAbsentSince then_said.meta.setup.geometry.disks t (moments u) (moments t) one
+          (subst (λ (u : Trail). IsResumable (now u) side then_said → IsHeld slots (now u) h lo one → IsAbsentSince then_said.meta.setup.geometry.disks t (moments u) (moments t) one
           → ((w : ℕ) → IsWeak (now u) w → one ≡ Some w)
           → (r d : ℕ) → r < then_said.meta.setup.geometry.rows → (initial_state (now t) (closed_over standing)).dirty r d ≡ (initial_state (now u) then_said).dirty r d)
           (same_trail it.settled.recovered.read e.0 told.read e.1 told.reads) (e.2 h lo one one)) broken held absent weak
@@ -144,7 +144,7 @@ module _ (count : ℕ) (old_slot new_slot : ℕ → Slot) (named : Option ℕ) (
       witness : (y : ℕ) → IsNamedLog named y → IsSure (now t) 2 y (λ b. is_open b ≡ true)
       witness =
           let e = it.marked slots t tells in
-          (subst (λ (u : Trail). IsBroken (now u) side then_said → IsHeld slots (now u) h lo one → IsAbsentSince then_said.meta.setup.geometry.disks t (moments u) (moments t) one
+          (subst (λ (u : Trail). IsResumable (now u) side then_said → IsHeld slots (now u) h lo one → IsAbsentSince then_said.meta.setup.geometry.disks t (moments u) (moments t) one
           → ((w : ℕ) → IsWeak (now u) w → one ≡ Some w) → (y : ℕ) → IsNamedLog named y → IsSure (now t) 2 y (λ b. is_open b ≡ true))
           (same_trail it.settled.recovered.read e.0 told.read e.1 told.reads) (e.2 h lo one one)) broken held absent weak
 
@@ -163,7 +163,7 @@ module _ (count : ℕ) (old_slot new_slot : ℕ → Slot) (named : Option ℕ) (
       shown_map : (r d : ℕ) → r < 512 * map_count standing.setup.geometry → dirty r d ≡ (view_by standing (now t).power (contents (now t) [])).dirty r d
       shown_map =
           let e = it.settled.map slots t tells in
-          (subst (λ (u : Trail). IsBroken (now u) side then_said → IsHeld slots (now u) h lo one → IsAbsentSince then_said.meta.setup.geometry.disks t (moments u) (moments t) one
+          (subst (λ (u : Trail). IsResumable (now u) side then_said → IsHeld slots (now u) h lo one → IsAbsentSince then_said.meta.setup.geometry.disks t (moments u) (moments t) one
           → ((w : ℕ) → IsWeak (now u) w → one ≡ Some w)
           → (q c : ℕ) → q < 512 * map_count standing.setup.geometry → dirty q c ≡ (view_by standing (now t).power (contents (now t) [])).dirty q c)
           (same_trail it.settled.recovered.read e.0 told.read e.1 told.reads) (e.2 h lo one one)) broken held absent weak
@@ -193,11 +193,11 @@ module _ (count : ℕ) (old_slot new_slot : ℕ → Slot) (named : Option ℕ) (
         },
       )
         where
-          recorded_by : v.disks ≡ run s calls → (d : ℕ) → IsPresent (run s calls) d → v.spun d ≤ first_used standing (run s calls).power d
+          recorded_by : v.disks ≡ run s calls → (d : ℕ) → IsPresent (run s calls) d → v.spun d ≤ made_spin_ups standing (run s calls).power d
           recorded_by disks_is d here =
               let last = told.recorded slots h lo down start x said stood parts.base parts.ticks parts.is_base d serving (subst (λ (u : Disks). IsPresent u d) (sym disks_is) here) in
-              let used = ap (λ (n : Meta). first_used n v.disks.power d) it.settled.standing_is ∙ (next_marked then_said.meta it.settled.mark).used v.disks.power d in
-              subst (λ (u : Disks). v.spun d ≤ first_used standing u.power d) disks_is (omega (arith, last, used))
+              let used = ap (λ (n : Meta). made_spin_ups n v.disks.power d) it.settled.standing_is ∙ (next_marked then_said.meta it.settled.mark).used v.disks.power d in
+              subst (λ (u : Disks). v.spun d ≤ made_spin_ups standing u.power d) disks_is (omega (arith, last, used))
 
     served : IsMounted slots s x said h lo down calls (λ p. (said.meta.setup ≡ m.setup) × IsFirstPoint standing dirty new p)
     served = mounted slots s x said h lo down calls start stood parts (λ p. (said.meta.setup ≡ m.setup) × IsFirstPoint standing dirty new p) standing ends begins

@@ -35,7 +35,7 @@ use Rattle.paraid_recover.proofs.SetupLemmas.{setup_kept}
 use Rattle.paraid_recover.proofs.SpinsLemmas.{serving_by}
 use Rattle.paraid_recover.proofs.StoryLemmas.{same_setup}
 use Rattle.paraid_recover.proofs.WithinLemmas.{reads_within}
-use Rattle.paraid_txn.specs.Resume.{IsBroken}
+use Rattle.paraid_txn.specs.Resume.{IsResumable}
 use Rattle.paraid_txn.specs.Uses.{EachCall}
 
 -- calls of a mount of another array are such of this one, while one disk at most is down
@@ -95,7 +95,7 @@ module _ (slots : ℕ) (from read t : Trail) (rs ls : List Call) (read_is : read
     (h : History) (lo : ℕ) (down : Option ℕ) (start : IsRunStart slots (now from) h lo down) (x : ℕ) (said : LogState) (stood : Stands (now from) x said)
     (side : ℕ) (then_said : LogState) (then_stands : Stands (now read) side then_said) (base : ℕ → ℕ)
     (later : EachCall (IsMountCall then_said.meta.setup.geometry.disks (gone_out then_said.meta.out)) (now read) ls)
-    (recovers : (h : History) (lo m : ℕ) (was down : Option ℕ) → IsBroken (now read) side then_said → IsHeld slots (now read) h lo was → moments read ≤ m → m ≤ moments t
+    (recovers : (h : History) (lo m : ℕ) (was down : Option ℕ) → IsResumable (now read) side then_said → IsHeld slots (now read) h lo was → moments read ≤ m → m ≤ moments t
     → IsAbsentSince then_said.meta.setup.geometry.disks t (moments read) m down → ((v : ℕ) → IsWeak (now read) v → down ≡ Some v) → IsHeld slots (disks t m) h lo down) where
   abbrev began : Disks
   began = now from

@@ -7,7 +7,7 @@ use Rattle.paraid_base.specs.History.{History}
 use Rattle.paraid_rack.specs.declared.call.Call.{Call}
 use Rattle.paraid_rack.specs.declared.call.Call.TheVariants.{Read, Write, Sync, Park, SpinUp, Attach}
 use Rattle.paraid_rack.specs.declared.call.Power.TheVariants.{Absent}
-use Rattle.paraid_rack.specs.Disks.{Disks, IsImage, is_present, loose_after_sync, step}
+use Rattle.paraid_rack.specs.Disks.{Disks, IsImage, is_present, loose_after, step}
 use Rattle.paraid_rack.specs.Told.{GrowsByCall, Ran}
 use Rattle.paraid_rack.specs.Trail.{Trail, disks, extend, moments, now}
 use Rattle.paraid_rack.proofs.AtomsLemmas.{read_present, sync_present, with_at_other, with_at_same}
@@ -28,7 +28,7 @@ use Rattle.paraid_image.proofs.CallLemmas.{out_named}
 use Rattle.paraid_moves.specs.Copying.{HoldsWithCopies, without_disk}
 use Rattle.paraid_moves.proofs.CopyCommitLemmas.{copying_from_rest, rest_from_copying}
 use Rattle.paraid_moves.proofs.RunLemmas.{copies_held, copies_lost, copies_read, copies_sync}
-use Rattle.paraid_txn.specs.Resume.{IsBroken}
+use Rattle.paraid_txn.specs.Resume.{IsResumable}
 use Rattle.paraid_txn.specs.Uses.{EachCall}
 use Rattle.paraid_recover.specs.HeldMoments.{EndsHeld, IsAbsentSince, Recovers, RecoversHeld}
 use Rattle.paraid_recover.specs.Quiet.{IsReadOrSync}
@@ -114,12 +114,12 @@ synced_step n (Write e p b done) s quiet synced d q here = absurd quiet
 synced_step n (Sync e done) s quiet synced d q here =
     let there = sync_present s e done d here in
     elim (cases_eq d e) [
-      | inl is ↦ ap (λ (f : ℕ → Bool). f q) (with_at_same s.loose e (loose_after_sync done (s.loose e)) d is)
+      | inl is ↦ ap (λ (f : ℕ → Bool). f q) (with_at_same s.loose e (loose_after done (s.loose e)) d is)
           ∙ by done (subst (λ (k : ℕ). is_present (s.power k) ≡ true) is there)
-      | inr not ↦ ap (λ (f : ℕ → Bool). f q) (with_at_other s.loose e (loose_after_sync done (s.loose e)) d not) ∙ synced d q there
+      | inr not ↦ ap (λ (f : ℕ → Bool). f q) (with_at_other s.loose e (loose_after done (s.loose e)) d not) ∙ synced d q there
     ]
   where
-    by : (done : Bool) → is_present (s.power e) ≡ true → loose_after_sync done (s.loose e) q ≡ false
+    by : (done : Bool) → is_present (s.power e) ≡ true → loose_after done (s.loose e) q ≡ false
     by true there = refl
     by false there = synced e q there
 synced_step n (Park e done) s quiet synced d q here = absurd quiet
@@ -172,7 +172,7 @@ module _ (slots x : ℕ) (said : LogState) (old mid new : Option Trail) (c : Cal
     at : (j : ℕ) → j ≤ moments before → disks t j ≡ disks before j
     at j le = ap (λ (u : Trail). disks u j) (grows t tells).2 ∙ disks_before before (c ∷ []) j le
 
-    module _ (h : History) (lo : ℕ) (was down : Option ℕ) (broken : IsBroken (now start) x said) (held : IsHeld slots (now start) h lo was)
+    module _ (h : History) (lo : ℕ) (was down : Option ℕ) (broken : IsResumable (now start) x said) (held : IsHeld slots (now start) h lo was)
         (weak : (w : ℕ) → IsWeak (now start) w → down ≡ Some w) where
       earlier : (j : ℕ) → moments start ≤ j → j ≤ moments before → IsAbsentSince n t (moments start) j down → IsHeld slots (disks t j) h lo down
       earlier j from to absent =
@@ -196,7 +196,7 @@ module _ (slots x : ℕ) (said : LogState) (old mid new : Option Trail) (c : Cal
 
         rest_before : IsAtRest (now before) said.meta
         rest_before =
-            (subst (λ (u : Trail). IsBroken (now u) x said → IsHeld slots (now u) h lo was → IsAbsentSince n before (moments u) (moments before) down
+            (subst (λ (u : Trail). IsResumable (now u) x said → IsHeld slots (now u) h lo was → IsAbsentSince n before (moments u) (moments before) down
             → ((w : ℕ) → IsWeak (now u) w → down ≡ Some w) → IsAtRest (now before) said.meta × IsHeld slots (now before) (take said.meta.writes h) said.meta.writes (out_disk (now before).power said.meta))
             same (λ b e a w. (ends before told).2 h lo was down b e a w) broken held absent_before weak).0
 

@@ -20,7 +20,7 @@ use Rattle.paraid_image.specs.Rest.{AreSynced}
 use Rattle.paraid_image.specs.RunStart.{IsRunStart}
 use Rattle.paraid_image.specs.Sides.{LogState, Says}
 use Rattle.paraid_image.specs.Sound.{LogOk}
-use Rattle.paraid_image.specs.Spins.{first_used}
+use Rattle.paraid_image.specs.Spins.{made_spin_ups}
 use Rattle.paraid_image.specs.Standing.{Stands, other_log, stands_before}
 use Rattle.paraid_image.proofs.AlikeLemmas.{weak_alike}
 use Rattle.paraid_image.proofs.NeutralLemmas.{says_back, says_forth}
@@ -49,7 +49,7 @@ pub record IsBased (s : Disks) (said m : Meta) (base : ℕ → ℕ) (ticks : ℕ
   pub setup : m.setup ≡ said.setup
   pub time : m.epoch ≤ said.epoch
   pub counted : m.ticks ≤ ticks
-  pub recorded : (d : ℕ) → base d ≤ first_used m s.power d
+  pub recorded : (d : ℕ) → base d ≤ made_spin_ups m s.power d
 
 pub based_within : (s : Disks) (said : LogState) (m : Meta) (base : ℕ → ℕ) (ticks : ℕ) (i : Disks) → IsBased s said.meta m base ticks → IsWithinBoundsAt (mount_bounds said ticks) base s i m
 based_within s said m base ticks i is = record {

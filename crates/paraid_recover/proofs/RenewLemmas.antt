@@ -24,7 +24,7 @@ use Rattle.paraid_moves.proofs.RangeLemmas.{later_in_range}
 use Rattle.paraid_txn.specs.Commit.{EndsCommitted, IsEitherMissing, IsCommitted, IsNext, IsOldOrNew, IsWholeOrAbsent}
 use Rattle.paraid_txn.specs.Losses.{IsAlone, IsOneOut, IsOutOfCommit, IsWell}
 use Rattle.paraid_txn.specs.Losses.IsOutOfCommit.{is_absent, was_named, is_named}
-use Rattle.paraid_txn.specs.Resume.{IsBroken}
+use Rattle.paraid_txn.specs.Resume.{IsResumable}
 use Rattle.paraid_txn.proofs.HeldCommitLemmas.{held_commits}
 use Rattle.paraid_txn.proofs.RanLemmas.{commit_moments, commits_now}
 use Rattle.paraid_recover.specs.HeldMoments.{EndsHeld, IsAbsentSince, RecoversHeld}
@@ -90,7 +90,7 @@ next_renewed m s rest = record {
   setup = refl;
   out = λ d e p q. let z : Some d ≡ Some e = sym p ∙ q in cc;
   comes_in = λ x l here is not. absurd (not is);
-  fresh_shut = λ x u fresh l. rest.log.fresh_shut x u (record { is = fresh.is; present = fresh.present }) l;
+  fresh_closed = λ x u fresh l. rest.log.fresh_closed x u (record { is = fresh.is; present = fresh.present }) l;
 }
 
 -- one disk at most is out after a commit that names the same disk out
@@ -159,7 +159,7 @@ module _ (slots x : ℕ) (said : LogState) (old mid new : Option Trail) (holds :
     at : (j : ℕ) → j ≤ moments end → disks t j ≡ disks end j
     at j le = ap (λ (u : Trail). disks u j) (whole t tells).is ∙ disks_before end (whole t tells).calls j le
 
-    module _ (h : History) (lo : ℕ) (was down : Option ℕ) (broken : IsBroken (now start) x said) (held : IsHeld slots (now start) h lo was)
+    module _ (h : History) (lo : ℕ) (was down : Option ℕ) (broken : IsResumable (now start) x said) (held : IsHeld slots (now start) h lo was)
         (weak : (w : ℕ) → IsWeak (now start) w → down ≡ Some w) where
       earlier : (j : ℕ) → moments start ≤ j → j ≤ moments end → IsAbsentSince n t (moments start) j down → IsHeld slots (disks t j) h lo down
       earlier j from to absent =

@@ -17,7 +17,7 @@ use Rattle.paraid_image.specs.Out.{IsWeak, out_disk}
 use Rattle.paraid_image.specs.Rest.{IsAtRest}
 use Rattle.paraid_image.specs.Sides.{LogState}
 use Rattle.paraid_image.specs.Standing.{Stands}
-use Rattle.paraid_txn.specs.Resume.{IsBroken}
+use Rattle.paraid_txn.specs.Resume.{IsResumable}
 use Rattle.paraid_txn.specs.Uses.{EachCall}
 use Rattle.paraid_recover.specs.HeldMoments.{EndsHeld, IsAbsentSince, IsOutAtEnd, Recovers, RecoversHeld}
 use Rattle.paraid_recover.specs.Powers.{IsPowerCall}
@@ -86,7 +86,7 @@ module _ (slots x : ℕ) (said : LogState) (m : Meta) (uses : Call → Type 0) (
       part_at : (j : ℕ) → j ≤ moments part → disks t j ≡ disks part j
       part_at j l = ap (λ (u : Trail). disks u j) goes_on ∙ disks_before part (drop k (ran t tells).calls) j l
 
-      module _ (h : History) (lo : ℕ) (was down : Option ℕ) (broken : IsBroken (now start) x said) (held : IsHeld slots (now start) h lo was)
+      module _ (h : History) (lo : ℕ) (was down : Option ℕ) (broken : IsResumable (now start) x said) (held : IsHeld slots (now start) h lo was)
           (weak : (w : ℕ) → IsWeak (now start) w → down ≡ Some w) (absent : IsAbsentSince n t (moments start) (moments end + k) down) where
         abbrev Rests : Type 0
         Rests = IsAtRest (now part) m × IsHeld slots (now part) (take m.writes h) m.writes (out_disk (now part).power m)
@@ -95,7 +95,7 @@ module _ (slots x : ℕ) (said : LogState) (m : Meta) (uses : Call → Type 0) (
         rests =
             let it = ends t tells k part refl in
             let first : it.0 ≡ start = (let z : Some it.0 ≡ Some start = sym it.1 ∙ (metas end told).1 in cc) in
-            (subst (λ (u : Trail). IsBroken (now u) x said → IsHeld slots (now u) h lo was → IsAbsentSince n part (moments u) (moments part) down
+            (subst (λ (u : Trail). IsResumable (now u) x said → IsHeld slots (now u) h lo was → IsAbsentSince n part (moments u) (moments part) down
             → ((w : ℕ) → IsWeak (now u) w → down ≡ Some w) → Rests) first (it.2 h lo was down)) broken held
             (λ j d from to l gone. absent j d from (let e = part_long in omega arith) l (ap (λ (u : Disks). is_present (u.power d)) (part_at j to) ∙ gone)) weak
 
@@ -105,7 +105,7 @@ module _ (slots x : ℕ) (said : LogState) (m : Meta) (uses : Call → Type 0) (
             let is = rest_meta slots (now part) m (take m.writes h) m.writes (out_disk (now part).power m) rests.0 rests.1 i z o (subst (λ (u : Disks). IsLooked u i) here looked) stands in
             subst (StandsForeseen (now start) x said i) (sym is) (allowed (now start) i)
 
-    module _ (h : History) (lo : ℕ) (was down : Option ℕ) (broken : IsBroken (now start) x said) (held : IsHeld slots (now start) h lo was)
+    module _ (h : History) (lo : ℕ) (was down : Option ℕ) (broken : IsResumable (now start) x said) (held : IsHeld slots (now start) h lo was)
         (weak : (w : ℕ) → IsWeak (now start) w → down ≡ Some w) (j : ℕ) (absent : IsAbsentSince n t (moments start) j down) where
       earlier : moments start ≤ j → j ≤ moments end → (i : Disks) (z : ℕ) (o : LogState) → IsLooked (disks t j) i → Stands i z o → StandsForeseen (now start) x said i o.meta
       earlier from to i z o looked stands =

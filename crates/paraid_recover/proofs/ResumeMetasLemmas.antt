@@ -17,7 +17,7 @@ use Rattle.paraid_image.proofs.CallLemmas.{out_named}
 use Rattle.paraid_image.proofs.SidesLemmas.{Says-same}
 use Rattle.paraid_image.proofs.StandingLemmas.{Stands-same}
 use Rattle.paraid_txn.specs.Commit.{ImageStandsFor, IsEachImage, IsEitherMissing, IsOneMissing}
-use Rattle.paraid_txn.specs.Resume.{ImageStandsForBroken, IsBroken, StandsWhileResumed}
+use Rattle.paraid_txn.specs.Resume.{ImageStandsForResumed, IsResumable, StandsWhileResumed}
 use Rattle.paraid_txn.proofs.HeldResumeLemmas.{held_resumes}
 use Rattle.paraid_txn.proofs.RanLemmas.{resume_moments}
 use Rattle.paraid_recover.specs.StandingMetas.{StandsForeseen, StandsInMoments}
@@ -32,9 +32,9 @@ one_down power before after down is = record { one = λ d e p q. let z : Some d 
 pub stands_for : (start i : Disks) (m : Meta) (batch : Batch) (z : ℕ) (o : LogState) → ImageStandsFor start i m batch → Stands i z o → o.meta ≡ m
 stands_for start i m batch z o is stands = ap (λ (k : LogState). k.meta) (Stands-same i z is.disk o is.said stands is.log.stands).1 ∙ is.meta
 
-module _ (slots : ℕ) (h : History) (lo x : ℕ) (said : LogState) (s u : Disks) (down : Option ℕ) (broken : IsBroken s x said) (held : IsHeld slots u h lo down)
+module _ (slots : ℕ) (h : History) (lo x : ℕ) (said : LogState) (s u : Disks) (down : Option ℕ) (broken : IsResumable s x said) (held : IsHeld slots u h lo down)
     (weaks : (v : ℕ) → IsWeak s v → down ≡ Some v) (gone : (d : ℕ) → d < said.meta.setup.geometry.disks → is_present (u.power d) ≡ false → down ≡ Some d)
-    (images : IsEachImage said.meta said.meta (ImageStandsForBroken s x said) u) where
+    (images : IsEachImage said.meta said.meta (ImageStandsForResumed s x said) u) where
   down_is : (i : Disks) → IsImage u i → (d : ℕ) → IsMissing i.power said.meta d → down ≡ Some d
   down_is i image d missing = elim missing.is [
     | inl off ↦ gone d missing.disk (ap is_present (sym (image.power d)) ∙ off)
@@ -48,7 +48,7 @@ module _ (slots : ℕ) (h : History) (lo x : ℕ) (said : LogState) (s u : Disks
       either d (inl p) = down_is i image d p
       either d (inr p) = down_is i image d p
 
-  at_image : (i : Disks) → IsImage u i → ImageStandsForBroken s x said i
+  at_image : (i : Disks) → IsImage u i → ImageStandsForResumed s x said i
   at_image i image = images.whole i image (one i image)
 
   abbrev synced_image : Disks
@@ -69,7 +69,7 @@ module _ (slots : ℕ) (h : History) (lo x : ℕ) (said : LogState) (s u : Disks
     | inr f ↦ absurd (false≢true (sym f.gone ∙ here))
   ]
 
-  by : (i : Disks) (z : ℕ) (o : LogState) → IsLooked u i → ImageStandsForBroken s x said i → Stands i z o → StandsForeseen s x said i o.meta
+  by : (i : Disks) (z : ℕ) (o : LogState) → IsLooked u i → ImageStandsForResumed s x said i → Stands i z o → StandsForeseen s x said i o.meta
   by i z o looked is stands = elim is.stands [
     | inl for ↦ same (stands_for s i said.meta said.batch z o for stands)
     | inr fell ↦
@@ -87,7 +87,7 @@ module _ (slots : ℕ) (h : History) (lo x : ℕ) (said : LogState) (s u : Disks
 
   pub resumed_meta : (i : Disks) (z : ℕ) (o : LogState) → IsLooked u i → Stands i z o → StandsForeseen s x said i o.meta
   resumed_meta i z o (whole image) stands = by i z o (whole image) (at_image i image) stands
-  resumed_meta i z o (lost j e image may is) stands = by i z o (lost j e image may is) (subst (ImageStandsForBroken s x said) is (images.lost j e image (one j image) may.weak)) stands
+  resumed_meta i z o (lost j e image may is) stands = by i z o (lost j e image may is) (subst (ImageStandsForResumed s x said) is (images.lost j e image (one j image) may.weak)) stands
 
 -- At each moment.
 pub resumed_metas : (slots x : ℕ) (said : LogState) (old new : Option Trail) → StandsWhileResumed old new x said → StandsInMoments slots x said old new

@@ -15,7 +15,7 @@ use Rattle.paraid_image.specs.Out.{IsMissing, IsWeak, out_disk}
 use Rattle.paraid_image.specs.Rest.{IsAtRest}
 use Rattle.paraid_image.specs.Sides.{LogState}
 use Rattle.paraid_image.specs.Spot.{map_disk}
-use Rattle.paraid_txn.specs.Resume.{IsBroken}
+use Rattle.paraid_txn.specs.Resume.{IsResumable}
 use Rattle.paraid_recover.specs.HeldMoments.{EndsHeld, IsAbsentSince, Recovers, ShowsAtEnd}
 use Rattle.paraid_recover.specs.Map.{HasMap, ShowsMap}
 use Rattle.paraid_rack.proofs.TrailsLemmas.{now-extend}
@@ -41,7 +41,7 @@ module _ (slots x : ℕ) (said : LogState) (m : Meta) (table : List (List Bool))
         let same : first.0 ≡ (ends t tells).0 = (let z : Some first.0 ≡ Some (ends t tells).0 = sym first.1 ∙ (ends t tells).1 in cc) in
         let absent_mid : IsAbsentSince said.meta.setup.geometry.disks u (moments (ends t tells).0) (moments u) down = (λ k e from to low gone.
         absent k e from (let more = longer in omega arith) low (ap (λ (v : Disks). is_present (v.power e)) (at k to) ∙ gone)) in
-        let rest_mid = (subst (λ (v : Trail). IsBroken (now v) x said → IsHeld slots (now v) h lo was → IsAbsentSince said.meta.setup.geometry.disks u (moments v) (moments u) down
+        let rest_mid = (subst (λ (v : Trail). IsResumable (now v) x said → IsHeld slots (now v) h lo was → IsAbsentSince said.meta.setup.geometry.disks u (moments v) (moments u) down
         → ((w : ℕ) → IsWeak (now v) w → down ≡ Some w) → IsAtRest (now u) said.meta × IsHeld slots (now u) (take said.meta.writes h) said.meta.writes (out_disk (now u).power said.meta)) same
         (first.2 h lo was down)) broken held absent_mid weak in
         let rest_end = (ends t tells).2 h lo was down broken held absent weak in

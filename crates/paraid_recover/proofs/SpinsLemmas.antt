@@ -14,7 +14,7 @@ use Rattle.paraid_record.specs.declared.meta.Setup.{Setup}
 use Rattle.paraid_image.specs.Calls.{is_done}
 use Rattle.paraid_image.specs.Looked.{IsLooked}
 use Rattle.paraid_image.specs.Looked.IsLooked.{lost, whole}
-use Rattle.paraid_image.specs.Spins.{first_used}
+use Rattle.paraid_image.specs.Spins.{made_spin_ups}
 use Rattle.paraid_image.specs.Spot.{rising_to}
 use Rattle.paraid_recover.specs.Powers.{IsPowerCall}
 use Rattle.paraid_session.specs.Watch.{Bounds, Down, Each, IsServing, IsWithinBounds, Watch, down_after, nobody, only, several, watch, watch_all}
@@ -35,11 +35,11 @@ looked_power s i d (lost j e image may is) here =
     let at : IsPresent (lose e j) d = subst (λ (k : Disks). IsPresent k d) (sym is) here in
     sym (ap (λ (k : Disks). k.power d) is) ∙ lost_power j e d at ∙ image.power d
 
-pub same_used : (m : Meta) (f g : ℕ → Power) (d : ℕ) → f d ≡ g d → first_used m f d ≡ first_used m g d
+pub same_used : (m : Meta) (f g : ℕ → Power) (d : ℕ) → f d ≡ g d → made_spin_ups m f d ≡ made_spin_ups m g d
 same_used m f g d is = rw is refl
 
 -- no spin-up is pending of a disk that spins, or that no shift up needs
-spinning_used : (m : Meta) (power : ℕ → Power) (d : ℕ) → power d ≡ Spinning → first_used m power d ≡ slice_index m.spins d
+spinning_used : (m : Meta) (power : ℕ → Power) (d : ℕ) → power d ≡ Spinning → made_spin_ups m power d ≡ slice_index m.spins d
 spinning_used m power d is = by (nat_le m.gear d) (nat_lt d (rising_to m.phase)) (is_parked (power d)) (ap is_parked is)
   where
     by : (a b c : Bool) → c ≡ false → slice_index m.spins d - (if (a && b && c) then 1 else 0) ≡ slice_index m.spins d
@@ -48,7 +48,7 @@ spinning_used m power d is = by (nat_le m.gear d) (nat_lt d (rising_to m.phase))
     by true false c is = omega arith
     by false b c is = omega arith
 
-settled_used : (m : Meta) (power : ℕ → Power) (d : ℕ) → rising_to m.phase ≤ d → first_used m power d ≡ slice_index m.spins d
+settled_used : (m : Meta) (power : ℕ → Power) (d : ℕ) → rising_to m.phase ≤ d → made_spin_ups m power d ≡ slice_index m.spins d
 settled_used m power d high = by (nat_le m.gear d) (nat_lt d (rising_to m.phase)) (is_parked (power d)) (not_below d (rising_to m.phase) high)
   where
     not_below : (a b : ℕ) → b ≤ a → nat_lt a b ≡ false
@@ -59,11 +59,11 @@ settled_used m power d high = by (nat_le m.gear d) (nat_lt d (rising_to m.phase)
     by true false c is = omega arith
     by false b c is = omega arith
 
-used_at_most : (m : Meta) (power : ℕ → Power) (d : ℕ) → first_used m power d ≤ slice_index m.spins d
+used_at_most : (m : Meta) (power : ℕ → Power) (d : ℕ) → made_spin_ups m power d ≤ slice_index m.spins d
 used_at_most m power d = omega arith
 
 -- where one is pending it is not counted
-pending_used : (m : Meta) (power : ℕ → Power) (d : ℕ) → m.gear ≤ d → d < rising_to m.phase → power d ≡ Parked → first_used m power d ≡ slice_index m.spins d - 1
+pending_used : (m : Meta) (power : ℕ → Power) (d : ℕ) → m.gear ≤ d → d < rising_to m.phase → power d ≡ Parked → made_spin_ups m power d ≡ slice_index m.spins d - 1
 pending_used m power d low high is = ap (λ (k : ℕ). slice_index m.spins d - k) (by (nat_le m.gear d) (nat_lt d (rising_to m.phase)) (is_parked (power d)) (at_least m.gear d low) (below d (rising_to m.phase) high) (ap is_parked is))
   where
     at_least : (a b : ℕ) → a ≤ b → nat_le a b ≡ true
@@ -100,7 +100,7 @@ serving_by several c serving = by (is_done c) serving
 
 -- the spin-ups of one disk are recorded, while it is there
 abbrev pub IsOneRecorded : Meta → ℕ → Watch → Type 0
-IsOneRecorded m d w = IsServing w.down → IsPresent w.disks d → w.spun d ≤ first_used m w.disks.power d
+IsOneRecorded m d w = IsServing w.down → IsPresent w.disks d → w.spun d ≤ made_spin_ups m w.disks.power d
 
 module _ (m : Meta) where
   park_step : (d : ℕ) (w : Watch) (e : ℕ) (done : Bool) → IsPowerCall m (Park e done) → w.disks.power e ≡ Spinning → IsOneRecorded m d w → IsOneRecorded m d (watch (Park e done) w)

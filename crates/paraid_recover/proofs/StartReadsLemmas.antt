@@ -26,7 +26,7 @@ use Rattle.paraid_session.proofs.RunStartLemmas.{synced_alike}
 use Rattle.paraid_recover.specs.HeardSides.{ReadsLogs}
 use Rattle.paraid_recover.specs.StartHeld.{HoldsAfter, IsAbsentUpTo}
 use Rattle.paraid_recover.proofs.DownLemmas.{stood_log, weak_down}
-use Rattle.paraid_txn.specs.Resume.{IsBroken}
+use Rattle.paraid_txn.specs.Resume.{IsResumable}
 use Rattle.paraid_txn.specs.Uses.{EachCall}
 
 spins_present : (p : Power) → p ≡ Spinning → is_present p ≡ true
@@ -100,7 +100,7 @@ disks_from from cs k = ap (run (initial from.start)) (take_past from.calls cs k)
 -- From the record `from` on the log disks were read, and from `read` on there are further calls.
 module _ (slots n side : ℕ) (said : LogState) (from read t : Trail) (rs ls : List Call) (read_is : read ≡ extend from rs) (t_is : t ≡ extend read ls)
     (each : EachCall ReadsLogs (now from) rs) (stands : Stands (now read) side said)
-    (recovers : (h : History) (lo m : ℕ) (was down : Option ℕ) → IsBroken (now read) side said → IsHeld slots (now read) h lo was → moments read ≤ m → m ≤ moments t
+    (recovers : (h : History) (lo m : ℕ) (was down : Option ℕ) → IsResumable (now read) side said → IsHeld slots (now read) h lo was → moments read ≤ m → m ≤ moments t
     → IsAbsentSince said.meta.setup.geometry.disks t (moments read) m down → ((w : ℕ) → IsWeak (now read) w → down ≡ Some w) → IsHeld slots (disks t m) h lo down) where
   abbrev s : Disks
   s = now from
@@ -139,7 +139,7 @@ module _ (slots n side : ℕ) (said : LogState) (from read t : Trail) (rs ls : L
         let held : IsHeld slots (now read) h lo down = subst (λ (u : Disks). IsHeld slots u h lo down) all
         (held_in_reads (length rs) down (omega (arith, same, many)) (omega arith) (λ j d j_le low off. absent j d (omega arith) low off) weak) in
         let synced : AreSynced (now read) = subst AreSynced (sym now_read) (reads_synced s rs each start.synced) in
-        let broken : IsBroken (now read) side said = record { synced = synced; log = stood_log slots (now read) h lo down synced held side said stands } in
+        let broken : IsResumable (now read) side said = record { synced = synced; log = stood_log slots (now read) h lo down synced held side said stands } in
         let long : moments t ≡ moments read + length ls = ap moments t_is ∙ length-append read.calls ls in
         let split = length-append rs ls in
         subst (λ (u : Disks). IsHeld slots u h lo down) (at i)

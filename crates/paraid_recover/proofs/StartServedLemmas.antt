@@ -41,7 +41,7 @@ use Rattle.paraid_recover.proofs.ReadDirtyLemmas.{read_dirty}
 use Rattle.paraid_recover.proofs.StartReadsLemmas.{run_append, take_past}
 use Rattle.paraid_recover.proofs.SetupLemmas.{still_stands}
 use Rattle.paraid_recover.proofs.StoryLemmas.{absent_since, at, beside, broken, held_read, long, now_end, now_read, same_setup, weak_read}
-use Rattle.paraid_txn.specs.Resume.{IsBroken}
+use Rattle.paraid_txn.specs.Resume.{IsResumable}
 use Rattle.paraid_txn.specs.Uses.{EachCall}
 
 renewed_setup : (m : Meta) (b : Bool) → (renewed_by b m).setup ≡ m.setup
@@ -135,7 +135,7 @@ module _ (slots : ℕ) (from read t : Trail) (rs ls : List Call) (read_is : read
     pub beside_end : Option ℕ
     beside_end = beside slots from read t rs ls read_is t_is each h lo down start x said stood side then_said then_stands base (length ls) serving_end
 
-    pub broken_end : IsBroken (now read) side then_said
+    pub broken_end : IsResumable (now read) side then_said
     broken_end = broken slots from read t rs ls read_is t_is each h lo down start x said stood side then_said then_stands base (length ls) serving_end
 
     pub held_end : IsHeld slots (now read) h lo beside_end

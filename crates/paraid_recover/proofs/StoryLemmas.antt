@@ -27,7 +27,7 @@ use Rattle.paraid_recover.proofs.StartReadsLemmas.{disks_from, reads_held, reads
 use Rattle.paraid_recover.proofs.RestLemmas.{beside_of}
 use Rattle.paraid_recover.proofs.SetupLemmas.{setup_kept}
 use Rattle.paraid_recover.proofs.SpinsLemmas.{serving_by}
-use Rattle.paraid_txn.specs.Resume.{IsBroken}
+use Rattle.paraid_txn.specs.Resume.{IsResumable}
 use Rattle.paraid_txn.specs.Uses.{EachCall}
 
 -- one disk at most is down only where it was so before
@@ -115,7 +115,7 @@ module _ (slots : ℕ) (from read t : Trail) (rs ls : List Call) (read_is : read
     synced_read = subst AreSynced (sym now_read) (reads_synced s rs each start.synced)
 
     -- and the commit that was interrupted can be ended
-    pub broken : IsBroken (now read) side then_said
+    pub broken : IsResumable (now read) side then_said
     broken = record { synced = synced_read; log = stood_log slots (now read) h lo beside synced_read held_read side then_said then_stands }
 
     pub weak_read : (v : ℕ) → IsWeak (now read) v → beside ≡ Some v

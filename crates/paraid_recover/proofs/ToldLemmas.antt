@@ -32,7 +32,7 @@ use Rattle.paraid_recover.proofs.BeganLemmas.{drop_past}
 use Rattle.paraid_recover.proofs.PiecesLemmas.{parts_of}
 use Rattle.paraid_recover.proofs.SpinsLemmas.{IsOneRecorded}
 use Rattle.paraid_recover.proofs.WithinLemmas.{all_recorded, all_within, still_recorded, still_within}
-use Rattle.paraid_txn.specs.Resume.{IsBroken}
+use Rattle.paraid_txn.specs.Resume.{IsResumable}
 use Rattle.paraid_txn.specs.Uses.{EachCall}
 
 pub same_trail : (o : Option Trail) (a b : Trail) → o ≡ Some a → o ≡ Some b → a ≡ b
@@ -76,12 +76,12 @@ pub record IsToldOf (side : ℕ) (said : LogState) (old reading : Option Trail) 
 
 module _ (side : ℕ) (said : LogState) (old new : Option Trail) (it : HasRecovered side said old new) (t : Trail) (tells : new ≡ Some t) where
   foreseen_at : (slots : ℕ) (r : Trail) → it.read ≡ Some r
-      → (h : History) (lo m : ℕ) (was down : Option ℕ) → IsBroken (now r) side said → IsHeld slots (now r) h lo was → moments r ≤ m → m ≤ moments t
+      → (h : History) (lo m : ℕ) (was down : Option ℕ) → IsResumable (now r) side said → IsHeld slots (now r) h lo was → moments r ≤ m → m ≤ moments t
       → IsAbsentSince said.meta.setup.geometry.disks t (moments r) m down → ((v : ℕ) → IsWeak (now r) v → down ≡ Some v)
       → (i : Disks) (z : ℕ) (o : LogState) → IsLooked (disks t m) i → Stands i z o → StandsForeseen (now r) side said i o.meta
   foreseen_at slots r was_r =
       let f = it.metas.foreseen slots t tells in
-      subst (λ (u : Trail). (h : History) (lo m : ℕ) (was down : Option ℕ) → IsBroken (now u) side said → IsHeld slots (now u) h lo was → moments u ≤ m → m ≤ moments t
+      subst (λ (u : Trail). (h : History) (lo m : ℕ) (was down : Option ℕ) → IsResumable (now u) side said → IsHeld slots (now u) h lo was → moments u ≤ m → m ≤ moments t
       → IsAbsentSince said.meta.setup.geometry.disks t (moments u) m down → ((v : ℕ) → IsWeak (now u) v → down ≡ Some v)
       → (i : Disks) (z : ℕ) (o : LogState) → IsLooked (disks t m) i → Stands i z o → StandsForeseen (now u) side said i o.meta)
       (same_trail it.read f.0 r f.1 was_r) f.3
@@ -137,13 +137,13 @@ module _ (side : ℕ) (said : LogState) (old new : Option Trail) (it : HasRecove
       }
     where
       rests_at : (slots : ℕ) (r : Trail) → it.read ≡ Some r → (st : Trail) → it.metas.settled ≡ Some st → (q : IsPoweredFrom side said it.read it.metas.settled new)
-          → (h : History) (lo : ℕ) (was down : Option ℕ) → IsBroken (now r) side said → IsHeld slots (now r) h lo was
+          → (h : History) (lo : ℕ) (was down : Option ℕ) → IsResumable (now r) side said → IsHeld slots (now r) h lo was
           → IsAbsentSince said.meta.setup.geometry.disks st (moments r) (moments st) down → ((v : ℕ) → IsWeak (now r) v → down ≡ Some v)
           → IsAtRest (now st) (with_mark said.meta q.mark)
           × IsHeld slots (now st) (take (with_mark said.meta q.mark).writes h) (with_mark said.meta q.mark).writes (out_disk (now st).power (with_mark said.meta q.mark))
       rests_at slots r was_r st was_st q =
           let e = q.rests slots st was_st in
-          subst (λ (u : Trail). (h : History) (lo : ℕ) (was down : Option ℕ) → IsBroken (now u) side said → IsHeld slots (now u) h lo was
+          subst (λ (u : Trail). (h : History) (lo : ℕ) (was down : Option ℕ) → IsResumable (now u) side said → IsHeld slots (now u) h lo was
           → IsAbsentSince said.meta.setup.geometry.disks st (moments u) (moments st) down → ((v : ℕ) → IsWeak (now u) v → down ≡ Some v)
           → IsAtRest (now st) (with_mark said.meta q.mark)
           × IsHeld slots (now st) (take (with_mark said.meta q.mark).writes h) (with_mark said.meta q.mark).writes (out_disk (now st).power (with_mark said.meta q.mark)))
@@ -154,11 +154,11 @@ module _ (side : ℕ) (said : LogState) (old new : Option Trail) (it : HasRecove
   told_of = elim it.metas.powers [ inl same ↦ unpowered same | inr pf ↦ powered pf ]
 
   recovers_at : (slots : ℕ) (r : Trail) → it.read ≡ Some r
-      → (h : History) (lo m : ℕ) (was down : Option ℕ) → IsBroken (now r) side said → IsHeld slots (now r) h lo was → moments r ≤ m → m ≤ moments t
+      → (h : History) (lo m : ℕ) (was down : Option ℕ) → IsResumable (now r) side said → IsHeld slots (now r) h lo was → moments r ≤ m → m ≤ moments t
       → IsAbsentSince said.meta.setup.geometry.disks t (moments r) m down → ((v : ℕ) → IsWeak (now r) v → down ≡ Some v) → IsHeld slots (disks t m) h lo down
   recovers_at slots r was_r =
       let f = it.holds slots t tells in
-      subst (λ (u : Trail). (h : History) (lo m : ℕ) (was down : Option ℕ) → IsBroken (now u) side said → IsHeld slots (now u) h lo was → moments u ≤ m → m ≤ moments t
+      subst (λ (u : Trail). (h : History) (lo m : ℕ) (was down : Option ℕ) → IsResumable (now u) side said → IsHeld slots (now u) h lo was → moments u ≤ m → m ≤ moments t
       → IsAbsentSince said.meta.setup.geometry.disks t (moments u) m down → ((v : ℕ) → IsWeak (now u) v → down ≡ Some v) → IsHeld slots (disks t m) h lo down)
       (same_trail it.read f.0 r f.1 was_r) f.3
 

@@ -25,7 +25,7 @@ use Rattle.paraid_image.proofs.CallLemmas.{out_named}
 use Rattle.paraid_moves.specs.Copying.{without_disk}
 use Rattle.paraid_moves.proofs.BetweenLemmas.{copies_parked, copies_spun}
 use Rattle.paraid_moves.proofs.RunLemmas.{copies_lost}
-use Rattle.paraid_txn.specs.Resume.{IsBroken}
+use Rattle.paraid_txn.specs.Resume.{IsResumable}
 use Rattle.paraid_txn.specs.Uses.{EachCall}
 use Rattle.paraid_txn.proofs.CommitPartLemmas.{ran_milder}
 use Rattle.paraid_recover.specs.HeldMoments.{EndsHeld, IsAbsentSince, IsOutAtEnd, RecoversHeld, RestsBeside}
@@ -188,7 +188,7 @@ module _ (slots x : ℕ) (said : LogState) (m : Meta) (old mid new : Option Trai
     at : (j : ℕ) → j ≤ moments end → disks t j ≡ disks end j
     at j le = ap (λ (u : Trail). disks u j) (ran t tells).is ∙ disks_before end (ran t tells).calls j le
 
-    module _ (h : History) (lo : ℕ) (was down : Option ℕ) (broken : IsBroken (now start) x said) (held : IsHeld slots (now start) h lo was)
+    module _ (h : History) (lo : ℕ) (was down : Option ℕ) (broken : IsResumable (now start) x said) (held : IsHeld slots (now start) h lo was)
         (weak : (w : ℕ) → IsWeak (now start) w → down ≡ Some w) where
       earlier : (j : ℕ) → moments start ≤ j → j ≤ moments end → IsAbsentSince n t (moments start) j down → IsHeld slots (disks t j) h lo down
       earlier j from to absent =
@@ -210,7 +210,7 @@ module _ (slots x : ℕ) (said : LogState) (m : Meta) (old mid new : Option Trai
 
         rest_mid : IsAtRest (now end) m
         rest_mid =
-            (subst (λ (u : Trail). IsBroken (now u) x said → IsHeld slots (now u) h lo was → IsAbsentSince n end (moments u) (moments end) down
+            (subst (λ (u : Trail). IsResumable (now u) x said → IsHeld slots (now u) h lo was → IsAbsentSince n end (moments u) (moments end) down
             → ((w : ℕ) → IsWeak (now u) w → down ≡ Some w) → IsAtRest (now end) m)
             same (λ b e a w. ((ends end told).2 h lo was down b e a w).0) broken held absent_mid weak)
 

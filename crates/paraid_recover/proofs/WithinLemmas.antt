@@ -19,7 +19,7 @@ use Rattle.paraid_image.specs.Out.{IsMissing, IsWeak, first_absent, named_out, o
 use Rattle.paraid_image.specs.Rest.{IsAtRest, closed_over}
 use Rattle.paraid_image.specs.RunStart.{IsRunStart}
 use Rattle.paraid_image.specs.Sides.{LogState}
-use Rattle.paraid_image.specs.Spins.{first_used}
+use Rattle.paraid_image.specs.Spins.{made_spin_ups}
 use Rattle.paraid_image.specs.Standing.{Stands}
 use Rattle.paraid_image.proofs.AlikeLemmas.{stands_alike}
 use Rattle.paraid_image.proofs.OutLemmas.{first_absent_is}
@@ -47,7 +47,7 @@ use Rattle.paraid_recover.proofs.StartServedLemmas.{absent_end, beside_end, brok
 use Rattle.paraid_recover.proofs.SpinsLemmas.{IsOneRecorded, each_recorded, one_recorded, same_used, serving_by}
 use Rattle.paraid_recover.proofs.StartStillLemmas.{each_still, still_end}
 use Rattle.paraid_recover.proofs.StoryLemmas.{absent_since, at, beside, broken, down_append, held_read, long, now_end, now_read, reads_serve, serving_before, watch_append, weak_read}
-use Rattle.paraid_txn.specs.Resume.{IsBroken}
+use Rattle.paraid_txn.specs.Resume.{IsResumable}
 use Rattle.paraid_txn.specs.Uses.{EachCall}
 
 each_first : (P : Watch → Type 0) (A : Watch → Call → Type 0) (w : Watch) (cs ds : List Call) → Each P A w (cs ++ ds) → Each P A w cs
@@ -79,7 +79,7 @@ serves_or_not several = inl (λ serving. serving)
 
 -- where what stands is within the bounds, a meta at rest has recorded the spin-ups
 pub within_recorded : (b : Bounds) (v : Watch) (m : Meta) → StaysWithin b v → IsServing v.down → IsAtRest v.disks m → m.setup ≡ b.setup
-    → (d : ℕ) → d < m.setup.geometry.disks → IsPresent v.disks d → named_out m.out ≢ Some d → v.spun d ≤ first_used m v.disks.power d
+    → (d : ℕ) → d < m.setup.geometry.disks → IsPresent v.disks d → named_out m.out ≢ Some d → v.spun d ≤ made_spin_ups m v.disks.power d
 within_recorded b v m within serving rest setup d low here not =
     let forth = stopped_alike v.disks rest.synced in
     let power = (stopped_image v.disks).power d in
@@ -109,7 +109,7 @@ module _ (slots : ℕ) (from read settled t : Trail) (rs ls1 ls2 : List Call) (r
     (each : EachCall ReadsLogs (now from) rs)
     (h : History) (lo : ℕ) (down : Option ℕ) (start : IsRunStart slots (now from) h lo down) (x : ℕ) (said : LogState) (stood : Stands (now from) x said)
     (side : ℕ) (then_said : LogState) (then_stands : Stands (now read) side then_said) (base : ℕ → ℕ) (ticks : ℕ) (is_base : IsBase (now from) x said base ticks)
-    (foreseen : (h : History) (lo m : ℕ) (was down : Option ℕ) → IsBroken (now read) side then_said → IsHeld slots (now read) h lo was → moments read ≤ m → m ≤ moments t
+    (foreseen : (h : History) (lo m : ℕ) (was down : Option ℕ) → IsResumable (now read) side then_said → IsHeld slots (now read) h lo was → moments read ≤ m → m ≤ moments t
     → IsAbsentSince then_said.meta.setup.geometry.disks t (moments read) m down → ((v : ℕ) → IsWeak (now read) v → down ≡ Some v)
     → (i : Disks) (z : ℕ) (o : LogState) → IsLooked (disks t m) i → Stands i z o → StandsForeseen (now read) side then_said i o.meta)
     (still : EachCall IsTransfer (now read) ls1) where
@@ -137,7 +137,7 @@ module _ (slots : ℕ) (from read settled t : Trail) (rs ls1 ls2 : List Call) (r
   stands_read : Stands (run s rs) side then_said
   stands_read = subst (λ (u : Disks). Stands u side then_said) read_end then_stands
 
-  single_read : IsBroken (now read) side then_said → (a c : ℕ) → IsMissing (run s rs).power then_said.meta a → IsMissing (run s rs).power then_said.meta c → a ≡ c
+  single_read : IsResumable (now read) side then_said → (a c : ℕ) → IsMissing (run s rs).power then_said.meta a → IsMissing (run s rs).power then_said.meta c → a ≡ c
   single_read is = subst (λ (v : Disks). (a c : ℕ) → IsMissing v.power then_said.meta a → IsMissing v.power then_said.meta c → a ≡ c) read_end is.log.single
 
   later_at : (k : ℕ) → k ≤ length ls → StaysWithinAt b base s (watch_all (take (length rs + k) calls) w)
@@ -192,7 +192,7 @@ module _ (slots : ℕ) (from read settled t : Trail) (rs ls1 ls2 : List Call) (r
       omega (arith, used, least, count)
 
   module _ (mark : Option ℕ)
-      (rests : (h : History) (lo : ℕ) (was down : Option ℕ) → IsBroken (now read) side then_said → IsHeld slots (now read) h lo was
+      (rests : (h : History) (lo : ℕ) (was down : Option ℕ) → IsResumable (now read) side then_said → IsHeld slots (now read) h lo was
       → IsAbsentSince then_said.meta.setup.geometry.disks settled (moments read) (moments settled) down → ((v : ℕ) → IsWeak (now read) v → down ≡ Some v)
       → IsAtRest (now settled) (with_mark then_said.meta mark)
       × IsHeld slots (now settled) (take (with_mark then_said.meta mark).writes h) (with_mark then_said.meta mark).writes (out_disk (now settled).power (with_mark then_said.meta mark)))
@@ -212,7 +212,7 @@ module _ (slots : ℕ) (from read settled t : Trail) (rs ls1 ls2 : List Call) (r
       setup_now : m.setup ≡ said.meta.setup
       setup_now = (next_marked then_said.meta mark).setup ∙ setup_end slots from read settled rs ls1 read_is settled_is each h lo down start x said stood side then_said then_stands base serving
 
-      broken_now : IsBroken (now read) side then_said
+      broken_now : IsResumable (now read) side then_said
       broken_now = broken_end slots from read settled rs ls1 read_is settled_is each h lo down start x said stood side then_said then_stands base serving
 
       abbrev Rests : Disks → Type 0

@@ -16,7 +16,7 @@ use Rattle.paraid_image.specs.Sides.{LogState, is_open}
 use Rattle.paraid_txn.specs.declared.store.Store.{Store}
 use Rattle.paraid_txn.specs.Losses.{CanWrite, IsGoneSince, IsSyncedAt, IsWell, OnlyLosesSlots}
 use Rattle.paraid_txn.specs.Stores.{IsSameStore, store_rack}
-use Rattle.paraid_txn.specs.Resume.{IsBroken}
+use Rattle.paraid_txn.specs.Resume.{IsResumable}
 use Rattle.paraid_txn.specs.Uses.{EachCall}
 use Rattle.paraid_recover.specs.HeldMoments.{IsAbsentSince}
 
@@ -69,7 +69,7 @@ IsNewlyNamed before after x = IsNamedLog after x × (before ≢ Some x)
 -- holds.
 abbrev pub EndsBorne : (ℕ → Type 0) → ℕ → ℕ → LogState → Option Trail → Option Trail → Type 0
 EndsBorne N slots x said old new = (t : Trail) → new ≡ Some t → (s : Trail) × (old ≡ Some s)
-    × ((h : History) (lo : ℕ) (was down : Option ℕ) → IsBroken (now s) x said
+    × ((h : History) (lo : ℕ) (was down : Option ℕ) → IsResumable (now s) x said
     → IsHeld slots (now s) h lo was → IsAbsentSince said.meta.setup.geometry.disks t (moments s) (moments t) down
     → ((w : ℕ) → IsWeak (now s) w → down ≡ Some w) → (y : ℕ) → N y → IsSure (now t) 2 y (λ b. is_open b ≡ true))
 

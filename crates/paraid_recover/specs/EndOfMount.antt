@@ -10,7 +10,7 @@ use Rattle.paraid_image.specs.Rest.{closed_over}
 use Rattle.paraid_image.specs.Sides.{LogState}
 use Rattle.paraid_recover.specs.HeldMoments.{IsAbsentSince}
 use Rattle.paraid_recover.specs.RecoveryMark.{to_mark}
-use Rattle.paraid_txn.specs.Resume.{IsBroken}
+use Rattle.paraid_txn.specs.Resume.{IsResumable}
 
 -- This is what the meta has to mark, by the powers at one of the moments from the one record to the
 -- other.
@@ -26,7 +26,7 @@ IsMarkAtEnd m mark end = (t : Trail) → end ≡ Some t → mark ≡ to_mark (no
 -- cells that are shown as dirty stay, where one disk at most is absent or was weak.
 abbrev pub KeepsDirty : ℕ → ℕ → LogState → Meta → Option Trail → Option Trail → Type 0
 KeepsDirty slots x said m old new = (t : Trail) → new ≡ Some t → (s : Trail) × (old ≡ Some s)
-    × ((h : History) (lo : ℕ) (was down : Option ℕ) → IsBroken (now s) x said
+    × ((h : History) (lo : ℕ) (was down : Option ℕ) → IsResumable (now s) x said
     → IsHeld slots (now s) h lo was → IsAbsentSince said.meta.setup.geometry.disks t (moments s) (moments t) down
     → ((w : ℕ) → IsWeak (now s) w → down ≡ Some w)
     → (r d : ℕ) → r < said.meta.setup.geometry.rows

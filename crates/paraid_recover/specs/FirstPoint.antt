@@ -9,7 +9,7 @@ use Rattle.paraid_record.specs.declared.meta.Meta.{Meta}
 use Rattle.paraid_image.specs.Content.{view_by}
 use Rattle.paraid_image.specs.Power.{initial_state}
 use Rattle.paraid_image.specs.Rest.{closed_over}
-use Rattle.paraid_image.specs.Spins.{first_used}
+use Rattle.paraid_image.specs.Spins.{made_spin_ups}
 use Rattle.paraid_image.specs.Standing.{contents}
 use Rattle.paraid_session.specs.Turn.{Point}
 
@@ -35,7 +35,7 @@ pub record IsFirstPoint (m : Meta) (dirty : ℕ → ℕ → Bool) (told : Option
   pub history : History
   pub spun : ℕ → ℕ
   pub is : (t : Trail) → told ≡ Some t → p ≡ first_point (now t) m history spun
-  pub recorded : (d : ℕ) → IsPresent p.disks d → spun d ≤ first_used m p.disks.power d
+  pub recorded : (d : ℕ) → IsPresent p.disks d → spun d ≤ made_spin_ups m p.disks.power d
   pub writes : length p.history ≡ m.writes
   pub cells : (r d : ℕ) → r < m.setup.geometry.rows → dirty r d ≡ p.state.dirty r d
   pub map : (r d : ℕ) → r < 512 * map_count m.setup.geometry → dirty r d ≡ (view_by m p.disks.power (contents p.disks [])).dirty r d

@@ -11,7 +11,7 @@ use Rattle.paraid_record.specs.declared.meta.Meta.{Meta}
 use Rattle.paraid_image.specs.Rest.{IsAtRest}
 use Rattle.paraid_image.specs.HeldAt.{IsHeld}
 use Rattle.paraid_image.specs.Out.{IsWeak, named_out, out_disk}
-use Rattle.paraid_txn.specs.Resume.{IsBroken}
+use Rattle.paraid_txn.specs.Resume.{IsResumable}
 use Rattle.paraid_image.specs.Sides.{LogState}
 
 -- Of `n` disks this one is down: it is each that is absent from these disks.
@@ -34,7 +34,7 @@ IsAbsentSince n t from m down = (j d : ℕ) → from ≤ j → j ≤ m → d < n
 -- to the other holds what was held, where one disk at most is absent or was weak.
 abbrev pub RecoversHeld : ℕ → ℕ → LogState → Option Trail → Option Trail → Type 0
 RecoversHeld slots x said old new = (t : Trail) → new ≡ Some t → (s : Trail) × (old ≡ Some s) × (moments s ≤ moments t)
-    × ((h : History) (lo m : ℕ) (was down : Option ℕ) → IsBroken (now s) x said
+    × ((h : History) (lo m : ℕ) (was down : Option ℕ) → IsResumable (now s) x said
     → IsHeld slots (now s) h lo was → moments s ≤ m → m ≤ moments t
     → IsAbsentSince said.meta.setup.geometry.disks t (moments s) m down
     → ((w : ℕ) → IsWeak (now s) w → down ≡ Some w)
@@ -44,7 +44,7 @@ RecoversHeld slots x said old new = (t : Trail) → new ≡ Some t → (s : Trai
 -- disk that is out by it; none of these writes can be lost.
 abbrev pub EndsHeld : ℕ → ℕ → LogState → Meta → Option Trail → Option Trail → Type 0
 EndsHeld slots x said m old new = (t : Trail) → new ≡ Some t → (s : Trail) × (old ≡ Some s)
-    × ((h : History) (lo : ℕ) (was down : Option ℕ) → IsBroken (now s) x said
+    × ((h : History) (lo : ℕ) (was down : Option ℕ) → IsResumable (now s) x said
     → IsHeld slots (now s) h lo was → IsAbsentSince said.meta.setup.geometry.disks t (moments s) (moments t) down
     → ((w : ℕ) → IsWeak (now s) w → down ≡ Some w)
     → IsAtRest (now t) m × IsHeld slots (now t) (take m.writes h) m.writes (out_disk (now t).power m))
@@ -70,7 +70,7 @@ IsOutAtEnd said m end = (t : Trail) → end ≡ Some t → (d : ℕ) → named_o
 -- At the end these are the dirty bits of all that the disks hold under this meta.
 abbrev pub ShowsAtEnd : ℕ → ℕ → LogState → Meta → (ℕ → ℕ → Bool) → Option Trail → Option Trail → Type 0
 ShowsAtEnd slots x said m dirty old new = (t : Trail) → new ≡ Some t → (s : Trail) × (old ≡ Some s)
-    × ((h : History) (lo : ℕ) (was down : Option ℕ) → IsBroken (now s) x said
+    × ((h : History) (lo : ℕ) (was down : Option ℕ) → IsResumable (now s) x said
     → IsHeld slots (now s) h lo was → IsAbsentSince said.meta.setup.geometry.disks t (moments s) (moments t) down
     → ((w : ℕ) → IsWeak (now s) w → down ≡ Some w)
     → (r d : ℕ) → r < 512 * map_count m.setup.geometry → dirty r d ≡ (view_by m (now t).power (contents (now t) [])).dirty r d)

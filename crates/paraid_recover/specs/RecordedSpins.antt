@@ -7,7 +7,7 @@ use Rattle.paraid_record.specs.declared.meta.Meta.{Meta}
 use Rattle.paraid_image.specs.Looked.{IsLooked}
 use Rattle.paraid_image.specs.Out.{named_out}
 use Rattle.paraid_image.specs.Sides.{LogState}
-use Rattle.paraid_image.specs.Spins.{first_used}
+use Rattle.paraid_image.specs.Spins.{made_spin_ups}
 use Rattle.paraid_image.specs.Standing.{Stands}
 use Rattle.paraid_session.specs.Watch.{Bounds, IsServing, IsWithinBounds, Watch}
 
@@ -21,7 +21,7 @@ HasRecord m w c = IsServing w.down → (d : ℕ) (done : Bool) → c ≡ SpinUp 
 
 -- so the spin-ups of each disk that is there and not named out are recorded
 abbrev pub AreSpinUpsRecorded : Meta → Watch → Type 0
-AreSpinUpsRecorded m w = IsServing w.down → (d : ℕ) → d < m.setup.geometry.disks → IsPresent w.disks d → named_out m.out ≢ Some d → w.spun d ≤ first_used m w.disks.power d
+AreSpinUpsRecorded m w = IsServing w.down → (d : ℕ) → d < m.setup.geometry.disks → IsPresent w.disks d → named_out m.out ≢ Some d → w.spun d ≤ made_spin_ups m w.disks.power d
 
 -- while one disk at most is down, what stands in each image that is looked at is within the bounds
 abbrev pub StaysWithin : Bounds → Watch → Type 0
@@ -33,7 +33,7 @@ pub record IsWithinBoundsAt (b : Bounds) (spun : ℕ → ℕ) (s i : Disks) (m :
   pub same_setup : m.setup ≡ b.setup
   pub in_time : m.epoch ≤ b.epoch
   pub counted_ticks : m.ticks ≤ b.ticks
-  pub recorded : (d : ℕ) → d < b.setup.geometry.disks → IsPresent i d → named_out m.out ≢ Some d → spun d ≤ first_used m s.power d
+  pub recorded : (d : ℕ) → d < b.setup.geometry.disks → IsPresent i d → named_out m.out ≢ Some d → spun d ≤ made_spin_ups m s.power d
 
 -- so it is of all that stands, while one disk at most is down
 abbrev pub StaysWithinAt : Bounds → (ℕ → ℕ) → Disks → Watch → Type 0

@@ -14,7 +14,7 @@ use Rattle.paraid_image.specs.Standing.{Stands, other_log}
 use Rattle.paraid_recover.specs.HeldMoments.{EndsHeld, IsAbsentSince, IsOutAtEnd}
 use Rattle.paraid_recover.specs.Powers.{IsPowerCall}
 use Rattle.paraid_recover.specs.RecoveryMark.{with_mark}
-use Rattle.paraid_txn.specs.Resume.{IsBroken}
+use Rattle.paraid_txn.specs.Resume.{IsResumable}
 use Rattle.paraid_txn.specs.Uses.{EachCall}
 
 -- In image `i` this is the meta that stood; or that of the other log disk, where the one that stood
@@ -30,7 +30,7 @@ pub data StandsForeseen (s : Disks) (x : ℕ) (said : LogState) (i : Disks) (m :
 -- or was weak.
 abbrev pub StandsInMoments : ℕ → ℕ → LogState → Option Trail → Option Trail → Type 0
 StandsInMoments slots x said old new = (t : Trail) → new ≡ Some t → (s : Trail) × (old ≡ Some s) × (moments s ≤ moments t)
-    × ((h : History) (lo m : ℕ) (was down : Option ℕ) → IsBroken (now s) x said
+    × ((h : History) (lo m : ℕ) (was down : Option ℕ) → IsResumable (now s) x said
     → IsHeld slots (now s) h lo was → moments s ≤ m → m ≤ moments t
     → IsAbsentSince said.meta.setup.geometry.disks t (moments s) m down
     → ((w : ℕ) → IsWeak (now s) w → down ≡ Some w)

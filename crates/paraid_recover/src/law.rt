@@ -5,7 +5,7 @@ ghost use Rattle.paraid_rack.specs.declared.call.Call.TheVariants.{Park};
 ghost use Rattle.paraid_rack.specs.declared.call.Power.TheVariants.{Spinning};
 ghost use Rattle.paraid_rack.specs.Disks.{Disks, IsImage, is_present, step};
 ghost use Rattle.paraid_recover.specs.HeardSides.{AmongOne};
-ghost use Rattle.paraid_txn.specs.Resume.{IsBroken};
+ghost use Rattle.paraid_txn.specs.Resume.{IsResumable};
 ghost use Rattle.paraid_image.specs.Standing.{Stands};
 ghost use Rattle.paraid_record.specs.declared.meta.Meta.{Meta as MetaType};
 ghost use Rattle.paraid_image.specs.HeldAt.{IsHeld};
@@ -52,7 +52,7 @@ pub fn a_disk_can_be_parked_at_rest()
 
 /// Spin-ups of recorded disks and parks of disks that need not spin leave what is held: at each
 /// moment the disks are at rest. So they do after a recovery, whatever of them fails.
-pub fn turns_leave_what_is_held()
+pub fn power_calls_keep_a_rest()
     ensures rests { (slots : ℕ) (m : MetaType) (h : History) (lo : ℕ) (old new : Option Trail)
         → Ran old new (EachCall (IsPowerCall m))
         → Ran old new (CrashTriple (RestsBeside slots m h lo) (RestsBeside slots m h lo)
@@ -76,6 +76,6 @@ pub fn reads_leave_what_can_be_recovered()
         → ((i : Disks) (w : ℕ) → IsImage s i → IsWeak i w → down ≡ Some w)
         → IsHeld slots s h lo was → AmongOne s t
         → ((d : ℕ) → d < 2 → is_present (t.power d) ≡ false → down ≡ Some d)
-        → Stands t x said → IsBroken t x said × IsHeld slots t h lo down
+        → Stands t x said → IsResumable t x said × IsHeld slots t h lo down
         × ((w : ℕ) → IsWeak t w → down ≡ Some w) }
 {}

@@ -36,7 +36,7 @@ ghost use Rattle.paraid_recover.specs.StartHeld.{HoldsAfter};
 ghost use Rattle.paraid_recover.specs.StandingMetas.{StandsForeseen};
 ghost use Rattle.paraid_recover.specs.StartParts.{AreMountCalls, EndsRefused, EndsServed};
 ghost use Rattle.paraid_recover.specs.RecordedSpins.{AreSpinUpsRecorded, HasRecord, IsWithinBoundsAt, OnlyStands, StaysWithin, StaysWithinAt};
-ghost use Rattle.paraid_txn.specs.Resume.{IsBroken};
+ghost use Rattle.paraid_txn.specs.Resume.{IsResumable};
 ghost use Rattle.paraid_txn.specs.Uses.{EachCall, Uses, UsesInCommit, UsesSync};
 
 /// The calls of each part of a mount are such as a mount may make; and they are all that a session
@@ -78,7 +78,7 @@ pub fn reads_hold_what_was_held()
     ensures { (slots n side : ℕ) (said : LogState) (from read t : Trail) (rs ls : List CallType)
         → read ≡ extend from rs → t ≡ extend read ls → EachCall ReadsLogs (now from) rs
         → Stands (now read) side said
-        → ((h : History) (lo m : ℕ) (was down : Option ℕ) → IsBroken (now read) side said
+        → ((h : History) (lo m : ℕ) (was down : Option ℕ) → IsResumable (now read) side said
         → IsHeld slots (now read) h lo was → moments read ≤ m → m ≤ moments t
         → IsAbsentSince said.meta.setup.geometry.disks t (moments read) m down
         → ((w : ℕ) → IsWeak (now read) w → down ≡ Some w) → IsHeld slots (disks t m) h lo down)
@@ -196,7 +196,7 @@ pub fn what_is_foreseen_is_within_bounds()
         (m : MetaType) → IsRunStart slots s h lo down → Stands s x said
         → IsBase s x said base ticks → EachCall ReadsLogs s rs
         → IsServing (watch_all rs (start_watch s down base)).down
-        → IsBroken (run s rs) side after → StandsForeseen (run s rs) side after i m
+        → IsResumable (run s rs) side after → StandsForeseen (run s rs) side after i m
         → IsWithinBoundsAt (mount_bounds said ticks) base s i m }
 {}
 

@@ -19,7 +19,7 @@ use Rattle.paraid_image.specs.Rest.{IsAtRest, closed_over}
 use Rattle.paraid_image.specs.Sides.{LogState, Says}
 use Rattle.paraid_image.specs.Sound.{Pairing}
 use Rattle.paraid_image.specs.Sound.Pairing.{alike, first_ahead, first_done, second_ahead, second_done}
-use Rattle.paraid_image.specs.Spins.{first_used, is_parked, pending_spin_ups}
+use Rattle.paraid_image.specs.Spins.{made_spin_ups, is_parked, pending_spin_ups}
 use Rattle.paraid_image.specs.Spot.{rising_to}
 use Rattle.paraid_image.specs.Standing.{Stands}
 use Rattle.paraid_image.proofs.HeldLemmas.{image_is}
@@ -45,7 +45,7 @@ no_rise true b c is = rw is refl
 no_rise false b c is = refl
 
 -- in no shift nothing is pending
-pub used_is : (m : Meta) (power : ℕ → Power) (d : ℕ) → m.phase ≡ Steady → first_used m power d ≡ slice_index m.spins d
+pub used_is : (m : Meta) (power : ℕ → Power) (d : ℕ) → m.phase ≡ Steady → made_spin_ups m power d ≡ slice_index m.spins d
 used_is m power d steady =
     let none : nat_lt d (rising_to m.phase) ≡ false = ap (λ (p : Phase). nat_lt d (rising_to p)) steady ∙ below_none d in
     let zero_is : pending_spin_ups m power d ≡ 0 = no_rise (nat_le m.gear d) (nat_lt d (rising_to m.phase)) (is_parked (power d)) none in

@@ -20,7 +20,7 @@ use Rattle.paraid_image.specs.Power.{PowerState, gone_of, initial_state, out_aft
 use Rattle.paraid_image.specs.Rest.{closed_over}
 use Rattle.paraid_image.specs.Shown.{IsShown}
 use Rattle.paraid_image.specs.Sides.{LogState, Says}
-use Rattle.paraid_image.specs.Spins.{first_used}
+use Rattle.paraid_image.specs.Spins.{made_spin_ups}
 use Rattle.paraid_image.specs.Standing.{Stands, other_log}
 use Rattle.paraid_image.proofs.HeldLemmas.{IsHeld-more}
 use Rattle.paraid_image.proofs.OutLemmas.{first_absent_is}
@@ -177,7 +177,7 @@ module _ (slots : ℕ) (t : Disks) (m : Meta) (h : History) (lo : ℕ) (calm : I
 
   is_base : (x : ℕ) → x < 2 → IsBase t x (closed_over m) (λ d. slice_index m.spins d) m.ticks
   is_base x low = lesser (other_log x) (closed_over m) (may_lose x (let n = many in omega (arith, n, low))) (other_stands x low)
-      (λ d. min_same (slice_index m.spins d) (first_used m t.power d) (first_used m t.power d) (used_is m t.power d calm.steady) (used_is m t.power d calm.steady)) (max_same m.ticks)
+      (λ d. min_same (slice_index m.spins d) (made_spin_ups m t.power d) (made_spin_ups m t.power d) (used_is m t.power d calm.steady) (used_is m t.power d calm.steady)) (max_same m.ticks)
 
   -- what holds at the moment
   pub calm_kept : (b : Bounds) (w : Watch) → w.disks ≡ t → w.down ≡ nobody → ((d : ℕ) → w.spun d ≡ slice_index m.spins d) → m.setup ≡ b.setup → m.epoch ≤ b.epoch → m.ticks ≤ b.ticks → HoldsWhileServing slots h lo b w

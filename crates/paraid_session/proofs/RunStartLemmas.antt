@@ -27,7 +27,7 @@ use Rattle.paraid_image.specs.Out.IsWeak.{out}
 use Rattle.paraid_image.specs.Power.{gone_of, initial_state, out_after, state_by}
 use Rattle.paraid_image.specs.Rest.{AreSynced, closed_over}
 use Rattle.paraid_image.specs.Sides.{LogState}
-use Rattle.paraid_image.specs.Spins.{first_used}
+use Rattle.paraid_image.specs.Spins.{made_spin_ups}
 use Rattle.paraid_image.specs.Standing.{Stands}
 use Rattle.paraid_image.proofs.AlikeLemmas.{weak_alike}
 use Rattle.paraid_image.proofs.LookedLemmas.{entry_of_looked, weak_lost}
@@ -108,7 +108,7 @@ pub mount_stop : (slots : ℕ) (s : Disks) (x : ℕ) (said : LogState) (h : Hist
     → IsServing (watch_all done (start_watch s down m.base)).down → IsStop slots (run s done) h lo
 mount_stop slots s x said h lo down done rest m serving = each_stop slots h lo _ _ (start_watch s down m.base) done rest m.moments serving
 
-same_power : (m : Meta) (f g : ℕ → Power) (d : ℕ) → f d ≡ g d → first_used m f d ≡ first_used m g d
+same_power : (m : Meta) (f g : ℕ → Power) (d : ℕ) → f d ≡ g d → made_spin_ups m f d ≡ made_spin_ups m g d
 same_power m f g d is = rw is refl
 
 min_at_least : (n a b c : ℕ) → n ≤ a → n ≤ b → c ≡ min a b → n ≤ c
@@ -139,7 +139,7 @@ module _ (slots : ℕ) (h : History) (lo : ℕ) (b : Bounds) (w : Watch) (kept :
       let first = (kept.within serving x i said (whole image) stands).recorded d below here not in
       let there : IsPresent (lose x i) d = ap is_present power ∙ here in
       let second = (kept.within serving y (lose x i) other (lost i x image may refl) stood).recorded d below there (not_named i x y d other image may low stood below high) in
-      min_at_least (w.spun d) (first_used said.meta i.power d) (first_used other.meta i.power d) (base d) first
+      min_at_least (w.spun d) (made_spin_ups said.meta i.power d) (made_spin_ups other.meta i.power d) (base d) first
       (subst (λ (n : ℕ). w.spun d ≤ n) (same_power other.meta (lose x i).power i.power d power) second) (is d)
 
   -- an image with a disk lost can not lose a log disk that is there

@@ -187,7 +187,7 @@ module _ (slots : ℕ) (s : Disks) (m : Meta) (h : History) (order : IsInOrder s
             writes = writes;
             single = λ d e missing other. absurd (nothing_missing d (as_old d missing));
             standing_in = λ e. not_named 0 (sym out_same ∙ e);
-            fresh_shut = λ d rebuilt fresh low. absurd (not_named d (sym out_same ∙ ap named_out fresh.is));
+            fresh_closed = λ d rebuilt fresh low. absurd (not_named d (sym out_same ∙ ap named_out fresh.is));
             targets_spin = λ t names not. absurd (nothing t (subst (λ (l : Batch). Contains (targets l) t) batch names));
             formed = λ y low here not. formed y low;
             paired = λ p q says_p says_q not_first not_last.

@@ -12,7 +12,7 @@ use Rattle.paraid_record.specs.declared.meta.Setup.{Setup}
 use Rattle.paraid_image.specs.Calls.{disk_of, is_attach, reads_log}
 use Rattle.paraid_image.specs.RunStart.{IsRunStart}
 use Rattle.paraid_image.specs.HeldAt.{MayLose}
-use Rattle.paraid_image.specs.Spins.{first_used}
+use Rattle.paraid_image.specs.Spins.{made_spin_ups}
 use Rattle.paraid_image.specs.Power.{PowerState, initial_state}
 use Rattle.paraid_image.specs.Shown.{IsBeginning}
 use Rattle.paraid_image.specs.Sides.{LogState}
@@ -26,9 +26,9 @@ use Rattle.paraid_rack.specs.Calls.{AreReads}
 -- or where it may be lost and the other one stands then, the lesser, and the more, of what both have.
 pub data IsBase (s : Disks) (x : ℕ) (said : LogState) (base : ℕ → ℕ) (ticks : ℕ) : Type 0 where
   alone : ((y : ℕ) (other : LogState) → MayLose s x → Stands (lose x s) y other → ⊥)
-      → ((d : ℕ) → base d ≡ first_used said.meta s.power d) → ticks ≡ said.meta.ticks → IsBase s x said base ticks
+      → ((d : ℕ) → base d ≡ made_spin_ups said.meta s.power d) → ticks ≡ said.meta.ticks → IsBase s x said base ticks
   lesser : (y : ℕ) (other : LogState) → MayLose s x → Stands (lose x s) y other
-      → ((d : ℕ) → base d ≡ min (first_used said.meta s.power d) (first_used other.meta s.power d))
+      → ((d : ℕ) → base d ≡ min (made_spin_ups said.meta s.power d) (made_spin_ups other.meta s.power d))
       → ticks ≡ max said.meta.ticks other.meta.ticks → IsBase s x said base ticks
 
 -- what is watched from where a run begins

@@ -16,7 +16,7 @@ use Rattle.paraid_image.specs.Lost.{EndsFailing}
 pub use Rattle.paraid_image.specs.Lost.{fails_on, first_lost}
 use Rattle.paraid_image.specs.Out.{named_out}
 use Rattle.paraid_image.specs.Sides.{LogState}
-use Rattle.paraid_image.specs.Spins.{first_used}
+use Rattle.paraid_image.specs.Spins.{made_spin_ups}
 use Rattle.paraid_image.specs.Standing.{Stands}
 
 -- how many disks are down: none, one, or more
@@ -105,7 +105,7 @@ pub record IsWithinBounds (b : Bounds) (spun : ℕ → ℕ) (i : Disks) (m : Met
   pub in_time : m.epoch ≤ b.epoch
   pub counted_ticks : m.ticks ≤ b.ticks
   pub recorded : (d : ℕ) → d < b.setup.geometry.disks → IsPresent i d → named_out m.out ≢ Some d
-      → spun d ≤ first_used m i.power d
+      → spun d ≤ made_spin_ups m i.power d
 
 -- What holds at each moment, while at most one disk is down: each stop leaves a first part of `h`
 -- of at least `lo` writes, and in each image that is looked at what stands is within the bounds.

@@ -27,7 +27,7 @@ ghost use Rattle.paraid_session.specs.Watch.{Bounds, HoldsWhileServing, IsServin
 /// While at most one disk was ever down, each image that is looked at, at each moment of an event
 /// or of a mount, served or refused, is an entry of the next run for the history of that moment and
 /// the writes that were kept before it.
-pub fn a_stop_leaves_an_entry()
+pub fn a_stop_leaves_a_run_start()
     ensures moment { (slots : ℕ) (h : History) (lo : ℕ) (b : Bounds) (w : Watch) (i : Disks)
         → HoldsWhileServing slots h lo b w → IsServing w.down → IsLooked w.disks i
         → (own : Option ℕ) × IsRunStart slots i h lo own }
@@ -49,7 +49,7 @@ pub fn a_stop_leaves_an_entry()
 {}
 
 /// Between two events the disks are an entry, with the disk that is out as the one that is down.
-pub fn a_mark_is_an_entry()
+pub fn a_mark_is_a_run_start()
     ensures { (slots : ℕ) (setup : SetupType) (p : Point) → IsMark slots setup p
         → IsRunStart slots p.disks p.history p.low (named_out p.state.out) }
 {}

@@ -132,7 +132,7 @@ module _ (j : Job) (good : IsSpelled j) (names : job_named j ≡ named_out j.met
           let at = x_or_other d ld (λ e. live_x.1 (is ∙ ap (λ (w : ℕ). Some w) e)) in
           let same : i.block d 0 ≡ j.start.block d 0 =
           subst (λ (w : ℕ). i.block w 0 ≡ j.start.block w 0) (sym at) (c.still 0 (is ∙ ap (λ (w : ℕ). Some w) at) (subst (IsPresent i) at f.present)) in
-          ap is_open (stored_start j i c.kept d 0 f.present same) ∙ log.fresh_shut d rebuilt (record { is = f.is; present = c.kept.present d f.present }) ld
+          ap is_open (stored_start j i c.kept d 0 f.present same) ∙ log.fresh_closed d rebuilt (record { is = f.is; present = c.kept.present d f.present }) ld
 
       -- where a live log disk stands that is closed over the meta
       for_shut : (P : LogState → Type 0) → ((a b : LogState) → P a → P b → Pairing a b) → ((z : ℕ) → IsLiveLog j z → IsPresent i z → (o : LogState) × Says i z o × P o)
@@ -295,7 +295,7 @@ module _ (j : Job) (good : IsSpelled j) (names : job_named j ≡ named_out j.met
               writes = refl;
               single = single_then;
               standing_in = ok.standing_in;
-              fresh_shut = λ d rebuilt f ld. absurd (ok.standing_in (ap named_out f.is ∙ ap (λ (w : ℕ). Some w) (only_other d ld f.present)));
+              fresh_closed = λ d rebuilt f ld. absurd (ok.standing_in (ap named_out f.is ∙ ap (λ (w : ℕ). Some w) (only_other d ld f.present)));
               targets_spin = spins_then;
               formed = λ z lz there out. (then_says, subst (λ (w : ℕ). Says i w then_says) (sym (only_other z lz there)) says);
               paired = λ a b p q out0 out1.

@@ -92,7 +92,7 @@ module _ (j : Job) (i : Disks) (kept : KeepsSlotsAndLogs j i)
     writes = ap (λ (n : Meta). n.writes) is_meta;
     single = subst (λ (n : Meta). (d e : ℕ) → IsMissing i.power n d → IsMissing i.power n e → d ≡ e) (sym is_meta) single;
     standing_in = subst (λ (n : Meta). named_out n.out ≢ Some z) (sym is_meta) in_array;
-    fresh_shut = subst (λ (n : Meta). (d rebuilt : ℕ) → IsFresh i.power n d rebuilt → d < 2 → is_open (stored_block i d 0) ≡ false) (sym is_meta) fresh;
+    fresh_closed = subst (λ (n : Meta). (d rebuilt : ℕ) → IsFresh i.power n d rebuilt → d < 2 → is_open (stored_block i d 0) ≡ false) (sym is_meta) fresh;
     targets_spin = subst (λ (n : Meta). (t : Target) → Contains (targets said.batch) t → out_disk i.power n ≢ Some t.disk → i.power t.disk ≡ Spinning) (sym is_meta) spins;
     formed = λ y low here not. let v = voice y low here (subst (λ (n : Meta). out_disk i.power n ≢ Some y) is_meta not) in (v.0, v.1);
     paired = λ a b p q out0 out1.
@@ -136,7 +136,7 @@ module _ (j : Job) (b : IsBrought j) where
     new_fresh d rebuilt f low =
         let is : job_named j ≡ Some d = b.names ∙ ap named_out f.is in
         ap is_open (stored_start j i kept d 0 f.present (aside d 0 low is (omega arith) f.present))
-        ∙ b.fresh_shut d rebuilt (record { is = f.is; present = kept.present d f.present }) low
+        ∙ b.fresh_closed d rebuilt (record { is = f.is; present = kept.present d f.present }) low
 
     pub new_brought : (said : LogState) (t : Target) → said ≡ new → Contains (targets said.batch) t → IsTargetInRange j.meta.setup.geometry t
         × (named_out j.meta.out ≢ Some t.disk → IsPresent j.start t.disk → j.start.power t.disk ≡ Spinning)
@@ -452,7 +452,7 @@ module _ (j : Job) (before : Meta) (begun : IsBegun j before) where
         | inr live ↦ old_shut z said s is not d rebuilt (low, live) f.present f.is
         | inl name ↦
             ap is_open (stored_start j i kept d 0 f.present (aside d 0 low name (omega arith) f.present))
-            ∙ begun.rest.log.fresh_shut d rebuilt (record { is = f.is; present = kept.present d f.present }) low
+            ∙ begun.rest.log.fresh_closed d rebuilt (record { is = f.is; present = kept.present d f.present }) low
       ]
 
       old_says : (x : ℕ) → IsLiveLog j x → IsPresent i x → named_out before.out ≢ Some x → (o : LogState) × Says i x o × IsEarly o

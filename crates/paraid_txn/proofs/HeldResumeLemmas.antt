@@ -18,7 +18,7 @@ use Rattle.paraid_image.specs.Content.{view_by, view_of}
 use Rattle.paraid_image.specs.HeldAt.{IsHeld, IsSoundFrom, MayLose}
 use Rattle.paraid_image.specs.Out.{IsMissing, IsWeak, first_absent, named_out, out_disk}
 use Rattle.paraid_image.specs.Out.IsWeak.{out as out_weak, named as named_weak}
-use Rattle.paraid_txn.specs.Resume.{IsFallback, ImageStandsForBroken}
+use Rattle.paraid_txn.specs.Resume.{IsFallback, ImageStandsForResumed}
 use Rattle.paraid_image.specs.Sides.{Batch, LogState, Says, has_place, stored_block}
 use Rattle.paraid_image.specs.Sound.{AreWitnessesTrue, ContentOk, LogOk}
 use Rattle.paraid_image.specs.Standing.{contents, overlaid_block, other_log}
@@ -261,7 +261,7 @@ module _ (slots : ℕ) (s0 : Disks) (x : ℕ) (said : LogState) (h : History) (l
 
   -- Where the disk that is down is each that is absent or was weak, what was held is held.
   module _ (s : Disks) (down : Option ℕ) (downs : (d : ℕ) → d < said.meta.setup.geometry.disks → is_present (s.power d) ≡ false → down ≡ Some d)
-      (weaks : (w : ℕ) → IsWeak s0 w → down ≡ Some w) (images : IsEachImage said.meta said.meta (ImageStandsForBroken s0 x said) s) where
+      (weaks : (w : ℕ) → IsWeak s0 w → down ≡ Some w) (images : IsEachImage said.meta said.meta (ImageStandsForResumed s0 x said) s) where
     some_same : (d e : ℕ) → down ≡ Some d → down ≡ Some e → d ≡ e
     some_same d e p q = let z : Some d ≡ Some e = sym p ∙ q in cc
 
@@ -278,7 +278,7 @@ module _ (slots : ℕ) (s0 : Disks) (x : ℕ) (said : LogState) (h : History) (l
         either d (inl p) = p
         either d (inr p) = p
 
-    resumed : (i : Disks) → IsImage s i → ImageStandsForBroken s0 x said i
+    resumed : (i : Disks) → IsImage s i → ImageStandsForResumed s0 x said i
     resumed i image = images.whole i image (one i image)
 
     -- where the log disk that stood is absent, no other disk was weak
@@ -295,7 +295,7 @@ module _ (slots : ℕ) (s0 : Disks) (x : ℕ) (said : LogState) (h : History) (l
 
     -- where it is the one that is lost, each disk that was weak is weak
     module _ (i : Disks) (image : IsImage s i) (here : IsPresent i x) (weak : (w : ℕ) → IsWeak i w → w ≡ x) (f : IsFallback s0 x (lose x i)) where
-      r : ImageStandsForBroken s0 x said i
+      r : ImageStandsForResumed s0 x said i
       r = resumed i image
 
       for : ImageStandsFor s0 i said.meta said.batch
@@ -381,10 +381,10 @@ module _ (slots : ℕ) (s0 : Disks) (x : ℕ) (said : LogState) (h : History) (l
     held_weak : (i : Disks) (w : ℕ) → IsImage s i → IsWeak i w → down ≡ Some w
     held_weak i w image weak = go (resumed i image) weak
       where
-        go : ImageStandsForBroken s0 x said i → IsWeak i w → down ≡ Some w
+        go : ImageStandsForResumed s0 x said i → IsWeak i w → down ≡ Some w
         go r weak = elim r.stands [ inl for ↦ new r for weak | inr f ↦ old r f weak ]
           where
-            new : ImageStandsForBroken s0 x said i → ImageStandsFor s0 i said.meta said.batch → IsWeak i w → down ≡ Some w
+            new : ImageStandsForResumed s0 x said i → ImageStandsFor s0 i said.meta said.batch → IsWeak i w → down ≡ Some w
             new r for (out_weak z v st e) =
                 let same = (Stands-same i z for.disk v for.said st for.log.stands).1 in
                 missing_down i image w (out_missing i.power said.meta w range
@@ -403,7 +403,7 @@ module _ (slots : ℕ) (s0 : Disks) (x : ℕ) (said : LogState) (h : History) (l
                       weaks w (named_weak x said meta.1 log.stands (was_none r for none_now) (subst (λ (u : ℕ). Says s0 u meta.1) at meta.3) name)
                 ]
               where
-                was_none : ImageStandsForBroken s0 x said i → ImageStandsFor s0 i said.meta said.batch → out_disk i.power said.meta ≡ None → out_disk s0.power said.meta ≡ None
+                was_none : ImageStandsForResumed s0 x said i → ImageStandsFor s0 i said.meta said.batch → out_disk i.power said.meta ≡ None → out_disk s0.power said.meta ≡ None
                 was_none r for none_now = elim (decide_out (out_disk s0.power said.meta)) [
                   | inr none ↦ none
                   | inl e ↦
@@ -416,7 +416,7 @@ module _ (slots : ℕ) (s0 : Disks) (x : ℕ) (said : LogState) (h : History) (l
                       let z : None ≡ Some e.0 = sym none_now ∙ is in cc
                 ]
 
-            old_by : (r : ImageStandsForBroken s0 x said i) (f : IsFallback s0 x i) (without : IsSoundFrom slots (lose x s0) h lo) → down ≡ Some x → IsWeak i w → down ≡ Some w
+            old_by : (r : ImageStandsForResumed s0 x said i) (f : IsFallback s0 x i) (without : IsSoundFrom slots (lose x s0) h lo) → down ≡ Some x → IsWeak i w → down ≡ Some w
             old_by r f without down_x (out_weak z v st e) =
                 let for = f.stands without.sound.disk without.sound.said without.k without.sound.log in
                 let same = (Stands-same i z for.disk v for.said st for.log.stands).1 in
@@ -430,7 +430,7 @@ module _ (slots : ℕ) (s0 : Disks) (x : ℕ) (said : LogState) (h : History) (l
                 let some = absent_out i.power v.meta x (omega arith) f.gone in
                 let z : None ≡ Some some.0 = sym none ∙ some.1 in cc
 
-            old : ImageStandsForBroken s0 x said i → IsFallback s0 x i → IsWeak i w → down ≡ Some w
+            old : ImageStandsForResumed s0 x said i → IsFallback s0 x i → IsWeak i w → down ≡ Some w
             old r f weak =
                 let without = without_x (gone_weak i image f.gone) in
                 let down_x : down ≡ Some x = downs x x_low (ap is_present (sym (image.power x)) ∙ f.gone) in

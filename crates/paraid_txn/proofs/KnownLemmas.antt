@@ -7,7 +7,7 @@ use Rattle.paraid_rack.specs.declared.call.Call.{Call}
 use Rattle.paraid_rack.specs.declared.call.Call.TheVariants.{Read, Write, Sync, Park, SpinUp, Attach}
 use Rattle.paraid_rack.specs.declared.call.Power.{Power}
 use Rattle.paraid_rack.specs.declared.call.Power.TheVariants.{Parked, Spinning}
-use Rattle.paraid_rack.specs.Disks.{Disks, IsPresent, after_attach, is_present, loose_after_sync, power_after, step, with_at}
+use Rattle.paraid_rack.specs.Disks.{Disks, IsPresent, after_attach, is_present, loose_after, power_after, step, with_at}
 use Rattle.paraid_rack.specs.Slots.{Agrees, Slot}
 use Rattle.paraid_rack.specs.Told.{GrowsByCall, Ran}
 use Rattle.paraid_rack.specs.Trail.{Trail, now, run}
@@ -51,7 +51,7 @@ unfolding step
 attach_sure s d0 size done x not sure = record {
   holds = λ here.
       let was = sure.holds (other_there s d0 (power_after done Spinning) 2 not here) in (
-        ap (λ (f : ℕ → Bool). f x) (with_at_other s.loose d0 (loose_after_sync done (s.loose d0)) 2 not) ∙ was.0,
+        ap (λ (f : ℕ → Bool). f x) (with_at_other s.loose d0 (loose_after done (s.loose d0)) 2 not) ∙ was.0,
         subst (λ (f : ℕ → Block). is_open (f x) ≡ true) (sym (with_at_other s.block d0 (after_attach done (s.block d0)) 2 not)) was.1,
       );
 }

@@ -10,7 +10,7 @@ use Rattle.paraid_rack.proofs.TrailsLemmas.{moments_of, now-extend}
 use Rattle.paraid_record.specs.declared.meta.Meta.{Meta}
 use Rattle.paraid_image.specs.Rest.{IsAtRest}
 use Rattle.paraid_txn.specs.Commit.{EndsCommitted, IsCommitted, IsEachImage, IsNext, IsOldOrNew, IsWholeOrAbsent}
-use Rattle.paraid_txn.specs.Resume.{IsBroken, StandsWhileResumed, EndsResume, ImageStandsForBroken, EndsAsCommitted}
+use Rattle.paraid_txn.specs.Resume.{IsResumable, StandsWhileResumed, EndsResume, ImageStandsForResumed, EndsAsCommitted}
 use Rattle.paraid_image.specs.Sides.{Batch, LogState}
 
 -- less is said at each moment
@@ -100,10 +100,10 @@ commits_now old new before after batch = ran_now (λ start end. IsAtRest start b
 -- the end of an interrupted commit, by its moments
 pub resume_moments : (old new : Option Trail) (x : ℕ) (said : LogState) → StandsWhileResumed old new x said → (t : Trail) → new ≡ Some t
     → (s : Trail) × (old ≡ Some s) × (moments s ≤ moments t)
-    × (IsBroken (now s) x said → (m : ℕ) → moments s ≤ m → m ≤ moments t → IsEachImage said.meta said.meta (ImageStandsForBroken (now s) x said) (disks t m))
-resume_moments old new x said = ran_moments (λ start. IsEachImage said.meta said.meta (ImageStandsForBroken start x said)) (λ start. IsBroken start x said) old new
+    × (IsResumable (now s) x said → (m : ℕ) → moments s ≤ m → m ≤ moments t → IsEachImage said.meta said.meta (ImageStandsForResumed (now s) x said) (disks t m))
+resume_moments old new x said = ran_moments (λ start. IsEachImage said.meta said.meta (ImageStandsForResumed start x said)) (λ start. IsResumable start x said) old new
 
 -- and at its end
 pub settles_now : (old new : Option Trail) (x : ℕ) (said : LogState) → EndsAsCommitted old new x said → (t : Trail) → new ≡ Some t
-    → (s : Trail) × (old ≡ Some s) × (IsBroken (now s) x said → EndsResume (now t) said.meta)
-settles_now old new x said = ran_now (λ start end. IsBroken start x said → EndsResume end said.meta) old new
+    → (s : Trail) × (old ≡ Some s) × (IsResumable (now s) x said → EndsResume (now t) said.meta)
+settles_now old new x said = ran_now (λ start end. IsResumable start x said → EndsResume end said.meta) old new

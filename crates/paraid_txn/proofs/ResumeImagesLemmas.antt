@@ -16,7 +16,7 @@ use Rattle.paraid_image.specs.Rest.{AreLogGatesClosed, AreSynced, closed_over}
 use Rattle.paraid_txn.specs.Commit.{KeepsSlots, IsEachImage, ImageStandsFor}
 use Rattle.paraid_image.specs.Out.{IsMissing, IsWeak, named_out, out_disk}
 use Rattle.paraid_image.specs.Out.IsWeak.{out as out_weak}
-use Rattle.paraid_txn.specs.Resume.{IsCatchUpImage, IsFallback, EndsResume, LeadsResume, ImageStandsForBroken, HoldsThroughResume}
+use Rattle.paraid_txn.specs.Resume.{IsCatchUpImage, IsFallback, EndsResume, LeadsResume, ImageStandsForResumed, HoldsThroughResume}
 use Rattle.paraid_image.specs.Sides.{Batch, LogState, Says, is_open, stored_block, targets}
 use Rattle.paraid_image.specs.Sound.{IsAhead, IsBatchInPlace, LogOk, Pairing}
 use Rattle.paraid_image.specs.Sound.Pairing.{alike, first_ahead, second_ahead, first_done, second_done}
@@ -167,7 +167,7 @@ module _ (j : Job) (good : IsSpelled j) (names : job_named j ≡ named_out j.met
   brought = record {
     good = good;
     names = names;
-    fresh_shut = log.fresh_shut;
+    fresh_closed = log.fresh_closed;
     second = λ z o lz is says.
         let at = x_or_y z lz (λ e. leads.live.1 (is ∙ ap (λ (w : ℕ). Some w) e)) in
         subst (λ (w : ℕ). stands_before w new o ≡ true) (sym (ap other_log at ∙ other_other x low))
@@ -344,7 +344,7 @@ module _ (j : Job) (good : IsSpelled j) (names : job_named j ≡ named_out j.met
             writes = refl;
             single = single_old;
             standing_in = ok.standing_in;
-            fresh_shut = λ d rebuilt f ld. absurd (ok.standing_in (ap named_out f.is ∙ ap (λ (w : ℕ). Some w) (only_y d ld f.present)));
+            fresh_closed = λ d rebuilt f ld. absurd (ok.standing_in (ap named_out f.is ∙ ap (λ (w : ℕ). Some w) (only_y d ld f.present)));
             targets_spin = λ t c out. absurd (none_in_empty t (subst (λ (o : LogState). Contains (targets o.batch) t) shut_old c));
             formed = λ z lz here out. (old, subst (λ (w : ℕ). Says i w old) (sym (only_y z lz here)) says);
             paired = λ a b p q out0 out1.
@@ -574,7 +574,7 @@ module _ (s0 : Disks) (x : ℕ) (low : x < 2) (m : Meta) (batch : Batch) (range 
       })
     ]
 
-  pub meant_images : (said : LogState) → said.meta ≡ m → said.batch ≡ batch → IsEachImage m m (ImageStandsForBroken s0 x said) s
+  pub meant_images : (said : LogState) → said.meta ≡ m → said.batch ≡ batch → IsEachImage m m (ImageStandsForResumed s0 x said) s
   meant_images said is_m is_b = record {
     whole = λ i image one.
         let left = image_left s i image in

@@ -13,7 +13,7 @@ use Rattle.paraid_rack.specs.Trail.{Trail, now, run}
 use Rattle.paraid_record.specs.declared.meta.Meta.{Meta}
 use Rattle.paraid_txn.specs.Commit.{IsEachImage, ImageStandsFor}
 use Rattle.paraid_image.specs.Out.{named_out}
-use Rattle.paraid_txn.specs.Resume.{IsBroken, StandsWhileResumed, LeadsResume, ImageStandsForBroken, HoldsThroughResume, AreDisksSame, EndsAsCommitted, EndsLaid, ShutEnd, HoldsThroughShut, log_state}
+use Rattle.paraid_txn.specs.Resume.{IsResumable, StandsWhileResumed, LeadsResume, ImageStandsForResumed, HoldsThroughResume, AreDisksSame, EndsAsCommitted, EndsLaid, ShutEnd, HoldsThroughShut, log_state}
 use Rattle.paraid_image.specs.Sides.{Batch, Says, is_open}
 use Rattle.paraid_txn.specs.CommitStages.{CloseStage, IsLiveLog, IsSpelled, Job, job}
 use Rattle.paraid_image.specs.Standing.{other_log}
@@ -54,7 +54,7 @@ module _ (m : Meta) (batch : Batch) (spelled list : Block) (x : ℕ) (good : (st
   }
 
   -- the log disk that stands is open
-  leads : (s : Trail) (is : old ≡ Some s) → IsBroken (now s) x (log_state true m batch) → LeadsResume (it (now s)) x
+  leads : (s : Trail) (is : old ≡ Some s) → IsResumable (now s) x (log_state true m batch) → LeadsResume (it (now s)) x
   leads s is broken = record {
     live = live (now s);
     large = large s is;
@@ -92,7 +92,7 @@ module _ (m : Meta) (batch : Batch) (spelled list : Block) (x : ℕ) (good : (st
         holds = λ broken.
             let lead = leads r.from r.was broken in
             kept_and m batch g.in_range.each (now r.from) broken.synced r.calls (same_calls (Uses m batch) old new each t tells r.from r.calls r.was r.is)
-            (HoldsThroughResume j x) (IsEachImage m m (ImageStandsForBroken (now r.from) x (log_state true m batch)))
+            (HoldsThroughResume j x) (IsEachImage m m (ImageStandsForResumed (now r.from) x (log_state true m batch)))
             (λ s now_is witnesses.
             meant_images (now r.from) x low m batch g.meta.in_range s
             (λ i left single. resuming_each j g refl x lead broken.log spins s now_is i left single)
@@ -148,9 +148,9 @@ module _ (m : Meta) (batch : Batch) (spelled list : Block) (x : ℕ) (good : (st
           calls = r.calls;
           is = r.is;
           holds = λ broken.
-              let log = subst (λ v. IsBroken (now r.from) x v) heard_is broken in
+              let log = subst (λ v. IsResumable (now r.from) x v) heard_is broken in
               kept_and m batch g.in_range.each (now r.from) broken.synced r.calls (same_calls (Uses m batch) old new each t tells r.from r.calls r.was r.is)
-              (HoldsThroughShut j (other_log x)) (IsEachImage m m (ImageStandsForBroken (now r.from) x (log_state false m batch)))
+              (HoldsThroughShut j (other_log x)) (IsEachImage m m (ImageStandsForResumed (now r.from) x (log_state false m batch)))
               (λ s now_is witnesses.
               meant_images (now r.from) x low m [] g.meta.in_range s
               (λ i left single. shut_each j g refl x (live (now r.from)) (large r.from r.was) log.log i (now_is.each i left) single)
@@ -172,7 +172,7 @@ module _ (m : Meta) (batch : Batch) (spelled list : Block) (x : ℕ) (good : (st
           calls = r.calls;
           is = r.is;
           holds = λ broken.
-              let log = subst (λ v. IsBroken (now r.from) x v) heard_is broken in
+              let log = subst (λ v. IsResumable (now r.from) x v) heard_is broken in
               let all = r.holds (same r.from r.was broken.synced) in
               let y_low : other_log x < 2 = omega (arith, low) in
               let whole = Through-end (HoldsThroughShut j (other_log x)) (now r.from) r.calls all.0 in
@@ -196,7 +196,7 @@ module _ (m : Meta) (batch : Batch) (spelled list : Block) (x : ℕ) (good : (st
           calls = r.calls;
           is = r.is;
           holds = λ broken one.
-              let log = subst (λ v. IsBroken (now r.from) x v) heard_is broken in
+              let log = subst (λ v. IsResumable (now r.from) x v) heard_is broken in
               let all = r.holds (same r.from r.was broken.synced) in
               let y_low : other_log x < 2 = omega (arith, low) in
               let image = (Through-end (HoldsThroughShut j (other_log x)) (now r.from) r.calls all.0).each end (left_self end) in

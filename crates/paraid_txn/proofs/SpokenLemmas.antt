@@ -63,7 +63,7 @@ after_epoch (suc x) a o is = second_epoch_too a.meta.epoch o.meta.epoch _ is
 pub record IsBrought (j : Job) : Type 0 where
   pub good : IsSpelled j
   pub names : job_named j ≡ named_out j.meta.out
-  pub fresh_shut : (d rebuilt : ℕ) → IsFresh j.start.power j.meta d rebuilt → d < 2 → is_open (stored_block j.start d 0) ≡ false
+  pub fresh_closed : (d rebuilt : ℕ) → IsFresh j.start.power j.meta d rebuilt → d < 2 → is_open (stored_block j.start d 0) ≡ false
   pub second : (y : ℕ) (o : LogState) → y < 2 → job_named j ≡ Some y → Says j.start y o → stands_before (other_log y) (open_with j) o ≡ true
   pub spins : (t : Target) → Contains (targets j.batch) t → job_gone j ≢ Some t.disk → IsPresent j.start t.disk → j.start.power t.disk ≡ Spinning
 
@@ -122,7 +122,7 @@ module _ (j : Job) (before : Meta) (begun : IsBegun j before) where
   pub joining_shut : (q : ℕ) → IsLiveLog j q → IsPresent j.start q → named_out before.out ≡ Some q → is_open (stored_block j.start q 0) ≡ false
   joining_shut q live here is =
       let was = begun.next.comes_in q live.0 here is (λ e. live.1 (begun.names ∙ e)) in
-      begun.rest.log.fresh_shut q was.0 (record { is = was.1; present = here }) live.0
+      begun.rest.log.fresh_closed q was.0 (record { is = was.1; present = here }) live.0
 
   -- a log disk that was in the array says the old meta
   pub start_says : (y : ℕ) → y < 2 → IsPresent j.start y → named_out before.out ≢ Some y → Says j.start y old
@@ -183,7 +183,7 @@ module _ (j : Job) (before : Meta) (begun : IsBegun j before) where
   begun_brought = record {
     good = begun.good;
     names = begun.names;
-    fresh_shut = begun.next.fresh_shut;
+    fresh_closed = begun.next.fresh_closed;
     second = λ y o low is says. greater_before (other_log y) (open_with j) o
         (let e = start_epoch y o low is says in let next = begun.next.epoch in omega arith);
     spins = begun.spins;

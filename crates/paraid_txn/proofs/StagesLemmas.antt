@@ -179,8 +179,8 @@ module _ (j : Job) (good : IsSpelled j) where
   turns_apart (suc n) zero ln lk apart = let low = good.first in λ is. omega arith
   turns_apart (suc n) (suc k) ln lk apart = absurd (apart (omega arith))
 
-  turn_of : (x : ℕ) → x < 2 → (n : ℕ) × (n < 2) × (job_log j n ≡ x)
-  turn_of x low = elim (cases_eq j.first x) [
+  power_call_of : (x : ℕ) → x < 2 → (n : ℕ) × (n < 2) × (job_log j n ≡ x)
+  power_call_of x low = elim (cases_eq j.first x) [
     | inl is ↦ (0, omega arith, is)
     | inr apart ↦ (1, omega arith, let l = good.first in omega arith)
   ]
@@ -236,7 +236,7 @@ module _ (j : Job) (good : IsSpelled j) where
       beside = c.core.beside;
       logged = c.core.logged;
       opened = λ x live.
-          let n = turn_of x live.0 in
+          let n = power_call_of x live.0 in
           subst (λ (y : ℕ). IsGateOpen s y) n.2 (c.core.opened n.0 n.1 (subst (IsLiveLog j) (sym n.2) live));
       others = λ d p far. inr (c.core.held d p far);
       synced = λ d p. inr (c.synced.synced d p);

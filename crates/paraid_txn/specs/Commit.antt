@@ -77,7 +77,7 @@ pub record IsNext (s : Disks) (before after : Meta) : Type 0 where
   pub out : (d e : ℕ) → named_out after.out ≡ Some d → named_out before.out ≡ Some e → d ≡ e
   pub comes_in : (x : ℕ) → x < 2 → IsPresent s x → named_out before.out ≡ Some x
       → named_out after.out ≢ Some x → (rebuilt : ℕ) × (before.out ≡ Fresh x rebuilt)
-  pub fresh_shut : (x rebuilt : ℕ) → IsFresh s.power after x rebuilt → x < 2
+  pub fresh_closed : (x rebuilt : ℕ) → IsFresh s.power after x rebuilt → x < 2
       → is_open (stored_block s x 0) ≡ false
 
 -- The calls from the one record to the other, if they begin at a rest under the meta before, leave

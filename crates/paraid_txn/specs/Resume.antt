@@ -23,7 +23,7 @@ abbrev pub log_state : Bool → Meta → Batch → LogState
 log_state opened meta batch = record { opened = opened; meta = meta; batch = batch }
 
 -- Log disk `x` of the disks `s` stands and says this, its log is in order, and nothing is loose.
-pub record IsBroken (s : Disks) (x : ℕ) (said : LogState) : Type 0 where
+pub record IsResumable (s : Disks) (x : ℕ) (said : LogState) : Type 0 where
   pub synced : AreSynced s
   pub log : LogOk s x said said.meta.writes
 
@@ -36,7 +36,7 @@ pub record IsFallback (s : Disks) (x : ℕ) (i : Disks) : Type 0 where
 -- Image `i` stands for what log disk `x` of `s` says, or for what is left without it; no log disk
 -- says a meta that none said before; and a disk that is there has the power and the size that it
 -- had.
-pub record ImageStandsForBroken (s : Disks) (x : ℕ) (said : LogState) (i : Disks) : Type 0 where
+pub record ImageStandsForResumed (s : Disks) (x : ℕ) (said : LogState) (i : Disks) : Type 0 where
   pub stands : ImageStandsFor s i said.meta said.batch ⊎ IsFallback s x i
   pub metas : (y : ℕ) (o : LogState) → y < 2 → Says i y o → (z : ℕ) × (p : LogState) × (z < 2) × Says s z p × (o.meta ≡ p.meta)
   pub kept : KeepsSlots s i
@@ -44,8 +44,8 @@ pub record ImageStandsForBroken (s : Disks) (x : ℕ) (said : LogState) (i : Dis
 
 -- The calls from the one record to the other leave that at each moment.
 abbrev pub StandsWhileResumed : Option Trail → Option Trail → ℕ → LogState → Type 0
-StandsWhileResumed old new x said = Ran old new (λ start calls. IsBroken start x said
-    → Through (IsEachImage said.meta said.meta (ImageStandsForBroken start x said)) start calls)
+StandsWhileResumed old new x said = Ran old new (λ start calls. IsResumable start x said
+    → Through (IsEachImage said.meta said.meta (ImageStandsForResumed start x said)) start calls)
 
 -- At the end nothing is loose, the gates are closed, and where at most one disk is out the disks
 -- are at rest under the meta that stood.
@@ -56,12 +56,12 @@ pub record EndsResume (end : Disks) (m : Meta) : Type 0 where
 
 -- a broken start is resumed: the calls end in the state that a commit of this meta leaves
 abbrev pub EndsAsCommitted : Option Trail → Option Trail → ℕ → LogState → Type 0
-EndsAsCommitted old new x said = Ran old new (λ start calls. IsBroken start x said → EndsResume (run start calls) said.meta)
+EndsAsCommitted old new x said = Ran old new (λ start calls. IsResumable start x said → EndsResume (run start calls) said.meta)
 
 -- At the end, where at most one disk is out, the disks stand for what the log disk said, with its
 -- batch laid over.
 abbrev pub EndsLaid : Option Trail → Option Trail → ℕ → LogState → Type 0
-EndsLaid old new x said = Ran old new (λ start calls. IsBroken start x said
+EndsLaid old new x said = Ran old new (λ start calls. IsResumable start x said
     → IsOneMissing (run start calls).power said.meta said.meta
     → ImageStandsFor start (run start calls) said.meta said.batch)
 

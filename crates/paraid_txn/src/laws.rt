@@ -6,7 +6,7 @@ ghost use Rattle.paraid_rack.specs.Trail.{disks};
 ghost use Rattle.paraid_record.specs.declared.meta.Meta.{Meta as MetaType};
 ghost use Rattle.paraid_image.specs.Rest.{AreSynced};
 ghost use Rattle.paraid_txn.specs.Commit.{IsEachImage, IsEitherMissing, IsOldOrNew, ImageStandsForEither};
-ghost use Rattle.paraid_txn.specs.Resume.{IsBroken, ImageStandsForBroken};
+ghost use Rattle.paraid_txn.specs.Resume.{IsResumable, ImageStandsForResumed};
 ghost use Rattle.paraid_image.specs.HeldAt.{IsHeld};
 ghost use Rattle.paraid_image.specs.FirstWrites.{HoldsFirstWrites};
 ghost use Rattle.paraid_image.specs.Out.{IsWeak, out_disk};
@@ -17,7 +17,7 @@ ghost use Rattle.paraid_image.specs.Sound.{AreWitnessesTrue};
 pub fn a_stop_in_a_commit_can_be_resumed()
     ensures { (start i : Disks) (before after : MetaType) (batch : Batch)
         → ImageStandsForEither start before after batch i → AreSynced i
-        → (x : ℕ) × (said : LogState) × IsBroken i x said
+        → (x : ℕ) × (said : LogState) × IsResumable i x said
         × ((said.meta ≡ before) ⊎ (said.meta ≡ after)) }
 {}
 
@@ -25,12 +25,12 @@ pub fn a_stop_in_a_commit_can_be_resumed()
 /// is the one that is down.
 pub fn an_ended_commit_leaves_what_is_held()
     ensures { (slots : ℕ) (s t : Disks) (x : ℕ) (said : LogState) (h : History) (lo : ℕ)
-        (was down : Option ℕ) → IsBroken s x said
+        (was down : Option ℕ) → IsResumable s x said
         → IsHeld slots s h lo was
         → ((d : ℕ) → d < said.meta.setup.geometry.disks → is_present (t.power d) ≡ false
         → down ≡ Some d)
         → ((w : ℕ) → IsWeak s w → down ≡ Some w)
-        → IsEachImage said.meta said.meta (ImageStandsForBroken s x said) t → IsHeld slots t h lo down }
+        → IsEachImage said.meta said.meta (ImageStandsForResumed s x said) t → IsHeld slots t h lo down }
 {}
 
 /// A commit leaves what is held, where what the batch brings holds a first part of the history too,

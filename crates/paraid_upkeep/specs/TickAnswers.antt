@@ -12,7 +12,7 @@ use Rattle.paraid_record.specs.Range.{rebuild_units}
 use Rattle.paraid_image.specs.Mark.{meta_after_loss}
 use Rattle.paraid_image.specs.Out.{named_out}
 use Rattle.paraid_image.specs.Power.{PowerState}
-use Rattle.paraid_machine.specs.Moves.{after_flip, after_loss, after_units, first_worn, units_left, units_of_tick}
+use Rattle.paraid_machine.specs.Moves.{after_flip, after_loss, after_units, first_spent, units_left, units_of_tick}
 use Rattle.paraid_moves.specs.MoveMetas.{meta_after_begin}
 use Rattle.paraid_core.specs.declared.staged.Core.{Core}
 use Rattle.paraid_core.specs.Steps.{IsMarkedFrom}
@@ -49,7 +49,7 @@ TellsWorn (Some d) to event = event ≡ Ration d
 abbrev pub TellsDecision : Setup → PowerState → Decision → TickEvent → Type 0
 TellsDecision setup s Stay event = event ≡ Steady
 TellsDecision setup s (Up to) event = event ≡ Begun to
-TellsDecision setup s (Down to) event = TellsWorn (first_worn setup s to) to event
+TellsDecision setup s (Down to) event = TellsWorn (first_spent setup s to) to event
 
 -- such a tick that begins nothing
 abbrev pub IsIdleTick : TickEvent → Type 0

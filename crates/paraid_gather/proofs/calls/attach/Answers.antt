@@ -8,7 +8,7 @@ use Rattle.paraid_rack.proofs.AtomsLemmas.{with_at_same}
 use Rattle.paraid_gather.specs.Waiting.{Waiting, run_of, waiting, waits}
 use Rattle.paraid_gather.proofs.AboveLemmas.{attach_above}
 use Rattle.paraid_gather.proofs.DoesLemmas.{does_call, fits_none, none_waiting, same_elsewhere}
-use Rattle.paraid_gather.proofs.TurnsLemmas.{turns_call}
+use Rattle.paraid_gather.proofs.PowerCallsLemmas.{power_calls_call}
 use Rattle.paraid_gather.proofs.calls.attach.Goals as goal
 
 pub returns-in_default-clause-does : goal.returns-in_default-clause-does
@@ -20,8 +20,8 @@ returns-in_default-clause-does g c =
     (step (Attach d c.args.size false)) c.in_default.ensures.slots (λ is. absurd (false≢true is)) (λ is. absurd (false≢true is)) (λ _. refl)
     (λ w s t is a. attach_above (now t) (with_at w d run) (with_at w d run) s d (λ e not. refl) c.args.size false a (λ is. absurd (false≢true is))) c.in_default.ensures.slot c.in_default.ensures.told
 
-pub returns-in_default-clause-turns : goal.returns-in_default-clause-turns
-returns-in_default-clause-turns g c = turns_call (g.R.Rack.told c.args.rack.now) (g.R.Rack.told c.attach.new.self) (Attach c.args.disk c.args.size false) c.in_default.ensures.told
+pub returns-in_default-clause-power_calls : goal.returns-in_default-clause-power_calls
+returns-in_default-clause-power_calls g c = power_calls_call (g.R.Rack.told c.args.rack.now) (g.R.Rack.told c.attach.new.self) (Attach c.args.disk c.args.size false) c.in_default.ensures.told
 
 pub returns-clause-does : goal.returns-clause-does
 returns-clause-does g c =
@@ -36,5 +36,5 @@ returns-clause-does g c =
     (λ w s t is a. attach_above (now t) (with_at w d run) (with_at w d run') s d (same_elsewhere w d run run') c.args.size true a
     (λ _ p. ap (λ (v : Waiting). waiting v p) (with_at_same w d run' d refl) ∙ none_waiting run' empty p)) c.in-Ok.ensures.slot c.in-Ok.ensures.told
 
-pub returns-clause-turns : goal.returns-clause-turns
-returns-clause-turns g c = turns_call (g.R.Rack.told c.args.rack.now) (g.R.Rack.told c.attach.new.self) (Attach c.args.disk c.args.size true) c.in-Ok.ensures.told
+pub returns-clause-power_calls : goal.returns-clause-power_calls
+returns-clause-power_calls g c = power_calls_call (g.R.Rack.told c.args.rack.now) (g.R.Rack.told c.attach.new.self) (Attach c.args.disk c.args.size true) c.in-Ok.ensures.told

@@ -9,7 +9,7 @@ use Rattle.paraid_rack.proofs.AtomsLemmas.{with_at_same}
 use Rattle.paraid_gather.specs.Waiting.{Waiting, run_of, waiting, waits}
 use Rattle.paraid_gather.proofs.AboveLemmas.{present_above, read_above, read_here}
 use Rattle.paraid_gather.proofs.DoesLemmas.{does_call, does_none}
-use Rattle.paraid_gather.proofs.TurnsLemmas.{turns_call, turns_none}
+use Rattle.paraid_gather.proofs.PowerCallsLemmas.{power_calls_call, power_calls_none}
 use Rattle.paraid_gather.proofs.calls.read.Goals as goal
 
 on_ok : {A E : Type 0} {P : Type 0} (r : Result A E) → is_ok r ≡ true → OnOk r P → P
@@ -44,8 +44,8 @@ returns g c =
       bytes = λ is t w s told a.
           let here = present_above (now t) (with_at w d run) s a d (ap is_present ((g.met.R.Rack.agrees c.args.rack.now t told).power d ∙ c.requires.spinning)) in
           on_ok c.read.result is c.read.ensures.bytes t told ∙ sym (a.rests d c.args.place here (ap (λ (v : Waiting). waiting v c.args.place) (with_at_same w d run d refl) ∙ sym c.in_default.ensures));
-      turns = turns_call (g.R.Rack.told c.args.rack.now) (g.R.Rack.told c.read.new.self) (Read d c.args.place ok) c.read.ensures.told;
+      power_calls = power_calls_call (g.R.Rack.told c.args.rack.now) (g.R.Rack.told c.read.new.self) (Read d c.args.place ok) c.read.ensures.told;
     }
 
-pub returns-in-Some-clause-turns : goal.returns-in-Some-clause-turns
-returns-in-Some-clause-turns g c = turns_none (g.R.Rack.told c.args.rack.now)
+pub returns-in-Some-clause-power_calls : goal.returns-in-Some-clause-power_calls
+returns-in-Some-clause-power_calls g c = power_calls_none (g.R.Rack.told c.args.rack.now)

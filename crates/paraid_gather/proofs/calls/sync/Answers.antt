@@ -7,14 +7,14 @@ use Rattle.paraid_rack.proofs.AtomsLemmas.{with_at_same}
 use Rattle.paraid_gather.specs.Waiting.{Waiting, run_of, waiting, waits}
 use Rattle.paraid_gather.proofs.AboveLemmas.{present_above, sync_above}
 use Rattle.paraid_gather.proofs.DoesLemmas.{does_call, does_lost_sync, does_then, fits_none, none_waiting}
-use Rattle.paraid_gather.proofs.TurnsLemmas.{turns_call, turns_then}
+use Rattle.paraid_gather.proofs.PowerCallsLemmas.{power_calls_call, power_calls_then}
 use Rattle.paraid_gather.proofs.calls.sync.Goals as goal
 
 pub returns-in_default-clause-does : goal.returns-in_default-clause-does
 returns-in_default-clause-does g c = does_lost_sync g.R.Rack c.args.rack.now c.write_out.new.rack c.args.disk (run_of c.args.run.now) (run_of c.write_out.new.run) _ _ _ c.in_default.ensures.does
 
-pub returns-in_default-clause-turns : goal.returns-in_default-clause-turns
-returns-in_default-clause-turns g c = c.in_default.ensures.turns
+pub returns-in_default-clause-power_calls : goal.returns-in_default-clause-power_calls
+returns-in_default-clause-power_calls g c = c.in_default.ensures.power_calls
 
 pub returns-clause-does : goal.returns-clause-does
 returns-clause-does g c =
@@ -32,5 +32,5 @@ returns-clause-does g c =
     (λ p. ap (λ (v : Waiting). waiting v p) (with_at_same w d between d refl) ∙ none_waiting between empty p))
     c.sync.ensures.slot c.sync.ensures.told)
 
-pub returns-clause-turns : goal.returns-clause-turns
-returns-clause-turns g c = turns_then (g.R.Rack.told c.args.rack.now) (g.R.Rack.told c.write_out.new.rack) (g.R.Rack.told c.sync.new.self) [] c.in-Ok.ensures.turns (turns_call (g.R.Rack.told c.write_out.new.rack) (g.R.Rack.told c.sync.new.self) (Sync c.args.disk (is_ok c.sync.result)) c.sync.ensures.told)
+pub returns-clause-power_calls : goal.returns-clause-power_calls
+returns-clause-power_calls g c = power_calls_then (g.R.Rack.told c.args.rack.now) (g.R.Rack.told c.write_out.new.rack) (g.R.Rack.told c.sync.new.self) [] c.in-Ok.ensures.power_calls (power_calls_call (g.R.Rack.told c.write_out.new.rack) (g.R.Rack.told c.sync.new.self) (Sync c.args.disk (is_ok c.sync.result)) c.sync.ensures.told)

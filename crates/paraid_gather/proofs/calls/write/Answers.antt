@@ -14,8 +14,8 @@ returns-in_default-clause-does g c =
     does_lost_write g.R.Rack c.args.rack.now c.make_room.new.rack c.args.disk run (run_of c.make_room.new.run) _ _ (slot.unsynced || waits run) true c.args.place c.args.block.now
     (or_true slot.unsynced (waits run) (c.in_default.ensures.waited refl)) c.in_default.ensures.does
 
-pub returns-in_default-clause-turns : goal.returns-in_default-clause-turns
-returns-in_default-clause-turns g c = c.in_default.ensures.turns
+pub returns-in_default-clause-power_calls : goal.returns-in_default-clause-power_calls
+returns-in_default-clause-power_calls g c = c.in_default.ensures.power_calls
 
 pub returns-clause-does : goal.returns-clause-does
 returns-clause-does g c =
@@ -32,5 +32,5 @@ returns-clause-does g c =
     (record { within = λ is. c.put.ensures.within slot.size inside (c.in-Ok.ensures.does.fits.within is); still = λ is. not_parked slot.power spins is })
     c.put.ensures.any (λ t is. ap is_present ((g.met.R.Rack.agrees c.make_room.new.rack t is).power d ∙ spins)) c.put.ensures.waiting)
 
-pub returns-clause-turns : goal.returns-clause-turns
-returns-clause-turns g c = c.in-Ok.ensures.turns
+pub returns-clause-power_calls : goal.returns-clause-power_calls
+returns-clause-power_calls g c = c.in-Ok.ensures.power_calls

@@ -3,7 +3,7 @@ use Rattle.std.proofs.lemmas.Bool.{false≢true}
 use Rattle.paraid_rack.specs.Disks.{is_present}
 use Rattle.paraid_gather.specs.Waiting.{Waiting, run_of, waits}
 use Rattle.paraid_gather.proofs.DoesLemmas.{does_none, does_out, not_false, some_waits}
-use Rattle.paraid_gather.proofs.TurnsLemmas.{turns_none, turns_written}
+use Rattle.paraid_gather.proofs.PowerCallsLemmas.{power_calls_none, power_calls_written}
 use Rattle.paraid_gather.proofs.calls.write_out.Goals as goal
 
 run_is : (f f' : ℕ) (bs bs' : List (List ℕ)) → f ≡ f' → bs ≡ bs' → ◌≡◌ {A = Waiting} (record { first = f; blocks = bs }) (record { first = f'; blocks = bs' })
@@ -25,11 +25,11 @@ returns-clause-does g c = does_out g.R.Rack c.args.rack.now c.write_blocks.new.s
 pub write_blocks-requires-clause-some : goal.write_blocks-requires-clause-some
 write_blocks-requires-clause-some g c = subst (λ (l : List (List ℕ)). 0 < length l) (sym c.blocks-2.ensures) (some_waits (run_of c.args.run.now) (not_false _ (sym c.if-is_empty.ensures)))
 
-pub returns-then-is_empty-clause-turns : goal.returns-then-is_empty-clause-turns
-returns-then-is_empty-clause-turns g c = turns_none (g.R.Rack.told c.args.rack.now)
+pub returns-then-is_empty-clause-power_calls : goal.returns-then-is_empty-clause-power_calls
+returns-then-is_empty-clause-power_calls g c = power_calls_none (g.R.Rack.told c.args.rack.now)
 
-pub returns-in_default-clause-turns : goal.returns-in_default-clause-turns
-returns-in_default-clause-turns g c = turns_written (g.R.Rack.told c.args.rack.now) (g.R.Rack.told c.write_blocks.new.self) c.args.disk _ false c.in_default.ensures.told
+pub returns-in_default-clause-power_calls : goal.returns-in_default-clause-power_calls
+returns-in_default-clause-power_calls g c = power_calls_written (g.R.Rack.told c.args.rack.now) (g.R.Rack.told c.write_blocks.new.self) c.args.disk _ false c.in_default.ensures.told
 
-pub returns-clause-turns : goal.returns-clause-turns
-returns-clause-turns g c = turns_written (g.R.Rack.told c.args.rack.now) (g.R.Rack.told c.write_blocks.new.self) c.args.disk _ true c.in-Ok.ensures.told
+pub returns-clause-power_calls : goal.returns-clause-power_calls
+returns-clause-power_calls g c = power_calls_written (g.R.Rack.told c.args.rack.now) (g.R.Rack.told c.write_blocks.new.self) c.args.disk _ true c.in-Ok.ensures.told

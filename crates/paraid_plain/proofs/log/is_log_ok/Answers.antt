@@ -21,7 +21,7 @@ returns-then-not-is_fresh_shut c =
     let Whole : Type 0 = LogOk (disks_in c.args.image.now) c.args.says.now.disk (said_of c.args.image.now c.args.says.now) c.args.writes in
     elim c.then-not-is_fresh_shut.branch [
       | then-not-is_fresh_shut-via-then-not-is_fresh_shut w ↦
-          refused Whole c.is_fresh_shut.result c.is_fresh_shut.ensures w.if-not-is_fresh_shut.true (λ all. all.fresh_shut)
+          refused Whole c.is_fresh_shut.result c.is_fresh_shut.ensures w.if-not-is_fresh_shut.true (λ all. all.fresh_closed)
       | then-not-is_fresh_shut-via-else-not-is_fresh_shut+then-not-are_targets_spinning w ↦
           refused Whole w.are_targets_spinning.result w.are_targets_spinning.ensures w.if-not-are_targets_spinning.true (λ all. all.targets_spin)
     ]
@@ -37,7 +37,7 @@ returns-then-are_formed c =
       writes = c.if-says-writes.false;
       single = c.is_single.ensures.0 c.if-not-is_single.false;
       standing_in = c.is_standing_in.ensures.0 c.if-not-is_standing_in.false;
-      fresh_shut = c.is_fresh_shut.ensures.0 c.if-not-is_fresh_shut.false;
+      fresh_closed = c.is_fresh_shut.ensures.0 c.if-not-is_fresh_shut.false;
       targets_spin = c.are_targets_spinning.ensures.0 c.if-not-are_targets_spinning.false;
       formed = c.are_formed.ensures.0 c.if-are_formed.true;
       paired = paired;

@@ -29,7 +29,7 @@ invariant_of-self g c =
       eight = length-set _ _ _ ∙ gathered.eight;
       fits = whole.fits;
       stands = stands_written g.R.Rack gathered.rack c.write_out-result.new.rack d (waiting_at runs) (waiting_at (set runs d x)) (g.L.Noted.noted gathered.log) (g.L.Noted.noted c.note_out.new.log) (g.met.R.Rack.agrees c.write_out-result.new.rack) gathered.stands
-          ok c.write_out-result.ensures.turns whole c.requires.spinning (subst (λ (v : Bool). TellsOut v d (g.L.Noted.noted gathered.log) (g.L.Noted.noted c.note_out.new.log)) c.is_ok.ensures.value c.note_out.ensures);
+          ok c.write_out-result.ensures.power_calls whole c.requires.spinning (subst (λ (v : Bool). TellsOut v d (g.L.Noted.noted gathered.log) (g.L.Noted.noted c.note_out.new.log)) c.is_ok.ensures.value c.note_out.ensures);
     }
 
 pub returns : goal.returns
@@ -50,7 +50,7 @@ returns g c =
       told = out_above g.R.Rack gathered.rack c.write_out-result.new.rack d (waiting_at runs) (waiting_at (set runs d x)) (g.L.Noted.noted gathered.log) (g.L.Noted.noted c.note_out.new.log) ok whole
           (subst (λ (v : Bool). TellsOut v d (g.L.Noted.noted gathered.log) (g.L.Noted.noted c.note_out.new.log)) c.is_ok.ensures.value c.note_out.ensures);
       noted = subst (λ (v : Bool). TellsOut v d (g.L.Noted.noted gathered.log) (g.L.Noted.noted c.note_out.new.log)) c.is_ok.ensures.value c.note_out.ensures;
-      turns = c.write_out-result.ensures.turns;
+      power_calls = c.write_out-result.ensures.power_calls;
       empty = λ is. ap waits (set_same runs d x within) ∙ c.write_out-result.ensures.empty is;
       others = set_other runs d x within;
     }

@@ -32,7 +32,7 @@ invariant_of-self g c =
       eight = length-set _ _ _ ∙ gathered.eight;
       fits = whole.fits;
       stands = stands_attach g.R.Rack gathered.rack c.attach-result.new.rack d (waiting_at runs) (waiting_at (set runs d x)) (g.L.Noted.noted gathered.log) (g.L.Noted.noted c.note.new.self) (g.met.R.Rack.agrees c.attach-result.new.rack) gathered.stands
-          c.args.size ok c.attach-result.ensures.turns whole grows;
+          c.args.size ok c.attach-result.ensures.power_calls whole grows;
     }
 
 pub returns : goal.returns

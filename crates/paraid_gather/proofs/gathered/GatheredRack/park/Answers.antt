@@ -10,7 +10,7 @@ use Rattle.paraid_gather.specs.Waiting.{waiting_at, waits}
 use Rattle.paraid_gather.proofs.AboveLemmas.{park_above, present_above}
 use Rattle.paraid_gather.proofs.DoesLemmas.{does_call, or_right, or_left, not_parked}
 use Rattle.paraid_gather.proofs.StandsLemmas.{grows_above, stands_park}
-use Rattle.paraid_gather.proofs.TurnsLemmas.{turns_call}
+use Rattle.paraid_gather.proofs.PowerCallsLemmas.{power_calls_call}
 use Rattle.paraid_gather.proofs.WholeLemmas.{does_whole, with_own}
 use Rattle.paraid_gather.proofs.gathered.GatheredRack.park.Goals as goal
 
@@ -34,7 +34,7 @@ invariant_of-self g c =
       eight = gathered.eight;
       fits = whole.fits;
       stands = stands_park g.R.Rack gathered.rack c.park-result.new.self d w w (g.L.Noted.noted gathered.log) (g.L.Noted.noted c.note.new.self) (g.met.R.Rack.agrees c.park-result.new.self) gathered.stands
-          ok (turns_call (g.R.Rack.told gathered.rack) (g.R.Rack.told c.park-result.new.self) (Park d ok) c.park-result.ensures.told) whole c.requires.spinning c.requires.synced grows;
+          ok (power_calls_call (g.R.Rack.told gathered.rack) (g.R.Rack.told c.park-result.new.self) (Park d ok) c.park-result.ensures.told) whole c.requires.spinning c.requires.synced grows;
     }
 
 pub returns : goal.returns

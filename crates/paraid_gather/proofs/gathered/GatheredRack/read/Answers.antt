@@ -31,7 +31,7 @@ invariant_of-self g c =
       eight = gathered.eight;
       fits = whole.fits;
       stands = stands_read g.R.Rack gathered.rack c.read-result.new.rack d (waiting_at runs) (waiting_at runs) (g.L.Noted.noted gathered.log) (g.L.Noted.noted c.note.new.self) (g.met.R.Rack.agrees c.read-result.new.rack) gathered.stands
-          c.args.place ok c.read-result.ensures.turns whole c.requires.spinning (subst (λ (x : Bool). GrowsByCall (g.L.Noted.noted gathered.log) (g.L.Noted.noted c.note.new.self) (Read d c.args.place x)) c.is_ok-done.ensures.value c.note.ensures);
+          c.args.place ok c.read-result.ensures.power_calls whole c.requires.spinning (subst (λ (x : Bool). GrowsByCall (g.L.Noted.noted gathered.log) (g.L.Noted.noted c.note.new.self) (Read d c.args.place x)) c.is_ok-done.ensures.value c.note.ensures);
     }
 
 pub returns : goal.returns

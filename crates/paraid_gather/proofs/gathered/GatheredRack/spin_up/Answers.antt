@@ -11,7 +11,7 @@ use Rattle.paraid_gather.specs.Waiting.{waiting_at}
 use Rattle.paraid_gather.proofs.AboveLemmas.{spin_up_above, present_above}
 use Rattle.paraid_gather.proofs.DoesLemmas.{does_call, fits_none}
 use Rattle.paraid_gather.proofs.StandsLemmas.{grows_above, stands_spin_up}
-use Rattle.paraid_gather.proofs.TurnsLemmas.{turns_call}
+use Rattle.paraid_gather.proofs.PowerCallsLemmas.{power_calls_call}
 use Rattle.paraid_gather.proofs.WholeLemmas.{does_whole, with_own}
 use Rattle.paraid_gather.proofs.gathered.GatheredRack.spin_up.Goals as goal
 
@@ -32,7 +32,7 @@ invariant_of-self g c =
       eight = gathered.eight;
       fits = whole.fits;
       stands = stands_spin_up g.R.Rack gathered.rack c.spin_up-result.new.self d w w (g.L.Noted.noted gathered.log) (g.L.Noted.noted c.note.new.self) (g.met.R.Rack.agrees c.spin_up-result.new.self) gathered.stands
-          ok (turns_call (g.R.Rack.told gathered.rack) (g.R.Rack.told c.spin_up-result.new.self) (SpinUp d ok) c.spin_up-result.ensures.told) whole c.requires.parked ((slots_above_hold _ (g.R.Rack.slot gathered.rack) w (g.met.R.Rack.slots_hold gathered.rack) gathered.fits).parked d c.requires.parked) grows;
+          ok (power_calls_call (g.R.Rack.told gathered.rack) (g.R.Rack.told c.spin_up-result.new.self) (SpinUp d ok) c.spin_up-result.ensures.told) whole c.requires.parked ((slots_above_hold _ (g.R.Rack.slot gathered.rack) w (g.met.R.Rack.slots_hold gathered.rack) gathered.fits).parked d c.requires.parked) grows;
     }
 
 pub returns : goal.returns

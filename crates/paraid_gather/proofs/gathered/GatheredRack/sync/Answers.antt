@@ -31,7 +31,7 @@ invariant_of-self g c =
       eight = length-set _ _ _ ∙ gathered.eight;
       fits = whole.fits;
       stands = stands_sync g.R.Rack gathered.rack c.sync-result.new.rack d (waiting_at runs) (waiting_at (set runs d x)) (g.L.Noted.noted gathered.log) (g.L.Noted.noted c.note.new.self) (g.met.R.Rack.agrees c.sync-result.new.rack) gathered.stands
-          ok c.sync-result.ensures.turns whole c.requires.spinning grows;
+          ok c.sync-result.ensures.power_calls whole c.requires.spinning grows;
     }
 
 pub returns : goal.returns

@@ -31,7 +31,7 @@ invariant_of-self g c =
       eight = length-set _ _ _ ∙ gathered.eight;
       fits = whole.fits;
       stands = stands_write g.R.Rack gathered.rack c.write-result.new.rack d (waiting_at runs) (waiting_at (set runs d x)) (g.L.Noted.noted gathered.log) (g.L.Noted.noted c.note_write.new.log) (g.met.R.Rack.agrees c.write-result.new.rack) gathered.stands
-          c.args.place c.args.block.now ok c.write-result.ensures.turns whole c.requires.spinning grows;
+          c.args.place c.args.block.now ok c.write-result.ensures.power_calls whole c.requires.spinning grows;
     }
 
 pub returns : goal.returns

@@ -8,23 +8,23 @@ use Rattle.paraid_rack.specs.Trail.{Trail, now, extend}
 use Rattle.paraid_rack.proofs.TrailsLemmas.{Ran-none, Ran-call, extend-extend}
 use Rattle.paraid_gather.specs.Bulk.{WritesBlocks}
 use Rattle.paraid_gather.specs.Waiting.{Waiting}
-use Rattle.paraid_gather.specs.Turns.{TurnsAs, turn_of, turns}
+use Rattle.paraid_gather.specs.PowerCalls.{PowersAs, power_call_of, power_calls}
 
-pub turns_append : (cs ds : List Call) → turns (cs ++ ds) ≡ turns cs ++ turns ds
-turns_append [] ds = refl
-turns_append (c ∷ cs) ds = ap (λ (l : List Call). turn_of c ++ l) (turns_append cs ds) ∙ sym (append_assoc (turn_of c) (turns cs) (turns ds))
+pub power_calls_append : (cs ds : List Call) → power_calls (cs ++ ds) ≡ power_calls cs ++ power_calls ds
+power_calls_append [] ds = refl
+power_calls_append (c ∷ cs) ds = ap (λ (l : List Call). power_call_of c ++ l) (power_calls_append cs ds) ∙ sym (append_assoc (power_call_of c) (power_calls cs) (power_calls ds))
 
 -- no call
-pub turns_none : (told : Option Trail) → Ran told told (TurnsAs [])
-turns_none told = Ran-none (TurnsAs []) (λ s. refl) told
+pub power_calls_none : (told : Option Trail) → Ran told told (PowersAs [])
+power_calls_none told = Ran-none (PowersAs []) (λ s. refl) told
 
 -- one call
-pub turns_call : (old new : Option Trail) (c : Call) → GrowsByCall old new c → Ran old new (TurnsAs (c ∷ []))
-turns_call old new c grows = Ran-call (TurnsAs (c ∷ [])) old new c grows (λ s is. refl)
+pub power_calls_call : (old new : Option Trail) (c : Call) → GrowsByCall old new c → Ran old new (PowersAs (c ∷ []))
+power_calls_call old new c grows = Ran-call (PowersAs (c ∷ [])) old new c grows (λ s is. refl)
 
 -- a part without such calls, and then another
-pub turns_then : (old mid new : Option Trail) (ds : List Call) → Ran old mid (TurnsAs []) → Ran mid new (TurnsAs ds) → Ran old new (TurnsAs ds)
-turns_then old mid new ds first second t tells =
+pub power_calls_then : (old mid new : Option Trail) (ds : List Call) → Ran old mid (PowersAs []) → Ran mid new (PowersAs ds) → Ran old new (PowersAs ds)
+power_calls_then old mid new ds first second t tells =
     let later = second t tells in
     let before = first later.from later.was in
     record {
@@ -32,7 +32,7 @@ turns_then old mid new ds first second t tells =
       was = before.was;
       calls = before.calls ++ later.calls;
       is = later.is ∙ ap (λ (r : Trail). extend r later.calls) before.is ∙ extend-extend before.from before.calls later.calls;
-      holds = turns_append before.calls later.calls ∙ ap (λ (l : List Call). l ++ turns later.calls) before.holds ∙ later.holds;
+      holds = power_calls_append before.calls later.calls ∙ ap (λ (l : List Call). l ++ power_calls later.calls) before.holds ∙ later.holds;
     }
 
 -- the calls of a part have each of two properties
@@ -52,7 +52,7 @@ ran_both Q Q' old new first second t tells =
     }
 
 -- a write of blocks
-pub turns_written : (old new : Option Trail) (d : ℕ) (w : Waiting) (ok : Bool) → Ran old new (WritesBlocks d w ok) → Ran old new (TurnsAs [])
-turns_written old new d w ok ran t tells =
+pub power_calls_written : (old new : Option Trail) (d : ℕ) (w : Waiting) (ok : Bool) → Ran old new (WritesBlocks d w ok) → Ran old new (PowersAs [])
+power_calls_written old new d w ok ran t tells =
     let r = ran t tells in
     record { from = r.from; was = r.was; calls = r.calls; is = r.is; holds = r.holds.turned }

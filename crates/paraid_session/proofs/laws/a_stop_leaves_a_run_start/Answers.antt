@@ -1,5 +1,5 @@
 use Rattle.paraid_session.proofs.RunStartLemmas.{answered_stop, kept_stop, mount_stop, two_stop}
-use Rattle.paraid_session.proofs.laws.a_stop_leaves_an_entry.Goals as goal
+use Rattle.paraid_session.proofs.laws.a_stop_leaves_a_run_start.Goals as goal
 
 pub returns : goal.returns
 returns c = record {

@@ -1,5 +1,5 @@
 use Rattle.paraid_recover.proofs.TurnsLemmas.{turns_end, turns_hold, turns_ran}
-use Rattle.paraid_recover.proofs.law.turns_leave_what_is_held.Goals as goal
+use Rattle.paraid_recover.proofs.law.power_calls_keep_a_rest.Goals as goal
 
 pub returns-clause-rests : goal.returns-clause-rests
 returns-clause-rests c = turns_ran
