@@ -11,8 +11,8 @@ use Rattle.paraid_image.specs.Content.{view_by, view_of}
 use Rattle.paraid_image.specs.HeldAt.{IsHeld, IsSoundFrom}
 use Rattle.paraid_image.specs.Mark.{marked_gone}
 use Rattle.paraid_image.specs.Out.{named_out, out_disk}
-use Rattle.paraid_image.specs.Rest.{IsAtRest, closed_over}
-use Rattle.paraid_image.specs.Sides.{LogState}
+use Rattle.paraid_image.specs.Rest.{IsAtRest}
+use Rattle.paraid_image.specs.Sides.{LogState, closed_over}
 use Rattle.paraid_image.specs.Sound.{AreWitnessesTrue, ContentOk}
 use Rattle.paraid_image.specs.Spot.{map_bit, map_disk}
 use Rattle.paraid_image.specs.Standing.{contents}

@@ -2,7 +2,7 @@
 use Rattle.std.specs.Prelude.{◌≡◌, ℕ, ◌<◌, ◌≤◌, ◌+◌}
 use Rattle.std.proofs.Common.{arith, zero, suc, inl, inr, refl, add-one}
 use Rattle.std.proofs.lemmas.Bool.{cases_lt}
-use Rattle.paraid_base.specs.Places.{sum_before}
+use Rattle.paraid_base.specs.Sums.{sum_before}
 
 pub sum_before_step : (f : ℕ → ℕ) (a b : ℕ) → a < b → sum_before f a + f a ≤ sum_before f b
 unfolding sum_before

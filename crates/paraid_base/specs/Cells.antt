@@ -1,6 +1,6 @@
 -- Where blocks and cells lie
 use Rattle.std.specs.Prelude.{ℕ, ◌+◌, ◌-◌, ◌*◌, ◌/◌, ◌%◌}
-use Rattle.paraid_base.specs.Skips.{place_among, skip}
+use Rattle.paraid_base.specs.Skips.{index_among, skip}
 
 -- the parity disk of a row, of `n` disks
 abbrev pub parity_disk : ℕ → ℕ → ℕ
@@ -16,4 +16,4 @@ home_disk n b = skip (parity_disk n (home_row n b)) (b % (n - 1))
 
 -- the block of a cell that holds no parity
 abbrev pub cell_block : ℕ → ℕ → ℕ → ℕ
-cell_block n r d = r * (n - 1) + place_among (parity_disk n r) d
+cell_block n r d = r * (n - 1) + index_among (parity_disk n r) d

@@ -2,8 +2,8 @@
 use Rattle.std.specs.Prelude.{◌≡◌, ℕ, ◌+◌, ◌/◌, if◌then◌else◌, slice_index_or, true, false}
 use Rattle.paraid_base.specs.declared.geometry.Geometry.{Geometry}
 use Rattle.paraid_base.specs.Log.{map_start}
-use Rattle.paraid_base.specs.Places.{sum_before}
 use Rattle.paraid_base.specs.Soft.{stripe_count}
+use Rattle.paraid_base.specs.Sums.{sum_before}
 
 -- a number is one of the gears
 abbrev pub IsGear : Geometry → ℕ → Type 0

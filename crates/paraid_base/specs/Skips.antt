@@ -6,5 +6,5 @@ abbrev pub skip : ℕ → ℕ → ℕ
 skip p i = if nat_lt i p then i else i + 1
 
 -- the index of disk `d` among the disks other than `p`
-abbrev pub place_among : ℕ → ℕ → ℕ
-place_among p d = if nat_lt d p then d else d - 1
+abbrev pub index_among : ℕ → ℕ → ℕ
+index_among p d = if nat_lt d p then d else d - 1

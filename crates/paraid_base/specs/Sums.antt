@@ -1,8 +1,13 @@
--- The XOR of a row of blocks
-use Rattle.std.specs.Prelude.{ℕ, ◌==◌, if◌then◌else◌}
+-- Sums over the numbers below n: of numbers, and by XOR of blocks
+use Rattle.std.specs.Prelude.{ℕ, ◌+◌, ◌==◌, if◌then◌else◌}
 use Rattle.paraid_base.specs.declared.block.Block.{Block}
 use Rattle.std.proofs.Common.{zero, suc}
 use Rattle.paraid_base.specs.Xor.{xor, zero_block}
+
+-- the sum of `f 0`, .., `f (n - 1)`
+unfoldable pub sum_before : (ℕ → ℕ) → ℕ → ℕ
+sum_before f zero = 0
+sum_before f (suc n) = sum_before f n + f n
 
 -- the XOR of `f 0`, .., `f (n - 1)`
 unfoldable pub xor_upto : (ℕ → Block) → ℕ → Block

@@ -1,4 +1,4 @@
--- The XOR of whole blocks, and of a row of them
+-- The XOR of two blocks, and the block of zeros
 use Rattle.std.specs.Prelude.{replicate}
 use Rattle.paraid_base.specs.declared.block.Block.{Block}
 use Rattle.std.proofs.Common.{◌∙◌, sym}

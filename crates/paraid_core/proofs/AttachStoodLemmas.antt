@@ -16,8 +16,7 @@ use Rattle.paraid_image.specs.LostDisk.{IsLoss}
 use Rattle.paraid_image.specs.Looked.{IsLooked}
 use Rattle.paraid_image.specs.Looked.IsLooked.{lost, whole}
 use Rattle.paraid_image.specs.Out.{out_disk}
-use Rattle.paraid_image.specs.Rest.{closed_over}
-use Rattle.paraid_image.specs.Sides.{Batch, LogState, Says, has_place, is_open, stored_block}
+use Rattle.paraid_image.specs.Sides.{Batch, LogState, Says, closed_over, has_place, is_open, stored_block}
 use Rattle.paraid_image.specs.Standing.{Stands}
 use Rattle.paraid_image.proofs.CallLemmas.{says_not_lost, zeroed_closed}
 use Rattle.paraid_image.proofs.FailedCallLemmas.{failed_is_loss, others_keep}

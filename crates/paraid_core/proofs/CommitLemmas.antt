@@ -22,13 +22,13 @@ use Rattle.paraid_rack.specs.Trail.{Trail, now, run}
 use Rattle.paraid_rack.proofs.TrailsLemmas.{now-extend}
 use Rattle.paraid_record.specs.declared.meta.Meta.{Meta}
 use Rattle.paraid_record.specs.Range.{IsInRange}
-use Rattle.paraid_image.specs.Rest.{IsAtRest, closed_over}
+use Rattle.paraid_image.specs.Rest.{IsAtRest}
 use Rattle.paraid_txn.specs.Commit.{EndsCommitted, IsCommitted, IsEitherMissing, IsNext, IsOldOrNew, IsOneMissing, IsWholeOrAbsent, ImageStandsFor, gone_out}
 use Rattle.paraid_image.specs.Content.{view_by}
 use Rattle.paraid_image.specs.HeldAt.{IsSoundFrom}
 use Rattle.paraid_image.specs.FirstWrites.{HoldsFirstWrites}
 use Rattle.paraid_image.specs.Out.{is_out, named_out, or_else, out_disk}
-use Rattle.paraid_image.specs.Sides.{Batch, LogState, has_place, stored_block}
+use Rattle.paraid_image.specs.Sides.{Batch, LogState, closed_over, has_place, stored_block}
 use Rattle.paraid_image.specs.Sound.{ContentOk, AreWitnessesTrue}
 use Rattle.paraid_image.specs.Spot.{map_bit, map_disk}
 use Rattle.paraid_image.specs.Standing.{Contents, contents, Stands}

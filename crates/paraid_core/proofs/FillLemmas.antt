@@ -9,9 +9,9 @@ use Rattle.paraid_base.specs.declared.state.Phase.{Phase}
 use Rattle.paraid_base.specs.declared.state.Phase.TheVariants.{Steady, Down, Up}
 use Rattle.paraid_base.specs.History.{History}
 use Rattle.paraid_base.specs.Regions.{IsGear, map_count}
-use Rattle.paraid_base.specs.Skips.{place_among}
 use Rattle.paraid_base.specs.Soft.{disk_of_number, number_at, row_of_number, soft_parity_disk}
 use Rattle.paraid_base.specs.States.{phase_to, rising_to}
+use Rattle.paraid_base.specs.Skips.{index_among}
 use Rattle.paraid_base.proofs.SoftLemmas.{row_of_number_below}
 use Rattle.paraid_base.proofs.SumsLemmas.{others_same}
 use Rattle.paraid_dirty.specs.Table.{is_dirty}
@@ -79,8 +79,8 @@ module _ (m : Meta) (table : List (List Bool)) (f : Contents) (bits : (r d : ℕ
   unfolding copied_block
   stripe_bits e =
       let parity = soft_parity_disk a at in
-      let others = others_same (copies (seen_by m table None f) a at) (copies (view_with_out m None f) a at) parity a (λ y l apart. copied_bits (place_among parity y)) in
-      rw (others, copied_bits (place_among parity e)) refl
+      let others = others_same (copies (seen_by m table None f) a at) (copies (view_with_out m None f) a at) parity a (λ y l apart. copied_bits (index_among parity y)) in
+      rw (others, copied_bits (index_among parity e)) refl
 
 module _ {R : Type 0} {g : _} (count : R → ℕ) (slot : R → ℕ → Slot) (told : R → Option Trail) (old : Core R g) (ready : IsCoreReady count slot old) where
   abbrev m : Meta

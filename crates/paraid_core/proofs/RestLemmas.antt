@@ -10,8 +10,8 @@ use Rattle.paraid_rack.proofs.TrailsLemmas.{now-extend}
 use Rattle.paraid_record.specs.declared.meta.Meta.{Meta}
 use Rattle.paraid_record.specs.declared.meta.Setup.{Setup}
 use Rattle.paraid_image.specs.Out.{IsMissing, named_out}
-use Rattle.paraid_image.specs.Rest.{IsAtRest, closed_over}
-use Rattle.paraid_image.specs.Sides.{Batch, LogState}
+use Rattle.paraid_image.specs.Rest.{IsAtRest}
+use Rattle.paraid_image.specs.Sides.{Batch, LogState, closed_over}
 use Rattle.paraid_image.proofs.StandingLemmas.{Stands-same}
 use Rattle.paraid_moves.proofs.NextLemmas.{rest_now}
 use Rattle.paraid_txn.specs.Commit.{ImageStandsFor, IsEitherMissing, IsOldOrNew, IsOneMissing}

@@ -12,9 +12,9 @@ use Rattle.paraid_base.specs.declared.state.Phase.TheVariants.{Steady, Down, Up}
 use Rattle.paraid_base.specs.History.{History}
 use Rattle.paraid_base.specs.Log.{log_least}
 use Rattle.paraid_base.specs.Regions.{map_count, map_place_of, soft_place_of}
-use Rattle.paraid_base.specs.Skips.{place_among}
 use Rattle.paraid_base.specs.Soft.{disk_of_number, number_at, row_of_number, soft_parity_disk, stripe_count}
 use Rattle.paraid_base.specs.States.{phase_to}
+use Rattle.paraid_base.specs.Skips.{index_among}
 use Rattle.paraid_base.proofs.SoftLemmas.{disk_of_number_below, row_of_number_below}
 use Rattle.paraid_base.proofs.SumsLemmas.{others_same}
 use Rattle.paraid_dirty.specs.Table.{is_dirty}
@@ -203,8 +203,8 @@ module _ (slots : ℕ) (named : Option ℕ) (m : Meta) (table : List (List Bool)
   unfolding copied_block
   stripe_same x region =
       let parity = soft_parity_disk to at in
-      let others = others_same (copies (view_with_out m None after) to at) (copies (view_with_out m None f) to at) parity to (λ y l apart. copied_same (place_among parity y) region) in
-      rw (others, copied_same (place_among parity x) region) refl
+      let others = others_same (copies (view_with_out m None after) to at) (copies (view_with_out m None f) to at) parity to (λ y l apart. copied_same (index_among parity y) region) in
+      rw (others, copied_same (index_among parity x) region) refl
 
   -- and one more block of it is in place
   pub filling_then : (blocks : List Block) (done : ℕ) → to < g.disks → e ≡ done → b ≡ member blocks e → has_place s e p ≡ true → log_least ≤ p

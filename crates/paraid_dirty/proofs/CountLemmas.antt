@@ -7,7 +7,7 @@ use Rattle.std.proofs.lemmas.Bool.Decides.{nat_tests}
 use Rattle.std.proofs.Math.Nat.{pow-le-pow_right}
 use Rattle.std.proofs.lemmas.Nat.{and_le_r, ones-le, pow_pos}
 use Rattle.std.proofs.lemmas.Nat.Bits.{bit_at-lt}
-use Rattle.paraid_base.specs.Places.{sum_before}
+use Rattle.paraid_base.specs.Sums.{sum_before}
 use Rattle.paraid_dirty.specs.Bits.{bit_in, on_disks}
 use Rattle.paraid_dirty.specs.Table.{cell_count, dirty_count, is_dirty, row_count, rows_of, IsDirtyTable}
 use Rattle.paraid_dirty.proofs.MaskLemmas.{ones_bits, sum_before_same}

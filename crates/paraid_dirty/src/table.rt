@@ -1,5 +1,5 @@
 ghost use Rattle.std.specs.Prelude.{◌≡◌, ◌⊎◌, ℕ, ◌+◌, ◌*◌, ◌/◌, ◌%◌, ◌<◌, ◌≤◌, ◌-◌, ◌^◌, ◌==◌, length, true, false, slice_index, IfOk, IfSome, IfNone};
-ghost use Rattle.paraid_base.specs.Places.{sum_before};
+ghost use Rattle.paraid_base.specs.Sums.{sum_before};
 ghost use Rattle.paraid_dirty.specs.Bits.{bit_of, bit_in, AreClear, IsFirstBit};
 ghost use Rattle.paraid_dirty.specs.Table.{is_dirty, table_with_bit, dirty_count, row_bits, IsClean, IsCleanFrom, IsFirstDirty, IsFirstFrom, ShowsBits};
 

@@ -13,10 +13,10 @@ use Rattle.paraid_record.specs.declared.meta.Meta.{Meta}
 use Rattle.paraid_record.specs.declared.meta.Setup.{Setup}
 use Rattle.paraid_image.specs.Calls.{disk_of, is_done}
 use Rattle.paraid_image.specs.Looked.IsLooked.{whole}
-use Rattle.paraid_image.specs.Rest.{closed_over}
 use Rattle.paraid_rack.specs.Told.{Through}
 use Rattle.paraid_rack.specs.Trail.{run}
 use Rattle.paraid_image.specs.Spins.{made_spin_ups}
+use Rattle.paraid_image.specs.Sides.{closed_over}
 use Rattle.paraid_image.proofs.FailedCallLemmas.{failed_is_loss}
 use Rattle.paraid_core.specs.Calls.{IsDataCall, IsTransferCall}
 use Rattle.paraid_session.specs.Watch.{Down, IsServing, Watch, down_from_out, fails_on, nobody, only, several, watch, watch_all, with_down}

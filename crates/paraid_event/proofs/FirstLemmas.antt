@@ -15,9 +15,9 @@ use Rattle.paraid_record.specs.declared.meta.Setup.{Setup}
 use Rattle.paraid_record.specs.Range.{IsInRange}
 use Rattle.paraid_image.specs.Out.{first_absent}
 use Rattle.paraid_image.specs.Power.{gone_of, initial_state, out_after, out_state, state_by}
-use Rattle.paraid_image.specs.Rest.{closed_over}
 use Rattle.paraid_image.specs.Looked.IsLooked.{whole}
 use Rattle.paraid_image.specs.Spins.{made_spin_ups}
+use Rattle.paraid_image.specs.Sides.{closed_over}
 use Rattle.paraid_recover.specs.Mounted.{with_loss}
 use Rattle.paraid_recover.specs.RecoveryMark.{to_mark}
 use Rattle.paraid_session.specs.Turn.{Point}

@@ -16,8 +16,8 @@ use Rattle.paraid_image.specs.Looked.{IsLooked}
 use Rattle.paraid_image.specs.Looked.IsLooked.{lost, whole}
 use Rattle.paraid_image.specs.Out.{named_out, out_disk}
 use Rattle.paraid_image.specs.Out.IsWeak.{out}
-use Rattle.paraid_image.specs.Rest.{IsAtRest, closed_over}
-use Rattle.paraid_image.specs.Sides.{LogState, Says, is_open, stored_block}
+use Rattle.paraid_image.specs.Rest.{IsAtRest}
+use Rattle.paraid_image.specs.Sides.{LogState, Says, closed_over, is_open, stored_block}
 use Rattle.paraid_image.specs.Sound.{Pairing}
 use Rattle.paraid_image.specs.Sound.Pairing.{alike, first_ahead, first_done, second_ahead, second_done}
 use Rattle.paraid_image.specs.Standing.{Contents, Stands, other_log}

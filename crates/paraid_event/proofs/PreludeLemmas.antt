@@ -8,8 +8,7 @@ use Rattle.paraid_rack.specs.Trail.{Trail, extend, now, run}
 use Rattle.paraid_rack.proofs.TrailsLemmas.{extend-extend, now-extend}
 use Rattle.paraid_record.specs.declared.meta.Meta.{Meta}
 use Rattle.paraid_record.specs.declared.meta.Setup.{Setup}
-use Rattle.paraid_image.specs.Rest.{closed_over}
-use Rattle.paraid_image.specs.Sides.{LogState}
+use Rattle.paraid_image.specs.Sides.{LogState, closed_over}
 use Rattle.paraid_image.proofs.StandingLemmas.{Stands-same}
 use Rattle.paraid_session.specs.Turn.{Point}
 use Rattle.paraid_session.specs.Watch.{Down, Watch, watch_all}

@@ -15,8 +15,8 @@ use Rattle.paraid_record.specs.declared.meta.Setup.{Setup}
 use Rattle.paraid_image.specs.Calls.{is_attach}
 use Rattle.paraid_image.specs.Looked.IsLooked.{whole}
 use Rattle.paraid_image.specs.Power.{power_by_gear}
-use Rattle.paraid_image.specs.Rest.{closed_over}
 use Rattle.paraid_image.specs.Spins.{made_spin_ups}
+use Rattle.paraid_image.specs.Sides.{closed_over}
 use Rattle.paraid_core.specs.Calls.{IsDataCall, IsTransferCall}
 use Rattle.paraid_moves.specs.MoveMetas.{meta_with_out}
 use Rattle.paraid_session.specs.Watch.{Bounds, Each, HoldsWhileServing, IsAllowed, IsServing, Watch, attach_count, fails_on, watch_all}

@@ -5,9 +5,9 @@ use Rattle.std.proofs.lemmas.Bool.Decides.{nat_tests}
 use Rattle.paraid_base.specs.declared.geometry.Geometry.{Geometry}
 use Rattle.paraid_base.specs.declared.state.Phase.{Phase}
 use Rattle.paraid_base.specs.declared.state.Phase.TheVariants.{Steady, Down, Up}
-use Rattle.paraid_base.specs.Places.{sum_before}
 use Rattle.paraid_base.specs.Soft.{stripe_count}
 use Rattle.paraid_base.specs.States.{phase_to, rising_to}
+use Rattle.paraid_base.specs.Sums.{sum_before}
 use Rattle.paraid_base.proofs.PlacesLemmas.{sum_before_none}
 use Rattle.paraid_dirty.specs.Table.{cell_count, dirty_count, row_count}
 use Rattle.paraid_record.specs.declared.meta.Mode.{Mode}

@@ -18,11 +18,10 @@ use Rattle.paraid_rack.specs.Trail.{Trail, now, run}
 use Rattle.paraid_record.specs.declared.meta.Meta.{Meta}
 use Rattle.paraid_record.specs.declared.meta.Setup.{Setup}
 use Rattle.paraid_image.specs.Calls.{is_attach}
-use Rattle.paraid_image.specs.Rest.{closed_over}
 use Rattle.paraid_base.specs.Regions.{map_count}
 use Rattle.paraid_base.specs.BlockAnswers.{accepted_write}
 use Rattle.paraid_image.specs.Content.{view_by}
-use Rattle.paraid_image.specs.Sides.{Batch}
+use Rattle.paraid_image.specs.Sides.{Batch, closed_over}
 use Rattle.paraid_image.specs.Spot.{map_bit, map_disk}
 use Rattle.paraid_image.specs.Standing.{contents}
 use Rattle.paraid_image.specs.Power.{PowerState, initial_state, state_by}

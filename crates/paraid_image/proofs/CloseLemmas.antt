@@ -8,7 +8,7 @@ use Rattle.paraid_base.specs.History.{History}
 use Rattle.paraid_rack.specs.declared.call.Call.TheVariants.{Write}
 use Rattle.paraid_rack.specs.Disks.{Disks, IsImage, IsPresent, lose, step}
 use Rattle.paraid_record.specs.declared.meta.Meta.{Meta}
-use Rattle.paraid_image.specs.Close.{IsLaidBelow, shut_of}
+use Rattle.paraid_image.specs.Close.{IsLaidBelow}
 use Rattle.paraid_image.specs.Content.{view_by, view_of}
 use Rattle.paraid_image.specs.Gate.{MayToggleGate}
 use Rattle.paraid_image.specs.HeldAt.{IsHeld, IsSoundFrom, MayLose}
@@ -54,7 +54,7 @@ closed_second : (e f : ℕ) (open_b : Bool) → not (nat_lt f e || (e == f && (n
 closed_second e f true h = grind (arith, nat_tests)
 closed_second e f false h = h
 
-first_shut : (x : ℕ) (said other : LogState) → said.opened ≡ true → stands_before x said other ≡ true → stands_before x (shut_of said) other ≡ true
+first_shut : (x : ℕ) (said other : LogState) → said.opened ≡ true → stands_before x said other ≡ true → stands_before x (closed_over said.meta) other ≡ true
 first_shut zero said other opened h =
     closed_first said.meta.epoch other.meta.epoch other.opened
     (ap (λ (t : Bool). nat_lt other.meta.epoch said.meta.epoch || (said.meta.epoch == other.meta.epoch && (not t || other.opened))) (sym opened) ∙ h)
@@ -84,7 +84,7 @@ module _ (slots : ℕ) (i : Disks) (h : History) (k x : ℕ) (said : LogState) (
   now = overwrite i x 0 b
 
   abbrev shut : LogState
-  shut = shut_of said
+  shut = closed_over said.meta
 
   abbrev y : ℕ
   y = other_log x

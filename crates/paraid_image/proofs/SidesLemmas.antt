@@ -4,9 +4,9 @@ use Rattle.std.proofs.Common.{refl, sym, ◌∙◌, ap, subst, arith, inl, inr, 
 use Rattle.std.proofs.lemmas.Bool.{cases_Bool, false≢true}
 use Rattle.paraid_base.specs.declared.block.Block.{Block}
 use Rattle.paraid_base.specs.declared.geometry.Geometry.{Geometry}
-use Rattle.paraid_base.specs.Places.{sum_before}
 use Rattle.paraid_base.specs.Regions.{disk_size, region_size}
 use Rattle.paraid_base.specs.Xor.{zero_block}
+use Rattle.paraid_base.specs.Sums.{sum_before}
 use Rattle.paraid_base.proofs.RegionsLemmas.{region_size_gear, region_size_none, stripe_count_small}
 use Rattle.paraid_rack.specs.Disks.{Disks}
 use Rattle.paraid_record.specs.declared.meta.Meta.{Meta}

@@ -1,14 +1,10 @@
 -- Disks between two commits.
-use Rattle.std.specs.Prelude.{◌≡◌, ◌≢◌, ℕ, ◌<◌, false, [], Some}
+use Rattle.std.specs.Prelude.{◌≡◌, ◌≢◌, ℕ, ◌<◌, false, Some}
 use Rattle.paraid_rack.specs.Disks.{Disks, IsPresent}
 use Rattle.paraid_record.specs.declared.meta.Meta.{Meta}
 use Rattle.paraid_image.specs.Out.{named_out}
-use Rattle.paraid_image.specs.Sides.{LogState, is_open, stored_block}
+use Rattle.paraid_image.specs.Sides.{closed_over, is_open, stored_block}
 use Rattle.paraid_image.specs.Sound.{LogOk}
-
--- what a log disk says by a gate that is closed over this meta
-abbrev pub closed_over : Meta → LogState
-closed_over m = record { opened = false; meta = m; batch = [] }
 
 -- no block of a disk that is there is loose
 abbrev pub AreSynced : Disks → Type 0

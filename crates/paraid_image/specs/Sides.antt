@@ -53,6 +53,10 @@ pub record LogState : Type 0 where
   pub meta : Meta
   pub batch : Batch
 
+-- what a log disk says by a gate that is closed over this meta
+abbrev pub closed_over : Meta → LogState
+closed_over m = record { opened = false; meta = m; batch = [] }
+
 -- under a closed gate
 pub record SaysClosed (log : ℕ → Block) (m : Meta) (batch : Batch) : Type 0 where
   pub meta : Spells (log 1) m

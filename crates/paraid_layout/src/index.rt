@@ -1,6 +1,6 @@
 //! The disks other than one, numbered from 0 in their order.
 ghost use Rattle.std.specs.Prelude.{◌≡◌, ◌≢◌, ◌+◌, ◌-◌, ◌<◌};
-ghost use Rattle.paraid_base.specs.Skips.{place_among, skip};
+ghost use Rattle.paraid_base.specs.Skips.{index_among as index_among_of, skip};
 
 use paraid_base::DiskNo;
 
@@ -15,7 +15,7 @@ pub(crate) fn disk_of_index(p: DiskNo, i: u8) -> DiskNo
 // The index of disk `d` among the disks other than `p`.
 pub(crate) fn index_of_disk(p: DiskNo, d: DiskNo) -> u8
     requires { d ≢ p }
-    ensures { result ≡ place_among p d }
+    ensures { result ≡ index_among_of p d }
 {
     if d < p { d } else { d - 1 }
 }
@@ -26,7 +26,7 @@ pub fn index_among(parity: DiskNo, disk: DiskNo, gear: u8) -> u8
     requires apart { disk ≢ parity }
     requires below { disk < gear }
     requires parity { parity < gear }
-    ensures value { result ≡ place_among parity disk }
+    ensures value { result ≡ index_among_of parity disk }
     ensures low { result < gear - 1 }
 {
     index_of_disk(parity, disk)

@@ -1,7 +1,7 @@
 //! The soft stripes of a gear: where the cells of its parked disks have their copies.
 ghost use Rattle.std.specs.Prelude.{◌≡◌, ◌≢◌, ◌+◌, ◌-◌, ◌*◌, ◌/◌, ◌%◌, ◌<◌, ◌≤◌, IfSome, MatchOption};
 ghost use Rattle.paraid_base.specs.Regions.{IsGear};
-ghost use Rattle.paraid_base.specs.Skips.{place_among, skip};
+ghost use Rattle.paraid_base.specs.Skips.{index_among, skip};
 ghost use Rattle.paraid_base.specs.Soft.{number_at, row_of_number, disk_of_number, soft_stripe, soft_index, soft_disk, soft_parity_disk, stripe_count};
 ghost use Rattle.paraid_layout.specs.Pads.{IsPad};
 
@@ -41,7 +41,7 @@ pub fn soft_of(g: &Geometry, a: u8, r: Row, d: DiskNo) -> (u32, DiskNo)
     ensures not_parity { result.1 ≢ soft_parity_disk a result.0 }
 
     // `cell_at` finds the cell at this stripe and this disk's index.
-    ensures back { let number = number_at a result.0 (place_among (soft_parity_disk a result.0) result.1) in
+    ensures back { let number = number_at a result.0 (index_among (soft_parity_disk a result.0) result.1) in
         (row_of_number g.now.disks a number ≡ r) × (disk_of_number g.now.disks a number ≡ d) }
 {
     let number = r * (g.disks - a) as u32 + (d - a) as u32;

@@ -25,7 +25,7 @@ use Rattle.paraid_base.specs.Pairs as Pairs
 use Rattle.paraid_base.specs.Pairs.{single_pair}
 use Rattle.paraid_base.specs.Gears as Gears
 use Rattle.paraid_gear.specs.Decision as Decision
-use Rattle.paraid_base.specs.Places as Places
+use Rattle.paraid_base.specs.Sums as Sums
 use Rattle.paraid_ration.specs.Ration as Ration
 
 abbrev flags : List Bool
@@ -140,64 +140,64 @@ times zero a more = more
 times (suc n) a more = a ∷ times n a more
 
 row_6 : answers (whole) 0 (start) (plain (AskDown ∷ Tick ∷ Tick ∷ AskState ∷ AskEnergy ∷ Tick ∷ AskEnergy ∷ [])) ≡ Shift 5 4 ∷ tick 5 1 Moving ∷ tick 4 1 Flipped ∷ status 2 4 Steady 0 0 No 0 ∷ EnergyUsed 90000 ∷ tick 4 0 TickSteady ∷ EnergyUsed 126900 ∷ []
-unfolding outcomes Ration.allowance Pairs.pairs_of Pairs.single_pair Gears.last_below Gears.first_from Places.sum_before Decision.decision
+unfolding outcomes Ration.allowance Pairs.pairs_of Pairs.single_pair Gears.last_below Gears.first_from Sums.sum_before Decision.decision
 row_6 = refl
 
 row_8_and_10 : answers (whole) 0 (start) (plain (AskDown ∷ Tick ∷ Tick ∷ Write (single_pair 7 zero_block) ∷ AskState ∷ Write (single_pair 0 zero_block) ∷ AskState ∷ AskUp ∷ Tick ∷ AskState ∷ [])) ≡ Shift 5 4 ∷ tick 5 1 Moving ∷ tick 4 1 Flipped ∷ Wrote 1 ∷ status 2 4 Steady 1 0 No 0 ∷ Wrote 1 ∷ status 2 4 Steady 2 0 No 0 ∷ Shift 4 5 ∷ tick 5 2 Flipped ∷ status 3 5 Steady 0 0 No 1 ∷ []
-unfolding outcomes Ration.allowance Pairs.pairs_of Pairs.single_pair Gears.last_below Gears.first_from Places.sum_before Decision.decision
+unfolding outcomes Ration.allowance Pairs.pairs_of Pairs.single_pair Gears.last_below Gears.first_from Sums.sum_before Decision.decision
 row_8_and_10 = refl
 
 row_11 : answers (setup Access 100 1000 100) 0 (start) (plain (AskDown ∷ Tick ∷ Tick ∷ Write (single_pair 7 zero_block) ∷ Write (single_pair 0 zero_block) ∷ AskUp ∷ Read 7 ∷ AskState ∷ Tick ∷ [])) ≡ Shift 5 4 ∷ tick 5 1 Moving ∷ tick 4 1 Flipped ∷ Wrote 1 ∷ Wrote 1 ∷ Shift 4 5 ∷ Value 7 (after_all [] 7) ∷ status 2 4 (Up 5) 1 0 No 1 ∷ tick 5 1 Flipped ∷ []
-unfolding outcomes Ration.allowance Pairs.pairs_of Pairs.single_pair Gears.last_below Gears.first_from Places.sum_before Decision.decision
+unfolding outcomes Ration.allowance Pairs.pairs_of Pairs.single_pair Gears.last_below Gears.first_from Sums.sum_before Decision.decision
 row_11 = refl
 
 row_14 : answers (whole) 0 (start) (plain (Fail 2 ∷ Fail 3 ∷ Fail 2 ∷ Replace 3 ∷ Replace 5 ∷ Tick ∷ AskDown ∷ [])) ≡ Failed 2 ∷ IsOut 2 ∷ IsOut 2 ∷ NotOut 3 ∷ NoDisk 5 ∷ tick 5 0 Waiting ∷ IsOut 2 ∷ []
-unfolding outcomes Ration.allowance Pairs.pairs_of Pairs.single_pair Gears.last_below Gears.first_from Places.sum_before Decision.decision
+unfolding outcomes Ration.allowance Pairs.pairs_of Pairs.single_pair Gears.last_below Gears.first_from Sums.sum_before Decision.decision
 row_14 = refl
 
 row_16 : answers (setup Whole 100 1000 1) 0 (start) (plain (AskDown ∷ Tick ∷ Tick ∷ AskUp ∷ Tick ∷ AskDown ∷ [])) ≡ Shift 5 4 ∷ tick 5 1 Moving ∷ tick 4 1 Flipped ∷ Shift 4 5 ∷ tick 5 0 Flipped ∷ RationUsed 4 ∷ []
-unfolding outcomes Ration.allowance Pairs.pairs_of Pairs.single_pair Gears.last_below Gears.first_from Places.sum_before Decision.decision
+unfolding outcomes Ration.allowance Pairs.pairs_of Pairs.single_pair Gears.last_below Gears.first_from Sums.sum_before Decision.decision
 row_16 = refl
 
 -- a disk that may spin up once at once, and once more for each four ticks
 row_of_the_allowance : answers (record (setup Whole 100 1000 100) { burst = 1; period = 4 }) 0 (start) (plain (AskDown ∷ Tick ∷ Tick ∷ AskUp ∷ Tick ∷ AskDown ∷ Tick ∷ AskDown ∷ [])) ≡ Shift 5 4 ∷ tick 5 1 Moving ∷ tick 4 1 Flipped ∷ Shift 4 5 ∷ tick 5 0 Flipped ∷ RationUsed 4 ∷ tick 5 0 TickSteady ∷ Shift 5 4 ∷ []
-unfolding outcomes Ration.allowance Pairs.pairs_of Pairs.single_pair Gears.last_below Gears.first_from Places.sum_before Decision.decision
+unfolding outcomes Ration.allowance Pairs.pairs_of Pairs.single_pair Gears.last_below Gears.first_from Sums.sum_before Decision.decision
 row_of_the_allowance = refl
 
 row_9 : answers (whole) 0 (start) (plain (AskDown ∷ Tick ∷ Tick ∷ Write (single_pair 7 zero_block) ∷ Fail 1 ∷ Read 7 ∷ AskState ∷ [])) ≡ Shift 5 4 ∷ tick 5 1 Moving ∷ tick 4 1 Flipped ∷ Wrote 1 ∷ Failed 1 ∷ Value 7 (after_all [] 7) ∷ status 2 4 Steady 1 0 (Gone 1) 0 ∷ []
-unfolding outcomes Ration.allowance Pairs.pairs_of Pairs.single_pair Gears.last_below Gears.first_from Places.sum_before Decision.decision
+unfolding outcomes Ration.allowance Pairs.pairs_of Pairs.single_pair Gears.last_below Gears.first_from Sums.sum_before Decision.decision
 row_9 = refl
 
 row_17 : answers (whole) 0 (start) (plain (AskDown ∷ Tick ∷ Tick ∷ Write (single_pair 7 zero_block) ∷ Fail 0 ∷ Replace 0 ∷ times 8 Tick (Fail 1 ∷ []))) ≡ Shift 5 4 ∷ tick 5 1 Moving ∷ tick 4 1 Flipped ∷ Wrote 1 ∷ Failed 0 ∷ Replaced 0 ∷ times 7 (tick 4 1 Moving) (tick 4 1 (Rebuilt 0) ∷ Failed 1 ∷ [])
-unfolding outcomes Ration.allowance Pairs.pairs_of Pairs.single_pair Gears.last_below Gears.first_from Places.sum_before Decision.decision
+unfolding outcomes Ration.allowance Pairs.pairs_of Pairs.single_pair Gears.last_below Gears.first_from Sums.sum_before Decision.decision
 row_17 = refl
 
 row_18 : answers (whole) 0 (start) (plain (AskDown ∷ Tick ∷ Tick ∷ Fail 4 ∷ Replace 4 ∷ times 5 Tick (AskState ∷ []))) ≡ Shift 5 4 ∷ tick 5 1 Moving ∷ tick 4 1 Flipped ∷ Failed 4 ∷ Replaced 4 ∷ times 4 (tick 4 1 Moving) (tick 4 1 (Rebuilt 4) ∷ status 7 4 Steady 0 0 No 0 ∷ [])
-unfolding outcomes Ration.allowance Pairs.pairs_of Pairs.single_pair Gears.last_below Gears.first_from Places.sum_before Decision.decision
+unfolding outcomes Ration.allowance Pairs.pairs_of Pairs.single_pair Gears.last_below Gears.first_from Sums.sum_before Decision.decision
 row_18 = refl
 
 row_19 : answers (whole) 0 (start) ((Fail 2, None) ∷ (Replace 2, None) ∷ (Tick, Some 2) ∷ (Read 2, None) ∷ []) ≡ Failed 2 ∷ Replaced 2 ∷ tick 5 0 (GoneAgain 2) ∷ Value 2 (after_all [] 2) ∷ []
-unfolding outcomes Ration.allowance Pairs.pairs_of Pairs.single_pair Gears.last_below Gears.first_from Places.sum_before Decision.decision
+unfolding outcomes Ration.allowance Pairs.pairs_of Pairs.single_pair Gears.last_below Gears.first_from Sums.sum_before Decision.decision
 row_19 = refl
 
 row_19_with_no_disk : answers (whole) 0 (start) ((Fail 2, None) ∷ (Replace 2, Some 2) ∷ (AskState, None) ∷ []) ≡ Failed 2 ∷ NoFresh 2 ∷ status 0 5 Steady 0 0 (Gone 2) 0 ∷ []
-unfolding outcomes Ration.allowance Pairs.pairs_of Pairs.single_pair Gears.last_below Gears.first_from Places.sum_before Decision.decision
+unfolding outcomes Ration.allowance Pairs.pairs_of Pairs.single_pair Gears.last_below Gears.first_from Sums.sum_before Decision.decision
 row_19_with_no_disk = refl
 
 row_20 : answers (setup Whole 1 2 100) 0 (start) (plain (times 4 Tick (times 7 (Read 0) (Tick ∷ Tick ∷ [])))) ≡ tick 5 0 TickSteady ∷ tick 5 0 (Begun 4) ∷ tick 5 1 Moving ∷ tick 4 1 Flipped ∷ times 7 (Value 0 (after_all [] 0)) (tick 4 0 (Begun 5) ∷ tick 5 0 Flipped ∷ [])
-unfolding outcomes Ration.allowance Pairs.pairs_of Pairs.single_pair Gears.last_below Gears.first_from Places.sum_before Decision.decision
+unfolding outcomes Ration.allowance Pairs.pairs_of Pairs.single_pair Gears.last_below Gears.first_from Sums.sum_before Decision.decision
 row_20 = refl
 
 row_20_with_six : answers (setup Whole 1 2 100) 0 (start) (plain (times 4 Tick (times 6 (Read 0) (Tick ∷ [])))) ≡ tick 5 0 TickSteady ∷ tick 5 0 (Begun 4) ∷ tick 5 1 Moving ∷ tick 4 1 Flipped ∷ times 6 (Value 0 (after_all [] 0)) (tick 4 0 TickSteady ∷ [])
-unfolding outcomes Ration.allowance Pairs.pairs_of Pairs.single_pair Gears.last_below Gears.first_from Places.sum_before Decision.decision
+unfolding outcomes Ration.allowance Pairs.pairs_of Pairs.single_pair Gears.last_below Gears.first_from Sums.sum_before Decision.decision
 row_20_with_six = refl
 
 row_21 : answers (setup Whole 1 2 100) 0 (start) (plain (Tick ∷ times 4 (Read 0) (Tick ∷ []))) ≡ tick 5 0 TickSteady ∷ times 4 (Value 0 (after_all [] 0)) (tick 5 0 TickSteady ∷ [])
-unfolding outcomes Ration.allowance Pairs.pairs_of Pairs.single_pair Gears.last_below Gears.first_from Places.sum_before Decision.decision
+unfolding outcomes Ration.allowance Pairs.pairs_of Pairs.single_pair Gears.last_below Gears.first_from Sums.sum_before Decision.decision
 row_21 = refl
 
 row_21_spread : answers (setup Whole 1 2 100) 0 (start) (plain (Read 0 ∷ Read 0 ∷ Tick ∷ Read 0 ∷ Read 0 ∷ Tick ∷ [])) ≡ Value 0 (after_all [] 0) ∷ Value 0 (after_all [] 0) ∷ tick 5 0 TickSteady ∷ Value 0 (after_all [] 0) ∷ Value 0 (after_all [] 0) ∷ tick 5 0 (Begun 4) ∷ []
-unfolding outcomes Ration.allowance Pairs.pairs_of Pairs.single_pair Gears.last_below Gears.first_from Places.sum_before Decision.decision
+unfolding outcomes Ration.allowance Pairs.pairs_of Pairs.single_pair Gears.last_below Gears.first_from Sums.sum_before Decision.decision
 row_21_spread = refl
 
 -- the answers of all outcomes of one event
@@ -207,5 +207,5 @@ all_answers (it ∷ others) = it.0 ∷ all_answers others
 
 -- a loss in a tick that flips may have come before a unit was moved, after one, or after the flip
 a_loss_in_a_flip : all_answers (outcomes whole [] 0 (state_after whole start (plain (AskDown ∷ Tick ∷ []))) Tick (Some 3)) ≡ tick 4 1 Flipped ∷ tick 5 1 (Lost 3) ∷ tick 5 0 (Lost 3) ∷ []
-unfolding outcomes Ration.allowance Pairs.pairs_of Pairs.single_pair Gears.last_below Gears.first_from Places.sum_before Decision.decision
+unfolding outcomes Ration.allowance Pairs.pairs_of Pairs.single_pair Gears.last_below Gears.first_from Sums.sum_before Decision.decision
 a_loss_in_a_flip = refl

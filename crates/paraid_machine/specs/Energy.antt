@@ -4,7 +4,7 @@ use Rattle.paraid_base.specs.declared.event.Answer.{Answer}
 use Rattle.paraid_base.specs.declared.event.Answer.TheVariants.{Ticked, Shift}
 use Rattle.paraid_base.specs.declared.state.TickEvent.{TickEvent}
 use Rattle.paraid_base.specs.declared.state.TickEvent.TheVariants.{Begun}
-use Rattle.paraid_base.specs.Places.{sum_before}
+use Rattle.paraid_base.specs.Sums.{sum_before}
 use Rattle.paraid_rack.specs.declared.call.Power.{Power}
 use Rattle.paraid_rack.specs.declared.call.Power.TheVariants.{Spinning, Parked, Absent}
 use Rattle.paraid_record.specs.declared.meta.Setup.{Setup}

@@ -17,13 +17,12 @@ use Rattle.paraid_rack.proofs.AtomsLemmas.{with_at_other, with_at_same}
 use Rattle.paraid_record.specs.declared.meta.Meta.{Meta}
 use Rattle.paraid_record.specs.declared.targets.Target.{Target}
 use Rattle.paraid_record.specs.Range.{IsInRange}
-use Rattle.paraid_image.specs.Rest.{closed_over}
 use Rattle.paraid_image.specs.Content.{view_by}
 use Rattle.paraid_image.specs.Free.{IsFree}
 use Rattle.paraid_image.specs.Free.IsFree.{dirty_cell, unfilled, gone, row, stripe, map_block}
 use Rattle.paraid_image.specs.LostDisk.{IsLoss}
 use Rattle.paraid_image.specs.Out.{IsMissing, named_out, out_disk}
-use Rattle.paraid_image.specs.Sides.{LogState, Says, has_place, is_open, stored_block}
+use Rattle.paraid_image.specs.Sides.{LogState, Says, closed_over, has_place, is_open, stored_block}
 use Rattle.paraid_image.specs.Sound.{AreDisks, ContentOk, IsFresh, LogOk}
 use Rattle.paraid_image.specs.Sound.Pairing.{alike}
 use Rattle.paraid_image.specs.Spot.{map_bit, map_disk}

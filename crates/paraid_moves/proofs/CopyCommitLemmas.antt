@@ -11,14 +11,14 @@ use Rattle.paraid_rack.specs.declared.call.Power.{Power}
 use Rattle.paraid_rack.specs.Disks.{Disks, IsImage, IsPresent, is_present, lose, step}
 use Rattle.paraid_record.specs.declared.meta.Meta.{Meta}
 use Rattle.paraid_record.specs.Range.{IsInRange}
-use Rattle.paraid_image.specs.Rest.{IsAtRest, AreSynced, closed_over}
+use Rattle.paraid_image.specs.Rest.{IsAtRest, AreSynced}
 use Rattle.paraid_image.specs.Content.{view_by}
 use Rattle.paraid_image.specs.Free.{IsFree}
 use Rattle.paraid_image.specs.HeldAt.{IsHeld, MayLose}
 use Rattle.paraid_image.specs.Neutral.{overwrite}
 use Rattle.paraid_image.specs.Out.{IsMissing, IsWeak, named_out, out_disk}
 use Rattle.paraid_image.specs.Out.IsWeak.{out, named}
-use Rattle.paraid_image.specs.Sides.{LogState, Says, has_place, is_open, stored_block}
+use Rattle.paraid_image.specs.Sides.{LogState, Says, closed_over, has_place, is_open, stored_block}
 use Rattle.paraid_image.specs.Sound.{AreWitnessesTrue, ContentOk, LogOk, IsSoundAt}
 use Rattle.paraid_image.specs.Standing.{Contents, contents, other_log}
 use Rattle.paraid_image.proofs.AgreeLemmas.{content_agrees}

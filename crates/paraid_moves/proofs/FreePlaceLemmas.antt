@@ -9,7 +9,7 @@ use Rattle.paraid_base.specs.declared.state.Out.TheVariants.{No, Fresh}
 use Rattle.paraid_base.specs.History.{History}
 use Rattle.paraid_base.specs.Log.{map_block_place}
 use Rattle.paraid_base.specs.Regions.{hard_place_of, soft_place_of}
-use Rattle.paraid_base.specs.Skips.{place_among, skip}
+use Rattle.paraid_base.specs.Skips.{index_among, skip}
 use Rattle.paraid_base.specs.Soft.{cell_number, disk_of_number, number_at, row_of_number, soft_disk, soft_parity_disk, soft_stripe}
 use Rattle.paraid_base.specs.Sums.{without, xor_upto}
 use Rattle.paraid_base.specs.Xor.{xor, zero_block}
@@ -90,9 +90,9 @@ module _ (v : View) (a s : ℕ) (low : 3 ≤ a) where
   copied_block-cell r d lr la ld is =
       let apart : soft_disk n a r d ≢ p = subst (λ (t : ℕ). soft_disk n a r d ≢ soft_parity_disk a t) is (soft_disk_other n a r d) in
       let t : (soft_disk n a r d == p) ≡ false = grind (arith, nat_tests) in
-      let number : number_at a s (place_among p (soft_disk n a r d)) ≡ cell_number n a r d =
-      subst (λ (t : ℕ). number_at a t (place_among (soft_parity_disk a t) (soft_disk n a r d)) ≡ cell_number n a r d) is (number_at-copy n a r d) in
-      rw t (copied_cell r d lr la ld (number_at a s (place_among p (soft_disk n a r d))) number)
+      let number : number_at a s (index_among p (soft_disk n a r d)) ≡ cell_number n a r d =
+      subst (λ (t : ℕ). number_at a t (index_among (soft_parity_disk a t) (soft_disk n a r d)) ≡ cell_number n a r d) is (number_at-copy n a r d) in
+      rw t (copied_cell r d lr la ld (number_at a s (index_among p (soft_disk n a r d))) number)
 
   pub copied_block-pad : (i : ℕ) → IsPad n v.meta.setup.geometry.rows a s i → copied_block v a s (skip p i) ≡ zero_block
   unfolding copied_block copied_value

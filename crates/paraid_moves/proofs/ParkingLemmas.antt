@@ -14,11 +14,10 @@ use Rattle.paraid_rack.specs.Disks.{Disks, IsImage, IsPresent, is_present, step,
 use Rattle.paraid_rack.proofs.AtomsLemmas.{with_at_other, with_at_same}
 use Rattle.paraid_record.specs.declared.meta.Meta.{Meta}
 use Rattle.paraid_record.specs.declared.targets.Target.{Target}
-use Rattle.paraid_image.specs.Rest.{closed_over}
 use Rattle.paraid_image.specs.Content.{view_by}
 use Rattle.paraid_image.specs.Free.{IsFree}
 use Rattle.paraid_image.specs.Out.{IsMissing, first_absent, named_out, or_else, out_disk}
-use Rattle.paraid_image.specs.Sides.{LogState, Says, SaysBy, has_place, is_open, stored_block}
+use Rattle.paraid_image.specs.Sides.{LogState, Says, SaysBy, closed_over, has_place, is_open, stored_block}
 use Rattle.paraid_image.specs.Sound.{AreDisks, ContentOk, IsFresh, LogOk}
 use Rattle.paraid_image.specs.Spot.{map_bit, map_disk, rising_to}
 use Rattle.paraid_image.specs.Standing.{Contents, contents, other_log}

@@ -4,13 +4,13 @@ use Rattle.paraid_base.specs.History.{History}
 use Rattle.paraid_base.specs.Xor.{zero_block}
 use Rattle.paraid_rack.specs.Disks.{Disks, IsImage}
 use Rattle.paraid_record.specs.declared.meta.Meta.{Meta}
-use Rattle.paraid_image.specs.Rest.{closed_over}
 use Rattle.paraid_image.specs.Content.{view_by}
 use Rattle.paraid_image.specs.Free.{AreSidesClosed, IsFree}
 use Rattle.paraid_image.specs.HeldAt.{IsHeld}
 use Rattle.paraid_image.specs.Out.{IsMissing, out_disk}
 use Rattle.paraid_image.specs.Sound.{AreWitnessesTrue, ContentOk, LogOk}
 use Rattle.paraid_image.specs.Standing.{Contents, contents}
+use Rattle.paraid_image.specs.Sides.{closed_over}
 
 -- This meta stands by closed gates, and past the log the blocks are these but for free places.
 pub record IsCopyImage (i : Disks) (m : Meta) (f : Contents) : Type 0 where

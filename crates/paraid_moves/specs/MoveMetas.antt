@@ -6,10 +6,10 @@ use Rattle.paraid_base.specs.declared.state.Phase.{Phase}
 use Rattle.paraid_base.specs.declared.state.Phase.TheVariants.{Steady}
 use Rattle.paraid_base.specs.History.{History}
 use Rattle.paraid_base.specs.Regions.{hard_place_of}
-use Rattle.paraid_base.specs.Skips.{place_among}
 use Rattle.paraid_base.specs.Soft.{disk_of_number, number_at, row_of_number, soft_parity_disk}
 use Rattle.paraid_base.specs.Sums.{without, xor_upto}
 use Rattle.paraid_base.specs.Xor.{zero_block}
+use Rattle.paraid_base.specs.Skips.{index_among}
 use Rattle.paraid_rack.specs.declared.call.Power.{Power}
 use Rattle.paraid_record.specs.declared.meta.Meta.{Meta}
 use Rattle.paraid_record.specs.Codes.{phase_to}
@@ -57,7 +57,7 @@ copied_value v a s i =
 
 -- the copies of a stripe by disk; on its parity disk any block
 abbrev pub copies : View → ℕ → ℕ → ℕ → Block
-copies v a s = λ e. copied_value v a s (place_among (soft_parity_disk a s) e)
+copies v a s = λ e. copied_value v a s (index_among (soft_parity_disk a s) e)
 
 -- the blocks of a stripe by disk: the copies, and on its parity disk their XOR
 unfoldable pub copied_block : View → ℕ → ℕ → ℕ → Block

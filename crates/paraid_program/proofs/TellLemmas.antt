@@ -19,7 +19,7 @@ use Rattle.paraid_record.specs.declared.meta.Meta.{Meta}
 use Rattle.paraid_record.specs.declared.meta.Setup.{Setup}
 use Rattle.paraid_record.specs.Range.{IsInRange}
 use Rattle.paraid_image.specs.Power.{initial_state, out_state, state_by}
-use Rattle.paraid_image.specs.Rest.{closed_over}
+use Rattle.paraid_image.specs.Sides.{closed_over}
 use Rattle.paraid_machine.specs.Machine.{state_status}
 use Rattle.paraid_program.specs.Telling.{state_lines}
 use Rattle.paraid_recover.specs.Mounted.{with_loss}

@@ -1,5 +1,6 @@
 -- Which calls a disk may get by its power.
 use Rattle.std.specs.Prelude.{◌≡◌, ℕ, false, List, [], ◌∷◌}
+use Rattle.std.proofs.Props.{props}
 use Rattle.paraid_rack.specs.declared.call.Power.TheVariants.{Spinning, Parked}
 use Rattle.paraid_rack.specs.declared.call.Call.{Call}
 use Rattle.paraid_rack.specs.declared.call.Call.TheVariants.{Read, Write, Sync, Park, SpinUp, Attach}
@@ -19,3 +20,16 @@ IsLawful s (Attach d size done) = Unit {0}
 abbrev pub AreLawful : Disks → List Call → Type 0
 AreLawful s [] = Unit {0}
 AreLawful s (c ∷ cs) = IsLawful s c × AreLawful (step c s) cs
+
+-- each has one proof
+pub IsLawful-prop : (s : Disks) (c : Call) → IsProp (IsLawful s c)
+IsLawful-prop s (Read d p done) = hlevel props
+IsLawful-prop s (Write d p b done) = hlevel props
+IsLawful-prop s (Sync d done) = hlevel props
+IsLawful-prop s (Park d done) = hlevel props
+IsLawful-prop s (SpinUp d done) = hlevel props
+IsLawful-prop s (Attach d size done) = hlevel props
+
+pub AreLawful-prop : (s : Disks) (cs : List Call) → IsProp (AreLawful s cs)
+AreLawful-prop s [] = hlevel props
+AreLawful-prop s (c ∷ cs) = let first = IsLawful-prop s c in let rest = AreLawful-prop (step c s) cs in hlevel (props, first, rest)

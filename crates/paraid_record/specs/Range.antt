@@ -1,5 +1,5 @@
 -- Which setups and metas are in range
-use Rattle.std.specs.Prelude.{◌≡◌, ℕ, ◌+◌, ◌^◌, ◌<◌, ◌≤◌, true, false, List, length, slice_index, slice_index_or, nat_lt, if◌then◌else◌}
+use Rattle.std.specs.Prelude.{◌≡◌, ℕ, ◌+◌, ◌^◌, ◌<◌, ◌≤◌, true, false, List, length, slice_index, slice_index_or, nat_lt, max, if◌then◌else◌}
 use Rattle.paraid_base.specs.declared.geometry.Geometry.{Geometry}
 use Rattle.paraid_base.specs.declared.state.Phase.{Phase}
 use Rattle.paraid_base.specs.declared.state.Phase.TheVariants.{Steady, Down, Up}
@@ -119,3 +119,7 @@ pub record IsInRange (m : Meta) : Type 0 where
   pub shift : IsShiftInRange m
   pub eight : length m.spins ≡ 8
   pub spins : (disk : ℕ) → disk < 8 → IsSpinCount m disk
+
+-- how many commits or writes a meta counts, the greater of the two
+abbrev pub meta_wear : Meta → ℕ
+meta_wear m = max m.epoch m.writes

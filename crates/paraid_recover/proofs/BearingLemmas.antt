@@ -24,8 +24,8 @@ use Rattle.paraid_image.specs.Looked.IsLooked.{lost, whole}
 use Rattle.paraid_image.specs.Neutral.{overwrite}
 use Rattle.paraid_image.specs.Out.{IsWeak, named_out, out_disk}
 use Rattle.paraid_image.specs.Out.IsWeak.{out as out_weak}
-use Rattle.paraid_image.specs.Rest.{IsAtRest, closed_over}
-use Rattle.paraid_image.specs.Sides.{LogState, Says}
+use Rattle.paraid_image.specs.Rest.{IsAtRest}
+use Rattle.paraid_image.specs.Sides.{LogState, Says, closed_over}
 use Rattle.paraid_image.specs.Sound.{ContentOk}
 use Rattle.paraid_image.specs.Standing.{Contents, Stands, other_log}
 use Rattle.paraid_image.proofs.CallLemmas.{back_again, decide_some, out_named, says_not_lost, says_of_lost, write_image}

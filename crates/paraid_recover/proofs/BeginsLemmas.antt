@@ -19,9 +19,8 @@ use Rattle.paraid_record.specs.Range.{has_out}
 use Rattle.paraid_image.specs.Calls.{is_attach}
 use Rattle.paraid_image.specs.Out.{first_absent}
 use Rattle.paraid_image.specs.Power.{gone_of, initial_state, out_after, out_state, phase_beside, state_by}
-use Rattle.paraid_image.specs.Rest.{closed_over}
 use Rattle.paraid_image.specs.Shown.{IsShown}
-use Rattle.paraid_image.specs.Sides.{LogState}
+use Rattle.paraid_image.specs.Sides.{LogState, closed_over}
 use Rattle.paraid_image.specs.Standing.{Stands}
 use Rattle.paraid_machine.specs.Moves.{after_loss}
 use Rattle.paraid_recover.specs.RecoveryMark.{renewed_by, to_mark, to_mark_by, with_mark}

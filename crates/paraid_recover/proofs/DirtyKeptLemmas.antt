@@ -14,8 +14,7 @@ use Rattle.paraid_record.specs.Range.{IsInRange}
 use Rattle.paraid_image.specs.Content.{view_by, view_of}
 use Rattle.paraid_image.specs.Out.{IsMissing, out_disk}
 use Rattle.paraid_image.specs.Power.{initial_state, state_by}
-use Rattle.paraid_image.specs.Rest.{closed_over}
-use Rattle.paraid_image.specs.Sides.{Batch, LogState, has_place}
+use Rattle.paraid_image.specs.Sides.{Batch, LogState, closed_over, has_place}
 use Rattle.paraid_image.specs.Sound.{ContentOk}
 use Rattle.paraid_image.specs.Spot.{map_bit, map_disk}
 use Rattle.paraid_image.specs.Standing.{contents}

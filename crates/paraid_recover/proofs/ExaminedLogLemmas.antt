@@ -7,7 +7,7 @@ use Rattle.paraid_rack.specs.Disks.{Disks}
 use Rattle.paraid_rack.specs.Slots.{Slot}
 use Rattle.paraid_rack.specs.Trail.{Trail, now}
 use Rattle.paraid_record.specs.declared.meta.Meta.{Meta}
-use Rattle.paraid_record.specs.Range.{IsInRange}
+use Rattle.paraid_record.specs.Range.{IsInRange, meta_wear}
 use Rattle.paraid_recover.specs.declared.both.Sides.{Sides}
 use Rattle.paraid_recover.specs.declared.hearing.Heard.{Heard}
 use Rattle.paraid_recover.specs.declared.hearing.Heard.TheVariants.{Blank, Bad, Formed}
@@ -27,7 +27,7 @@ use Rattle.paraid_recover.specs.Examined.IsRefused.{by_slots, by_loss, as_heard}
 use Rattle.paraid_recover.specs.Examined.IsRefusedAsHeard.{by_logs, by_meta}
 use Rattle.paraid_recover.specs.Examined.IsRefusedByLogs.{by_sides, by_itself, unpaired}
 use Rattle.paraid_recover.specs.Examined.IsRefusedBySlots.{asleep, few}
-use Rattle.paraid_recover.specs.Refusals.{IsLeastDisk, meta_wear}
+use Rattle.paraid_recover.specs.Refusals.{IsLeastDisk}
 use Rattle.paraid_recover.specs.Said.{standing_out}
 
 -- Sides

@@ -17,9 +17,9 @@ use Rattle.paraid_record.specs.Range.{has_out}
 use Rattle.paraid_image.specs.HeldAt.{IsHeld}
 use Rattle.paraid_image.specs.Out.{first_absent, named_out, or_else, out_disk}
 use Rattle.paraid_image.specs.Power.{gone_of, initial_state, out_after, out_state, phase_beside, power_beside, power_by_gear, state_by}
-use Rattle.paraid_image.specs.Rest.{IsAtRest, closed_over}
+use Rattle.paraid_image.specs.Rest.{IsAtRest}
 use Rattle.paraid_rack.specs.Atoms.{IsSure}
-use Rattle.paraid_image.specs.Sides.{is_open}
+use Rattle.paraid_image.specs.Sides.{closed_over, is_open}
 use Rattle.paraid_recover.specs.Bearing.{IsNamedLog}
 use Rattle.paraid_recover.specs.RecoveryMark.{to_mark, to_mark_by}
 use Rattle.paraid_recover.specs.Mounted.{IsServable, with_loss}

@@ -16,13 +16,13 @@ use Rattle.paraid_base.specs.declared.state.Out.TheVariants.{Gone, Fresh}
 use Rattle.paraid_rack.specs.Alike.{IsAlike}
 use Rattle.paraid_rack.specs.Disks.{Disks, IsImage, is_present, lose, step}
 use Rattle.paraid_record.specs.declared.meta.Meta.{Meta}
-use Rattle.paraid_image.specs.Rest.{IsAtRest, closed_over}
+use Rattle.paraid_image.specs.Rest.{IsAtRest}
 use Rattle.paraid_txn.specs.Commit.{IsNext}
 use Rattle.paraid_image.specs.Mark.{marked_gone}
 use Rattle.paraid_image.specs.HeldAt.{IsHeld, MayLose}
 use Rattle.paraid_image.specs.Out.{named_out}
 use Rattle.paraid_image.specs.Out.IsWeak.{out as out_weak}
-use Rattle.paraid_image.specs.Sides.{LogState, Says, is_open, stored_block}
+use Rattle.paraid_image.specs.Sides.{LogState, Says, closed_over, is_open, stored_block}
 use Rattle.paraid_image.specs.Sound.{LogOk}
 use Rattle.paraid_image.specs.Standing.{Stands, other_log}
 use Rattle.paraid_recover.specs.RecoveryMark.{of_version_two}

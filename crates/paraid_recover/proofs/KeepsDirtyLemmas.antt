@@ -12,8 +12,8 @@ use Rattle.paraid_image.specs.Content.{view_of}
 use Rattle.paraid_image.specs.HeldAt.{IsHeld, IsSoundFrom}
 use Rattle.paraid_image.specs.Out.{IsMissing, IsWeak, out_disk}
 use Rattle.paraid_image.specs.Power.{initial_state}
-use Rattle.paraid_image.specs.Rest.{IsAtRest, closed_over}
-use Rattle.paraid_image.specs.Sides.{LogState}
+use Rattle.paraid_image.specs.Rest.{IsAtRest}
+use Rattle.paraid_image.specs.Sides.{LogState, closed_over}
 use Rattle.paraid_image.specs.Sound.{ContentOk, IsSoundAt}
 use Rattle.paraid_image.specs.Standing.{contents}
 use Rattle.paraid_image.proofs.AlikeLemmas.{sound_alike}

@@ -8,14 +8,14 @@ use Rattle.paraid_rack.specs.Disks.{Disks, is_present}
 use Rattle.paraid_record.specs.declared.meta.Meta.{Meta}
 use Rattle.paraid_record.specs.Range.{IsInRange}
 use Rattle.paraid_recover.proofs.QuietCallsLemmas.{still_true}
-use Rattle.paraid_image.specs.Rest.{IsAtRest, closed_over}
+use Rattle.paraid_image.specs.Rest.{IsAtRest}
 use Rattle.paraid_txn.specs.Commit.{IsEitherMissing, IsNext, IsOldOrNew}
 use Rattle.paraid_image.specs.Content.{view_by, view_of}
 use Rattle.paraid_image.specs.HeldAt.{IsHeld, IsSoundFrom}
 use Rattle.paraid_image.specs.FirstWrites.{HoldsFirstWrites}
 use Rattle.paraid_image.specs.Mark.{marked_gone}
 use Rattle.paraid_image.specs.Out.{named_out, out_disk}
-use Rattle.paraid_image.specs.Sides.{LogState}
+use Rattle.paraid_image.specs.Sides.{LogState, closed_over}
 use Rattle.paraid_image.specs.Sound.{ContentOk, AreWitnessesTrue}
 use Rattle.paraid_image.specs.Standing.{contents}
 use Rattle.paraid_image.proofs.AlikeLemmas.{contents_alike, held_alike, stands_alike}

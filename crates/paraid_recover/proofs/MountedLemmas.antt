@@ -16,9 +16,9 @@ use Rattle.paraid_image.specs.Content.{view_by}
 use Rattle.paraid_image.specs.HeldAt.{IsHeld}
 use Rattle.paraid_image.specs.Out.{IsWeak, named_out, out_disk}
 use Rattle.paraid_image.specs.Power.{initial_state}
-use Rattle.paraid_image.specs.Rest.{IsAtRest, closed_over}
+use Rattle.paraid_image.specs.Rest.{IsAtRest}
 use Rattle.paraid_image.specs.RunStart.{IsRunStart}
-use Rattle.paraid_image.specs.Sides.{LogState, is_open}
+use Rattle.paraid_image.specs.Sides.{LogState, closed_over, is_open}
 use Rattle.paraid_image.specs.Spins.{made_spin_ups}
 use Rattle.paraid_image.specs.Standing.{Stands, contents}
 use Rattle.paraid_rack.specs.Atoms.{IsSure}

@@ -10,9 +10,9 @@ use Rattle.paraid_rack.proofs.AlikeLemmas.{IsAlike-sym, IsAlike-trans}
 use Rattle.paraid_record.specs.declared.meta.Meta.{Meta}
 use Rattle.paraid_record.specs.declared.meta.Setup.{Setup}
 use Rattle.paraid_image.specs.HeldAt.{IsHeld}
-use Rattle.paraid_image.specs.Rest.{AreSynced, IsAtRest, closed_over}
+use Rattle.paraid_image.specs.Rest.{AreSynced, IsAtRest}
 use Rattle.paraid_image.specs.RunStart.{IsRunStart}
-use Rattle.paraid_image.specs.Sides.{LogState}
+use Rattle.paraid_image.specs.Sides.{LogState, closed_over}
 use Rattle.paraid_image.specs.Standing.{Stands}
 use Rattle.paraid_image.proofs.AlikeLemmas.{sound_alike, weak_alike}
 use Rattle.paraid_image.proofs.LookedLemmas.{weak_of_sound}

@@ -19,8 +19,8 @@ use Rattle.paraid_image.specs.Content.{view_by, view_of}
 use Rattle.paraid_image.specs.HeldAt.{IsHeld}
 use Rattle.paraid_image.specs.Out.{IsMissing, IsWeak, first_absent, named_out, or_else, out_disk}
 use Rattle.paraid_image.specs.Out.IsWeak.{out as out_weak}
-use Rattle.paraid_image.specs.Rest.{IsAtRest, AreSynced, closed_over}
-use Rattle.paraid_image.specs.Sides.{LogState, stored_block}
+use Rattle.paraid_image.specs.Rest.{IsAtRest, AreSynced}
+use Rattle.paraid_image.specs.Sides.{LogState, closed_over, stored_block}
 use Rattle.paraid_image.specs.Sound.{ContentOk, AreWitnessesTrue}
 use Rattle.paraid_image.specs.Standing.{Contents, contents}
 use Rattle.paraid_image.proofs.OutLemmas.{first_absent_is}

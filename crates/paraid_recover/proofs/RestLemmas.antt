@@ -21,8 +21,8 @@ use Rattle.paraid_image.specs.Looked.{IsLooked}
 use Rattle.paraid_image.specs.Looked.IsLooked.{lost, whole}
 use Rattle.paraid_image.specs.Out.{named_out, or_else, out_disk, first_absent}
 use Rattle.paraid_image.specs.Out.IsWeak.{out}
-use Rattle.paraid_image.specs.Rest.{IsAtRest, closed_over}
-use Rattle.paraid_image.specs.Sides.{LogState, Says, has_place, is_open, stored_block}
+use Rattle.paraid_image.specs.Rest.{IsAtRest}
+use Rattle.paraid_image.specs.Sides.{LogState, Says, closed_over, has_place, is_open, stored_block}
 use Rattle.paraid_image.specs.Sound.{ContentOk, Pairing}
 use Rattle.paraid_image.specs.Sound.Pairing.{alike, first_ahead, first_done, second_ahead, second_done}
 use Rattle.paraid_image.specs.Spot.{rising_to}

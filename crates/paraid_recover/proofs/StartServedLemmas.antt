@@ -18,9 +18,9 @@ use Rattle.paraid_record.specs.Range.{IsInRange}
 use Rattle.paraid_image.specs.HeldAt.{IsHeld}
 use Rattle.paraid_image.specs.Out.{IsMissing, IsWeak, first_absent, named_out, or_else, out_disk}
 use Rattle.paraid_image.specs.Power.{gone_of, initial_state, out_after, out_state}
-use Rattle.paraid_image.specs.Rest.{IsAtRest, closed_over}
+use Rattle.paraid_image.specs.Rest.{IsAtRest}
 use Rattle.paraid_image.specs.RunStart.{IsRunStart}
-use Rattle.paraid_image.specs.Sides.{LogState, is_open}
+use Rattle.paraid_image.specs.Sides.{LogState, closed_over, is_open}
 use Rattle.paraid_image.specs.Standing.{Stands}
 use Rattle.paraid_image.proofs.OutLemmas.{missing_is_out, named_below}
 use Rattle.paraid_rack.specs.Atoms.{IsSure}

@@ -6,8 +6,7 @@ use Rattle.paraid_record.specs.declared.meta.Meta.{Meta}
 use Rattle.paraid_image.specs.HeldAt.{IsHeld}
 use Rattle.paraid_image.specs.Out.{IsWeak}
 use Rattle.paraid_image.specs.Power.{initial_state}
-use Rattle.paraid_image.specs.Rest.{closed_over}
-use Rattle.paraid_image.specs.Sides.{LogState}
+use Rattle.paraid_image.specs.Sides.{LogState, closed_over}
 use Rattle.paraid_recover.specs.HeldMoments.{IsAbsentSince}
 use Rattle.paraid_recover.specs.RecoveryMark.{to_mark}
 use Rattle.paraid_txn.specs.Resume.{IsResumable}

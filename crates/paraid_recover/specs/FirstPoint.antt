@@ -8,9 +8,9 @@ use Rattle.paraid_rack.specs.Trail.{Trail, now}
 use Rattle.paraid_record.specs.declared.meta.Meta.{Meta}
 use Rattle.paraid_image.specs.Content.{view_by}
 use Rattle.paraid_image.specs.Power.{initial_state}
-use Rattle.paraid_image.specs.Rest.{closed_over}
 use Rattle.paraid_image.specs.Spins.{made_spin_ups}
 use Rattle.paraid_image.specs.Standing.{contents}
+use Rattle.paraid_image.specs.Sides.{closed_over}
 use Rattle.paraid_session.specs.Turn.{Point}
 
 -- After a mount of a rack that held `h`: the disks rest under this meta, and of the writes those

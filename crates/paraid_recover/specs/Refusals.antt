@@ -1,5 +1,5 @@
 -- What refuses a mount, by the meta that stands and by the slots.
-use Rattle.std.specs.Prelude.{◌≡◌, ℕ, ◌<◌, ◌⊎◌, ◌&&◌, ◌||◌, nat_lt, not, max, Bool, true, false, Some, None}
+use Rattle.std.specs.Prelude.{◌≡◌, ℕ, ◌<◌, ◌⊎◌, ◌&&◌, ◌||◌, nat_lt, not, Bool, true, false, Some, None}
 use Rattle.paraid_base.specs.declared.fault.Two.{Two}
 use Rattle.paraid_base.specs.Regions.{disk_size}
 use Rattle.paraid_rack.specs.Disks.{is_present}
@@ -49,7 +49,3 @@ pub record AreMissing (slot : ℕ → Slot) (m : Meta) (two : Two) : Type 0 wher
   pub lacking : is_lacking slot m two.second ≡ true
   pub apart : two.first < two.second ⊎ (named_out m.out ≡ Some two.first)
   pub least : (e : ℕ) → e < two.second → is_lacking slot m e ≡ true → e ≡ two.first
-
--- the greater of the epoch and the number of writes, which an array takes up to a bound
-abbrev pub meta_wear : Meta → ℕ
-meta_wear m = max m.epoch m.writes

@@ -11,8 +11,8 @@ use Rattle.paraid_record.specs.declared.meta.Meta.{Meta}
 use Rattle.paraid_image.specs.HeldAt.{IsHeld}
 use Rattle.paraid_image.specs.Out.{named_out, out_disk}
 use Rattle.paraid_image.specs.Power.{initial_state}
-use Rattle.paraid_image.specs.Rest.{AreSynced, IsAtRest, closed_over}
-use Rattle.paraid_image.specs.Sides.{LogState, is_open}
+use Rattle.paraid_image.specs.Rest.{AreSynced, IsAtRest}
+use Rattle.paraid_image.specs.Sides.{LogState, closed_over, is_open}
 use Rattle.paraid_recover.specs.Bearing.{IsNamedLog}
 use Rattle.paraid_recover.specs.Mounted.{IsServable, with_loss}
 use Rattle.paraid_recover.specs.RecoveryMark.{to_mark}

@@ -1,7 +1,7 @@
 //! An array that takes no more writes.
 ghost use Rattle.std.specs.Prelude.{◌≡◌, ◌<◌, ◌≤◌, MatchOption};
 ghost use Rattle.paraid_base.specs.Log.{worn_at};
-ghost use Rattle.paraid_recover.specs.Refusals.{meta_wear};
+ghost use Rattle.paraid_record.specs.Range.{meta_wear};
 
 use paraid_base::WORN_AT;
 use paraid_record::Meta;

@@ -1,8 +1,8 @@
 -- Right bounds certify a cost
 use Rattle.std.proofs.Common.{◌≡◌, ℕ, zero, suc, ◌+◌, ◌-◌, ◌<◌, ◌≤◌, List, length, slice_index, nat_le, nat_lt, ◌&&◌, if◌then◌else◌, inl, refl, arith, add-one}
 use Rattle.std.proofs.lemmas.Bool.Decides.{nat_tests}
-use Rattle.paraid_base.specs.Places.{sum_before}
 use Rattle.paraid_base.specs.Regions.{IsGear}
+use Rattle.paraid_base.specs.Sums.{sum_before}
 use Rattle.paraid_record.specs.declared.meta.Setup.{Setup}
 use Rattle.paraid_schedule.specs.Schedule.{IsDemand, IsSchedule, rise, rises_before}
 use Rattle.paraid_schedule.specs.Cost.{period_cost, step_cost, cost_before, schedule_cost, spin_ups}

@@ -4,8 +4,8 @@ use Rattle.std.proofs.Math.ListN.{get_or-append}
 use Rattle.std.proofs.lemmas.List.{get_or_push, length-append}
 use Rattle.std.proofs.lemmas.Bool.{cases_lt, cases_eq}
 use Rattle.std.proofs.lemmas.Nat.{mul-le}
-use Rattle.paraid_base.specs.Places.{sum_before}
 use Rattle.paraid_base.specs.Regions.{IsGear}
+use Rattle.paraid_base.specs.Sums.{sum_before}
 use Rattle.paraid_record.specs.declared.meta.Setup.{Setup}
 use Rattle.paraid_schedule.specs.Schedule.{IsDemand, IsSchedule, IsGearStep, GearServes, rise, rises_before}
 use Rattle.paraid_schedule.specs.Cost.{period_cost, step_cost, cost_before, schedule_cost}

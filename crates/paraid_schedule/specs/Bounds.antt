@@ -1,8 +1,8 @@
 -- Bounds that certify a cost: what no way on from a period, a gear and the rises left goes below
 use Rattle.std.specs.Prelude.{◌≡◌, ℕ, ◌+◌, ◌-◌, ◌*◌, ◌^◌, ◌<◌, ◌≤◌, List, length, slice_index, slice_index_or, if◌then◌else◌, false}
 use Rattle.paraid_base.specs.declared.geometry.Geometry.{Geometry}
-use Rattle.paraid_base.specs.Places.{sum_before}
 use Rattle.paraid_base.specs.Regions.{IsGear}
+use Rattle.paraid_base.specs.Sums.{sum_before}
 use Rattle.paraid_record.specs.declared.meta.Setup.{Setup}
 use Rattle.paraid_schedule.specs.Schedule.{GearServes, IsGearStep, rise}
 use Rattle.paraid_schedule.specs.Cost.{period_cost, step_cost}

@@ -1,6 +1,6 @@
 -- What a list of gears costs, in millijoules
 use Rattle.std.specs.Prelude.{ℕ, ◌+◌, ◌-◌, ◌*◌, ◌&&◌, List, length, slice_index, nat_le, nat_lt, if◌then◌else◌}
-use Rattle.paraid_base.specs.Places.{sum_before}
+use Rattle.paraid_base.specs.Sums.{sum_before}
 use Rattle.paraid_record.specs.declared.meta.Setup.{Setup}
 
 -- a period in gear `a`: that many disks spin, and the others are parked

@@ -1,7 +1,7 @@
 -- Which lists of gears may follow a demand
 use Rattle.std.specs.Prelude.{◌≡◌, ◌⊎◌, ℕ, ◌+◌, ◌-◌, ◌*◌, ◌<◌, ◌≤◌, List, length, slice_index, min}
 use Rattle.paraid_base.specs.declared.geometry.Geometry.{Geometry}
-use Rattle.paraid_base.specs.Places.{sum_before}
+use Rattle.paraid_base.specs.Sums.{sum_before}
 use Rattle.paraid_record.specs.declared.meta.Setup.{Setup}
 use Rattle.paraid_record.specs.Range.{AreNextGears}
 

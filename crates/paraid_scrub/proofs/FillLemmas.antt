@@ -3,7 +3,7 @@ use Rattle.std.specs.Prelude.{◌≡◌, ◌≢◌, ℕ, ◌+◌, ◌<◌, ◌�
 use Rattle.std.proofs.lemmas.Bool.{false≢true}
 use Rattle.std.proofs.Common.{refl, sym, ◌∙◌, ap, subst, arith, below_more}
 use Rattle.paraid_base.specs.declared.block.Block.{Block}
-use Rattle.paraid_base.specs.Skips.{place_among, skip}
+use Rattle.paraid_base.specs.Skips.{index_among, skip}
 use Rattle.paraid_base.specs.Soft.{cell_number, number_at, soft_disk, soft_index, soft_parity_disk, soft_stripe}
 use Rattle.paraid_base.proofs.SkipsLemmas.{skip-place_among, skip_apart}
 use Rattle.paraid_base.proofs.SoftLemmas.{cell_number_below, number_at_cell, soft_disk_below, soft_disk_other, soft_places_differ}
@@ -28,13 +28,13 @@ module _ (v : View) (m : Meta) (e : v.meta ≡ m) (a s disk : ℕ) where
   parity_right is r d lr la ld es ed =
       absurd (soft_disk_other v.meta.setup.geometry.disks a r d (ed ∙ is ∙ ap (soft_parity_disk a) (sym es)))
 
-  index_is : disk ≢ soft_parity_disk a s → (i n r d : ℕ) → i ≡ place_among (soft_parity_disk a s) disk → soft_stripe n a r d ≡ s → soft_disk n a r d ≡ disk → soft_index n a r d ≡ i
+  index_is : disk ≢ soft_parity_disk a s → (i n r d : ℕ) → i ≡ index_among (soft_parity_disk a s) disk → soft_stripe n a r d ≡ s → soft_disk n a r d ≡ disk → soft_index n a r d ≡ i
   index_is apart i n r d is es ed =
       skip_apart (soft_parity_disk a s) (soft_index n a r d) i
       (ap (λ (z : ℕ). skip (soft_parity_disk a z) (soft_index n a r d)) (sym es) ∙ ed ∙ sym (ap (skip (soft_parity_disk a s)) is ∙ skip-place_among (soft_parity_disk a s) disk apart))
 
   -- no cell has its copy in a pad
-  pub pad_right : disk ≢ soft_parity_disk a s → (i : ℕ) → i ≡ place_among (soft_parity_disk a s) disk → IsPad m.setup.geometry.disks m.setup.geometry.rows a s i → IsCopyRight v a s disk
+  pub pad_right : disk ≢ soft_parity_disk a s → (i : ℕ) → i ≡ index_among (soft_parity_disk a s) disk → IsPad m.setup.geometry.disks m.setup.geometry.rows a s i → IsCopyRight v a s disk
   pad_right apart i is pad r d lr la ld es ed =
       let n : ℕ = v.meta.setup.geometry.disks in
       let here : IsPad v.meta.setup.geometry.disks v.meta.setup.geometry.rows a s i = subst (λ (z : Meta). IsPad z.setup.geometry.disks z.setup.geometry.rows a s i) (sym e) pad in

@@ -1,7 +1,6 @@
 //! Whether a stripe that a shift has filled is false.
-ghost use Rattle.std.specs.Prelude.{◌≡◌, ◌≢◌, ◌<◌, ◌≤◌, ◌↔◌, ◌⊎◌, ◌+◌, ◌-◌, ℕ, IfOk, IfErr, IsTrue, None};
+ghost use Rattle.std.specs.Prelude.{◌≡◌, ◌<◌, ◌≤◌, ◌↔◌, ◌⊎◌, ◌+◌, ◌-◌, ℕ, IfOk, IfErr, IsTrue, None};
 ghost use Rattle.paraid_base.specs.Regions.{IsGear};
-ghost use Rattle.paraid_base.specs.Skips.{place_among};
 ghost use Rattle.paraid_base.specs.Soft.{stripe_count};
 ghost use Rattle.paraid_base.specs.States.{phase_to};
 ghost use Rattle.paraid_base.specs.Xor.{xor};

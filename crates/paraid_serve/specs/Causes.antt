@@ -27,6 +27,7 @@ use Rattle.paraid_image.specs.Mark.{meta_after_loss, meta_with_lost}
 use Rattle.paraid_image.specs.Out.{is_out, named_out}
 use Rattle.paraid_image.specs.Power.{PowerState}
 use Rattle.paraid_machine.specs.Energy.{energy_after}
+use Rattle.paraid_record.specs.Range.{meta_wear}
 use Rattle.paraid_machine.specs.Machine.{block_count, blocks_named, first_missing, out_refusal, ration_refusal, refusal_else, shift_refusal, state_status}
 use Rattle.paraid_machine.specs.Moves.{after_flip, after_loss, after_units, all_written, block_read, first_spent, units_left, units_of_tick, units_to_rebuild}
 use Rattle.paraid_rack.specs.Slots.{Slot}
@@ -107,7 +108,7 @@ quiet_answer x Bad = None
 
 -- how many commits or writes were made, the greater of the two
 abbrev pub wear_shown : Shown → ℕ
-wear_shown x = max x.meta.epoch x.meta.writes
+wear_shown x = meta_wear x.meta
 
 -- it serves, and takes the event
 pub record Takes (x : Shown) (event : Event) : Type 0 where

@@ -15,8 +15,8 @@ use Rattle.paraid_image.specs.HeldAt.{IsHeld}
 use Rattle.paraid_image.specs.Looked.{IsLooked}
 use Rattle.paraid_image.specs.Looked.IsLooked.{lost, whole}
 use Rattle.paraid_image.specs.Out.{first_absent, named_out, or_else, out_disk}
-use Rattle.paraid_image.specs.Rest.{IsAtRest, closed_over}
-use Rattle.paraid_image.specs.Sides.{LogState, Says}
+use Rattle.paraid_image.specs.Rest.{IsAtRest}
+use Rattle.paraid_image.specs.Sides.{LogState, Says, closed_over}
 use Rattle.paraid_image.specs.Sound.{Pairing}
 use Rattle.paraid_image.specs.Sound.Pairing.{alike, first_ahead, first_done, second_ahead, second_done}
 use Rattle.paraid_image.specs.Spins.{made_spin_ups, is_parked, pending_spin_ups}

@@ -24,8 +24,7 @@ use Rattle.paraid_image.specs.Formatted.{IsFormatted}
 use Rattle.paraid_image.specs.HeldAt.{IsHeld, IsSoundFrom}
 use Rattle.paraid_image.specs.Out.{named_out}
 use Rattle.paraid_image.specs.Power.{PowerState, initial_state, state_by}
-use Rattle.paraid_image.specs.Rest.{closed_over}
-use Rattle.paraid_image.specs.Sides.{LogState, Says, is_open}
+use Rattle.paraid_image.specs.Sides.{LogState, Says, closed_over, is_open}
 use Rattle.paraid_image.specs.Sound.{ContentOk, IsWellKept, LogOk}
 use Rattle.paraid_image.specs.Spot.{is_hard}
 use Rattle.paraid_image.specs.Value.{far, near, soft_value, value}

@@ -17,9 +17,8 @@ use Rattle.paraid_image.specs.HeldAt.{IsHeld, MayLose}
 use Rattle.paraid_image.specs.Out.{IsWeak, first_absent, named_out, or_else, out_disk}
 use Rattle.paraid_image.specs.Out.IsWeak.{named, out}
 use Rattle.paraid_image.specs.Power.{PowerState, gone_of, initial_state, out_after, out_state, phase_beside, power_of, state_by}
-use Rattle.paraid_image.specs.Rest.{closed_over}
 use Rattle.paraid_image.specs.Shown.{IsShown}
-use Rattle.paraid_image.specs.Sides.{LogState, Says}
+use Rattle.paraid_image.specs.Sides.{LogState, Says, closed_over}
 use Rattle.paraid_image.specs.Spins.{made_spin_ups}
 use Rattle.paraid_image.specs.Standing.{Stands, other_log}
 use Rattle.paraid_image.proofs.HeldLemmas.{IsHeld-more}

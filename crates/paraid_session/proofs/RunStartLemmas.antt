@@ -25,8 +25,8 @@ use Rattle.paraid_image.specs.Looked.IsLooked.{lost, whole}
 use Rattle.paraid_image.specs.Out.{first_absent, named_out, or_else, out_disk}
 use Rattle.paraid_image.specs.Out.IsWeak.{out}
 use Rattle.paraid_image.specs.Power.{gone_of, initial_state, out_after, state_by}
-use Rattle.paraid_image.specs.Rest.{AreSynced, closed_over}
-use Rattle.paraid_image.specs.Sides.{LogState}
+use Rattle.paraid_image.specs.Rest.{AreSynced}
+use Rattle.paraid_image.specs.Sides.{LogState, closed_over}
 use Rattle.paraid_image.specs.Spins.{made_spin_ups}
 use Rattle.paraid_image.specs.Standing.{Stands}
 use Rattle.paraid_image.proofs.AlikeLemmas.{weak_alike}

@@ -23,8 +23,7 @@ use Rattle.paraid_image.specs.Content.{view_by, view_of}
 use Rattle.paraid_image.specs.HeldAt.{IsSoundFrom, MayLose}
 use Rattle.paraid_image.specs.Out.{IsMissing, IsWeak, first_absent, named_out, or_else, out_disk}
 use Rattle.paraid_image.specs.Out.IsWeak.{named, out}
-use Rattle.paraid_image.specs.Rest.{closed_over}
-use Rattle.paraid_image.specs.Sides.{Batch, LogState, Says, has_place, is_open, stored_block, targets}
+use Rattle.paraid_image.specs.Sides.{Batch, LogState, Says, closed_over, has_place, is_open, stored_block, targets}
 use Rattle.paraid_image.specs.Sound.{ContentOk, IsFresh, LogOk, Pairing, IsSoundAt}
 use Rattle.paraid_image.specs.Sound.Pairing.{alike, first_ahead, second_done}
 use Rattle.paraid_image.specs.Standing.{Stands, contents, is_first, other_log}

@@ -19,8 +19,7 @@ use Rattle.paraid_image.specs.Formatted.{IsFormatted}
 use Rattle.paraid_image.specs.HeldAt.{IsHeld}
 use Rattle.paraid_image.specs.Looked.{IsLooked}
 use Rattle.paraid_image.specs.Looked.IsLooked.{lost, whole}
-use Rattle.paraid_image.specs.Rest.{closed_over}
-use Rattle.paraid_image.specs.Sides.{LogState, Says, is_open}
+use Rattle.paraid_image.specs.Sides.{LogState, Says, closed_over, is_open}
 use Rattle.paraid_image.specs.Standing.{Stands}
 use Rattle.paraid_image.proofs.CallLemmas.{says_of_lost}
 use Rattle.paraid_session.specs.Course.{next_meta}

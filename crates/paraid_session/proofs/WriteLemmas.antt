@@ -29,9 +29,9 @@ use Rattle.paraid_image.specs.HeldAt.{IsHeld, IsSoundFrom, MayLose}
 use Rattle.paraid_image.specs.Looked.IsLooked.{lost as lost_image}
 use Rattle.paraid_image.specs.Out.{IsMissing, first_absent, named_out, or_else, out_disk}
 use Rattle.paraid_image.specs.Power.{PowerState, gone_of, initial_state, out_after, out_state, phase_beside, power_of, state_by}
-use Rattle.paraid_image.specs.Rest.{IsAtRest, closed_over}
+use Rattle.paraid_image.specs.Rest.{IsAtRest}
 use Rattle.paraid_image.specs.Shown.{IsShown}
-use Rattle.paraid_image.specs.Sides.{LogState, Says}
+use Rattle.paraid_image.specs.Sides.{LogState, Says, closed_over}
 use Rattle.paraid_image.specs.Sound.{LogOk}
 use Rattle.paraid_image.specs.Spot.{rising_to}
 use Rattle.paraid_image.specs.Standing.{Stands}

@@ -20,11 +20,11 @@ use Rattle.paraid_rack.specs.Disks.{Disks}
 use Rattle.paraid_rack.specs.Trail.{run}
 use Rattle.paraid_record.specs.declared.meta.Meta.{Meta}
 use Rattle.paraid_record.specs.declared.meta.Setup.{Setup}
-use Rattle.paraid_image.specs.Rest.{IsAtRest, closed_over}
+use Rattle.paraid_image.specs.Rest.{IsAtRest}
 use Rattle.paraid_image.specs.HeldAt.{IsHeld}
 use Rattle.paraid_image.specs.Out.{named_out}
 use Rattle.paraid_image.specs.Power.{PowerState, initial_state, power_of}
-use Rattle.paraid_image.specs.Sides.{is_open}
+use Rattle.paraid_image.specs.Sides.{closed_over, is_open}
 use Rattle.paraid_image.specs.Shown.{IsShown, with_flush}
 use Rattle.paraid_machine.specs.Energy.{energy_after, tick_energy}
 use Rattle.paraid_machine.specs.Machine.{IsEventStep}

@@ -6,7 +6,6 @@ use Rattle.std.proofs.lemmas.Bool.Decides.{nat_tests}
 use Rattle.std.proofs.Math.Nat.{div-eq_of_lt, div-le_self, div-zero, mul_comm, mul-le-mul_right}
 use Rattle.paraid_base.proofs.GearsLemmas.{first_from-none, first_from-some}
 use Rattle.paraid_base.proofs.SoftLemmas.{cell_number_below, cell_number_of, disk_of_cell_number, disk_of_number_below, row_of_cell_number, row_of_number_below}
-use Rattle.paraid_base.specs.Places.{sum_before}
 use Rattle.paraid_base.specs.Soft.{cell_number, disk_of_number, row_of_number, stripe_count}
 use Rattle.paraid_base.specs.declared.state.Out.TheVariants.{No}
 use Rattle.paraid_base.specs.declared.state.Phase.{Phase}
@@ -21,6 +20,7 @@ use Rattle.paraid_record.specs.declared.meta.Meta.{Meta}
 use Rattle.paraid_record.specs.declared.meta.Setup.{Setup}
 use Rattle.paraid_record.specs.Range.{IsInRange, IsPhaseInRange, fill_limit}
 use Rattle.paraid_base.specs.declared.geometry.Geometry.{Geometry}
+use Rattle.paraid_base.specs.Sums.{sum_before}
 use Rattle.paraid_core.specs.Steps.{IsMarkedFrom}
 use Rattle.paraid_event.specs.Moving.{GoesToState, MovesUnits}
 use Rattle.paraid_event.specs.Service.{IsStateOf, Service}

@@ -12,11 +12,11 @@ use Rattle.paraid_record.specs.declared.meta.Meta.{Meta}
 use Rattle.paraid_record.specs.declared.targets.Target.{Target}
 use Rattle.paraid_record.specs.Range.{IsInRange}
 use Rattle.paraid_record.specs.Targets.{IsTargetInRange}
-use Rattle.paraid_image.specs.Rest.{AreLogGatesClosed, AreSynced, closed_over}
+use Rattle.paraid_image.specs.Rest.{AreLogGatesClosed, AreSynced}
 use Rattle.paraid_txn.specs.Commit.{ImageStandsFor}
 use Rattle.paraid_image.specs.Out.{IsMissing, named_out, out_disk}
 use Rattle.paraid_txn.specs.Resume.{IsFallback, EndsResume, IsShutImage}
-use Rattle.paraid_image.specs.Sides.{LogState, Says, SaysBy, Spells, has_place, is_open, stored_block, targets}
+use Rattle.paraid_image.specs.Sides.{LogState, Says, SaysBy, Spells, closed_over, has_place, is_open, stored_block, targets}
 use Rattle.paraid_image.specs.Sound.{IsBatchInPlace, IsFresh, LogOk, Pairing}
 use Rattle.paraid_image.specs.Sound.Pairing.{alike, first_done, second_done}
 use Rattle.paraid_txn.specs.CommitStages.{IsLiveLog, IsSpelled, Job, job_named}

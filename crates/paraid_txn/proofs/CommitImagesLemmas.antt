@@ -11,10 +11,9 @@ use Rattle.paraid_record.specs.declared.meta.Meta.{Meta}
 use Rattle.paraid_record.specs.declared.targets.Target.{Target}
 use Rattle.paraid_record.specs.Range.{IsInRange}
 use Rattle.paraid_record.specs.Targets.{IsTargetInRange}
-use Rattle.paraid_image.specs.Rest.{closed_over}
 use Rattle.paraid_txn.specs.Commit.{ImageStandsFor, gone_out}
 use Rattle.paraid_image.specs.Out.{IsMissing, named_out, out_disk}
-use Rattle.paraid_image.specs.Sides.{Batch, LogState, Says, has_place, is_open, stored_block, targets}
+use Rattle.paraid_image.specs.Sides.{Batch, LogState, Says, closed_over, has_place, is_open, stored_block, targets}
 use Rattle.paraid_image.specs.Sound.{IsAhead, IsBatchInPlace, IsFresh, LogOk, Pairing}
 use Rattle.paraid_image.specs.Sound.Pairing.{alike, first_ahead, second_ahead, first_done, second_done}
 use Rattle.paraid_txn.specs.CommitStages.{IsEarlyImage, KeepsSlotsAndLogs, IsLiveLog, Job, IsLateImage, job_gone, job_named, open_with}

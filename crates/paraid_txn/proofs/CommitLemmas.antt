@@ -10,11 +10,11 @@ use Rattle.paraid_rack.specs.Disks.{Disks, IsPresent, is_present, lose}
 use Rattle.paraid_rack.proofs.AtomsLemmas.{at_use, image_left, lost_apart, lost_left, with_at_other, with_at_same}
 use Rattle.paraid_record.specs.declared.meta.Meta.{Meta}
 use Rattle.paraid_record.specs.Range.{IsInRange}
-use Rattle.paraid_image.specs.Rest.{AreLogGatesClosed, IsAtRest, AreSynced, closed_over}
+use Rattle.paraid_image.specs.Rest.{AreLogGatesClosed, IsAtRest, AreSynced}
 use Rattle.paraid_txn.specs.Commit.{IsCommitted, KeepsWitnesses, LeavesBorne, IsEachImage, IsEitherMissing, IsOldOrNew, IsOneMissing, ImageStandsFor, ImageStandsForEither}
 use Rattle.paraid_image.specs.Out.{IsMissing, IsWeak, first_absent, named_out, or_else, out_disk}
 use Rattle.paraid_image.specs.Out.IsWeak.{out as out_weak, named as named_weak}
-use Rattle.paraid_image.specs.Sides.{Batch, LogState, Says, SaysBy, is_open, stored_block}
+use Rattle.paraid_image.specs.Sides.{Batch, LogState, Says, SaysBy, closed_over, is_open, stored_block}
 use Rattle.paraid_image.specs.Sound.{LogOk}
 use Rattle.paraid_txn.specs.CommitStages.{BeganTrue, CloseStage, FirstStage, IsEarlyImage, IsLiveLog, IsTrueWitness, Job, KeepsSlotsAndLogs, IsLateImage, HoldsLate, LogStage, HoldsWhole, HoldsWitnesses, job_named, open_with}
 use Rattle.paraid_txn.specs.CommitStages.IsTrueWitness.{by_both, by_new, by_old}

@@ -12,12 +12,12 @@ use Rattle.paraid_rack.proofs.AtomsLemmas.{left_sure, at_use, image_left, lost_l
 use Rattle.paraid_record.specs.declared.meta.Meta.{Meta}
 use Rattle.paraid_record.specs.declared.targets.Target.{Target}
 use Rattle.paraid_record.specs.Range.{IsInRange}
-use Rattle.paraid_image.specs.Rest.{AreLogGatesClosed, AreSynced, closed_over}
+use Rattle.paraid_image.specs.Rest.{AreLogGatesClosed, AreSynced}
 use Rattle.paraid_txn.specs.Commit.{KeepsSlots, IsEachImage, ImageStandsFor}
 use Rattle.paraid_image.specs.Out.{IsMissing, IsWeak, named_out, out_disk}
 use Rattle.paraid_image.specs.Out.IsWeak.{out as out_weak}
 use Rattle.paraid_txn.specs.Resume.{IsCatchUpImage, IsFallback, EndsResume, LeadsResume, ImageStandsForResumed, HoldsThroughResume}
-use Rattle.paraid_image.specs.Sides.{Batch, LogState, Says, is_open, stored_block, targets}
+use Rattle.paraid_image.specs.Sides.{Batch, LogState, Says, closed_over, is_open, stored_block, targets}
 use Rattle.paraid_image.specs.Sound.{IsAhead, IsBatchInPlace, LogOk, Pairing}
 use Rattle.paraid_image.specs.Sound.Pairing.{alike, first_ahead, second_ahead, first_done, second_done}
 use Rattle.paraid_txn.specs.CommitStages.{CloseStage, KeepsSlotsAndLogs, IsLiveLog, IsSpelled, Job, IsLateImage, job_gone, job_named, open_with}

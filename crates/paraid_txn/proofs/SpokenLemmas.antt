@@ -12,10 +12,10 @@ use Rattle.paraid_rack.specs.Disks.{Disks, IsPresent, is_present}
 use Rattle.paraid_record.specs.declared.meta.Meta.{Meta}
 use Rattle.paraid_record.specs.declared.targets.Target.{Target}
 use Rattle.paraid_record.specs.Range.{IsInRange}
-use Rattle.paraid_image.specs.Rest.{IsAtRest, closed_over}
+use Rattle.paraid_image.specs.Rest.{IsAtRest}
 use Rattle.paraid_txn.specs.Commit.{IsNext}
 use Rattle.paraid_image.specs.Out.{named_out}
-use Rattle.paraid_image.specs.Sides.{LogState, Says, Spells, has_place, is_open, stored_block, targets}
+use Rattle.paraid_image.specs.Sides.{LogState, Says, Spells, closed_over, has_place, is_open, stored_block, targets}
 use Rattle.paraid_image.specs.Sound.{IsFresh}
 use Rattle.paraid_txn.specs.CommitStages.{KeepsSlotsAndLogs, IsLiveLog, IsSpelled, Job, job_gone, job_named, open_with}
 use Rattle.paraid_image.specs.Standing.{Stands, is_first, other_log, stands_before}

@@ -8,9 +8,8 @@ use Rattle.paraid_base.specs.Xor.{zero_block}
 use Rattle.paraid_rack.specs.Atoms.{IsLeftByStop, IsSure}
 use Rattle.paraid_rack.specs.Disks.{Disks, IsPresent, is_present}
 use Rattle.paraid_rack.proofs.AtomsLemmas.{left_sure}
-use Rattle.paraid_image.specs.Rest.{closed_over}
 use Rattle.paraid_image.specs.Neutral.{names_place}
-use Rattle.paraid_image.specs.Sides.{AreBlocksLogged, Batch, Says, Spells, is_open, stored_block}
+use Rattle.paraid_image.specs.Sides.{AreBlocksLogged, Batch, Says, Spells, closed_over, is_open, stored_block}
 use Rattle.paraid_txn.specs.Batches.{batch_blocks}
 use Rattle.paraid_image.specs.Standing.{overlaid_block, other_log}
 use Rattle.paraid_txn.specs.CommitStages.{CloseCore, HoldsEarly, IsBlock, HoldsThroughout, KeepsSlotsAndLogs, IsLiveLog, IsSpelled, Job, IsLateImage, HoldsLate, LayCore, IsBatchLogged, LogCore, MarkCore, OpenCore, IsGateClosed, HoldsWhole, job_named, open_with, block_before}

@@ -8,11 +8,10 @@ use Rattle.paraid_rack.specs.Atoms.{IsLeftByStop, IsSeen, IsSure}
 use Rattle.paraid_rack.specs.Disks.{Disks, IsPresent}
 use Rattle.paraid_record.specs.declared.meta.Meta.{Meta}
 use Rattle.paraid_record.specs.Targets.{AreTargets, targets_bytes}
-use Rattle.paraid_image.specs.Rest.{closed_over}
 use Rattle.paraid_txn.specs.Commit.{gone_out}
 use Rattle.paraid_image.specs.Neutral.{names_place}
 use Rattle.paraid_image.specs.Out.{IsMissing, named_out, out_disk}
-use Rattle.paraid_image.specs.Sides.{Batch, LogState, Says, Spells, is_open, stored_block, targets}
+use Rattle.paraid_image.specs.Sides.{Batch, LogState, Says, Spells, closed_over, is_open, stored_block, targets}
 use Rattle.paraid_image.specs.Sound.{AreWitnessesTrue}
 use Rattle.paraid_txn.specs.Batches.{batch_blocks}
 use Rattle.paraid_image.specs.Standing.{overlaid_block, other_log}

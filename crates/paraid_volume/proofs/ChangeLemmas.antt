@@ -6,8 +6,8 @@ use Rattle.std.proofs.lemmas.Bool.{cases_eq}
 use Rattle.std.proofs.lemmas.Bool.Decides.{nat_tests}
 use Rattle.std.proofs.lemmas.Nat.{div_below}
 use Rattle.paraid_base.specs.declared.block.Block.{Block}
-use Rattle.paraid_base.specs.Places.{sum_before}
 use Rattle.paraid_base.specs.Xor.{zero_block}
+use Rattle.paraid_base.specs.Sums.{sum_before}
 use Rattle.paraid_base.proofs.PlacesLemmas.{sum_before_none}
 use Rattle.paraid_volume.specs.Laid.{IsWithout}
 use Rattle.paraid_volume.specs.Names.{IsField}

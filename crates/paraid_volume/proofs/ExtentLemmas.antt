@@ -4,7 +4,7 @@ use Rattle.std.specs.Prelude.{◌==◌, if◌then◌else◌, true}
 use Rattle.std.proofs.Math.Nat.{div-le_of_le-mul, mul-div-le}
 use Rattle.std.proofs.lemmas.Nat.{mod_below, mul-add-lt, div_below}
 use Rattle.paraid_base.specs.declared.block.Block.{Block}
-use Rattle.paraid_base.specs.Places.{sum_before}
+use Rattle.paraid_base.specs.Sums.{sum_before}
 use Rattle.paraid_volume.specs.Names.{IsField, is_letter}
 use Rattle.paraid_volume.specs.States.{IsPlace}
 use Rattle.paraid_volume.specs.Tables.{IsExtent, IsLiveId, IsSameTable, IsVolumeTable, extent_count, extent_size, name_in, extents_owned, owner_in}

@@ -87,7 +87,7 @@ impl Table {
     }
 
     /// How many of the first extents this is the owner of.
-    #[tactic(auto, unfolding(paraid_base::specs::Places::sum_before))]
+    #[tactic(auto, unfolding(paraid_base::specs::Sums::sum_before))]
     pub(crate) fn owned(&self, id: u8, extents: u32) -> u32
         requires { extents ≤ 2048 }
         ensures value { result ≡ owned_in (owner_in (in_table self.now)) id extents }
@@ -103,7 +103,7 @@ impl Table {
     }
 
     /// The extent of this number among those of an owner, in ascending order.
-    #[tactic(auto, unfolding(paraid_base::specs::Places::sum_before))]
+    #[tactic(auto, unfolding(paraid_base::specs::Sums::sum_before))]
     pub(crate) fn extent(&self, id: u8, number: u32, extents: u32) -> Option<u32>
         requires { extents ≤ 2048 }
         ensures some { IfSome result (λ e. (e < extents)

@@ -8,8 +8,7 @@ use Rattle.paraid_rack.specs.Calls.{disk_of, is_done}
 use Rattle.paraid_rack.specs.Disks.{Disks}
 use Rattle.paraid_rack.specs.Trail.{Trail}
 use Rattle.paraid_record.specs.declared.meta.Setup.{Setup}
-use Rattle.paraid_image.specs.Rest.{closed_over}
-use Rattle.paraid_image.specs.Sides.{LogState}
+use Rattle.paraid_image.specs.Sides.{LogState, closed_over}
 use Rattle.paraid_recover.specs.First.{first_meta}
 use Rattle.paraid_session.specs.Mount.{IsBegun, IsMountedFromEach, IsMounting}
 use Rattle.paraid_session.specs.Turn.{Point}

@@ -1,6 +1,6 @@
 use Rattle.std.proofs.Common.{◌+◌, ◌∙◌, ℕ, sym, ap, arith}
 use Rattle.paraid_base.proofs.PlacesLemmas.{sum_before_more, sum_before_none}
-use Rattle.paraid_base.specs.Places.{sum_before}
+use Rattle.paraid_base.specs.Sums.{sum_before}
 use Rattle.paraid_array.specs.Used.{one_with, power_by}
 use Rattle.paraid_array.proofs.energy.disks_with.Goals as goal
 

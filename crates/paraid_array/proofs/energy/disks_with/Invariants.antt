@@ -1,5 +1,5 @@
 use Rattle.std.specs.Prelude.{◌≡◌, ◌≤◌}
-use Rattle.paraid_base.specs.Places.{sum_before}
+use Rattle.paraid_base.specs.Sums.{sum_before}
 use Rattle.paraid_array.specs.Used.{one_with, power_by}
 use Rattle.paraid_array.proofs.energy.disks_with.Given as goal
 

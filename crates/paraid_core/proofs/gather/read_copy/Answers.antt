@@ -1,7 +1,7 @@
 use Rattle.paraid_txn.specs.Stores.{disks_of}
 use Rattle.paraid_view.proofs.ReadLemmas.{read_none}
 use Rattle.std.proofs.Common.{◌∙◌, sym, ap, None}
-use Rattle.paraid_base.specs.Skips.{place_among}
+use Rattle.paraid_base.specs.Skips.{index_among}
 use Rattle.paraid_view.specs.Reads.{seen_by}
 use Rattle.paraid_view.proofs.ValueLemmas.{ok_map}
 use Rattle.paraid_core.proofs.GatherLemmas.{copies_cell, copies_pad}
@@ -13,7 +13,7 @@ returns-in_default g c = record {
   below = tt;
   value = λ f shows some.
       c.zero.ensures ∙ sym (copies_pad (seen_by c.args.meta.now c.args.dirty.now None f) c.args.to c.args.s c.args.disk c.index_among-index.result
-      (c.index_among-index.ensures.value ∙ ap (λ p. place_among p c.args.disk) c.soft_parity.ensures.value) c.in_default.ensures.value);
+      (c.index_among-index.ensures.value ∙ ap (λ p. index_among p c.args.disk) c.soft_parity.ensures.value) c.in_default.ensures.value);
 }
 
 pub returns : goal.returns
@@ -23,7 +23,7 @@ returns g c = record {
   value =
       let cell = c.in-Some.ensures.value in
       ok_map c.read_value.result (λ value f shows some. value f shows some ∙ copies_cell (seen_by c.args.meta.now c.args.dirty.now None f) c.args.to c.args.s c.args.disk c.index_among-index.result _ _
-      (c.index_among-index.ensures.value ∙ ap (λ p. place_among p c.args.disk) c.soft_parity.ensures.value) cell.0 cell.1 cell.2) c.read_value.ensures.value;
+      (c.index_among-index.ensures.value ∙ ap (λ p. index_among p c.args.disk) c.soft_parity.ensures.value) cell.0 cell.1 cell.2) c.read_value.ensures.value;
 }
 
 pub soft_parity-requires : goal.soft_parity-requires

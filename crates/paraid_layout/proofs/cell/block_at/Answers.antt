@@ -1,6 +1,6 @@
 use Rattle.std.proofs.Common.{◌≡◌, ◌≢◌, ℕ, ◌+◌, ◌-◌, ◌*◌, ◌<◌, ◌≤◌, ap, ◌∙◌, sym, subst, arith}
 use Rattle.paraid_base.specs.Cells.{cell_block, home_disk, home_row, parity_disk}
-use Rattle.paraid_base.specs.Skips.{place_among}
+use Rattle.paraid_base.specs.Skips.{index_among}
 use Rattle.paraid_base.proofs.CellsLemmas.{block_of_below, home_disk-block_of, home_row-block_of}
 use Rattle.paraid_layout.proofs.cell.block_at.Goals as goal
 
@@ -11,8 +11,8 @@ two_of n many = omega arith
 apart_from : (n r d p : ℕ) → p ≡ parity_disk n r → d ≢ p → d ≢ parity_disk n r
 apart_from n r d p parity apart e = apart (e ∙ sym parity)
 
-block_is : (n r d p i : ℕ) → p ≡ parity_disk n r → i ≡ place_among p d → r * (n - 1) + i ≡ cell_block n r d
-block_is n r d p i parity index = ap (λ x. r * (n - 1) + x) (index ∙ ap (λ x. place_among x d) parity)
+block_is : (n r d p i : ℕ) → p ≡ parity_disk n r → i ≡ index_among p d → r * (n - 1) + i ≡ cell_block n r d
+block_is n r d p i parity index = ap (λ x. r * (n - 1) + x) (index ∙ ap (λ x. index_among x d) parity)
 
 block_below : (n r d rows b : ℕ) → 3 ≤ n → r < rows → d < n → d ≢ parity_disk n r → b ≡ cell_block n r d → b < rows * (n - 1)
 block_below n r d rows b many row_in disk_in other is = subst (λ x. x < rows * (n - 1)) (sym is) (block_of_below n r d rows (two_of n many) row_in disk_in other)

@@ -5,7 +5,7 @@ use Rattle.paraid_base.specs.Soft.{stripe_count}
 use Rattle.paraid_record.specs.declared.meta.Meta.{Meta}
 use Rattle.std.proofs.Common.{◌≡◌, ◌≢◌, ◌∙◌, IsTrue, ap, sym, subst, ◌<◌}
 use Rattle.std.specs.Prelude.{◌↔◌}
-use Rattle.paraid_base.specs.Skips.{place_among, skip}
+use Rattle.paraid_base.specs.Skips.{index_among, skip}
 use Rattle.paraid_base.specs.Soft.{soft_disk, soft_parity_disk}
 use Rattle.paraid_base.proofs.SkipsLemmas.{skip-place_among}
 use Rattle.paraid_image.specs.Value.{stripe}
@@ -28,7 +28,7 @@ returns-in_default g c = record {
       let apart : c.args.disk ≢ soft_parity_disk c.args.gear c.args.at = (λ is. c.if-disk-parity.false (is ∙ sym c.soft_parity-parity.ensures.value)) in
       keeps_none c.args.core.now (g.met.C.Stored.stays c.args.core.now c.requires.usable) c.requires.usable
       (λ v s stored. none_off (pad_right v c.meta.result ((g.met.C.Stored.agrees c.args.core.now v s).0 ∙ sym c.meta.ensures.value) c.args.gear c.args.at c.args.disk apart c.index_among.result
-      (c.index_among.ensures.value ∙ ap (λ z. place_among z c.args.disk) c.soft_parity-parity.ensures.value) c.in_default.ensures.value));
+      (c.index_among.ensures.value ∙ ap (λ z. index_among z c.args.disk) c.soft_parity-parity.ensures.value) c.in_default.ensures.value));
   lost = tt;
 }
 
@@ -37,7 +37,7 @@ returns g c = record {
   shown =
       let m = c.meta.result in
       let apart : c.args.disk ≢ soft_parity_disk c.args.gear c.args.at = (λ is. c.if-disk-parity.false (is ∙ sym c.soft_parity-parity.ensures.value)) in
-      let index = c.index_among.ensures.value ∙ ap (λ z. place_among z c.args.disk) c.soft_parity-parity.ensures.value in
+      let index = c.index_among.ensures.value ∙ ap (λ z. index_among z c.args.disk) c.soft_parity-parity.ensures.value in
       let back = c.in-Some.ensures.back in
       let on : soft_disk m.setup.geometry.disks c.args.gear c.in-Some.row c.in-Some.home ≡ c.args.disk = back.2 ∙ ap (skip (soft_parity_disk c.args.gear c.args.at)) index ∙ skip-place_among (soft_parity_disk c.args.gear c.args.at) c.args.disk apart in
       keeps_so (λ v. c.args.stored.now ≡ stripe (g.C.Stored.meta c.args.core.now).setup.geometry v.block c.args.gear c.args.at c.args.disk → (IsTrue c.differs.result ↔ (IsCopyRight v c.args.gear c.args.at c.args.disk → ⊥))) c.in_ok-read_value.ensures.shown

@@ -2,7 +2,7 @@ use Rattle.std.specs.Prelude.{◌≡◌, ℕ, ◌-◌, ◌*◌, ◌^◌, ◌<◌
 use Rattle.std.proofs.Common.{arith, ap, bit_and, sym, ◌∙◌, rules}
 use Rattle.std.specs.Int.Count.{ones}
 use Rattle.std.proofs.lemmas.List.{get_or_read}
-use Rattle.paraid_base.specs.Places.{sum_before}
+use Rattle.paraid_base.specs.Sums.{sum_before}
 use Rattle.paraid_base.proofs.PlacesLemmas.{sum_before_none}
 use Rattle.paraid_dirty.specs.Table.{dirty_count, is_dirty, rows_of}
 use Rattle.paraid_dirty.proofs.CountLemmas.{all_counted, few_ones, flat, word_counted}

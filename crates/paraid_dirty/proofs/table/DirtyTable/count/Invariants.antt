@@ -1,5 +1,5 @@
 use Rattle.std.proofs.Common.{◌≡◌, ◌≤◌, ◌*◌}
-use Rattle.paraid_base.specs.Places.{sum_before}
+use Rattle.paraid_base.specs.Sums.{sum_before}
 use Rattle.paraid_dirty.proofs.CountLemmas.{flat}
 use Rattle.paraid_dirty.proofs.table.DirtyTable.count.Given as goal
 
