@@ -8,7 +8,7 @@ use Rattle.paraid_record.specs.declared.meta.Meta.{Meta}
 use Rattle.paraid_image.specs.Out.{is_out}
 use Rattle.paraid_image.specs.Spot.{View, is_hard, rising_to}
 use Rattle.paraid_image.specs.Standing.{Contents}
-use Rattle.paraid_image.specs.Value.{far, near, soft_value, value}
+use Rattle.paraid_image.specs.Value.{reconstructed_value, soft_value, stored_value, value}
 
 module _ (m : Meta) (out : Option ℕ) (f : Contents) (a b : ℕ → ℕ → Bool) (r : ℕ) (same : (e : ℕ) → a r e ≡ b r e) where
   abbrev v : View
@@ -25,19 +25,19 @@ module _ (m : Meta) (out : Option ℕ) (f : Contents) (a b : ℕ → ℕ → Boo
   unfolding soft_value
   soft_dirty d = refl
 
-  near_dirty : (d : ℕ) → near v r d ≡ near w r d
-  unfolding near
+  near_dirty : (d : ℕ) → stored_value v r d ≡ stored_value w r d
+  unfolding stored_value
   near_dirty d =
       ap (λ (x : Bool). if x then f d (hard_place_of m.setup.geometry r) else soft_value v r d) (hard_dirty d)
       ∙ ap (λ (x : Block). if is_hard w r d then f d (hard_place_of m.setup.geometry r) else x) (soft_dirty d)
 
-  far_dirty : (d : ℕ) → far v r d ≡ far w r d
-  unfolding far
-  far_dirty d = others_same (near v r) (near w r) d m.setup.geometry.disks (λ e l apart. near_dirty e)
+  far_dirty : (d : ℕ) → reconstructed_value v r d ≡ reconstructed_value w r d
+  unfolding reconstructed_value
+  far_dirty d = others_same (stored_value v r) (stored_value w r) d m.setup.geometry.disks (λ e l apart. near_dirty e)
 
   pub value_dirty : (d : ℕ) → value v r d ≡ value w r d
   unfolding value
   value_dirty d =
-      ap (λ (x : Bool). if x && is_out out d then far v r d else near v r d) (hard_dirty d)
-      ∙ ap (λ (x : Block). if is_hard w r d && is_out out d then x else near v r d) (far_dirty d)
-      ∙ ap (λ (x : Block). if is_hard w r d && is_out out d then far w r d else x) (near_dirty d)
+      ap (λ (x : Bool). if x && is_out out d then reconstructed_value v r d else stored_value v r d) (hard_dirty d)
+      ∙ ap (λ (x : Block). if is_hard w r d && is_out out d then x else stored_value v r d) (far_dirty d)
+      ∙ ap (λ (x : Block). if is_hard w r d && is_out out d then reconstructed_value w r d else x) (near_dirty d)

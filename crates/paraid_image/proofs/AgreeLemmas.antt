@@ -27,7 +27,7 @@ use Rattle.paraid_image.specs.Out.{is_out}
 use Rattle.paraid_image.specs.Sound.{AreBlocks, ContentOk, IsFilled, IsFresh, IsWellKept, stripes_on}
 use Rattle.paraid_image.specs.Spot.{View, is_hard, map_bit, map_disk, rising_to}
 use Rattle.paraid_image.specs.Standing.{Contents, other_log}
-use Rattle.paraid_image.specs.Value.{far, near, soft_value, stripe, stripe_rest, value}
+use Rattle.paraid_image.specs.Value.{reconstructed_value, soft_value, stored_value, stripe, stripe_rest, value}
 use Rattle.paraid_image.proofs.ViewLemmas.{map_bit_same, map_disk_other, not_below}
 
 -- the places that are looked at hold the same
@@ -149,20 +149,20 @@ module _ (m : Meta) (out : Option ℕ) (block after : Contents) (power : ℕ →
         copy_same (soft_stripe g.disks m.gear r e) (soft_disk g.disks m.gear r e) (is_out out (soft_disk g.disks m.gear r e)) refl
         (soft_disk_below g.disks m.gear r e low) (soft_stripe_below g.disks m.gear r e g.rows (omega arith) parked le lr)
 
-    near_by : (r e : ℕ) (hard : Bool) → is_hard v r e ≡ hard → r < g.rows → e < g.disks → (hard ≡ true → out ≢ Some e) → near w r e ≡ near v r e
-    unfolding near
+    near_by : (r e : ℕ) (hard : Bool) → is_hard v r e ≡ hard → r < g.rows → e < g.disks → (hard ≡ true → out ≢ Some e) → stored_value w r e ≡ stored_value v r e
+    unfolding stored_value
     near_by r e true h lr le there = rw (hard_same r e lr, h) (agree.hard r e lr le (there refl) (hard_is_clean r e h))
     near_by r e false h lr le there = rw (hard_same r e lr, h) (soft_same r e lr le h)
 
-    near_same : (r e : ℕ) → r < g.rows → e < g.disks → (is_hard v r e ≡ true → out ≢ Some e) → near w r e ≡ near v r e
+    near_same : (r e : ℕ) → r < g.rows → e < g.disks → (is_hard v r e ≡ true → out ≢ Some e) → stored_value w r e ≡ stored_value v r e
     near_same r e lr le there = near_by r e (is_hard v r e) refl lr le there
 
-    far_same : (r e : ℕ) → r < g.rows → out ≡ Some e → far w r e ≡ far v r e
-    unfolding far
-    far_same r e lr o = others_same (near w r) (near v r) e g.disks (λ x l apart. near_same r x lr l (λ z. only_out x e o apart))
+    far_same : (r e : ℕ) → r < g.rows → out ≡ Some e → reconstructed_value w r e ≡ reconstructed_value v r e
+    unfolding reconstructed_value
+    far_same r e lr o = others_same (stored_value w r) (stored_value v r) e g.disks (λ x l apart. near_same r x lr l (λ z. only_out x e o apart))
 
     value_by : (r e : ℕ) (hard here : Bool) → is_hard v r e ≡ hard → is_out out e ≡ here → r < g.rows → e < g.disks
-        → (if hard && here then far w r e else near w r e) ≡ (if hard && here then far v r e else near v r e)
+        → (if hard && here then reconstructed_value w r e else stored_value w r e) ≡ (if hard && here then reconstructed_value v r e else stored_value v r e)
     value_by r e true true h is lr le = far_same r e lr (is_out_some out e is)
     value_by r e true false h is lr le = near_same r e lr le (λ z. is_out_not out e is)
     value_by r e false here h is lr le = near_same r e lr le (λ z. absurd (false≢true (sym h ∙ z)))
@@ -170,7 +170,7 @@ module _ (m : Meta) (out : Option ℕ) (block after : Contents) (power : ℕ →
     value_same : (r e : ℕ) → r < g.rows → e < g.disks → value w r e ≡ value v r e
     unfolding value
     value_same r e lr le =
-        ap (λ (t : Bool). if t && is_out out e then far w r e else near w r e) (hard_same r e lr)
+        ap (λ (t : Bool). if t && is_out out e then reconstructed_value w r e else stored_value w r e) (hard_same r e lr)
         ∙ value_by r e (is_hard v r e) (is_out out e) refl refl lr le
 
     filled_same : (s : ℕ) → out ≡ None → s < m.fill → IsFilled v (phase_to m.phase) s → IsFilled w (phase_to m.phase) s

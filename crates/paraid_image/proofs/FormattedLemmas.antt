@@ -33,7 +33,7 @@ use Rattle.paraid_image.specs.Sound.{AreDisks, ContentOk, IsFresh, IsWellKept, L
 use Rattle.paraid_image.specs.Sound.Pairing.{alike}
 use Rattle.paraid_image.specs.Spot.{View, is_hard, map_bit, map_disk, rising_to}
 use Rattle.paraid_image.specs.Standing.{Contents, Stands, contents, is_first, other_log}
-use Rattle.paraid_image.specs.Value.{near, stripe, value}
+use Rattle.paraid_image.specs.Value.{stored_value, stripe, value}
 use Rattle.paraid_image.proofs.HeldLemmas.{image_is}
 use Rattle.paraid_image.proofs.OneDiskLessLemmas.{IsSoundAt-lost}
 use Rattle.paraid_image.proofs.OutLemmas.{first_absent_is}
@@ -175,7 +175,7 @@ module _ (slots : ℕ) (s : Disks) (m : Meta) (f : IsFormatted slots s m) where
       ap (λ (t : Bool). t || (nat_lt e (rising_to m.phase) && not (v.dirty r e))) (below e m.gear (omega arith))
 
   value_zero : (r e : ℕ) → r < g.rows → e < g.disks → value v r e ≡ zero_block
-  unfolding value near
+  unfolding value stored_value
   value_zero r e lr le = rw (hard r e le) (zero_at e (hard_place_of g r) le (hard_place_below g r lr))
 
   no_fill : (s : ℕ) → s < m.fill → ⊥

@@ -21,7 +21,7 @@ use Rattle.paraid_image.specs.Power.{phase_beside}
 use Rattle.paraid_image.specs.Sound.{AreDisks, ContentOk, IsFresh, IsWellKept}
 use Rattle.paraid_image.specs.Spot.{View, is_hard, map_bit, map_disk, rising_to}
 use Rattle.paraid_image.specs.Standing.{Contents}
-use Rattle.paraid_image.specs.Value.{far, near, soft_value, value}
+use Rattle.paraid_image.specs.Value.{reconstructed_value, soft_value, stored_value, value}
 use Rattle.paraid_image.proofs.OutLemmas.{missing_is_out}
 
 -- what the mark leaves of a phase
@@ -82,22 +82,22 @@ module _ (m : Meta) (d epoch : ℕ) (dirty : ℕ → ℕ → Bool) (block : Cont
   unfolding soft_value
   soft_same r e = refl
 
-  near_same : (r e : ℕ) → near w r e ≡ near v r e
-  unfolding near
+  near_same : (r e : ℕ) → stored_value w r e ≡ stored_value v r e
+  unfolding stored_value
   near_same r e =
       ap (λ (t : Bool). if t then block e (hard_place_of m.setup.geometry r) else soft_value w r e) (hard_same r e)
       ∙ ap (λ (b : Block). if is_hard v r e then block e (hard_place_of m.setup.geometry r) else b) (soft_same r e)
 
-  far_same : (r e : ℕ) → far w r e ≡ far v r e
-  unfolding far
+  far_same : (r e : ℕ) → reconstructed_value w r e ≡ reconstructed_value v r e
+  unfolding reconstructed_value
   far_same r e = ap (λ (f : ℕ → Block). xor_upto (without f e) m.setup.geometry.disks) (λ t x. near_same r x t)
 
   pub value_same : (r e : ℕ) → value w r e ≡ value v r e
   unfolding value
   value_same r e =
-      ap (λ (t : Bool). if t && is_out (Some d) e then far w r e else near w r e) (hard_same r e)
-      ∙ ap (λ (b : Block). if is_hard v r e && is_out (Some d) e then b else near w r e) (far_same r e)
-      ∙ ap (λ (b : Block). if is_hard v r e && is_out (Some d) e then far v r e else b) (near_same r e)
+      ap (λ (t : Bool). if t && is_out (Some d) e then reconstructed_value w r e else stored_value w r e) (hard_same r e)
+      ∙ ap (λ (b : Block). if is_hard v r e && is_out (Some d) e then b else stored_value w r e) (far_same r e)
+      ∙ ap (λ (b : Block). if is_hard v r e && is_out (Some d) e then reconstructed_value v r e else b) (near_same r e)
 
   row_same : (r : ℕ) → value w r ≡ value v r
   row_same r = λ t e. value_same r e t

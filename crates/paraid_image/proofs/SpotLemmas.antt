@@ -6,11 +6,11 @@ use Rattle.paraid_rack.specs.declared.call.Power.{Power}
 use Rattle.paraid_record.specs.declared.meta.Meta.{Meta}
 use Rattle.paraid_image.specs.Out.{IsDouble, IsMissing, is_out}
 use Rattle.paraid_image.specs.Spot.{View, is_hard, spot_of}
-use Rattle.paraid_image.specs.Value.{near, soft_value, value}
+use Rattle.paraid_image.specs.Value.{soft_value, stored_value, value}
 
 spot_value : (v : View) (r d : ℕ) (hard : Bool) → is_hard v r d ≡ hard → is_out v.out (spot_of v r d).disk ≡ false
     → value v r d ≡ v.block (spot_of v r d).disk (spot_of v r d).place
-unfolding spot_of value near soft_value
+unfolding spot_of value stored_value soft_value
 spot_value v r d true h o = let there : is_out v.out d ≡ false = rw h at o in rw (h, there) refl
 spot_value v r d false h o = let there = rw h at o in rw (h, there) refl
 

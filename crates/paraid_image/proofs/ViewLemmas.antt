@@ -23,7 +23,7 @@ use Rattle.paraid_image.specs.Out.{is_out}
 use Rattle.paraid_image.specs.Sound.{AreBlocks, AreDisks, AreRowsZero, AreStripesZero, ContentOk, IsFresh, IsWellKept}
 use Rattle.paraid_image.specs.Spot.{View, is_hard, map_bit, map_disk, rising_to}
 use Rattle.paraid_image.specs.Standing.{Contents}
-use Rattle.paraid_image.specs.Value.{far, near, soft_value, stripe, stripe_rest, value}
+use Rattle.paraid_image.specs.Value.{reconstructed_value, soft_value, stored_value, stripe, stripe_rest, value}
 
 out_is : (d e : ℕ) → (d == e) ≡ true → d ≡ e
 out_is d e h = grind (arith, nat_tests)
@@ -94,38 +94,38 @@ module _ (m : Meta) (dirty dirty_after : ℕ → ℕ → Bool) (out_before : Opt
       copy_same (soft_stripe g.disks m.gear r e) (soft_disk g.disks m.gear r e) (soft_disk g.disks m.gear r e == d) refl
       (soft_disk_below g.disks m.gear r e low) (soft_stripe_below g.disks m.gear r e g.rows (omega arith) parked le lr) stripes
 
-  near_by : (r e : ℕ) (hard : Bool) → is_hard v r e ≡ hard → r < g.rows → e < g.disks → (hard ≡ true → e ≢ d) → AreStripesZero v → near w r e ≡ near v r e
-  unfolding near
+  near_by : (r e : ℕ) (hard : Bool) → is_hard v r e ≡ hard → r < g.rows → e < g.disks → (hard ≡ true → e ≢ d) → AreStripesZero v → stored_value w r e ≡ stored_value v r e
+  unfolding stored_value
   near_by r e true h lr le apart stripes = rw (hard_same r e lr, h) (same e (hard_place_of g r) (apart refl))
   near_by r e false h lr le apart stripes = rw (hard_same r e lr, h) (soft_same r e lr le h stripes)
 
-  near_same : (r e : ℕ) → r < g.rows → e < g.disks → (is_hard v r e ≡ true → e ≢ d) → AreStripesZero v → near w r e ≡ near v r e
+  near_same : (r e : ℕ) → r < g.rows → e < g.disks → (is_hard v r e ≡ true → e ≢ d) → AreStripesZero v → stored_value w r e ≡ stored_value v r e
   near_same r e lr le apart stripes = near_by r e (is_hard v r e) refl lr le apart stripes
 
-  -- where no disk is out, the value is near
-  value_near : (r e : ℕ) → is_hard v r e && is_out out_before e ≡ false → value v r e ≡ near v r e
+  -- where no disk is out, the value is the stored one
+  value_near : (r e : ℕ) → is_hard v r e && is_out out_before e ≡ false → value v r e ≡ stored_value v r e
   unfolding value
   value_near r e h = rw h refl
 
-  none_near : (r e : ℕ) → out_before ≡ None → value v r e ≡ near v r e
+  none_near : (r e : ℕ) → out_before ≡ None → value v r e ≡ stored_value v r e
   none_near r e none = value_near r e (ap (λ (o : Option ℕ). is_hard v r e && is_out o e) none ∙ no (is_hard v r e))
     where
       no : (b : Bool) → b && false ≡ false
       no true = refl
       no false = refl
 
-  value_far : (r e : ℕ) → is_hard v r e ≡ true → is_out out_before e ≡ true → value v r e ≡ xor_upto (without (near v r) e) g.disks
-  unfolding value far
+  value_far : (r e : ℕ) → is_hard v r e ≡ true → is_out out_before e ≡ true → value v r e ≡ xor_upto (without (stored_value v r) e) g.disks
+  unfolding value reconstructed_value
   value_far r e h o = rw (h, o) refl
 
-  far_same : (r e : ℕ) → e ≡ d → r < g.rows → e < g.disks → is_hard v r e ≡ true → AreRowsZero v → AreStripesZero v → far w r e ≡ value v r e
-  unfolding far
+  far_same : (r e : ℕ) → e ≡ d → r < g.rows → e < g.disks → is_hard v r e ≡ true → AreRowsZero v → AreStripesZero v → reconstructed_value w r e ≡ value v r e
+  unfolding reconstructed_value
   far_same r e is lr le h rows stripes = elim was [
     | inl none ↦
-        others_same (near w r) (value v r) e g.disks (λ x l apart. near_same r x lr l (λ z y. apart (y ∙ sym is)) stripes ∙ sym (none_near r x none))
+        others_same (stored_value w r) (value v r) e g.disks (λ x l apart. near_same r x lr l (λ z y. apart (y ∙ sym is)) stripes ∙ sym (none_near r x none))
         ∙ sym (lost_member (value v r) e g.disks le (rows r lr))
     | inr some ↦
-        others_same (near w r) (near v r) e g.disks (λ x l apart. near_same r x lr l (λ z y. apart (y ∙ sym is)) stripes)
+        others_same (stored_value w r) (stored_value v r) e g.disks (λ x l apart. near_same r x lr l (λ z y. apart (y ∙ sym is)) stripes)
         ∙ sym (value_far r e h (rw some (yes_out is)))
   ]
     where
@@ -133,7 +133,7 @@ module _ (m : Meta) (dirty dirty_after : ℕ → ℕ → Bool) (out_before : Opt
       yes_out is = grind (arith, nat_tests)
 
   value_by : (r e : ℕ) (hard here : Bool) → is_hard v r e ≡ hard → (e == d) ≡ here → r < g.rows → e < g.disks → AreRowsZero v → AreStripesZero v
-      → (if hard && here then far w r e else near w r e) ≡ value v r e
+      → (if hard && here then reconstructed_value w r e else stored_value w r e) ≡ value v r e
   value_by r e true true h is lr le rows stripes = far_same r e (out_is e d is) lr le h rows stripes
   value_by r e true false h is lr le rows stripes =
       near_same r e lr le (λ z. out_is_not e d is) stripes ∙ sym (value_near r e (rw h (elim was [ inl none ↦ rw none refl | inr some ↦ rw some is ])))
@@ -144,7 +144,7 @@ module _ (m : Meta) (dirty dirty_after : ℕ → ℕ → Bool) (out_before : Opt
   pub value_same : (r e : ℕ) → r < g.rows → e < g.disks → AreRowsZero v → AreStripesZero v → value w r e ≡ value v r e
   unfolding value
   value_same r e lr le rows stripes =
-      ap (λ (t : Bool). if t && (e == d) then far w r e else near w r e) (hard_same r e lr)
+      ap (λ (t : Bool). if t && (e == d) then reconstructed_value w r e else stored_value w r e) (hard_same r e lr)
       ∙ value_by r e (is_hard v r e) (e == d) refl refl lr le rows stripes
 
   was_not : (x : ℕ) → x ≢ d → out_before ≢ Some x

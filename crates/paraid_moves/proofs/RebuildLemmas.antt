@@ -25,7 +25,7 @@ use Rattle.paraid_image.specs.Out.{is_out}
 use Rattle.paraid_image.specs.Sound.{AreRebuilt, ContentOk, IsFresh, IsStripeZero}
 use Rattle.paraid_image.specs.Spot.{View, is_hard}
 use Rattle.paraid_image.specs.Standing.{Contents, other_log}
-use Rattle.paraid_image.specs.Value.{near, soft_value, stripe, stripe_rest, value}
+use Rattle.paraid_image.specs.Value.{soft_value, stored_value, stripe, stripe_rest, value}
 use Rattle.paraid_moves.specs.MoveMetas.{meta_with_out}
 use Rattle.paraid_base.proofs.StatesLemmas.{rising_to-beside, up_before}
 use Rattle.paraid_moves.proofs.ValuesLemmas.{above_soft, blocks_carried, clean_hard, hard_spot_at, rows_carried, soft_spot_at, value_hard, value_kept, value_soft}
@@ -192,7 +192,7 @@ module _ (slots : ℕ) (power : ℕ → Power) (size : ℕ → ℕ) (m : Meta) (
 
       rest_value : (r e : ℕ) → is_hard v r e ≡ false → is_out (Some d) (soft_disk g.disks m.gear r e) ≡ true
           → value v r e ≡ stripe_rest g block m.gear (soft_stripe g.disks m.gear r e) (soft_disk g.disks m.gear r e)
-      unfolding value near soft_value
+      unfolding value stored_value soft_value
       rest_value r e soft here = rw (soft, here) refl
 
       copy_value : (r e : ℕ) → r < g.rows → e < g.disks → is_hard v r e ≡ false

@@ -16,7 +16,7 @@ use Rattle.paraid_image.specs.Out.{is_out}
 use Rattle.paraid_image.specs.Sound.{AreRowsZero}
 use Rattle.paraid_image.specs.Spot.{Spot, View, hard_spot, is_hard, rising_to, soft_spot, spot_of}
 use Rattle.paraid_image.specs.Standing.{Contents}
-use Rattle.paraid_image.specs.Value.{far, near, soft_value, stripe, value}
+use Rattle.paraid_image.specs.Value.{reconstructed_value, soft_value, stored_value, stripe, value}
 use Rattle.paraid_image.proofs.SpotLemmas.{value_at_spot}
 
 -- the test of where a value lives, by its parts
@@ -154,19 +154,19 @@ module _ (m t : Meta) (dirty dirty_after : ℕ → ℕ → Bool) (o : Option ℕ
   was = record { meta = m; dirty = dirty; out = o; block = block }
 
   module _ (hard : (r d : ℕ) → r < m.setup.geometry.rows → is_hard kept r d ≡ is_hard was r d) where
-    near_kept : (r d : ℕ) → r < m.setup.geometry.rows → near kept r d ≡ near was r d
-    unfolding near soft_value
+    near_kept : (r d : ℕ) → r < m.setup.geometry.rows → stored_value kept r d ≡ stored_value was r d
+    unfolding stored_value soft_value
     near_kept r d l = ap (λ (b : Bool). if b then block d (hard_place_of m.setup.geometry r) else soft_value was r d) (hard r d l)
 
-    far_kept : (r d : ℕ) → r < m.setup.geometry.rows → far kept r d ≡ far was r d
-    unfolding far
-    far_kept r d l = others_same (near kept r) (near was r) d m.setup.geometry.disks (λ x lx apart. near_kept r x l)
+    far_kept : (r d : ℕ) → r < m.setup.geometry.rows → reconstructed_value kept r d ≡ reconstructed_value was r d
+    unfolding reconstructed_value
+    far_kept r d l = others_same (stored_value kept r) (stored_value was r) d m.setup.geometry.disks (λ x lx apart. near_kept r x l)
 
     pub value_kept : (r d : ℕ) → r < m.setup.geometry.rows → value kept r d ≡ value was r d
     unfolding value
     value_kept r d l =
-        ap (λ (b : Bool). if b && is_out o d then far kept r d else near kept r d) (hard r d l) ∙ pick (is_hard was r d && is_out o d)
+        ap (λ (b : Bool). if b && is_out o d then reconstructed_value kept r d else stored_value kept r d) (hard r d l) ∙ pick (is_hard was r d && is_out o d)
       where
-        pick : (b : Bool) → (if b then far kept r d else near kept r d) ≡ (if b then far was r d else near was r d)
+        pick : (b : Bool) → (if b then reconstructed_value kept r d else stored_value kept r d) ≡ (if b then reconstructed_value was r d else stored_value was r d)
         pick true = far_kept r d l
         pick false = near_kept r d l

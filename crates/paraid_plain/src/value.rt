@@ -4,7 +4,7 @@ ghost use Rattle.paraid_base.specs.Regions.{IsGear, hard_place_of};
 ghost use Rattle.paraid_base.specs.Soft.{stripe_count};
 ghost use Rattle.paraid_image.specs.Content.{blocks_of, view_of};
 ghost use Rattle.paraid_image.specs.Spot.{is_hard as is_hard_in};
-ghost use Rattle.paraid_image.specs.Value.{far as far_in, near as near_in, soft_value as soft_value_in, stripe as stripe_of, stripe_rest as rest_of_stripe, value};
+ghost use Rattle.paraid_image.specs.Value.{reconstructed_value as far_in, stored_value as near_in, soft_value as soft_value_in, stripe as stripe_of, stripe_rest as rest_of_stripe, value};
 ghost use Rattle.paraid_plain.specs.Images.{disks_in};
 ghost use Rattle.paraid_plain.specs.Statements.{said_of};
 ghost use Rattle.paraid_plain.specs.Views.{block_at, view_at};
@@ -71,7 +71,7 @@ fn is_hard(image: &Image, says: &Statement, row: Row, disk: DiskNo) -> bool
 }
 
 /// The XOR of the values of the row's other cells.
-#[tactic(auto, unfolding(paraid_image::specs::Value::far))]
+#[tactic(auto, unfolding(paraid_image::specs::Value::reconstructed_value))]
 fn far(image: &Image, says: &Statement, row: Row, disk: DiskNo) -> Block
     requires row { row < says.now.meta.setup.geometry.rows }
     requires disk { disk < says.now.meta.setup.geometry.disks }
@@ -87,7 +87,7 @@ fn far(image: &Image, says: &Statement, row: Row, disk: DiskNo) -> Block
 }
 
 /// The value of a cell that is not the hard place of the out disk.
-#[tactic(auto, unfolding(paraid_image::specs::Value::near))]
+#[tactic(auto, unfolding(paraid_image::specs::Value::stored_value))]
 fn near(image: &Image, says: &Statement, row: Row, disk: DiskNo) -> Block
     requires row { row < says.now.meta.setup.geometry.rows }
     requires disk { disk < says.now.meta.setup.geometry.disks }

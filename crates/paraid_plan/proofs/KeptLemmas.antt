@@ -27,7 +27,7 @@ use Rattle.paraid_image.specs.Out.{is_out, named_out}
 use Rattle.paraid_image.specs.Sound.{AreDisks, AreRebuilt, IsFilled, IsFresh}
 use Rattle.paraid_image.specs.Spot.{View, is_hard, rising_to}
 use Rattle.paraid_image.specs.Standing.{other_log}
-use Rattle.paraid_image.specs.Value.{far, near, soft_value, stripe, value}
+use Rattle.paraid_image.specs.Value.{reconstructed_value, soft_value, stored_value, stripe, value}
 use Rattle.paraid_image.proofs.AgreeLemmas.{stripes_gear}
 use Rattle.paraid_image.proofs.OutLemmas.{named_below}
 use Rattle.paraid_image.proofs.ViewLemmas.{not_below}
@@ -45,21 +45,21 @@ pub soft_parked : (v : View) (r d : ℕ) → is_hard v r d ≡ false → v.meta.
 unfolding is_hard
 soft_parked v r d h = not_below d v.meta.gear _ h
 
-near_hard : (v : View) (r d : ℕ) → is_hard v r d ≡ true → near v r d ≡ v.block d (hard_place_of v.meta.setup.geometry r)
-unfolding near
+near_hard : (v : View) (r d : ℕ) → is_hard v r d ≡ true → stored_value v r d ≡ v.block d (hard_place_of v.meta.setup.geometry r)
+unfolding stored_value
 near_hard v r d h = rw h refl
 
 near_soft : (v : View) (r d : ℕ) → is_hard v r d ≡ false
-    → near v r d ≡ stripe_block_now v (soft_stripe v.meta.setup.geometry.disks v.meta.gear r d) (soft_disk v.meta.setup.geometry.disks v.meta.gear r d)
-unfolding near soft_value stripe_block_now
+    → stored_value v r d ≡ stripe_block_now v (soft_stripe v.meta.setup.geometry.disks v.meta.gear r d) (soft_disk v.meta.setup.geometry.disks v.meta.gear r d)
+unfolding stored_value soft_value stripe_block_now
 near_soft v r d h = rw h refl
 
-value_near : (v : View) (r d : ℕ) → (is_hard v r d && is_out v.out d) ≡ false → value v r d ≡ near v r d
+value_near : (v : View) (r d : ℕ) → (is_hard v r d && is_out v.out d) ≡ false → value v r d ≡ stored_value v r d
 unfolding value
 value_near v r d h = rw h refl
 
-value_far : (v : View) (r d : ℕ) → is_hard v r d ≡ true → is_out v.out d ≡ true → value v r d ≡ xor_upto (without (near v r) d) v.meta.setup.geometry.disks
-unfolding value far
+value_far : (v : View) (r d : ℕ) → is_hard v r d ≡ true → is_out v.out d ≡ true → value v r d ≡ xor_upto (without (stored_value v r) d) v.meta.setup.geometry.disks
+unfolding value reconstructed_value
 value_far v r d h o = rw (h, o) refl
 
 module _ (power : ℕ → Power) (v : View) (val : ℕ → ℕ → Block) (map : ℕ → Block) (in_range : IsInRange v.meta)
@@ -101,7 +101,7 @@ module _ (power : ℕ → Power) (v : View) (val : ℕ → ℕ → Block) (map :
       | inr above ↦ hard_clean v r d h above
     ]
 
-    near_is : (r d : ℕ) → r < g.rows → d < g.disks → (is_hard v r d ≡ true → v.out ≢ Some d) → near v r d ≡ val r d
+    near_is : (r d : ℕ) → r < g.rows → d < g.disks → (is_hard v r d ≡ true → v.out ≢ Some d) → stored_value v r d ≡ val r d
     near_is r d lr ld apart = elim (cases_Bool (is_hard v r d)) [
       | inl h ↦ near_hard v r d h ∙ st.lies.hard_blocks r d lr ld (there (apart h)) ∙ st.clean r d lr ld (clean_of_hard r d lr h)
       | inr h ↦ near_soft v r d h ∙ soft_is r d lr ld h
@@ -112,7 +112,7 @@ module _ (power : ℕ → Power) (v : View) (val : ℕ → ℕ → Block) (map :
       | inl h ↦ elim (cases_Bool (is_out v.out d)) [
         | inl is ↦
             value_far v r d h is
-            ∙ others_same (near v r) (val r) d g.disks (λ e le apart. near_is r e lr le (λ _. only_out v.out d e (out_some v.out d is) apart))
+            ∙ others_same (stored_value v r) (val r) d g.disks (λ e le apart. near_is r e lr le (λ _. only_out v.out d e (out_some v.out d is) apart))
             ∙ sym (lost_member (val r) d g.disks ld (zero_rows r lr))
         | inr not_it ↦ value_near v r d (rw (h, not_it) refl) ∙ near_is r d lr ld (λ _. out_not v.out d not_it)
       ]

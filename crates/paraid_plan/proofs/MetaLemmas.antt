@@ -6,13 +6,13 @@ use Rattle.paraid_rack.specs.declared.call.Power.{Power}
 use Rattle.paraid_record.specs.Codes.{phase_to}
 use Rattle.paraid_image.specs.Sound.{AreRebuilt, IsFilled, IsFresh}
 use Rattle.paraid_image.specs.Spot.{View, is_hard}
-use Rattle.paraid_image.specs.Value.{far, near, soft_value, value}
+use Rattle.paraid_image.specs.Value.{reconstructed_value, soft_value, stored_value, value}
 
 abbrev pub with_writes : View → ℕ → View
 with_writes v k = record v { meta = record v.meta { writes = k } }
 
 pub value_writes : (v : View) (k r d : ℕ) → value (with_writes v k) r d ≡ value v r d
-unfolding value far near soft_value is_hard
+unfolding value reconstructed_value stored_value soft_value is_hard
 value_writes v k r d = refl
 
 module _ (slots : ℕ) (power : ℕ → Power) (size : ℕ → ℕ) (v : View) (k : ℕ) where
@@ -20,15 +20,15 @@ module _ (slots : ℕ) (power : ℕ → Power) (size : ℕ → ℕ) (v : View) (
   was_fresh d count f = record { is = f.is; present = f.present }
 
   filled_writes : (s : ℕ) → IsFilled v (phase_to v.meta.phase) s → IsFilled (with_writes v k) (phase_to v.meta.phase) s
-  unfolding value far near soft_value is_hard
+  unfolding value reconstructed_value stored_value soft_value is_hard
   filled_writes s f = record { cells = f.cells; pads = f.pads; zero = f.zero }
 
   rebuilt_writes : (d count : ℕ) → AreRebuilt v d count → AreRebuilt (with_writes v k) d count
-  unfolding value far near soft_value is_hard
+  unfolding value reconstructed_value stored_value soft_value is_hard
   rebuilt_writes d count r = record { rows = r.rows; stripes = r.stripes; map_blocks = r.map_blocks }
 
   pub kept_writes : IsWellKept slots power size v → IsWellKept slots power size (with_writes v k)
-  unfolding value far near soft_value is_hard
+  unfolding value reconstructed_value stored_value soft_value is_hard
   kept_writes w = record {
     rows = w.rows;
     stripes = w.stripes;

@@ -24,7 +24,7 @@ use Rattle.paraid_image.specs.Out.{is_out, named_out}
 use Rattle.paraid_image.specs.Sound.{stripes_on}
 use Rattle.paraid_image.specs.Spot.{View, is_hard, map_disk}
 use Rattle.paraid_image.specs.Standing.{other_log}
-use Rattle.paraid_image.specs.Value.{near, soft_value, stripe, stripe_rest, value}
+use Rattle.paraid_image.specs.Value.{soft_value, stored_value, stripe, stripe_rest, value}
 
 pub hard_is : (v : View) (r d : ℕ) → is_hard v r d ≡ hard_at v.meta (v.dirty r d) d
 unfolding is_hard hard_at
@@ -36,11 +36,11 @@ hard_below v r d l = grind (arith, nat_tests)
 
 pub value_soft : (v : View) (r d : ℕ) → is_hard v r d ≡ false
     → value v r d ≡ stripe_block_now v (soft_stripe v.meta.setup.geometry.disks v.meta.gear r d) (soft_disk v.meta.setup.geometry.disks v.meta.gear r d)
-unfolding value near soft_value stripe_block_now
+unfolding value stored_value soft_value stripe_block_now
 value_soft v r d h = rw h refl
 
 pub value_hard : (v : View) (r d : ℕ) → is_hard v r d ≡ true → is_out v.out d ≡ false → value v r d ≡ v.block d (hard_place_of v.meta.setup.geometry r)
-unfolding value near
+unfolding value stored_value
 value_hard v r d h o = rw (h, o) refl
 
 pub stripe_there : (v : View) (s e : ℕ) → v.out ≢ Some e → stripe_block_now v s e ≡ v.block e (soft_place_of v.meta.setup.geometry v.meta.gear s)

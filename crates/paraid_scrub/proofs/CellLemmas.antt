@@ -13,7 +13,7 @@ use Rattle.paraid_base.proofs.XorLemmas.{xor_zero_right}
 use Rattle.paraid_record.specs.declared.meta.Meta.{Meta}
 use Rattle.paraid_image.specs.Out.{is_out, named_out}
 use Rattle.paraid_image.specs.Spot.{View, is_hard, rising_to}
-use Rattle.paraid_image.specs.Value.{far, near, soft_value, stripe, stripe_rest, value}
+use Rattle.paraid_image.specs.Value.{reconstructed_value, soft_value, stored_value, stripe, stripe_rest, value}
 use Rattle.paraid_view.proofs.ValueLemmas.{near_hard, near_soft, soft_out, soft_there, value_far, value_near}
 
 pub out_here : (o : Option ℕ) (d : ℕ) → is_out o d ≡ true → o ≡ Some d
@@ -69,13 +69,13 @@ module _ (v : View) (m : Meta) (e : v.meta ≡ m) where
       let u : nat_lt d (rising_to v.meta.phase) ≡ true = grind (arith, nat_tests) in
       rw (t, u) refl
 
-  pub near_stored : (r d place : ℕ) (into : Block) → is_hard v r d ≡ true → place ≡ hard_place_of m.setup.geometry r → into ≡ v.block d place → into ≡ near v r d
+  pub near_stored : (r d place : ℕ) (into : Block) → is_hard v r d ≡ true → place ≡ hard_place_of m.setup.geometry r → into ≡ v.block d place → into ≡ stored_value v r d
   near_stored r d place into h at is =
       is ∙ ap (v.block d) (at ∙ ap (λ (z : Meta). hard_place_of z.setup.geometry r) (sym e)) ∙ sym (near_hard v r d h)
 
-  pub far_read : (r out : ℕ) (into : Block) → into ≡ xor_upto (without (near v r) out) m.setup.geometry.disks → into ≡ far v r out
-  unfolding far
-  far_read r out into is = is ∙ ap (λ (z : Meta). xor_upto (without (near v r) out) z.setup.geometry.disks) (sym e)
+  pub far_read : (r out : ℕ) (into : Block) → into ≡ xor_upto (without (stored_value v r) out) m.setup.geometry.disks → into ≡ reconstructed_value v r out
+  unfolding reconstructed_value
+  far_read r out into is = is ∙ ap (λ (z : Meta). xor_upto (without (stored_value v r) out) z.setup.geometry.disks) (sym e)
 
   module _ (o : v.out ≡ named_out m.out) where
     pub soft_rest : (r d s copy : ℕ) (into : Block) → s ≡ soft_stripe m.setup.geometry.disks m.gear r d → copy ≡ soft_disk m.setup.geometry.disks m.gear r d → is_out (named_out m.out) copy ≡ true
@@ -95,10 +95,10 @@ module _ (v : View) (m : Meta) (e : v.meta ≡ m) where
         ∙ sym (soft_there v r d (λ is. out_other (named_out m.out) copy there (sym o ∙ is ∙ ap Some (ap (λ (z : Meta). soft_disk z.setup.geometry.disks z.gear r d) e ∙ sym ec))))
 
     -- the three ways to a value
-    pub value_there : (r d : ℕ) (into : Block) → is_out (named_out m.out) d ≡ false → into ≡ near v r d → into ≡ value v r d
+    pub value_there : (r d : ℕ) (into : Block) → is_out (named_out m.out) d ≡ false → into ≡ stored_value v r d → into ≡ value v r d
     value_there r d into there is = is ∙ sym (value_near v r d (λ h out. out_other (named_out m.out) d there (sym o ∙ out)))
 
-    pub value_lost : (r d : ℕ) (into : Block) → is_out (named_out m.out) d ≡ true → is_hard v r d ≡ true → into ≡ far v r d → into ≡ value v r d
+    pub value_lost : (r d : ℕ) (into : Block) → is_out (named_out m.out) d ≡ true → is_hard v r d ≡ true → into ≡ reconstructed_value v r d → into ≡ value v r d
     value_lost r d into lost h is = is ∙ sym (value_far v r d h (o ∙ out_here (named_out m.out) d lost))
 
     pub value_soft : (r d : ℕ) (into : Block) → is_hard v r d ≡ false → into ≡ soft_value v r d → into ≡ value v r d

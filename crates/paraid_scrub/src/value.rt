@@ -6,7 +6,7 @@ ghost use Rattle.paraid_base.specs.Sums.{without, xor_upto};
 ghost use Rattle.paraid_base.specs.Xor.{xor};
 ghost use Rattle.paraid_image.specs.Out.{named_out};
 ghost use Rattle.paraid_image.specs.Spot.{View, is_hard as hard_in, rising_to};
-ghost use Rattle.paraid_image.specs.Value.{far, near, soft_value, stripe, value as value_of};
+ghost use Rattle.paraid_image.specs.Value.{reconstructed_value, soft_value, stored_value, stripe, value as value_of};
 ghost use Rattle.paraid_scrub.specs.Looks.{IsReadable, KeepsView};
 
 use crate::ending::Ending;
@@ -127,7 +127,7 @@ fn read_near<C: Stored>(
     requires disk { disk < (C.meta core.old).setup.geometry.disks }
     requires there { named_out (C.meta core.old).out ≢ Some disk }
     ensures shown { OnOk result (KeepsView C.meta C.usable C.tells C.shows C.leads core.old core.new
-        (λ v. into.new ≡ near v row disk)) }
+        (λ v. into.new ≡ stored_value v row disk)) }
     ensures lost { IfErr result (C.loses core.old core.new) }
 {
     if !is_hard(core, row, disk) {
@@ -150,7 +150,7 @@ fn add_near<C: Stored>(
     requires disk { disk < (C.meta core.old).setup.geometry.disks }
     requires out { named_out (C.meta core.old).out ≡ Some out }
     ensures shown { OnOk result (KeepsView C.meta C.usable C.tells C.shows C.leads core.old core.new
-        (λ v. sum.new ≡ xor sum.old (without (near v row) out disk))) }
+        (λ v. sum.new ≡ xor sum.old (without (stored_value v row) out disk))) }
     ensures lost { IfErr result (C.loses core.old core.new) }
 {
     if disk == out {
@@ -168,7 +168,7 @@ fn read_far<C: Stored>(core: &mut C, row: Row, out: DiskNo, into: &mut Block) ->
     requires row { row < (C.meta core.old).setup.geometry.rows }
     requires out { named_out (C.meta core.old).out ≡ Some out }
     ensures shown { OnOk result (KeepsView C.meta C.usable C.tells C.shows C.leads core.old core.new
-        (λ v. into.new ≡ far v row out)) }
+        (λ v. into.new ≡ reconstructed_value v row out)) }
     ensures lost { IfErr result (C.loses core.old core.new) }
 {
     *into = Block::zero();

@@ -27,7 +27,7 @@ use Rattle.paraid_image.specs.Power.{PowerState, initial_state, state_by}
 use Rattle.paraid_image.specs.Sides.{LogState, Says, closed_over, is_open}
 use Rattle.paraid_image.specs.Sound.{ContentOk, IsWellKept, LogOk}
 use Rattle.paraid_image.specs.Spot.{is_hard}
-use Rattle.paraid_image.specs.Value.{far, near, soft_value, value}
+use Rattle.paraid_image.specs.Value.{reconstructed_value, soft_value, stored_value, value}
 use Rattle.paraid_image.specs.Standing.{contents}
 use Rattle.paraid_base.proofs.CellsLemmas.{home_disk_below}
 use Rattle.paraid_image.proofs.CloseLemmas.{IsHeld-raised}
@@ -75,7 +75,7 @@ none_after b = refl
 
 -- what is kept well is so by the next meta
 next_kept : (slots : ℕ) (s : Disks) (m : Meta) → IsWellKept slots s.power s.size (view_by m s.power (contents s [])) → IsWellKept slots s.power s.size (view_by (next_meta m) s.power (contents s []))
-unfolding value near far soft_value is_hard
+unfolding value stored_value reconstructed_value soft_value is_hard
 next_kept slots s m k = record {
   rows = k.rows;
   stripes = k.stripes;
@@ -95,7 +95,7 @@ next_kept slots s m k = record {
 }
 
 next_blocks : (s : Disks) (m : Meta) (b : ℕ) → blocks_of (view_by (next_meta m) s.power (contents s [])) b ≡ blocks_of (view_by m s.power (contents s [])) b
-unfolding value near far soft_value is_hard
+unfolding value stored_value reconstructed_value soft_value is_hard
 next_blocks s m b = refl
 
 within_max : (a : ℕ) → a + 1 < worn_at → max a 1 < worn_at

@@ -10,7 +10,7 @@ use Rattle.paraid_base.proofs.SumsLemmas.{without_other, without_same, xor_upto_
 use Rattle.paraid_image.specs.Out.{is_out}
 use Rattle.paraid_image.specs.Spot.{Spot, View, hard_spot, is_hard, rising_to, soft_spot, spot_of}
 use Rattle.paraid_view.specs.declared.spot.Spot.TheVariants.{Hard, Soft}
-use Rattle.paraid_image.specs.Value.{far, near, soft_value, stripe_rest, value}
+use Rattle.paraid_image.specs.Value.{reconstructed_value, soft_value, stored_value, stripe_rest, value}
 
 pub ok_map : {A E X Y : Type 0} (r : Result A E) → (X → Y) → OnOk r X → OnOk r Y
 ok_map (Ok a) go x = go x
@@ -43,27 +43,27 @@ is_out_not (Some x) d not = let apart : d ≢ x = (λ e. not (ap Some (sym e))) 
 pub is_out_here : (o : Option ℕ) (d : ℕ) → o ≡ Some d → is_out o d ≡ true
 is_out_here o d is = rw is (grind (arith, nat_tests))
 
-pub near_hard : (v : View) (r d : ℕ) → is_hard v r d ≡ true → near v r d ≡ v.block d (hard_place_of v.meta.setup.geometry r)
-unfolding near
+pub near_hard : (v : View) (r d : ℕ) → is_hard v r d ≡ true → stored_value v r d ≡ v.block d (hard_place_of v.meta.setup.geometry r)
+unfolding stored_value
 near_hard v r d h = rw h refl
 
-pub near_soft : (v : View) (r d : ℕ) → is_hard v r d ≡ false → near v r d ≡ soft_value v r d
-unfolding near
+pub near_soft : (v : View) (r d : ℕ) → is_hard v r d ≡ false → stored_value v r d ≡ soft_value v r d
+unfolding stored_value
 near_soft v r d h = rw h refl
 
-pub value_far : (v : View) (r d : ℕ) → is_hard v r d ≡ true → v.out ≡ Some d → value v r d ≡ far v r d
+pub value_far : (v : View) (r d : ℕ) → is_hard v r d ≡ true → v.out ≡ Some d → value v r d ≡ reconstructed_value v r d
 unfolding value
 value_far v r d h out = rw (h, is_out_here v.out d out) refl
 
 -- the others of a cell, which is left out twice
-pub far_is : (v : View) (r d : ℕ) → xor_upto (without (without (near v r) d) d) v.meta.setup.geometry.disks ≡ far v r d
-unfolding far
-far_is v r d = xor_upto_same (without (without (near v r) d) d) (without (near v r) d) v.meta.setup.geometry.disks (λ e l. elim (cases_eq e d) [
-  | inl is ↦ rw is (without_same (without (near v r) d) d ∙ sym (without_same (near v r) d))
-  | inr apart ↦ without_other (without (near v r) d) d e apart
+pub far_is : (v : View) (r d : ℕ) → xor_upto (without (without (stored_value v r) d) d) v.meta.setup.geometry.disks ≡ reconstructed_value v r d
+unfolding reconstructed_value
+far_is v r d = xor_upto_same (without (without (stored_value v r) d) d) (without (stored_value v r) d) v.meta.setup.geometry.disks (λ e l. elim (cases_eq e d) [
+  | inl is ↦ rw is (without_same (without (stored_value v r) d) d ∙ sym (without_same (stored_value v r) d))
+  | inr apart ↦ without_other (without (stored_value v r) d) d e apart
 ])
 
-pub value_near : (v : View) (r d : ℕ) → (is_hard v r d ≡ true → v.out ≢ Some d) → value v r d ≡ near v r d
+pub value_near : (v : View) (r d : ℕ) → (is_hard v r d ≡ true → v.out ≢ Some d) → value v r d ≡ stored_value v r d
 unfolding value
 value_near v r d not = elim (cases_Bool (is_hard v r d)) [
   | inl hard ↦ rw (hard, is_out_not v.out d (not hard)) refl

@@ -8,7 +8,7 @@ ghost use Rattle.paraid_image.specs.Spot.{is_hard as hard_in};
 ghost use Rattle.paraid_image.specs.Sound.{AreRowsZero, AreStripesZero};
 ghost use Rattle.paraid_image.specs.Standing.{Contents};
 ghost use Rattle.paraid_txn.specs.Stores.{disks_of, store_rack};
-ghost use Rattle.paraid_image.specs.Value.{near as near_of, soft_value, value as value_of};
+ghost use Rattle.paraid_image.specs.Value.{stored_value as near_of, soft_value, value as value_of};
 ghost use Rattle.paraid_view.specs.Reads.{AreOffDisk, CanRead, HaveLostTwo, HaveRead, HaveReadOn, ShowsContents, lost_by, seen_by};
 
 use crate::draft::Draft;

@@ -4,7 +4,7 @@ use Rattle.std.proofs.Common.{◌≡◌}
 use Rattle.paraid_base.specs.Sums.{without}
 use Rattle.paraid_base.specs.Xor.{xor}
 use Rattle.paraid_image.specs.Out.{named_out}
-use Rattle.paraid_image.specs.Value.{near}
+use Rattle.paraid_image.specs.Value.{stored_value}
 use Rattle.paraid_scrub.proofs.CellLemmas.{added_none, added_one, not_out}
 use Rattle.paraid_scrub.proofs.LookedLemmas.{keeps_none, keeps_so}
 use Rattle.paraid_scrub.proofs.value.add_near.Goals as goal
@@ -13,7 +13,7 @@ pub returns-then-disk-out : goal.returns-then-disk-out
 returns-then-disk-out g c = record {
   shown =
       keeps_none c.args.core.now (g.met.C.Stored.stays c.args.core.now c.requires.usable) c.requires.usable
-      (λ v s. added_none (near v c.args.row) c.args.out c.args.disk c.args.sum.now c.if-disk-out.true);
+      (λ v s. added_none (stored_value v c.args.row) c.args.out c.args.disk c.args.sum.now c.if-disk-out.true);
   lost = tt;
 }
 
@@ -28,8 +28,8 @@ read_near-requires g c = record {
 pub returns : goal.returns
 returns g c = record {
   shown =
-      keeps_so (λ v. c.xor_into.new.to ≡ xor c.args.sum.now (without (near v c.args.row) c.args.out c.args.disk)) c.in_ok-read_near.ensures.shown
-      (λ v s is. added_one (near v c.args.row) c.args.out c.args.disk c.args.sum.now _ _ c.if-disk-out.false is c.xor_into.ensures);
+      keeps_so (λ v. c.xor_into.new.to ≡ xor c.args.sum.now (without (stored_value v c.args.row) c.args.out c.args.disk)) c.in_ok-read_near.ensures.shown
+      (λ v s is. added_one (stored_value v c.args.row) c.args.out c.args.disk c.args.sum.now _ _ c.if-disk-out.false is c.xor_into.ensures);
   lost = tt;
 }
 

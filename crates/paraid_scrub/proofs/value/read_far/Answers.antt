@@ -4,7 +4,7 @@ use Rattle.std.proofs.Common.{◌≡◌, ◌<◌, ◌+◌, ◌∙◌, sym, ap, s
 use Rattle.paraid_base.specs.Sums.{without, xor_upto}
 use Rattle.paraid_record.specs.declared.meta.Meta.{Meta}
 use Rattle.paraid_image.specs.Out.{named_out}
-use Rattle.paraid_image.specs.Value.{far, near}
+use Rattle.paraid_image.specs.Value.{reconstructed_value, stored_value}
 use Rattle.paraid_scrub.proofs.CellLemmas.{far_read}
 use Rattle.paraid_scrub.proofs.LookedLemmas.{keeps_none, keeps_so, keeps_then, sum_more, sum_none}
 use Rattle.paraid_scrub.proofs.value.read_far.Goals as goal
@@ -26,8 +26,8 @@ add_near-requires g c = record {
 
 pub loop-disk-preserved : goal.loop-disk-preserved
 loop-disk-preserved g c = record {
-  kept = keeps_then (λ v. c.add_near.new.sum ≡ xor_upto (without (near v c.args.row) c.args.out) (c.loop-disk.disk + 1)) g.met.C.Stored.then g.met.C.Stored.told c.loop-disk.invariant.kept c.in_ok-add_near.ensures.shown
-      (λ v s sum is. sum_more (without (near v c.args.row) c.args.out) c.loop-disk.disk _ _ sum is);
+  kept = keeps_then (λ v. c.add_near.new.sum ≡ xor_upto (without (stored_value v c.args.row) c.args.out) (c.loop-disk.disk + 1)) g.met.C.Stored.then g.met.C.Stored.told c.loop-disk.invariant.kept c.in_ok-add_near.ensures.shown
+      (λ v s sum is. sum_more (without (stored_value v c.args.row) c.args.out) c.loop-disk.disk _ _ sum is);
 }
 
 pub returns : goal.returns
@@ -35,8 +35,8 @@ returns g c = record {
   shown =
       let m = g.C.Stored.meta c.args.core.now in
       let all : c.loop-disk.disk ≡ m.setup.geometry.disks = (let e = c.disks-disks.ensures in let k : c.loop-disk.disk ≡ c.disks-disks.result = omega arith in k ∙ e ∙ ap (λ (z : Meta). z.setup.geometry.disks) c.meta.ensures.value) in
-      keeps_so (λ v. c.loop-disk.into ≡ far v c.args.row c.args.out) c.loop-disk.invariant.kept
-      (λ v s is. far_read v m (g.met.C.Stored.agrees c.args.core.now v s).0 c.args.row c.args.out _ (is ∙ ap (xor_upto (without (near v c.args.row) c.args.out)) all));
+      keeps_so (λ v. c.loop-disk.into ≡ reconstructed_value v c.args.row c.args.out) c.loop-disk.invariant.kept
+      (λ v s is. far_read v m (g.met.C.Stored.agrees c.args.core.now v s).0 c.args.row c.args.out _ (is ∙ ap (xor_upto (without (stored_value v c.args.row) c.args.out)) all));
   lost = tt;
 }
 

@@ -3,7 +3,7 @@ use Rattle.std.proofs.lemmas.Result.{on_ok_weaker}
 use Rattle.std.proofs.Common.{◌≡◌, ◌∙◌, sym, ap, arith, subst, ◌<◌}
 use Rattle.paraid_base.specs.Regions.{hard_place_of, disk_size}
 use Rattle.paraid_record.specs.declared.meta.Meta.{Meta}
-use Rattle.paraid_image.specs.Value.{near}
+use Rattle.paraid_image.specs.Value.{stored_value}
 use Rattle.paraid_view.proofs.ValueLemmas.{near_soft}
 use Rattle.paraid_scrub.specs.Looks.IsReadable.{powered}
 use Rattle.paraid_scrub.proofs.CellLemmas.{near_stored}
@@ -13,7 +13,7 @@ use Rattle.paraid_scrub.proofs.value.read_near.Goals as goal
 pub returns-then-not-is_hard : goal.returns-then-not-is_hard
 returns-then-not-is_hard g c = record {
   shown =
-      on_ok_weaker c.read_soft.result (λ kept. keeps_so (λ v. c.read_soft.new.into ≡ near v c.args.row c.args.disk) kept
+      on_ok_weaker c.read_soft.result (λ kept. keeps_so (λ v. c.read_soft.new.into ≡ stored_value v c.args.row c.args.disk) kept
       (λ v s is. is ∙ sym (near_soft v c.args.row c.args.disk (sym (c.is_hard.ensures.value v s) ∙ c.if-not-is_hard.true)))) c.read_soft.ensures.shown;
   lost = c.read_soft.ensures.lost;
 }
@@ -37,7 +37,7 @@ read_stored-requires g c = record {
 pub returns : goal.returns
 returns g c = record {
   shown =
-      on_ok_weaker c.read_stored.result (λ kept. keeps_so (λ v. c.read_stored.new.into ≡ near v c.args.row c.args.disk) kept
+      on_ok_weaker c.read_stored.result (λ kept. keeps_so (λ v. c.read_stored.new.into ≡ stored_value v c.args.row c.args.disk) kept
       (λ v s is.
       let a = g.met.C.Stored.agrees c.args.core.now v s in
       near_stored v (g.C.Stored.meta c.args.core.now) a.0 c.args.row c.args.disk c.hard_place-place.result _ (sym (c.is_hard.ensures.value v s) ∙ c.if-not-is_hard.false)

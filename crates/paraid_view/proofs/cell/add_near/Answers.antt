@@ -1,6 +1,6 @@
 use Rattle.std.proofs.Common.{◌≡◌, ◌∙◌, ◌⊎◌, Some, inl, inr, ℕ, ◌<◌, ◌≢◌, Option, subst, sym, ap}
 use Rattle.paraid_base.proofs.SumsLemmas.{two_read, two_skip}
-use Rattle.paraid_image.specs.Value.{near}
+use Rattle.paraid_image.specs.Value.{stored_value}
 use Rattle.paraid_txn.specs.Stores.{store_rack, disks_of}
 use Rattle.paraid_view.proofs.ValueLemmas.{err_again, ok_never, same_disk}
 use Rattle.paraid_view.specs.Reads.{seen_by, HaveRead}
@@ -10,7 +10,7 @@ use Rattle.paraid_view.proofs.cell.add_near.Goals.{then-d-out-via-then-d-out, th
 
 pub returns-then-d-out-clause-value : goal.returns-then-d-out-clause-value
 returns-then-d-out-clause-value g c f shows some sum =
-    sum ∙ two_skip (near (seen_by c.args.meta.now c.args.dirty.now (Some c.args.out) f) c.args.r) c.args.out c.args.skipped c.args.d which
+    sum ∙ two_skip (stored_value (seen_by c.args.meta.now c.args.dirty.now (Some c.args.out) f) c.args.r) c.args.out c.args.skipped c.args.d which
   where
     which : (c.args.d ≡ c.args.out) ⊎ (c.args.d ≡ c.args.skipped)
     which = elim c.then-d-out.branch [ then-d-out-via-then-d-out w ↦ inl w.if-d-out.true | then-d-out-via-else-d-out+then-d-skipped w ↦ inr w.if-d-skipped.true ]
@@ -33,7 +33,7 @@ returns g c = record {
   below = tt;
   failed = tt;
   off = c.read_near.ensures.off;
-  value = λ f shows some sum. two_read (near (seen_by c.args.meta.now c.args.dirty.now (Some c.args.out) f) c.args.r) c.args.out c.args.skipped c.args.d _ _ _ c.if-d-out.false c.if-d-skipped.false sum (c.in_ok-read_near.ensures.value f shows some) c.xor_into.ensures;
+  value = λ f shows some sum. two_read (stored_value (seen_by c.args.meta.now c.args.dirty.now (Some c.args.out) f) c.args.r) c.args.out c.args.skipped c.args.d _ _ _ c.if-d-out.false c.if-d-skipped.false sum (c.in_ok-read_near.ensures.value f shows some) c.xor_into.ensures;
 }
 
 pub returns-in_err-read_near : goal.returns-in_err-read_near

@@ -2,8 +2,8 @@ use Rattle.std.proofs.Common.{◌++◌, ◌≡◌, ◌∙◌, None, Some, ap, ar
 use Rattle.paraid_base.proofs.SumsLemmas.{others_none}
 use Rattle.paraid_base.specs.Sums.{without, xor_upto}
 use Rattle.paraid_image.specs.Spot.{View}
+use Rattle.paraid_image.specs.Value.{stored_value}
 use Rattle.paraid_txn.specs.Stores.{disks_of, store_rack}
-use Rattle.paraid_image.specs.Value.{near}
 use Rattle.paraid_view.specs.Reads.{seen_by}
 use Rattle.paraid_view.proofs.ReadLemmas.{off_none, off_then, read_failed, read_none, read_then, shows_after, told_before}
 use Rattle.paraid_view.proofs.cell.read_others.Goals as goal
@@ -47,5 +47,5 @@ returns g c = record {
   value = λ f shows some.
       let v : View = seen_by c.args.meta.now c.args.dirty.now (Some c.args.out) f in
       let all : c.loop-d.d ≡ c.args.meta.now.setup.geometry.disks = omega arith in
-      c.loop-d.invariant.value f shows some ∙ ap (xor_upto (without (without (near v c.args.r) c.args.out) c.args.skipped)) all;
+      c.loop-d.invariant.value f shows some ∙ ap (xor_upto (without (without (stored_value v c.args.r) c.args.out) c.args.skipped)) all;
 }

@@ -2,7 +2,7 @@ use Rattle.std.proofs.Common.{◌≡◌, ◌≢◌, ℕ, ◌∙◌, Some, true, 
 use Rattle.std.proofs.lemmas.Bool.{false≢true}
 use Rattle.paraid_image.specs.Spot.{is_hard}
 use Rattle.paraid_image.specs.Standing.{Contents}
-use Rattle.paraid_image.specs.Value.{far}
+use Rattle.paraid_image.specs.Value.{reconstructed_value}
 use Rattle.paraid_txn.specs.Stores.{store_rack}
 use Rattle.paraid_view.specs.Reads.{CanRead, seen_by}
 use Rattle.paraid_view.proofs.ReadLemmas.{off_same}
@@ -43,7 +43,7 @@ returns-then-is_hard g c = record {
       ok_map c.read_others.result (λ value. λ f shows some.
       let m = c.args.meta.now in
       let out : c.args.out ≡ Some c.args.d = c.is_at.ensures.0 c.if-is_at.true in
-      value f shows some ∙ far_is (seen_by m c.args.dirty.now (Some c.args.d) f) c.args.r c.args.d ∙ ap (λ (o : Option ℕ). far (seen_by m c.args.dirty.now o f) c.args.r c.args.d) (sym out)
+      value f shows some ∙ far_is (seen_by m c.args.dirty.now (Some c.args.d) f) c.args.r c.args.d ∙ ap (λ (o : Option ℕ). reconstructed_value (seen_by m c.args.dirty.now o f) c.args.r c.args.d) (sym out)
       ∙ sym (value_far (seen_by m c.args.dirty.now c.args.out f) c.args.r c.args.d (sym (c.is_hard.ensures.value c.args.out f) ∙ c.if-is_hard.true) out)) c.read_others.ensures.value;
 }
 
