@@ -10,7 +10,7 @@ parity_disk n r = n - 1 - r % n
 abbrev pub home_row : ℕ → ℕ → ℕ
 home_row n b = b / (n - 1)
 
--- the disk of block `b`: its index in its row, past the parity disk
+-- the disk of block `b`: that of its index in its row, counted past the parity disk
 abbrev pub home_disk : ℕ → ℕ → ℕ
 home_disk n b = skip (parity_disk n (home_row n b)) (b % (n - 1))
 

@@ -17,13 +17,13 @@ phase_to Steady = 0
 phase_to (Down to) = to
 phase_to (Up to) = to
 
--- the disks below it hold clean cells in place, though they are not below the gear
+-- the gear that a shift up goes to, or 0; the disks below it hold their clean cells in place
 abbrev pub rising_to : Phase → ℕ
 rising_to Steady = 0
 rising_to (Down to) = 0
 rising_to (Up to) = to
 
--- with a disk out there is no shift down
+-- the phase where a disk is out, or none is: a disk that is out ends a shift down
 abbrev pub phase_beside : Bool → Phase → Phase
 phase_beside has_out Steady = Steady
 phase_beside has_out (Down to) = if has_out then Steady else Down to

@@ -20,6 +20,6 @@ pub record GrowsByBytes (old new : Option (List ℕ)) (piece : List ℕ) : Type 
 abbrev pub AtEnd : Option (List ℕ) → Type 0
 AtEnd left = IsSome left → told_bytes left ≡ []
 
--- A count of faults has risen. A count that has come to the end of its type stays there.
+-- A count of faults has risen: it is greater, or it stands at the end of its type, where it can rise no more.
 pub record HasRisen (before now : ℕ) : Type 0 where
   pub risen : (before < now) ⊎ (2 ^ 64 - 1 ≤ now)

@@ -1,3 +1,4 @@
+//! One block of a disk: 512 bytes.
 ghost use Rattle.std.specs.Prelude.{◌≡◌, ℕ, ◌<◌, length, replicate, slice_index, slice_set, IfOk};
 
 use crate::NoMemory;

@@ -1,3 +1,5 @@
+//! What a line asks for, and what is answered.
+
 use crate::{Block, BlockNo, DiskNo, GearReport, Halt, Pairs, Status};
 
 /// What a line of the trace asks for.

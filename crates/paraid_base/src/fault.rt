@@ -1,3 +1,4 @@
+//! Why something was not done: a failed call, no memory, a halt.
 ghost use Rattle.std.specs.Prelude.{◌≡◌, ◌≢◌, ℕ, Some, None};
 
 use crate::{BlockNo, DiskNo};

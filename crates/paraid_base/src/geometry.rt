@@ -1,3 +1,4 @@
+//! The shape of an array: only shapes that an array may have are values.
 ghost use Rattle.std.specs.Prelude.{◌≡◌, ℕ, ◌+◌, ◌-◌, ◌*◌, ◌/◌, ◌%◌, ◌<◌, ◌≤◌, ◌↔◌, length, slice_index_or, true, false, IsTrue};
 
 use crate::{MAP_START, Place};

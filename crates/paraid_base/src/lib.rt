@@ -1,7 +1,7 @@
 //! What every crate of the array speaks of: blocks and their XOR, the geometry of an array, its
 //! states, events and answers, and faults.
 //!
-//! Its definitions stand in `specs/`: the history of writes, the home of a block, the soft copy
+//! Its definitions stand in `specs/`: the history of writes, the home of a block, the copy
 //! of a cell, and what an object of the outside tells.
 #![tactic(auto)]
 

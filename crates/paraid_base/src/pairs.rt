@@ -1,3 +1,4 @@
+//! One to eight writes that a stop leaves together or not at all.
 ghost use Rattle.std.specs.Prelude.{◌≡◌, ℕ, ◌≤◌, ◌<◌, ◌+◌, ◌++◌, ◌∷◌, [], length, get_or, set, All, IfSome, IfNone, IsTrue, ◌↔◌};
 ghost use Rattle.paraid_base.specs.declared.block.Block.{Block as BlockType};
 ghost use Rattle.paraid_base.specs.Xor.{zero_block};

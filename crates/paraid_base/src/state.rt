@@ -1,3 +1,4 @@
+//! What is told of an array: its phase, its disk that is out, what a tick did.
 ghost use Rattle.std.specs.Prelude.{◌≡◌};
 ghost use Rattle.paraid_base.specs.States.{gone_out, has_out, is_down as is_down_in, is_fresh as is_fresh_in, is_gone as is_gone_in, is_out, named_out, phase_beside, phase_to, rebuilt_count, rising_to as rising_to_of};
 

@@ -1,4 +1,4 @@
--- Which disk of an image is out, and which one it can not lose a second disk beside.
+-- Which disk of an image is out, and which one is weak: beside it no second one may be lost.
 use Rattle.std.specs.Prelude.{◌≡◌, ◌≢◌, ℕ, ◌<◌, ◌⊎◌, false, Option, Some, None, if◌then◌else◌}
 use Rattle.std.proofs.Common.{zero, suc}
 pub use Rattle.paraid_base.specs.States.{is_out, named_out}

@@ -4,7 +4,7 @@ use Rattle.paraid_base.specs.declared.event.Answer.{Answer}
 use Rattle.paraid_base.specs.declared.event.Answer.TheVariants.{Flushed}
 use Rattle.paraid_image.specs.Power.{PowerState}
 
--- the greatest number that a flush among these events answered, or this one
+-- how many writes no stop takes away after this answer: a flush raises it to the number that it tells
 abbrev pub with_flush : ℕ → Answer → ℕ
 with_flush low (Flushed number) = if nat_lt low number then number else low
 with_flush low answer = low

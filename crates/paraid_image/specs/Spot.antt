@@ -26,7 +26,7 @@ map_disk out = if is_out out 0 then 1 else 0
 unfoldable pub map_bit : Geometry → (ℕ → Block) → ℕ → ℕ → Bool
 map_bit g blocks r d = bit_at (slice_index (blocks (map_place_of g r)).bytes (r % 512)) d == 1
 
--- whether the value of a cell lives on its hard place; else it lives in its soft copy
+-- whether the value of a cell lives on its hard place; else it lives in its copy
 unfoldable pub is_hard : View → ℕ → ℕ → Bool
 is_hard v r d = nat_lt d v.meta.gear || (nat_lt d (rising_to v.meta.phase) && not (v.dirty r d))
 

@@ -87,7 +87,7 @@ pub fn what_is_held_is_of_images_looked_at()
         → IsHeld slots s h lo down ↔ IsHeldLooked slots s h lo down }
 {}
 
-/// Each image that is looked at, also one with a disk lost, is an entry for what was held, with its
+/// Each image that is looked at, also one with a disk lost, is a run start for what was held, with its
 /// own weak disk as the one that is down; nothing is loose in it. So is a rack that begins alike.
 pub fn an_image_looked_at_is_a_run_start()
     ensures synced { (s j : Disks) → IsLooked s j → (d p : ℕ) → j.loose d p ≡ false }

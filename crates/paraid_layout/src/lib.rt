@@ -1,4 +1,4 @@
-//! Where each block, each cell, each soft copy and each part of a disk lies.
+//! Where each block, each cell, each copy and each part of a disk lies.
 //!
 //! A row has one cell on each disk, one of them its parity. In a gear the cells of the disks
 //! from the gear on have copies in soft stripes on the disks below it. Every answer is the

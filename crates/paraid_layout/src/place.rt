@@ -1,4 +1,4 @@
-//! The place on its disk of each hard block and of each soft block.
+//! The place on its disk of each hard block and of each copy.
 //!
 //! A disk begins with the gate, the metas and the log at places 0 to 99. Then come the dirty
 //! map, the hard blocks and the soft regions of the gears in ascending order.

@@ -1,4 +1,4 @@
-// A record of the calls on a rack, beside it.
+//! A record of the calls on a rack, beside it.
 ghost use Rattle.std.specs.Prelude.{◌≡◌, ◌<◌, length, map, slice_get, Some, IfOk, IfSome};
 ghost use Rattle.paraid_rack.specs.Trail.{Trail};
 ghost use Rattle.paraid_memrack.specs.Tells.{beginning_of};

@@ -1,4 +1,4 @@
-// What a rack in memory tells, and which of its calls are to fail.
+//! What a rack in memory tells, and which of its calls are to fail.
 ghost use Rattle.std.specs.Prelude.{◌≡◌, ℕ, ◌<◌, ◌≤◌, ◌^◌, List, [], length, map, slice_index, slice_set, true, vec_capacity, IfOk};
 ghost use Rattle.paraid_rack.specs.declared.call.Power.TheVariants.{Absent};
 ghost use Rattle.std.specs.List.{list_any};

@@ -1,4 +1,4 @@
-// All slots as they were at an earlier moment, made again call by call.
+//! All slots as they were at an earlier moment, made again call by call.
 ghost use Rattle.std.specs.Prelude.{◌≡◌, ℕ, ◌<◌, length, map, IfOk, OnOk};
 ghost use Rattle.paraid_base.specs.declared.block.Block.{Block as BlockType};
 ghost use Rattle.paraid_rack.specs.Disks.{Disks, step};

@@ -1,4 +1,4 @@
-// The slots of a rack in memory, and what each call makes of one.
+//! The slots of a rack in memory, and what each call makes of one.
 ghost use Rattle.std.specs.Prelude.{◌≡◌, ℕ, ◌<◌, ◌≤◌, ◌+◌, ◌^◌, ◌-◌, true, false, length, map, slice_set, min, replicate, IfOk, []};
 ghost use Rattle.paraid_base.specs.Xor.{zero_block};
 ghost use Rattle.paraid_rack.specs.declared.call.Power.TheVariants.{Absent, Spinning};

@@ -54,7 +54,7 @@ abbrev pub after_attach : Bool → (ℕ → Block) → ℕ → Block
 after_attach true blocks = λ p. zero_block
 after_attach false blocks = blocks
 
--- only the power and the size change, as a failed call leaves none
+-- disk `d` has this power and this size; or where the call failed it is absent and has size 0
 abbrev pub with_power : ℕ → Bool → Power → ℕ → Disks → Disks
 with_power d done power size s = record s {
   power = with_at s.power d (power_after done power);

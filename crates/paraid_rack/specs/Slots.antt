@@ -16,8 +16,8 @@ pub record Slot : Type 0 where
 abbrev pub vacant_slot : Slot
 vacant_slot = record { power = Absent; size = 0; unsynced = false; faults = 0 }
 
--- A call on one slot: a done call leaves it so; a failed one leaves it absent, with its count
--- risen and so unsynced. No other slot changes.
+-- A call on one slot. Done, it leaves the slot as `leaves`. Failed, it leaves it absent, of size 0,
+-- its count risen, and unsynced as `dirt` says. No other slot changes.
 pub record ChangesOneSlot (old new : ℕ → Slot) (disk : ℕ) (leaves : Slot) (dirt : Bool) (ok : Bool) : Type 0 where
   pub others : (d : ℕ) → d ≢ disk → new d ≡ old d
   pub done : ok ≡ true → new disk ≡ leaves

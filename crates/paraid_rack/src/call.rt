@@ -1,3 +1,4 @@
+//! A call on one disk, and how a disk is powered.
 ghost use Rattle.std.specs.Prelude.{◌≡◌};
 ghost use Rattle.paraid_rack.specs.Calls.{disk_of, is_done as was_done};
 ghost use Rattle.paraid_rack.specs.Disks.{is_parked as stands_still, is_present as is_there};

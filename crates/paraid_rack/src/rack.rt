@@ -1,3 +1,4 @@
+//! What each call asks of a disk, and what it leaves, done or failed.
 ghost use Rattle.std.specs.Prelude.{◌≡◌, ◌<◌, ℕ, true, false, Option, Some, OnOk, is_ok};
 ghost use Rattle.paraid_rack.specs.Slots.{Slot, ChangesOneSlot, AreSlots, Agrees};
 ghost use Rattle.paraid_rack.specs.Trail.{Trail, initial, now};

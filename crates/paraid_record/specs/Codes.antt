@@ -34,7 +34,7 @@ fresh_code No = 0
 fresh_code (Gone disk) = 0
 fresh_code (Fresh disk rebuilt) = 1
 
--- the burst and the period as they are spelled: version 1 has zeros in their place
+-- the burst as a version spells it: version 1 has zeros in its place
 abbrev pub burst_code : ℕ → Setup → ℕ
 burst_code version s = if nat_lt 1 version then s.burst else 0
 

@@ -75,11 +75,11 @@ first_parked gear Steady = gear
 first_parked gear (Down to) = to
 first_parked gear (Up to) = to
 
--- so many spin-ups a disk may have by this tick
+-- the most spin-ups that a disk may have by so many ticks
 abbrev pub allowed_by : Setup → ℕ → ℕ
 allowed_by setup ticks = allowance setup.ration setup.burst setup.period ticks
 
--- and by the ticks of the meta itself
+-- the most spin-ups that a disk may have by the ticks of this meta
 abbrev pub allowed_spins : Meta → ℕ
 allowed_spins m = allowed_by m.setup m.ticks
 

@@ -1,11 +1,14 @@
+//! The setup and the state that the log disks keep.
+
 use paraid_base::{Geometry, Out, Phase};
 
-/// What a read may do during a shift up.
+/// How a shift up brings back what was written meanwhile.
 #[derive(Clone, Copy)]
 pub enum Mode {
-    /// A read changes nothing.
+    /// One tick of a shift up moves all units that are left, whatever the rate. A read changes nothing.
     Whole,
-    /// A read of a dirty cell makes it clean.
+    /// A tick of a shift up moves as many units as the rate says. A read of a dirty cell of a disk that
+    /// comes up makes it clean, where no disk is out.
     Access,
 }
 
@@ -14,13 +17,14 @@ pub enum Mode {
 pub struct Setup {
     pub geometry: Geometry,
     pub mode: Mode,
-    /// The most units that a tick moves, 1 to 65,536.
+    /// The most units that a tick moves, 1 to 65,536. In mode `Whole` it does not bound a shift up.
     pub rate: u32,
     /// How many reads and writes a powered disk serves between two ticks, 1 to 1,048,576.
     pub service: u32,
-    /// The load in percent from which on a shift up is due, 1 to 100.
+    /// A shift up is due from this mean load of the present gear on, in percent, 1 to 100.
     pub up: u8,
-    /// The load in percent up to which a shift down is due, 1 to 100.
+    /// A shift down is due up to this load of the next lower gear, mean and deviation together, in
+    /// percent, 1 to 100.
     pub down: u8,
     /// The lengths of the windows in samples, 1 to 1,024. An unused window is 0.
     pub windows: [u16; 3],

@@ -22,7 +22,7 @@ use Rattle.paraid_session.specs.Turn.{AreDirtyShown, IsMark, Point}
 use Rattle.paraid_session.specs.Watch.{Bounds, Down, Each, IsAllowed, HoldsWhileServing, IsServing, Watch, down_from_out, first_lost, several, watch_all}
 use Rattle.paraid_rack.specs.Calls.{AreReads}
 
--- The spin-ups at an entry, by disk, and the most ticks: what the log disk that stands has recorded;
+-- The spin-ups at a run start, by disk, and the most ticks: what the log disk that stands has recorded;
 -- or where it may be lost and the other one stands then, the lesser, and the more, of what both have.
 pub data IsBase (s : Disks) (x : ℕ) (said : LogState) (base : ℕ → ℕ) (ticks : ℕ) : Type 0 where
   alone : ((y : ℕ) (other : LogState) → MayLose s x → Stands (lose x s) y other → ⊥)
@@ -48,8 +48,8 @@ pub record IsLike (setup : Setup) (state shown : PowerState) : Type 0 where
   pub beginning : IsBeginning state shown
   pub dirty : (r d : ℕ) → r < setup.geometry.rows → state.dirty r d ≡ shown.dirty r d
 
--- Which writes are held and which state begins: those of the entry; where a disk was lost, those of
--- the entry with this disk gone, or of the entry with its slot absent.
+-- Which writes are held and which state begins: those of the run start; where a disk was
+-- lost, those of the run start with this disk gone, or with its slot absent.
 pub data BeginsSession (s : Disks) (said : LogState) (calls : List Call) (k : ℕ) (state : PowerState) : Type 0 where
   quietly : first_lost calls ≡ None → k ≡ said.meta.writes → IsLike said.meta.setup state (initial_state s said) → BeginsSession s said calls k state
   losing : (d : ℕ) → first_lost calls ≡ Some d → k ≡ said.meta.writes → IsLike said.meta.setup state (after_loss (initial_state s said) d)
@@ -77,7 +77,7 @@ pub record IsBegun (slots : ℕ) (s : Disks) (said : LogState) (h : History) (lo
 abbrev pub mount_bounds : LogState → ℕ → Bounds
 mount_bounds said ticks = record { setup = said.meta.setup; epoch = said.meta.epoch + 8; ticks = ticks }
 
--- The calls of a mount. At each moment each stop leaves the history of the entry.
+-- The calls of a mount. At each moment each stop leaves the history of the run start.
 pub record IsMounting (slots : ℕ) (s : Disks) (x : ℕ) (said : LogState) (h : History) (lo : ℕ) (down : Option ℕ) (calls : List Call) : Type 0 where
   pub base : ℕ → ℕ
   pub ticks : ℕ
@@ -122,7 +122,7 @@ pub record IsMountRefused (slots : ℕ) (s : Disks) (x : ℕ) (said : LogState) 
       ⊎ ((own : Option ℕ) × IsRunStart slots (run s calls) h lo own × IsCauseOutsideDisks why)
   pub worn_out : (count : ℕ) → why ≡ worn count → IsWornOut s calls count
 
--- from each entry of a rack whose record is told and on which a mount began at this moment
+-- from each run start of a rack whose record is told and on which a mount began at this moment
 abbrev pub FromRunStart : ℕ → ℕ → Option Trail → (Disks → ℕ → LogState → History → ℕ → Option ℕ → List Call → Type 0) → Type 0
 FromRunStart slots began told P = (t : Trail) → told ≡ Some t → (h : History) (lo : ℕ) (down : Option ℕ) (x : ℕ) (said : LogState)
     → IsRunStart slots (disks t began) h lo down → Stands (disks t began) x said

@@ -122,7 +122,7 @@ may_halt AskEnergy = false
 may_halt Bad = false
 may_halt event = true
 
--- so many commits or writes were made
+-- how many commits or writes were made, the greater of the two
 abbrev pub point_wear : Point → ℕ
 point_wear p = max p.meta.epoch (length p.history)
 

@@ -25,7 +25,7 @@ ghost use Rattle.paraid_session.specs.Turn.{IsAnswered, IsMark, LosesSecondDisk,
 ghost use Rattle.paraid_session.specs.Watch.{Bounds, HoldsWhileServing, IsServing, Watch, watch_all};
 
 /// While at most one disk was ever down, each image that is looked at, at each moment of an event
-/// or of a mount, served or refused, is an entry of the next run for the history of that moment and
+/// or of a mount, served or refused, is a start of the next run for the history of that moment and
 /// the writes that were kept before it.
 pub fn a_stop_leaves_a_run_start()
     ensures moment { (slots : ℕ) (h : History) (lo : ℕ) (b : Bounds) (w : Watch) (i : Disks)
@@ -48,7 +48,7 @@ pub fn a_stop_leaves_a_run_start()
         → IsLooked (run s done) i → (own : Option ℕ) × IsRunStart slots i h lo own }
 {}
 
-/// Between two events the disks are an entry, with the disk that is out as the one that is down.
+/// Between two events the disks are a run start, with the disk that is out as the one that is down.
 pub fn a_mark_is_a_run_start()
     ensures { (slots : ℕ) (setup : SetupType) (p : Point) → IsMark slots setup p
         → IsRunStart slots p.disks p.history p.low (named_out p.state.out) }
