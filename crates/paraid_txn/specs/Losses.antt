@@ -13,7 +13,8 @@ use Rattle.paraid_txn.specs.declared.losses.Losses.{Losses}
 use Rattle.paraid_txn.specs.declared.store.Lost.{Lost as LostType}
 use Rattle.paraid_txn.specs.declared.store.Lost.TheVariants.{One as LostOne, Two as LostTwo}
 
--- Two disks are down: the first was so, or has failed since, and then the second has failed.
+-- Two different disks are down: the first was so, or has failed since, and the second has failed. Which
+-- of the two failed first is not said here.
 pub record AreTwoDown (down : Option ℕ) (old new : ℕ → Slot) (two : Two) : Type 0 where
   pub first : (down ≡ Some two.first) ⊎ HasRisen (old two.first).faults (new two.first).faults
   pub apart : two.first ≢ two.second
@@ -108,7 +109,8 @@ pub record IsOnlyOut (out : ℕ → Type 0) (only : Option ℕ) : Type 0 where
   pub one : (e : ℕ) → out e → only ≡ Some e
   pub is : (e : ℕ) → only ≡ Some e → out e
 
--- Two disks are down: the first was out, or has failed since, and then the second has failed.
+-- Two different disks are down: the first was out, or has failed since, and the second has failed.
+-- Which of the two failed first is not said here.
 pub record AreTwoDownBeside (out : ℕ → Type 0) (old new : ℕ → Slot) (two : Two) : Type 0 where
   pub first : out two.first ⊎ HasRisen (old two.first).faults (new two.first).faults
   pub apart : two.first ≢ two.second
