@@ -22,14 +22,13 @@ use Rattle.paraid_image.specs.Lost.{BearsLoss, EndsByLoss, EndsBySecond, TellsLo
 use Rattle.paraid_image.specs.Out.{first_absent, named_out, or_else}
 use Rattle.paraid_image.proofs.FailedCallLemmas.{failed_is_loss}
 use Rattle.paraid_image.proofs.LostLemmas.{absent_failed, fails_first, fails_split, first_fails, ran_beside, ran_says, ran_tells}
-use Rattle.paraid_txn.specs.Losses.{IsOneOut, IsOnlyOut, IsOutOfCommit}
+use Rattle.paraid_txn.specs.Losses.{IsOneOut, IsOnlyOut, IsOutOfCommit, TellsSecondLoss}
 use Rattle.paraid_txn.specs.Losses.IsOutOfCommit.{is_absent, was_named, is_named}
 use Rattle.paraid_txn.specs.Uses.{EachCall}
 use Rattle.paraid_txn.proofs.MeansLemmas.{absent_power}
 use Rattle.paraid_txn.proofs.WitnessLemmas.{same_calls}
 use Rattle.paraid_recover.specs.MountCalls.{IsMountCall, OnlyMountCalls}
 use Rattle.paraid_recover.specs.RecoveryMark.{with_mark}
-use Rattle.paraid_recover.specs.SecondLoss.{TellsSecondLoss}
 use Rattle.paraid_recover.proofs.GoneLemmas.{out_marked}
 use Rattle.paraid_recover.proofs.PowersLemmas.{out_found, out_is}
 use Rattle.paraid_recover.proofs.ServableLemmas.{disks_marked, names_stay}

@@ -28,5 +28,4 @@ pub mod RecordedSpins
 pub mod StartParts
 pub mod StartRefusals
 pub mod Witness
-pub mod SecondLoss
 pub mod Steps

@@ -14,7 +14,7 @@ use Rattle.paraid_image.specs.Out.{named_out}
 use Rattle.paraid_image.specs.Sides.{Batch, LogState}
 use Rattle.paraid_session.specs.Powers.{AreAllSynced}
 use Rattle.paraid_txn.specs.declared.store.Store.{Store}
-use Rattle.paraid_txn.specs.Losses.{AreFailedOrWell, AreGoneSince, AreTwoDownBeside, IsOneOut, OnlyLosesSlots, StaySynced}
+use Rattle.paraid_txn.specs.Losses.{AreFailedOrWell, AreGoneSince, AreTwoDownBeside, IsOneOut, OnlyLosesSlots, StaySynced, TellsSecondLoss}
 use Rattle.paraid_txn.specs.Ready.{IsLogReady}
 use Rattle.paraid_txn.specs.Stores.{disks_of, epoch_of, named_of, store_rack}
 use Rattle.paraid_txn.specs.Uses.{EachCall, UsesLog}
@@ -24,7 +24,6 @@ use Rattle.paraid_recover.specs.HeldMoments.{Recovers, RecoversHeld}
 use Rattle.paraid_recover.specs.Map.{ChangesByBatch, IsNarrow, KeepsFar}
 use Rattle.paraid_recover.specs.MountCalls.{OnlyMountCalls}
 use Rattle.paraid_recover.specs.Mounted.{IsFit}
-use Rattle.paraid_recover.specs.SecondLoss.{TellsSecondLoss}
 use Rattle.paraid_recover.specs.StandingMetas.{StandsInMoments, StandsThroughMount}
 
 -- The store stands by this meta, so a disk can be marked by a commit: an epoch is left, each disk has a slot, and the log can
@@ -48,19 +47,9 @@ pub record CanSettle {R : Type 0} {g : Ghosts R} (store : Store R g) (m : Meta) 
   pub rows : length table ≡ m.setup.geometry.rows
   pub narrow : IsNarrow (is_dirty table)
 
--- The store keeps its slots and its disks. A slot changes only as it becomes absent; its disk has failed, or is well. The step
--- gives up only where two disks are down beside those of which `out` holds, and makes no call after the second has failed.
-pub record KeepsStore {R A : Type 0} {g : Ghosts R} (out : ℕ → Type 0) (old new : Store R g) (result : Result A Two) : Type 0 where
-  pub slots : g.slot_count (store_rack new) ≡ g.slot_count (store_rack old)
-  pub disks : disks_of new ≡ disks_of old
-  pub powers : OnlyLosesSlots (g.slot (store_rack old)) (g.slot (store_rack new))
-  pub each : AreFailedOrWell (g.slot (store_rack old)) (g.slot (store_rack new))
-  pub two : IfErr result (AreTwoDownBeside out (g.slot (store_rack old)) (g.slot (store_rack new)))
-  pub gone : IfErr result (AreGoneSince out (g.slot (store_rack old)) (g.slot (store_rack new)))
-  pub order : IfErr result (TellsSecondLoss out (g.told (store_rack old)) (g.told (store_rack new)))
-
--- The same of a step that also powers disks: no count of faults falls, and only a disk that has failed is absent then and was
--- not before. No block past the log changes.
+-- A step that also powers disks keeps the slots: no count of faults falls, and only a disk that has failed is absent then and
+-- was not before. No block past the log changes. It gives up only where two disks are down beside those of which `out` holds,
+-- and makes no call after the second has failed.
 pub record KeepsPowered {R A : Type 0} {g : Ghosts R} (out : ℕ → Type 0) (old new : Store R g) (result : Result A Two) : Type 0 where
   pub slots : g.slot_count (store_rack new) ≡ g.slot_count (store_rack old)
   pub two : IfErr result (AreTwoDownBeside out (g.slot (store_rack old)) (g.slot (store_rack new)))

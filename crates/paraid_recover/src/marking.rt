@@ -10,8 +10,9 @@ ghost use Rattle.paraid_txn.specs.Uses.{EachCall, UsesInCommit};
 ghost use Rattle.paraid_image.specs.Mark.{marked_gone as marked_of};
 ghost use Rattle.paraid_image.specs.Out.{named_out as named_of};
 ghost use Rattle.paraid_recover.specs.RecoveryMark.{of_version_two};
-ghost use Rattle.paraid_recover.specs.Steps.{HasMarked, KeepsStore};
+ghost use Rattle.paraid_recover.specs.Steps.{HasMarked};
 ghost use Rattle.paraid_txn.specs.Ready.{CanCommit};
+ghost use Rattle.paraid_txn.specs.Steps.{KeepsStore};
 ghost use Rattle.paraid_txn.specs.Stores.{disks_of, epoch_of, named_of as named_by, store_rack};
 
 use paraid_base::{DiskNo, Out, Two};

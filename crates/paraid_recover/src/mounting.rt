@@ -25,8 +25,9 @@ ghost use Rattle.paraid_rack.specs.Calls.{IsTransfer};
 ghost use Rattle.paraid_txn.specs.Uses.{EachCall};
 ghost use Rattle.paraid_recover.specs.Mount.{HasMounted, IsCauseOfRefusal};
 ghost use Rattle.paraid_recover.specs.Mounted.{IsFit, IsServable, IsStandingWithLoss, with_loss as with_loss_of};
-ghost use Rattle.paraid_recover.specs.Steps.{CanSettle, HasStood, KeepsPowered, KeepsStore, MountsOn, RecoversOn};
+ghost use Rattle.paraid_recover.specs.Steps.{CanSettle, HasStood, KeepsPowered, MountsOn, RecoversOn};
 ghost use Rattle.paraid_txn.specs.Losses.{AreGoneSince, IsOutOfCommit, AreTwoDownBeside};
+ghost use Rattle.paraid_txn.specs.Steps.{KeepsStore};
 ghost use Rattle.paraid_txn.specs.Stores.{disks_of, epoch_of, named_of as named_by, store_out, store_rack};
 
 use crate::examining::examine;

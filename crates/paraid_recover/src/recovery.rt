@@ -11,8 +11,9 @@ ghost use Rattle.paraid_recover.specs.RecoveryMark.{renewed as renewed_of, to_ma
 ghost use Rattle.paraid_record.specs.Range.{IsInRange};
 ghost use Rattle.paraid_image.specs.Out.{named_out as named_of};
 ghost use Rattle.paraid_image.specs.Sides.{LogState};
-ghost use Rattle.paraid_recover.specs.Steps.{CanMarkOut, KeepsStore, RecoversOn};
+ghost use Rattle.paraid_recover.specs.Steps.{CanMarkOut, RecoversOn};
 ghost use Rattle.paraid_txn.specs.Losses.{StaySynced, IsOneOut, IsOutOfCommit};
+ghost use Rattle.paraid_txn.specs.Steps.{KeepsStore};
 ghost use Rattle.paraid_txn.specs.Stores.{disks_of, epoch_of, named_of as named_by, store_rack};
 ghost use Rattle.paraid_txn.specs.Uses.{EachCall};
 

@@ -10,4 +10,5 @@ pub mod PutSynced
 pub mod CommitStages
 pub mod Ready
 pub mod Resume
+pub mod Steps
 pub mod Witness

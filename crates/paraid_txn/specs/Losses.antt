@@ -7,8 +7,9 @@ use Rattle.paraid_rack.specs.declared.call.Power.{Power}
 use Rattle.paraid_rack.specs.declared.call.Power.TheVariants.{Spinning, Absent}
 use Rattle.paraid_rack.specs.Disks.{is_present}
 use Rattle.paraid_rack.specs.Slots.{Slot}
-use Rattle.paraid_rack.specs.Told.{GrowsByCall}
+use Rattle.paraid_rack.specs.Told.{GrowsByCall, Ran}
 use Rattle.paraid_rack.specs.Trail.{Trail}
+use Rattle.paraid_image.specs.Lost.{TellsLosses}
 use Rattle.paraid_txn.specs.declared.losses.Losses.{Losses}
 use Rattle.paraid_txn.specs.declared.store.Lost.{Lost as LostType}
 use Rattle.paraid_txn.specs.declared.store.Lost.TheVariants.{One as LostOne, Two as LostTwo}
@@ -126,6 +127,10 @@ pub record IsGoneSince (old new : ℕ → Slot) (d : ℕ) : Type 0 where
 pub record AreGoneSince (out : ℕ → Type 0) (old new : ℕ → Slot) (two : Two) : Type 0 where
   pub first : out two.first ⊎ IsGoneSince old new two.first
   pub second : IsGoneSince old new two.second
+
+-- Where one disk at most was out, these calls tell which of two was lost first, and none follows the one that failed on the second.
+abbrev pub TellsSecondLoss : (ℕ → Type 0) → Option Trail → Option Trail → Two → Type 0
+TellsSecondLoss out old new two = (only : Option ℕ) → IsOnlyOut out only → Ran old new (λ start calls. TellsLosses only two calls)
 
 -- of the first disks one at most is absent or named out
 abbrev pub IsOneOut : ℕ → Option ℕ → (ℕ → Slot) → Type 0

@@ -27,14 +27,14 @@
 //!
 //! A log disk that the meta names out is left alone, and so are the targets on a disk that is gone.
 //! A disk that fails is left out of the rest.
-ghost use Rattle.std.specs.Prelude.{◌≡◌, ◌≢◌, ◌⊎◌, ℕ, ◌+◌, ◌<◌, ◌≤◌, true, false, length, Some, None, OnOk, OnErr, IfErr, IfOk, All, AllPairs, ◌-◌};
+ghost use Rattle.std.specs.Prelude.{◌≡◌, ◌≢◌, ◌⊎◌, ℕ, ◌+◌, ◌<◌, ◌≤◌, true, false, length, Some, None, OnOk, IfOk, All, AllPairs, ◌-◌};
 ghost use Rattle.paraid_base.specs.declared.fault.Two.{Two as TwoType};
 ghost use Rattle.paraid_base.specs.Log.{batch_room, log_least};
 ghost use Rattle.paraid_record.specs.declared.targets.Target.{Target as TargetType};
 ghost use Rattle.paraid_rack.specs.Told.{Ran};
 ghost use Rattle.paraid_txn.specs.CommitPart.{CommitPart, SyncedPart};
 ghost use Rattle.paraid_txn.specs.CrashSpecification.{CrashSpecification};
-ghost use Rattle.paraid_txn.specs.Losses.{AreGoneSince, CanWrite, StaySynced, StaySyncedBut, AreFailedOrWell, IsAlone, IsOnlyOut, IsSyncedAt, IsLostNow, IsOutOfCommit, OnlyLosesSlots, AreTwoDownBeside, IsWell};
+ghost use Rattle.paraid_txn.specs.Losses.{CanWrite, StaySynced, StaySyncedBut, IsSyncedAt, IsOutOfCommit};
 ghost use Rattle.paraid_txn.specs.Uses.{EachCall, Uses, UsesInCommit, UsesLog, UsesTarget, UsesWitness};
 ghost use Rattle.paraid_txn.specs.Ready.{AreTargetsReady, CanCommit, IsLogReady};
 ghost use Rattle.paraid_image.specs.Sides.{is_open, targets};
@@ -47,7 +47,6 @@ ghost use Rattle.paraid_txn.specs.declared.bearing.Witness.{Witness as WitnessTy
 ghost use Rattle.paraid_txn.specs.Batches.{names_disk};
 ghost use Rattle.paraid_txn.specs.CommitStages.{CloseStage, FirstStage, HoldsEarly, HoldsWitnessed, LastStage, IsSpelled, Job, HoldsLate, LayIn, LogStage, LogIn, MarkStage, OpenStage, SyncIn, HoldsWhole, job_gone, job, job_named};
 ghost use Rattle.paraid_txn.specs.Commit.{EndsCommitted, IsWholeOrAbsent, LeavesBorne, gone_out as gone_of};
-ghost use Rattle.paraid_image.specs.Lost.{BearsLoss, TellsLosses};
 ghost use Rattle.paraid_image.specs.Out.{named_out as named_of, or_else};
 ghost use Rattle.paraid_record.specs.declared.meta.Meta.{Meta as MetaType};
 ghost use Rattle.paraid_record.specs.Meta.{meta_bytes};
@@ -526,6 +525,7 @@ pub fn spell_meta(meta: &Meta) -> Block
 }
 
 impl<R: Rack> Store<R> {
+    ghost use Rattle.paraid_txn.specs.Steps.{KeepsStore, SurvivesLoss, TakesCommit};
     ghost use Rattle.paraid_txn.specs.Stores.{borne_of, disks_of, epoch_of, named_of as named_by, store_rack};
 
     /// Lays a batch and the next meta over what the disks hold: whole or not at all, whatever
@@ -544,40 +544,16 @@ impl<R: Rack> Store<R> {
         requires witness { (x : ℕ) → x < 2 → named_by self.old ≡ Some x → named_of meta.now.out ≢ Some x
             → CanWrite (R.slot (store_rack self.old)) 2 1 }
 
-        ensures slots { R.slot_count (store_rack self.new) ≡ R.slot_count (store_rack self.old) }
-        ensures disks { disks_of self.new ≡ disks_of self.old }
-        ensures powers { OnlyLosesSlots (R.slot (store_rack self.old)) (R.slot (store_rack self.new)) }
-        ensures synced { OnOk result
-            (StaySynced (R.slot (store_rack self.old)) (R.slot (store_rack self.new))) }
-
-        ensures epoch { OnOk result (epoch_of self.new ≡ epoch_of self.old + 1) }
-        ensures named { OnOk result (named_by self.new ≡ named_of meta.now.out) }
-        ensures ended { OnErr result ((epoch_of self.new ≡ epoch_of self.old)
-            × (named_by self.new ≡ named_by self.old)) }
+        ensures keeps { KeepsStore (IsOutOfCommit (λ e. (R.slot (store_rack self.old) e).power)
+            (disks_of self.old) (named_by self.old) (named_of meta.now.out))
+            self.old self.new result }
+        ensures takes { TakesCommit (named_of meta.now.out) self.old self.new result }
 
         // The disk that is answered is the one whose count has risen, and no other one was out.
-        ensures lost { IfOk result (λ lost. (d : ℕ) → lost ≡ Some d
-            → IsLostNow (R.slot (store_rack self.old)) (R.slot (store_rack self.new)) d) }
-        ensures alone { IfOk result (λ lost. (d : ℕ) → lost ≡ Some d
-            → IsAlone (disks_of self.old) (IsOutOfCommit (λ e. (R.slot (store_rack self.old) e).power)
-            (disks_of self.old) (named_by self.old) (named_of meta.now.out)) d) }
-        ensures well { IfOk result (λ lost. (d : ℕ) → lost ≢ Some d
-            → IsWell (R.slot (store_rack self.old) d) (R.slot (store_rack self.new) d)) }
-        ensures each { AreFailedOrWell (R.slot (store_rack self.old)) (R.slot (store_rack self.new)) }
-        ensures two { IfErr result (AreTwoDownBeside (IsOutOfCommit (λ e. (R.slot (store_rack self.old) e).power)
+        ensures loss { IfOk result (SurvivesLoss
+            (IsOutOfCommit (λ e. (R.slot (store_rack self.old) e).power)
             (disks_of self.old) (named_by self.old) (named_of meta.now.out))
-            (R.slot (store_rack self.old)) (R.slot (store_rack self.new))) }
-        ensures gone { IfErr result (AreGoneSince (IsOutOfCommit (λ e. (R.slot (store_rack self.old) e).power)
-            (disks_of self.old) (named_by self.old) (named_of meta.now.out))
-            (R.slot (store_rack self.old)) (R.slot (store_rack self.new))) }
-
-        // Which disk failed first, where at most one was out.
-        ensures order { IfErr result (λ two. (only : _) → IsOnlyOut (IsOutOfCommit (λ e. (R.slot (store_rack self.old) e).power)
-            (disks_of self.old) (named_by self.old) (named_of meta.now.out)) only
-            → Ran (R.told (store_rack self.old)) (R.told (store_rack self.new)) (λ start calls. TellsLosses only two calls)) }
-        ensures bears { IfOk result (λ lost. (only : _) → IsOnlyOut (IsOutOfCommit (λ e. (R.slot (store_rack self.old) e).power)
-            (disks_of self.old) (named_by self.old) (named_of meta.now.out)) only
-            → Ran (R.told (store_rack self.old)) (R.told (store_rack self.new)) (λ start calls. BearsLoss only (or_else lost only) calls)) }
+            self.old self.new) }
 
         // Which calls are made.
         ensures calls { Ran (R.told (store_rack self.old)) (R.told (store_rack self.new))

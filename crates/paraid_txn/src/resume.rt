@@ -11,14 +11,11 @@
 //! A log disk that the meta names out is left alone.
 ghost use Rattle.std.specs.Prelude.{◌≡◌, ◌≢◌, ◌-◌, ◌<◌, ◌≤◌, true, false, length, Some, OnOk, IfErr, IfOk};
 ghost use Rattle.paraid_base.specs.Log.{batch_room};
-ghost use Rattle.paraid_rack.specs.Told.{Ran};
 ghost use Rattle.paraid_record.specs.Targets.{AreTargets};
 ghost use Rattle.paraid_txn.specs.Commit.{gone_out as gone_of};
 ghost use Rattle.paraid_txn.specs.CommitPart.{SyncedPart};
 ghost use Rattle.paraid_txn.specs.CrashSpecification.{CrashSpecification};
-ghost use Rattle.paraid_txn.specs.Losses.{AreGoneSince, StaySynced, AreFailedOrWell, IsOneOut, IsOnlyOut, IsOutOfCommit, OnlyLosesSlots, AreTwoDownBeside};
-ghost use Rattle.paraid_txn.specs.Uses.{EachCall, Uses, UsesLog};
-ghost use Rattle.paraid_image.specs.Lost.{TellsLosses};
+ghost use Rattle.paraid_txn.specs.Uses.{Uses, UsesLog};
 ghost use Rattle.paraid_image.specs.Out.{named_out as named_of};
 ghost use Rattle.paraid_txn.specs.Ready.{AreTargetsReady, IsLogReady};
 ghost use Rattle.paraid_txn.specs.Resume.{CanResume, StandsWhileResumed, LeadsResume, HoldsThroughResume, AreDisksSame, EndsAsCommitted, EndsLaid, ShutSynced, ShutEnd, HoldsThroughShut, log_state};
@@ -201,7 +198,7 @@ pub struct ResumeRefused<R: Rack> {
 }
 
 impl<R: Rack> Store<R> {
-    ghost use Rattle.paraid_txn.specs.Stores.{disks_of, epoch_of, named_of as named_by, store_rack};
+    ghost use Rattle.paraid_txn.specs.Steps.{RefusesResume, Resumes};
 
     /// Takes over a rack and ends a commit that was interrupted: at Ok nothing is loose, all live
     /// gates are closed and the meta that stood is at place 1.
@@ -217,50 +214,9 @@ impl<R: Rack> Store<R> {
         meta: &Meta,
     ) -> Result<Store<R>, ResumeRefused<R>>
         requires { CanResume (R.slot_count rack) (R.slot rack) side gate_open batch.now meta.now }
-        ensures disks { IfOk result (λ store. disks_of store
-            ≡ meta.now.setup.geometry.disks) }
-        ensures epoch { IfOk result (λ store. epoch_of store ≡ meta.now.epoch) }
-        ensures named { IfOk result (λ store. named_by store ≡ named_of meta.now.out) }
-        ensures slots { IfOk result (λ store. R.slot_count (store_rack store) ≡ R.slot_count rack) }
-        ensures powers { IfOk result (λ store. OnlyLosesSlots (R.slot rack) (R.slot (store_rack store))) }
-        ensures synced { IfOk result (λ store. StaySynced (R.slot rack) (R.slot (store_rack store))) }
-        ensures each { IfOk result (λ store. AreFailedOrWell (R.slot rack)
-            (R.slot (store_rack store))) }
-        ensures calls { IfOk result (λ store. Ran (R.told rack) (R.told (store_rack store))
-            (EachCall (Uses meta.now batch.now))) }
-        ensures one { IfOk result (λ store. IsOneOut meta.now.setup.geometry.disks
-            (named_of meta.now.out) (R.slot rack)
-            → IsOneOut meta.now.setup.geometry.disks (named_of meta.now.out)
-            (R.slot (store_rack store))) }
-        ensures two { IfErr result (λ refused. AreTwoDownBeside
-            (IsOutOfCommit (λ e. (R.slot rack e).power) meta.now.setup.geometry.disks
-            (named_of meta.now.out) (named_of meta.now.out))
-            (R.slot rack) (R.slot refused.rack) refused.two) }
-        ensures refused_gone { IfErr result (λ refused. AreGoneSince
-            (IsOutOfCommit (λ e. (R.slot rack e).power) meta.now.setup.geometry.disks
-            (named_of meta.now.out) (named_of meta.now.out))
-            (R.slot rack) (R.slot refused.rack) refused.two) }
-        ensures refused_order { IfErr result (λ refused. (only : _) → IsOnlyOut
-            (IsOutOfCommit (λ e. (R.slot rack e).power) meta.now.setup.geometry.disks
-            (named_of meta.now.out) (named_of meta.now.out)) only
-            → Ran (R.told rack) (R.told refused.rack)
-            (λ start calls. TellsLosses only refused.two calls)) }
-        ensures refused_slots { IfErr result (λ refused. R.slot_count refused.rack
-            ≡ R.slot_count rack) }
-        ensures refused_powers { IfErr result (λ refused. OnlyLosesSlots (R.slot rack)
-            (R.slot refused.rack)) }
-        ensures refused_each { IfErr result (λ refused. AreFailedOrWell (R.slot rack)
-            (R.slot refused.rack)) }
-        ensures refused_calls { IfErr result (λ refused. Ran (R.told rack) (R.told refused.rack)
-            (EachCall (Uses meta.now batch.now))) }
-        ensures any_moment { IfOk result (λ store. StandsWhileResumed (R.told rack)
-            (R.told (store_rack store)) side (log_state gate_open meta.now batch.now)) }
-        ensures refused { IfErr result (λ refused. StandsWhileResumed (R.told rack)
-            (R.told refused.rack) side (log_state gate_open meta.now batch.now)) }
-        ensures ended { IfOk result (λ store. EndsAsCommitted (R.told rack) (R.told (store_rack store))
-            side (log_state gate_open meta.now batch.now)) }
-        ensures laid { IfOk result (λ store. EndsLaid (R.told rack) (R.told (store_rack store))
-            side (log_state gate_open meta.now batch.now)) }
+        ensures resumes { IfOk result (Resumes side (log_state gate_open meta.now batch.now) rack) }
+        ensures refused { IfErr result (λ refused. RefusesResume R.Rack side
+            (log_state gate_open meta.now batch.now) rack refused.rack refused.two) }
     {
         let mut store = Store::adopt(rack, meta);
         let absent = find_absent(&store.rack, store.disks);

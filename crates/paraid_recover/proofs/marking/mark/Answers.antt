@@ -1,21 +1,21 @@
-use Rattle.std.specs.Prelude.{◌≡◌, ◌+◌, ℕ, [], Option, Some, IfErr, IfOk}
+use Rattle.std.specs.Prelude.{◌≡◌, ◌+◌, ℕ, [], Option, Some, IfOk}
 use Rattle.paraid_rack.specs.Told.{Ran}
 use Rattle.paraid_image.specs.Out.{named_out}
-use Rattle.paraid_txn.specs.Losses.{AreGoneSince, IsAlone, IsOutOfCommit, AreTwoDownBeside}
+use Rattle.paraid_txn.specs.Losses.{IsAlone, IsOutOfCommit}
+use Rattle.paraid_txn.specs.Steps.{KeepsStore}
 use Rattle.paraid_txn.specs.Uses.{EachCall, UsesInCommit}
 use Rattle.std.proofs.Common.{arith, ap, subst, sym, ◌∙◌}
 use Rattle.paraid_txn.specs.Ready.{CanCommit}
 use Rattle.paraid_rack.specs.Disks.{is_present}
 use Rattle.paraid_record.specs.declared.meta.Meta.{Meta}
 use Rattle.paraid_txn.specs.Commit.{EndsCommitted, IsWholeOrAbsent}
-use Rattle.std.proofs.lemmas.Result.{on_ok_weaker}
+use Rattle.std.proofs.lemmas.Result.{IfOk-weaker, on_ok_weaker}
 use Rattle.paraid_image.specs.Mark.{marked_gone}
 use Rattle.paraid_image.specs.Sides.{Batch}
 use Rattle.paraid_image.proofs.MarkLemmas.{marked_in_range}
 use Rattle.paraid_txn.proofs.RanLemmas.{commit_moments}
 use Rattle.paraid_recover.proofs.MarkHeldLemmas.{is_next, mark_held}
 use Rattle.paraid_recover.specs.RecoveryMark.{of_version_two}
-use Rattle.paraid_recover.specs.SecondLoss.{TellsSecondLoss}
 use Rattle.paraid_recover.proofs.RenewLemmas.{in_version_two}
 use Rattle.paraid_recover.proofs.OneMarkedLemmas.{one_marked}
 use Rattle.paraid_recover.proofs.marking.mark.Given.{Over}
@@ -46,31 +46,19 @@ commit-requires g c = record {
 
 pub returns : goal.returns
 returns g c = record {
-  kept = record {
-    slots = c.commit.ensures.slots;
-    disks = c.commit.ensures.disks;
-    powers = c.commit.ensures.powers;
-    each = c.commit.ensures.each;
-    two =
-        subst (λ (o : Option ℕ). IfErr c.commit.result (AreTwoDownBeside (IsOutOfCommit (λ e. (g.R.Rack.slot c.args.store.now.rack e).power) c.args.store.now.disks c.args.store.now.named o)
-        (g.R.Rack.slot c.args.store.now.rack) (g.R.Rack.slot c.commit.new.self.rack))) (ap (λ (n : Meta). named_out n.out) c.next_marked-next.ensures) c.commit.ensures.two;
-    gone =
-        subst (λ (o : Option ℕ). IfErr c.commit.result (AreGoneSince (IsOutOfCommit (λ e. (g.R.Rack.slot c.args.store.now.rack e).power) c.args.store.now.disks c.args.store.now.named o)
-        (g.R.Rack.slot c.args.store.now.rack) (g.R.Rack.slot c.commit.new.self.rack))) (ap (λ (n : Meta). named_out n.out) c.next_marked-next.ensures) c.commit.ensures.gone;
-    order =
-        subst (λ (o : Option ℕ). IfErr c.commit.result (TellsSecondLoss (IsOutOfCommit (λ e. (g.R.Rack.slot c.args.store.now.rack e).power) c.args.store.now.disks c.args.store.now.named o)
-        (g.R.Rack.told c.args.store.now.rack) (g.R.Rack.told c.commit.new.self.rack))) (ap (λ (n : Meta). named_out n.out) c.next_marked-next.ensures) c.commit.ensures.order;
-  };
+  kept =
+      subst (λ (o : Option ℕ). KeepsStore (IsOutOfCommit (λ e. (g.R.Rack.slot c.args.store.now.rack e).power) c.args.store.now.disks c.args.store.now.named o) c.args.store.now c.commit.new.self c.commit.result)
+      (ap (λ (n : Meta). named_out n.out) c.next_marked-next.ensures) c.commit.ensures.keeps;
   marked = record {
-    synced = c.commit.ensures.synced;
-    epoch = c.commit.ensures.epoch;
-    named = on_ok_weaker c.commit.result (λ is. is ∙ ap (λ (n : Meta). named_out n.out) c.next_marked-next.ensures) c.commit.ensures.named;
+    synced = c.commit.ensures.takes.synced;
+    epoch = c.commit.ensures.takes.epoch;
+    named = on_ok_weaker c.commit.result (λ is. is ∙ ap (λ (n : Meta). named_out n.out) c.next_marked-next.ensures) c.commit.ensures.takes.named;
     one =
         let at = goal.at.returns g c in
         let named = ap (λ (n : Meta). named_out n.out) c.next_marked-next.ensures in
         one_marked c.args.store.now.disks c.args.store.now.named c.args.disk (g.R.Rack.slot c.args.store.now.rack) (g.R.Rack.slot c.commit.new.self.rack)
-        (let low = c.requires.low in let same = c.requires.can.array in omega arith) c.requires.absent c.commit.result c.commit.ensures.well
-        (subst (λ (o : Option ℕ). IfOk c.commit.result (λ lost. (d : ℕ) → lost ≡ Some d → IsAlone c.args.store.now.disks (IsOutOfCommit (λ e. (g.R.Rack.slot c.args.store.now.rack e).power) c.args.store.now.disks c.args.store.now.named o) d)) named c.commit.ensures.alone);
+        (let low = c.requires.low in let same = c.requires.can.array in omega arith) c.requires.absent c.commit.result (IfOk-weaker c.commit.result _ _ (λ lost survives. survives.well) c.commit.ensures.loss)
+        (subst (λ (o : Option ℕ). IfOk c.commit.result (λ lost. (d : ℕ) → lost ≡ Some d → IsAlone c.args.store.now.disks (IsOutOfCommit (λ e. (g.R.Rack.slot c.args.store.now.rack e).power) c.args.store.now.disks c.args.store.now.named o) d)) named (IfOk-weaker c.commit.result _ _ (λ lost survives. survives.alone) c.commit.ensures.loss));
   };
   calls =
       subst (λ (b : Batch). Ran (g.R.Rack.told c.args.store.now.rack) (g.R.Rack.told c.commit.new.self.rack) (EachCall (UsesInCommit (marked_gone (of_version_two c.args.meta.now) c.args.disk c.args.meta.now.epoch) b))) c.requires.empty

@@ -14,7 +14,7 @@ use Rattle.paraid_recover.proofs.ShownLemmas.{shown}
 use Rattle.paraid_image.specs.Sides.{LogState}
 use Rattle.paraid_txn.specs.Resume.{log_state}
 use Rattle.paraid_dirty.specs.Table.{is_dirty}
-use Rattle.paraid_txn.specs.Losses.{AreGoneSince, AreTwoDownBeside, IsOutOfCommit}
+use Rattle.paraid_txn.specs.Losses.{AreGoneSince, AreTwoDownBeside, IsOutOfCommit, TellsSecondLoss}
 use Rattle.paraid_txn.specs.Stores.{store_out, store_rack}
 use Rattle.paraid_recover.specs.HeldMoments.{Recovers, RecoversHeld}
 use Rattle.paraid_recover.specs.MountCalls.{OnlyMountCalls}
@@ -28,7 +28,6 @@ use Rattle.paraid_recover.proofs.KeepsDirtyLemmas.{keeps_dirty}
 use Rattle.paraid_recover.proofs.MapServedLemmas.{loss_setup, map_served, map_sooner}
 use Rattle.paraid_recover.proofs.MarkMomentLemmas.{mark_later}
 use Rattle.paraid_recover.proofs.MountCallsLemmas.{mount_then, resume_calls}
-use Rattle.paraid_recover.specs.SecondLoss.{TellsSecondLoss}
 use Rattle.paraid_recover.specs.StandingMetas.{StandsThroughMount}
 use Rattle.paraid_recover.proofs.SecondLossLemmas.{out_more, still_tells, tells_end, tells_same}
 use Rattle.paraid_recover.proofs.RecoverLemmas.{grows, resumes_held}
@@ -50,12 +49,12 @@ raise-requires g c =
     record {
       empty = c.clear.ensures;
       can = record {
-        fit = subst (λ (k : ℕ). IsFit k slot c.args.standing.now.meta) (sym c.in-Ok.ensures.slots)
-            (fit_stays (g.R.Rack.slot_count c.args.rack) (g.R.Rack.slot c.args.rack) slot c.args.standing.now.meta c.in-Ok.ensures.powers (c.in-Ok.ensures.one c.requires.fit.one) c.requires.fit);
+        fit = subst (λ (k : ℕ). IsFit k slot c.args.standing.now.meta) (sym c.in-Ok.ensures.resumes.on.slots)
+            (fit_stays (g.R.Rack.slot_count c.args.rack) (g.R.Rack.slot c.args.rack) slot c.args.standing.now.meta c.in-Ok.ensures.resumes.on.powers (c.in-Ok.ensures.resumes.one c.requires.fit.one) c.requires.fit);
         few = c.requires.few;
-        disks = c.in-Ok.ensures.disks;
-        named = c.in-Ok.ensures.named;
-        epoch = c.in-Ok.ensures.epoch;
+        disks = c.in-Ok.ensures.resumes.disks;
+        named = c.in-Ok.ensures.resumes.named;
+        epoch = c.in-Ok.ensures.resumes.epoch;
         rows = c.requires.rows;
         narrow = c.requires.narrow;
       };
@@ -69,8 +68,8 @@ resumed g c slots =
     let s = log_state c.args.standing.now.gate_open c.args.standing.now.meta c.args.batch in
     let old = g.R.Rack.told c.args.rack in
     let new = g.R.Rack.told (store_rack c.in-Ok.store) in
-    let holds = resumes_held slots x s old new c.in-Ok.ensures.any_moment in
-    record { grows = grows {old = old} {new = new} {x = x} {said = s} c.in-Ok.ensures.any_moment; holds = holds; ends = ends_resumed slots x s old new holds c.in-Ok.ensures.ended }
+    let holds = resumes_held slots x s old new c.in-Ok.ensures.resumes.on.any_moment in
+    record { grows = grows {old = old} {new = new} {x = x} {said = s} c.in-Ok.ensures.resumes.on.any_moment; holds = holds; ends = ends_resumed slots x s old new holds c.in-Ok.ensures.resumes.ended }
 
 -- a disk that is missing once the commit was ended is so at the end
 stays : (g : Over) (c : After-raise g) (m : Meta) → ((d : ℕ) → named_out c.args.standing.now.meta.out ≡ Some d → named_out m.out ≡ Some d) → m.setup ≡ c.args.standing.now.meta.setup
@@ -95,15 +94,15 @@ out_is g c u tells =
     let m = c.args.standing.now.meta in
     let agrees = g.met.R.Rack.agrees (store_rack c.in-Ok.store) u tells in
     let power : (λ d. (g.R.Rack.slot (store_rack c.in-Ok.store) d).power) ≡ (now u).power = (λ t. λ d. (sym (agrees.power d)) t) in
-    ap (λ (o : Option ℕ). or_else o (first_absent (λ d. (g.R.Rack.slot (store_rack c.in-Ok.store) d).power) c.in-Ok.store.disks)) c.in-Ok.ensures.named
-    ∙ ap (λ (n : ℕ). or_else (named_out m.out) (first_absent (λ d. (g.R.Rack.slot (store_rack c.in-Ok.store) d).power) n)) c.in-Ok.ensures.disks
+    ap (λ (o : Option ℕ). or_else o (first_absent (λ d. (g.R.Rack.slot (store_rack c.in-Ok.store) d).power) c.in-Ok.store.disks)) c.in-Ok.ensures.resumes.named
+    ∙ ap (λ (n : ℕ). or_else (named_out m.out) (first_absent (λ d. (g.R.Rack.slot (store_rack c.in-Ok.store) d).power) n)) c.in-Ok.ensures.resumes.disks
     ∙ ap (λ (p : ℕ → Power). or_else (named_out m.out) (first_absent p m.setup.geometry.disks)) power
 
 all_allowed : (g : Over) (c : After-raise g) → OnlyMountCalls c.args.standing.now.meta (g.R.Rack.told c.args.rack) (g.R.Rack.told (store_rack c.raise.new.store))
 all_allowed g c =
     let m = c.args.standing.now.meta in
     let told_1 = g.R.Rack.told (store_rack c.in-Ok.store) in
-    mount_then m (g.R.Rack.told c.args.rack) told_1 (g.R.Rack.told (store_rack c.raise.new.store)) (resume_calls m (g.R.Rack.told c.args.rack) told_1 c.args.batch c.in-Ok.ensures.calls) c.raise.ensures.recovers.allowed
+    mount_then m (g.R.Rack.told c.args.rack) told_1 (g.R.Rack.told (store_rack c.raise.new.store)) (resume_calls m (g.R.Rack.told c.args.rack) told_1 c.args.batch c.in-Ok.ensures.resumes.on.calls) c.raise.ensures.recovers.allowed
 
 all_metas : (g : Over) (c : After-raise g)
     → StandsThroughMount c.args.standing.now.side (log_state c.args.standing.now.gate_open c.args.standing.now.meta c.args.batch) (g.R.Rack.told c.args.rack) (g.R.Rack.told (store_rack c.raise.new.store))
@@ -115,9 +114,9 @@ all_metas g c =
     let told_1 = g.R.Rack.told (store_rack c.in-Ok.store) in
     let it = c.raise.ensures.split in
     record {
-      foreseen = λ slots. c.raise.ensures.recovers.metas slots x s old refl (resumed g c slots) (resumed_metas slots x s old told_1 c.in-Ok.ensures.any_moment);
+      foreseen = λ slots. c.raise.ensures.recovers.metas slots x s old refl (resumed g c slots) (resumed_metas slots x s old told_1 c.in-Ok.ensures.resumes.on.any_moment);
       settled = it.0;
-      still = still_then old told_1 it.0 (commit_still m c.args.batch old told_1 c.in-Ok.ensures.calls) it.1;
+      still = still_then old told_1 it.0 (commit_still m c.args.batch old told_1 c.in-Ok.ensures.resumes.on.calls) it.1;
       powers = elim it.2 [
         | inl same ↦ inl same
         | inr powered ↦ inr (record { mark = powered.0; rests = λ slots. powered.1 slots x s old refl (resumed g c slots); out = powered.2 s refl; calls = powered.3 })
@@ -129,29 +128,29 @@ all_far : (g : Over) (c : After-raise g) → ChangesByBatch c.args.batch (g.R.Ra
 all_far g c =
     let old = g.R.Rack.told c.args.rack in
     let told_1 = g.R.Rack.told (store_rack c.in-Ok.store) in
-    far_after c.args.batch old told_1 (g.R.Rack.told (store_rack c.raise.new.store)) (batch_ran c.args.standing.now.meta c.args.batch old told_1 c.in-Ok.ensures.calls) c.raise.ensures.kept.far
+    far_after c.args.batch old told_1 (g.R.Rack.told (store_rack c.raise.new.store)) (batch_ran c.args.standing.now.meta c.args.batch old told_1 c.in-Ok.ensures.resumes.on.calls) c.raise.ensures.kept.far
 
 pub returns-in-Err : goal.returns-in-Err
 returns-in-Err g c = record {
   mounts = tt;
   refused = record {
-    slots = c.in-Err.ensures.refused_slots;
-    later = c.in-Err.ensures.refused_powers.no_fall;
-    allowed = resume_calls c.args.standing.now.meta (g.R.Rack.told c.args.rack) (g.R.Rack.told c.in-Err.refused.rack) c.args.batch c.in-Err.ensures.refused_calls;
+    slots = c.in-Err.ensures.refused.on.slots;
+    later = c.in-Err.ensures.refused.on.powers.no_fall;
+    allowed = resume_calls c.args.standing.now.meta (g.R.Rack.told c.args.rack) (g.R.Rack.told c.in-Err.refused.rack) c.args.batch c.in-Err.ensures.refused.on.calls;
     metas =
         let s = said g (goal.at.returns-in-Err g c).After-resume in
         let old = g.R.Rack.told c.args.rack in
         let new = g.R.Rack.told c.in-Err.refused.rack in
         record {
-          foreseen = λ slots. resumed_metas slots c.args.standing.now.side s old new c.in-Err.ensures.refused;
+          foreseen = λ slots. resumed_metas slots c.args.standing.now.side s old new c.in-Err.ensures.refused.on.any_moment;
           settled = new;
-          still = commit_still c.args.standing.now.meta c.args.batch old new c.in-Err.ensures.refused_calls;
+          still = commit_still c.args.standing.now.meta c.args.batch old new c.in-Err.ensures.refused.on.calls;
           powers = inl refl;
         };
     holds = λ slots.
         let at = (goal.at.returns-in-Err g c).After-resume in
-        resumes_held slots c.args.standing.now.side (said g at) (g.R.Rack.told c.args.rack) (g.R.Rack.told c.in-Err.refused.rack) c.in-Err.ensures.refused;
-    far = batch_ran c.args.standing.now.meta c.args.batch (g.R.Rack.told c.args.rack) (g.R.Rack.told c.in-Err.refused.rack) c.in-Err.ensures.refused_calls;
+        resumes_held slots c.args.standing.now.side (said g at) (g.R.Rack.told c.args.rack) (g.R.Rack.told c.in-Err.refused.rack) c.in-Err.ensures.refused.on.any_moment;
+    far = batch_ran c.args.standing.now.meta c.args.batch (g.R.Rack.told c.args.rack) (g.R.Rack.told c.in-Err.refused.rack) c.in-Err.ensures.refused.on.calls;
   };
   servable = tt;
   nothing = tt;
@@ -168,9 +167,9 @@ returns-in-Err g c = record {
       let out_0 = IsOutOfCommit power k named named in (
         two,
         refl,
-        two_named k named a b two c.in-Err.ensures.two,
-        gone_beside out_0 (IsOutOfCommit power k named None) a b two (out_named_twice power k named) c.in-Err.ensures.refused_gone,
-        tells_end k named a old new two c.requires.fit.one (tells_same out_0 (IsOutOfCommit power k named None) old new two (out_named_twice power k named) (out_more power k named named) c.in-Err.ensures.refused_order),
+        two_named k named a b two c.in-Err.ensures.refused.two,
+        gone_beside out_0 (IsOutOfCommit power k named None) a b two (out_named_twice power k named) c.in-Err.ensures.refused.gone,
+        tells_end k named a old new two c.requires.fit.one (tells_same out_0 (IsOutOfCommit power k named None) old new two (out_named_twice power k named) (out_more power k named named) c.in-Err.ensures.refused.order),
       );
   ends = tt;
   map = tt;
@@ -190,16 +189,16 @@ raise_ends g c two order =
     let told_1 = g.R.Rack.told (store_rack c.in-Ok.store) in
     let new = g.R.Rack.told (store_rack c.raise.new.store) in
     tells_end m.setup.geometry.disks (named_out m.out) a old new two c.requires.fit.one
-    (still_tells m a (g.R.Rack.slot (store_rack c.in-Ok.store)) old told_1 (g.met.R.Rack.agrees c.args.rack) (g.met.R.Rack.agrees (store_rack c.in-Ok.store)) (commit_still m c.args.batch old told_1 c.in-Ok.ensures.calls)
-    (resume_calls m old told_1 c.args.batch c.in-Ok.ensures.calls) c.in-Ok.ensures.one new two order)
+    (still_tells m a (g.R.Rack.slot (store_rack c.in-Ok.store)) old told_1 (g.met.R.Rack.agrees c.args.rack) (g.met.R.Rack.agrees (store_rack c.in-Ok.store)) (commit_still m c.args.batch old told_1 c.in-Ok.ensures.resumes.on.calls)
+    (resume_calls m old told_1 c.args.batch c.in-Ok.ensures.resumes.on.calls) c.in-Ok.ensures.resumes.one new two order)
 
 pub returns-in-Err-raise : goal.returns-in-Err-raise
 returns-in-Err-raise g c = record {
   mounts = tt;
   refused = record {
-    slots = ap g.R.Rack.slot_count c.close.ensures ∙ c.raise.ensures.kept.slots ∙ c.in-Ok.ensures.slots;
+    slots = ap g.R.Rack.slot_count c.close.ensures ∙ c.raise.ensures.kept.slots ∙ c.in-Ok.ensures.resumes.on.slots;
     later = λ d.
-        let a = c.in-Ok.ensures.powers.no_fall d in
+        let a = c.in-Ok.ensures.resumes.on.powers.no_fall d in
         let b = subst (λ (r : _). (g.R.Rack.slot (store_rack c.in-Ok.store) d).faults ≤ (g.R.Rack.slot r d).faults) (sym c.close.ensures) (c.raise.ensures.kept.later d) in
         omega arith;
     allowed =
@@ -227,8 +226,8 @@ returns-in-Err-raise g c = record {
       let two = c.in-Err-raise.two in (
         two,
         refl,
-        subst (λ (r : _). AreTwoDownBeside out a (g.R.Rack.slot r) two) (sym c.close.ensures) (two_sooner k (named_out m.out) a b d two c.in-Ok.ensures.each c.in-Ok.ensures.powers.no_fall c.raise.ensures.kept.later c.in-Err-raise.ensures.kept.two),
-        subst (λ (r : _). AreGoneSince out a (g.R.Rack.slot r) two) (sym c.close.ensures) (gone_sooner k (named_out m.out) a b d (none_comes a b c.in-Ok.ensures.powers) c.raise.ensures.kept.absent two c.in-Err-raise.ensures.kept.gone),
+        subst (λ (r : _). AreTwoDownBeside out a (g.R.Rack.slot r) two) (sym c.close.ensures) (two_sooner k (named_out m.out) a b d two c.in-Ok.ensures.resumes.on.each c.in-Ok.ensures.resumes.on.powers.no_fall c.raise.ensures.kept.later c.in-Err-raise.ensures.kept.two),
+        subst (λ (r : _). AreGoneSince out a (g.R.Rack.slot r) two) (sym c.close.ensures) (gone_sooner k (named_out m.out) a b d (none_comes a b c.in-Ok.ensures.resumes.on.powers) c.raise.ensures.kept.absent two c.in-Err-raise.ensures.kept.gone),
         subst (λ (r : _). Ran (g.R.Rack.told c.args.rack) (g.R.Rack.told r) (λ s cs. EndsBySecond two cs)) (sym c.close.ensures)
             (raise_ends g (goal.at.returns-in-Err-raise g c).After-raise two c.in-Err-raise.ensures.kept.order),
       );
@@ -241,8 +240,8 @@ returns-in-Err-raise g c = record {
 pub returns-in-Ok-raise : goal.returns-in-Ok-raise
 returns-in-Ok-raise g c = record {
   mounts = record {
-    slots = c.raise.ensures.kept.slots ∙ c.in-Ok.ensures.slots;
-    later = λ d. let a = c.in-Ok.ensures.powers.no_fall d in let b = c.raise.ensures.kept.later d in omega arith;
+    slots = c.raise.ensures.kept.slots ∙ c.in-Ok.ensures.resumes.on.slots;
+    later = λ d. let a = c.in-Ok.ensures.resumes.on.powers.no_fall d in let b = c.raise.ensures.kept.later d in omega arith;
     allowed = all_allowed g (goal.at.returns-in-Ok-raise g c).After-raise;
     metas = all_metas g (goal.at.returns-in-Ok-raise g c).After-raise;
     holds = λ slots.
@@ -264,14 +263,14 @@ returns-in-Ok-raise g c = record {
         it.1,
         it.2,
         it.5,
-        (it.6.0, it.6.1, mark_later c.args.standing.now.meta it.6.0 old (g.R.Rack.told (store_rack c.in-Ok.store)) (g.R.Rack.told (store_rack c.raise.new.store)) c.in-Ok.ensures.calls it.6.2),
+        (it.6.0, it.6.1, mark_later c.args.standing.now.meta it.6.0 old (g.R.Rack.told (store_rack c.in-Ok.store)) (g.R.Rack.told (store_rack c.raise.new.store)) c.in-Ok.ensures.resumes.on.calls it.6.2),
         λ slots. it.7 slots x s old refl (resumed g at slots),
         λ slots.
             shown slots x s it.0 c.raise.new.table (store_out g.R.Rack.slot c.in-Ok.store) (g.R.Rack.slot (store_rack c.raise.new.store)) old (g.R.Rack.told (store_rack c.in-Ok.store)) (g.R.Rack.told (store_rack c.raise.new.store)) (resumed g at slots)
             (it.7 slots x s old refl (resumed g at slots)) it.3 (c.raise.ensures.rows ∙ c.requires.rows) c.in-Ok-raise.ensures.map (out_is g at) (stays g at it.0 it.4 it.3),
         it.8,
         λ slots.
-            keeps_dirty slots x s it.0 old (g.R.Rack.told (store_rack c.in-Ok.store)) (g.R.Rack.told (store_rack c.raise.new.store)) (resumed g at slots) c.in-Ok.ensures.laid
+            keeps_dirty slots x s it.0 old (g.R.Rack.told (store_rack c.in-Ok.store)) (g.R.Rack.told (store_rack c.raise.new.store)) (resumed g at slots) c.in-Ok.ensures.resumes.laid
             (it.7 slots x s old refl (resumed g at slots)) it.3 c.in-Ok-raise.ensures.map.far (stays g at it.0 it.4 it.3),
         it.9,
       );
@@ -285,9 +284,9 @@ returns-in-Ok-raise g c = record {
       let e = g.R.Rack.slot (store_rack c.raise.new.store) in
       let told = g.R.Rack.told (store_rack c.raise.new.store) in
       let out_is : store_out g.R.Rack.slot c.in-Ok.store ≡ or_else (named_out meta.out) (first_absent (λ d. (b d).power) meta.setup.geometry.disks) =
-      ap (λ (o : Option ℕ). or_else o (first_absent (λ d. (b d).power) c.in-Ok.store.disks)) c.in-Ok.ensures.named
-      ∙ ap (λ (n : ℕ). or_else (named_out meta.out) (first_absent (λ d. (b d).power) n)) c.in-Ok.ensures.disks in
-      map_sooner a b e m table told c.in-Ok.ensures.powers
+      ap (λ (o : Option ℕ). or_else o (first_absent (λ d. (b d).power) c.in-Ok.store.disks)) c.in-Ok.ensures.resumes.named
+      ∙ ap (λ (n : ℕ). or_else (named_out meta.out) (first_absent (λ d. (b d).power) n)) c.in-Ok.ensures.resumes.disks in
+      map_sooner a b e m table told c.in-Ok.ensures.resumes.on.powers
       (map_served _ _ _ _ _ b e meta m (store_out g.R.Rack.slot c.in-Ok.store) table (g.R.Rack.told (store_rack c.in-Ok.store)) told c.in-Ok-raise.ensures.servable
       (ap (λ (x : Meta). x.setup) it.2 ∙ loss_setup it.0 it.1 ∙ it.3) c.in-Ok-raise.ensures.map (g.met.R.Rack.agrees (store_rack c.raise.new.store)) out_is c.raise.ensures.kept.absent
       (λ d name. c.in-Ok-raise.ensures.servable.stays d (it.9.named_by ∙ it.4 d name)) c.in-Ok-raise.ensures.out c.raise.ensures.kept.failed);

@@ -15,7 +15,7 @@ use Rattle.paraid_base.specs.declared.fault.Two.{Two}
 use Rattle.paraid_image.specs.Lost.{TellsLosses}
 use Rattle.paraid_image.specs.Out.{first_absent, named_out, or_else}
 use Rattle.paraid_image.specs.Sides.{LogState}
-use Rattle.paraid_txn.specs.Losses.{AreGoneSince, IsOneOut, IsOutOfCommit, IsWell, AreTwoDownBeside}
+use Rattle.paraid_txn.specs.Losses.{AreGoneSince, IsOneOut, IsOutOfCommit, IsWell, AreTwoDownBeside, TellsSecondLoss}
 use Rattle.paraid_txn.specs.Uses.{EachCall}
 use Rattle.paraid_txn.specs.Stores.{store_out, store_rack}
 use Rattle.paraid_recover.specs.Bearing.{EndsBorne, IsNamedLog}
@@ -35,7 +35,6 @@ use Rattle.paraid_recover.proofs.MarkMomentLemmas.{mark_by_slots, mark_sooner}
 use Rattle.paraid_recover.proofs.GoneLemmas.{gone_beside, gone_sooner, none_comes, out_marked, stays_absent}
 use Rattle.paraid_recover.proofs.MountCallsLemmas.{mount_then, power_calls}
 use Rattle.paraid_recover.proofs.ServableLemmas.{disks_marked, names_stay, servable, two_marked, who_is_out}
-use Rattle.paraid_recover.specs.SecondLoss.{TellsSecondLoss}
 use Rattle.paraid_recover.specs.StandingMetas.{StandsInMoments}
 use Rattle.paraid_recover.proofs.SecondLossLemmas.{one_fewer, still_tells, tells_marked}
 use Rattle.paraid_recover.specs.StandingMetas.StandsForeseen.{marked}

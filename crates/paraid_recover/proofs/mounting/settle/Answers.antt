@@ -8,7 +8,7 @@ use Rattle.paraid_rack.specs.Trail.{Trail, now}
 use Rattle.paraid_record.specs.declared.meta.Meta.{Meta}
 use Rattle.paraid_image.specs.Out.{first_absent, named_out, or_else}
 use Rattle.paraid_image.specs.Sides.{LogState}
-use Rattle.paraid_txn.specs.Losses.{AreFailedOrWell, AreGoneSince, IsOneOut, IsOutOfCommit, OnlyLosesSlots}
+use Rattle.paraid_txn.specs.Losses.{AreFailedOrWell, AreGoneSince, IsOneOut, IsOutOfCommit, OnlyLosesSlots, TellsSecondLoss}
 use Rattle.paraid_txn.specs.Stores.{store_out, store_rack}
 use Rattle.paraid_txn.specs.Uses.{EachCall}
 use Rattle.paraid_view.proofs.TwoLemmas.{left_spared}
@@ -28,7 +28,6 @@ use Rattle.paraid_recover.proofs.FitLemmas.{can_sync, log_ready, each_then, fit_
 use Rattle.paraid_recover.proofs.GoneLemmas.{gone_beside, gone_sooner, none_comes, out_by_name, out_unmarked, stays_absent}
 use Rattle.paraid_recover.proofs.MountCallsLemmas.{map_calls, mount_then, sync_calls}
 use Rattle.paraid_recover.proofs.RenewLemmas.{version_marked}
-use Rattle.paraid_recover.specs.SecondLoss.{TellsSecondLoss}
 use Rattle.paraid_recover.specs.StandingMetas.{StandsInMoments}
 use Rattle.paraid_recover.proofs.SecondLossLemmas.{out_more, still_tells, tells_out, tells_same}
 use Rattle.paraid_recover.proofs.QuietCallsLemmas.{quiet_recovers}

@@ -10,14 +10,13 @@ use Rattle.paraid_image.specs.Sides.{Batch, LogState, targets}
 use Rattle.paraid_image.proofs.MarkLemmas.{marked_in_range}
 use Rattle.paraid_image.specs.Rest.{IsAtRest}
 use Rattle.paraid_txn.specs.Commit.{EndsCommitted, IsNext, IsWholeOrAbsent}
-use Rattle.paraid_txn.specs.Losses.{AreGoneSince, IsOneOut, IsOutOfCommit, AreTwoDownBeside}
+use Rattle.paraid_txn.specs.Losses.{AreGoneSince, IsOneOut, IsOutOfCommit, AreTwoDownBeside, TellsSecondLoss}
 use Rattle.paraid_rack.specs.Told.{Ran}
 use Rattle.paraid_txn.specs.Uses.{EachCall, UsesInCommit}
 use Rattle.paraid_txn.proofs.CommitPartLemmas.{EachCall-milder, ran_milder}
 use Rattle.paraid_txn.proofs.SyncLemmas.{raised}
 use Rattle.paraid_recover.specs.Quiet.{IsInLog}
 use Rattle.paraid_recover.specs.RecoveryMark.{to_mark}
-use Rattle.paraid_recover.specs.SecondLoss.{TellsSecondLoss}
 use Rattle.paraid_recover.proofs.RaisedLemmas.{none_done_if}
 use Rattle.paraid_recover.proofs.OneMarkedLemmas.{in_log}
 use Rattle.paraid_recover.specs.HeldMoments.{EndsHeld, KeepsHeld, Recovers, RecoversHeld}

@@ -10,7 +10,7 @@ use Rattle.paraid_image.specs.Lost.{EndsByLoss}
 use Rattle.paraid_image.specs.Out.{named_out}
 use Rattle.paraid_rack.specs.Atoms.{IsSure}
 use Rattle.paraid_image.specs.Sides.{LogState, is_open}
-use Rattle.paraid_txn.specs.Losses.{AreFailedOrWell, IsOneOut, IsOutOfCommit, IsSyncedAt, OnlyLosesSlots}
+use Rattle.paraid_txn.specs.Losses.{AreFailedOrWell, IsOneOut, IsOutOfCommit, IsSyncedAt, OnlyLosesSlots, TellsSecondLoss}
 use Rattle.paraid_txn.specs.Losses.IsOutOfCommit.{was_named}
 use Rattle.paraid_txn.specs.Stores.{store_rack}
 use Rattle.paraid_txn.specs.Uses.{EachCall}
@@ -19,7 +19,6 @@ use Rattle.paraid_recover.specs.HeldMoments.{EndsHeld, Recovers, RecoversHeld}
 use Rattle.paraid_recover.specs.MountCalls.{OnlyMountCalls}
 use Rattle.paraid_recover.specs.Quiet.{IsInLog}
 use Rattle.paraid_recover.specs.RecoveryMark.{to_mark, with_mark}
-use Rattle.paraid_recover.specs.SecondLoss.{TellsSecondLoss}
 use Rattle.paraid_recover.specs.StandingMetas.{StandsInMoments}
 use Rattle.paraid_recover.specs.StandingMetas.StandsForeseen.{marked}
 use Rattle.paraid_recover.proofs.BearerLemmas.{bearer_calls, bearer_clean, bearer_each, bearer_gone, bearer_log, bearer_one, bearer_synced, bearer_two, borne_sure, can_bear, log_named, not_second, one_named, second_kept}

@@ -6,7 +6,7 @@ use Rattle.paraid_rack.specs.Trail.{Trail}
 use Rattle.paraid_record.specs.declared.meta.Meta.{Meta}
 use Rattle.paraid_image.specs.Sides.{Batch, LogState}
 use Rattle.paraid_txn.specs.Commit.{EndsCommitted, IsWholeOrAbsent}
-use Rattle.paraid_txn.specs.Losses.{AreGoneSince, IsAlone, IsOneOut, IsOutOfCommit, AreTwoDownBeside}
+use Rattle.paraid_txn.specs.Losses.{AreGoneSince, IsAlone, IsOneOut, IsOutOfCommit, AreTwoDownBeside, TellsSecondLoss}
 use Rattle.paraid_txn.specs.Uses.{EachCall, UsesInCommit}
 use Rattle.paraid_txn.proofs.CommitPartLemmas.{EachCall-milder, ran_milder}
 use Rattle.paraid_txn.proofs.SyncLemmas.{raised}
@@ -14,7 +14,6 @@ use Rattle.paraid_recover.specs.HeldMoments.{EndsHeld, Recovers, RecoversHeld}
 use Rattle.paraid_recover.specs.Quiet.{IsInLog}
 use Rattle.paraid_recover.specs.MountCalls.{OnlyMountCalls}
 use Rattle.paraid_recover.specs.RecoveryMark.{of_version_two}
-use Rattle.paraid_recover.specs.SecondLoss.{TellsSecondLoss}
 use Rattle.paraid_recover.proofs.SecondLossLemmas.{out_more, tells_same}
 use Rattle.paraid_recover.proofs.RaisedLemmas.{none_done_if}
 use Rattle.paraid_recover.proofs.SyncedLemmas.{nothing_failed, nothing_lost}
@@ -99,10 +98,10 @@ metas g c one slots x said old is recovers before =
 pub returns-in_err-commit : goal.returns-in_err-commit
 returns-in_err-commit g c = record {
   kept = record {
-    slots = c.commit.ensures.slots;
-    disks = c.commit.ensures.disks;
-    powers = c.commit.ensures.powers;
-    each = c.commit.ensures.each;
+    slots = c.commit.ensures.keeps.slots;
+    disks = c.commit.ensures.keeps.disks;
+    powers = c.commit.ensures.keeps.powers;
+    each = c.commit.ensures.keeps.each;
     two =
         let n = c.args.store.now.disks in
         let named = c.args.store.now.named in
@@ -110,7 +109,7 @@ returns-in_err-commit g c = record {
         let b = g.R.Rack.slot c.commit.new.self.rack in
         raised _ _ _ c.from_residual.ensures.1
         (two_named n named a b c.in_err-commit.field-0.0
-        (subst (λ (o : Option ℕ). AreTwoDownBeside (IsOutOfCommit (λ e. (a e).power) n named o) a b c.in_err-commit.field-0.0) (sym c.requires.can.named) c.in_err-commit.ensures.two));
+        (subst (λ (o : Option ℕ). AreTwoDownBeside (IsOutOfCommit (λ e. (a e).power) n named o) a b c.in_err-commit.field-0.0) (sym c.requires.can.named) c.in_err-commit.ensures.keeps.two));
     gone =
         let n = c.args.store.now.disks in
         let named = c.args.store.now.named in
@@ -119,7 +118,7 @@ returns-in_err-commit g c = record {
         let power = (λ (e : ℕ). (a e).power) in
         raised _ _ _ c.from_residual.ensures.1
         (gone_beside (IsOutOfCommit power n named named) (IsOutOfCommit power n named None) a b c.in_err-commit.field-0.0 (out_named_twice power n named)
-        (subst (λ (o : Option ℕ). AreGoneSince (IsOutOfCommit power n named o) a b c.in_err-commit.field-0.0) (sym c.requires.can.named) c.in_err-commit.ensures.gone));
+        (subst (λ (o : Option ℕ). AreGoneSince (IsOutOfCommit power n named o) a b c.in_err-commit.field-0.0) (sym c.requires.can.named) c.in_err-commit.ensures.keeps.gone));
     order =
         let at = (goal.at.returns-in_err-commit g c).After-commit in
         let n = c.args.store.now.disks in
@@ -128,7 +127,7 @@ returns-in_err-commit g c = record {
         let two = c.in_err-commit.field-0.0 in
         raised _ _ _ c.from_residual.ensures.1
         (tells_same (IsOutOfCommit power n named named) (IsOutOfCommit power n named None) (told_0 g at) (told_1 g at) two (out_named_twice power n named) (out_more power n named named)
-        (subst (λ (o : Option ℕ). TellsSecondLoss (IsOutOfCommit power n named o) (told_0 g at) (told_1 g at) two) (sym c.requires.can.named) c.in_err-commit.ensures.order));
+        (subst (λ (o : Option ℕ). TellsSecondLoss (IsOutOfCommit power n named o) (told_0 g at) (told_1 g at) two) (sym c.requires.can.named) c.in_err-commit.ensures.keeps.order));
   };
   given = none_done_if _ c.from_residual.result _ c.from_residual.ensures.1;
   epoch = none_done_if _ c.from_residual.result _ c.from_residual.ensures.1;
@@ -150,10 +149,10 @@ returns-in_err-commit g c = record {
 pub returns : goal.returns
 returns g c = record {
   kept = record {
-    slots = c.commit.ensures.slots;
-    disks = c.commit.ensures.disks;
-    powers = c.commit.ensures.powers;
-    each = c.commit.ensures.each;
+    slots = c.commit.ensures.keeps.slots;
+    disks = c.commit.ensures.keeps.disks;
+    powers = c.commit.ensures.keeps.powers;
+    each = c.commit.ensures.keeps.each;
     two = tt;
     gone = tt;
     order = tt;
@@ -161,10 +160,10 @@ returns g c = record {
   given =
       let not = c.if-meta-ne1.false in
       let one : c.args.meta.now.version ≡ 1 = grind (arith, nat_tests, not) in
-      ap (λ (e : ℕ). record c.args.meta.now { version = 2; epoch = e }) (c.epoch.ensures ∙ c.in_ok-commit.ensures.epoch ∙ ap (λ (k : ℕ). k + 1) c.requires.can.epoch) ∙ sym (renewed_one c.args.meta.now one);
+      ap (λ (e : ℕ). record c.args.meta.now { version = 2; epoch = e }) (c.epoch.ensures ∙ c.in_ok-commit.ensures.takes.epoch ∙ ap (λ (k : ℕ). k + 1) c.requires.can.epoch) ∙ sym (renewed_one c.args.meta.now one);
   epoch = c.epoch.ensures;
-  named = sym c.in_ok-commit.ensures.named;
-  synced = c.in_ok-commit.ensures.synced;
+  named = sym c.in_ok-commit.ensures.takes.named;
+  synced = c.in_ok-commit.ensures.takes.synced;
   one = λ one.
       let n = c.args.store.now.disks in
       let named = c.args.store.now.named in
@@ -172,8 +171,8 @@ returns g c = record {
       let b = g.R.Rack.slot c.commit.new.self.rack in
       let it = c.in_ok-commit in
       subst (λ (o : Option ℕ). IsOneOut n o b) c.requires.can.named
-      (one_kept n named it.field-0 a b it.ensures.well
-      (subst (λ (o : Option ℕ). (d : ℕ) → it.field-0 ≡ Some d → IsAlone n (IsOutOfCommit (λ e. (a e).power) n named o) d) (sym c.requires.can.named) it.ensures.alone) one);
+      (one_kept n named it.field-0 a b it.ensures.loss.well
+      (subst (λ (o : Option ℕ). (d : ℕ) → it.field-0 ≡ Some d → IsAlone n (IsOutOfCommit (λ e. (a e).power) n named o) d) (sym c.requires.can.named) it.ensures.loss.alone) one);
   calls = log_calls g (goal.at.returns g c).After-commit;
   recovers = record {
     allowed = allowed g (goal.at.returns g c).After-commit;
@@ -186,7 +185,7 @@ returns g c = record {
   ends = λ slots x said old is recovers.
       let at = (goal.at.returns g c).After-commit in
       let m = c.args.meta.now in
-      let epoch : c.epoch.result ≡ m.epoch + 1 = c.epoch.ensures ∙ c.in_ok-commit.ensures.epoch ∙ ap (λ (k : ℕ). k + 1) c.requires.can.epoch in
+      let epoch : c.epoch.result ≡ m.epoch + 1 = c.epoch.ensures ∙ c.in_ok-commit.ensures.takes.epoch ∙ ap (λ (k : ℕ). k + 1) c.requires.can.epoch in
       let commits : EndsCommitted (told_0 g at) (told_1 g at) m (after m) [] =
       subst (λ (b : Batch). EndsCommitted (told_0 g at) (told_1 g at) m (after m) b) c.requires.empty
       (subst (λ (e : ℕ). EndsCommitted (told_0 g at) (told_1 g at) m (record m { version = 2; epoch = e + 1 }) c.args.nothing.now) c.requires.can.epoch

@@ -47,18 +47,18 @@ returns-in_err-lost g c = record {
   stays = record {
     copied = refl;
     losses = record {
-      slots = c.commit.ensures.slots;
-      spared = c.commit.ensures.powers;
+      slots = c.commit.ensures.keeps.slots;
+      spared = c.commit.ensures.keeps.powers;
       two =
           let old = c.args.self.now in
           let slot = g.R.Rack.slot (store_rack old.store) in
           handed (AreTwoDown (or_else (named_of old.store) (named_out old.meta.out)) slot (g.R.Rack.slot (store_rack c.commit.new.self))) c.from_residual.result _ c.from_residual.ensures.1
-          (two_down (named_of old.store) (λ x. (slot x).power) (disks_of old.store) old.meta c.requires.ready.array_is c.requires.ready.absent c.requires.ready.one slot (g.R.Rack.slot (store_rack c.commit.new.self)) _ c.in_err-lost.ensures.two);
+          (two_down (named_of old.store) (λ x. (slot x).power) (disks_of old.store) old.meta c.requires.ready.array_is c.requires.ready.absent c.requires.ready.one slot (g.R.Rack.slot (store_rack c.commit.new.self)) _ c.in_err-lost.ensures.keeps.two);
       tells =
           let old = c.args.self.now in
           let ready = c.requires.ready in
           handed (λ two. Ran (g.R.Rack.told (store_rack c.args.self.now.store)) (g.R.Rack.told (store_rack c.commit.new.self)) (λ s cs. TellsLosses (or_else (named_of c.args.self.now.store) (named_out c.args.self.now.meta.out)) two cs)) c.from_residual.result _ c.from_residual.ensures.1
-          (c.in_err-lost.ensures.order (or_else (named_of old.store) (named_out old.meta.out)) (commit_only (named_of old.store) (λ e. (g.R.Rack.slot (store_rack old.store) e).power) (disks_of old.store) old.meta ready.array_is ready.absent ready.one));
+          (c.in_err-lost.ensures.keeps.order (or_else (named_of old.store) (named_out old.meta.out)) (commit_only (named_of old.store) (λ e. (g.R.Rack.slot (store_rack old.store) e).power) (disks_of old.store) old.meta ready.array_is ready.absent ready.one));
       marks = none_done _ c.from_residual.result _ c.from_residual.ensures.1;
     };
     ready = none_done _ c.from_residual.result _ c.from_residual.ensures.1;
@@ -129,13 +129,13 @@ module _ (g : Over) (c : After-lose g) (put : IsPutOut (record c.args.self.now.m
   then = g.R.Rack.slot (store_rack c.commit.new.self)
 
   only : IsLostOnly m.setup.geometry.disks lost slot then
-  only = commit_lost_only m c.in_ok-lost.lost slot then c.in_ok-lost.ensures.well c.in_ok-lost.ensures.lost
+  only = commit_lost_only m c.in_ok-lost.lost slot then c.in_ok-lost.ensures.loss.well c.in_ok-lost.ensures.loss.lost
 
   alone : (d x : ℕ) → lost ≡ Some d → named_out m.out ≡ Some x → x ≡ d
   alone d x is k = put.alone d x (lost_in_was m c.in_ok-lost.lost d is) k (lost_in_low m c.in_ok-lost.lost d is)
 
   meta_is : c.lose.new.meta ≡ meta_with_lost lost (record m { epoch = last + 1 })
-  meta_is = put.marked ∙ ap (λ (z : ℕ). meta_with_lost (lost_in (record m { epoch = z }) c.in_ok-lost.lost) (record m { epoch = z })) (c.epoch-self.ensures ∙ c.in_ok-lost.ensures.epoch)
+  meta_is = put.marked ∙ ap (λ (z : ℕ). meta_with_lost (lost_in (record m { epoch = z }) c.in_ok-lost.lost) (record m { epoch = z })) (c.epoch-self.ensures ∙ c.in_ok-lost.ensures.takes.epoch)
 
   ready_then : AreSlotsReady (g.R.Rack.slot_count (store_rack c.args.self.now.store)) then (last + 1) (disks_of c.args.self.now.store) (named_out m.out) (meta_with_lost lost (record m { epoch = last + 1 })) (length c.args.self.now.dirty) []
   ready_then =
@@ -154,7 +154,7 @@ module _ (g : Over) (c : After-lose g) (put : IsPutOut (record c.args.self.now.m
 
   -- the disk that is lost is the one that was named out, where one was
   alone_named : (d x : ℕ) → lost ≡ Some d → named_of c.args.self.now.store ≡ Some x → x ≡ d
-  alone_named d x is was = (c.in_ok-lost.ensures.alone d (lost_in_was m c.in_ok-lost.lost d is)).alone x (was_named was)
+  alone_named d x is was = (c.in_ok-lost.ensures.loss.alone d (lost_in_was m c.in_ok-lost.lost d is)).alone x (was_named was)
 
   known : (x d : ℕ) → named_of c.args.self.now.store ≡ Some x → named_out (meta_with_lost lost m).out ≡ Some d → x ≡ d
   known x d was is = by lost refl is
@@ -176,7 +176,7 @@ module _ (g : Over) (c : After-lose g) (put : IsPutOut (record c.args.self.now.m
       let old = c.args.self.now in
       commit_stands (g.R.Rack.slot_count (store_rack old.store)) (named_of old.store) old.meta old.dirty old.batch old.copied c.requires.committable.copies_synced h lo (epoch_of old.store) c.requires.ready.epoch_is c.requires.ready.in_range c.requires.ready.one
       _ _ slot then (g.met.R.Rack.agrees (store_rack old.store)) (g.met.R.Rack.agrees (store_rack c.commit.new.self)) lost known (λ d is. lost_in_low old.meta c.in_ok-lost.lost d is) only alone
-      c.requires.ready.absent absent_then (can_bear _ _ _ _ _ _ _ _ c.requires.ready) _ _ _ _ c.commit.ensures.slots c.in_ok-lost.ensures.named meta_is c.clear.ensures c.commit.ensures.any_moment
+      c.requires.ready.absent absent_then (can_bear _ _ _ _ _ _ _ _ c.requires.ready) _ _ _ _ c.commit.ensures.keeps.slots c.in_ok-lost.ensures.takes.named meta_is c.clear.ensures c.commit.ensures.any_moment
       c.in_ok-lost.ensures.committed
 
   filled_then : (h : History) (lo : ℕ) → Ran (g.R.Rack.told (store_rack c.args.self.now.store)) (g.R.Rack.told (store_rack c.commit.new.self)) (CrashTriple (IsCoreHeld g.R.Rack.slot_count c.args.self.now h lo) (CoreStandsFor g.R.Rack.slot_count c.args.self.now h lo)
@@ -185,7 +185,7 @@ module _ (g : Over) (c : After-lose g) (put : IsPutOut (record c.args.self.now.m
       let old = c.args.self.now in
       commit_filled (g.R.Rack.slot_count (store_rack old.store)) (named_of old.store) old.meta old.dirty old.batch old.copied c.requires.committable.copies_synced h lo (epoch_of old.store) c.requires.ready.epoch_is c.requires.ready.in_range c.requires.ready.one
       _ _ slot then (g.met.R.Rack.agrees (store_rack old.store)) (g.met.R.Rack.agrees (store_rack c.commit.new.self)) lost known (λ d is. lost_in_low old.meta c.in_ok-lost.lost d is) only alone
-      c.requires.ready.absent absent_then (can_bear _ _ _ _ _ _ _ _ c.requires.ready) _ _ _ c.commit.ensures.slots c.in_ok-lost.ensures.named meta_is c.commit.ensures.any_moment
+      c.requires.ready.absent absent_then (can_bear _ _ _ _ _ _ _ _ c.requires.ready) _ _ _ c.commit.ensures.keeps.slots c.in_ok-lost.ensures.takes.named meta_is c.commit.ensures.any_moment
       c.in_ok-lost.ensures.committed
 
   absent_after : (d : ℕ) → named_out c.lose.new.meta.out ≡ Some d → (named_of c.commit.new.self ≡ Some d) ⊎ (is_present (then d).power ≡ false)
@@ -193,7 +193,7 @@ module _ (g : Over) (c : After-lose g) (put : IsPutOut (record c.args.self.now.m
     where
       by : (o : Option ℕ) → lost ≡ o → named_out (meta_with_lost o (record c.args.self.now.meta { epoch = epoch_of c.args.self.now.store + 1 })).out ≡ Some d
           → (named_of c.commit.new.self ≡ Some d) ⊎ (is_present (then d).power ≡ false)
-      by None e k = inl (c.in_ok-lost.ensures.named ∙ k)
+      by None e k = inl (c.in_ok-lost.ensures.takes.named ∙ k)
       by (Some x) e k = inr (ap is_present (only.gone d (e ∙ k)))
 
 pub returns : goal.returns
@@ -209,22 +209,22 @@ returns g c = record {
   stays = record {
     copied = refl;
     losses = record {
-      slots = c.commit.ensures.slots;
-      spared = c.commit.ensures.powers;
-      two = IfErr-weaker c.lose.result _ _ (λ two both. absurd (both.2 ((c.in_ok-lost.ensures.alone _ both.0).alone _ (is_named both.1)))) c.lose.ensures.two;
-      tells = IfErr-weaker c.lose.result _ _ (λ two both. absurd (both.2 ((c.in_ok-lost.ensures.alone _ both.0).alone _ (is_named both.1)))) c.lose.ensures.two;
+      slots = c.commit.ensures.keeps.slots;
+      spared = c.commit.ensures.keeps.powers;
+      two = IfErr-weaker c.lose.result _ _ (λ two both. absurd (both.2 ((c.in_ok-lost.ensures.loss.alone _ both.0).alone _ (is_named both.1)))) c.lose.ensures.two;
+      tells = IfErr-weaker c.lose.result _ _ (λ two both. absurd (both.2 ((c.in_ok-lost.ensures.loss.alone _ both.0).alone _ (is_named both.1)))) c.lose.ensures.two;
       marks = on_ok_weaker c.lose.result (λ put. let m = c.args.self.now.meta in
-          let low : (d : ℕ) → c.in_ok-lost.lost ≡ Some d → d < m.setup.geometry.disks = (λ d is. subst (λ (z : ℕ). d < z) (sym c.requires.ready.array_is) (c.in_ok-lost.ensures.alone d is).below) in
+          let low : (d : ℕ) → c.in_ok-lost.lost ≡ Some d → d < m.setup.geometry.disks = (λ d is. subst (λ (z : ℕ). d < z) (sym c.requires.ready.array_is) (c.in_ok-lost.ensures.loss.alone d is).below) in
           let last = epoch_of c.args.self.now.store in
-          marks_commit m c.lose.new.meta c.in_ok-lost.lost _ _ (last + 1) c.in_ok-lost.ensures.well c.in_ok-lost.ensures.lost
+          marks_commit m c.lose.new.meta c.in_ok-lost.lost _ _ (last + 1) c.in_ok-lost.ensures.loss.well c.in_ok-lost.ensures.loss.lost
           (meta_is g c put ∙ ap (λ (o : Option ℕ). meta_with_lost o (record m { epoch = last + 1 })) (lost_in_is m c.in_ok-lost.lost low)) low (λ d x is k. put.alone d x is k (low d is))) (puts g c);
     };
     ready = on_ok_weaker c.lose.result (λ put. subst (λ (z : Batch). AreSlotsReady (g.R.Rack.slot_count (store_rack c.commit.new.self)) (then g c put) (epoch_of c.commit.new.self) (disks_of c.commit.new.self) (named_of c.commit.new.self) c.lose.new.meta (length c.args.self.now.dirty) z) (sym c.clear.ensures)
-        (ready_moved _ _ (then g c put) _ _ _ _ _ _ (meta_with_lost (lost g c put) (record c.args.self.now.meta { epoch = epoch_of c.args.self.now.store + 1 })) _ _ [] c.commit.ensures.slots c.in_ok-lost.ensures.epoch c.commit.ensures.disks c.in_ok-lost.ensures.named (meta_is g c put) (ready_then g c put))) (puts g c);
+        (ready_moved _ _ (then g c put) _ _ _ _ _ _ (meta_with_lost (lost g c put) (record c.args.self.now.meta { epoch = epoch_of c.args.self.now.store + 1 })) _ _ [] c.commit.ensures.keeps.slots c.in_ok-lost.ensures.takes.epoch c.commit.ensures.keeps.disks c.in_ok-lost.ensures.takes.named (meta_is g c put) (ready_then g c put))) (puts g c);
     setup = on_ok_weaker c.lose.result (λ put. ap (λ (z : Meta). z.setup) (meta_is g c put) ∙ marked_setup (lost g c put) _) (puts g c);
     down = on_ok_weaker c.lose.result (λ put. let old = c.args.self.now in
         down_marked (named_of old.store) old.meta c.in_ok-lost.lost c.lose.new.meta (named_of c.commit.new.self) (slot g c put) (then g c put) c.requires.ready.one
-        (ap (λ (z : Meta). named_out z.out) (meta_is g c put) ∙ marked_out (lost g c put) old.meta _) c.in_ok-lost.ensures.lost c.in_ok-lost.ensures.named) (puts g c);
+        (ap (λ (z : Meta). named_out z.out) (meta_is g c put) ∙ marked_out (lost g c put) old.meta _) c.in_ok-lost.ensures.loss.lost c.in_ok-lost.ensures.takes.named) (puts g c);
   };
   serves = on_ok_weaker c.lose.result (λ put. λ serves.
       let old = c.args.self.now in
@@ -232,7 +232,7 @@ returns g c = record {
       let low = c.requires.ready.epoch_is in
       let epoch = c.requires.committable.epoch in
       let next = ready_next _ (slot g c put) (epoch_of old.store) _ _ old.meta _ _ (omega arith) c.requires.ready in
-      subst (λ (z : Option ℕ). CanServe (then g c put) z c.lose.new.meta) (sym c.in_ok-lost.ensures.named)
+      subst (λ (z : Option ℕ). CanServe (then g c put) z c.lose.new.meta) (sym c.in_ok-lost.ensures.takes.named)
       (subst (λ (z : Meta). CanServe (then g c put) (named_out old.meta.out) z) (sym (meta_is g c put))
       (serve_after _ (slot g c put) (then g c put) (epoch_of old.store + 1) _ (named_out old.meta.out) after _ [] next c.in_ok-lost.lost (only g c put) (alone g c put) (alone g c put) (λ d is. lost_in_low old.meta c.in_ok-lost.lost d is)
       (record { spins = serves.spins; large = serves.large; stays = λ d is. is })))) (puts g c);
@@ -242,21 +242,21 @@ returns g c = record {
       let low = c.requires.ready.epoch_is in
       let epoch = c.requires.committable.epoch in
       let next = ready_next _ (slot g c put) (epoch_of old.store) _ _ old.meta _ _ (omega arith) c.requires.ready in
-      subst (λ (z : Option ℕ). CanServe (then g c put) z c.lose.new.meta) (sym c.in_ok-lost.ensures.named)
+      subst (λ (z : Option ℕ). CanServe (then g c put) z c.lose.new.meta) (sym c.in_ok-lost.ensures.takes.named)
       (subst (λ (z : Meta). CanServe (then g c put) (named_out old.meta.out) z) (sym (meta_is g c put))
       (serve_after _ (slot g c put) (then g c put) (epoch_of old.store + 1) _ (named_out old.meta.out) after _ [] next c.in_ok-lost.lost (only g c put) (alone g c put) (alone g c put) (λ d is. lost_in_low old.meta c.in_ok-lost.lost d is)
       (record { spins = up.spins; large = up.large; stays = λ d is. is })))) (puts g c);
   meta = record {
     meta = on_ok_weaker c.lose.result (λ put. marked g c put) (puts g c);
     epoch = on_ok_weaker c.lose.result (λ put. ap (λ (z : Meta). z.epoch) (meta_is g c put) ∙ marked_epoch (lost g c put) _ ∙ ap (λ (n : ℕ). n + 1) (sym c.requires.ready.epoch_is)) (puts g c);
-    named = on_ok_any c.lose.result c.in_ok-lost.ensures.named;
+    named = on_ok_any c.lose.result c.in_ok-lost.ensures.takes.named;
     alone = on_ok_weaker c.lose.result (λ put. λ x d was is. known g c put x d was (sym (ap (λ (z : Meta). named_out z.out) (meta_is g c put) ∙ marked_out (lost g c put) c.args.self.now.meta _) ∙ is)) (puts g c);
     absent = on_ok_weaker c.lose.result (λ put. absent_after g c put) (puts g c);
   };
-  still_synced = on_ok_any c.lose.result c.in_ok-lost.ensures.synced;
+  still_synced = on_ok_any c.lose.result c.in_ok-lost.ensures.takes.synced;
   unsynced = on_ok_weaker c.lose.result (λ put. let old = c.args.self.now in
       unsynced_kept g.R.Rack.slot old (record old { store = c.commit.new.self; meta = c.lose.new.meta }) (ap (λ (z : Meta). z.setup) (meta_is g c put) ∙ marked_setup (lost g c put) _)
-      (gone_marked (record old.meta { epoch = old.meta.epoch + 1 }) c.lose.new.meta (marked g c put)) c.commit.ensures.powers refl c.in_ok-lost.ensures.synced) (puts g c);
+      (gone_marked (record old.meta { epoch = old.meta.epoch + 1 }) c.lose.new.meta (marked g c put)) c.commit.ensures.keeps.powers refl c.in_ok-lost.ensures.takes.synced) (puts g c);
   brings = record {
     calls = calls_milder _ _ (uses_transfer c.args.self.now.meta c.args.self.now.batch) _ _ c.commit.ensures.calls;
     whole = λ h lo.
@@ -283,7 +283,7 @@ returns g c = record {
         core_since g.R.Rack.slot_count g.R.Rack.slot g.R.Rack.told old c.requires.ready absent (g.met.R.Rack.agrees (store_rack old.store)) _ c.commit.ensures.calls h lo _ _
         (commit_marked (g.R.Rack.slot_count (store_rack old.store)) (named_of old.store) old.meta old.dirty old.batch old.copied c.requires.committable.copies_synced h lo (epoch_of old.store) c.requires.ready.epoch_is c.requires.ready.in_range c.requires.ready.one
         _ _ (slot g c put) (then g c put) (g.met.R.Rack.agrees (store_rack old.store)) (g.met.R.Rack.agrees (store_rack c.commit.new.self)) (lost g c put) (known g c put) (λ d is. lost_in_low old.meta c.in_ok-lost.lost d is) (only g c put) (alone g c put)
-        c.requires.ready.absent (absent_then g c put) (can_bear _ _ _ _ _ _ _ _ c.requires.ready) _ _ _ c.commit.ensures.slots c.in_ok-lost.ensures.named (meta_is g c put) c.commit.ensures.any_moment
+        c.requires.ready.absent (absent_then g c put) (can_bear _ _ _ _ _ _ _ _ c.requires.ready) _ _ _ c.commit.ensures.keeps.slots c.in_ok-lost.ensures.takes.named (meta_is g c put) c.commit.ensures.any_moment
         c.in_ok-lost.ensures.committed)) (puts g c);
   };
 }

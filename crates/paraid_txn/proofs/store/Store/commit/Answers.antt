@@ -73,21 +73,22 @@ pub returns-in_err-borne : goal.returns-in_err-borne
 returns-in_err-borne g c =
     let at = goal.at.returns-in_err-borne g c in
     record {
-      slots = c.run_witnessed.ensures.leaves.slots;
-      disks = refl;
-      powers = record { power = c.run_witnessed.ensures.leaves.part.lasts.power; size = c.run_witnessed.ensures.leaves.part.lasts.size; no_fall = c.run_witnessed.ensures.leaves.part.lasts.no_fall };
-      synced = raised_ok _ _ c.from_residual.result c.from_residual.ensures.1;
-      epoch = raised_ok _ _ c.from_residual.result c.from_residual.ensures.1;
-      named = raised_ok _ _ c.from_residual.result c.from_residual.ensures.1;
-      ended = on_err c.from_residual.result (refl, refl);
-      lost = raised_if_ok _ _ c.from_residual.result c.from_residual.ensures.1;
-      alone = raised_if_ok _ _ c.from_residual.result c.from_residual.ensures.1;
-      well = raised_if_ok _ _ c.from_residual.result c.from_residual.ensures.1;
-      each = c.run_witnessed.ensures.leaves.part.lasts.each;
-      two = raised _ _ _ c.from_residual.ensures.1 (two_beside _ _ _ _ _ _ _ _ (down_is g at.After-run_witnessed) c.in_err-borne.ensures.leaves.part.two);
-      gone = raised _ _ _ c.from_residual.ensures.1 (gone_beside _ _ _ _ _ _ _ _ (down_is g at.After-run_witnessed) c.in_err-borne.ensures.leaves.part.gone);
-      order = raised _ _ _ c.from_residual.ensures.1 (λ only is. subst (λ (o : Option ℕ). Ran (g.R.Rack.told c.args.self.now.rack) (g.R.Rack.told c.run_witnessed.new.rack) (λ start calls. TellsLosses o c.in_err-borne.field-0.0 calls)) (only_down g at.After-run_witnessed only is) c.in_err-borne.ensures.leaves.part.order);
-      bears = raised_if_ok _ _ c.from_residual.result c.from_residual.ensures.1;
+      keeps = record {
+        slots = c.run_witnessed.ensures.leaves.slots;
+        disks = refl;
+        powers = record { power = c.run_witnessed.ensures.leaves.part.lasts.power; size = c.run_witnessed.ensures.leaves.part.lasts.size; no_fall = c.run_witnessed.ensures.leaves.part.lasts.no_fall };
+        each = c.run_witnessed.ensures.leaves.part.lasts.each;
+        two = raised _ _ _ c.from_residual.ensures.1 (two_beside _ _ _ _ _ _ _ _ (down_is g at.After-run_witnessed) c.in_err-borne.ensures.leaves.part.two);
+        gone = raised _ _ _ c.from_residual.ensures.1 (gone_beside _ _ _ _ _ _ _ _ (down_is g at.After-run_witnessed) c.in_err-borne.ensures.leaves.part.gone);
+        order = raised _ _ _ c.from_residual.ensures.1 (λ only is. subst (λ (o : Option ℕ). Ran (g.R.Rack.told c.args.self.now.rack) (g.R.Rack.told c.run_witnessed.new.rack) (λ start calls. TellsLosses o c.in_err-borne.field-0.0 calls)) (only_down g at.After-run_witnessed only is) c.in_err-borne.ensures.leaves.part.order);
+      };
+      takes = record {
+        epoch = raised_ok _ _ c.from_residual.result c.from_residual.ensures.1;
+        named = raised_ok _ _ c.from_residual.result c.from_residual.ensures.1;
+        synced = raised_ok _ _ c.from_residual.result c.from_residual.ensures.1;
+        ended = on_err c.from_residual.result (refl, refl);
+      };
+      loss = raised_if_ok _ _ c.from_residual.result c.from_residual.ensures.1;
       calls = c.run_witnessed.ensures.leaves.part.calls;
       bears_witness = raised_if_ok _ _ c.from_residual.result c.from_residual.ensures.1;
       knows = raised_if_ok _ _ c.from_residual.result c.from_residual.ensures.1;
@@ -106,36 +107,42 @@ pub returns : goal.returns
 returns g c =
     let at = goal.at.returns g c in
     record {
-      slots = c.run_witnessed.ensures.leaves.slots;
-      disks = refl;
-      powers = record { power = c.run_witnessed.ensures.leaves.part.lasts.power; size = c.run_witnessed.ensures.leaves.part.lasts.size; no_fall = c.run_witnessed.ensures.leaves.part.lasts.no_fall };
-      synced = c.in_ok-borne.ensures.leaves.still_synced;
-      epoch = refl;
-      named = c.named-named.ensures;
-      ended = tt;
-      lost = (λ d is. record {
-        risen = AreCommitCalls-risen _ _ _ _ d c.run_witnessed.ensures.leaves.part.lasts refl is;
-        absent = AreCommitCalls-absent _ _ _ _ d c.run_witnessed.ensures.leaves.part.lasts refl is;
-      });
-      alone = (λ d is. let after = c.run_witnessed.new.losses in
-          elim (c.run_witnessed.ensures.leaves.part.on d is) [
-            | inl none ↦ absurd (no_disk none)
-            | inr on ↦ record {
-              below = subst (λ (k : ℕ). k < c.args.self.now.disks) on.0.2 (subst (λ (n : ℕ). disk_of on.0.0 < n) c.requires.can.array (uses_below (record c.args.meta.now { epoch = c.args.self.now.epoch + 1 }) c.args.batch.now on.0.0 on.0.1));
-              alone = alone_out _ _ _ _ d on.1
-                  (λ e down. same_disk (sym (c.run_witnessed.ensures.leaves.part.lasts.remains e (down_is g at.After-run_witnessed ∙ down)) ∙ after.agrees d is))
-                  (λ e named. c.find_second.ensures.none c.in_default.is d e is (c.named-named.ensures ∙ named));
-            }
-          ]);
-      well = λ d not. c.in_ok-borne.ensures.leaves.part.well d not;
-      each = c.run_witnessed.ensures.leaves.part.lasts.each;
-      two = tt;
-      gone = tt;
-      order = tt;
-      bears = (λ only is. let after = c.run_witnessed.new.losses in
-          let down = lost_down c.out_first.result after.down after.lost after.agrees c.run_witnessed.ensures.leaves.part.lasts.down c.run_witnessed.ensures.leaves.part.lasts.remains in
-          subst (λ (o : Option ℕ). Ran (g.R.Rack.told c.args.self.now.rack) (g.R.Rack.told c.run_witnessed.new.rack) (λ start calls. BearsLoss o (or_else after.lost o) calls)) (only_down g at.After-run_witnessed only is)
-          (subst (λ (o : Option ℕ). Ran (g.R.Rack.told c.args.self.now.rack) (g.R.Rack.told c.run_witnessed.new.rack) (λ start calls. BearsLoss c.out_first.result o calls)) down c.in_ok-borne.ensures.leaves.part.order));
+      keeps = record {
+        slots = c.run_witnessed.ensures.leaves.slots;
+        disks = refl;
+        powers = record { power = c.run_witnessed.ensures.leaves.part.lasts.power; size = c.run_witnessed.ensures.leaves.part.lasts.size; no_fall = c.run_witnessed.ensures.leaves.part.lasts.no_fall };
+        each = c.run_witnessed.ensures.leaves.part.lasts.each;
+        two = tt;
+        gone = tt;
+        order = tt;
+      };
+      takes = record {
+        epoch = refl;
+        named = c.named-named.ensures;
+        synced = c.in_ok-borne.ensures.leaves.still_synced;
+        ended = tt;
+      };
+      loss = record {
+        lost = (λ d is. record {
+          risen = AreCommitCalls-risen _ _ _ _ d c.run_witnessed.ensures.leaves.part.lasts refl is;
+          absent = AreCommitCalls-absent _ _ _ _ d c.run_witnessed.ensures.leaves.part.lasts refl is;
+        });
+        alone = (λ d is. let after = c.run_witnessed.new.losses in
+            elim (c.run_witnessed.ensures.leaves.part.on d is) [
+              | inl none ↦ absurd (no_disk none)
+              | inr on ↦ record {
+                below = subst (λ (k : ℕ). k < c.args.self.now.disks) on.0.2 (subst (λ (n : ℕ). disk_of on.0.0 < n) c.requires.can.array (uses_below (record c.args.meta.now { epoch = c.args.self.now.epoch + 1 }) c.args.batch.now on.0.0 on.0.1));
+                alone = alone_out _ _ _ _ d on.1
+                    (λ e down. same_disk (sym (c.run_witnessed.ensures.leaves.part.lasts.remains e (down_is g at.After-run_witnessed ∙ down)) ∙ after.agrees d is))
+                    (λ e named. c.find_second.ensures.none c.in_default.is d e is (c.named-named.ensures ∙ named));
+              }
+            ]);
+        well = λ d not. c.in_ok-borne.ensures.leaves.part.well d not;
+        bears = (λ only is. let after = c.run_witnessed.new.losses in
+            let down = lost_down c.out_first.result after.down after.lost after.agrees c.run_witnessed.ensures.leaves.part.lasts.down c.run_witnessed.ensures.leaves.part.lasts.remains in
+            subst (λ (o : Option ℕ). Ran (g.R.Rack.told c.args.self.now.rack) (g.R.Rack.told c.run_witnessed.new.rack) (λ start calls. BearsLoss o (or_else after.lost o) calls)) (only_down g at.After-run_witnessed only is)
+            (subst (λ (o : Option ℕ). Ran (g.R.Rack.told c.args.self.now.rack) (g.R.Rack.told c.run_witnessed.new.rack) (λ start calls. BearsLoss c.out_first.result o calls)) down c.in_ok-borne.ensures.leaves.part.order));
+      };
       calls = c.run_witnessed.ensures.leaves.part.calls;
       bears_witness = leaves_borne (record c.args.meta.now { epoch = c.args.self.now.epoch + 1 }) c.args.self.now.borne c.run_witnessed.new.losses.lost (no_second g at.In_default) c.args.self.now.known c.in_ok-borne.ensures.borne;
       knows = c.in_ok-borne.ensures.knows (no_second g at.In_default);
@@ -153,40 +160,41 @@ pub returns-in-Some : goal.returns-in-Some
 returns-in-Some g c =
     let at = goal.at.returns-in-Some g c in
     record {
-      slots = c.run_witnessed.ensures.leaves.slots;
-      disks = refl;
-      powers = record { power = c.run_witnessed.ensures.leaves.part.lasts.power; size = c.run_witnessed.ensures.leaves.part.lasts.size; no_fall = c.run_witnessed.ensures.leaves.part.lasts.no_fall };
-      synced = tt;
-      epoch = tt;
-      named = tt;
-      ended = (refl, refl);
-      lost = tt;
-      alone = tt;
-      well = tt;
-      each = c.run_witnessed.ensures.leaves.part.lasts.each;
-      two = (let both = c.find_second.ensures.two c.in-Some.two c.in-Some.is in
-          record {
-            first = inl (is_named (sym c.named-named.ensures ∙ both.0));
-            apart = both.2;
-            second = AreCommitCalls-risen _ _ _ _ _ c.run_witnessed.ensures.leaves.part.lasts refl both.1;
-          });
-      gone = (let both = c.find_second.ensures.two c.in-Some.two c.in-Some.is in
-          record {
-            first = inl (is_named (sym c.named-named.ensures ∙ both.0));
-            second = record {
-              there = elim (c.run_witnessed.ensures.leaves.part.on c.in-Some.two.second both.1) [
-                | inl none ↦ absurd (no_disk none)
-                | inr on ↦ on.1
-              ];
-              absent = AreCommitCalls-absent _ _ _ _ _ c.run_witnessed.ensures.leaves.part.lasts refl both.1;
-            };
-          });
-      order = (λ only is. let both = c.find_second.ensures.two c.in-Some.two c.in-Some.is in
-          let down = only_down g at.After-run_witnessed only is ∙ is.one c.in-Some.two.first (is_named (sym c.named-named.ensures ∙ both.0)) in
-          let still = c.run_witnessed.ensures.leaves.part.lasts.remains c.in-Some.two.first down in
-          let lost = c.run_witnessed.new.losses.agrees c.in-Some.two.second both.1 in
-          absurd (both.2 (same_disk (sym still ∙ lost))));
-      bears = tt;
+      keeps = record {
+        slots = c.run_witnessed.ensures.leaves.slots;
+        disks = refl;
+        powers = record { power = c.run_witnessed.ensures.leaves.part.lasts.power; size = c.run_witnessed.ensures.leaves.part.lasts.size; no_fall = c.run_witnessed.ensures.leaves.part.lasts.no_fall };
+        each = c.run_witnessed.ensures.leaves.part.lasts.each;
+        two = (let both = c.find_second.ensures.two c.in-Some.two c.in-Some.is in
+            record {
+              first = inl (is_named (sym c.named-named.ensures ∙ both.0));
+              apart = both.2;
+              second = AreCommitCalls-risen _ _ _ _ _ c.run_witnessed.ensures.leaves.part.lasts refl both.1;
+            });
+        gone = (let both = c.find_second.ensures.two c.in-Some.two c.in-Some.is in
+            record {
+              first = inl (is_named (sym c.named-named.ensures ∙ both.0));
+              second = record {
+                there = elim (c.run_witnessed.ensures.leaves.part.on c.in-Some.two.second both.1) [
+                  | inl none ↦ absurd (no_disk none)
+                  | inr on ↦ on.1
+                ];
+                absent = AreCommitCalls-absent _ _ _ _ _ c.run_witnessed.ensures.leaves.part.lasts refl both.1;
+              };
+            });
+        order = (λ only is. let both = c.find_second.ensures.two c.in-Some.two c.in-Some.is in
+            let down = only_down g at.After-run_witnessed only is ∙ is.one c.in-Some.two.first (is_named (sym c.named-named.ensures ∙ both.0)) in
+            let still = c.run_witnessed.ensures.leaves.part.lasts.remains c.in-Some.two.first down in
+            let lost = c.run_witnessed.new.losses.agrees c.in-Some.two.second both.1 in
+            absurd (both.2 (same_disk (sym still ∙ lost))));
+      };
+      takes = record {
+        epoch = tt;
+        named = tt;
+        synced = tt;
+        ended = (refl, refl);
+      };
+      loss = tt;
       calls = c.run_witnessed.ensures.leaves.part.calls;
       bears_witness = tt;
       knows = tt;

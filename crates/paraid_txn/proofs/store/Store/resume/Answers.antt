@@ -23,59 +23,49 @@ down_by g c = c.out_first.ensures ∙ rw (c.find_absent-absent.ensures, c.adopt-
 pub returns-in-Err : goal.returns-in-Err
 returns-in-Err g c =
     let at = goal.at.returns-in-Err g c in
+    let part = c.end_commit-ended.ensures.leaves.part in
     record {
-      disks = tt;
-      epoch = tt;
-      named = tt;
-      slots = tt;
-      powers = tt;
-      synced = tt;
-      each = tt;
-      calls = tt;
-      one = tt;
-      two = (two_beside _ _ _ _ _ _ _ _ (down_is g at.After-end_commit-ended)
-          (rw (← (c.adopt-store.ensures.rack), c.close.ensures) c.in-Err.ensures.leaves.part.two));
-      refused_gone = (gone_beside _ _ _ _ _ _ _ _ (down_is g at.After-end_commit-ended)
-          (rw (← (c.adopt-store.ensures.rack), c.close.ensures) c.in-Err.ensures.leaves.part.gone));
-      refused_order = (λ only is. tells_beside _ _ _ _ _ _ _ _ (down_is g at.After-end_commit-ended)
-          (rw (← (c.adopt-store.ensures.rack), c.close.ensures) c.in-Err.ensures.leaves.part.order) only is);
-      refused_slots = rw (← (c.adopt-store.ensures.rack), c.close.ensures) c.end_commit-ended.ensures.leaves.slots;
-      refused_powers = (let lasts = c.end_commit-ended.ensures.leaves.part.lasts in
-          rw (← (c.adopt-store.ensures.rack), c.close.ensures) (record { power = lasts.power; size = lasts.size; no_fall = lasts.no_fall }));
-      refused_each = rw (← (c.adopt-store.ensures.rack), c.close.ensures) c.end_commit-ended.ensures.leaves.part.lasts.each;
-      refused_calls = rw (← (c.adopt-store.ensures.rack), c.close.ensures) c.end_commit-ended.ensures.leaves.part.calls;
-      any_moment = tt;
-      refused = rw (← (c.adopt-store.ensures.rack), c.close.ensures) c.end_commit-ended.ensures.moments;
-      ended = tt;
-      laid = tt;
+      resumes = tt;
+      refused = record {
+        on = rw (← (c.adopt-store.ensures.rack), c.close.ensures) (record {
+          slots = c.end_commit-ended.ensures.leaves.slots;
+          powers = record { power = part.lasts.power; size = part.lasts.size; no_fall = part.lasts.no_fall };
+          each = part.lasts.each;
+          calls = part.calls;
+          any_moment = c.end_commit-ended.ensures.moments;
+        });
+        two = (two_beside _ _ _ _ _ _ _ _ (down_is g at.After-end_commit-ended)
+            (rw (← (c.adopt-store.ensures.rack), c.close.ensures) c.in-Err.ensures.leaves.part.two));
+        gone = (gone_beside _ _ _ _ _ _ _ _ (down_is g at.After-end_commit-ended)
+            (rw (← (c.adopt-store.ensures.rack), c.close.ensures) c.in-Err.ensures.leaves.part.gone));
+        order = (λ only is. tells_beside _ _ _ _ _ _ _ _ (down_is g at.After-end_commit-ended)
+            (rw (← (c.adopt-store.ensures.rack), c.close.ensures) c.in-Err.ensures.leaves.part.order) only is);
+      };
     }
 
 pub returns : goal.returns
 returns g c =
     let at = goal.at.returns g c in
+    let part = c.end_commit-ended.ensures.leaves.part in
     record {
-      disks = c.adopt-store.ensures.disks;
-      epoch = c.adopt-store.ensures.epoch;
-      named = c.adopt-store.ensures.named;
-      slots = rw (← (c.adopt-store.ensures.rack)) c.end_commit-ended.ensures.leaves.slots;
-      powers = (let lasts = c.end_commit-ended.ensures.leaves.part.lasts in
-          rw (← (c.adopt-store.ensures.rack)) (record { power = lasts.power; size = lasts.size; no_fall = lasts.no_fall }));
-      synced = rw (← (c.adopt-store.ensures.rack)) c.in_default.ensures.leaves.still_synced;
-      each = rw (← (c.adopt-store.ensures.rack)) c.end_commit-ended.ensures.leaves.part.lasts.each;
-      calls = rw (← (c.adopt-store.ensures.rack)) c.end_commit-ended.ensures.leaves.part.calls;
-      one = (let part = c.in_default.ensures.leaves.part in
-          rw (← (c.adopt-store.ensures.rack)) (one_stays c.args.meta.now.setup.geometry.disks (named_out c.args.meta.now.out) (named_out c.args.meta.now.out) _ _ _ _ (λ e is. is) (down_by g at.After-end_commit-ended) part.lasts part.well));
-      two = tt;
-      refused_gone = tt;
-      refused_order = tt;
-      refused_slots = tt;
-      refused_powers = tt;
-      refused_each = tt;
-      refused_calls = tt;
-      any_moment = rw (← (c.adopt-store.ensures.rack)) c.end_commit-ended.ensures.moments;
+      resumes = record {
+        on = rw (← (c.adopt-store.ensures.rack)) (record {
+          slots = c.end_commit-ended.ensures.leaves.slots;
+          powers = record { power = part.lasts.power; size = part.lasts.size; no_fall = part.lasts.no_fall };
+          each = part.lasts.each;
+          calls = part.calls;
+          any_moment = c.end_commit-ended.ensures.moments;
+        });
+        disks = c.adopt-store.ensures.disks;
+        epoch = c.adopt-store.ensures.epoch;
+        named = c.adopt-store.ensures.named;
+        synced = rw (← (c.adopt-store.ensures.rack)) c.in_default.ensures.leaves.still_synced;
+        one = (let well = c.in_default.ensures.leaves.part.well in
+            rw (← (c.adopt-store.ensures.rack)) (one_stays c.args.meta.now.setup.geometry.disks (named_out c.args.meta.now.out) (named_out c.args.meta.now.out) _ _ _ _ (λ e is. is) (down_by g at.After-end_commit-ended) part.lasts well));
+        ended = rw (← (c.adopt-store.ensures.rack)) c.in_default.ensures.done;
+        laid = rw (← (c.adopt-store.ensures.rack)) c.in_default.ensures.laid;
+      };
       refused = tt;
-      ended = rw (← (c.adopt-store.ensures.rack)) c.in_default.ensures.done;
-      laid = rw (← (c.adopt-store.ensures.rack)) c.in_default.ensures.laid;
     }
 
 pub invariant_of-store : goal.invariant_of-store
