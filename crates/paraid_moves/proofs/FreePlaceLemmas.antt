@@ -13,7 +13,7 @@ use Rattle.paraid_base.specs.Skips.{index_among, skip}
 use Rattle.paraid_base.specs.Soft.{cell_number, disk_of_number, number_at, row_of_number, soft_disk, soft_parity_disk, soft_stripe}
 use Rattle.paraid_base.specs.Sums.{without, xor_upto}
 use Rattle.paraid_base.specs.Xor.{xor, zero_block}
-use Rattle.paraid_base.proofs.SkipsLemmas.{place_among-skip, skip_below, skip_other}
+use Rattle.paraid_base.proofs.SkipsLemmas.{index_among-skip, skip_below, skip_other}
 use Rattle.paraid_base.proofs.SoftLemmas.{cell_number_below, disk_of_cell_number, row_of_cell_number, soft_disk_below, soft_disk_other, soft_parity_disk_below, soft_stripe_below}
 use Rattle.paraid_base.proofs.SumsLemmas.{others_same, whole_from_others, xor_upto_same}
 use Rattle.paraid_base.proofs.XorLemmas.{xor_self}
@@ -100,7 +100,7 @@ module _ (v : View) (a s : ℕ) (low : 3 ≤ a) where
       let apart = skip_other p i in
       let t : (skip p i == p) ≡ false = grind (arith, nat_tests) in
       let past : nat_lt (number_at a s i) (v.meta.setup.geometry.rows * (n - a)) ≡ false = grind (arith, nat_tests) in
-      rw (t, place_among-skip p i, past) refl
+      rw (t, index_among-skip p i, past) refl
 
   pub copied_block-zero : xor_upto (copied_block v a s) a ≡ zero_block
   unfolding copied_block

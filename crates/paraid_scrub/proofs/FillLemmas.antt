@@ -5,7 +5,7 @@ use Rattle.std.proofs.Common.{refl, sym, ◌∙◌, ap, subst, arith, below_more
 use Rattle.paraid_base.specs.declared.block.Block.{Block}
 use Rattle.paraid_base.specs.Skips.{index_among, skip}
 use Rattle.paraid_base.specs.Soft.{cell_number, number_at, soft_disk, soft_index, soft_parity_disk, soft_stripe}
-use Rattle.paraid_base.proofs.SkipsLemmas.{skip-place_among, skip_apart}
+use Rattle.paraid_base.proofs.SkipsLemmas.{skip-index_among, skip_apart}
 use Rattle.paraid_base.proofs.SoftLemmas.{cell_number_below, number_at_cell, soft_disk_below, soft_disk_other, soft_places_differ}
 use Rattle.paraid_layout.specs.Pads.{IsPad}
 use Rattle.paraid_record.specs.declared.meta.Meta.{Meta}
@@ -31,7 +31,7 @@ module _ (v : View) (m : Meta) (e : v.meta ≡ m) (a s disk : ℕ) where
   index_is : disk ≢ soft_parity_disk a s → (i n r d : ℕ) → i ≡ index_among (soft_parity_disk a s) disk → soft_stripe n a r d ≡ s → soft_disk n a r d ≡ disk → soft_index n a r d ≡ i
   index_is apart i n r d is es ed =
       skip_apart (soft_parity_disk a s) (soft_index n a r d) i
-      (ap (λ (z : ℕ). skip (soft_parity_disk a z) (soft_index n a r d)) (sym es) ∙ ed ∙ sym (ap (skip (soft_parity_disk a s)) is ∙ skip-place_among (soft_parity_disk a s) disk apart))
+      (ap (λ (z : ℕ). skip (soft_parity_disk a z) (soft_index n a r d)) (sym es) ∙ ed ∙ sym (ap (skip (soft_parity_disk a s)) is ∙ skip-index_among (soft_parity_disk a s) disk apart))
 
   -- no cell has its copy in a pad
   pub pad_right : disk ≢ soft_parity_disk a s → (i : ℕ) → i ≡ index_among (soft_parity_disk a s) disk → IsPad m.setup.geometry.disks m.setup.geometry.rows a s i → IsCopyRight v a s disk

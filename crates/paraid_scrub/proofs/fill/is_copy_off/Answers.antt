@@ -7,7 +7,7 @@ use Rattle.std.proofs.Common.{◌≡◌, ◌≢◌, ◌∙◌, IsTrue, ap, sym, 
 use Rattle.std.specs.Prelude.{◌↔◌}
 use Rattle.paraid_base.specs.Skips.{index_among, skip}
 use Rattle.paraid_base.specs.Soft.{soft_disk, soft_parity_disk}
-use Rattle.paraid_base.proofs.SkipsLemmas.{skip-place_among}
+use Rattle.paraid_base.proofs.SkipsLemmas.{skip-index_among}
 use Rattle.paraid_image.specs.Value.{stripe}
 use Rattle.paraid_scrub.specs.Counts.{IsCopyRight}
 use Rattle.paraid_scrub.proofs.FillLemmas.{copy_off, none_off, pad_right, parity_right}
@@ -39,7 +39,7 @@ returns g c = record {
       let apart : c.args.disk ≢ soft_parity_disk c.args.gear c.args.at = (λ is. c.if-disk-parity.false (is ∙ sym c.soft_parity-parity.ensures.value)) in
       let index = c.index_among.ensures.value ∙ ap (λ z. index_among z c.args.disk) c.soft_parity-parity.ensures.value in
       let back = c.in-Some.ensures.back in
-      let on : soft_disk m.setup.geometry.disks c.args.gear c.in-Some.row c.in-Some.home ≡ c.args.disk = back.2 ∙ ap (skip (soft_parity_disk c.args.gear c.args.at)) index ∙ skip-place_among (soft_parity_disk c.args.gear c.args.at) c.args.disk apart in
+      let on : soft_disk m.setup.geometry.disks c.args.gear c.in-Some.row c.in-Some.home ≡ c.args.disk = back.2 ∙ ap (skip (soft_parity_disk c.args.gear c.args.at)) index ∙ skip-index_among (soft_parity_disk c.args.gear c.args.at) c.args.disk apart in
       keeps_so (λ v. c.args.stored.now ≡ stripe (g.C.Stored.meta c.args.core.now).setup.geometry v.block c.args.gear c.args.at c.args.disk → (IsTrue c.differs.result ↔ (IsCopyRight v c.args.gear c.args.at c.args.disk → ⊥))) c.in_ok-read_value.ensures.shown
       (λ v s is stored.
       copy_off v m ((g.met.C.Stored.agrees c.args.core.now v s).0 ∙ sym c.meta.ensures.value) c.args.gear c.args.at c.args.disk c.in-Some.row c.in-Some.home c.in-Some.ensures.row_in c.in-Some.ensures.parked c.in-Some.ensures.disk_in back.0 on
