@@ -12,18 +12,16 @@ ghost use Rattle.paraid_trace.specs.Answered.{answer_of, answer_with};
 use crate::Array;
 use crate::ended::Ended;
 use paraid_base::{BlockNo, Halt, Pairs};
+use paraid_gear::GREATEST_SAMPLE;
 use paraid_rack::Rack;
 use paraid_trace::{Answered, Beside, Brief};
-
-/// The greatest sample. More requests are not counted.
-const MOST: u32 = 1048576;
 
 // One request more, of which no more are counted than a sample may have.
 fn one_more(served: u32) -> u32
     ensures more { (n : ℕ) → served ≡ sample_of n → result ≡ sample_of (n + 1) }
     ensures cut { sample_of result ≡ sample_of (sample_of served + 1) }
 {
-    if served < MOST { served + 1 } else { served }
+    if served < GREATEST_SAMPLE { served + 1 } else { served }
 }
 
 impl<R: Rack> Array<R> {

@@ -7,7 +7,7 @@ use std::alloc::Global;
 use std::marker::Model;
 
 /// The most bits that a plan sets: two for each of eight blocks.
-pub const MOST: usize = 16;
+pub const MOST_CHANGES: usize = 16;
 
 /// A dirty bit that was set, and what it was.
 #[derive(Clone, Copy)]
@@ -39,7 +39,7 @@ impl Changes {
     pub fn new(alloc: Global) -> Result<Changes, NoMemory>
         ensures { IfOk result (λ changes. changes ≡ []) }
     {
-        let Ok(list) = Vec::with_capacity(alloc, MOST) else {
+        let Ok(list) = Vec::with_capacity(alloc, MOST_CHANGES) else {
             return Err(NoMemory);
         };
         Ok(Changes { list })

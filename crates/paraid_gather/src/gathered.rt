@@ -8,11 +8,11 @@ use crate::calls;
 use crate::noted::{Noted, note_out, note_write};
 use crate::run::Run;
 use paraid_base::{Block, DiskNo, Failed, NoMemory, Place};
-use paraid_rack::{Call, Power, Rack};
+use paraid_rack::{Call, MOST_SLOTS, Power, Rack};
 use std::alloc::Global;
 
 /// The most disks that a rack has.
-const SLOTS: usize = 8;
+const SLOTS: usize = MOST_SLOTS as usize;
 
 /// A rack that gathers what is written to the one that it owns.
 ///

@@ -9,4 +9,4 @@ mod window;
 mod windows;
 
 pub use decision::Decision;
-pub use windows::Windows;
+pub use windows::{GREATEST_SAMPLE, Windows};

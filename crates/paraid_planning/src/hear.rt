@@ -8,7 +8,7 @@ use paraid_io::{Line, LineFault, LineReader, Source};
 use paraid_trace::number;
 
 /// The most that a period may have.
-const MOST: u32 = 1_048_576;
+const GREATEST_NUMBER: u32 = 1_048_576;
 
 /// What a line of a demand says.
 #[derive(Clone, Copy)]
@@ -27,7 +27,7 @@ fn small_number(line: &[u8]) -> Option<u32>
     ensures none { IfNone result (IsNoNumber line.now) }
 {
     match number(line) {
-        Some(number) if number <= MOST => Some(number),
+        Some(number) if number <= GREATEST_NUMBER => Some(number),
         _ => None,
     }
 }

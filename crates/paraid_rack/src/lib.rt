@@ -9,4 +9,4 @@ mod call;
 mod rack;
 
 pub use call::{Call, Power};
-pub use rack::Rack;
+pub use rack::{MOST_SLOTS, Rack};

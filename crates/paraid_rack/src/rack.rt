@@ -8,6 +8,9 @@ ghost use Rattle.paraid_rack.specs.Told.{GrowsByCall};
 use crate::{Call, Power};
 use paraid_base::{Block, DiskNo, Failed, Place};
 
+/// The most slots of a rack.
+pub const MOST_SLOTS: u8 = 8;
+
 /// The slots of an array, at most 8, each with a disk or none.
 ///
 /// A failed call leaves its slot `Absent`, with its count of faults risen, until a done attach.

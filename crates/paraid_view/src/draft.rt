@@ -14,7 +14,7 @@ use std::alloc::Global;
 use std::marker::Model;
 
 /// The most targets of a draft: ten for each of eight blocks.
-pub const MOST: usize = 80;
+pub const DRAFT_ROOM: usize = 80;
 
 #[derive(Drop)]
 struct Drafted {
@@ -48,7 +48,7 @@ impl Draft {
     pub fn new(alloc: Global) -> Result<Draft, NoMemory>
         ensures { IfOk result (λ draft. draft ≡ []) }
     {
-        let Ok(drafted) = Vec::with_capacity(alloc, MOST) else {
+        let Ok(drafted) = Vec::with_capacity(alloc, DRAFT_ROOM) else {
             return Err(NoMemory);
         };
         Ok(Draft { drafted })
