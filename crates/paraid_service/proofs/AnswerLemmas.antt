@@ -15,14 +15,14 @@ use Rattle.paraid_volume.specs.declared.name.Name.{Name}
 use Rattle.paraid_volume.specs.declared.volumes.Volumes.{Volumes}
 use Rattle.paraid_volume.specs.Laid.{AreChanges, IsWith, IsWithout}
 use Rattle.paraid_volume.specs.TableCalls.{AreOfCreate, IsTableWrite, KeepsThen}
-use Rattle.paraid_volume.specs.Faults.{IsCreateFault, IsHalt, IsLeastFree, IsNew, IsPlaceFault}
+use Rattle.paraid_volume.specs.Faults.{CanCreate, IsCreateFault, IsHalt, IsLeastFree, IsPlaceFault}
 use Rattle.paraid_volume.specs.NameValues.{IsNameOf, letter_of}
 use Rattle.paraid_volume.specs.Tables.{IsLiveId, extent_count, extent_size}
 use Rattle.paraid_volume.specs.Values.{KeepsRead, KeepsWrite, device_of, halted_of, volume_table}
 use Rattle.paraid_volume_lines.specs.Grammar.{VolLine, create, delete, flush, read, write}
 use Rattle.paraid_volume_lines.specs.Texts.{created_text, deleted_text, flushed_text, read_text, written_text}
 use Rattle.paraid_service.specs.LineSteps.{RepliesHeld}
-use Rattle.paraid_service.specs.VolumeForms.{AreTabled, IsIdOf, IsLineRefused, IsNoName, IsReplyToLine, extents_of}
+use Rattle.paraid_service.specs.VolumeForms.{AreTabled, IsIdOf, IsLineRefused, IsNoName, IsReplyToLine}
 use Rattle.paraid_service.specs.VolumeForms.IsLineRefused.{all_named, exists, no_extents, no_space, no_volume, past_read, past_write}
 use Rattle.paraid_service.specs.VolumeForms.IsReplyToLine.{created, deleted, flushed, refused, told, wrote}
 use Rattle.paraid_service.specs.VolumeLines.{named_in}
@@ -125,18 +125,18 @@ module _ {B : Type 0} (g : Ghosts B) (old new : Volumes B g) where
         quiet (write word block bytes) _ (still (none ∙ sym was)) kept (refused table_of (write word block bytes) fault (write_refused blocks_of table_of word id block (halted_of new) n none bytes fault is))
 
   pub create_replies : (name : Name) (word : List ℕ) (extents : ℕ) (r : Result ℕ VolFault) → ((k : ℕ) → k < 16 → slice_index_or word k 0 ≡ letter_of name k) → halted_of old ≡ None → halted_of new ≡ None → g.block_count (device_of new) ≡ blocks_of
-      → IfErr r (IsCreateFault blocks_of table_of (halted_of new) name extents) → OnOk r (IsNew table_of name) → OnOk r (0 < extents) → OnOk r (extents ≤ extents_of blocks_of table_of 0) → IfOk r (IsLeastFree table_of)
+      → IfErr r (IsCreateFault blocks_of table_of (halted_of new) name extents) → OnOk r (CanCreate blocks_of table_of name extents) → IfOk r (IsLeastFree table_of)
       → IfOk r (λ id. IsWith id name extents (extent_count blocks_of) table_of (volume_table new)) → IfOk r (λ id. KeepsThen g.kept (AreOfCreate id (extent_size blocks_of) (extent_count blocks_of) table_of (volume_table new)) (device_of old) (device_of new))
       → OnErr r (volume_table new ≡ table_of) → OnErr r (halted_of new ≡ halted_of old → device_of new ≡ device_of old) → RepliesHeld g old new (create word extents) (created_text word r)
-  create_replies name word extents (Ok id) spells was none size fault fresh some room least with made kept still = record {
+  create_replies name word extents (Ok id) spells was none size fault can least with made kept still = record {
     grows = λ first events k. (
       made.made,
       made.grows first events k,
-      created table_of (volume_table new) word extents id made.made (no_id table_of name word spells fresh) some least room (tabled size) name with
+      created table_of (volume_table new) word extents id made.made (no_id table_of name word spells can.fresh) can.some least can.room (tabled size) name with
           (is_id (volume_table new) name word spells id (record { low = least.low; high = least.high; named = subst (λ (n : ℕ). 0 < n) (with.name 0 (omega arith)) name.some }) with.name) made.all,
     );
   }
-  create_replies name word extents (Err fault) spells was none size is fresh some room least with made kept still =
+  create_replies name word extents (Err fault) spells was none size is can least with made kept still =
       quiet (create word extents) _ (still (none ∙ sym was)) kept (refused table_of (create word extents) fault (create_refused table_of name word spells blocks_of extents (halted_of new) none fault is))
 
   pub delete_replies : (word : List ℕ) (id : ℕ) → IsIdOf table_of word id → g.block_count (device_of new) ≡ blocks_of → IsWithout id (extent_count blocks_of) table_of (volume_table new)

@@ -61,6 +61,13 @@ pub record IsLeastFree (content : ℕ → Block) (id : ℕ) : Type 0 where
   pub free : IsLiveId content id → ⊥
   pub least : (i : ℕ) → 1 ≤ i → i < id → IsLiveId content i
 
+-- A volume of this name and so many extents can be made: no volume has the name, it is to have some
+-- extents, and so many are free.
+pub record CanCreate (count : ℕ) (content : ℕ → Block) (name : Name) (extents : ℕ) : Type 0 where
+  pub fresh : IsNew content name
+  pub some : 0 < extents
+  pub room : extents ≤ extents_owned (owner_in content) 0 (extent_count count)
+
 -- why there is no new volume of this name and so many extents
 abbrev pub IsCreateFault : ℕ → (ℕ → Block) → Option Halt → Name → ℕ → VolFault → Type 0
 IsCreateFault count content halted name extents (VolHalt halt) = halted ≡ Some halt

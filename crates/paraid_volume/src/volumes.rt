@@ -40,7 +40,7 @@ impl<B: Blocks> Volumes<B> {
     ghost use Rattle.paraid_volume.specs.declared.fault.VolFault.TheVariants.{Already as AlreadyFault};
     ghost use Rattle.paraid_volume.specs.Laid.{AreChanges, IsWith, IsWithout};
     ghost use Rattle.paraid_volume.specs.TableCalls.{AreOfCreate, AreOfInit, AreRefusedReads, AreTableReads, IsTableWrite, KeepsThen, table_reads};
-    ghost use Rattle.paraid_volume.specs.Faults.{IsPlaceFault, IsAdoptFault, IsInitFault, IsIdFault, IsCreateFault, IsLeastFree, IsHalt, IsNew, IsServedBlock, vol_halt_in};
+    ghost use Rattle.paraid_volume.specs.Faults.{CanCreate, IsPlaceFault, IsAdoptFault, IsInitFault, IsIdFault, IsCreateFault, IsLeastFree, IsHalt, IsServedBlock, vol_halt_in};
     ghost use Rattle.paraid_volume.specs.States.{VolumeState, ShowsVolumes, Adds, AddsNoVolume, Makes, IsPlace, with_volume, without_volume, with_block};
     ghost use Rattle.paraid_volume.specs.Tables.{IsLiveId, extents_owned, owner_in};
     ghost use Rattle.paraid_volume.specs.Lives.{BeginsLife, HasLived, LivesMore, VolLog, create as CreateCall, delete as DeleteCall, read as ReadCall, write as WriteCall, flush as FlushCall, made as Made, removed as Removed, value as Gave, wrote as Wrote, flushed as Flushed, refused as Refused};
@@ -420,10 +420,8 @@ impl<B: Blocks> Volumes<B> {
         ensures fault { IfErr result (IsCreateFault (B.block_count (device_of self.now))
             (volume_table self.now) (halted_of self.now) name.now extents) }
         ensures halt { vol_halt_in result ≡ halted_of self.now }
-        ensures fresh { OnOk result (IsNew (volume_table self.now) name.now) }
-        ensures some { OnOk result (0 < extents) }
-        ensures room { OnOk result (extents ≤ extents_owned (owner_in (volume_table self.now)) 0
-            (count_of (B.block_count (device_of self.now)))) }
+        ensures served { OnOk result (CanCreate (B.block_count (device_of self.now))
+            (volume_table self.now) name.now extents) }
         ensures id { IfOk result (IsLeastFree (volume_table self.now)) }
     {
         if let Some(halt) = self.halt {
@@ -449,10 +447,8 @@ impl<B: Blocks> Volumes<B> {
     pub fn create(&mut self, name: &Name, extents: u32) -> Result<u8, VolFault>
         ensures fault { IfErr result (IsCreateFault (B.block_count (device_of self.old))
             (volume_table self.old) (halted_of self.new) name.now extents) }
-        ensures fresh { OnOk result (IsNew (volume_table self.old) name.now) }
-        ensures some { OnOk result (0 < extents) }
-        ensures room { OnOk result (extents ≤ extents_owned (owner_in (volume_table self.old)) 0
-            (count_of (B.block_count (device_of self.old)))) }
+        ensures served { OnOk result (CanCreate (B.block_count (device_of self.old))
+            (volume_table self.old) name.now extents) }
         ensures halt { halted_of self.new ≡ vol_halt_in result }
         ensures went { DeviceGoesOn B.block_count B.halts B.halted B.tells (device_of self.old)
             (device_of self.new) }

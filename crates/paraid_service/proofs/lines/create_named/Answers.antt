@@ -15,5 +15,5 @@ returns g c = record {
       (if_err_with _ _ c.create.result (λ fault x. x going from start log lived tells) e.lived_refused);
   reply = λ was none.
       let e = c.create.ensures in
-      create_replies g.B.Blocks c.args.volumes.now c.create.new.self c.args.name.now (word_of c.args.name.now) c.args.extents c.create.result (word_spells c.args.name.now) was none e.went.size e.fault e.fresh e.some e.room e.id e.next e.events e.refused e.untouched;
+      create_replies g.B.Blocks c.args.volumes.now c.create.new.self c.args.name.now (word_of c.args.name.now) c.args.extents c.create.result (word_spells c.args.name.now) was none e.went.size e.fault e.served e.id e.next e.events e.refused e.untouched;
 }

@@ -57,7 +57,7 @@ invariant_of-self g c =
       sized = v.sized ∙ ap extent_size (sym size);
       counted = v.counted ∙ ap extent_count (sym size);
       valid = subst (λ (n : ℕ). IsVolumeTable n next) (sym size)
-          (with_table count id c.args.extents c.args.name.now old next v.large v.valid least.low least.high least.free (c.in_ok-id.ensures.some) c.in_ok-id.ensures.room c.in_ok-id.ensures.fresh with);
+          (with_table count id c.args.extents c.args.name.now old next v.large v.valid least.low least.high least.free (c.in_ok-id.ensures.served.some) c.in_ok-id.ensures.served.room c.in_ok-id.ensures.served.fresh with);
       halted = c.in-Ok.ensures.halt ∙ c.in_ok-id.ensures.halt;
     }
 
@@ -86,7 +86,7 @@ returns-in-Ok-clause-makes g c = λ from h s stands shows tells.
     let next = in_table c.with-next.result in
     let with : IsWith c.in_ok-id.id c.args.name.now c.args.extents (extent_count count) old next =
     subst (λ (m : ℕ). IsWith id c.args.name.now c.args.extents m old next) v.counted c.with-next.ensures in
-    let some : 1 ≤ c.args.extents = c.in_ok-id.ensures.some in
+    let some : 1 ≤ c.args.extents = c.in_ok-id.ensures.served.some in
     let made = c.in-Ok.ensures.makes from h stands.0 tells in
     let mid = h ++ made.more in
     let new = (h ++ made.more) ++ made.entry ∷ [] in
@@ -106,9 +106,9 @@ returns-in-Ok-clause-makes g c = λ from h s stands shows tells.
     (λ e l. sym (same_owner next (after_all new) same e (few_of e _ _ l refl few))) inside in
     let free = λ (live : _). least.free (same_live (after_all h) old (back old (after_all h) stands.1) id live) in
     let fresh = λ (i : ℕ) (live : _) (named : _).
-    c.in_ok-id.ensures.fresh i (same_live (after_all h) old (back old (after_all h) stands.1) i live) (λ k l. named k l ∙ sym (same_name old (after_all h) stands.1 i k)) in
+    c.in_ok-id.ensures.served.fresh i (same_live (after_all h) old (back old (after_all h) stands.1) i live) (λ k l. named k l ∙ sym (same_name old (after_all h) stands.1 i k)) in
     let owned_same = same_owned old (after_all h) stands.1 0 (extent_count count) few in
-    let room : c.args.extents ≤ extents_owned (owner_in (after_all h)) 0 (extent_count count) = subst (λ (n : ℕ). c.args.extents ≤ n) owned_same c.in_ok-id.ensures.room in
+    let room : c.args.extents ≤ extents_owned (owner_in (after_all h)) 0 (extent_count count) = subst (λ (n : ℕ). c.args.extents ≤ n) owned_same c.in_ok-id.ensures.served.room in
     record {
       more = made.more;
       entry = made.entry;
@@ -125,12 +125,12 @@ pub returns-in-Ok-clause-lived : goal.returns-in-Ok-clause-lived
 returns-in-Ok-clause-lived g c = λ from start log lived tells.
     let v = c.args.self.now in
     lived_create _ _ _ start log lived (letter_of c.args.name.now) c.args.extents c.in_ok-id.id (record { field = c.args.name.now.field; some = c.args.name.now.some })
-    (c.in_ok-id.ensures.some)
+    (c.in_ok-id.ensures.served.some)
     (λ h s stands shows.
     let free = free_is _ (in_table v.table) (after_all h) s stands.1 shows v.large in (
-      unused _ (in_table v.table) (after_all h) s stands.1 shows c.args.name.now c.in_ok-id.ensures.fresh,
+      unused _ (in_table v.table) (after_all h) s stands.1 shows c.args.name.now c.in_ok-id.ensures.served.fresh,
       least_unnamed _ (in_table v.table) (after_all h) s stands.1 shows c.in_ok-id.id c.in_ok-id.ensures.id,
-      subst (λ (n : ℕ). c.args.extents ≤ n) (sym free) c.in_ok-id.ensures.room,
+      subst (λ (n : ℕ). c.args.extents ≤ n) (sym free) c.in_ok-id.ensures.served.room,
     ))
     (λ h s stands shows. returns-in-Ok-clause-makes g c from h s stands shows tells)
 
@@ -141,9 +141,7 @@ returns-in_err-id g c =
     let due : IfErr c.from_residual.result (IsCreateFault (g.B.Blocks.block_count (device_of v)) (volume_table v) (halted_of v) c.args.name.now c.args.extents) = rw (p.1, p.2) c.in_err-id.ensures.fault in
     record {
       fault = due;
-      fresh = rw p.1 tt;
-      some = rw p.1 tt;
-      room = rw p.1 tt;
+      served = rw p.1 tt;
       halt = rw (p.1, p.2) (sym c.in_err-id.ensures.halt);
       went = DeviceGoesOn-none _ _ _ _ _;
       grown = KeepsMore-none _ _ _ _;
@@ -163,9 +161,7 @@ returns-in_err-id g c =
 pub returns-in-Err : goal.returns-in-Err
 returns-in-Err g c = record {
   fault = refl;
-  fresh = tt;
-  some = tt;
-  room = tt;
+  served = tt;
   halt = refl;
   went = c.make.ensures.went;
   grown = c.make.ensures.grown;
@@ -210,14 +206,8 @@ returns-in-Ok-clause-untouched g c = tt
 pub returns-in-Ok-clause-lived_refused : goal.returns-in-Ok-clause-lived_refused
 returns-in-Ok-clause-lived_refused g c = tt
 
-pub returns-in-Ok-clause-fresh : goal.returns-in-Ok-clause-fresh
-returns-in-Ok-clause-fresh g c = c.in_ok-id.ensures.fresh
-
-pub returns-in-Ok-clause-some : goal.returns-in-Ok-clause-some
-returns-in-Ok-clause-some g c = c.in_ok-id.ensures.some
-
-pub returns-in-Ok-clause-room : goal.returns-in-Ok-clause-room
-returns-in-Ok-clause-room g c = c.in_ok-id.ensures.room
+pub returns-in-Ok-clause-served : goal.returns-in-Ok-clause-served
+returns-in-Ok-clause-served g c = c.in_ok-id.ensures.served
 
 pub returns-in-Ok-clause-id : goal.returns-in-Ok-clause-id
 returns-in-Ok-clause-id g c = c.in_ok-id.ensures.id
