@@ -5,7 +5,7 @@ ghost use Rattle.paraid_trace.specs.StateTexts.{numbers_text};
 
 use crate::Unplanned;
 use paraid_base::NoMemory;
-use paraid_schedule::Plan;
+use paraid_schedule::GearPlan;
 use paraid_trace::Text;
 use std::alloc::Global;
 
@@ -42,7 +42,7 @@ fn push_gears(text: &mut Vec<u8>, gears: &[u8]) -> Result<(), NoMemory>
 }
 
 /// The lines of a plan.
-pub fn plan_text(alloc: Global, plan: &Plan) -> Result<Vec<u8>, NoMemory>
+pub fn plan_text(alloc: Global, plan: &GearPlan) -> Result<Vec<u8>, NoMemory>
     ensures { IfOk result (λ text. text.items ≡ plan_lines plan.now.cost plan.now.gears) }
 {
     let mut text = Vec::new(alloc);

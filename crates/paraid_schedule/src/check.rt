@@ -9,7 +9,7 @@ ghost use Rattle.paraid_schedule.specs.Bounds.{no_bound, row_start as row_of, bo
 ghost use Rattle.paraid_schedule.specs.Plan.{IsCertified, IsLeastCost};
 ghost use Rattle.paraid_energy.specs.Account.{HasFigures};
 
-use crate::Plan;
+use crate::GearPlan;
 use paraid_base::Geometry;
 use paraid_energy::Ledger;
 use paraid_record::Setup;
@@ -19,7 +19,7 @@ const NONE: u64 = 1 << 62;
 
 /// Whether a plan's gears are a schedule, its cost is theirs, its bounds are right, and the bound
 /// of the start is the cost. Then no schedule costs less.
-pub fn check_plan(setup: &Setup, demand: &[u32], ups: u16, plan: &Plan) -> bool
+pub fn check_plan(setup: &Setup, demand: &[u32], ups: u16, plan: &GearPlan) -> bool
     requires demand { IsDemand demand.now }
     requires few { ups ≤ 256 }
     requires ration { ups ≤ setup.now.ration }

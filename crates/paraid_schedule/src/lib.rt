@@ -11,5 +11,5 @@ mod plan;
 mod planner;
 
 pub use check::check_plan;
-pub use plan::{Plan, PlanFault};
+pub use plan::{GearPlan, PlanFault};
 pub use planner::plan_gears;

@@ -19,13 +19,13 @@ pub enum PlanFault {
 /// A schedule of gears, what it costs in millijoules, and the bounds that show that none costs
 /// less. What it claims is for `check_plan` to check.
 #[derive(Drop)]
-pub struct Plan {
+pub struct GearPlan {
     gears: Vec<u8>,
     cost: u64,
     bounds: Vec<u64>,
 }
 
-impl Model for Plan {
+impl Model for GearPlan {
     ghost use Rattle.paraid_schedule.specs.Plan.{Claim};
 
     ghost Value = { Claim };
@@ -33,12 +33,12 @@ impl Model for Plan {
     ghost view = { λ p. record { gears = p.gears.items; cost = p.cost; bounds = p.bounds.items } };
 }
 
-impl Plan {
+impl GearPlan {
     /// The plan that claims this.
-    pub fn from_parts(gears: Vec<u8>, cost: u64, bounds: Vec<u64>) -> Plan
+    pub fn from_parts(gears: Vec<u8>, cost: u64, bounds: Vec<u64>) -> GearPlan
         ensures { result ≡ record { gears = gears.items; cost = cost; bounds = bounds.items } }
     {
-        Plan {
+        GearPlan {
             gears,
             cost,
             bounds,

@@ -9,7 +9,7 @@ ghost use Rattle.paraid_schedule.specs.Bounds.{no_bound, row_start, bound_count,
 ghost use Rattle.paraid_schedule.specs.Solved.{AreLoweredBy, IsMetBy, IsSolvedAt, AreSolvedFrom, DifferInRow, AreSameIn, IsWalk};
 ghost use Rattle.paraid_schedule.specs.Plan.{IsCertified, IsLeastCost, IsPlanFault};
 
-use crate::{Plan, PlanFault};
+use crate::{GearPlan, PlanFault};
 use paraid_base::{Geometry, NoMemory};
 use paraid_record::Setup;
 use std::alloc::Global;
@@ -18,7 +18,12 @@ use std::alloc::Global;
 const NONE: u64 = 1 << 62;
 
 /// The cheapest schedule for a demand with at most `ups` steps up, and the bounds that show it.
-pub fn plan_gears(alloc: Global, setup: &Setup, demand: &[u32], ups: u16) -> Result<Plan, PlanFault>
+pub fn plan_gears(
+    alloc: Global,
+    setup: &Setup,
+    demand: &[u32],
+    ups: u16,
+) -> Result<GearPlan, PlanFault>
     requires few { ups ≤ 256 }
     requires ration { ups ≤ setup.now.ration }
     ensures certified { IfOk result (λ plan. IsCertified setup.now demand.now ups plan) }
@@ -36,7 +41,7 @@ pub fn plan_gears(alloc: Global, setup: &Setup, demand: &[u32], ups: u16) -> Res
         return Err(PlanFault::NoMemory);
     };
     let cost = bounds[place(&setup.geometry, ups, 0, setup.geometry.disks) + ups as usize];
-    Ok(Plan::from_parts(gears, cost, bounds))
+    Ok(GearPlan::from_parts(gears, cost, bounds))
 }
 
 /// Whether a demand has 1 to 1,024 periods with at most 1,048,576 each.

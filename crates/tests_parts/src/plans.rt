@@ -2,7 +2,7 @@ ghost use Rattle.std.specs.Prelude.{◌≡◌, ◌≤◌, IfSome};
 
 use paraid_base::Geometry;
 use paraid_record::{Mode, Setup};
-use paraid_schedule::{Plan, PlanFault, check_plan, plan_gears};
+use paraid_schedule::{GearPlan, PlanFault, check_plan, plan_gears};
 use std::alloc::Global;
 
 // Five disks with gears 4 and 5, where gear 4 serves less than 320.
@@ -27,7 +27,7 @@ fn five_disks() -> Option<Setup>
 }
 
 // The cheapest plan for a demand, or what it is refused by.
-fn plan_of(alloc: Global, demand: &[u32], ups: u16) -> Option<Result<Plan, PlanFault>> {
+fn plan_of(alloc: Global, demand: &[u32], ups: u16) -> Option<Result<GearPlan, PlanFault>> {
     let setup = five_disks()?;
     if ups > 100 {
         return None;
@@ -81,7 +81,7 @@ fn are_certified(alloc: Global, demand: &[u32], cost: u64) -> Option<[bool; 2]> 
     };
     let gears = Vec::from_slice(alloc, plan.gears()).ok()?;
     let bounds = Vec::from_slice(alloc, plan.bounds()).ok()?;
-    let lower = Plan::from_parts(gears, cost, bounds);
+    let lower = GearPlan::from_parts(gears, cost, bounds);
     let is_certified = check_plan(&setup, demand, 0, &plan);
     Some([is_certified, check_plan(&setup, demand, 0, &lower)])
 }
