@@ -20,8 +20,11 @@ ghost use Rattle.paraid_machine.specs.Moves.{units_left, units_of_tick, units_to
 ghost use Rattle.paraid_record.specs.declared.meta.Setup.{Setup as SetupType};
 ghost use Rattle.paraid_progress.specs.Progress.{AnswersEach, AnswersTell, AreMild, IsToldBy, TellsUnits, ticks_in};
 
-/// A shift under way ends by a tick that is answered `flipped`, once the ticks have room for the
-/// units that are left: their number times the rate is no less. One tick is needed where none is left.
+/// A shift under way ends by a tick that is answered `flipped`, if at least one of the events is a
+/// tick, and the number of ticks times the rate is at least the number of units that are left. A
+/// unit is a dirty cell to copy or a stripe to fill; the rate of the setup is in units a tick.
+///
+/// No disk is out or fails, and no event asks for a shift, takes a disk out or replaces one.
 pub fn a_shift_ends()
     ensures { (setup : SetupType) (s : PowerState) (steps : List (EventType × AnswerType))
         → s.out ≡ No → 0 < phase_to s.phase → AnswersEach setup s steps → AreMild steps
@@ -29,7 +32,10 @@ pub fn a_shift_ends()
         → AnswersTell Flipped steps }
 {}
 
-/// A rebuild under way ends so by a tick that is answered `rebuilt`.
+/// A rebuild under way ends by a tick that is answered `rebuilt`, if at least one of the events is a
+/// tick, and the number of ticks times the rate is at least the number of units that are left of it.
+///
+/// No other disk is out, none fails, and no event asks for a shift, takes a disk out or replaces one.
 pub fn a_rebuild_ends()
     ensures { (setup : SetupType) (s : PowerState) (d rebuilt : ℕ) (steps : List (EventType × AnswerType))
         → s.out ≡ Fresh d rebuilt → AnswersEach setup s steps → AreMild steps
