@@ -8,7 +8,6 @@ pub mod BlockAnswers
 pub mod Skips
 pub mod Cells
 pub mod Soft
-pub mod Places
 pub mod Log
 pub mod Regions
 pub mod Gears

@@ -1,4 +1,4 @@
-pub mod TurnsLemmas
+pub mod PowerCallsLemmas
 pub mod AboveLemmas
 pub mod OutLemmas
 pub mod FollowsLemmas

@@ -1,5 +1,5 @@
 pub mod Waiting
-pub mod Turns
+pub mod PowerCalls
 pub mod Bulk
 pub mod Above
 pub mod Does

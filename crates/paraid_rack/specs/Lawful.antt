@@ -21,7 +21,7 @@ abbrev pub AreLawful : Disks → List Call → Type 0
 AreLawful s [] = Unit {0}
 AreLawful s (c ∷ cs) = IsLawful s c × AreLawful (step c s) cs
 
--- each has one proof
+-- a law of one call has one proof
 pub IsLawful-prop : (s : Disks) (c : Call) → IsProp (IsLawful s c)
 IsLawful-prop s (Read d p done) = hlevel props
 IsLawful-prop s (Write d p b done) = hlevel props
@@ -30,6 +30,7 @@ IsLawful-prop s (Park d done) = hlevel props
 IsLawful-prop s (SpinUp d done) = hlevel props
 IsLawful-prop s (Attach d size done) = hlevel props
 
+-- so has that of several
 pub AreLawful-prop : (s : Disks) (cs : List Call) → IsProp (AreLawful s cs)
 AreLawful-prop s [] = hlevel props
 AreLawful-prop s (c ∷ cs) = let first = IsLawful-prop s c in let rest = AreLawful-prop (step c s) cs in hlevel (props, first, rest)
