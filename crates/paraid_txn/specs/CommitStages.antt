@@ -60,11 +60,11 @@ pub record IsSpelled (j : Job) : Type 0 where
   pub list : j.list.bytes ≡ targets_bytes (targets j.batch)
   pub first : j.first < 2
 
--- the log disk that the commit leaves alone, and the disk whose targets it leaves out
+-- the log disk that the commit leaves alone
 abbrev pub job_named : Job → Option ℕ
 job_named j = j.left
 
--- the disk that the new meta names out and gone
+-- the disk that the new meta names gone, whose targets the commit leaves out
 abbrev pub job_gone : Job → Option ℕ
 job_gone j = gone_out j.meta.out
 
@@ -80,7 +80,7 @@ GetsTargets j d = job_gone j ≢ Some d
 abbrev pub target_block : Job → ℕ → Block
 target_block j k = get_or (batch_blocks j.batch) k zero_block
 
--- the block at a place past the log, before and with the batch laid over
+-- the block at a place past the log before the batch is laid over
 abbrev pub block_before : Job → ℕ → ℕ → Block
 block_before j d p = j.start.block d p
 
@@ -127,7 +127,7 @@ pub record IsBatchLogged (j : Job) (s : Disks) (x : ℕ) : Type 0 where
   pub list : IsSure s x (list_place 0) (IsBlock j.list)
   pub blocks : (k : ℕ) → k < length j.batch → IsSure s x (body_place k) (IsBlock (target_block j k))
 
--- not loose
+-- a place is not loose
 abbrev pub IsSyncedPlace : Disks → ℕ → ℕ → Type 0
 IsSyncedPlace s d p = IsSure s d p (λ b. Unit {0})
 
@@ -135,7 +135,7 @@ IsSyncedPlace s d p = IsSure s d p (λ b. Unit {0})
 pub record AllSynced (s : Disks) : Type 0 where
   pub synced : (d p : ℕ) → IsSyncedPlace s d p
 
--- all but what disk `k` holds, if it is written at all
+-- nothing is loose but what disk `k` holds, if the commit writes it at all
 pub record SyncedBut (skip : Option ℕ) (k : ℕ) (s : Disks) : Type 0 where
   pub synced : (d p : ℕ) → (skip ≢ Some k → d ≢ k) → IsSyncedPlace s d p
 
@@ -159,18 +159,18 @@ pub record LogCore (j : Job) (k : ℕ) (s : Disks) : Type 0 where
   pub logged : (x : ℕ) → x < k → IsLiveLog j x → IsBatchLogged j s x
   pub held : ContentsAreOld j s
 
--- between two log disks
+-- Step 1 between two log disks: those below `k` are logged, and nothing is loose.
 pub record LogStage (j : Job) (k : ℕ) (s : Disks) : Type 0 where
   pub core : LogCore j k s
   pub synced : AllSynced s
 
--- with the meta of the batch written on disk `k`
+-- Step 1 on disk `k`: the meta of the batch is written, and not synced.
 pub record LogMeta (j : Job) (k : ℕ) (s : Disks) : Type 0 where
   pub core : LogCore j k s
   pub synced : SyncedBut (job_named j) k s
   pub meta : job_named j ≢ Some k → IsSeen s k 2 (IsBlock j.spelled)
 
--- with the list and the first `n` blocks too
+-- Step 1 on disk `k`: the meta, the list and the first `n` blocks are written, and not synced.
 pub record LogIn (j : Job) (k n : ℕ) (s : Disks) : Type 0 where
   pub core : LogCore j k s
   pub synced : SyncedBut (job_named j) k s
@@ -188,12 +188,12 @@ pub record OpenCore (j : Job) (k : ℕ) (s : Disks) : Type 0 where
   pub waiting : (n : ℕ) → k < n → n < 2 → IsLiveLog j (job_log j n) → IsGateClosed s (job_log j n)
   pub held : ContentsAreOld j s
 
--- so many gates are open
+-- Step 2 between two gates: the first `k` are open, and nothing is loose.
 pub record OpenStage (j : Job) (k : ℕ) (s : Disks) : Type 0 where
   pub core : OpenCore j k s
   pub synced : AllSynced s
 
--- with the next gate written
+-- Step 2: the first `k` gates are open, and the next one is written open, not synced.
 pub record OpenIn (j : Job) (k : ℕ) (s : Disks) : Type 0 where
   pub core : OpenCore j k s
   pub synced : SyncedBut (job_named j) (job_log j k) s
@@ -207,12 +207,12 @@ pub record LayCore (j : Job) (s : Disks) : Type 0 where
   pub others : (d p : ℕ) → job_map_start j ≤ p → (names_place j.batch d p ≡ true) ⊎ IsSure s d p (IsBlock (block_before j d p))
   pub synced : (d p : ℕ) → ((names_place j.batch d p ≡ true) × GetsTargets j d) ⊎ IsSyncedPlace s d p
 
--- with the first `n` targets written
+-- Step 3: the first `n` targets are written, and not synced.
 pub record LayIn (j : Job) (n : ℕ) (s : Disks) : Type 0 where
   pub core : LayCore j s
   pub held : (d p : ℕ) → GetsTargets j d → job_map_start j ≤ p → IsSeen s d p (IsBlock (overlaid_block (take n j.batch) d p (block_before j d p)))
 
--- with all targets written, and the disks below `n` synced
+-- Step 3: all targets are written, and the disks below `n` are synced.
 pub record SyncIn (j : Job) (n : ℕ) (s : Disks) : Type 0 where
   pub core : LayCore j s
   pub held : (d p : ℕ) → GetsTargets j d → job_map_start j ≤ p → IsSeen s d p (IsBlock (block_with_batch j d p))
@@ -226,12 +226,12 @@ pub record MarkCore (j : Job) (k : ℕ) (s : Disks) : Type 0 where
   pub meta : (x : ℕ) → x < k → IsLiveLog j x → IsSure s x 1 (IsBlock j.spelled)
   pub held : ContentsAreNew j s
 
--- so many log disks have the new meta
+-- Step 4 between two log disks: those below `k` have the new meta, and nothing is loose.
 pub record MarkStage (j : Job) (k : ℕ) (s : Disks) : Type 0 where
   pub core : MarkCore j k s
   pub synced : AllSynced s
 
--- with the meta of disk `k` written
+-- Step 4: the log disks below `k` have the new meta, and it is written on disk `k`, not synced.
 pub record MarkIn (j : Job) (k : ℕ) (s : Disks) : Type 0 where
   pub core : MarkCore j k s
   pub synced : SyncedBut (job_named j) k s
@@ -245,12 +245,12 @@ pub record CloseCore (j : Job) (k : ℕ) (s : Disks) : Type 0 where
   pub shut : (x : ℕ) → x < k → IsLiveLog j x → IsGateClosed s x
   pub held : ContentsAreNew j s
 
--- so many gates are closed again
+-- Step 5 between two gates: those of the log disks below `k` are closed, and nothing is loose.
 pub record CloseStage (j : Job) (k : ℕ) (s : Disks) : Type 0 where
   pub core : CloseCore j k s
   pub synced : AllSynced s
 
--- with the gate of disk `k` written
+-- Step 5: the gates of the log disks below `k` are closed, and that of disk `k` is written closed, not synced.
 pub record CloseIn (j : Job) (k : ℕ) (s : Disks) : Type 0 where
   pub core : CloseCore j k s
   pub synced : SyncedBut (job_named j) k s
@@ -266,8 +266,8 @@ pub record IsEarlyImage (j : Job) (i : Disks) : Type 0 where
       → (y : ℕ) → IsLiveLog j y → IsPresent i y → is_open (i.block y 0) ≡ false
   pub held : (d p : ℕ) → IsPresent i d → job_map_start j ≤ p → i.block d p ≡ block_before j d p
 
--- And from then on: each live log disk is open with the batch, or closed over the new meta with
--- the batch laid.
+-- What a stop may leave from the first write of a target on: each live log disk is open with the batch,
+-- or closed over the new meta with the batch laid.
 pub record IsLateImage (j : Job) (i : Disks) : Type 0 where
   pub kept : KeepsSlotsAndLogs j i
   pub sides : (x : ℕ) → IsLiveLog j x → IsPresent i x
@@ -283,7 +283,7 @@ pub record HoldsEarly (j : Job) (s : Disks) : Type 0 where
   pub aside : (i : Disks) → IsLeftByStop s i → (y p : ℕ) → y < 2 → job_named j ≡ Some y → p < job_map_start j → IsPresent i y
       → i.block y p ≡ j.start.block y p
 
--- and from then on
+-- what holds at every moment from the first write of a target on, of all that a stop may leave there
 pub record HoldsLate (j : Job) (s : Disks) : Type 0 where
   pub late : (i : Disks) → IsLeftByStop s i → IsLateImage j i
   pub aside : (i : Disks) → IsLeftByStop s i → (y p : ℕ) → y < 2 → job_named j ≡ Some y → p < job_map_start j → IsPresent i y
@@ -305,7 +305,7 @@ pub data IsTrueWitness (j : Job) (before : Meta) (i : Disks) (p : ℕ) : Type 0 
       → IsTrueWitness j before i p
   by_new : IsMissing i.power j.meta p → IsLateImage j i → IsTrueWitness j before i p
 
--- so are all that a stop may leave, with any slots lost
+-- each witness of all that a stop may leave, with any slots lost, is a true one
 abbrev pub HoldsWitnesses : Job → Meta → Disks → Type 0
 HoldsWitnesses j before s = (i : Disks) → IsLeftByStop s i → (p : ℕ) → p < 2 → is_open (stored_block i 2 p) ≡ true
     → IsTrueWitness j before i p
@@ -337,17 +337,17 @@ pub record FirstStage (j : Job) (before : Meta) (s : Disks) : Type 0 where
   pub single : (d e : ℕ) → IsMissing s.power before d → IsMissing s.power before e → d ≡ e
   pub old : BeganTrue j before → (p : ℕ) → p < 2 → IsWitnessClosed j s p ⊎ IsMissing s.power before p
 
--- as its five steps begin
+-- As the five steps begin: nothing is written, and the witnesses are settled if they were true.
 pub record SettledStage (j : Job) (before : Meta) (s : Disks) : Type 0 where
   pub stage : LogStage j 0 s
   pub settled : BeganTrue j before → AreWitnessesSettled j before s
 
--- as they end
+-- As the five steps end: the gates are closed, and the witnesses are settled if they were true.
 pub record LaidStage (j : Job) (before : Meta) (s : Disks) : Type 0 where
   pub stage : CloseStage j 2 s
   pub settled : BeganTrue j before → AreWitnessesSettled j before s
 
--- and with the last witness
+-- As the commit ends, its last witness written: each that is borne is a true one.
 pub record LastStage (j : Job) (before : Meta) (s : Disks) : Type 0 where
   pub stage : CloseStage j 2 s
   pub witnesses : BeganTrue j before → HoldsWitnesses j before s

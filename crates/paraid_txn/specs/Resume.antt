@@ -42,7 +42,7 @@ pub record ImageStandsForResumed (s : Disks) (x : ℕ) (said : LogState) (i : Di
   pub kept : KeepsSlots s i
   pub witnesses : (p : ℕ) → p < 2 → IsPresent i 2 → i.block 2 p ≡ s.block 2 p
 
--- The calls from the one record to the other leave that at each moment.
+-- At each moment of the calls from the one record to the other, an image stands for what is resumed.
 abbrev pub StandsWhileResumed : Option Trail → Option Trail → ℕ → LogState → Type 0
 StandsWhileResumed old new x said = Ran old new (λ start calls. IsResumable start x said
     → Through (IsEachImage said.meta said.meta (ImageStandsForResumed start x said)) start calls)
@@ -54,7 +54,7 @@ pub record EndsResume (end : Disks) (m : Meta) : Type 0 where
   pub shut : AreLogGatesClosed end m
   pub rest : IsOneMissing end.power m m → IsAtRest end m
 
--- a broken start is resumed: the calls end in the state that a commit of this meta leaves
+-- the calls of a resumption end in the state that a commit of this meta leaves
 abbrev pub EndsAsCommitted : Option Trail → Option Trail → ℕ → LogState → Type 0
 EndsAsCommitted old new x said = Ran old new (λ start calls. IsResumable start x said → EndsResume (run start calls) said.meta)
 
@@ -127,28 +127,28 @@ pub record AreOthersSame (j : Job) (y : ℕ) (s : Disks) : Type 0 where
   pub kept : KeepsSlotsAndLogs j s
   pub rest : (d p : ℕ) → (d ≡ y → 2 ≤ p) → IsSure s d p (IsBlock (j.start.block d p))
 
--- its meta is written
+-- The meta is written to log disk `y`, not synced, and its gate is as it was.
 pub record ShutMeta (j : Job) (y : ℕ) (s : Disks) : Type 0 where
   pub core : AreOthersSame j y s
   pub gate : IsSure s y 0 (IsBlock (j.start.block y 0))
   pub meta : job_named j ≢ Some y → IsSeen s y 1 (IsBlock j.spelled)
   pub synced : SyncedBut (job_named j) y s
 
--- and synced
+-- The meta is kept on log disk `y`, and its gate is as it was.
 pub record ShutMetaSynced (j : Job) (y : ℕ) (s : Disks) : Type 0 where
   pub core : AreOthersSame j y s
   pub gate : IsSure s y 0 (IsBlock (j.start.block y 0))
   pub meta : job_named j ≢ Some y → IsSure s y 1 (IsBlock j.spelled)
   pub synced : AllSynced s
 
--- its gate is written
+-- The meta is kept on log disk `y`, and its gate is written closed, not synced.
 pub record ShutIn (j : Job) (y : ℕ) (s : Disks) : Type 0 where
   pub core : AreOthersSame j y s
   pub meta : job_named j ≢ Some y → IsSure s y 1 (IsBlock j.spelled)
   pub gate : job_named j ≢ Some y → IsSeen s y 0 (λ b. is_open b ≡ false)
   pub synced : SyncedBut (job_named j) y s
 
--- and synced
+-- The meta is kept on log disk `y`, its gate is closed, and nothing is loose.
 pub record ShutSynced (j : Job) (y : ℕ) (s : Disks) : Type 0 where
   pub core : AreOthersSame j y s
   pub meta : job_named j ≢ Some y → IsSure s y 1 (IsBlock j.spelled)
@@ -160,7 +160,7 @@ pub record ShutStill (j : Job) (y : ℕ) (s : Disks) : Type 0 where
   pub core : AreDisksSame j s
   pub shut : IsLiveLog j y → IsPresent s y → is_open (s.block y 0) ≡ false
 
--- so it ends
+-- log disk `y` is closed: it was not open before, or it is closed over the meta now
 abbrev pub ShutEnd : Job → ℕ → Disks → Type 0
 ShutEnd j y s = ShutStill j y s ⊎ ShutSynced j y s
 
