@@ -120,7 +120,8 @@ GoesOnByEvent count told old new event answer = (p : Point) → ArrayStandsAt co
     → Ran (told_of_array told old) (told_of_array told new)
     (GoesOn (count (core_rack old.core)) old.setup p event answer (ArrayStandsAt count told new))
 
--- So the array answers an event, over the same slots: what is told is longer by its calls, and the answer has its cause.
+-- The array answers an event, over the same slots: each point at which it stood goes to one at which it
+-- stands, what is told is longer by its calls, and the answer has its cause.
 pub record AnswersEvent {R : Type 0} {g : _} (count : R → ℕ) (slot : R → ℕ → Slot) (told : R → Option Trail) (old new : Array R g) (event : Event) (answer : Answer) : Type 0 where
   pub turn : GoesOnByEvent count told old new event answer
   pub grows : Extends (told_of_array told old) (told_of_array told new)

@@ -42,6 +42,7 @@ pub record StandsAtFirst (told : Option Trail) (k : Service) (setup : Setup) (p 
   pub stands : StandsAt told k setup p
   pub kept : p.low ≡ k.meta.writes
 
--- so it is of a core for which no sample, no request and no energy is counted yet
+-- The array stands at this point of a session by a core for which no sample, no request and no energy is
+-- counted yet.
 abbrev pub StandsBegun : {R : Type 0} {g : _} → (R → ℕ) → (R → Option Trail) → Core R g → Point → Type 0
 StandsBegun count told core = StandsAtFirst (told (core_rack core)) (service_of count core [] 0 0) core.meta.setup

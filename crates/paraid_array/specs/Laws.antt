@@ -54,7 +54,7 @@ shown_as slot a fits synced = record { setup = refl; slot = refl; halt = refl; g
 abbrev shown_but : {R : Type 0} {g : _} → (R → ℕ → Slot) → Array R g → Setup → ℕ → Option Halt → List ℕ → ℕ → ℕ → Shown
 shown_but slot a z n h l k gear = record { setup = z; meta = a.core.meta; dirty = dirty_of_array a; slot = slot_of_array slot a; gear = gear; energy = n; samples = l; served = k; halt = h }
 
--- and as it begins it has its own setup, no energy used, no sample, no request and no halt
+-- what is seen of an array as it begins: its own setup, no energy used, no sample, no request and no halt
 pub begins_as : {R : Type 0} {g : _} (slot : R → ℕ → Slot) (a : Array R g) → a.setup ≡ a.core.meta.setup → a.ledger.total ≡ 0 → halt_of_end a.ended ≡ None → samples_of_array a ≡ [] → served_of_array a ≡ 0
     → shown_of_array slot a ≡ record { setup = a.core.meta.setup; meta = a.core.meta; dirty = dirty_of_array a; slot = slot_of_array slot a; gear = a.core.meta.gear; energy = 0; samples = []; served = 0; halt = None }
 begins_as slot a setup energy going samples served =
@@ -70,7 +70,7 @@ pub absent_out : {R : Type 0} {g : _} (count : R → ℕ) (slot : R → ℕ → 
     → IsAbsentOut setup (named_out core.meta.out) (slot (store_rack core.store))
 absent_out count slot core lengths setup slots q x low away = q.serving.ready.absent x (subst (λ (z : Setup). x < z.geometry.disks) (sym q.same_setup) low) away
 
--- so it has at most one absent disk
+-- an array that serves has at most one absent disk
 pub not_double : {R : Type 0} {g : _} (count : R → ℕ) (slot : R → ℕ → Slot) (core : Core R g) (lengths : List ℕ) (setup : Setup) (slots : ℕ) → IsArrayServing count slot core lengths setup slots
     → IsNotDouble setup (slot (store_rack core.store))
 not_double count slot core lengths setup slots q d e d_low e_low d_away e_away = let z : Some d ≡ Some e = sym (out d d_low d_away) ∙ out e e_low e_away in cc

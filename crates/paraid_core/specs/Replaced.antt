@@ -28,7 +28,7 @@ pub record HaveComeUp (slot : ℕ → Slot) (m : Meta) : Type 0 where
   pub spins : (d : ℕ) → d < rising_to m.phase → named_out m.out ≢ Some d → (slot d).power ≡ Spinning
   pub large : (d : ℕ) → d < rising_to m.phase → named_out m.out ≢ Some d → disk_size m.setup.geometry ≤ (slot d).size
 
--- so have all of them but this one, and this one too is large enough
+-- the disks to which a shift goes up have come up, but for this one, which is large enough
 pub record HaveComeUpBut (slot : ℕ → Slot) (m : Meta) (disk : ℕ) : Type 0 where
   pub spins : (d : ℕ) → d < rising_to m.phase → d ≢ disk → named_out m.out ≢ Some d → (slot d).power ≡ Spinning
   pub large : (d : ℕ) → d < rising_to m.phase → named_out m.out ≢ Some d → disk_size m.setup.geometry ≤ (slot d).size

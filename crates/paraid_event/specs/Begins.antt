@@ -15,7 +15,7 @@ pub record MarksShiftDown (k committed begun : Service) (to : ℕ) : Type 0 wher
   pub samples : committed.samples ≡ k.samples
   pub served : committed.served ≡ k.served
 
--- So it is, and the mark is committed.
+-- What was staged is committed, with no disk lost, and the mark of a shift down is committed.
 pub record BeginsDown (k committed begun k_then : Service) (to : ℕ) : Type 0 where
   pub marks : MarksShiftDown k committed begun to
   -- it is a commit

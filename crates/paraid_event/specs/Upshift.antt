@@ -25,7 +25,7 @@ pub record MarksShiftUp (k committed begun : Service) (to : ℕ) : Type 0 where
   pub others : (d : ℕ) → (d < committed.meta.gear) ⊎ (to ≤ d) → slice_index begun.meta.spins d ≡ slice_index committed.meta.spins d
   pub counts : IsCountedAs k committed
 
--- So it is, and the mark is committed.
+-- The mark of a shift up, with its spin-ups counted, is committed.
 pub record OpensShiftUp (k begun opened : Service) : Type 0 where
   pub epoch : opened.meta.epoch ≡ begun.meta.epoch + 1
   pub counts : IsCountedAs k opened

@@ -8,8 +8,8 @@ use Rattle.paraid_image.specs.Neutral.{overwrite}
 use Rattle.paraid_image.specs.Out.{IsWeak}
 use Rattle.paraid_image.specs.Sides.{is_open, stored_block}
 
--- with the gate of log disk `x` turned by these bytes, the image is sound, as it is and with one
--- more disk lost, and its weak disk is the one that is down
+-- Once these bytes are written to the gate of log disk `x`, the image is sound, as it is and with one more
+-- disk lost, and its weak disk is the one that is down.
 pub record IsSoundToggled (slots : ℕ) (i : Disks) (x : ℕ) (b : Block) (h : History) (lo : ℕ) (down : Option ℕ) : Type 0 where
   pub whole : IsSoundFrom slots (overwrite i x 0 b) h lo
   pub lost : (e : ℕ) → MayLose (overwrite i x 0 b) e → IsSoundFrom slots (lose e (overwrite i x 0 b)) h lo

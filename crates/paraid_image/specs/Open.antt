@@ -42,8 +42,8 @@ pub record IsLoggedNext (slots : ℕ) (i : Disks) (x : ℕ) (new : LogState) (h 
   pub content : ContentOk slots i.power i.size (view_by new.meta i.power (contents i new.batch)) h k
   pub witnesses : AreWitnessesTrue i (out_disk i.power new.meta)
 
--- With its gate open the image holds what the batch brings, as it is and with a disk lost. Where
--- log disk `x` itself can be lost then, it can be lost before.
+-- The closed gate of log disk `x` may be opened: then the image holds what the batch brings, as it is and with
+-- a disk lost. Where log disk `x` itself can be lost then, it can be lost before.
 pub record CanOpen (slots : ℕ) (i : Disks) (x : ℕ) (new : LogState) (h : History) (k lo : ℕ) (down : Option ℕ) : Type 0 where
   pub shut : is_open (stored_block i x 0) ≡ false
   pub low : lo ≤ k

@@ -20,7 +20,8 @@ pub record IsCopyImage (i : Disks) (m : Meta) (f : Contents) : Type 0 where
   pub witnesses : AreWitnessesTrue i (out_disk i.power m)
   pub only : (x q : ℕ) → IsFree (view_by m i.power f) x q ⊎ (contents i [] x q ≡ f x q)
 
--- so it is in all that a stop may leave
+-- In all that a stop may leave, this meta stands by closed gates, and past the log the blocks are these but
+-- for free places.
 abbrev pub IsCopying : Disks → Meta → Contents → Type 0
 IsCopying s m f = (i : Disks) → IsImage s i → IsCopyImage i m f
 
@@ -35,12 +36,12 @@ pub record HoldsWithCopies (slots : ℕ) (m : Meta) (f : Contents) (h : History)
 abbrev pub IsHeldByCopies : ℕ → Meta → History → ℕ → Disks → Type 0
 IsHeldByCopies slots m h lo s = IsHeld slots s h lo (out_disk s.power m)
 
--- with this place free
+-- a copy can be written to this place: it is free
 pub record CanCopy (slots : ℕ) (m : Meta) (f : Contents) (h : History) (lo d p : ℕ) (s : Disks) : Type 0 where
   pub copies : HoldsWithCopies slots m f h lo s
   pub free : IsFree (view_by m s.power f) d p
 
--- with no disk missing but this one
+-- this disk can be lost: no other one is missing
 pub record CanLose (slots : ℕ) (m : Meta) (f : Contents) (h : History) (lo d : ℕ) (s : Disks) : Type 0 where
   pub copies : HoldsWithCopies slots m f h lo s
   pub disk : d < m.setup.geometry.disks

@@ -28,7 +28,7 @@ IsGenStatus status = (status ≡ 0) ⊎ (status ≡ 4) ⊎ (status ≡ 5) ⊎ (s
 abbrev pub AnswersGenerated : Span → Point → ℕ → ℕ → Type 0
 AnswersGenerated span p number count = Stretch span p (generated_events number (block_count span.setup) count)
 
--- and then a flush was, so
+-- so many lines of the trace of a number were answered, and then a flush was
 pub record Flushes (span : Span) (p : Point) (number count : ℕ) (answer : Answer) : Type 0 where
   pub middle : Option Trail
   pub lines : AnswersGenerated (record span { now = middle }) p number count

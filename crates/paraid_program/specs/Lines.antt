@@ -35,7 +35,7 @@ refusal_line (Config fault) = config_line fault
 refusal_line (Format (AlreadyFormatted epoch)) = codes "already " ++ decimal epoch ++ codes "\n"
 refusal_line (Format (Disk disk)) = codes "disk " ++ decimal disk ++ codes "\n"
 
--- its status
+-- the status where no array was made
 abbrev pub refusal_status : Refusal → ℕ
 refusal_status Source = 3
 refusal_status (Config NoMemory) = 7

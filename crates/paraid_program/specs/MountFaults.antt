@@ -14,7 +14,7 @@ mount_fault_line (TwoDown two) = codes "two " ++ decimal two.first ++ codes " " 
 mount_fault_line (Worn count) = codes "worn " ++ decimal count ++ codes "\n"
 mount_fault_line NoMemory = codes "nomemory\n"
 
--- its status
+-- the status of a mount that was refused
 abbrev pub mount_fault_status : MountFault → ℕ
 mount_fault_status NotFormatted = 6
 mount_fault_status (BadLog disk) = 6

@@ -23,7 +23,7 @@ pub record Logs : Type 0 where
   pub first : Batch
   pub second : Batch
 
--- so it is, of these sides and batches
+-- what was heard of both log disks, by these sides and batches
 abbrev pub logs_of : Sides → Batch → Batch → Logs
 logs_of sides first second = record { sides = sides; first = first; second = second }
 

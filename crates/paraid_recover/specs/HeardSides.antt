@@ -27,7 +27,7 @@ IsHeard i x Blank batch = IsSide i x blank
 IsHeard i x (Bad gate_open) batch = IsBad i x × (is_open (stored_block i x 0) ≡ gate_open)
 IsHeard i x (Formed gate_open meta) batch = Says i x (record { opened = gate_open; meta = meta; batch = batch })
 
--- so it is, or the log disk is absent
+-- the side of log disk `x` is this, with this batch; or that log disk is absent, and there is none
 abbrev pub IsHeardAt : Disks → ℕ → Option Heard → Batch → Type 0
 IsHeardAt i x None batch = is_present (i.power x) ≡ false
 IsHeardAt i x (Some heard) batch = IsHeard i x heard batch
@@ -43,7 +43,8 @@ side_by (Some (Formed gate_open meta)) batch = formed (record { opened = gate_op
 abbrev pub IsUnchanged : Option Trail → Option Trail → Type 0
 IsUnchanged old new = (start : Disks) → Ran old new (CrashTriple (λ s. s ≡ start) (λ s. s ≡ start) (λ s. s ≡ start))
 
--- or they do so until this disk is lost in the last one
+-- The calls from the one record to the other leave the disks as they are, until this disk is lost in the last
+-- one.
 abbrev pub IsLosing : ℕ → Option Trail → Option Trail → Type 0
 IsLosing d old new =
     (start : Disks) → Ran old new (CrashTriple (λ s. (s ≡ start) ⊎ (s ≡ lose d start)) (λ s. s ≡ start) (λ s. s ≡ lose d start))

@@ -49,8 +49,8 @@ EndsHeld slots x said m old new = (t : Trail) → new ≡ Some t → (s : Trail)
     → ((w : ℕ) → IsWeak (now s) w → down ≡ Some w)
     → IsAtRest (now t) m × IsHeld slots (now t) (take m.writes h) m.writes (out_disk (now t).power m))
 
--- So it is from the one record to the other, which is longer by some calls, and at the end the meta
--- that stood is kept.
+-- From the one record to the other, which is longer by some calls, what was held is held at each moment, and
+-- at the end the meta that stood is kept.
 pub record Recovers (slots x : ℕ) (said : LogState) (old new : Option Trail) : Type 0 where
   pub grows : Extends old new
   pub holds : RecoversHeld slots x said old new

@@ -19,11 +19,11 @@ size_found slots slot d = if nat_lt d slots then (slot d).size else 0
 abbrev pub AreSlotsLarge : ℕ → (ℕ → Slot) → Meta → Type 0
 AreSlotsLarge slots slot m = IsNone (is_small slots slot m) m.setup.geometry.disks
 
--- and none is parked that is to spin
+-- each disk has its slot and its size, and none is parked that is to spin
 abbrev pub AreAwake : ℕ → (ℕ → Slot) → Meta → Batch → Type 0
 AreAwake slots slot m batch = AreSlotsLarge slots slot m × IsNone (is_asleep slot m batch) m.setup.geometry.disks
 
--- and no two are missing
+-- each disk has its slot and its size, none is parked that is to spin, and no two are missing
 abbrev pub AreEnough : ℕ → (ℕ → Slot) → Meta → Batch → Type 0
 AreEnough slots slot m batch = AreAwake slots slot m batch × (IsDouble (λ d. (slot d).power) m → ⊥)
 

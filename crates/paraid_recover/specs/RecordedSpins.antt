@@ -35,6 +35,7 @@ pub record IsWithinBoundsAt (b : Bounds) (spun : ℕ → ℕ) (s i : Disks) (m :
   pub counted_ticks : m.ticks ≤ b.ticks
   pub recorded : (d : ℕ) → d < b.setup.geometry.disks → IsPresent i d → named_out m.out ≢ Some d → spun d ≤ made_spin_ups m s.power d
 
--- so it is of all that stands, while one disk at most is down
+-- while one disk at most is down, each meta that stands in what a stop may leave is within the bounds, where
+-- these spin-ups were made
 abbrev pub StaysWithinAt : Bounds → (ℕ → ℕ) → Disks → Watch → Type 0
 StaysWithinAt b spun s w = IsServing w.down → (x : ℕ) (i : Disks) (said : LogState) → IsLooked w.disks i → Stands i x said → IsWithinBoundsAt b spun s i said.meta

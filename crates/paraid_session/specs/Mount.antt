@@ -128,8 +128,8 @@ FromRunStart slots began told P = (t : Trail) → told ≡ Some t → (h : Histo
     → IsRunStart slots (disks t began) h lo down → Stands (disks t began) x said
     → P (disks t began) x said h lo down (drop began t.calls)
 
--- So it is for each history that the rack held, where its record is told. Where a session follows,
--- its setup is that of what stood.
+-- A mount from each run start of a rack whose record is told. Where a session follows, its setup is that of
+-- what stood.
 abbrev pub IsMountedFromEach : ℕ → Setup → ℕ → Option Trail → (Point → Type 0) → Type 0
 IsMountedFromEach slots setup began told follows = FromRunStart slots began told
     (λ s x said h lo down calls. IsMounted slots s x said h lo down calls (λ p. (said.meta.setup ≡ setup) × follows p))

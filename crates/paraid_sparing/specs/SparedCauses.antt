@@ -45,7 +45,7 @@ pub record CausesLines (wait : ℕ) (old : Shown) (k : Stock) (lines : List (Lis
   pub all : HaveLineCauses wait old k lines text new stock
   pub keeps : Keeps pool wait stock
 
--- and then a flush is answered so
+-- these lines have their causes, and then a flush is answered with its cause
 pub record CausesFlush (wait : ℕ) (old : Shown) (k : Stock) (lines : List (List ℕ)) (text : List ℕ) (answer : Answer) (new : Shown) (pool : Pool) : Type 0 where
   pub mid : Shown
   pub before : CausesLines wait old k lines text mid pool

@@ -11,7 +11,7 @@ use Rattle.paraid_image.specs.Sides.{is_open}
 abbrev pub IsWitnessBorne : Option ℕ → Disks → Type 0
 IsWitnessBorne against s = (x : ℕ) → x < 2 → against ≡ Some x → IsSure s 2 x (λ b. is_open b ≡ true)
 
--- so it is where this record ends
+-- where the record is told, the witness against this disk is borne at its end
 abbrev pub IsBorneNow : Option ℕ → Option Trail → Type 0
 IsBorneNow against told = (t : Trail) → told ≡ Some t → IsWitnessBorne against (now t)
 

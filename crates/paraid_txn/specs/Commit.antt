@@ -104,7 +104,7 @@ pub record IsCommitted (start end : Disks) (before after : Meta) (batch : Batch)
   pub witnesses : IsEachImage before after (KeepsWitnesses start before) end
   pub borne : LeavesBorne start end (named_out after.out)
 
--- so it is after these calls, if they began at a rest
+-- If these calls began at a rest, the disks are at their end as a commit that ends leaves them.
 abbrev pub EndsCommitted : Option Trail → Option Trail → Meta → Meta → Batch → Type 0
 EndsCommitted old new before after batch = Ran old new (λ start calls.
     IsAtRest start before → IsNext start before after

@@ -32,7 +32,7 @@ pub data MaySetWitness (slot : ℕ → Slot) (skip : Option ℕ) (x : ℕ) (open
   cannot : CannotSet slot skip x → cs ≡ [] → MaySetWitness slot skip x opened cs
   sets : SetsWitness x opened cs → MaySetWitness slot skip x opened cs
 
--- so it is, if one is to be set
+-- a witness, if one is to be set, is set or its place can not be written; else there is no call
 abbrev pub MaySetAny : (ℕ → Slot) → Option ℕ → Option Witness → List Call → Type 0
 MaySetAny slot skip None cs = cs ≡ []
 MaySetAny slot skip (Some w) cs = MaySetWitness slot skip w.disk w.opened cs
@@ -91,7 +91,7 @@ KeepsBorne old new m from to = Ran old new (CrashTriple (λ s. Unit {0}) (IsBorn
 abbrev pub IsNoSecond : Option ℕ → Meta → Type 0
 IsNoSecond lost m = (d e : ℕ) → lost ≡ Some d → named_out m.out ≡ Some e → e ≡ d
 
--- So it is borne at the end against the disk that was lost, or else the one that the meta names out.
+-- At the end witness is borne against the disk that was lost, or else the one that the meta names out.
 abbrev pub BearsAtEnd : Option Trail → Option Trail → Meta → Option ℕ → Option ℕ → Type 0
 BearsAtEnd old new m from lost = IsNoSecond lost m → KeepsBorne old new m from (or_else lost (named_out m.out))
 
