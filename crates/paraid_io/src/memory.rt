@@ -1,7 +1,7 @@
 ghost use Rattle.std.specs.Prelude.{◌≡◌, ◌≢◌, ◌↔◌, ℕ, ◌+◌, ◌-◌, ◌^◌, ◌<◌, ◌≤◌, ◌⊎◌, List, [], ◌++◌, length, take, drop, min, IfOk, OnOk, OnErr, IsErr, IsSome, Some, Contains, vec_len, vec_capacity};
 ghost use Rattle.paraid_base.specs.Told.{told_bytes, Gives, GrowsByBytes, AtEnd, HasRisen};
 
-use crate::plan::Plan;
+use crate::plan::FaultPlan;
 use crate::{Sink, Source};
 use paraid_base::{Failed, NoMemory};
 use std::alloc::Global;
@@ -67,7 +67,7 @@ fn take_from(bytes: &[u8], into: &mut [u8]) -> usize
 #[derive(Drop)]
 pub struct MemSource {
     source: SureSource,
-    plan: Plan,
+    plan: FaultPlan,
 }
 
 impl MemSource {
@@ -82,7 +82,7 @@ impl MemSource {
     {
         MemSource {
             source: SureSource::new(bytes),
-            plan: Plan::new(fails),
+            plan: FaultPlan::new(fails),
         }
     }
 }
@@ -124,7 +124,7 @@ impl Source for MemSource {
 pub struct MemSink {
     bytes: Vec<u8>,
     capacity: usize,
-    plan: Plan,
+    plan: FaultPlan,
     ghost within: { vec_len bytes ≤ capacity },
     ghost room: { capacity ≤ vec_capacity bytes },
 }
@@ -146,7 +146,7 @@ impl MemSink {
         Ok(MemSink {
             bytes,
             capacity,
-            plan: Plan::new(fails),
+            plan: FaultPlan::new(fails),
         })
     }
 

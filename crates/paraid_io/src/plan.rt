@@ -6,19 +6,19 @@ use paraid_base::Failed;
 // Which calls fail by their numbers, from 0, how many were made, and how many have failed. Both
 // counts stay at the end of their type.
 #[derive(Drop)]
-pub(crate) struct Plan {
+pub(crate) struct FaultPlan {
     pub(crate) fails: Vec<u32>,
     pub(crate) calls: u64,
     pub(crate) faults: u64,
 }
 
-impl Plan {
-    pub(crate) fn new(fails: Vec<u32>) -> Plan
+impl FaultPlan {
+    pub(crate) fn new(fails: Vec<u32>) -> FaultPlan
         ensures fails { result.fails.items ≡ fails.items }
         ensures calls { result.calls ≡ 0 }
         ensures faults { result.faults ≡ 0 }
     {
-        Plan {
+        FaultPlan {
             fails,
             calls: 0,
             faults: 0,
