@@ -1,5 +1,5 @@
-//! The lines of a trace: what each line asks for, the line that tells each answer, and the generator
-//! of traces.
+//! The lines of a trace: which event a line asks for, and which line tells an answer. Also the
+//! traces that are generated: one for each number below 2^32, on an array of so many blocks.
 //!
 //! The grammar stands in `specs/Grammar.antt` as printed text, and `read_line` answers an event
 //! exactly for its lines. `reply` writes a line from a table of answers. Nothing here takes memory.
