@@ -1,11 +1,12 @@
 use Rattle.std.proofs.lemmas.Bool.{cases_Bool, false≢true}
 -- What keeps an array in service.
-use Rattle.std.specs.Prelude.{◌≡◌, ◌≢◌, ℕ, ◌<◌, Bool, List, [], Option, Some, None, true, false}
+use Rattle.std.specs.Prelude.{◌≡◌, ◌≢◌, ℕ, ◌<◌, Bool, List, [], Option, Some, None, Ok, true, false}
 use Rattle.std.proofs.Common.{refl, sym, ◌∙◌, ap, subst, arith, inl, inr}
 use Rattle.paraid_base.specs.declared.state.Out.{Out}
 use Rattle.paraid_base.specs.declared.state.Out.TheVariants.{Fresh, Gone, No}
 use Rattle.paraid_base.specs.Regions.{disk_size}
 use Rattle.paraid_base.specs.States.{gone_out, rising_to}
+use Rattle.paraid_rack.specs.declared.rack.Rack.{Ghosts}
 use Rattle.paraid_rack.specs.Disks.{is_present}
 use Rattle.paraid_rack.specs.Slots.{Slot}
 use Rattle.paraid_record.specs.declared.meta.Meta.{Meta}
@@ -20,10 +21,12 @@ use Rattle.paraid_core.specs.CoreInvariant.{is_copied}
 use Rattle.paraid_core.specs.Cores.{CanCoreServe, IsCoreReady}
 use Rattle.paraid_core.specs.Lost.{CoreMarksLost, MarksLost}
 use Rattle.paraid_core.specs.Steps.{AreUnsyncedCopied, IsMarkedFrom, OnlyTurnsDisks}
+use Rattle.paraid_core.specs.Turning.{AnswersTurn}
 use Rattle.paraid_shift.specs.Serving.{AreAllLarge, IsCoreServing, KeepsFit, LeavesArray}
 use Rattle.paraid_core.proofs.StepLemmas.{marked_from_setup}
 use Rattle.paraid_shift.proofs.FitsLemmas.{power_same}
 use Rattle.paraid_upkeep.proofs.FitsLemmas.{rises_lost}
+use Rattle.paraid_upkeep.proofs.ResultLemmas.{done_not_dropped}
 use Rattle.paraid_shift.proofs.ServingLemmas.{copies_kept, large_then, leaves_array_none, leaves_array_then, marked_named}
 use Rattle.paraid_upkeep.specs.Service.{IsInService, IsOutKnown, LeavesInService}
 
@@ -113,6 +116,18 @@ module _ {R : Type 0} {g : _} (count : R → ℕ) (slot : R → ℕ → Slot) wh
 
   pub serving_service : (a : Core R g) → IsCoreServing count slot a → IsInService count slot a
   serving_service a q = record { ready = q.ready; serves = q.serves; draft = q.draft; copies_synced = q.copies_synced; large = q.large }
+
+-- no disk is turned
+pub unturned : {R : Type 0} {g : Ghosts R} (a : Core R g) (disk : ℕ) → AnswersTurn disk a a (Ok true)
+unturned a disk = record {
+  meta = record { lost = None; is = refl; alone = λ d x is. let z : None ≡ Some d = is in absurd cc };
+  same = λ is. refl;
+  risen = λ d is. inl is;
+  gone = λ is. done_not_dropped _ _ refl is;
+  failed = λ is. done_not_dropped _ _ refl is;
+  two = tt;
+  tells = tt;
+}
 
 -- a disk is marked as gone: no call is made
 pub large_marked : {R : Type 0} {g : _} (slot : R → ℕ → Slot) (a b : Core R g) → b.store ≡ a.store → b.meta.setup ≡ a.meta.setup → (disk : ℕ) → named_out b.meta.out ≡ Some disk → ((x : ℕ) → named_out a.meta.out ≡ Some x → x ≡ disk)

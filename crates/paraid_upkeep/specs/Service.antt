@@ -35,6 +35,14 @@ pub record LeavesInService {R : Type 0} {g : _} (count : R → ℕ) (slot : R �
   pub known : IsOutKnown slot new
   pub fits : KeepsFit slot old new
 
+-- A shift that is asked for leaves the core able to serve and the array as it was. The disk that is out is known if it was before, and the
+-- slots fit the meta still.
+pub record StaysServing {R : Type 0} {g : _} (count : R → ℕ) (slot : R → ℕ → Slot) (old new : Core R g) : Type 0 where
+  pub serving : IsCoreServing count slot new
+  pub leaves : LeavesArray count slot old new
+  pub known : IsOutKnown slot old → IsOutKnown slot new
+  pub fits : KeepsFit slot old new
+
 -- What each call keeps, whether it was done or not: the rack has as many slots, no count of faults falls, and what is told is longer by the calls.
 pub record MakesCalls {R : Type 0} {g : _} (count : R → ℕ) (slot : R → ℕ → Slot) (told : R → Option Trail) (old new : Core R g) : Type 0 where
   pub slots : count (store_rack new.store) ≡ count (store_rack old.store)

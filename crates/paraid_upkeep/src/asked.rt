@@ -9,12 +9,12 @@ ghost use Rattle.paraid_upkeep.specs.declared.asked.Asked.TheVariants.{Refused};
 ghost use Rattle.paraid_upkeep.specs.Events.{CommitsAtMost};
 ghost use Rattle.paraid_upkeep.specs.Directions.{HasBegun, HasMarkedShift, IsNextTo, IsRefusedTo, MayGo, asked_event};
 ghost use Rattle.paraid_upkeep.specs.Refusals.{HasBegunOrLost, IsShiftStateOf};
-ghost use Rattle.paraid_upkeep.specs.Service.{IsOutKnown, MakesCalls};
+ghost use Rattle.paraid_upkeep.specs.Service.{MakesCalls, StaysServing};
 ghost use Rattle.paraid_upkeep.specs.Turns.{CoreGoesOn, CoreHalts, asked_answer};
 ghost use Rattle.paraid_image.specs.Power.{PowerState};
 ghost use Rattle.paraid_record.specs.Range.{IsInRange};
 ghost use Rattle.paraid_shift.specs.Parts.{CanBeginShift, KeepsContents, KeepsRack, ServesShifted};
-ghost use Rattle.paraid_shift.specs.Serving.{IsCoreServing, KeepsFit, LeavesArray};
+ghost use Rattle.paraid_shift.specs.Serving.{IsCoreServing};
 ghost use Rattle.paraid_shift.specs.Steps.{CoreLosesInSteps, CoreStepsInEvent};
 ghost use Rattle.paraid_txn.specs.Losses.{AreTwoDown};
 
@@ -82,8 +82,7 @@ fn begin_shift<R: Rack>(core: &mut Core<R>, direction: Direction, to: u8) -> Res
 pub fn ask_shift<R: Rack>(core: &mut Core<R>, direction: Direction) -> Result<Asked, Two>
     requires serving { IsCoreServing R.slot_count R.slot core.old }
     requires epoch { (meta_of core.old).epoch < worn_at }
-    ensures serving { OnOk result (IsCoreServing R.slot_count R.slot core.new) }
-    ensures leaves { OnOk result (LeavesArray R.slot_count R.slot core.old core.new) }
+    ensures serves { OnOk result (StaysServing R.slot_count R.slot core.old core.new) }
     // Where the machine refuses it, this is its refusal, and nothing changes.
     ensures refused { (fault : ShiftFaultType) (s : PowerState) → IsShiftStateOf (meta_of core.old) s
         → IsRefusedTo direction (meta_of core.old).setup s fault
@@ -92,8 +91,6 @@ pub fn ask_shift<R: Rack>(core: &mut Core<R>, direction: Direction) -> Result<As
     ensures begins { IfOk result (λ asked. (to : ℕ) (s : PowerState) → IsShiftStateOf (meta_of core.old) s
         → MayGo direction (meta_of core.old).setup s to → HasBegunOrLost (meta_of core.new) to asked) }
     ensures marks { IfOk result (HasMarkedShift direction (meta_of core.old) (meta_of core.new)) }
-    ensures known { OnOk result (IsOutKnown R.slot core.old → IsOutKnown R.slot core.new) }
-    ensures fits { OnOk result (KeepsFit R.slot core.old core.new) }
     ensures commits { OnOk result (CommitsAtMost core.old core.new 2) }
     // No cell becomes dirty or clean.
     ensures table { OnOk result (core_table core.new ≡ core_table core.old) }

@@ -24,8 +24,12 @@ pub returns-in-Err : goal.returns-in-Err
 returns-in-Err g c =
     let a = c.args.core.now in
     record {
-      serving = c.requires.serving;
-      leaves = leaves_array_none g.R.Rack.slot_count g.R.Rack.slot a;
+      serves = record {
+        serving = c.requires.serving;
+        leaves = leaves_array_none g.R.Rack.slot_count g.R.Rack.slot a;
+        known = λ before. before;
+        fits = λ f. f;
+      };
       refused = λ fault s of why.
           let is = subst (λ (z : Meta). IsShiftStateOf z s) (sym c.meta.ensures) of in
           let told = subst (λ (z : Meta). IsRefusedTo c.args.direction z.setup s c.in-Err.fault) c.meta.ensures (c.in-Err.ensures.refused s is) in
@@ -34,8 +38,6 @@ returns-in-Err g c =
           let is = subst (λ (z : Meta). IsShiftStateOf z s) (sym c.meta.ensures) of in
           absurd (may_not c.args.direction a.meta.setup s to c.in-Err.fault may (subst (λ (z : Meta). IsRefusedTo c.args.direction z.setup s c.in-Err.fault) c.meta.ensures (c.in-Err.ensures.refused s is)));
       marks = marked_lost c.args.direction a.meta a.meta c.in-Err.fault a.meta.epoch (record { lost = None; is = refl; alone = λ d x is. let z : None ≡ Some d = is in absurd cc });
-      known = λ before. before;
-      fits = λ f. f;
       commits = few_none a a 2 refl;
       table = refl;
       turn = asked_stays g.R.Rack.slot_count g.R.Rack.told a c.args.direction c.in-Err.fault (subst (λ (z : Meta). (s : PowerState) → IsShiftStateOf z s → IsRefusedTo c.args.direction z.setup s c.in-Err.fault) c.meta.ensures c.in-Err.ensures.refused);
@@ -56,15 +58,12 @@ returns-in_err-commit_staged g c =
     let whole = subst (λ (z : Meta). z.out ≡ No) c.meta.ensures c.in_default.ensures.whole in
     let loses = c.in_err-commit_staged.ensures.rack.loses (none_away g.R.Rack.slot a whole) in
     record {
-      serving = none_done _ c.from_residual.result _ c.from_residual.ensures.1;
-      leaves = none_done _ c.from_residual.result _ c.from_residual.ensures.1;
+      serves = none_done _ c.from_residual.result _ c.from_residual.ensures.1;
       refused = λ fault s of why.
           let is = subst (λ (z : Meta). IsShiftStateOf z s) (sym c.meta.ensures) of in
           absurd (may_not c.args.direction c.meta.result.now.setup s c.in_default.field-0 fault (c.in_default.ensures.may s is) (subst (λ (z : Meta). IsRefusedTo c.args.direction z.setup s fault) (sym c.meta.ensures) why));
       begins = none_done_if _ c.from_residual.result _ c.from_residual.ensures.1;
       marks = none_done_if _ c.from_residual.result _ c.from_residual.ensures.1;
-      known = none_done _ c.from_residual.result _ c.from_residual.ensures.1;
-      fits = none_done _ c.from_residual.result _ c.from_residual.ensures.1;
       commits = none_done _ c.from_residual.result _ c.from_residual.ensures.1;
       table = none_done _ c.from_residual.result _ c.from_residual.ensures.1;
       turn = none_done_if _ c.from_residual.result _ c.from_residual.ensures.1;
@@ -107,15 +106,12 @@ returns-in_err-begin_shift-in-Ok g c =
     let whole = subst (λ (z : Meta). z.out ≡ No) c.meta.ensures c.in_default.ensures.whole in
     let steps = c.in_ok-commit_staged.ensures.steps (none_away g.R.Rack.slot a whole) in
     record {
-      serving = none_done _ c.from_residual-in_err-begin_shift-in-Ok.result _ c.from_residual-in_err-begin_shift-in-Ok.ensures.1;
-      leaves = none_done _ c.from_residual-in_err-begin_shift-in-Ok.result _ c.from_residual-in_err-begin_shift-in-Ok.ensures.1;
+      serves = none_done _ c.from_residual-in_err-begin_shift-in-Ok.result _ c.from_residual-in_err-begin_shift-in-Ok.ensures.1;
       refused = λ fault s of why.
           let is = subst (λ (z : Meta). IsShiftStateOf z s) (sym c.meta.ensures) of in
           absurd (may_not c.args.direction c.meta.result.now.setup s c.in_default.field-0 fault (c.in_default.ensures.may s is) (subst (λ (z : Meta). IsRefusedTo c.args.direction z.setup s fault) (sym c.meta.ensures) why));
       begins = none_done_if _ c.from_residual-in_err-begin_shift-in-Ok.result _ c.from_residual-in_err-begin_shift-in-Ok.ensures.1;
       marks = none_done_if _ c.from_residual-in_err-begin_shift-in-Ok.result _ c.from_residual-in_err-begin_shift-in-Ok.ensures.1;
-      known = none_done _ c.from_residual-in_err-begin_shift-in-Ok.result _ c.from_residual-in_err-begin_shift-in-Ok.ensures.1;
-      fits = none_done _ c.from_residual-in_err-begin_shift-in-Ok.result _ c.from_residual-in_err-begin_shift-in-Ok.ensures.1;
       commits = none_done _ c.from_residual-in_err-begin_shift-in-Ok.result _ c.from_residual-in_err-begin_shift-in-Ok.ensures.1;
       table = none_done _ c.from_residual-in_err-begin_shift-in-Ok.result _ c.from_residual-in_err-begin_shift-in-Ok.ensures.1;
       turn = none_done_if _ c.from_residual-in_err-begin_shift-in-Ok.result _ c.from_residual-in_err-begin_shift-in-Ok.ensures.1;
@@ -147,15 +143,17 @@ returns-in_ok-begin_shift-in-Ok g c =
     let steps = staged.steps (none_away g.R.Rack.slot a whole) in
     let done = c.in_ok-begin_shift-in-Ok.ensures in
     record {
-      serving = done.shifted.serving;
-      leaves = leaves_array_then g.R.Rack.slot_count g.R.Rack.slot a m b staged.serves.leaves done.shifted.leaves;
+      serves = record {
+        serving = done.shifted.serving;
+        leaves = leaves_array_then g.R.Rack.slot_count g.R.Rack.slot a m b staged.serves.leaves done.shifted.leaves;
+        known = λ before. begun_known g.R.Rack.slot m.meta b to c.args.direction done.meta still done.shifted.absent;
+        fits = λ f. done.shifted.fits (staged.serves.fits f);
+      };
       refused = λ fault s of why.
           let is = subst (λ (z : Meta). IsShiftStateOf z s) (sym c.meta.ensures) of in
           absurd (may_not c.args.direction c.meta.result.now.setup s c.in_default.field-0 fault (c.in_default.ensures.may s is) (subst (λ (z : Meta). IsRefusedTo c.args.direction z.setup s fault) (sym c.meta.ensures) why));
       begins = λ goal s of could. asked_same a.meta m.meta m.meta.epoch staged.meta steady whole still s of c.args.direction goal to could may;
       marks = asked_marked a.meta m.meta m.meta.epoch staged.meta c.args.direction whole still b.meta to done.meta;
-      known = λ before. begun_known g.R.Rack.slot m.meta b to c.args.direction done.meta still done.shifted.absent;
-      fits = λ f. done.shifted.fits (staged.serves.fits f);
       commits = few_then a m b 1 1 (few_on g.R.Rack.slot_count g.R.Rack.slot a m 1 staged.serves) (few_one m b (begun_epoch g.R.Rack.slot m.meta b to c.args.direction done.meta));
       table = c.begin_shift.ensures.keeps.table ∙ c.commit_staged.ensures.table;
       turn =
@@ -183,15 +181,17 @@ returns-in-Err-gear_to g c =
     let could = subst (λ (z : Meta). (s : PowerState) → IsShiftStateOf z s → MayGo c.args.direction z.setup s c.in_default.field-0) c.meta.ensures c.in_default.ensures.may in
     let why = subst (λ (z : Meta). (s : PowerState) → IsShiftStateOf z s → IsRefusedTo c.args.direction z.setup s c.in-Err-gear_to.fault) c.meta-2.ensures c.in-Err-gear_to.ensures.refused in
     record {
-      serving = staged.serves.serving;
-      leaves = staged.serves.leaves;
+      serves = record {
+        serving = staged.serves.serving;
+        leaves = staged.serves.leaves;
+        known = λ before. known_marked g.R.Rack.slot m (record a.meta { epoch = m.meta.epoch }) whole staged.meta (staged.serves.absent before.absent);
+        fits = staged.serves.fits;
+      };
       refused = λ fault s of was.
           let is = subst (λ (z : Meta). IsShiftStateOf z s) (sym c.meta.ensures) of in
           absurd (may_not c.args.direction c.meta.result.now.setup s c.in_default.field-0 fault (c.in_default.ensures.may s is) (subst (λ (z : Meta). IsRefusedTo c.args.direction z.setup s fault) (sym c.meta.ensures) was));
       begins = λ to s of may. asked_lost a.meta m.meta m.meta.epoch staged.meta steady whole c.args.direction c.in_default.field-0 c.in-Err-gear_to.fault could why;
       marks = marked_lost c.args.direction a.meta m.meta c.in-Err-gear_to.fault m.meta.epoch staged.meta;
-      known = λ before. known_marked g.R.Rack.slot m (record a.meta { epoch = m.meta.epoch }) whole staged.meta (staged.serves.absent before.absent);
-      fits = staged.serves.fits;
       commits = few_within a m 1 2 (omega arith) (few_on g.R.Rack.slot_count g.R.Rack.slot a m 1 staged.serves);
       table = c.commit_staged.ensures.table;
       turn = asked_stopped g.R.Rack.slot_count g.R.Rack.told a steady whole m m.meta.epoch staged.meta c.commit_staged.ensures.table steps c.in_default.field-0 c.in-Err-gear_to.fault staged.serves.serving.copies_synced c.args.direction could why;

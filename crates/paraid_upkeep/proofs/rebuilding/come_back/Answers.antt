@@ -98,11 +98,11 @@ returns g c =
           (λ is. in_service_then g.R.Rack.slot_count g.R.Rack.slot a b new leaves (λ f. of_done _ r true parked.fits is (fits f)) (of_done _ r true parked.serves is))
           (λ is. in_service_then g.R.Rack.slot_count g.R.Rack.slot a b new leaves (λ f. of_done _ r false parked.fits is (fits f)) (of_done _ r false parked.serves is));
       commits =
-          either_way _ r (λ is. few_then a b new 1 0 (few_later a b 1 done.serves) (few_none b new 0 (ap (λ (m : Meta). m.epoch) (parked.same is))))
+          either_way _ r (λ is. few_then a b new 1 0 (few_later a b 1 done.serves) (few_none b new 0 (ap (λ (m : Meta). m.epoch) (parked.answers.same is))))
           (λ is. few_then a b new 1 0 (few_later a b 1 done.serves) (few_none b new 0 (ap (λ (m : Meta). m.epoch) (parked.marked is))));
-      rejoined = λ is. kept_epoch (λ (e : ℕ). record a.meta { epoch = e; out = No }) b.meta new.meta meta (parked.same is);
+      rejoined = λ is. kept_epoch (λ (e : ℕ). record a.meta { epoch = e; out = No }) b.meta new.meta meta (parked.answers.same is);
       marked = λ is. lost_epoch a.meta b.meta new.meta d meta (parked.marked is);
-      lost = λ is. record { risen = HasRisen-sooner _ _ _ (c.finish.ensures.keeps.spared.no_fall d) (parked.lost is).risen; absent = (parked.lost is).absent };
+      lost = λ is. record { risen = HasRisen-sooner _ _ _ (c.finish.ensures.keeps.spared.no_fall d) (parked.answers.failed is).risen; absent = (parked.answers.failed is).absent };
       table = always_ok _ r (parked.table ∙ done.serves.table);
       comes = if_done _ _ r (λ back parks. comes_by g.R.Rack.slot_count g.R.Rack.told a new d back (record {
         mid = b;
@@ -112,5 +112,5 @@ returns g c =
       })) parked.parks;
       loses = if_err _ _ r (λ two none. untold none) parked.alone;
       calls = calls_then g.R.Rack.slot_count g.R.Rack.slot g.R.Rack.told a b new (calls_told g.R.Rack.slot_count g.R.Rack.slot g.R.Rack.told a b _ c.finish.ensures.keeps.slots c.finish.ensures.keeps.spared.no_fall (c.finish.ensures.stops.moments [] 0)) parked.calls;
-      two = if_err _ _ r (λ two it. two_array g.R.Rack.slot_count g.R.Rack.slot a b new leaves parked.calls.no_fall two it) parked.two;
+      two = if_err _ _ r (λ two it. two_array g.R.Rack.slot_count g.R.Rack.slot a b new leaves parked.calls.no_fall two it) parked.answers.two;
     }

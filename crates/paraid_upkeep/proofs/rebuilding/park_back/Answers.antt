@@ -11,7 +11,7 @@ use Rattle.paraid_upkeep.specs.Service.{IsOutKnown, LeavesInService}
 use Rattle.paraid_upkeep.proofs.OutLemmas.{known_gone, known_whole}
 use Rattle.paraid_upkeep.proofs.RebuildTurnLemmas.{core_fails, core_parks, lost_marked, park_alone}
 use Rattle.paraid_upkeep.proofs.ResultLemmas.{done_not_dropped, either_way, if_err, of_done}
-use Rattle.paraid_upkeep.proofs.ServiceLemmas.{in_service_none, serving_turned, none_gone, synced_disk}
+use Rattle.paraid_upkeep.proofs.ServiceLemmas.{in_service_none, none_gone, serving_turned, synced_disk, unturned}
 use Rattle.paraid_upkeep.proofs.ToldLemmas.{calls_none, calls_told}
 use Rattle.paraid_core.proofs.StepLemmas.{marked_from_setup}
 use Rattle.paraid_image.specs.Power.{power_by_gear}
@@ -28,14 +28,12 @@ returns-then-disk-meta g c = record {
   fits = λ f.
       let a = c.args.core.now in
       fits_turned (g.R.Rack.slot (store_rack a.store)) (g.R.Rack.slot (store_rack a.store)) a.meta a.meta c.args.disk (λ d apart. refl) refl refl refl (λ not. c.requires.spins ∙ gear_spins a.meta.gear c.args.disk a.meta.phase (subst (λ (m : Meta). c.args.disk < m.gear) c.meta.ensures c.if-disk-meta.true)) c.requires.serving.large f;
-  same = λ is. refl;
+  answers = unturned c.args.core.now c.args.disk;
   marked = λ is. done_not_dropped _ _ refl is;
-  lost = λ is. done_not_dropped _ _ refl is;
   table = refl;
   parks = λ samples served energy h lo. stays (inl (subst (λ (m : Meta). c.args.disk < m.gear) c.meta.ensures c.if-disk-meta.true)) refl refl;
   alone = tt;
   calls = calls_none g.R.Rack.slot_count g.R.Rack.slot g.R.Rack.told c.args.core.now;
-  two = tt;
 }
 
 pub returns-then-disk-rising_to : goal.returns-then-disk-rising_to
@@ -44,9 +42,8 @@ returns-then-disk-rising_to g c = record {
   fits = λ f.
       let a = c.args.core.now in
       fits_turned (g.R.Rack.slot (store_rack a.store)) (g.R.Rack.slot (store_rack a.store)) a.meta a.meta c.args.disk (λ d apart. refl) refl refl refl (λ not. c.requires.spins ∙ rising_spins a.meta.gear c.args.disk a.meta.phase (let rises = ap (λ (m : Meta). rising_to m.phase) c.meta-2.ensures in omega (arith, rises))) c.requires.serving.large f;
-  same = λ is. refl;
+  answers = unturned c.args.core.now c.args.disk;
   marked = λ is. done_not_dropped _ _ refl is;
-  lost = λ is. done_not_dropped _ _ refl is;
   table = refl;
   parks = λ samples served energy h lo.
       let rises = ap (λ (m : Meta). rising_to m.phase) c.meta-2.ensures in
@@ -54,7 +51,6 @@ returns-then-disk-rising_to g c = record {
       stays (inr under) refl refl;
   alone = tt;
   calls = calls_none g.R.Rack.slot_count g.R.Rack.slot g.R.Rack.told c.args.core.now;
-  two = tt;
 }
 
 pub park-requires : goal.park-requires
@@ -111,9 +107,8 @@ returns g c =
           either_way _ r (λ is. left true is (known_whole g.R.Rack.slot b (ap (λ (m : Meta). m.out) (done.answers.same is) ∙ c.requires.whole)) (parked is))
           (λ is. left false is (known_gone g.R.Rack.slot b d (done.answers.gone is) (of_done _ r false done.turns.absent is (known_whole g.R.Rack.slot a c.requires.whole).absent)) (gone is));
       fits = either_way _ r parked gone;
-      same = done.answers.same;
+      answers = done.answers;
       marked = λ is. lost_marked a.meta b.meta d (of_done _ r false done.answers.meta is) c.requires.whole (done.answers.gone is);
-      lost = done.answers.failed;
       table = done.turns.staged.table;
       parks =
           either_way _ r
@@ -128,5 +123,4 @@ returns g c =
           (ap is_present (done.answers.failed is).absent) (done.held.lost is) samples served energy h lo));
       alone = if_err _ _ r (λ two tells. park_alone (g.R.Rack.told (store_rack a.store)) (g.R.Rack.told (store_rack b.store)) d (named_out a.meta.out) two (ap named_out c.requires.whole) done.calls tells) done.answers.tells;
       calls = calls_told g.R.Rack.slot_count g.R.Rack.slot g.R.Rack.told a b _ done.turns.slots done.turns.turned.no_fall done.calls;
-      two = done.answers.two;
     }

@@ -37,7 +37,7 @@ invariant_of-self g c =
     let done = c.in-Ok.ensures in
     record {
       serving = λ e. let q = a.serving e in serving_of g.R.Rack.slot_count g.R.Rack.slot c.ask_shift.new.core (lengths_of a.windows) a.setup a.slots
-          done.serving (done.known (known_of g.R.Rack.slot_count g.R.Rack.slot a.core (lengths_of a.windows) a.setup a.slots q)) (done.fits q.fits) q.windows (done.leaves.setup ∙ q.same_setup) (done.leaves.slots ∙ q.same_slots);
+          done.serves.serving (done.serves.known (known_of g.R.Rack.slot_count g.R.Rack.slot a.core (lengths_of a.windows) a.setup a.slots q)) (done.serves.fits q.fits) q.windows (done.serves.leaves.setup ∙ q.same_setup) (done.serves.leaves.slots ∙ q.same_slots);
       counted = c.ask_shift.ensures.calls.slots ∙ c.args.self.now.counted;
       worn = going_wear c.ask_shift.new.core.meta c.args.self.now.ended c.requires.going;
       priced = HasFigures-with_used a.setup a.ledger _ _ a.priced c.spin_up.ensures;
@@ -69,10 +69,10 @@ returns-in-Ok g c = record {
         let gear = ap (λ (m : Meta). m.gear) c.meta.ensures in
         let event = asked_event c.args.direction in
         subst (λ (z : Answer). HasCause (shown_of_array g.R.Rack.slot c.args.self.now) event z (shown_with g.R.Rack.slot c.args.self.now.setup c.ask_shift.new.core c.spin_up.new.self.total (samples_held c.args.self.now.windows) (sample_of c.args.self.now.served) c.args.self.now.ended)) (sym (c.asked_told.ensures ∙ ap (λ (n : ℕ). asked_answer n x) gear))
-        (asked_cause g.R.Rack.slot a c.ask_shift.new.core c.spin_up.new.self.total q.same_setup (ap halt_of_end c.requires.going) (no_fall_counts (g.R.Rack.slot (store_rack c.args.self.now.core.store)) (g.R.Rack.slot (store_rack c.ask_shift.new.core.store)) c.ask_shift.ensures.calls.no_fall) done.leaves.writes x
+        (asked_cause g.R.Rack.slot a c.ask_shift.new.core c.spin_up.new.self.total q.same_setup (ap halt_of_end c.requires.going) (no_fall_counts (g.R.Rack.slot (store_rack c.args.self.now.core.store)) (g.R.Rack.slot (store_rack c.ask_shift.new.core.store)) c.ask_shift.ensures.calls.no_fall) done.serves.leaves.writes x
         (asked_total a.setup a.ledger c.spin_up.new.self a.core.meta.gear x a.priced (c.spin_up.ensures ∙ ap (after_spin_ups a.ledger) (c.spin_ups_asked.ensures ∙ ap (λ (n : ℕ). asked_spin_ups n x) gear)))
-        (fails_newly (g.R.Rack.slot (store_rack a.core.store)) (g.R.Rack.slot (store_rack c.ask_shift.new.core.store)) (named_out a.core.meta.out) (named_out c.ask_shift.new.core.meta.out) (named_of a.core.store) (named_of c.ask_shift.new.core.store) q.serving.serves.stays done.serving.serves.stays done.leaves.down) done.table (record { later = done.commits.later; few = done.commits.few }) (done.fits q.fits)
-        (all_synced g.R.Rack.slot c.ask_shift.new.core done.serving.copies_synced done.serving.unsynced)
+        (fails_newly (g.R.Rack.slot (store_rack a.core.store)) (g.R.Rack.slot (store_rack c.ask_shift.new.core.store)) (named_out a.core.meta.out) (named_out c.ask_shift.new.core.meta.out) (named_of a.core.store) (named_of c.ask_shift.new.core.store) q.serving.serves.stays done.serves.serving.serves.stays done.serves.leaves.down) done.table (record { later = done.commits.later; few = done.commits.few }) (done.serves.fits q.fits)
+        (all_synced g.R.Rack.slot c.ask_shift.new.core done.serves.serving.copies_synced done.serves.serving.unsynced)
         c.args.direction (takes (shown_of_array g.R.Rack.slot c.args.self.now) event (ap halt_of_end c.requires.going) c.requires.epoch c.requires.writes) done.refused done.begins done.marks);
   };
 }
