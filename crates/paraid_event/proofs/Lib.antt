@@ -39,6 +39,7 @@ pub mod AskedStepLemmas
 pub mod SteppedLemmas
 pub mod TickStepLemmas
 pub mod AttachingLemmas
+pub mod ReplacementTurnLemmas
 pub mod ReplacementLemmas
 pub mod ReplacementToldLemmas
 pub mod RebuildTickLemmas

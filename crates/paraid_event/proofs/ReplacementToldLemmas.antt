@@ -28,7 +28,8 @@ use Rattle.paraid_event.specs.Replacements.LosesReplaced.{first, second}
 use Rattle.paraid_event.specs.Replacements.BringsFresh.{came, failed}
 use Rattle.paraid_event.specs.Service.{Service}
 use Rattle.paraid_event.specs.Stands.{ServiceStandsFor, StandsAt}
-use Rattle.paraid_event.proofs.ReplacementLemmas.{answer_of, failed_turn as none_turn, fresh_lost as fresh_loses, fresh_turn as came_turn, marked_lost as marked_loses, mid3 as fresh_midway, out2 as gone_out2, out_of, rests2 as gone_rests}
+use Rattle.paraid_event.proofs.ReplacementLemmas.{failed_turn as none_turn, fresh_lost as fresh_loses, fresh_turn as came_turn, marked_lost as marked_loses, mid3 as fresh_midway, out2 as gone_out2, out_of, rests2 as gone_rests}
+use Rattle.paraid_event.proofs.ReplacementTurnLemmas.{answer_of}
 use Rattle.paraid_event.proofs.PreludeLemmas.{same_base, some_trail}
 
 module _ (told : Option Trail) (k : Service) (setup : Setup) (p : Point) (at : StandsAt told k setup p) (d : ℕ) (below : d < setup.geometry.disks) (is_out : named_out p.state.out ≡ Some d) (fit : point_wear p < worn_at) where

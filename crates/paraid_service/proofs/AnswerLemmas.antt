@@ -1,5 +1,5 @@
 -- The answer to a line about volumes, by their table and by the events that their device kept for it.
-use Rattle.std.proofs.Common.{arith, ◌≡◌, ℕ, ◌<◌, ◌≤◌, [], ◌∷◌, ◌++◌, List, ◌∙◌, refl, sym, subst, true}
+use Rattle.std.proofs.Common.{arith, ◌≡◌, ℕ, ◌<◌, [], ◌∷◌, ◌++◌, List, ◌∙◌, refl, sym, subst, true}
 use Rattle.std.specs.Prelude.{Option, Some, None, Result, Ok, Err, OnOk, OnErr, IfOk, IfErr, slice_index_or, codes}
 use Rattle.std.proofs.lemmas.List.{append-nil}
 use Rattle.paraid_base.specs.declared.block.Block.{Block}
