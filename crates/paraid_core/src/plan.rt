@@ -15,7 +15,7 @@ use crate::staged::Core;
 use paraid_base::{Block, DiskNo, Place, Row};
 use paraid_dirty::DirtyTable;
 use paraid_layout::soft_place;
-use paraid_plan::{Lost, Plan};
+use paraid_plan::{Lost, WritePlan};
 use paraid_rack::Rack;
 use paraid_record::{Meta, Target};
 use paraid_txn::{Batch, Store};
@@ -95,7 +95,7 @@ fn mark_at(staged: &mut [bool; 8], place: Place, target: Target) {
     staged[at] = u8::from(staged[at]) | is != 0;
 }
 
-impl<R: Rack> Plan for Core<R> {
+impl<R: Rack> WritePlan for Core<R> {
     ghost use Rattle.std.specs.Prelude.{length, IsSome};
     ghost use Rattle.paraid_core.specs.Cores.{changes_of, failed_of, core_rack};
     ghost use Rattle.paraid_core.specs.Leads.{leads_stays, leads_then, leads_told};

@@ -5,7 +5,7 @@ use Rattle.paraid_base.specs.declared.pairs.Pairs.{Pairs}
 use Rattle.paraid_base.specs.Pairs.{pairs_of}
 use Rattle.paraid_base.specs.Xor.{zero_block}
 use Rattle.paraid_base.specs.declared.block.Block.{Block}
-use Rattle.paraid_plan.specs.declared.desk.Plan.{Ghosts}
+use Rattle.paraid_plan.specs.declared.desk.WritePlan.{Ghosts}
 use Rattle.paraid_plan.specs.Leaves.{Leaves, StaysAsWas, WritesCells, WritesRow}
 use Rattle.paraid_plan.specs.RowBits.{names_cell}
 use Rattle.paraid_plan.specs.RowWrites.{count_in_row, given_row, one_in_row, pairs_before}

@@ -4,7 +4,7 @@ use Rattle.paraid_base.specs.declared.block.Block.{Block}
 use Rattle.paraid_base.specs.Cells.{parity_disk}
 use Rattle.paraid_base.specs.History.{Entry}
 use Rattle.paraid_image.specs.Out.{named_out}
-use Rattle.paraid_plan.specs.declared.desk.Plan.{Ghosts}
+use Rattle.paraid_plan.specs.declared.desk.WritePlan.{Ghosts}
 use Rattle.paraid_plan.specs.RowBits.{TurnsBits, names_cell}
 use Rattle.paraid_plan.specs.RowWrites.{AddsTargets, AreOldRead, StagesBlocks, TurnsRow, given_row}
 use Rattle.paraid_record.specs.declared.meta.Meta.{Meta}

@@ -10,7 +10,7 @@ ghost use Rattle.paraid_record.specs.Range.{IsInRange};
 ghost use Rattle.paraid_image.specs.Value.{value as value_of};
 
 use crate::blocks::block_of;
-use crate::desk::{Lost, Plan};
+use crate::desk::{Lost, WritePlan};
 use paraid_base::{Block, DiskNo, Pairs, Row};
 use paraid_record::Meta;
 
@@ -98,7 +98,7 @@ fn xor_both(to: &mut Block, one: &Block, other: &Block)
 }
 
 /// Makes the new parity of a row, which is needed, of its old one, and of the old and the new bytes of one cell.
-pub(crate) fn read_alone<P: Plan>(
+pub(crate) fn read_alone<P: WritePlan>(
     plan: &mut P,
     m: &Meta,
     pairs: &Pairs,
@@ -116,7 +116,7 @@ pub(crate) fn read_alone<P: Plan>(
     requires needed { needs_new_in (sees m.now (P.desk plan.old)) r p ≡ true }
     ensures sum { OnOk result (P.tells plan.new → sum.new ≡ xor (value_of (sees m.now (P.desk plan.old)) r one.disk)
         (xor (value_of (sees m.now (P.desk plan.old)) r p) (get_or pairs.now.bytes one.at zero_block))) }
-    ensures reads { Leaves P.Plan (StaysAsWas P.Plan m.now plan.old plan.new) plan.old plan.new result }
+    ensures reads { Leaves P.WritePlan (StaysAsWas P.WritePlan m.now plan.old plan.new) plan.old plan.new result }
 {
     plan.value(m, r, one.disk, sum)?;
     let mut parity = Block::zero();

@@ -15,7 +15,7 @@ ghost use Rattle.paraid_image.specs.Out.{named_out as named_out_of};
 ghost use Rattle.paraid_image.specs.Spot.{is_hard as hard_in};
 ghost use Rattle.paraid_image.specs.Value.{value as value_of};
 
-use crate::desk::{Lost, Plan};
+use crate::desk::{Lost, WritePlan};
 use crate::marks::{is_filled, is_written};
 use paraid_base::{Block, DiskNo, Place, Row};
 use paraid_layout::{hard_place, soft_of, soft_parity, soft_place};
@@ -23,7 +23,7 @@ use paraid_parity::xor_into;
 use paraid_record::Meta;
 
 #[tactic(auto, unfolding(paraid_image::specs::Spot::is_hard))]
-pub(crate) fn is_hard<P: Plan>(plan: &P, m: &Meta, r: Row, d: DiskNo) -> bool
+pub(crate) fn is_hard<P: WritePlan>(plan: &P, m: &Meta, r: Row, d: DiskNo) -> bool
     requires serves { P.serves plan.now m.now }
     requires row { r < m.now.setup.geometry.rows }
     requires disk { d < m.now.setup.geometry.disks }
@@ -33,7 +33,7 @@ pub(crate) fn is_hard<P: Plan>(plan: &P, m: &Meta, r: Row, d: DiskNo) -> bool
 }
 
 #[tactic(auto, unfolding(crate::specs::WriteTargets::goes_hard))]
-fn goes_hard<P: Plan>(plan: &P, m: &Meta, r: Row, d: DiskNo) -> bool
+fn goes_hard<P: WritePlan>(plan: &P, m: &Meta, r: Row, d: DiskNo) -> bool
     requires serves { P.serves plan.now m.now }
     requires row { r < m.now.setup.geometry.rows }
     requires disk { d < m.now.setup.geometry.disks }
@@ -44,7 +44,7 @@ fn goes_hard<P: Plan>(plan: &P, m: &Meta, r: Row, d: DiskNo) -> bool
 
 /// Whether what a write of this cell stages shows its new value.
 #[tactic(auto, unfolding(crate::specs::WriteTargets::needs_new))]
-pub(crate) fn needs_new<P: Plan>(plan: &P, m: &Meta, r: Row, d: DiskNo) -> bool
+pub(crate) fn needs_new<P: WritePlan>(plan: &P, m: &Meta, r: Row, d: DiskNo) -> bool
     requires serves { P.serves plan.now m.now }
     requires in_range { IsInRange m.now }
     requires row { r < m.now.setup.geometry.rows }
@@ -80,7 +80,7 @@ pub(crate) fn has_soft(m: &Meta) -> bool
 // Whether what a write of this cell stages depends on its old value.
 #[inline(never)]
 #[tactic(auto, unfolding(crate::specs::WriteTargets::needs_old))]
-fn depends_on_old<P: Plan>(plan: &P, m: &Meta, r: Row, d: DiskNo) -> bool
+fn depends_on_old<P: WritePlan>(plan: &P, m: &Meta, r: Row, d: DiskNo) -> bool
     requires serves { P.serves plan.now m.now }
     requires in_range { IsInRange m.now }
     requires row { r < m.now.setup.geometry.rows }
@@ -94,7 +94,7 @@ fn depends_on_old<P: Plan>(plan: &P, m: &Meta, r: Row, d: DiskNo) -> bool
 }
 
 /// The same, by the meta alone where no cell has a soft copy.
-pub(crate) fn needs_old<P: Plan>(plan: &P, m: &Meta, r: Row, d: DiskNo) -> bool
+pub(crate) fn needs_old<P: WritePlan>(plan: &P, m: &Meta, r: Row, d: DiskNo) -> bool
     requires serves { P.serves plan.now m.now }
     requires in_range { IsInRange m.now }
     requires row { r < m.now.setup.geometry.rows }
@@ -108,7 +108,7 @@ pub(crate) fn needs_old<P: Plan>(plan: &P, m: &Meta, r: Row, d: DiskNo) -> bool
 }
 
 // Reads the parity of the stripe of a cell's copy, and changes it with the cell.
-fn read_parity<P: Plan>(
+fn read_parity<P: WritePlan>(
     plan: &mut P,
     m: &Meta,
     r: Row,
@@ -126,7 +126,7 @@ fn read_parity<P: Plan>(
         let s = soft_stripe m.now.setup.geometry.disks m.now.gear r d in
         written_in m.now.out (soft_parity_disk m.now.gear s) (m.now.setup.geometry.rows + s) ≡ true
         → into.new ≡ xor (xor (stripe_block_now (sees m.now (P.desk plan.old)) s (soft_parity_disk m.now.gear s)) old.now) new.now) }
-    ensures reads { Leaves P.Plan (StaysAsWas P.Plan m.now plan.old plan.new) plan.old plan.new result }
+    ensures reads { Leaves P.WritePlan (StaysAsWas P.WritePlan m.now plan.old plan.new) plan.old plan.new result }
 {
     let (s, _copy) = soft_of(&m.setup.geometry, m.gear, r, d);
     let parity = soft_parity(&m.setup.geometry, m.gear, s);
@@ -140,7 +140,7 @@ fn read_parity<P: Plan>(
 }
 
 // The same where the cell does not go to its hard place.
-fn read_place<P: Plan>(
+fn read_place<P: WritePlan>(
     plan: &mut P,
     m: &Meta,
     hard: bool,
@@ -159,7 +159,7 @@ fn read_place<P: Plan>(
         let s = soft_stripe m.now.setup.geometry.disks m.now.gear r d in hard ≡ false
         → written_in m.now.out (soft_parity_disk m.now.gear s) (m.now.setup.geometry.rows + s) ≡ true
         → into.new ≡ xor (xor (stripe_block_now (sees m.now (P.desk plan.old)) s (soft_parity_disk m.now.gear s)) old.now) new.now) }
-    ensures reads { Leaves P.Plan (StaysAsWas P.Plan m.now plan.old plan.new) plan.old plan.new result }
+    ensures reads { Leaves P.WritePlan (StaysAsWas P.WritePlan m.now plan.old plan.new) plan.old plan.new result }
 {
     if hard {
         return Ok(());
@@ -168,7 +168,7 @@ fn read_place<P: Plan>(
 }
 
 // The same in the region that is being filled, where the stripe is filled already.
-fn read_copy<P: Plan>(
+fn read_copy<P: WritePlan>(
     plan: &mut P,
     m: &Meta,
     filled: bool,
@@ -187,7 +187,7 @@ fn read_copy<P: Plan>(
         let to = phase_to_of m.now.phase in
         let s = soft_stripe m.now.setup.geometry.disks to r d in filled ≡ true
         → into.new ≡ xor (xor ((P.desk plan.old).block (soft_parity_disk to s) (soft_place_of m.now.setup.geometry to s)) old.now) new.now) }
-    ensures reads { Leaves P.Plan (StaysAsWas P.Plan m.now plan.old plan.new) plan.old plan.new result }
+    ensures reads { Leaves P.WritePlan (StaysAsWas P.WritePlan m.now plan.old plan.new) plan.old plan.new result }
 {
     if !filled {
         return Ok(());
@@ -202,7 +202,7 @@ fn read_copy<P: Plan>(
 }
 
 // Stages a block, or nothing where its place is not written.
-pub(crate) fn stage_if<P: Plan>(
+pub(crate) fn stage_if<P: WritePlan>(
     plan: &mut P,
     written: bool,
     disk: DiskNo,
@@ -222,7 +222,7 @@ pub(crate) fn stage_if<P: Plan>(
 }
 
 // Stages a cell in its place.
-fn stage_place<P: Plan>(
+fn stage_place<P: WritePlan>(
     plan: &mut P,
     m: &Meta,
     hard: bool,
@@ -261,7 +261,7 @@ fn stage_place<P: Plan>(
 }
 
 // Stages its copy in the region that is being filled, where the stripe is filled already.
-fn stage_copy<P: Plan>(
+fn stage_copy<P: WritePlan>(
     plan: &mut P,
     m: &Meta,
     filled: bool,
@@ -296,7 +296,7 @@ fn stage_copy<P: Plan>(
 // The same, where it is written to its copy too, or there alone. It is apart, with room for the
 // parities of both copies, since in the top gear no cell has one.
 #[inline(never)]
-fn write_copies<P: Plan>(
+fn write_copies<P: WritePlan>(
     plan: &mut P,
     m: &Meta,
     hard: bool,
@@ -334,7 +334,7 @@ fn write_copies<P: Plan>(
 
 /// Writes a cell whose value is `old`.
 #[inline(always)]
-pub fn write_cell<P: Plan>(
+pub fn write_cell<P: WritePlan>(
     plan: &mut P,
     m: &Meta,
     r: Row,

@@ -20,7 +20,7 @@ use paraid_record::Meta;
 pub struct Lost;
 
 /// A plan of at most 80 targets, over blocks that are read with all that is staged laid over.
-pub trait Plan {
+pub trait WritePlan {
     /// What is in view, and what is staged.
     ghost desk: { Self → Desk };
 

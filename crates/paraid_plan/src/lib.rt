@@ -1,7 +1,7 @@
 //! What writes, copies and marks make of what the disks store, in every gear, phase and state of a
 //! rebuild: the disks are kept well, and hold the blocks that they should.
 //!
-//! `write_blocks` plans a write over anything that can be read and staged to, a `Plan`. The laws
+//! `write_blocks` plans a write over anything that can be read and staged to, a `WritePlan`. The laws
 //! speak of no history: which blocks are held before and after is all that they say.
 #![tactic(auto)]
 
@@ -17,7 +17,7 @@ mod rule;
 mod write;
 
 pub use cell::write_cell;
-pub use desk::{Lost, Plan};
+pub use desk::{Lost, WritePlan};
 pub use laws::{
     a_lost_disk_is_marked_out, a_synced_cell_keeps_the_disks_well, kept_places_alone_tell,
     what_is_kept_well_is_stored, what_is_stored_is_kept_well,

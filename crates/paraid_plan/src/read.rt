@@ -16,7 +16,7 @@ ghost use Rattle.paraid_image.specs.Value.{value as value_of};
 use crate::alone::{alone, read_alone};
 use crate::blocks::keep_if;
 use crate::cell::{needs_new, needs_old};
-use crate::desk::{Lost, Plan};
+use crate::desk::{Lost, WritePlan};
 use crate::given::{add_given, is_changed};
 use crate::rule::is_made_anew;
 use paraid_base::{Block, DiskNo, Pairs, Row};
@@ -77,7 +77,7 @@ fn add_part(
 // Reads the old value of a cell, keeps it where that is asked, and adds to the parity what the cell brings to it. It is
 // apart from the test whether a cell is read, since most are not.
 #[inline(never)]
-fn read_wanted<P: Plan>(
+fn read_wanted<P: WritePlan>(
     plan: &mut P,
     m: &Meta,
     pairs: &Pairs,
@@ -104,7 +104,7 @@ fn read_wanted<P: Plan>(
     ensures sum { OnOk result (P.tells plan.new → sum.new ≡ xor sum.old
         (parity_part m.now.setup.geometry.disks (pairs_of pairs.now) r (value_of (sees m.now (P.desk plan.old)) r) anew d)) }
     ensures kept { OnOk result (length old.new ≡ length old.old) }
-    ensures reads { Leaves P.Plan (StaysAsWas P.Plan m.now plan.old plan.new) plan.old plan.new result }
+    ensures reads { Leaves P.WritePlan (StaysAsWas P.WritePlan m.now plan.old plan.new) plan.old plan.new result }
 {
     plan.value(m, r, d, into)?;
     keep_if(keeps, old, d, into);
@@ -114,7 +114,7 @@ fn read_wanted<P: Plan>(
 
 // Reads the old value of a cell, where what is staged of it or the new parity depends on it, and adds
 // to the parity what the cell brings to it. What is read goes into a block that many cells can share.
-fn read_cell<P: Plan>(
+fn read_cell<P: WritePlan>(
     plan: &mut P,
     m: &Meta,
     pairs: &Pairs,
@@ -142,7 +142,7 @@ fn read_cell<P: Plan>(
     ensures sum { OnOk result (P.tells plan.new → needed ≡ true → sum.new ≡ xor sum.old
         (parity_part m.now.setup.geometry.disks (pairs_of pairs.now) r (value_of (sees m.now (P.desk plan.old)) r) anew d)) }
     ensures kept { OnOk result (length old.new ≡ length old.old) }
-    ensures reads { Leaves P.Plan (StaysAsWas P.Plan m.now plan.old plan.new) plan.old plan.new result }
+    ensures reads { Leaves P.WritePlan (StaysAsWas P.WritePlan m.now plan.old plan.new) plan.old plan.new result }
 {
     let changed = is_changed(given, p, d);
     let depends = needs_old(plan, m, r, d);
@@ -159,7 +159,7 @@ fn read_cell<P: Plan>(
 }
 
 // The same, unless the cell is the row's parity.
-fn read_data<P: Plan>(
+fn read_data<P: WritePlan>(
     plan: &mut P,
     m: &Meta,
     pairs: &Pairs,
@@ -190,7 +190,7 @@ fn read_data<P: Plan>(
         let part = parity_part n (pairs_of pairs.now) r (value_of (sees m.now (P.desk plan.old)) r) anew in
         sum.old ≡ xor_upto (without part (parity_disk_of n r)) d → sum.new ≡ xor_upto (without part (parity_disk_of n r)) (d + 1)) }
     ensures kept { OnOk result (length old.new ≡ length old.old) }
-    ensures reads { Leaves P.Plan (StaysAsWas P.Plan m.now plan.old plan.new) plan.old plan.new result }
+    ensures reads { Leaves P.WritePlan (StaysAsWas P.WritePlan m.now plan.old plan.new) plan.old plan.new result }
 {
     if d == p {
         return Ok(());
@@ -200,7 +200,7 @@ fn read_data<P: Plan>(
 
 // Reads the old values of the data cells of a row, and then that of its parity, as far as they are
 // needed.
-fn read_cells<P: Plan>(
+fn read_cells<P: WritePlan>(
     plan: &mut P,
     m: &Meta,
     pairs: &Pairs,
@@ -226,7 +226,7 @@ fn read_cells<P: Plan>(
         let n = m.now.setup.geometry.disks in
         sum.new ≡ xor_upto (parity_part n (pairs_of pairs.now) r (value_of (sees m.now (P.desk plan.old)) r) anew) n) }
     ensures kept { OnOk result (length old.new ≡ length old.old) }
-    ensures reads { Leaves P.Plan (StaysAsWas P.Plan m.now plan.old plan.new) plan.old plan.new result }
+    ensures reads { Leaves P.WritePlan (StaysAsWas P.WritePlan m.now plan.old plan.new) plan.old plan.new result }
 {
     let mut value = Block::zero();
     for d in 0..m.setup.geometry.disks {
@@ -241,7 +241,7 @@ fn read_cells<P: Plan>(
 
 /// Makes the new parity of a row, by whichever rule reads less, and reads the old values of the cells
 /// that change on which more than that depends.
-pub(crate) fn read_row<P: Plan>(
+pub(crate) fn read_row<P: WritePlan>(
     plan: &mut P,
     m: &Meta,
     pairs: &Pairs,
@@ -266,7 +266,7 @@ pub(crate) fn read_row<P: Plan>(
         → xor_upto (value_of (sees m.now (P.desk plan.old)) r) m.now.setup.geometry.disks ≡ zero_block
         → fixed.new ≡ new_parity m.now.setup.geometry.disks (pairs_of pairs.now) r (value_of (sees m.now (P.desk plan.old)) r)) }
     ensures kept { OnOk result (length old.new ≡ length old.old) }
-    ensures reads { Leaves P.Plan (StaysAsWas P.Plan m.now plan.old plan.new) plan.old plan.new result }
+    ensures reads { Leaves P.WritePlan (StaysAsWas P.WritePlan m.now plan.old plan.new) plan.old plan.new result }
 {
     let needed = needs_new(plan, m, r, p);
     let anew = is_made_anew(plan, m, given, r, p);

@@ -4,14 +4,14 @@ ghost use Rattle.std.specs.Prelude.{◌<◌};
 ghost use Rattle.paraid_record.specs.Range.{IsInRange};
 
 use crate::cell::{has_soft, is_hard, needs_old};
-use crate::desk::Plan;
+use crate::desk::WritePlan;
 use crate::given::is_changed;
 use paraid_base::{DiskNo, Place, Row};
 use paraid_layout::{hard_place, soft_of, soft_place};
 use paraid_record::Meta;
 
 // How many blocks of the disks are read for one of them, of which so many others can be made it.
-fn reads_at<P: Plan>(plan: &P, m: &Meta, disk: DiskNo, place: Place, others: u8) -> u8 {
+fn reads_at<P: WritePlan>(plan: &P, m: &Meta, disk: DiskNo, place: Place, others: u8) -> u8 {
     if m.out.names(disk) {
         return others;
     }
@@ -19,7 +19,7 @@ fn reads_at<P: Plan>(plan: &P, m: &Meta, disk: DiskNo, place: Place, others: u8)
 }
 
 // How many blocks of the disks are read for the value of a cell.
-fn reads_of<P: Plan>(plan: &P, m: &Meta, r: Row, d: DiskNo) -> u8
+fn reads_of<P: WritePlan>(plan: &P, m: &Meta, r: Row, d: DiskNo) -> u8
     requires serves { P.serves plan.now m.now }
     requires in_range { IsInRange m.now }
     requires row { r < m.now.setup.geometry.rows }
@@ -35,7 +35,7 @@ fn reads_of<P: Plan>(plan: &P, m: &Meta, r: Row, d: DiskNo) -> u8
 
 // How many blocks of the disks are read for the old values of the cells that change, where only the
 // new parity depends on them.
-fn reads_of_old<P: Plan>(plan: &P, m: &Meta, given: &[Option<u8>; 8], r: Row, p: DiskNo) -> u8
+fn reads_of_old<P: WritePlan>(plan: &P, m: &Meta, given: &[Option<u8>; 8], r: Row, p: DiskNo) -> u8
     requires serves { P.serves plan.now m.now }
     requires in_range { IsInRange m.now }
     requires row { r < m.now.setup.geometry.rows }
@@ -50,7 +50,7 @@ fn reads_of_old<P: Plan>(plan: &P, m: &Meta, given: &[Option<u8>; 8], r: Row, p:
 }
 
 // Whether the reads of the values that do not change are fewer than those of the old ones that do.
-fn is_anew_in_any_gear<P: Plan>(
+fn is_anew_in_any_gear<P: WritePlan>(
     plan: &P,
     m: &Meta,
     given: &[Option<u8>; 8],
@@ -76,7 +76,13 @@ fn is_anew_in_any_gear<P: Plan>(
 
 // The same where each cell has its value in its hard place and no disk is out: all are at one place of the disks. They
 // are counted without a branch, since no processor can guess which are staged.
-fn is_anew_in_place<P: Plan>(plan: &P, m: &Meta, given: &[Option<u8>; 8], r: Row, p: DiskNo) -> bool
+fn is_anew_in_place<P: WritePlan>(
+    plan: &P,
+    m: &Meta,
+    given: &[Option<u8>; 8],
+    r: Row,
+    p: DiskNo,
+) -> bool
     requires row { r < m.now.setup.geometry.rows }
 {
     let staged = plan.staged_at(hard_place(&m.setup.geometry, r));
@@ -93,7 +99,7 @@ fn is_anew_in_place<P: Plan>(plan: &P, m: &Meta, given: &[Option<u8>; 8], r: Row
 
 /// Whether the new parity of a row is made of the values of its cells that do not change, and not of
 /// the old values of those that do: where that reads less.
-pub(crate) fn is_made_anew<P: Plan>(
+pub(crate) fn is_made_anew<P: WritePlan>(
     plan: &P,
     m: &Meta,
     given: &[Option<u8>; 8],

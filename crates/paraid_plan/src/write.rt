@@ -17,7 +17,7 @@ ghost use Rattle.paraid_record.specs.declared.meta.Meta.{Meta as MetaType};
 
 use crate::blocks::{block_of, keep_if, kept_or, none_kept};
 use crate::cell::{has_soft, needs_old, stage_if, write_cell};
-use crate::desk::{Lost, Plan};
+use crate::desk::{Lost, WritePlan};
 use crate::given::{given_cells, is_row_before};
 use crate::marks::is_written;
 use crate::read::read_row;
@@ -26,7 +26,7 @@ use paraid_layout::{home, parity_disk};
 use paraid_record::Meta;
 
 // Stages the block of the map with the bits of a row, where one has changed.
-fn stage_map<P: Plan>(plan: &mut P, m: &Meta, r: Row, staged: bool)
+fn stage_map<P: WritePlan>(plan: &mut P, m: &Meta, r: Row, staged: bool)
     requires in_range { IsInRange m.now }
     requires row { r < m.now.setup.geometry.rows }
     requires room { length (P.desk plan.old).staged + 2 ≤ 80 }
@@ -55,7 +55,7 @@ fn is_other(first: u8, second: u8) -> bool
 }
 
 // Whether the dirty bits of a row are not what they were.
-fn has_changed<P: Plan>(plan: &P, m: &Meta, r: Row, was: u8) -> bool
+fn has_changed<P: WritePlan>(plan: &P, m: &Meta, r: Row, was: u8) -> bool
     requires serves { P.serves plan.now m.now }
     requires row { r < m.now.setup.geometry.rows }
     ensures { result ≡ false → (d : ℕ) → (P.desk plan.now).dirty r d ≡ bit_of was d }
@@ -65,7 +65,7 @@ fn has_changed<P: Plan>(plan: &P, m: &Meta, r: Row, was: u8) -> bool
 
 // Writes the cell of one pair, unless it lies in another row; its new bytes are the old ones of what
 // follows.
-fn write_pair<P: Plan>(
+fn write_pair<P: WritePlan>(
     plan: &mut P,
     m: &Meta,
     pairs: &Pairs,
@@ -83,7 +83,7 @@ fn write_pair<P: Plan>(
         + 4 * one_in_row m.now.setup.geometry.disks (get_or pairs.now.blocks at 0) r ≤ 80 }
     requires bits { P.changes plan.old
         + one_in_row m.now.setup.geometry.disks (get_or pairs.now.blocks at 0) r ≤ 16 }
-    ensures { Leaves P.Plan (WritesCells P.Plan m.now (pairs_of pairs.now) ((get_or pairs.now.blocks at 0, get_or pairs.now.bytes at zero_block) ∷ []) r
+    ensures { Leaves P.WritePlan (WritesCells P.WritePlan m.now (pairs_of pairs.now) ((get_or pairs.now.blocks at 0, get_or pairs.now.bytes at zero_block) ∷ []) r
         (one_in_row m.now.setup.geometry.disks (get_or pairs.now.blocks at 0) r) old.old old.new plan.old plan.new) plan.old plan.new result }
 {
     let (q, d) = home(&m.setup.geometry, pairs.blocks[at]);
@@ -98,7 +98,7 @@ fn write_pair<P: Plan>(
 }
 
 // Writes the cells that the pairs name in a row, one after the other.
-fn write_pairs<P: Plan>(
+fn write_pairs<P: WritePlan>(
     plan: &mut P,
     m: &Meta,
     pairs: &Pairs,
@@ -113,7 +113,7 @@ fn write_pairs<P: Plan>(
     requires room { length (P.desk plan.old).staged
         + 4 * count_in_row m.now.setup.geometry.disks (pairs_of pairs.now) r ≤ 80 }
     requires bits { P.changes plan.old + count_in_row m.now.setup.geometry.disks (pairs_of pairs.now) r ≤ 16 }
-    ensures { Leaves P.Plan (WritesCells P.Plan m.now (pairs_of pairs.now) (pairs_of pairs.now) r
+    ensures { Leaves P.WritePlan (WritesCells P.WritePlan m.now (pairs_of pairs.now) (pairs_of pairs.now) r
         (count_in_row m.now.setup.geometry.disks (pairs_of pairs.now) r) old.old old.new plan.old plan.new) plan.old plan.new result }
 {
     for at in 0..pairs.count as usize {
@@ -124,7 +124,7 @@ fn write_pairs<P: Plan>(
 
 // Writes the cells that the pairs name in a row, its parity once, and the changed dirty bits, with
 // room for the old values on which more than the parity depends.
-fn write_row_in<P: Plan>(
+fn write_row_in<P: WritePlan>(
     plan: &mut P,
     m: &Meta,
     pairs: &Pairs,
@@ -140,7 +140,7 @@ fn write_row_in<P: Plan>(
     requires room { length (P.desk plan.old).staged
         + 10 * count_in_row m.now.setup.geometry.disks (pairs_of pairs.now) r ≤ 80 }
     requires bits { P.changes plan.old + 2 * count_in_row m.now.setup.geometry.disks (pairs_of pairs.now) r ≤ 16 }
-    ensures { Leaves P.Plan (WritesRow P.Plan m.now (count_in_row m.now.setup.geometry.disks (pairs_of pairs.now) r)
+    ensures { Leaves P.WritePlan (WritesRow P.WritePlan m.now (count_in_row m.now.setup.geometry.disks (pairs_of pairs.now) r)
         (λ c x. if home_row m.now.setup.geometry.disks c == r then last_of c x (pairs_of pairs.now) else x)
         (λ q e. q == r && turns_cell_of m.now.setup.geometry.disks (pairs_of pairs.now) r e)
         plan.old plan.new) plan.old plan.new result }
@@ -158,7 +158,7 @@ fn write_row_in<P: Plan>(
 }
 
 // The same, with that room only where it can be needed, for it is large.
-fn write_row<P: Plan>(plan: &mut P, m: &Meta, pairs: &Pairs, r: Row) -> Result<(), Lost>
+fn write_row<P: WritePlan>(plan: &mut P, m: &Meta, pairs: &Pairs, r: Row) -> Result<(), Lost>
     requires serves { P.serves plan.old m.now }
     requires in_range { IsInRange m.now }
     requires row { r < m.now.setup.geometry.rows }
@@ -167,7 +167,7 @@ fn write_row<P: Plan>(plan: &mut P, m: &Meta, pairs: &Pairs, r: Row) -> Result<(
     requires room { length (P.desk plan.old).staged
         + 10 * count_in_row m.now.setup.geometry.disks (pairs_of pairs.now) r ≤ 80 }
     requires bits { P.changes plan.old + 2 * count_in_row m.now.setup.geometry.disks (pairs_of pairs.now) r ≤ 16 }
-    ensures { Leaves P.Plan (WritesRow P.Plan m.now (count_in_row m.now.setup.geometry.disks (pairs_of pairs.now) r)
+    ensures { Leaves P.WritePlan (WritesRow P.WritePlan m.now (count_in_row m.now.setup.geometry.disks (pairs_of pairs.now) r)
         (λ c x. if home_row m.now.setup.geometry.disks c == r then last_of c x (pairs_of pairs.now) else x)
         (λ q e. q == r && turns_cell_of m.now.setup.geometry.disks (pairs_of pairs.now) r e)
         plan.old plan.new) plan.old plan.new result }
@@ -179,14 +179,14 @@ fn write_row<P: Plan>(plan: &mut P, m: &Meta, pairs: &Pairs, r: Row) -> Result<(
 }
 
 // Writes the row of one pair, unless a pair before it lies in the same row.
-fn write_row_of<P: Plan>(plan: &mut P, m: &Meta, pairs: &Pairs, at: usize) -> Result<(), Lost>
+fn write_row_of<P: WritePlan>(plan: &mut P, m: &Meta, pairs: &Pairs, at: usize) -> Result<(), Lost>
     requires serves { P.serves plan.old m.now }
     requires in_range { IsInRange m.now }
     requires at { at < pairs.now.count }
     requires blocks { All (λ (pair : ℕ × BlockType). pair.0 < m.now.setup.geometry.rows * (m.now.setup.geometry.disks - 1)) (pairs_of pairs.now) }
     requires room { length (P.desk plan.old).staged + 10 * count_of_new_row m.now.setup.geometry.disks pairs.now at ≤ 80 }
     requires bits { P.changes plan.old + 2 * count_of_new_row m.now.setup.geometry.disks pairs.now at ≤ 16 }
-    ensures { Leaves P.Plan (WritesRow P.Plan m.now (count_of_new_row m.now.setup.geometry.disks pairs.now at)
+    ensures { Leaves P.WritePlan (WritesRow P.WritePlan m.now (count_of_new_row m.now.setup.geometry.disks pairs.now at)
         (row_change m.now.setup.geometry.disks pairs.now at) (turns_in_new_row m.now.setup.geometry.disks pairs.now at)
         plan.old plan.new) plan.old plan.new result }
 {
@@ -199,7 +199,7 @@ fn write_row_of<P: Plan>(plan: &mut P, m: &Meta, pairs: &Pairs, at: usize) -> Re
 
 /// Writes the blocks of these pairs in one plan, row by row: at most ten targets for each pair, and at
 /// least one in all. Of several pairs that name a block the last one counts.
-pub fn write_blocks<P: Plan>(plan: &mut P, m: &Meta, pairs: &Pairs) -> Result<(), Lost>
+pub fn write_blocks<P: WritePlan>(plan: &mut P, m: &Meta, pairs: &Pairs) -> Result<(), Lost>
     requires serves { P.serves plan.old m.now }
     requires in_range { IsInRange m.now }
     requires blocks { All (λ (pair : ℕ × BlockType). pair.0 < m.now.setup.geometry.rows * (m.now.setup.geometry.disks - 1)) (pairs_of pairs.now) }

@@ -8,7 +8,7 @@ has_parity-requires g c = record {
   in_range = c.requires.in_range;
   row = c.requires.row;
   disk = c.requires.disk;
-  parked = parked_of (sees c.args.m.now (g.P.Plan.desk c.args.plan.now)) c.args.r c.args.d (sym c.goes_hard.ensures ∙ c.if-goes_hard.false);
+  parked = parked_of (sees c.args.m.now (g.P.WritePlan.desk c.args.plan.now)) c.args.r c.args.d (sym c.goes_hard.ensures ∙ c.if-goes_hard.false);
 }
 
 pub goes_hard-requires : goal.goes_hard-requires

@@ -80,19 +80,19 @@ stored-requires g c = record {
 pub returns-then-not-filled : goal.returns-then-not-filled
 returns-then-not-filled g c = record {
   ok = search rules;
-  reads = record { ok = stays_none g.P.Plan c.args.m.now c.args.plan.now c.requires.serves; fails = tt; leads = g.met.P.Plan.stays c.args.plan.now };
+  reads = record { ok = stays_none g.P.WritePlan c.args.m.now c.args.plan.now c.requires.serves; fails = tt; leads = g.met.P.WritePlan.stays c.args.plan.now };
 }
 
 pub returns-in_err-stored : goal.returns-in_err-stored
 returns-in_err-stored g c = record {
   ok = search rules;
-  reads = failed g.P.Plan _ _ _ _ c.from_residual.ensures.1 c.in_err-stored.ensures.fails c.stored.ensures.leads;
+  reads = failed g.P.WritePlan _ _ _ _ c.from_residual.ensures.1 c.in_err-stored.ensures.fails c.stored.ensures.leads;
 }
 
 pub returns : goal.returns
 returns g c = record {
   ok = λ tells filled.
-      copy_read (g.P.Plan.desk c.args.plan.now).block c.args.m.now.setup.geometry (phase_to c.args.m.now.phase) c.args.r c.args.d c.to-to.result c.soft_of-s.result.0 c.soft_parity-parity.result c.soft_place.result
+      copy_read (g.P.WritePlan.desk c.args.plan.now).block c.args.m.now.setup.geometry (phase_to c.args.m.now.phase) c.args.r c.args.d c.to-to.result c.soft_of-s.result.0 c.soft_parity-parity.result c.soft_place.result
       c.stored.new.into c.xor_into.new.to c.xor_into-2.new.to c.args.old.now c.args.new.now
       c.to-to.ensures c.soft_of-s.ensures.stripe c.soft_parity-parity.ensures.value c.soft_place.ensures.value (c.in_ok-stored.ensures.ok tells) c.xor_into.ensures c.xor_into-2.ensures;
   reads = record {

@@ -40,19 +40,19 @@ stripe-requires g c = record {
 pub returns-then-not-is_written : goal.returns-then-not-is_written
 returns-then-not-is_written g c = record {
   ok = search rules;
-  reads = record { ok = stays_none g.P.Plan c.args.m.now c.args.plan.now c.requires.serves; fails = tt; leads = g.met.P.Plan.stays c.args.plan.now };
+  reads = record { ok = stays_none g.P.WritePlan c.args.m.now c.args.plan.now c.requires.serves; fails = tt; leads = g.met.P.WritePlan.stays c.args.plan.now };
 }
 
 pub returns-in_err-stripe : goal.returns-in_err-stripe
 returns-in_err-stripe g c = record {
   ok = search rules;
-  reads = failed g.P.Plan _ _ _ _ c.from_residual.ensures.1 c.in_err-stripe.ensures.fails c.stripe.ensures.leads;
+  reads = failed g.P.WritePlan _ _ _ _ c.from_residual.ensures.1 c.in_err-stripe.ensures.fails c.stripe.ensures.leads;
 }
 
 pub returns : goal.returns
 returns g c = record {
   ok = λ tells written.
-      parity_read (sees c.args.m.now (g.P.Plan.desk c.args.plan.now)) _ c.soft_of-s.result.0 c.soft_parity-parity.result c.stripe.new.into c.xor_into.new.to c.xor_into-2.new.to c.args.old.now c.args.new.now
+      parity_read (sees c.args.m.now (g.P.WritePlan.desk c.args.plan.now)) _ c.soft_of-s.result.0 c.soft_parity-parity.result c.stripe.new.into c.xor_into.new.to c.xor_into-2.new.to c.args.old.now c.args.new.now
       c.soft_of-s.ensures.stripe c.soft_parity-parity.ensures.value (c.in_ok-stripe.ensures.ok tells) c.xor_into.ensures c.xor_into-2.ensures;
   reads = record {
     ok = record { same = c.in_ok-stripe.ensures.same; bits = c.in_ok-stripe.ensures.bits; staged = c.in_ok-stripe.ensures.staged; changes = c.in_ok-stripe.ensures.changes; goes_on = c.in_ok-stripe.ensures.goes_on };

@@ -16,7 +16,7 @@ read_parity-requires g c = record {
 pub returns-then-hard : goal.returns-then-hard
 returns-then-hard g c = record {
   ok = λ tells soft. absurd (false≢true (sym soft ∙ c.if-hard.true));
-  reads = record { ok = stays_none g.P.Plan c.args.m.now c.args.plan.now c.requires.serves; fails = tt; leads = g.met.P.Plan.stays c.args.plan.now };
+  reads = record { ok = stays_none g.P.WritePlan c.args.m.now c.args.plan.now c.requires.serves; fails = tt; leads = g.met.P.WritePlan.stays c.args.plan.now };
 }
 
 pub returns : goal.returns

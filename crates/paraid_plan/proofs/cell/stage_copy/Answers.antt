@@ -61,7 +61,7 @@ returns-then-not-filled g c = record {
   room = search rules;
   changes = search rules;
   goes_on = search rules;
-  leads = g.met.P.Plan.stays c.args.plan.now;
+  leads = g.met.P.WritePlan.stays c.args.plan.now;
 }
 
 pub returns : goal.returns
@@ -73,5 +73,5 @@ returns g c = record {
   room = let one = c.stage_if.ensures.room in let two = c.stage_if-2.ensures.room in omega (arith, one, two);
   changes = c.stage_if-2.ensures.changes ∙ c.stage_if.ensures.changes;
   goes_on = λ n serves. c.stage_if-2.ensures.goes_on n (c.stage_if.ensures.goes_on n serves);
-  leads = g.met.P.Plan.then _ _ _ c.stage_if.ensures.leads c.stage_if-2.ensures.leads;
+  leads = g.met.P.WritePlan.then _ _ _ c.stage_if.ensures.leads c.stage_if-2.ensures.leads;
 }

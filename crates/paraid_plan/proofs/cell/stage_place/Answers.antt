@@ -45,7 +45,7 @@ returns g c = record {
   room = let one = c.stage_if-2.ensures.room in let two = c.stage_if-3.ensures.room in omega (arith, one, two);
   changes = c.stage_if-3.ensures.changes ∙ c.stage_if-2.ensures.changes;
   goes_on = λ n serves. c.stage_if-3.ensures.goes_on n (c.stage_if-2.ensures.goes_on n serves);
-  leads = g.met.P.Plan.then _ _ _ c.stage_if-2.ensures.leads c.stage_if-3.ensures.leads;
+  leads = g.met.P.WritePlan.then _ _ _ c.stage_if-2.ensures.leads c.stage_if-3.ensures.leads;
 }
 
 pub returns-then-hard : goal.returns-then-hard

@@ -9,23 +9,23 @@ returns-then-not-filled g c =
     record {
       desk = (λ tells. let m = c.args.m.now in
           let new = c.args.new.now in
-          let s = g.P.Plan.desk c.args.plan.now in
-          let staged = g.P.Plan.desk c.stage_place.new.plan in
+          let s = g.P.WritePlan.desk c.args.plan.now in
+          let staged = g.P.WritePlan.desk c.stage_place.new.plan in
           cell_desk_is m s true false c.args.r c.args.d c.args.old.now new new new
           s s staged staged _ refl refl (sym c.if-hard.true ∙ c.goes_hard-hard.ensures) (sym c.if-not-filled.true ∙ c.is_filled-filled.ensures)
           (λ h. absurd (true≢false h)) (λ h. absurd (false≢true h)) c.stage_place.ensures.desk (copy_none m staged false c.args.r c.args.d new new refl) c.set_dirty.ensures.desk);
       bits = (let m = c.args.m.now in
-          let s = g.P.Plan.desk c.args.plan.now in
-          let staged = g.P.Plan.desk c.stage_place.new.plan in
-          cell_bits m s s s staged staged (g.P.Plan.desk c.set_dirty.new.self) c.args.r c.args.d true _ _ refl refl c.stage_place.ensures.desk
+          let s = g.P.WritePlan.desk c.args.plan.now in
+          let staged = g.P.WritePlan.desk c.stage_place.new.plan in
+          cell_bits m s s s staged staged (g.P.WritePlan.desk c.set_dirty.new.self) c.args.r c.args.d true _ _ refl refl c.stage_place.ensures.desk
           (copy_none m staged false c.args.r c.args.d c.args.new.now c.args.new.now refl) (sym c.if-hard.true ∙ c.goes_hard-hard.ensures) c.set_dirty.ensures.desk);
-      room = (let s = g.P.Plan.desk c.args.plan.now in
-          let staged = g.P.Plan.desk c.stage_place.new.plan in
-          cell_room s s s staged staged (g.P.Plan.desk c.set_dirty.new.self) c.args.r c.args.d _ refl refl c.stage_place.ensures.room (omega (arith)) c.set_dirty.ensures.desk);
+      room = (let s = g.P.WritePlan.desk c.args.plan.now in
+          let staged = g.P.WritePlan.desk c.stage_place.new.plan in
+          cell_room s s s staged staged (g.P.WritePlan.desk c.set_dirty.new.self) c.args.r c.args.d _ refl refl c.stage_place.ensures.room (omega (arith)) c.set_dirty.ensures.desk);
       changes = c.set_dirty.ensures.changes ∙ ap (λ (z : ℕ). z + 1) c.stage_place.ensures.changes;
       goes_on = c.set_dirty.ensures.goes_on;
       fails = tt;
-      leads = g.met.P.Plan.then _ _ _ c.stage_place.ensures.leads c.set_dirty.ensures.leads;
+      leads = g.met.P.WritePlan.then _ _ _ c.stage_place.ensures.leads c.set_dirty.ensures.leads;
     }
 
 pub set_dirty-requires : goal.set_dirty-requires

@@ -12,7 +12,7 @@ read_place-requires g c =
       in_range = c.requires.in_range;
       row = c.requires.row;
       disk = c.requires.disk;
-      parked = λ h. parked_of (sees c.args.m.now (g.P.Plan.desk c.args.plan.now)) c.args.r c.args.d (sym c.requires.hard ∙ h);
+      parked = λ h. parked_of (sees c.args.m.now (g.P.WritePlan.desk c.args.plan.now)) c.args.r c.args.d (sym c.requires.hard ∙ h);
     }
 
 pub stage_place-requires : goal.stage_place-requires
@@ -21,7 +21,7 @@ stage_place-requires g c =
       in_range = c.requires.in_range;
       row = c.requires.row;
       disk = c.requires.disk;
-      parked = λ h. parked_of (sees c.args.m.now (g.P.Plan.desk c.args.plan.now)) c.args.r c.args.d (sym c.requires.hard ∙ h);
+      parked = λ h. parked_of (sees c.args.m.now (g.P.WritePlan.desk c.args.plan.now)) c.args.r c.args.d (sym c.requires.hard ∙ h);
       room = (let a = c.in_ok-read_place.ensures.reads.ok.staged in
           let b = c.in_ok-read_copy.ensures.reads.ok.staged in
           let room = c.requires.room in
@@ -31,23 +31,23 @@ stage_place-requires g c =
 pub returns : goal.returns
 returns g c =
     record {
-      desk = (λ tells. let law = g.met.P.Plan.told in
+      desk = (λ tells. let law = g.met.P.WritePlan.told in
           let t4 = law c.stage_copy.new.plan c.set_dirty.new.self c.set_dirty.ensures.leads tells in
           let t3 = law c.stage_place.new.plan c.stage_copy.new.plan c.stage_copy.ensures.leads t4 in
           let t2 = law c.read_copy.new.plan c.stage_place.new.plan c.stage_place.ensures.leads t3 in
           let t1 = law c.read_place.new.plan c.read_copy.new.plan c.in_ok-read_copy.ensures.reads.leads t2 in
-          cell_desk_is c.args.m.now (g.P.Plan.desk c.args.plan.now) c.args.hard c.args.filled c.args.r c.args.d c.args.old.now c.args.new.now _ _
+          cell_desk_is c.args.m.now (g.P.WritePlan.desk c.args.plan.now) c.args.hard c.args.filled c.args.r c.args.d c.args.old.now c.args.new.now _ _
           _ _ _ _ _ (c.in_ok-read_place.ensures.reads.ok.same t1) (c.in_ok-read_copy.ensures.reads.ok.same t2) c.requires.hard c.requires.filled
           (c.in_ok-read_place.ensures.ok t1) (c.in_ok-read_copy.ensures.ok t2) c.stage_place.ensures.desk c.stage_copy.ensures.desk c.set_dirty.ensures.desk);
-      bits = (cell_bits c.args.m.now (g.P.Plan.desk c.args.plan.now) (g.P.Plan.desk c.read_place.new.plan) (g.P.Plan.desk c.read_copy.new.plan) (g.P.Plan.desk c.stage_place.new.plan) (g.P.Plan.desk c.stage_copy.new.plan) (g.P.Plan.desk c.set_dirty.new.self) c.args.r c.args.d c.args.hard _ _
+      bits = (cell_bits c.args.m.now (g.P.WritePlan.desk c.args.plan.now) (g.P.WritePlan.desk c.read_place.new.plan) (g.P.WritePlan.desk c.read_copy.new.plan) (g.P.WritePlan.desk c.stage_place.new.plan) (g.P.WritePlan.desk c.stage_copy.new.plan) (g.P.WritePlan.desk c.set_dirty.new.self) c.args.r c.args.d c.args.hard _ _
           c.in_ok-read_place.ensures.reads.ok.bits c.in_ok-read_copy.ensures.reads.ok.bits c.stage_place.ensures.desk c.stage_copy.ensures.desk c.requires.hard c.set_dirty.ensures.desk);
-      room = (cell_room (g.P.Plan.desk c.args.plan.now) (g.P.Plan.desk c.read_place.new.plan) (g.P.Plan.desk c.read_copy.new.plan) (g.P.Plan.desk c.stage_place.new.plan) (g.P.Plan.desk c.stage_copy.new.plan) (g.P.Plan.desk c.set_dirty.new.self) c.args.r c.args.d _ c.in_ok-read_place.ensures.reads.ok.staged c.in_ok-read_copy.ensures.reads.ok.staged
+      room = (cell_room (g.P.WritePlan.desk c.args.plan.now) (g.P.WritePlan.desk c.read_place.new.plan) (g.P.WritePlan.desk c.read_copy.new.plan) (g.P.WritePlan.desk c.stage_place.new.plan) (g.P.WritePlan.desk c.stage_copy.new.plan) (g.P.WritePlan.desk c.set_dirty.new.self) c.args.r c.args.d _ c.in_ok-read_place.ensures.reads.ok.staged c.in_ok-read_copy.ensures.reads.ok.staged
           c.stage_place.ensures.room c.stage_copy.ensures.room c.set_dirty.ensures.desk);
       changes = (c.set_dirty.ensures.changes
           ∙ ap (λ (z : ℕ). z + 1) (c.stage_copy.ensures.changes ∙ c.stage_place.ensures.changes ∙ c.in_ok-read_copy.ensures.reads.ok.changes ∙ c.in_ok-read_place.ensures.reads.ok.changes));
       goes_on = c.set_dirty.ensures.goes_on;
       fails = tt;
-      leads = (let then = g.met.P.Plan.then in
+      leads = (let then = g.met.P.WritePlan.then in
           then _ _ _ c.read_place.ensures.reads.leads (then _ _ _ c.read_copy.ensures.reads.leads
           (then _ _ _ c.stage_place.ensures.leads (then _ _ _ c.stage_copy.ensures.leads c.set_dirty.ensures.leads))));
     }
@@ -111,5 +111,5 @@ returns-in_err-read_copy g c =
       changes = not_ok _ _ c.from_residual-in_err-read_copy.result c.from_residual-in_err-read_copy.ensures.1;
       goes_on = not_ok _ _ c.from_residual-in_err-read_copy.result c.from_residual-in_err-read_copy.ensures.1;
       fails = at_err c.from_residual-in_err-read_copy.result c.in_err-read_copy.ensures.reads.fails;
-      leads = g.met.P.Plan.then _ _ _ c.read_place.ensures.reads.leads c.read_copy.ensures.reads.leads;
+      leads = g.met.P.WritePlan.then _ _ _ c.read_place.ensures.reads.leads c.read_copy.ensures.reads.leads;
     }

@@ -15,10 +15,10 @@ returns-then-not-wanted g c =
     record {
       here = λ tells changed old. absurd (true≢false (sym (c.is_wanted-wanted.ensures ∙ wanted_old c.args.needed c.is_part-part.result c.is_changed-changed.result c.needs_old-depends.result ((c.is_changed-changed.ensures c.args.pairs.now.bytes c.args.m.now.setup.geometry.disks (pairs_of c.args.pairs.now) c.args.r c.requires.disk c.requires.parity c.requires.given) ∙ changed) (c.needs_old-depends.ensures ∙ old)) ∙ c.if-not-wanted.true));
       others = λ x b off kept. kept;
-      sum = (λ tells needed. part_left c.args.m.now.setup.geometry.disks (pairs_of c.args.pairs.now) c.args.r (value (sees c.args.m.now (g.P.Plan.desk c.args.plan.now)) c.args.r) c.args.anew c.is_changed-changed.result c.args.d _ _ (c.is_changed-changed.ensures c.args.pairs.now.bytes c.args.m.now.setup.geometry.disks (pairs_of c.args.pairs.now) c.args.r c.requires.disk c.requires.parity c.requires.given)
+      sum = (λ tells needed. part_left c.args.m.now.setup.geometry.disks (pairs_of c.args.pairs.now) c.args.r (value (sees c.args.m.now (g.P.WritePlan.desk c.args.plan.now)) c.args.r) c.args.anew c.is_changed-changed.result c.args.d _ _ (c.is_changed-changed.ensures c.args.pairs.now.bytes c.args.m.now.setup.geometry.disks (pairs_of c.args.pairs.now) c.args.r c.requires.disk c.requires.parity c.requires.given)
           (sym c.is_part-part.ensures ∙ part_not c.args.needed c.is_part-part.result c.is_changed-changed.result c.needs_old-depends.result needed (sym c.is_wanted-wanted.ensures ∙ c.if-not-wanted.true)) (c.add_given.ensures c.args.m.now.setup.geometry.disks c.args.r c.requires.disk c.requires.given));
       kept = refl;
-      reads = record { ok = stays_none g.P.Plan c.args.m.now c.args.plan.now c.requires.serves; fails = tt; leads = g.met.P.Plan.stays c.args.plan.now };
+      reads = record { ok = stays_none g.P.WritePlan c.args.m.now c.args.plan.now c.requires.serves; fails = tt; leads = g.met.P.WritePlan.stays c.args.plan.now };
     }
 
 pub returns : goal.returns
@@ -42,7 +42,7 @@ read_wanted-requires g c = record {
   disk = c.requires.disk;
   given = c.requires.given;
   changed = c.is_changed-changed.ensures c.args.pairs.now.bytes c.args.m.now.setup.geometry.disks (pairs_of c.args.pairs.now) c.args.r c.requires.disk c.requires.parity c.requires.given;
-  kept = λ h. old_fits c.args.m.now (g.P.Plan.desk c.args.plan.now) c.args.r c.args.d c.args.old.now c.requires.disk c.requires.kept
+  kept = λ h. old_fits c.args.m.now (g.P.WritePlan.desk c.args.plan.now) c.args.r c.args.d c.args.old.now c.requires.disk c.requires.kept
       (sym c.needs_old-depends.ensures ∙ both_second c.is_changed-changed.result c.needs_old-depends.result (sym c.both-keeps.ensures ∙ h));
 }
 

@@ -26,10 +26,10 @@ returns-then-d-p g c = record {
   others = λ x b off kept. kept;
   sum = λ tells needed sum.
       let n = c.args.m.now.setup.geometry.disks in
-      sum ∙ others_skip (parity_part n (pairs_of c.args.pairs.now) c.args.r (value (sees c.args.m.now (g.P.Plan.desk c.args.plan.now)) c.args.r) c.args.anew) (parity_disk n c.args.r) c.args.d
+      sum ∙ others_skip (parity_part n (pairs_of c.args.pairs.now) c.args.r (value (sees c.args.m.now (g.P.WritePlan.desk c.args.plan.now)) c.args.r) c.args.anew) (parity_disk n c.args.r) c.args.d
       (c.if-d-p.true ∙ c.requires.parity);
   kept = search rules;
-  reads = record { ok = stays_none g.P.Plan c.args.m.now c.args.plan.now c.requires.serves; fails = tt; leads = g.met.P.Plan.stays c.args.plan.now };
+  reads = record { ok = stays_none g.P.WritePlan c.args.m.now c.args.plan.now c.requires.serves; fails = tt; leads = g.met.P.WritePlan.stays c.args.plan.now };
 }
 
 pub returns : goal.returns
@@ -39,7 +39,7 @@ returns g c = record {
   sum =
       let n = c.args.m.now.setup.geometry.disks in
       on_ok_weaker c.read_cell.result (λ f tells needed sum.
-      others_read (parity_part n (pairs_of c.args.pairs.now) c.args.r (value (sees c.args.m.now (g.P.Plan.desk c.args.plan.now)) c.args.r) c.args.anew) (parity_disk n c.args.r) c.args.d _ _ _
+      others_read (parity_part n (pairs_of c.args.pairs.now) c.args.r (value (sees c.args.m.now (g.P.WritePlan.desk c.args.plan.now)) c.args.r) c.args.anew) (parity_disk n c.args.r) c.args.d _ _ _
       (λ is. c.if-d-p.false (is ∙ sym c.requires.parity)) sum refl (f tells needed)) c.read_cell.ensures.sum;
   kept = search rules;
   reads = c.read_cell.ensures.reads;

@@ -38,12 +38,12 @@ pub returns-in-Some : goal.returns-in-Some
 returns-in-Some g c =
     let m = c.args.m.now in
     let ws = pairs_of c.args.pairs.now in
-    let row = value (sees m (g.P.Plan.desk c.args.plan.now)) c.args.r in
+    let row = value (sees m (g.P.WritePlan.desk c.args.plan.now)) c.args.r in
     let one = c.in-Some.one in
     let is = c.in-Some.ensures.alone in
     record {
       old = on_ok_weaker c.read_alone.result (λ f tells.
-          alone_old m (g.P.Plan.desk c.args.plan.now) ws c.args.r c.args.p one.disk one.at c.args.pairs.now.bytes c.args.given.now c.args.old.now row c.requires.parity c.requires.given is) c.read_alone.ensures.sum;
+          alone_old m (g.P.WritePlan.desk c.args.plan.now) ws c.args.r c.args.p one.disk one.at c.args.pairs.now.bytes c.args.given.now c.args.old.now row c.requires.parity c.requires.given is) c.read_alone.ensures.sum;
       fixed = on_ok_weaker c.read_alone.result (λ f tells needed sums.
           alone_made m.setup.geometry.disks ws c.args.r c.args.p one.disk one.at c.args.pairs.now.bytes c.args.given.now c.requires.parity c.requires.given is.disk is.pair is.others row c.read_alone.new.sum c.requires.parity_disk
           (f tells) sums) c.read_alone.ensures.sum;
@@ -57,7 +57,7 @@ returns g c = record {
   fixed =
       on_ok_weaker c.read_cells.result (λ f tells needed sums.
       f tells (c.needs_new-needed.ensures ∙ needed)
-      ∙ parity_made c.args.m.now.setup.geometry.disks (pairs_of c.args.pairs.now) c.args.r (value (sees c.args.m.now (g.P.Plan.desk c.args.plan.now)) c.args.r) c.is_made_anew-anew.result sums) c.read_cells.ensures.sum;
+      ∙ parity_made c.args.m.now.setup.geometry.disks (pairs_of c.args.pairs.now) c.args.r (value (sees c.args.m.now (g.P.WritePlan.desk c.args.plan.now)) c.args.r) c.is_made_anew-anew.result sums) c.read_cells.ensures.sum;
   kept = search rules;
   reads = c.read_cells.ensures.reads;
 }

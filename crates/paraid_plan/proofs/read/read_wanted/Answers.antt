@@ -12,7 +12,7 @@ returns g c =
     record {
       here = λ tells keeps. subst (IsOldOf c.keep_if.new.kept c.args.d) (c.in_ok-value.ensures.ok tells) (c.keep_if.ensures.here keeps);
       others = c.keep_if.ensures.others;
-      sum = λ tells. c.add_part.ensures c.args.m.now.setup.geometry.disks c.args.r (value (sees c.args.m.now (g.P.Plan.desk c.args.plan.now)) c.args.r) c.requires.disk c.requires.given
+      sum = λ tells. c.add_part.ensures c.args.m.now.setup.geometry.disks c.args.r (value (sees c.args.m.now (g.P.WritePlan.desk c.args.plan.now)) c.args.r) c.requires.disk c.requires.given
           c.requires.changed (λ is. c.in_ok-value.ensures.ok tells);
       kept = c.keep_if.ensures.length;
       reads = record {
@@ -39,7 +39,7 @@ returns-in_err-value g c =
       others = λ x b off kept. kept;
       sum = not_ok _ _ c.from_residual.result c.from_residual.ensures.1;
       kept = not_ok _ _ c.from_residual.result c.from_residual.ensures.1;
-      reads = failed g.P.Plan _ _ _ _ c.from_residual.ensures.1 c.in_err-value.ensures.fails c.value.ensures.leads;
+      reads = failed g.P.WritePlan _ _ _ _ c.from_residual.ensures.1 c.in_err-value.ensures.fails c.value.ensures.leads;
     }
 
 pub value-requires : goal.value-requires

@@ -17,7 +17,7 @@ loop-at-init g c =
     let m = c.args.m.now in
     let n = m.setup.geometry.disks in
     let p = c.args.pairs.now in
-    let s = g.P.Plan.desk c.args.plan.now in
+    let s = g.P.WritePlan.desk c.args.plan.now in
     record {
       writes = λ tells. stages_same m s s (λ i x. x) (rows_change n (pairs_before p 0) (pairs_of p))
           (λ i x. ap (λ (z : Entry). rows_change n z (pairs_of p) i x) (before_none p) ∙ change_none n (pairs_of p) i x) (stages_none m s);
@@ -26,7 +26,7 @@ loop-at-init g c =
       grows = λ tells some. omega (arith, some);
       changes = omega arith;
       goes_on = c.requires.serves;
-      leads = g.met.P.Plan.stays c.args.plan.now;
+      leads = g.met.P.WritePlan.stays c.args.plan.now;
     }
 
 pub write_row_of-requires : goal.write_row_of-requires
@@ -72,19 +72,19 @@ loop-at-preserved g c =
     let bit = call.changes in
     record {
       writes = λ tells.
-          stages_same m (g.P.Plan.desk c.args.plan.now) (g.P.Plan.desk c.write_row_of.new.plan) (λ i x. row_change n p at i (rows_change n (pairs_before p at) (pairs_of p) i x))
+          stages_same m (g.P.WritePlan.desk c.args.plan.now) (g.P.WritePlan.desk c.write_row_of.new.plan) (λ i x. row_change n p at i (rows_change n (pairs_before p at) (pairs_of p) i x))
           (rows_change n (pairs_before p (at + 1)) (pairs_of p)) (λ i x. change_next n p at i x test)
-          (stages_then m (g.P.Plan.desk c.args.plan.now) (g.P.Plan.desk c.loop-at.plan) (g.P.Plan.desk c.write_row_of.new.plan) (rows_change n (pairs_before p at) (pairs_of p)) (row_change n p at)
-          (before.writes (g.met.P.Plan.told c.loop-at.plan c.write_row_of.new.plan leads tells)) (call.write tells));
-      bits = bits_then m (g.P.Plan.desk c.args.plan.now).dirty (g.P.Plan.desk c.loop-at.plan).dirty (g.P.Plan.desk c.write_row_of.new.plan).dirty
+          (stages_then m (g.P.WritePlan.desk c.args.plan.now) (g.P.WritePlan.desk c.loop-at.plan) (g.P.WritePlan.desk c.write_row_of.new.plan) (rows_change n (pairs_before p at) (pairs_of p)) (row_change n p at)
+          (before.writes (g.met.P.WritePlan.told c.loop-at.plan c.write_row_of.new.plan leads tells)) (call.write tells));
+      bits = bits_then m (g.P.WritePlan.desk c.args.plan.now).dirty (g.P.WritePlan.desk c.loop-at.plan).dirty (g.P.WritePlan.desk c.write_row_of.new.plan).dirty
           (λ q e. names_row n (pairs_before p at) q && turns_cell_of n (pairs_of p) q e) (turns_in_new_row n p at) _ (λ q e. rows_turn_next n p at q e test) before.bits call.bits;
       few = omega (arith, next, few, more);
       grows = λ tells some.
-          let was = g.met.P.Plan.told c.loop-at.plan c.write_row_of.new.plan leads tells in
-          pair_grows n p at m (g.P.Plan.desk c.args.plan.now) (g.P.Plan.desk c.loop-at.plan) (g.P.Plan.desk c.write_row_of.new.plan) (before.writes was).adds (call.write tells).adds (before.grows was) (call.grows tells);
+          let was = g.met.P.WritePlan.told c.loop-at.plan c.write_row_of.new.plan leads tells in
+          pair_grows n p at m (g.P.WritePlan.desk c.args.plan.now) (g.P.WritePlan.desk c.loop-at.plan) (g.P.WritePlan.desk c.write_row_of.new.plan) (before.writes was).adds (call.write tells).adds (before.grows was) (call.grows tells);
       changes = omega (arith, next, turned, bit);
       goes_on = call.goes_on;
-      leads = g.met.P.Plan.then _ _ _ before.leads leads;
+      leads = g.met.P.WritePlan.then _ _ _ before.leads leads;
     }
 
 pub returns-in_err-write_row_of : goal.returns-in_err-write_row_of
@@ -95,7 +95,7 @@ returns-in_err-write_row_of g c = record {
   grows = not_ok _ _ c.from_residual.result c.from_residual.ensures.1;
   goes_on = not_ok _ _ c.from_residual.result c.from_residual.ensures.1;
   fails = at_err c.from_residual.result c.in_err-write_row_of.ensures.fails;
-  leads = g.met.P.Plan.then _ _ _ c.loop-at.invariant.leads c.write_row_of.ensures.leads;
+  leads = g.met.P.WritePlan.then _ _ _ c.loop-at.invariant.leads c.write_row_of.ensures.leads;
 }
 
 pub returns : goal.returns
@@ -107,7 +107,7 @@ returns g c = record {
       let past = c.loop-at-test.false in
       let until = c.loop-at.auto.at-end in
       let same : c.loop-at.at ≡ p.count = omega (arith, past, until) in
-      stages_same m (g.P.Plan.desk c.args.plan.now) (g.P.Plan.desk c.loop-at.plan) (rows_change n (pairs_before p c.loop-at.at) (pairs_of p)) (λ i x. last_of i x (pairs_of p))
+      stages_same m (g.P.WritePlan.desk c.args.plan.now) (g.P.WritePlan.desk c.loop-at.plan) (rows_change n (pairs_before p c.loop-at.at) (pairs_of p)) (λ i x. last_of i x (pairs_of p))
       (λ i x. change_all n p i x ∙ ap (λ (z : ℕ). rows_change n (pairs_before p z) (pairs_of p) i x) (sym same)) (c.loop-at.invariant.writes tells);
   bits =
       let m = c.args.m.now in
@@ -116,10 +116,10 @@ returns g c = record {
       let past = c.loop-at-test.false in
       let until = c.loop-at.auto.at-end in
       let same : c.loop-at.at ≡ p.count = omega (arith, past, until) in
-      let all : TurnsBits m (g.P.Plan.desk c.args.plan.now).dirty (g.P.Plan.desk c.loop-at.plan).dirty (λ q e. names_row n (pairs_of p) q && turns_cell_of n (pairs_of p) q e) =
-      subst (λ (z : Entry). TurnsBits m (g.P.Plan.desk c.args.plan.now).dirty (g.P.Plan.desk c.loop-at.plan).dirty (λ q e. names_row n z q && turns_cell_of n (pairs_of p) q e))
+      let all : TurnsBits m (g.P.WritePlan.desk c.args.plan.now).dirty (g.P.WritePlan.desk c.loop-at.plan).dirty (λ q e. names_row n (pairs_of p) q && turns_cell_of n (pairs_of p) q e) =
+      subst (λ (z : Entry). TurnsBits m (g.P.WritePlan.desk c.args.plan.now).dirty (g.P.WritePlan.desk c.loop-at.plan).dirty (λ q e. names_row n z q && turns_cell_of n (pairs_of p) q e))
       (ap (pairs_before p) same ∙ before_all p) c.loop-at.invariant.bits in
-      λ t. λ q e. (all q e ∙ sym (writes_turn m (pairs_of p) (g.P.Plan.desk c.args.plan.now).dirty q e)) t;
+      λ t. λ q e. (all q e ∙ sym (writes_turn m (pairs_of p) (g.P.WritePlan.desk c.args.plan.now).dirty q e)) t;
   few =
       let p = c.args.pairs.now in
       let most = counted_few c.args.m.now.setup.geometry.disks (pairs_before p c.loop-at.at) (pairs_of p) in

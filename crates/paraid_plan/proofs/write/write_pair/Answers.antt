@@ -34,14 +34,14 @@ write_cell-requires g c =
 
 pub keep_if-requires : goal.keep_if-requires
 keep_if-requires g c h =
-    old_fits c.args.m.now (g.P.Plan.desk c.write_cell.new.plan) c.args.r c.home-q.result.1 c.args.old.now c.home-q.ensures.disk_in c.requires.kept (sym c.needs_old-depends.ensures ∙ h)
+    old_fits c.args.m.now (g.P.WritePlan.desk c.write_cell.new.plan) c.args.r c.home-q.result.1 c.args.old.now c.home-q.ensures.disk_in c.requires.kept (sym c.needs_old-depends.ensures ∙ h)
 
 pub returns-then-q-r : goal.returns-then-q-r
 returns-then-q-r g c =
     let m = c.args.m.now in
     let n = m.setup.geometry.disks in
     let r = c.args.r in
-    let s = g.P.Plan.desk c.args.plan.now in
+    let s = g.P.WritePlan.desk c.args.plan.now in
     let block = get_or c.args.pairs.now.blocks c.args.at 0 in
     let bytes : Block = get_or c.args.pairs.now.bytes c.args.at zero_block in
     let none = one_away_is n block r c.home-q.result.0 c.home-q.ensures.row c.if-q-r.true in
@@ -60,19 +60,19 @@ returns-then-q-r g c =
         goes_on = c.requires.serves;
       };
       fails = tt;
-      leads = g.met.P.Plan.stays c.args.plan.now;
+      leads = g.met.P.WritePlan.stays c.args.plan.now;
     }
 
 pub returns-in_err-write_cell : goal.returns-in_err-write_cell
-returns-in_err-write_cell g c = failed g.P.Plan _ _ _ _ c.from_residual.ensures.1 c.in_err-write_cell.ensures.fails c.write_cell.ensures.leads
+returns-in_err-write_cell g c = failed g.P.WritePlan _ _ _ _ c.from_residual.ensures.1 c.in_err-write_cell.ensures.fails c.write_cell.ensures.leads
 
 pub returns : goal.returns
 returns g c =
     let m = c.args.m.now in
     let n = m.setup.geometry.disks in
     let r = c.args.r in
-    let s = g.P.Plan.desk c.args.plan.now in
-    let t = g.P.Plan.desk c.write_cell.new.plan in
+    let s = g.P.WritePlan.desk c.args.plan.now in
+    let t = g.P.WritePlan.desk c.write_cell.new.plan in
     let d = c.home-q.result.1 in
     let ws = pairs_of c.args.pairs.now in
     let block = get_or c.args.pairs.now.blocks c.args.at 0 in

@@ -29,19 +29,19 @@ write_pair-requires g c =
 
 pub loop-at-init : goal.loop-at-init
 loop-at-init g c = record {
-  written = cells_written_none g.P.Plan c.args.m.now c.args.pairs.now c.args.r c.args.old.now c.args.plan.now c.requires.serves;
-  leads = g.met.P.Plan.stays c.args.plan.now;
+  written = cells_written_none g.P.WritePlan c.args.m.now c.args.pairs.now c.args.r c.args.old.now c.args.plan.now c.requires.serves;
+  leads = g.met.P.WritePlan.stays c.args.plan.now;
 }
 
 pub loop-at-preserved : goal.loop-at-preserved
 loop-at-preserved g c = record {
-  written = cells_written_next g.P.Plan c.args.m.now c.args.pairs.now c.loop-at.at c.args.r c.args.old.now c.loop-at.old c.write_pair.new.old c.args.plan.now c.loop-at.plan c.write_pair.new.plan
-      c.loop-at-test.true (g.met.P.Plan.told c.loop-at.plan c.write_pair.new.plan c.write_pair.ensures.leads) c.loop-at.invariant.written c.in_ok-write_pair.ensures.ok;
-  leads = g.met.P.Plan.then _ _ _ c.loop-at.invariant.leads c.write_pair.ensures.leads;
+  written = cells_written_next g.P.WritePlan c.args.m.now c.args.pairs.now c.loop-at.at c.args.r c.args.old.now c.loop-at.old c.write_pair.new.old c.args.plan.now c.loop-at.plan c.write_pair.new.plan
+      c.loop-at-test.true (g.met.P.WritePlan.told c.loop-at.plan c.write_pair.new.plan c.write_pair.ensures.leads) c.loop-at.invariant.written c.in_ok-write_pair.ensures.ok;
+  leads = g.met.P.WritePlan.then _ _ _ c.loop-at.invariant.leads c.write_pair.ensures.leads;
 }
 
 pub returns-in_err-write_pair : goal.returns-in_err-write_pair
-returns-in_err-write_pair g c = failed g.P.Plan _ _ _ _ c.from_residual.ensures.1 c.in_err-write_pair.ensures.fails (g.met.P.Plan.then _ _ _ c.loop-at.invariant.leads c.write_pair.ensures.leads)
+returns-in_err-write_pair g c = failed g.P.WritePlan _ _ _ _ c.from_residual.ensures.1 c.in_err-write_pair.ensures.fails (g.met.P.WritePlan.then _ _ _ c.loop-at.invariant.leads c.write_pair.ensures.leads)
 
 pub returns : goal.returns
 returns g c =
@@ -51,7 +51,7 @@ returns g c =
     let p = c.args.pairs.now in
     let same : c.loop-at.at ≡ p.count = omega (arith, past, until) in
     record {
-      ok = subst (λ (z : Entry). WritesCells g.P.Plan m (pairs_of p) z c.args.r (count_in_row m.setup.geometry.disks z c.args.r) c.args.old.now c.loop-at.old c.args.plan.now c.loop-at.plan)
+      ok = subst (λ (z : Entry). WritesCells g.P.WritePlan m (pairs_of p) z c.args.r (count_in_row m.setup.geometry.disks z c.args.r) c.args.old.now c.loop-at.old c.args.plan.now c.loop-at.plan)
           (ap (pairs_before p) same ∙ before_all p) c.loop-at.invariant.written;
       fails = tt;
       leads = c.loop-at.invariant.leads;

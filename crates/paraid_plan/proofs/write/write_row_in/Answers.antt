@@ -69,17 +69,17 @@ has_changed-staged-requires g c =
     }
 
 pub returns-in_err-read_row : goal.returns-in_err-read_row
-returns-in_err-read_row g c = failed g.P.Plan _ _ _ _ c.from_residual.ensures.1 c.in_err-read_row.ensures.reads.fails c.read_row.ensures.reads.leads
+returns-in_err-read_row g c = failed g.P.WritePlan _ _ _ _ c.from_residual.ensures.1 c.in_err-read_row.ensures.reads.fails c.read_row.ensures.reads.leads
 
 pub returns-in_err-write_pairs : goal.returns-in_err-write_pairs
 returns-in_err-write_pairs g c =
-    failed g.P.Plan _ _ _ _ c.from_residual-in_err-write_pairs.ensures.1 c.in_err-write_pairs.ensures.fails
-    (g.met.P.Plan.then _ _ _ c.read_row.ensures.reads.leads c.write_pairs.ensures.leads)
+    failed g.P.WritePlan _ _ _ _ c.from_residual-in_err-write_pairs.ensures.1 c.in_err-write_pairs.ensures.fails
+    (g.met.P.WritePlan.then _ _ _ c.read_row.ensures.reads.leads c.write_pairs.ensures.leads)
 
 pub returns-in_err-write_cell : goal.returns-in_err-write_cell
 returns-in_err-write_cell g c =
-    let then = g.met.P.Plan.then in
-    failed g.P.Plan _ _ _ _ c.from_residual-in_err-write_cell.ensures.1 c.in_err-write_cell.ensures.fails
+    let then = g.met.P.WritePlan.then in
+    failed g.P.WritePlan _ _ _ _ c.from_residual-in_err-write_cell.ensures.1 c.in_err-write_cell.ensures.fails
     (then _ _ _ c.read_row.ensures.reads.leads (then _ _ _ c.write_pairs.ensures.leads c.write_cell.ensures.leads))
 
 pub returns : goal.returns
@@ -88,13 +88,13 @@ returns g c =
     let n = m.setup.geometry.disks in
     let ws = pairs_of c.args.pairs.now in
     let p : c.parity_disk-p.result ≡ _ = c.parity_disk-p.ensures.value in
-    let s = g.P.Plan.desk c.args.plan.now in
-    let read = g.P.Plan.desk c.read_row.new.plan in
-    let mid = g.P.Plan.desk c.write_pairs.new.plan in
-    let cell = g.P.Plan.desk c.write_cell.new.plan in
-    let last = g.P.Plan.desk c.stage_map.new.plan in
-    let law = g.met.P.Plan.told in
-    let then = g.met.P.Plan.then in
+    let s = g.P.WritePlan.desk c.args.plan.now in
+    let read = g.P.WritePlan.desk c.read_row.new.plan in
+    let mid = g.P.WritePlan.desk c.write_pairs.new.plan in
+    let cell = g.P.WritePlan.desk c.write_cell.new.plan in
+    let last = g.P.WritePlan.desk c.stage_map.new.plan in
+    let law = g.met.P.WritePlan.told in
+    let then = g.met.P.WritePlan.then in
     let t3 = law c.write_cell.new.plan c.stage_map.new.plan c.stage_map.ensures.leads in
     let t2 = law c.write_pairs.new.plan c.write_cell.new.plan c.in_ok-write_cell.ensures.leads in
     let t1 = law c.read_row.new.plan c.write_pairs.new.plan c.in_ok-write_pairs.ensures.leads in

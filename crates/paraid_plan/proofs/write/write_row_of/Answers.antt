@@ -45,10 +45,10 @@ returns-then-is_row_before g c =
     let p = c.args.pairs.now in
     let before = ap (names_row n (pairs_before p c.args.at)) (sym c.home-r.ensures.row) ∙ sym c.is_row_before.ensures ∙ c.if-is_row_before.true in
     record {
-      ok = row_none g.P.Plan c.args.m.now _ (row_change n p c.args.at) _ c.args.plan.now c.requires.serves (old_row_none n p c.args.at before)
+      ok = row_none g.P.WritePlan c.args.m.now _ (row_change n p c.args.at) _ c.args.plan.now c.requires.serves (old_row_none n p c.args.at before)
           (old_row_change n p c.args.at before) (λ q e. old_row_turns n p c.args.at q e before);
       fails = tt;
-      leads = g.met.P.Plan.stays c.args.plan.now;
+      leads = g.met.P.WritePlan.stays c.args.plan.now;
     }
 
 pub returns : goal.returns
@@ -57,8 +57,8 @@ returns g c =
     let p = c.args.pairs.now in
     let r = c.home-r.ensures.row in
     let new = ap (names_row n (pairs_before p c.args.at)) (sym r) ∙ sym c.is_row_before.ensures ∙ c.if-is_row_before.false in
-    leaves_as g.P.Plan _ _ _ c.write_row.result
-    (row_same g.P.Plan c.args.m.now _ _ (λ i x. if home_row n i == c.home-r.result.0 then last_of i x (pairs_of p) else x) (row_change n p c.args.at) (λ q e. q == c.home-r.result.0 && turns_cell_of n (pairs_of p) c.home-r.result.0 e) _ _ _
+    leaves_as g.P.WritePlan _ _ _ c.write_row.result
+    (row_same g.P.WritePlan c.args.m.now _ _ (λ i x. if home_row n i == c.home-r.result.0 then last_of i x (pairs_of p) else x) (row_change n p c.args.at) (λ q e. q == c.home-r.result.0 && turns_cell_of n (pairs_of p) c.home-r.result.0 e) _ _ _
     (new_row_some n p c.args.at new ∙ ap (count_in_row n (pairs_of p)) (sym r))
     (λ i x. new_row_change n p c.args.at new i x ∙ ap (λ (z : ℕ). if home_row n i == z then last_of i x (pairs_of p) else x) (sym r))
     (λ q e. new_row_turns n p c.args.at q e c.home-r.result.0 r new))

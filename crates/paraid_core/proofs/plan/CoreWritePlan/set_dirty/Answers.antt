@@ -6,7 +6,7 @@ use Rattle.paraid_core.specs.declared.changes.Change.{Change}
 use Rattle.paraid_core.specs.Leads.{leads_stays}
 use Rattle.paraid_core.specs.Plans.{base_of}
 use Rattle.paraid_core.proofs.PlanLemmas.{desk_bit, logged_more, undone_change}
-use Rattle.paraid_core.proofs.plan.CorePlan.set_dirty.Goals as goal
+use Rattle.paraid_core.proofs.plan.CoreWritePlan.set_dirty.Goals as goal
 
 pub returns-clause-desk : goal.returns-clause-desk
 returns-clause-desk g c =

@@ -3,7 +3,7 @@ use Rattle.paraid_txn.specs.Stores.{store_rack}
 use Rattle.paraid_core.specs.Leads.{leads_stays}
 use Rattle.paraid_core.specs.Plans.{base_of}
 use Rattle.paraid_core.proofs.PlanLemmas.{desk_pushed}
-use Rattle.paraid_core.proofs.plan.CorePlan.stage.Goals as goal
+use Rattle.paraid_core.proofs.plan.CoreWritePlan.stage.Goals as goal
 
 pub returns-clause-desk : goal.returns-clause-desk
 returns-clause-desk g c =

@@ -9,7 +9,7 @@ use Rattle.paraid_core.proofs.PlanLemmas.{base_same, desk_same, shows_desk}
 use Rattle.paraid_image.specs.Out.{named_out}
 use Rattle.paraid_core.proofs.LeadsLemmas.{leads_read, read_serves}
 use Rattle.std.proofs.Common.{refl}
-use Rattle.paraid_core.proofs.plan.CorePlan.stored.Goals as goal
+use Rattle.paraid_core.proofs.plan.CoreWritePlan.stored.Goals as goal
 
 pub returns : goal.returns
 returns g c = record {

@@ -13,7 +13,7 @@ use Rattle.paraid_image.specs.Out.{named_out}
 use Rattle.paraid_view.proofs.ReadLemmas.{off_same}
 use Rattle.paraid_core.proofs.LeadsLemmas.{leads_read, read_serves}
 use Rattle.std.proofs.Common.{refl}
-use Rattle.paraid_core.proofs.plan.CorePlan.value.Goals as goal
+use Rattle.paraid_core.proofs.plan.CoreWritePlan.value.Goals as goal
 
 pub returns : goal.returns
 returns g c = record {
