@@ -20,8 +20,8 @@ use Rattle.paraid_image.proofs.StandingLemmas.{Stands-same}
 use Rattle.paraid_moves.specs.Copying.{IsCopying}
 use Rattle.paraid_core.specs.Calls.{IsDataCall, IsPastLog, IsTransferCall}
 use Rattle.paraid_core.specs.CoreInvariant.{IsHeldWithOneMissing}
-use Rattle.paraid_session.specs.Watch.{Bounds, Each, HoldsWhileServing, IsAllowed, IsHeldWhileServing, IsServing, Watch, watch, watch_all}
-use Rattle.paraid_session.proofs.LayerLemmas.{IsHeldMissing, IsIn, each_both, each_held, each_map}
+use Rattle.paraid_session.specs.Watch.{Bounds, Each, HoldsWhileServing, IsAllowed, IsAmongDown, IsHeldWhileServing, IsServing, Watch, watch, watch_all}
+use Rattle.paraid_session.proofs.LayerLemmas.{IsHeldMissing, each_both, each_held, each_map}
 use Rattle.paraid_recover.specs.StartCalls.{IsSpinUpRecorded}
 use Rattle.paraid_recover.specs.RecordedSpins.{IsWithinBoundsAt, StaysWithin, StaysWithinAt}
 use Rattle.paraid_recover.proofs.CallsLemmas.{each_map as each_call_map}
@@ -101,12 +101,12 @@ awaited_same (Some d) v (Attach e size done) at is = absurd is
 -- What reads, writes and syncs leave as it was.
 pub record Follows (n : ℕ) (w v : Watch) : Type 0 where
   pub power : (d : ℕ) → IsPresent v.disks d → v.disks.power d ≡ w.disks.power d
-  pub absent : (d : ℕ) → d < n → is_present (v.disks.power d) ≡ false → IsIn v.down d
-  pub down : (d : ℕ) → IsIn w.down d → IsIn v.down d
+  pub absent : (d : ℕ) → d < n → is_present (v.disks.power d) ≡ false → IsAmongDown v.down d
+  pub down : (d : ℕ) → IsAmongDown w.down d → IsAmongDown v.down d
   pub spun : (d : ℕ) → v.spun d ≡ w.spun d
   pub awaited : v.awaited ≡ w.awaited
 
-pub follows_self : (n : ℕ) (w : Watch) → ((d : ℕ) → d < n → is_present (w.disks.power d) ≡ false → IsIn w.down d) → Follows n w w
+pub follows_self : (n : ℕ) (w : Watch) → ((d : ℕ) → d < n → is_present (w.disks.power d) ≡ false → IsAmongDown w.down d) → Follows n w w
 follows_self n w absent = record { power = λ d h. refl; absent = absent; down = λ d i. i; spun = λ d. refl; awaited = refl }
 
 pub follows_step : (n : ℕ) (w v : Watch) (c : Call) → IsTransfer c → Follows n w v → Follows n w (watch c v)
@@ -168,7 +168,7 @@ module _ (k : Service) (h : History) (lo : ℕ) (base : Meta) (w : Watch) (at : 
   pub only_base : (v : Watch) → FollowsLog n w v → IsServing v.down → (x : ℕ) (i : Disks) (said : LogState) → IsLooked v.disks i → Stands i x said → said.meta ≡ base
   only_base v f serving x i said looked stands =
       held_only w.disks v.disks base at.keeps.held (subst (λ (m : Meta). IsCopying w.disks m at.keeps.held) at.is_base at.keeps.copies.copying) f.logs
-      (IsIn v.down) (λ d e one two. several_in v.down d e serving one two)
+      (IsAmongDown v.down) (λ d e one two. several_in v.down d e serving one two)
       (λ y low gone. f.follows.absent y (omega (arith, low, many)) gone)
       (λ d named. f.follows.down d (at.named_down d (base_names d named))) x i said looked stands
 
@@ -209,7 +209,7 @@ module _ (k : Service) (h : History) (lo : ℕ) (base : Meta) (w : Watch) (at : 
     )
 
     -- What a session asks of each moment, where what stands is within the bounds.
-    pub transfer_each : (asked : Option ℕ) (cs : List Call) (out : Option ℕ) (g : History) (low : ℕ) → ((d : ℕ) → out ≡ Some d → (d < n) × IsIn w.down d) → EachCall (IsTransferCall n skip) w.disks cs
+    pub transfer_each : (asked : Option ℕ) (cs : List Call) (out : Option ℕ) (g : History) (low : ℕ) → ((d : ℕ) → out ≡ Some d → (d < n) × IsAmongDown w.down d) → EachCall (IsTransferCall n skip) w.disks cs
         → Through (IsHeldWithOneMissing k.slots n out g low) w.disks cs → Each (StaysWithinAt b w.spun w.disks) (λ (v : Watch) (c : Call). Unit {0}) w cs
         → Each (HoldsWhileServing k.slots g low b) (IsAllowed b.setup asked) w cs
     transfer_each asked cs out g low outs calls through within =
@@ -228,8 +228,8 @@ stood : (start i : Disks) (m : Meta) (batch : Batch) (x : ℕ) (said : LogState)
 stood start i m batch x said is stands = ap (λ (z : LogState). z.meta) (Stands-same i x is.disk said is.said stands is.log.stands).1 ∙ is.meta
 
 -- In a commit what stands is the meta of the last one or the next one, `next`, with a batch laid over.
-module _ (k : Service) (h : History) (lo : ℕ) (base : Meta) (w : Watch) (at : StandsIn k h lo base w) (next : Meta) (batch : Batch) (next_setup : next.setup ≡ k.meta.setup) (next_down : (d : ℕ) → named_out next.out ≡ Some d → IsIn w.down d) where
-  in_of : (v : Watch) → Follows k.meta.setup.geometry.disks w v → (i : Disks) → ((d : ℕ) → is_present (i.power d) ≡ false → is_present (v.disks.power d) ≡ false) → (d : ℕ) → IsEitherMissing i.power base next d → IsIn v.down d
+module _ (k : Service) (h : History) (lo : ℕ) (base : Meta) (w : Watch) (at : StandsIn k h lo base w) (next : Meta) (batch : Batch) (next_setup : next.setup ≡ k.meta.setup) (next_down : (d : ℕ) → named_out next.out ≡ Some d → IsAmongDown w.down d) where
+  in_of : (v : Watch) → Follows k.meta.setup.geometry.disks w v → (i : Disks) → ((d : ℕ) → is_present (i.power d) ≡ false → is_present (v.disks.power d) ≡ false) → (d : ℕ) → IsEitherMissing i.power base next d → IsAmongDown v.down d
   in_of v f i off d missing = elim missing [
     | inl was ↦ elim was.is [
       | inl gone ↦ f.absent d (subst (λ (z : Setup). d < z.geometry.disks) (base_setup k h lo base w at) was.disk) (off d gone)

@@ -19,8 +19,7 @@ use Rattle.paraid_image.specs.Spins.{made_spin_ups}
 use Rattle.paraid_image.specs.Sides.{closed_over}
 use Rattle.paraid_image.proofs.FailedCallLemmas.{failed_is_loss}
 use Rattle.paraid_core.specs.Calls.{IsDataCall, IsTransferCall}
-use Rattle.paraid_session.specs.Watch.{Down, IsServing, Watch, down_from_out, fails_on, nobody, only, several, watch, watch_all, with_down}
-use Rattle.paraid_session.proofs.LayerLemmas.{IsIn}
+use Rattle.paraid_session.specs.Watch.{Down, IsAmongDown, IsServing, Watch, down_from_out, fails_on, nobody, only, several, watch, watch_all, with_down}
 use Rattle.paraid_recover.proofs.DownLemmas.{watched_disks}
 use Rattle.paraid_txn.specs.Commit.{IsOldOrNew}
 use Rattle.paraid_recover.proofs.SpinsLemmas.{same_used}
@@ -52,7 +51,7 @@ only_from None = tt
 only_from (Some d) = refl
 
 -- so it is that one
-pub only_is : (o : Option ℕ) (down : Down) → IsOnly o down → ((d : ℕ) → o ≡ Some d → IsIn down d) → down ≡ down_from_out o
+pub only_is : (o : Option ℕ) (down : Down) → IsOnly o down → ((d : ℕ) → o ≡ Some d → IsAmongDown down d) → down ≡ down_from_out o
 only_is None nobody is has = refl
 only_is None (only d) is has = absurd (no_one is)
 only_is None several is has = absurd is
@@ -163,7 +162,7 @@ module _ (k k_then : Service) (h h_then : History) (lo lo_then : ℕ) (base : Me
     not_then : (d : ℕ) → gone_out k_then.meta.out ≢ Some d → gone_out k.meta.out ≢ Some d
     not_then d not gone = not (still_gone v.disks.power k.meta k_then.meta marks d gone)
 
-    then_named : (d : ℕ) → named_out k_then.meta.out ≡ Some d → IsIn v.down d
+    then_named : (d : ℕ) → named_out k_then.meta.out ≡ Some d → IsAmongDown v.down d
     then_named d is = elim (newly_named v.disks.power k.meta k_then.meta marks d is) [
       | inl was ↦ end_follows.down d (at.named_down d was)
       | inr gone ↦ end_follows.absent d gone.0 gone.1

@@ -29,8 +29,8 @@ use Rattle.paraid_machine.specs.Machine.{IsEventStep, outcomes, take_out}
 use Rattle.paraid_machine.specs.Moves.{after_loss}
 use Rattle.paraid_session.specs.Turn.{GoesOn, IsMark, Point, bounds_at, point_wear, watch_of}
 use Rattle.paraid_session.specs.Turn.IsTurn.{answered}
-use Rattle.paraid_session.specs.Watch.{Bounds, Down, Each, HoldsWhileServing, IsAllowed, IsServing, Watch, attach_count, down_from_out, fails_on, first_lost, only, watch_all, with_down}
-use Rattle.paraid_session.proofs.LayerLemmas.{IsIn, first_fails}
+use Rattle.paraid_session.specs.Watch.{Bounds, Down, Each, HoldsWhileServing, IsAllowed, IsAmongDown, IsServing, Watch, attach_count, down_from_out, fails_on, first_lost, only, watch_all, with_down}
+use Rattle.paraid_session.proofs.LayerLemmas.{first_fails}
 use Rattle.paraid_recover.proofs.BaseLemmas.{each_append}
 use Rattle.paraid_recover.proofs.DownLemmas.{in_stays, watched_disks}
 use Rattle.paraid_event.proofs.ApartLemmas.{fail_not_bad, gone_not_fresh, no_one, none_not_gone}
@@ -87,13 +87,13 @@ taken_settled m d = record { phase = twice true m.phase; fill = refl }
 
 -- marks the disk that is taken out, in the middle of an event
 pub taken_midway : (k j : Service) (h : History) (lo : ℕ) (base : Meta) (v : Watch) (d : ℕ) → IsMidway k h lo base v → j ≡ record k { meta = meta_after_loss k.meta d } → ((e : ℕ) → named_out k.meta.out ≡ Some e → e ≡ d) → d < k.meta.setup.geometry.disks
-    → IsIn v.down d → ServiceStandsFor (record k { meta = meta_after_loss k.meta d }) h lo v.disks → IsMidway j h lo base v
+    → IsAmongDown v.down d → ServiceStandsFor (record k { meta = meta_after_loss k.meta d }) h lo v.disks → IsMidway j h lo base v
 taken_midway k j h lo base v d at is alone low down keeps = subst (λ (z : Service). IsMidway z h lo base v) (sym is) (record {
   stands = record {
     keeps = keeps;
     is_base = same_base k (record k { meta = meta_after_loss k.meta d }) h h lo lo v.disks at.stands.keeps keeps ∙ at.stands.is_base;
     absent_down = at.stands.absent_down;
-    named_down = λ e named. let z : Some d ≡ Some e = named in let same_disk : d ≡ e = cc in subst (IsIn v.down) same_disk down;
+    named_down = λ e named. let z : Some d ≡ Some e = named in let same_disk : d ≡ e = cc in subst (IsAmongDown v.down) same_disk down;
     stays = λ e named. ap (λ (x : ℕ). Some x) (sym (alone e (at.stands.stays e named)));
     recorded = at.stands.recorded;
     recorded_next = λ e e_low here not.
@@ -281,7 +281,7 @@ module _ (told : Option Trail) (k k1 k2 k3 : Service) (setup : Setup) (p : Point
 
         stands3 : StandsIn k3 p.history p.low ends2.keeps.base (record { disks = v3.disks; down = only d; spun = v3.spun; awaited = v3.awaited })
         stands3 = subst (λ (dn : Down). StandsIn k3 p.history p.low ends2.keeps.base (record { disks = v3.disks; down = dn; spun = v3.spun; awaited = v3.awaited }))
-            (only_is (Some d) v3.down only3 (λ e is. let z : Some d ≡ Some e = is in let same_disk : d ≡ e = cc in subst (IsIn v3.down) same_disk (in_stays v1 ds d (in_stays w0 cs d refl)))) mid3.stands
+            (only_is (Some d) v3.down only3 (λ e is. let z : Some d ≡ Some e = is in let same_disk : d ≡ e = cc in subst (IsAmongDown v3.down) same_disk (in_stays v1 ds d (in_stays w0 cs d refl)))) mid3.stands
 
         pub failed_stands : (told_then : Option Trail) → ((t : Trail) → told_then ≡ Some t → now t ≡ v3.disks) → StandsAt told_then k3 setup failed_point
         failed_stands told_then tells = record {

@@ -21,8 +21,7 @@ use Rattle.paraid_image.specs.Sides.{closed_over}
 use Rattle.paraid_recover.specs.Mounted.{with_loss}
 use Rattle.paraid_recover.specs.RecoveryMark.{to_mark}
 use Rattle.paraid_session.specs.Turn.{Point}
-use Rattle.paraid_session.specs.Watch.{down_from_out}
-use Rattle.paraid_session.proofs.LayerLemmas.{IsIn}
+use Rattle.paraid_session.specs.Watch.{IsAmongDown, down_from_out}
 use Rattle.paraid_recover.specs.FirstPoint.{first_point}
 use Rattle.paraid_recover.proofs.FirstLemmas.{loss_shown}
 use Rattle.paraid_recover.proofs.RestLemmas.{rest_only}
@@ -37,7 +36,7 @@ state_out : (s : Disks) (m : Meta) → (initial_state s (closed_over m)).out ≡
 unfolding state_by
 state_out s m = refl
 
-down_of : (o : Option ℕ) (d : ℕ) → o ≡ Some d → IsIn (down_from_out o) d
+down_of : (o : Option ℕ) (d : ℕ) → o ≡ Some d → IsAmongDown (down_from_out o) d
 down_of None d is = absurd (no_one is)
 down_of (Some e) d is = let z : Some e ≡ Some d = is in let same : e ≡ d = cc in sym same
 
@@ -117,7 +116,7 @@ module _ (told : Option Trail) (s : Disks) (standing : Meta) (h : History) (spun
   state_is : p.state.out ≡ k.meta.out
   state_is = state_out s standing ∙ sym out_is
 
-  named_in : (d : ℕ) → named_out k.meta.out ≡ Some d → IsIn (down_from_out (named_out p.state.out)) d
+  named_in : (d : ℕ) → named_out k.meta.out ≡ Some d → IsAmongDown (down_from_out (named_out p.state.out)) d
   named_in d named = down_of (named_out p.state.out) d (ap named_out state_is ∙ named)
 
   below : (d : ℕ) → d < k.meta.setup.geometry.disks → d < standing.setup.geometry.disks

@@ -14,8 +14,8 @@ use Rattle.std.proofs.lemmas.Bool.{false≢true}
 use Rattle.paraid_image.specs.Power.{PowerState}
 use Rattle.paraid_machine.specs.Moves.{after_loss}
 use Rattle.paraid_core.specs.Calls.{IsDataCall, IsTransferCall}
-use Rattle.paraid_session.specs.Watch.{Bounds, Each, HoldsWhileServing, IsAllowed, IsServing, Watch, attach_count, fails_on, first_lost, watch_all}
-use Rattle.paraid_session.proofs.LayerLemmas.{IsIn, absent_failed, fails_first, first_fails}
+use Rattle.paraid_session.specs.Watch.{Bounds, Each, HoldsWhileServing, IsAllowed, IsAmongDown, IsServing, Watch, attach_count, fails_on, first_lost, watch_all}
+use Rattle.paraid_session.proofs.LayerLemmas.{absent_failed, fails_first, first_fails}
 use Rattle.paraid_recover.specs.RecordedSpins.{StaysWithinAt}
 use Rattle.paraid_recover.proofs.CallsLemmas.{each_map as each_call_map}
 use Rattle.paraid_recover.proofs.DownLemmas.{watched_disks}
@@ -50,7 +50,7 @@ module _ (k : Service) (h : History) (lo : ℕ) (base : Meta) (w : Watch) (at : 
   pub part_calls : EachCall (IsTransferCall n (gone_out k.meta.out)) w.disks cs
   part_calls = calls_by part.brings
 
-  outs : (d : ℕ) → part.out ≡ Some d → (d < n) × IsIn w.down d
+  outs : (d : ℕ) → part.out ≡ Some d → (d < n) × IsAmongDown w.down d
   outs d is =
       let named : named_out k.meta.out ≡ Some d = elim (part.is_out d is) [ inl was ↦ at.stands.stays d was | inr now_named ↦ now_named ] in
       (at.low d named, at.stands.named_down d named)

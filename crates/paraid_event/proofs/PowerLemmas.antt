@@ -33,8 +33,8 @@ use Rattle.paraid_core.specs.Stood.{CanFail}
 use Rattle.paraid_core.proofs.StoodLemmas.{stood_by_park, stood_by_spin_up}
 use Rattle.paraid_machine.specs.Moves.{after_loss}
 use Rattle.paraid_recover.specs.Powers.{IsPowerCall}
-use Rattle.paraid_session.specs.Watch.{Bounds, Down, Each, HoldsWhileServing, IsAllowed, IsHeldWhileServing, IsServing, Watch, attach_count, awaited_after, fails_on, first_lost, nobody, only, several, watch, watch_all, with_down}
-use Rattle.paraid_session.proofs.LayerLemmas.{IsHeldMissing, IsIn, absent_failed, each_both, each_held, each_map, fails_first, first_fails}
+use Rattle.paraid_session.specs.Watch.{Bounds, Down, Each, HoldsWhileServing, IsAllowed, IsAmongDown, IsHeldWhileServing, IsServing, Watch, attach_count, awaited_after, fails_on, first_lost, nobody, only, several, watch, watch_all, with_down}
+use Rattle.paraid_session.proofs.LayerLemmas.{IsHeldMissing, absent_failed, each_both, each_held, each_map, fails_first, first_fails}
 use Rattle.paraid_recover.specs.StartCalls.{IsSpinUpRecorded}
 use Rattle.paraid_recover.specs.RecordedSpins.{AreSpinUpsRecorded, HasRecord, OnlyStands, StaysWithin}
 use Rattle.paraid_recover.proofs.CallsLemmas.{each_map as each_call_map}
@@ -67,7 +67,7 @@ through_map P Q f s [] p = f s p
 through_map P Q f s (c ∷ cs) p = (f s p.0, through_map P Q f (step c s) cs p.1)
 
 -- the disk that is down, and where one more that fails leaves one, it is that one
-alone_of : (down : Down) → IsServing down → (o : Option ℕ) × ((d : ℕ) → IsIn down d → o ≡ Some d) × ((e x : ℕ) → IsServing (with_down e down) → o ≡ Some x → x ≡ e)
+alone_of : (down : Down) → IsServing down → (o : Option ℕ) × ((d : ℕ) → IsAmongDown down d → o ≡ Some d) × ((e x : ℕ) → IsServing (with_down e down) → o ≡ Some x → x ≡ e)
 alone_of nobody serving = (None, (λ d is. absurd is), (λ e x one is. absurd (no_one is)))
 alone_of (only f) serving = (Some f, (λ d is. ap (λ (y : ℕ). Some y) (sym is)), (λ e x one is. let z : Some f ≡ Some x = is in let same : f ≡ x = cc in sym (by e (e == f) refl one ∙ same)))
   where
@@ -245,8 +245,8 @@ module _ (k : Service) (h : History) (lo : ℕ) (base : Meta) (w : Watch) (at : 
 
   -- a disk that is missing is down
   record Covers (u : Watch) : Type 0 where
-    absent : (d : ℕ) → d < n → is_present (u.disks.power d) ≡ false → IsIn u.down d
-    out : (d : ℕ) → part.out ≡ Some d → IsIn u.down d
+    absent : (d : ℕ) → d < n → is_present (u.disks.power d) ≡ false → IsAmongDown u.down d
+    out : (d : ℕ) → part.out ≡ Some d → IsAmongDown u.down d
 
   covers_step : (u : Watch) (c : Call) → Covers u → Covers (watch c u)
   covers_step u c cover = record {
@@ -391,7 +391,7 @@ module _ (k : Service) (h : History) (lo : ℕ) (base : Meta) (w : Watch) (at : 
     low_now : (d : ℕ) → d < n → d < k_then.meta.setup.geometry.disks
     low_now d low = subst (λ (z : Setup). d < z.geometry.disks) (sym (marked_setup v.disks.power k.meta k_then.meta power_marks)) low
 
-    absent_down : (d : ℕ) → d < n → is_present (v.disks.power d) ≡ false → IsIn v.down d
+    absent_down : (d : ℕ) → d < n → is_present (v.disks.power d) ≡ false → IsAmongDown v.down d
     absent_down d low gone = in_absent w cs d (at.stands.absent_down d low) (subst (λ (s : Disks). is_present (s.power d) ≡ false) disks_are gone)
 
     none_end : (u : Watch) (ds : List Call) → ((d : ℕ) → u.awaited ≡ Some d → ⊥) → (d : ℕ) → (watch_all ds u).awaited ≡ Some d → ⊥

@@ -19,8 +19,7 @@ use Rattle.paraid_image.specs.Spins.{made_spin_ups}
 use Rattle.paraid_image.specs.Sides.{closed_over}
 use Rattle.paraid_core.specs.Calls.{IsDataCall, IsTransferCall}
 use Rattle.paraid_moves.specs.MoveMetas.{meta_with_out}
-use Rattle.paraid_session.specs.Watch.{Bounds, Each, HoldsWhileServing, IsAllowed, IsServing, Watch, attach_count, fails_on, watch_all}
-use Rattle.paraid_session.proofs.LayerLemmas.{IsIn}
+use Rattle.paraid_session.specs.Watch.{Bounds, Each, HoldsWhileServing, IsAllowed, IsAmongDown, IsServing, Watch, attach_count, fails_on, watch_all}
 use Rattle.paraid_recover.specs.RecordedSpins.{StaysWithinAt}
 use Rattle.paraid_recover.proofs.BaseLemmas.{each_append}
 use Rattle.paraid_recover.proofs.CallsLemmas.{each_map as each_call_map}
@@ -138,7 +137,7 @@ module _ (copied : Service) (d u : ℕ) (h : History) (lo : ℕ) (base : Meta) (
   there : IsPresent w.disks d
   there = at.midway.fresh d u is_fresh
 
-  next_down : (e : ℕ) → named_out next.out ≡ Some e → IsIn w.down e
+  next_down : (e : ℕ) → named_out next.out ≡ Some e → IsAmongDown w.down e
   next_down e is = absurd (no_one is)
 
   -- the spin-ups of each disk are recorded, also of the one that is back
@@ -167,7 +166,7 @@ module _ (copied : Service) (d u : ℕ) (h : History) (lo : ℕ) (base : Meta) (
     calls : EachCall (IsTransferCall n (gone_out copied.meta.out)) w.disks cs
     calls = subst (λ (o : Option ℕ). EachCall (IsTransferCall n o) w.disks cs) (sym none_gone) (calls_by part.brings)
 
-    outs : (e : ℕ) → part.out ≡ Some e → (e < n) × IsIn w.down e
+    outs : (e : ℕ) → part.out ≡ Some e → (e < n) × IsAmongDown w.down e
     outs e is = elim (part.is_out e is) [
       | inl was ↦ let is_named = stands.stays e was in (at.midway.low e is_named, stands.named_down e is_named)
       | inr now_named ↦ absurd (no_one now_named)
@@ -254,7 +253,7 @@ module _ (copied : Service) (d u : ℕ) (h : History) (lo : ℕ) (base : Meta) (
           keeps = moved_keeps.0;
           is_base = refl;
           absent_down = λ e is gone. follows.absent e (below e is) gone;
-          named_down = λ e is. subst (IsIn v.down) (sym (alone e is)) (follows.down d (stands.named_down d named));
+          named_down = λ e is. subst (IsAmongDown v.down) (sym (alone e is)) (follows.down d (stands.named_down d named));
           stays = λ e said. absurd (no_one (ap (λ (m : Meta). named_out m.out) (sym base_is) ∙ moved_keeps.0.named_by ∙ said));
           recorded = λ e is here not.
               let was = after_spun e (below e is) here in

@@ -13,8 +13,8 @@ use Rattle.paraid_record.specs.declared.meta.Meta.{Meta}
 use Rattle.paraid_image.specs.Calls.{disk_of, is_done}
 use Rattle.paraid_core.specs.Calls.{IsDataCall}
 use Rattle.paraid_core.proofs.CallLemmas.{keeps_held}
-use Rattle.paraid_session.specs.Watch.{Bounds, Down, Each, HoldsWhileServing, IsAllowed, IsServing, Watch, fails_on, first_lost, nobody, only, several, watch_all}
-use Rattle.paraid_session.proofs.LayerLemmas.{IsIn, absent_failed, fails_first, first_fails}
+use Rattle.paraid_session.specs.Watch.{Bounds, Down, Each, HoldsWhileServing, IsAllowed, IsAmongDown, IsServing, Watch, fails_on, first_lost, nobody, only, several, watch_all}
+use Rattle.paraid_session.proofs.LayerLemmas.{absent_failed, fails_first, first_fails}
 use Rattle.paraid_recover.proofs.BaseLemmas.{each_append}
 use Rattle.paraid_recover.proofs.DownLemmas.{watched_disks}
 use Rattle.paraid_txn.specs.Uses.{EachCall}
@@ -228,7 +228,7 @@ module _ (k k_then : Service) (h : History) (lo lo_then : ℕ) (le : lo ≤ lo_t
     one_goes = record { calls = one_calls; leaves = one_leaves; base_then = ends.keeps.base; room = one_room; carried = one_carried; ends = one_underway }
 
     module _ (past : EachCall (IsDataCall k.meta.setup.geometry.disks (gone_out k.meta.out)) w.disks cs) where
-      outs : (d : ℕ) → part.out ≡ Some d → (d < k.meta.setup.geometry.disks) × IsIn w.down d
+      outs : (d : ℕ) → part.out ≡ Some d → (d < k.meta.setup.geometry.disks) × IsAmongDown w.down d
       outs d is =
           let named : named_out k.meta.out ≡ Some d = elim (part.is_out d is) [ inl was ↦ mid.stands.stays d was | inr now_named ↦ now_named ] in
           (mid.low d named, mid.stands.named_down d named)
@@ -326,7 +326,7 @@ holds_here : (k : Service) (h : History) (lo : ℕ) (base : Meta) (w : Watch) �
 holds_here k h lo base w mid b asked setup ticks room = transfer_each k h lo base w mid.stands b setup ticks asked [] k.named h lo outs tt
     (keeps_held k.slots k.named k.meta k.table k.batch k.copied h lo w.disks mid.stands.keeps) (data_within k h lo base w mid.stands b setup ticks [] room tt)
   where
-    outs : (d : ℕ) → k.named ≡ Some d → (d < k.meta.setup.geometry.disks) × IsIn w.down d
+    outs : (d : ℕ) → k.named ≡ Some d → (d < k.meta.setup.geometry.disks) × IsAmongDown w.down d
     outs d is = (mid.low d (mid.stands.stays d is), mid.stands.named_down d (mid.stands.stays d is))
 
 -- no part at all

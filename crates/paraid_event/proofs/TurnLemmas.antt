@@ -38,8 +38,8 @@ use Rattle.paraid_machine.specs.Machine.{IsEventStep, around, around_loss, if_al
 use Rattle.paraid_machine.specs.Moves.{after_loss}
 use Rattle.paraid_session.specs.Turn.{AreDirtyShown, GoesOn, IsMark, Point, awaited_by, bounds_at, bounds_of, is_flush, makes_no_call, point_wear, replaced_by, watch_of, tells_attach, tells_begin}
 use Rattle.paraid_session.specs.Turn.IsTurn.{answered}
-use Rattle.paraid_session.specs.Watch.{Bounds, Down, Each, HoldsWhileServing, IsAllowed, IsHeldWhileServing, IsServing, Watch, attach_count, down_from_out, first_lost, nobody, only, several, watch_all}
-use Rattle.paraid_session.proofs.LayerLemmas.{IsIn, absent_failed, each_map, fails_first, first_fails}
+use Rattle.paraid_session.specs.Watch.{Bounds, Down, Each, HoldsWhileServing, IsAllowed, IsAmongDown, IsHeldWhileServing, IsServing, Watch, attach_count, down_from_out, first_lost, nobody, only, several, watch_all}
+use Rattle.paraid_session.proofs.LayerLemmas.{absent_failed, each_map, fails_first, first_fails}
 use Rattle.paraid_session.specs.Resting.{watch_at}
 use Rattle.paraid_recover.specs.RecordedSpins.{StaysWithinAt}
 use Rattle.paraid_recover.proofs.CallsLemmas.{each_map as each_call_map}
@@ -118,10 +118,10 @@ module _ (told : Option Trail) (k : Service) (setup : Setup) (p : Point) (at : S
   ticks_fit : k.meta.ticks ≤ b.ticks
   ticks_fit = let e = at.state.ticks in omega (arith, e)
 
-  down_named : (d : ℕ) → IsIn (down_from_out (named_out p.state.out)) d → named_out k.meta.out ≡ Some d
+  down_named : (d : ℕ) → IsAmongDown (down_from_out (named_out p.state.out)) d → named_out k.meta.out ≡ Some d
   down_named d is = by (named_out p.state.out) refl is
     where
-      by : (o : Option ℕ) → named_out p.state.out ≡ o → IsIn (down_from_out o) d → named_out k.meta.out ≡ Some d
+      by : (o : Option ℕ) → named_out p.state.out ≡ o → IsAmongDown (down_from_out o) d → named_out k.meta.out ≡ Some d
       by None e i = absurd i
       by (Some x) e i = sym (ap named_out at.state.out) ∙ e ∙ ap (λ (z : ℕ). Some z) (sym i)
 
@@ -149,7 +149,7 @@ module _ (told : Option Trail) (k : Service) (setup : Setup) (p : Point) (at : S
     pub calls : EachCall (IsTransferCall n (gone_out k.meta.out)) p.disks cs
     calls = calls_of p.disks cs part.brings
 
-    outs : (d : ℕ) → part.out ≡ Some d → (d < n) × IsIn w.down d
+    outs : (d : ℕ) → part.out ≡ Some d → (d < n) × IsAmongDown w.down d
     outs d is =
         let named : named_out k.meta.out ≡ Some d = elim (part.is_out d is) [ inl was ↦ at.stands.stays d was | inr now_named ↦ now_named ] in
         (out_low d named, at.stands.named_down d named)

@@ -10,8 +10,7 @@ use Rattle.paraid_record.specs.declared.meta.Setup.{Setup}
 use Rattle.paraid_image.specs.Spins.{made_spin_ups}
 use Rattle.paraid_core.specs.CoreInvariant.{AreCopiesSynced, HoldsBetweenCalls}
 use Rattle.paraid_session.specs.Turn.{Point}
-use Rattle.paraid_session.specs.Watch.{Watch}
-use Rattle.paraid_session.proofs.LayerLemmas.{IsIn}
+use Rattle.paraid_session.specs.Watch.{IsAmongDown, Watch}
 use Rattle.paraid_session.specs.Resting.{watch_at}
 use Rattle.paraid_event.specs.Marks.{ArePoweredByGear, ShowsMeta}
 use Rattle.paraid_event.specs.Service.{IsStateOf, Service}
@@ -29,8 +28,8 @@ IsRecordedBy m w d = IsPresent w.disks d → gone_out m.out ≢ Some d → w.spu
 pub record StandsIn (k : Service) (h : History) (lo : ℕ) (base : Meta) (w : Watch) : Type 0 where
   pub keeps : ServiceStandsFor k h lo w.disks
   pub is_base : keeps.base ≡ base
-  pub absent_down : (d : ℕ) → d < k.meta.setup.geometry.disks → is_present (w.disks.power d) ≡ false → IsIn w.down d
-  pub named_down : (d : ℕ) → named_out k.meta.out ≡ Some d → IsIn w.down d
+  pub absent_down : (d : ℕ) → d < k.meta.setup.geometry.disks → is_present (w.disks.power d) ≡ false → IsAmongDown w.down d
+  pub named_down : (d : ℕ) → named_out k.meta.out ≡ Some d → IsAmongDown w.down d
   pub stays : (d : ℕ) → k.named ≡ Some d → named_out k.meta.out ≡ Some d
   pub recorded : (d : ℕ) → d < k.meta.setup.geometry.disks → IsRecordedBy base w d
   pub recorded_next : (d : ℕ) → d < k.meta.setup.geometry.disks → IsRecordedBy k.meta w d

@@ -8,8 +8,7 @@ ghost use Rattle.paraid_record.specs.declared.meta.Meta.{Meta as MetaType};
 ghost use Rattle.paraid_record.specs.declared.meta.Setup.{Setup as SetupType};
 ghost use Rattle.paraid_core.specs.Calls.{IsDataCall, IsTransferCall};
 ghost use Rattle.paraid_core.specs.CoreInvariant.{IsHeldWithOneMissing};
-ghost use Rattle.paraid_session.proofs.LayerLemmas.{IsIn};
-ghost use Rattle.paraid_session.specs.Watch.{Bounds, Each, HoldsWhileServing, IsAllowed, Watch, watch_all};
+ghost use Rattle.paraid_session.specs.Watch.{Bounds, Each, HoldsWhileServing, IsAllowed, IsAmongDown, Watch, watch_all};
 ghost use Rattle.paraid_txn.specs.Commit.{IsOldOrNew};
 ghost use Rattle.paraid_txn.specs.Uses.{EachCall};
 ghost use Rattle.paraid_event.specs.Parts.{committed_meta};
@@ -31,14 +30,14 @@ pub fn calls_of_a_core_keep_a_session()
     ensures between { (k : Service) (h g : History) (lo low : ℕ) (base : MetaType) (w : Watch)
         (b : Bounds) (asked out : Option ℕ) (cs : List CallType) → StandsIn k h lo base w
         → k.meta.setup ≡ b.setup → k.meta.ticks ≤ b.ticks → base.epoch ≤ b.epoch
-        → ((d : ℕ) → out ≡ Some d → (d < k.meta.setup.geometry.disks) × IsIn w.down d)
+        → ((d : ℕ) → out ≡ Some d → (d < k.meta.setup.geometry.disks) × IsAmongDown w.down d)
         → EachCall (IsDataCall k.meta.setup.geometry.disks (gone_out k.meta.out)) w.disks cs
         → Through (IsHeldWithOneMissing k.slots k.meta.setup.geometry.disks out g low) w.disks cs
         → Each (HoldsWhileServing k.slots g low b) (IsAllowed b.setup asked) w cs }
     ensures commit { (k : Service) (h g : History) (lo low : ℕ) (base : MetaType) (w : Watch)
         (b : Bounds) (asked out : Option ℕ) (cs : List CallType) → StandsIn k h lo base w
         → k.meta.setup ≡ b.setup → k.meta.ticks ≤ b.ticks → base.epoch + 1 ≤ b.epoch
-        → ((d : ℕ) → out ≡ Some d → (d < k.meta.setup.geometry.disks) × IsIn w.down d)
+        → ((d : ℕ) → out ≡ Some d → (d < k.meta.setup.geometry.disks) × IsAmongDown w.down d)
         → EachCall (IsTransferCall k.meta.setup.geometry.disks (gone_out k.meta.out)) w.disks cs
         → Through (IsHeldWithOneMissing k.slots k.meta.setup.geometry.disks out g low) w.disks cs
         → Through (IsOldOrNew w.disks base (committed_meta k) k.batch) w.disks cs

@@ -19,8 +19,7 @@ use Rattle.paraid_core.specs.Units.{UnitsRebuilt}
 use Rattle.paraid_core.proofs.CommitLemmas.{both_of}
 use Rattle.paraid_record.specs.declared.meta.Meta.{Meta}
 use Rattle.paraid_record.specs.Range.{rebuild_units}
-use Rattle.paraid_session.specs.Watch.{Watch}
-use Rattle.paraid_session.proofs.LayerLemmas.{IsIn}
+use Rattle.paraid_session.specs.Watch.{IsAmongDown, Watch}
 use Rattle.paraid_event.specs.Lost.{TellsTwo}
 use Rattle.paraid_event.specs.Marks.{ShowsMeta}
 use Rattle.paraid_event.specs.Parts.{AreEventCalls, LosesInEvent, committed_meta}
@@ -82,7 +81,7 @@ tells_later told mid told_then o p d two was still first second =
 
 -- Calls between two commits in which a second disk is lost are parts of an event with no commit.
 module _ (k : Service) (h : History) (lo : ℕ) (base : Meta) (w : Watch) (at : IsMidway k h lo base w) (cs : List Call) (part : AreEventCalls k h lo base w.disks cs) (past : EachCall (IsDataCall k.meta.setup.geometry.disks (gone_out k.meta.out)) w.disks cs) where
-  outs : (d : ℕ) → part.out ≡ Some d → (d < k.meta.setup.geometry.disks) × IsIn w.down d
+  outs : (d : ℕ) → part.out ≡ Some d → (d < k.meta.setup.geometry.disks) × IsAmongDown w.down d
   outs d is =
       let named : named_out k.meta.out ≡ Some d = elim (part.is_out d is) [ inl was ↦ at.stands.stays d was | inr now_named ↦ now_named ] in
       (at.low d named, at.stands.named_down d named)

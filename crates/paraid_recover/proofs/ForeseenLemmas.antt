@@ -22,8 +22,7 @@ use Rattle.paraid_recover.proofs.FitLemmas.{gone_named}
 use Rattle.paraid_recover.specs.StandingMetas.{StandsForeseen}
 use Rattle.paraid_recover.specs.StandingMetas.StandsForeseen.{marked, same, without}
 use Rattle.paraid_session.specs.Mount.{IsBase, mount_bounds, start_watch}
-use Rattle.paraid_session.specs.Watch.{IsServing, Watch, watch_all}
-use Rattle.paraid_session.proofs.LayerLemmas.{IsIn}
+use Rattle.paraid_session.specs.Watch.{IsAmongDown, IsServing, Watch, watch_all}
 use Rattle.paraid_recover.specs.HeardSides.{ReadsLogs}
 use Rattle.paraid_recover.specs.RecordedSpins.{IsWithinBoundsAt}
 use Rattle.paraid_recover.proofs.DownLemmas.{in_absent, in_stays, several_in, stood_log, weak_in}
@@ -54,10 +53,10 @@ module _ (slots : ℕ) (s : Disks) (h : History) (lo : ℕ) (down : Option ℕ) 
   said_before : (y : ℕ) (o : LogState) → Says u y o → Says s y o
   said_before y o says = back slots s h lo down start base rs each x said stood side then_said stands y o says
 
-  x_down : is_present (u.power x) ≡ false → IsIn (watch_all rs w).down x
+  x_down : is_present (u.power x) ≡ false → IsAmongDown (watch_all rs w).down x
   x_down off = in_absent w rs x (λ gone. absurd (false≢true (sym gone ∙ stood.says.present))) off
 
-  weak_down : (v : ℕ) → IsWeak s v → IsIn (watch_all rs w).down v
+  weak_down : (v : ℕ) → IsWeak s v → IsAmongDown (watch_all rs w).down v
   weak_down v is = in_stays w rs v (weak_in slots s h lo down start v is)
 
   other_side : is_present (u.power x) ≡ false → side ≡ other_log x
@@ -82,16 +81,16 @@ module _ (slots : ℕ) (s : Disks) (h : History) (lo : ℕ) (down : Option ℕ) 
   }
 
   -- a disk that what stands after the reads names out is down
-  pub named_down : (d : ℕ) → named_out then_said.meta.out ≡ Some d → IsIn (watch_all rs w).down d
+  pub named_down : (d : ℕ) → named_out then_said.meta.out ≡ Some d → IsAmongDown (watch_all rs w).down d
   named_down d is = split (is_present (u.power x)) refl
     where
-      by_out : is_present (u.power x) ≡ false → (o : Option ℕ) → out_disk s.power said.meta ≡ o → IsIn (watch_all rs w).down d
+      by_out : is_present (u.power x) ≡ false → (o : Option ℕ) → out_disk s.power said.meta ≡ o → IsAmongDown (watch_all rs w).down d
       by_out off None none = weak_down d (named x said then_said stood none (other_says off) is)
       by_out off (Some e) some =
           let same_disk = several_in (watch_all rs w).down e x serving (weak_down e (out x said stood some)) (x_down off) in
           absurd (out_present s.power said.meta x stood.says.present log.standing_in (some ∙ ap (λ (k : ℕ). Some k) same_disk))
 
-      split : (b : Bool) → is_present (u.power x) ≡ b → IsIn (watch_all rs w).down d
+      split : (b : Bool) → is_present (u.power x) ≡ b → IsAmongDown (watch_all rs w).down d
       split true here = weak_down d (out x said stood (named_disk s.power said.meta d (ap (λ (o : LogState). named_out o.meta.out) (sym (both here).1) ∙ is)))
       split false off = by_out off (out_disk s.power said.meta) refl
 

@@ -17,8 +17,7 @@ use Rattle.paraid_image.specs.Calls.{disk_of, is_done}
 use Rattle.paraid_image.proofs.FailedCallLemmas.{failed_is_loss}
 use Rattle.paraid_recover.specs.MountCalls.{IsMountCall}
 use Rattle.paraid_recover.specs.RecoveryMark.{to_mark, to_mark_by}
-use Rattle.paraid_session.specs.Watch.{Watch, fails_on, first_lost, watch, watch_all}
-use Rattle.paraid_session.proofs.LayerLemmas.{IsIn}
+use Rattle.paraid_session.specs.Watch.{IsAmongDown, Watch, fails_on, first_lost, watch, watch_all}
 use Rattle.paraid_recover.proofs.BeginsLemmas.{first_absent_by, stays_absent}
 use Rattle.paraid_recover.proofs.DownLemmas.{in_after, in_stays}
 use Rattle.paraid_txn.specs.Uses.{EachCall}
@@ -49,7 +48,7 @@ fails_to false e d later is = elim is [
     by false at = at
 
 -- a disk that failed in some calls is down
-pub fails_in : (w : Watch) (cs : List Call) (d : ℕ) → fails_on d cs ≡ true → IsIn (watch_all cs w).down d
+pub fails_in : (w : Watch) (cs : List Call) (d : ℕ) → fails_on d cs ≡ true → IsAmongDown (watch_all cs w).down d
 fails_in w [] d is = absurd (false≢true is)
 fails_in w (c ∷ cs) d is = elim (fails_is (is_done c) (disk_of c) d (fails_on d cs) is) [
   | inl here ↦ in_stays (watch c w) cs d (in_after w c d (inr here))

@@ -19,15 +19,14 @@ use Rattle.paraid_image.specs.Standing.{Stands, other_log}
 use Rattle.paraid_image.proofs.OutLemmas.{first_absent_is, missing_is_out, named_below, says_in_range}
 use Rattle.paraid_image.proofs.SidesLemmas.{Says-same}
 use Rattle.paraid_image.proofs.StandingLemmas.{Stands-same}
-use Rattle.paraid_session.specs.Watch.{IsServing, Watch, watch_all}
-use Rattle.paraid_session.proofs.LayerLemmas.{IsIn}
+use Rattle.paraid_session.specs.Watch.{IsAmongDown, IsServing, Watch, watch_all}
 use Rattle.paraid_recover.specs.MountCalls.{IsMountCall}
 use Rattle.paraid_recover.proofs.BeginsLemmas.{stays_absent}
 use Rattle.paraid_recover.proofs.DownLemmas.{in_absent, in_stays, several_in}
 use Rattle.paraid_recover.proofs.RestLemmas.{out_by_name}
 use Rattle.paraid_txn.specs.Uses.{EachCall}
 
-module _ (slots n : ℕ) (skip : Option ℕ) (h : History) (lo : ℕ) (x : ℕ) (said : LogState) (w : Watch) (stands : Stands w.disks x said) (weak_in : (v : ℕ) → IsWeak w.disks v → IsIn w.down v)
+module _ (slots n : ℕ) (skip : Option ℕ) (h : History) (lo : ℕ) (x : ℕ) (said : LogState) (w : Watch) (stands : Stands w.disks x said) (weak_in : (v : ℕ) → IsWeak w.disks v → IsAmongDown w.down v)
     (cs : List Call) (each : EachCall (IsMountCall n skip) w.disks cs) (serving : IsServing (watch_all cs w).down) (beside : Option ℕ) (held : IsHeld slots (run w.disks cs) h lo beside)
     (stood : (j : Disks) → IsImage (run w.disks cs) j → IsPresent j x → (z : ℕ) (o : LogState) → Stands j z o → o.meta ≡ said.meta) where
   -- the log disk that stood is absent by now

@@ -30,8 +30,7 @@ use Rattle.paraid_rack.proofs.AlikeLemmas.{IsAlike-sym}
 use Rattle.paraid_recover.specs.MountCalls.{IsMountCall}
 use Rattle.paraid_recover.proofs.MountCallsLemmas.{reads_mount}
 use Rattle.paraid_session.specs.Mount.{IsBase, mount_bounds, start_watch}
-use Rattle.paraid_session.specs.Watch.{IsServing, Watch, watch_all}
-use Rattle.paraid_session.proofs.LayerLemmas.{IsIn}
+use Rattle.paraid_session.specs.Watch.{IsAmongDown, IsServing, Watch, watch_all}
 use Rattle.paraid_session.proofs.RunStartLemmas.{synced_alike}
 use Rattle.paraid_recover.specs.HeardSides.{ReadsLogs}
 use Rattle.paraid_recover.specs.RecordedSpins.{IsWithinBoundsAt}
@@ -165,7 +164,7 @@ module _ (slots : ℕ) (s : Disks) (h : History) (lo : ℕ) (down : Option ℕ) 
       calls : EachCall (IsMountCall n None) s rs
       calls = let many = said.meta.setup.geometry.disks_low in each_map ReadsLogs (IsMountCall n None) (λ c is. reads_mount n None c (omega arith) is) s rs each
 
-      pub beside : (o : Option ℕ) × ((d : ℕ) → IsIn (watch_all rs w).down d → o ≡ Some d)
+      pub beside : (o : Option ℕ) × ((d : ℕ) → IsAmongDown (watch_all rs w).down d → o ≡ Some d)
       beside = beside_of (watch_all rs w).down serving
 
       -- what was held is held after the reads
@@ -179,8 +178,8 @@ module _ (slots : ℕ) (s : Disks) (h : History) (lo : ℕ) (down : Option ℕ) 
             weak = λ i v image is. beside.1 v (in_stays w rs v (weak_in slots s h lo down start v (weak_alike i s v (IsAlike-sym s i (synced_alike s i start.synced image)) is)));
           }))
         where
-          absent_in : (j d : ℕ) → j ≤ length rs → d < n → is_present ((run s (take j rs)).power d) ≡ false → IsIn (watch_all rs w).down d
-          absent_in j d le low off = subst (λ (cs : List Call). IsIn (watch_all cs w).down d) (take_all (length rs) rs (omega arith))
+          absent_in : (j d : ℕ) → j ≤ length rs → d < n → is_present ((run s (take j rs)).power d) ≡ false → IsAmongDown (watch_all rs w).down d
+          absent_in j d le low off = subst (λ (cs : List Call). IsAmongDown (watch_all cs w).down d) (take_all (length rs) rs (omega arith))
               (in_later w rs j (length rs) d le (in_absent w (take j rs) d (λ gone. weak_in slots s h lo down start d (absent_weak slots s h lo down start.synced start.held x said stood d low gone)) off))
 
       -- What stands in an image that is looked at after the reads is within the bounds.

@@ -29,8 +29,7 @@ use Rattle.paraid_recover.specs.Examined.IsRefusedBySlots.{asleep, few}
 use Rattle.paraid_recover.proofs.ExaminedLogLemmas.{unpaired_worn, worn_stands}
 use Rattle.paraid_recover.proofs.WearLemmas.{refused_for_wear}
 use Rattle.paraid_session.specs.Mount.{IsBase, IsCauseOutsideDisks, Refusal, lacking, no_memory, start_watch, worn}
-use Rattle.paraid_session.specs.Watch.{Down, IsServing, Watch, watch_all}
-use Rattle.paraid_session.proofs.LayerLemmas.{IsIn}
+use Rattle.paraid_session.specs.Watch.{Down, IsAmongDown, IsServing, Watch, watch_all}
 use Rattle.paraid_recover.specs.declared.hearing.Heard.{Heard}
 use Rattle.paraid_recover.specs.HeardSides.{IsHeardAt, IsHeardBy, IsOneLost, ReadsLogs}
 use Rattle.paraid_recover.specs.HeardSides.IsOneLost.{none, one}
@@ -143,17 +142,17 @@ module _ (slots : ℕ) (s : Disks) (h : History) (lo : ℕ) (down : Option ℕ) 
     serving_reads : IsServing (watch_all rs watched).down
     serving_reads = serving_before (watch_all rs watched) ls (subst IsServing (down_append watched rs ls) serving)
 
-    stays_in : (d : ℕ) → IsIn (watch_all rs watched).down d → IsIn (watch_all (rs ++ ls) watched).down d
-    stays_in d is = subst (λ (k : Down). IsIn k d) (sym (down_append watched rs ls)) (in_stays (watch_all rs watched) ls d is)
+    stays_in : (d : ℕ) → IsAmongDown (watch_all rs watched).down d → IsAmongDown (watch_all (rs ++ ls) watched).down d
+    stays_in d is = subst (λ (k : Down). IsAmongDown k d) (sym (down_append watched rs ls)) (in_stays (watch_all rs watched) ls d is)
 
     -- one that is absent since has failed
-    gone_in : (d : ℕ) → IsGoneSince read new d → IsIn (watch_all (rs ++ ls) watched).down d
+    gone_in : (d : ℕ) → IsGoneSince read new d → IsAmongDown (watch_all (rs ++ ls) watched).down d
     gone_in d is =
         let here = ap is_present (agrees_old.power d) ∙ there_before old read d examined.lost is.there in
         in_absent watched (rs ++ ls) d (λ off. absurd (false≢true (sym off ∙ here)))
         (ap (λ (u : Disks). is_present (u.power d)) (sym end_is) ∙ ap is_present (agrees.power d) ∙ absent_now (new d).power is.absent)
 
-    start_in : (d : ℕ) → d < said.meta.setup.geometry.disks → is_present (s.power d) ≡ false → IsIn (watch_all rs watched).down d
+    start_in : (d : ℕ) → d < said.meta.setup.geometry.disks → is_present (s.power d) ≡ false → IsAmongDown (watch_all rs watched).down d
     start_in d low off = in_stays watched rs d (weak_in slots s h lo down start d (absent_weak slots s h lo down start.synced start.held x said stood d low off))
 
     log_absent : (z : ℕ) → z < 2 → (read z).power ≡ Absent → is_present ((run s rs).power z) ≡ false
@@ -163,7 +162,7 @@ module _ (slots : ℕ) (s : Disks) (h : History) (lo : ℕ) (down : Option ℕ) 
         (heard_absent (now r) 1 examined.logs.sides.second examined.logs.second (read 1).power (examined.heard.second r tells_read) examined.heard.second_power off)
     log_absent (suc (suc z)) low off = absurd (omega (arith, low))
 
-    off_in : (d : ℕ) → d < said.meta.setup.geometry.disks → (read d).power ≡ Absent → IsOneLost old read → IsIn (watch_all rs watched).down d
+    off_in : (d : ℕ) → d < said.meta.setup.geometry.disks → (read d).power ≡ Absent → IsOneLost old read → IsAmongDown (watch_all rs watched).down d
     off_in d low off (none same) = start_in d low (ap is_present (agrees_old.power d) ∙ ap (λ (k : Slot). is_present k.power) (sym (same d)) ∙ absent_now (read d).power off)
     off_in d low off (one z few_z spun failed others spins) = elim (cases_eq d z) [
       | inl is ↦ in_absent watched rs d (λ gone_then. weak_in slots s h lo down start d (absent_weak slots s h lo down start.synced start.held x said stood d low gone_then))
@@ -171,7 +170,7 @@ module _ (slots : ℕ) (s : Disks) (h : History) (lo : ℕ) (down : Option ℕ) 
       | inr not ↦ start_in d low (ap is_present (agrees_old.power d) ∙ ap (λ (k : Slot). is_present k.power) (sym (others d not)) ∙ absent_now (read d).power off)
     ]
 
-    out_in : (d : ℕ) → IsOutOfCommit (λ e. (read e).power) then_said.meta.setup.geometry.disks (named_out then_said.meta.out) None d → IsIn (watch_all (rs ++ ls) watched).down d
+    out_in : (d : ℕ) → IsOutOfCommit (λ e. (read e).power) then_said.meta.setup.geometry.disks (named_out then_said.meta.out) None d → IsAmongDown (watch_all (rs ++ ls) watched).down d
     out_in d (is_absent low off) = stays_in d (off_in d (subst (λ (z : Setup). d < z.geometry.disks) (setup_kept slots s h lo down start base rs each x said stood side then_said stands serving_reads) low) off examined.lost)
     out_in d (was_named name) = stays_in d (named_down slots s h lo down start x said stood base rs each side then_said stands serving_reads d name)
     out_in d (is_named name) = absurd (let z : None ≡ Some d = name in cc)
@@ -181,7 +180,7 @@ module _ (slots : ℕ) (s : Disks) (h : History) (lo : ℕ) (down : Option ℕ) 
         let first = elim_first gone.first in
         apart (several_in (watch_all (rs ++ ls) watched).down two.first two.second serving first (gone_in two.second gone.second))
       where
-        elim_first : (IsOutOfCommit (λ e. (read e).power) then_said.meta.setup.geometry.disks (named_out then_said.meta.out) None two.first ⊎ IsGoneSince read new two.first) → IsIn (watch_all (rs ++ ls) watched).down two.first
+        elim_first : (IsOutOfCommit (λ e. (read e).power) then_said.meta.setup.geometry.disks (named_out then_said.meta.out) None two.first ⊎ IsGoneSince read new two.first) → IsAmongDown (watch_all (rs ++ ls) watched).down two.first
         elim_first (inl out) = out_in two.first out
         elim_first (inr since) = gone_in two.first since
 
@@ -197,7 +196,7 @@ module _ (slots : ℕ) (s : Disks) (h : History) (lo : ℕ) (down : Option ℕ) 
 module _ (slots : ℕ) (s : Disks) (h : History) (lo : ℕ) (down : Option ℕ) (start : IsRunStart slots s h lo down) (x : ℕ) (said : LogState) (stood : Stands s x said)
     (base : ℕ → ℕ) (rs : List Call) (each : EachCall ReadsLogs s rs) (ticks : ℕ) (is_base : IsBase s x said base ticks) (t : Trail) (t_is : now t ≡ run s rs) (told : Option Trail) (tells : told ≡ Some t)
     (old new : ℕ → Slot) (agrees : Agrees (now t) new) (side : ℕ) (low : side < 2) (two : Two) where
-  gone_at : (d : ℕ) → d < 3 → (new d).power ≡ Absent → IsIn (watch_all rs (start_watch s down base)).down d
+  gone_at : (d : ℕ) → d < 3 → (new d).power ≡ Absent → IsAmongDown (watch_all rs (start_watch s down base)).down d
   gone_at d near off =
       let many = said.meta.setup.geometry.disks_low in
       in_absent (start_watch s down base) rs d (λ gone. weak_in slots s h lo down start d (absent_weak slots s h lo down start.synced start.held x said stood d (omega arith) gone))

@@ -35,8 +35,7 @@ use Rattle.paraid_image.proofs.SidesLemmas.{Says-same}
 use Rattle.paraid_image.proofs.StandingLemmas.{Stands-same}
 use Rattle.paraid_recover.specs.HeldMoments.{RestsBeside}
 use Rattle.paraid_recover.specs.Powers.{IsPowerCall}
-use Rattle.paraid_session.specs.Watch.{Down, Each, IsServing, Watch, nobody, only, several, watch}
-use Rattle.paraid_session.proofs.LayerLemmas.{IsIn}
+use Rattle.paraid_session.specs.Watch.{Down, Each, IsAmongDown, IsServing, Watch, nobody, only, several, watch}
 use Rattle.paraid_session.proofs.RunStartLemmas.{synced_alike}
 use Rattle.paraid_recover.specs.RecordedSpins.{HasRecord, OnlyStands}
 use Rattle.paraid_recover.proofs.BaseLemmas.{sound_now}
@@ -149,7 +148,7 @@ module _ (t : Disks) (m : Meta) (rest : IsAtRest t m) where
       let up = rises m.phase d to in
       content.kept.disks.recorded up.0 d up.1 from up.2 parked (out_present t.power m d (ap is_present parked) not)
 
-pub beside_of : (down : Down) → IsServing down → (beside : Option ℕ) × ((d : ℕ) → IsIn down d → beside ≡ Some d)
+pub beside_of : (down : Down) → IsServing down → (beside : Option ℕ) × ((d : ℕ) → IsAmongDown down d → beside ≡ Some d)
 beside_of nobody serving = (None, λ d is. absurd is)
 beside_of (only d) serving = (Some d, λ e is. ap (λ (k : ℕ). Some k) (sym is))
 beside_of several serving = absurd serving
@@ -159,7 +158,7 @@ module _ (slots : ℕ) (m : Meta) (h : History) (lo : ℕ) where
   n = m.setup.geometry.disks
 
   abbrev Covered : Watch → Type 0
-  Covered w = ((d : ℕ) → named_out m.out ≡ Some d → IsIn w.down d) × ((d : ℕ) → d < n → is_present (w.disks.power d) ≡ false → IsIn w.down d)
+  Covered w = ((d : ℕ) → named_out m.out ≡ Some d → IsAmongDown w.down d) × ((d : ℕ) → d < n → is_present (w.disks.power d) ≡ false → IsAmongDown w.down d)
 
   rests_now : (w : Watch) → Covered w → RestsBeside slots m h lo w.disks → IsServing w.down → (beside : Option ℕ) × IsAtRest w.disks m × IsHeld slots w.disks h lo beside
   rests_now w covered rests serving =

@@ -21,8 +21,7 @@ use Rattle.paraid_image.proofs.NeutralLemmas.{IsLogKept, says_back, says_forth}
 use Rattle.paraid_image.proofs.OutLemmas.{out_present}
 use Rattle.paraid_image.proofs.StandingLemmas.{Stands-same}
 use Rattle.paraid_session.specs.Mount.{start_watch}
-use Rattle.paraid_session.specs.Watch.{IsServing, watch_all}
-use Rattle.paraid_session.proofs.LayerLemmas.{IsIn}
+use Rattle.paraid_session.specs.Watch.{IsAmongDown, IsServing, watch_all}
 use Rattle.paraid_recover.specs.HeardSides.{ReadsLogs}
 use Rattle.paraid_recover.proofs.DownLemmas.{in_absent, in_stays, several_in, stood_log, weak_in}
 use Rattle.paraid_txn.specs.Uses.{EachCall}
@@ -125,6 +124,6 @@ module _ (slots : ℕ) (s : Disks) (h : History) (lo : ℕ) (down : Option ℕ) 
           let w = start_watch s down base in
           let says = back side then_said then_stands.says in
           let apart : side ≢ x = λ is. false≢true (sym (subst (λ (y : ℕ). is_present (t.power y) ≡ false) (sym is) off) ∙ then_stands.says.present) in
-          let lost : IsIn (watch_all rs w).down x = in_absent w rs x (λ gone. absurd (false≢true (sym gone ∙ stands.says.present))) off in
+          let lost : IsAmongDown (watch_all rs w).down x = in_absent w rs x (λ gone. absurd (false≢true (sym gone ∙ stands.says.present))) off in
           both says (out_present s.power said.meta x stands.says.present log.standing_in)
           (λ named. apart (several_in (watch_all rs w).down side x serving (in_stays w rs side (weak_in slots s h lo down start side (out x said stands named))) lost)) apart

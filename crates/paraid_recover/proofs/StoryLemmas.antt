@@ -17,8 +17,7 @@ use Rattle.paraid_image.specs.Standing.{Stands}
 use Rattle.paraid_image.proofs.AlikeLemmas.{weak_alike}
 use Rattle.paraid_recover.specs.HeldMoments.{IsAbsentSince}
 use Rattle.paraid_session.specs.Mount.{start_watch}
-use Rattle.paraid_session.specs.Watch.{IsServing, Watch, watch, watch_all}
-use Rattle.paraid_session.proofs.LayerLemmas.{IsIn}
+use Rattle.paraid_session.specs.Watch.{IsAmongDown, IsServing, Watch, watch, watch_all}
 use Rattle.paraid_session.proofs.RunStartLemmas.{synced_alike}
 use Rattle.paraid_recover.specs.HeardSides.{ReadsLogs}
 use Rattle.paraid_recover.specs.StartHeld.{IsAbsentUpTo}
@@ -83,7 +82,7 @@ module _ (slots : ℕ) (from read t : Trail) (rs ls : List Call) (read_is : read
     pub beside : Option ℕ
     beside = (beside_of (watch_all (take (length rs + i) calls) w).down serving).0
 
-    pub covers : (d : ℕ) → IsIn (watch_all (take (length rs + i) calls) w).down d → beside ≡ Some d
+    pub covers : (d : ℕ) → IsAmongDown (watch_all (take (length rs + i) calls) w).down d → beside ≡ Some d
     unfolding beside
     covers d is = (beside_of (watch_all (take (length rs + i) calls) w).down serving).1 d is
 

@@ -29,8 +29,8 @@ use Rattle.paraid_recover.specs.RecoveryMark.{with_mark}
 use Rattle.paraid_recover.specs.StandingMetas.{StandsForeseen}
 use Rattle.paraid_recover.proofs.TurnsLemmas.{rests_through}
 use Rattle.paraid_session.specs.Mount.{IsBase, mount_bounds, start_watch}
-use Rattle.paraid_session.specs.Watch.{Bounds, Down, Each, IsServing, Watch, nobody, only, several, watch, watch_all}
-use Rattle.paraid_session.proofs.LayerLemmas.{IsIn, each_at}
+use Rattle.paraid_session.specs.Watch.{Bounds, Down, Each, IsAmongDown, IsServing, Watch, nobody, only, several, watch, watch_all}
+use Rattle.paraid_session.proofs.LayerLemmas.{each_at}
 use Rattle.paraid_recover.specs.HeardSides.{ReadsLogs}
 use Rattle.paraid_recover.specs.StartCalls.{IsSpinUpRecorded}
 use Rattle.paraid_recover.specs.RecordedSpins.{AreSpinUpsRecorded, HasRecord, OnlyStands, StaysWithin, StaysWithinAt}
@@ -237,7 +237,7 @@ module _ (slots : ℕ) (from read settled t : Trail) (rs ls1 ls2 : List Call) (r
         },
       )
 
-      absent_down : (d : ℕ) → d < m.setup.geometry.disks → is_present (v.disks.power d) ≡ false → IsIn v.down d
+      absent_down : (d : ℕ) → d < m.setup.geometry.disks → is_present (v.disks.power d) ≡ false → IsAmongDown v.down d
       absent_down d low off = in_absent w (rs ++ ls1) d
           (λ gone. weak_in slots s h lo down start d (absent_weak slots s h lo down start.synced start.held x said stood d (subst (λ (z : Setup). d < z.geometry.disks) setup_now low) gone))
           (ap (λ (u : Disks). is_present (u.power d)) (sym (watched_disks w (rs ++ ls1))) ∙ off)
@@ -245,9 +245,9 @@ module _ (slots : ℕ) (from read settled t : Trail) (rs ls1 ls2 : List Call) (r
       serving_reads : IsServing (watch_all rs w).down
       serving_reads = serving_before (watch_all rs w) ls1 (subst IsServing (down_append w rs ls1) serving)
 
-      named_now : (d : ℕ) → named_out m.out ≡ Some d → IsIn v.down d
+      named_now : (d : ℕ) → named_out m.out ≡ Some d → IsAmongDown v.down d
       named_now d is = elim (out d is) [
-        | inl name ↦ subst (λ (k : Down). IsIn k d) (sym (down_append w rs ls1))
+        | inl name ↦ subst (λ (k : Down). IsAmongDown k d) (sym (down_append w rs ls1))
             (in_stays (watch_all rs w) ls1 d (named_down slots s h lo down start x said stood base rs each side then_said stands_read serving_reads d name))
         | inr gone ↦ absent_down d (subst (λ (z : Setup). d < z.geometry.disks) (sym (next_marked then_said.meta mark).setup) gone.0) (ap (λ (u : Disks). is_present (u.power d)) (sym disks_now) ∙ gone.1)
       ]

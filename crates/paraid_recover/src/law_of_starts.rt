@@ -26,8 +26,7 @@ ghost use Rattle.paraid_recover.specs.RecoveryMark.{to_mark, with_mark};
 ghost use Rattle.paraid_recover.specs.Powers.{IsPowerCall};
 ghost use Rattle.paraid_session.specs.Mount.{BeginsSession, IsAllowedInMount, IsBase, IsMountRefused, IsMounted, IsRefusedFromEach, Refusal, down_after_mount, mount_bounds, start_watch};
 ghost use Rattle.paraid_session.specs.Turn.{IsMark};
-ghost use Rattle.paraid_session.specs.Watch.{Bounds, Each, IsHeldWhileServing, IsServing, Watch, fails_on, first_lost, watch_all};
-ghost use Rattle.paraid_session.proofs.LayerLemmas.{IsIn};
+ghost use Rattle.paraid_session.specs.Watch.{Bounds, Each, IsAmongDown, IsHeldWhileServing, IsServing, Watch, fails_on, first_lost, watch_all};
 ghost use Rattle.paraid_recover.specs.HeardSides.{ReadsLogs};
 ghost use Rattle.paraid_recover.specs.MountCalls.{IsMountCall};
 ghost use Rattle.paraid_recover.specs.StartCalls.{IsSpinUpRecorded, MakesMountCall};
@@ -148,9 +147,9 @@ pub fn one_meta_stands_at_rest()
     ensures rest { (t : Disks) (m : MetaType) (z : ℕ) (i : Disks) (o : LogState) → IsAtRest t m
         → IsLooked t i → Stands i z o → o.meta ≡ m }
     ensures powers { (slots : ℕ) (m : MetaType) (h : History) (lo : ℕ) (w : Watch)
-        (cs : List CallType) → ((d : ℕ) → named_out m.out ≡ Some d → IsIn w.down d)
+        (cs : List CallType) → ((d : ℕ) → named_out m.out ≡ Some d → IsAmongDown w.down d)
         → ((d : ℕ) → d < m.setup.geometry.disks → is_present (w.disks.power d) ≡ false
-        → IsIn w.down d) → Through (RestsBeside slots m h lo) w.disks cs
+        → IsAmongDown w.down d) → Through (RestsBeside slots m h lo) w.disks cs
         → EachCall (IsPowerCall m) w.disks cs → Each (OnlyStands m) (HasRecord m) w cs }
 {}
 
@@ -242,7 +241,7 @@ pub fn a_mount_without_a_log_disk_begins_with_the_state_left()
 pub fn a_fallback_was_foreseen()
     ensures { (slots n : ℕ) (skip : Option ℕ) (h : History) (lo x z : ℕ) (said o p : LogState)
         (w : Watch) (cs : List CallType) (beside : Option ℕ) (i : Disks) → Stands w.disks x said
-        → ((v : ℕ) → IsWeak w.disks v → IsIn w.down v) → EachCall (IsMountCall n skip) w.disks cs
+        → ((v : ℕ) → IsWeak w.disks v → IsAmongDown w.down v) → EachCall (IsMountCall n skip) w.disks cs
         → IsServing (watch_all cs w).down → IsHeld slots (run w.disks cs) h lo beside
         → ((j : Disks) → IsImage (run w.disks cs) j → IsPresent j x → (y : ℕ) (k : LogState)
         → Stands j y k → k.meta ≡ said.meta)

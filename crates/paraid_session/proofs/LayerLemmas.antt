@@ -12,7 +12,7 @@ use Rattle.paraid_rack.specs.Trail.{run}
 use Rattle.paraid_image.specs.Calls.{disk_of, is_done}
 use Rattle.paraid_image.specs.HeldAt.{IsHeld}
 pub use Rattle.paraid_image.proofs.LostLemmas.{absent_before, absent_failed, fails_first, first_fails, only_lost}
-use Rattle.paraid_session.specs.Watch.{Down, Each, IsHeldWhileServing, Watch, down_after, nobody, only, several, watch, with_down, watch_all}
+use Rattle.paraid_session.specs.Watch.{Down, Each, IsAmongDown, IsHeldWhileServing, Watch, down_after, nobody, only, several, watch, watch_all, with_down}
 
 -- disk `d` of the array is absent, or it is the one that is out or is taken out
 pub record IsMissingBeside (n : ℕ) (out : Option ℕ) (s : Disks) (d : ℕ) : Type 0 where
@@ -24,47 +24,41 @@ pub record IsMissingBeside (n : ℕ) (out : Option ℕ) (s : Disks) (d : ℕ) : 
 pub record IsHeldMissing (slots n : ℕ) (out : Option ℕ) (h : History) (lo : ℕ) (s : Disks) : Type 0 where
   pub held : (down : Option ℕ) → ((d : ℕ) → IsMissingBeside n out s d → down ≡ Some d) → IsHeld slots s h lo down
 
--- disk `d` is among those that are down
-abbrev pub IsIn : Down → ℕ → Type 0
-IsIn nobody d = ⊥
-IsIn (only e) d = d ≡ e
-IsIn several d = Unit {0}
-
 -- a missing disk is down
 abbrev pub Covers : ℕ → Option ℕ → Disks → Down → Type 0
-Covers n out s down = (d : ℕ) → IsMissingBeside n out s d → IsIn down d
+Covers n out s down = (d : ℕ) → IsMissingBeside n out s d → IsAmongDown down d
 
 pub held_beside : (slots n : ℕ) (out : Option ℕ) (h : History) (lo : ℕ) (s : Disks) (down : Down) → IsHeldMissing slots n out h lo s → Covers n out s down → IsHeldWhileServing slots s h lo down
 held_beside slots n out h lo s nobody m covers = m.held None (λ d is. absurd (covers d is))
 held_beside slots n out h lo s (only e) m covers = m.held (Some e) (λ d is. ap (λ (x : ℕ). Some x) (sym (covers d is)))
 held_beside slots n out h lo s several m covers = tt
 
-in_with_by : (e f d : ℕ) (same : Bool) → d ≡ f → IsIn (if same then only f else several) d
+in_with_by : (e f d : ℕ) (same : Bool) → d ≡ f → IsAmongDown (if same then only f else several) d
 in_with_by e f d true is = is
 in_with_by e f d false is = tt
 
-in_with : (e : ℕ) (down : Down) (d : ℕ) → IsIn down d → IsIn (with_down e down) d
+in_with : (e : ℕ) (down : Down) (d : ℕ) → IsAmongDown down d → IsAmongDown (with_down e down) d
 in_with e nobody d is = absurd is
 in_with e (only f) d is = in_with_by e f d (e == f) is
 in_with e several d is = tt
 
-in_with_self_by : (d f : ℕ) (same : Bool) → (same ≡ true → d ≡ f) → IsIn (if same then only f else several) d
+in_with_self_by : (d f : ℕ) (same : Bool) → (same ≡ true → d ≡ f) → IsAmongDown (if same then only f else several) d
 in_with_self_by d f true is = is refl
 in_with_self_by d f false is = tt
 
 same_if : (d f : ℕ) → (d == f) ≡ true → d ≡ f
 same_if d f e = grind (arith, nat_tests)
 
-in_with_self : (d : ℕ) (down : Down) → IsIn (with_down d down) d
+in_with_self : (d : ℕ) (down : Down) → IsAmongDown (with_down d down) d
 in_with_self d nobody = refl
 in_with_self d (only f) = in_with_self_by d f (d == f) (same_if d f)
 in_with_self d several = tt
 
-after_call : (done : Bool) (e : ℕ) (down : Down) (d : ℕ) → IsIn down d ⊎ ((done ≡ false) × (d ≡ e)) → IsIn (if done then down else with_down e down) d
+after_call : (done : Bool) (e : ℕ) (down : Down) (d : ℕ) → IsAmongDown down d ⊎ ((done ≡ false) × (d ≡ e)) → IsAmongDown (if done then down else with_down e down) d
 after_call true e down d is = elim is [ inl before ↦ before | inr failed ↦ absurd (false≢true (sym failed.0)) ]
 after_call false e down d is = elim is [
   | inl before ↦ in_with e down d before
-  | inr failed ↦ subst (λ (x : ℕ). IsIn (with_down x down) d) failed.1 (in_with_self d down)
+  | inr failed ↦ subst (λ (x : ℕ). IsAmongDown (with_down x down) d) failed.1 (in_with_self d down)
 ]
 
 covers_step : (n : ℕ) (out : Option ℕ) (s : Disks) (down : Down) (c : Call) → Covers n out s down → Covers n out (step c s) (down_after down c)

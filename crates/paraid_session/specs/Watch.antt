@@ -25,6 +25,12 @@ pub data Down : Type 0 where
   only : ℕ → Down
   several : Down
 
+-- disk `d` is among those that are down
+abbrev pub IsAmongDown : Down → ℕ → Type 0
+IsAmongDown nobody d = ⊥
+IsAmongDown (only e) d = d ≡ e
+IsAmongDown several d = Unit {0}
+
 -- disk `d` is down too
 abbrev pub with_down : ℕ → Down → Down
 with_down d nobody = only d

@@ -56,7 +56,7 @@ pub record KeepsRack {R A : Type 0} {g : Ghosts R} (old new : Core R g) (Told : 
   pub two : IfErr result (AreTwoDown (core_down old) (g.slot (store_rack old.store)) (g.slot (store_rack new.store)))
   pub loses : IfErr result Told
 
--- The same of a call that turns no disk: only the slots of disks that are lost change their power or size.
+-- The same of a call that neither parks a disk nor spins one up: only the slots of disks that are lost change their power or size.
 pub record SparesRack {R A : Type 0} {g : Ghosts R} (old new : Core R g) (Told : Two → Type 0) (result : Result A Two) : Type 0 where
   pub slots : g.slot_count (store_rack new.store) ≡ g.slot_count (store_rack old.store)
   pub spared : OnlyLosesSlots (g.slot (store_rack old.store)) (g.slot (store_rack new.store))
