@@ -15,7 +15,7 @@ use Rattle.paraid_image.specs.HeldAt.{IsHeld, IsSoundFrom, MayLose}
 use Rattle.paraid_image.specs.Neutral.{overwrite}
 use Rattle.paraid_image.specs.Out.{IsMissing, IsWeak, named_out, out_disk}
 use Rattle.paraid_image.specs.Out.IsWeak.{out, named}
-use Rattle.paraid_image.specs.Sides.{LogState, Says, Spells, has_place, is_open, stored_block}
+use Rattle.paraid_image.specs.Sides.{closed_over, LogState, Says, Spells, has_place, is_open, stored_block}
 use Rattle.paraid_image.specs.Sound.{ContentOk, IsBatchInPlace, IsFresh, LogOk, Pairing, IsSoundAt}
 use Rattle.paraid_image.specs.Sound.Pairing.{alike, first_done, second_done}
 use Rattle.paraid_image.specs.Standing.{Contents, Stands, contents, is_first, other_log, stands_before}
