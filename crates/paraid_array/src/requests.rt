@@ -21,7 +21,11 @@ fn one_more(served: u32) -> u32
     ensures more { (n : ℕ) → served ≡ sample_of n → result ≡ sample_of (n + 1) }
     ensures cut { sample_of result ≡ sample_of (sample_of served + 1) }
 {
-    if served < GREATEST_SAMPLE { served + 1 } else { served }
+    if served < GREATEST_SAMPLE {
+        served + 1
+    } else {
+        served
+    }
 }
 
 impl<R: Rack> Array<R> {

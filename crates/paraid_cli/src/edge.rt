@@ -10,10 +10,10 @@ ghost use Rattle.paraid_words.specs.Words.{AskFor};
 ghost use Rattle.paraid_words.specs.declared.command.Command.{Command as CommandType};
 
 use crate::program::Program;
-use crate::served::SLOTS;
 use paraid_base::NoMemory;
 use paraid_imgrack::{Claim, Hindrance, ImageRack};
 use paraid_program::Ended;
+use paraid_rack::MOST_SLOTS;
 use paraid_serve::status;
 use paraid_words::{Command, read_words};
 use std::fs::{self, File, Files};
@@ -126,7 +126,7 @@ fn end<H: Host>(rt: &H, command: &Command, line: &str, status: u8) -> u8
 fn work_nowhere<H: Host>(rt: &H, command: &Command) -> u8
     ensures { IsOwnStatus result }
 {
-    let hindrance = match ImageRack::load(rt, rt.alloc(), SLOTS) {
+    let hindrance = match ImageRack::load(rt, rt.alloc(), MOST_SLOTS) {
         Ok(rack) => rack.hindrance(),
         Err(_) => return status::NO_MEMORY,
     };
@@ -148,7 +148,7 @@ fn work_there<'a, H: Host, P: Program<&'a H>>(
     requires { (c : CommandType) → AskFor c (map string_bytes words.now.items) → c ≡ command.now }
     ensures { EndsAsked (P.ended program.now) (map string_bytes words.now.items) result }
 {
-    let Ok(mut rack) = ImageRack::load(rt, rt.alloc(), SLOTS) else {
+    let Ok(mut rack) = ImageRack::load(rt, rt.alloc(), MOST_SLOTS) else {
         return status::NO_MEMORY;
     };
     if let Some((disk, hindrance)) = hindrance_of(&rack, command) {
@@ -260,7 +260,7 @@ fn tell_misfits<H: Host>(rt: &H, rack: &ImageRack<&H>) -> Option<u8>
     ensures { IfNone result ((d : ℕ) → d < 8 → misfit_at (images_of rack.now) d ≡ None) }
 {
     let mut first = None;
-    for disk in 0..SLOTS {
+    for disk in 0..MOST_SLOTS {
         first = first.or(tell_misfit(rt, rack, disk));
     }
     first
@@ -276,7 +276,7 @@ fn tell_misfit<H: Host>(rt: &H, rack: &ImageRack<&H>, disk: u8) -> Option<u8>
 
 /// Tells why disks have failed.
 fn tell_causes<H: Host>(rt: &H, rack: &ImageRack<&H>) {
-    for disk in 0..SLOTS {
+    for disk in 0..MOST_SLOTS {
         if let Some(cause) = rack.cause(disk) {
             let _ = eprintln!(rt; "paraid: disk-{disk}.img or its sidecar failed: {cause}");
         }

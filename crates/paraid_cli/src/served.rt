@@ -14,9 +14,6 @@ use paraid_io::{Sink, Source};
 use paraid_program::{Ended, paraid};
 use std::alloc::Global;
 
-/// The number of image files at most.
-pub(crate) const SLOTS: u8 = 8;
-
 /// What a command has left: its status, the rack, in which all is written, and the log.
 #[derive(Drop)]
 pub(crate) struct Served<R, L> {

@@ -14,7 +14,7 @@ use paraid_record::Setup;
 use std::alloc::Global;
 
 /// The greatest sample. A greater count is cut to it.
-pub const GREATEST_SAMPLE: u32 = 1_048_576;
+pub const GREATEST_SAMPLE: u32 = 1048576;
 
 /// Up to three windows on the samples, each of 1 to 1,024 samples. An unused window has length 0.
 #[derive(Drop)]

@@ -60,4 +60,3 @@ no_disks count = before_calls (replicate count no_beginning)
 -- a slot of a rack that begins so, before any call
 abbrev pub first_slot : List Beginning → ℕ → Slot
 first_slot start d = record { power = (beginning start d).power; size = length (beginning start d).blocks; unsynced = false; faults = 0 }
-

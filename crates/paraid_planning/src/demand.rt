@@ -11,8 +11,8 @@ use paraid_record::Setup;
 use paraid_schedule::plan_gears;
 use std::alloc::Global;
 
-/// A demand has at most so many periods.
-const PERIODS: usize = 1024;
+/// The most periods of a demand.
+const MOST_PERIODS: usize = 1024;
 
 /// The demand that a source gives, a number a line, up to its end; or the first line that is none.
 pub fn read_demand<S: Source>(alloc: Global, source: &mut S) -> Result<Vec<u32>, Unplanned>
@@ -36,8 +36,10 @@ pub fn read_demand<S: Source>(alloc: Global, source: &mut S) -> Result<Vec<u32>,
             Err(LineFault::Source) => return Err(Unplanned::Source),
             Err(LineFault::TooLong { .. }) => return Err(Unplanned::TooLong),
         };
-        if demand.len() >= PERIODS {
-            return Err(Unplanned::Demand { at: PERIODS as u32 });
+        if demand.len() >= MOST_PERIODS {
+            return Err(Unplanned::Demand {
+                at: MOST_PERIODS as u32,
+            });
         }
         let Ok(()) = demand.push(number) else {
             return Err(Unplanned::NoMemory);

@@ -7,8 +7,8 @@ ghost use Rattle.paraid_planning.specs.Heard.{HearsNumber};
 use paraid_io::{Line, LineFault, LineReader, Source};
 use paraid_trace::number;
 
-/// The most that a period may have.
-const GREATEST_NUMBER: u32 = 1_048_576;
+/// The most requests of a period.
+const MOST_REQUESTS: u32 = 1_048_576;
 
 /// What a line of a demand says.
 #[derive(Clone, Copy)]
@@ -27,7 +27,7 @@ fn small_number(line: &[u8]) -> Option<u32>
     ensures none { IfNone result (IsNoNumber line.now) }
 {
     match number(line) {
-        Some(number) if number <= GREATEST_NUMBER => Some(number),
+        Some(number) if number <= MOST_REQUESTS => Some(number),
         _ => None,
     }
 }

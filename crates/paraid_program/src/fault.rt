@@ -11,8 +11,8 @@ use paraid_serve::ending::{last, size_text};
 use paraid_serve::status;
 use paraid_trace::Text;
 
-// Some words and a number.
-fn numbered(text: &mut Text, words: &[u8], number: u64)
+/// Some words and a number.
+pub(crate) fn numbered(text: &mut Text, words: &[u8], number: u64)
     requires empty { text.old ≡ [] }
     requires short { length words.now ≤ 600 }
     ensures { text.new ≡ words.now ++ decimal number ++ codes "\n" }

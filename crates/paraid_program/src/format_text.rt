@@ -5,6 +5,7 @@ ghost use Rattle.paraid_config.specs.Keys.{key_name};
 ghost use Rattle.paraid_program.specs.Lines.{config_line, formatted_line, geometry_line, refusal_line, refusal_status as refusal_status_of};
 
 use crate::Refusal;
+use crate::fault::numbered;
 use itoa::Buffer;
 use paraid_base::GeoFault;
 use paraid_config::{ConfigFault, Key};
@@ -12,17 +13,6 @@ use paraid_record::Setup;
 use paraid_recover::FormatFault;
 use paraid_serve::status;
 use paraid_trace::Text;
-
-// Some words and a number.
-fn numbered(text: &mut Text, words: &[u8], number: u64)
-    requires empty { text.old ≡ [] }
-    requires short { length words.now ≤ 600 }
-    ensures { text.new ≡ words.now ++ decimal number ++ codes "\n" }
-{
-    text.push(words);
-    text.push_number(number);
-    text.push(b"\n");
-}
 
 // Some words and a key.
 fn named(text: &mut Text, words: &[u8], key: Key)

@@ -15,9 +15,6 @@ use paraid_record::{Target, Targets};
 use std::alloc::Global;
 use std::marker::Model;
 
-/// The most targets of a batch.
-pub const MOST_TARGETS: usize = BATCH_ROOM;
-
 /// A batch holds its 96 targets, and this one is new.
 #[derive(Clone, Copy)]
 pub struct Full {
@@ -59,7 +56,7 @@ impl Batch {
     pub fn new(alloc: Global) -> Result<Batch, NoMemory>
         ensures { IfOk result (λ batch. batch ≡ []) }
     {
-        let Ok(staged) = Vec::with_capacity(alloc, MOST_TARGETS) else {
+        let Ok(staged) = Vec::with_capacity(alloc, BATCH_ROOM) else {
             return Err(NoMemory);
         };
         Ok(Batch { staged })
@@ -89,8 +86,10 @@ impl Batch {
             self.staged[at].block.copy_from(block);
             return Ok(());
         }
-        if self.staged.len() == MOST_TARGETS {
-            return Err(Full { count: MOST_TARGETS as u8 });
+        if self.staged.len() == BATCH_ROOM {
+            return Err(Full {
+                count: BATCH_ROOM as u8,
+            });
         }
         self.staged.push_reserved(Staged {
             target,
@@ -154,7 +153,7 @@ impl Batch {
     {
         let mut targets = Targets {
             count: self.staged.len() as u8,
-            list: [Target { disk: 0, place: 0 }; MOST_TARGETS],
+            list: [Target { disk: 0, place: 0 }; BATCH_ROOM],
         };
         for at in 0..self.staged.len() {
             targets.list[at] = self.staged[at].target;

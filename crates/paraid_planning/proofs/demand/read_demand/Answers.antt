@@ -14,13 +14,13 @@ returns-in-Err-Source-clause-unread g c = source_failed c.lines.invariant.gather
 pub returns-in-Err-TooLong-clause-unread : goal.returns-in-Err-TooLong-clause-unread
 returns-in-Err-TooLong-clause-unread g c = took_all c.lines.invariant.gathered _ _ c.in-Err-TooLong.ensures.heard (c.in-Err-TooLong.ensures.too_long c.in-Err-TooLong.field-0-0 (ap Err c.in-Err-TooLong.field-0-is))
 
-pub returns-then-len-ge-PERIODS-clause-unread : goal.returns-then-len-ge-PERIODS-clause-unread
-returns-then-len-ge-PERIODS-clause-unread g c = too_many c.lines.invariant.gathered _ _ (rw c.in-Ok-Number.field-0-is at c.in-Ok-Number.ensures.heard) (omega (arith, c.if-len-ge-PERIODS.true, c.len-in-lines.ensures, c.lines.demand.ok.0))
+pub returns-then-len-ge-MOST_PERIODS-clause-unread : goal.returns-then-len-ge-MOST_PERIODS-clause-unread
+returns-then-len-ge-MOST_PERIODS-clause-unread g c = too_many c.lines.invariant.gathered _ _ (rw c.in-Ok-Number.field-0-is at c.in-Ok-Number.ensures.heard) (omega (arith, c.if-len-ge-MOST_PERIODS.true, c.len-in-lines.ensures, c.lines.demand.ok.0))
 
 pub lines-preserved : goal.lines-preserved
 lines-preserved g c =
     let i = c.lines.invariant in
-    let room : length c.lines.demand.items < 1024 = omega (arith, c.if-len-ge-PERIODS.false, c.len-in-lines.ensures, c.lines.demand.ok.0) in
+    let room : length c.lines.demand.items < 1024 = omega (arith, c.if-len-ge-MOST_PERIODS.false, c.len-in-lines.ensures, c.lines.demand.ok.0) in
     rw c.in-Ok.ensures.items (record {
       gathered = gathered_more i.gathered (rw c.in-Ok-Number.field-0-is at c.in-Ok-Number.ensures.heard) c.in-Ok-Number.ensures.goes_on room;
       still = c.in-Ok-Number.ensures.still (λ is. cc) ∙ i.still;
