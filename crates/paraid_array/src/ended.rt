@@ -1,3 +1,5 @@
+//! How the service of an array ended.
+
 use paraid_base::Halt;
 
 /// What ended the service of an array, and its gear before that event.

@@ -1,3 +1,4 @@
+//! The core of an array: its disks with what is staged over them, and the commit that brings it there.
 ghost use Rattle.std.specs.Prelude.{◌≡◌, ◌≢◌, ℕ, ◌<◌, [], length, Some, Ok, OnOk, IfErr, IsSome, true};
 ghost use Rattle.paraid_base.specs.History.{History, after_all as held_by};
 ghost use Rattle.paraid_rack.specs.Trail.{Trail, now};

@@ -70,7 +70,7 @@ abbrev pub serve : Option ℕ → Option ℕ → PowerState → (PowerState → 
 serve (Some b) loss s f = quietly loss (NoBlock b) s
 serve None loss s f = around loss s f
 
--- a shift under way, or a disk that is out, stands in the way of a shift
+-- the answer to a shift where a disk is out
 abbrev pub out_refusal : Out → Option Answer
 out_refusal No = None
 out_refusal (Gone d) = Some (IsOut d)

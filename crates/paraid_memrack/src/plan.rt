@@ -1,3 +1,4 @@
+//! Which calls of a rack in memory are to fail.
 ghost use Rattle.std.specs.Prelude.{◌≡◌};
 ghost use Rattle.paraid_memrack.specs.CallPlan.{names_call};
 

@@ -1,3 +1,5 @@
+//! What a stop leaves of a block.
+
 /// What a stop leaves in each block that was written since its disk was last synced or attached.
 #[derive(Clone, Copy)]
 pub enum Pick {

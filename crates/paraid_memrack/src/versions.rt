@@ -1,4 +1,4 @@
-// A block as it was written last and as it was kept last, and what a stop leaves of it.
+//! A block as it was written last and as it was kept last, and what a stop leaves of it.
 ghost use Rattle.std.specs.Prelude.{◌≡◌, ◌++◌, take, drop, map, replicate, IfOk};
 ghost use Rattle.paraid_base.specs.declared.block.Block.{Block as BlockType};
 ghost use Rattle.paraid_base.specs.Xor.{zero_block};

@@ -1,3 +1,5 @@
+//! Why there may be no plan.
+
 /// Why no plan was made of what a source gives.
 #[derive(Clone, Copy)]
 pub enum Unplanned {

@@ -1,3 +1,4 @@
+//! What the commands need of an array: how it is made of a rack, checked, and made a rack again.
 ghost use Rattle.std.specs.Prelude.{◌≡◌, ℕ, length, None, IfErr, IfOk, IsSome, OnOk};
 ghost use Rattle.paraid_base.specs.declared.event.Answer.TheVariants.{Flushed, Halted};
 ghost use Rattle.paraid_base.specs.declared.event.Event.TheVariants.{Flush as FlushEvent};

@@ -1,3 +1,5 @@
+//! Why a format may make no array.
+
 use paraid_config::ConfigFault;
 use paraid_recover::FormatFault;
 

@@ -1,3 +1,4 @@
+//! The line that tells the counts of a check, and the status.
 ghost use Rattle.std.specs.Prelude.{◌≡◌, []};
 ghost use Rattle.paraid_program.specs.Counts.{check_line, check_status as check_status_of};
 

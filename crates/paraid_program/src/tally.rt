@@ -1,3 +1,4 @@
+//! What is counted of generated lines and their answers.
 ghost use Rattle.std.specs.Prelude.{◌≡◌, ◌<◌, ◌+◌, ◌*◌, slice_index};
 ghost use Rattle.paraid_program.specs.Tally.{HasRoomForLine, empty_tally, tally_with_answer, tally_with_event};
 

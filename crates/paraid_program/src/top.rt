@@ -1,3 +1,4 @@
+//! What the words ask for is done, or the usage is told where they ask for nothing.
 ghost use Rattle.std.specs.Prelude.{◌≡◌, ◌≢◌, ◌≤◌, map, string_bytes, [], ◌∷◌};
 ghost use Rattle.paraid_program.specs.Statuses.{IsOneOf};
 ghost use Rattle.paraid_base.specs.Told.{AtEnd, HasRisen};

@@ -1,3 +1,4 @@
+//! The next line of a trace, as what it asks for.
 ghost use Rattle.std.specs.Prelude.{◌≡◌, ◌≢◌, ℕ, ◌≤◌, Option, None, OnOk, IsErrOf, ◌^◌};
 ghost use Rattle.paraid_base.specs.Told.{HasRisen};
 ghost use Rattle.paraid_serve.specs.Heard.{HearsLine, heard_event};

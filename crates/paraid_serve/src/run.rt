@@ -1,3 +1,4 @@
+//! The session over all lines of a source: each is answered in turn, and a flush ends it.
 ghost use Rattle.std.specs.Prelude.{◌≡◌, ◌≢◌, ◌≤◌, None, IfErr, IsErrOf, OnOk};
 ghost use Rattle.paraid_base.specs.Told.{HasRisen};
 ghost use Rattle.paraid_rack.specs.Told.{Extends};

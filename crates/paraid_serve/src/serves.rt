@@ -1,3 +1,4 @@
+//! What a session needs of an array: the trait `Serves`.
 ghost use Rattle.std.specs.Prelude.{◌≡◌, ◌≢◌, ◌<◌, ℕ, None, Option, length};
 ghost use Rattle.paraid_base.specs.BlockAnswers.{answer_to_flush};
 ghost use Rattle.paraid_base.specs.declared.event.Event.TheVariants.{Flush as FlushEvent, Bad as BadEvent};

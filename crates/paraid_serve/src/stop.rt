@@ -1,3 +1,5 @@
+//! Why a session may end before its last line.
+
 use paraid_base::Halt;
 
 /// Why a session ended before its last line.

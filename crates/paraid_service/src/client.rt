@@ -1,3 +1,4 @@
+//! One client of the network block service over a mounted array.
 ghost use Rattle.std.specs.Prelude.{◌≡◌, ℕ, ◌*◌, None, IsSome};
 ghost use Rattle.paraid_base.specs.BlockAnswers.{Answers};
 ghost use Rattle.paraid_base.specs.Told.{HasRisen};

@@ -1,3 +1,4 @@
+//! The next line of a session of volumes, as what it asks for.
 ghost use Rattle.std.specs.Prelude.{◌≡◌, ◌≢◌, ℕ, ◌≤◌, None, OnOk, IsErrOf, ◌^◌};
 ghost use Rattle.paraid_base.specs.Told.{HasRisen};
 ghost use Rattle.paraid_service.specs.LineEnds.{HearsVolumes};

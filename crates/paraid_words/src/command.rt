@@ -1,3 +1,5 @@
+//! The commands, and the options that stand behind them.
+
 /// What the program is asked to do.
 #[derive(Clone, Copy)]
 pub enum Command {

@@ -1,3 +1,4 @@
+//! The words of the command line, read as a command with its options.
 ghost use Rattle.std.specs.Prelude.{◌≡◌, ◌↔◌, Some, map, string_bytes};
 ghost use Rattle.std.specs.List.{position};
 ghost use Rattle.paraid_words.specs.declared.command.Command.{Command as CommandType};
