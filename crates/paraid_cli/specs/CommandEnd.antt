@@ -3,10 +3,10 @@ use Rattle.std.specs.Prelude.{◌≡◌, ℕ, ◌⊎◌, List, [], ◌∷◌, Op
 use Rattle.paraid_gather.specs.Finish.{EndsGathered}
 use Rattle.paraid_program.specs.CommandCompletes.{CompletesCommand}
 use Rattle.paraid_program.specs.CommandDoes.{DoesCommand}
-use Rattle.paraid_program.specs.Statuses.{IsOneOf}
 use Rattle.paraid_rack.specs.Slots.{Slot}
 use Rattle.paraid_rack.specs.Trail.{Trail}
 use Rattle.paraid_serve.specs.Uses.{RackUse, SinkUse, SourceUse}
+use Rattle.paraid_serve.specs.Statuses.{IsOneOf, status_busy, status_no_memory, status_not_an_array, status_sink, status_source, status_words}
 use Rattle.paraid_words.specs.declared.command.Command.{Command}
 use Rattle.paraid_words.specs.Words.{AskFor}
 
@@ -32,7 +32,7 @@ EndsWithSlots c status = (slots : ℕ) × (slot : ℕ → Slot) × EndsWithStrea
 
 -- A status of the edge's own: a closed or failed stream, an image that is refused, no memory, or another command here.
 abbrev pub IsOwnStatus : ℕ → Type 0
-IsOwnStatus status = IsOneOf (3 ∷ 4 ∷ 6 ∷ 7 ∷ 16 ∷ []) status
+IsOwnStatus status = IsOneOf (status_source ∷ status_sink ∷ status_not_an_array ∷ status_no_memory ∷ status_busy ∷ []) status
 
 -- The status is the edge's own, or the command that the words ask for ended with it.
 abbrev pub EndsAsked : (Command → ℕ → Type 0) → List (List ℕ) → ℕ → Type 0
@@ -40,4 +40,4 @@ EndsAsked ended words status = (c : Command) → AskFor c words → IsOwnStatus 
 
 -- Words that ask for no command ended with this status: they were answered, the output failed, or there was no memory.
 abbrev pub EndsUnasked : List (List ℕ) → ℕ → Type 0
-EndsUnasked words status = ((c : Command) → AskFor c words → ⊥) → IsOneOf (2 ∷ 4 ∷ 7 ∷ []) status
+EndsUnasked words status = ((c : Command) → AskFor c words → ⊥) → IsOneOf (status_words ∷ status_sink ∷ status_no_memory ∷ []) status

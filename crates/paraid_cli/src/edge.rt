@@ -8,6 +8,7 @@ ghost use Rattle.paraid_imgrack.specs.Images.{misfit_at};
 ghost use Rattle.paraid_imgrack.specs.Looks.{images_of, IsUnhindered};
 ghost use Rattle.paraid_words.specs.Words.{AskFor};
 ghost use Rattle.paraid_words.specs.declared.command.Command.{Command as CommandType};
+ghost use Rattle.paraid_serve.specs.Statuses.{status_sink};
 
 use crate::program::Program;
 use paraid_base::NoMemory;
@@ -19,9 +20,6 @@ use paraid_words::{Command, read_words};
 use std::fs::{self, File, Files};
 use std::io::{self, Eprint, Input, Print};
 use std::os::fd::AsRawFd;
-
-/// The status where another command works here, or the folder cannot be opened.
-const BUSY: u8 = 16;
 
 /// What the program takes of the system.
 pub(crate) trait Host: Files<File = File> + AllocGlobal + Input + Print + Eprint {}
@@ -95,7 +93,7 @@ fn work<'a, H: Host, P: Program<&'a H>>(
     }
     if folder.first.try_lock().is_err() {
         let _ = eprintln!(rt; "paraid: another command works in this folder");
-        return BUSY;
+        return status::BUSY;
     }
     work_there(rt, program, words, command)
 }
@@ -111,7 +109,7 @@ fn reads_input(command: &Command) -> bool {
 
 /// Writes the last line, unless a client reads the output, and gives the status.
 fn end<H: Host>(rt: &H, command: &Command, line: &str, status: u8) -> u8
-    ensures { (result ≡ status) ⊎ (result ≡ 4) }
+    ensures { (result ≡ status) ⊎ (result ≡ status_sink) }
 {
     if let Command::Nbd = command {
         return status;
@@ -134,7 +132,7 @@ fn work_nowhere<H: Host>(rt: &H, command: &Command) -> u8
         Some((disk, hindrance)) => tell_hindrance(rt, command, disk, hindrance),
         None => {
             let _ = eprintln!(rt; "paraid: this folder cannot be opened");
-            BUSY
+            status::BUSY
         }
     }
 }
@@ -187,7 +185,7 @@ fn tell_hindrance<H: Host>(rt: &H, command: &Command, disk: u8, hindrance: Hindr
             let _ = eprintln!(rt;
                 "paraid: disk-{disk}.img is in use: by another command, or as another disk"
             );
-            BUSY
+            status::BUSY
         }
         Hindrance::Crowded => {
             let _ = eprintln!(rt; "paraid: too few files more may be open: see `ulimit -n`");

@@ -5,6 +5,7 @@ ghost use Rattle.paraid_gather.specs.Above.{told_above};
 ghost use Rattle.paraid_rack.specs.Trail.{Trail};
 ghost use Rattle.paraid_serve.specs.Ending.{EndsWithLine};
 ghost use Rattle.paraid_serve.specs.Streams.{sink_use, source_use};
+ghost use Rattle.paraid_serve.specs.Statuses.{status_words};
 ghost use Rattle.paraid_words.specs.Words.{AskFor, usage_line};
 ghost use Rattle.paraid_words.specs.declared.command.Command.{Command as CommandType};
 
@@ -40,7 +41,8 @@ pub(crate) fn serve_gathered<S: Source, K: Sink, R: BulkRack + Drop, L: Noted + 
         (sink_use K.written K.faults sink.old sink.new) c served.status) }
     ensures words { IfOk result (λ served. ((c : CommandType)
         → AskFor c (map string_bytes words.now.items) → ⊥)
-        → EndsWithLine (K.written sink.old) (K.written sink.new) usage_line 2 served.status) }
+        → EndsWithLine (K.written sink.old) (K.written sink.new) usage_line
+        status_words served.status) }
 {
     let gathered = Gathered::new(alloc, rack, log)?;
     let Ended { status, rack } = paraid(alloc, words, source, sink, gathered);

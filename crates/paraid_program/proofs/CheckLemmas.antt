@@ -1,6 +1,5 @@
 -- A check of a mounted array, as a flush of a session.
 use Rattle.std.proofs.Common.{◌≡◌, ℕ, ◌+◌, ◌⊎◌, Bool, true, false, List, [], ◌∷◌, length, Option, Some, IsSome, refl, sym, ◌∙◌, inl, inr, subst, arith, if◌then◌else◌}
-use Rattle.paraid_program.specs.Statuses.{IsOneOf}
 use Rattle.std.specs.Prelude.{◌==◌}
 use Rattle.paraid_base.specs.declared.event.Answer.{Answer}
 use Rattle.paraid_base.specs.declared.event.Answer.TheVariants.{Flushed, Halted}
@@ -28,6 +27,8 @@ use Rattle.paraid_serve.proofs.ExitLemmas.{stretch_leaves}
 use Rattle.paraid_session.proofs.MountLemmas.{IsMountedFromEach-follows}
 use Rattle.paraid_serve.proofs.HaltLemmas.{names_two, tells_wear}
 use Rattle.paraid_serve.proofs.StretchLemmas.{stretch_more, stretch_none}
+use Rattle.paraid_program.specs.Statuses.{check_statuses, checked_statuses}
+use Rattle.paraid_serve.specs.Statuses.{IsOneOf}
 use Rattle.paraid_program.specs.MountFaults.{mount_fault_status}
 use Rattle.paraid_program.specs.CheckCauses.{HasCheckCauses}
 use Rattle.paraid_program.specs.Counts.{check_line, check_status}
@@ -59,21 +60,21 @@ module _ (slots : ℕ) (setup : Setup) (began : ℕ) (start final : Option Trail
       (λ p mark here at. checks_from slots setup start final stood_then (Halted halt) p mark here (was is) is (goes p at)) mounted)
 
 -- the statuses of a check
-counted_so : (b : Bool) (status n m : ℕ) → (status ≡ 4) ⊎ ((n ≡ m) × (status ≡ (if b then 0 else 13))) → IsOneOf (0 ∷ 4 ∷ 5 ∷ 12 ∷ 13 ∷ []) status
+counted_so : (b : Bool) (status n m : ℕ) → (status ≡ 4) ⊎ ((n ≡ m) × (status ≡ (if b then 0 else 13))) → IsOneOf checked_statuses status
 counted_so true status n m (inl four) = inr (inl four)
 counted_so true status n m (inr all) = inl all.1
 counted_so false status n m (inl four) = inr (inl four)
 counted_so false status n m (inr all) = inr (inr (inr (inr all.1)))
 
-pub counted_status : (report : CheckReport) (before after : Option (List ℕ)) (line : List ℕ) (status : ℕ) → EndsWithLine before after line (check_status report) status → IsOneOf (0 ∷ 4 ∷ 5 ∷ 12 ∷ 13 ∷ []) status
+pub counted_status : (report : CheckReport) (before after : Option (List ℕ)) (line : List ℕ) (status : ℕ) → EndsWithLine before after line (check_status report) status → IsOneOf checked_statuses status
 counted_status report before after line status end = counted_so (report.rows + report.stripes + report.fill + report.units + report.mirrors == 0) status end.count (length line) end.whole
 
-halted_so : (halt : Halt) (status n m : ℕ) → (status ≡ 4) ⊎ ((n ≡ m) × (status ≡ status_of_halt halt)) → IsOneOf (0 ∷ 4 ∷ 5 ∷ 12 ∷ 13 ∷ []) status
+halted_so : (halt : Halt) (status n m : ℕ) → (status ≡ 4) ⊎ ((n ≡ m) × (status ≡ status_of_halt halt)) → IsOneOf checked_statuses status
 halted_so halt status n m (inl four) = inr (inl four)
 halted_so (HaltTwo two) status n m (inr all) = inr (inr (inl all.1))
 halted_so (Worn count) status n m (inr all) = inr (inr (inr (inl all.1)))
 
-pub halted_status : (halt : Halt) (before after : Option (List ℕ)) (line : List ℕ) (status : ℕ) → EndsWithLine before after line (status_of_halt halt) status → IsOneOf (0 ∷ 4 ∷ 5 ∷ 12 ∷ 13 ∷ []) status
+pub halted_status : (halt : Halt) (before after : Option (List ℕ)) (line : List ℕ) (status : ℕ) → EndsWithLine before after line (status_of_halt halt) status → IsOneOf checked_statuses status
 halted_status halt before after line status end = halted_so halt status end.count (length line) end.whole
 
 no_halt : (b : Bool) (status n m : ℕ) → (status ≡ 4) ⊎ ((n ≡ m) × (status ≡ (if b then 0 else 13))) → (status ≡ 5) ⊎ (status ≡ 12) → ⊥
@@ -111,21 +112,21 @@ pub halt_tells_wear : (halt : Halt) (told : Option Halt) (before after : Option 
     → EndsWithLine before after (halt_line halt) (status_of_halt halt) status → status ≡ 12 → TellsWear before after
 halt_tells_wear halt told before after status is by end = tells_wear halt before before after [] status (λ count same. by count (is ∙ same)) (GrowsByBytes-none before) end
 
-pub check_status_of : (status : ℕ) → IsOneOf (0 ∷ 4 ∷ 5 ∷ 12 ∷ 13 ∷ []) status → IsOneOf (0 ∷ 4 ∷ 5 ∷ 6 ∷ 7 ∷ 12 ∷ 13 ∷ []) status
+pub check_status_of : (status : ℕ) → IsOneOf checked_statuses status → IsOneOf check_statuses status
 check_status_of status (inl z) = inl z
 check_status_of status (inr (inl z)) = inr (inl z)
 check_status_of status (inr (inr (inl z))) = inr (inr (inl z))
 check_status_of status (inr (inr (inr (inl z)))) = inr (inr (inr (inr (inr (inl z)))))
 check_status_of status (inr (inr (inr (inr z)))) = inr (inr (inr (inr (inr (inr z)))))
 
-check_refused : (status : ℕ) → IsRefusedStatus status → IsOneOf (0 ∷ 4 ∷ 5 ∷ 6 ∷ 7 ∷ 12 ∷ 13 ∷ []) status
+check_refused : (status : ℕ) → IsRefusedStatus status → IsOneOf check_statuses status
 check_refused status (inl z) = inr (inl z)
 check_refused status (inr (inl z)) = inr (inr (inl z))
 check_refused status (inr (inr (inl z))) = inr (inr (inr (inl z)))
 check_refused status (inr (inr (inr (inl z)))) = inr (inr (inr (inr (inl z))))
 check_refused status (inr (inr (inr (inr z)))) = inr (inr (inr (inr (inr (inl z)))))
 
-pub check_is_refused : (fault : MountFault) (before after : Option (List ℕ)) (line : List ℕ) (status : ℕ) → EndsWithLine before after line (mount_fault_status fault) status → IsOneOf (0 ∷ 4 ∷ 5 ∷ 6 ∷ 7 ∷ 12 ∷ 13 ∷ []) status
+pub check_is_refused : (fault : MountFault) (before after : Option (List ℕ)) (line : List ℕ) (status : ℕ) → EndsWithLine before after line (mount_fault_status fault) status → IsOneOf check_statuses status
 check_is_refused fault before after line status end = check_refused status (refused_status fault before after line status end)
 
 -- over the rack that is handed back

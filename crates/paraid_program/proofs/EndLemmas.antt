@@ -1,6 +1,5 @@
 -- From what a mounted array does to what the program does.
-use Rattle.std.proofs.Common.{◌≡◌, ℕ, ◌⊎◌, List, length, Option, Some, None, inl, inr, ap, sym, subst, [], ◌∷◌}
-use Rattle.paraid_program.specs.Statuses.{IsOneOf}
+use Rattle.std.proofs.Common.{◌≡◌, ℕ, ◌⊎◌, List, length, Option, Some, None, inl, inr, ap, sym, subst}
 use Rattle.paraid_recover.specs.declared.fault.MountFault.{MountFault}
 use Rattle.paraid_recover.specs.declared.fault.MountFault.TheVariants.{NotFormatted, BadLog, BadMeta, Size, Power, Two as TwoDown, Worn, NoMemory}
 use Rattle.paraid_rack.specs.Slots.{Slot}
@@ -17,6 +16,8 @@ use Rattle.paraid_serve.specs.Streams.{streams_of}
 use Rattle.paraid_serve.specs.Stretch.{Span, span_of}
 use Rattle.paraid_serve.specs.Uses.{RackUse, SinkUse, SourceUse}
 use Rattle.paraid_serve.proofs.HaltLemmas.{names_since}
+use Rattle.paraid_program.specs.Statuses.{gen_statuses, run_statuses}
+use Rattle.paraid_serve.specs.Statuses.{IsOneOf}
 use Rattle.paraid_program.specs.Generating.{GenHeadline, IsGenStatus}
 use Rattle.paraid_program.specs.MountFaults.{mount_fault_status}
 use Rattle.paraid_program.specs.Showing.{BeganAt}
@@ -88,7 +89,7 @@ module _ (rack : RackUse) (sink : SinkUse) (status : ℕ) (service : ServiceStar
   }
 
 -- the statuses of a run are those of a session, and those of a mount that is refused
-pub run_status : (status : ℕ) → IsServedStatus status → IsOneOf (0 ∷ 3 ∷ 4 ∷ 5 ∷ 6 ∷ 7 ∷ 10 ∷ 12 ∷ []) status
+pub run_status : (status : ℕ) → IsServedStatus status → IsOneOf run_statuses status
 run_status status (inl z) = inl z
 run_status status (inr (inl z)) = inr (inl z)
 run_status status (inr (inr (inl z))) = inr (inr (inl z))
@@ -96,7 +97,7 @@ run_status status (inr (inr (inr (inl z)))) = inr (inr (inr (inl z)))
 run_status status (inr (inr (inr (inr (inl z))))) = inr (inr (inr (inr (inr (inr (inl z))))))
 run_status status (inr (inr (inr (inr (inr z))))) = inr (inr (inr (inr (inr (inr (inr z))))))
 
-pub generate_status : (status : ℕ) → IsGenStatus status → IsOneOf (0 ∷ 4 ∷ 5 ∷ 6 ∷ 7 ∷ 12 ∷ []) status
+pub generate_status : (status : ℕ) → IsGenStatus status → IsOneOf gen_statuses status
 generate_status status (inl z) = inl z
 generate_status status (inr (inl z)) = inr (inl z)
 generate_status status (inr (inr (inl z))) = inr (inr (inl z))
@@ -123,22 +124,22 @@ refused_so fault status n m (inr all) = fault_status fault status all.1
 pub refused_status : (fault : MountFault) (before after : Option (List ℕ)) (line : List ℕ) (status : ℕ) → EndsWithLine before after line (mount_fault_status fault) status → IsRefusedStatus status
 refused_status fault before after line status end = refused_so fault status end.count (length line) end.whole
 
-run_refused : (status : ℕ) → IsRefusedStatus status → IsOneOf (0 ∷ 3 ∷ 4 ∷ 5 ∷ 6 ∷ 7 ∷ 10 ∷ 12 ∷ []) status
+run_refused : (status : ℕ) → IsRefusedStatus status → IsOneOf run_statuses status
 run_refused status (inl z) = inr (inr (inl z))
 run_refused status (inr (inl z)) = inr (inr (inr (inl z)))
 run_refused status (inr (inr (inl z))) = inr (inr (inr (inr (inl z))))
 run_refused status (inr (inr (inr (inl z)))) = inr (inr (inr (inr (inr (inl z)))))
 run_refused status (inr (inr (inr (inr z)))) = inr (inr (inr (inr (inr (inr (inr z))))))
 
-generate_refused : (status : ℕ) → IsRefusedStatus status → IsOneOf (0 ∷ 4 ∷ 5 ∷ 6 ∷ 7 ∷ 12 ∷ []) status
+generate_refused : (status : ℕ) → IsRefusedStatus status → IsOneOf gen_statuses status
 generate_refused status (inl z) = inr (inl z)
 generate_refused status (inr (inl z)) = inr (inr (inl z))
 generate_refused status (inr (inr (inl z))) = inr (inr (inr (inl z)))
 generate_refused status (inr (inr (inr (inl z)))) = inr (inr (inr (inr (inl z))))
 generate_refused status (inr (inr (inr (inr z)))) = inr (inr (inr (inr (inr z))))
 
-pub run_is_refused : (fault : MountFault) (before after : Option (List ℕ)) (line : List ℕ) (status : ℕ) → EndsWithLine before after line (mount_fault_status fault) status → IsOneOf (0 ∷ 3 ∷ 4 ∷ 5 ∷ 6 ∷ 7 ∷ 10 ∷ 12 ∷ []) status
+pub run_is_refused : (fault : MountFault) (before after : Option (List ℕ)) (line : List ℕ) (status : ℕ) → EndsWithLine before after line (mount_fault_status fault) status → IsOneOf run_statuses status
 run_is_refused fault before after line status end = run_refused status (refused_status fault before after line status end)
 
-pub generate_is_refused : (fault : MountFault) (before after : Option (List ℕ)) (line : List ℕ) (status : ℕ) → EndsWithLine before after line (mount_fault_status fault) status → IsOneOf (0 ∷ 4 ∷ 5 ∷ 6 ∷ 7 ∷ 12 ∷ []) status
+pub generate_is_refused : (fault : MountFault) (before after : Option (List ℕ)) (line : List ℕ) (status : ℕ) → EndsWithLine before after line (mount_fault_status fault) status → IsOneOf gen_statuses status
 generate_is_refused fault before after line status end = generate_refused status (refused_status fault before after line status end)

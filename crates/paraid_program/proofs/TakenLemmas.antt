@@ -1,11 +1,12 @@
 -- How a run ends well, and which status a mount that is refused does not have.
-use Rattle.std.proofs.Common.{◌≡◌, ℕ, ◌⊎◌, List, length, Option, inl, inr, arith, [], ◌∷◌}
-use Rattle.paraid_program.specs.Statuses.{IsOneOf}
+use Rattle.std.proofs.Common.{◌≡◌, ℕ, ◌⊎◌, List, length, Option, inl, inr, arith}
 use Rattle.paraid_base.specs.Told.{AtEnd}
 use Rattle.paraid_serve.specs.Ending.{EndsWithLine}
 use Rattle.paraid_recover.specs.declared.fault.MountFault.{MountFault}
 use Rattle.paraid_recover.specs.declared.fault.MountFault.TheVariants.{NotFormatted, BadLog, BadMeta, Size, Power, Two as TwoDown, Worn, NoMemory}
 use Rattle.paraid_serve.specs.Uses.{RackUse, SinkUse, SourceUse}
+use Rattle.paraid_program.specs.Statuses.{check_statuses, gen_statuses}
+use Rattle.paraid_serve.specs.Statuses.{IsOneOf}
 use Rattle.paraid_sparing.specs.Sparing.{Supply}
 use Rattle.paraid_program.specs.MountFaults.{mount_fault_status}
 use Rattle.paraid_program.specs.Spares.{ServesSpares}
@@ -39,7 +40,7 @@ pub taken_all : (rack : RackUse) (source : SourceUse) (sink : SinkUse) (status :
 taken_all rack source sink status (refused fault back end unheard) zero = absurd (refused_not fault sink.written_before sink.written _ status end zero)
 taken_all rack source sink status (mounted service stood begins served) zero = (served.headline.all (inl zero)).1
 
-pub not_read : (status : ℕ) → IsOneOf (0 ∷ 4 ∷ 5 ∷ 6 ∷ 7 ∷ 12 ∷ []) status → status ≡ 3 → ⊥
+pub not_read : (status : ℕ) → IsOneOf gen_statuses status → status ≡ 3 → ⊥
 not_read status (inl z) three = omega (arith, z, three)
 not_read status (inr (inl z)) three = omega (arith, z, three)
 not_read status (inr (inr (inl z))) three = omega (arith, z, three)
@@ -47,7 +48,7 @@ not_read status (inr (inr (inr (inl z)))) three = omega (arith, z, three)
 not_read status (inr (inr (inr (inr (inl z))))) three = omega (arith, z, three)
 not_read status (inr (inr (inr (inr (inr z))))) three = omega (arith, z, three)
 
-pub check_not_read : (status : ℕ) → IsOneOf (0 ∷ 4 ∷ 5 ∷ 6 ∷ 7 ∷ 12 ∷ 13 ∷ []) status → status ≡ 3 → ⊥
+pub check_not_read : (status : ℕ) → IsOneOf check_statuses status → status ≡ 3 → ⊥
 check_not_read status (inl z) three = omega (arith, z, three)
 check_not_read status (inr (inl z)) three = omega (arith, z, three)
 check_not_read status (inr (inr (inl z))) three = omega (arith, z, three)

@@ -7,6 +7,7 @@ use Rattle.paraid_record.specs.declared.meta.Setup.{Setup}
 use Rattle.paraid_serve.specs.Causes.{Shown}
 use Rattle.paraid_serve.specs.Streams.{streams_of}
 use Rattle.paraid_serve.specs.Uses.{RackUse, SinkUse, SourceUse}
+use Rattle.paraid_serve.specs.Statuses.{status_done, status_source, status_two}
 use Rattle.paraid_machine.specs.Machine.{block_count}
 use Rattle.paraid_nbd.specs.declared.ending.NbdEnd.{NbdEnd}
 use Rattle.paraid_service.specs.ClientCauses.{ClientCauses}
@@ -17,15 +18,15 @@ use Rattle.paraid_program.specs.Ends.{BeginsAt, HandsBack, IsServed, IsUnheard, 
 use Rattle.paraid_program.specs.MountFaults.{mount_fault_status}
 
 -- A client was served with a mounted array: its headline; over every rack what it was answered and why, by what was seen of the array
--- from its mount to the end, when its slots were those that are handed back; that at 0 at most one disk of the array is absent, and
--- that at 5 two different disks are down, of which the second has failed since before the mount.
+-- from its mount to the end, when its slots were those that are handed back; that at `status_done` at most one disk of the array is absent, and
+-- that at `status_two` two different disks are down, of which the second has failed since before the mount.
 pub record ServesNbd (rack : RackUse) (source : SourceUse) (sink : SinkUse) (status : ℕ) (service : ServiceStart) : Type 0 where
   pub headline : ClientHeadline (served_span rack service) service.began (streams_of source sink) status
   pub seen : Shown
   pub causes : ClientCauses (shown_served service.array) seen (streams_of source sink) status
   pub last : seen.slot ≡ rack.new
-  pub present : status ≡ 0 → IsNotDouble service.array.meta.setup rack.new
-  pub two : status ≡ 5 → LosesTwo rack.old rack.new
+  pub present : status ≡ status_done → IsNotDouble service.array.meta.setup rack.new
+  pub two : status ≡ status_two → LosesTwo rack.old rack.new
 
 -- A rack was not mounted, which the status tells, the source was not heard and nothing was written; or it was, and then this holds of the array
 -- that is what stood on its disks.
@@ -45,8 +46,9 @@ pub record IsNbdWhole (source : SourceUse) (sink : SinkUse) : Type 0 where
 -- What hinders `nbd`, with the status that it has then.
 pub data HindersNbd {rack : RackUse} (h : HeldHistory rack) (source : SourceUse) (sink : SinkUse) (status : ℕ) : Type 0 where
   -- the source has failed
-  source_failed : status ≡ 3 → HasRisen source.faults_before source.faults → HindersNbd h source sink status
-  -- the client broke the protocol, which 14 tells, or sent 2^40 bytes, which 10 does; or there was no memory for the buffer: 7
+  source_failed : status ≡ status_source → HasRisen source.faults_before source.faults → HindersNbd h source sink status
+  -- the client broke the protocol, which `status_protocol` tells, or sent 2^40 bytes, which `status_too_long` does; or there was no memory for the
+  -- buffer
   client : (setup : Setup) (end : NbdEnd) → broken_status end ≡ Some status → TakesClient (512 * block_count setup) (streams_of source sink) end
       → HindersNbd h source sink status
   -- as other commands that mount; no line tells it

@@ -16,6 +16,7 @@ use Rattle.paraid_rack.specs.Told.{Ran}
 use Rattle.paraid_scrub.specs.Counts.{no_faults}
 use Rattle.paraid_serve.specs.Ending.{end_line}
 use Rattle.paraid_serve.specs.Uses.{RackUse, SinkUse, SourceUse}
+use Rattle.paraid_serve.specs.Statuses.{status_already_formatted, status_config, status_disk, status_sink, status_source}
 use Rattle.paraid_record.specs.declared.meta.Setup.{Setup}
 use Rattle.paraid_recover.specs.Mount.{IsUnstarted}
 use Rattle.paraid_program.specs.Clients.{HindersNbd, IsNbdWhole}
@@ -36,18 +37,18 @@ pub record IsFormatWhole (force : Bool) (rack : RackUse) (source : SourceUse) (s
 -- What hinders a format, with the status that it has then.
 pub data HindersFormat (force : Bool) (rack : RackUse) (source : SourceUse) (sink : SinkUse) (status : ℕ) : Type 0 where
   -- the source has failed
-  source_failed : status ≡ 3 → HasRisen source.faults_before source.faults → HindersFormat force rack source sink status
+  source_failed : status ≡ status_source → HasRisen source.faults_before source.faults → HindersFormat force rack source sink status
   -- the sink has failed
-  sink_failed : status ≡ 4 → HasRisen sink.faults_before sink.faults → HindersFormat force rack source sink status
+  sink_failed : status ≡ status_sink → HasRisen sink.faults_before sink.faults → HindersFormat force rack source sink status
   -- what the source gave is no configuration, for this cause
-  config : status ≡ 8 → (fault : ConfigFault) → fault ≢ NoMemory → IsUnread source (Config fault) → HindersFormat force rack source sink status
+  config : status ≡ status_config → (fault : ConfigFault) → fault ≢ NoMemory → IsUnread source (Config fault) → HindersFormat force rack source sink status
   -- it was not forced, and a log disk belonged to an array
-  claimed : status ≡ 9 → force ≡ false → (epoch : ℕ) → Ran rack.before rack.after (λ start calls. AreReads calls × IsGreatest start epoch)
+  claimed : status ≡ status_already_formatted → force ≡ false → (epoch : ℕ) → Ran rack.before rack.after (λ start calls. AreReads calls × IsGreatest start epoch)
       → HindersFormat force rack source sink status
   -- a disk has failed
-  disk : status ≡ 11 → (d : ℕ) → HasRisen (rack.old d).faults (rack.new d).faults → HindersFormat force rack source sink status
+  disk : status ≡ status_disk → (d : ℕ) → HasRisen (rack.old d).faults (rack.new d).faults → HindersFormat force rack source sink status
   -- the rack has fewer slots than the array has disks
-  few : status ≡ 11 → (setup : Setup) → IsConfigured source setup → rack.slots < setup.geometry.disks → HindersFormat force rack source sink status
+  few : status ≡ status_disk → (setup : Setup) → IsConfigured source setup → rack.slots < setup.geometry.disks → HindersFormat force rack source sink status
 
 -- How a task comes out. A format does so whatever the rack held, and the others where it told its calls and held a history.
 abbrev pub CompletesCommand : RackUse → SourceUse → SinkUse → ℕ → Command → Type 0

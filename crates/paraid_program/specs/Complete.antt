@@ -13,6 +13,7 @@ use Rattle.paraid_recover.specs.Mount.{IsCauseOfRefusal}
 use Rattle.paraid_rack.specs.Trail.{Trail, extend, now}
 use Rattle.paraid_serve.specs.Stretch.{Turn, TurnsLead, turn_calls}
 use Rattle.paraid_serve.specs.Uses.{RackUse, SinkUse, SourceUse}
+use Rattle.paraid_serve.specs.Statuses.{status_done, status_no_memory, status_sink, status_source, status_too_long, status_two, status_worn}
 use Rattle.paraid_session.specs.Mount.{IsBegun, IsWornOut}
 use Rattle.paraid_session.specs.Turn.{IsWorn, LosesSecondDisk, Point}
 use Rattle.paraid_session.specs.Watch.{Down, down_after, down_from_out, several}
@@ -56,16 +57,16 @@ pub record ComesTo {rack : RackUse} (h : HeldHistory rack) (Q : Point → Turn �
 -- What hinders a command that mounts, with the status that it has then.
 pub data Hinders {rack : RackUse} (h : HeldHistory rack) (sink : SinkUse) (status : ℕ) : Type 0 where
   -- the sink has failed
-  sink_failed : status ≡ 4 → HasRisen sink.faults_before sink.faults → Hinders h sink status
+  sink_failed : status ≡ status_sink → HasRisen sink.faults_before sink.faults → Hinders h sink status
   -- a second disk failed in the mount while one was down, and the mount was refused for this cause; the calls are its own
   two_in_mount : (fault : MountFault) → status ≡ mount_fault_status fault → IsCauseOfRefusal rack.slots rack.old rack.new rack.before rack.after fault
       → (calls : List Call) → h.last ≡ extend h.first calls → down_after_calls (down_from_out h.down) calls ≡ several → Hinders h sink status
   -- 2^62 commits or writes had been made before the command
-  worn_before : status ≡ 12 → (calls : List Call) → h.last ≡ extend h.first calls → (many : ℕ) → IsWornOut (now h.first) calls many → Hinders h sink status
+  worn_before : status ≡ status_worn → (calls : List Call) → h.last ≡ extend h.first calls → (many : ℕ) → IsWornOut (now h.first) calls many → Hinders h sink status
   -- a second disk failed in the session while one was down
-  two : status ≡ 5 → (pair : Two) → ComesTo h (λ p t q. LosesSecondDisk rack.slots h.said.meta.setup p t.event pair t.calls q) → Hinders h sink status
+  two : status ≡ status_two → (pair : Two) → ComesTo h (λ p t q. LosesSecondDisk rack.slots h.said.meta.setup p t.event pair t.calls q) → Hinders h sink status
   -- the session came to 2^62 commits or writes
-  worn : status ≡ 12 → (many : ℕ) → ComesTo h (λ p t q. IsWorn p t.event many) → Hinders h sink status
+  worn : status ≡ status_worn → (many : ℕ) → ComesTo h (λ p t q. IsWorn p t.event many) → Hinders h sink status
   -- A second disk failed in the mount while one was down, and the array was served all the same. As in the headline nothing is
   -- said of the session then; it ended as it may over every rack.
   double : (mount rest : List Call) → h.last ≡ extend h.first (mount ++ rest) → down_after_calls (down_from_out h.down) mount ≡ several
@@ -74,16 +75,16 @@ pub data Hinders {rack : RackUse} (h : HeldHistory rack) (sink : SinkUse) (statu
 -- what hinders a run: as the others, or by its source
 pub data HindersRun {rack : RackUse} (h : HeldHistory rack) (source : SourceUse) (sink : SinkUse) (status : ℕ) : Type 0 where
   -- the source has failed
-  source_failed : status ≡ 3 → HasRisen source.faults_before source.faults → HindersRun h source sink status
+  source_failed : status ≡ status_source → HasRisen source.faults_before source.faults → HindersRun h source sink status
   -- 2^40 bytes were taken
-  too_long : status ≡ 10 → (bytes : List ℕ) → Gives source.left_before source.left bytes → length bytes ≡ 2 ^ 40 → HindersRun h source sink status
+  too_long : status ≡ status_too_long → (bytes : List ℕ) → Gives source.left_before source.left bytes → length bytes ≡ 2 ^ 40 → HindersRun h source sink status
   other : Hinders h sink status → HindersRun h source sink status
 
 -- How a command comes out: all was done; or there was no memory; or something hindered it, and the cause says with which
 -- status.
 pub data Completes (Whole Unstarted Hindered : Type 0) (status : ℕ) : Type 0 where
-  whole : status ≡ 0 → Whole → Completes Whole Unstarted Hindered status
-  no_memory : status ≡ 7 → Unstarted → Completes Whole Unstarted Hindered status
+  whole : status ≡ status_done → Whole → Completes Whole Unstarted Hindered status
+  no_memory : status ≡ status_no_memory → Unstarted → Completes Whole Unstarted Hindered status
   hindered : Hindered → Completes Whole Unstarted Hindered status
 
 -- what was written ends with this line

@@ -1,6 +1,7 @@
 -- The last line and the status of a check.
 use Rattle.std.specs.Prelude.{ℕ, ◌+◌, ◌==◌, List, ◌++◌, codes, decimal, if◌then◌else◌}
 use Rattle.paraid_scrub.specs.declared.kind.CheckReport.{CheckReport}
+use Rattle.paraid_serve.specs.Statuses.{status_done, status_found}
 
 -- the line of a check
 abbrev pub check_line : CheckReport → List ℕ
@@ -10,4 +11,4 @@ check_line r =
 
 -- all was done where no count is above 0
 abbrev pub check_status : CheckReport → ℕ
-check_status r = if r.rows + r.stripes + r.fill + r.units + r.mirrors == 0 then 0 else 13
+check_status r = if r.rows + r.stripes + r.fill + r.units + r.mirrors == 0 then status_done else status_found

@@ -24,6 +24,7 @@ use Rattle.paraid_serve.specs.Output.{Headline, IsLeftByStretch}
 use Rattle.paraid_serve.specs.Streams.{streams_of}
 use Rattle.paraid_serve.specs.Stretch.{EndsStretch, Span, span_of}
 use Rattle.paraid_serve.specs.Uses.{RackUse, SinkUse, SourceUse}
+use Rattle.paraid_serve.specs.Statuses.{status_done, status_found, status_two, status_worn}
 use Rattle.paraid_session.specs.Turn.{Point}
 use Rattle.paraid_program.specs.Generating.{GenHeadline, GenStreams}
 use Rattle.paraid_recover.specs.declared.fault.MountFault.{MountFault}
@@ -84,12 +85,12 @@ pub data MountsAndThen (rack : RackUse) (sink : SinkUse) (status : ℕ) (Unheard
   mounted : (service : ServiceStart) → IsServed rack service → BeginsAt rack.before service.told rack.after service.began → P service → MountsAndThen rack sink status Unheard P
 
 -- What is known over every rack of what was done with a mounted array, from the slots before the mount to those at the end:
--- at 0 at most one disk of the array is absent; at 5 the last line names two different disks, of which the second has failed
--- since before the mount; and at 12 it tells 2^62 commits or writes, or more.
+-- at `status_done` at most one disk of the array is absent; at `status_two` the last line names two different disks, of which the second has failed
+-- since before the mount; and at `status_worn` it tells 2^62 commits or writes, or more.
 pub record IsEndOver (setup : Setup) (rack : RackUse) (sink : SinkUse) (status : ℕ) : Type 0 where
-  pub present : status ≡ 0 → IsNotDouble setup rack.new
-  pub two : status ≡ 5 → NamesTwoLost rack.old rack.new sink.written_before sink.written
-  pub worn : status ≡ 12 → TellsWear sink.written_before sink.written
+  pub present : status ≡ status_done → IsNotDouble setup rack.new
+  pub two : status ≡ status_two → NamesTwoLost rack.old rack.new sink.written_before sink.written
+  pub worn : status ≡ status_worn → TellsWear sink.written_before sink.written
 
 -- A run served a mounted array: its headline, by what was seen of the array from its mount to the end, when its slots were those
 -- that are handed back; and what is known of its end over every rack.
@@ -137,4 +138,4 @@ pub record ChecksArray (rack : RackUse) (sink : SinkUse) (status : ℕ) (service
   pub causes : HasCheckCauses (shown_served service.array) seen sink.written_before sink.written status
   pub last : seen.slot ≡ rack.new
   pub end : IsEndOver service.array.meta.setup rack sink status
-  pub found : status ≡ 13 → IsNotDouble service.array.meta.setup rack.new
+  pub found : status ≡ status_found → IsNotDouble service.array.meta.setup rack.new

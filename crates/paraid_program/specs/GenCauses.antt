@@ -9,6 +9,7 @@ use Rattle.paraid_machine.specs.Machine.{block_count}
 use Rattle.paraid_serve.specs.Causes.{HasCause, HaveCauses, Shown}
 use Rattle.paraid_serve.specs.Ending.{end_line, halt_line, status_of_halt}
 use Rattle.paraid_serve.specs.Output.{first_line}
+use Rattle.paraid_serve.specs.Statuses.{status_done, status_sink}
 use Rattle.paraid_program.specs.declared.tally.Tally.{Tally}
 use Rattle.paraid_program.specs.GenEvents.{generated_events, summary}
 use Rattle.paraid_program.specs.Tally.{empty_tally, tally_with_answer, tally_with_event}
@@ -36,16 +37,16 @@ pub record TellsGenerated (old : Shown) (number count : ℕ) (head rest : List �
 -- The whole text of `gen` by its status, with the cause of the flush at the end: what stands before the last line, and the last line.
 pub data GenCaused (old new : Shown) (number count : ℕ) : ℕ → List ℕ → List ℕ → Type 0 where
   done : (writes : ℕ) (head rest : List ℕ) (mid : Shown) → TellsGenerated old number count head rest mid → HasCause mid Flush (Flushed writes) new
-      → GenCaused old new number count 0 (head ++ rest) (end_line writes)
+      → GenCaused old new number count status_done (head ++ rest) (end_line writes)
   halted : (halt : Halt) (head rest : List ℕ) (mid : Shown) → TellsGenerated old number count head rest mid → HasCause mid Flush (Halted halt) new
       → GenCaused old new number count (status_of_halt halt) (head ++ rest) (halt_line halt)
 
--- What was written, with its causes: the whole text of the status; or at 4 one whose last line is cut, or the lines before it with a
+-- What was written, with its causes: the whole text of the status; or at `status_sink` one whose last line is cut, or the lines before it with a
 -- cut summary, and then nothing was flushed, or a first part of the first line, and then no event was made.
 pub data HasGenCauses (old new : Shown) (number count status : ℕ) (text : List ℕ) : Type 0 where
   whole : (front last : List ℕ) → GenCaused old new number count status front last → text ≡ front ++ last → HasGenCauses old new number count status text
-  last_line : status ≡ 4 → (code : ℕ) (front last : List ℕ) (n : ℕ) → GenCaused old new number count code front last → text ≡ front ++ take n last
+  last_line : status ≡ status_sink → (code : ℕ) (front last : List ℕ) (n : ℕ) → GenCaused old new number count code front last → text ≡ front ++ take n last
       → HasGenCauses old new number count status text
-  before_flush : status ≡ 4 → (head rest : List ℕ) (n : ℕ) → TellsGenerated old number count head rest new → text ≡ head ++ take n rest
+  before_flush : status ≡ status_sink → (head rest : List ℕ) (n : ℕ) → TellsGenerated old number count head rest new → text ≡ head ++ take n rest
       → HasGenCauses old new number count status text
-  at_first_line : status ≡ 4 → new ≡ old → (rest : List ℕ) → first_line old ≡ text ++ rest → HasGenCauses old new number count status text
+  at_first_line : status ≡ status_sink → new ≡ old → (rest : List ℕ) → first_line old ≡ text ++ rest → HasGenCauses old new number count status text

@@ -1,5 +1,5 @@
 -- What `gen` answers and writes.
-use Rattle.std.specs.Prelude.{◌≡◌, ℕ, ◌⊎◌, List, [], ◌∷◌, ◌++◌, Option, IsSome}
+use Rattle.std.specs.Prelude.{◌≡◌, ℕ, List, [], ◌∷◌, ◌++◌, Option, IsSome}
 use Rattle.paraid_base.specs.declared.event.Answer.{Answer}
 use Rattle.paraid_base.specs.declared.event.Answer.TheVariants.{Flushed, Halted}
 use Rattle.paraid_base.specs.declared.event.Event.{Event}
@@ -15,6 +15,7 @@ use Rattle.paraid_serve.specs.Ending.{end_line, halt_line, status_of_halt}
 use Rattle.paraid_serve.specs.Output.{IsLeftByStretch, begins_with}
 use Rattle.paraid_serve.specs.Stretch.{Span, Stretch, Turn, turn_with}
 use Rattle.paraid_serve.specs.Uses.{SinkUse}
+use Rattle.paraid_serve.specs.Statuses.{IsOneOf, status_done, status_sink, status_two, status_worn}
 use Rattle.paraid_session.specs.Turn.{Point}
 use Rattle.paraid_program.specs.GenCauses.{HasGenCauses}
 use Rattle.paraid_program.specs.GenEvents.{generated_events, summary}
@@ -22,7 +23,7 @@ use Rattle.paraid_program.specs.Tally.{empty_tally, tally_of}
 
 -- the statuses of `gen` on an array that is mounted
 abbrev pub IsGenStatus : ℕ → Type 0
-IsGenStatus status = (status ≡ 0) ⊎ (status ≡ 4) ⊎ (status ≡ 5) ⊎ (status ≡ 12)
+IsGenStatus status = IsOneOf (status_done ∷ status_sink ∷ status_two ∷ status_worn ∷ []) status
 
 -- so many lines of the trace of a number were answered
 abbrev pub AnswersGenerated : Span → Point → ℕ → ℕ → Type 0
@@ -43,19 +44,19 @@ first_lines p count turns end = begins_with p ++ summary count (tally_of empty_t
 -- The text of a call that met no fault of the sink, by its status.
 pub data GenOutput (span : Span) (p : Point) (number count : ℕ) : ℕ → List ℕ → Type 0 where
   done : (writes : ℕ) (e : Flushes span p number count (Flushed writes))
-      → GenOutput span p number count 0 (first_lines p count e.lines.turns e.lines.end ++ end_line writes)
+      → GenOutput span p number count status_done (first_lines p count e.lines.turns e.lines.end ++ end_line writes)
   halted : (halt : Halt) (e : Flushes span p number count (Halted halt))
       → GenOutput span p number count (status_of_halt halt) (first_lines p count e.lines.turns e.lines.end ++ halt_line halt)
 
--- What was written: the whole text of the status; or at 4 a first part of such a text, of the
+-- What was written: the whole text of the status; or at `status_sink` a first part of such a text, of the
 -- lines before the flush, or of the first line, and then no event was made.
 pub data GenWrote (span : Span) (p : Point) (number count status : ℕ) (text : List ℕ) : Type 0 where
   whole : GenOutput span p number count status text → GenWrote span p number count status text
-  last_line : status ≡ 4 → (code : ℕ) (full rest : List ℕ) → GenOutput span p number count code full → full ≡ text ++ rest
+  last_line : status ≡ status_sink → (code : ℕ) (full rest : List ℕ) → GenOutput span p number count code full → full ≡ text ++ rest
       → GenWrote span p number count status text
-  before_flush : status ≡ 4 → (c : AnswersGenerated span p number count) (rest : List ℕ) → first_lines p count c.turns c.end ≡ text ++ rest
+  before_flush : status ≡ status_sink → (c : AnswersGenerated span p number count) (rest : List ℕ) → first_lines p count c.turns c.end ≡ text ++ rest
       → GenWrote span p number count status text
-  first_line : status ≡ 4 → span.now ≡ span.start → (rest : List ℕ) → begins_with p ≡ text ++ rest → GenWrote span p number count status text
+  first_line : status ≡ status_sink → span.now ≡ span.start → (rest : List ℕ) → begins_with p ≡ text ++ rest → GenWrote span p number count status text
 
 -- What `gen` answers, and where it writes: so many lines of the trace of a number, and a sink.
 pub record GenStreams : Type 0 where

@@ -10,6 +10,7 @@ use Rattle.paraid_recover.specs.declared.format_fault.FormatFault.TheVariants.{A
 use Rattle.paraid_record.specs.declared.meta.Setup.{Setup}
 use Rattle.paraid_program.specs.declared.refusal.Refusal.{Refusal}
 use Rattle.paraid_program.specs.declared.refusal.Refusal.TheVariants.{Source, Config, Format}
+use Rattle.paraid_serve.specs.Statuses.{status_already_formatted, status_config, status_disk, status_no_memory, status_source}
 
 -- no array has this geometry
 abbrev pub geometry_line : GeoFault → List ℕ
@@ -37,17 +38,17 @@ refusal_line (Format (Disk disk)) = codes "disk " ++ decimal disk ++ codes "\n"
 
 -- the status where no array was made
 abbrev pub refusal_status : Refusal → ℕ
-refusal_status Source = 3
-refusal_status (Config NoMemory) = 7
-refusal_status (Config Long) = 8
-refusal_status (Config NotToml) = 8
-refusal_status (Config (Unknown at)) = 8
-refusal_status (Config (Missing key)) = 8
-refusal_status (Config (Kind key)) = 8
-refusal_status (Config (Range key value)) = 8
-refusal_status (Config (Geometry fault)) = 8
-refusal_status (Format (AlreadyFormatted epoch)) = 9
-refusal_status (Format (Disk disk)) = 11
+refusal_status Source = status_source
+refusal_status (Config NoMemory) = status_no_memory
+refusal_status (Config Long) = status_config
+refusal_status (Config NotToml) = status_config
+refusal_status (Config (Unknown at)) = status_config
+refusal_status (Config (Missing key)) = status_config
+refusal_status (Config (Kind key)) = status_config
+refusal_status (Config (Range key value)) = status_config
+refusal_status (Config (Geometry fault)) = status_config
+refusal_status (Format (AlreadyFormatted epoch)) = status_already_formatted
+refusal_status (Format (Disk disk)) = status_disk
 
 -- the number of blocks of a new array
 abbrev pub formatted_line : Setup → List ℕ

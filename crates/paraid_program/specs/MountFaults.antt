@@ -2,6 +2,7 @@
 use Rattle.std.specs.Prelude.{ℕ, List, ◌++◌, codes, decimal}
 use Rattle.paraid_recover.specs.declared.fault.MountFault.{MountFault}
 use Rattle.paraid_recover.specs.declared.fault.MountFault.TheVariants.{NotFormatted, BadLog, BadMeta, Size, Power, Two as TwoDown, Worn, NoMemory}
+use Rattle.paraid_serve.specs.Statuses.{status_no_memory, status_not_an_array, status_two, status_worn}
 
 -- why it was not
 abbrev pub mount_fault_line : MountFault → List ℕ
@@ -16,11 +17,11 @@ mount_fault_line NoMemory = codes "nomemory\n"
 
 -- the status of a mount that was refused
 abbrev pub mount_fault_status : MountFault → ℕ
-mount_fault_status NotFormatted = 6
-mount_fault_status (BadLog disk) = 6
-mount_fault_status (BadMeta disk) = 6
-mount_fault_status (Size disk found needed) = 6
-mount_fault_status (Power disk) = 6
-mount_fault_status (TwoDown two) = 5
-mount_fault_status (Worn count) = 12
-mount_fault_status NoMemory = 7
+mount_fault_status NotFormatted = status_not_an_array
+mount_fault_status (BadLog disk) = status_not_an_array
+mount_fault_status (BadMeta disk) = status_not_an_array
+mount_fault_status (Size disk found needed) = status_not_an_array
+mount_fault_status (Power disk) = status_not_an_array
+mount_fault_status (TwoDown two) = status_two
+mount_fault_status (Worn count) = status_worn
+mount_fault_status NoMemory = status_no_memory

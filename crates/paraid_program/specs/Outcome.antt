@@ -1,10 +1,11 @@
 -- How a format comes out, by its status.
-use Rattle.std.specs.Prelude.{◌≡◌, ◌≢◌, ℕ, ◌<◌, ◌≤◌, ◌⊎◌, ◌++◌, Bool, false, List, [], Some, None, codes, decimal}
+use Rattle.std.specs.Prelude.{◌≡◌, ◌≢◌, ℕ, ◌<◌, ◌≤◌, ◌++◌, Bool, false, List, [], Some, None, codes, decimal}
 use Rattle.paraid_base.specs.Regions.{disk_size}
 use Rattle.paraid_config.specs.declared.fault.ConfigFault.{ConfigFault}
 use Rattle.paraid_config.specs.declared.fault.ConfigFault.TheVariants.{NoMemory}
 use Rattle.paraid_serve.specs.Ending.{EndsWithLine}
 use Rattle.paraid_serve.specs.Uses.{RackUse, SinkUse, SourceUse}
+use Rattle.paraid_serve.specs.Statuses.{IsOneOf, status_already_formatted, status_config, status_disk, status_done, status_no_memory, status_sink, status_source}
 use Rattle.paraid_recover.specs.Attached.{fresh_slot}
 use Rattle.paraid_recover.specs.Calls.{AreFormatCalls}
 use Rattle.paraid_recover.specs.First.{first_meta}
@@ -62,21 +63,21 @@ pub record IsArrayUnmade (force : Bool) (rack : RackUse) (setup : Setup) (fault 
 pub data FormatOutcome (force : Bool) (rack : RackUse) (source : SourceUse) : ℕ → List ℕ → Type 0 where
   -- the source gave its end, and the array that it describes was made
   done : (setup : Setup) → IsConfigured source setup → IsArrayMade force rack setup
-      → FormatOutcome force rack source 0 (formatted_line setup)
+      → FormatOutcome force rack source status_done (formatted_line setup)
   source_failed : IsUnread source Source → IsUntouched rack
-      → FormatOutcome force rack source 3 (codes "source\n")
+      → FormatOutcome force rack source status_source (codes "source\n")
   no_memory : IsUnread source (Config NoMemory) → IsUntouched rack
-      → FormatOutcome force rack source 7 (codes "nomemory\n")
+      → FormatOutcome force rack source status_no_memory (codes "nomemory\n")
   config : (fault : ConfigFault) → fault ≢ NoMemory → IsUnread source (Config fault) → IsUntouched rack
-      → FormatOutcome force rack source 8 (config_line fault)
+      → FormatOutcome force rack source status_config (config_line fault)
   -- a log disk belongs to an array, and only reads were made
   already : (setup : Setup) (epoch : ℕ) → IsConfigured source setup → IsArrayUnmade force rack setup (AlreadyFormatted epoch)
-      → FormatOutcome force rack source 9 (codes "already " ++ decimal epoch ++ codes "\n")
+      → FormatOutcome force rack source status_already_formatted (codes "already " ++ decimal epoch ++ codes "\n")
   -- the disk has failed; or it is the number of slots, the array needs more, and only reads were made
   disk : (setup : Setup) (d : ℕ) → IsConfigured source setup → IsArrayUnmade force rack setup (Disk d)
-      → FormatOutcome force rack source 11 (codes "disk " ++ decimal d ++ codes "\n")
+      → FormatOutcome force rack source status_disk (codes "disk " ++ decimal d ++ codes "\n")
 
--- A format came out so, and its line was told; at 4 only a first part of it was.
+-- A format came out so, and its line was told; at `status_sink` only a first part of it was.
 pub record Formats (force : Bool) (rack : RackUse) (source : SourceUse) (sink : SinkUse) (status : ℕ) : Type 0 where
   pub code : ℕ
   pub line : List ℕ
@@ -93,4 +94,4 @@ IsRefusalCause force rack source (Format fault) =
 
 -- the statuses of a format
 abbrev pub IsFormatStatus : ℕ → Type 0
-IsFormatStatus status = (status ≡ 0) ⊎ (status ≡ 3) ⊎ (status ≡ 4) ⊎ (status ≡ 7) ⊎ (status ≡ 8) ⊎ (status ≡ 9) ⊎ (status ≡ 11)
+IsFormatStatus status = IsOneOf (status_done ∷ status_source ∷ status_sink ∷ status_no_memory ∷ status_config ∷ status_already_formatted ∷ status_disk ∷ []) status

@@ -10,6 +10,7 @@ use Rattle.paraid_recover.specs.StartRefusals.{refusal_by_fault}
 use Rattle.paraid_recover.specs.declared.fault.MountFault.{MountFault}
 use Rattle.paraid_serve.specs.Ending.{EndsWithLine, mount_line}
 use Rattle.paraid_serve.specs.Uses.{RackUse, SinkUse, SourceUse}
+use Rattle.paraid_serve.specs.Statuses.{status_demand, status_done, status_no_memory, status_source, status_too_long}
 use Rattle.paraid_session.specs.Mount.{IsRefusedFromEach}
 use Rattle.paraid_program.specs.Ends.{IsUnheard}
 use Rattle.paraid_program.specs.MountFaults.{mount_fault_line, mount_fault_status}
@@ -17,18 +18,18 @@ use Rattle.paraid_program.specs.Showing.{BeganAt, IsServedBy}
 
 -- the status where there is no plan
 abbrev pub unplanned_status : Unplanned → ℕ
-unplanned_status Source = 3
-unplanned_status TooLong = 10
-unplanned_status NoMemory = 7
-unplanned_status (Demand at) = 15
+unplanned_status Source = status_source
+unplanned_status TooLong = status_too_long
+unplanned_status NoMemory = status_no_memory
+unplanned_status (Demand at) = status_demand
 
 -- What was told of a demand and an array with this meta, by the status: the lines of its plan, or why there is none.
 pub data PlanLines (meta : Meta) (ups : ℕ) (source : SourceUse) : ℕ → List ℕ → Type 0 where
-  planned : (text : List ℕ) → IsPlanned source.left_before source.left meta.setup ups text → PlanLines meta ups source 0 (mount_line meta.writes meta.gear ++ text)
+  planned : (text : List ℕ) → IsPlanned source.left_before source.left meta.setup ups text → PlanLines meta ups source status_done (mount_line meta.writes meta.gear ++ text)
   unplanned : (cause : Unplanned) → IsUnplanned source.left_before source.left source.faults_before source.faults cause
       → PlanLines meta ups source (unplanned_status cause) (mount_line meta.writes meta.gear ++ unplanned_line cause)
 
--- The lines were told; at 4 only a first part of them was.
+-- The lines were told; at `status_sink` only a first part of them was.
 pub record TellsPlan (meta : Meta) (ups : ℕ) (source : SourceUse) (sink : SinkUse) (status : ℕ) : Type 0 where
   pub code : ℕ
   pub lines : List ℕ

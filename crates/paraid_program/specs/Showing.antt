@@ -2,6 +2,7 @@
 use Rattle.std.specs.Prelude.{◌≡◌, ℕ, Bool, List, Option, Some}
 use Rattle.paraid_serve.specs.Ending.{EndsWithLine}
 use Rattle.paraid_serve.specs.Uses.{RackUse, SinkUse}
+use Rattle.paraid_serve.specs.Statuses.{status_done}
 use Rattle.paraid_recover.specs.declared.fault.MountFault.{MountFault}
 use Rattle.paraid_rack.specs.Trail.{Trail, moments}
 use Rattle.paraid_record.specs.declared.meta.Meta.{Meta}
@@ -33,12 +34,12 @@ pub record IsServedBy (rack : RackUse) (meta : Meta) (dirty : ℕ → ℕ → Bo
 -- that was refused is one that a session allows to be refused so.
 pub data ShowOutcome (rack : RackUse) : ℕ → List ℕ → Type 0 where
   shown : (meta : Meta) (dirty : ℕ → ℕ → Bool) → IsServedBy rack meta dirty
-      → ShowOutcome rack 0 (status_lines meta dirty)
+      → ShowOutcome rack status_done (status_lines meta dirty)
   refused : (fault : MountFault) → IsCauseOfRefusal rack.slots rack.old rack.new rack.before rack.after fault
       → ((began : ℕ) → BeganAt rack.before began → IsRefusedFromEach rack.slots began rack.after (refusal_by_fault fault))
       → ShowOutcome rack (mount_fault_status fault) (mount_fault_line fault)
 
--- The command came out so, and its lines were told; at 4 only a first part of them was.
+-- The command came out so, and its lines were told; at `status_sink` only a first part of them was.
 pub record Shows (rack : RackUse) (sink : SinkUse) (status : ℕ) : Type 0 where
   pub code : ℕ
   pub lines : List ℕ

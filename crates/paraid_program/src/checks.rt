@@ -1,6 +1,5 @@
 //! The word `check`.
-ghost use Rattle.std.specs.Prelude.{◌≡◌, ◌≢◌, ℕ, [], ◌∷◌};
-ghost use Rattle.paraid_program.specs.Statuses.{IsOneOf};
+ghost use Rattle.std.specs.Prelude.{◌≡◌, ◌≢◌, ℕ};
 ghost use Rattle.paraid_base.specs.Told.{HasRisen};
 ghost use Rattle.paraid_recover.specs.Calls.{OnlyReads};
 ghost use Rattle.paraid_rack.specs.Told.{Extends};
@@ -12,6 +11,8 @@ ghost use Rattle.paraid_program.specs.Ends.{ChecksArray, CountsArray, MountsAndT
 ghost use Rattle.paraid_program.specs.Racks.{rack_use};
 ghost use Rattle.paraid_serve.specs.Streams.{sink_use};
 ghost use Rattle.paraid_serve.specs.Stretch.{span_of};
+ghost use Rattle.paraid_program.specs.Statuses.{check_statuses, checked_statuses};
+ghost use Rattle.paraid_serve.specs.Statuses.{IsOneOf, status_done, status_found, status_sink, status_two, status_worn};
 
 use crate::fault::tell_refusal;
 use crate::outside::{Ended, Outside};
@@ -42,14 +43,14 @@ fn tell_counts<K: Sink, R: Rack, A: Serves, O: Outside<R, A>>(
     ensures told { Extends (A.told array.old) (A.told array.new) }
     ensures reads { OnlyReads (A.told array.old) (A.told array.new) }
     ensures slots { A.slots array.new ≡ A.slots array.old }
-    ensures status { IsOneOf (0 ∷ 4 ∷ 5 ∷ 12 ∷ 13 ∷ []) result }
-    ensures present { result ≡ 0 → IsNotDouble (A.setup array.old) (A.slot array.new) }
-    ensures found { result ≡ 13 → IsNotDouble (A.setup array.old) (A.slot array.new) }
-    ensures two { result ≡ 5 → NamesTwoLost (A.slot array.old) (A.slot array.new)
+    ensures status { IsOneOf checked_statuses result }
+    ensures present { result ≡ status_done → IsNotDouble (A.setup array.old) (A.slot array.new) }
+    ensures found { result ≡ status_found → IsNotDouble (A.setup array.old) (A.slot array.new) }
+    ensures two { result ≡ status_two → NamesTwoLost (A.slot array.old) (A.slot array.new)
         (K.written sink.old) (K.written sink.new) }
-    ensures worn { result ≡ 12 → TellsWear (K.written sink.old) (K.written sink.new) }
-    ensures sink { result ≡ 4 → HasRisen (K.faults sink.old) (K.faults sink.new) }
-    ensures still { result ≢ 4 → K.faults sink.new ≡ K.faults sink.old }
+    ensures worn { result ≡ status_worn → TellsWear (K.written sink.old) (K.written sink.new) }
+    ensures sink { result ≡ status_sink → HasRisen (K.faults sink.old) (K.faults sink.new) }
+    ensures still { result ≢ status_sink → K.faults sink.new ≡ K.faults sink.old }
 {
     let mut text = Text::new();
     match outside.check(array) {
@@ -75,9 +76,9 @@ pub fn check<K: Sink, R: Rack, A: Serves, O: Outside<R, A>>(
         (ChecksArray (rack_use R.slot_count R.slot R.told rack result.rack)
         (sink_use K.written K.faults sink.old sink.new) result.status) }
     ensures slots { R.slot_count result.rack ≡ R.slot_count rack }
-    ensures status { IsOneOf (0 ∷ 4 ∷ 5 ∷ 6 ∷ 7 ∷ 12 ∷ 13 ∷ []) result.status }
-    ensures sink { result.status ≡ 4 → HasRisen (K.faults sink.old) (K.faults sink.new) }
-    ensures still { result.status ≢ 4 → K.faults sink.new ≡ K.faults sink.old }
+    ensures status { IsOneOf check_statuses result.status }
+    ensures sink { result.status ≡ status_sink → HasRisen (K.faults sink.old) (K.faults sink.new) }
+    ensures still { result.status ≢ status_sink → K.faults sink.new ≡ K.faults sink.old }
 {
     match outside.mount(rack) {
         Ok(mut array) => {

@@ -1,10 +1,11 @@
 //! The word `nbd`.
-ghost use Rattle.std.specs.Prelude.{◌≡◌, [], ◌∷◌};
-ghost use Rattle.paraid_program.specs.Statuses.{IsOneOf};
+ghost use Rattle.std.specs.Prelude.{◌≡◌};
 ghost use Rattle.paraid_base.specs.Told.{HasRisen};
 ghost use Rattle.paraid_program.specs.Clients.{ServesNbdOrNot};
 ghost use Rattle.paraid_program.specs.Racks.{rack_use};
 ghost use Rattle.paraid_serve.specs.Streams.{EndsAtFaults, sink_use, source_use};
+ghost use Rattle.paraid_program.specs.Statuses.{nbd_statuses};
+ghost use Rattle.paraid_serve.specs.Statuses.{IsOneOf, status_sink, status_source};
 
 use crate::fault::mount_fault_status;
 use crate::outside::{Ended, Outside};
@@ -27,9 +28,10 @@ pub fn nbd<S: Source, K: Sink, R: Rack, A: Serves, O: Outside<R, A>>(
         (source_use S.left S.faults source.old source.new)
         (sink_use K.written K.faults sink.old sink.new) result.status }
     ensures slots { R.slot_count result.rack ≡ R.slot_count rack }
-    ensures status { IsOneOf (0 ∷ 3 ∷ 4 ∷ 5 ∷ 6 ∷ 7 ∷ 10 ∷ 12 ∷ 14 ∷ []) result.status }
-    ensures source { result.status ≡ 3 → HasRisen (S.faults source.old) (S.faults source.new) }
-    ensures sink { result.status ≡ 4 → HasRisen (K.faults sink.old) (K.faults sink.new) }
+    ensures status { IsOneOf nbd_statuses result.status }
+    ensures source { result.status ≡ status_source
+        → HasRisen (S.faults source.old) (S.faults source.new) }
+    ensures sink { result.status ≡ status_sink → HasRisen (K.faults sink.old) (K.faults sink.new) }
     ensures unhurt { EndsAtFaults (source_use S.left S.faults source.old source.new)
         (sink_use K.written K.faults sink.old sink.new) result.status }
 {

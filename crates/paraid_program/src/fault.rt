@@ -2,6 +2,7 @@
 ghost use Rattle.std.specs.Prelude.{◌≡◌, ◌≢◌, ◌≤◌, [], ◌++◌, length, codes, decimal};
 ghost use Rattle.paraid_base.specs.Told.{HasRisen};
 ghost use Rattle.paraid_serve.specs.Ending.{EndsWithLine};
+ghost use Rattle.paraid_serve.specs.Statuses.{status_sink};
 ghost use Rattle.paraid_program.specs.MountFaults.{mount_fault_line, mount_fault_status as mount_fault_status_of};
 
 use paraid_base::Two;
@@ -75,8 +76,8 @@ pub fn mount_fault_status(fault: MountFault) -> u8
 pub(crate) fn tell_refusal<K: Sink>(sink: &mut K, fault: MountFault) -> u8
     ensures tells { EndsWithLine (K.written sink.old) (K.written sink.new) (mount_fault_line fault)
         (mount_fault_status_of fault) result }
-    ensures sink { result ≡ 4 → HasRisen (K.faults sink.old) (K.faults sink.new) }
-    ensures still { result ≢ 4 → K.faults sink.new ≡ K.faults sink.old }
+    ensures sink { result ≡ status_sink → HasRisen (K.faults sink.old) (K.faults sink.new) }
+    ensures still { result ≢ status_sink → K.faults sink.new ≡ K.faults sink.old }
 {
     let mut text = Text::new();
     mount_fault_text(&mut text, fault);

@@ -5,6 +5,7 @@ ghost use Rattle.paraid_program.specs.Outcome.{Formats, IsRefusalCause, IsFormat
 ghost use Rattle.paraid_program.specs.Reading.{IsConfigured};
 ghost use Rattle.paraid_program.specs.Racks.{rack_use};
 ghost use Rattle.paraid_serve.specs.Streams.{EndsAtFaults, sink_use, source_use};
+ghost use Rattle.paraid_serve.specs.Statuses.{status_done, status_sink, status_source};
 
 use crate::Refusal;
 use crate::format_text::{formatted_text, refusal_status, refusal_text};
@@ -63,9 +64,9 @@ pub fn format_array<S: Source, K: Sink, R: Rack>(
         (sink_use K.written K.faults sink.old sink.new) result }
     ensures slots { R.slot_count rack.new ≡ R.slot_count rack.old }
     ensures status { IsFormatStatus result }
-    ensures end { result ≡ 0 → AtEnd (S.left source.new) }
-    ensures source { result ≡ 3 → HasRisen (S.faults source.old) (S.faults source.new) }
-    ensures sink { result ≡ 4 → HasRisen (K.faults sink.old) (K.faults sink.new) }
+    ensures end { result ≡ status_done → AtEnd (S.left source.new) }
+    ensures source { result ≡ status_source → HasRisen (S.faults source.old) (S.faults source.new) }
+    ensures sink { result ≡ status_sink → HasRisen (K.faults sink.old) (K.faults sink.new) }
     ensures unhurt { EndsAtFaults (source_use S.left S.faults source.old source.new)
         (sink_use K.written K.faults sink.old sink.new) result }
 {

@@ -12,6 +12,7 @@ ghost use Rattle.paraid_program.specs.Generating.{GenHeadline, GenRun, IsGenStat
 ghost use Rattle.paraid_program.specs.CountedLines.{CountsLines};
 ghost use Rattle.paraid_serve.specs.Streams.{sink_use};
 ghost use Rattle.paraid_serve.specs.Stretch.{span_of};
+ghost use Rattle.paraid_serve.specs.Statuses.{status_done, status_sink, status_two, status_worn};
 
 use crate::lines::summary_text;
 use crate::tally::Tally;
@@ -70,12 +71,12 @@ pub fn serve_generated<K: Sink, A: Serves>(
     ensures told { Extends (A.told array.old) (A.told array.new) }
     ensures slots { A.slots array.new ≡ A.slots array.old }
     ensures status { IsGenStatus result }
-    ensures present { result ≡ 0 → IsNotDouble (A.setup array.old) (A.slot array.new) }
-    ensures two { result ≡ 5 → NamesTwoLost (A.slot array.old) (A.slot array.new)
+    ensures present { result ≡ status_done → IsNotDouble (A.setup array.old) (A.slot array.new) }
+    ensures two { result ≡ status_two → NamesTwoLost (A.slot array.old) (A.slot array.new)
         (K.written sink.old) (K.written sink.new) }
-    ensures worn { result ≡ 12 → TellsWear (K.written sink.old) (K.written sink.new) }
-    ensures sink { result ≡ 4 → HasRisen (K.faults sink.old) (K.faults sink.new) }
-    ensures still { result ≢ 4 → K.faults sink.new ≡ K.faults sink.old }
+    ensures worn { result ≡ status_worn → TellsWear (K.written sink.old) (K.written sink.new) }
+    ensures sink { result ≡ status_sink → HasRisen (K.faults sink.old) (K.faults sink.new) }
+    ensures still { result ≢ status_sink → K.faults sink.new ≡ K.faults sink.old }
 {
     let mut text = Text::new();
     mount_text(&mut text, array.writes(), array.gear());
@@ -119,12 +120,12 @@ pub fn serve_generated_mounted<K: Sink, A: Serves>(
     ensures told { Extends (A.told array.old) (A.told array.new) }
     ensures slots { A.slots array.new ≡ A.slots array.old }
     ensures status { IsGenStatus result }
-    ensures present { result ≡ 0 → IsNotDouble (A.setup array.old) (A.slot array.new) }
-    ensures two { result ≡ 5 → NamesTwoLost (A.slot array.old) (A.slot array.new)
+    ensures present { result ≡ status_done → IsNotDouble (A.setup array.old) (A.slot array.new) }
+    ensures two { result ≡ status_two → NamesTwoLost (A.slot array.old) (A.slot array.new)
         (K.written sink.old) (K.written sink.new) }
-    ensures worn { result ≡ 12 → TellsWear (K.written sink.old) (K.written sink.new) }
-    ensures sink { result ≡ 4 → HasRisen (K.faults sink.old) (K.faults sink.new) }
-    ensures still { result ≢ 4 → K.faults sink.new ≡ K.faults sink.old }
+    ensures worn { result ≡ status_worn → TellsWear (K.written sink.old) (K.written sink.new) }
+    ensures sink { result ≡ status_sink → HasRisen (K.faults sink.old) (K.faults sink.new) }
+    ensures still { result ≢ status_sink → K.faults sink.new ≡ K.faults sink.old }
 {
     serve_generated(sink, array, number, lines)
 }

@@ -1,11 +1,12 @@
 //! The command `plan`: mounts an array, reads a demand, and tells the schedule of gears that costs least; or why there is none.
-ghost use Rattle.std.specs.Prelude.{◌≡◌, ◌≢◌, ◌≤◌, ◌++◌, [], ◌∷◌};
-ghost use Rattle.paraid_program.specs.Statuses.{IsOneOf};
+ghost use Rattle.std.specs.Prelude.{◌≡◌, ◌≢◌, ◌≤◌, ◌++◌};
 ghost use Rattle.paraid_base.specs.Told.{AtEnd, HasRisen};
 ghost use Rattle.paraid_serve.specs.Ending.{EndsWithLine};
 ghost use Rattle.paraid_program.specs.Planning.{PlanOutcome, TellsPlan, unplanned_status as unplanned_status_of};
 ghost use Rattle.paraid_program.specs.Racks.{rack_use};
 ghost use Rattle.paraid_serve.specs.Streams.{EndsAtFaults, sink_use, source_use};
+ghost use Rattle.paraid_program.specs.Statuses.{plan_statuses, planned_statuses};
+ghost use Rattle.paraid_serve.specs.Statuses.{IsOneOf, status_done, status_sink, status_source};
 
 use crate::fault::tell_refusal;
 use crate::outside::Ended;
@@ -19,9 +20,6 @@ use paraid_serve::status;
 use paraid_trace::Text;
 use std::alloc::Global;
 
-/// A line of the source is none of a demand.
-const DEMAND: u8 = 15;
-
 fn unplanned_status(cause: Unplanned) -> u8
     ensures { result ≡ unplanned_status_of cause }
 {
@@ -29,7 +27,7 @@ fn unplanned_status(cause: Unplanned) -> u8
         Unplanned::Source => status::SOURCE,
         Unplanned::TooLong => status::TOO_LONG,
         Unplanned::NoMemory => status::NO_MEMORY,
-        Unplanned::Demand { .. } => DEMAND,
+        Unplanned::Demand { .. } => status::DEMAND,
     }
 }
 
@@ -38,8 +36,8 @@ fn tell_lines<K: Sink>(sink: &mut K, first: &[u8], lines: &[u8], status: u8) -> 
     ensures ends { EndsWithLine (K.written sink.old) (K.written sink.new) (first.now ++ lines.now)
         status result }
     ensures cause { result ≢ status
-        → (result ≡ 4) × HasRisen (K.faults sink.old) (K.faults sink.new) }
-    ensures still { result ≢ 4 → K.faults sink.new ≡ K.faults sink.old }
+        → (result ≡ status_sink) × HasRisen (K.faults sink.old) (K.faults sink.new) }
+    ensures still { result ≢ status_sink → K.faults sink.new ≡ K.faults sink.old }
 {
     let Ok(()) = write_all(sink, first) else {
         return status::SINK;
@@ -58,8 +56,8 @@ fn tell_plan<S: Source, K: Sink>(
     requires few { ups ≤ 256 }
     ensures told { TellsPlan meta.now ups (source_use S.left S.faults source.old source.new)
         (sink_use K.written K.faults sink.old sink.new) result }
-    ensures status { IsOneOf (0 ∷ 3 ∷ 4 ∷ 7 ∷ 10 ∷ 15 ∷ []) result }
-    ensures sink { result ≡ 4 → HasRisen (K.faults sink.old) (K.faults sink.new) }
+    ensures status { IsOneOf planned_statuses result }
+    ensures sink { result ≡ status_sink → HasRisen (K.faults sink.old) (K.faults sink.new) }
     ensures unhurt { EndsAtFaults (source_use S.left S.faults source.old source.new)
         (sink_use K.written K.faults sink.old sink.new) result }
 {
@@ -98,10 +96,11 @@ pub fn show_plan<S: Source, K: Sink, R: Rack>(
         (source_use S.left S.faults source.old source.new)
         (sink_use K.written K.faults sink.old sink.new) ups result.status }
     ensures slots { R.slot_count result.rack ≡ R.slot_count rack }
-    ensures status { IsOneOf (0 ∷ 3 ∷ 4 ∷ 5 ∷ 6 ∷ 7 ∷ 10 ∷ 12 ∷ 15 ∷ []) result.status }
-    ensures end { result.status ≡ 0 → AtEnd (S.left source.new) }
-    ensures source { result.status ≡ 3 → HasRisen (S.faults source.old) (S.faults source.new) }
-    ensures sink { result.status ≡ 4 → HasRisen (K.faults sink.old) (K.faults sink.new) }
+    ensures status { IsOneOf plan_statuses result.status }
+    ensures end { result.status ≡ status_done → AtEnd (S.left source.new) }
+    ensures source { result.status ≡ status_source
+        → HasRisen (S.faults source.old) (S.faults source.new) }
+    ensures sink { result.status ≡ status_sink → HasRisen (K.faults sink.old) (K.faults sink.new) }
     ensures unhurt { EndsAtFaults (source_use S.left S.faults source.old source.new)
         (sink_use K.written K.faults sink.old sink.new) result.status }
 {

@@ -33,6 +33,6 @@ pub fn check_status(report: &CheckReport) -> u8
     if rows + units + u64::from(report.mirrors) == 0 {
         status::DONE
     } else {
-        13
+        status::FOUND
     }
 }

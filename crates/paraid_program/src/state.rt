@@ -3,6 +3,7 @@ ghost use Rattle.std.specs.Prelude.{◌≡◌, ◌≢◌, ◌≤◌, length};
 ghost use Rattle.paraid_base.specs.Told.{HasRisen};
 ghost use Rattle.paraid_dirty.specs.Table.{is_dirty};
 ghost use Rattle.paraid_serve.specs.Ending.{EndsWithLine};
+ghost use Rattle.paraid_serve.specs.Statuses.{status_done, status_sink};
 ghost use Rattle.paraid_record.specs.Range.{IsInRange};
 ghost use Rattle.paraid_program.specs.States.{shown_status, status_lines};
 
@@ -38,9 +39,9 @@ pub fn tell_state<K: Sink>(sink: &mut K, meta: &Meta, table: &DirtyTable) -> u8
     requires range { IsInRange meta.now }
     requires rows { length table.now ≡ meta.now.setup.geometry.rows }
     ensures tells { EndsWithLine (K.written sink.old) (K.written sink.new)
-        (status_lines meta.now (is_dirty table.now)) 0 result }
-    ensures sink { result ≡ 4 → HasRisen (K.faults sink.old) (K.faults sink.new) }
-    ensures still { result ≢ 4 → K.faults sink.new ≡ K.faults sink.old }
+        (status_lines meta.now (is_dirty table.now)) status_done result }
+    ensures sink { result ≡ status_sink → HasRisen (K.faults sink.old) (K.faults sink.new) }
+    ensures still { result ≢ status_sink → K.faults sink.new ≡ K.faults sink.old }
     ensures later { K.faults sink.old ≤ K.faults sink.new }
 {
     let mut line = Text::new();

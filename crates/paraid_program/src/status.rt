@@ -1,10 +1,11 @@
 //! The command `status`: mounts an array and tells its state in two lines, or why it was not mounted.
-ghost use Rattle.std.specs.Prelude.{◌≡◌, ◌≢◌, [], ◌∷◌};
-ghost use Rattle.paraid_program.specs.Statuses.{IsOneOf};
+ghost use Rattle.std.specs.Prelude.{◌≡◌, ◌≢◌};
 ghost use Rattle.paraid_base.specs.Told.{HasRisen};
 ghost use Rattle.paraid_program.specs.Showing.{Shows};
 ghost use Rattle.paraid_program.specs.Racks.{rack_use};
 ghost use Rattle.paraid_serve.specs.Streams.{sink_use};
+ghost use Rattle.paraid_program.specs.Statuses.{show_statuses};
+ghost use Rattle.paraid_serve.specs.Statuses.{IsOneOf, status_sink};
 
 use crate::fault::tell_refusal;
 use crate::outside::Ended;
@@ -22,9 +23,9 @@ pub fn show_state<K: Sink, R: Rack>(alloc: Global, sink: &mut K, rack: R) -> End
     ensures shows { Shows (rack_use R.slot_count R.slot R.told rack result.rack)
         (sink_use K.written K.faults sink.old sink.new) result.status }
     ensures slots { R.slot_count result.rack ≡ R.slot_count rack }
-    ensures status { IsOneOf (0 ∷ 4 ∷ 5 ∷ 6 ∷ 7 ∷ 12 ∷ []) result.status }
-    ensures sink { result.status ≡ 4 → HasRisen (K.faults sink.old) (K.faults sink.new) }
-    ensures still { result.status ≢ 4 → K.faults sink.new ≡ K.faults sink.old }
+    ensures status { IsOneOf show_statuses result.status }
+    ensures sink { result.status ≡ status_sink → HasRisen (K.faults sink.old) (K.faults sink.new) }
+    ensures still { result.status ≢ status_sink → K.faults sink.new ≡ K.faults sink.old }
 {
     match mount(alloc, rack) {
         Ok(

@@ -1,6 +1,5 @@
 //! What the words ask for is done, or the usage is told where they ask for nothing.
-ghost use Rattle.std.specs.Prelude.{◌≡◌, ◌≢◌, ◌≤◌, map, string_bytes, [], ◌∷◌};
-ghost use Rattle.paraid_program.specs.Statuses.{IsOneOf};
+ghost use Rattle.std.specs.Prelude.{◌≡◌, ◌≢◌, ◌≤◌, map, string_bytes};
 ghost use Rattle.paraid_base.specs.Told.{AtEnd, HasRisen};
 ghost use Rattle.paraid_serve.specs.Ending.{EndsWithLine};
 ghost use Rattle.paraid_program.specs.Clients.{ServesNbdOrNot};
@@ -14,6 +13,8 @@ ghost use Rattle.paraid_program.specs.CommandDoes.{DoesCommand, ReadsSource, Tak
 ghost use Rattle.paraid_words.specs.declared.command.Command.{Command as CommandType};
 ghost use Rattle.paraid_program.specs.Racks.{rack_use};
 ghost use Rattle.paraid_serve.specs.Streams.{EndsAtFaults, sink_use, source_use};
+ghost use Rattle.paraid_program.specs.Statuses.{check_statuses, gen_statuses, nbd_statuses, run_statuses};
+ghost use Rattle.paraid_serve.specs.Statuses.{IsOneOf, status_done, status_sink, status_source, status_words};
 ghost use Rattle.paraid_sparing.specs.Session.{fresh_stock};
 
 use crate::arrays::Arrays;
@@ -43,9 +44,10 @@ fn format<S: Source, K: Sink, R: Rack>(
         (sink_use K.written K.faults sink.old sink.new) result.status }
     ensures slots { R.slot_count result.rack ≡ R.slot_count rack }
     ensures status { IsFormatStatus result.status }
-    ensures end { result.status ≡ 0 → AtEnd (S.left source.new) }
-    ensures source { result.status ≡ 3 → HasRisen (S.faults source.old) (S.faults source.new) }
-    ensures sink { result.status ≡ 4 → HasRisen (K.faults sink.old) (K.faults sink.new) }
+    ensures end { result.status ≡ status_done → AtEnd (S.left source.new) }
+    ensures source { result.status ≡ status_source
+        → HasRisen (S.faults source.old) (S.faults source.new) }
+    ensures sink { result.status ≡ status_sink → HasRisen (K.faults sink.old) (K.faults sink.new) }
     ensures unhurt { EndsAtFaults (source_use S.left S.faults source.old source.new)
         (sink_use K.written K.faults sink.old sink.new) result.status }
 {
@@ -67,10 +69,11 @@ fn run<S: Source, K: Sink, R: Rack>(
         (source_use S.left S.faults source.old source.new)
         (sink_use K.written K.faults sink.old sink.new) result.status) }
     ensures slots { R.slot_count result.rack ≡ R.slot_count rack }
-    ensures status { IsOneOf (0 ∷ 3 ∷ 4 ∷ 5 ∷ 6 ∷ 7 ∷ 10 ∷ 12 ∷ []) result.status }
-    ensures end { result.status ≡ 0 → AtEnd (S.left source.new) }
-    ensures source { result.status ≡ 3 → HasRisen (S.faults source.old) (S.faults source.new) }
-    ensures sink { result.status ≡ 4 → HasRisen (K.faults sink.old) (K.faults sink.new) }
+    ensures status { IsOneOf run_statuses result.status }
+    ensures end { result.status ≡ status_done → AtEnd (S.left source.new) }
+    ensures source { result.status ≡ status_source
+        → HasRisen (S.faults source.old) (S.faults source.new) }
+    ensures sink { result.status ≡ status_sink → HasRisen (K.faults sink.old) (K.faults sink.new) }
     ensures unhurt { EndsAtFaults (source_use S.left S.faults source.old source.new)
         (sink_use K.written K.faults sink.old sink.new) result.status }
 {
@@ -95,10 +98,11 @@ fn run_with_spares<S: Source, K: Sink, R: Rack>(
         (sink_use K.written K.faults sink.old sink.new)
         (record { wait = wait; stock = fresh_stock stock }) result.status) }
     ensures slots { R.slot_count result.rack ≡ R.slot_count rack }
-    ensures status { IsOneOf (0 ∷ 3 ∷ 4 ∷ 5 ∷ 6 ∷ 7 ∷ 10 ∷ 12 ∷ []) result.status }
-    ensures end { result.status ≡ 0 → AtEnd (S.left source.new) }
-    ensures source { result.status ≡ 3 → HasRisen (S.faults source.old) (S.faults source.new) }
-    ensures sink { result.status ≡ 4 → HasRisen (K.faults sink.old) (K.faults sink.new) }
+    ensures status { IsOneOf run_statuses result.status }
+    ensures end { result.status ≡ status_done → AtEnd (S.left source.new) }
+    ensures source { result.status ≡ status_source
+        → HasRisen (S.faults source.old) (S.faults source.new) }
+    ensures sink { result.status ≡ status_sink → HasRisen (K.faults sink.old) (K.faults sink.new) }
     ensures unhurt { EndsAtFaults (source_use S.left S.faults source.old source.new)
         (sink_use K.written K.faults sink.old sink.new) result.status }
 {
@@ -120,9 +124,9 @@ fn generate<K: Sink, R: Rack>(
         (ServesGenerated (rack_use R.slot_count R.slot R.told rack result.rack)
         (record { number = number; count = lines; sink = (sink_use K.written K.faults sink.old sink.new) }) result.status) }
     ensures slots { R.slot_count result.rack ≡ R.slot_count rack }
-    ensures status { IsOneOf (0 ∷ 4 ∷ 5 ∷ 6 ∷ 7 ∷ 12 ∷ []) result.status }
-    ensures sink { result.status ≡ 4 → HasRisen (K.faults sink.old) (K.faults sink.new) }
-    ensures still { result.status ≢ 4 → K.faults sink.new ≡ K.faults sink.old }
+    ensures status { IsOneOf gen_statuses result.status }
+    ensures sink { result.status ≡ status_sink → HasRisen (K.faults sink.old) (K.faults sink.new) }
+    ensures still { result.status ≢ status_sink → K.faults sink.new ≡ K.faults sink.old }
 {
     let arrays = Arrays::new(alloc);
     generated::generate::<K, R, Array<R>, Arrays>(&arrays, sink, rack, number, lines)
@@ -135,9 +139,9 @@ fn check<K: Sink, R: Rack>(alloc: Global, sink: &mut K, rack: R) -> Ended<R>
         (ChecksArray (rack_use R.slot_count R.slot R.told rack result.rack)
         (sink_use K.written K.faults sink.old sink.new) result.status) }
     ensures slots { R.slot_count result.rack ≡ R.slot_count rack }
-    ensures status { IsOneOf (0 ∷ 4 ∷ 5 ∷ 6 ∷ 7 ∷ 12 ∷ 13 ∷ []) result.status }
-    ensures sink { result.status ≡ 4 → HasRisen (K.faults sink.old) (K.faults sink.new) }
-    ensures still { result.status ≢ 4 → K.faults sink.new ≡ K.faults sink.old }
+    ensures status { IsOneOf check_statuses result.status }
+    ensures sink { result.status ≡ status_sink → HasRisen (K.faults sink.old) (K.faults sink.new) }
+    ensures still { result.status ≢ status_sink → K.faults sink.new ≡ K.faults sink.old }
 {
     let arrays = Arrays::new(alloc);
     checks::check::<K, R, Array<R>, Arrays>(&arrays, sink, rack)
@@ -154,9 +158,10 @@ fn nbd<S: Source, K: Sink, R: Rack>(
         (source_use S.left S.faults source.old source.new)
         (sink_use K.written K.faults sink.old sink.new) result.status }
     ensures slots { R.slot_count result.rack ≡ R.slot_count rack }
-    ensures status { IsOneOf (0 ∷ 3 ∷ 4 ∷ 5 ∷ 6 ∷ 7 ∷ 10 ∷ 12 ∷ 14 ∷ []) result.status }
-    ensures source { result.status ≡ 3 → HasRisen (S.faults source.old) (S.faults source.new) }
-    ensures sink { result.status ≡ 4 → HasRisen (K.faults sink.old) (K.faults sink.new) }
+    ensures status { IsOneOf nbd_statuses result.status }
+    ensures source { result.status ≡ status_source
+        → HasRisen (S.faults source.old) (S.faults source.new) }
+    ensures sink { result.status ≡ status_sink → HasRisen (K.faults sink.old) (K.faults sink.new) }
     ensures unhurt { EndsAtFaults (source_use S.left S.faults source.old source.new)
         (sink_use K.written K.faults sink.old sink.new) result.status }
 {
@@ -178,10 +183,11 @@ fn vol<S: Source, K: Sink, R: Rack>(
         (source_use S.left S.faults source.old source.new)
         (sink_use K.written K.faults sink.old sink.new) result.status) }
     ensures slots { R.slot_count result.rack ≡ R.slot_count rack }
-    ensures status { IsOneOf (0 ∷ 3 ∷ 4 ∷ 5 ∷ 6 ∷ 7 ∷ 10 ∷ 12 ∷ []) result.status }
-    ensures end { result.status ≡ 0 → AtEnd (S.left source.new) }
-    ensures source { result.status ≡ 3 → HasRisen (S.faults source.old) (S.faults source.new) }
-    ensures sink { result.status ≡ 4 → HasRisen (K.faults sink.old) (K.faults sink.new) }
+    ensures status { IsOneOf run_statuses result.status }
+    ensures end { result.status ≡ status_done → AtEnd (S.left source.new) }
+    ensures source { result.status ≡ status_source
+        → HasRisen (S.faults source.old) (S.faults source.new) }
+    ensures sink { result.status ≡ status_sink → HasRisen (K.faults sink.old) (K.faults sink.new) }
     ensures unhurt { EndsAtFaults (source_use S.left S.faults source.old source.new)
         (sink_use K.written K.faults sink.old sink.new) result.status }
 {
@@ -228,24 +234,26 @@ pub fn paraid<S: Source, K: Sink, R: Rack>(
         (sink_use K.written K.faults sink.old sink.new) result.status c }
     ensures end { (c : CommandType) → TakesSource c
         → AskFor c (map string_bytes words.now.items)
-        → result.status ≡ 0 → AtEnd (S.left source.new) }
+        → result.status ≡ status_done → AtEnd (S.left source.new) }
     ensures unread { (c : CommandType) → (ReadsSource c → ⊥)
         → AskFor c (map string_bytes words.now.items) → source.new ≡ source.old }
 
     ensures words { ((c : CommandType) → AskFor c
         (map string_bytes words.now.items) → ⊥)
-        → EndsWithLine (K.written sink.old) (K.written sink.new) usage_line 2 result.status }
+        → EndsWithLine (K.written sink.old) (K.written sink.new) usage_line
+        status_words result.status }
     ensures untouched { ((c : CommandType) → AskFor c
         (map string_bytes words.now.items) → ⊥)
         → (result.rack ≡ rack) × (source.new ≡ source.old) }
-    ensures usage { result.status ≡ 2 → (c : CommandType)
+    ensures usage { result.status ≡ status_words → (c : CommandType)
         → AskFor c (map string_bytes words.now.items) → ⊥ }
 
     // Told or not, and whatever came: the next run begins over as many slots.
     ensures slots { R.slot_count result.rack ≡ R.slot_count rack }
 
-    ensures source { result.status ≡ 3 → HasRisen (S.faults source.old) (S.faults source.new) }
-    ensures sink { result.status ≡ 4 → HasRisen (K.faults sink.old) (K.faults sink.new) }
+    ensures source { result.status ≡ status_source
+        → HasRisen (S.faults source.old) (S.faults source.new) }
+    ensures sink { result.status ≡ status_sink → HasRisen (K.faults sink.old) (K.faults sink.new) }
     ensures unhurt { EndsAtFaults (source_use S.left S.faults source.old source.new)
         (sink_use K.written K.faults sink.old sink.new) result.status }
 {

@@ -5,6 +5,7 @@ use Rattle.paraid_base.specs.declared.fault.Halt.{Halt}
 use Rattle.paraid_base.specs.declared.fault.Halt.TheVariants.{Two, Worn}
 use Rattle.paraid_base.specs.Told.{GrowsByBytes}
 use Rattle.paraid_trace.specs.Replies.{reply_of}
+use Rattle.paraid_serve.specs.Statuses.{status_sink, status_two, status_worn}
 
 -- the line of a mount
 abbrev pub mount_line : ℕ → ℕ → List ℕ
@@ -20,12 +21,12 @@ halt_line halt = reply_of (Halted halt)
 
 -- the status of a halt
 abbrev pub status_of_halt : Halt → ℕ
-status_of_halt (Two two) = 5
-status_of_halt (Worn count) = 12
+status_of_halt (Two two) = status_two
+status_of_halt (Worn count) = status_worn
 
--- A last line was written whole, with this status, or a first part of it at 4.
+-- A last line was written whole, with this status, or a first part of it at `status_sink`.
 pub record EndsWithLine (before after : Option (List ℕ)) (line : List ℕ) (code status : ℕ) : Type 0 where
   pub count : ℕ
   pub within : count ≤ length line
   pub grows : GrowsByBytes before after (take count line)
-  pub whole : (status ≡ 4) ⊎ ((count ≡ length line) × (status ≡ code))
+  pub whole : (status ≡ status_sink) ⊎ ((count ≡ length line) × (status ≡ code))

@@ -1,3 +1,4 @@
+pub mod Statuses
 pub mod Heard
 pub mod Ending
 pub mod Calls

@@ -1,5 +1,5 @@
 -- The whole text of a run, by its status.
-use Rattle.std.specs.Prelude.{◌≡◌, ℕ, ◌<◌, ◌^◌, ◌⊎◌, List, [], ◌∷◌, ◌++◌, length, take, codes, Some, IsSome}
+use Rattle.std.specs.Prelude.{◌≡◌, ℕ, ◌<◌, ◌^◌, List, [], ◌∷◌, ◌++◌, length, take, codes, Some, IsSome}
 use Rattle.paraid_base.specs.declared.event.Answer.TheVariants.{Flushed, Halted}
 use Rattle.paraid_base.specs.declared.event.Event.TheVariants.{Flush}
 use Rattle.paraid_base.specs.declared.fault.Halt.{Halt}
@@ -18,15 +18,16 @@ use Rattle.paraid_serve.specs.Causes.{HasCause, Shown}
 use Rattle.paraid_serve.specs.Form.{BeginsAnswers, HasAnswers}
 use Rattle.paraid_serve.specs.Streams.{Streams}
 use Rattle.paraid_serve.specs.Stretch.{EndsStretch, Span, Stretch, events_in, replies}
+use Rattle.paraid_serve.specs.Statuses.{IsOneOf, status_done, status_sink, status_source, status_too_long, status_two, status_worn}
 use Rattle.paraid_session.specs.Turn.{Point}
 
 -- the statuses of a run on an array that is mounted
 abbrev pub IsServedStatus : ℕ → Type 0
-IsServedStatus status = (status ≡ 0) ⊎ (status ≡ 3) ⊎ (status ≡ 4) ⊎ (status ≡ 5) ⊎ (status ≡ 10) ⊎ (status ≡ 12)
+IsServedStatus status = IsOneOf (status_done ∷ status_source ∷ status_sink ∷ status_two ∷ status_too_long ∷ status_worn ∷ []) status
 
 -- those of a run that took all of the source
 abbrev pub IsWholeStatus : ℕ → Type 0
-IsWholeStatus status = (status ≡ 0) ⊎ (status ≡ 5) ⊎ (status ≡ 12)
+IsWholeStatus status = IsOneOf (status_done ∷ status_two ∷ status_worn ∷ []) status
 
 -- the line of the first point of a session
 abbrev pub begins_with : Point → List ℕ
@@ -40,23 +41,23 @@ first_line x = mount_line x.meta.writes x.meta.gear
 pub data OutputText (span : Span) (p : Point) (bytes : List ℕ) : ℕ → List ℕ → Type 0 where
   -- every line is answered, and all writes are kept
   done : (writes : ℕ) (e : EndsStretch span p (events_in (lines_of bytes) ++ Flush ∷ []) (Flushed writes))
-      → OutputText span p bytes 0 (begins_with p ++ replies e.before ++ end_line writes)
+      → OutputText span p bytes status_done (begins_with p ++ replies e.before ++ end_line writes)
   -- every line is answered, and a halt came in one of them or in the last flush
   halted : (halt : Halt) (e : EndsStretch span p (events_in (lines_of bytes) ++ Flush ∷ []) (Halted halt))
       → OutputText span p bytes (status_of_halt halt) (begins_with p ++ replies e.before ++ halt_line halt)
   -- a rest without a newline is not answered
   source : (c : Stretch span p (events_in (whole_lines bytes)))
-      → OutputText span p bytes 3 (begins_with p ++ replies c.turns ++ codes "source\n")
+      → OutputText span p bytes status_source (begins_with p ++ replies c.turns ++ codes "source\n")
   too_long : length bytes ≡ 2 ^ 40 → (c : Stretch span p (events_in (whole_lines bytes)))
-      → OutputText span p bytes 10 (begins_with p ++ replies c.turns ++ codes "toolong\n")
+      → OutputText span p bytes status_too_long (begins_with p ++ replies c.turns ++ codes "toolong\n")
 
--- What was written: the whole text of the status; or at 4 a first part of such a text, or of the
+-- What was written: the whole text of the status; or at `status_sink` a first part of such a text, or of the
 -- answers to a first part of the lines.
 pub data WritesOutput (span : Span) (p : Point) (bytes : List ℕ) (status : ℕ) (text : List ℕ) : Type 0 where
   whole : OutputText span p bytes status text → WritesOutput span p bytes status text
-  last_line : status ≡ 4 → (code : ℕ) (full rest : List ℕ) → OutputText span p bytes code full → full ≡ text ++ rest
+  last_line : status ≡ status_sink → (code : ℕ) (full rest : List ℕ) → OutputText span p bytes code full → full ≡ text ++ rest
       → WritesOutput span p bytes status text
-  answers : status ≡ 4 → (lines more : List (List ℕ)) (rest : List ℕ) → lines_of bytes ≡ lines ++ more
+  answers : status ≡ status_sink → (lines more : List (List ℕ)) (rest : List ℕ) → lines_of bytes ≡ lines ++ more
       → (c : Stretch span p (events_in lines)) → begins_with p ++ replies c.turns ≡ text ++ rest
       → WritesOutput span p bytes status text
 
@@ -64,22 +65,22 @@ pub data WritesOutput (span : Span) (p : Point) (bytes : List ℕ) (status : ℕ
 -- the writes and the gear with which the array was seen first, each answer has its cause, and so has the flush at the end.
 pub data OutputForm (old new : Shown) (bytes : List ℕ) : ℕ → List ℕ → List ℕ → Type 0 where
   done : (writes : ℕ) (replies : List ℕ) (mid : Shown) → HasAnswers old (lines_of bytes) replies mid → HasCause mid Flush (Flushed writes) new
-      → OutputForm old new bytes 0 (first_line old ++ replies) (end_line writes)
+      → OutputForm old new bytes status_done (first_line old ++ replies) (end_line writes)
   halted : (halt : Halt) (replies : List ℕ) (mid : Shown) → HasAnswers old (lines_of bytes) replies mid → HasCause mid Flush (Halted halt) new
       → OutputForm old new bytes (status_of_halt halt) (first_line old ++ replies) (halt_line halt)
   source : (replies : List ℕ) → HasAnswers old (whole_lines bytes) replies new
-      → OutputForm old new bytes 3 (first_line old ++ replies) (codes "source\n")
+      → OutputForm old new bytes status_source (first_line old ++ replies) (codes "source\n")
   too_long : (replies : List ℕ) → HasAnswers old (whole_lines bytes) replies new
-      → OutputForm old new bytes 10 (first_line old ++ replies) (codes "toolong\n")
+      → OutputForm old new bytes status_too_long (first_line old ++ replies) (codes "toolong\n")
 
--- The form of what was written: of a whole text; or at 4 of one whose last line is cut, or of a first part of the first line, and then
+-- The form of what was written: of a whole text; or at `status_sink` of one whose last line is cut, or of a first part of the first line, and then
 -- nothing was served; or of the answers up to one that is cut, and then nothing more was served.
 pub data HasForm (old new : Shown) (bytes : List ℕ) (status : ℕ) (text : List ℕ) : Type 0 where
   whole : (front last : List ℕ) → OutputForm old new bytes status front last → text ≡ front ++ last → HasForm old new bytes status text
-  last_line : status ≡ 4 → (code : ℕ) (front last : List ℕ) (count : ℕ) → OutputForm old new bytes code front last → text ≡ front ++ take count last
+  last_line : status ≡ status_sink → (code : ℕ) (front last : List ℕ) (count : ℕ) → OutputForm old new bytes code front last → text ≡ front ++ take count last
       → HasForm old new bytes status text
-  at_first_line : status ≡ 4 → bytes ≡ [] → new ≡ old → (rest : List ℕ) → first_line old ≡ text ++ rest → HasForm old new bytes status text
-  answers : status ≡ 4 → (part : List ℕ) → BeginsAnswers old bytes part new → text ≡ first_line old ++ part → HasForm old new bytes status text
+  at_first_line : status ≡ status_sink → bytes ≡ [] → new ≡ old → (rest : List ℕ) → first_line old ≡ text ++ rest → HasForm old new bytes status text
+  answers : status ≡ status_sink → (part : List ℕ) → BeginsAnswers old bytes part new → text ≡ first_line old ++ part → HasForm old new bytes status text
 
 -- A run took these bytes and wrote this text. What it is is known where source, sink and rack
 -- tell, from each point at which the array stood.
@@ -88,7 +89,7 @@ pub record ProgramRun (seen seen_now : Shown) (span : Span) (stood : Point → T
   pub text : List ℕ
   pub given : Gives streams.source.left_before streams.source.left bytes
   pub grows : GrowsByBytes streams.sink.written_before streams.sink.written text
-  pub full : status ≡ 10 → length bytes ≡ 2 ^ 40
+  pub full : status ≡ status_too_long → length bytes ≡ 2 ^ 40
   pub all : IsWholeStatus status → (length bytes < 2 ^ 40) × AtEnd streams.source.left
   pub form : HasForm seen seen_now bytes status text
   pub wrote : IsSome span.now → (p : Point) → stood p → WritesOutput span p bytes status text
@@ -104,7 +105,7 @@ pub data IsLeftByStretch {span : Span} {p : Point} {events : List Event} (c : St
 pub record FollowsFromPoint (span : Span) (bytes : List ℕ) (status : ℕ) (text : List ℕ) (p : Point) : Type 0 where
   pub wrote : WritesOutput span p bytes status text
   pub left : (events : List Event) (c : Stretch span p events) → IsLeftByStretch c
-  pub synced : status ≡ 0 → (t : Trail) → span.now ≡ Some t → AreSynced (now t)
+  pub synced : status ≡ status_done → (t : Trail) → span.now ≡ Some t → AreSynced (now t)
 
 -- The headline. The run took these bytes, and its text has the form of a run's. On a rack that held a
 -- history the mount keeps it; and from its end on, unless two disks are down there, the text is what
@@ -114,7 +115,7 @@ pub record Headline (seen seen_now : Shown) (span : Span) (began : ℕ) (streams
   pub text : List ℕ
   pub given : Gives streams.source.left_before streams.source.left bytes
   pub grows : GrowsByBytes streams.sink.written_before streams.sink.written text
-  pub full : status ≡ 10 → length bytes ≡ 2 ^ 40
+  pub full : status ≡ status_too_long → length bytes ≡ 2 ^ 40
   pub all : IsWholeStatus status → (length bytes < 2 ^ 40) × AtEnd streams.source.left
   pub form : HasForm seen seen_now bytes status text
   pub said : IsSome span.now → IsMountedFromEach span.slots span.setup began span.start (FollowsFromPoint span bytes status text)

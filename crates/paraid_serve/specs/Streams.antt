@@ -1,6 +1,7 @@
 -- The source and the sink of a command, as it found them and as it left them.
 use Rattle.std.specs.Prelude.{◌≡◌, ◌≢◌, ℕ, List, Option}
 use Rattle.paraid_serve.specs.Uses.{SinkUse, SourceUse}
+use Rattle.paraid_serve.specs.Statuses.{status_sink, status_source}
 
 -- What a command reads and what it writes.
 pub record Streams : Type 0 where
@@ -29,8 +30,8 @@ sink_use written faults old new = record {
 abbrev pub streams_of : SourceUse → SinkUse → Streams
 streams_of source sink = record { source = source; sink = sink }
 
--- A fault ends the command, and its status names it: where it is not 4, the sink has counted none; where it is neither 3 nor 4, the
--- source has counted none either.
+-- A fault ends the command, and its status names it: where it is not `status_sink`, the sink has counted none; where it is neither that
+-- nor `status_source`, the source has counted none either.
 pub record EndsAtFaults (given : SourceUse) (kept : SinkUse) (status : ℕ) : Type 0 where
-  pub sink : status ≢ 4 → kept.faults ≡ kept.faults_before
-  pub source : status ≢ 3 → status ≢ 4 → given.faults ≡ given.faults_before
+  pub sink : status ≢ status_sink → kept.faults ≡ kept.faults_before
+  pub source : status ≢ status_source → status ≢ status_sink → given.faults ≡ given.faults_before

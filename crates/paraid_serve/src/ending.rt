@@ -2,6 +2,7 @@
 ghost use Rattle.std.specs.Prelude.{◌≡◌, ◌≢◌, ◌≤◌, [], ◌++◌, codes, decimal};
 ghost use Rattle.paraid_base.specs.Told.{HasRisen};
 ghost use Rattle.paraid_serve.specs.Ending.{EndsWithLine, end_line, mount_line, status_of_halt};
+ghost use Rattle.paraid_serve.specs.Statuses.{status_sink};
 
 use crate::status;
 use paraid_base::{DiskNo, Halt};
@@ -12,9 +13,9 @@ use paraid_trace::Text;
 pub fn last<K: Sink>(sink: &mut K, line: &[u8], status: u8) -> u8
     ensures ends { EndsWithLine (K.written sink.old) (K.written sink.new) line.now status result }
     ensures cause { result ≢ status
-        → (result ≡ 4) × HasRisen (K.faults sink.old) (K.faults sink.new) }
+        → (result ≡ status_sink) × HasRisen (K.faults sink.old) (K.faults sink.new) }
     ensures later { K.faults sink.old ≤ K.faults sink.new }
-    ensures still { result ≢ 4 → K.faults sink.new ≡ K.faults sink.old }
+    ensures still { result ≢ status_sink → K.faults sink.new ≡ K.faults sink.old }
 {
     match write_all(sink, line) {
         Ok(()) => status,

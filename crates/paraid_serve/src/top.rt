@@ -8,6 +8,7 @@ ghost use Rattle.paraid_serve.specs.Lost.{NamesTwoLost, TellsWear};
 ghost use Rattle.paraid_serve.specs.Output.{Headline, IsServedStatus, ProgramRun};
 ghost use Rattle.paraid_serve.specs.Streams.{EndsAtFaults, sink_use, source_use, streams_of};
 ghost use Rattle.paraid_serve.specs.Stretch.{span_of};
+ghost use Rattle.paraid_serve.specs.Statuses.{status_done, status_sink, status_source, status_two, status_worn};
 
 use crate::ending::{end_text, halt_status, last, mount_text};
 use crate::run::session;
@@ -27,12 +28,12 @@ pub fn serve<S: Source, K: Sink, A: Serves>(source: &mut S, sink: &mut K, array:
     ensures told { Extends (A.told array.old) (A.told array.new) }
     ensures slots { A.slots array.new ≡ A.slots array.old }
     ensures status { IsServedStatus result }
-    ensures present { result ≡ 0 → IsNotDouble (A.setup array.old) (A.slot array.new) }
-    ensures two { result ≡ 5 → NamesTwoLost (A.slot array.old) (A.slot array.new)
+    ensures present { result ≡ status_done → IsNotDouble (A.setup array.old) (A.slot array.new) }
+    ensures two { result ≡ status_two → NamesTwoLost (A.slot array.old) (A.slot array.new)
         (K.written sink.old) (K.written sink.new) }
-    ensures worn { result ≡ 12 → TellsWear (K.written sink.old) (K.written sink.new) }
-    ensures source { result ≡ 3 → HasRisen (S.faults source.old) (S.faults source.new) }
-    ensures sink { result ≡ 4 → HasRisen (K.faults sink.old) (K.faults sink.new) }
+    ensures worn { result ≡ status_worn → TellsWear (K.written sink.old) (K.written sink.new) }
+    ensures source { result ≡ status_source → HasRisen (S.faults source.old) (S.faults source.new) }
+    ensures sink { result ≡ status_sink → HasRisen (K.faults sink.old) (K.faults sink.new) }
     ensures unhurt { EndsAtFaults (source_use S.left S.faults source.old source.new)
         (sink_use K.written K.faults sink.old sink.new) result }
 {
@@ -73,12 +74,12 @@ pub fn serve_mounted<S: Source, K: Sink, A: Serves>(
     ensures told { Extends (A.told array.old) (A.told array.new) }
     ensures slots { A.slots array.new ≡ A.slots array.old }
     ensures status { IsServedStatus result }
-    ensures present { result ≡ 0 → IsNotDouble (A.setup array.old) (A.slot array.new) }
-    ensures two { result ≡ 5 → NamesTwoLost (A.slot array.old) (A.slot array.new)
+    ensures present { result ≡ status_done → IsNotDouble (A.setup array.old) (A.slot array.new) }
+    ensures two { result ≡ status_two → NamesTwoLost (A.slot array.old) (A.slot array.new)
         (K.written sink.old) (K.written sink.new) }
-    ensures worn { result ≡ 12 → TellsWear (K.written sink.old) (K.written sink.new) }
-    ensures source { result ≡ 3 → HasRisen (S.faults source.old) (S.faults source.new) }
-    ensures sink { result ≡ 4 → HasRisen (K.faults sink.old) (K.faults sink.new) }
+    ensures worn { result ≡ status_worn → TellsWear (K.written sink.old) (K.written sink.new) }
+    ensures source { result ≡ status_source → HasRisen (S.faults source.old) (S.faults source.new) }
+    ensures sink { result ≡ status_sink → HasRisen (K.faults sink.old) (K.faults sink.new) }
     ensures unhurt { EndsAtFaults (source_use S.left S.faults source.old source.new)
         (sink_use K.written K.faults sink.old sink.new) result }
 {

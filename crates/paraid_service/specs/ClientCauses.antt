@@ -19,6 +19,7 @@ use Rattle.paraid_nbd.specs.Taking.{Takes}
 use Rattle.paraid_serve.specs.Causes.{Shown}
 use Rattle.paraid_serve.specs.Ending.{status_of_halt}
 use Rattle.paraid_serve.specs.Streams.{Streams}
+use Rattle.paraid_serve.specs.Statuses.{status_done}
 use Rattle.paraid_service.specs.Ends.{broken_status}
 
 -- what went in and out up to a point: what is left of the source, how many bytes were taken, what was written, and the counts of faults
@@ -64,7 +65,7 @@ pub data RepliesToClient (size : ℕ) (x : Streams) (end : NbdEnd) (events : Ans
 -- the end, or the answer to that flush.
 pub data EndsWithCauses (old new : Shown) (events : Answers) (end : NbdEnd) (status : ℕ) : Type 0 where
   broken : broken_status end ≡ Some status → HaveAnswerCauses old events new → EndsWithCauses old new events end status
-  kept : (writes : ℕ) → broken_status end ≡ None → status ≡ 0 → HaveAnswerCauses old (events ++ (Flush, Flushed writes) ∷ []) new → EndsWithCauses old new events end status
+  kept : (writes : ℕ) → broken_status end ≡ None → status ≡ status_done → HaveAnswerCauses old (events ++ (Flush, Flushed writes) ∷ []) new → EndsWithCauses old new events end status
   halted : (halt : Halt) → broken_status end ≡ None → status ≡ status_of_halt halt → HaveAnswerCauses old (events ++ (Flush, Halted halt) ∷ []) new → EndsWithCauses old new events end status
 
 -- What a client was answered, and why: by what was seen of the array as it was mounted and at the end.

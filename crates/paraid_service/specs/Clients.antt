@@ -26,6 +26,7 @@ use Rattle.paraid_serve.specs.Lost.{IsSecondLost}
 use Rattle.paraid_serve.specs.Output.{IsLeftByStretch}
 use Rattle.paraid_serve.specs.Streams.{Streams}
 use Rattle.paraid_serve.specs.Stretch.{Span, Stretch}
+use Rattle.paraid_serve.specs.Statuses.{IsOneOf, status_done, status_no_memory, status_protocol, status_sink, status_source, status_too_long, status_two, status_worn}
 use Rattle.paraid_session.specs.Mount.{IsMountedFromEach}
 use Rattle.paraid_session.specs.Turn.{Point}
 use Rattle.paraid_service.specs.Ends.{broken_status}
@@ -80,7 +81,7 @@ pub record Keeps (span : Span) (p : Point) (events : Answers) : Type 0 where
 -- status tells the end, or the answer to that flush.
 pub data EndsWithStatus (span : Span) (p : Point) (events : Answers) (end : NbdEnd) (status : ℕ) : Type 0 where
   broken : broken_status end ≡ Some status → Keeps span p events → EndsWithStatus span p events end status
-  kept : (writes : ℕ) → broken_status end ≡ None → status ≡ 0 → Keeps span p (events ++ (Flush, Flushed writes) ∷ []) → EndsWithStatus span p events end status
+  kept : (writes : ℕ) → broken_status end ≡ None → status ≡ status_done → Keeps span p (events ++ (Flush, Flushed writes) ∷ []) → EndsWithStatus span p events end status
   halted : (halt : Halt) → broken_status end ≡ None → status ≡ status_of_halt halt → Keeps span p (events ++ (Flush, Halted halt) ∷ []) → EndsWithStatus span p events end status
 
 -- What follows from the first point of a session: the client was answered by reads, writes and flushes alone, and these were kept.
@@ -92,7 +93,7 @@ pub record FollowsForClient (span : Span) (streams : Streams) (status : ℕ) (en
   pub session : EndsWithStatus span p events end status
   -- each stop leaves what was flushed: so it is of each stretch of the session
   pub left : (asked : List Event) (c : Stretch span p asked) → IsLeftByStretch c
-  pub synced : status ≡ 0 → (u : Trail) → span.now ≡ Some u → AreSynced (now u)
+  pub synced : status ≡ status_done → (u : Trail) → span.now ≡ Some u → AreSynced (now u)
 
 -- The service ends at a request.
 pub data StopsAtRequest (before after : Option (List ℕ)) (old new : ℕ) (faults now_faults sink_faults sink_now : ℕ) (end : NbdEnd) : Type 0 where
@@ -110,7 +111,7 @@ pub data TakesClient (size : ℕ) (streams : Streams) (end : NbdEnd) : Type 0 wh
 -- a status tells the end at which a client was broken off, or how the flush came out
 pub data IsStatusOfEnd (end : NbdEnd) (status : ℕ) : Type 0 where
   told : broken_status end ≡ Some status → IsStatusOfEnd end status
-  flushed : broken_status end ≡ None → (status ≡ 0) ⊎ (status ≡ 5) ⊎ (status ≡ 12) → IsStatusOfEnd end status
+  flushed : broken_status end ≡ None → (status ≡ status_done) ⊎ (status ≡ status_two) ⊎ (status ≡ status_worn) → IsStatusOfEnd end status
 
 -- The headline of a client. Over every rack: which bytes were taken, how the service ended for it, and that the status tells
 -- this. Where all is told, on a rack that held a history: what was answered, and that it is a session.
@@ -122,7 +123,7 @@ pub record ClientHeadline (span : Span) (began : ℕ) (streams : Streams) (statu
 
 -- the statuses of a client of a mounted array
 abbrev pub IsClientStatus : ℕ → Type 0
-IsClientStatus status = (status ≡ 0) ⊎ (status ≡ 3) ⊎ (status ≡ 4) ⊎ (status ≡ 5) ⊎ (status ≡ 7) ⊎ (status ≡ 10) ⊎ (status ≡ 12) ⊎ (status ≡ 14)
+IsClientStatus status = IsOneOf (status_done ∷ status_source ∷ status_sink ∷ status_two ∷ status_no_memory ∷ status_too_long ∷ status_worn ∷ status_protocol ∷ []) status
 
 -- Two disks are down: of two different ones the second has failed between these slots.
 pub record LosesTwo (old new : ℕ → Slot) : Type 0 where

@@ -9,21 +9,22 @@ use Rattle.paraid_nbd.specs.declared.ending.NbdEnd.{NbdEnd}
 use Rattle.paraid_nbd.specs.declared.ending.NbdEnd.TheVariants.{Done, Aborted, Closed, Protocol, TooLong, Source, Sink, NoMemory}
 use Rattle.paraid_serve.specs.declared.serves.Serves.{Ghosts}
 use Rattle.paraid_serve.specs.Ending.{status_of_halt}
+use Rattle.paraid_serve.specs.Statuses.{status_done, status_no_memory, status_protocol, status_sink, status_source, status_too_long}
 
 -- the status of a service that was broken off; after the others what was written is kept
 abbrev pub broken_status : NbdEnd → Option ℕ
 broken_status Done = None
 broken_status Aborted = None
 broken_status Closed = None
-broken_status (Protocol at) = Some 14
-broken_status (TooLong bytes) = Some 10
-broken_status Source = Some 3
-broken_status Sink = Some 4
-broken_status NoMemory = Some 7
+broken_status (Protocol at) = Some status_protocol
+broken_status (TooLong bytes) = Some status_too_long
+broken_status Source = Some status_source
+broken_status Sink = Some status_sink
+broken_status NoMemory = Some status_no_memory
 
 -- A flush is the last event, and the status tells its answer.
 pub data Flushes {A : Type 0} (g : Ghosts A) (first now : A) (events : Answers) (status : ℕ) : Type 0 where
-  kept : (writes : ℕ) → status ≡ 0 → g.halted now ≡ None → HasAnswered g first now (events ++ (Flush, Flushed writes) ∷ []) → Flushes g first now events status
+  kept : (writes : ℕ) → status ≡ status_done → g.halted now ≡ None → HasAnswered g first now (events ++ (Flush, Flushed writes) ∷ []) → Flushes g first now events status
   halted : (halt : Halt) → status ≡ status_of_halt halt → g.halted now ≡ Some halt → HasAnswered g first now (events ++ (Flush, Halted halt) ∷ []) → Flushes g first now events status
 
 -- The service ended so.

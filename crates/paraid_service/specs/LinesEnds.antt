@@ -10,6 +10,7 @@ use Rattle.paraid_device.specs.declared.device.Device.{Device}
 use Rattle.paraid_device.specs.Devices.{HasAnswered, StandsFor, array_of, halt_of_device}
 use Rattle.paraid_serve.specs.declared.serves.Serves.{Ghosts}
 use Rattle.paraid_serve.specs.Ending.{EndsWithLine, end_line, halt_line, status_of_halt}
+use Rattle.paraid_serve.specs.Statuses.{status_done, status_sink, status_source, status_too_long}
 use Rattle.paraid_service.specs.declared.run.LinesEnd.{LinesEnd}
 use Rattle.paraid_service.specs.declared.run.LinesEnd.TheVariants.{Done, Source, TooLong, Sink}
 
@@ -26,8 +27,8 @@ pub record HasFlushed {A : Type 0} (g : Ghosts A) (old new : Device A g) (answer
 
 -- The lines have ended so; what was written is kept where all were answered, and the last line tells the end.
 pub data EndsSession {A : Type 0} (g : Ghosts A) (old new : Device A g) (before after : Option (List ℕ)) : LinesEnd → ℕ → Type 0 where
-  kept : (writes status : ℕ) → HasFlushed g old new (Flushed writes) None → EndsWithLine before after (end_line writes) 0 status → EndsSession g old new before after Done status
+  kept : (writes status : ℕ) → HasFlushed g old new (Flushed writes) None → EndsWithLine before after (end_line writes) status_done status → EndsSession g old new before after Done status
   halted : (halt : Halt) (status : ℕ) → HasFlushed g old new (Halted halt) (Some halt) → EndsWithLine before after (halt_line halt) (status_of_halt halt) status → EndsSession g old new before after Done status
-  at_source : (status : ℕ) → new ≡ old → EndsWithLine before after (codes "source\n") 3 status → EndsSession g old new before after Source status
-  too_long : (status : ℕ) → new ≡ old → EndsWithLine before after (codes "toolong\n") 10 status → EndsSession g old new before after TooLong status
-  at_sink : new ≡ old → after ≡ before → EndsSession g old new before after Sink 4
+  at_source : (status : ℕ) → new ≡ old → EndsWithLine before after (codes "source\n") status_source status → EndsSession g old new before after Source status
+  too_long : (status : ℕ) → new ≡ old → EndsWithLine before after (codes "toolong\n") status_too_long status → EndsSession g old new before after TooLong status
+  at_sink : new ≡ old → after ≡ before → EndsSession g old new before after Sink status_sink

@@ -13,6 +13,7 @@ use Rattle.paraid_machine.specs.Machine.{block_count}
 use Rattle.paraid_serve.specs.Causes.{HasCause, Shown}
 use Rattle.paraid_serve.specs.Ending.{end_line, halt_line, status_of_halt}
 use Rattle.paraid_serve.specs.Output.{first_line}
+use Rattle.paraid_serve.specs.Statuses.{status_done, status_sink, status_source, status_too_long}
 use Rattle.paraid_trace.specs.Replies.{halt_text}
 use Rattle.paraid_volume.specs.declared.name.Name.{Name}
 use Rattle.paraid_volume.specs.Device.{AreAll}
@@ -107,17 +108,17 @@ pub data FormsLines (old : Shown) : List (List ℕ) → List ℕ → List ℕ �
 -- All events of the array are those of the lines, and where all lines were answered a flush, by whose answer the last line is.
 pub data VolumesForm (old new : Shown) (bytes : List ℕ) : Answers → ℕ → List ℕ → List ℕ → Type 0 where
   done : (front reply : List ℕ) (made : Answers) (mid : Shown) (table : Tabled) (number : ℕ) → FormsLines old (lines_of bytes) front reply made mid table → mid.halt ≡ None → HasCause mid Flush (Flushed number) new
-      → VolumesForm old new bytes (made ++ (Flush, Flushed number) ∷ []) 0 (first_line old ++ (front ++ reply)) (end_line number)
+      → VolumesForm old new bytes (made ++ (Flush, Flushed number) ∷ []) status_done (first_line old ++ (front ++ reply)) (end_line number)
   halted : (front reply : List ℕ) (made : Answers) (mid : Shown) (table : Tabled) (halt : Halt) → FormsLines old (lines_of bytes) front reply made mid table → (mid.halt ≡ None) ⊎ (mid.halt ≡ Some halt) → HasCause mid Flush (Halted halt) new
       → VolumesForm old new bytes (made ++ (Flush, Halted halt) ∷ []) (status_of_halt halt) (first_line old ++ (front ++ reply)) (halt_line halt)
-  source : (front reply : List ℕ) (made : Answers) (table : Tabled) → FormsLines old (whole_lines bytes) front reply made new table → VolumesForm old new bytes made 3 (first_line old ++ (front ++ reply)) (codes "source\n")
-  too_long : (front reply : List ℕ) (made : Answers) (table : Tabled) → length bytes ≡ 2 ^ 40 → FormsLines old (whole_lines bytes) front reply made new table → VolumesForm old new bytes made 10 (first_line old ++ (front ++ reply)) (codes "toolong\n")
+  source : (front reply : List ℕ) (made : Answers) (table : Tabled) → FormsLines old (whole_lines bytes) front reply made new table → VolumesForm old new bytes made status_source (first_line old ++ (front ++ reply)) (codes "source\n")
+  too_long : (front reply : List ℕ) (made : Answers) (table : Tabled) → length bytes ≡ 2 ^ 40 → FormsLines old (whole_lines bytes) front reply made new table → VolumesForm old new bytes made status_too_long (first_line old ++ (front ++ reply)) (codes "toolong\n")
 
--- The form of what was written: of a whole text; or at 4 of one whose last line is cut, or of a first part of the first line, and then
+-- The form of what was written: of a whole text; or at `status_sink` of one whose last line is cut, or of a first part of the first line, and then
 -- no byte was taken and no event was made; or of the answers up to one that is cut, and no event came after those of its line.
 pub data HasVolumesForm (old new : Shown) (bytes : List ℕ) (made : Answers) (status : ℕ) (text : List ℕ) : Type 0 where
   whole : (said last : List ℕ) → VolumesForm old new bytes made status said last → text ≡ said ++ last → HasVolumesForm old new bytes made status text
-  last_line : status ≡ 4 → (code : ℕ) (said last : List ℕ) (count : ℕ) → VolumesForm old new bytes made code said last → text ≡ said ++ take count last → HasVolumesForm old new bytes made status text
-  answers : status ≡ 4 → (before more : List (List ℕ)) (line front reply : List ℕ) (count : ℕ) (table : Tabled) → lines_of bytes ≡ (before ++ line ∷ []) ++ more → FormsLines old (before ++ line ∷ []) front reply made new table
+  last_line : status ≡ status_sink → (code : ℕ) (said last : List ℕ) (count : ℕ) → VolumesForm old new bytes made code said last → text ≡ said ++ take count last → HasVolumesForm old new bytes made status text
+  answers : status ≡ status_sink → (before more : List (List ℕ)) (line front reply : List ℕ) (count : ℕ) (table : Tabled) → lines_of bytes ≡ (before ++ line ∷ []) ++ more → FormsLines old (before ++ line ∷ []) front reply made new table
       → text ≡ first_line old ++ (front ++ take count reply) → HasVolumesForm old new bytes made status text
-  at_first_line : status ≡ 4 → bytes ≡ [] → made ≡ [] → new ≡ old → (rest : List ℕ) → first_line old ≡ text ++ rest → HasVolumesForm old new bytes made status text
+  at_first_line : status ≡ status_sink → bytes ≡ [] → made ≡ [] → new ≡ old → (rest : List ℕ) → first_line old ≡ text ++ rest → HasVolumesForm old new bytes made status text

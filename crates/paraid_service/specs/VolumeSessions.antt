@@ -19,6 +19,7 @@ use Rattle.paraid_serve.specs.Ending.{end_line, halt_line, status_of_halt}
 use Rattle.paraid_serve.specs.Output.{IsLeftByStretch, IsWholeStatus, begins_with}
 use Rattle.paraid_serve.specs.Streams.{Streams}
 use Rattle.paraid_serve.specs.Stretch.{Span, Stretch}
+use Rattle.paraid_serve.specs.Statuses.{status_done, status_sink, status_source, status_too_long}
 use Rattle.paraid_session.specs.Turn.{Point}
 use Rattle.paraid_volume.specs.Device.{AreAll, IsReadEvent, entries_in}
 use Rattle.paraid_volume.specs.Lives.{IsLeftByLife, Life, VolLog, flushed}
@@ -137,23 +138,23 @@ pub record FlushesLast (span : Span) (p : Point) (answer : Answer) : Type 0 wher
 -- halt in the lines the last flush gives it again.
 pub data VolumesText (span : Span) (p : Point) (bytes : List ℕ) : ℕ → List ℕ → List ℕ → Type 0 where
   done : (mid : Option Trail) (front reply : List ℕ) (a : AnswersFromPoint (record span { now = mid }) p (lines_of bytes) front reply None) → FlushesLast (record span { start = mid }) a.all.end (Flushed (length a.all.end.history))
-      → VolumesText span p bytes 0 (begins_with p ++ (front ++ reply)) (end_line (length a.all.end.history))
+      → VolumesText span p bytes status_done (begins_with p ++ (front ++ reply)) (end_line (length a.all.end.history))
   halted : (mid : Option Trail) (halt : Halt) (met : Option Halt) (front reply : List ℕ) (a : AnswersFromPoint (record span { now = mid }) p (lines_of bytes) front reply met) → (met ≡ None) ⊎ (met ≡ Some halt) → FlushesLast (record span { start = mid }) a.all.end (Halted halt)
       → VolumesText span p bytes (status_of_halt halt) (begins_with p ++ (front ++ reply)) (halt_line halt)
   source : (met : Option Halt) (front reply : List ℕ) → AnswersFromPoint span p (whole_lines bytes) front reply met
-      → VolumesText span p bytes 3 (begins_with p ++ (front ++ reply)) (codes "source\n")
+      → VolumesText span p bytes status_source (begins_with p ++ (front ++ reply)) (codes "source\n")
   too_long : length bytes ≡ 2 ^ 40 → (met : Option Halt) (front reply : List ℕ) → AnswersFromPoint span p (whole_lines bytes) front reply met
-      → VolumesText span p bytes 10 (begins_with p ++ (front ++ reply)) (codes "toolong\n")
+      → VolumesText span p bytes status_too_long (begins_with p ++ (front ++ reply)) (codes "toolong\n")
 
--- What was written: the whole text of the status; or at 4 one whose last line is cut, or a first part of the first line, and then nothing
+-- What was written: the whole text of the status; or at `status_sink` one whose last line is cut, or a first part of the first line, and then nothing
 -- was asked of the array; or the answers up to one that is cut, and then no line behind it was served.
 pub data WritesVolumes (span : Span) (p : Point) (bytes : List ℕ) (status : ℕ) (text : List ℕ) : Type 0 where
   whole : (said last : List ℕ) → VolumesText span p bytes status said last → text ≡ said ++ last → WritesVolumes span p bytes status text
-  last_line : status ≡ 4 → (code : ℕ) (said last : List ℕ) (count : ℕ) → VolumesText span p bytes code said last → text ≡ said ++ take count last
+  last_line : status ≡ status_sink → (code : ℕ) (said last : List ℕ) (count : ℕ) → VolumesText span p bytes code said last → text ≡ said ++ take count last
       → WritesVolumes span p bytes status text
-  answers : status ≡ 4 → (before more : List (List ℕ)) (line front reply : List ℕ) (count : ℕ) (met : Option Halt) → lines_of bytes ≡ (before ++ line ∷ []) ++ more → AnswersFromPoint span p (before ++ line ∷ []) front reply met
+  answers : status ≡ status_sink → (before more : List (List ℕ)) (line front reply : List ℕ) (count : ℕ) (met : Option Halt) → lines_of bytes ≡ (before ++ line ∷ []) ++ more → AnswersFromPoint span p (before ++ line ∷ []) front reply met
       → text ≡ begins_with p ++ (front ++ take count reply) → WritesVolumes span p bytes status text
-  first_line : status ≡ 4 → (rest : List ℕ) → bytes ≡ [] → Stretch span p [] → begins_with p ≡ text ++ rest → WritesVolumes span p bytes status text
+  first_line : status ≡ status_sink → (rest : List ℕ) → bytes ≡ [] → Stretch span p [] → begins_with p ≡ text ++ rest → WritesVolumes span p bytes status text
 
 -- A session took these bytes and wrote this text, by these events of the array. What it is is known where all is told, from each point
 -- at which the array stood.
@@ -162,7 +163,7 @@ pub record VolumesRun (seen seen_now : Shown) (span : Span) (stood : Point → T
   pub text : List ℕ
   pub given : Gives streams.source.left_before streams.source.left bytes
   pub grows : GrowsByBytes streams.sink.written_before streams.sink.written text
-  pub full : status ≡ 10 → length bytes ≡ 2 ^ 40
+  pub full : status ≡ status_too_long → length bytes ≡ 2 ^ 40
   pub all : IsWholeStatus status → (length bytes < 2 ^ 40) × AtEnd streams.source.left
   pub events : Answers
   pub form : HasVolumesForm seen seen_now bytes events status text
@@ -173,7 +174,7 @@ pub record VolumesRun (seen seen_now : Shown) (span : Span) (stood : Point → T
 pub record FollowsForVolumes (span : Span) (bytes : List ℕ) (status : ℕ) (text : List ℕ) (p : Point) : Type 0 where
   pub wrote : WritesVolumes span p bytes status text
   pub left : (asked : List Event) (c : Stretch span p asked) → IsLeftByStretch c
-  pub synced : status ≡ 0 → (t : Trail) → span.now ≡ Some t → AreSynced (now t)
+  pub synced : status ≡ status_done → (t : Trail) → span.now ≡ Some t → AreSynced (now t)
 
 -- The headline of `vol`. The session took these bytes and wrote this text; over every rack the array answered these reads, writes and
 -- flushes, each with its cause, and the text has the form of their answers; where all is told, on a rack that held a history, the text
@@ -183,7 +184,7 @@ pub record VolumesHeadline (seen seen_now : Shown) (span : Span) (began : ℕ) (
   pub text : List ℕ
   pub given : Gives streams.source.left_before streams.source.left bytes
   pub grows : GrowsByBytes streams.sink.written_before streams.sink.written text
-  pub full : status ≡ 10 → length bytes ≡ 2 ^ 40
+  pub full : status ≡ status_too_long → length bytes ≡ 2 ^ 40
   pub all : IsWholeStatus status → (length bytes < 2 ^ 40) × AtEnd streams.source.left
   pub events : Answers
   pub causes : HaveAnswerCauses seen events seen_now

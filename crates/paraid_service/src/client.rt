@@ -9,6 +9,7 @@ ghost use Rattle.paraid_serve.specs.Calls.{IsNotDouble};
 ghost use Rattle.paraid_rack.specs.Told.{Extends};
 ghost use Rattle.paraid_serve.specs.Streams.{EndsAtFaults, sink_use, source_use, streams_of};
 ghost use Rattle.paraid_serve.specs.Stretch.{span_of};
+ghost use Rattle.paraid_serve.specs.Statuses.{status_done, status_sink, status_source, status_two};
 ghost use Rattle.paraid_service.specs.ClientCauses.{ClientCauses};
 ghost use Rattle.paraid_service.specs.Clients.{ClientHeadline, IsClientStatus, LosesTwo};
 ghost use Rattle.paraid_service.specs.Ends.{EndsService, Flushes};
@@ -20,9 +21,6 @@ use paraid_nbd::{NbdEnd, serve_nbd};
 use paraid_serve::ending::halt_status;
 use paraid_serve::{Serves, status};
 use std::alloc::Global;
-
-/// The status of a client that kept not to the protocol.
-pub const PROTOCOL: u8 = 14;
 
 /// How the service of a client ended, and the array.
 pub struct Served<A> {
@@ -52,7 +50,7 @@ fn end_client<A: Serves>(device: &mut Device<A>, end: NbdEnd) -> u8
         NbdEnd::Done => keep(device),
         NbdEnd::Aborted => keep(device),
         NbdEnd::Closed => keep(device),
-        NbdEnd::Protocol { .. } => PROTOCOL,
+        NbdEnd::Protocol { .. } => status::PROTOCOL,
         NbdEnd::TooLong { .. } => status::TOO_LONG,
         NbdEnd::Source => status::SOURCE,
         NbdEnd::Sink => status::SINK,
@@ -81,10 +79,12 @@ pub fn serve_client<S: Source, K: Sink, A: Serves>(
     ensures told { Extends (A.told array) (A.told result.array) }
     ensures slots { A.slots result.array ≡ A.slots array }
     ensures status { IsClientStatus result.status }
-    ensures present { result.status ≡ 0 → IsNotDouble (A.setup array) (A.slot result.array) }
-    ensures two { result.status ≡ 5 → LosesTwo (A.slot array) (A.slot result.array) }
-    ensures source { result.status ≡ 3 → HasRisen (S.faults source.old) (S.faults source.new) }
-    ensures sink { result.status ≡ 4 → HasRisen (K.faults sink.old) (K.faults sink.new) }
+    ensures present { result.status ≡ status_done
+        → IsNotDouble (A.setup array) (A.slot result.array) }
+    ensures two { result.status ≡ status_two → LosesTwo (A.slot array) (A.slot result.array) }
+    ensures source { result.status ≡ status_source
+        → HasRisen (S.faults source.old) (S.faults source.new) }
+    ensures sink { result.status ≡ status_sink → HasRisen (K.faults sink.old) (K.faults sink.new) }
     ensures unhurt { EndsAtFaults (source_use S.left S.faults source.old source.new)
         (sink_use K.written K.faults sink.old sink.new) result.status }
 {

@@ -7,6 +7,7 @@ ghost use Rattle.paraid_serve.specs.Lost.{NamesTwoLost, TellsWear};
 ghost use Rattle.paraid_serve.specs.Output.{IsServedStatus};
 ghost use Rattle.paraid_serve.specs.Streams.{EndsAtFaults, sink_use, source_use, streams_of};
 ghost use Rattle.paraid_serve.specs.Stretch.{span_of};
+ghost use Rattle.paraid_serve.specs.Statuses.{status_done, status_sink, status_source, status_two, status_worn};
 ghost use Rattle.paraid_service.specs.LinesEnds.{EndsSession};
 ghost use Rattle.paraid_service.specs.declared.run.LinesEnd.TheVariants.{Done, Sink as AtSink};
 ghost use Rattle.paraid_service.specs.Shelves.{device_in};
@@ -54,12 +55,15 @@ pub fn serve_volumes<S: Source, K: Sink, A: Serves>(
     ensures told { Extends (A.told array) (A.told result.array) }
     ensures slots { A.slots result.array ≡ A.slots array }
     ensures status { IsServedStatus result.status }
-    ensures present { result.status ≡ 0 → IsNotDouble (A.setup array) (A.slot result.array) }
-    ensures two { result.status ≡ 5 → NamesTwoLost (A.slot array) (A.slot result.array)
+    ensures present { result.status ≡ status_done
+        → IsNotDouble (A.setup array) (A.slot result.array) }
+    ensures two { result.status ≡ status_two → NamesTwoLost (A.slot array) (A.slot result.array)
         (K.written sink.old) (K.written sink.new) }
-    ensures worn { result.status ≡ 12 → TellsWear (K.written sink.old) (K.written sink.new) }
-    ensures source { result.status ≡ 3 → HasRisen (S.faults source.old) (S.faults source.new) }
-    ensures sink { result.status ≡ 4 → HasRisen (K.faults sink.old) (K.faults sink.new) }
+    ensures worn { result.status ≡ status_worn
+        → TellsWear (K.written sink.old) (K.written sink.new) }
+    ensures source { result.status ≡ status_source
+        → HasRisen (S.faults source.old) (S.faults source.new) }
+    ensures sink { result.status ≡ status_sink → HasRisen (K.faults sink.old) (K.faults sink.new) }
     ensures unhurt { EndsAtFaults (source_use S.left S.faults source.old source.new)
         (sink_use K.written K.faults sink.old sink.new) result.status }
 {
@@ -84,9 +88,10 @@ pub fn serve_volumes<S: Source, K: Sink, A: Serves>(
 // The last flush and the last line.
 fn end_session<K: Sink, A: Serves>(device: &mut Device<A>, end: LinesEnd, sink: &mut K) -> u8
     ensures ends { EndsSession A.Serves device.old device.new (K.written sink.old) (K.written sink.new) end result }
-    ensures cause { result ≡ 4 → end ≢ AtSink → HasRisen (K.faults sink.old) (K.faults sink.new) }
+    ensures cause { result ≡ status_sink
+        → end ≢ AtSink → HasRisen (K.faults sink.old) (K.faults sink.new) }
     ensures later { K.faults sink.old ≤ K.faults sink.new }
-    ensures still { result ≢ 4 → K.faults sink.new ≡ K.faults sink.old }
+    ensures still { result ≢ status_sink → K.faults sink.new ≡ K.faults sink.old }
 {
     match end {
         LinesEnd::Done => end_done(device, sink),
@@ -98,9 +103,9 @@ fn end_session<K: Sink, A: Serves>(device: &mut Device<A>, end: LinesEnd, sink: 
 
 fn end_done<K: Sink, A: Serves>(device: &mut Device<A>, sink: &mut K) -> u8
     ensures ends { EndsSession A.Serves device.old device.new (K.written sink.old) (K.written sink.new) Done result }
-    ensures cause { result ≡ 4 → HasRisen (K.faults sink.old) (K.faults sink.new) }
+    ensures cause { result ≡ status_sink → HasRisen (K.faults sink.old) (K.faults sink.new) }
     ensures later { K.faults sink.old ≤ K.faults sink.new }
-    ensures still { result ≢ 4 → K.faults sink.new ≡ K.faults sink.old }
+    ensures still { result ≢ status_sink → K.faults sink.new ≡ K.faults sink.old }
 {
     let mut text = Text::new();
     match device.flush() {

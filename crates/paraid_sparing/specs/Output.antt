@@ -12,6 +12,7 @@ use Rattle.paraid_serve.specs.Ending.{end_line, halt_line, status_of_halt}
 use Rattle.paraid_serve.specs.Output.{IsLeftByStretch, IsWholeStatus, begins_with}
 use Rattle.paraid_serve.specs.Streams.{Streams}
 use Rattle.paraid_serve.specs.Stretch.{Span, Stretch, events_in}
+use Rattle.paraid_serve.specs.Statuses.{status_done, status_sink, status_source, status_too_long}
 use Rattle.paraid_session.specs.Mount.{IsMountedFromEach}
 use Rattle.paraid_session.specs.Turn.{Point}
 use Rattle.paraid_sparing.specs.Session.{EndsSpared, Spared}
@@ -22,22 +23,22 @@ use Rattle.paraid_sparing.specs.Sparing.{Supply, stock_line}
 pub data SparedText (span : Span) (supply : Supply) (p : Point) (bytes : List ℕ) : ℕ → List ℕ → Type 0 where
   -- every line is answered, and all writes are kept
   done : (writes : ℕ) (text : List ℕ) (e : EndsSpared span supply.wait p supply.stock (events_in (lines_of bytes)) text (Flushed writes))
-      → SparedText span supply p bytes 0 ((begins_with p ++ text) ++ (stock_line e.lines.stock span.setup ++ end_line writes))
+      → SparedText span supply p bytes status_done ((begins_with p ++ text) ++ (stock_line e.lines.stock span.setup ++ end_line writes))
   -- every line is answered, and a halt came in one of them or in the last flush
   halted : (halt : Halt) (text : List ℕ) (e : EndsSpared span supply.wait p supply.stock (events_in (lines_of bytes)) text (Halted halt))
       → SparedText span supply p bytes (status_of_halt halt) ((begins_with p ++ text) ++ (stock_line e.lines.stock span.setup ++ halt_line halt))
   -- a rest without a newline is not answered
   source : (text : List ℕ) → Spared span supply.wait p supply.stock (events_in (whole_lines bytes)) text
-      → SparedText span supply p bytes 3 ((begins_with p ++ text) ++ codes "source\n")
+      → SparedText span supply p bytes status_source ((begins_with p ++ text) ++ codes "source\n")
   too_long : length bytes ≡ 2 ^ 40 → (text : List ℕ) → Spared span supply.wait p supply.stock (events_in (whole_lines bytes)) text
-      → SparedText span supply p bytes 10 ((begins_with p ++ text) ++ codes "toolong\n")
+      → SparedText span supply p bytes status_too_long ((begins_with p ++ text) ++ codes "toolong\n")
 
--- What was written: the whole text of the status; or at 4 a first part of such a text, or of the answers to a first part of the lines.
+-- What was written: the whole text of the status; or at `status_sink` a first part of such a text, or of the answers to a first part of the lines.
 pub data WritesSpared (span : Span) (supply : Supply) (p : Point) (bytes : List ℕ) (status : ℕ) (text : List ℕ) : Type 0 where
   whole : SparedText span supply p bytes status text → WritesSpared span supply p bytes status text
-  last_line : status ≡ 4 → (code : ℕ) (full rest : List ℕ) → SparedText span supply p bytes code full → full ≡ text ++ rest
+  last_line : status ≡ status_sink → (code : ℕ) (full rest : List ℕ) → SparedText span supply p bytes code full → full ≡ text ++ rest
       → WritesSpared span supply p bytes status text
-  answers : status ≡ 4 → (lines more : List (List ℕ)) (told rest : List ℕ) → lines_of bytes ≡ lines ++ more
+  answers : status ≡ status_sink → (lines more : List (List ℕ)) (told rest : List ℕ) → lines_of bytes ≡ lines ++ more
       → Spared span supply.wait p supply.stock (events_in lines) told → begins_with p ++ told ≡ text ++ rest
       → WritesSpared span supply p bytes status text
 
@@ -48,7 +49,7 @@ pub record SparedRun (seen seen_now : Shown) (span : Span) (supply : Supply) (st
   pub text : List ℕ
   pub given : Gives streams.source.left_before streams.source.left bytes
   pub grows : GrowsByBytes streams.sink.written_before streams.sink.written text
-  pub full : status ≡ 10 → length bytes ≡ 2 ^ 40
+  pub full : status ≡ status_too_long → length bytes ≡ 2 ^ 40
   pub all : IsWholeStatus status → (length bytes < 2 ^ 40) × AtEnd streams.source.left
   pub causes : HasSparedCauses supply.wait seen supply.stock seen_now bytes status text
   pub wrote : IsSome span.now → (p : Point) → stood p → WritesSpared span supply p bytes status text
@@ -57,7 +58,7 @@ pub record SparedRun (seen seen_now : Shown) (span : Span) (supply : Supply) (st
 pub record FollowsSpared (span : Span) (supply : Supply) (bytes : List ℕ) (status : ℕ) (text : List ℕ) (p : Point) : Type 0 where
   pub wrote : WritesSpared span supply p bytes status text
   pub left : (events : List Event) (c : Stretch span p events) → IsLeftByStretch c
-  pub synced : status ≡ 0 → (t : Trail) → span.now ≡ Some t → AreSynced (now t)
+  pub synced : status ≡ status_done → (t : Trail) → span.now ≡ Some t → AreSynced (now t)
 
 -- The headline for a run with spares.
 pub record SparedHeadline (seen seen_now : Shown) (span : Span) (supply : Supply) (began : ℕ) (streams : Streams) (status : ℕ) : Type 0 where
@@ -65,7 +66,7 @@ pub record SparedHeadline (seen seen_now : Shown) (span : Span) (supply : Supply
   pub text : List ℕ
   pub given : Gives streams.source.left_before streams.source.left bytes
   pub grows : GrowsByBytes streams.sink.written_before streams.sink.written text
-  pub full : status ≡ 10 → length bytes ≡ 2 ^ 40
+  pub full : status ≡ status_too_long → length bytes ≡ 2 ^ 40
   pub all : IsWholeStatus status → (length bytes < 2 ^ 40) × AtEnd streams.source.left
   pub causes : HasSparedCauses supply.wait seen supply.stock seen_now bytes status text
   pub said : IsSome span.now → IsMountedFromEach span.slots span.setup began span.start (FollowsSpared span supply bytes status text)

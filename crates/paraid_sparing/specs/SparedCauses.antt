@@ -11,6 +11,7 @@ use Rattle.paraid_serve.specs.declared.stop.Stop.TheVariants.{Source, TooLong, S
 use Rattle.paraid_serve.specs.Causes.{HasCause, Shown}
 use Rattle.paraid_serve.specs.Ending.{end_line, halt_line, status_of_halt}
 use Rattle.paraid_serve.specs.Output.{first_line}
+use Rattle.paraid_serve.specs.Statuses.{status_done, status_sink, status_source, status_too_long}
 use Rattle.paraid_spare.specs.declared.pool.Pool.{Pool}
 use Rattle.paraid_sparing.specs.Serving.{Keeps}
 use Rattle.paraid_sparing.specs.Sparing.{Stock, due_when, spare_line, stock_line, stock_when, used}
@@ -80,17 +81,17 @@ HaveSparedCauses wait old k pool (Err Sink) bytes text new = (b : BeginsCauses w
 -- stands before the last lines, and the last lines.
 pub data CausedText (wait : ℕ) (old : Shown) (k : Stock) (new : Shown) (bytes : List ℕ) : ℕ → List ℕ → List ℕ → Type 0 where
   done : (writes : ℕ) (text : List ℕ) (mid : Shown) (j : Stock) → HaveLineCauses wait old k (lines_of bytes) text mid j → HasCause mid Flush (Flushed writes) new
-      → CausedText wait old k new bytes 0 (first_line old ++ text) (stock_line j old.setup ++ end_line writes)
+      → CausedText wait old k new bytes status_done (first_line old ++ text) (stock_line j old.setup ++ end_line writes)
   halted : (halt : Halt) (text : List ℕ) (mid : Shown) (j : Stock) → HaveLineCauses wait old k (lines_of bytes) text mid j → HasCause mid Flush (Halted halt) new
       → CausedText wait old k new bytes (status_of_halt halt) (first_line old ++ text) (stock_line j old.setup ++ halt_line halt)
-  source : (text : List ℕ) (j : Stock) → HaveLineCauses wait old k (whole_lines bytes) text new j → CausedText wait old k new bytes 3 (first_line old ++ text) (codes "source\n")
-  too_long : (text : List ℕ) (j : Stock) → HaveLineCauses wait old k (whole_lines bytes) text new j → CausedText wait old k new bytes 10 (first_line old ++ text) (codes "toolong\n")
+  source : (text : List ℕ) (j : Stock) → HaveLineCauses wait old k (whole_lines bytes) text new j → CausedText wait old k new bytes status_source (first_line old ++ text) (codes "source\n")
+  too_long : (text : List ℕ) (j : Stock) → HaveLineCauses wait old k (whole_lines bytes) text new j → CausedText wait old k new bytes status_too_long (first_line old ++ text) (codes "toolong\n")
 
--- What was written, with its causes: a whole text; or at 4 one whose last lines are cut, or a first part of the first line, and then
+-- What was written, with its causes: a whole text; or at `status_sink` one whose last lines are cut, or a first part of the first line, and then
 -- nothing was served; or what tells the lines up to one that is cut, and then nothing more was served.
 pub data HasSparedCauses (wait : ℕ) (old : Shown) (k : Stock) (new : Shown) (bytes : List ℕ) (status : ℕ) (text : List ℕ) : Type 0 where
   whole : (front last : List ℕ) → CausedText wait old k new bytes status front last → text ≡ front ++ last → HasSparedCauses wait old k new bytes status text
-  last_lines : status ≡ 4 → (code : ℕ) (front last : List ℕ) (count : ℕ) → CausedText wait old k new bytes code front last → text ≡ front ++ take count last
+  last_lines : status ≡ status_sink → (code : ℕ) (front last : List ℕ) (count : ℕ) → CausedText wait old k new bytes code front last → text ≡ front ++ take count last
       → HasSparedCauses wait old k new bytes status text
-  at_first_line : status ≡ 4 → bytes ≡ [] → new ≡ old → (rest : List ℕ) → first_line old ≡ text ++ rest → HasSparedCauses wait old k new bytes status text
-  answers : status ≡ 4 → (part : List ℕ) → BeginsCauses wait old k bytes part new → text ≡ first_line old ++ part → HasSparedCauses wait old k new bytes status text
+  at_first_line : status ≡ status_sink → bytes ≡ [] → new ≡ old → (rest : List ℕ) → first_line old ≡ text ++ rest → HasSparedCauses wait old k new bytes status text
+  answers : status ≡ status_sink → (part : List ℕ) → BeginsCauses wait old k bytes part new → text ≡ first_line old ++ part → HasSparedCauses wait old k new bytes status text

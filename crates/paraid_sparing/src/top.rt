@@ -8,6 +8,7 @@ ghost use Rattle.paraid_serve.specs.Lost.{NamesTwoLost, TellsWear};
 ghost use Rattle.paraid_serve.specs.Output.{IsServedStatus};
 ghost use Rattle.paraid_serve.specs.Streams.{EndsAtFaults, sink_use, source_use, streams_of};
 ghost use Rattle.paraid_serve.specs.Stretch.{span_of};
+ghost use Rattle.paraid_serve.specs.Statuses.{status_done, status_sink, status_source, status_two, status_worn};
 ghost use Rattle.paraid_session.specs.Mount.{IsMountedFromEach};
 ghost use Rattle.paraid_spare.specs.Pools.{left_of, spins_of};
 ghost use Rattle.paraid_sparing.specs.Output.{SparedHeadline, SparedRun};
@@ -28,9 +29,9 @@ fn tell_end<K: Sink>(sink: &mut K, pool: &Pool, disks: u8, line: &[u8], status: 
     ensures ends { EndsWithLine (K.written sink.old) (K.written sink.new)
         (spares_line (left_of pool.now) (spins_of pool.now) disks ++ line.now) status result }
     ensures cause { result ≢ status
-        → (result ≡ 4) × HasRisen (K.faults sink.old) (K.faults sink.new) }
+        → (result ≡ status_sink) × HasRisen (K.faults sink.old) (K.faults sink.new) }
     ensures later { K.faults sink.old ≤ K.faults sink.new }
-    ensures still { result ≢ 4 → K.faults sink.new ≡ K.faults sink.old }
+    ensures still { result ≢ status_sink → K.faults sink.new ≡ K.faults sink.old }
 {
     let mut text = Text::new();
     spares_text(&mut text, pool, disks);
@@ -58,12 +59,12 @@ pub fn serve<S: Source, K: Sink, A: Serves>(
     ensures told { Extends (A.told array.old) (A.told array.new) }
     ensures slots { A.slots array.new ≡ A.slots array.old }
     ensures status { IsServedStatus result }
-    ensures present { result ≡ 0 → IsNotDouble (A.setup array.old) (A.slot array.new) }
-    ensures two { result ≡ 5 → NamesTwoLost (A.slot array.old) (A.slot array.new)
+    ensures present { result ≡ status_done → IsNotDouble (A.setup array.old) (A.slot array.new) }
+    ensures two { result ≡ status_two → NamesTwoLost (A.slot array.old) (A.slot array.new)
         (K.written sink.old) (K.written sink.new) }
-    ensures worn { result ≡ 12 → TellsWear (K.written sink.old) (K.written sink.new) }
-    ensures source { result ≡ 3 → HasRisen (S.faults source.old) (S.faults source.new) }
-    ensures sink { result ≡ 4 → HasRisen (K.faults sink.old) (K.faults sink.new) }
+    ensures worn { result ≡ status_worn → TellsWear (K.written sink.old) (K.written sink.new) }
+    ensures source { result ≡ status_source → HasRisen (S.faults source.old) (S.faults source.new) }
+    ensures sink { result ≡ status_sink → HasRisen (K.faults sink.old) (K.faults sink.new) }
     ensures unhurt { EndsAtFaults (source_use S.left S.faults source.old source.new)
         (sink_use K.written K.faults sink.old sink.new) result }
 {
@@ -109,12 +110,12 @@ pub fn serve_mounted<S: Source, K: Sink, A: Serves>(
     ensures told { Extends (A.told array.old) (A.told array.new) }
     ensures slots { A.slots array.new ≡ A.slots array.old }
     ensures status { IsServedStatus result }
-    ensures present { result ≡ 0 → IsNotDouble (A.setup array.old) (A.slot array.new) }
-    ensures two { result ≡ 5 → NamesTwoLost (A.slot array.old) (A.slot array.new)
+    ensures present { result ≡ status_done → IsNotDouble (A.setup array.old) (A.slot array.new) }
+    ensures two { result ≡ status_two → NamesTwoLost (A.slot array.old) (A.slot array.new)
         (K.written sink.old) (K.written sink.new) }
-    ensures worn { result ≡ 12 → TellsWear (K.written sink.old) (K.written sink.new) }
-    ensures source { result ≡ 3 → HasRisen (S.faults source.old) (S.faults source.new) }
-    ensures sink { result ≡ 4 → HasRisen (K.faults sink.old) (K.faults sink.new) }
+    ensures worn { result ≡ status_worn → TellsWear (K.written sink.old) (K.written sink.new) }
+    ensures source { result ≡ status_source → HasRisen (S.faults source.old) (S.faults source.new) }
+    ensures sink { result ≡ status_sink → HasRisen (K.faults sink.old) (K.faults sink.new) }
     ensures unhurt { EndsAtFaults (source_use S.left S.faults source.old source.new)
         (sink_use K.written K.faults sink.old sink.new) result }
 {
