@@ -50,8 +50,8 @@ pub use format_fault::FormatFault;
 pub use hearing::{Heard, hear};
 pub use lacking::two_missing;
 pub use law::{
-    a_disk_can_be_parked_at_rest, a_recovery_leaves_what_is_held,
-    reads_leave_what_can_be_recovered, power_calls_keep_a_rest,
+    a_disk_can_be_parked_at_rest, a_recovery_leaves_what_is_held, power_calls_keep_a_rest,
+    reads_leave_what_can_be_recovered,
 };
 pub use law_of_reads::{reads_leave_the_images, reads_leave_what_is_held};
 pub use law_of_refusals::{
