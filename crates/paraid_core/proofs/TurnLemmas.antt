@@ -4,11 +4,11 @@ use Rattle.std.proofs.Common.{sym, ◌∙◌, ap, subst, arith, inl, inr}
 use Rattle.std.proofs.lemmas.Bool.{cases_Bool, cases_eq, false≢true}
 use Rattle.paraid_rack.specs.Disks.{is_present}
 use Rattle.paraid_rack.specs.Slots.{ChangesOneSlot, Slot}
-use Rattle.paraid_core.specs.Steps.{OnlyTurnsDisks}
+use Rattle.paraid_core.specs.Steps.{OnlyPowersDisks}
 
 module _ (slot then : ℕ → Slot) (d : ℕ) (leaves : Slot) (dirt done : Bool) (touched : ChangesOneSlot slot then d leaves dirt done) (here : is_present (slot d).power ≡ true) (size : leaves.size ≡ (slot d).size)
     (faults : leaves.faults ≡ (slot d).faults) where
-  pub only_turns : OnlyTurnsDisks slot then
+  pub only_turns : OnlyPowersDisks slot then
   only_turns = record {
     there = λ x is. elim (cases_eq x d) [
       | inl same ↦ ap (λ (e : ℕ). is_present (slot e).power) same ∙ here

@@ -22,5 +22,5 @@ pub mod Serving
 pub mod Committing
 pub mod Copying
 pub mod Marking
-pub mod Turning
+pub mod PowerCalls
 pub mod Gathering

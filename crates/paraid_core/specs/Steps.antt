@@ -42,7 +42,7 @@ AreUnsyncedCopied slot core = (d : ℕ) → d < core.meta.setup.geometry.disks �
     → (slot (store_rack core.store) d).unsynced ≡ true → is_copied core.copied d ≡ true
 
 -- A disk that is there was there before, with the same size, and no count of faults falls.
-pub record OnlyTurnsDisks (old new : ℕ → Slot) : Type 0 where
+pub record OnlyPowersDisks (old new : ℕ → Slot) : Type 0 where
   pub there : (d : ℕ) → is_present (new d).power ≡ true → is_present (old d).power ≡ true
   pub size : (d : ℕ) → is_present (new d).power ≡ true → (new d).size ≡ (old d).size
   pub no_fall : (d : ℕ) → (old d).faults ≤ (new d).faults

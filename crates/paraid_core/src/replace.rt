@@ -18,7 +18,7 @@ ghost use Rattle.paraid_record.specs.Range.{rebuild_units};
 ghost use Rattle.paraid_txn.specs.Losses.{IsLostNow};
 ghost use Rattle.paraid_txn.specs.Stores.{named_of};
 ghost use Rattle.paraid_core.specs.Marking.{OnlyMarks};
-ghost use Rattle.paraid_core.specs.Turning.{LeavesAttached};
+ghost use Rattle.paraid_core.specs.PowerCalls.{LeavesAttached};
 
 use crate::staged::Core;
 use paraid_base::{DiskNo, Out};

@@ -34,7 +34,7 @@ use Rattle.paraid_txn.specs.Uses.{EachCall}
 use Rattle.paraid_core.specs.declared.staged.Core.{Core}
 use Rattle.paraid_core.specs.CoreInvariant.{HoldsBetweenCalls}
 use Rattle.paraid_core.specs.Cores.{IsCoreHeldSinceCommit, IsCoreReady}
-use Rattle.paraid_core.specs.Steps.{IsMarkedFrom, OnlyTurnsDisks}
+use Rattle.paraid_core.specs.Steps.{IsMarkedFrom, OnlyPowersDisks}
 use Rattle.paraid_core.proofs.CommitLemmas.{both_of}
 use Rattle.paraid_core.proofs.KindLemmas.{calls_milder, calls_are, calls_then, one_is_each}
 use Rattle.paraid_core.proofs.StepLemmas.{marked_from_setup}
@@ -97,7 +97,7 @@ lost_twice (Down to) = refl
 lost_twice (Up to) = refl
 
 -- one after the other
-pub powered_then : (a b : ℕ → Slot) (m n o : Meta) → MarksPowered a m n → OnlyTurnsDisks a b → n.setup ≡ m.setup → MarksPowered b n o → MarksPowered b m o
+pub powered_then : (a b : ℕ → Slot) (m n o : Meta) → MarksPowered a m n → OnlyPowersDisks a b → n.setup ≡ m.setup → MarksPowered b n o → MarksPowered b m o
 powered_then a b m n o first turned setup second = by first.lost second.lost refl refl
   where
     away : (d : ℕ) → is_present (a d).power ≡ false → is_present (b d).power ≡ false

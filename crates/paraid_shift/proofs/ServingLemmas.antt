@@ -29,7 +29,7 @@ use Rattle.paraid_core.specs.CoreInvariant.{AreCopiesSynced, IsHeldWithOneMissin
 use Rattle.paraid_core.specs.Cores.{CanCoreServe, CoreStandsFor, IsCoreHeldSinceCommit, IsCoreReady, core_down}
 use Rattle.paraid_core.specs.Fills.{KeepsFilled}
 use Rattle.paraid_core.specs.Down.{IsDownAfter}
-use Rattle.paraid_core.specs.Steps.{AreUnsyncedCopied, IsMarkedFrom, IsNamedOrAbsent, IsStillOut, LeavesCore, OnlyTurnsDisks}
+use Rattle.paraid_core.specs.Steps.{AreUnsyncedCopied, IsMarkedFrom, IsNamedOrAbsent, IsStillOut, LeavesCore, OnlyPowersDisks}
 use Rattle.paraid_core.proofs.AfterLemmas.{marked_writes}
 use Rattle.paraid_core.proofs.ChainLemmas.{keeps_low}
 use Rattle.paraid_core.proofs.StepLemmas.{marked_from_setup}
@@ -105,13 +105,13 @@ same_none a = record { disks = refl; epoch = refl; named = refl }
 pub same_then : {R : Type 0} {g : _} (a b c : Store R g) → IsSameStore a b → IsSameStore b c → IsSameStore a c
 same_then a b c first second = record { disks = second.disks ∙ first.disks; epoch = second.epoch ∙ first.epoch; named = second.named ∙ first.named }
 
-pub turns_none : (a : ℕ → Slot) → OnlyTurnsDisks a a
+pub turns_none : (a : ℕ → Slot) → OnlyPowersDisks a a
 turns_none a = record { there = λ d here. here; size = λ d here. refl; no_fall = λ d. omega arith }
 
-pub turns_lost : (a b : ℕ → Slot) → OnlyLosesSlots a b → OnlyTurnsDisks a b
+pub turns_lost : (a b : ℕ → Slot) → OnlyLosesSlots a b → OnlyPowersDisks a b
 turns_lost a b spared = record { there = λ d here. ap is_present (sym (spared.power d here)) ∙ here; size = spared.size; no_fall = spared.no_fall }
 
-pub turns_then : (a b c : ℕ → Slot) → OnlyTurnsDisks a b → OnlyTurnsDisks b c → OnlyTurnsDisks a c
+pub turns_then : (a b c : ℕ → Slot) → OnlyPowersDisks a b → OnlyPowersDisks b c → OnlyPowersDisks a c
 turns_then a b c first second = record {
   there = λ d here. first.there d (second.there d here);
   size = λ d here. second.size d here ∙ first.size d (second.there d here);
@@ -119,7 +119,7 @@ turns_then a b c first second = record {
 }
 
 -- each disk that is not out is as large as before
-pub large_then : (a b : ℕ → Slot) (m n : Meta) → AreAllLarge a m → OnlyTurnsDisks a b → n.setup ≡ m.setup → ((d : ℕ) → named_out m.out ≡ Some d → named_out n.out ≡ Some d)
+pub large_then : (a b : ℕ → Slot) (m n : Meta) → AreAllLarge a m → OnlyPowersDisks a b → n.setup ≡ m.setup → ((d : ℕ) → named_out m.out ≡ Some d → named_out n.out ≡ Some d)
     → ((d : ℕ) → d < n.setup.geometry.disks → is_present (b d).power ≡ false → named_out n.out ≡ Some d) → AreAllLarge b n
 large_then a b m n large turns setup stays absent d low not = elim (cases_Bool (is_present (b d).power)) [
   | inr away ↦ absurd (not (absent d low away))
@@ -134,7 +134,7 @@ large_then a b m n large turns setup stays absent d low not = elim (cases_Bool (
 pub down_none : (was : Option ℕ) (a : ℕ → Slot) → IsDownAfter was was a a
 down_none was a = record { known = λ d is. inl is }
 
-pub down_then : (o p q : Option ℕ) (a b c : ℕ → Slot) → IsDownAfter o p a b → OnlyTurnsDisks a b → IsDownAfter p q b c → OnlyTurnsDisks b c → IsDownAfter o q a c
+pub down_then : (o p q : Option ℕ) (a b c : ℕ → Slot) → IsDownAfter o p a b → OnlyPowersDisks a b → IsDownAfter p q b c → OnlyPowersDisks b c → IsDownAfter o q a c
 down_then o p q a b c first turns second later = record {
   known = λ d is. elim (second.known d is) [
     | inr risen ↦ inr (HasRisen-sooner (a d).faults (b d).faults (c d).faults (turns.no_fall d) risen)
@@ -145,7 +145,7 @@ down_then o p q a b c first turns second later = record {
   ];
 }
 
-pub two_later : (o p : Option ℕ) (a b c : ℕ → Slot) (two : Two) → IsDownAfter o p a b → OnlyTurnsDisks a b → ((d : ℕ) → (b d).faults ≤ (c d).faults) → AreTwoDown p b c two → AreTwoDown o a c two
+pub two_later : (o p : Option ℕ) (a b c : ℕ → Slot) (two : Two) → IsDownAfter o p a b → OnlyPowersDisks a b → ((d : ℕ) → (b d).faults ≤ (c d).faults) → AreTwoDown p b c two → AreTwoDown o a c two
 two_later o p a b c two first turns later it = record {
   first = elim it.first [
     | inr risen ↦ inr (HasRisen-sooner (a two.first).faults (b two.first).faults (c two.first).faults (turns.no_fall two.first) risen)
@@ -178,7 +178,7 @@ marked_version a b m = ap (λ (z : Meta). z.version) m.is ∙ by m.lost
 
 -- a park or a spin-up
 pub leaves_turned : {R : Type 0} {g : _} (count : R → ℕ) (slot : R → ℕ → Slot) (a b : Core R g) → count (store_rack b.store) ≡ count (store_rack a.store) → IsSameStore a.store b.store → IsMarkedFrom a.meta b.meta
-    → OnlyTurnsDisks (slot (store_rack a.store)) (slot (store_rack b.store))
+    → OnlyPowersDisks (slot (store_rack a.store)) (slot (store_rack b.store))
     → ((d : ℕ) → named_out b.meta.out ≡ Some d → (named_out a.meta.out ≡ Some d) ⊎ HasRisen (slot (store_rack a.store) d).faults (slot (store_rack b.store) d).faults) → LeavesArray count slot a b
 leaves_turned count slot a b slots same marked turned risen = record {
   slots = slots;
@@ -257,7 +257,7 @@ module _ {R : Type 0} {g : _} (count : R → ℕ) (slot : R → ℕ → Slot) (a
     setup = setup;
     version = version;
     writes = writes;
-    turned = subst (λ (z : Store R g). OnlyTurnsDisks (slot (store_rack a.store)) (slot (store_rack z))) (sym store) (turns_none (slot (store_rack a.store)));
+    turned = subst (λ (z : Store R g). OnlyPowersDisks (slot (store_rack a.store)) (slot (store_rack z))) (sym store) (turns_none (slot (store_rack a.store)));
     down = record { known = λ d is. inl (ap (λ (z : Store R g). or_else (named_of z) (named_out a.meta.out)) (sym store) ∙ ap (λ (z : _). or_else (named_of b.store) (named_out z)) (sym out) ∙ is) };
   }
 
@@ -269,7 +269,7 @@ module _ {R : Type 0} {g : _} (count : R → ℕ) (slot : R → ℕ → Slot) (a
     copies_synced = copies_still count slot a b q setup copied;
     unsynced = unsynced_still count slot a b q setup (λ d is. ap gone_out out ∙ is) store copied;
     large = large_then (slot (store_rack a.store)) (slot (store_rack b.store)) a.meta b.meta q.large
-        (subst (λ (z : Store R g). OnlyTurnsDisks (slot (store_rack a.store)) (slot (store_rack z))) (sym store) (turns_none (slot (store_rack a.store)))) setup (λ d is. ap named_out out ∙ is) ready.absent;
+        (subst (λ (z : Store R g). OnlyPowersDisks (slot (store_rack a.store)) (slot (store_rack z))) (sym store) (turns_none (slot (store_rack a.store)))) setup (λ d is. ap named_out out ∙ is) ready.absent;
   }
 
 pub out_none : (o : Out) → has_out o ≡ false → o ≡ No

@@ -19,7 +19,7 @@ use Rattle.paraid_core.specs.CoreInvariant.{AreCopiesSynced}
 use Rattle.paraid_core.specs.Cores.{CanCoreServe, CoreStandsFor, IsCoreHeldSinceCommit, IsCoreReady, core_down}
 use Rattle.paraid_core.specs.Down.{IsDownAfter}
 use Rattle.paraid_core.specs.Fills.{Filled}
-use Rattle.paraid_core.specs.Steps.{AreUnsyncedCopied, IsMarkedFrom, IsStillOut, OnlyTurnsDisks}
+use Rattle.paraid_core.specs.Steps.{AreUnsyncedCopied, IsMarkedFrom, IsStillOut, OnlyPowersDisks}
 
 -- each disk of the array that is not out has the size of the array
 abbrev pub AreAllLarge : (ℕ → Slot) → Meta → Type 0
@@ -52,7 +52,7 @@ pub record LeavesArray {R : Type 0} {g : _} (count : R → ℕ) (slot : R → �
   pub setup : new.meta.setup ≡ old.meta.setup
   pub version : new.meta.version ≡ old.meta.version
   pub writes : new.meta.writes ≡ old.meta.writes
-  pub turned : OnlyTurnsDisks (slot (store_rack old.store)) (slot (store_rack new.store))
+  pub turned : OnlyPowersDisks (slot (store_rack old.store)) (slot (store_rack new.store))
   pub down : IsDownAfter (core_down old) (core_down new) (slot (store_rack old.store)) (slot (store_rack new.store))
 
 -- Slots that fit the meta before fit it still.

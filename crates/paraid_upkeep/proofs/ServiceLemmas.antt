@@ -20,8 +20,8 @@ use Rattle.paraid_core.specs.declared.staged.Core.{Core}
 use Rattle.paraid_core.specs.CoreInvariant.{is_copied}
 use Rattle.paraid_core.specs.Cores.{CanCoreServe, IsCoreReady}
 use Rattle.paraid_core.specs.Lost.{CoreMarksLost, MarksLost}
-use Rattle.paraid_core.specs.Steps.{AreUnsyncedCopied, IsMarkedFrom, OnlyTurnsDisks}
-use Rattle.paraid_core.specs.Turning.{AnswersTurn}
+use Rattle.paraid_core.specs.Steps.{AreUnsyncedCopied, IsMarkedFrom, OnlyPowersDisks}
+use Rattle.paraid_core.specs.PowerCalls.{AnswersPowerCall}
 use Rattle.paraid_shift.specs.Serving.{AreAllLarge, IsCoreServing, KeepsFit, LeavesArray}
 use Rattle.paraid_core.proofs.StepLemmas.{marked_from_setup}
 use Rattle.paraid_shift.proofs.FitsLemmas.{power_same}
@@ -85,7 +85,7 @@ module _ {R : Type 0} {g : _} (count : R → ℕ) (slot : R → ℕ → Slot) wh
   }
 
   -- after a park, in which the disk may be lost
-  pub serving_turned : (a b : Core R g) → IsCoreServing count slot a → IsMarkedFrom a.meta b.meta → OnlyTurnsDisks (slot (store_rack a.store)) (slot (store_rack b.store)) → b.draft ≡ a.draft → b.copied ≡ a.copied
+  pub serving_turned : (a b : Core R g) → IsCoreServing count slot a → IsMarkedFrom a.meta b.meta → OnlyPowersDisks (slot (store_rack a.store)) (slot (store_rack b.store)) → b.draft ≡ a.draft → b.copied ≡ a.copied
       → IsCoreReady count slot b → CanCoreServe slot b → AreUnsyncedCopied slot b → IsCoreServing count slot b
   serving_turned a b q marked turned draft copied ready serves unsynced = record {
     ready = ready;
@@ -118,7 +118,7 @@ module _ {R : Type 0} {g : _} (count : R → ℕ) (slot : R → ℕ → Slot) wh
   serving_service a q = record { ready = q.ready; serves = q.serves; draft = q.draft; copies_synced = q.copies_synced; large = q.large }
 
 -- no disk is turned
-pub unturned : {R : Type 0} {g : Ghosts R} (a : Core R g) (disk : ℕ) → AnswersTurn disk a a (Ok true)
+pub unturned : {R : Type 0} {g : Ghosts R} (a : Core R g) (disk : ℕ) → AnswersPowerCall disk a a (Ok true)
 unturned a disk = record {
   meta = record { lost = None; is = refl; alone = λ d x is. let z : None ≡ Some d = is in absurd cc };
   same = λ is. refl;

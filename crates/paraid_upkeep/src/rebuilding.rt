@@ -7,7 +7,7 @@ ghost use Rattle.paraid_base.specs.Log.{worn_at};
 ghost use Rattle.paraid_base.specs.States.{rebuilt_count};
 ghost use Rattle.paraid_base.specs.Told.{HasRisen};
 ghost use Rattle.paraid_core.specs.Cores.{batch_of, core_down, core_rack, core_table, meta_of, store_of};
-ghost use Rattle.paraid_core.specs.Turning.{AnswersTurn};
+ghost use Rattle.paraid_core.specs.PowerCalls.{AnswersPowerCall};
 ghost use Rattle.paraid_upkeep.specs.Events.{CommitsAtMost};
 ghost use Rattle.paraid_upkeep.specs.Service.{IsOutKnown, LeavesInService, MakesCalls};
 ghost use Rattle.paraid_upkeep.specs.TickAnswers.{TellsRebuild, units_unbuilt};
@@ -45,7 +45,7 @@ fn park_back<R: Rack>(core: &mut Core<R>, disk: DiskNo) -> Result<bool, Two>
     // With it each disk is powered by the gear, where the others are.
     ensures fits { OnOk result (FitsSlots (R.slot (core_rack core.old)) (meta_with_out (meta_of core.old) (Gone disk))
         → FitsSlots (R.slot (core_rack core.new)) (meta_of core.new)) }
-    ensures answers { AnswersTurn disk core.old core.new result }
+    ensures answers { AnswersPowerCall disk core.old core.new result }
     ensures marked { result ≡ Ok false → meta_of core.new ≡ meta_after_loss (meta_of core.old) disk }
     ensures table { core_table core.new ≡ core_table core.old }
     // In the event of a tick it is the park with which a rebuild ends; no second disk is lost in one call.

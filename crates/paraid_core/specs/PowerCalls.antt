@@ -14,10 +14,10 @@ use Rattle.paraid_core.specs.Cores.{CanCoreServe, CoreStandsFor, IsCoreHeldSince
 use Rattle.paraid_core.specs.Fills.{Filled}
 use Rattle.paraid_core.specs.Lost.{CoreTellsLosses}
 use Rattle.paraid_core.specs.Marking.{KeepsStaged}
-use Rattle.paraid_core.specs.Steps.{AreUnsyncedCopied, IsMarkedFrom, IsNamedOrAbsent, IsStillOut, OnlyTurnsDisks}
+use Rattle.paraid_core.specs.Steps.{AreUnsyncedCopied, IsMarkedFrom, IsNamedOrAbsent, IsStillOut, OnlyPowersDisks}
 
 -- The power of this disk can be turned: the gear does not need it, it is not out, and nothing is staged.
-pub record CanTurn {R : Type 0} {g : Ghosts R} (core : Core R g) (disk : ℕ) : Type 0 where
+pub record CanChangePower {R : Type 0} {g : Ghosts R} (core : Core R g) (disk : ℕ) : Type 0 where
   pub ready : IsCoreReady g.slot_count g.slot core
   pub still : IsStillOut (named_of core.store) core.meta
   pub disk_in : disk < core.meta.setup.geometry.disks
@@ -26,10 +26,10 @@ pub record CanTurn {R : Type 0} {g : Ghosts R} (core : Core R g) (disk : ℕ) : 
   pub nothing : core.batch ≡ []
 
 -- No other slot changes, and what is staged is as it was.
-pub record TurnsDisk {R A : Type 0} {g : Ghosts R} (disk : ℕ) (old new : Core R g) (result : Result A Two) : Type 0 where
+pub record PowersDisk {R A : Type 0} {g : Ghosts R} (disk : ℕ) (old new : Core R g) (result : Result A Two) : Type 0 where
   pub slots : g.slot_count (store_rack new.store) ≡ g.slot_count (store_rack old.store)
   pub others : (d : ℕ) → d ≢ disk → g.slot (store_rack new.store) d ≡ g.slot (store_rack old.store) d
-  pub turned : OnlyTurnsDisks (g.slot (store_rack old.store)) (g.slot (store_rack new.store))
+  pub turned : OnlyPowersDisks (g.slot (store_rack old.store)) (g.slot (store_rack new.store))
   pub store : IsSameStore old.store new.store
   pub staged : KeepsStaged old new
   pub ready : OnOk result (IsCoreReady g.slot_count g.slot new)
@@ -37,7 +37,7 @@ pub record TurnsDisk {R A : Type 0} {g : Ghosts R} (disk : ℕ) (old new : Core 
   pub absent : OnOk result (IsNamedOrAbsent g.slot old → IsNamedOrAbsent g.slot new)
 
 -- False where the disk was lost: it has failed and is gone. Where another one was out, two are down.
-pub record AnswersTurn {R : Type 0} {g : Ghosts R} (disk : ℕ) (old new : Core R g) (result : Result Bool Two) : Type 0 where
+pub record AnswersPowerCall {R : Type 0} {g : Ghosts R} (disk : ℕ) (old new : Core R g) (result : Result Bool Two) : Type 0 where
   pub meta : OnOk result (IsMarkedFrom old.meta new.meta)
   pub same : result ≡ Ok true → new.meta ≡ old.meta
   pub risen : OnOk result ((d : ℕ) → named_out new.meta.out ≡ Some d
@@ -49,7 +49,7 @@ pub record AnswersTurn {R : Type 0} {g : Ghosts R} (disk : ℕ) (old new : Core 
 
 -- Each stop leaves what it left before. The writes and what is copied stay, and where the disk was lost the shift is that
 -- of the last commit still.
-pub record StandsTurned {R : Type 0} {g : Ghosts R} (old new : Core R g) (result : Result Bool Two) : Type 0 where
+pub record StandsPowered {R : Type 0} {g : Ghosts R} (old new : Core R g) (result : Result Bool Two) : Type 0 where
   pub done : result ≡ Ok true → (h : History) (lo : ℕ) → Ran (g.told (store_rack old.store)) (g.told (store_rack new.store))
       (CrashTriple (IsCoreHeldSinceCommit g.slot_count old h lo) (Filled g.slot_count old h lo old.meta.fill) (Filled g.slot_count new h lo old.meta.fill))
   pub lost : result ≡ Ok false → (h : History) (lo : ℕ) → Ran (g.told (store_rack old.store)) (g.told (store_rack new.store))
