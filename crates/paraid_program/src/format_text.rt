@@ -1,5 +1,5 @@
 //! The line that tells why no array was made, and its status.
-ghost use Rattle.std.specs.Prelude.{◌≡◌, ◌≤◌, [], ◌++◌, length, codes, decimal};
+ghost use Rattle.std.specs.Prelude.{◌≡◌, ◌≤◌, [], ◌++◌, length, codes};
 ghost use Rattle.std.specs.Fmt.{signed_decimal};
 ghost use Rattle.paraid_config.specs.Keys.{key_name};
 ghost use Rattle.paraid_program.specs.Lines.{config_line, formatted_line, geometry_line, refusal_line, refusal_status as refusal_status_of};

@@ -8,8 +8,7 @@ use Rattle.paraid_base.specs.Soft.{soft_disk, soft_stripe}
 use Rattle.paraid_base.specs.Sums.{without, xor_upto}
 use Rattle.paraid_base.proofs.SumsLemmas.{without_other, without_same, xor_upto_same}
 use Rattle.paraid_image.specs.Out.{is_out}
-use Rattle.paraid_image.specs.Spot.{Spot, View, hard_spot, is_hard, rising_to, soft_spot, spot_of}
-use Rattle.paraid_view.specs.declared.spot.Spot.TheVariants.{Hard, Soft}
+use Rattle.paraid_image.specs.Spot.{View, is_hard, rising_to}
 use Rattle.paraid_image.specs.Value.{reconstructed_value, soft_value, stored_value, stripe_rest, value}
 
 pub ok_map : {A E X Y : Type 0} (r : Result A E) → (X → Y) → OnOk r X → OnOk r Y
@@ -87,30 +86,3 @@ hard_powered v r d h = elim (cases_Bool (nat_lt d v.meta.gear)) [
   | inl low ↦ inl (grind (arith, nat_tests))
   | inr high ↦ inr (grind (arith, nat_tests))
 ]
-
--- a cell is where its spot says
-pub spot_hard : (v : View) (r d : ℕ) → is_hard v r d ≡ true → spot_of v r d ≡ hard_spot v.meta.setup.geometry r d
-unfolding spot_of
-spot_hard v r d h = rw h refl
-
-pub spot_soft : (v : View) (r d : ℕ) → is_hard v r d ≡ false → spot_of v r d ≡ soft_spot v.meta.setup.geometry v.meta.gear r d
-unfolding spot_of
-spot_soft v r d h = rw h refl
-
-pub hard_says : {d p disk place : ℕ} → Hard d p ≡ Hard disk place → (d ≡ disk) × (p ≡ place)
-hard_says e = (cc, cc)
-
-pub soft_says : {d p s disk place stripe : ℕ} → Soft d p s ≡ Soft disk place stripe → (d ≡ disk) × (p ≡ place) × (s ≡ stripe)
-soft_says e = (cc, cc, cc)
-
-pub not_soft : {d p disk place stripe : ℕ} → Hard d p ≡ Soft disk place stripe → ⊥
-not_soft e = cc
-
-pub not_hard : {d p s disk place : ℕ} → Soft d p s ≡ Hard disk place → ⊥
-not_hard e = cc
-
-abbrev pub place_at : ℕ → ℕ → Spot
-place_at d p = record { disk = d; place = p }
-
-pub same_spot : {d p disk place : ℕ} → d ≡ disk → p ≡ place → place_at d p ≡ place_at disk place
-same_spot e f = rw (e, f) refl
