@@ -73,7 +73,7 @@ pub record CopiesUnits {R A : Type 0} {g : Ghosts R} (old new : Core R g) (resul
   pub moments : IsHeldFromRest g.slot_count g.told old new
 
 -- Disks are powered from a rest on, one after the other, by calls that the meta has made. No cell becomes dirty or clean.
-pub record PowersDisks {R A : Type 0} {g : Ghosts R} (old new : Core R g) (result : Result A Two) : Type 0 where
+pub record PowersFromRest {R A : Type 0} {g : Ghosts R} (old new : Core R g) (result : Result A Two) : Type 0 where
   pub powers : OnOk result (PowersDisks g.slot_count g.slot g.told old new)
   pub table : new.dirty ≡ old.dirty
   pub calls : MakesPowerCalls g.told old new

@@ -14,7 +14,7 @@ ghost use Rattle.paraid_rack.specs.Told.{CrashTriple, Ran};
 ghost use Rattle.paraid_record.specs.Range.{AreNextGears, allowed_spins};
 ghost use Rattle.paraid_shift.specs.Losing.{LosesUp};
 ghost use Rattle.paraid_shift.specs.Outcomes.{CommitsUp};
-ghost use Rattle.paraid_shift.specs.Parts.{CanBeginShift, KeepsContents, KeepsRack, ServesShifted, SparesRack, PowersDisks};
+ghost use Rattle.paraid_shift.specs.Parts.{CanBeginShift, KeepsContents, KeepsRack, ServesShifted, SparesRack, PowersFromRest};
 ghost use Rattle.paraid_shift.specs.Serving.{HasBegunUp, IsComingUp, IsCoreServing, RestsInShift};
 ghost use Rattle.paraid_shift.specs.Steps.{CoreLosesInSteps, CoreStepsInEvent};
 ghost use Rattle.paraid_txn.specs.Stores.{IsSameStore};
@@ -71,7 +71,7 @@ fn raise<R: Rack>(core: &mut Core<R>, disk: DiskNo) -> Result<(), Two>
     requires past_gear { (meta_of core.old).gear ≤ disk }
     requires rises { disk < rising_to (meta_of core.old).phase }
     ensures rising { OnOk result (IsComingUp R.slot_count R.slot core.new (disk + 1)) }
-    ensures turns { PowersDisks core.old core.new result }
+    ensures turns { PowersFromRest core.old core.new result }
     ensures rack { KeepsRack core.old core.new
         (CoreTellsLosses R.told (named_out (meta_of core.old).out) core.old core.new) result }
     ensures store { IsSameStore (store_of core.old) (store_of core.new) }
@@ -91,7 +91,7 @@ fn bring_up<R: Rack>(core: &mut Core<R>) -> Result<(), Two>
     requires rising { IsComingUp R.slot_count R.slot core.old (meta_of core.old).gear }
     ensures serving { OnOk result (IsCoreServing R.slot_count R.slot core.new) }
     ensures nothing { OnOk result (batch_of core.new ≡ []) }
-    ensures turns { PowersDisks core.old core.new result }
+    ensures turns { PowersFromRest core.old core.new result }
     ensures rack { KeepsRack core.old core.new
         (CoreTellsLosses R.told (named_out (meta_of core.old).out) core.old core.new) result }
     ensures others { OnOk result ((d : ℕ) → (d < (meta_of core.old).gear) ⊎ (rising_to (meta_of core.old).phase ≤ d)

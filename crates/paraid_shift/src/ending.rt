@@ -12,7 +12,7 @@ ghost use Rattle.paraid_rack.specs.declared.call.Power.TheVariants.{Parked, Spin
 ghost use Rattle.paraid_rack.specs.Told.{CrashTriple, Ran};
 ghost use Rattle.paraid_shift.specs.Losing.{LosesMark};
 ghost use Rattle.paraid_shift.specs.Outcomes.{CommitsGear};
-ghost use Rattle.paraid_shift.specs.Parts.{CanEndShift, KeepsContents, KeepsRack, ServesShifted, SparesRack, PowersDisks};
+ghost use Rattle.paraid_shift.specs.Parts.{CanEndShift, KeepsContents, KeepsRack, ServesShifted, SparesRack, PowersFromRest};
 ghost use Rattle.paraid_shift.specs.Serving.{IsCoreServing, RestsInShift};
 ghost use Rattle.paraid_shift.specs.Steps.{EndsInSteps, EndsLosing};
 ghost use Rattle.paraid_txn.specs.Stores.{IsSameStore};
@@ -49,7 +49,7 @@ fn lower<R: Rack>(core: &mut Core<R>, disk: DiskNo) -> Result<(), Two>
     requires nothing { batch_of core.old ≡ [] }
     ensures serving { OnOk result (IsCoreServing R.slot_count R.slot core.new) }
     ensures nothing { OnOk result (batch_of core.new ≡ []) }
-    ensures turns { PowersDisks core.old core.new result }
+    ensures turns { PowersFromRest core.old core.new result }
     ensures rack { KeepsRack core.old core.new
         (CoreTellsLosses R.told (named_out (meta_of core.old).out) core.old core.new) result }
     ensures store { IsSameStore (store_of core.old) (store_of core.new) }
@@ -72,7 +72,7 @@ fn park_down<R: Rack>(core: &mut Core<R>, hi: u8) -> Result<(), Two>
     requires nothing { batch_of core.old ≡ [] }
     ensures serving { OnOk result (IsCoreServing R.slot_count R.slot core.new) }
     ensures nothing { OnOk result (batch_of core.new ≡ []) }
-    ensures turns { PowersDisks core.old core.new result }
+    ensures turns { PowersFromRest core.old core.new result }
     ensures rack { KeepsRack core.old core.new
         (CoreTellsLosses R.told (named_out (meta_of core.old).out) core.old core.new) result }
     ensures parked { OnOk result ((d : ℕ) → (meta_of core.old).gear ≤ d → d < hi
