@@ -39,6 +39,10 @@ pub not_false : (x : Bool) → not x ≡ false → x ≡ true
 not_false true is = refl
 not_false false is = absurd (true≢false is)
 
+pub not_true : (x : Bool) → not x ≡ true → x ≡ false
+not_true true is = absurd (false≢true is)
+not_true false is = refl
+
 pub some_waits : (w : Waiting) → waits w ≡ true → 0 < length w.blocks
 some_waits w any = grind (arith, nat_tests, any)
 

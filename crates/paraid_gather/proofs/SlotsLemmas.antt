@@ -1,5 +1,5 @@
 -- What a call leaves of the slots above.
-use Rattle.std.proofs.Common.{◌≡◌, ◌≢◌, ℕ, ◌≤◌, Bool, true, false, ◌||◌, refl, ◌∙◌, ap, subst}
+use Rattle.std.proofs.Common.{◌≡◌, ◌≢◌, ℕ, ◌≤◌, Bool, true, false, ◌||◌, refl, sym, ◌∙◌, ap, subst}
 use Rattle.std.proofs.lemmas.Bool.{true≢false}
 use Rattle.paraid_base.specs.Told.{HasRisen}
 use Rattle.paraid_rack.specs.Slots.{Slot, ChangesOneSlot}
@@ -43,3 +43,23 @@ changes_then a b c d same is leaves dirt dirt' ok first second = record {
   risen = λ no. subst (λ (x : Slot). HasRisen x.faults (c d).faults) (first.done refl ∙ is) (second.risen no);
   later = λ no. subst (λ (x : Slot). x.faults ≤ (c d).faults) (first.done refl ∙ is) (second.later no);
 }
+
+-- no slot changes
+pub changes_nothing : (slot : ℕ → Slot) (d : ℕ) (leaves : Slot) (dirt : Bool) → slot d ≡ leaves → ChangesOneSlot slot slot d leaves dirt true
+changes_nothing slot d leaves dirt is = record {
+  others = λ e not. refl;
+  done = λ _. is;
+  absent = λ not. absurd (true≢false not);
+  empty = λ not. absurd (true≢false not);
+  unsynced = λ not. absurd (true≢false not);
+  risen = λ not. absurd (true≢false not);
+  later = λ not. absurd (true≢false not);
+}
+
+-- where blocks wait, a write of blocks leaves the slot as it was above
+pub changes_out : (slot slot' : ℕ → Slot) (d : ℕ) (w : Waiting) (ok : Bool) → waits w ≡ true → ChangesOneSlot slot slot' d (record (slot d) { unsynced = true }) true ok → ChangesOneSlot slot slot' d (slot_above (slot d) w) (slot_above (slot d) w).unsynced ok
+changes_out slot slot' d w ok any call = subst (λ (u : Bool). ChangesOneSlot slot slot' d (record (slot d) { unsynced = u }) u ok) (sym (or_any (slot d).unsynced (waits w) any)) call
+  where
+    or_any : (x y : Bool) → y ≡ true → (x || y) ≡ true
+    or_any true y is = refl
+    or_any false y is = is

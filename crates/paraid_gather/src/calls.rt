@@ -3,6 +3,7 @@ ghost use Rattle.std.specs.Prelude.{◌≡◌, ◌<◌, ℕ, true, false, [], �
 ghost use Rattle.paraid_rack.specs.declared.call.Call.TheVariants.{Attach, Read, Sync, Write};
 ghost use Rattle.paraid_rack.specs.declared.call.Power.TheVariants.{Spinning as Turning};
 ghost use Rattle.paraid_rack.specs.Disks.{Disks, step, with_at};
+ghost use Rattle.paraid_rack.specs.Slots.{ChangesOneSlot};
 ghost use Rattle.paraid_rack.specs.Told.{Ran};
 ghost use Rattle.paraid_rack.specs.Trail.{Trail, now};
 ghost use Rattle.paraid_gather.specs.Above.{IsAbove, slot_above};
@@ -33,6 +34,11 @@ pub(crate) fn write_out<R: BulkRack>(
     ensures empty { is_ok result ≡ true → waits (run_of run.new) ≡ false }
     ensures spins { is_ok result ≡ true → (R.slot rack.new disk).power ≡ Turning }
     ensures waited { is_ok result ≡ false → waits (run_of run.old) ≡ true }
+    // The slots below become as they were above.
+    ensures slot { ChangesOneSlot (R.slot rack.old) (R.slot rack.new) disk
+        (slot_above (R.slot rack.old disk) (run_of run.old))
+        (slot_above (R.slot rack.old disk) (run_of run.old)).unsynced (is_ok result) }
+    ensures idle { waits (run_of run.old) ≡ false → rack.new ≡ rack.old }
 {
     if run.is_empty() {
         return Ok(());

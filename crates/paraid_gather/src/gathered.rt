@@ -44,7 +44,7 @@ impl<R: BulkRack + Drop, L: Noted + Drop> Gathered<R, L> {
     ghost use Rattle.paraid_rack.specs.Trail.{Trail, now};
     ghost use Rattle.paraid_gather.specs.Above.{Follows, IsAbove, TellsOut, slots_above, told_above};
     ghost use Rattle.paraid_gather.specs.Bulk.{left_by};
-    ghost use Rattle.paraid_gather.specs.Finish.{EndsGathered, WritesOut};
+    ghost use Rattle.paraid_gather.specs.Finish.{EndsGathered, NotesLost, WritesSlotOut, lost_at, lost_below};
     ghost use Rattle.paraid_gather.specs.Gathering.{IsGathered};
     ghost use Rattle.paraid_gather.specs.PowerCalls.{PowersAs};
     ghost use Rattle.paraid_rack.specs.Told.{Ran};
@@ -95,6 +95,13 @@ impl<R: BulkRack + Drop, L: Noted + Drop> Gathered<R, L> {
         ensures power_calls { Ran (R.told (rack_below self.old)) (R.told (rack_below self.new)) (PowersAs []) }
         ensures empty { is_ok result ≡ true → waits (waiting_in self.new disk) ≡ false }
         ensures others { (d : ℕ) → d ≢ disk → waiting_in self.new d ≡ waiting_in self.old d }
+        // It fails only where a block waits. The slots below become as they were above.
+        ensures waited { is_ok result ≡ false → waits (waiting_in self.old disk) ≡ true }
+        ensures below { ChangesOneSlot (R.slot (rack_below self.old)) (R.slot (rack_below self.new)) disk
+            (slots_above (R.slot (rack_below self.old)) (waiting_in self.old) disk)
+            (slots_above (R.slot (rack_below self.old)) (waiting_in self.old) disk).unsynced (is_ok result) }
+        ensures log { is_ok result ≡ true → log_of self.new ≡ log_of self.old }
+        ensures idle { waits (waiting_in self.old disk) ≡ false → rack_below self.new ≡ rack_below self.old }
     {
         let result = calls::write_out(&mut self.rack, &mut self.runs[disk as usize], disk);
         note_out(&mut self.log, disk, result.is_ok());
@@ -105,24 +112,43 @@ impl<R: BulkRack + Drop, L: Noted + Drop> Gathered<R, L> {
     fn settle(&mut self, disk: DiskNo)
         requires { disk < R.slot_count (rack_below self.old) }
         ensures slots { R.slot_count (rack_below self.new) ≡ R.slot_count (rack_below self.old) }
-        ensures out { WritesOut (R.told (rack_below self.old)) (R.told (rack_below self.new))
-            (L.noted (log_of self.old)) (L.noted (log_of self.new))
-            (waiting_in self.old) (waiting_in self.new) }
+        ensures slot { WritesSlotOut (R.slot (rack_below self.old) disk) (waiting_in self.old disk)
+            (R.slot (rack_below self.new) disk) }
+        ensures other_slots { (d : ℕ) → d ≢ disk → R.slot (rack_below self.new) d
+            ≡ R.slot (rack_below self.old) d }
+        ensures log { NotesLost (lost_at disk (R.slot (rack_below self.old) disk) (R.slot (rack_below self.new) disk))
+            (L.noted (log_of self.old)) (L.noted (log_of self.new)) }
+        ensures power_calls { Ran (R.told (rack_below self.old)) (R.told (rack_below self.new)) (PowersAs []) }
         ensures empty { (R.slot (rack_below self.new) disk).power ≡ Power.Spinning
             → waits (waiting_in self.new disk) ≡ false }
         ensures others { (d : ℕ) → d ≢ disk → waiting_in self.new d ≡ waiting_in self.old d }
-        ensures powers { (d : ℕ) → d ≢ disk → (R.slot (rack_below self.new) d).power
-            ≡ (R.slot (rack_below self.old) d).power }
+        ensures idle { ((R.slot (rack_below self.old) disk).power ≡ Power.Spinning
+            → waits (waiting_in self.old disk) ≡ false)
+            → (rack_below self.new ≡ rack_below self.old) × (log_of self.new ≡ log_of self.old) }
     {
         if let Power::Spinning = self.rack.power(disk) {
             let _ = self.write_out(disk);
         }
     }
 
-    /// Writes out all that waits, and gives the rack and the log back.
+    /// Writes out all that waits, and gives the rack and the log back. A disk for which no block waits is
+    /// not called.
     pub fn finish(self) -> Finished<R, L>
-        ensures { (below noted : Trail) → R.told result.rack ≡ Some below → L.noted result.log ≡ Some noted
+        ensures slots { R.slot_count result.rack ≡ R.slot_count (rack_below self) }
+        // Each disk is as the rack above had it, or it is lost, and then a block waited for it.
+        ensures slot { (d : ℕ) → WritesSlotOut (R.slot (rack_below self) d) (waiting_in self d)
+            (R.slot result.rack d) }
+        // Of each disk that is lost a failed sync is noted, and nothing else.
+        ensures log { NotesLost (lost_below (R.slot_count result.rack) (R.slot (rack_below self)) (R.slot result.rack))
+            (L.noted (log_of self)) (L.noted result.log) }
+        // No disk is turned on or off.
+        ensures power_calls { Ran (R.told (rack_below self)) (R.told result.rack) (PowersAs []) }
+        ensures gathered { (below noted : Trail) → R.told result.rack ≡ Some below → L.noted result.log ≡ Some noted
             → EndsGathered (told_above (R.told (rack_below self)) (L.noted (log_of self))) below noted }
+        // Where nothing waits for a disk that spins, nothing is called and nothing is noted.
+        ensures idle { ((d : ℕ) → (R.slot (rack_below self) d).power ≡ Power.Spinning
+            → waits (waiting_in self d) ≡ false)
+            → (result.rack ≡ rack_below self) × (result.log ≡ log_of self) }
     {
         let mut gathered = self;
         for disk in 0..gathered.rack.slots() {

@@ -1,8 +1,10 @@
 //! That the definitions fit together. A law is the contract of a function that does nothing.
-ghost use Rattle.std.specs.Prelude.{◌≡◌, ◌≤◌, ◌+◌, ℕ, List, [], ◌∷◌, ◌++◌, length};
-ghost use Rattle.paraid_rack.specs.Disks.{Disks, IsImage};
-ghost use Rattle.paraid_rack.specs.Trail.{Trail, disks, moments};
-ghost use Rattle.paraid_gather.specs.Above.{IsAbove, LeavesImageOf};
+ghost use Rattle.std.specs.Prelude.{◌≡◌, ◌≤◌, ◌+◌, ℕ, false, List, [], ◌∷◌, ◌++◌, length, Option};
+ghost use Rattle.paraid_rack.specs.Disks.{Disks, IsImage, IsPresent};
+ghost use Rattle.paraid_rack.specs.Slots.{Slot};
+ghost use Rattle.paraid_rack.specs.Trail.{Trail, disks, moments, now};
+ghost use Rattle.paraid_gather.specs.Above.{IsAbove, LeavesImageOf, slot_above};
+ghost use Rattle.paraid_gather.specs.Finish.{EndsGathered, WritesSlotOut};
 ghost use Rattle.paraid_gather.specs.Gathering.{CallGroup, IsGathered, LeavesImage, calls_above, calls_below};
 ghost use Rattle.paraid_gather.specs.PowerCalls.{power_calls};
 ghost use Rattle.paraid_gather.specs.Waiting.{Waiting};
@@ -42,4 +44,17 @@ pub fn a_stop_between_groups()
 /// The rack below parks, spins up and attaches what the rack above does, in the same order.
 pub fn a_gathered_rack_powers_as_above()
     ensures { (below above : Trail) → IsGathered below above → power_calls below.calls ≡ power_calls above.calls }
+{}
+
+/// Where all is written out, a disk of which each block is synced is left as the rack above had it.
+pub fn finish_keeps_a_synced_disk()
+    ensures { (before after : Slot) (w : Waiting) → WritesSlotOut before w after
+        → (slot_above before w).unsynced ≡ false → after ≡ slot_above before w }
+{}
+
+/// Where all is written out and each block is synced, no disk is lost, and no call is noted.
+pub fn finish_of_synced_disks_notes_nothing()
+    ensures { (before : Option Trail) (below noted : Trail) (it : EndsGathered before below noted)
+        → ((d p : ℕ) → IsPresent (now it.above) d → (now it.above).loose d p ≡ false)
+        → (it.lost ≡ []) × (noted ≡ it.above) }
 {}

@@ -16,6 +16,7 @@ pub use bulk::BulkRack;
 pub use gathered::{Finished, Gathered};
 pub use laws::{
     a_gathered_rack_powers_as_above, a_stop_between_groups, a_stop_leaves_an_image,
-    a_stop_of_a_gathered_rack_is_a_stop_above, a_stop_within_a_group,
+    a_stop_of_a_gathered_rack_is_a_stop_above, a_stop_within_a_group, finish_keeps_a_synced_disk,
+    finish_of_synced_disks_notes_nothing,
 };
 pub use noted::{Noted, Unnoted};

@@ -1,5 +1,5 @@
 //! A record of the calls on a rack, beside it.
-ghost use Rattle.std.specs.Prelude.{Option, None};
+ghost use Rattle.std.specs.Prelude.{◌≡◌, true, Option, None};
 ghost use Rattle.paraid_rack.specs.Trail.{Trail};
 ghost use Rattle.paraid_rack.specs.Told.{GrowsByCall};
 ghost use Rattle.paraid_gather.specs.Above.{TellsOut};
@@ -49,7 +49,8 @@ pub(crate) fn note_write<L: Noted>(
 /// Notes how what waits for a disk was written out: done, it is no call of the rack above, and failed it is
 /// a sync that has failed.
 pub(crate) fn note_out<L: Noted>(log: &mut L, disk: DiskNo, done: bool)
-    ensures { TellsOut done disk (L.noted log.old) (L.noted log.new) }
+    ensures told { TellsOut done disk (L.noted log.old) (L.noted log.new) }
+    ensures same { done ≡ true → log.new ≡ log.old }
 {
     if done {
         return;

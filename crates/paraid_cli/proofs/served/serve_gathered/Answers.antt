@@ -21,7 +21,7 @@ returns-clause-told g c command asked =
       count = ap g.R.Rack.slot_count is.rack;
       before = slots_alone g.R.Rack.slot taken.rack c.args.rack (waiting_in taken) is.rack is.none;
       told = ap (λ (o : Option Trail). told_above o (g.L.Noted.noted taken.log)) (ap g.R.Rack.told is.rack) ∙ ap (λ (o : Option Trail). told_above (g.R.Rack.told c.args.rack) o) (ap g.L.Noted.noted is.log);
-      gathered = c.finish-rack.ensures;
+      gathered = c.finish-rack.ensures.gathered;
       does = c.paraid-status.ensures.does command asked;
       complete = c.paraid-status.ensures.complete command asked;
     }

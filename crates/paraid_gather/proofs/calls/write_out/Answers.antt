@@ -2,7 +2,9 @@ use Rattle.std.proofs.Common.{◌≡◌, ◌<◌, length, subst, refl, sym, ◌�
 use Rattle.std.proofs.lemmas.Bool.{false≢true}
 use Rattle.paraid_rack.specs.Disks.{is_present}
 use Rattle.paraid_gather.specs.Waiting.{Waiting, run_of, waits}
-use Rattle.paraid_gather.proofs.DoesLemmas.{does_none, does_out, not_false, some_waits}
+use Rattle.paraid_gather.proofs.DoesLemmas.{does_none, does_out, not_false, not_true, some_waits}
+use Rattle.paraid_gather.proofs.FinishLemmas.{above_quiet}
+use Rattle.paraid_gather.proofs.SlotsLemmas.{changes_nothing, changes_out}
 use Rattle.paraid_gather.proofs.PowerCallsLemmas.{power_calls_none, power_calls_written}
 use Rattle.paraid_gather.proofs.calls.write_out.Goals as goal
 
@@ -33,3 +35,18 @@ returns-in_default-clause-power_calls g c = power_calls_written (g.R.Rack.told c
 
 pub returns-clause-power_calls : goal.returns-clause-power_calls
 returns-clause-power_calls g c = power_calls_written (g.R.Rack.told c.args.rack.now) (g.R.Rack.told c.write_blocks.new.self) c.args.disk _ true c.in-Ok.ensures.told
+
+pub returns-then-is_empty-clause-slot : goal.returns-then-is_empty-clause-slot
+returns-then-is_empty-clause-slot g c = changes_nothing (g.R.Rack.slot c.args.rack.now) c.args.disk _ _ (sym (above_quiet (g.R.Rack.slot c.args.rack.now c.args.disk) (run_of c.args.run.now) (not_true _ (sym c.if-is_empty.ensures))))
+
+pub returns-in_default-clause-slot : goal.returns-in_default-clause-slot
+returns-in_default-clause-slot g c = changes_out (g.R.Rack.slot c.args.rack.now) (g.R.Rack.slot c.write_blocks.new.self) c.args.disk (run_of c.args.run.now) false (not_false _ (sym c.if-is_empty.ensures)) c.in_default.ensures.slot
+
+pub returns-clause-slot : goal.returns-clause-slot
+returns-clause-slot g c = changes_out (g.R.Rack.slot c.args.rack.now) (g.R.Rack.slot c.write_blocks.new.self) c.args.disk (run_of c.args.run.now) true (not_false _ (sym c.if-is_empty.ensures)) c.in-Ok.ensures.slot
+
+pub returns-in_default-clause-idle : goal.returns-in_default-clause-idle
+returns-in_default-clause-idle g c none = absurd (false≢true (sym none ∙ not_false _ (sym c.if-is_empty.ensures)))
+
+pub returns-clause-idle : goal.returns-clause-idle
+returns-clause-idle g c none = absurd (false≢true (sym none ∙ not_false _ (sym c.if-is_empty.ensures)))
