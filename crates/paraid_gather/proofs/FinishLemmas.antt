@@ -14,13 +14,14 @@ use Rattle.paraid_rack.specs.Disks.{Disks, IsPresent, is_present}
 use Rattle.paraid_rack.specs.Told.{Ran}
 use Rattle.paraid_rack.specs.Trail.{Trail, now, extend}
 use Rattle.paraid_rack.proofs.TrailsLemmas.{extend-extend}
-use Rattle.paraid_gather.specs.Waiting.{AllFit, Fits, Waiting, none_waits, waiting, waits}
-use Rattle.paraid_gather.specs.Above.{IsAbove, TellsOut, slot_above, told_above}
+use Rattle.paraid_gather.specs.Waiting.{AllFit, Fits, Waiting, waiting, waits}
+use Rattle.paraid_gather.specs.Above.{Follows, IsAbove, TellsOut, slot_above, told_above}
+use Rattle.paraid_gather.specs.Bulk.{left_by}
 use Rattle.paraid_gather.specs.PowerCalls.{PowersAs}
-use Rattle.paraid_gather.specs.Finish.{EndsGathered, HasLoose, LosesSlot, NotesLost, WritesSlotOut, failed_syncs, lost_at, lost_below}
+use Rattle.paraid_gather.specs.Finish.{EndsGathered, HasLoose, LosesSlot, NotesLost, WritesSlotOut, WritesWhatWaits, failed_syncs, lost_at, lost_below}
 use Rattle.paraid_gather.specs.Stands.{StandsOver, StandsWhereTold}
-use Rattle.paraid_gather.proofs.AboveLemmas.{some_none}
-use Rattle.paraid_gather.proofs.DoesLemmas.{none_waiting, or_right}
+use Rattle.paraid_gather.proofs.DoesLemmas.{or_right}
+use Rattle.paraid_gather.proofs.WritesLemmas.{above_none, writes_none, writes_one, writes_then}
 
 extend_none : (a : Trail) → extend a [] ≡ a
 extend_none a = ap (λ (l : List Call). record { start = a.start; calls = l }) (append-nil a.calls)
@@ -100,6 +101,10 @@ module _ (slot slot' : ℕ → Slot) (d : ℕ) (w : Waiting) (ok : Bool) (spins 
   pub notes_lost : (noted noted' : Option Trail) → TellsOut ok d noted noted' → NotesLost (lost_at d (slot d) (slot' d)) noted noted'
   notes_lost noted noted' tells = subst (λ (l : List ℕ). NotesLost l noted noted') (sym (lost_is ok refl)) (notes_one noted noted' d ok tells)
 
+  -- and what waits for it is on it, if it is left
+  pub below_lost : (told told' : Option Trail) (w0 w1 : ℕ → Waiting) → Ran told told' (PowersAs []) → ((s : Disks) → Follows told told' w0 w1 s (left_by ok d s)) → Ran told told' (WritesWhatWaits (lost_at d (slot d) (slot' d)) w0 w1)
+  below_lost told told' w0 w1 turned follows = subst (λ (l : List ℕ). Ran told told' (WritesWhatWaits l w0 w1)) (sym (lost_is ok refl)) (writes_one told told' w0 w1 d ok turned follows)
+
 -- a disk that does not spin is not called
 pub slot_still : (x : Slot) (w : Waiting) → Fits x w → (x.power ≡ Spinning → ⊥) → WritesSlotOut x w x
 slot_still x w fits still = record {
@@ -115,30 +120,35 @@ pick_same d false = refl
 pub notes_still : (d : ℕ) (x : Slot) (noted : Option Trail) → NotesLost (lost_at d x x) noted noted
 notes_still d x noted = subst (λ (l : List ℕ). NotesLost l noted noted) (sym (pick_same d (is_present x.power))) (notes_none noted)
 
+pub below_still : (d : ℕ) (x : Slot) (told : Option Trail) (w : ℕ → Waiting) → Ran told told (WritesWhatWaits (lost_at d x x) w w)
+below_still d x told w = subst (λ (l : List ℕ). Ran told told (WritesWhatWaits l w w)) (sym (pick_same d (is_present x.power))) (writes_none told w)
+
 -- What waited for the disks below n was written out. For the others it waits still.
-pub record IsOutBelow (n : ℕ) (slot slot' : ℕ → Slot) (w w' : ℕ → Waiting) (noted noted' : Option Trail) : Type 0 where
+pub record IsOutBelow (n : ℕ) (slot slot' : ℕ → Slot) (w w' : ℕ → Waiting) (told told' noted noted' : Option Trail) : Type 0 where
   pub out : (d : ℕ) → d < n → WritesSlotOut (slot d) (w d) (slot' d)
   pub quiet : (d : ℕ) → d < n → (slot' d).power ≡ Spinning → waits (w' d) ≡ false
   pub slots : (d : ℕ) → n ≤ d → slot' d ≡ slot d
   pub waiting : (d : ℕ) → n ≤ d → w' d ≡ w d
   pub log : NotesLost (lost_below n slot slot') noted noted'
+  pub below : Ran told told' (WritesWhatWaits (lost_below n slot slot') w w')
 
-pub out_none : (slot : ℕ → Slot) (w : ℕ → Waiting) (noted : Option Trail) → IsOutBelow 0 slot slot w w noted noted
-out_none slot w noted = record {
+pub out_none : (slot : ℕ → Slot) (w : ℕ → Waiting) (told noted : Option Trail) → IsOutBelow 0 slot slot w w told told noted noted
+out_none slot w told noted = record {
   out = λ d below. absurd (none_below d below);
   quiet = λ d below. absurd (none_below d below);
   slots = λ d _. refl;
   waiting = λ d _. refl;
   log = notes_none noted;
+  below = writes_none told w;
 }
   where
     none_below : (d : ℕ) → d < 0 → ⊥
     none_below d below = omega (arith, below)
 
 -- one disk more
-out_suc : (n : ℕ) (slot mid new : ℕ → Slot) (w w1 w2 : ℕ → Waiting) (noted noted1 noted2 : Option Trail) → IsOutBelow n slot mid w w1 noted noted1 → WritesSlotOut (mid n) (w1 n) (new n) → ((new n).power ≡ Spinning → waits (w2 n) ≡ false)
-    → ((d : ℕ) → d ≢ n → new d ≡ mid d) → ((d : ℕ) → d ≢ n → w2 d ≡ w1 d) → NotesLost (lost_at n (mid n) (new n)) noted1 noted2 → IsOutBelow (suc n) slot new w w2 noted noted2
-out_suc n slot mid new w w1 w2 noted noted1 noted2 before here quiet slots waiting notes = record {
+out_suc : (n : ℕ) (slot mid new : ℕ → Slot) (w w1 w2 : ℕ → Waiting) (told told1 told2 noted noted1 noted2 : Option Trail) → IsOutBelow n slot mid w w1 told told1 noted noted1 → WritesSlotOut (mid n) (w1 n) (new n) → ((new n).power ≡ Spinning → waits (w2 n) ≡ false)
+    → ((d : ℕ) → d ≢ n → new d ≡ mid d) → ((d : ℕ) → d ≢ n → w2 d ≡ w1 d) → NotesLost (lost_at n (mid n) (new n)) noted1 noted2 → Ran told1 told2 (WritesWhatWaits (lost_at n (mid n) (new n)) w1 w2) → IsOutBelow (suc n) slot new w w2 told told2 noted noted2
+out_suc n slot mid new w w1 w2 told told1 told2 noted noted1 noted2 before here quiet slots waiting notes calls = record {
   out = λ d below. elim (cases_eq d n) [
     | inl at ↦ subst (λ (k : ℕ). WritesSlotOut (slot k) (w k) (new k)) (sym at) (subst (λ (x : Slot). WritesSlotOut x (w n) (new n)) (before.slots n (omega arith)) (subst (λ (v : Waiting). WritesSlotOut (mid n) v (new n)) (before.waiting n (omega arith)) here))
     | inr not ↦ subst (λ (x : Slot). WritesSlotOut (slot d) (w d) x) (sym (slots d not)) (before.out d (omega (arith, below, not)))
@@ -149,18 +159,20 @@ out_suc n slot mid new w w1 w2 noted noted1 noted2 before here quiet slots waiti
   ];
   slots = λ d past. slots d (omega (arith, past)) ∙ before.slots d (omega (arith, past));
   waiting = λ d past. waiting d (omega (arith, past)) ∙ before.waiting d (omega (arith, past));
-  log = subst (λ (l : List ℕ). NotesLost l noted noted2)
-      (ap (λ (l : List ℕ). l ++ lost_at n (mid n) (new n)) (sym (lost_same n slot mid new (λ d below. slots d (omega (arith, below))))) ∙ ap (λ (x : Slot). lost_below n slot new ++ lost_at n x (new n)) (before.slots n (omega arith)))
-      (notes_then noted noted1 noted2 (lost_below n slot mid) (lost_at n (mid n) (new n)) before.log notes);
+  log = subst (λ (l : List ℕ). NotesLost l noted noted2) lost (notes_then noted noted1 noted2 (lost_below n slot mid) (lost_at n (mid n) (new n)) before.log notes);
+  below = subst (λ (l : List ℕ). Ran told told2 (WritesWhatWaits l w w2)) lost (writes_then told told1 told2 (lost_below n slot mid) (lost_at n (mid n) (new n)) w w1 w2 before.below calls);
 }
+  where
+    lost : lost_below n slot mid ++ lost_at n (mid n) (new n) ≡ lost_below (suc n) slot new
+    lost = ap (λ (l : List ℕ). l ++ lost_at n (mid n) (new n)) (sym (lost_same n slot mid new (λ d below. slots d (omega (arith, below))))) ∙ ap (λ (x : Slot). lost_below n slot new ++ lost_at n x (new n)) (before.slots n (omega arith))
 
-pub out_more : (n : ℕ) (slot mid new : ℕ → Slot) (w w1 w2 : ℕ → Waiting) (noted noted1 noted2 : Option Trail) → IsOutBelow n slot mid w w1 noted noted1 → WritesSlotOut (mid n) (w1 n) (new n) → ((new n).power ≡ Spinning → waits (w2 n) ≡ false)
-    → ((d : ℕ) → d ≢ n → new d ≡ mid d) → ((d : ℕ) → d ≢ n → w2 d ≡ w1 d) → NotesLost (lost_at n (mid n) (new n)) noted1 noted2 → IsOutBelow (n + 1) slot new w w2 noted noted2
-out_more n slot mid new w w1 w2 noted noted1 noted2 before here quiet slots waiting notes =
+pub out_more : (n : ℕ) (slot mid new : ℕ → Slot) (w w1 w2 : ℕ → Waiting) (told told1 told2 noted noted1 noted2 : Option Trail) → IsOutBelow n slot mid w w1 told told1 noted noted1 → WritesSlotOut (mid n) (w1 n) (new n) → ((new n).power ≡ Spinning → waits (w2 n) ≡ false)
+    → ((d : ℕ) → d ≢ n → new d ≡ mid d) → ((d : ℕ) → d ≢ n → w2 d ≡ w1 d) → NotesLost (lost_at n (mid n) (new n)) noted1 noted2 → Ran told1 told2 (WritesWhatWaits (lost_at n (mid n) (new n)) w1 w2) → IsOutBelow (n + 1) slot new w w2 told told2 noted noted2
+out_more n slot mid new w w1 w2 told told1 told2 noted noted1 noted2 before here quiet slots waiting notes calls =
     let e : suc n ≡ n + 1 = omega arith in
-    subst (λ (k : ℕ). IsOutBelow k slot new w w2 noted noted2) e (out_suc n slot mid new w w1 w2 noted noted1 noted2 before here quiet slots waiting notes)
+    subst (λ (k : ℕ). IsOutBelow k slot new w w2 told told2 noted noted2) e (out_suc n slot mid new w w1 w2 told told1 told2 noted noted1 noted2 before here quiet slots waiting notes calls)
 
-module _ (count n : ℕ) (slot slot' : ℕ → Slot) (w w' : ℕ → Waiting) (noted noted' : Option Trail) (all : count ≤ n) (ended : IsOutBelow n slot slot' w w' noted noted') where
+module _ (count n : ℕ) (slot slot' : ℕ → Slot) (w w' : ℕ → Waiting) (told told' noted noted' : Option Trail) (all : count ≤ n) (ended : IsOutBelow n slot slot' w w' told told' noted noted') where
   -- a slot that does not exist stays as it is
   pub all_out : AreSlots count slot → (d : ℕ) → WritesSlotOut (slot d) (w d) (slot' d)
   all_out hold d = elim (cases_lt d n) [
@@ -177,18 +189,6 @@ module _ (count n : ℕ) (slot slot' : ℕ → Slot) (w w' : ℕ → Waiting) (n
     | inl below ↦ by_power (slot' d).power (ended.quiet d below) (λ is. (fits d).still is) (ap is_present (sym (agrees.power d)) ∙ here)
     | inr past ↦ absurd (false≢true (sym (ap is_present (agrees.power d ∙ hold.missing d (omega (arith, past, all)))) ∙ here))
   ]
-
--- where nothing waits for a disk that is there, nothing need wait
-above_none : (b : Disks) (w : ℕ → Waiting) (s : Disks) → IsAbove b w s → ((d : ℕ) → IsPresent s d → waits (w d) ≡ false) → IsAbove b (λ _. none_waits) s
-above_none b w s above none = record {
-  power = above.power;
-  size = above.size;
-  sure = above.sure;
-  kept = above.kept;
-  bytes = λ d p x here is. absurd (some_none is (none_waiting none_waits refl p));
-  loose = λ d p x here is. absurd (some_none is (none_waiting none_waits refl p));
-  rests = λ d p here is. above.rests d p here (none_waiting (w d) (none d here) p);
-}
 
 first_of : (bs : List (List ℕ)) → nat_lt 0 (length bs) ≡ true → (x : List ℕ) × (slice_get bs 0 ≡ Some x)
 first_of [] any = absurd (false≢true any)
@@ -215,7 +215,7 @@ has_loose slot slot' w b s above agrees d out was gone = elim (out.present was) 
       record { present = here; place = (w d).first; loose = above.loose d (w d).first x.0 here x.1 }
 ]
 
-pub ends_gathered : (n : ℕ) (slot slot' : ℕ → Slot) (w w' : ℕ → Waiting) (told told' noted noted' : Option Trail) (below a' : Trail) → told' ≡ Some below → noted' ≡ Some a' → Ran told told' (PowersAs []) → NotesLost (lost_below n slot slot') noted noted'
+pub ends_gathered : (n : ℕ) (slot slot' : ℕ → Slot) (w w' : ℕ → Waiting) (told told' noted noted' : Option Trail) (below a' : Trail) → told' ≡ Some below → noted' ≡ Some a' → Ran told told' (WritesWhatWaits (lost_below n slot slot') w w') → NotesLost (lost_below n slot slot') noted noted'
     → ((d : ℕ) → WritesSlotOut (slot d) (w d) (slot' d)) → StandsWhereTold told noted slot w → ((b : Trail) → told ≡ Some b → Agrees (now b) slot) → StandsOver slot' w' below a' → ((d : ℕ) → IsPresent (now below) d → waits (w' d) ≡ false)
     → EndsGathered (told_above told noted) below a'
 ends_gathered n slot slot' w w' told told' noted noted' below a' told_is noted_is ran notes out stood agrees over none =

@@ -17,7 +17,7 @@ through_map P P' f s [] t = f s t
 through_map P P' f s (c ∷ cs) t = (f s t.0, through_map P P' f (step c s) cs t.1)
 
 -- calls that have Q have Q' too, by what is told where they begin
-ran_map : (Q Q' : Disks → List Call → Type 0) (old new : Option Trail) → ((t : Trail) → old ≡ Some t → (cs : List Call) → Q (now t) cs → Q' (now t) cs) → Ran old new Q → Ran old new Q'
+pub ran_map : (Q Q' : Disks → List Call → Type 0) (old new : Option Trail) → ((t : Trail) → old ≡ Some t → (cs : List Call) → Q (now t) cs → Q' (now t) cs) → Ran old new Q → Ran old new Q'
 ran_map Q Q' old new f ran t told =
     let r = ran t told in
     record { from = r.from; was = r.was; calls = r.calls; is = r.is; holds = f r.from r.was r.calls r.holds }

@@ -13,7 +13,7 @@ use Rattle.paraid_gather.specs.PowerCalls.{power_calls}
 use Rattle.paraid_gather.proofs.PowerCallsLemmas.{power_calls_append}
 use Rattle.paraid_gather.specs.Gathering.{CallGroup, IsGathered, AreGathered, LeavesImage, calls_above, calls_below}
 
-run_append : (s : Disks) (cs ds : List Call) → run s (cs ++ ds) ≡ run (run s cs) ds
+pub run_append : (s : Disks) (cs ds : List Call) → run s (cs ++ ds) ≡ run (run s cs) ds
 run_append s [] ds = refl
 run_append s (c ∷ cs) ds = run_append (step c s) cs ds
 

@@ -8,4 +8,5 @@ pub mod WholeLemmas
 pub mod BulkLemmas
 pub mod GatheringLemmas
 pub mod StandsLemmas
+pub mod WritesLemmas
 pub mod FinishLemmas

@@ -51,6 +51,13 @@ ran_both Q Q' old new first second t tells =
       holds = (a.holds, subst (λ (u : Trail). Q' (now u) a.calls) from (subst (λ (l : List Call). Q' (now b.from) l) calls b.holds));
     }
 
+-- they have one property, and another of whatever disks
+pub ran_each : (Q : Disks → List Call → Type 0) (Q' : Disks → Disks → List Call → Type 0) (old new : Option Trail) → Ran old new Q → ((s : Disks) → Ran old new (Q' s)) → Ran old new (λ b cs. Q b cs × ((s : Disks) → Q' s b cs))
+unfolding ran_both
+ran_each Q Q' old new first each t tells =
+    let a = first t tells in
+    record { from = a.from; was = a.was; calls = a.calls; is = a.is; holds = (a.holds, λ s. (ran_both Q (Q' s) old new first (each s) t tells).holds.1) }
+
 -- a write of blocks
 pub power_calls_written : (old new : Option Trail) (d : ℕ) (w : Waiting) (ok : Bool) → Ran old new (WritesBlocks d w ok) → Ran old new (PowersAs [])
 power_calls_written old new d w ok ran t tells =

@@ -1,16 +1,18 @@
 -- All that waits is written out, and the rack and the log are given back.
-use Rattle.std.specs.Prelude.{◌≡◌, ◌≤◌, ◌⊎◌, ◌&&◌, ℕ, zero, suc, Bool, true, false, not, if◌then◌else◌, List, [], ◌∷◌, ◌++◌, map, All, Option, Some}
+use Rattle.std.specs.Prelude.{◌≡◌, ◌≤◌, ◌⊎◌, ◌&&◌, ℕ, zero, suc, true, false, not, if◌then◌else◌, List, [], ◌∷◌, ◌++◌, map, All, Option, Some}
 use Rattle.paraid_base.specs.Told.{HasRisen}
 use Rattle.paraid_rack.specs.declared.call.Call.{Call}
 use Rattle.paraid_rack.specs.declared.call.Call.TheVariants.{Sync}
 use Rattle.paraid_rack.specs.declared.call.Power.TheVariants.{Spinning, Absent}
-use Rattle.paraid_rack.specs.Disks.{Disks, IsPresent, is_present}
+use Rattle.paraid_rack.specs.Disks.{Disks, IsImage, IsPresent, is_present}
 use Rattle.paraid_rack.specs.Lawful.{AreLawful}
 use Rattle.paraid_rack.specs.Slots.{Slot}
-use Rattle.paraid_rack.specs.Trail.{Trail, initial, now, extend}
+use Rattle.paraid_rack.specs.Told.{Through}
+use Rattle.paraid_rack.specs.Trail.{Trail, initial, now, run, extend}
 use Rattle.paraid_gather.specs.Waiting.{Waiting, none_waits, waits}
 use Rattle.paraid_gather.specs.Above.{IsAbove, slot_above}
 use Rattle.paraid_gather.specs.Gathering.{IsGathered}
+use Rattle.paraid_gather.specs.PowerCalls.{power_calls}
 
 -- a sync of each of these disks, all of which have failed
 abbrev pub failed_syncs : List ℕ → List Call
@@ -44,6 +46,17 @@ lost_below (suc n) before after = lost_below n before after ++ lost_at n (before
 -- syncs of these disks, which have failed, are noted, and nothing else
 abbrev pub NotesLost : List ℕ → Option Trail → Option Trail → Type 0
 NotesLost lost old new = (t : Trail) → new ≡ Some t → (s : Trail) × (old ≡ Some s) × (t ≡ extend s (failed_syncs lost))
+
+-- what a stop leaves of the disks below is an image of the disks `s` above, of which the first of these are lost
+abbrev pub LeavesImageWithout : List ℕ → Disks → Disks → Type 0
+LeavesImageWithout lost s below = (i : Disks) → IsImage below i → (gone : List ℕ) × (rest : List ℕ) × (lost ≡ gone ++ rest) × IsImage (run s (failed_syncs gone)) i
+
+-- The calls below of a part in which only what waits is written out, and these disks are lost. Above, all else
+-- stays as it is, and so does what a stop at any moment leaves of it. No disk is turned on or off.
+pub record WritesWhatWaits (lost : List ℕ) (w w' : ℕ → Waiting) (below : Disks) (cs : List Call) : Type 0 where
+  pub turned : power_calls cs ≡ []
+  pub moments : (s : Disks) → IsAbove below w s → Through (LeavesImageWithout lost s) below cs
+  pub above : (s : Disks) → IsAbove below w s → IsAbove (run below cs) w' (run s (failed_syncs lost))
 
 -- a disk that is there, of which a block was written and not synced
 pub record HasLoose (s : Disks) (d : ℕ) : Type 0 where

@@ -44,7 +44,7 @@ impl<R: BulkRack + Drop, L: Noted + Drop> Gathered<R, L> {
     ghost use Rattle.paraid_rack.specs.Trail.{Trail, now};
     ghost use Rattle.paraid_gather.specs.Above.{Follows, IsAbove, TellsOut, slots_above, told_above};
     ghost use Rattle.paraid_gather.specs.Bulk.{left_by};
-    ghost use Rattle.paraid_gather.specs.Finish.{EndsGathered, NotesLost, WritesSlotOut, lost_at, lost_below};
+    ghost use Rattle.paraid_gather.specs.Finish.{EndsGathered, NotesLost, WritesSlotOut, WritesWhatWaits, lost_at, lost_below};
     ghost use Rattle.paraid_gather.specs.Gathering.{IsGathered};
     ghost use Rattle.paraid_gather.specs.PowerCalls.{PowersAs};
     ghost use Rattle.paraid_rack.specs.Told.{Ran};
@@ -118,7 +118,9 @@ impl<R: BulkRack + Drop, L: Noted + Drop> Gathered<R, L> {
             ≡ R.slot (rack_below self.old) d }
         ensures log { NotesLost (lost_at disk (R.slot (rack_below self.old) disk) (R.slot (rack_below self.new) disk))
             (L.noted (log_of self.old)) (L.noted (log_of self.new)) }
-        ensures power_calls { Ran (R.told (rack_below self.old)) (R.told (rack_below self.new)) (PowersAs []) }
+        ensures below { Ran (R.told (rack_below self.old)) (R.told (rack_below self.new)) (WritesWhatWaits
+            (lost_at disk (R.slot (rack_below self.old) disk) (R.slot (rack_below self.new) disk))
+            (waiting_in self.old) (waiting_in self.new)) }
         ensures empty { (R.slot (rack_below self.new) disk).power ≡ Power.Spinning
             → waits (waiting_in self.new disk) ≡ false }
         ensures others { (d : ℕ) → d ≢ disk → waiting_in self.new d ≡ waiting_in self.old d }
@@ -131,8 +133,8 @@ impl<R: BulkRack + Drop, L: Noted + Drop> Gathered<R, L> {
         }
     }
 
-    /// Writes out all that waits, and gives the rack and the log back. A disk for which no block waits is
-    /// not called.
+    /// Writes out all that waits, and gives the rack and the log back. Each disk is left as the caller saw it,
+    /// but for one that is lost as what waits for it is written.
     pub fn finish(self) -> Finished<R, L>
         ensures slots { R.slot_count result.rack ≡ R.slot_count (rack_below self) }
         // Each disk is as the rack above had it, or it is lost, and then a block waited for it.
@@ -141,8 +143,10 @@ impl<R: BulkRack + Drop, L: Noted + Drop> Gathered<R, L> {
         // Of each disk that is lost a failed sync is noted, and nothing else.
         ensures log { NotesLost (lost_below (R.slot_count result.rack) (R.slot (rack_below self)) (R.slot result.rack))
             (L.noted (log_of self)) (L.noted result.log) }
-        // No disk is turned on or off.
-        ensures power_calls { Ran (R.told (rack_below self)) (R.told result.rack) (PowersAs []) }
+        // All that waits is on the disks that are left. None is turned on or off.
+        ensures below { Ran (R.told (rack_below self)) (R.told result.rack) (WritesWhatWaits
+            (lost_below (R.slot_count result.rack) (R.slot (rack_below self)) (R.slot result.rack))
+            (waiting_in self) (λ _. none_waits)) }
         ensures gathered { (below noted : Trail) → R.told result.rack ≡ Some below → L.noted result.log ≡ Some noted
             → EndsGathered (told_above (R.told (rack_below self)) (L.noted (log_of self))) below noted }
         // Where nothing waits for a disk that spins, nothing is called and nothing is noted.
