@@ -34,6 +34,8 @@ FILES = 755=$(PROGRAM)=$(SBINDIR)/paraid \
 	644=etc/paraid.bash=$(COMPLETIONDIR)/paraid \
 	$(foreach it,$(SAMPLES) $(TEXTS),644=$(it)=$(DOCDIR)/$(notdir $(it)))
 LINKS = $(foreach it,$(COMMANDS),$(SBINDIR)/paraid-$(it))
+# By it the tools find the program, wherever that is.
+BESIDE = $(filter-out $(SBINDIR)/paraid,$(LIBDIR)/paraid)
 # `man paraid-NAME` finds the page that tells of this tool: NAME=PAGE.
 NAMES = $(foreach it,lint locate power state,$(it)=tools) ctl=nbd
 
@@ -63,12 +65,13 @@ install: places
 		esac; \
 	done
 	@set -e; for it in $(LINKS); do echo "$$it"; ln -srfn "$(DESTDIR)$(LIBDIR)/$${it##*/paraid-}" "$(DESTDIR)$$it"; done
+	@set -e; for it in $(BESIDE); do echo "$$it"; ln -srfn "$(DESTDIR)$(SBINDIR)/paraid" "$(DESTDIR)$$it"; done
 	@set -e; for it in $(NAMES); do to=$(MANDIR)/man8/paraid-$${it%=*}.8; \
 		echo "$$to"; ln -sfn "paraid-$${it#*=}.8" "$(DESTDIR)$$to"; done
 
 uninstall: places
 	@for it in $(FILES); do to=$${it##*=}; rm -f "$(DESTDIR)$$to"; done
-	@rm -f $(foreach it,$(LINKS),"$(DESTDIR)$(it)")
+	@rm -f $(foreach it,$(LINKS) $(BESIDE),"$(DESTDIR)$(it)")
 	@for it in $(NAMES); do rm -f "$(DESTDIR)$(MANDIR)/man8/paraid-$${it%=*}.8"; done
 	@rm -rf "$(DESTDIR)$(LIBDIR)/__pycache__"
 	@for it in $(LIBDIR) $(DOCDIR); do [ ! -d "$(DESTDIR)$$it" ] || rmdir "$(DESTDIR)$$it"; done

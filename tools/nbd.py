@@ -10,6 +10,11 @@ import binascii, collections, contextlib, errno, os, re, resource, select, shuti
 import sys, syslog, threading, time
 import nbdkit
 
+HERE = os.path.dirname(os.path.realpath(__file__))
+sys.dont_write_bytecode = True
+sys.path.insert(0, HERE)
+import places
+
 API_VERSION = 2
 sys.tracebacklimit = 0  # nbdkit tells an error by its line alone
 SIZE = 512
@@ -19,7 +24,6 @@ ASKED = re.compile(rb"(s|e|up|down|(fail|replace) (0|[1-9][0-9]{0,9}))\n")
 HALTS = (b"two ", b"worn ")
 SIGNALS = (signal.SIGTERM, signal.SIGINT, signal.SIGQUIT, signal.SIGHUP)  # by which nbdkit ends
 ASIDE = b"paraid: "  # begins a line of standard error, and no answer
-HERE = os.path.dirname(os.path.realpath(__file__))
 
 
 def log(text):
@@ -506,8 +510,7 @@ def config_complete():
         raise RuntimeError("tick=SECONDS and limit=BYTES are numbers") from None
     if not 0 <= given["tick"] <= 86400 or not 1 <= given["limit"] <= 2**39:
         raise RuntimeError("tick is 0 (no clock) to 86400, limit 1 to 2^39")
-    near = os.path.join(HERE, "..", "paraid")
-    program = given["program"] or (near if os.path.isfile(near) else "paraid")
+    program = given["program"] or places.program()
     if shutil.which(program) is None:
         raise RuntimeError(f"there is no program {program}")
     given["program"] = os.path.abspath(shutil.which(program))
