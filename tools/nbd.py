@@ -495,6 +495,8 @@ array = clock = control = ending = rights = mounter = None
 def config(key, value):
     if key not in given:
         raise RuntimeError(f"unknown parameter {key}: array, program, tick, control and limit are known")
+    if not value:  # (as a path it would be the current folder)
+        raise RuntimeError(f"{key}= has no value")
     # nbdkit goes to the root folder before it serves
     if key in ("array", "control") or (key == "program" and "/" in value):
         value = os.path.abspath(value)
