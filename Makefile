@@ -18,7 +18,7 @@ DESTDIR =
 PROGRAM = dist/paraid
 
 # Of the tools those that serve a running array. Each is also a command, paraid-NAME.
-COMMANDS = $(notdir $(wildcard $(addprefix tools/,ctl power state lint locate day)))
+COMMANDS = $(notdir $(wildcard $(addprefix tools/,ctl power state lint locate day check)))
 MODULES = $(notdir $(wildcard tools/*.py))
 PAGES = $(wildcard docs/*.[1-8])
 UNITS = paraid-nbd@.service paraid-check@.service paraid-check@.timer
@@ -37,7 +37,7 @@ LINKS = $(foreach it,$(COMMANDS),$(SBINDIR)/paraid-$(it))
 # By it the tools find the program, wherever that is.
 BESIDE = $(filter-out $(SBINDIR)/paraid,$(LIBDIR)/paraid)
 # `man paraid-NAME` finds the page that tells of this tool: NAME=PAGE.
-NAMES = $(foreach it,lint locate power state,$(it)=tools) ctl=nbd
+NAMES = $(foreach it,check lint locate power state,$(it)=tools) ctl=nbd
 
 .PHONY: help places install uninstall list release
 help:
