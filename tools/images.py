@@ -29,6 +29,7 @@ AWAY = ("absent", "shut")
 OF_DEVICE = (errno.EIO, errno.ENXIO, errno.ENODEV, errno.EBADMSG, errno.EUCLEAN, errno.EREMOTEIO, errno.ENOMEDIUM)
 # The options of a file system that takes no writes; newer kernels say the second one of ext4 after an error.
 READ_ONLY = frozenset(("ro", "emergency_ro"))
+TAKES_NO_WRITES = "a file of disk {} takes no writes: it is immutable, or its file system is read-only"
 
 
 class Geometry:

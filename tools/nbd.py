@@ -13,7 +13,7 @@ import nbdkit
 HERE = os.path.dirname(os.path.realpath(__file__))
 sys.dont_write_bytecode = True
 sys.path.insert(0, HERE)
-import places
+import losses, places
 
 API_VERSION = 2
 sys.tracebacklimit = 0  # nbdkit tells an error by its line alone
@@ -24,6 +24,10 @@ ASKED = re.compile(rb"(s|e|up|down|(fail|replace) (0|[1-9][0-9]{0,9}))\n")
 HALTS = (b"two ", b"worn ")
 SIGNALS = (signal.SIGTERM, signal.SIGINT, signal.SIGQUIT, signal.SIGHUP)  # by which nbdkit ends
 ASIDE = b"paraid: "  # begins a line of standard error, and no answer
+# An answer that tells of a disk that is gone, and one by which the next loss is another one.
+GONE = re.compile(rb"(?:state .* out|nofresh|two [0-9]) ([0-9])(?: gone .*)?")
+BACK = re.compile(rb"replaced |nofresh |state .* out (?:none|[0-9] rebuilt) ")
+PATIENCE = 1  # seconds for a look at a lost disk that is under way at the end
 
 
 def log(text):
@@ -152,6 +156,37 @@ class Run:
         return text(said[-1]) if said else self.ended
 
 
+class Looks:
+    """Says what is to be seen of a disk once it is lost: the program tells why only at its end. Each look has
+    a thread of its own, as a drive that fails may keep its reader waiting."""
+
+    def __init__(self, folder):
+        self.folder, self.known, self.lock, self.threads, self.is_over = folder, set(), threading.Lock(), [], False
+
+    def hear(self, said):
+        """Takes an answer, which may tell of a loss. One that was asked for is no question."""
+        gone = GONE.fullmatch(said)
+        with self.lock:
+            if BACK.match(said):
+                self.known.clear()
+            if said.startswith(b"failed "):
+                self.known.add(said[len(b"failed ") :])
+            if gone and gone[1] not in self.known:
+                self.known.add(gone[1])
+                self.threads.append(threading.Thread(target=self.look, args=(int(gone[1]),), daemon=True))
+                self.threads[-1].start()
+
+    def look(self, disk):
+        seen = losses.seen(self.folder, disk)
+        if not self.is_over:
+            log(f"the files of disk {disk}: {seen}")
+
+    def close(self):
+        for thread in self.threads:
+            thread.join(PATIENCE)
+        self.is_over = True
+
+
 class Array:
     """The array as a list of blocks for many threads, over one run after the other.
 
@@ -162,6 +197,7 @@ class Array:
     def __init__(self, program, folder, limit):
         self.program, self.folder, self.limit = program, folder, limit
         self.queue, self.work = collections.deque(), threading.Lock()
+        self.looks = Looks(folder)
         self.run = Run(program, folder)
         self.blocks = self.count_blocks()
 
@@ -250,7 +286,10 @@ class Array:
         return [said for at in range(0, len(lines), MANY) for said in self.ask_some(lines[at : at + MANY])]
 
     def ask_one(self, line):
-        return self.ask([line])[0]
+        """Asks for a line that is no request of a client: what it is answered may tell of a loss."""
+        said = self.ask([line])[0]
+        self.looks.hear(said)
+        return said
 
     def read(self, first, into):
         count = len(into) // SIZE
@@ -276,6 +315,7 @@ class Array:
 
     def refuse(self, said):
         """Two disks are lost, or this is no `paraid run`, and then no later answer is to be trusted."""
+        self.looks.hear(said)
         if not said.startswith(HALTS):
             self.run.ended = f"the program answered {text(said)}"
         raise Refused(text(said))
@@ -562,6 +602,7 @@ def cleanup():
     if clock is not None:
         clock.close()
     if array is not None:
+        array.looks.close()
         log(array.close())
         if array.run.failed and not is_captive():
             os._exit(1)  # the status of nbdkit would be 0
