@@ -6,6 +6,7 @@ range: there is no sum to test. A missing image, one that is no file, and a side
 neither `spinning` nor `parked` are absent disks; a link counts as its file, and one that leads nowhere
 is a disk that is shut. The size of a disk is its image's length divided by 512, rounded down: a label
 may follow the last block, of the form of crates/paraid_imgrack."""
+import contextlib
 import ctypes
 import errno
 import io
@@ -563,6 +564,21 @@ def speak_utf8():
         sys.stdout.reconfigure(encoding="utf-8")
 
 
+class Errors(io.TextIOBase):
+    """Standard error. Where it is closed or fails nothing is said there, and the status is as it were."""
+
+    def __init__(self, stream):
+        super().__init__()
+        self.stream = stream
+
+    def write(self, text):
+        with contextlib.suppress(OSError, ValueError):
+            if self.stream is not None:
+                self.stream.write(text)
+                self.stream.flush()
+        return len(text)
+
+
 def status_of(main, name):
     """The status of a tool: what `main` gives for its words, 4 where the output fails or is closed, or 2 where
     a file cannot be read."""
@@ -571,8 +587,7 @@ def status_of(main, name):
         sys.stdout = open(os.devnull, encoding="utf-8")
     # (a file's name may have any bytes, and a key any letters)
     sys.stdout.reconfigure(errors="backslashreplace")
-    if sys.stderr is None:
-        sys.stderr = open(os.devnull, "w", encoding="utf-8")
+    sys.stderr = Errors(sys.stderr)
     try:
         status = main(sys.argv[1:])
         if sys.stdout.writable():
