@@ -26,11 +26,11 @@ pub trait Sink {
 }
 
 /// Writes all of these bytes, by as many calls as it takes and none for an empty list. After
-/// `Failed` a first part of them was written.
-#[tactic(auto, using(crate::proofs::WriteLemmas::part_more, crate::proofs::WriteLemmas::part_within))]
+/// `Failed` a first part of them was written, and not the whole.
+#[tactic(auto, using(crate::proofs::WriteLemmas::part_more, crate::proofs::WriteLemmas::part_within, crate::proofs::WriteLemmas::part_failed))]
 pub fn write_all<K: Sink>(sink: &mut K, bytes: &[u8]) -> Result<(), Failed>
     ensures grows { OnOk result (GrowsByBytes (K.written sink.old) (K.written sink.new) bytes.now) }
-    ensures part { OnErr result ((n : ℕ) × (n ≤ length bytes.now)
+    ensures part { OnErr result ((n : ℕ) × (n < length bytes.now)
         × GrowsByBytes (K.written sink.old) (K.written sink.new) (take n bytes.now)) }
     ensures none { bytes.now ≡ [] → sink.new ≡ sink.old }
     ensures later { K.faults sink.old ≤ K.faults sink.new }
