@@ -22,7 +22,7 @@ use Rattle.paraid_session.specs.Mount.{IsMountedFromEach}
 use Rattle.paraid_serve.specs.Output.{FollowsFromPoint, Headline, IsLeftByStretch, OutputText, ProgramRun, WritesOutput}
 use Rattle.paraid_serve.specs.Output.IsLeftByStretch.{two_down as left_two, rests as left_rests}
 use Rattle.paraid_serve.specs.Output.OutputText.{done as text_done, halted as text_halted, source as text_source, too_long as text_long}
-use Rattle.paraid_serve.specs.Output.WritesOutput.{whole as wrote_whole, last_line as wrote_last, answers as wrote_answers}
+use Rattle.paraid_serve.specs.Output.WritesOutput.{answers as wrote_answers, at_first_line as wrote_first, last_line as wrote_last, whole as wrote_whole}
 use Rattle.paraid_serve.specs.Causes.{Shown}
 use Rattle.paraid_serve.specs.Streams.{Streams}
 use Rattle.paraid_serve.specs.Stretch.{EndsStretch, Span, Stretch, Turn, TurnsLead, events_in, turn_calls}
@@ -113,18 +113,19 @@ module _ (span : Span) (p : Point) (mark : IsMark span.slots span.setup p) (here
         | left_rests r ↦ r.synced
       ]
 
-  text_synced : (bytes : List ℕ) (code : ℕ) (text : List ℕ) → OutputText span p bytes code text → code ≡ 0 → (t : Trail) → span.now ≡ Some t → AreSynced (now t)
-  text_synced bytes code text (text_done writes e) zero t tells =
+  text_synced : (bytes : List ℕ) (code : ℕ) (front last : List ℕ) → OutputText span p bytes code front last → code ≡ 0 → (t : Trail) → span.now ≡ Some t → AreSynced (now t)
+  text_synced bytes code front last (text_done writes e) zero t tells =
       subst (λ (u : Trail). AreSynced (now u)) (same_trail span.now e.all.to t e.all.is tells) (ends_synced (events_in (lines_of bytes) ++ Flush ∷ []) writes e)
-  text_synced bytes code text (text_halted (HaltTwo pair) e) zero t tells = absurd (omega (arith, zero))
-  text_synced bytes code text (text_halted (Worn count) e) zero t tells = absurd (omega (arith, zero))
-  text_synced bytes code text (text_source c) zero t tells = absurd (omega (arith, zero))
-  text_synced bytes code text (text_long ten c) zero t tells = absurd (omega (arith, zero))
+  text_synced bytes code front last (text_halted (HaltTwo pair) e) zero t tells = absurd (omega (arith, zero))
+  text_synced bytes code front last (text_halted (Worn count) e) zero t tells = absurd (omega (arith, zero))
+  text_synced bytes code front last (text_source c) zero t tells = absurd (omega (arith, zero))
+  text_synced bytes code front last (text_long ten c) zero t tells = absurd (omega (arith, zero))
 
   pub output_synced : (bytes : List ℕ) (status : ℕ) (text : List ℕ) → WritesOutput span p bytes status text → status ≡ 0 → (t : Trail) → span.now ≡ Some t → AreSynced (now t)
-  output_synced bytes status text (wrote_whole out) zero = text_synced bytes status text out zero
-  output_synced bytes status text (wrote_last four code full rest out front) zero = absurd (omega (arith, four, zero))
-  output_synced bytes status text (wrote_answers four lines more rest lines_are c front) zero = absurd (omega (arith, four, zero))
+  output_synced bytes status text (wrote_whole front last out is) zero = text_synced bytes status front last out zero
+  output_synced bytes status text (wrote_last four code front last count out is) zero = absurd (omega (arith, four, zero))
+  output_synced bytes status text (wrote_first four none c rest is) zero = absurd (omega (arith, four, zero))
+  output_synced bytes status text (wrote_answers four part c is) zero = absurd (omega (arith, four, zero))
 
 pub headline : (seen seen_now : Shown) (span : Span) (began : ℕ) (stood : Point → Type 0) (streams : Streams) (status : ℕ)
     → IsMountedFromEach span.slots span.setup began span.start stood → ProgramRun seen seen_now span stood streams status → Headline seen seen_now span began streams status

@@ -1,5 +1,5 @@
 -- What a session keeps from line to line.
-use Rattle.std.proofs.Common.{◌≡◌, ℕ, ◌^◌, ◌<◌, ◌≤◌, ◌⊎◌, Bool, true, false, List, [], ◌∷◌, ◌++◌, length, take, drop, IsTrue, Option, Some, None, IsSome, Result, Ok, Err, refl, sym, ap, ◌∙◌, subst, inl, inr, arith, length-append, take-append-drop}
+use Rattle.std.proofs.Common.{◌≡◌, ℕ, ◌^◌, ◌<◌, ◌≤◌, ◌⊎◌, Bool, true, false, List, [], ◌∷◌, ◌++◌, length, take, IsTrue, Option, Some, None, IsSome, Result, Ok, Err, refl, sym, ap, ◌∙◌, subst, inl, inr, arith, length-append}
 use Rattle.std.proofs.lemmas.List.{append_assoc, append-nil}
 use Rattle.std.proofs.lemmas.Bool.{false≢true}
 use Rattle.paraid_base.specs.declared.event.Answer.{Answer}
@@ -272,8 +272,9 @@ module _ {seen seen_now : Shown} {slots : ℕ} {setup : Setup} {first : Point �
   -- an answer could not be written
   pub ends_at_sink : {a b m k : ℕ} {event : Event} (h : HearsLine left after old new (Ok (Some event))) → (answer : Answer) → (seen_later : Shown) → HasCause seen_now event answer seen_later → (later : Option Trail) (wrote : Option (List ℕ)) (new_stood : Point → Type 0) (slots_now : ℕ) (setup_now : Setup) → slots_now ≡ slots → setup_now ≡ setup
       → (IsSome later → IsSome now) → ((q : Point) → stood q → Ran now later (GoesOn slots_now setup_now q event answer new_stood))
-      → (n : ℕ) → GrowsByBytes written wrote (take n (reply_of answer)) → ServesSession seen seen_later (span_of slots setup start later) first (streams_of (source_from left_before after a b) (sink_from written_before wrote m k)) (Err Sink)
-  ends_at_sink {a} {b} {m} {k} {event} h answer seen_later cause later wrote new_stood slots_now setup_now same_slots same_setup tells goes n grew =
+      → (n : ℕ) → n < length (reply_of answer) → GrowsByBytes written wrote (take n (reply_of answer)) → ServesSession seen seen_later (span_of slots setup start later) first (streams_of (source_from left_before after a b) (sink_from written_before wrote m k)) (Err Sink)
+  unfolding one_more one_event
+  ends_at_sink {a} {b} {m} {k} {event} h answer seen_later cause later wrote new_stood slots_now setup_now same_slots same_setup tells goes n short grew =
       let line : List ℕ = h.says.0 in
       let next_line : IsNextLine (old.rest ++ h.got) line new = h.says.2 in
       let cut : lines_of (s.bytes ++ h.got) ≡ (s.answered ++ line ∷ []) ++ lines_of new.rest = s.lines h.got h.ended_before ∙ ap (λ x. s.answered ++ lines_of x) (sym (append-nil (old.rest ++ h.got))) ∙ ap (λ x. s.answered ++ x) (next_line.lines [] (λ e. refl)) ∙ ap (λ x. s.answered ++ line ∷ lines_of x) (append-nil new.rest) ∙ sym (append_assoc s.answered (line ∷ []) (lines_of new.rest)) in
@@ -294,15 +295,27 @@ module _ {seen seen_now : Shown} {slots : ℕ} {setup : Setup} {first : Point �
           answer = answer;
           cause = subst (λ (e : Event). HasCause seen_now e answer seen_later) h.says.1 cause;
           count = n;
+          short = short;
           cut = refl;
         };
         answered = λ t p f.
-            let said = one_more h answer later new_stood slots_now setup_now same_slots same_setup tells goes t p f in (
-              s.answered ++ line ∷ [],
-              lines_of new.rest,
-              drop n (reply_of answer),
-              cut,
-              said.all,
-              sym said.text_is ∙ ap (λ x. s.text ++ x) (sym (take-append-drop n (reply_of answer))) ∙ sym (append_assoc s.text (take n (reply_of answer)) (drop n (reply_of answer))),
-            );
+            let said = s.said (tells t) p f in
+            let turned = one_event said event answer later new_stood slots_now setup_now same_slots same_setup goes t in
+            record {
+              before = s.answered;
+              line = line;
+              more = lines_of new.rest;
+              split = cut;
+              answer = answer;
+              ends = record {
+                all = (one_more h answer later new_stood slots_now setup_now same_slots same_setup tells goes t p f).all;
+                before = said.all.turns;
+                last = turn_with event answer turned.calls;
+                split = turned.turns;
+                answered = refl;
+              };
+              count = n;
+              short = short;
+              cut = ap (λ x. x ++ take n (reply_of answer)) said.text_is;
+            };
       }

@@ -1,6 +1,6 @@
 -- The whole text of a run.
 use Rattle.std.proofs.Common.{◌≡◌, ◌≢◌, ℕ, ◌^◌, ◌<◌, ◌≤◌, ◌⊎◌, List, [], ◌++◌, length, take, drop, codes, Option, IsSome, Result, Ok, Err, refl, sym, ap, ◌∙◌, inl, inr, arith, subst, take-append-drop}
-use Rattle.std.proofs.lemmas.List.{append_assoc, append-nil, take_all}
+use Rattle.std.proofs.lemmas.List.{take_all}
 use Rattle.paraid_base.specs.declared.fault.Halt.{Halt}
 use Rattle.paraid_base.specs.declared.fault.Halt.TheVariants.{Two as HaltTwo, Worn}
 use Rattle.paraid_base.specs.Told.{AtEnd, GrowsByBytes}
@@ -13,7 +13,7 @@ use Rattle.paraid_serve.specs.Ending.{EndsWithLine, end_line, halt_line, mount_l
 use Rattle.paraid_serve.specs.Output.{OutputForm, HasForm, IsWholeStatus, OutputText, ProgramRun, WritesOutput, begins_with, first_line}
 use Rattle.paraid_serve.specs.Causes.{Shown}
 use Rattle.paraid_serve.specs.Output.OutputText.{done, halted, source, too_long}
-use Rattle.paraid_serve.specs.Output.WritesOutput.{answers, last_line, whole}
+use Rattle.paraid_serve.specs.Output.WritesOutput.{answers, at_first_line, last_line, whole}
 use Rattle.paraid_serve.specs.Output.OutputForm.{done as form_done, halted as form_halted, source as form_source, too_long as form_too_long}
 use Rattle.paraid_serve.specs.Output.HasForm.{answers as form_answers, at_first_line as form_first, last_line as form_last_line, whole as form_whole}
 use Rattle.paraid_serve.specs.Session.{ServesSession}
@@ -28,13 +28,12 @@ pub shown_line : (writes gear : ℕ) (x : Shown) → writes ≡ x.meta.writes �
 shown_line writes gear x w e = rw (w, e) refl
 
 -- what was written of the last line
-wrote_last : (span : Span) (p : Point) (bytes text line : List ℕ) (before after : Option (List ℕ)) (code status : ℕ) → OutputText span p bytes code (text ++ line)
-    → (e : EndsWithLine before after line code status) → WritesOutput span p bytes status (text ++ take e.count line)
+wrote_last : (span : Span) (p : Point) (bytes text line : List ℕ) (before after : Option (List ℕ)) (code status : ℕ) → OutputText span p bytes code text line → (e : EndsWithLine before after line code status)
+    → WritesOutput span p bytes status (text ++ take e.count line)
 wrote_last span p bytes text line before after code status out e = elim e.whole [
-  | inl four ↦ last_line four code (text ++ line) (drop e.count line) out
-      (ap (λ x. text ++ x) (sym (take-append-drop e.count line)) ∙ sym (append_assoc text (take e.count line) (drop e.count line)))
-  | inr all ↦ whole (subst (λ (k : ℕ). OutputText span p bytes k (text ++ take e.count line)) (sym all.1)
-      (subst (λ (x : List ℕ). OutputText span p bytes code (text ++ x)) (sym (taken e.count line all.0)) out))
+  | inl four ↦ last_line four code text line e.count out refl
+  | inr all ↦ whole text line (subst (λ (k : ℕ). OutputText span p bytes k text line) (sym all.1) out)
+      (ap (λ (x : List ℕ). text ++ x) (taken e.count line all.0))
 ]
   where
     taken : (n : ℕ) (line : List ℕ) → n ≡ length line → take n line ≡ line
@@ -81,7 +80,7 @@ module _ (seen seen_now : Shown) (span : Span) (stood : Point → Type 0) (sourc
   -- A session after the first line, and the last line after it.
   finish : (result : Result ℕ Stop) (line : List ℕ) (code status : ℕ)
       → GrowsByBytes sink.written_before within.written_before (mount_line writes gear) → (s : ServesSession seen seen_now span stood (streams_of source_is within) result) → EndsWithLine within.written sink.written line code status
-      → (IsSome span.now → (p : Point) → stood p → OutputText span p s.bytes code (begins_with p ++ s.text ++ line))
+      → (IsSome span.now → (p : Point) → stood p → OutputText span p s.bytes code (begins_with p ++ s.text) line)
       → (code ≡ 10 → length s.bytes ≡ 2 ^ 40) → (IsWholeStatus code → (length s.bytes < 2 ^ 40) × AtEnd source_is.left)
       → OutputForm seen seen_now s.bytes code (first_line seen ++ s.text) line
       → ProgramRun seen seen_now span stood (streams_of source_is sink) status
@@ -137,14 +136,12 @@ module _ (seen seen_now : Shown) (span : Span) (stood : Point → Type 0) (sourc
     full = λ e. absurd (omega (arith, e));
     all = λ is. absurd (partly 4 (λ e. omega (arith, e)) (λ e. omega (arith, e)) (λ e. omega (arith, e)) is);
     form = form_answers refl s.text s.form (ap (λ (x : List ℕ). x ++ s.text) shows);
-    wrote = λ t p at_p.
-        let a = s.answered t p at_p in
-        answers refl a.0 a.1 a.2 a.3 a.4 (ap (λ x. begins_with p ++ x) a.5 ∙ sym (append_assoc (begins_with p) s.text a.2) ∙ ap (λ x. (x ++ s.text) ++ a.2) (sym (head_is p at_p)));
+    wrote = λ t p at_p. answers refl s.text (s.answered t p at_p) (ap (λ (x : List ℕ). x ++ s.text) (head_is p at_p));
   }
 
 -- the sink failed at the first line
 pub no_mount_run : (seen : Shown) (slots : ℕ) (setup : Setup) (stood : Point → Type 0) (told : Option Trail) (left : Option (List ℕ)) (count : ℕ) (sink : SinkUse) (writes gear : ℕ) → ((p : Point) → stood p → writes ≡ length p.history) → ((p : Point) → stood p → gear ≡ p.state.gear) → mount_line writes gear ≡ first_line seen
-    → (n : ℕ) × (n ≤ length (mount_line writes gear)) × GrowsByBytes sink.written_before sink.written (take n (mount_line writes gear))
+    → (n : ℕ) × (n < length (mount_line writes gear)) × GrowsByBytes sink.written_before sink.written (take n (mount_line writes gear))
     → ProgramRun seen seen (span_of slots setup told told) stood (streams_of (record { left_before = left; left = left; faults_before = count; faults = count }) sink) 4
 no_mount_run seen slots setup stood told left count sink writes gear counts in_gear shows part = record {
   bytes = [];
@@ -154,6 +151,6 @@ no_mount_run seen slots setup stood told left count sink writes gear counts in_g
   full = λ e. absurd (omega (arith, e));
   all = λ is. absurd (partly 4 (λ e. omega (arith, e)) (λ e. omega (arith, e)) (λ e. omega (arith, e)) is);
   form = form_first refl refl refl (drop part.0 (mount_line writes gear)) (sym shows ∙ sym (take-append-drop part.0 (mount_line writes gear)));
-  wrote = λ t p at_p. answers refl [] [] (drop part.0 (mount_line writes gear)) refl (stretch_none slots setup told p t)
-      (append-nil (begins_with p) ∙ sym (first_line_is writes gear stood counts in_gear p at_p) ∙ sym (take-append-drop part.0 (mount_line writes gear)));
+  wrote = λ t p at_p. at_first_line refl refl (stretch_none slots setup told p t) (drop part.0 (mount_line writes gear))
+      (sym (first_line_is writes gear stood counts in_gear p at_p) ∙ sym (take-append-drop part.0 (mount_line writes gear)));
 }

@@ -1,5 +1,5 @@
 -- The form of what a run writes, whatever the rack holds: to each line an answer with its cause.
-use Rattle.std.specs.Prelude.{◌≡◌, ℕ, List, [], ◌∷◌, ◌++◌, take}
+use Rattle.std.specs.Prelude.{◌≡◌, ℕ, ◌<◌, List, [], ◌∷◌, ◌++◌, length, take}
 use Rattle.paraid_base.specs.declared.event.Answer.{Answer}
 use Rattle.paraid_io.specs.Lines.{lines_of}
 use Rattle.paraid_trace.specs.LineEvents.{event_of}
@@ -18,8 +18,8 @@ pub record HasAnswers (old : Shown) (lines : List (List ℕ)) (text : List ℕ) 
   pub causes : HaveCauses old (events_in lines) answers new
   pub is : text ≡ texts answers
 
--- A text that tells an answer to each of some lines, and a first part of the answer to the next one, with the cause of each. After
--- that answer no line was served: the array showed `old` before the first line, and shows `new` after that answer.
+-- A text that tells an answer to each of some lines, and a first part of the answer to the next one, which is not the whole, with the
+-- cause of each. After that answer no line was served: the array showed `old` before the first line, and shows `new` after that answer.
 pub record BeginsAnswers (old : Shown) (bytes text : List ℕ) (new : Shown) : Type 0 where
   pub before : List (List ℕ)
   pub line : List ℕ
@@ -31,4 +31,5 @@ pub record BeginsAnswers (old : Shown) (bytes text : List ℕ) (new : Shown) : T
   pub answer : Answer
   pub cause : HasCause mid (event_of line) answer new
   pub count : ℕ
+  pub short : count < length (reply_of answer)
   pub cut : text ≡ front ++ take count (reply_of answer)

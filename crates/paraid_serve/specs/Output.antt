@@ -16,6 +16,7 @@ use Rattle.paraid_image.specs.RunStart.{IsRunStart}
 use Rattle.paraid_session.specs.Mount.{IsMountedFromEach}
 use Rattle.paraid_serve.specs.Causes.{HasCause, Shown}
 use Rattle.paraid_serve.specs.Form.{BeginsAnswers, HasAnswers}
+use Rattle.paraid_serve.specs.Session.{CutsAnswers}
 use Rattle.paraid_serve.specs.Streams.{Streams}
 use Rattle.paraid_serve.specs.Stretch.{EndsStretch, Span, Stretch, events_in, replies}
 use Rattle.paraid_serve.specs.Statuses.{IsOneOf, status_done, status_sink, status_source, status_too_long, status_two, status_worn}
@@ -37,29 +38,29 @@ begins_with p = mount_line (length p.history) p.state.gear
 abbrev pub first_line : Shown → List ℕ
 first_line x = mount_line x.meta.writes x.meta.gear
 
--- The text of a run that took these bytes and met no fault of the sink, by its status.
-pub data OutputText (span : Span) (p : Point) (bytes : List ℕ) : ℕ → List ℕ → Type 0 where
+-- The text of a run that took these bytes and met no fault of the sink, by its status: what stands before the last line, and the last
+-- line.
+pub data OutputText (span : Span) (p : Point) (bytes : List ℕ) : ℕ → List ℕ → List ℕ → Type 0 where
   -- every line is answered, and all writes are kept
   done : (writes : ℕ) (e : EndsStretch span p (events_in (lines_of bytes) ++ Flush ∷ []) (Flushed writes))
-      → OutputText span p bytes status_done (begins_with p ++ replies e.before ++ end_line writes)
+      → OutputText span p bytes status_done (begins_with p ++ replies e.before) (end_line writes)
   -- every line is answered, and a halt came in one of them or in the last flush
   halted : (halt : Halt) (e : EndsStretch span p (events_in (lines_of bytes) ++ Flush ∷ []) (Halted halt))
-      → OutputText span p bytes (status_of_halt halt) (begins_with p ++ replies e.before ++ halt_line halt)
+      → OutputText span p bytes (status_of_halt halt) (begins_with p ++ replies e.before) (halt_line halt)
   -- a rest without a newline is not answered
   source : (c : Stretch span p (events_in (whole_lines bytes)))
-      → OutputText span p bytes status_source (begins_with p ++ replies c.turns ++ codes "source\n")
+      → OutputText span p bytes status_source (begins_with p ++ replies c.turns) (codes "source\n")
   too_long : length bytes ≡ 2 ^ 40 → (c : Stretch span p (events_in (whole_lines bytes)))
-      → OutputText span p bytes status_too_long (begins_with p ++ replies c.turns ++ codes "toolong\n")
+      → OutputText span p bytes status_too_long (begins_with p ++ replies c.turns) (codes "toolong\n")
 
--- What was written: the whole text of the status; or at `status_sink` a first part of such a text, or of the
--- answers to a first part of the lines.
+-- What was written: the whole text of the status; or at `status_sink` one whose last line is cut, or a first part of the first line, and then
+-- nothing was served; or the answers up to one that is cut, and then no line after it was served.
 pub data WritesOutput (span : Span) (p : Point) (bytes : List ℕ) (status : ℕ) (text : List ℕ) : Type 0 where
-  whole : OutputText span p bytes status text → WritesOutput span p bytes status text
-  last_line : status ≡ status_sink → (code : ℕ) (full rest : List ℕ) → OutputText span p bytes code full → full ≡ text ++ rest
+  whole : (front last : List ℕ) → OutputText span p bytes status front last → text ≡ front ++ last → WritesOutput span p bytes status text
+  last_line : status ≡ status_sink → (code : ℕ) (front last : List ℕ) (count : ℕ) → OutputText span p bytes code front last → text ≡ front ++ take count last
       → WritesOutput span p bytes status text
-  answers : status ≡ status_sink → (lines more : List (List ℕ)) (rest : List ℕ) → lines_of bytes ≡ lines ++ more
-      → (c : Stretch span p (events_in lines)) → begins_with p ++ replies c.turns ≡ text ++ rest
-      → WritesOutput span p bytes status text
+  at_first_line : status ≡ status_sink → bytes ≡ [] → Stretch span p [] → (rest : List ℕ) → begins_with p ≡ text ++ rest → WritesOutput span p bytes status text
+  answers : status ≡ status_sink → (part : List ℕ) → CutsAnswers span p bytes part → text ≡ begins_with p ++ part → WritesOutput span p bytes status text
 
 -- The form of a whole text, by the status, whatever the rack holds: what stands before the last line, and the last line. The first line tells
 -- the writes and the gear with which the array was seen first, each answer has its cause, and so has the flush at the end.

@@ -1,5 +1,6 @@
 -- What a session took, answered and wrote.
-use Rattle.std.specs.Prelude.{◌≡◌, ℕ, ◌^◌, ◌<◌, List, [], ◌∷◌, ◌++◌, length, Option, Some, IsSome, Result, Ok, Err}
+use Rattle.std.specs.Prelude.{◌≡◌, ℕ, ◌^◌, ◌<◌, List, [], ◌∷◌, ◌++◌, length, take, Option, Some, IsSome, Result, Ok, Err}
+use Rattle.paraid_base.specs.declared.event.Answer.{Answer}
 use Rattle.paraid_base.specs.declared.event.Answer.TheVariants.{Flushed, Halted}
 use Rattle.paraid_base.specs.declared.event.Event.TheVariants.{Flush}
 use Rattle.paraid_base.specs.Told.{AtEnd, Gives, GrowsByBytes}
@@ -13,6 +14,20 @@ use Rattle.paraid_serve.specs.Form.{BeginsAnswers, HasAnswers}
 use Rattle.paraid_serve.specs.Streams.{Streams}
 use Rattle.paraid_serve.specs.Stretch.{EndsStretch, Span, Stretch, events_in, replies}
 use Rattle.paraid_session.specs.Turn.{Point}
+use Rattle.paraid_trace.specs.Replies.{reply_of}
+
+-- From a point on the lines of these bytes were answered up to one, and no line after it. This text is the answers to the lines
+-- before it, and a first part of its own, which is not the whole.
+pub record CutsAnswers (span : Span) (p : Point) (bytes text : List ℕ) : Type 0 where
+  pub before : List (List ℕ)
+  pub line : List ℕ
+  pub more : List (List ℕ)
+  pub split : lines_of bytes ≡ (before ++ line ∷ []) ++ more
+  pub answer : Answer
+  pub ends : EndsStretch span p (events_in (before ++ line ∷ [])) answer
+  pub count : ℕ
+  pub short : count < length (reply_of answer)
+  pub cut : text ≡ replies ends.before ++ take count (reply_of answer)
 
 -- which lines were answered, and what was written for them, by how the session ended
 abbrev pub AreLinesAnswered : Span → Point → Result ℕ Stop → List ℕ → List ℕ → Type 0
@@ -27,9 +42,7 @@ AreLinesAnswered span p (Err Source) bytes text =
 AreLinesAnswered span p (Err TooLong) bytes text =
     (c : Stretch span p (events_in (whole_lines bytes))) × (text ≡ replies c.turns)
 -- those to the one whose answer could not be written whole
-AreLinesAnswered span p (Err Sink) bytes text =
-    (lines more : List (List ℕ)) × (rest : List ℕ) × (lines_of bytes ≡ lines ++ more)
-    × (c : Stretch span p (events_in lines)) × (replies c.turns ≡ text ++ rest)
+AreLinesAnswered span p (Err Sink) bytes text = CutsAnswers span p bytes text
 
 -- the form of what was written for the lines, by how the session ended, and the cause of each answer; all lines are followed by a
 -- flush

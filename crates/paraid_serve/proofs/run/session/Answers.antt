@@ -79,7 +79,7 @@ returns-in_default g c = record {
       let e = c.answer-answered.ensures in
       let p = c.in_default.ensures.part in
       let h = rw c.in-Ok-Some.field-0-is at c.in-Ok-Some.ensures.heard in
-      ends_at_sink i.sofar h (answer_with c.answer-answered.result c.answer-answered.new.beside) _ e.cause _ _ _ _ _ i.slots i.setup (told_then _ _ e.told) e.turn p.0 (rw (c.as_slice.ensures.value, c.reply_with.ensures.value) at p.2);
+      ends_at_sink i.sofar h (answer_with c.answer-answered.result c.answer-answered.new.beside) _ e.cause _ _ _ _ _ i.slots i.setup (told_then _ _ e.told) e.turn p.0 (rw (c.as_slice.ensures.value, c.reply_with.ensures.value) at p.1) (rw (c.as_slice.ensures.value, c.reply_with.ensures.value) at p.2);
   told = grows_then _ _ _ c.lines.invariant.told c.answer-answered.ensures.told;
   slots = c.answer-answered.ensures.slots ∙ c.lines.invariant.slots;
   setup = c.answer-answered.ensures.setup ∙ c.lines.invariant.setup;
