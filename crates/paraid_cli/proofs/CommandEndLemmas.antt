@@ -1,10 +1,13 @@
 -- How `main` comes to its status.
-use Rattle.std.proofs.Common.{◌≡◌, ℕ, ◌⊎◌, inl, inr, Bool, true, false, ◌||◌, List, Option, refl, ap, ◌∙◌}
+use Rattle.std.proofs.Common.{◌≡◌, ℕ, ◌⊎◌, inl, inr, Bool, true, false, ◌||◌, List, Option, Some, None, refl, sym, ap, subst, ◌∙◌}
+use Rattle.paraid_cli.specs.CommandEnd.{IsOwnStatus, ServesReady, UsesProgram}
+use Rattle.paraid_cli.specs.Ready.{IsReady}
 use Rattle.paraid_gather.specs.Above.{slot_above, slots_above}
 use Rattle.paraid_gather.specs.Waiting.{Waiting, none_waits}
+use Rattle.paraid_imgrack.specs.declared.image.Image.{Image}
+use Rattle.paraid_imgrack.specs.declared.rack.ImageRack.{ImageRack}
 use Rattle.paraid_rack.specs.Slots.{Slot}
-use Rattle.paraid_serve.specs.Ending.{EndsWithLine}
-use Rattle.paraid_words.specs.Words.{usage_line}
+use Rattle.paraid_words.specs.declared.command.Command.{Command}
 
 or_false : (b : Bool) → (b || false) ≡ b
 or_false true = refl
@@ -18,9 +21,10 @@ pub slots_alone : {R : Type 0} (slot : R → ℕ → Slot) (below rack : R) (w :
     → (d : ℕ) → slots_above (slot below) w d ≡ slot rack d
 slots_alone {R} slot below rack w is none d = slot_alone (slot below d) (w d) (none d) ∙ ap (λ (r : R). slot r d) is
 
--- words that ask for no command end as they are answered
-pub unasked : (before after : Option (List ℕ)) (status : ℕ) → EndsWithLine before after usage_line 2 status → (status ≡ 2) ⊎ ((status ≡ 4) ⊎ (status ≡ 7))
-unasked before after status ends = elim ends.whole [
-  | inl failed ↦ inr (inl failed)
-  | inr whole ↦ inl whole.1
-]
+-- a program that was handed this command, with a rack that was ready for it, has served it or is left
+pub handed : {P F : Type 0} (program : P) (left : Option P) (free : List Image → Type 0) (ended : ImageRack F → Command → ℕ → Type 0) (rack : ImageRack F) (asked read : Command) (status : ℕ)
+    → asked ≡ read → IsReady free read rack → UsesProgram program left status (ended rack asked status)
+    → ((left ≡ Some program) × IsOwnStatus status) ⊎ ((left ≡ None) × ServesReady free ended asked status)
+handed program left free ended rack asked read status same ready (inl unused) = inl (unused.0, inr (inr (inr (inl unused.1))))
+handed program left free ended rack asked read status same ready (inr served) =
+    inr (served.0, record { rack = rack; ready = subst (λ (c : Command). IsReady free c rack) (sym same) ready; ends = served.1 })

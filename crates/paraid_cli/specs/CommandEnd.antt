@@ -1,14 +1,20 @@
 -- How `main` ends: with the status of a command, or with one of its own.
-use Rattle.std.specs.Prelude.{◌≡◌, ℕ, ◌⊎◌, List, [], ◌∷◌, Option, Some, None}
+use Rattle.std.specs.Prelude.{◌≡◌, ℕ, ◌⊎◌, List, [], ◌∷◌, length, Option, Some, None}
 use Rattle.paraid_gather.specs.Finish.{EndsGathered}
+use Rattle.paraid_imgrack.specs.declared.image.Image.{Image}
+use Rattle.paraid_imgrack.specs.declared.rack.ImageRack.{ImageRack}
+use Rattle.paraid_imgrack.specs.Images.{image_slot_at}
+use Rattle.paraid_imgrack.specs.Looks.{images_of}
 use Rattle.paraid_program.specs.CommandCompletes.{CompletesCommand}
 use Rattle.paraid_program.specs.CommandDoes.{DoesCommand}
 use Rattle.paraid_rack.specs.Slots.{Slot}
 use Rattle.paraid_rack.specs.Trail.{Trail}
-use Rattle.paraid_serve.specs.Uses.{RackUse, SinkUse, SourceUse}
+use Rattle.paraid_serve.specs.Ending.{EndsWithLine}
 use Rattle.paraid_serve.specs.Statuses.{IsOneOf, status_busy, status_no_memory, status_not_an_array, status_sink, status_source, status_words}
+use Rattle.paraid_serve.specs.Uses.{RackUse, SinkUse, SourceUse}
 use Rattle.paraid_words.specs.declared.command.Command.{Command}
-use Rattle.paraid_words.specs.Words.{AskFor}
+use Rattle.paraid_words.specs.Words.{AskFor, usage_line}
+use Rattle.paraid_cli.specs.Ready.{IsReady}
 
 -- A command was done with a rack that had these slots and the record `begun`, with this source and this
 -- sink, and ended with this status. Its writes were gathered: the rack below tells `ended` then, and `noted`
@@ -22,22 +28,36 @@ pub record EndsCommand (slots : ℕ) (slot : ℕ → Slot) (begun ended noted : 
   pub does : DoesCommand rack source sink status c
   pub complete : CompletesCommand rack source sink status c
 
--- A command was done so with some source and some sink, and a rack of these slots that tells nothing.
-abbrev pub EndsWithStreams : ℕ → (ℕ → Slot) → Command → ℕ → Type 0
-EndsWithStreams slots slot c status = (source : SourceUse) × (sink : SinkUse) × EndsCommand slots slot None None None source sink c status
+-- A command was done so with a rack of image files, which tells its slots alone: from the source and the sink as they were given to
+-- what they are then.
+abbrev pub EndsOverImages : {S K F : Type 0} → (S → SourceUse) → (K → SinkUse) → ImageRack F → Command → ℕ → Type 0
+EndsOverImages {S} {K} heard said rack c status = (source : S) × (sink : K)
+    × EndsCommand (length (images_of rack)) (image_slot_at (images_of rack)) None None None (heard source) (said sink) c status
 
--- A command was done so with some slots.
-abbrev pub EndsWithSlots : Command → ℕ → Type 0
-EndsWithSlots c status = (slots : ℕ) × (slot : ℕ → Slot) × EndsWithStreams slots slot c status
+-- The line that says which words there are was written to this sink, and the status is 2; or a first part of it, and the status is 4.
+abbrev pub EndsWithUsage : {K : Type 0} → (K → Option (List ℕ)) → K → ℕ → Type 0
+EndsWithUsage {K} written old status = (new : K) × EndsWithLine (written old) (written new) usage_line status_words status
 
 -- A status of the edge's own: a closed or failed stream, an image that is refused, no memory, or another command here.
 abbrev pub IsOwnStatus : ℕ → Type 0
 IsOwnStatus status = IsOneOf (status_source ∷ status_sink ∷ status_not_an_array ∷ status_no_memory ∷ status_busy ∷ []) status
 
--- The status is the edge's own, or the command that the words ask for ended with it.
-abbrev pub EndsAsked : (Command → ℕ → Type 0) → List (List ℕ) → ℕ → Type 0
-EndsAsked ended words status = (c : Command) → AskFor c words → IsOwnStatus status ⊎ ended c status
+-- There was no memory, and the program is left as it was; or it was used up, and this holds.
+abbrev pub UsesProgram : {P : Type 0} → P → Option P → ℕ → Type 0 → Type 0
+UsesProgram program left status Q = ((left ≡ Some program) × (status ≡ status_no_memory)) ⊎ ((left ≡ None) × Q)
 
--- Words that ask for no command ended with this status: they were answered, the output failed, or there was no memory.
-abbrev pub EndsUnasked : List (List ℕ) → ℕ → Type 0
-EndsUnasked words status = ((c : Command) → AskFor c words → ⊥) → IsOneOf (status_words ∷ status_sink ∷ status_no_memory ∷ []) status
+-- The command was served with a rack that was ready for it, and ended with this status.
+pub record ServesReady {F : Type 0} (free : List Image → Type 0) (ended : ImageRack F → Command → ℕ → Type 0) (c : Command) (status : ℕ) : Type 0 where
+  pub rack : ImageRack F
+  pub ready : IsReady free c rack
+  pub ends : ended rack c status
+
+-- The status is the edge's own, and the program is left as it was; or it was used up by the command that the words ask for, which it
+-- served with a rack that was ready and which ended with this status.
+abbrev pub EndsAsked : {P F : Type 0} → P → Option P → (List Image → Type 0) → (ImageRack F → Command → ℕ → Type 0) → List (List ℕ) → ℕ → Type 0
+EndsAsked program left free ended words status = (c : Command) → AskFor c words
+    → ((left ≡ Some program) × IsOwnStatus status) ⊎ ((left ≡ None) × ServesReady free ended c status)
+
+-- The program has told which words there are, with this status; or there was no memory, and it is left as it was.
+abbrev pub EndsUnasked : {P : Type 0} → P → Option P → (ℕ → Type 0) → List (List ℕ) → ℕ → Type 0
+EndsUnasked program left told words status = ((c : Command) → AskFor c words → ⊥) → UsesProgram program left status (told status)

@@ -2,17 +2,16 @@
 //! in a folder, and images that are there and do not belong or cannot be opened are not taken for
 //! lost ones.
 ghost use Rattle.std.specs.Prelude.{◌≡◌, ◌⊎◌, ◌<◌, ℕ, None, IfNone, map, string_bytes};
-ghost use Rattle.paraid_cli.specs.CommandEnd.{EndsAsked, EndsUnasked, IsOwnStatus};
+ghost use Rattle.paraid_cli.specs.CommandEnd.{EndsAsked, EndsUnasked, IsOwnStatus, UsesProgram};
 ghost use Rattle.paraid_cli.specs.Ready.{IsReady, IsSound, IsWhole};
 ghost use Rattle.paraid_imgrack.specs.Images.{misfit_at};
 ghost use Rattle.paraid_imgrack.specs.Looks.{images_of, IsUnhindered};
+ghost use Rattle.paraid_serve.specs.Statuses.{status_sink};
 ghost use Rattle.paraid_words.specs.Words.{AskFor};
 ghost use Rattle.paraid_words.specs.declared.command.Command.{Command as CommandType};
-ghost use Rattle.paraid_serve.specs.Statuses.{status_sink};
 
-use crate::program::Program;
-use paraid_base::NoMemory;
-use paraid_imgrack::{Claim, Hindrance, ImageRack};
+use crate::program::{Answered, Program};
+use paraid_imgrack::{Claim, Closed, Hindrance, ImageRack};
 use paraid_program::Ended;
 use paraid_rack::MOST_SLOTS;
 use paraid_serve::status;
@@ -54,20 +53,22 @@ impl Folder {
     }
 }
 
-/// Does what the words ask for with the images of the current folder, and gives the status.
+/// Does what the words ask for with the images of the current folder.
 pub(crate) fn answer_words<'a, H: Host, P: Program<&'a H>>(
     rt: &'a H,
-    program: &P,
+    program: P,
     words: &Vec<String>,
-) -> u8
-    ensures asked { EndsAsked (P.ended program.now) (map string_bytes words.now.items) result }
-    ensures unasked { EndsUnasked (map string_bytes words.now.items) result }
+) -> Answered<P>
+    ensures asked { EndsAsked program result.left (P.free program) (P.ended program)
+        (map string_bytes words.now.items) result.status }
+    ensures unasked { EndsUnasked program result.left (P.told program)
+        (map string_bytes words.now.items) result.status }
 {
     match read_words(words) {
         Some(command) => work(rt, program, words, &command),
-        None => match program.tell(words) {
-            Ok(status) => status,
-            Err(NoMemory) => status::NO_MEMORY,
+        None => match program.tell(rt, words) {
+            Ok(status) => Answered { status, left: None },
+            Err(program) => Answered::unused(program, status::NO_MEMORY),
         },
     }
 }
@@ -75,25 +76,26 @@ pub(crate) fn answer_words<'a, H: Host, P: Program<&'a H>>(
 /// Does the command that the words ask for, unless another one works here or a stream is closed.
 fn work<'a, H: Host, P: Program<&'a H>>(
     rt: &'a H,
-    program: &P,
+    program: P,
     words: &Vec<String>,
     command: &Command,
-) -> u8
+) -> Answered<P>
     requires { (c : CommandType) → AskFor c (map string_bytes words.now.items) → c ≡ command.now }
-    ensures { EndsAsked (P.ended program.now) (map string_bytes words.now.items) result }
+    ensures { EndsAsked program result.left (P.free program) (P.ended program)
+        (map string_bytes words.now.items) result.status }
 {
     let Ok(folder) = Folder::open(rt) else {
-        return work_nowhere(rt, command);
+        return Answered::unused(program, work_nowhere(rt, command));
     };
     if folder.stands_for(1) {
-        return status::SINK;
+        return Answered::unused(program, status::SINK);
     }
     if folder.stands_for(0) && reads_input(command) {
-        return end(rt, command, "source", status::SOURCE);
+        return Answered::unused(program, end(rt, command, "source", status::SOURCE));
     }
     if folder.first.try_lock().is_err() {
         let _ = eprintln!(rt; "paraid: another command works in this folder");
-        return status::BUSY;
+        return Answered::unused(program, status::BUSY);
     }
     work_there(rt, program, words, command)
 }
@@ -139,25 +141,51 @@ fn work_nowhere<H: Host>(rt: &H, command: &Command) -> u8
 
 fn work_there<'a, H: Host, P: Program<&'a H>>(
     rt: &'a H,
-    program: &P,
+    program: P,
     words: &Vec<String>,
     command: &Command,
-) -> u8
+) -> Answered<P>
     requires { (c : CommandType) → AskFor c (map string_bytes words.now.items) → c ≡ command.now }
-    ensures { EndsAsked (P.ended program.now) (map string_bytes words.now.items) result }
+    ensures { EndsAsked program result.left (P.free program) (P.ended program)
+        (map string_bytes words.now.items) result.status }
 {
     let Ok(mut rack) = ImageRack::load(rt, rt.alloc(), MOST_SLOTS) else {
-        return status::NO_MEMORY;
+        return Answered::unused(program, status::NO_MEMORY);
     };
     if let Some((disk, hindrance)) = hindrance_of(&rack, command) {
-        return tell_hindrance(rt, command, disk, hindrance);
+        return Answered::unused(program, tell_hindrance(rt, command, disk, hindrance));
     }
-    if let Some(disk) = refused(rt, program, &mut rack, command) {
-        return refuse(rt, command, disk);
+    if let Some(disk) = refused(rt, &program, &mut rack, command) {
+        return Answered::unused(program, refuse(rt, command, disk));
     }
-    let Ok(Ended { status, mut rack }) = program.serve(words, rack) else {
-        return status::NO_MEMORY;
-    };
+    hand_over(rt, program, words, command, rack)
+}
+
+/// Hands the command to the program, and tells of the images after it.
+fn hand_over<'a, H: Host, P: Program<&'a H>>(
+    rt: &'a H,
+    program: P,
+    words: &Vec<String>,
+    command: &Command,
+    rack: ImageRack<&'a H>,
+) -> Answered<P>
+    requires { (c : CommandType) → AskFor c (map string_bytes words.now.items)
+        → IsReady (P.free program) c rack }
+    ensures { (c : CommandType) → AskFor c (map string_bytes words.now.items)
+        → UsesProgram program result.left result.status
+        (P.ended program rack.entry c result.status) }
+{
+    match program.serve(words, rack) {
+        Ok(Ended { status, rack }) => {
+            end_images(rt, command, status, rack);
+            Answered { status, left: None }
+        }
+        Err(program) => Answered::unused(program, status::NO_MEMORY),
+    }
+}
+
+/// Brings the labels up to date, and tells which images do not belong and why disks have failed.
+fn end_images<H: Host>(rt: &H, command: &Command, status: u8, mut rack: Closed<&H>) {
     match command {
         Command::Format { .. } if status == status::DONE => rack.label_array(),
         Command::Format { .. } => (),
@@ -165,7 +193,6 @@ fn work_there<'a, H: Host, P: Program<&'a H>>(
     }
     let _ = tell_misfits(rt, rack.images());
     tell_causes(rt, rack.images());
-    status
 }
 
 fn hindrance_of<H: Host>(rack: &ImageRack<&H>, command: &Command) -> Option<(u8, Hindrance)>

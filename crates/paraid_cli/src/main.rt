@@ -7,7 +7,8 @@ mod program;
 mod served;
 mod streams;
 
-use crate::streams::Standard;
+use crate::streams::Paraid;
+use paraid_io::{StdSink, StdSource};
 use paraid_serve::status;
 use std::process::ExitCode;
 use std::{env, io};
@@ -26,5 +27,10 @@ fn main(rt: HostRuntime) -> ExitCode {
         Err(error) if error.kind() == io::ErrorKind::InvalidData => {}
         Err(_) => return ExitCode::from(status::NO_MEMORY),
     }
-    ExitCode::from(edge::answer_words(&rt, &Standard { rt: &rt }, &words))
+    let program = Paraid {
+        alloc: rt.alloc(),
+        source: StdSource::new(rt.reader()),
+        sink: StdSink::new(io::writer(&rt)),
+    };
+    ExitCode::from(edge::answer_words(&rt, program, &words).status)
 }

@@ -1,30 +1,36 @@
 //! What the edge hands a command to.
 //!
 //! That a command has ended, and that a new array may be made, are known of it by its answers alone:
-//! so no other code can give a status in its place, and none can leave a look at the images out.
-ghost use Rattle.std.specs.Prelude.{◌≡◌, ℕ, List, length, IfOk, IfNone, map, string_bytes};
-ghost use Rattle.paraid_cli.specs.CommandEnd.{EndsUnasked};
+//! so no other code can give a status in its place, and none can leave a look at the images out. It is
+//! given away with the words. So what it has served ends as it says, and it serves once.
+ghost use Rattle.std.specs.Prelude.{◌≡◌, ℕ, List, Some, IfErr, IfOk, IfNone, map, string_bytes};
 ghost use Rattle.paraid_cli.specs.Ready.{IsReady, IsWhole};
 ghost use Rattle.paraid_imgrack.specs.Looks.{images_of};
 ghost use Rattle.paraid_imgrack.specs.declared.image.Image.{Image as ImageType};
+ghost use Rattle.paraid_imgrack.specs.declared.rack.ImageRack.{ImageRack as RackType};
 ghost use Rattle.paraid_words.specs.Words.{AskFor};
 ghost use Rattle.paraid_words.specs.declared.command.Command.{Command as CommandType};
 
-use paraid_base::{DiskNo, NoMemory};
+use paraid_base::DiskNo;
 use paraid_imgrack::{Claim, Closed, ImageRack};
 use paraid_program::Ended;
 
-/// The program over image files.
-pub(crate) trait Program<F> {
-    /// This command was served and ended with this status.
-    ghost ended: { Self → CommandType → ℕ → Type 0 };
+/// The program over image files. It comes back only where there was no memory and it has done nothing.
+pub(crate) trait Program<F>: Sized {
+    /// This command was served with this rack and ended with this status.
+    ghost ended: { Self → RackType F → CommandType → ℕ → Type 0 };
 
     /// In the slots of these images a new array may be made.
     ghost free: { Self → List ImageType → Type 0 };
 
-    /// Answers words that are no command.
-    fn tell(&self, words: &Vec<String>) -> Result<u8, NoMemory>
-        ensures { IfOk result (λ status. EndsUnasked (map string_bytes words.now.items) status) };
+    /// It was told which words there are, with this status.
+    ghost told: { Self → ℕ → Type 0 };
+
+    /// Answers words that are no command. It touches no image.
+    fn tell(self, files: F, words: &Vec<String>) -> Result<u8, Self>
+        requires { (c : CommandType) → AskFor c (map string_bytes words.now.items) → ⊥ }
+        ensures status { IfOk result (λ status. told self status) }
+        ensures none { IfErr result (λ left. left ≡ self) };
 
     /// The first image that a new array would write over. An array whose log can be read is told by
     /// the command itself.
@@ -33,9 +39,30 @@ pub(crate) trait Program<F> {
         ensures { IfNone result (free self.now (images_of rack.new)) };
 
     /// Does the command that the words ask for. The rack is used no more.
-    fn serve(&self, words: &Vec<String>, rack: ImageRack<F>) -> Result<Ended<Closed<F>>, NoMemory>
+    fn serve(self, words: &Vec<String>, rack: ImageRack<F>) -> Result<Ended<Closed<F>>, Self>
         requires { (c : CommandType) → AskFor c (map string_bytes words.now.items)
-            → IsReady (free self.now) c rack }
-        ensures { IfOk result (λ end. (c : CommandType)
-            → AskFor c (map string_bytes words.now.items) → ended self.now c end.status) };
+            → IsReady (free self) c rack }
+        ensures status { IfOk result (λ end. (c : CommandType)
+            → AskFor c (map string_bytes words.now.items) → ended self rack c end.status) }
+        ensures none { IfErr result (λ left. left ≡ self) };
+}
+
+/// How the words were answered.
+#[derive(Drop)]
+pub(crate) struct Answered<P> {
+    pub(crate) status: u8,
+    /// The program, if the status is not one that it gave.
+    pub(crate) left: Option<P>,
+}
+
+impl<P> Answered<P> {
+    /// By the edge alone.
+    pub(crate) fn unused(program: P, status: u8) -> Answered<P>
+        ensures { result ≡ record { status = status; left = Some program } }
+    {
+        Answered {
+            status,
+            left: Some(program),
+        }
+    }
 }

@@ -1,5 +1,5 @@
 //! The program over a rack whose writes are gathered. All that it wrote is in the files when it returns.
-ghost use Rattle.std.specs.Prelude.{◌≡◌, IfOk, Some, map, string_bytes};
+ghost use Rattle.std.specs.Prelude.{◌≡◌, IfOk, OnErr, Some, map, string_bytes};
 ghost use Rattle.paraid_cli.specs.CommandEnd.{EndsCommand};
 ghost use Rattle.paraid_gather.specs.Above.{told_above};
 ghost use Rattle.paraid_rack.specs.Trail.{Trail};
@@ -43,6 +43,8 @@ pub(crate) fn serve_gathered<S: Source, K: Sink, R: BulkRack + Drop, L: Noted + 
         → AskFor c (map string_bytes words.now.items) → ⊥)
         → EndsWithLine (K.written sink.old) (K.written sink.new) usage_line
         status_words served.status) }
+    // Without memory nothing was read, and nothing written.
+    ensures none { OnErr result ((source.new ≡ source.old) × (sink.new ≡ sink.old)) }
 {
     let gathered = Gathered::new(alloc, rack, log)?;
     let Ended { status, rack } = paraid(alloc, words, source, sink, gathered);

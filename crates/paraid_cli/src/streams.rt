@@ -1,45 +1,73 @@
-//! The program over the standard streams and the image files of the current folder.
-ghost use Rattle.std.specs.Prelude.{◌≡◌, IfOk, map, string_bytes};
-ghost use Rattle.paraid_cli.specs.CommandEnd.{EndsUnasked, EndsWithSlots};
+//! The program over a source, a sink and image files.
+ghost use Rattle.std.specs.Prelude.{◌≡◌, IfErr, IfOk, map, string_bytes};
+ghost use Rattle.paraid_cli.specs.CommandEnd.{EndsOverImages, EndsWithUsage};
+ghost use Rattle.paraid_serve.specs.Streams.{sink_use, source_use};
 ghost use Rattle.paraid_words.specs.Words.{AskFor};
 ghost use Rattle.paraid_words.specs.declared.command.Command.{Command as CommandType};
 
-use crate::edge::Host;
 use crate::logs::hold_array;
 use crate::program::Program;
 use crate::served::{Served, serve_gathered};
 use paraid_base::{DiskNo, NoMemory};
 use paraid_gather::Unnoted;
 use paraid_imgrack::{Claim, Closed, ImageRack};
-use paraid_io::{StdSink, StdSource};
+use paraid_io::{Sink, Source};
 use paraid_program::Ended;
-use std::io;
+use std::alloc::Global;
+use std::fs::{File, Files};
 
-/// The program as this process has it.
+/// The program with the streams that it reads and writes.
 #[derive(Drop)]
-pub(crate) struct Standard<'a, H> {
-    pub(crate) rt: &'a H,
+pub(crate) struct Paraid<S, K> {
+    pub(crate) alloc: Global,
+    pub(crate) source: S,
+    pub(crate) sink: K,
 }
 
-impl<'a, H: Host> Program<&'a H> for Standard<'a, H> {
+impl<F: Files<File = File> + Drop, S: Source + Drop, K: Sink + Drop> Program<F> for Paraid<S, K> {
     ghost use Rattle.std.specs.Bool.{⊤};
 
-    ghost ended = { λ program c status. EndsWithSlots c status };
+    ghost ended = { λ program rack c status. EndsOverImages (source_use S.left S.faults program.source) (sink_use K.written K.faults program.sink) rack c status };
 
     // (what the files hold is told by no clause)
     ghost free = { λ program images. ⊤ };
 
-    /// The program tells which words there are, and touches no image.
-    fn tell(&self, words: &Vec<String>) -> Result<u8, NoMemory> {
-        let rack = ImageRack::load(self.rt, self.rt.alloc(), 0)?;
-        let Ended {
-            status,
-            rack: _rack,
-        } = serve(self.rt, words, rack)?;
-        Ok(status)
+    ghost told = { λ program status. EndsWithUsage K.written program.sink status };
+
+    fn tell(self, files: F, words: &Vec<String>) -> Result<u8, Self>
+        requires { (c : CommandType) → AskFor c (map string_bytes words.now.items) → ⊥ }
+        ensures status { IfOk result (λ status. EndsWithUsage K.written self.sink status) }
+        ensures none { IfErr result (λ left. left ≡ self) }
+    {
+        let Paraid {
+            alloc,
+            mut source,
+            mut sink,
+        } = self;
+        let Ok(rack) = ImageRack::load(files, alloc, 0) else {
+            return Err(Paraid {
+                alloc,
+                source,
+                sink,
+            });
+        };
+        match serve_gathered(alloc, words, &mut source, &mut sink, rack, Unnoted) {
+            Ok(
+                Served {
+                    status,
+                    rack: _rack,
+                    log: Unnoted,
+                },
+            ) => Ok(status),
+            Err(NoMemory) => Err(Paraid {
+                alloc,
+                source,
+                sink,
+            }),
+        }
     }
 
-    fn claimed(&self, rack: &mut ImageRack<&'a H>) -> Option<(DiskNo, Claim)> {
+    fn claimed(&self, rack: &mut ImageRack<F>) -> Option<(DiskNo, Claim)> {
         let (disk, claim) = rack.claim()?;
         if hold_array(rack) {
             return None;
@@ -47,38 +75,34 @@ impl<'a, H: Host> Program<&'a H> for Standard<'a, H> {
         Some((disk, claim))
     }
 
-    fn serve(
-        &self,
-        words: &Vec<String>,
-        rack: ImageRack<&'a H>,
-    ) -> Result<Ended<Closed<&'a H>>, NoMemory>
-        ensures { IfOk result (λ end. (c : CommandType)
-            → AskFor c (map string_bytes words.now.items) → EndsWithSlots c end.status) }
+    fn serve(self, words: &Vec<String>, rack: ImageRack<F>) -> Result<Ended<Closed<F>>, Self>
+        ensures status { IfOk result (λ end. (c : CommandType)
+            → AskFor c (map string_bytes words.now.items)
+            → EndsOverImages (source_use S.left S.faults self.source)
+            (sink_use K.written K.faults self.sink) rack c end.status) }
+        ensures none { IfErr result (λ left. left ≡ self) }
     {
-        let Ended { status, rack } = serve(self.rt, words, rack)?;
-        Ok(Ended {
-            status,
-            rack: Closed::new(rack),
-        })
+        let Paraid {
+            alloc,
+            mut source,
+            mut sink,
+        } = self;
+        match serve_gathered(alloc, words, &mut source, &mut sink, rack, Unnoted) {
+            Ok(
+                Served {
+                    status,
+                    rack,
+                    log: Unnoted,
+                },
+            ) => Ok(Ended {
+                status,
+                rack: Closed::new(rack),
+            }),
+            Err(NoMemory) => Err(Paraid {
+                alloc,
+                source,
+                sink,
+            }),
+        }
     }
-}
-
-/// Hands the program the standard streams and this rack.
-fn serve<'a, H: Host>(
-    rt: &'a H,
-    words: &Vec<String>,
-    rack: ImageRack<&'a H>,
-) -> Result<Ended<ImageRack<&'a H>>, NoMemory>
-    ensures told { IfOk result (λ ended. (c : CommandType) → AskFor c (map string_bytes words.now.items)
-        → EndsWithSlots c ended.status) }
-    ensures words { IfOk result (λ ended. EndsUnasked (map string_bytes words.now.items) ended.status) }
-{
-    let mut source = StdSource::new(rt.reader());
-    let mut sink = StdSink::new(io::writer(rt));
-    let Served {
-        status,
-        rack,
-        log: Unnoted,
-    } = serve_gathered(rt.alloc(), words, &mut source, &mut sink, rack, Unnoted)?;
-    Ok(Ended { status, rack })
 }

@@ -1,5 +1,6 @@
-use Rattle.std.proofs.Common.{inr}
+use Rattle.paraid_cli.proofs.CommandEndLemmas.{handed}
 use Rattle.paraid_cli.proofs.edge.work_there.Goals as goal
 
 pub returns : goal.returns
-returns g c command asked = inr (c.in-Ok-serve.ensures command asked)
+returns g c command asked =
+    handed _ _ (g.P.Program.free c.args.program) (g.P.Program.ended c.args.program) c.refused.new.rack _ _ _ (c.requires command asked) c.in_default-refused.ensures (c.hand_over.ensures command asked)
