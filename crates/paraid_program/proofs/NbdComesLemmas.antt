@@ -1,5 +1,5 @@
 -- How `nbd` comes out on a rack that held a history.
-use Rattle.std.proofs.Common.{◌≡◌, ℕ, ◌*◌, List, [], ◌∷◌, ◌++◌, Some, None, inr, refl, sym, ap, ◌∙◌, arith}
+use Rattle.std.proofs.Common.{◌≡◌, ℕ, ◌*◌, List, [], ◌∷◌, ◌++◌, Some, None, inr, refl, sym, ap, subst, ◌∙◌, arith}
 use Rattle.paraid_base.specs.declared.event.Answer.{Answer}
 use Rattle.paraid_base.specs.declared.event.Answer.TheVariants.{Halted}
 use Rattle.paraid_base.specs.declared.event.Event.{Event}
@@ -10,6 +10,7 @@ use Rattle.paraid_base.specs.Told.{HasRisen}
 use Rattle.paraid_device.specs.Devices.{answers_in}
 use Rattle.paraid_nbd.specs.declared.ending.NbdEnd.{NbdEnd}
 use Rattle.paraid_nbd.specs.declared.ending.NbdEnd.TheVariants.{Done, Aborted, Closed, Protocol, TooLong, Source, Sink, NoMemory}
+use Rattle.paraid_image.specs.Rest.{AreSynced}
 use Rattle.paraid_machine.specs.Machine.{block_count}
 use Rattle.paraid_rack.specs.declared.call.Call.{Call}
 use Rattle.paraid_rack.specs.Trail.{Trail, extend, now}
@@ -84,7 +85,7 @@ over setup rack kept status present two = record {
 
 module _ {rack : RackUse} (h : HeldHistory rack) (given : SourceUse) (kept : SinkUse) (status : ℕ) (sunk : status ≡ 4 → HasRisen kept.faults_before kept.faults) (heard : status ≡ 3 → HasRisen given.faults_before given.faults) where
   abbrev Whole : Type 0
-  Whole = IsNbdWhole given kept
+  Whole = IsNbdWhole h given kept
 
   abbrev Hindered : Type 0
   Hindered = HindersNbd h given kept status
@@ -107,11 +108,14 @@ module _ {rack : RackUse} (h : HeldHistory rack) (given : SourceUse) (kept : Sin
     at_end : IsEndOver service.array.meta.setup rack (record kept { written_before = None; written = None }) status
     at_end = over service.array.meta.setup rack kept status s.present s.two
 
+    taken_of : {setup : Setup} → service.array.meta.setup ≡ setup → TakesClient (512 * block_count setup) (streams_of given kept) s.headline.end
+    taken_of is = subst (λ (setup : Setup). TakesClient (512 * block_count setup) (streams_of given kept) s.headline.end) is s.headline.taken
+
     by_session : (base : ℕ → ℕ) (t : Trail) (cs : List Call) (p : Point) → service.told ≡ Some t → t ≡ extend h.first cs → IsBegun rack.slots (now h.first) h.said h.history h.low h.down base cs p → h.said.meta.setup ≡ service.array.meta.setup
-        → (events : Answers) → broken_status s.headline.end ≡ None → EndsWithStatus (served_span rack service) p events s.headline.end status → Comes
-    by_session base t cs p here split starts same events none (broken e k) = absurd (none_some status (sym none ∙ e))
-    by_session base t cs p here split starts same events none (kept_all writes e zero k) = whole zero (record { setup = service.array.meta.setup; end = s.headline.end; taken = s.headline.taken; whole = none })
-    by_session base t cs p here split starts same events none (halted halt e is k) =
+        → (events : Answers) → broken_status s.headline.end ≡ None → (status ≡ 0 → AreSynced (now h.last)) → EndsWithStatus (served_span rack service) p events s.headline.end status → Comes
+    by_session base t cs p here split starts same events none synced (broken e k) = absurd (none_some status (sym none ∙ e))
+    by_session base t cs p here split starts same events none synced (kept_all writes e zero k) = whole zero (record { end = s.headline.end; taken = taken_of (sym same); whole = none; synced = synced zero })
+    by_session base t cs p here split starts same events none synced (halted halt e is k) =
         halted_comes h (record kept { written_before = None; written = None }) status Whole Hindered other sunk service stood begins at_end base t cs p here split starts same k.asked halt (keeps_ends (served_span rack service) p events Flush (Halted halt) k) is
 
     by_end : IsStatusOfEnd s.headline.end status → Comes
@@ -119,7 +123,7 @@ module _ {rack : RackUse} (h : HeldHistory rack) (given : SourceUse) (kept : Sin
     by_end (flushed none fits) =
         from_point h (record kept { written_before = None; written = None }) status Whole Hindered other sunk service stood begins at_end
         (FollowsForClient (served_span rack service) (streams_of given kept) status s.headline.end) (s.headline.said (some_is rack.after h.last h.at_last))
-        (λ base t cs p here split starts same x. by_session base t cs p here split starts same x.events none x.session)
+        (λ base t cs p here split starts same x. by_session base t cs p here split starts same x.events none (λ zero. x.synced zero h.last h.at_last) x.session)
 
   pub nbd_comes : ServesNbdOrNot rack given kept status → Comes
   nbd_comes (refused fault back is taken grows) = refused_comes h (record kept { written_before = None; written = None }) status Whole Hindered other sunk fault back.cause back.refused 0 0 (inr (refl, is))

@@ -1,6 +1,8 @@
 -- What `nbd` does.
 use Rattle.std.specs.Prelude.{◌≡◌, ℕ, ◌*◌, [], Some, None}
 use Rattle.paraid_base.specs.Told.{GrowsByBytes, HasRisen}
+use Rattle.paraid_image.specs.Rest.{AreSynced}
+use Rattle.paraid_rack.specs.Trail.{now}
 use Rattle.paraid_recover.specs.declared.fault.MountFault.{MountFault}
 use Rattle.paraid_serve.specs.Calls.{IsNotDouble}
 use Rattle.paraid_record.specs.declared.meta.Setup.{Setup}
@@ -19,7 +21,7 @@ use Rattle.paraid_program.specs.MountFaults.{mount_fault_status}
 
 -- A client was served with a mounted array: its headline; over every rack what it was answered and why, by what was seen of the array
 -- from its mount to the end, when its slots were those that are handed back; that at `status_done` at most one disk of the array is absent, and
--- that at `status_two` two different disks are down, of which the second has failed since before the mount.
+-- that at `status_two` of two different disks the second has failed since before the mount.
 pub record ServesNbd (rack : RackUse) (source : SourceUse) (sink : SinkUse) (status : ℕ) (service : ServiceStart) : Type 0 where
   pub headline : ClientHeadline (served_span rack service) service.began (streams_of source sink) status
   pub seen : Shown
@@ -36,12 +38,13 @@ pub data ServesNbdOrNot (rack : RackUse) (source : SourceUse) (sink : SinkUse) (
   mounted : (service : ServiceStart) → IsServed rack service → BeginsAt rack.before service.told rack.after service.began → ServesNbd rack source sink status service
       → ServesNbdOrNot rack source sink status
 
--- a client was served, and what was written is kept: the service ended by a disconnect, an abort or the end of the source
-pub record IsNbdWhole (source : SourceUse) (sink : SinkUse) : Type 0 where
-  pub setup : Setup
+-- A client was served whole by the array that was held: the service ended by a disconnect, an abort or the end of the source, and no
+-- block of a disk that is there is loose.
+pub record IsNbdWhole {rack : RackUse} (h : HeldHistory rack) (source : SourceUse) (sink : SinkUse) : Type 0 where
   pub end : NbdEnd
-  pub taken : TakesClient (512 * block_count setup) (streams_of source sink) end
+  pub taken : TakesClient (512 * block_count h.said.meta.setup) (streams_of source sink) end
   pub whole : broken_status end ≡ None
+  pub synced : AreSynced (now h.last)
 
 -- What hinders `nbd`, with the status that it has then.
 pub data HindersNbd {rack : RackUse} (h : HeldHistory rack) (source : SourceUse) (sink : SinkUse) (status : ℕ) : Type 0 where

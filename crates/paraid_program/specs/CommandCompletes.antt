@@ -65,7 +65,7 @@ CompletesCommand rack source sink status Check =
 CompletesCommand rack source sink status (Gen number lines) =
     (h : HeldHistory rack) → Completes ((writes : ℕ) × TellsLast sink (end_line writes)) (IsUnstarted rack.old rack.new rack.before rack.after) (Hinders h sink status) status
 CompletesCommand rack source sink status Nbd =
-    (h : HeldHistory rack) → Completes (IsNbdWhole source sink) (IsUnstarted rack.old rack.new rack.before rack.after) (HindersNbd h source sink status) status
+    (h : HeldHistory rack) → Completes (IsNbdWhole h source sink) (IsUnstarted rack.old rack.new rack.before rack.after) (HindersNbd h source sink status) status
 CompletesCommand rack source sink status Vol =
     (h : HeldHistory rack) → Completes (IsRunWhole source sink) (IsUnstarted rack.old rack.new rack.before rack.after) (HindersRun h source sink status) status
 CompletesCommand rack source sink status (Plan ups) =
