@@ -1,5 +1,5 @@
 -- What a session with spares keeps from line to line.
-use Rattle.std.proofs.Common.{◌≡◌, ℕ, ◌^◌, ◌<◌, ◌≤◌, Bool, true, false, List, [], ◌∷◌, ◌++◌, length, take, drop, IsTrue, Option, Some, None, IsSome, Ok, Err, refl, sym, ap, ◌∙◌, subst, arith, length-append, take-append-drop}
+use Rattle.std.proofs.Common.{◌≡◌, ℕ, ◌^◌, ◌<◌, ◌≤◌, Bool, true, false, List, [], ◌∷◌, ◌++◌, length, take, IsTrue, Option, Some, None, IsSome, Ok, Err, refl, sym, ap, ◌∙◌, subst, arith, length-append}
 use Rattle.std.proofs.lemmas.List.{append_assoc, append-nil}
 use Rattle.std.proofs.lemmas.Bool.{false≢true}
 use Rattle.paraid_base.specs.declared.event.Answer.{Answer}
@@ -13,7 +13,7 @@ use Rattle.paraid_io.specs.declared.line.LineFault.{LineFault}
 use Rattle.paraid_io.specs.Lines.{lines_of, whole_lines}
 use Rattle.paraid_io.specs.Reading.{IsNextLine, Reading, fresh_reader}
 use Rattle.paraid_rack.specs.declared.call.Call.{Call}
-use Rattle.paraid_rack.specs.Told.{Ran}
+use Rattle.paraid_rack.specs.Told.{Came, Ran}
 use Rattle.paraid_rack.specs.Trail.{Trail, extend}
 use Rattle.paraid_rack.proofs.TrailsLemmas.{extend-extend}
 use Rattle.paraid_record.specs.declared.meta.Setup.{Setup}
@@ -28,7 +28,7 @@ use Rattle.paraid_serve.proofs.StretchLemmas.{More, events_in-push, some_told, s
 use Rattle.paraid_session.specs.Turn.{GoesOn, Point}
 use Rattle.paraid_spare.specs.declared.pool.Pool.{Pool}
 use Rattle.paraid_sparing.specs.Serving.{Keeps, ServesLine}
-use Rattle.paraid_sparing.specs.Session.{EndsSpared, ServesSpared, Spared}
+use Rattle.paraid_sparing.specs.Session.{CutsSpared, EndsSpared, ServesSpared, Spared}
 use Rattle.paraid_sparing.specs.Sparing.{AnswersLine, AnswersTrace, Stock, spun_by}
 use Rattle.paraid_sparing.proofs.RecordedLemmas.{ends_count, trace_counts}
 use Rattle.paraid_sparing.specs.SparedCauses.{CausesFlush, CausesLine, CausesLines}
@@ -118,6 +118,18 @@ lines_more : (bytes got rest more : List ℕ) (lines ls : List (List ℕ)) (line
 lines_more bytes got rest more lines ls line f before cut =
     ap f (append_assoc bytes got more) ∙ before ∙ ap (λ x. lines ++ f x) (sym (append_assoc rest got more)) ∙ ap (λ x. lines ++ x) cut ∙ sym (append_assoc lines (line ∷ []) ls)
 
+-- the calls of a line more
+line_came : {span : Span} {wait : ℕ} {p : Point} {k : Stock} {lines : List (List ℕ)} {text : List ℕ} {stood : Point → Type 0} {pool : Pool} (s : Said span wait p k lines text stood pool)
+    → (event : Event) (later : Option Trail) (told : List ℕ) (new_stood : Point → Type 0) (new_pool : Pool) (slots_now : ℕ) (setup_now : Setup) → slots_now ≡ span.slots → setup_now ≡ span.setup
+    → ((q : Point) (w : ℕ) (j : Stock) → stood q → Keeps pool w j → Ran span.now later (ServesLine slots_now setup_now w q j event told new_stood new_pool)) → (tells : IsSome later)
+    → Came span.now (some_told later tells).0 (ServesLine span.slots span.setup wait s.part.all.end s.part.stock event told new_stood new_pool)
+line_came {span} {wait} {p} {k} {lines} {text} {stood} {pool} s event later told new_stood new_pool slots_now setup_now same_slots same_setup goes tells =
+    let c = s.part.all in
+    let t = some_told later tells in
+    let ran = subst (λ (n : ℕ). Ran span.now later (ServesLine n span.setup wait c.end s.part.stock event told new_stood new_pool)) same_slots (subst (λ (u : Setup). Ran span.now later (ServesLine slots_now u wait c.end s.part.stock event told new_stood new_pool)) same_setup
+    (goes c.end wait s.part.stock s.stands s.keeps)) in
+    ran t.0 t.1
+
 -- a line more is answered
 said_more : {span : Span} {wait : ℕ} {p : Point} {k : Stock} {lines : List (List ℕ)} {text : List ℕ} {stood : Point → Type 0} {pool : Pool} (s : Said span wait p k lines text stood pool)
     → (line : List ℕ) (event : Event) (later : Option Trail) (told : List ℕ) (new_stood : Point → Type 0) (new_pool : Pool) (slots_now : ℕ) (setup_now : Setup) → slots_now ≡ span.slots → setup_now ≡ span.setup → event ≡ event_of line
@@ -126,9 +138,7 @@ said_more : {span : Span} {wait : ℕ} {p : Point} {k : Stock} {lines : List (Li
 said_more {span} {wait} {p} {k} {lines} {text} {stood} {pool} s line event later told new_stood new_pool slots_now setup_now same_slots same_setup is goes tells =
     let c = s.part.all in
     let t = some_told later tells in
-    let ran = subst (λ (n : ℕ). Ran span.now later (ServesLine n span.setup wait c.end s.part.stock event told new_stood new_pool)) same_slots (subst (λ (u : Setup). Ran span.now later (ServesLine slots_now u wait c.end s.part.stock event told new_stood new_pool)) same_setup
-    (goes c.end wait s.part.stock s.stands s.keeps)) in
-    let came = ran t.0 t.1 in
+    let came = line_came s event later told new_stood new_pool slots_now setup_now same_slots same_setup goes tells in
     let l = came.holds in
     let answers = subst (λ (es : List Event). AnswersTrace span.slots span.setup wait p k es (c.turns ++ l.turns) (text ++ told) l.end l.stock) (ap (λ (e : Event). events_in lines ++ e ∷ []) is ∙ sym (events_in-push lines line))
     (one_more_line (events_in lines) c.turns text c.end s.part.stock s.part.answers event l.turns told l.end l.stock l.answers) in
@@ -153,6 +163,34 @@ said_more {span} {wait} {p} {k} {lines} {text} {stood} {pool} s line event later
       };
       stands = l.stood;
       keeps = l.keeps;
+    }
+
+-- what is told of that line is cut
+said_cut : {span : Span} {wait : ℕ} {p : Point} {k : Stock} {lines : List (List ℕ)} {text : List ℕ} {stood : Point → Type 0} {pool : Pool} (s : Said span wait p k lines text stood pool)
+    → (line : List ℕ) (event : Event) (later : Option Trail) (told : List ℕ) (new_stood : Point → Type 0) (new_pool : Pool) (slots_now : ℕ) (setup_now : Setup) → slots_now ≡ span.slots → setup_now ≡ span.setup → event ≡ event_of line
+    → ((q : Point) (w : ℕ) (j : Stock) → stood q → Keeps pool w j → Ran span.now later (ServesLine slots_now setup_now w q j event told new_stood new_pool)) → IsSome later
+    → (bytes : List ℕ) (more : List (List ℕ)) (n : ℕ) → lines_of bytes ≡ (lines ++ line ∷ []) ++ more → n < length told → CutsSpared (record span { now = later }) wait p k bytes (text ++ take n told)
+unfolding said_more
+said_cut {span} {wait} {p} {k} {lines} {text} {stood} {pool} s line event later told new_stood new_pool slots_now setup_now same_slots same_setup is goes tells bytes more n split short =
+    let l = (line_came s event later told new_stood new_pool slots_now setup_now same_slots same_setup goes tells).holds in
+    record {
+      before = lines;
+      line = line;
+      more = more;
+      split = split;
+      front = text;
+      told = told;
+      all = (said_more s line event later told new_stood new_pool slots_now setup_now same_slots same_setup is goes tells).part;
+      turns = s.part.all.turns;
+      mid = s.part.all.end;
+      j = s.part.stock;
+      lines = s.part.answers;
+      last_turns = l.turns;
+      last = subst (λ (e : Event). AnswersLine span.slots span.setup wait s.part.all.end s.part.stock e l.turns told l.end l.stock) is l.answers;
+      parts = refl;
+      count = n;
+      short = short;
+      cut = refl;
     }
 
 module _ {seen seen_now : Shown} {slots : ℕ} {setup : Setup} {wait : ℕ} {k : Stock} {first : Point → Type 0} {left_before left after written_before written : Option (List ℕ)} {start now : Option Trail} {stood : Point → Type 0} {pool : Pool} {old new : Reading} (s : Sofar seen seen_now slots setup wait k first left_before left written_before written start now stood pool old) where
@@ -188,8 +226,8 @@ module _ {seen seen_now : Shown} {slots : ℕ} {setup : Setup} {wait : ℕ} {k :
         }
 
     -- the answer could not be written
-    pub ends_at_sink : {a b m i : ℕ} (wrote : Option (List ℕ)) (n : ℕ) → GrowsByBytes written wrote (take n told) → ServesSpared seen seen_later (span_of slots setup start later) wait k first (streams_of (source_from left_before after a b) (sink_from written_before wrote m i)) new_pool (Err Sink)
-    ends_at_sink {a} {b} {m} {i} wrote n grew =
+    pub ends_at_sink : {a b m i : ℕ} (wrote : Option (List ℕ)) (n : ℕ) → n < length told → GrowsByBytes written wrote (take n told) → ServesSpared seen seen_later (span_of slots setup start later) wait k first (streams_of (source_from left_before after a b) (sink_from written_before wrote m i)) new_pool (Err Sink)
+    ends_at_sink {a} {b} {m} {i} wrote n short grew =
         let line : List ℕ = h.says.0 in
         let next_line : IsNextLine (old.rest ++ h.got) line new = h.says.2 in
         let cut : lines_of (s.bytes ++ h.got) ≡ (s.answered ++ line ∷ []) ++ lines_of new.rest = s.lines h.got h.ended_before ∙ ap (λ x. s.answered ++ lines_of x) (sym (append-nil (old.rest ++ h.got))) ∙ ap (λ x. s.answered ++ x) (next_line.lines [] (λ e. refl)) ∙ ap (λ x. s.answered ++ line ∷ lines_of x) (append-nil new.rest) ∙ sym (append_assoc s.answered (line ∷ []) (lines_of new.rest)) in
@@ -199,14 +237,8 @@ module _ {seen seen_now : Shown} {slots : ℕ} {setup : Setup} {wait : ℕ} {k :
           given = Gives-then left_before left after s.bytes h.got s.given h.given;
           grows = GrowsByBytes-then written_before written wrote s.text (take n told) s.grows grew;
           full = tt;
-          causes = causes_cut wait seen seen_now seen_later k (s.bytes ++ h.got) s.answered (lines_of new.rest) s.text pool event line told n new_pool cut h.says.1 s.causes caused;
-          answered = λ t p f. (
-            s.answered ++ line ∷ [],
-            lines_of new.rest,
-            drop n told,
-            cut,
-            subst (λ (x : List ℕ). Spared (span_of slots setup start later) wait p k (events_in (s.answered ++ line ∷ [])) x) (ap (λ x. s.text ++ x) (sym (take-append-drop n told)) ∙ sym (append_assoc s.text (take n told) (drop n told))) (says t p f).part,
-          );
+          causes = causes_cut wait seen seen_now seen_later k (s.bytes ++ h.got) s.answered (lines_of new.rest) s.text pool event line told n new_pool short cut h.says.1 s.causes caused;
+          answered = λ t p f. said_cut (s.said (tells t) p f) line event later told new_stood new_pool slots_now setup_now same_slots same_setup h.says.1 goes t (s.bytes ++ h.got) (lines_of new.rest) n cut short;
         }
 
   -- the input has ended, and all lines are answered

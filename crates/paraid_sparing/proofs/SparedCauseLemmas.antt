@@ -1,5 +1,5 @@
 -- From the causes of a line to those of all lines and of the whole text.
-use Rattle.std.proofs.Common.{◌≡◌, ℕ, ◌-◌, List, [], ◌∷◌, ◌++◌, length, take, drop, codes, Option, Some, None, refl, sym, ap, ◌∙◌, inl, inr, arith, subst, take-append-drop}
+use Rattle.std.proofs.Common.{◌≡◌, ℕ, ◌-◌, ◌<◌, List, [], ◌∷◌, ◌++◌, length, take, drop, codes, Option, Some, None, refl, sym, ap, ◌∙◌, inl, inr, arith, subst, take-append-drop}
 use Rattle.std.proofs.lemmas.List.{take_all}
 use Rattle.paraid_base.specs.declared.event.Answer.{Answer}
 use Rattle.paraid_base.specs.declared.event.Answer.TheVariants.{Flushed, Halted}
@@ -55,9 +55,9 @@ causes_push wait x mid y k lines text pool event line told new_pool is so_far go
     record { stock = l.stock; all = one_more lines text mid so_far.stock so_far.all line told y l.stock l.line; keeps = l.keeps }
 
 -- a line whose text was written in part
-pub causes_cut : (wait : ℕ) (x mid y : Shown) (k : Stock) (bytes : List ℕ) (lines more : List (List ℕ)) (text : List ℕ) (pool : Pool) (event : Event) (line told : List ℕ) (n : ℕ) (new_pool : Pool) → lines_of bytes ≡ (lines ++ line ∷ []) ++ more → event ≡ event_of line
+pub causes_cut : (wait : ℕ) (x mid y : Shown) (k : Stock) (bytes : List ℕ) (lines more : List (List ℕ)) (text : List ℕ) (pool : Pool) (event : Event) (line told : List ℕ) (n : ℕ) (new_pool : Pool) → n < length told → lines_of bytes ≡ (lines ++ line ∷ []) ++ more → event ≡ event_of line
     → CausesLines wait x k lines text mid pool → ((w : ℕ) (j : Stock) → Keeps pool w j → CausesLine w mid j event told y new_pool) → (b : BeginsCauses wait x k bytes (text ++ take n told) y) × Keeps new_pool wait b.i
-causes_cut wait x mid y k bytes lines more text pool event line told n new_pool split is so_far goes =
+causes_cut wait x mid y k bytes lines more text pool event line told n new_pool short split is so_far goes =
     let l = subst (λ (e : Event). CausesLine wait mid so_far.stock e told y new_pool) is (goes wait so_far.stock so_far.keeps) in (
       record {
         before = lines;
@@ -72,6 +72,7 @@ causes_cut wait x mid y k bytes lines more text pool event line told n new_pool 
         i = l.stock;
         last = l.line;
         count = n;
+        short = short;
         cut = refl;
       },
       l.keeps,

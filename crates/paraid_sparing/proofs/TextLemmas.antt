@@ -35,11 +35,11 @@ ends_two a b c x y code status g e = record {
   ];
 }
 
-pub ends_part : (a b : Option (List ℕ)) (x y : List ℕ) (code : ℕ) → (n : ℕ) × (n ≤ length x) × GrowsByBytes a b (take n x) → EndsWithLine a b (x ++ y) code 4
+pub ends_part : (a b : Option (List ℕ)) (x y : List ℕ) (code : ℕ) → (n : ℕ) × (n < length x) × GrowsByBytes a b (take n x) → EndsWithLine a b (x ++ y) code 4
 ends_part a b x y code part = record {
   count = part.0;
-  within = omega (arith, part.1, length-append x y);
-  grows = subst (λ (t : List ℕ). GrowsByBytes a b t) (sym (take-append-le part.0 x y part.1)) part.2;
+  within = (let short = part.1 in omega (arith, short, length-append x y));
+  grows = subst (λ (t : List ℕ). GrowsByBytes a b t) (sym (take-append-le part.0 x y (let short = part.1 in omega (arith, short)))) part.2;
   whole = inl refl;
 }
 

@@ -1,6 +1,6 @@
 -- The whole text of a run with spares.
 use Rattle.std.proofs.Common.{◌≡◌, ◌≢◌, ℕ, ◌^◌, ◌<◌, ◌≤◌, ◌⊎◌, List, [], ◌∷◌, ◌++◌, length, take, drop, codes, Option, Some, None, IsSome, Result, Ok, Err, refl, sym, ap, ◌∙◌, inl, inr, arith, subst, take-append-drop}
-use Rattle.std.proofs.lemmas.List.{append_assoc, append-nil, take_all}
+use Rattle.std.proofs.lemmas.List.{take_all}
 use Rattle.paraid_base.specs.declared.event.Answer.{Answer}
 use Rattle.paraid_base.specs.declared.event.Answer.TheVariants.{Bad as IsBad, Flushed, Halted}
 use Rattle.paraid_base.specs.declared.event.Event.{Event}
@@ -33,24 +33,21 @@ use Rattle.paraid_spare.specs.declared.pool.Pool.{Pool}
 use Rattle.paraid_sparing.specs.Output.{FollowsSpared, SparedHeadline, SparedRun, SparedText, WritesSpared}
 use Rattle.paraid_sparing.specs.Texts.{spares_line}
 use Rattle.paraid_sparing.specs.Output.SparedText.{done, halted, source, too_long}
-use Rattle.paraid_sparing.specs.Output.WritesSpared.{answers, last_line, whole}
+use Rattle.paraid_sparing.specs.Output.WritesSpared.{answers, at_first_line, last_lines, whole}
 use Rattle.paraid_sparing.specs.Serving.{Keeps}
 use Rattle.paraid_sparing.specs.Session.{EndsSpared, ServesSpared}
 use Rattle.paraid_sparing.specs.Sparing.{Stock, Supply, stock_line}
-use Rattle.paraid_sparing.specs.Sparing.AnswersTrace.{none as no_line}
-use Rattle.paraid_sparing.proofs.RecordedLemmas.{trace_counts}
 use Rattle.paraid_sparing.specs.SparedCauses.{CausedText}
 use Rattle.paraid_sparing.proofs.SparedCauseLemmas.{done_caused, first_caused, halted_caused, last_caused, sink_caused, source_caused, too_long_caused}
 use Rattle.paraid_sparing.proofs.TextLemmas.{line_alike}
 
 -- what was written of the last lines
-wrote_last : (span : Span) (supply : Supply) (p : Point) (bytes text line : List ℕ) (before after : Option (List ℕ)) (code status : ℕ) → SparedText span supply p bytes code (text ++ line)
-    → (e : EndsWithLine before after line code status) → WritesSpared span supply p bytes status (text ++ take e.count line)
+wrote_last : (span : Span) (supply : Supply) (p : Point) (bytes text line : List ℕ) (before after : Option (List ℕ)) (code status : ℕ) → SparedText span supply p bytes code text line → (e : EndsWithLine before after line code status)
+    → WritesSpared span supply p bytes status (text ++ take e.count line)
 wrote_last span supply p bytes text line before after code status out e = elim e.whole [
-  | inl four ↦ last_line four code (text ++ line) (drop e.count line) out
-      (ap (λ x. text ++ x) (sym (take-append-drop e.count line)) ∙ sym (append_assoc text (take e.count line) (drop e.count line)))
-  | inr all ↦ whole (subst (λ (n : ℕ). SparedText span supply p bytes n (text ++ take e.count line)) (sym all.1)
-      (subst (λ (x : List ℕ). SparedText span supply p bytes code (text ++ x)) (sym (taken e.count line all.0)) out))
+  | inl four ↦ last_lines four code text line e.count out refl
+  | inr all ↦ whole text line (subst (λ (n : ℕ). SparedText span supply p bytes n text line) (sym all.1) out)
+      (ap (λ (x : List ℕ). text ++ x) (taken e.count line all.0))
 ]
   where
     taken : (n : ℕ) (line : List ℕ) → n ≡ length line → take n line ≡ line
@@ -85,7 +82,7 @@ module _ (seen seen_now : Shown) (span : Span) (supply : Supply) (stood : Point 
   -- A session after the first line, and the last lines after it.
   finish : (result : Result ℕ Stop) (line : List ℕ) (code status : ℕ)
       → GrowsByBytes sink.written_before within.written_before (mount_line writes gear) → (s : ServesSpared seen seen_now span supply.wait supply.stock stood (streams_of source_is within) pool result) → EndsWithLine within.written sink.written line code status
-      → (IsSome span.now → (p : Point) → stood p → SparedText span supply p s.bytes code ((begins_with p ++ s.text) ++ line))
+      → (IsSome span.now → (p : Point) → stood p → SparedText span supply p s.bytes code (begins_with p ++ s.text) line)
       → (code ≡ 10 → length s.bytes ≡ 2 ^ 40) → (IsWholeStatus code → (length s.bytes < 2 ^ 40) × AtEnd source_is.left)
       → CausedText supply.wait seen supply.stock seen_now s.bytes code (mount_line writes gear ++ s.text) line
       → SparedRun seen seen_now span supply stood (streams_of source_is sink) status
@@ -106,7 +103,7 @@ module _ (seen seen_now : Shown) (span : Span) (supply : Supply) (stood : Point 
         → SparedRun seen seen_now span supply stood (streams_of source_is sink) status
     done_run count s end = finish (Ok count) (spares_line (left_of pool) (spins_of pool) disks ++ end_line count) 0 status head s end
         (λ t p at_p. let a = s.answered t p at_p in
-        subst (λ (x : List ℕ). SparedText span supply p s.bytes 0 ((begins_with p ++ s.text) ++ (x ++ end_line count))) (sym (pool_line pool supply.wait a.0.lines.stock span.setup disks a.1 same)) (done count s.text a.0))
+        subst (λ (x : List ℕ). SparedText span supply p s.bytes 0 (begins_with p ++ s.text) (x ++ end_line count)) (sym (pool_line pool supply.wait a.0.lines.stock span.setup disks a.1 same)) (done count s.text a.0))
         (λ e. absurd (omega (arith, e))) (λ is. s.full)
         (done_caused supply.wait seen supply.stock seen_now s.bytes pool disks seen_disks (mount_line writes gear) shows count s.text s.causes)
 
@@ -114,7 +111,7 @@ module _ (seen seen_now : Shown) (span : Span) (supply : Supply) (stood : Point 
         → SparedRun seen seen_now span supply stood (streams_of source_is sink) status
     halted_run halt s end = finish (Err (Halts halt)) (spares_line (left_of pool) (spins_of pool) disks ++ halt_line halt) (status_of_halt halt) status head s end
         (λ t p at_p. let a = s.answered t p at_p in
-        subst (λ (x : List ℕ). SparedText span supply p s.bytes (status_of_halt halt) ((begins_with p ++ s.text) ++ (x ++ halt_line halt))) (sym (pool_line pool supply.wait a.0.lines.stock span.setup disks a.1 same)) (halted halt s.text a.0))
+        subst (λ (x : List ℕ). SparedText span supply p s.bytes (status_of_halt halt) (begins_with p ++ s.text) (x ++ halt_line halt)) (sym (pool_line pool supply.wait a.0.lines.stock span.setup disks a.1 same)) (halted halt s.text a.0))
         (λ e. absurd (not_ten halt e)) (λ is. s.full)
         (halted_caused supply.wait seen supply.stock seen_now s.bytes pool disks seen_disks (mount_line writes gear) shows halt s.text s.causes)
       where
@@ -145,14 +142,12 @@ module _ (seen seen_now : Shown) (span : Span) (supply : Supply) (stood : Point 
     full = λ e. absurd (omega (arith, e));
     all = λ is. absurd (partly 4 (λ e. omega (arith, e)) (λ e. omega (arith, e)) (λ e. omega (arith, e)) is);
     causes = sink_caused supply.wait seen supply.stock seen_now s.bytes pool (mount_line writes gear) shows s.text s.causes.0;
-    wrote = λ t p at_p.
-        let a = s.answered t p at_p in
-        answers refl a.0 a.1 (s.text ++ a.2) a.2 a.3 a.4 (sym (append_assoc (begins_with p) s.text a.2) ∙ ap (λ x. (x ++ s.text) ++ a.2) (sym (head_is p at_p)));
+    wrote = λ t p at_p. answers refl s.text (s.answered t p at_p) (ap (λ (x : List ℕ). x ++ s.text) (head_is p at_p));
   }
 
 -- the sink failed at the first line
 pub no_mount_run : (seen : Shown) (slots : ℕ) (setup : Setup) (wait : ℕ) (k : Stock) (stood : Point → Type 0) (told : Option Trail) (left : Option (List ℕ)) (count : ℕ) (sink : SinkUse) (writes gear : ℕ) → ((p : Point) → stood p → writes ≡ length p.history) → ((p : Point) → stood p → gear ≡ p.state.gear) → mount_line writes gear ≡ first_line seen
-    → (n : ℕ) × (n ≤ length (mount_line writes gear)) × GrowsByBytes sink.written_before sink.written (take n (mount_line writes gear))
+    → (n : ℕ) × (n < length (mount_line writes gear)) × GrowsByBytes sink.written_before sink.written (take n (mount_line writes gear))
     → SparedRun seen seen (span_of slots setup told told) (record { wait = wait; stock = k }) stood (streams_of (record { left_before = left; left = left; faults_before = count; faults = count }) sink) 4
 no_mount_run seen slots setup wait k stood told left count sink writes gear counts in_gear shows part = record {
   bytes = [];
@@ -162,8 +157,8 @@ no_mount_run seen slots setup wait k stood told left count sink writes gear coun
   full = λ e. absurd (omega (arith, e));
   all = λ is. absurd (partly 4 (λ e. omega (arith, e)) (λ e. omega (arith, e)) (λ e. omega (arith, e)) is);
   causes = first_caused wait seen k (mount_line writes gear) part.0 shows;
-  wrote = λ t p at_p. answers refl [] [] [] (drop part.0 (mount_line writes gear)) refl (record { put_in = []; all = stretch_none slots setup told p t; stock = k; answers = no_line; counts = λ one d low fresh. trace_counts slots setup wait p k [] [] [] p k no_line one d low fresh })
-      (append-nil (begins_with p) ∙ sym (ap (λ (w : ℕ). mount_line w gear) (counts p at_p) ∙ ap (λ (g : ℕ). mount_line (length p.history) g) (in_gear p at_p)) ∙ sym (take-append-drop part.0 (mount_line writes gear)));
+  wrote = λ t p at_p. at_first_line refl refl (stretch_none slots setup told p t) (drop part.0 (mount_line writes gear))
+      (sym (ap (λ (w : ℕ). mount_line w gear) (counts p at_p) ∙ ap (λ (g : ℕ). mount_line (length p.history) g) (in_gear p at_p)) ∙ sym (take-append-drop part.0 (mount_line writes gear)));
 }
 
 -- ---- after a run that ends well nothing is loose
@@ -200,17 +195,18 @@ module _ (span : Span) (supply : Supply) (p : Point) (mark : IsMark span.slots s
         | left_rests r ↦ r.synced
       ]
 
-  text_synced : (bytes : List ℕ) (code : ℕ) (text : List ℕ) → SparedText span supply p bytes code text → code ≡ 0 → (t : Trail) → span.now ≡ Some t → AreSynced (now t)
-  text_synced bytes code text (done writes told e) zero t tells = subst (λ (u : Trail). AreSynced (now u)) (same_trail span.now e.all.to t e.all.is tells) (ends_synced _ told writes e)
-  text_synced bytes code text (halted (HaltTwo pair) told e) zero t tells = absurd (omega (arith, zero))
-  text_synced bytes code text (halted (Worn count) told e) zero t tells = absurd (omega (arith, zero))
-  text_synced bytes code text (source told c) zero t tells = absurd (omega (arith, zero))
-  text_synced bytes code text (too_long ten told c) zero t tells = absurd (omega (arith, zero))
+  text_synced : (bytes : List ℕ) (code : ℕ) (front last : List ℕ) → SparedText span supply p bytes code front last → code ≡ 0 → (t : Trail) → span.now ≡ Some t → AreSynced (now t)
+  text_synced bytes code front last (done writes told e) zero t tells = subst (λ (u : Trail). AreSynced (now u)) (same_trail span.now e.all.to t e.all.is tells) (ends_synced _ told writes e)
+  text_synced bytes code front last (halted (HaltTwo pair) told e) zero t tells = absurd (omega (arith, zero))
+  text_synced bytes code front last (halted (Worn count) told e) zero t tells = absurd (omega (arith, zero))
+  text_synced bytes code front last (source told c) zero t tells = absurd (omega (arith, zero))
+  text_synced bytes code front last (too_long ten told c) zero t tells = absurd (omega (arith, zero))
 
   output_synced : (bytes : List ℕ) (status : ℕ) (text : List ℕ) → WritesSpared span supply p bytes status text → status ≡ 0 → (t : Trail) → span.now ≡ Some t → AreSynced (now t)
-  output_synced bytes status text (whole out) zero = text_synced bytes status text out zero
-  output_synced bytes status text (last_line four code full rest out front) zero = absurd (omega (arith, four, zero))
-  output_synced bytes status text (answers four lines more told rest lines_are c front) zero = absurd (omega (arith, four, zero))
+  output_synced bytes status text (whole front last out is) zero = text_synced bytes status front last out zero
+  output_synced bytes status text (last_lines four code front last count out is) zero = absurd (omega (arith, four, zero))
+  output_synced bytes status text (at_first_line four none c rest is) zero = absurd (omega (arith, four, zero))
+  output_synced bytes status text (answers four part c is) zero = absurd (omega (arith, four, zero))
 
 pub headline : (seen seen_now : Shown) (span : Span) (supply : Supply) (began : ℕ) (stood : Point → Type 0) (streams : Streams) (status : ℕ)
     → IsMountedFromEach span.slots span.setup began span.start stood → SparedRun seen seen_now span supply stood streams status → SparedHeadline seen seen_now span supply began streams status

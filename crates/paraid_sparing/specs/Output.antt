@@ -1,5 +1,5 @@
 -- The whole text of a run with spares, by its status.
-use Rattle.std.specs.Prelude.{◌≡◌, ℕ, ◌<◌, ◌^◌, List, ◌++◌, length, codes, Some, IsSome}
+use Rattle.std.specs.Prelude.{◌≡◌, ℕ, ◌<◌, ◌^◌, List, [], ◌++◌, length, take, codes, Some, IsSome}
 use Rattle.paraid_base.specs.declared.event.Answer.TheVariants.{Flushed, Halted}
 use Rattle.paraid_base.specs.declared.event.Event.{Event}
 use Rattle.paraid_base.specs.declared.fault.Halt.{Halt}
@@ -15,32 +15,33 @@ use Rattle.paraid_serve.specs.Stretch.{Span, Stretch, events_in}
 use Rattle.paraid_serve.specs.Statuses.{status_done, status_sink, status_source, status_too_long}
 use Rattle.paraid_session.specs.Mount.{IsMountedFromEach}
 use Rattle.paraid_session.specs.Turn.{Point}
-use Rattle.paraid_sparing.specs.Session.{EndsSpared, Spared}
+use Rattle.paraid_sparing.specs.Session.{CutsSpared, EndsSpared, Spared}
 use Rattle.paraid_sparing.specs.SparedCauses.{HasSparedCauses}
 use Rattle.paraid_sparing.specs.Sparing.{Supply, stock_line}
 
--- The text of a run that took these bytes and met no fault of the sink, by its status.
-pub data SparedText (span : Span) (supply : Supply) (p : Point) (bytes : List ℕ) : ℕ → List ℕ → Type 0 where
+-- The text of a run that took these bytes and met no fault of the sink, by its status: what stands before the last lines, and the last
+-- lines.
+pub data SparedText (span : Span) (supply : Supply) (p : Point) (bytes : List ℕ) : ℕ → List ℕ → List ℕ → Type 0 where
   -- every line is answered, and all writes are kept
   done : (writes : ℕ) (text : List ℕ) (e : EndsSpared span supply.wait p supply.stock (events_in (lines_of bytes)) text (Flushed writes))
-      → SparedText span supply p bytes status_done ((begins_with p ++ text) ++ (stock_line e.lines.stock span.setup ++ end_line writes))
+      → SparedText span supply p bytes status_done (begins_with p ++ text) (stock_line e.lines.stock span.setup ++ end_line writes)
   -- every line is answered, and a halt came in one of them or in the last flush
   halted : (halt : Halt) (text : List ℕ) (e : EndsSpared span supply.wait p supply.stock (events_in (lines_of bytes)) text (Halted halt))
-      → SparedText span supply p bytes (status_of_halt halt) ((begins_with p ++ text) ++ (stock_line e.lines.stock span.setup ++ halt_line halt))
+      → SparedText span supply p bytes (status_of_halt halt) (begins_with p ++ text) (stock_line e.lines.stock span.setup ++ halt_line halt)
   -- a rest without a newline is not answered
   source : (text : List ℕ) → Spared span supply.wait p supply.stock (events_in (whole_lines bytes)) text
-      → SparedText span supply p bytes status_source ((begins_with p ++ text) ++ codes "source\n")
+      → SparedText span supply p bytes status_source (begins_with p ++ text) (codes "source\n")
   too_long : length bytes ≡ 2 ^ 40 → (text : List ℕ) → Spared span supply.wait p supply.stock (events_in (whole_lines bytes)) text
-      → SparedText span supply p bytes status_too_long ((begins_with p ++ text) ++ codes "toolong\n")
+      → SparedText span supply p bytes status_too_long (begins_with p ++ text) (codes "toolong\n")
 
--- What was written: the whole text of the status; or at `status_sink` a first part of such a text, or of the answers to a first part of the lines.
+-- What was written: the whole text of the status; or at `status_sink` one whose last lines are cut, or a first part of the first line, and then
+-- nothing was served; or what tells the lines up to one that is cut, and then no line after it was served.
 pub data WritesSpared (span : Span) (supply : Supply) (p : Point) (bytes : List ℕ) (status : ℕ) (text : List ℕ) : Type 0 where
-  whole : SparedText span supply p bytes status text → WritesSpared span supply p bytes status text
-  last_line : status ≡ status_sink → (code : ℕ) (full rest : List ℕ) → SparedText span supply p bytes code full → full ≡ text ++ rest
+  whole : (front last : List ℕ) → SparedText span supply p bytes status front last → text ≡ front ++ last → WritesSpared span supply p bytes status text
+  last_lines : status ≡ status_sink → (code : ℕ) (front last : List ℕ) (count : ℕ) → SparedText span supply p bytes code front last → text ≡ front ++ take count last
       → WritesSpared span supply p bytes status text
-  answers : status ≡ status_sink → (lines more : List (List ℕ)) (told rest : List ℕ) → lines_of bytes ≡ lines ++ more
-      → Spared span supply.wait p supply.stock (events_in lines) told → begins_with p ++ told ≡ text ++ rest
-      → WritesSpared span supply p bytes status text
+  at_first_line : status ≡ status_sink → bytes ≡ [] → Stretch span p [] → (rest : List ℕ) → begins_with p ≡ text ++ rest → WritesSpared span supply p bytes status text
+  answers : status ≡ status_sink → (part : List ℕ) → CutsSpared span supply.wait p supply.stock bytes part → text ≡ begins_with p ++ part → WritesSpared span supply p bytes status text
 
 -- A run took these bytes and wrote this text. What it is is known where source, sink and rack tell, from each point at which
 -- the array stood.

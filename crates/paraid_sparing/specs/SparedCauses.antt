@@ -1,5 +1,5 @@
 -- Why a run with spares tells what it tells, whatever the rack holds: a spare exactly where one is due, and each answer by its cause.
-use Rattle.std.specs.Prelude.{◌≡◌, ℕ, ◌-◌, List, [], ◌∷◌, ◌++◌, codes, take, Some, None, Result, Ok, Err}
+use Rattle.std.specs.Prelude.{◌≡◌, ℕ, ◌-◌, ◌<◌, List, [], ◌∷◌, ◌++◌, length, codes, take, Some, None, Result, Ok, Err}
 use Rattle.paraid_base.specs.declared.event.Answer.{Answer}
 use Rattle.paraid_base.specs.declared.event.Answer.TheVariants.{Flushed, Halted}
 use Rattle.paraid_base.specs.declared.event.Event.{Event}
@@ -52,7 +52,8 @@ pub record CausesFlush (wait : ℕ) (old : Shown) (k : Stock) (lines : List (Lis
   pub before : CausesLines wait old k lines text mid pool
   pub cause : HasCause mid Flush answer new
 
--- A text that tells some lines so, and a first part of what is told of the next one. After that one no line was served.
+-- A text that tells some lines so, and a first part of what is told of the next one, which is not the whole. After that one no line
+-- was served.
 pub record BeginsCauses (wait : ℕ) (old : Shown) (k : Stock) (bytes text : List ℕ) (new : Shown) : Type 0 where
   pub before : List (List ℕ)
   pub line : List ℕ
@@ -66,6 +67,7 @@ pub record BeginsCauses (wait : ℕ) (old : Shown) (k : Stock) (bytes text : Lis
   pub i : Stock
   pub last : HasLineCauses wait mid j (event_of line) told new i
   pub count : ℕ
+  pub short : count < length told
   pub cut : text ≡ front ++ take count told
 
 -- the causes of what was written for the lines, by how the session ended, and the pool keeps the stock after them; all lines are

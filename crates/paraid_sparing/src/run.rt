@@ -1,5 +1,5 @@
 //! The session over all lines of a source.
-ghost use Rattle.std.specs.Prelude.{◌≡◌, ◌≢◌, ◌≤◌, ◌++◌, ℕ, None, IfErr, IsErrOf, OnErr, OnOk, take};
+ghost use Rattle.std.specs.Prelude.{◌≡◌, ◌≢◌, ◌<◌, ◌≤◌, ◌++◌, ℕ, None, IfErr, IsErrOf, OnErr, OnOk, length, take};
 ghost use Rattle.paraid_base.specs.Told.{GrowsByBytes, HasRisen};
 ghost use Rattle.paraid_rack.specs.Told.{Extends};
 ghost use Rattle.paraid_serve.specs.Session.{IsStopByWear, IsStopOfFailed};
@@ -22,8 +22,8 @@ use paraid_trace::{Beside, Text};
 fn tell<K: Sink>(sink: &mut K, line: &[u8], text: &[u8]) -> Result<(), Failed>
     ensures grows { OnOk result (GrowsByBytes (K.written sink.old) (K.written sink.new)
         (line.now ++ text.now)) }
-    ensures part { OnErr result ((n : ℕ) × GrowsByBytes (K.written sink.old) (K.written sink.new)
-        (take n (line.now ++ text.now))) }
+    ensures part { OnErr result ((n : ℕ) × (n < length (line.now ++ text.now))
+        × GrowsByBytes (K.written sink.old) (K.written sink.new) (take n (line.now ++ text.now))) }
     ensures later { K.faults sink.old ≤ K.faults sink.new }
     ensures still { OnOk result (K.faults sink.new ≡ K.faults sink.old) }
     ensures cause { OnErr result (HasRisen (K.faults sink.old) (K.faults sink.new)) }

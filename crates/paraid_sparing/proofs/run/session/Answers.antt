@@ -78,7 +78,7 @@ returns-in_default g c = record {
       let e = c.answer_line.ensures in
       let p = c.in_default.ensures.part in
       let h = rw c.in-Ok-Some.field-0-is at c.in-Ok-Some.ensures.heard in
-      ends_at_sink i.sofar h _ _ _ _ _ _ i.slots i.setup (told_then _ _ e.told) (λ q w j at keeps. e.serves q w j at keeps) _ (λ w j keeps. e.causes w j keeps) _ p.0 (rw (c.as_slice.ensures.value, c.as_slice-in-lines.ensures.value) at p.1);
+      ends_at_sink i.sofar h _ _ _ _ _ _ i.slots i.setup (told_then _ _ e.told) (λ q w j at keeps. e.serves q w j at keeps) _ (λ w j keeps. e.causes w j keeps) _ p.0 (rw (c.as_slice.ensures.value, c.as_slice-in-lines.ensures.value) at p.1) (rw (c.as_slice.ensures.value, c.as_slice-in-lines.ensures.value) at p.2);
   told = grows_then _ _ _ c.lines.invariant.told c.answer_line.ensures.told;
   slots = c.answer_line.ensures.slots ∙ c.lines.invariant.slots;
   setup = c.answer_line.ensures.setup ∙ c.lines.invariant.setup;
