@@ -26,7 +26,44 @@ Suits i l slot None = FitsSlot i l slot
 Suits i l slot (Some Foreign) = l.array ≢ i.array
 Suits i l slot (Some (Moved disk)) = (disk ≡ l.disk) × (l.disk ≢ slot)
 Suits i l slot (Some (Old generation known)) = (generation ≡ l.generation) × ((generation < known) × (slot < 8 → known ≡ slice_index i.known slot))
-Suits i l slot (Some (New generation)) = ⊥
+Suits i l slot (Some (New generation known)) = ⊥
+
+-- No label knows the image of this slot to be as new as its own label says that the image of disk e has heard: that image was of this generation, or of a later one, by the label.
+pub record IsUnheardOf (i : Identity) (l : Label) (slot e : ℕ) : Type 0 where
+  pub low : slot < 8
+  pub less : slice_index i.known slot < slice_index l.known slot
+  pub heard : slice_index l.known slot ≤ slice_index l.known e
+
+-- The image of disk e was seen, and is of a time before this label of a slot.
+pub record IsBehind (i : Identity) (l : Label) (slot e : ℕ) : Type 0 where
+  pub seen : 0 < slice_index i.seen e
+  pub before : (slice_index i.seen e < slice_index l.known e) ⊎ IsUnheardOf i l slot e
+
+-- An image that was parked until now belongs into its slot: it fits, and is no newer than it is known to be, so none of those that were seen is of a time before it.
+pub record FitsLate (i : Identity) (l : Label) (slot : ℕ) : Type 0 where
+  pub fits : FitsSlot i l slot
+  pub newest : (e : ℕ) → e < 8 → IsBehind i l slot e → ⊥
+
+-- The image fits, and one of those that were seen is of a time before it.
+pub record IsNewer (i : Identity) (l : Label) (slot : ℕ) : Type 0 where
+  pub fits : FitsSlot i l slot
+  pub behind : (e : ℕ) × ((e < 8) × IsBehind i l slot e)
+
+-- that an image that was parked until now belongs into this slot, or why it does not
+abbrev pub SuitsLate : Identity → Label → ℕ → Option Misfit → Type 0
+SuitsLate i l slot None = FitsLate i l slot
+SuitsLate i l slot (Some Foreign) = Suits i l slot (Some Foreign)
+SuitsLate i l slot (Some (Moved disk)) = Suits i l slot (Some (Moved disk))
+SuitsLate i l slot (Some (Old generation known)) = Suits i l slot (Some (Old generation known))
+SuitsLate i l slot (Some (New generation known)) = IsNewer i l slot × ((generation ≡ l.generation) × (slot < 8 → known ≡ slice_index i.known slot))
+
+-- a label of this generation for this disk, which knows of the others what is known
+pub record IsLabelOf (i : Identity) (disk : ℕ) (l : Label) : Type 0 where
+  pub array : l.array ≡ i.array
+  pub here : l.disk ≡ disk
+  pub disks : l.disks ≡ i.disks
+  pub generation : l.generation ≡ i.generation
+  pub known : (e : ℕ) → e ≢ disk → slice_index l.known e ≡ slice_index i.known e
 
 -- the label behind the blocks
 abbrev pub label_of : Tail → Option Label

@@ -1,7 +1,7 @@
 //! Which array the labels of some images name, and which images do not belong into their slots.
-ghost use Rattle.std.specs.Prelude.{◌≡◌, ◌<◌, ◌≤◌, ℕ, true, false, slice_index, Some, IfSome, IfNone};
+ghost use Rattle.std.specs.Prelude.{◌≡◌, ◌<◌, ◌≤◌, ℕ, true, false, slice_index, Some, IfSome, IfNone, IsSome};
 ghost use Rattle.paraid_base.specs.Told.{HasRisen};
-ghost use Rattle.paraid_imgrack.specs.Labels.{AreUnnamed, FitsSlot, IsLearned, IsNamed, IsNoLess, IsAmong, IsTakenOver, Suits, known_array, label_in};
+ghost use Rattle.paraid_imgrack.specs.Labels.{AreUnnamed, IsBehind, IsLabelOf, IsLearned, IsNamed, IsNoLess, IsAmong, IsTakenOver, IsUnheardOf, Suits, SuitsLate, known_array, label_in};
 
 use crate::label::Label;
 use paraid_base::DiskNo;
@@ -19,8 +19,8 @@ pub enum Misfit {
     Foreign,
     /// It is an old copy: the other images know a newer one.
     Old { generation: u64, known: u64 },
-    /// The other images are older than those that it knows.
-    New { generation: u64 },
+    /// The other images are of an earlier time: they do not know it, or are older than it knows them.
+    New { generation: u64, known: u64 },
 }
 
 impl Display for Misfit {
@@ -32,9 +32,9 @@ impl Display for Misfit {
                 f,
                 "is an old copy: its label has generation {generation}, where the others know {known}"
             ),
-            Misfit::New { generation } => write!(
+            Misfit::New { generation, known } => write!(
                 f,
-                "is newer than the others: its label has generation {generation}, and knows newer ones of them"
+                "is newer than the others: its label has generation {generation}, where they know {known}"
             ),
         }
     }
@@ -126,14 +126,23 @@ impl Identity {
         slot < self.disks && label.disk == slot && label.array == self.array
     }
 
-    /// The label that the image of a slot is to have.
-    pub(crate) fn label(&self, disk: DiskNo) -> Label {
+    /// The label that the image of a slot is to have. Of its own disk it says what is known only where
+    /// each other image has heard of that.
+    pub(crate) fn label(&self, disk: DiskNo, is_heard: bool) -> Label
+        ensures label { IsLabelOf self.now disk result }
+        ensures own { disk < 8 → is_heard ≡ false → slice_index result.known disk ≡ 0 }
+        ensures heard { is_heard ≡ true → result.known ≡ self.now.known }
+    {
+        let mut known = self.known;
+        if !is_heard && disk < 8 {
+            known[disk as usize] = 0;
+        }
         Label {
             array: self.array,
             disk,
             disks: self.disks,
             generation: self.generation,
-            known: self.known,
+            known,
         }
     }
 
@@ -157,7 +166,7 @@ impl Identity {
         if label.disk != slot {
             return Some(Misfit::Moved { disk: label.disk });
         }
-        let known = self.known_of(slot);
+        let known = known_in(&self.known, slot);
         if label.generation < known {
             return Some(Misfit::Old {
                 generation: label.generation,
@@ -167,40 +176,65 @@ impl Identity {
         None
     }
 
-    fn known_of(&self, slot: DiskNo) -> u64
-        ensures { slot < 8 → result ≡ slice_index self.now.known slot }
-    {
-        if slot < 8 {
-            self.known[slot as usize]
-        } else {
-            0
-        }
-    }
-
-    /// The same of an image that was parked until now: it may also be the newest one.
+    /// The same of an image that was parked until now: it may also be newer than the others know it.
     pub(crate) fn late_misfit_of(&self, label: &Option<Label>, slot: DiskNo) -> Option<Misfit>
-        ensures { IfNone result (slot < self.now.disks
-            → IfSome label.now (λ l. FitsSlot self.now l slot)) }
+        ensures read { slot < self.now.disks
+            → IfSome label.now (λ l. SuitsLate self.now l slot result) }
+        ensures none { IfSome result (λ _. (slot < self.now.disks) × IsSome label.now) }
     {
-        if let Some(misfit) = self.misfit_of(label, slot) {
-            return Some(misfit);
-        }
         match label {
-            Some(label) if slot < self.disks && self.is_behind(label) => Some(Misfit::New {
-                generation: label.generation,
-            }),
+            Some(label) if slot < self.disks => self.late_misfit(label, slot),
             _ => None,
         }
     }
 
-    /// Whether a label knows newer images than those that were seen.
-    pub(crate) fn is_behind(&self, label: &Label) -> bool {
+    fn late_misfit(&self, label: &Label, slot: DiskNo) -> Option<Misfit>
+        ensures { SuitsLate self.now label.now slot result }
+    {
+        if let Some(misfit) = self.misfit(label, slot) {
+            return Some(misfit);
+        }
+        if self.is_past_one(label, slot) {
+            return Some(Misfit::New {
+                generation: label.generation,
+                known: known_in(&self.known, slot),
+            });
+        }
+        None
+    }
+
+    /// Whether one of the images that were seen is of a time before this label of a slot.
+    fn is_past_one(&self, label: &Label, slot: DiskNo) -> bool
+        ensures one { result ≡ true → (e : ℕ) × ((e < 8) × IsBehind self.now label.now slot e) }
+        ensures none { result ≡ false → (e : ℕ) → e < 8 → IsBehind self.now label.now slot e → ⊥ }
+    {
         for disk in 0..8 {
-            if 0 < self.seen[disk] && self.seen[disk] < label.known[disk] {
+            if self.is_behind(label, slot, disk) {
                 return true;
             }
         }
         false
+    }
+
+    /// Whether the image of a disk was seen, and is of a time before this label of a slot: it is older than
+    /// the label knows it; or it is to have heard how new this image is, by the label, and none has.
+    fn is_behind(&self, label: &Label, slot: DiskNo, disk: usize) -> bool
+        requires { disk < 8 }
+        ensures yes { result ≡ true → IsBehind self.now label.now slot disk }
+        ensures no { result ≡ false → IsBehind self.now label.now slot disk → ⊥ }
+    {
+        0 < self.seen[disk]
+            && (self.seen[disk] < label.known[disk] || self.is_unheard(label, slot, disk))
+    }
+
+    /// Whether no label knows this image to be as new as this one says that the image of a disk has heard.
+    fn is_unheard(&self, label: &Label, slot: DiskNo, disk: usize) -> bool
+        requires { disk < 8 }
+        ensures yes { result ≡ true → IsUnheardOf self.now label.now slot disk }
+        ensures no { result ≡ false → IsUnheardOf self.now label.now slot disk → ⊥ }
+    {
+        let own = known_in(&label.known, slot);
+        known_in(&self.known, slot) < own && own <= label.known[disk]
     }
 
     /// Whether the image of a slot has a label of this generation.
@@ -232,6 +266,14 @@ impl Identity {
             self.has_news = true;
         }
     }
+}
+
+/// What is known of the image of a slot.
+fn known_in(known: &[u64; 8], slot: DiskNo) -> u64
+    ensures known { slot < 8 → result ≡ slice_index known.now slot }
+    ensures none { 8 ≤ slot → result ≡ 0 }
+{
+    if slot < 8 { known[slot as usize] } else { 0 }
 }
 
 /// The image of a disk is at least so new.

@@ -2,7 +2,7 @@
 ghost use Rattle.std.specs.Prelude.{◌≡◌, ◌≢◌, ℕ, ◌*◌, ◌/◌, ◌<◌, min, true, false, length, slice_index, None, Some, IfOk, IfSome, OnOk};
 ghost use Rattle.paraid_base.specs.Told.{HasRisen};
 ghost use Rattle.paraid_imgrack.specs.declared.tail.Tail.TheVariants.{Other};
-ghost use Rattle.paraid_imgrack.specs.Labels.{FitsSlot, known_array, label_of};
+ghost use Rattle.paraid_imgrack.specs.Labels.{FitsLate, known_array, label_of};
 ghost use Rattle.paraid_rack.specs.declared.call.Power.TheVariants.{Spinning, Parked, Absent};
 
 use crate::found::{Found, find, is_locked, is_want_of_room};
@@ -274,7 +274,7 @@ impl Image {
         ensures slot { Becomes (image_slot self.old) (image_slot self.new)
             (record (image_slot self.old) { power = Spinning }) false (is_ok result) }
         ensures fits { OnOk result (IfSome identity.old (λ i. disk < i.disks
-            → IfSome (label_of self.new.tail) (λ l. FitsSlot i l disk))) }
+            → IfSome (label_of self.new.tail) (λ l. FitsLate i l disk))) }
         ensures known { known_array identity.new ≡ known_array identity.old }
     {
         match identity {
@@ -297,7 +297,7 @@ impl Image {
         ensures slot { Becomes (image_slot self.old) (image_slot self.new) (image_slot self.old)
             false (is_ok result) }
         ensures fits { OnOk result (disk < identity.old.disks
-            → IfSome (label_of self.new.tail) (λ l. FitsSlot identity.old l disk)) }
+            → IfSome (label_of self.new.tail) (λ l. FitsLate identity.old l disk)) }
         ensures known { known_array (Some identity.new) ≡ known_array (Some identity.old) }
     {
         match tail_of(&self.file, self.size) {
@@ -564,7 +564,7 @@ fn mark_image(
     ensures again { identity.new.is_new ≡ identity.old.is_new }
     ensures known { known_array (Some identity.new) ≡ known_array (Some identity.old) }
 {
-    if disk < identity.disks && put_label(file, size, tail, &identity.label(disk))? {
+    if disk < identity.disks && put_label(file, size, tail, &identity.label(disk, true))? {
         identity.mark(disk as usize);
     }
     Ok(())

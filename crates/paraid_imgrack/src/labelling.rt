@@ -116,7 +116,8 @@ impl<F: Files<File = File> + Drop> ImageRack<F> {
         }
     }
 
-    /// Gives the images that spin a new generation, and says what is known from then on.
+    /// Gives the images that spin a new generation, and says what is known from then on. Each hears of those
+    /// that have got it before.
     fn mark_images(&mut self, identity: Identity) -> Identity
         ensures slots { map image_slot self.new.images.items ≡ map image_slot self.old.images.items }
         ensures marked { result.is_new ≡ false }
@@ -128,7 +129,7 @@ impl<F: Files<File = File> + Drop> ImageRack<F> {
         let mut next = identity;
         next.is_new = false;
         for disk in 0..self.images.len() {
-            if self.mark_image(disk, &identity) {
+            if self.mark_image(disk, &next, true) {
                 next.mark(disk);
             }
         }
@@ -136,13 +137,13 @@ impl<F: Files<File = File> + Drop> ImageRack<F> {
     }
 
     /// Whether the image in a slot of the array has the label of this generation from now on.
-    fn mark_image(&mut self, disk: usize, identity: &Identity) -> bool
+    fn mark_image(&mut self, disk: usize, identity: &Identity, is_heard: bool) -> bool
         ensures { map image_slot self.new.images.items ≡ map image_slot self.old.images.items }
     {
         if disk >= self.images.len() || disk >= identity.disks as usize {
             return false;
         }
-        self.images[disk].give_label(&identity.label(disk as u8))
+        self.images[disk].give_label(&identity.label(disk as u8, is_heard))
     }
 
     /// At the end, too: what was spun up or attached since the last sync is made known to the others.
@@ -155,25 +156,46 @@ impl<F: Files<File = File> + Drop> ImageRack<F> {
         }
     }
 
-    /// Makes the news known to the images that have a label of this generation.
+    /// Makes the news known to the images that have a label of this generation. Each is told what the others
+    /// know of itself only as long as none was missed: so none says that it is known to be newer than it is.
     fn tell(&mut self, identity: Identity)
         ensures slots { map image_slot self.new.images.items ≡ map image_slot self.old.images.items }
         ensures told { self.new.identity ≡ Some (record identity { has_news = false }) }
     {
+        let mut is_heard = !self.misses_one(&identity);
         for disk in 0..self.images.len() {
-            self.mark_again(disk, &identity);
+            is_heard &= self.mark_again(disk, &identity, is_heard);
         }
         let mut told = identity;
         told.has_news = false;
         self.identity = Some(told);
     }
 
-    fn mark_again(&mut self, disk: usize, identity: &Identity)
+    /// Whether an image of the array that has a label could not be given one of this generation.
+    fn misses_one(&self, identity: &Identity) -> bool {
+        for disk in 0..self.images.len() {
+            if disk < identity.disks as usize && self.misses(disk, identity) {
+                return true;
+            }
+        }
+        false
+    }
+
+    fn misses(&self, disk: usize, identity: &Identity) -> bool
+        requires { disk < length self.now.images.items }
+    {
+        !identity.is_marked(disk) && self.images[disk].label().is_some()
+    }
+
+    /// Whether the image in a slot has heard the news, if there are any and it can be told.
+    fn mark_again(&mut self, disk: usize, identity: &Identity, is_heard: bool) -> bool
+        requires { disk < length self.old.images.items }
         ensures { map image_slot self.new.images.items ≡ map image_slot self.old.images.items }
     {
-        if identity.has_news && identity.is_marked(disk) {
-            let _is_marked = self.mark_image(disk, identity);
+        if !identity.has_news || !identity.is_marked(disk) {
+            return true;
         }
+        self.mark_image(disk, identity, is_heard) || self.images[disk].power != Power::Spinning
     }
 
     fn read_labels(&mut self) -> Labels
