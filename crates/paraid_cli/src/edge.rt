@@ -218,9 +218,13 @@ fn tell_hindrance<H: Host>(rt: &H, command: &Command, disk: u8, hindrance: Hindr
             let _ = eprintln!(rt; "paraid: too few files more may be open: see `ulimit -n`");
             refuse(rt, command, disk)
         }
-        Hindrance::Shut => {
+        Hindrance::ImageShut(cause) => {
+            let _ = eprintln!(rt; "paraid: disk-{disk}.img is there and cannot be opened: {cause}");
+            refuse(rt, command, disk)
+        }
+        Hindrance::SidecarShut(cause) => {
             let _ = eprintln!(rt;
-                "paraid: disk-{disk}.img or its sidecar is there and cannot be opened"
+                "paraid: disk-{disk}.power is there and cannot be opened: {cause}"
             );
             refuse(rt, command, disk)
         }

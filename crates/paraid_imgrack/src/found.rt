@@ -12,8 +12,8 @@ pub(crate) enum Found {
     Nothing,
     /// What is no file, as a folder, a pipe or a device; or what the device cannot read, and why.
     Lost(Option<io::Error>),
-    /// It is there, and this process cannot open it.
-    Shut,
+    /// It is there, and this process cannot open it, and why.
+    Shut(io::Error),
 }
 
 /// Looks for a file. Opening a pipe would wait for its other end, so what is no file is not opened.
@@ -45,7 +45,7 @@ fn by_error(error: io::Error) -> Found {
     if is_of_device(&error) {
         Found::Lost(Some(error))
     } else {
-        Found::Shut
+        Found::Shut(error)
     }
 }
 

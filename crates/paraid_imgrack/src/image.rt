@@ -1,5 +1,5 @@
 //! One disk of the rack: a call on it is done, or it leaves the disk absent and counted as failed.
-ghost use Rattle.std.specs.Prelude.{◌≡◌, ◌≢◌, ℕ, ◌*◌, ◌/◌, ◌<◌, min, true, false, length, slice_index, None, Some, IfOk, IfSome, OnOk};
+ghost use Rattle.std.specs.Prelude.{◌≡◌, ◌≢◌, ℕ, ◌*◌, ◌/◌, ◌<◌, min, true, ◌⊎◌, false, length, slice_index, None, Some, IfOk, IfSome, IsSome, OnErr, OnOk};
 ghost use Rattle.paraid_base.specs.Told.{HasRisen};
 ghost use Rattle.paraid_imgrack.specs.declared.tail.Tail.TheVariants.{Other};
 ghost use Rattle.paraid_imgrack.specs.Labels.{FitsLate, known_array, label_of};
@@ -19,11 +19,13 @@ use std::io;
 use std::os::unix::fs::FileExt;
 
 /// Why a disk that is there can be neither served nor called lost.
-#[derive(Clone, Copy, PartialEq, Eq)]
+#[derive(Clone, Copy)]
 pub enum Hindrance {
-    /// Its image or sidecar is there and cannot be opened: this process has no right to it or no
-    /// descriptor left, or it is a link that leads nowhere, as to a drive that is not mounted.
-    Shut,
+    /// Its image is there and cannot be opened: this process has no right to it or no descriptor left,
+    /// or it is a link that leads nowhere, as to a drive that is not mounted. The system tells why.
+    ImageShut(io::Error),
+    /// So it is with its sidecar.
+    SidecarShut(io::Error),
     /// Another process works with its image, or it is the image of a second disk too.
     Busy,
     /// This process may open too few files more.
@@ -57,9 +59,9 @@ pub(crate) struct Image {
     /// What hinders all work on the disk, where its files were looked at.
     pub(crate) hindrance: Option<Hindrance>,
     tail: Tail,
-    /// Why the disk was not spun up.
+    /// Why the disk was not spun up, or not attached.
     pub(crate) misfit: Option<Misfit>,
-    /// The error of the first call that failed.
+    /// The error of the first call that failed, since the disk was last to be attached.
     pub(crate) cause: Option<io::Error>,
     /// The disk was attached since the load.
     pub(crate) attached: bool,
@@ -82,8 +84,12 @@ impl Image {
         ensures { IfOk result (λ image. IsLoaded (image_slot image)) }
     {
         let names = Names::new(alloc, disk)?;
-        let Some((power, cause)) = names.load(files) else {
-            return Ok(Image::absent(names, Some(Hindrance::Shut), None));
+        let (power, cause) = match names.load(files) {
+            Ok(found) => found,
+            Err(error) => {
+                let hindrance = Hindrance::SidecarShut(error);
+                return Ok(Image::absent(names, Some(hindrance), None));
+            }
         };
         if power == Power::Absent {
             return Ok(Image::absent(names, None, cause));
@@ -191,7 +197,7 @@ impl Image {
         match find(files, self.names.image.as_str()) {
             Found::Open(file) => claim_of(&Some(file)),
             Found::Nothing if self.names.has_sidecar(files) => Some(Claim::Sidecar),
-            Found::Nothing | Found::Lost(_) | Found::Shut => None,
+            Found::Nothing | Found::Lost(_) | Found::Shut(_) => None,
         }
     }
 
@@ -346,8 +352,12 @@ impl Image {
         ensures again { OnOk result (IfSome identity.old (λ old. IfSome identity.new
             (λ new. new.is_new ≡ true))) }
         ensures known { known_array identity.new ≡ known_array identity.old }
+        ensures mended { OnOk result ((self.new.misfit ≡ None) × (self.new.cause ≡ None)) }
+        ensures why { OnErr result (IsSome self.new.misfit ⊎ IsSome self.new.cause) }
     {
         self.file = None; // and its lock
+        self.misfit = None;
+        self.cause = None;
         if is_of_another_array(files, self.names.image.as_str(), identity) {
             self.misfit = Some(Misfit::Foreign);
             return Err(self.fail(files));
@@ -372,7 +382,8 @@ impl Image {
 
     /// There is no disk from now on, and why is kept, unless a call has failed before.
     fn fail_by<F: Files<File = File>>(&mut self, files: &F, error: io::Error) -> Failed
-        ensures { IsFailedSlot (image_slot self.old) (image_slot self.new) }
+        ensures slot { IsFailedSlot (image_slot self.old) (image_slot self.new) }
+        ensures why { IsSome self.new.cause }
     {
         self.cause = self.cause.or(Some(error));
         self.fail(files)
@@ -380,7 +391,9 @@ impl Image {
 
     /// There is no disk from now on, and one more fault.
     fn fail<F: Files<File = File>>(&mut self, files: &F) -> Failed
-        ensures { IsFailedSlot (image_slot self.old) (image_slot self.new) }
+        ensures slot { IsFailedSlot (image_slot self.old) (image_slot self.new) }
+        ensures misfit { self.new.misfit ≡ self.old.misfit }
+        ensures cause { self.new.cause ≡ self.old.cause }
     {
         self.names.store_failed(files);
         self.file = None;
@@ -418,7 +431,7 @@ fn open_image<F: Files<File = File>>(files: &F, name: &str) -> Opened {
         Found::Open(file) => file,
         Found::Nothing => return Opened::Lost(None),
         Found::Lost(cause) => return Opened::Lost(cause),
-        Found::Shut => return Opened::Hindered(Hindrance::Shut),
+        Found::Shut(error) => return Opened::Hindered(Hindrance::ImageShut(error)),
     };
     if is_locked(&file) {
         return Opened::Hindered(Hindrance::Busy);

@@ -42,20 +42,20 @@ impl Names {
         })
     }
 
-    /// The power that the sidecar tells, or None where it is shut. A missing one tells `Spinning`,
+    /// The power that the sidecar tells, or why it cannot be opened. A missing one tells `Spinning`,
     /// and one that is unknown or cannot be read tells `Absent`; why, where its device has failed.
     pub(crate) fn load<F: Files<File = File>>(
         &self,
         files: &F,
-    ) -> Option<(Power, Option<io::Error>)> {
+    ) -> io::Result<(Power, Option<io::Error>)> {
         match find(files, self.sidecar.as_str()) {
             Found::Open(file) => match power_in(&file) {
-                Ok(power) => Some((power, None)),
-                Err(error) => Some((Power::Absent, Some(error))),
+                Ok(power) => Ok((power, None)),
+                Err(error) => Ok((Power::Absent, Some(error))),
             },
-            Found::Nothing => Some((Power::Spinning, None)),
-            Found::Lost(cause) => Some((Power::Absent, cause)),
-            Found::Shut => None,
+            Found::Nothing => Ok((Power::Spinning, None)),
+            Found::Lost(cause) => Ok((Power::Absent, cause)),
+            Found::Shut(error) => Err(error),
         }
     }
 
