@@ -37,7 +37,7 @@ use Rattle.paraid_session.specs.Turn.{Point}
 use Rattle.paraid_session.specs.Watch.{Watch, watch, watch_all}
 use Rattle.paraid_serve.specs.Output.{FollowsFromPoint, OutputText, WritesOutput, begins_with}
 use Rattle.paraid_serve.specs.Output.OutputText.{done as text_done, halted as text_halted, source as text_source, too_long as text_long}
-use Rattle.paraid_serve.specs.Output.WritesOutput.{whole as wrote_whole, last_line as wrote_last, answers as wrote_answers}
+use Rattle.paraid_serve.specs.Output.WritesOutput.{answers as wrote_answers, at_first_line as wrote_first, last_line as wrote_last, whole as wrote_whole}
 use Rattle.paraid_serve.specs.Stretch.{EndsStretch, Turn, events_in, replies, turn_calls, turn_with}
 use Rattle.paraid_serve.proofs.CauseLemmas.{HaltsAt, MeetsHalt, ends_at_cause}
 use Rattle.paraid_serve.proofs.CauseLemmas.HaltsAt.{lost, worn_out}
@@ -191,20 +191,22 @@ module _ {rack : RackUse} (h : HeldHistory rack) (kept : SinkUse) (status : ℕ)
 
     module _ (service : ServiceStart) (stood : IsServed rack service) (begins : BeginsAt rack.before service.told rack.after service.began) (served : ServesLines rack given kept status service) where
       run_text : (base : ℕ → ℕ) (t : Trail) (cs : List Call) (p : Point) → service.told ≡ Some t → t ≡ extend h.first cs → IsBegun rack.slots (now h.first) h.said h.history h.low h.down base cs p → h.said.meta.setup ≡ service.array.meta.setup
-          → (code : ℕ) (text : List ℕ) → OutputText (served_span rack service) p served.headline.bytes code text → status ≡ code → GrowsByBytes kept.written_before kept.written text → RunComes
-      run_text base t cs p here split starts same code text (text_done writes e) is grows =
+          → (code : ℕ) (front last : List ℕ) → OutputText (served_span rack service) p served.headline.bytes code front last → status ≡ code → GrowsByBytes kept.written_before kept.written (front ++ last) → RunComes
+      run_text base t cs p here split starts same code front last (text_done writes e) is grows =
           whole is ((served.headline.all (inl is)).1, writes, record { text = begins_with p ++ replies e.before; grows = grows })
-      run_text base t cs p here split starts same code text (text_halted halt e) is grows =
+      run_text base t cs p here split starts same code front last (text_halted halt e) is grows =
           halted_comes h kept status (IsRunWhole given kept) (HindersRun h given kept status) other sunk service stood begins served.end
           base t cs p here split starts same (events_in (lines_of served.headline.bytes) ++ Flush ∷ []) halt e is
-      run_text base t cs p here split starts same code text (text_source c) is grows = hindered (source_failed is (heard is))
-      run_text base t cs p here split starts same code text (text_long ten c) is grows = hindered (too_long is served.headline.bytes served.headline.given ten)
+      run_text base t cs p here split starts same code front last (text_source c) is grows = hindered (source_failed is (heard is))
+      run_text base t cs p here split starts same code front last (text_long ten c) is grows = hindered (too_long is served.headline.bytes served.headline.given ten)
 
       run_wrote : (base : ℕ → ℕ) (t : Trail) (cs : List Call) (p : Point) → service.told ≡ Some t → t ≡ extend h.first cs → IsBegun rack.slots (now h.first) h.said h.history h.low h.down base cs p → h.said.meta.setup ≡ service.array.meta.setup
           → WritesOutput (served_span rack service) p served.headline.bytes status served.headline.text → RunComes
-      run_wrote base t cs p here split starts same (wrote_whole out) = run_text base t cs p here split starts same status served.headline.text out refl served.headline.grows
-      run_wrote base t cs p here split starts same (wrote_last four code full rest out front) = hindered (other (sink_failed four (sunk four)))
-      run_wrote base t cs p here split starts same (wrote_answers four lines more rest lines_are c front) = hindered (other (sink_failed four (sunk four)))
+      run_wrote base t cs p here split starts same (wrote_whole front last out is) =
+          run_text base t cs p here split starts same status front last out refl (subst (λ (x : List ℕ). GrowsByBytes kept.written_before kept.written x) is served.headline.grows)
+      run_wrote base t cs p here split starts same (wrote_last four code front last count out is) = hindered (other (sink_failed four (sunk four)))
+      run_wrote base t cs p here split starts same (wrote_first four none c rest is) = hindered (other (sink_failed four (sunk four)))
+      run_wrote base t cs p here split starts same (wrote_answers four part c is) = hindered (other (sink_failed four (sunk four)))
 
     pub run_comes : {U : Type 0} → MountsAndThen rack kept status U (ServesLines rack given kept status) → RunComes
     run_comes (refused fault back end unheard) =

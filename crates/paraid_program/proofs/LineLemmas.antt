@@ -1,5 +1,5 @@
 -- Several lines, of which the last may be written in part.
-use Rattle.std.proofs.Common.{◌≡◌, ℕ, ◌+◌, ◌≤◌, List, ◌++◌, length, take, drop, Option, IsSome, refl, sym, ap, ◌∙◌, inl, inr, arith, subst, length-append, take-append-drop}
+use Rattle.std.proofs.Common.{◌≡◌, ℕ, ◌+◌, ◌<◌, ◌≤◌, List, ◌++◌, length, take, drop, Option, IsSome, refl, sym, ap, ◌∙◌, inl, inr, arith, subst, length-append, take-append-drop}
 use Rattle.std.proofs.lemmas.List.{append_assoc, take-append-le, take_all}
 use Rattle.std.proofs.Math.Seq.{take-append-add}
 use Rattle.paraid_base.specs.declared.event.Answer.{Answer}
@@ -54,11 +54,11 @@ ends_two a b c x y code status g e = record {
   ];
 }
 
-pub ends_part : (a b : Option (List ℕ)) (x y : List ℕ) (code : ℕ) → (n : ℕ) × (n ≤ length x) × GrowsByBytes a b (take n x) → EndsWithLine a b (x ++ y) code 4
+pub ends_part : (a b : Option (List ℕ)) (x y : List ℕ) (code : ℕ) → (n : ℕ) × (n < length x) × GrowsByBytes a b (take n x) → EndsWithLine a b (x ++ y) code 4
 ends_part a b x y code part = record {
   count = part.0;
-  within = omega (arith, part.1, length-append x y);
-  grows = subst (λ (t : List ℕ). GrowsByBytes a b t) (sym (take-first part.0 x y part.1)) part.2;
+  within = (let short = part.1 in omega (arith, short, length-append x y));
+  grows = subst (λ (t : List ℕ). GrowsByBytes a b t) (sym (take-first part.0 x y (let short = part.1 in omega (arith, short)))) part.2;
   whole = inl refl;
 }
 
@@ -76,7 +76,7 @@ state_told setup p a b c writes gear line status e f is g end =
     (subst (λ (y : List ℕ). EndsWithLine a c (mount_line writes gear ++ y) 0 status) is (ends_two a b c (mount_line writes gear) line 0 status g end))
 
 pub state_cut : (setup : Setup) (p : Point) (a b : Option (List ℕ)) (writes gear : ℕ) → writes ≡ length p.history → gear ≡ p.state.gear
-    → (n : ℕ) × (n ≤ length (mount_line writes gear)) × GrowsByBytes a b (take n (mount_line writes gear)) → EndsWithLine a b (state_lines setup p) 0 4
+    → (n : ℕ) × (n < length (mount_line writes gear)) × GrowsByBytes a b (take n (mount_line writes gear)) → EndsWithLine a b (state_lines setup p) 0 4
 state_cut setup p a b writes gear e f part =
     subst (λ (x : List ℕ). EndsWithLine a b (x ++ state_line setup p) 0 4) (mount_is p writes gear e f) (ends_part a b (mount_line writes gear) (state_line setup p) 0 part)
 
@@ -94,7 +94,7 @@ wrote_last span p number count text line before after code status out e = elim e
 
 -- the sink failed at the first line
 pub no_line_run : (seen : Shown) (slots : ℕ) (setup : Setup) (stood : Point → Type 0) (told : Option Trail) (kept : SinkUse) (writes gear number count : ℕ) → ((p : Point) → stood p → writes ≡ length p.history) → ((p : Point) → stood p → gear ≡ p.state.gear) → mount_line writes gear ≡ first_line_shown seen
-    → (n : ℕ) × (n ≤ length (mount_line writes gear)) × GrowsByBytes kept.written_before kept.written (take n (mount_line writes gear)) → GenRun seen seen (span_of slots setup told told) stood (record { number = number; count = count; sink = kept }) 4
+    → (n : ℕ) × (n < length (mount_line writes gear)) × GrowsByBytes kept.written_before kept.written (take n (mount_line writes gear)) → GenRun seen seen (span_of slots setup told told) stood (record { number = number; count = count; sink = kept }) 4
 no_line_run seen slots setup stood told kept writes gear number count counts in_gear shows part = record {
   text = take part.0 (mount_line writes gear);
   grows = part.2;
@@ -114,7 +114,7 @@ module _ (seen mid : Shown) (slots : ℕ) (setup : Setup) (stood : Point → Typ
   lines_are p at_p c = ap (λ x. x ++ summary count tally gear_now energy) (mount_is p writes gear (counts p at_p) (in_gear p at_p)) ∙ ap (λ x. begins_with p ++ x) (summary_is p c)
 
   -- the sink failed within the summary
-  pub no_summary_run : (n : ℕ) × (n ≤ length (summary count tally gear_now energy)) × GrowsByBytes second kept.written (take n (summary count tally gear_now energy)) → GenRun seen mid (span_of slots setup start middle) stood (record { number = number; count = count; sink = kept }) 4
+  pub no_summary_run : (n : ℕ) × (n < length (summary count tally gear_now energy)) × GrowsByBytes second kept.written (take n (summary count tally gear_now energy)) → GenRun seen mid (span_of slots setup start middle) stood (record { number = number; count = count; sink = kept }) 4
   no_summary_run part =
       let all = summary count tally gear_now energy in
       record {

@@ -15,7 +15,7 @@ use Rattle.paraid_session.specs.Mount.{IsBegun}
 use Rattle.paraid_session.specs.Turn.{Point}
 use Rattle.paraid_sparing.specs.Output.{FollowsSpared, SparedText, WritesSpared}
 use Rattle.paraid_sparing.specs.Output.SparedText.{done as text_done, halted as text_halted, source as text_source, too_long as text_long}
-use Rattle.paraid_sparing.specs.Output.WritesSpared.{whole as wrote_whole, last_line as wrote_last, answers as wrote_answers}
+use Rattle.paraid_sparing.specs.Output.WritesSpared.{answers as wrote_answers, at_first_line as wrote_first, last_lines as wrote_last, whole as wrote_whole}
 use Rattle.paraid_sparing.specs.Sparing.{Supply, stock_line}
 use Rattle.paraid_program.specs.Complete.{Completes, HeldHistory, HindersRun, IsRunWhole}
 use Rattle.paraid_program.specs.Complete.Completes.{hindered, whole}
@@ -35,8 +35,8 @@ module _ {rack : RackUse} (h : HeldHistory rack) (kept : SinkUse) (status : ℕ)
 
   module _ (service : ServiceStart) (stood : IsServed rack service) (begins : BeginsAt rack.before service.told rack.after service.began) (served : ServesSpares rack given kept supply status service) where
     by_text : (base : ℕ → ℕ) (t : Trail) (cs : List Call) (p : Point) → service.told ≡ Some t → t ≡ extend h.first cs → IsBegun rack.slots (now h.first) h.said h.history h.low h.down base cs p → h.said.meta.setup ≡ service.array.meta.setup
-        → (code : ℕ) (text : List ℕ) → SparedText (served_span rack service) supply p served.headline.bytes code text → status ≡ code → GrowsByBytes kept.written_before kept.written text → SparedComes
-    by_text base t cs p here split starts same code text (text_done writes told e) is grows =
+        → (code : ℕ) (front last : List ℕ) → SparedText (served_span rack service) supply p served.headline.bytes code front last → status ≡ code → GrowsByBytes kept.written_before kept.written (front ++ last) → SparedComes
+    by_text base t cs p here split starts same code front last (text_done writes told e) is grows =
         whole is (
           (served.headline.all (inl is)).1,
           writes,
@@ -45,17 +45,19 @@ module _ {rack : RackUse} (h : HeldHistory rack) (kept : SinkUse) (status : ℕ)
             grows = subst (λ (x : List ℕ). GrowsByBytes kept.written_before kept.written x) (sym (append_assoc (begins_with p ++ told) (stock_line e.lines.stock service.array.meta.setup) (end_line writes))) grows;
           },
         )
-    by_text base t cs p here split starts same code text (text_halted halt told e) is grows =
+    by_text base t cs p here split starts same code front last (text_halted halt told e) is grows =
         halted_comes h kept status (IsRunWhole given kept) Hindered other sunk service stood begins served.end
         base t cs p here split starts same (e.lines.put_in ++ Flush ∷ []) halt (record { all = e.all; before = e.lines.all.turns; last = turn_with Flush (Halted halt) e.calls; split = e.turns; answered = refl }) is
-    by_text base t cs p here split starts same code text (text_source told c) is grows = hindered (source_failed is (heard is))
-    by_text base t cs p here split starts same code text (text_long ten told c) is grows = hindered (too_long is served.headline.bytes served.headline.given ten)
+    by_text base t cs p here split starts same code front last (text_source told c) is grows = hindered (source_failed is (heard is))
+    by_text base t cs p here split starts same code front last (text_long ten told c) is grows = hindered (too_long is served.headline.bytes served.headline.given ten)
 
     by_output : (base : ℕ → ℕ) (t : Trail) (cs : List Call) (p : Point) → service.told ≡ Some t → t ≡ extend h.first cs → IsBegun rack.slots (now h.first) h.said h.history h.low h.down base cs p → h.said.meta.setup ≡ service.array.meta.setup
         → WritesSpared (served_span rack service) supply p served.headline.bytes status served.headline.text → SparedComes
-    by_output base t cs p here split starts same (wrote_whole out) = by_text base t cs p here split starts same status served.headline.text out refl served.headline.grows
-    by_output base t cs p here split starts same (wrote_last four code full rest out front) = hindered (other (sink_failed four (sunk four)))
-    by_output base t cs p here split starts same (wrote_answers four lines more told rest lines_are c front) = hindered (other (sink_failed four (sunk four)))
+    by_output base t cs p here split starts same (wrote_whole front last out is) =
+        by_text base t cs p here split starts same status front last out refl (subst (λ (x : List ℕ). GrowsByBytes kept.written_before kept.written x) is served.headline.grows)
+    by_output base t cs p here split starts same (wrote_last four code front last count out is) = hindered (other (sink_failed four (sunk four)))
+    by_output base t cs p here split starts same (wrote_first four none c rest is) = hindered (other (sink_failed four (sunk four)))
+    by_output base t cs p here split starts same (wrote_answers four part c is) = hindered (other (sink_failed four (sunk four)))
 
   pub spared_comes : {U : Type 0} → MountsAndThen rack kept status U (ServesSpares rack given kept supply status) → SparedComes
   spared_comes (refused fault back end unheard) =

@@ -27,7 +27,7 @@ use Rattle.paraid_session.specs.Turn.{Point}
 use Rattle.paraid_session.specs.Watch.{Down, Watch, down_after, nobody, only, several, watch, watch_all, with_down}
 use Rattle.paraid_serve.specs.Output.{FollowsFromPoint, OutputText, WritesOutput}
 use Rattle.paraid_serve.specs.Output.OutputText.{done as text_done, halted as text_halted, source as text_source, too_long as text_long}
-use Rattle.paraid_serve.specs.Output.WritesOutput.{whole, last_line, answers}
+use Rattle.paraid_serve.specs.Output.WritesOutput.{answers, at_first_line, last_line, whole}
 use Rattle.paraid_serve.specs.Stretch.{span_of}
 use Rattle.paraid_serve.specs.Ending.{EndsWithLine}
 use Rattle.paraid_serve.specs.Uses.{RackUse, SinkUse, SourceUse}
@@ -142,8 +142,8 @@ module _ {force : Bool} {rack : RackUse} {given : SourceUse} {kept : SinkUse} wh
 module _ (slots : ℕ) (setup : Setup) (s : Disks) (empty : IsEmptyArray slots setup s) (lines text : List ℕ) (middle after : Option Trail) (disk : ℕ) (calls : List Call)
     (mounting : IsMounting slots s disk (said_first setup) [] 0 None calls) (p : Point) (begun : IsBegun slots s (said_first setup) [] 0 None mounting.base calls p) where
   -- a session that answers all lines is a life
-  life_by_text : (status : ℕ) (full : List ℕ) → OutputText (span_of slots setup middle after) p lines status full → status ≡ 0 → full ≡ text → IsLife slots lines text
-  life_by_text status full (text_done writes e) zero is = record {
+  life_by_text : (status : ℕ) (front last : List ℕ) → OutputText (span_of slots setup middle after) p lines status front last → status ≡ 0 → text ≡ front ++ last → IsLife slots lines text
+  life_by_text status front last (text_done writes e) zero is = record {
     setup = setup;
     array = s;
     empty = empty;
@@ -156,17 +156,18 @@ module _ (slots : ℕ) (setup : Setup) (s : Disks) (empty : IsEmptyArray slots s
     final = after;
     writes = writes;
     answered = e;
-    told = sym is;
+    told = is;
   }
-  life_by_text status full (text_halted (HaltTwo pair) e) zero is = absurd (omega (arith, zero))
-  life_by_text status full (text_halted (Worn count) e) zero is = absurd (omega (arith, zero))
-  life_by_text status full (text_source c) zero is = absurd (omega (arith, zero))
-  life_by_text status full (text_long ten c) zero is = absurd (omega (arith, zero))
+  life_by_text status front last (text_halted (HaltTwo pair) e) zero is = absurd (omega (arith, zero))
+  life_by_text status front last (text_halted (Worn count) e) zero is = absurd (omega (arith, zero))
+  life_by_text status front last (text_source c) zero is = absurd (omega (arith, zero))
+  life_by_text status front last (text_long ten c) zero is = absurd (omega (arith, zero))
 
   life_by_output : WritesOutput (span_of slots setup middle after) p lines 0 text → IsLife slots lines text
-  life_by_output (whole out) = life_by_text 0 text out refl refl
-  life_by_output (last_line four code full rest out front) = absurd (omega (arith, four))
-  life_by_output (answers four some more rest lines_are c front) = absurd (omega (arith, four))
+  life_by_output (whole front last out is) = life_by_text 0 front last out refl is
+  life_by_output (last_line four code front last count out is) = absurd (omega (arith, four))
+  life_by_output (at_first_line four none c rest is) = absurd (omega (arith, four))
+  life_by_output (answers four part c is) = absurd (omega (arith, four))
 
 -- no call fails but on one disk, so one disk at most is down
 module _ (slots weak : ℕ) (setup own : Setup) (s : Disks) (empty : IsEmptyArray slots setup s) (lines text : List ℕ) (middle after : Option Trail) (disk : ℕ) (calls : List Call)
