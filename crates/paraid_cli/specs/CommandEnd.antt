@@ -1,25 +1,36 @@
 -- How `main` ends: with the status of a command, or with one of its own.
 use Rattle.std.specs.Prelude.{◌≡◌, ℕ, ◌⊎◌, List, [], ◌∷◌, length, Option, Some, None}
-use Rattle.paraid_gather.specs.Finish.{EndsGathered}
+use Rattle.paraid_gather.specs.Above.{slots_above}
+use Rattle.paraid_gather.specs.Finish.{EndsGathered, WritesSlotOut}
+use Rattle.paraid_gather.specs.Waiting.{Waiting}
 use Rattle.paraid_imgrack.specs.declared.image.Image.{Image}
 use Rattle.paraid_imgrack.specs.declared.rack.ImageRack.{ImageRack}
 use Rattle.paraid_imgrack.specs.Images.{image_slot_at}
 use Rattle.paraid_imgrack.specs.Looks.{images_of}
 use Rattle.paraid_program.specs.CommandCompletes.{CompletesCommand}
-use Rattle.paraid_program.specs.CommandDoes.{DoesCommand}
+use Rattle.paraid_program.specs.CommandDoes.{DoesCommand, ReadsSource}
 use Rattle.paraid_rack.specs.Slots.{Slot}
 use Rattle.paraid_rack.specs.Trail.{Trail}
 use Rattle.paraid_serve.specs.Ending.{EndsWithLine}
 use Rattle.paraid_serve.specs.Statuses.{IsOneOf, status_busy, status_no_memory, status_not_an_array, status_sink, status_source, status_words}
+use Rattle.paraid_serve.specs.Streams.{EndsAtFaults}
 use Rattle.paraid_serve.specs.Uses.{RackUse, SinkUse, SourceUse}
 use Rattle.paraid_words.specs.declared.command.Command.{Command}
 use Rattle.paraid_words.specs.Words.{AskFor, usage_line}
 use Rattle.paraid_cli.specs.Ready.{IsReady}
 
+-- The slots of a rack below, once all that waited in the rack above is written out: each is left as the rack above had
+-- it, or a block waited for it and its disk is lost.
+pub record AreLeftBelow (above after : ℕ → Slot) : Type 0 where
+  pub below : ℕ → Slot
+  pub waiting : ℕ → Waiting
+  pub shown : (d : ℕ) → above d ≡ slots_above below waiting d
+  pub left : (d : ℕ) → WritesSlotOut (below d) (waiting d) (after d)
+
 -- A command was done with a rack that had these slots and the record `begun`, with this source and this
--- sink, and ended with this status. Its writes were gathered: the rack below tells `ended` then, and `noted`
--- is what was noted of the calls.
-pub record EndsCommand (slots : ℕ) (slot : ℕ → Slot) (begun ended noted : Option Trail) (source : SourceUse) (sink : SinkUse) (c : Command) (status : ℕ) : Type 0 where
+-- sink, and ended with this status. Its writes were gathered: the rack below has the slots `after` then and
+-- tells `ended`, and `noted` is what was noted of the calls. No fault of a stream is left untold.
+pub record EndsCommand (slots : ℕ) (slot after : ℕ → Slot) (begun ended noted : Option Trail) (source : SourceUse) (sink : SinkUse) (c : Command) (status : ℕ) : Type 0 where
   pub rack : RackUse
   pub count : rack.slots ≡ slots
   pub before : (d : ℕ) → rack.old d ≡ slot d
@@ -27,12 +38,17 @@ pub record EndsCommand (slots : ℕ) (slot : ℕ → Slot) (begun ended noted : 
   pub gathered : (below log : Trail) → ended ≡ Some below → noted ≡ Some log → EndsGathered rack.after below log
   pub does : DoesCommand rack source sink status c
   pub complete : CompletesCommand rack source sink status c
+  pub left : AreLeftBelow rack.new after
+  pub unhurt : EndsAtFaults source sink status
 
 -- A command was done so with a rack of image files, which tells its slots alone: from the source and the sink as they were given to
--- what they are then.
-abbrev pub EndsOverImages : {S K F : Type 0} → (S → SourceUse) → (K → SinkUse) → ImageRack F → Command → ℕ → Type 0
-EndsOverImages {S} {K} heard said rack c status = (source : S) × (sink : K)
-    × EndsCommand (length (images_of rack)) (image_slot_at (images_of rack)) None None None (heard source) (said sink) c status
+-- what they are then. A source that the command does not read is as it was.
+pub record EndsOverImages {S K F : Type 0} (heard : S → SourceUse) (said : K → SinkUse) (given : S) (rack : ImageRack F) (c : Command) (status : ℕ) : Type 0 where
+  pub source : S
+  pub sink : K
+  pub after : ℕ → Slot
+  pub ends : EndsCommand (length (images_of rack)) (image_slot_at (images_of rack)) after None None None (heard source) (said sink) c status
+  pub unread : (ReadsSource c → ⊥) → source ≡ given
 
 -- The line that says which words there are was written to this sink, and the status is 2; or a first part of it, and the status is 4.
 abbrev pub EndsWithUsage : {K : Type 0} → (K → Option (List ℕ)) → K → ℕ → Type 0

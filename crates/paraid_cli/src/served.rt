@@ -2,6 +2,7 @@
 ghost use Rattle.std.specs.Prelude.{◌≡◌, IfOk, OnErr, Some, map, string_bytes};
 ghost use Rattle.paraid_cli.specs.CommandEnd.{EndsCommand};
 ghost use Rattle.paraid_gather.specs.Above.{told_above};
+ghost use Rattle.paraid_program.specs.CommandDoes.{ReadsSource};
 ghost use Rattle.paraid_rack.specs.Trail.{Trail};
 ghost use Rattle.paraid_serve.specs.Ending.{EndsWithLine};
 ghost use Rattle.paraid_serve.specs.Streams.{sink_use, source_use};
@@ -35,7 +36,7 @@ pub(crate) fn serve_gathered<S: Source, K: Sink, R: BulkRack + Drop, L: Noted + 
 ) -> Result<Served<R, L>, NoMemory>
     requires begun { (t : Trail) → L.noted log ≡ Some t → R.told rack ≡ Some t }
     ensures told { IfOk result (λ served. (c : CommandType) → AskFor c (map string_bytes words.now.items)
-        → EndsCommand (R.slot_count rack) (R.slot rack)
+        → EndsCommand (R.slot_count rack) (R.slot rack) (R.slot served.rack)
         (told_above (R.told rack) (L.noted log)) (R.told served.rack) (L.noted served.log)
         (source_use S.left S.faults source.old source.new)
         (sink_use K.written K.faults sink.old sink.new) c served.status) }
@@ -43,6 +44,12 @@ pub(crate) fn serve_gathered<S: Source, K: Sink, R: BulkRack + Drop, L: Noted + 
         → AskFor c (map string_bytes words.now.items) → ⊥)
         → EndsWithLine (K.written sink.old) (K.written sink.new) usage_line
         status_words served.status) }
+    // What no command reads is not read.
+    ensures unread { IfOk result (λ served. (c : CommandType) → (ReadsSource c → ⊥)
+        → AskFor c (map string_bytes words.now.items) → source.new ≡ source.old) }
+    ensures unasked { IfOk result (λ served. ((c : CommandType)
+        → AskFor c (map string_bytes words.now.items) → ⊥) → source.new ≡ source.old) }
+    ensures slots { IfOk result (λ served. R.slot_count served.rack ≡ R.slot_count rack) }
     // Without memory nothing was read, and nothing written.
     ensures none { OnErr result ((source.new ≡ source.old) × (sink.new ≡ sink.old)) }
 {

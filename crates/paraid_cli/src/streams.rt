@@ -27,7 +27,7 @@ pub(crate) struct Paraid<S, K> {
 impl<F: Files<File = File> + Drop, S: Source + Drop, K: Sink + Drop> Program<F> for Paraid<S, K> {
     ghost use Rattle.std.specs.Bool.{⊤};
 
-    ghost ended = { λ program rack c status. EndsOverImages (source_use S.left S.faults program.source) (sink_use K.written K.faults program.sink) rack c status };
+    ghost ended = { λ program rack c status. EndsOverImages (source_use S.left S.faults program.source) (sink_use K.written K.faults program.sink) program.source rack c status };
 
     // (what the files hold is told by no clause)
     ghost free = { λ program images. ⊤ };
@@ -79,7 +79,7 @@ impl<F: Files<File = File> + Drop, S: Source + Drop, K: Sink + Drop> Program<F> 
         ensures status { IfOk result (λ end. (c : CommandType)
             → AskFor c (map string_bytes words.now.items)
             → EndsOverImages (source_use S.left S.faults self.source)
-            (sink_use K.written K.faults self.sink) rack c end.status) }
+            (sink_use K.written K.faults self.sink) self.source rack c end.status) }
         ensures none { IfErr result (λ left. left ≡ self) }
     {
         let Paraid {

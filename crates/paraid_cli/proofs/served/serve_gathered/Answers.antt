@@ -1,4 +1,4 @@
-use Rattle.std.proofs.Common.{◌∙◌, Option, ap}
+use Rattle.std.proofs.Common.{◌∙◌, Option, ap, refl}
 use Rattle.paraid_cli.proofs.CommandEndLemmas.{slots_alone}
 use Rattle.paraid_rack.specs.Trail.{Trail}
 use Rattle.paraid_gather.specs.Above.{slots_above, told_above}
@@ -24,4 +24,6 @@ returns-clause-told g c command asked =
       gathered = c.finish-rack.ensures.gathered;
       does = c.paraid-status.ensures.does command asked;
       complete = c.paraid-status.ensures.complete command asked;
+      left = record { below = g.R.Rack.slot left.rack; waiting = waiting_in left; shown = λ d. refl; left = c.finish-rack.ensures.slot };
+      unhurt = c.paraid-status.ensures.unhurt;
     }
