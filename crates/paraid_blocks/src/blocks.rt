@@ -1,3 +1,4 @@
+//! The interface of a block device: what each call answers, and what is then known of its writes.
 ghost use Rattle.std.specs.Prelude.{◌≡◌, ℕ, ◌≤◌, ◌<◌, ◌^◌, [], ◌∷◌, ◌++◌, Bool, IsTrue, Option, IsSome, IsNone, OnOk};
 ghost use Rattle.paraid_base.specs.declared.fault.Halt.{Halt};
 ghost use Rattle.paraid_base.specs.declared.event.Event.TheVariants.{Read, Write, Flush};
@@ -97,7 +98,8 @@ pub trait Blocks {
         self.write_many(&Pairs::one(block, bytes))
     }
 
-    /// Keeps all writes that were accepted: no stop takes one of them away. Ok gives their number.
+    /// Asks that all writes which were accepted be kept. Ok gives their number. What a stop may still take
+    /// away once this is answered is for `kept` of each device to say.
     fn flush(&mut self) -> Result<u64, Halt>
         ensures size { block_count self.new ≡ block_count self.old }
 

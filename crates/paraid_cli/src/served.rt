@@ -44,7 +44,7 @@ pub(crate) fn serve_gathered<S: Source, K: Sink, R: BulkRack + Drop, L: Noted + 
         → AskFor c (map string_bytes words.now.items) → ⊥)
         → EndsWithLine (K.written sink.old) (K.written sink.new) usage_line
         status_words served.status) }
-    // What no command reads is not read.
+    // A source that the command does not read stays as it was, and so it does where no command is asked for.
     ensures unread { IfOk result (λ served. (c : CommandType) → (ReadsSource c → ⊥)
         → AskFor c (map string_bytes words.now.items) → source.new ≡ source.old) }
     ensures unasked { IfOk result (λ served. ((c : CommandType)

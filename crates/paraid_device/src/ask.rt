@@ -1,3 +1,4 @@
+//! One event that is asked of an array, unless it has halted.
 ghost use Rattle.std.specs.Prelude.{◌≡◌, ◌≢◌, ℕ, None, OnOk};
 ghost use Rattle.paraid_base.specs.BlockAnswers.{answer_to_flush};
 ghost use Rattle.paraid_base.specs.declared.event.Event.TheVariants.{Bad as BadEvent, Flush as FlushEvent};

@@ -1,3 +1,4 @@
+//! An array in service as a block device.
 ghost use Rattle.std.specs.Prelude.{◌≡◌, is_some, if◌then◌else◌, None};
 ghost use Rattle.paraid_machine.specs.Machine.{block_count as count_of_blocks};
 

@@ -28,7 +28,7 @@ Suits i l slot (Some (Moved disk)) = (disk ≡ l.disk) × (l.disk ≢ slot)
 Suits i l slot (Some (Old generation known)) = (generation ≡ l.generation) × ((generation < known) × (slot < 8 → known ≡ slice_index i.known slot))
 Suits i l slot (Some (New generation known)) = ⊥
 
--- No label knows the image of this slot to be as new as its own label says that the image of disk e has heard: that image was of this generation, or of a later one, by the label.
+-- The label of this slot says of its own image a generation that no image which was read knows of. It says too that disk e was of that generation or of a later one by then, so disk e had been told.
 pub record IsUnheardOf (i : Identity) (l : Label) (slot e : ℕ) : Type 0 where
   pub low : slot < 8
   pub less : slice_index i.known slot < slice_index l.known slot
@@ -39,7 +39,7 @@ pub record IsBehind (i : Identity) (l : Label) (slot e : ℕ) : Type 0 where
   pub seen : 0 < slice_index i.seen e
   pub before : (slice_index i.seen e < slice_index l.known e) ⊎ IsUnheardOf i l slot e
 
--- An image that was parked until now belongs into its slot: it fits, and is no newer than it is known to be, so none of those that were seen is of a time before it.
+-- An image that was parked until now belongs into its slot: it fits, and no image that was seen is of a time before it.
 pub record FitsLate (i : Identity) (l : Label) (slot : ℕ) : Type 0 where
   pub fits : FitsSlot i l slot
   pub newest : (e : ℕ) → e < 8 → IsBehind i l slot e → ⊥

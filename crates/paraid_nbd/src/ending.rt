@@ -1,3 +1,4 @@
+//! How the service of a client ends.
 /// How a service ended.
 #[derive(Clone, Copy, PartialEq, Eq)]
 pub enum NbdEnd {

@@ -125,7 +125,7 @@ pub record ClientHeadline (span : Span) (began : ℕ) (streams : Streams) (statu
 abbrev pub IsClientStatus : ℕ → Type 0
 IsClientStatus status = IsOneOf (status_done ∷ status_source ∷ status_sink ∷ status_two ∷ status_no_memory ∷ status_too_long ∷ status_worn ∷ status_protocol ∷ []) status
 
--- Two disks are down: of two different ones the second has failed between these slots.
+-- Two disks are named, of which the second has failed between these slots. Of the first this says only that it is another one.
 pub record LosesTwo (old new : ℕ → Slot) : Type 0 where
   pub two : Two
   pub lost : IsSecondLost old new two

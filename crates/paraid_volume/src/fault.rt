@@ -1,3 +1,4 @@
+//! Why a call on volumes is refused.
 use paraid_base::{BlockNo, Halt};
 
 /// Why a call on volumes was refused. They are tested in this order.

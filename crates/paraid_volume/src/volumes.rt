@@ -291,7 +291,8 @@ impl<B: Blocks> Volumes<B> {
         }
     }
 
-    /// Keeps all that was written: no stop takes it away. Ok gives the length of the history.
+    /// Flushes the device. Ok gives the length of the history. That no stop takes any of it away holds
+    /// where the device's `kept` says so.
     pub fn flush(&mut self) -> Result<u64, VolFault>
         ensures fault { IfErr result (IsHalt (halted_of self.new)) }
         ensures halt { halted_of self.new ≡ vol_halt_in result }

@@ -1,3 +1,4 @@
+//! What a line asks for.
 use paraid_base::BlockNo;
 use paraid_volume::Name;
 

@@ -1,3 +1,4 @@
+//! The text of a line, and what it asks for.
 ghost use Rattle.std.specs.Prelude.{◌≡◌, ◌≢◌, ◌<◌, ℕ, length, codes};
 ghost use Rattle.std.specs.List.{position};
 ghost use Rattle.paraid_base.specs.declared.block.Block.{Block as BlockType};

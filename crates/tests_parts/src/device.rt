@@ -1,3 +1,4 @@
+//! A block device for tests, which keeps its history in memory.
 ghost use Rattle.std.specs.Prelude.{⊤, ◌≡◌, ◌<◌, ◌^◌, is_some, false, if◌then◌else◌};
 
 use paraid_base::{Block, BlockFault, BlockNo, Halt, Pairs};

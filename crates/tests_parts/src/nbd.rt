@@ -1,3 +1,4 @@
+//! Clients of the network block service: what they are answered, and how their service ends.
 ghost use Rattle.std.specs.Prelude.{None};
 
 use crate::device::Kept;

@@ -1,3 +1,4 @@
+//! Gear plans for days of demand.
 ghost use Rattle.std.specs.Prelude.{◌≡◌, ◌≤◌, IfSome};
 
 use paraid_base::Geometry;
