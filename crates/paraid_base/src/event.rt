@@ -62,7 +62,7 @@ pub enum Answer {
     NotOut { disk: DiskNo },
     /// No fresh disk could be had in this slot.
     NoFresh { disk: DiskNo },
-    /// No shift down: it would park this disk, whose spin-ups have reached the ration.
+    /// No shift down: it would park this disk, which has used up its allowance of spin-ups.
     Ration { disk: DiskNo },
     /// The state of an array of so many disks.
     State { status: Status, disks: u8 },

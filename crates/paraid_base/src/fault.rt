@@ -11,7 +11,7 @@ pub struct Failed;
 #[derive(Clone, Copy)]
 pub struct NoMemory;
 
-/// Two disks are down: `first` was out before, and `second` failed after it.
+/// Two disks are down: `first` was out or was lost first, and `second` failed after it.
 #[derive(Clone, Copy, PartialEq, Eq)]
 pub struct Two {
     pub first: DiskNo,

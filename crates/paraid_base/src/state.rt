@@ -166,8 +166,8 @@ pub enum TickEvent {
     Gone { disk: DiskNo },
     /// This disk was lost in a shift. A shift up goes on once it is rebuilt; a shift down is given up.
     Lost { disk: DiskNo },
-    /// A shift down was due and did not begin: it would park this disk, whose spin-ups have reached the
-    /// ration.
+    /// A shift down was due and did not begin: it would park this disk, which has used up its allowance
+    /// of spin-ups.
     Ration { disk: DiskNo },
 }
 

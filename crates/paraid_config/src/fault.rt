@@ -1,3 +1,4 @@
+//! Why a configuration is refused, in the order of the tests.
 use crate::Key;
 use paraid_base::GeoFault;
 

@@ -1,3 +1,4 @@
+//! The keys of a configuration: their names, their order and their ranges.
 ghost use Rattle.std.specs.Prelude.{◌≡◌};
 ghost use Rattle.paraid_config.specs.Keys.{key_name, low_of, high_of, is_known as is_known_name};
 

@@ -65,7 +65,7 @@ pub record AreSlotsReady (count : ℕ) (slot : ℕ → Slot) (last array : ℕ) 
   pub epoch_is : m.epoch ≡ last
   pub enough : m.setup.geometry.disks ≤ count
   pub rows_are : rows ≡ m.setup.geometry.rows
-  -- one disk is out, and the meta names it
+  -- the meta names each disk that is absent, and no other one than the last commit named
   pub absent : (d : ℕ) → d < m.setup.geometry.disks → is_present (slot d).power ≡ false → named_out m.out ≡ Some d
   pub one : (d e : ℕ) → named ≡ Some d → named_out m.out ≡ Some e → d ≡ e
   pub spins : (d : ℕ) → d < m.gear → named_out m.out ≢ Some d → (slot d).power ≡ Spinning

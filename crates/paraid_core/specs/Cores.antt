@@ -61,7 +61,7 @@ abbrev pub IsCoreReady : {R : Type 0} {g : _} → (R → ℕ) → (R → ℕ →
 IsCoreReady count slot core =
     AreSlotsReady (count (store_rack core.store)) (slot (store_rack core.store)) (epoch_of core.store) (disks_of core.store) (named_of core.store) core.meta (length core.dirty) core.batch
 
--- its slots can serve: the disks that the gear powers spin and are large enough
+-- its slots can serve: in a shift up the disks of the new gear spin and are large enough, and a disk that the last commit named out still is out
 abbrev pub CanCoreServe : {R : Type 0} {g : _} → (R → ℕ → Slot) → Core R g → Type 0
 CanCoreServe slot core = CanServe (slot (store_rack core.store)) (named_of core.store) core.meta
 

@@ -18,8 +18,8 @@ use Rattle.paraid_core.specs.declared.staged.Core.{Core}
 use Rattle.paraid_core.specs.CoreInvariant.{HoldsBetweenCalls}
 use Rattle.paraid_core.specs.Cores.{IsCoreHeldSinceCommit}
 
--- The gear is that of the last commit, and while no disk is out the shift is; a disk that was being
--- rebuilt is out, and while one is being rebuilt its marks are those of the last commit.
+-- Gear and rising gear are those of the last commit. While no disk is out, phase and fill mark are too.
+-- A disk that it calls fresh is out, and one that is being rebuilt now was fresh in it, with as many units.
 pub record IsShiftCommitted (base m : Meta) : Type 0 where
   pub gear : base.gear ≡ m.gear
   pub rises : rising_to base.phase ≡ rising_to m.phase

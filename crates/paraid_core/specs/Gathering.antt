@@ -1,4 +1,4 @@
--- What it asks to read the blocks of a stripe of the region of a new gear.
+-- What has to hold so that the blocks of a stripe of the new gear's region can be read.
 use Rattle.std.specs.Prelude.{◌≡◌, ℕ, ◌<◌, Bool, List, None, length}
 use Rattle.paraid_base.specs.Regions.{IsGear}
 use Rattle.paraid_base.specs.Soft.{stripe_count}

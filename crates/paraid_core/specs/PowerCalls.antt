@@ -1,4 +1,4 @@
--- What it asks and leaves to park a disk, to spin one up, or to attach one.
+-- What a park, a spin-up and an attach ask, and what they leave.
 use Rattle.std.specs.Prelude.{◌≡◌, ◌≢◌, ℕ, ◌<◌, ◌≤◌, ◌⊎◌, [], Bool, true, false, Some, Result, Ok, OnOk, IfErr}
 use Rattle.paraid_base.specs.declared.fault.Two.{Two}
 use Rattle.paraid_base.specs.declared.state.Out.TheVariants.{Gone}

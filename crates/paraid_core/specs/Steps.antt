@@ -79,7 +79,7 @@ abbrev pub StandsStill : {R : Type 0} {g : _} → (R → ℕ) → (R → Option 
 StandsStill count told old new = (h : History) (lo : ℕ) → Ran (told (store_rack old.store)) (told (store_rack new.store))
     (CrashTriple (IsCoreHeldSinceCommit count old h lo) (CoreStandsFor count old h lo) (CoreStandsFor count new h lo))
 
--- whatever was answered
+-- each stop leaves what it left before, whatever the call answered
 abbrev pub IsHeldStill : {R : Type 0} {g : _} → (R → ℕ) → (R → Option Trail) → Core R g → Core R g → Type 0
 IsHeldStill count told old new = (h : History) (lo : ℕ) → Ran (told (store_rack old.store)) (told (store_rack new.store))
     (CrashTriple (IsCoreHeldSinceCommit count old h lo) (CoreStandsFor count old h lo) (IsCoreHeldSinceCommit count old h lo))

@@ -1,3 +1,4 @@
+//! The dirty table: bits in words of eight rows, with a mark for each word that may have one set.
 ghost use Rattle.std.specs.Prelude.{◌≡◌, ◌⊎◌, ℕ, ◌+◌, ◌*◌, ◌/◌, ◌%◌, ◌<◌, ◌≤◌, ◌-◌, ◌^◌, ◌==◌, length, true, false, slice_index, IfOk, IfSome, IfNone};
 ghost use Rattle.paraid_base.specs.Sums.{sum_before};
 ghost use Rattle.paraid_dirty.specs.Bits.{bit_of, bit_in, AreClear, IsFirstBit};

@@ -1,3 +1,4 @@
+//! The ledger: what disks and spin-ups have used, in a sum that stays at its greatest value.
 ghost use Rattle.std.specs.Prelude.{◌≡◌, ◌*◌, ◌<◌, ◌^◌};
 ghost use Rattle.paraid_energy.specs.Account.{Account, new_account, after_spin_ups, after_tick, with_used};
 

@@ -1,3 +1,4 @@
+//! A rack that writes blocks which follow one another by one call.
 ghost use Rattle.std.specs.Prelude.{◌≡◌, ◌<◌, ◌≤◌, ◌+◌, true, length, is_ok};
 ghost use Rattle.paraid_rack.specs.Slots.{ChangesOneSlot};
 ghost use Rattle.paraid_rack.specs.Told.{Ran};

@@ -1,3 +1,4 @@
+//! What the samples ask for: to stay, or to shift up or down.
 /// What the samples ask for.
 #[derive(Clone, Copy)]
 pub enum Decision {

@@ -23,7 +23,7 @@ reads_log (Park d done) = false
 reads_log (SpinUp d done) = false
 reads_log (Attach d size done) = false
 
--- the spin-ups of disk `d` after one more call
+-- the spin-ups of disk `d` after one more call, done or failed; an attach sets them to 0
 abbrev pub spin_ups_after : ℕ → ℕ → Call → ℕ
 spin_ups_after d count (Read e p done) = count
 spin_ups_after d count (Write e p b done) = count

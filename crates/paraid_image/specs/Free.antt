@@ -1,4 +1,4 @@
--- Places past the log of which nothing is made.
+-- Places past the log on whose bytes no value depends.
 use Rattle.std.specs.Prelude.{◌≡◌, ◌≢◌, ℕ, ◌+◌, ◌<◌, ◌≤◌, ◌⊎◌, true, false, Some}
 use Rattle.paraid_base.specs.declared.state.Out.TheVariants.{Gone, Fresh}
 use Rattle.paraid_base.specs.declared.state.Phase.{Phase}
@@ -28,7 +28,7 @@ pub data IsFree (v : View) (d p : ℕ) : Type 0 where
   unfilled : (to s : ℕ) → IsShiftTo v.meta.phase to → v.meta.fill ≤ s
       → s < stripe_count v.meta.setup.geometry.disks v.meta.setup.geometry.rows to
       → p ≡ soft_place_of v.meta.setup.geometry to s → IsFree v d p
-  -- a disk that is out
+  -- any place past the log of a disk that is gone
   gone : v.meta.out ≡ Gone d → map_start v.meta.setup.geometry ≤ p → IsFree v d p
   -- a unit of the disk that is being rebuilt, which is not rebuilt yet
   row : (rebuilt r : ℕ) → v.meta.out ≡ Fresh d rebuilt → rebuilt ≤ r → r < v.meta.setup.geometry.rows

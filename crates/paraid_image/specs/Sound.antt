@@ -99,7 +99,7 @@ pub record IsFilled (v : View) (a s : ℕ) : Type 0 where
 abbrev pub AreFilled : View → Type 0
 AreFilled v = v.out ≡ None → (s : ℕ) → s < v.meta.fill → IsFilled v (phase_to v.meta.phase) s
 
--- a clean cell has its value in its hard place too
+-- a clean cell of a disk from the gear on, which is not out, has its value in its hard place too
 abbrev pub AreCleanStored : View → Type 0
 AreCleanStored v = (r d : ℕ) → r < v.meta.setup.geometry.rows → v.meta.gear ≤ d → d < v.meta.setup.geometry.disks
     → v.out ≢ Some d → v.dirty r d ≡ false → v.block d (hard_place_of v.meta.setup.geometry r) ≡ value v r d

@@ -1,4 +1,4 @@
--- How many spin-ups of a disk a meta has recorded that were made.
+-- How many of the spin-ups that a meta has recorded were made.
 use Rattle.std.specs.Prelude.{ℕ, ◌-◌, ◌&&◌, nat_le, nat_lt, slice_index, if◌then◌else◌}
 use Rattle.paraid_rack.specs.declared.call.Power.{Power}
 pub use Rattle.paraid_rack.specs.Disks.{is_parked}

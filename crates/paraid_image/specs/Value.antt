@@ -1,4 +1,4 @@
--- What a cell is worth, wherever its value lives, where at most one disk is out.
+-- The value of a cell, wherever it lives, where at most one disk is out.
 use Rattle.std.specs.Prelude.{ℕ, ◌&&◌, if◌then◌else◌}
 use Rattle.paraid_base.specs.declared.block.Block.{Block}
 use Rattle.paraid_base.specs.declared.geometry.Geometry.{Geometry}

@@ -1,3 +1,4 @@
+//! What a reader of lines gives, and why it gives no further line.
 /// What a reader of lines gives.
 #[derive(Clone, Copy, PartialEq, Eq)]
 pub enum Line {

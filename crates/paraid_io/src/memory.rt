@@ -1,3 +1,4 @@
+//! Sources and a sink in memory: they tell their bytes, and fail only as they are told to.
 ghost use Rattle.std.specs.Prelude.{◌≡◌, ◌≢◌, ◌↔◌, ℕ, ◌+◌, ◌-◌, ◌^◌, ◌<◌, ◌≤◌, ◌⊎◌, List, [], ◌++◌, length, take, drop, min, IfOk, OnOk, OnErr, IsErr, IsSome, Some, Contains, vec_len, vec_capacity};
 ghost use Rattle.paraid_base.specs.Told.{told_bytes, Gives, GrowsByBytes, AtEnd, HasRisen};
 

@@ -1,3 +1,4 @@
+//! Lines are read from a source through a buffer of fixed size.
 ghost use Rattle.std.specs.Prelude.{◌≡◌, ◌≢◌, ℕ, ◌+◌, ◌-◌, ◌^◌, ◌<◌, ◌≤◌, List, [], ◌∷◌, ◌++◌, length, take, drop, MatchOption, IfSome, IfNone, IfOk, OnErr, ◌==◌, ◌↔◌, IsTrue};
 ghost use Rattle.paraid_base.specs.Told.{Gives, HasRisen};
 ghost use Rattle.paraid_io.specs.Lines.{NoNewline};

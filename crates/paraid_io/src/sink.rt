@@ -1,3 +1,4 @@
+//! What each write of a sink leaves, done or failed.
 ghost use Rattle.std.specs.Prelude.{◌≡◌, ℕ, ◌<◌, ◌≤◌, List, [], length, take, IfOk, OnOk, OnErr, Option};
 ghost use Rattle.paraid_base.specs.Told.{GrowsByBytes, HasRisen};
 

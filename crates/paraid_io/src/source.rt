@@ -1,3 +1,4 @@
+//! What each read of a source gives, done or failed.
 ghost use Rattle.std.specs.Prelude.{◌≡◌, ◌≢◌, ℕ, ◌<◌, ◌≤◌, List, [], length, take, IfOk, OnErr, Option, IsSome};
 ghost use Rattle.paraid_base.specs.Told.{told_bytes, Gives, AtEnd, HasRisen};
 

@@ -1,3 +1,4 @@
+//! A source and a sink over the system's streams: they tell no content, and count their faults.
 ghost use Rattle.std.specs.Prelude.{None};
 ghost use Rattle.std.specs.Io.{ReadsAtMost, WritesAtMost};
 

@@ -89,7 +89,7 @@ abbrev pub units_of_tick : Setup → PowerState → ℕ
 units_of_tick setup s = units_by setup.mode s.phase setup.rate (units_left setup s)
 
 -- The dirty bit of a cell of disk `d` that is written. One below the gear is clean; one of a disk
--- that a shift up has spun up is written in its place, unless the disk is out; any other is dirty.
+-- that a shift up has spun up is clean too, but keeps its bit if that disk is out; any other is dirty.
 abbrev pub bit_written : PowerState → ℕ → Bool → Bool
 bit_written s d bit =
     if nat_lt d s.gear then false else (if nat_lt d (rising_to s.phase) then is_out (named_out s.out) d && bit else true)

@@ -1,5 +1,5 @@
 //! A plain program, slow and obvious, over an image of the disks in memory. It answers what the
-//! definitions of `paraid_image` say of an image: which log disk stands, what a cell is worth, and
+//! definitions of `paraid_image` say of an image: which log disk stands, the value of a cell, and
 //! whether the image holds a history. Each call's contract is such a definition, so that tests
 //! can compare every other body with it. It makes no device call and takes no memory but for the
 //! image itself.

@@ -1,4 +1,4 @@
-//! What a cell is worth, and what a block of the array holds.
+//! The value of a cell, and what a block of the array holds.
 ghost use Rattle.std.specs.Prelude.{◌≡◌, ◌-◌, ◌*◌, ◌<◌, ◌≤◌};
 ghost use Rattle.paraid_base.specs.Regions.{IsGear, hard_place_of};
 ghost use Rattle.paraid_base.specs.Soft.{stripe_count};

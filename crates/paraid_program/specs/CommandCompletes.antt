@@ -1,4 +1,4 @@
--- How each task comes out: all is done, or one of a few causes is told.
+-- How each command comes out: all is done, or one of a few causes is told.
 use Rattle.std.specs.Prelude.{◌≡◌, ◌≢◌, ℕ, ◌<◌, ◌⊎◌, Bool, false, List}
 use Rattle.paraid_base.specs.Told.{AtEnd, HasRisen}
 use Rattle.paraid_config.specs.declared.fault.ConfigFault.{ConfigFault}
@@ -50,7 +50,7 @@ pub data HindersFormat (force : Bool) (rack : RackUse) (source : SourceUse) (sin
   -- the rack has fewer slots than the array has disks
   few : status ≡ status_disk → (setup : Setup) → IsConfigured source setup → rack.slots < setup.geometry.disks → HindersFormat force rack source sink status
 
--- How a task comes out. A format does so whatever the rack held, and the others where it told its calls and held a history.
+-- How a command comes out. A format does so whatever the rack held, and the others where it told its calls and held a history.
 abbrev pub CompletesCommand : RackUse → SourceUse → SinkUse → ℕ → Command → Type 0
 CompletesCommand rack source sink status (Format force) =
     Completes (IsFormatWhole force rack source sink) (IsUntouched rack) (HindersFormat force rack source sink status) status

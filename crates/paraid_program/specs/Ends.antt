@@ -77,8 +77,8 @@ served_span rack service = span_of rack.slots service.array.meta.setup service.t
 abbrev pub IsUnheard : SourceUse → Type 0
 IsUnheard source = (source.left ≡ source.left_before) × (source.faults ≡ source.faults_before)
 
--- A rack was not mounted, the fault was told, and the source was not heard; or it was, this service of what stood on its disks began,
--- and then this holds of it.
+-- A rack was not mounted, the fault was told, and `Unheard` holds (of a command that reads the source: it was not heard); or it was
+-- mounted, this service of what stood on its disks began, and then `P` holds of it.
 pub data MountsAndThen (rack : RackUse) (sink : SinkUse) (status : ℕ) (Unheard : Type 0) (P : ServiceStart → Type 0) : Type 0 where
   refused : (fault : MountFault) → HandsBack rack fault → EndsWithLine sink.written_before sink.written (mount_fault_line fault) (mount_fault_status fault) status → Unheard
       → MountsAndThen rack sink status Unheard P

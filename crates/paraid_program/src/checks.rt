@@ -1,4 +1,4 @@
-//! The word `check`.
+//! The command `check`.
 ghost use Rattle.std.specs.Prelude.{◌≡◌, ◌≢◌, ℕ};
 ghost use Rattle.paraid_base.specs.Told.{HasRisen};
 ghost use Rattle.paraid_recover.specs.Calls.{OnlyReads};

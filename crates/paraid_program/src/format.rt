@@ -1,4 +1,4 @@
-//! The command: what came of it, and the line that tells it.
+//! The command `format`: what came of it, and the line that tells it.
 ghost use Rattle.std.specs.Prelude.{◌≡◌, ◌≢◌, IfOk, IfErr};
 ghost use Rattle.paraid_base.specs.Told.{AtEnd, HasRisen};
 ghost use Rattle.paraid_program.specs.Outcome.{Formats, IsRefusalCause, IsFormatStatus, IsArrayMade};

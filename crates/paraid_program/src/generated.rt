@@ -1,4 +1,4 @@
-//! The word `gen`.
+//! The command `gen`.
 ghost use Rattle.std.specs.Prelude.{◌≡◌, ◌≢◌, ◌≤◌};
 ghost use Rattle.paraid_base.specs.Told.{HasRisen};
 ghost use Rattle.paraid_program.specs.Ends.{MountsAndThen, ServesGenerated};

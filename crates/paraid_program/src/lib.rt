@@ -1,9 +1,9 @@
 //! The program over any source, sink and rack: what each command of `paraid_words` does.
 //!
 //! `format` reads a configuration from a source and makes an array of the disks of a rack; `status`
-//! mounts one and tells its state; `run`, `gen` and `check` mount one and answer with it. Each tells
-//! how it came out in its last line and a status. The commands stand over anything that mounts an
-//! array (`Outside`); `Arrays` mounts arrays with gears.
+//! mounts one and tells its state; `run`, with and without spares, `gen`, `check`, `nbd`, `vol` and
+//! `plan` mount one and answer with it. Each tells how it came out in its last line and a status. The
+//! commands stand over anything that mounts an array (`Outside`); `Arrays` mounts arrays with gears.
 //!
 //! The contract of `paraid` says what is written at each status, what the disks then hold, and which
 //! losses a status has for its cause.

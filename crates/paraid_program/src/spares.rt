@@ -1,4 +1,4 @@
-//! The word `run` with spare disks.
+//! The command `run` with spare disks.
 ghost use Rattle.std.specs.Prelude.{◌≡◌};
 ghost use Rattle.paraid_base.specs.Told.{HasRisen};
 ghost use Rattle.paraid_program.specs.Spares.{ServesSpares};

@@ -1,4 +1,4 @@
-//! The word `vol`.
+//! The command `vol`.
 ghost use Rattle.std.specs.Prelude.{◌≡◌};
 ghost use Rattle.paraid_base.specs.Told.{HasRisen};
 ghost use Rattle.paraid_program.specs.Volumes.{ServesVolumes};

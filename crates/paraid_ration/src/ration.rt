@@ -1,3 +1,4 @@
+//! The allowance of spin-ups by so many ticks, and whether disks may be parked by it.
 ghost use Rattle.std.specs.Prelude.{◌≡◌, ℕ, ◌<◌, ◌≤◌, slice_index, OnOk, IfErr};
 ghost use Rattle.paraid_ration.specs.Ration.{IsWithinAllowance, IsFirstUsedUp, allowance as allowed_after};
 

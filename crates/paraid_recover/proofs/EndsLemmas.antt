@@ -15,7 +15,7 @@ use Rattle.paraid_image.specs.Rest.{IsAtRest}
 use Rattle.paraid_image.specs.Sides.{Batch, LogState}
 use Rattle.paraid_image.proofs.CallLemmas.{out_named}
 use Rattle.paraid_txn.specs.Commit.{EndsCommitted, IsEitherMissing, IsNext}
-use Rattle.paraid_txn.specs.Resume.{IsResumable, EndsAsCommitted}
+use Rattle.paraid_txn.specs.Resume.{IsResumable, EndsResumed}
 use Rattle.paraid_txn.proofs.RanLemmas.{commits_now, settles_now}
 use Rattle.paraid_recover.specs.Bearing.{EndsBorne, IsNewlyNamed}
 use Rattle.paraid_recover.specs.HeldMoments.{EndsHeld, IsAbsentOne, IsAbsentSince, KeepsHeld, RecoversHeld}
@@ -43,7 +43,7 @@ some_same : (down : Option ℕ) (d e : ℕ) → down ≡ Some d → down ≡ Som
 some_same down d e p q = let z : Some d ≡ Some e = sym p ∙ q in cc
 
 -- where an interrupted commit was ended
-pub ends_resumed : (slots x : ℕ) (said : LogState) (old new : Option Trail) → RecoversHeld slots x said old new → EndsAsCommitted old new x said → EndsHeld slots x said said.meta old new
+pub ends_resumed : (slots x : ℕ) (said : LogState) (old new : Option Trail) → RecoversHeld slots x said old new → EndsResumed old new x said → EndsHeld slots x said said.meta old new
 ends_resumed slots x said old new holds settles t tells =
     let r = holds t tells in
     let s = settles_now old new x said settles t tells in

@@ -48,8 +48,8 @@ pub record CanSettle {R : Type 0} {g : Ghosts R} (store : Store R g) (m : Meta) 
   pub narrow : IsNarrow (is_dirty table)
 
 -- A step that also powers disks keeps the slots: no count of faults falls, and only a disk that has failed is absent then and
--- was not before. No block past the log changes. It gives up only where two disks are down beside those of which `out` holds,
--- and makes no call after the second has failed.
+-- was not before. No block past the log changes. It gives up only where two disks are down, of which the first may be one of
+-- which `out` holds; where at most one such disk was there, it makes no call after the second has failed.
 pub record KeepsPowered {R A : Type 0} {g : Ghosts R} (out : ℕ → Type 0) (old new : Store R g) (result : Result A Two) : Type 0 where
   pub slots : g.slot_count (store_rack new) ≡ g.slot_count (store_rack old)
   pub two : IfErr result (AreTwoDownBeside out (g.slot (store_rack old)) (g.slot (store_rack new)))

@@ -1,3 +1,4 @@
+//! Why a mount is refused.
 use paraid_base::{DiskNo, Two};
 
 /// Why an array is not mounted.

@@ -1,3 +1,4 @@
+//! Why a format makes no array.
 use paraid_base::DiskNo;
 
 /// Why no array was made.

@@ -19,7 +19,7 @@ ghost use Rattle.paraid_recover.specs.Powers.{IsPowerCall};
 ghost use Rattle.paraid_rack.specs.Told.{CrashTriple, Extends, Ran};
 ghost use Rattle.paraid_txn.specs.Uses.{EachCall};
 ghost use Rattle.paraid_image.specs.Rest.{AreSynced, IsAtRest};
-ghost use Rattle.paraid_txn.specs.Resume.{StandsWhileResumed, EndsAsCommitted};
+ghost use Rattle.paraid_txn.specs.Resume.{StandsWhileResumed, EndsResumed};
 ghost use Rattle.paraid_image.specs.Sides.{LogState};
 
 /// What is held stays held while an interrupted commit is ended, in the reads and syncs after it,
@@ -28,7 +28,7 @@ pub fn a_recovery_leaves_what_is_held()
     ensures refused { (slots x : ℕ) (said : LogState) (old new : Option Trail)
         → StandsWhileResumed old new x said → RecoversHeld slots x said old new }
     ensures resumed { (slots x : ℕ) (said : LogState) (old new : Option Trail)
-        → StandsWhileResumed old new x said → EndsAsCommitted old new x said → Recovers slots x said old new }
+        → StandsWhileResumed old new x said → EndsResumed old new x said → Recovers slots x said old new }
     ensures calls { (slots x : ℕ) (said : LogState) (old mid new : Option Trail)
         → Ran mid new (EachCall (IsReadOrSync said.meta.setup.geometry.disks))
         → Recovers slots x said old mid → Recovers slots x said old new }

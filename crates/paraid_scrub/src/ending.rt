@@ -1,3 +1,4 @@
+//! What ends a count early: a first lost disk, or two.
 use paraid_base::Two;
 
 /// What ends a count before its end.

@@ -1,3 +1,4 @@
+//! What a check counts, and its five counts.
 /// What a check counts, in this order.
 #[derive(Clone, Copy)]
 pub enum Kind {

@@ -1,3 +1,4 @@
+//! What a check needs of an array: its meta, its dirty cells, and its blocks as they are stored.
 ghost use Rattle.std.specs.Prelude.{◌≡◌, ◌<◌, ◌≤◌, ℕ, OnOk, IfErr};
 ghost use Rattle.paraid_base.specs.Log.{log_least};
 ghost use Rattle.paraid_base.specs.Regions.{disk_size};

@@ -86,7 +86,7 @@ abbrev pub up_refusal : Option ℕ → PowerState → Option Answer
 up_refusal None s = Some Top
 up_refusal (Some to) s = shift_refusal s.phase s.out
 
--- why one down is, where it is; a worn disk comes last
+-- why one down is, where it is; a disk that has used up its allowance comes last
 abbrev pub down_refusal : Setup → Option ℕ → PowerState → Option Answer
 down_refusal setup None s = Some Lowest
 down_refusal setup (Some to) s = refusal_else (shift_refusal s.phase s.out) (ration_refusal (first_spent setup s to))
@@ -287,7 +287,8 @@ pub record IsAsBefore (old new : Shown) : Type 0 where
   pub dirty : new.dirty ≡ old.dirty
   pub slot : new.slot ≡ old.slot
 
--- A shift down that is asked for begins, unless it would park a worn disk: then the first one is told, and nothing changes.
+-- A shift down that is asked for begins, unless it would park a disk that has used up its allowance: then the first such disk
+-- is told, and nothing changes.
 abbrev pub GoesDown : Option ℕ → ℕ → Shown → Shown → TickEvent → Type 0
 GoesDown None to old new event = (event ≡ Begun to) × Begins old new (IsDown to) (λ d. 0)
 GoesDown (Some d) to old new event = (event ≡ Ration d) × IsAsBefore old new

@@ -121,8 +121,8 @@ pub record HoldsWhileServing (slots : ℕ) (h : History) (lo : ℕ) (b : Bounds)
       → IsWithinBounds b w.spun i said.meta
 
 -- A call is on a disk of the array and lawful by its power. A disk is attached where this one is
--- asked for, and with the size that it needs; one that was taken out is attached before any other
--- call; and one is spun up where all that may stand has recorded it, and while at most one disk is down.
+-- asked for, and with the size that it needs; one that was taken out gets no call before it is
+-- attached; and one is spun up where all that may stand has recorded it, and while at most one disk is down.
 pub record IsAllowed (setup : Setup) (asked : Option ℕ) (w : Watch) (call : Call) : Type 0 where
   pub disk : disk_of call < setup.geometry.disks
   pub power : IsLawful w.disks call

@@ -1,3 +1,4 @@
+//! An answer, without the block or the state that stands beside it.
 use paraid_base::{Answer, Block, BlockNo, DiskNo, GearReport, Halt, Out, Phase, Status};
 
 /// An answer that takes few bytes.
@@ -31,7 +32,7 @@ pub enum Brief {
     NotOut { disk: DiskNo },
     /// No fresh disk could be had in this slot.
     NoFresh { disk: DiskNo },
-    /// No shift down: it would park this disk, whose spin-ups have reached the ration.
+    /// No shift down: it would park this disk, which has used up its allowance of spin-ups.
     Ration { disk: DiskNo },
     /// The energy since the mount, in millijoules.
     Energy { total: u64 },

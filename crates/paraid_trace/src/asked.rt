@@ -1,3 +1,4 @@
+//! What a line asks for, without the pairs of a write.
 use paraid_base::BlockNo;
 
 /// What a line asks for. The pairs of a write stand beside it, where they stay, since they take

@@ -1,3 +1,4 @@
+//! Hexadecimal digits are read as the block that repeats their bytes.
 ghost use Rattle.std.specs.Prelude.{◌≡◌, ◌/◌, ◌*◌, ◌<◌, ◌≤◌, length, replicate, take, Ok, None, IsErr, unwrap_or};
 ghost use Rattle.hex.specs.Hex.{decode_pairs, hex_digit_value};
 ghost use Rattle.paraid_trace.specs.LineEvents.{block_from_digits};

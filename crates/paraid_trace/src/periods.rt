@@ -1,3 +1,4 @@
+//! The shortest list of bytes that a block repeats.
 ghost use Rattle.std.specs.Prelude.{◌≡◌, ℕ, ◌<◌, ◌≤◌, List, length, take, false};
 ghost use Rattle.paraid_trace.specs.BlockTexts.{is_period as is_period_of, period_of};
 ghost use Rattle.paraid_trace.specs.Repeats.{Repeats};

@@ -10,7 +10,7 @@ use Rattle.paraid_rack.proofs.TrailsLemmas.{moments_of, now-extend}
 use Rattle.paraid_record.specs.declared.meta.Meta.{Meta}
 use Rattle.paraid_image.specs.Rest.{IsAtRest}
 use Rattle.paraid_txn.specs.Commit.{EndsCommitted, IsCommitted, IsEachImage, IsNext, IsOldOrNew, IsWholeOrAbsent}
-use Rattle.paraid_txn.specs.Resume.{IsResumable, StandsWhileResumed, EndsResume, ImageStandsForResumed, EndsAsCommitted}
+use Rattle.paraid_txn.specs.Resume.{IsResumable, StandsWhileResumed, EndsResume, ImageStandsForResumed, EndsResumed}
 use Rattle.paraid_image.specs.Sides.{Batch, LogState}
 
 -- less is said at each moment
@@ -104,6 +104,6 @@ pub resume_moments : (old new : Option Trail) (x : ℕ) (said : LogState) → St
 resume_moments old new x said = ran_moments (λ start. IsEachImage said.meta said.meta (ImageStandsForResumed start x said)) (λ start. IsResumable start x said) old new
 
 -- and at its end
-pub settles_now : (old new : Option Trail) (x : ℕ) (said : LogState) → EndsAsCommitted old new x said → (t : Trail) → new ≡ Some t
+pub settles_now : (old new : Option Trail) (x : ℕ) (said : LogState) → EndsResumed old new x said → (t : Trail) → new ≡ Some t
     → (s : Trail) × (old ≡ Some s) × (IsResumable (now s) x said → EndsResume (now t) said.meta)
 settles_now old new x said = ran_now (λ start end. IsResumable start x said → EndsResume end said.meta) old new

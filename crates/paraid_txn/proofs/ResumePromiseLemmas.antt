@@ -13,7 +13,7 @@ use Rattle.paraid_rack.specs.Trail.{Trail, now, run}
 use Rattle.paraid_record.specs.declared.meta.Meta.{Meta}
 use Rattle.paraid_txn.specs.Commit.{IsEachImage, ImageStandsFor}
 use Rattle.paraid_image.specs.Out.{named_out}
-use Rattle.paraid_txn.specs.Resume.{IsResumable, StandsWhileResumed, LeadsResume, ImageStandsForResumed, HoldsThroughResume, AreDisksSame, EndsAsCommitted, EndsLaid, ShutEnd, HoldsThroughShut, log_state}
+use Rattle.paraid_txn.specs.Resume.{IsResumable, StandsWhileResumed, LeadsResume, ImageStandsForResumed, HoldsThroughResume, AreDisksSame, EndsResumed, EndsLaid, ShutEnd, HoldsThroughShut, log_state}
 use Rattle.paraid_image.specs.Sides.{Batch, Says, is_open}
 use Rattle.paraid_txn.specs.CommitStages.{CloseStage, IsLiveLog, IsSpelled, Job, job}
 use Rattle.paraid_image.specs.Standing.{other_log}
@@ -103,7 +103,7 @@ module _ (m : Meta) (batch : Batch) (spelled list : Block) (x : ℕ) (good : (st
       }
 
   pub open_settles : ((start : Disks) → LeadsResume (it start) x → Ran old new (CrashTriple (HoldsThroughResume (it start) x) (AreDisksSame (it start)) (CloseStage (it start) 2)))
-      → EndsAsCommitted old new x (log_state true m batch)
+      → EndsResumed old new x (log_state true m batch)
   open_settles ran t tells =
       let r = ran_given (λ start. HoldsThroughResume (it start) x) (λ start. AreDisksSame (it start)) (λ start. CloseStage (it start) 2) (λ start. LeadsResume (it start) x) no_disks none_leads old new ran t tells in
       record {
@@ -161,7 +161,7 @@ module _ (m : Meta) (batch : Batch) (spelled list : Block) (x : ℕ) (good : (st
         }
 
     pub closed_settles : ((start : Disks) → Ran old new (CrashTriple (HoldsThroughShut (it start) (other_log x)) (AreDisksSame (it start)) (ShutEnd (it start) (other_log x))))
-        → EndsAsCommitted old new x (log_state false m batch)
+        → EndsResumed old new x (log_state false m batch)
     closed_settles ran t tells =
         let r = ran_from (λ start. HoldsThroughShut (it start) (other_log x)) (λ start. AreDisksSame (it start)) (λ start. ShutEnd (it start) (other_log x)) old new ran t tells in
         let j = it (now r.from) in

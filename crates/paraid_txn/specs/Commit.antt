@@ -62,7 +62,8 @@ KeepsWitnesses start before i = AreWitnessesTrue start (out_disk start.power bef
     → (y : ℕ) (said : LogState) → Stands i y said → AreWitnessesTrue i (out_disk i.power said.meta)
 
 -- So each image of `s` stands for what `start` held or for that with batch and meta laid over; its
--- weak disk is absent or named out by one of the two metas, and its witnesses are true.
+-- weak disk is absent or named out by one of the two metas, and its witnesses are true if those of
+-- `start` were.
 pub record IsOldOrNew (start : Disks) (before after : Meta) (batch : Batch) (s : Disks) : Type 0 where
   pub images : IsEachImage before after (ImageStandsForEither start before after batch) s
   pub weak : (i : Disks) (w : ℕ) → IsImage s i → IsOneMissing i.power before after → IsWeak i w
@@ -80,8 +81,8 @@ pub record IsNext (s : Disks) (before after : Meta) : Type 0 where
   pub fresh_closed : (x rebuilt : ℕ) → IsFresh s.power after x rebuilt → x < 2
       → is_open (stored_block s x 0) ≡ false
 
--- The calls from the one record to the other, if they begin at a rest under the meta before, leave
--- the old contents or the new ones at each moment.
+-- The calls from the one record to the other leave the old contents or the new ones at each moment,
+-- if they begin at a rest under the meta before, which this meta can follow.
 abbrev pub IsWholeOrAbsent : Option Trail → Option Trail → Meta → Meta → Batch → Type 0
 IsWholeOrAbsent old new before after batch = Ran old new (λ start calls.
     IsAtRest start before → IsNext start before after
@@ -94,8 +95,9 @@ LeavesBorne start end against = (is_present (start.power 2) ≡ true → (start.
     → IsWitnessBorne against end
 
 -- What a commit that ends leaves: only the new contents, nothing loose, the gates closed; and where
--- at most one disk is out, a rest under the new meta. The witnesses are true, and the one against a
--- log disk that is named out is borne.
+-- at most one disk is out, a rest under the new meta. The witnesses are true if they were so at the
+-- start; the one against a log disk that is named out is borne, if disk 2 could be written or was
+-- absent.
 pub record IsCommitted (start end : Disks) (before after : Meta) (batch : Batch) : Type 0 where
   pub images : IsEachImage before after (λ i. ImageStandsFor start i after batch) end
   pub synced : AreSynced end
@@ -104,7 +106,8 @@ pub record IsCommitted (start end : Disks) (before after : Meta) (batch : Batch)
   pub witnesses : IsEachImage before after (KeepsWitnesses start before) end
   pub borne : LeavesBorne start end (named_out after.out)
 
--- If these calls began at a rest, the disks are at their end as a commit that ends leaves them.
+-- If these calls began at a rest under the meta before, which this meta can follow, the disks are at
+-- their end as a commit that ends leaves them.
 abbrev pub EndsCommitted : Option Trail → Option Trail → Meta → Meta → Batch → Type 0
 EndsCommitted old new before after batch = Ran old new (λ start calls.
     IsAtRest start before → IsNext start before after

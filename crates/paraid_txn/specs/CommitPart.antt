@@ -21,7 +21,7 @@ pub record CommitPart {R A : Type 0} (g : Ghosts R) (uses : Call → Type 0) (fr
   pub calls : Ran (g.told old) (g.told new) (EachCall uses)
   pub order : Ran (g.told old) (g.told new) (λ s cs. AnswersLosses from.down to.down result cs)
 
--- A part at whose end no disk is left unsynced that was not so before. The rack keeps its slots.
+-- A part that, where it ends well, leaves no disk unsynced that was not so before. The rack keeps its slots.
 pub record SyncedPart {R A : Type 0} (g : Ghosts R) (uses : Call → Type 0) (from to : Losses) (old new : R) (result : Result A Two) : Type 0 where
   pub slots : g.slot_count new ≡ g.slot_count old
   pub part : CommitPart g uses from to old new result

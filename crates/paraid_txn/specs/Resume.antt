@@ -54,9 +54,9 @@ pub record EndsResume (end : Disks) (m : Meta) : Type 0 where
   pub shut : AreLogGatesClosed end m
   pub rest : IsOneMissing end.power m m → IsAtRest end m
 
--- the calls of a resumption end in the state that a commit of this meta leaves
-abbrev pub EndsAsCommitted : Option Trail → Option Trail → ℕ → LogState → Type 0
-EndsAsCommitted old new x said = Ran old new (λ start calls. IsResumable start x said → EndsResume (run start calls) said.meta)
+-- the calls of a resumption end with nothing loose, the gates closed and, with at most one disk out, at rest under this meta
+abbrev pub EndsResumed : Option Trail → Option Trail → ℕ → LogState → Type 0
+EndsResumed old new x said = Ran old new (λ start calls. IsResumable start x said → EndsResume (run start calls) said.meta)
 
 -- At the end, where at most one disk is out, the disks stand for what the log disk said, with its
 -- batch laid over.

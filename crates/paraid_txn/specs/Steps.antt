@@ -8,12 +8,13 @@ use Rattle.paraid_image.specs.Out.{named_out, or_else}
 use Rattle.paraid_image.specs.Sides.{LogState}
 use Rattle.paraid_txn.specs.declared.store.Store.{Store}
 use Rattle.paraid_txn.specs.Losses.{AreFailedOrWell, AreGoneSince, AreTwoDownBeside, IsAlone, IsLostNow, IsOneOut, IsOnlyOut, IsOutOfCommit, IsWell, OnlyLosesSlots, StaySynced, TellsSecondLoss}
-use Rattle.paraid_txn.specs.Resume.{EndsAsCommitted, EndsLaid, StandsWhileResumed}
+use Rattle.paraid_txn.specs.Resume.{EndsResumed, EndsLaid, StandsWhileResumed}
 use Rattle.paraid_txn.specs.Stores.{disks_of, epoch_of, named_of, store_rack}
 use Rattle.paraid_txn.specs.Uses.{EachCall, Uses}
 
 -- The store keeps its slots and its disks. A slot changes only as it becomes absent; its disk has failed, or is well. It
--- gives up only where two disks are down beside those of which `out` holds, and makes no call after the second has failed.
+-- gives up only where two disks are down, of which the first may be one of which `out` holds; where at most one such disk
+-- was there, it makes no call after the second has failed.
 pub record KeepsStore {R A : Type 0} {g : Ghosts R} (out : ℕ → Type 0) (old new : Store R g) (result : Result A Two) : Type 0 where
   pub slots : g.slot_count (store_rack new) ≡ g.slot_count (store_rack old)
   pub disks : disks_of new ≡ disks_of old
@@ -60,15 +61,15 @@ pub record Resumes {R : Type 0} {g : Ghosts R} (x : ℕ) (said : LogState) (old 
   pub synced : StaySynced (g.slot old) (g.slot (store_rack store))
   pub one : IsOneOut said.meta.setup.geometry.disks (named_out said.meta.out) (g.slot old)
       → IsOneOut said.meta.setup.geometry.disks (named_out said.meta.out) (g.slot (store_rack store))
-  pub ended : EndsAsCommitted (g.told old) (g.told (store_rack store)) x said
+  pub ended : EndsResumed (g.told old) (g.told (store_rack store)) x said
   pub laid : EndsLaid (g.told old) (g.told (store_rack store)) x said
 
 -- disk `e` was absent as the resumption began, or the meta that was said names it out
 abbrev pub IsOutOfResume : {R : Type 0} → Ghosts R → LogState → R → ℕ → Type 0
 IsOutOfResume g said old = IsOutOfCommit (λ e. (g.slot old e).power) said.meta.setup.geometry.disks (named_out said.meta.out) (named_out said.meta.out)
 
--- A resumption that gives up does so only where two disks are down beside those that were absent or named out, and makes no
--- call after the second has failed.
+-- A resumption gives up only where two disks are down; the first may be one that was absent or named out. Where at most one
+-- was so, it makes no call after the second has failed.
 pub record RefusesResume {R : Type 0} (g : Ghosts R) (x : ℕ) (said : LogState) (old new : R) (down : Two) : Type 0 where
   pub on : ResumesOn g x said old new
   pub two : AreTwoDownBeside (IsOutOfResume g said old) (g.slot old) (g.slot new) down

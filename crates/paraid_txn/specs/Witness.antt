@@ -82,8 +82,8 @@ pub record IsBorne (m : Meta) (against : Option ℕ) (s : Disks) : Type 0 where
   pub within : is_present (s.power 2) ≡ true → 1 < s.size 2
   pub borne : IsWitnessBorne against s
 
--- From the one record to the other it stays so; and at the end it is borne against the one disk, if
--- it was against the other as they began.
+-- If disk 2 and the witness against `from` are so (`IsBorne`) where the calls begin, they are so with
+-- `to` where they end. Nothing is said of the moments between.
 abbrev pub KeepsBorne : Option Trail → Option Trail → Meta → Option ℕ → Option ℕ → Type 0
 KeepsBorne old new m from to = Ran old new (CrashTriple (λ s. Unit {0}) (IsBorne m from) (IsBorne m to))
 
@@ -95,7 +95,7 @@ IsNoSecond lost m = (d e : ℕ) → lost ≡ Some d → named_out m.out ≡ Some
 abbrev pub BearsAtEnd : Option Trail → Option Trail → Meta → Option ℕ → Option ℕ → Type 0
 BearsAtEnd old new m from lost = IsNoSecond lost m → KeepsBorne old new m from (or_else lost (named_out m.out))
 
--- that witness is borne against this disk, if it is a log disk, is known where disk 2 spins and is large enough
+-- if this disk is a log disk, and disk 2 spins and is large enough, the store knows that the witness against it is borne
 abbrev pub IsKnown : (ℕ → Slot) → Option ℕ → Option ℕ → Type 0
 IsKnown slot out borne = (x : ℕ) → x < 2 → out ≡ Some x → (slot 2).power ≡ Spinning → 1 < (slot 2).size → borne ≡ Some x
 

@@ -1,4 +1,4 @@
-//! A commit that a stop leaves whole or absent, whatever one disk is lost.
+//! A commit that a stop leaves whole or absent, whichever one disk is lost.
 //!
 //! All that an array keeps goes through here. Disks 0 and 1 each have a log, so that either can be
 //! lost:
@@ -11,10 +11,10 @@
 //!
 //! 1. On each log disk the batch is written to places 2 to 99 under the closed gate, and synced.
 //!    Until the next step a stop leaves the old contents.
-//! 2. On each log disk the gate is opened, and synced; first on one that comes in again, which says
-//!    nothing before. An open gate stands before the closed one of
-//!    the commit before: its epoch is greater by one. From here on a stop leaves the new contents,
-//!    if the open gate is kept: the batch is laid over the image.
+//! 2. On each log disk the gate is opened, and synced; first on one that comes in again, whose log
+//!    holds nothing valid until then. An open gate stands before the closed one of the commit before:
+//!    its epoch is greater by one. From here on a stop leaves the new contents, if the open gate is
+//!    kept: the batch is laid over the image.
 //! 3. Each target is written in place, and each disk that was written is synced. Whatever a stop
 //!    leaves of a target, the batch is laid over it.
 //! 4. On each log disk the meta is written to place 1, and synced. It is not looked at yet.
@@ -529,7 +529,7 @@ impl<R: Rack> Store<R> {
     ghost use Rattle.paraid_txn.specs.Stores.{borne_of, disks_of, epoch_of, named_of as named_by, store_rack};
 
     /// Lays a batch and the next meta over what the disks hold: whole or not at all, whatever
-    /// stops it and whatever one disk is lost.
+    /// stops it and whichever one disk is lost.
     ///
     /// The epoch of the meta given does not count: it becomes one greater than the last commit's.
     /// It answers the disk that failed in it, if one did; the commit went on without it. Where a

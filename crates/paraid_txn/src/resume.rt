@@ -18,7 +18,7 @@ ghost use Rattle.paraid_txn.specs.CrashSpecification.{CrashSpecification};
 ghost use Rattle.paraid_txn.specs.Uses.{Uses, UsesLog};
 ghost use Rattle.paraid_image.specs.Out.{named_out as named_of};
 ghost use Rattle.paraid_txn.specs.Ready.{AreTargetsReady, IsLogReady};
-ghost use Rattle.paraid_txn.specs.Resume.{CanResume, StandsWhileResumed, LeadsResume, HoldsThroughResume, AreDisksSame, EndsAsCommitted, EndsLaid, ShutSynced, ShutEnd, HoldsThroughShut, log_state};
+ghost use Rattle.paraid_txn.specs.Resume.{CanResume, StandsWhileResumed, LeadsResume, HoldsThroughResume, AreDisksSame, EndsResumed, EndsLaid, ShutSynced, ShutEnd, HoldsThroughShut, log_state};
 ghost use Rattle.paraid_image.specs.Sides.{is_open, targets};
 ghost use Rattle.paraid_txn.specs.CommitStages.{CloseStage, IsSpelled, Job, LayIn, job_gone, job_named};
 ghost use Rattle.paraid_image.specs.Standing.{other_log};
@@ -177,7 +177,7 @@ fn end_commit<R: Rack>(
         rack.new result }
     ensures moments { StandsWhileResumed (R.told rack.old) (R.told rack.new) side
         (log_state gate_open meta.now batch.now) }
-    ensures done { OnOk result (EndsAsCommitted (R.told rack.old) (R.told rack.new) side
+    ensures done { OnOk result (EndsResumed (R.told rack.old) (R.told rack.new) side
         (log_state gate_open meta.now batch.now)) }
     ensures laid { OnOk result (EndsLaid (R.told rack.old) (R.told rack.new) side
         (log_state gate_open meta.now batch.now)) }

@@ -1,6 +1,7 @@
 //! The witnesses that disk 2 bears against the log disks. Its place `x` is open, as a gate is, where
 //! log disk `x` was out: then a mount that finds the other log disk absent refuses what log disk `x`
-//! says. Disk 2 spins in every gear, and a log disk that is out gets no word of its own.
+//! says. They stand on disk 2, which spins in every gear, and not on the log disk, which may be away as it
+//! is taken out.
 ghost use Rattle.std.specs.Prelude.{◌≡◌, ◌≢◌, ℕ, ◌<◌, ◌⊎◌, true, false, Some, None, Ok, IfOk, IfSome};
 ghost use Rattle.paraid_rack.specs.declared.call.Power.TheVariants.{Absent, Spinning};
 ghost use Rattle.paraid_rack.specs.Told.{Ran};

@@ -83,8 +83,8 @@ pub record TicksRebuild {R : Type 0} {g : Ghosts R} (old new : Core R g) (moved 
       → HasRisen (g.slot (store_rack old.store) d).faults (g.slot (store_rack new.store) d).faults
   pub committed : (d u : ℕ) → old.meta.out ≡ Fresh d u → event ≡ GoneInTick d → named_of new.store ≡ Some d
 
--- At rest a tick begins the shift that the samples ask for, unless a disk is worn; an idle one changes nothing. What it tells
--- whatever the samples are; and no cell becomes dirty or clean.
+-- At rest a tick begins the shift that the samples ask for, unless a disk has used up its allowance; an idle one changes
+-- nothing. `rests` says what it may tell, whatever the samples are. No cell becomes dirty or clean.
 pub record TicksAtRest {R : Type 0} {g : Ghosts R} (windows : Windows) (old new : Core R g) (moved : ℕ) (event : TickEvent) : Type 0 where
   pub decides : old.meta.out ≡ No → old.meta.phase ≡ Steady → (samples : List ℕ) → HoldLastSamples windows samples
       → (s : PowerState) → IsShiftStateOf old.meta s

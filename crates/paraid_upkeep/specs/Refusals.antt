@@ -49,7 +49,7 @@ IsHinderedBy phase out (Shifting to) = (phase ≢ Steady) × (to ≡ phase_to ph
 IsHinderedBy phase out (Out d) = (phase ≡ Steady) × (named_out out ≡ Some d)
 IsHinderedBy phase out (Ration d) = ⊥
 
--- a shift down to this gear may begin: it is the next lower one, nothing hinders it, and no disk that it parks is worn
+-- a shift down to this gear may begin: it is the next lower one, nothing hinders it, and no disk that it parks has used up its allowance
 pub record MayGoDown (setup : Setup) (s : PowerState) (to : ℕ) : Type 0 where
   pub next : next_lower setup.geometry s.gear ≡ Some to
   pub at_ease : IsAtEase s.phase s.out

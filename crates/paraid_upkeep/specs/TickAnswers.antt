@@ -22,13 +22,12 @@ use Rattle.paraid_shift.specs.Serving.{HasBegunUp}
 use Rattle.paraid_upkeep.specs.Refusals.{IsDownRefused, IsShiftStateOf, MayGoDown, MayGoUp}
 use Rattle.paraid_upkeep.specs.declared.fault.ShiftFault.TheVariants.{Ration as Worn}
 
--- so many units of disk `d` are left, of which `u` are rebuilt
+-- how many units of disk `d` are left, if `u` are rebuilt
 abbrev pub units_unbuilt : Meta → ℕ → ℕ → ℕ
 units_unbuilt m d u = rebuild_units m.setup.geometry m.gear d - u
 
 -- A tick that rebuilds disk `d`, of which `u` units are rebuilt: it moves as many as the rate says where more are left, or the
--- last ones, and then the disk is back; or it is gone again, which ends a shift down. Nothing else of the meta has changed but
--- the epoch.
+-- last ones, and then the disk is back; or it is gone again. Nothing else of the meta has changed but the epoch.
 abbrev pub TellsRebuild : Meta → Meta → ℕ → ℕ → ℕ → TickEvent → Type 0
 TellsRebuild m m_then d u count Steady = ⊥
 TellsRebuild m m_then d u count Waiting = ⊥
@@ -40,7 +39,7 @@ TellsRebuild m m_then d u count (Gone e) = (e ≡ d) × (count ≡ 0) × (m_then
 TellsRebuild m m_then d u count (Lost e) = ⊥
 TellsRebuild m m_then d u count (Ration e) = ⊥
 
--- a shift down that is due begins, unless a disk is worn
+-- a shift down that is due begins, unless a disk has used up its allowance
 abbrev pub TellsWorn : Option ℕ → ℕ → TickEvent → Type 0
 TellsWorn None to event = event ≡ Begun to
 TellsWorn (Some d) to event = event ≡ Ration d
@@ -73,8 +72,8 @@ pub record HasTickedDown (m m_then : Meta) (to : ℕ) : Type 0 where
   pub could : (s : PowerState) → IsShiftStateOf m s → MayGoDown m.setup s to
   pub begun : IsMarkedFrom (record (meta_after_begin m (PhaseDown to) m.spins) { epoch = m.epoch + 1 }) m_then
 
--- What a tick at rest may tell, whatever the samples are: nothing, that a shift has begun which might, or the worn disk for which
--- one down is refused.
+-- What a tick at rest may tell, whatever the samples are: nothing, that a shift has begun which might, or the disk for whose
+-- allowance one down is refused.
 abbrev pub TellsRest : Meta → Meta → TickEvent → Type 0
 TellsRest m m_then Steady = Unit {0}
 TellsRest m m_then Waiting = ⊥

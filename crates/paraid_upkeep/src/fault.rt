@@ -1,3 +1,4 @@
+//! Why a shift does not begin, a disk is not taken out, or one is not replaced.
 use paraid_base::DiskNo;
 
 /// Why a shift does not begin.

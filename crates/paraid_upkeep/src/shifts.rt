@@ -164,7 +164,7 @@ fn decide<R: Rack>(core: &mut Core<R>, windows: &Windows) -> Result<TickEvent, T
     requires steady { (meta_of core.old).phase ≡ Steady }
     requires whole { (meta_of core.old).out ≡ No }
     ensures serves { OnOk result (LeavesInService R.slot_count R.slot core.old core.new) }
-    // It begins the shift that the samples ask for, unless a disk is worn.
+    // It begins the shift that the samples ask for, unless a disk has used up its allowance.
     ensures tells { IfOk result (λ event. (samples : List ℕ) → HoldLastSamples windows.now samples
         → (s : PowerState) → IsShiftStateOf (meta_of core.old) s
         → TellsDecision (meta_of core.old).setup s (decision (meta_of core.old).setup s.gear samples) event) }
@@ -214,7 +214,7 @@ pub fn advance<R: Rack>(core: &mut Core<R>, windows: &Windows) -> Result<(u32, T
     // With a disk gone it waits, and nothing changes.
     ensures waits { (d : ℕ) → (meta_of core.old).out ≡ Gone d → (result ≡ Ok (0, Waiting)) × (core.new ≡ core.old) }
     ensures rebuilds { IfOk result (λ done. TicksRebuild core.old core.new done.0 done.1) }
-    // At rest it begins the shift that the samples ask for, unless a disk is worn.
+    // At rest it begins the shift that the samples ask for, unless a disk has used up its allowance.
     ensures decides { IfOk result (λ done. TicksAtRest windows.now core.old core.new done.0 done.1) }
     // In a shift it moves what the machine moves.
     ensures moves { IfOk result (λ done. TicksShift core.old core.new done.0 done.1) }

@@ -1,5 +1,5 @@
-//! What a cell is worth: its value with all that is staged laid over, wherever it lives and
-//! whichever one disk is out.
+//! The value of a cell, with all that is staged laid over, wherever it lives and whichever one disk
+//! is out.
 #![tactic(auto)]
 
 mod cell;

@@ -3,7 +3,7 @@ use Rattle.std.specs.Prelude.{◌≡◌, Bool, Some}
 use Rattle.std.proofs.Common.{refl, sym, subst}
 use Rattle.paraid_rack.specs.Disks.{Disks}
 use Rattle.paraid_rack.specs.Trail.{Trail, now}
-use Rattle.paraid_txn.specs.Resume.{StandsWhileResumed, EndsAsCommitted, EndsLaid, log_state}
+use Rattle.paraid_txn.specs.Resume.{StandsWhileResumed, EndsResumed, EndsLaid, log_state}
 use Rattle.paraid_txn.specs.CommitStages.{IsSpelled, job}
 use Rattle.paraid_txn.proofs.ResumePromiseLemmas.{closed_lays, closed_resumes, closed_settles, open_lays, open_resumes, open_settles}
 use Rattle.paraid_txn.proofs.StoreLemmas.{IsStartReady, start_ready}
@@ -36,7 +36,7 @@ returns-then-gate_open g c = record {
   done =
       let at = goal.at.returns-then-gate_open g c in
       on_ok_as c.resume_open.result (λ unit ended.
-      subst (λ (o : Bool). EndsAsCommitted (g.R.Rack.told c.args.rack.now) (g.R.Rack.told c.resume_open.new.rack) c.args.side (log_state o c.args.meta.now c.args.batch.now)) (sym c.if-gate_open.true)
+      subst (λ (o : Bool). EndsResumed (g.R.Rack.told c.args.rack.now) (g.R.Rack.told c.resume_open.new.rack) c.args.side (log_state o c.args.meta.now c.args.batch.now)) (sym c.if-gate_open.true)
       (open_settles _ _ _ _ _ (good g at.After-spell_meta-spelled) c.requires.log_disk c.requires.in_array _ _ (ready g at.After-spell_meta-spelled)
       (λ start leads. ok_at _ ended (c.resume_open.ensures.crash _ (good g at.After-spell_meta-spelled start) refl refl refl refl refl leads).done)));
   laid =
@@ -59,7 +59,7 @@ returns g c = record {
   done =
       let at = goal.at.returns g c in
       on_ok_as c.resume_closed.result (λ unit ended.
-      subst (λ (o : Bool). EndsAsCommitted (g.R.Rack.told c.args.rack.now) (g.R.Rack.told c.resume_closed.new.rack) c.args.side (log_state o c.args.meta.now c.args.batch.now)) (sym c.if-gate_open.false)
+      subst (λ (o : Bool). EndsResumed (g.R.Rack.told c.args.rack.now) (g.R.Rack.told c.resume_closed.new.rack) c.args.side (log_state o c.args.meta.now c.args.batch.now)) (sym c.if-gate_open.false)
       (closed_settles _ _ _ _ _ (good g at.After-spell_meta-spelled) c.requires.log_disk c.requires.in_array _ _ (ready g at.After-spell_meta-spelled) (c.requires.empty c.if-gate_open.false)
       (λ start. ok_at _ ended (c.resume_closed.ensures.crash _ (good g at.After-spell_meta-spelled start) (sym c.named.ensures) refl).done)));
   laid =
