@@ -1,7 +1,7 @@
 // The commit. Its steps are those of docs/ARCHITECTURE.md, and so is the witness on disk 2.
 use crate::array::Array;
 use crate::disk::{Block, BLOCK_SIZE};
-use crate::meta::{Out, BODY, GATE, META, NEXT_META, TARGETS};
+use crate::meta::{Out, BODY, GATE, META, NEXT_META, SLOTS, TARGETS};
 use std::io;
 
 // The most targets of a batch.
@@ -37,6 +37,17 @@ impl Batch {
 
     pub fn is_empty(&self) -> bool {
         self.targets.is_empty()
+    }
+
+    // What is staged for a place, by disk.
+    pub fn staged_at(&self, place: u32) -> [Option<&Block>; SLOTS] {
+        let mut staged = [None; SLOTS];
+        for (target, bytes) in self.targets.iter().zip(&self.blocks) {
+            if target.place == place {
+                staged[target.disk] = Some(bytes);
+            }
+        }
+        staged
     }
 
     pub fn find(&self, target: Target) -> Option<usize> {

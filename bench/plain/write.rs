@@ -20,6 +20,20 @@ pub struct Pair {
 // The stripe of a copy, and its disk.
 type Copied = (Stripe, usize);
 
+// Whether it takes fewer reads to make a parity of the blocks that stay than of the old bytes of those that change.
+fn is_sooner_anew(disks: usize, parity: usize, new: &[Option<&Block>], staged: &[Option<&Block>]) -> bool {
+    let (mut old, mut rest) = (0, 0);
+    for disk in 0..disks {
+        let reads = u32::from(staged[disk].is_none());
+        if disk == parity || new[disk].is_some() {
+            old += reads;
+        } else {
+            rest += reads;
+        }
+    }
+    rest < old
+}
+
 impl Array {
     pub fn write(&mut self, pairs: &[Pair]) -> io::Result<()> {
         if self.batch.targets.len() + TARGETS_PER_BLOCK * pairs.len() > MAX_TARGETS {
@@ -61,22 +75,8 @@ impl Array {
     fn write_row(&mut self, row: u32, pairs: &[Pair]) -> io::Result<()> {
         let (place, parity) = (self.layout.first + row, self.layout.parity_disk(row));
         let new = self.given(row, pairs);
-        let mut staged = [None; SLOTS];
-        for (target, bytes) in self.batch.targets.iter().zip(&self.batch.blocks) {
-            if target.place == place {
-                staged[target.disk] = Some(bytes);
-            }
-        }
-        let (mut old, mut rest) = (0, 0);
-        for disk in 0..self.meta.setup.disks {
-            let reads = u32::from(staged[disk].is_none());
-            if disk == parity || new[disk].is_some() {
-                old += reads;
-            } else {
-                rest += reads;
-            }
-        }
-        let anew = rest < old;
+        let staged = self.batch.staged_at(place);
+        let anew = is_sooner_anew(self.meta.setup.disks, parity, &new, &staged);
         let mut sum = [0; BLOCK_SIZE];
         let mut room = [0; BLOCK_SIZE];
         let mut add = |disk: usize, sum: &mut Block| match staged[disk] {
