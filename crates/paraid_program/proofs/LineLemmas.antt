@@ -164,6 +164,6 @@ gen_headline seen seen_now span began stood gen status mounted r = record {
   said = λ t. IsMountedFromEach-follows span.slots span.setup began span.start stood (GenFollows span gen.number gen.count status r.text)
       (λ p mark here at_p. record {
         wrote = r.wrote t p at_p;
-        left = λ events c. stretch_leaves span p events c mark (here c.from c.was);
+        left = λ mid events c. stretch_leaves (record span { now = mid }) p events c mark (here c.from c.was);
       }) mounted;
 }

@@ -72,10 +72,10 @@ pub record GenRun (seen seen_now : Shown) (span : Span) (stood : Point → Type 
   pub causes : HasGenCauses seen seen_now gen.number gen.count status text
   pub wrote : IsSome span.now → (p : Point) → stood p → GenWrote span p gen.number gen.count status text
 
--- what follows from the first point of a session
+-- what follows from the first point of a session: the text, and what each stretch leaves, up to any mark
 pub record GenFollows (span : Span) (number count status : ℕ) (text : List ℕ) (p : Point) : Type 0 where
   pub wrote : GenWrote span p number count status text
-  pub left : (events : List Event) (c : Stretch span p events) → IsLeftByStretch c
+  pub left : (mid : Option Trail) (events : List Event) (c : Stretch (record span { now = mid }) p events) → IsLeftByStretch c
 
 -- The headline for generated lines.
 pub record GenHeadline (seen seen_now : Shown) (span : Span) (began : ℕ) (gen : GenStreams) (status : ℕ) : Type 0 where

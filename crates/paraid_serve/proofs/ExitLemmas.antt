@@ -140,7 +140,7 @@ headline seen seen_now span began stood streams status mounted r = record {
   said = λ t. IsMountedFromEach-follows span.slots span.setup began span.start stood (FollowsFromPoint span r.bytes status r.text)
       (λ p mark here at_p. record {
         wrote = r.wrote t p at_p;
-        left = λ events c. stretch_leaves span p events c mark (here c.from c.was);
+        left = λ mid events c. stretch_leaves (record span { now = mid }) p events c mark (here c.from c.was);
         synced = output_synced span p mark here r.bytes status r.text (r.wrote t p at_p);
       }) mounted;
 }

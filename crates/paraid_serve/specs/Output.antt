@@ -1,5 +1,5 @@
 -- The whole text of a run, by its status.
-use Rattle.std.specs.Prelude.{◌≡◌, ℕ, ◌<◌, ◌^◌, List, [], ◌∷◌, ◌++◌, length, take, codes, Some, IsSome}
+use Rattle.std.specs.Prelude.{◌≡◌, ℕ, ◌<◌, ◌^◌, List, [], ◌∷◌, ◌++◌, length, take, codes, Option, Some, IsSome}
 use Rattle.paraid_base.specs.declared.event.Answer.TheVariants.{Flushed, Halted}
 use Rattle.paraid_base.specs.declared.event.Event.TheVariants.{Flush}
 use Rattle.paraid_base.specs.declared.fault.Halt.{Halt}
@@ -101,11 +101,11 @@ pub data IsLeftByStretch {span : Span} {p : Point} {events : List Event} (c : St
   two_down : (pair : Two) → c.end.halt ≡ Some (HaltTwo pair) → IsLeftByStretch c
   rests : IsRunStart span.slots (now c.to) c.end.history c.end.low (named_out c.end.state.out) → IsLeftByStretch c
 
--- What follows from the first point of a session. After a run that ends well no block of a disk that is there is loose, so no stop
--- changes one.
+-- What follows from the first point of a session: the text; what each stretch leaves, up to any mark (what a stop within one leaves,
+-- each turn says); and after a run that ends well no block of a disk that is there is loose, so no stop changes one.
 pub record FollowsFromPoint (span : Span) (bytes : List ℕ) (status : ℕ) (text : List ℕ) (p : Point) : Type 0 where
   pub wrote : WritesOutput span p bytes status text
-  pub left : (events : List Event) (c : Stretch span p events) → IsLeftByStretch c
+  pub left : (mid : Option Trail) (events : List Event) (c : Stretch (record span { now = mid }) p events) → IsLeftByStretch c
   pub synced : status ≡ status_done → (t : Trail) → span.now ≡ Some t → AreSynced (now t)
 
 -- The headline. The run took these bytes, and its text has the form of a run's. On a rack that held a

@@ -56,7 +56,7 @@ module _ {A : Type 0} (g : Ghosts A) (agrees : (x : A) (q : Point) → g.stands 
         client = c.answers;
         kinds = c.kept_is.kinds;
         session = ends_with_status g a b c.events end status p at is e;
-        left = λ asked went. stretch_leaves (span_between g a b) p asked went mark (here went.from went.was);
+        left = λ mid asked went. stretch_leaves (record (span_between g a b) { now = mid }) p asked went mark (here went.from went.was);
         synced = ends_synced g a b c.events end status p at is agrees mark here e;
       }
 

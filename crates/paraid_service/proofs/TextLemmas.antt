@@ -442,7 +442,7 @@ module _ {A : Type 0} (g : Ghosts A) (agrees : (x : A) (q : Point) → g.stands 
     kinds = form_kinds r.form;
     form = r.form;
     said = λ is. IsMountedFromEach-follows (g.slots a) (g.setup a) began (g.told a) (g.stands a) (FollowsForVolumes (span_between g a b) r.bytes status r.text)
-        (λ p mark here at. record { wrote = r.wrote is p at; left = λ asked c. stretch_leaves (span_between g a b) p asked c mark (here c.from c.was); synced = synced_at is p at mark here }) mounted;
+        (λ p mark here at. record { wrote = r.wrote is p at; left = λ mid asked c. stretch_leaves (record (span_between g a b) { now = mid }) p asked c mark (here c.from c.was); synced = synced_at is p at mark here }) mounted;
   }
 
 -- ---- why it ended so

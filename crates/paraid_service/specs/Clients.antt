@@ -91,8 +91,8 @@ pub record FollowsForClient (span : Span) (streams : Streams) (status : ℕ) (en
   pub client : AnswersClient (512 * block_count span.setup) p.history streams end events t
   pub kinds : AreBlockEvents events
   pub session : EndsWithStatus span p events end status
-  -- each stop leaves what was flushed: so it is of each stretch of the session
-  pub left : (asked : List Event) (c : Stretch span p asked) → IsLeftByStretch c
+  -- what each stretch of the session leaves, up to any of its marks; what a stop within one leaves, each turn says
+  pub left : (mid : Option Trail) (asked : List Event) (c : Stretch (record span { now = mid }) p asked) → IsLeftByStretch c
   pub synced : status ≡ status_done → (u : Trail) → span.now ≡ Some u → AreSynced (now u)
 
 -- The service ends at a request.

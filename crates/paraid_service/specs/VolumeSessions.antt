@@ -169,11 +169,11 @@ pub record VolumesRun (seen seen_now : Shown) (span : Span) (stood : Point → T
   pub form : HasVolumesForm seen seen_now bytes events status text
   pub wrote : IsSome span.now → (p : Point) → stood p → WritesVolumes span p bytes status text
 
--- What follows from the first point of a session. After one that ends well no block of a disk that is there is loose, so no stop
--- changes one.
+-- What follows from the first point of a session: the text; what each stretch leaves, up to any mark; and after one that ends well
+-- no block of a disk that is there is loose, so no stop changes one.
 pub record FollowsForVolumes (span : Span) (bytes : List ℕ) (status : ℕ) (text : List ℕ) (p : Point) : Type 0 where
   pub wrote : WritesVolumes span p bytes status text
-  pub left : (asked : List Event) (c : Stretch span p asked) → IsLeftByStretch c
+  pub left : (mid : Option Trail) (asked : List Event) (c : Stretch (record span { now = mid }) p asked) → IsLeftByStretch c
   pub synced : status ≡ status_done → (t : Trail) → span.now ≡ Some t → AreSynced (now t)
 
 -- The headline of `vol`. The session took these bytes and wrote this text; over every rack the array answered these reads, writes and

@@ -1,5 +1,5 @@
 -- The whole text of a run with spares, by its status.
-use Rattle.std.specs.Prelude.{◌≡◌, ℕ, ◌<◌, ◌^◌, List, [], ◌++◌, length, take, codes, Some, IsSome}
+use Rattle.std.specs.Prelude.{◌≡◌, ℕ, ◌<◌, ◌^◌, List, [], ◌++◌, length, take, codes, Option, Some, IsSome}
 use Rattle.paraid_base.specs.declared.event.Answer.TheVariants.{Flushed, Halted}
 use Rattle.paraid_base.specs.declared.event.Event.{Event}
 use Rattle.paraid_base.specs.declared.fault.Halt.{Halt}
@@ -55,10 +55,10 @@ pub record SparedRun (seen seen_now : Shown) (span : Span) (supply : Supply) (st
   pub causes : HasSparedCauses supply.wait seen supply.stock seen_now bytes status text
   pub wrote : IsSome span.now → (p : Point) → stood p → WritesSpared span supply p bytes status text
 
--- what follows from the first point of a session
+-- what follows from the first point of a session: the text, what each stretch leaves, up to any mark, and that after a run that ends well nothing is loose
 pub record FollowsSpared (span : Span) (supply : Supply) (bytes : List ℕ) (status : ℕ) (text : List ℕ) (p : Point) : Type 0 where
   pub wrote : WritesSpared span supply p bytes status text
-  pub left : (events : List Event) (c : Stretch span p events) → IsLeftByStretch c
+  pub left : (mid : Option Trail) (events : List Event) (c : Stretch (record span { now = mid }) p events) → IsLeftByStretch c
   pub synced : status ≡ status_done → (t : Trail) → span.now ≡ Some t → AreSynced (now t)
 
 -- The headline for a run with spares.
