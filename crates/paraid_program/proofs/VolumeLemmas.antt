@@ -115,8 +115,8 @@ module _ {rack : RackUse} (h : HeldHistory rack) (kept : SinkUse) (status : ℕ)
     by_output base t cs p here split starts same (wrote_whole said last out is) =
         by_text base t cs p here split starts same status said last out refl (subst (λ (x : List ℕ). GrowsByBytes kept.written_before kept.written x) is served.headline.grows)
     by_output base t cs p here split starts same (wrote_last four code said last count out is) = hindered (other (sink_failed four (sunk four)))
-    by_output base t cs p here split starts same (wrote_answers four before more line front reply count met split_lines a is) = hindered (other (sink_failed four (sunk four)))
-    by_output base t cs p here split starts same (wrote_first four rest none c front) = hindered (other (sink_failed four (sunk four)))
+    by_output base t cs p here split starts same (wrote_answers four before more line front reply count met split_lines a short is) = hindered (other (sink_failed four (sunk four)))
+    by_output base t cs p here split starts same (wrote_first four count none c short is) = hindered (other (sink_failed four (sunk four)))
 
   pub volumes_come : {U : Type 0} → MountsAndThen rack kept status U (ServesVolumes rack given kept status) → VolumesCome
   volumes_come (refused fault back end unheard) =

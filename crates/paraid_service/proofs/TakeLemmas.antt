@@ -131,8 +131,8 @@ module _ {B : Type 0} {g : Ghosts B} {start : B} {left_before left after written
         }
 
     -- the answer could not be written
-    pub ends_at_sink : (wrote : Option (List ℕ)) (n : ℕ) → GrowsByBytes written wrote (take n said) → ServesVolumeLines g start left_before after written_before wrote later halt_later Sink
-    ends_at_sink wrote n grew =
+    pub ends_at_sink : (wrote : Option (List ℕ)) (n : ℕ) → n < length said → GrowsByBytes written wrote (take n said) → ServesVolumeLines g start left_before after written_before wrote later halt_later Sink
+    ends_at_sink wrote n short grew =
         let h = heard.line in
         let line : List ℕ = h.says.0 in
         let next : IsNextLine (old.rest ++ h.got) line new = h.says.2 in
@@ -151,6 +151,7 @@ module _ {B : Type 0} {g : Ghosts B} {start : B} {left_before left after written
             are = refl;
             split = s.lines h.got h.ended_before ∙ ap (λ x. s.answered ++ lines_of x) (sym (append-nil (old.rest ++ h.got))) ∙ ap (λ x. s.answered ++ x) (next.lines [] (λ e. refl)) ∙ ap (λ x. s.answered ++ line ∷ lines_of x) (append-nil new.rest) ∙ sym (append_assoc s.answered (line ∷ []) (lines_of new.rest));
             count = n;
+            short = short;
             cut = refl;
           };
           runs = ran;

@@ -1,5 +1,5 @@
 -- The whole text of a session of volumes.
-use Rattle.std.proofs.Common.{◌≤◌, ◌<◌, ◌≡◌, ◌≢◌, ◌⊎◌, ◌^◌, ℕ, [], ◌∷◌, List, ◌++◌, ◌∙◌, length, take, drop, IsSome, refl, sym, ap, subst, inl, inr, arith, take-append-drop}
+use Rattle.std.proofs.Common.{◌≤◌, ◌<◌, ◌≡◌, ◌≢◌, ◌⊎◌, ◌^◌, ℕ, [], ◌∷◌, List, ◌++◌, ◌∙◌, length, take, IsSome, refl, sym, ap, subst, inl, inr, arith}
 use Rattle.std.specs.Prelude.{Option, Some, None, codes, is_some, if◌then◌else◌}
 use Rattle.std.proofs.lemmas.List.{append-nil, take_all}
 use Rattle.paraid_base.specs.declared.event.Answer.{Answer}
@@ -370,9 +370,9 @@ module _ {A : Type 0} (g : Ghosts A) where
             full = λ ten. absurd (omega (arith, ten));
             all = λ whole. absurd (four_not_whole whole);
             events = (form_mid Sink s).0;
-            form = form_answers refl s.ends.before s.ends.more s.ends.line s.front s.reply s.ends.count (table_in shelf) s.ends.split (subst (λ (l : List (List ℕ)). FormsLines (seen_of first) l s.front s.reply (form_mid Sink s).0 (seen_of (device_in shelf)) (table_in shelf)) s.ends.are (form_mid Sink s).1) (ap (λ (w : List ℕ). opening ++ w) s.ends.cut);
+            form = form_answers refl s.ends.before s.ends.more s.ends.line s.front s.reply s.ends.count (table_in shelf) s.ends.split (subst (λ (l : List (List ℕ)). FormsLines (seen_of first) l s.front s.reply (form_mid Sink s).0 (seen_of (device_in shelf)) (table_in shelf)) s.ends.are (form_mid Sink s).1) s.ends.short (ap (λ (w : List ℕ). opening ++ w) s.ends.cut);
             wrote = λ is p at.
-                answers refl s.ends.before s.ends.more s.ends.line s.front s.reply s.ends.count halt s.ends.split (subst (λ (l : List (List ℕ)). AnswersFromPoint (span_to (g.told (array_of (device_in shelf)))) p l s.front s.reply halt) s.ends.are (answers_mid Sink s is p at).0)
+                answers refl s.ends.before s.ends.more s.ends.line s.front s.reply s.ends.count halt s.ends.split (subst (λ (l : List (List ℕ)). AnswersFromPoint (span_to (g.told (array_of (device_in shelf)))) p l s.front s.reply halt) s.ends.are (answers_mid Sink s is p at).0) s.ends.short
                 (ap (λ (w : List ℕ). w ++ s.told) (mounted p at) ∙ ap (λ (w : List ℕ). begins_with p ++ w) s.ends.cut);
           })
 
@@ -386,9 +386,9 @@ module _ {A : Type 0} (g : Ghosts A) where
       all_answered last Sink status s (at_sink same after) = let k = answered_mid Sink s in (k.0, subst (λ (d : Device A g). HasAnswered g (array_of first) (array_of d) k.0) (sym same) k.1)
 
   -- the first line could not be written
-  pub ran_none : (a : A) (left : Option (List ℕ)) (count : ℕ) (sink : SinkUse) (n : ℕ) → GrowsByBytes sink.written_before sink.written (take n (line_shown (g.shown a))) → ((p : Point) → g.stands a p → line_shown (g.shown a) ≡ begins_with p)
+  pub ran_none : (a : A) (left : Option (List ℕ)) (count : ℕ) (sink : SinkUse) (n : ℕ) → n < length (line_shown (g.shown a)) → GrowsByBytes sink.written_before sink.written (take n (line_shown (g.shown a))) → ((p : Point) → g.stands a p → line_shown (g.shown a) ≡ begins_with p)
       → VolumesRun (g.shown a) (g.shown a) (span_between g a a) (g.stands a) (streams_of (record { left_before = left; left = left; faults_before = count; faults = count }) sink) 4
-  ran_none a left count sink n grew mounted = record {
+  ran_none a left count sink n short grew mounted = record {
     bytes = [];
     text = take n (line_shown (g.shown a));
     given = Gives-none left;
@@ -396,8 +396,8 @@ module _ {A : Type 0} (g : Ghosts A) where
     full = λ ten. absurd (omega (arith, ten));
     all = λ whole. absurd (four_not_whole whole);
     events = [];
-    form = form_first refl refl refl refl (drop n (line_shown (g.shown a))) (sym (take-append-drop n (line_shown (g.shown a))));
-    wrote = λ is p at. first_line refl (drop n (line_shown (g.shown a))) refl (stretch_none (g.slots a) (g.setup a) (g.told a) p is) (sym (mounted p at) ∙ sym (take-append-drop n (line_shown (g.shown a))));
+    form = form_first refl refl refl refl n short refl;
+    wrote = λ is p at. first_line refl n refl (stretch_none (g.slots a) (g.setup a) (g.told a) p is) (subst (λ (x : List ℕ). n < length x) (mounted p at) short) (ap (take n) (mounted p at));
   }
       -- what a device answered, told of its arrays
 

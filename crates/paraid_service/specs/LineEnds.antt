@@ -29,7 +29,8 @@ HearsVolumes before after old new bytes (Ok (Some asked)) = HearsAsked before af
 HearsVolumes before after old new bytes (Ok None) = HearsLine before after old new (Ok None)
 HearsVolumes before after old new bytes (Err fault) = HearsLine before after old new (Err fault)
 
--- The last of these lines of the bytes is the one whose answer is cut.
+-- The last of these lines of the bytes is the one whose answer is cut: what was written of it is a first part of the last reply, which
+-- is not the whole.
 pub record CutsLines (bytes : List ℕ) (lines : List (List ℕ)) (front reply written : List ℕ) : Type 0 where
   pub before : List (List ℕ)
   pub line : List ℕ
@@ -37,6 +38,7 @@ pub record CutsLines (bytes : List ℕ) (lines : List (List ℕ)) (front reply w
   pub are : lines ≡ before ++ line ∷ []
   pub split : lines_of bytes ≡ (before ++ line ∷ []) ++ more
   pub count : ℕ
+  pub short : count < length reply
   pub cut : written ≡ front ++ take count reply
 
 -- these lines of the bytes were answered so, those before the last and the last, and this text of the answers was written

@@ -34,4 +34,4 @@ lines-preserved g c =
 pub returns-in_default-clause-lines : goal.returns-in_default-clause-lines
 returns-in_default-clause-lines g c =
     let p = c.in_default.ensures.part in
-    rw (c.run_ended-in_default.ensures.0, c.run_ended-in_default.ensures.1) (ends_at_sink c.lines.invariant.taken (rw c.in-Ok-Some.field-0-is at c.in-Ok-Some.ensures.heard) c.answer_volume_line-shelved.result.shelf c.answer_volume_line-shelved.result.halt c.answer_volume_line-shelved.new.into c.answer_volume_line-shelved.ensures.runs _ p.0 (rw c.as_slice.ensures.value at p.2))
+    rw (c.run_ended-in_default.ensures.0, c.run_ended-in_default.ensures.1) (ends_at_sink c.lines.invariant.taken (rw c.in-Ok-Some.field-0-is at c.in-Ok-Some.ensures.heard) c.answer_volume_line-shelved.result.shelf c.answer_volume_line-shelved.result.halt c.answer_volume_line-shelved.new.into c.answer_volume_line-shelved.ensures.runs _ p.0 (rw c.as_slice.ensures.value at p.1) (rw c.as_slice.ensures.value at p.2))

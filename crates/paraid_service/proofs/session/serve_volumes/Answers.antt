@@ -1,4 +1,4 @@
-use Rattle.std.proofs.Common.{◌≡◌, ◌∙◌, [], ◌++◌, take, None, ap, arith, inl, inr, refl, sym, subst}
+use Rattle.std.proofs.Common.{◌≡◌, ℕ, ◌<◌, ◌∙◌, [], ◌++◌, List, length, take, None, ap, arith, inl, inr, refl, sym, subst}
 use Rattle.paraid_base.proofs.ToldLemmas.{GrowsByBytes-then}
 use Rattle.paraid_device.specs.Devices.{array_of, span_between}
 use Rattle.paraid_record.specs.declared.meta.Setup.{Setup}
@@ -20,6 +20,7 @@ returns-in_default g c =
     let p = c.in_default.ensures.part in
     let shown = mount_shown g.A.Serves a c.writes.result c.gear.result c.writes.ensures.shown c.gear.ensures.shown (g.met.A.Serves.shows a) c.requires.going in
     let run = ran_none g.A.Serves a (g.S.Source.left c.args.source.now) (g.S.Source.faults c.args.source.now) (sink_use g.K.Sink.written g.K.Sink.faults c.args.sink.now c.write_all.new.sink) p.0
+    (subst (λ (x : List ℕ). p.0 < length x) shown (rw (c.as_slice.ensures.value, c.mount_text.ensures) at p.1))
     (grew_as (ap (take p.0) shown) (rw (c.as_slice.ensures.value, c.mount_text.ensures) at p.2))
     (λ q at. sym shown ∙ rw (c.writes.ensures.point c.requires.going q at, c.gear.ensures.point q at) refl) in
     record {
