@@ -46,7 +46,10 @@ take-first n xs ys p = take-append-le n xs ys p
 pub ends_two : (a b c : Option (List ℕ)) (x y : List ℕ) (code status : ℕ) → GrowsByBytes a b x → EndsWithLine b c y code status → EndsWithLine a c (x ++ y) code status
 ends_two a b c x y code status g e = record {
   count = length x + e.count;
-  within = omega (arith, e.within, length-append x y);
+  within = elim e.within [
+    | inl short ↦ inl (omega (arith, short, length-append x y))
+    | inr all ↦ inr (omega (arith, all.0, length-append x y), all.1)
+  ];
   grows = subst (λ (t : List ℕ). GrowsByBytes a c t) (sym (take-two e.count x y)) (GrowsByBytes-then a b c x (take e.count y) g e.grows);
   whole = elim e.whole [
     | inl four ↦ inl four
@@ -57,7 +60,7 @@ ends_two a b c x y code status g e = record {
 pub ends_part : (a b : Option (List ℕ)) (x y : List ℕ) (code : ℕ) → (n : ℕ) × (n < length x) × GrowsByBytes a b (take n x) → EndsWithLine a b (x ++ y) code 4
 ends_part a b x y code part = record {
   count = part.0;
-  within = (let short = part.1 in omega (arith, short, length-append x y));
+  within = inl (let short = part.1 in omega (arith, short, length-append x y));
   grows = subst (λ (t : List ℕ). GrowsByBytes a b t) (sym (take-first part.0 x y (let short = part.1 in omega (arith, short)))) part.2;
   whole = inl refl;
 }

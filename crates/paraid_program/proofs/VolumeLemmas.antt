@@ -114,7 +114,7 @@ module _ {rack : RackUse} (h : HeldHistory rack) (kept : SinkUse) (status : ℕ)
         → WritesVolumes (served_span rack service) p served.headline.bytes status served.headline.text → VolumesCome
     by_output base t cs p here split starts same (wrote_whole said last out is) =
         by_text base t cs p here split starts same status said last out refl (subst (λ (x : List ℕ). GrowsByBytes kept.written_before kept.written x) is served.headline.grows)
-    by_output base t cs p here split starts same (wrote_last four code said last count out is) = hindered (other (sink_failed four (sunk four)))
+    by_output base t cs p here split starts same (wrote_last four code said last count out short is) = hindered (other (sink_failed four (sunk four)))
     by_output base t cs p here split starts same (wrote_answers four before more line front reply count met split_lines a short is) = hindered (other (sink_failed four (sunk four)))
     by_output base t cs p here split starts same (wrote_first four count none c short is) = hindered (other (sink_failed four (sunk four)))
 

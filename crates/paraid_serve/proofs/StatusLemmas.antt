@@ -1,5 +1,5 @@
 -- The status that a run ends with, by its last line.
-use Rattle.std.specs.Prelude.{◌≡◌, ◌≢◌, ℕ, ◌≤◌, List, Option, Result, Ok, Err}
+use Rattle.std.specs.Prelude.{◌≡◌, ◌≢◌, ℕ, ◌<◌, ◌≤◌, List, length, Option, Result, Ok, Err}
 use Rattle.std.proofs.Common.{arith, inl, inr, refl, subst, sym, ◌∙◌}
 use Rattle.paraid_base.specs.declared.fault.Halt.{Halt}
 use Rattle.paraid_base.specs.declared.fault.Halt.TheVariants.{Two, Worn}
@@ -21,6 +21,10 @@ module _ (before after : Option (List ℕ)) (line : List ℕ) (code status : ℕ
     | inl four ↦ not (sym is ∙ four)
     | inr all ↦ apart (sym is ∙ all.1)
   ]
+
+  -- a line that is not whole was cut at 4
+  pub cut_at : ends.count < length line → status ≡ 4
+  cut_at short = elim ends.whole [ inl four ↦ four | inr all ↦ absurd (let full = all.0 in omega (arith, short, full)) ]
 
   -- the status is that of the line, or 4
   pub ends_there : status ≢ 4 → status ≢ code → ⊥

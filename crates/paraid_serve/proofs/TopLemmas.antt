@@ -1,5 +1,5 @@
 -- The whole text of a run.
-use Rattle.std.proofs.Common.{◌≡◌, ◌≢◌, ℕ, ◌^◌, ◌<◌, ◌≤◌, ◌⊎◌, List, [], ◌++◌, length, take, drop, codes, Option, IsSome, Result, Ok, Err, refl, sym, ap, ◌∙◌, inl, inr, arith, subst, take-append-drop}
+use Rattle.std.proofs.Common.{◌≡◌, ◌≢◌, ℕ, ◌^◌, ◌<◌, ◌≤◌, ◌⊎◌, List, [], ◌++◌, length, take, codes, Option, IsSome, Result, Ok, Err, refl, sym, ap, ◌∙◌, inl, inr, arith, subst}
 use Rattle.std.proofs.lemmas.List.{take_all}
 use Rattle.paraid_base.specs.declared.fault.Halt.{Halt}
 use Rattle.paraid_base.specs.declared.fault.Halt.TheVariants.{Two as HaltTwo, Worn}
@@ -21,6 +21,7 @@ use Rattle.paraid_serve.specs.Streams.{streams_of}
 use Rattle.paraid_serve.specs.Stretch.{Span, span_of}
 use Rattle.paraid_serve.specs.Uses.{SinkUse, SourceUse}
 use Rattle.paraid_session.specs.Turn.{Point}
+use Rattle.paraid_serve.proofs.StatusLemmas.{cut_at}
 use Rattle.paraid_serve.proofs.StretchLemmas.{stretch_none}
 
 -- the first line tells what is seen
@@ -30,8 +31,8 @@ shown_line writes gear x w e = rw (w, e) refl
 -- what was written of the last line
 wrote_last : (span : Span) (p : Point) (bytes text line : List ℕ) (before after : Option (List ℕ)) (code status : ℕ) → OutputText span p bytes code text line → (e : EndsWithLine before after line code status)
     → WritesOutput span p bytes status (text ++ take e.count line)
-wrote_last span p bytes text line before after code status out e = elim e.whole [
-  | inl four ↦ last_line four code text line e.count out refl
+wrote_last span p bytes text line before after code status out e = elim e.within [
+  | inl short ↦ last_line (cut_at before after line code status e short) code text line e.count out (short, refl)
   | inr all ↦ whole text line (subst (λ (k : ℕ). OutputText span p bytes k text line) (sym all.1) out)
       (ap (λ (x : List ℕ). text ++ x) (taken e.count line all.0))
 ]
@@ -41,8 +42,8 @@ wrote_last span p bytes text line before after code status out e = elim e.whole 
 
 -- and its form
 form_last : (seen seen_now : Shown) (bytes text line : List ℕ) (before after : Option (List ℕ)) (code status : ℕ) → OutputForm seen seen_now bytes code text line → (e : EndsWithLine before after line code status) → HasForm seen seen_now bytes status (text ++ take e.count line)
-form_last seen seen_now bytes text line before after code status out e = elim e.whole [
-  | inl four ↦ form_last_line four code text line e.count out refl
+form_last seen seen_now bytes text line before after code status out e = elim e.within [
+  | inl short ↦ form_last_line (cut_at before after line code status e short) code text line e.count out (short, refl)
   | inr all ↦ form_whole text line (subst (λ (k : ℕ). OutputForm seen seen_now bytes k text line) (sym all.1) out)
       (ap (λ (x : List ℕ). text ++ x) (taken e.count line all.0))
 ]
@@ -150,7 +151,8 @@ no_mount_run seen slots setup stood told left count sink writes gear counts in_g
   grows = part.2;
   full = λ e. absurd (omega (arith, e));
   all = λ is. absurd (partly 4 (λ e. omega (arith, e)) (λ e. omega (arith, e)) (λ e. omega (arith, e)) is);
-  form = form_first refl refl refl (drop part.0 (mount_line writes gear)) (sym shows ∙ sym (take-append-drop part.0 (mount_line writes gear)));
-  wrote = λ t p at_p. at_first_line refl refl (stretch_none slots setup told p t) (drop part.0 (mount_line writes gear))
-      (sym (first_line_is writes gear stood counts in_gear p at_p) ∙ sym (take-append-drop part.0 (mount_line writes gear)));
+  form = form_first refl refl refl part.0 (subst (λ (x : List ℕ). part.0 < length x) shows part.1, ap (take part.0) shows);
+  wrote = λ t p at_p.
+      let is = first_line_is writes gear stood counts in_gear p at_p in
+      at_first_line refl refl (stretch_none slots setup told p t) part.0 (subst (λ (x : List ℕ). part.0 < length x) is part.1, ap (take part.0) is);
 }

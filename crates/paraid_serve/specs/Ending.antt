@@ -1,5 +1,5 @@
 -- How a command begins and ends: its lines, and the status.
-use Rattle.std.specs.Prelude.{◌≡◌, ℕ, ◌≤◌, ◌⊎◌, List, ◌++◌, length, take, codes, decimal, Option}
+use Rattle.std.specs.Prelude.{◌≡◌, ℕ, ◌<◌, ◌⊎◌, List, ◌++◌, length, take, codes, decimal, Option}
 use Rattle.paraid_base.specs.declared.event.Answer.TheVariants.{Halted}
 use Rattle.paraid_base.specs.declared.fault.Halt.{Halt}
 use Rattle.paraid_base.specs.declared.fault.Halt.TheVariants.{Two, Worn}
@@ -24,9 +24,9 @@ abbrev pub status_of_halt : Halt → ℕ
 status_of_halt (Two two) = status_two
 status_of_halt (Worn count) = status_worn
 
--- A last line was written whole, with this status, or a first part of it at `status_sink`.
+-- A last line was written whole, with this status, or a first part of it, which is not the whole, at `status_sink`.
 pub record EndsWithLine (before after : Option (List ℕ)) (line : List ℕ) (code status : ℕ) : Type 0 where
   pub count : ℕ
-  pub within : count ≤ length line
+  pub within : (count < length line) ⊎ ((count ≡ length line) × (status ≡ code))
   pub grows : GrowsByBytes before after (take count line)
   pub whole : (status ≡ status_sink) ⊎ ((count ≡ length line) × (status ≡ code))

@@ -54,12 +54,13 @@ pub data OutputText (span : Span) (p : Point) (bytes : List ℕ) : ℕ → List 
       → OutputText span p bytes status_too_long (begins_with p ++ replies c.turns) (codes "toolong\n")
 
 -- What was written: the whole text of the status; or at `status_sink` one whose last line is cut, or a first part of the first line, and then
--- nothing was served; or the answers up to one that is cut, and then no line after it was served.
+-- nothing was served; or the answers up to one that is cut, and then no line after it was served. Of what is cut a first part stands that is
+-- not the whole.
 pub data WritesOutput (span : Span) (p : Point) (bytes : List ℕ) (status : ℕ) (text : List ℕ) : Type 0 where
   whole : (front last : List ℕ) → OutputText span p bytes status front last → text ≡ front ++ last → WritesOutput span p bytes status text
-  last_line : status ≡ status_sink → (code : ℕ) (front last : List ℕ) (count : ℕ) → OutputText span p bytes code front last → text ≡ front ++ take count last
+  last_line : status ≡ status_sink → (code : ℕ) (front last : List ℕ) (count : ℕ) → OutputText span p bytes code front last → (count < length last) × (text ≡ front ++ take count last)
       → WritesOutput span p bytes status text
-  at_first_line : status ≡ status_sink → bytes ≡ [] → Stretch span p [] → (rest : List ℕ) → begins_with p ≡ text ++ rest → WritesOutput span p bytes status text
+  at_first_line : status ≡ status_sink → bytes ≡ [] → Stretch span p [] → (count : ℕ) → (count < length (begins_with p)) × (text ≡ take count (begins_with p)) → WritesOutput span p bytes status text
   answers : status ≡ status_sink → (part : List ℕ) → CutsAnswers span p bytes part → text ≡ begins_with p ++ part → WritesOutput span p bytes status text
 
 -- The form of a whole text, by the status, whatever the rack holds: what stands before the last line, and the last line. The first line tells
@@ -75,12 +76,13 @@ pub data OutputForm (old new : Shown) (bytes : List ℕ) : ℕ → List ℕ → 
       → OutputForm old new bytes status_too_long (first_line old ++ replies) (codes "toolong\n")
 
 -- The form of what was written: of a whole text; or at `status_sink` of one whose last line is cut, or of a first part of the first line, and then
--- nothing was served; or of the answers up to one that is cut, and then nothing more was served.
+-- nothing was served; or of the answers up to one that is cut, and then nothing more was served. Of what is cut a first part stands that is not
+-- the whole.
 pub data HasForm (old new : Shown) (bytes : List ℕ) (status : ℕ) (text : List ℕ) : Type 0 where
   whole : (front last : List ℕ) → OutputForm old new bytes status front last → text ≡ front ++ last → HasForm old new bytes status text
-  last_line : status ≡ status_sink → (code : ℕ) (front last : List ℕ) (count : ℕ) → OutputForm old new bytes code front last → text ≡ front ++ take count last
+  last_line : status ≡ status_sink → (code : ℕ) (front last : List ℕ) (count : ℕ) → OutputForm old new bytes code front last → (count < length last) × (text ≡ front ++ take count last)
       → HasForm old new bytes status text
-  at_first_line : status ≡ status_sink → bytes ≡ [] → new ≡ old → (rest : List ℕ) → first_line old ≡ text ++ rest → HasForm old new bytes status text
+  at_first_line : status ≡ status_sink → bytes ≡ [] → new ≡ old → (count : ℕ) → (count < length (first_line old)) × (text ≡ take count (first_line old)) → HasForm old new bytes status text
   answers : status ≡ status_sink → (part : List ℕ) → BeginsAnswers old bytes part new → text ≡ first_line old ++ part → HasForm old new bytes status text
 
 -- A run took these bytes and wrote this text. What it is is known where source, sink and rack

@@ -45,7 +45,7 @@ text_caused (too_long front reply made table full lines) = lines_caused lines
 
 pub form_caused : {old new : Shown} {bytes : List ℕ} {made : Answers} {status : ℕ} {text : List ℕ} → HasVolumesForm old new bytes made status text → HaveAnswerCauses old made new
 form_caused (whole said last text is) = text_caused text
-form_caused (last_line four code said last count text is) = text_caused text
+form_caused (last_line four code said last count text short is) = text_caused text
 form_caused (answers four before more line front reply count table split lines short is) = lines_caused lines
 form_caused {old} {new} (at_first_line four no_bytes none same count short is) = subst (λ (x : Answers). HaveAnswerCauses old x new) (sym none) same
 
@@ -146,6 +146,6 @@ text_kinds (too_long front reply made table full lines) = lines_kinds lines
 
 pub form_kinds : {old new : Shown} {bytes : List ℕ} {made : Answers} {status : ℕ} {text : List ℕ} → HasVolumesForm old new bytes made status text → AreBlockEvents made
 form_kinds (whole said last text is) = text_kinds text
-form_kinds (last_line four code said last count text is) = text_kinds text
+form_kinds (last_line four code said last count text short is) = text_kinds text
 form_kinds (answers four before more line front reply count table split lines short is) = lines_kinds lines
 form_kinds (at_first_line four no_bytes none same count short is) = subst AreBlockEvents (sym none) tt

@@ -32,7 +32,7 @@ use Rattle.paraid_serve.specs.Uses.{SinkUse}
 use Rattle.paraid_serve.proofs.ExitLemmas.{stretch_leaves}
 use Rattle.paraid_serve.proofs.GrowsLemmas.{told_then}
 use Rattle.paraid_serve.proofs.HaltLemmas.{names_two, tells_wear}
-use Rattle.paraid_serve.proofs.StatusLemmas.{ends_there, halt_served, other, served}
+use Rattle.paraid_serve.proofs.StatusLemmas.{cut_at, ends_there, halt_served, other, served}
 use Rattle.paraid_serve.proofs.StretchLemmas.{stretch_none}
 use Rattle.paraid_session.specs.Turn.{IsMark, Point}
 use Rattle.paraid_session.specs.Mount.{IsMountedFromEach}
@@ -105,8 +105,8 @@ answers_of b start h lines front reply shelf (Some own) y =
 -- a last line, written whole or in part
 with_last : {span : Span} {p : Point} {bytes : List ℕ} {before after : Option (List ℕ)} (said line : List ℕ) (code status : ℕ) → (e : EndsWithLine before after line code status) → VolumesText span p bytes code said line
     → WritesVolumes span p bytes status (said ++ take e.count line)
-with_last {span} {p} {bytes} {before} {after} said line code status e t = elim e.whole [
-  | inl four ↦ last_line four code said line e.count t refl
+with_last {span} {p} {bytes} {before} {after} said line code status e t = elim e.within [
+  | inl short ↦ last_line (cut_at before after line code status e short) code said line e.count t short refl
   | inr all ↦
       let full : take e.count line ≡ line = take_all e.count line (let n = all.0 in omega (arith, n)) in
       whole said line (subst (λ (s : ℕ). VolumesText span p bytes s said line) (sym all.1) t) (ap (λ (x : List ℕ). said ++ x) full)
@@ -118,8 +118,8 @@ device_stands g device = StandsFor (g.stands (array_of device))
 -- the same of its form
 form_last : {old new : Shown} {bytes : List ℕ} {made : Answers} {before after : Option (List ℕ)} (said line : List ℕ) (code status : ℕ) → (e : EndsWithLine before after line code status) → VolumesForm old new bytes made code said line
     → HasVolumesForm old new bytes made status (said ++ take e.count line)
-form_last {old} {new} {bytes} {made} {before} {after} said line code status e t = elim e.whole [
-  | inl four ↦ form_last_line four code said line e.count t refl
+form_last {old} {new} {bytes} {made} {before} {after} said line code status e t = elim e.within [
+  | inl short ↦ form_last_line (cut_at before after line code status e short) code said line e.count t short refl
   | inr all ↦
       let full : take e.count line ≡ line = take_all e.count line (let n = all.0 in omega (arith, n)) in
       form_whole said line (subst (λ (s : ℕ). VolumesForm old new bytes made s said line) (sym all.1) t) (ap (λ (x : List ℕ). said ++ x) full)

@@ -114,12 +114,12 @@ pub data VolumesForm (old new : Shown) (bytes : List ℕ) : Answers → ℕ → 
   source : (front reply : List ℕ) (made : Answers) (table : Tabled) → FormsLines old (whole_lines bytes) front reply made new table → VolumesForm old new bytes made status_source (first_line old ++ (front ++ reply)) (codes "source\n")
   too_long : (front reply : List ℕ) (made : Answers) (table : Tabled) → length bytes ≡ 2 ^ 40 → FormsLines old (whole_lines bytes) front reply made new table → VolumesForm old new bytes made status_too_long (first_line old ++ (front ++ reply)) (codes "toolong\n")
 
--- The form of what was written: of a whole text; or at `status_sink` of one whose last line is cut, or of a first part of the first line, which is
--- not the whole, and then no byte was taken and no event was made; or of the answers up to one, of which a first part that is not the whole, and
--- no event came after those of its line.
+-- The form of what was written: of a whole text; or at `status_sink` of one whose last line is cut, or of a first part of the first line, and then
+-- no byte was taken and no event was made; or of the answers up to one that is cut, and no event came after those of its line. Of what is cut a
+-- first part stands that is not the whole.
 pub data HasVolumesForm (old new : Shown) (bytes : List ℕ) (made : Answers) (status : ℕ) (text : List ℕ) : Type 0 where
   whole : (said last : List ℕ) → VolumesForm old new bytes made status said last → text ≡ said ++ last → HasVolumesForm old new bytes made status text
-  last_line : status ≡ status_sink → (code : ℕ) (said last : List ℕ) (count : ℕ) → VolumesForm old new bytes made code said last → text ≡ said ++ take count last → HasVolumesForm old new bytes made status text
+  last_line : status ≡ status_sink → (code : ℕ) (said last : List ℕ) (count : ℕ) → VolumesForm old new bytes made code said last → count < length last → text ≡ said ++ take count last → HasVolumesForm old new bytes made status text
   answers : status ≡ status_sink → (before more : List (List ℕ)) (line front reply : List ℕ) (count : ℕ) (table : Tabled) → lines_of bytes ≡ (before ++ line ∷ []) ++ more → FormsLines old (before ++ line ∷ []) front reply made new table
       → count < length reply → text ≡ first_line old ++ (front ++ take count reply) → HasVolumesForm old new bytes made status text
   at_first_line : status ≡ status_sink → bytes ≡ [] → made ≡ [] → new ≡ old → (count : ℕ) → count < length (first_line old) → text ≡ take count (first_line old) → HasVolumesForm old new bytes made status text

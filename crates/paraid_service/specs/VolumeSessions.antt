@@ -146,12 +146,12 @@ pub data VolumesText (span : Span) (p : Point) (bytes : List ℕ) : ℕ → List
   too_long : length bytes ≡ 2 ^ 40 → (met : Option Halt) (front reply : List ℕ) → AnswersFromPoint span p (whole_lines bytes) front reply met
       → VolumesText span p bytes status_too_long (begins_with p ++ (front ++ reply)) (codes "toolong\n")
 
--- What was written: the whole text of the status; or at `status_sink` one whose last line is cut, or a first part of the first line, which is not
--- the whole, and then nothing was asked of the array; or the answers up to one, of which a first part that is not the whole, and then no line
--- behind it was served.
+-- What was written: the whole text of the status; or at `status_sink` one whose last line is cut, or a first part of the first line, and then nothing
+-- was asked of the array; or the answers up to one that is cut, and then no line behind it was served. Of what is cut a first part stands that
+-- is not the whole.
 pub data WritesVolumes (span : Span) (p : Point) (bytes : List ℕ) (status : ℕ) (text : List ℕ) : Type 0 where
   whole : (said last : List ℕ) → VolumesText span p bytes status said last → text ≡ said ++ last → WritesVolumes span p bytes status text
-  last_line : status ≡ status_sink → (code : ℕ) (said last : List ℕ) (count : ℕ) → VolumesText span p bytes code said last → text ≡ said ++ take count last
+  last_line : status ≡ status_sink → (code : ℕ) (said last : List ℕ) (count : ℕ) → VolumesText span p bytes code said last → count < length last → text ≡ said ++ take count last
       → WritesVolumes span p bytes status text
   answers : status ≡ status_sink → (before more : List (List ℕ)) (line front reply : List ℕ) (count : ℕ) (met : Option Halt) → lines_of bytes ≡ (before ++ line ∷ []) ++ more → AnswersFromPoint span p (before ++ line ∷ []) front reply met
       → count < length reply → text ≡ begins_with p ++ (front ++ take count reply) → WritesVolumes span p bytes status text

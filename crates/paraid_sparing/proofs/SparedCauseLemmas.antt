@@ -1,5 +1,5 @@
 -- From the causes of a line to those of all lines and of the whole text.
-use Rattle.std.proofs.Common.{◌≡◌, ℕ, ◌-◌, ◌<◌, List, [], ◌∷◌, ◌++◌, length, take, drop, codes, Option, Some, None, refl, sym, ap, ◌∙◌, inl, inr, arith, subst, take-append-drop}
+use Rattle.std.proofs.Common.{◌≡◌, ℕ, ◌-◌, ◌<◌, List, [], ◌∷◌, ◌++◌, length, take, codes, Option, Some, None, refl, sym, ap, ◌∙◌, inl, inr, arith, subst}
 use Rattle.std.proofs.lemmas.List.{take_all}
 use Rattle.paraid_base.specs.declared.event.Answer.{Answer}
 use Rattle.paraid_base.specs.declared.event.Answer.TheVariants.{Flushed, Halted}
@@ -8,6 +8,7 @@ use Rattle.paraid_base.specs.declared.event.Event.TheVariants.{Replace}
 use Rattle.paraid_base.specs.declared.fault.Halt.{Halt}
 use Rattle.paraid_io.specs.Lines.{lines_of, whole_lines}
 use Rattle.paraid_serve.specs.Causes.{HasCause, Shown}
+use Rattle.paraid_serve.proofs.StatusLemmas.{cut_at}
 use Rattle.paraid_serve.specs.Ending.{EndsWithLine, end_line, halt_line, status_of_halt}
 use Rattle.paraid_serve.specs.Output.{first_line}
 use Rattle.paraid_spare.specs.Pools.{left_of, spins_of}
@@ -105,8 +106,8 @@ module _ (wait : ℕ) (x : Shown) (k : Stock) (y : Shown) (bytes : List ℕ) (po
 -- what was written of a text that ends with this line
 pub last_caused : (wait : ℕ) (x : Shown) (k : Stock) (y : Shown) (bytes text line : List ℕ) (before after : Option (List ℕ)) (code status : ℕ) → CausedText wait x k y bytes code text line → (e : EndsWithLine before after line code status)
     → HasSparedCauses wait x k y bytes status (text ++ take e.count line)
-last_caused wait x k y bytes text line before after code status out e = elim e.whole [
-  | inl four ↦ caused_last four code text line e.count out refl
+last_caused wait x k y bytes text line before after code status out e = elim e.within [
+  | inl short ↦ caused_last (cut_at before after line code status e short) code text line e.count out (short, refl)
   | inr all ↦ caused_whole text line (subst (λ (n : ℕ). CausedText wait x k y bytes n text line) (sym all.1) out)
       (ap (λ (l : List ℕ). text ++ l) (taken e.count line all.0))
 ]
@@ -115,5 +116,5 @@ last_caused wait x k y bytes text line before after code status out e = elim e.w
     taken n line is = take_all n line (omega (arith, is))
 
 -- the sink failed at the first line
-pub first_caused : (wait : ℕ) (x : Shown) (k : Stock) (head : List ℕ) (n : ℕ) → head ≡ first_line x → HasSparedCauses wait x k x [] 4 (take n head)
-first_caused wait x k head n is = caused_first refl refl refl (drop n head) (sym is ∙ sym (take-append-drop n head))
+pub first_caused : (wait : ℕ) (x : Shown) (k : Stock) (head : List ℕ) (n : ℕ) → n < length head → head ≡ first_line x → HasSparedCauses wait x k x [] 4 (take n head)
+first_caused wait x k head n short is = caused_first refl refl refl n (subst (λ (l : List ℕ). n < length l) is short, ap (take n) is)

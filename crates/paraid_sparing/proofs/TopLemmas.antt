@@ -1,5 +1,5 @@
 -- The whole text of a run with spares.
-use Rattle.std.proofs.Common.{◌≡◌, ◌≢◌, ℕ, ◌^◌, ◌<◌, ◌≤◌, ◌⊎◌, List, [], ◌∷◌, ◌++◌, length, take, drop, codes, Option, Some, None, IsSome, Result, Ok, Err, refl, sym, ap, ◌∙◌, inl, inr, arith, subst, take-append-drop}
+use Rattle.std.proofs.Common.{◌≡◌, ◌≢◌, ℕ, ◌^◌, ◌<◌, ◌≤◌, ◌⊎◌, List, [], ◌∷◌, ◌++◌, length, take, codes, Option, Some, None, IsSome, Result, Ok, Err, refl, sym, ap, ◌∙◌, inl, inr, arith, subst}
 use Rattle.std.proofs.lemmas.List.{take_all}
 use Rattle.paraid_base.specs.declared.event.Answer.{Answer}
 use Rattle.paraid_base.specs.declared.event.Answer.TheVariants.{Bad as IsBad, Flushed, Halted}
@@ -23,6 +23,7 @@ use Rattle.paraid_serve.specs.Streams.{Streams, streams_of}
 use Rattle.paraid_serve.specs.Stretch.{Span, Turn, TurnsLead, span_of, turn_with}
 use Rattle.paraid_serve.specs.Uses.{SinkUse, SourceUse}
 use Rattle.paraid_serve.proofs.ExitLemmas.{stretch_leaves}
+use Rattle.paraid_serve.proofs.StatusLemmas.{cut_at}
 use Rattle.paraid_serve.proofs.StretchLemmas.{stretch_none}
 use Rattle.paraid_session.specs.Mount.{IsMountedFromEach}
 use Rattle.paraid_session.specs.Turn.{IsMark, IsTurn, Point}
@@ -44,8 +45,8 @@ use Rattle.paraid_sparing.proofs.TextLemmas.{line_alike}
 -- what was written of the last lines
 wrote_last : (span : Span) (supply : Supply) (p : Point) (bytes text line : List ℕ) (before after : Option (List ℕ)) (code status : ℕ) → SparedText span supply p bytes code text line → (e : EndsWithLine before after line code status)
     → WritesSpared span supply p bytes status (text ++ take e.count line)
-wrote_last span supply p bytes text line before after code status out e = elim e.whole [
-  | inl four ↦ last_lines four code text line e.count out refl
+wrote_last span supply p bytes text line before after code status out e = elim e.within [
+  | inl short ↦ last_lines (cut_at before after line code status e short) code text line e.count out (short, refl)
   | inr all ↦ whole text line (subst (λ (n : ℕ). SparedText span supply p bytes n text line) (sym all.1) out)
       (ap (λ (x : List ℕ). text ++ x) (taken e.count line all.0))
 ]
@@ -156,9 +157,10 @@ no_mount_run seen slots setup wait k stood told left count sink writes gear coun
   grows = part.2;
   full = λ e. absurd (omega (arith, e));
   all = λ is. absurd (partly 4 (λ e. omega (arith, e)) (λ e. omega (arith, e)) (λ e. omega (arith, e)) is);
-  causes = first_caused wait seen k (mount_line writes gear) part.0 shows;
-  wrote = λ t p at_p. at_first_line refl refl (stretch_none slots setup told p t) (drop part.0 (mount_line writes gear))
-      (sym (ap (λ (w : ℕ). mount_line w gear) (counts p at_p) ∙ ap (λ (g : ℕ). mount_line (length p.history) g) (in_gear p at_p)) ∙ sym (take-append-drop part.0 (mount_line writes gear)));
+  causes = first_caused wait seen k (mount_line writes gear) part.0 part.1 shows;
+  wrote = λ t p at_p.
+      let is : mount_line writes gear ≡ begins_with p = ap (λ (w : ℕ). mount_line w gear) (counts p at_p) ∙ ap (λ (g : ℕ). mount_line (length p.history) g) (in_gear p at_p) in
+      at_first_line refl refl (stretch_none slots setup told p t) part.0 (subst (λ (x : List ℕ). part.0 < length x) is part.1, ap (take part.0) is);
 }
 
 -- ---- after a run that ends well nothing is loose

@@ -35,12 +35,13 @@ pub data SparedText (span : Span) (supply : Supply) (p : Point) (bytes : List �
       → SparedText span supply p bytes status_too_long (begins_with p ++ text) (codes "toolong\n")
 
 -- What was written: the whole text of the status; or at `status_sink` one whose last lines are cut, or a first part of the first line, and then
--- nothing was served; or what tells the lines up to one that is cut, and then no line after it was served.
+-- nothing was served; or what tells the lines up to one that is cut, and then no line after it was served. Of what is cut a first part stands
+-- that is not the whole.
 pub data WritesSpared (span : Span) (supply : Supply) (p : Point) (bytes : List ℕ) (status : ℕ) (text : List ℕ) : Type 0 where
   whole : (front last : List ℕ) → SparedText span supply p bytes status front last → text ≡ front ++ last → WritesSpared span supply p bytes status text
-  last_lines : status ≡ status_sink → (code : ℕ) (front last : List ℕ) (count : ℕ) → SparedText span supply p bytes code front last → text ≡ front ++ take count last
+  last_lines : status ≡ status_sink → (code : ℕ) (front last : List ℕ) (count : ℕ) → SparedText span supply p bytes code front last → (count < length last) × (text ≡ front ++ take count last)
       → WritesSpared span supply p bytes status text
-  at_first_line : status ≡ status_sink → bytes ≡ [] → Stretch span p [] → (rest : List ℕ) → begins_with p ≡ text ++ rest → WritesSpared span supply p bytes status text
+  at_first_line : status ≡ status_sink → bytes ≡ [] → Stretch span p [] → (count : ℕ) → (count < length (begins_with p)) × (text ≡ take count (begins_with p)) → WritesSpared span supply p bytes status text
   answers : status ≡ status_sink → (part : List ℕ) → CutsSpared span supply.wait p supply.stock bytes part → text ≡ begins_with p ++ part → WritesSpared span supply p bytes status text
 
 -- A run took these bytes and wrote this text. What it is is known where source, sink and rack tell, from each point at which

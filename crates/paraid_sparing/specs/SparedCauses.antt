@@ -90,10 +90,11 @@ pub data CausedText (wait : ℕ) (old : Shown) (k : Stock) (new : Shown) (bytes 
   too_long : (text : List ℕ) (j : Stock) → HaveLineCauses wait old k (whole_lines bytes) text new j → CausedText wait old k new bytes status_too_long (first_line old ++ text) (codes "toolong\n")
 
 -- What was written, with its causes: a whole text; or at `status_sink` one whose last lines are cut, or a first part of the first line, and then
--- nothing was served; or what tells the lines up to one that is cut, and then nothing more was served.
+-- nothing was served; or what tells the lines up to one that is cut, and then nothing more was served. Of what is cut a first part stands that
+-- is not the whole.
 pub data HasSparedCauses (wait : ℕ) (old : Shown) (k : Stock) (new : Shown) (bytes : List ℕ) (status : ℕ) (text : List ℕ) : Type 0 where
   whole : (front last : List ℕ) → CausedText wait old k new bytes status front last → text ≡ front ++ last → HasSparedCauses wait old k new bytes status text
-  last_lines : status ≡ status_sink → (code : ℕ) (front last : List ℕ) (count : ℕ) → CausedText wait old k new bytes code front last → text ≡ front ++ take count last
+  last_lines : status ≡ status_sink → (code : ℕ) (front last : List ℕ) (count : ℕ) → CausedText wait old k new bytes code front last → (count < length last) × (text ≡ front ++ take count last)
       → HasSparedCauses wait old k new bytes status text
-  at_first_line : status ≡ status_sink → bytes ≡ [] → new ≡ old → (rest : List ℕ) → first_line old ≡ text ++ rest → HasSparedCauses wait old k new bytes status text
+  at_first_line : status ≡ status_sink → bytes ≡ [] → new ≡ old → (count : ℕ) → (count < length (first_line old)) × (text ≡ take count (first_line old)) → HasSparedCauses wait old k new bytes status text
   answers : status ≡ status_sink → (part : List ℕ) → BeginsCauses wait old k bytes part new → text ≡ first_line old ++ part → HasSparedCauses wait old k new bytes status text

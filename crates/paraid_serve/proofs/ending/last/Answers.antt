@@ -10,7 +10,7 @@ returns-in-Ok g c =
     record {
       ends = record {
         count = length line;
-        within = omega arith;
+        within = inr (refl, refl);
         grows = subst (λ (l : List ℕ). GrowsByBytes (g.K.Sink.written c.args.sink.now) (g.K.Sink.written c.write_all.new.sink) l) (sym (take_all (length line) line (omega arith))) c.in-Ok.ensures.grows;
         whole = inr (refl, refl);
       };
@@ -23,7 +23,7 @@ pub returns-in-Err : goal.returns-in-Err
 returns-in-Err g c =
     let part = c.in-Err.ensures.part in
     record {
-      ends = record { count = part.0; within = (let short = part.1 in omega (arith, short)); grows = part.2; whole = inl refl };
+      ends = record { count = part.0; within = inl part.1; grows = part.2; whole = inl refl };
       cause = λ not. (refl, c.in-Err.ensures.cause);
       later = c.write_all.ensures.later;
       still = λ not. absurd (not refl);
