@@ -311,13 +311,13 @@ class Folder:
         return data[:whole].ljust(BLOCK * count, b"\0")
 
     def label(self, disk):
-        """The label behind the last block, None where there is none, or no image that can be read."""
+        """The label behind the last block; BARE where nothing, zeros or a text of another length stands there; None
+        where a label was torn, or no image can be read."""
         try:
             file = self.opened(disk)
             length = os.fstat(file).st_size
-            if length % BLOCK != LABEL_SIZE:
-                return None
-            return read_label(os.pread(file, LABEL_SIZE, length - LABEL_SIZE))
+            text = os.pread(file, LABEL_SIZE, length - LABEL_SIZE) if length % BLOCK == LABEL_SIZE else b""
+            return read_label(text) if any(text) else BARE
         except PermissionError:
             raise
         except OSError:
@@ -480,6 +480,14 @@ class Label:
     known: List[int]
 
 
+class Bare:
+    """In the place of a label: there is none, and none was torn. It is false, as None is."""
+
+    def __bool__(self):
+        return False
+
+
+BARE = Bare()
 LABEL_SIZE = 384
 LABEL = re.compile(
     rb"paraid label 1, kept by paraid after the blocks\narray ([0-9a-f]{32})\ndisk ([0-9]) of ([0-9])\n"
@@ -503,7 +511,7 @@ def read_label(text):
 
 
 def labels_of(folder):
-    """The label of each image, None where it has none or its disk does not spin: a parked one is left alone."""
+    """What stands in the place of each image's label, None where its disk does not spin: a parked one is left alone."""
     return [folder.label(disk) if folder.power(disk) == "spinning" else None for disk in range(MOST_DISKS)]
 
 
@@ -523,7 +531,7 @@ def named_by(labels):
 
 
 def misfits_of(labels):
-    """The images that do not belong into their slots, by slots: (`foreign`, `moved` or `old`, and why).
+    """The images that do not belong into their slots, by slots: (`foreign`, `moved`, `old` or `bare`, and why).
     A mount refuses each of them."""
     named, found = named_by(labels), {}
     if named is None:
@@ -531,10 +539,12 @@ def misfits_of(labels):
     right = [label for slot, label in enumerate(labels)
              if label and slot < named.disks and label.disk == slot and label.array == named.array]
     for slot, label in enumerate(labels[: named.disks]):
-        if label is None:
-            continue
         known = max((other.known[slot] for other in right), default=0)
-        if label.array != named.array:
+        if label is BARE and known > 0:
+            found[slot] = "bare", f"has no label, where the others know generation {known}"
+        elif not label:
+            continue
+        elif label.array != named.array:
             found[slot] = "foreign", "is of another array"
         elif label.disk != slot:
             found[slot] = "moved", f"is the image of disk {label.disk}"
