@@ -42,6 +42,8 @@ module _ (count start : ℕ) (h more : History) (s t : VolumeState) (log : VolLo
     rest = left.rest ++ (call, answer) ∷ [];
     parts = ap (λ (x : VolLog). x ++ (call, answer) ∷ []) left.parts ∙ append_assoc left.done left.rest ((call, answer) ∷ []);
     past = left.past;
+    later = left.later ++ more;
+    begins = ap (λ (x : History). x ++ more) left.begins ∙ append_assoc left.past left.later more;
     state = left.state;
     lived = left.lived;
     shows = subst (λ (c : ℕ → Block). ShowsVolumes count c left.state) (sym (after_first h more k l)) left.shows;
@@ -56,6 +58,8 @@ module _ (count start : ℕ) (h more : History) (s t : VolumeState) (log : VolLo
     rest = [];
     parts = sym (append-nil (log ++ (call, answer) ∷ []));
     past = h ++ more;
+    later = [];
+    begins = sym (append-nil (h ++ more));
     state = t;
     lived = life;
     shows = shows;
@@ -69,6 +73,8 @@ module _ (count start : ℕ) (h more : History) (s t : VolumeState) (log : VolLo
     rest = (call, answer) ∷ [];
     parts = refl;
     past = h;
+    later = more;
+    begins = refl;
     state = s;
     lived = life;
     shows = shows;
@@ -83,6 +89,8 @@ left_by count start _ _ _ (begun h s is shows) k low high =
       rest = [];
       parts = refl;
       past = h;
+      later = [];
+      begins = sym (append-nil h);
       state = s;
       lived = begun h s is shows;
       shows = subst (λ (n : ℕ). ShowsVolumes count (after h n) s) at shows;

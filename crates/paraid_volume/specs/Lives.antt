@@ -100,12 +100,15 @@ pub data Life (count : ℕ) (start : ℕ) : History → VolumeState → VolLog �
       → Life count start (h ++ more) t (log ++ (call, answer) ∷ [])
 
 -- After the first `k` writes the device shows the state after a first part of the calls, which
--- holds every flush whose number is at most `k`, and with it each call before one.
+-- holds every flush whose number is at most `k`, and with it each call before one. That part is a
+-- life over `past`, and `past` is a first part of the writes.
 pub record IsLeftByLife (count start : ℕ) (h : History) (k : ℕ) (log : VolLog) : Type 0 where
   pub done : VolLog
   pub rest : VolLog
   pub parts : log ≡ done ++ rest
   pub past : History
+  pub later : History
+  pub begins : h ≡ past ++ later
   pub state : VolumeState
   pub lived : Life count start past state done
   pub shows : ShowsVolumes count (after h k) state
