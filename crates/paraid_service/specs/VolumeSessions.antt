@@ -99,18 +99,21 @@ abbrev pub HasNoFlush : VolLog → Type 0
 HasNoFlush [] = Unit {0}
 HasNoFlush (pair ∷ log) = ((number : ℕ) → pair.1 ≡ flushed number → ⊥) × HasNoFlush log
 
--- After the first `k` writes the volumes are those after a first part of the calls, and no call before a flush is missing.
+-- After the first `k` writes the volumes are those after a first part of the calls, and no call before a flush is missing. That part
+-- is a life over `past`, and `past` is a first part of the writes.
 pub record LeavesFlushed (count start : ℕ) (written : History) (k : ℕ) (log : VolLog) : Type 0 where
   pub done : VolLog
   pub rest : VolLog
   pub parts : log ≡ done ++ rest
   pub past : History
   pub state : VolumeState
+  pub later : History
+  pub begins : written ≡ past ++ later
   pub lived : Life count start past state done
   pub shows : ShowsVolumes count (after written k) state
   pub flushed_all : HasNoFlush rest
 
--- the same where the array holds a table
+-- what a stop leaves, by `LeavesVolumes`, where the array holds a table; nothing is said where it holds none
 abbrev pub LeavesHeld : ℕ → ℕ → ℕ → History → Held → VolLog → Type 0
 LeavesHeld count start low written (Some s) log = LeavesVolumes count start low written log
 LeavesHeld count start low written None log = Unit {0}
