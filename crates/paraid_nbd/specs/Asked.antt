@@ -19,7 +19,8 @@ pub record KeepsHalted {D : Type 0} (kept : D → D → Answers → Type 0) (old
   pub grows : (first : D) (events : Answers) → kept first old events
       → (done : Answers) × (event : Event) × (halt : Halt) × H done event × kept first new (events ++ (done ++ (event, HaltedAnswer halt) ∷ []))
 
--- The next part of a request, after `done` bytes of it: it lies in one block, and it begins that block unless it is the first part.
+-- The next part of a request, after `done` bytes of it: it lies in one block, and it begins that block unless it is the first part. A
+-- part that another one follows ends its block, since that one must begin one.
 pub record IsNextPart (offset done size : ℕ) : Type 0 where
   pub some : 0 < size
   pub within : (offset + done) % 512 + size ≤ 512

@@ -70,6 +70,8 @@ pub data AreFirstReads (count : ℕ) : Option Halt → Answers → Tabled → Ty
   cut : (halt : Halt) (made : Answers) → 7 ≤ count → AreHaltedReads halt made → AreFirstReads count (Some halt) made None
 
 -- A line is answered so, by the table before it and by exactly these events of the array, if no halt comes of it; and the table after it.
+-- `is_found` is an `init` whose six reads gave a table, where the reads before the first line gave none; there are still no volumes. If all
+-- is told, on a rack that held a history, it cannot come: `LineStep` has no such case.
 pub data IsReplyToLine (count : ℕ) : Tabled → VolLine → List ℕ → Answers → Tabled → Type 0 where
   no_task : (was : Tabled) → IsReplyToLine count was bad (codes "bad") [] was
   no_table : (line : VolLine) → (line ≡ init → ⊥) → (line ≡ bad → ⊥) → IsReplyToLine count None line (codes "novolumes") [] None

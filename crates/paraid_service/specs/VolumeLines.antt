@@ -69,8 +69,9 @@ IsEventOf flush = IsFlushEvent
 IsEventOf list = λ event. ⊥
 IsEventOf bad = λ event. ⊥
 
--- Lines, one after the other, until a halt comes of one, or from a halt on: then each that asks for something is answered by it. Of
--- the answers, those before the last stand apart, and then the last. Of the halt is told from which line it came, if from one.
+-- Lines, one after the other, until a halt comes of one, or from a halt on: then each that asks for something is answered by it.
+-- `front` are the answers but the last, `reply` is the last. The last argument is the line in which the halt came; it is None if there
+-- is no halt, or if it came before the first line.
 pub data LinesStep (count : ℕ) (s : Held) (begun : Option Halt) : List (List ℕ) → List ℕ → List ℕ → VolLog → Held → Option Halt → Option VolLine → Type 0 where
   none_yet : LinesStep count s begun [] [] [] [] s begun None
   one_more : (t u : Held) (lines : List (List ℕ)) (line front reply said : List ℕ) (asked : VolLine) (log more : VolLog) → LinesStep count s begun lines front reply log t None None → AsksVolumes line asked → LineStep count t asked said more u

@@ -61,7 +61,8 @@ pub data IsLifeOf (count : ℕ) (h : History) (first : Held) (made : Answers) : 
   lives : (s : VolumeState) (log : VolLog) → Life count (life_start first h) (h ++ entries_in made) s log → AreFlushesKept log made → IsLifeOf count h first made (Some s) log
   waits : first ≡ None → entries_in made ≡ [] → IsLifeOf count h first made None []
 
--- events of the line in which a halt came, or of the reads of the table before any line; none where there was no halt
+-- The events of the call in which a halt came. A halt in a line: events of the kind of this line. A halt before any line: reads. No
+-- halt: none.
 abbrev pub AreOfHalt : Option Halt → Option VolLine → Answers → Type 0
 AreOfHalt begun (Some asked) rest = AreAll (IsEventOf asked) rest
 AreOfHalt (Some halt) None rest = AreAll IsReadEvent rest
@@ -106,9 +107,9 @@ pub record LeavesFlushed (count start : ℕ) (written : History) (k : ℕ) (log 
   pub rest : VolLog
   pub parts : log ≡ done ++ rest
   pub past : History
-  pub state : VolumeState
   pub later : History
   pub begins : written ≡ past ++ later
+  pub state : VolumeState
   pub lived : Life count start past state done
   pub shows : ShowsVolumes count (after written k) state
   pub flushed_all : HasNoFlush rest
