@@ -5,9 +5,11 @@ use Rattle.std.proofs.lemmas.List.{get_or-set_other, get_or-set_same, length-map
 use Rattle.paraid_base.specs.Told.{HasRisen}
 use Rattle.paraid_imgrack.specs.declared.identity.Identity.{Identity}
 use Rattle.paraid_imgrack.specs.declared.image.Image.{Image}
-use Rattle.paraid_imgrack.specs.Images.{Fit, IsLook, image_label, image_misfit, label_at, misfit_at}
-use Rattle.paraid_imgrack.specs.Labels.{AreUnnamed, FitsSlot, IsLearned, IsNamed, IsNoLess, IsTakenOver, Names, IsAmong, known_array, label_in}
+use Rattle.paraid_imgrack.specs.Images.{Fit, IsLook, image_label, image_misfit, image_tail, label_at, misfit_at, tail_at}
+use Rattle.paraid_imgrack.specs.Labels.{AreUnnamed, FitsTail, IsLearned, IsNamed, IsNoLess, IsTakenOver, Names, IsAmong, known_array, label_in, label_of}
 use Rattle.paraid_imgrack.specs.declared.label.Label.{Label}
+use Rattle.paraid_imgrack.specs.declared.tail.Tail.{Tail}
+use Rattle.paraid_imgrack.specs.declared.tail.Tail.TheVariants.{Other}
 
 get_or_past : {A : Type 0} (l : List A) (d : ℕ) (x : A) → length l ≤ d → get_or l d x ≡ x
 get_or_past [] d x past = refl
@@ -18,6 +20,9 @@ get_or_past (y ∷ l) (suc d) x past = get_or_past l d x (omega arith)
 pub none_past : {A : Type 0} (f : Image → Option A) (images : List Image) (d : ℕ) → length images ≤ d → get_or (map f images) d None ≡ None
 none_past f images d past = get_or_past (map f images) d None (rw (length-map images f) past)
 
+pub tail_past : (images : List Image) (d : ℕ) → length images ≤ d → tail_at images d ≡ Other
+tail_past images d past = get_or_past (map image_tail images) d Other (rw (length-map images image_tail) past)
+
 -- what holds of each slot below the end holds of each slot
 pub none_whole : {A : Type 0} (f : Image → Option A) (images : List Image) → ((d : ℕ) → d < length images → get_or (map f images) d None ≡ None)
     → (d : ℕ) → get_or (map f images) d None ≡ None
@@ -26,35 +31,35 @@ none_whole f images below d = elim (cases_lt d (length images)) [
   | inr past ↦ none_past f images d (omega (arith, past))
 ]
 
--- what is told of an image that was put into a slot, and of the others
-pub told-set_same : {A : Type 0} (f : Image → Option A) (images : List Image) (d : ℕ) (x : Image) → d < length images → get_or (map f (set images d x)) d None ≡ f x
-told-set_same f images d x within = ap (λ (l : List _). get_or l d None) (map-set f images d x) ∙ get_or-set_same (map f images) d (f x) None (rw (length-map images f) within)
+-- what was read of an image that was put into a slot, and of the others
+tail-set_same : (images : List Image) (d : ℕ) (x : Image) → d < length images → tail_at (set images d x) d ≡ image_tail x
+tail-set_same images d x within = ap (λ (l : List Tail). get_or l d Other) (map-set image_tail images d x) ∙ get_or-set_same (map image_tail images) d (image_tail x) Other (rw (length-map images image_tail) within)
 
-pub told-set_other : {A : Type 0} (f : Image → Option A) (images : List Image) (d : ℕ) (x : Image) (e : ℕ) → e ≢ d → get_or (map f (set images d x)) e None ≡ get_or (map f images) e None
-told-set_other f images d x e not = ap (λ (l : List _). get_or l e None) (map-set f images d x) ∙ get_or-set_other (map f images) d e (f x) None not
+pub tail-set_other : (images : List Image) (d : ℕ) (x : Image) (e : ℕ) → e ≢ d → tail_at (set images d x) e ≡ tail_at images e
+tail-set_other images d x e not = ap (λ (l : List Tail). get_or l e Other) (map-set image_tail images d x) ∙ get_or-set_other (map image_tail images) d e (image_tail x) Other not
 
 pub label_here : (labels : List (Option Label)) (images : List Image) (d : ℕ) (x : Image) (l : Option Label) → d < length labels → d < length images → l ≡ image_label x
     → label_in (set labels d l) d ≡ label_at (set images d x) d
-label_here labels images d x l room within is = get_or-set_same labels d l None room ∙ is ∙ sym (told-set_same image_label images d x within)
+label_here labels images d x l room within is = get_or-set_same labels d l None room ∙ is ∙ sym (ap label_of (tail-set_same images d x within))
 
 pub IsLook-then : (a b c : List Image) → IsLook a b → IsLook b c → IsLook a c
 IsLook-then a b c first second = record { slots = second.slots ∙ first.slots; hindrances = second.hindrances ∙ first.hindrances }
 
--- the labels that were read in the first slots of the array are of their slots
+-- the images that were read in the first slots of the array belong there
 abbrev pub FitBelow : List Image → Identity → ℕ → Type 0
-FitBelow images i n = (d : ℕ) → d < n → d < i.disks → IfSome (label_at images d) (λ l. FitsSlot i l d)
+FitBelow images i n = (d : ℕ) → d < n → d < i.disks → FitsTail i (tail_at images d) d
 
-pub FitBelow-next : (old new : List Image) (i : Identity) (n : ℕ) → map image_label new ≡ map image_label old → FitBelow old i n
-    → (n < i.disks → IfSome (label_at new n) (λ l. FitsSlot i l n)) → FitBelow new i (n + 1)
+pub FitBelow-next : (old new : List Image) (i : Identity) (n : ℕ) → map image_tail new ≡ map image_tail old → FitBelow old i n
+    → (n < i.disks → FitsTail i (tail_at new n) n) → FitBelow new i (n + 1)
 FitBelow-next old new i n same fit at d below within = elim (cases_lt d n) [
-  | inl before ↦ subst (λ (labels : List (Option _)). IfSome (get_or labels d None) (λ l. FitsSlot i l d)) (sym same) (fit d before within)
-  | inr past ↦ let is : d ≡ n = omega (arith, below, past) in subst (λ (k : ℕ). k < i.disks → IfSome (label_at new k) (λ l. FitsSlot i l k)) (sym is) at within
+  | inl before ↦ subst (λ (tails : List Tail). FitsTail i (get_or tails d Other) d) (sym same) (fit d before within)
+  | inr past ↦ let is : d ≡ n = omega (arith, below, past) in subst (λ (k : ℕ). k < i.disks → FitsTail i (tail_at new k) k) (sym is) at within
 ]
 
 pub FitBelow-whole : (images : List Image) (i : Identity) (n : ℕ) → length images ≤ n → FitBelow images i n → Fit images i
 FitBelow-whole images i n all fit d within = elim (cases_lt d n) [
   | inl below ↦ fit d below within
-  | inr past ↦ rw (none_past image_label images d (omega (arith, past, all))) tt
+  | inr past ↦ subst (λ (tail : Tail). FitsTail i tail d) (sym (tail_past images d (omega (arith, past, all)))) refl
 ]
 
 pub misfit_kept : (old new : List Image) → map image_misfit new ≡ map image_misfit old → (d : ℕ) × IsSome (misfit_at old d) → (d : ℕ) × IsSome (misfit_at new d)
@@ -63,44 +68,44 @@ misfit_kept old new same (d, is) = (d, subst (λ (misfits : List (Option _)). Is
 -- what a walk knows that asks each image whether it fits
 pub record FitsSoFar (start now : List Image) (i : Identity) (n : ℕ) (fits : Bool) : Type 0 where
   pub look : IsLook start now
-  pub labels : map image_label now ≡ map image_label start
+  pub tails : map image_tail now ≡ map image_tail start
   pub fit : fits ≡ true → FitBelow now i n
   pub misfit : fits ≡ false → (d : ℕ) × IsSome (misfit_at now d)
 
 pub FitsSoFar-none : (start : List Image) (i : Identity) → FitsSoFar start start i 0 true
 FitsSoFar-none start i = record {
   look = record { slots = refl; hindrances = refl };
-  labels = refl;
+  tails = refl;
   fit = λ _ d below. absurd (omega (arith, below));
   misfit = λ e. absurd (false≢true (sym e));
 }
 
 pub FitsSoFar-next : (start old new : List Image) (i : Identity) (n : ℕ) (fits result : Bool) → FitsSoFar start old i n fits → IsLook old new
-    → map image_label new ≡ map image_label old
-    → (result ≡ true → n < i.disks → IfSome (label_at new n) (λ l. FitsSlot i l n))
+    → map image_tail new ≡ map image_tail old
+    → (result ≡ true → n < i.disks → FitsTail i (tail_at new n) n)
     → (result ≡ true → map image_misfit new ≡ map image_misfit old)
     → (result ≡ false → IsSome (misfit_at new n)) → FitsSoFar start new i (n + 1) (fits && result)
-FitsSoFar-next start old new i n true true so look labels fit same misfit = record {
+FitsSoFar-next start old new i n true true so look tails fit same misfit = record {
   look = IsLook-then start old new so.look look;
-  labels = labels ∙ so.labels;
-  fit = λ _. FitBelow-next old new i n labels (so.fit refl) (fit refl);
+  tails = tails ∙ so.tails;
+  fit = λ _. FitBelow-next old new i n tails (so.fit refl) (fit refl);
   misfit = λ e. absurd (false≢true (sym e));
 }
-FitsSoFar-next start old new i n false true so look labels fit same misfit = record {
+FitsSoFar-next start old new i n false true so look tails fit same misfit = record {
   look = IsLook-then start old new so.look look;
-  labels = labels ∙ so.labels;
+  tails = tails ∙ so.tails;
   fit = λ e. absurd (false≢true e);
   misfit = λ _. misfit_kept old new (same refl) (so.misfit refl);
 }
-FitsSoFar-next start old new i n true false so look labels fit same misfit = record {
+FitsSoFar-next start old new i n true false so look tails fit same misfit = record {
   look = IsLook-then start old new so.look look;
-  labels = labels ∙ so.labels;
+  tails = tails ∙ so.tails;
   fit = λ e. absurd (false≢true e);
   misfit = λ _. (n, misfit refl);
 }
-FitsSoFar-next start old new i n false false so look labels fit same misfit = record {
+FitsSoFar-next start old new i n false false so look tails fit same misfit = record {
   look = IsLook-then start old new so.look look;
-  labels = labels ∙ so.labels;
+  tails = tails ∙ so.tails;
   fit = λ e. absurd (false≢true e);
   misfit = λ _. (n, misfit refl);
 }
@@ -176,10 +181,10 @@ LearnedBelow-next labels old new n same kept at learned d below = elim (cases_lt
 
 -- what was read names the array, what its labels know is known, and each label fits
 pub IsFitting-by : (labels : List (Option Label)) (read now : List Image) (i : Identity) (known : Option Identity) → Names (label_in labels) (Some i)
-    → ((d : ℕ) → d < 8 → label_in labels d ≡ label_at read d) → map image_label now ≡ map image_label read → known ≡ Some i → Fit now i
+    → ((d : ℕ) → d < 8 → label_in labels d ≡ label_at read d) → map image_tail now ≡ map image_tail read → known ≡ Some i → Fit now i
     → AreUnnamed (label_at now) ⊎ IsSomeAnd known (λ j. IsNamed (label_at now) j × (IsLearned (label_at now) j × Fit now j))
 IsFitting-by labels read now i known names is same known_is fit =
-    let at : (d : ℕ) → d < 8 → label_in labels d ≡ label_at now d = (λ d below. is d below ∙ sym (ap (λ (l : List (Option Label)). get_or l d None) same)) in
+    let at : (d : ℕ) → d < 8 → label_in labels d ≡ label_at now d = (λ d below. is d below ∙ sym (ap (λ (l : List Tail). label_of (get_or l d Other)) same)) in
     elim names [
       | inl none ↦ inl (unnamed_by (label_in labels) (label_at now) at none)
       | inr named ↦ inr (subst (λ (o : Option Identity). IsSomeAnd o (λ j. IsNamed (label_at now) j × (IsLearned (label_at now) j × Fit now j))) (sym known_is)

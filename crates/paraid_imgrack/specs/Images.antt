@@ -1,5 +1,5 @@
 -- What is always told of a slot, as its image has it.
-use Rattle.std.specs.Prelude.{◌≡◌, ◌≤◌, ◌<◌, ◌⊎◌, ℕ, Bool, true, false, List, Option, None, Some, IfSome, map, get_or}
+use Rattle.std.specs.Prelude.{◌≡◌, ◌≤◌, ◌<◌, ◌⊎◌, ℕ, Bool, true, false, List, Option, None, Some, map, get_or}
 use Rattle.paraid_base.specs.Told.{HasRisen}
 use Rattle.paraid_rack.specs.declared.call.Power.TheVariants.{Spinning, Absent}
 use Rattle.paraid_rack.specs.Slots.{Slot, vacant_slot}
@@ -9,7 +9,9 @@ use Rattle.paraid_imgrack.specs.declared.image.Hindrance.{Hindrance}
 use Rattle.paraid_imgrack.specs.declared.image.Hindrance.TheVariants.{Crowded}
 use Rattle.paraid_imgrack.specs.declared.image.Image.{Image}
 use Rattle.paraid_imgrack.specs.declared.label.Label.{Label}
-use Rattle.paraid_imgrack.specs.Labels.{FitsSlot, read_label_of}
+use Rattle.paraid_imgrack.specs.declared.tail.Tail.{Tail}
+use Rattle.paraid_imgrack.specs.declared.tail.Tail.TheVariants.{Other}
+use Rattle.paraid_imgrack.specs.Labels.{FitsTail, label_of, read_tail_of}
 
 -- what is told of an image
 abbrev pub image_slot : Image → Slot
@@ -47,9 +49,13 @@ pub record IsTold (i : Identity) : Type 0 where
   pub marked : i.is_new ≡ false
   pub told : i.has_news ≡ false
 
+-- what stands behind the blocks of an image that spins, as it was read
+abbrev pub image_tail : Image → Tail
+image_tail i = read_tail_of i.power i.tail
+
 -- the label of an image that spins, as it was read
 abbrev pub image_label : Image → Option Label
-image_label i = read_label_of i.power i.tail
+image_label i = label_of (image_tail i)
 
 -- what hinders work on the disk
 abbrev pub image_hindrance : Image → Option Hindrance
@@ -59,9 +65,13 @@ image_hindrance i = i.hindrance
 abbrev pub image_misfit : Image → Option Misfit
 image_misfit i = i.misfit
 
+-- what was read behind the blocks of the slot of this number
+abbrev pub tail_at : List Image → ℕ → Tail
+tail_at images d = get_or (map image_tail images) d Other
+
 -- the label of the slot of this number, as it was read
 abbrev pub label_at : List Image → ℕ → Option Label
-label_at images d = get_or (map image_label images) d None
+label_at images d = label_of (tail_at images d)
 
 -- what hinders work on the disk of the slot of this number
 abbrev pub hindrance_at : List Image → ℕ → Option Hindrance
@@ -71,9 +81,9 @@ hindrance_at images d = get_or (map image_hindrance images) d None
 abbrev pub misfit_at : List Image → ℕ → Option Misfit
 misfit_at images d = get_or (map image_misfit images) d None
 
--- each label that was read in a slot of the array is one of its slot
+-- each label that was read in a slot of the array is one of its slot, and no image that was read is bare where its slot is known
 abbrev pub Fit : List Image → Identity → Type 0
-Fit images i = (d : ℕ) → d < i.disks → IfSome (label_at images d) (λ l. FitsSlot i l d)
+Fit images i = (d : ℕ) → d < i.disks → FitsTail i (tail_at images d) d
 
 -- A look at labels changes neither slots nor what hinders.
 pub record IsLook (old new : List Image) : Type 0 where

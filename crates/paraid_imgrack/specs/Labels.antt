@@ -3,10 +3,10 @@ use Rattle.std.specs.Prelude.{◌≡◌, ◌≢◌, ◌<◌, ◌≤◌, ◌⊎�
 use Rattle.paraid_base.specs.Told.{HasRisen}
 use Rattle.paraid_imgrack.specs.declared.identity.Identity.{Identity}
 use Rattle.paraid_imgrack.specs.declared.identity.Misfit.{Misfit}
-use Rattle.paraid_imgrack.specs.declared.identity.Misfit.TheVariants.{Moved, Foreign, Old, New}
+use Rattle.paraid_imgrack.specs.declared.identity.Misfit.TheVariants.{Moved, Foreign, Old, New, Bare}
 use Rattle.paraid_imgrack.specs.declared.label.Label.{Label}
 use Rattle.paraid_imgrack.specs.declared.tail.Tail.{Tail}
-use Rattle.paraid_imgrack.specs.declared.tail.Tail.TheVariants.{Room, Label as HasLabel, Other}
+use Rattle.paraid_imgrack.specs.declared.tail.Tail.TheVariants.{Blank, Torn, Label as HasLabel, Other, Odd}
 use Rattle.paraid_rack.specs.declared.call.Power.{Power}
 use Rattle.paraid_rack.specs.declared.call.Power.TheVariants.{Spinning, Parked, Absent}
 
@@ -27,6 +27,7 @@ Suits i l slot (Some Foreign) = l.array ≢ i.array
 Suits i l slot (Some (Moved disk)) = (disk ≡ l.disk) × (l.disk ≢ slot)
 Suits i l slot (Some (Old generation known)) = (generation ≡ l.generation) × ((generation < known) × (slot < 8 → known ≡ slice_index i.known slot))
 Suits i l slot (Some (New generation known)) = ⊥
+Suits i l slot (Some (Bare known)) = ⊥
 
 -- The label of this slot says of its own image a generation that no image which was read knows of. It says too that disk e was of that generation or of a later one by then, so disk e had been told.
 pub record IsUnheardOf (i : Identity) (l : Label) (slot e : ℕ) : Type 0 where
@@ -39,7 +40,7 @@ pub record IsBehind (i : Identity) (l : Label) (slot e : ℕ) : Type 0 where
   pub seen : 0 < slice_index i.seen e
   pub before : (slice_index i.seen e < slice_index l.known e) ⊎ IsUnheardOf i l slot e
 
--- An image that was parked until now belongs into its slot: it fits, and no image that was seen is of a time before it.
+-- An image with this label that was parked until now belongs into its slot: it fits, and no image that was seen is of a time before it.
 pub record FitsLate (i : Identity) (l : Label) (slot : ℕ) : Type 0 where
   pub fits : FitsSlot i l slot
   pub newest : (e : ℕ) → e < 8 → IsBehind i l slot e → ⊥
@@ -56,6 +57,40 @@ SuitsLate i l slot (Some Foreign) = Suits i l slot (Some Foreign)
 SuitsLate i l slot (Some (Moved disk)) = Suits i l slot (Some (Moved disk))
 SuitsLate i l slot (Some (Old generation known)) = Suits i l slot (Some (Old generation known))
 SuitsLate i l slot (Some (New generation known)) = IsNewer i l slot × ((generation ≡ l.generation) × (slot < 8 → known ≡ slice_index i.known slot))
+SuitsLate i l slot (Some (Bare known)) = ⊥
+
+-- that an image with nothing that could be a label belongs into this slot, since nothing is known of the slot; or that the slot is known, so its image had a label
+abbrev pub SuitsBare : Identity → ℕ → Option Misfit → Type 0
+SuitsBare i slot None = slot < 8 → slice_index i.known slot ≡ 0
+SuitsBare i slot (Some Foreign) = ⊥
+SuitsBare i slot (Some (Moved disk)) = ⊥
+SuitsBare i slot (Some (Old generation known)) = ⊥
+SuitsBare i slot (Some (New generation known)) = ⊥
+SuitsBare i slot (Some (Bare known)) = (0 < known) × (slot < 8 → known ≡ slice_index i.known slot)
+
+-- That an image with this tail belongs into this slot, or why it does not. One is bare where nothing, zeros or a tail of another length stand behind its blocks. Other bytes of a label's length, also of one that was cut short, say nothing.
+abbrev pub SuitsTail : Identity → Tail → ℕ → Option Misfit → Type 0
+SuitsTail i (HasLabel l) slot misfit = Suits i l slot misfit
+SuitsTail i Blank slot misfit = SuitsBare i slot misfit
+SuitsTail i Odd slot misfit = SuitsBare i slot misfit
+SuitsTail i Torn slot misfit = misfit ≡ None
+SuitsTail i Other slot misfit = misfit ≡ None
+
+-- the same of an image that was parked until now
+abbrev pub SuitsTailLate : Identity → Tail → ℕ → Option Misfit → Type 0
+SuitsTailLate i (HasLabel l) slot misfit = SuitsLate i l slot misfit
+SuitsTailLate i Blank slot misfit = SuitsBare i slot misfit
+SuitsTailLate i Odd slot misfit = SuitsBare i slot misfit
+SuitsTailLate i Torn slot misfit = misfit ≡ None
+SuitsTailLate i Other slot misfit = misfit ≡ None
+
+-- An image with this tail belongs into this slot: its label fits the slot; or it is bare and nothing is known of the slot.
+abbrev pub FitsTail : Identity → Tail → ℕ → Type 0
+FitsTail i tail slot = SuitsTail i tail slot None
+
+-- the same of an image that was parked until now: no image that was seen is of a time before its label
+abbrev pub FitsTailLate : Identity → Tail → ℕ → Type 0
+FitsTailLate i tail slot = SuitsTailLate i tail slot None
 
 -- a label of this generation for this disk, which knows of the others what is known
 pub record IsLabelOf (i : Identity) (disk : ℕ) (l : Label) : Type 0 where
@@ -67,15 +102,17 @@ pub record IsLabelOf (i : Identity) (disk : ℕ) (l : Label) : Type 0 where
 
 -- the label behind the blocks
 abbrev pub label_of : Tail → Option Label
-label_of Room = None
+label_of Blank = None
+label_of Torn = None
 label_of (HasLabel l) = Some l
 label_of Other = None
+label_of Odd = None
 
--- the label of an image with this power and this tail: it is read of one that spins alone
-abbrev pub read_label_of : Power → Tail → Option Label
-read_label_of Spinning tail = label_of tail
-read_label_of Parked tail = None
-read_label_of Absent tail = None
+-- what was read behind the blocks of an image with this power: of one that does not spin nothing, so its tail says nothing
+abbrev pub read_tail_of : Power → Tail → Tail
+read_tail_of Spinning tail = tail
+read_tail_of Parked tail = Other
+read_tail_of Absent tail = Other
 
 -- the label of a slot
 abbrev pub label_in : List (Option Label) → ℕ → Option Label

@@ -10,17 +10,21 @@ pub(crate) enum Found {
     Open(File),
     /// Nothing.
     Nothing,
-    /// What is no file, as a folder, a pipe or a device; or what the device cannot read, and why.
-    Lost(Option<io::Error>),
+    /// What is no file, as a folder, a pipe or a device; or what the device cannot read. And why.
+    Lost(io::Error),
     /// It is there, and this process cannot open it, and why.
     Shut(io::Error),
 }
+
+/// The code of Linux for a folder in the place of a file: EISDIR.
+const IS_A_FOLDER: i32 = 21;
 
 /// Looks for a file. Opening a pipe would wait for its other end, so what is no file is not opened.
 pub(crate) fn find<F: Files<File = File>>(files: &F, name: &str) -> Found {
     match fs::metadata(files, name) {
         Ok(found) if found.is_file() => open(files, name),
-        Ok(_) => Found::Lost(None),
+        Ok(found) if found.is_dir() => Found::Lost(io::Error::from_raw_os_error(IS_A_FOLDER)),
+        Ok(_) => Found::Lost(io::Error::new(io::ErrorKind::InvalidInput, "is no file")),
         Err(error) => find_unseen(files, name, error),
     }
 }
@@ -43,7 +47,7 @@ fn find_unseen<F: Files<File = File>>(files: &F, name: &str, error: io::Error) -
 
 fn by_error(error: io::Error) -> Found {
     if is_of_device(&error) {
-        Found::Lost(Some(error))
+        Found::Lost(error)
     } else {
         Found::Shut(error)
     }
@@ -89,6 +93,7 @@ pub(crate) fn is_want_of_room(error: &io::Error) -> bool {
         error.kind(),
         io::ErrorKind::StorageFull
             | io::ErrorKind::QuotaExceeded
+            | io::ErrorKind::FileTooLarge
             | io::ErrorKind::PermissionDenied
             | io::ErrorKind::ReadOnlyFilesystem
     )

@@ -4,30 +4,61 @@ ghost use Rattle.std.specs.Prelude.{◌+◌, ◌<◌, ◌^◌};
 use crate::found::{Found, find, is_locked};
 use crate::identity::Identity;
 use crate::image::{offset, whole_blocks};
+use crate::label::Label;
 use crate::tail::{Tail, keep_room, read_tail};
 use paraid_base::BLOCK_SIZE;
 use std::fs::{self, File, Files, OpenOptions};
 use std::io;
 use std::os::unix::fs::FileExt;
 
-/// Whether the image in the place of a new one has the label of another array than this.
-pub(crate) fn is_of_another_array<F: Files<File = File>>(
+/// What a new image of a known array is not to be written over.
+pub(crate) enum Obstacle {
+    /// An image that has the label of another array.
+    Foreign,
+    /// A file that holds data and has no label of the array.
+    Data,
+}
+
+/// What stands in the place of a new image and is not of its array. The image that the slot has had in
+/// this load is, also where it has no label. So is a file that cannot be read, as before: its device fails.
+pub(crate) fn obstacle_at<F: Files<File = File>>(
     files: &F,
     name: &str,
     identity: &Option<Identity>,
-) -> bool {
-    let Some(identity) = identity else {
-        return false;
-    };
+    is_own: bool,
+) -> Option<Obstacle> {
+    let identity = identity.as_ref()?;
     let Found::Open(file) = find(files, name) else {
-        return false;
+        return None;
     };
-    let Ok(found) = file.metadata() else {
-        return false;
-    };
-    match read_tail(&file, whole_blocks(found.len())) {
-        Ok(Tail::Label(label)) => label.array != identity.array,
-        _ => false,
+    match label_of(&file) {
+        Some(label) => array_in(&label, identity),
+        None if is_own => None,
+        None => data_in(&file),
+    }
+}
+
+fn array_in(label: &Label, identity: &Identity) -> Option<Obstacle> {
+    if label.array == identity.array {
+        None
+    } else {
+        Some(Obstacle::Foreign)
+    }
+}
+
+/// The label of a file, if it has one that can be read.
+fn label_of(file: &File) -> Option<Label> {
+    let size = whole_blocks(file.metadata().ok()?.len());
+    match read_tail(file, size) {
+        Ok(Tail::Label(label)) => Some(label),
+        _ => None,
+    }
+}
+
+fn data_in(file: &File) -> Option<Obstacle> {
+    match holds_data(file) {
+        Ok(true) => Some(Obstacle::Data),
+        _ => None,
     }
 }
 

@@ -1,9 +1,10 @@
 //! Which array the labels of some images name, and which images do not belong into their slots.
-ghost use Rattle.std.specs.Prelude.{◌≡◌, ◌<◌, ◌≤◌, ℕ, true, false, slice_index, Some, IfSome, IfNone, IsSome};
+ghost use Rattle.std.specs.Prelude.{◌≡◌, ◌<◌, ◌≤◌, ℕ, true, false, slice_index, Some, IfSome, IfNone};
 ghost use Rattle.paraid_base.specs.Told.{HasRisen};
-ghost use Rattle.paraid_imgrack.specs.Labels.{AreUnnamed, IsBehind, IsLabelOf, IsLearned, IsNamed, IsNoLess, IsAmong, IsTakenOver, IsUnheardOf, Suits, SuitsLate, known_array, label_in};
+ghost use Rattle.paraid_imgrack.specs.Labels.{AreUnnamed, IsBehind, IsLabelOf, IsLearned, IsNamed, IsNoLess, IsAmong, IsTakenOver, IsUnheardOf, Suits, SuitsBare, SuitsLate, SuitsTail, SuitsTailLate, known_array, label_in};
 
 use crate::label::Label;
+use crate::tail::Tail;
 use paraid_base::DiskNo;
 use std::fmt::{self, Display, Formatter};
 
@@ -21,6 +22,8 @@ pub enum Misfit {
     Old { generation: u64, known: u64 },
     /// The other images are of an earlier time: they do not know it, or are older than it knows them.
     New { generation: u64, known: u64 },
+    /// It has no label, where the other images know that the disk had one.
+    Bare { known: u64 },
 }
 
 impl Display for Misfit {
@@ -36,6 +39,9 @@ impl Display for Misfit {
                 f,
                 "is newer than the others: its label has generation {generation}, where they know {known}"
             ),
+            Misfit::Bare { known } => {
+                write!(f, "has no label, where the others know generation {known}")
+            }
         }
     }
 }
@@ -146,14 +152,30 @@ impl Identity {
         }
     }
 
-    /// Why an image with this label does not belong into a slot of the array.
-    pub(crate) fn misfit_of(&self, label: &Option<Label>, slot: DiskNo) -> Option<Misfit>
-        ensures read { slot < self.now.disks → IfSome label.now (λ l. Suits self.now l slot result) }
+    /// Why an image with this tail does not belong into a slot of the array.
+    pub(crate) fn misfit_of(&self, tail: &Tail, slot: DiskNo) -> Option<Misfit>
+        ensures read { slot < self.now.disks → SuitsTail self.now tail.now slot result }
         ensures none { IfSome result (λ _. slot < self.now.disks) }
     {
-        match label {
-            Some(label) if slot < self.disks => self.misfit(label, slot),
-            _ => None,
+        if slot >= self.disks {
+            return None;
+        }
+        match tail {
+            Tail::Label(label) => self.misfit(label, slot),
+            Tail::Blank | Tail::Odd => self.bare_misfit(slot),
+            Tail::Torn | Tail::Other => None,
+        }
+    }
+
+    /// Why an image without a label does not belong into a slot: the disk is known to have had one.
+    fn bare_misfit(&self, slot: DiskNo) -> Option<Misfit>
+        ensures { SuitsBare self.now slot result }
+    {
+        let known = known_in(&self.known, slot);
+        if 0 < known {
+            Some(Misfit::Bare { known })
+        } else {
+            None
         }
     }
 
@@ -177,14 +199,17 @@ impl Identity {
     }
 
     /// The same of an image that was parked until now: it may also be newer than the others know it.
-    pub(crate) fn late_misfit_of(&self, label: &Option<Label>, slot: DiskNo) -> Option<Misfit>
-        ensures read { slot < self.now.disks
-            → IfSome label.now (λ l. SuitsLate self.now l slot result) }
-        ensures none { IfSome result (λ _. (slot < self.now.disks) × IsSome label.now) }
+    pub(crate) fn late_misfit_of(&self, tail: &Tail, slot: DiskNo) -> Option<Misfit>
+        ensures read { slot < self.now.disks → SuitsTailLate self.now tail.now slot result }
+        ensures none { IfSome result (λ _. slot < self.now.disks) }
     {
-        match label {
-            Some(label) if slot < self.disks => self.late_misfit(label, slot),
-            _ => None,
+        if slot >= self.disks {
+            return None;
+        }
+        match tail {
+            Tail::Label(label) => self.late_misfit(label, slot),
+            Tail::Blank | Tail::Odd => self.bare_misfit(slot),
+            Tail::Torn | Tail::Other => None,
         }
     }
 
@@ -237,6 +262,11 @@ impl Identity {
         known_in(&self.known, slot) < own && own <= label.known[disk]
     }
 
+    /// Whether the image of a slot had a label when it was read, or got one since.
+    pub(crate) fn is_seen(&self, disk: usize) -> bool {
+        disk < 8 && 0 < self.seen[disk]
+    }
+
     /// Whether the image of a slot has a label of this generation.
     pub(crate) fn is_marked(&self, disk: usize) -> bool {
         disk < 8 && self.seen[disk] == self.generation
@@ -258,6 +288,7 @@ impl Identity {
         ensures newer { self.new.generation ≡ self.old.generation }
         ensures again { self.new.is_new ≡ self.old.is_new }
         ensures news { disk < 8 → self.new.has_news ≡ true }
+        ensures marked { disk < 8 → slice_index self.new.known disk ≡ self.old.generation }
         ensures known { known_array (Some self.new) ≡ known_array (Some self.old) }
     {
         if disk < 8 {

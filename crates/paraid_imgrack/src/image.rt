@@ -1,12 +1,12 @@
 //! One disk of the rack: a call on it is done, or it leaves the disk absent and counted as failed.
 ghost use Rattle.std.specs.Prelude.{◌≡◌, ◌≢◌, ℕ, ◌*◌, ◌/◌, ◌<◌, min, true, ◌⊎◌, false, length, slice_index, None, Some, IfOk, IfSome, IsSome, OnErr, OnOk};
 ghost use Rattle.paraid_base.specs.Told.{HasRisen};
-ghost use Rattle.paraid_imgrack.specs.declared.tail.Tail.TheVariants.{Other};
-ghost use Rattle.paraid_imgrack.specs.Labels.{FitsLate, known_array, label_of};
+ghost use Rattle.paraid_imgrack.specs.declared.tail.Tail.TheVariants.{Other, Odd};
+ghost use Rattle.paraid_imgrack.specs.Labels.{FitsTailLate, known_array, label_of};
 ghost use Rattle.paraid_rack.specs.declared.call.Power.TheVariants.{Spinning, Parked, Absent};
 
 use crate::found::{Found, find, is_locked, is_want_of_room};
-use crate::fresh::{create_image, holds_data, is_of_another_array};
+use crate::fresh::{Obstacle, create_image, holds_data, obstacle_at};
 use crate::identity::{Identity, Misfit};
 use crate::label::Label;
 use crate::power::Names;
@@ -63,6 +63,8 @@ pub(crate) struct Image {
     pub(crate) misfit: Option<Misfit>,
     /// The error of the first call that failed, since the disk was last to be attached.
     pub(crate) cause: Option<io::Error>,
+    /// The slot had an image at the load.
+    loaded: bool,
     /// The disk was attached since the load.
     pub(crate) attached: bool,
     pub ghost empty: { power ≡ Absent → size ≡ 0 },
@@ -71,7 +73,7 @@ pub(crate) struct Image {
 
 impl Image {
     ghost use Rattle.std.specs.Prelude.{is_ok};
-    ghost use Rattle.paraid_imgrack.specs.Images.{image_hindrance, image_label, image_slot, IsLoaded, IsFailedSlot, Becomes};
+    ghost use Rattle.paraid_imgrack.specs.Images.{image_hindrance, image_label, image_slot, image_tail, IsLoaded, IsFailedSlot, Becomes};
 
     /// The disk as its files tell it.
     ///
@@ -106,6 +108,7 @@ impl Image {
                 tail: Tail::Other,
                 misfit: None,
                 cause: None,
+                loaded: true,
                 attached: false,
             }),
             Opened::Lost(cause) => Ok(Image::absent(names, None, cause)),
@@ -128,6 +131,7 @@ impl Image {
             tail: Tail::Other,
             misfit: None,
             cause,
+            loaded: false,
             attached: false,
         }
     }
@@ -152,13 +156,13 @@ impl Image {
         label_in(&self.tail)
     }
 
-    /// The label of an image that spins, as it was read.
-    pub(crate) fn label(&self) -> Option<Label>
-        ensures { result ≡ image_label self.now }
+    /// What stands behind the blocks of an image that spins, as it was read. Of others nothing was read.
+    pub(crate) fn tail(&self) -> Tail
+        ensures { result ≡ image_tail self.now }
     {
         match self.power {
-            Power::Spinning => label_in(&self.tail),
-            Power::Parked | Power::Absent => None,
+            Power::Spinning => self.tail,
+            Power::Parked | Power::Absent => Tail::Other,
         }
     }
 
@@ -280,7 +284,7 @@ impl Image {
         ensures slot { Becomes (image_slot self.old) (image_slot self.new)
             (record (image_slot self.old) { power = Spinning }) false (is_ok result) }
         ensures fits { OnOk result (IfSome identity.old (λ i. disk < i.disks
-            → IfSome (label_of self.new.tail) (λ l. FitsLate i l disk))) }
+            → FitsTailLate i self.new.tail disk)) }
         ensures known { known_array identity.new ≡ known_array identity.old }
     {
         match identity {
@@ -303,19 +307,19 @@ impl Image {
         ensures slot { Becomes (image_slot self.old) (image_slot self.new) (image_slot self.old)
             false (is_ok result) }
         ensures fits { OnOk result (disk < identity.old.disks
-            → IfSome (label_of self.new.tail) (λ l. FitsLate identity.old l disk)) }
+            → FitsTailLate identity.old self.new.tail disk) }
         ensures known { known_array (Some identity.new) ≡ known_array (Some identity.old) }
     {
         match tail_of(&self.file, self.size) {
             Ok(tail) => self.tail = tail,
             Err(error) => return Err(self.fail_by(files, error)),
         }
-        self.misfit = identity.late_misfit_of(&label_in(&self.tail), disk);
+        self.misfit = identity.late_misfit_of(&self.tail, disk);
         if self.misfit.is_some() {
             return Err(self.fail(files));
         }
         match mark_image(&self.file, self.size, &self.tail, identity, disk) {
-            Ok(()) => Ok(()),
+            Ok(_) => Ok(()),
             Err(error) => Err(self.fail_by(files, error)),
         }
     }
@@ -336,7 +340,8 @@ impl Image {
     }
 
     /// The image is newer than each that has a label, also than the one that it replaces. The others
-    /// know it from the next sync on. An image of another array is left as it is, and the disk has failed.
+    /// know it from the next sync on. An image of another array is left as it is, and so is a file of
+    /// other data, and the disk has failed.
     pub(crate) fn attach<F: Files<File = File>>(
         &mut self,
         files: &F,
@@ -352,32 +357,37 @@ impl Image {
         ensures again { OnOk result (IfSome identity.old (λ old. IfSome identity.new
             (λ new. new.is_new ≡ true))) }
         ensures known { known_array identity.new ≡ known_array identity.old }
+        ensures labelled { OnOk result (IfSome identity.old (λ old. IfSome identity.new
+            (λ new. disk < old.disks → disk < 8 → slice_index new.known disk ≡ new.generation))) }
         ensures mended { OnOk result ((self.new.misfit ≡ None) × (self.new.cause ≡ None)) }
         ensures why { OnErr result (IsSome self.new.misfit ⊎ IsSome self.new.cause) }
     {
         self.file = None; // and its lock
         self.misfit = None;
         self.cause = None;
-        if is_of_another_array(files, self.names.image.as_str(), identity) {
-            self.misfit = Some(Misfit::Foreign);
-            return Err(self.fail(files));
+        match obstacle_at(files, self.names.image.as_str(), identity, self.is_own()) {
+            Some(Obstacle::Foreign) => {
+                self.misfit = Some(Misfit::Foreign);
+                return Err(self.fail(files));
+            }
+            Some(Obstacle::Data) => return Err(self.fail_by(files, other_data())),
+            None => {}
         }
-        match make_image(files, &self.names, size) {
-            Ok(file) => self.file = Some(file),
+        match make_image(files, &self.names, identity, disk, size) {
+            Ok(file) => self.file = file,
             Err(error) => return Err(self.fail_by(files, error)),
         }
-        self.tail = Tail::Room;
-        if let Some(identity) = identity {
-            identity.renew();
-            if let Err(error) = mark_image(&self.file, size, &Tail::Room, identity, disk) {
-                return Err(self.fail_by(files, error));
-            }
-        }
+        self.tail = Tail::Blank;
         self.power = Power::Spinning;
         self.size = size;
         self.unsynced = false;
         self.attached = true;
         Ok(())
+    }
+
+    /// Whether the image in the slot was that of the disk in this load.
+    fn is_own(&self) -> bool {
+        self.loaded || self.attached
     }
 
     /// There is no disk from now on, and why is kept, unless a call has failed before.
@@ -416,12 +426,25 @@ fn not_open() -> io::Error {
     io::Error::from(io::ErrorKind::NotFound)
 }
 
+/// The error of an attach that would write over a file of other data.
+fn other_data() -> io::Error {
+    io::Error::new(
+        io::ErrorKind::AlreadyExists,
+        "the file there holds other data",
+    )
+}
+
+/// The error of an attach whose image gets no label: the others know one of the old image.
+fn no_room_for_label() -> io::Error {
+    io::Error::new(io::ErrorKind::StorageFull, "no room for its label")
+}
+
 /// What became of an image that was to be opened.
 #[derive(Drop)]
 enum Opened {
     /// It has its lock, and so many blocks.
     Image(File, u32),
-    /// There is no disk; why, where its device has failed.
+    /// There is no disk; why, unless nothing stands there.
     Lost(Option<io::Error>),
     Hindered(Hindrance),
 }
@@ -430,7 +453,7 @@ fn open_image<F: Files<File = File>>(files: &F, name: &str) -> Opened {
     let file = match find(files, name) {
         Found::Open(file) => file,
         Found::Nothing => return Opened::Lost(None),
-        Found::Lost(cause) => return Opened::Lost(cause),
+        Found::Lost(error) => return Opened::Lost(Some(error)),
         Found::Shut(error) => return Opened::Hindered(Hindrance::ImageShut(error)),
     };
     if is_locked(&file) {
@@ -465,12 +488,69 @@ pub(crate) fn whole_blocks(length: u64) -> u32
     (length / BLOCK_SIZE as u64).min(u32::MAX as u64) as u32
 }
 
-/// A fresh image of zeros. Until it is whole on the disk, the sidecar tells of no disk.
-fn make_image<F: Files<File = File>>(files: &F, names: &Names, size: u32) -> io::Result<File> {
+/// A fresh image of zeros, with its label where its array is known. Until both are on the disk, the
+/// sidecar tells of no disk: an image without a label is refused where the others know of one.
+fn make_image<F: Files<File = File>>(
+    files: &F,
+    names: &Names,
+    identity: &mut Option<Identity>,
+    disk: DiskNo,
+    size: u32,
+) -> io::Result<Option<File>>
+    ensures newer { OnOk result (IfSome identity.old (λ old. IfSome identity.new
+        (λ new. HasRisen old.generation new.generation))) }
+    ensures again { OnOk result (IfSome identity.old (λ old. IfSome identity.new
+        (λ new. new.is_new ≡ true))) }
+    ensures known { known_array identity.new ≡ known_array identity.old }
+    ensures labelled { OnOk result (IfSome identity.old (λ old. IfSome identity.new
+        (λ new. disk < old.disks → disk < 8 → slice_index new.known disk ≡ new.generation))) }
+{
     names.store(files, Power::Absent)?;
-    let file = create_image(files, names.image.as_str(), size)?;
+    let file = Some(create_image(files, names.image.as_str(), size)?);
+    label_new(&file, size, identity, disk)?;
     names.store(files, Power::Spinning)?;
     Ok(file)
+}
+
+/// Gives a new image its label, where its array is known: it is newer than all others.
+fn label_new(
+    file: &Option<File>,
+    size: u32,
+    identity: &mut Option<Identity>,
+    disk: DiskNo,
+) -> io::Result<()>
+    ensures newer { IfSome identity.old (λ old. IfSome identity.new
+        (λ new. HasRisen old.generation new.generation)) }
+    ensures again { IfSome identity.old (λ old. IfSome identity.new (λ new. new.is_new ≡ true)) }
+    ensures known { known_array identity.new ≡ known_array identity.old }
+    ensures labelled { OnOk result (IfSome identity.old (λ old. IfSome identity.new
+        (λ new. disk < old.disks → disk < 8 → slice_index new.known disk ≡ new.generation))) }
+{
+    match identity {
+        Some(identity) => label_newest(file, size, identity, disk),
+        None => Ok(()),
+    }
+}
+
+/// In a slot of the array an image that can have no label is an error.
+fn label_newest(
+    file: &Option<File>,
+    size: u32,
+    identity: &mut Identity,
+    disk: DiskNo,
+) -> io::Result<()>
+    ensures newer { HasRisen identity.old.generation identity.new.generation }
+    ensures again { identity.new.is_new ≡ true }
+    ensures known { known_array (Some identity.new) ≡ known_array (Some identity.old) }
+    ensures labelled { OnOk result (disk < identity.old.disks → disk < 8
+        → slice_index identity.new.known disk ≡ identity.new.generation) }
+{
+    identity.renew();
+    match mark_image(file, size, &Tail::Blank, identity, disk) {
+        Ok(given) if given || disk >= identity.disks => Ok(()),
+        Ok(_) => Err(no_room_for_label()),
+        Err(error) => Err(error),
+    }
 }
 
 /// The bytes come straight into the block. After an error they are any.
@@ -541,18 +621,18 @@ fn label_in(tail: &Tail) -> Option<Label>
 {
     match tail {
         Tail::Label(label) => Some(*label),
-        Tail::Room | Tail::Other => None,
+        Tail::Blank | Tail::Torn | Tail::Other | Tail::Odd => None,
     }
 }
 
 /// Writes a label where one can stand, and syncs the image. Where there is no room for it, it is left out.
 fn put_label(file: &Option<File>, size: u32, tail: &Tail, label: &Label) -> io::Result<bool>
-    ensures { IfOk result (λ given. given ≡ true → tail.now ≢ Other) }
+    ensures { IfOk result (λ given. given ≡ true → (tail.now ≢ Other) × (tail.now ≢ Odd)) }
 {
     let Some(file) = file else {
         return Err(not_open());
     };
-    if let Tail::Other = tail {
+    if let Tail::Other | Tail::Odd = tail {
         return Ok(false);
     }
     match write_label(file, size, label) {
@@ -565,22 +645,26 @@ fn put_label(file: &Option<File>, size: u32, tail: &Tail, label: &Label) -> io::
     Ok(true)
 }
 
-/// Gives an image the label of this generation, where it can have one. Its error is one of the device.
+/// Gives an image the label of this generation, where it can have one, and says whether it has it now.
+/// Its error is one of the device.
 fn mark_image(
     file: &Option<File>,
     size: u32,
     tail: &Tail,
     identity: &mut Identity,
     disk: DiskNo,
-) -> io::Result<()>
+) -> io::Result<bool>
     ensures newer { identity.new.generation ≡ identity.old.generation }
     ensures again { identity.new.is_new ≡ identity.old.is_new }
     ensures known { known_array (Some identity.new) ≡ known_array (Some identity.old) }
+    ensures given { IfOk result (λ given. given ≡ true → disk < 8
+        → slice_index identity.new.known disk ≡ identity.new.generation) }
 {
     if disk < identity.disks && put_label(file, size, tail, &identity.label(disk, true))? {
         identity.mark(disk as usize);
+        return Ok(true);
     }
-    Ok(())
+    Ok(false)
 }
 
 /// With this a meta begins.

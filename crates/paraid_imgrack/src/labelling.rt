@@ -1,8 +1,8 @@
 //! The labels of all images: they are read before the first call, and each load gives them a new
 //! generation, and so does each disk that is attached.
 ghost use Rattle.std.specs.Prelude.{◌≡◌, ◌≢◌, ◌<◌, ℕ, map, true, false, length, Some, IfSome, IsSome};
-ghost use Rattle.paraid_imgrack.specs.Images.{Fit, image_label, image_misfit, image_slot, label_at, misfit_at, IsLook, IsTold};
-ghost use Rattle.paraid_imgrack.specs.Labels.{FitsSlot, Names, known_array, label_in};
+ghost use Rattle.paraid_imgrack.specs.Images.{Fit, image_misfit, image_slot, image_tail, label_at, misfit_at, tail_at, IsLook, IsTold};
+ghost use Rattle.paraid_imgrack.specs.Labels.{FitsTail, Names, known_array, label_in};
 ghost use Rattle.paraid_imgrack.specs.Looks.{IsFitting};
 
 use crate::identity::{Identity, Labels, Misfit};
@@ -36,7 +36,7 @@ impl<F: Files<File = File> + Drop> ImageRack<F> {
         None
     }
 
-    /// Reads the labels of the images that spin, and says whether each belongs into its slot. Nothing
+    /// Reads the labels of the images that spin, and says whether each image belongs into its slot. Nothing
     /// is written before the first sync. A rack whose images do not fit is to be used no more.
     pub fn has_fitting_images(&mut self) -> bool
         ensures look { IsLook self.old.images.items self.new.images.items }
@@ -185,7 +185,9 @@ impl<F: Files<File = File> + Drop> ImageRack<F> {
     fn misses(&self, disk: usize, identity: &Identity) -> bool
         requires { disk < length self.now.images.items }
     {
-        !identity.is_marked(disk) && self.images[disk].label().is_some()
+        !identity.is_marked(disk)
+            && identity.is_seen(disk)
+            && self.images[disk].power == Power::Spinning
     }
 
     /// Whether the image in a slot has heard the news, if there are any and it can be told.
@@ -258,10 +260,11 @@ impl<F: Files<File = File> + Drop> ImageRack<F> {
         None
     }
 
-    /// Whether each label is one of its slot. Why one is not is kept with its image.
+    /// Whether each label is one of its slot, and no image is bare where its slot is known. Why one is not
+    /// as it should be is kept with its image.
     fn fits(&mut self, identity: &Identity) -> bool
         ensures look { IsLook self.old.images.items self.new.images.items }
-        ensures labels { map image_label self.new.images.items ≡ map image_label self.old.images.items }
+        ensures tails { map image_tail self.new.images.items ≡ map image_tail self.old.images.items }
         ensures known { self.new.identity ≡ self.old.identity }
         ensures fits { result ≡ true → Fit self.new.images.items identity.now }
         ensures misfit { result ≡ false → (d : ℕ) × IsSome (misfit_at self.new.images.items d) }
@@ -276,15 +279,15 @@ impl<F: Files<File = File> + Drop> ImageRack<F> {
     fn fits_slot(&mut self, disk: usize, identity: &Identity) -> bool
         requires { disk < length self.old.images.items }
         ensures look { IsLook self.old.images.items self.new.images.items }
-        ensures labels { map image_label self.new.images.items ≡ map image_label self.old.images.items }
+        ensures tails { map image_tail self.new.images.items ≡ map image_tail self.old.images.items }
         ensures known { self.new.identity ≡ self.old.identity }
         ensures fits { result ≡ true → disk < identity.now.disks
-            → IfSome (label_at self.new.images.items disk) (λ l. FitsSlot identity.now l disk) }
+            → FitsTail identity.now (tail_at self.new.images.items disk) disk }
         ensures same { result ≡ true
             → map image_misfit self.new.images.items ≡ map image_misfit self.old.images.items }
         ensures misfit { result ≡ false → IsSome (misfit_at self.new.images.items disk) }
     {
-        match identity.misfit_of(&self.images[disk].label(), disk as u8) {
+        match identity.misfit_of(&self.images[disk].tail(), disk as u8) {
             Some(misfit) => {
                 self.images[disk].misfit = Some(misfit);
                 false

@@ -54,7 +54,7 @@ impl Names {
                 Err(error) => Ok((Power::Absent, Some(error))),
             },
             Found::Nothing => Ok((Power::Spinning, None)),
-            Found::Lost(cause) => Ok((Power::Absent, cause)),
+            Found::Lost(error) => Ok((Power::Absent, Some(error))),
             Found::Shut(error) => Err(error),
         }
     }

@@ -10,11 +10,15 @@ use std::os::unix::fs::FileExt;
 /// What stands behind the blocks.
 #[derive(Clone, Copy)]
 pub(crate) enum Tail {
-    /// Nothing, or zeros of a label's length, or a label that was cut short: one can be written.
-    Room,
+    /// Nothing, or zeros of a label's length: one can be written.
+    Blank,
+    /// A label that was cut short: one can be written over it.
+    Torn,
     Label(Label),
-    /// Bytes of another kind, which are left alone.
+    /// Other bytes of a label's length, which are left alone.
     Other,
+    /// A tail of another length, which is left alone too.
+    Odd,
 }
 
 /// Where the blocks of an image end, in bytes.
@@ -28,10 +32,10 @@ fn end(size: u32) -> u64
 pub(crate) fn read_tail(file: &File, size: u32) -> io::Result<Tail> {
     let length = file.metadata()?.len();
     if length == end(size) {
-        return Ok(Tail::Room);
+        return Ok(Tail::Blank);
     }
     if length != end(size) + LABEL_SIZE as u64 {
-        return Ok(Tail::Other);
+        return Ok(Tail::Odd);
     }
     let mut text = [0; LABEL_SIZE];
     file.read_exact_at(&mut text, end(size))?;
@@ -41,7 +45,8 @@ pub(crate) fn read_tail(file: &File, size: u32) -> io::Result<Tail> {
 fn tail_of(text: &[u8; LABEL_SIZE]) -> Tail {
     match Label::read(text) {
         Some(label) => Tail::Label(label),
-        None if begins_as_label(text) || *text == [0; LABEL_SIZE] => Tail::Room,
+        None if begins_as_label(text) => Tail::Torn,
+        None if *text == [0; LABEL_SIZE] => Tail::Blank,
         None => Tail::Other,
     }
 }

@@ -1,10 +1,10 @@
-use Rattle.std.proofs.Common.{arith}
-use Rattle.paraid_imgrack.specs.Images.{image_label}
-use Rattle.paraid_imgrack.proofs.LooksLemmas.{label_here, told-set_other}
+use Rattle.std.proofs.Common.{ap, arith}
+use Rattle.paraid_imgrack.specs.Labels.{label_of}
+use Rattle.paraid_imgrack.proofs.LooksLemmas.{label_here, tail-set_other}
 use Rattle.paraid_imgrack.proofs.rack.ImageRack.read_label.Goals as goal
 
 pub returns-clause-here : goal.returns-clause-here
 returns-clause-here g c = label_here _ _ _ _ _ (omega (arith, c.requires, c.told-labels, c.args.self.now.few)) c.requires c.read_label.ensures.kept
 
 pub returns-clause-kept : goal.returns-clause-kept
-returns-clause-kept g c = told-set_other image_label _ _ _
+returns-clause-kept g c e not = ap label_of (tail-set_other _ _ _ e not)
