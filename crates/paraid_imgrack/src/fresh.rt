@@ -19,8 +19,8 @@ pub(crate) enum Obstacle {
     Data,
 }
 
-/// What stands in the place of a new image and is not of its array. The image that the slot has had in
-/// this load is, also where it has no label. So is a file that cannot be read, as before: its device fails.
+/// What stands in the place of a new image and is not of its array. The image that the slot had in this
+/// load is, also where it has no label. A file that cannot be read is no obstacle: its device fails.
 pub(crate) fn obstacle_at<F: Files<File = File>>(
     files: &F,
     name: &str,

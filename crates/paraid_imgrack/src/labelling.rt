@@ -62,8 +62,8 @@ impl<F: Files<File = File> + Drop> ImageRack<F> {
         }
     }
 
-    /// Why the first call on a disk failed that did, as the system tells it; of a disk that was to be
-    /// attached, since then.
+    /// Why the first call on a disk failed that did, or why it was lost at the load; of a disk that was to
+    /// be attached, since then.
     pub fn cause(&self, disk: DiskNo) -> Option<io::Error> {
         if (disk as usize) < self.images.len() {
             self.images[disk as usize].cause

@@ -4,6 +4,7 @@ use crate::image_racks::{bytes_in, cut, image, is_called, loaded, make_file};
 use crate::racks::Step;
 use paraid_imgrack::{ImageRack, LABEL_SIZE, Label, Misfit};
 use std::fs::{self, File, Files};
+use std::io;
 use std::process::Abort;
 
 /// A label by the description of its form. The sum is that of another program.
@@ -68,15 +69,24 @@ enum Deed {
     Replace,
     /// The label of disk 1 gets the number of another array.
     Rename,
-    /// The label of disk 0 is cut away.
+    /// The label of disk 1 is cut away.
     Strip,
+    /// So it is, and the other labels say that nothing is known of disk 1.
+    Forget,
     /// One command makes three disks of four blocks, with labels.
     Format,
     /// One finds that disk 1 is not spun up, since it is of another array.
     Refuse,
+    /// One finds that disk 1 is not spun up, since it has no label.
+    RefuseBare,
+    /// One finds that disk 1 is not attached over a file that holds other data.
+    Spare,
 }
 
-use Deed::{Copy, Format, Load, Look, Park, Refuse, Rename, Replace, Restore, Strip, Swap, Wake};
+use Deed::{
+    Copy, Forget, Format, Load, Look, Park, Refuse, RefuseBare, Rename, Replace, Restore, Spare,
+    Strip, Swap, Wake,
+};
 
 /// A deed, and the number of what a rack then finds.
 type Row = (Deed, u8);
@@ -92,9 +102,18 @@ const REPLACED: u8 = 3;
 
 const WOKEN: u8 = 4;
 
+const STRIPPED: u8 = 5;
+
+const STRIPPED_AGAIN: u8 = 6;
+
 /// The image of disk 1 has an older generation than the others know.
 fn old(generation: u64, known: u64) -> [Option<Misfit>; 3] {
     [None, Some(Misfit::Old { generation, known }), None]
+}
+
+/// The image of disk 1 has no label, where the others know one.
+fn bare(known: u64) -> [Option<Misfit>; 3] {
+    [None, Some(Misfit::Bare { known }), None]
 }
 
 /// Why each image does not belong into its slot.
@@ -108,11 +127,13 @@ fn misfits(number: u8) -> [Option<Misfit>; 3] {
         RESTORED => old(1, 2),
         REPLACED => old(3, 4),
         WOKEN => old(6, 7),
+        STRIPPED => bare(4),
+        STRIPPED_AGAIN => bare(2),
         _ => [None; 3],
     }
 }
 
-const ROWS: [Row; 21] = [
+const ROWS: [Row; 23] = [
     (Look, FIT),
     (Swap, SWAPPED),
     (Swap, FIT),
@@ -126,7 +147,9 @@ const ROWS: [Row; 21] = [
     (Replace, FIT),
     (Restore, REPLACED),
     (Restore, FIT),
-    (Strip, FIT),
+    (Copy, FIT),
+    (Strip, STRIPPED),
+    (Restore, FIT),
     (Load, FIT),
     // A parked image is not looked at before it is spun up.
     (Park, FIT),
@@ -138,6 +161,12 @@ const ROWS: [Row; 21] = [
     (Park, FIT),
     (Rename, FIT),
 ];
+
+/// A parked image is not looked at before it is spun up.
+const PARKED: [Row; 2] = [(Park, FIT), (Strip, FIT)];
+
+/// An image without a label is taken where nothing is known of it, and gets one.
+const FORGOTTEN: [Row; 3] = [(Forget, FIT), (Load, FIT), (Strip, STRIPPED_AGAIN)];
 
 const SPARE: &str = "disk-1.copy";
 
@@ -187,11 +216,35 @@ fn format<F: Files<File = File> + Drop>(rack: &mut ImageRack<F>) -> bool {
     done
 }
 
-/// Whether disk 1 is not spun up, since it is of another array.
-fn refuses_late<F: Files<File = File> + Drop>(rack: &mut ImageRack<F>) -> bool {
-    rack.has_fitting_images()
-        && !is_called(rack, 1, Step::SpinUp)
-        && rack.misfit(1) == Some(Misfit::Foreign)
+/// Whether disk 1 is not spun up, for this reason.
+fn refuses_late<F: Files<File = File> + Drop>(rack: &mut ImageRack<F>, misfit: Misfit) -> bool {
+    rack.has_fitting_images() && !is_called(rack, 1, Step::SpinUp) && rack.misfit(1) == Some(misfit)
+}
+
+/// What somebody has stored in the place of disk 1.
+const DATA: &[u8] = b"no image";
+
+/// Whether disk 1 is not attached, since its place is taken.
+fn is_spared<F: Files<File = File> + Drop>(rack: &mut ImageRack<F>) -> bool {
+    if !rack.has_fitting_images() || is_called(rack, 1, Step::Attach(4)) {
+        return false;
+    }
+    match rack.cause(1) {
+        Some(cause) => cause.kind() == io::ErrorKind::AlreadyExists,
+        None => false,
+    }
+}
+
+/// Whether a file that holds data is left as it is.
+fn spares<H: Files<File = File> + AllocGlobal + Abort>(host: &H) -> bool {
+    make_file(host, image(1), DATA) && is_spared(&mut loaded(host)) && holds_data(host)
+}
+
+fn holds_data<H: Files + AllocGlobal>(host: &H) -> bool {
+    match bytes_in(host, image(1)) {
+        Some(bytes) => bytes.as_slice() == DATA,
+        None => false,
+    }
 }
 
 /// What one command does with its rack.
@@ -206,13 +259,14 @@ fn use_rack<H: Files, F: Files<File = File> + Drop>(
         Wake => wake(rack),
         Replace => use_all(rack, false) && copy(host) && attach_one(rack),
         Format => format(rack),
-        Refuse => refuses_late(rack),
+        Refuse => refuses_late(rack, Misfit::Foreign),
+        RefuseBare => refuses_late(rack, Misfit::Bare { known: 2 }),
         _ => false,
     }
 }
 
-/// Whether these bytes end in a label, which gets the number of another array.
-fn is_renamed(bytes: &mut [u8]) -> bool {
+/// Whether these bytes end in a label. It gets the number of another array, or knows nothing of disk 1.
+fn is_changed(bytes: &mut [u8], is_renamed: bool) -> bool {
     let Some(at) = bytes.len().checked_sub(LABEL_SIZE) else {
         return false;
     };
@@ -221,17 +275,26 @@ fn is_renamed(bytes: &mut [u8]) -> bool {
     let Some(mut label) = Label::read(&text) else {
         return false;
     };
-    label.array[15] ^= 1;
+    if is_renamed {
+        label.array[15] ^= 1;
+    } else {
+        label.known[1] = 0;
+    }
     bytes[at..].copy_from_slice(&label.text());
     true
 }
 
-/// The image of disk 1 gets the label of another array.
-fn relabel<H: Files + AllocGlobal>(host: &H) -> bool {
-    let Some(mut bytes) = bytes_in(host, image(1)) else {
+/// The image of a disk gets the label of another array, or one that knows nothing of disk 1.
+fn relabel<H: Files + AllocGlobal>(host: &H, disk: u8, is_renamed: bool) -> bool {
+    let Some(mut bytes) = bytes_in(host, image(disk)) else {
         return false;
     };
-    is_renamed(&mut bytes) && make_file(host, image(1), &bytes)
+    is_changed(&mut bytes, is_renamed) && make_file(host, image(disk), &bytes)
+}
+
+/// The label of disk 1 is cut away. The four blocks are left.
+fn strip<H: Files + AllocGlobal>(host: &H) -> bool {
+    cut(host, image(1), 2048)
 }
 
 /// Has one command work with the disks.
@@ -245,10 +308,11 @@ fn act<H: Files<File = File> + AllocGlobal + Abort>(host: &H, deed: Deed) -> boo
         Swap => swap(host, image(1), image(2)),
         Copy => copy(host),
         Restore => swap(host, image(1), SPARE),
-        Rename => relabel(host),
-        // The four blocks are left.
-        Strip => cut(host, image(0), 2048),
-        Load | Park | Wake | Replace | Format | Refuse => use_disks(host, deed),
+        Rename => relabel(host, 1, true),
+        Strip => strip(host),
+        Forget => relabel(host, 0, false) && relabel(host, 2, false) && strip(host),
+        Spare => spares(host),
+        Load | Park | Wake | Replace | Format | Refuse | RefuseBare => use_disks(host, deed),
     }
 }
 
@@ -292,4 +356,10 @@ pub(crate) fn walk<H: Files<File = File> + AllocGlobal + Abort>(host: &H) {
     assert!(host; act(host, Format));
     assert_met(host, &ROWS);
     assert!(host; act(host, Refuse));
+    assert!(host; act(host, Format));
+    assert_met(host, &PARKED);
+    assert!(host; act(host, RefuseBare));
+    assert!(host; act(host, Spare));
+    assert!(host; act(host, Format));
+    assert_met(host, &FORGOTTEN);
 }
