@@ -76,7 +76,7 @@ SuitsTail i Odd slot misfit = SuitsBare i slot misfit
 SuitsTail i Torn slot misfit = misfit ≡ None
 SuitsTail i Other slot misfit = misfit ≡ None
 
--- that an image with this tail that was parked until now belongs into this slot, or why it does not
+-- that an image with this tail, which was parked until now, belongs into this slot, or why it does not
 abbrev pub SuitsTailLate : Identity → Tail → ℕ → Option Misfit → Type 0
 SuitsTailLate i (HasLabel l) slot misfit = SuitsLate i l slot misfit
 SuitsTailLate i Blank slot misfit = SuitsBare i slot misfit
@@ -84,11 +84,11 @@ SuitsTailLate i Odd slot misfit = SuitsBare i slot misfit
 SuitsTailLate i Torn slot misfit = misfit ≡ None
 SuitsTailLate i Other slot misfit = misfit ≡ None
 
--- An image with this tail belongs into this slot: its label fits the slot; or it is bare and nothing is known of the slot.
+-- An image with this tail belongs into this slot: its label fits the slot; or it is bare and nothing is known of the slot; or its tail says nothing.
 abbrev pub FitsTail : Identity → Tail → ℕ → Type 0
 FitsTail i tail slot = SuitsTail i tail slot None
 
--- An image with this tail that was parked until now belongs into this slot: its label fits, and no image that was seen is of a time before it; or it is bare and nothing is known of the slot.
+-- An image with this tail that was parked until now belongs into this slot: its label fits, and no image that was seen is of a time before it; or it is bare and nothing is known of the slot; or its tail says nothing.
 abbrev pub FitsTailLate : Identity → Tail → ℕ → Type 0
 FitsTailLate i tail slot = SuitsTailLate i tail slot None
 

@@ -112,7 +112,7 @@ fn old(generation: u64, known: u64) -> [Option<Misfit>; 3] {
 }
 
 /// The image of disk 1 has no label, where the others know one.
-fn bare(known: u64) -> [Option<Misfit>; 3] {
+fn unlabelled(known: u64) -> [Option<Misfit>; 3] {
     [None, Some(Misfit::Bare { known }), None]
 }
 
@@ -127,8 +127,8 @@ fn misfits(number: u8) -> [Option<Misfit>; 3] {
         RESTORED => old(1, 2),
         REPLACED => old(3, 4),
         WOKEN => old(6, 7),
-        STRIPPED => bare(4),
-        STRIPPED_AGAIN => bare(2),
+        STRIPPED => unlabelled(4),
+        STRIPPED_AGAIN => unlabelled(2),
         _ => [None; 3],
     }
 }
@@ -237,10 +237,10 @@ fn is_spared<F: Files<File = File> + Drop>(rack: &mut ImageRack<F>) -> bool {
 
 /// Whether a file that holds data is left as it is.
 fn spares<H: Files<File = File> + AllocGlobal + Abort>(host: &H) -> bool {
-    make_file(host, image(1), DATA) && is_spared(&mut loaded(host)) && holds_data(host)
+    make_file(host, image(1), DATA) && is_spared(&mut loaded(host)) && is_left(host)
 }
 
-fn holds_data<H: Files + AllocGlobal>(host: &H) -> bool {
+fn is_left<H: Files + AllocGlobal>(host: &H) -> bool {
     match bytes_in(host, image(1)) {
         Some(bytes) => bytes.as_slice() == DATA,
         None => false,
@@ -266,7 +266,7 @@ fn use_rack<H: Files, F: Files<File = File> + Drop>(
 }
 
 /// Whether these bytes end in a label. It gets the number of another array, or knows nothing of disk 1.
-fn is_changed(bytes: &mut [u8], is_renamed: bool) -> bool {
+fn gets_label(bytes: &mut [u8], is_renamed: bool) -> bool {
     let Some(at) = bytes.len().checked_sub(LABEL_SIZE) else {
         return false;
     };
@@ -289,7 +289,7 @@ fn relabel<H: Files + AllocGlobal>(host: &H, disk: u8, is_renamed: bool) -> bool
     let Some(mut bytes) = bytes_in(host, image(disk)) else {
         return false;
     };
-    is_changed(&mut bytes, is_renamed) && make_file(host, image(disk), &bytes)
+    gets_label(&mut bytes, is_renamed) && make_file(host, image(disk), &bytes)
 }
 
 /// The label of disk 1 is cut away. The four blocks are left.
