@@ -21,10 +21,16 @@ pub slots_alone : {R : Type 0} (slot : R → ℕ → Slot) (below rack : R) (w :
     → (d : ℕ) → slots_above (slot below) w d ≡ slot rack d
 slots_alone {R} slot below rack w is none d = slot_alone (slot below d) (w d) (none d) ∙ ap (λ (r : R). slot r d) is
 
--- a program that was handed this command, with a rack that was ready for it, has served it or is left
-pub handed : {P F : Type 0} (program : P) (left : Option P) (free : List Image → Type 0) (ended : ImageRack F → Command → ℕ → Type 0) (rack : ImageRack F) (asked read : Command) (status : ℕ)
-    → asked ≡ read → IsReady free read rack → UsesProgram program left status (ended rack asked status)
+-- a program that was handed this command, with a rack that was ready for it and then shut, has served it or is left
+pub handed : {P F : Type 0} (program : P) (left : Option P) (free : List Image → Type 0) (ended : ImageRack F → Command → ℕ → Type 0) (rack inside : ImageRack F) (asked read : Command) (status : ℕ)
+    → inside ≡ rack → asked ≡ read → IsReady free read rack → UsesProgram program left status (ended inside asked status)
     → ((left ≡ Some program) × IsOwnStatus status) ⊎ ((left ≡ None) × ServesReady free ended asked status)
-handed program left free ended rack asked read status same ready (inl unused) = inl (unused.0, inr (inr (inr (inl unused.1))))
-handed program left free ended rack asked read status same ready (inr served) =
-    inr (served.0, record { rack = rack; ready = subst (λ (c : Command). IsReady free c rack) (sym same) ready; ends = served.1 })
+handed program left free ended rack inside asked read status is same ready (inl unused) = inl (unused.0, inr (inr (inr (inl unused.1))))
+handed {P} {F} program left free ended rack inside asked read status is same ready (inr served) = inr (
+  served.0,
+  record {
+    rack = rack;
+    ready = subst (λ (c : Command). IsReady free c rack) (sym same) ready;
+    ends = subst (λ (r : ImageRack F). ended r asked status) is served.1;
+  },
+)

@@ -1,1 +1,2 @@
 mod CommandEndLemmas
+mod LogLemmas

@@ -41,8 +41,9 @@ pub record EndsCommand (slots : ℕ) (slot after : ℕ → Slot) (begun ended no
   pub left : AreLeftBelow rack.new after
   pub unhurt : EndsAtFaults source sink status
 
--- A command was done so with a rack of image files, which tells its slots alone: from the source and the sink as they were given to
--- what they are then. A source that the command does not read is as it was.
+-- There are a source, a sink and slots with which a command was done so over a rack of image files, which tells its slots alone, from
+-- the source and the sink as they were given. A source that the command does not read is the one that was given. That these are the
+-- streams and slots that are left, no clause says: they are shut where the command ends, and what is shut changes no more.
 pub record EndsOverImages {S K F : Type 0} (heard : S → SourceUse) (said : K → SinkUse) (given : S) (rack : ImageRack F) (c : Command) (status : ℕ) : Type 0 where
   pub source : S
   pub sink : K
@@ -50,7 +51,8 @@ pub record EndsOverImages {S K F : Type 0} (heard : S → SourceUse) (said : K �
   pub ends : EndsCommand (length (images_of rack)) (image_slot_at (images_of rack)) after None None None (heard source) (said sink) c status
   pub unread : (ReadsSource c → ⊥) → source ≡ given
 
--- The line that says which words there are was written to this sink, and the status is 2; or a first part of it, and the status is 4.
+-- There is a sink to which the line was written that says which words there are, and the status is 2; or a first part of it, and the
+-- status is 4.
 abbrev pub EndsWithUsage : {K : Type 0} → (K → Option (List ℕ)) → K → ℕ → Type 0
 EndsWithUsage {K} written old status = (new : K) × EndsWithLine (written old) (written new) usage_line status_words status
 

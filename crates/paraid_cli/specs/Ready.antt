@@ -17,7 +17,8 @@ pub record IsSound {F : Type 0} (rack : ImageRack F) : Type 0 where
   pub whole : IsWhole rack
   pub fitting : IsFitting rack
 
--- A new array is made only where it may be or, if that is forced, over a whole rack; all else needs images that are of their slots.
+-- A new array is made only where it may be or, if that is forced, over a whole rack; all else needs images that are of their slots. At
+-- the program, `free` says no more than that there are eight.
 abbrev pub IsReady : {F : Type 0} → (List Image → Type 0) → Command → ImageRack F → Type 0
 IsReady free (Format false) rack = free (images_of rack)
 IsReady free (Format true) rack = IsWhole rack

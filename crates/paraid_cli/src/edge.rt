@@ -11,6 +11,7 @@ ghost use Rattle.paraid_words.specs.Words.{AskFor};
 ghost use Rattle.paraid_words.specs.declared.command.Command.{Command as CommandType};
 
 use crate::program::{Answered, Program};
+use crate::served::Sealed;
 use paraid_imgrack::{Claim, Closed, Hindrance, ImageRack};
 use paraid_program::Ended;
 use paraid_rack::MOST_SLOTS;
@@ -158,7 +159,7 @@ fn work_there<'a, H: Host, P: Program<&'a H>>(
     if let Some(disk) = refused(rt, &program, &mut rack, command) {
         return Answered::unused(program, refuse(rt, command, disk));
     }
-    hand_over(rt, program, words, command, rack)
+    hand_over(rt, program, words, command, Sealed::new(rack))
 }
 
 /// Hands the command to the program, and tells of the images after it.
@@ -167,13 +168,13 @@ fn hand_over<'a, H: Host, P: Program<&'a H>>(
     program: P,
     words: &Vec<String>,
     command: &Command,
-    rack: ImageRack<&'a H>,
+    rack: Sealed<ImageRack<&'a H>>,
 ) -> Answered<P>
     requires { (c : CommandType) → AskFor c (map string_bytes words.now.items)
-        → IsReady (P.free program) c rack }
+        → IsReady (P.free program) c rack.inside }
     ensures { (c : CommandType) → AskFor c (map string_bytes words.now.items)
         → UsesProgram program result.left result.status
-        (P.ended program rack.entry c result.status) }
+        (P.ended program rack.entry.inside c result.status) }
 {
     match program.serve(words, rack) {
         Ok(Ended { status, rack }) => {

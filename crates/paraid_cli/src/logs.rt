@@ -1,16 +1,27 @@
 //! Whether the log disks of a rack hold an array, as a format will find it.
 ghost use Rattle.std.specs.Prelude.{◌≡◌, ◌<◌};
+ghost use Rattle.paraid_rack.specs.Calls.{AreReads};
+ghost use Rattle.paraid_rack.specs.Told.{Ran};
 
 use paraid_base::{Block, DiskNo, Failed};
 use paraid_rack::{Power, Rack};
 use paraid_record::{read_meta, read_targets};
 
 /// Whether a log disk can be read and says that it belongs to an array.
-pub(crate) fn hold_array<R: Rack>(rack: &mut R) -> bool {
-    says_array(rack, 0) || says_array(rack, 1)
+pub(crate) fn hold_array<R: Rack>(rack: &mut R) -> bool
+    ensures slots { R.slot_count rack.new ≡ R.slot_count rack.old }
+    ensures reads { Ran (R.told rack.old) (R.told rack.new) (λ start calls. AreReads calls) }
+{
+    if says_array(rack, 0) {
+        return true;
+    }
+    says_array(rack, 1)
 }
 
-fn says_array<R: Rack>(rack: &mut R, disk: DiskNo) -> bool {
+fn says_array<R: Rack>(rack: &mut R, disk: DiskNo) -> bool
+    ensures slots { R.slot_count rack.new ≡ R.slot_count rack.old }
+    ensures reads { Ran (R.told rack.old) (R.told rack.new) (λ start calls. AreReads calls) }
+{
     if disk >= rack.slots() || rack.power(disk) != Power::Spinning || rack.size(disk) < 4 {
         return false;
     }
@@ -25,15 +36,38 @@ fn has_meta<R: Rack>(rack: &mut R, disk: DiskNo) -> Result<bool, Failed>
     requires exists { disk < R.slot_count rack.old }
     requires spinning { (R.slot rack.old disk).power ≡ Power.Spinning }
     requires room { 3 < (R.slot rack.old disk).size }
+    ensures slots { R.slot_count rack.new ≡ R.slot_count rack.old }
+    ensures reads { Ran (R.told rack.old) (R.told rack.new) (λ start calls. AreReads calls) }
 {
     let mut gate = Block::zero();
-    let mut meta = Block::zero();
-    let mut list = Block::zero();
     rack.read(disk, 0, &mut gate)?;
     if gate.as_slice()[0] == 0 {
-        rack.read(disk, 1, &mut meta)?;
-        return Ok(read_meta(&meta).is_some());
+        return has_closed_meta(rack, disk);
     }
+    has_open_meta(rack, disk)
+}
+
+fn has_closed_meta<R: Rack>(rack: &mut R, disk: DiskNo) -> Result<bool, Failed>
+    requires exists { disk < R.slot_count rack.old }
+    requires spinning { (R.slot rack.old disk).power ≡ Power.Spinning }
+    requires room { 3 < (R.slot rack.old disk).size }
+    ensures slots { R.slot_count rack.new ≡ R.slot_count rack.old }
+    ensures reads { Ran (R.told rack.old) (R.told rack.new) (λ start calls. AreReads calls) }
+{
+    let mut meta = Block::zero();
+    rack.read(disk, 1, &mut meta)?;
+    Ok(read_meta(&meta).is_some())
+}
+
+fn has_open_meta<R: Rack>(rack: &mut R, disk: DiskNo) -> Result<bool, Failed>
+    requires exists { disk < R.slot_count rack.old }
+    requires spinning { (R.slot rack.old disk).power ≡ Power.Spinning }
+    requires room { 3 < (R.slot rack.old disk).size }
+    ensures slots { R.slot_count rack.new ≡ R.slot_count rack.old }
+    ensures reads { Ran (R.told rack.old) (R.told rack.new) (λ start calls. AreReads calls) }
+{
+    let mut meta = Block::zero();
+    let mut list = Block::zero();
     rack.read(disk, 2, &mut meta)?;
     rack.read(disk, 3, &mut list)?;
     match read_meta(&meta) {

@@ -11,6 +11,7 @@ ghost use Rattle.paraid_imgrack.specs.declared.rack.ImageRack.{ImageRack as Rack
 ghost use Rattle.paraid_words.specs.Words.{AskFor};
 ghost use Rattle.paraid_words.specs.declared.command.Command.{Command as CommandType};
 
+use crate::served::Sealed;
 use paraid_base::DiskNo;
 use paraid_imgrack::{Claim, Closed, ImageRack};
 use paraid_program::Ended;
@@ -38,12 +39,16 @@ pub(crate) trait Program<F>: Sized {
         requires { IsWhole rack.old }
         ensures { IfNone result (free self.now (images_of rack.new)) };
 
-    /// Does the command that the words ask for. The rack is used no more.
-    fn serve(self, words: &Vec<String>, rack: ImageRack<F>) -> Result<Ended<Closed<F>>, Self>
+    /// Does the command that the words ask for. No call is made on the rack before it, and none after.
+    fn serve(
+        self,
+        words: &Vec<String>,
+        rack: Sealed<ImageRack<F>>,
+    ) -> Result<Ended<Closed<F>>, Self>
         requires { (c : CommandType) → AskFor c (map string_bytes words.now.items)
-            → IsReady (free self) c rack }
+            → IsReady (free self) c rack.inside }
         ensures status { IfOk result (λ end. (c : CommandType)
-            → AskFor c (map string_bytes words.now.items) → ended self rack c end.status) }
+            → AskFor c (map string_bytes words.now.items) → ended self rack.inside c end.status) }
         ensures none { IfErr result (λ left. left ≡ self) };
 }
 

@@ -1,5 +1,8 @@
 //! The program over a rack whose writes are gathered. All that it wrote is in the files when it returns.
-ghost use Rattle.std.specs.Prelude.{◌≡◌, IfOk, OnErr, Some, map, string_bytes};
+//!
+//! A rack comes sealed, and rack and streams go shut: here alone they are opened, and whichever they
+//! are. So no call is made on them but those of which the contract tells, none before and none after.
+ghost use Rattle.std.specs.Prelude.{◌≡◌, IfErr, IfOk, Some, map, string_bytes};
 ghost use Rattle.paraid_cli.specs.CommandEnd.{EndsCommand};
 ghost use Rattle.paraid_gather.specs.Above.{told_above};
 ghost use Rattle.paraid_program.specs.CommandDoes.{ReadsSource};
@@ -10,51 +13,95 @@ ghost use Rattle.paraid_serve.specs.Statuses.{status_words};
 ghost use Rattle.paraid_words.specs.Words.{AskFor, usage_line};
 ghost use Rattle.paraid_words.specs.declared.command.Command.{Command as CommandType};
 
-use paraid_base::NoMemory;
 use paraid_gather::{BulkRack, Finished, Gathered, Noted};
+use paraid_imgrack::{Closed, ImageRack};
 use paraid_io::{Sink, Source};
 use paraid_program::{Ended, paraid};
 use std::alloc::Global;
+use std::fs::{File, Files};
 
-/// What a command has left: its status, the rack, in which all is written, and the log.
+/// A rack in hands that can make no call on it, but hand it to one command.
 #[derive(Drop)]
-pub(crate) struct Served<R, L> {
+pub(crate) struct Sealed<R> {
+    inside: R,
+}
+
+impl<R> Sealed<R> {
+    pub(crate) fn new(inside: R) -> Sealed<R>
+        ensures { result.inside ≡ inside }
+    {
+        Sealed { inside }
+    }
+}
+
+/// A rack or a stream after its command. It is used no more.
+#[derive(Drop)]
+pub(crate) struct Shut<T> {
+    inside: T,
+}
+
+impl<F: Files<File = File> + Drop> Shut<ImageRack<F>> {
+    /// The images, on which no call is made any more.
+    pub(crate) fn close(self) -> Closed<F> {
+        let Shut { inside } = self;
+        Closed::new(inside)
+    }
+}
+
+/// What a command has left: its status, the streams, the rack, in which all is written, and the log.
+#[derive(Drop)]
+pub(crate) struct Served<S, K, R, L> {
     pub(crate) status: u8,
-    pub(crate) rack: R,
+    pub(crate) source: Shut<S>,
+    pub(crate) sink: Shut<K>,
+    pub(crate) rack: Shut<R>,
     pub(crate) log: L,
 }
 
 /// Hands the program these streams and this rack, whose writes are gathered, and notes its calls in the
-/// log, which begins with the record that the rack has.
-pub(crate) fn serve_gathered<S: Source, K: Sink, R: BulkRack + Drop, L: Noted + Drop>(
+/// log, which begins with the record that the rack has. Only where there is no memory do the streams
+/// come back open.
+pub(crate) fn serve_gathered<S: Source + Drop, K: Sink + Drop, R: BulkRack + Drop, L: Noted + Drop>(
     alloc: Global,
     words: &Vec<String>,
-    source: &mut S,
-    sink: &mut K,
-    rack: R,
+    source: S,
+    sink: K,
+    rack: Sealed<R>,
     log: L,
-) -> Result<Served<R, L>, NoMemory>
-    requires begun { (t : Trail) → L.noted log ≡ Some t → R.told rack ≡ Some t }
+) -> Result<Served<S, K, R, L>, (S, K)>
+    requires begun { (t : Trail) → L.noted log ≡ Some t → R.told rack.inside ≡ Some t }
     ensures told { IfOk result (λ served. (c : CommandType) → AskFor c (map string_bytes words.now.items)
-        → EndsCommand (R.slot_count rack) (R.slot rack) (R.slot served.rack)
-        (told_above (R.told rack) (L.noted log)) (R.told served.rack) (L.noted served.log)
-        (source_use S.left S.faults source.old source.new)
-        (sink_use K.written K.faults sink.old sink.new) c served.status) }
+        → EndsCommand (R.slot_count rack.inside) (R.slot rack.inside) (R.slot served.rack.inside)
+        (told_above (R.told rack.inside) (L.noted log)) (R.told served.rack.inside)
+        (L.noted served.log) (source_use S.left S.faults source served.source.inside)
+        (sink_use K.written K.faults sink served.sink.inside) c served.status) }
     ensures words { IfOk result (λ served. ((c : CommandType)
         → AskFor c (map string_bytes words.now.items) → ⊥)
-        → EndsWithLine (K.written sink.old) (K.written sink.new) usage_line
+        → EndsWithLine (K.written sink) (K.written served.sink.inside) usage_line
         status_words served.status) }
     // A source that the command does not read stays as it was, and so it does where no command is asked for.
     ensures unread { IfOk result (λ served. (c : CommandType) → (ReadsSource c → ⊥)
-        → AskFor c (map string_bytes words.now.items) → source.new ≡ source.old) }
+        → AskFor c (map string_bytes words.now.items) → served.source.inside ≡ source) }
     ensures unasked { IfOk result (λ served. ((c : CommandType)
-        → AskFor c (map string_bytes words.now.items) → ⊥) → source.new ≡ source.old) }
-    ensures slots { IfOk result (λ served. R.slot_count served.rack ≡ R.slot_count rack) }
+        → AskFor c (map string_bytes words.now.items) → ⊥) → served.source.inside ≡ source) }
+    ensures slots { IfOk result (λ served. R.slot_count served.rack.inside
+        ≡ R.slot_count rack.inside) }
     // Without memory nothing was read, and nothing written.
-    ensures none { OnErr result ((source.new ≡ source.old) × (sink.new ≡ sink.old)) }
+    ensures none { IfErr result (λ left. (left.0 ≡ source) × (left.1 ≡ sink)) }
 {
-    let gathered = Gathered::new(alloc, rack, log)?;
-    let Ended { status, rack } = paraid(alloc, words, source, sink, gathered);
+    let Sealed { inside: rack } = rack;
+    let mut source = source;
+    let mut sink = sink;
+    let Ok(gathered) = Gathered::new(alloc, rack, log) else {
+        return Err((source, sink));
+    };
+    let Ended { status, rack } = paraid(alloc, words, &mut source, &mut sink, gathered);
     let Finished { rack, log } = rack.finish();
-    Ok(Served { status, rack, log })
+    Ok(Served {
+        status,
+        source: Shut { inside: source },
+        sink: Shut { inside: sink },
+        rack: Shut { inside: rack },
+        log,
+    })
 }

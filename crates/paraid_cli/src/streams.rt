@@ -7,8 +7,8 @@ ghost use Rattle.paraid_words.specs.declared.command.Command.{Command as Command
 
 use crate::logs::hold_array;
 use crate::program::Program;
-use crate::served::{Served, serve_gathered};
-use paraid_base::{DiskNo, NoMemory};
+use crate::served::{Sealed, Served, serve_gathered};
+use paraid_base::DiskNo;
 use paraid_gather::Unnoted;
 use paraid_imgrack::{Claim, Closed, ImageRack};
 use paraid_io::{Sink, Source};
@@ -25,12 +25,12 @@ pub(crate) struct Paraid<S, K> {
 }
 
 impl<F: Files<File = File> + Drop, S: Source + Drop, K: Sink + Drop> Program<F> for Paraid<S, K> {
-    ghost use Rattle.std.specs.Bool.{⊤};
+    ghost use Rattle.std.specs.Prelude.{length};
 
     ghost ended = { λ program rack c status. EndsOverImages (source_use S.left S.faults program.source) (sink_use K.written K.faults program.sink) program.source rack c status };
 
     // (what the files hold is told by no clause)
-    ghost free = { λ program images. ⊤ };
+    ghost free = { λ program images. length images ≡ 8 };
 
     ghost told = { λ program status. EndsWithUsage K.written program.sink status };
 
@@ -41,8 +41,8 @@ impl<F: Files<File = File> + Drop, S: Source + Drop, K: Sink + Drop> Program<F> 
     {
         let Paraid {
             alloc,
-            mut source,
-            mut sink,
+            source,
+            sink,
         } = self;
         let Ok(rack) = ImageRack::load(files, alloc, 0) else {
             return Err(Paraid {
@@ -51,15 +51,17 @@ impl<F: Files<File = File> + Drop, S: Source + Drop, K: Sink + Drop> Program<F> 
                 sink,
             });
         };
-        match serve_gathered(alloc, words, &mut source, &mut sink, rack, Unnoted) {
+        match serve_gathered(alloc, words, source, sink, Sealed::new(rack), Unnoted) {
             Ok(
                 Served {
                     status,
+                    source: _source,
+                    sink: _sink,
                     rack: _rack,
                     log: Unnoted,
                 },
             ) => Ok(status),
-            Err(NoMemory) => Err(Paraid {
+            Err((source, sink)) => Err(Paraid {
                 alloc,
                 source,
                 sink,
@@ -75,30 +77,36 @@ impl<F: Files<File = File> + Drop, S: Source + Drop, K: Sink + Drop> Program<F> 
         Some((disk, claim))
     }
 
-    fn serve(self, words: &Vec<String>, rack: ImageRack<F>) -> Result<Ended<Closed<F>>, Self>
+    fn serve(
+        self,
+        words: &Vec<String>,
+        rack: Sealed<ImageRack<F>>,
+    ) -> Result<Ended<Closed<F>>, Self>
         ensures status { IfOk result (λ end. (c : CommandType)
             → AskFor c (map string_bytes words.now.items)
             → EndsOverImages (source_use S.left S.faults self.source)
-            (sink_use K.written K.faults self.sink) self.source rack c end.status) }
+            (sink_use K.written K.faults self.sink) self.source rack.inside c end.status) }
         ensures none { IfErr result (λ left. left ≡ self) }
     {
         let Paraid {
             alloc,
-            mut source,
-            mut sink,
+            source,
+            sink,
         } = self;
-        match serve_gathered(alloc, words, &mut source, &mut sink, rack, Unnoted) {
+        match serve_gathered(alloc, words, source, sink, rack, Unnoted) {
             Ok(
                 Served {
                     status,
+                    source: _source,
+                    sink: _sink,
                     rack,
                     log: Unnoted,
                 },
             ) => Ok(Ended {
                 status,
-                rack: Closed::new(rack),
+                rack: rack.close(),
             }),
-            Err(NoMemory) => Err(Paraid {
+            Err((source, sink)) => Err(Paraid {
                 alloc,
                 source,
                 sink,

@@ -7,9 +7,9 @@ use Rattle.paraid_cli.proofs.served.serve_gathered.Goals as goal
 
 pub returns-clause-told : goal.returns-clause-told
 returns-clause-told g c command asked =
-    let taken = c.in_ok-gathered.gathered in
+    let taken = c.in-Ok.gathered in
     let left = c.paraid-status.result.rack in
-    let is = c.in_ok-gathered.ensures in
+    let is = c.in-Ok.ensures in
     record {
       rack = record {
         slots = g.R.Rack.slot_count taken.rack;
@@ -19,8 +19,8 @@ returns-clause-told g c command asked =
         after = told_above (g.R.Rack.told left.rack) (g.L.Noted.noted left.log);
       };
       count = ap g.R.Rack.slot_count is.rack;
-      before = slots_alone g.R.Rack.slot taken.rack c.args.rack (waiting_in taken) is.rack is.none;
-      told = ap (λ (o : Option Trail). told_above o (g.L.Noted.noted taken.log)) (ap g.R.Rack.told is.rack) ∙ ap (λ (o : Option Trail). told_above (g.R.Rack.told c.args.rack) o) (ap g.L.Noted.noted is.log);
+      before = slots_alone g.R.Rack.slot taken.rack c.args.rack.inside (waiting_in taken) is.rack is.none;
+      told = ap (λ (o : Option Trail). told_above o (g.L.Noted.noted taken.log)) (ap g.R.Rack.told is.rack) ∙ ap (λ (o : Option Trail). told_above (g.R.Rack.told c.args.rack.inside) o) (ap g.L.Noted.noted is.log);
       gathered = c.finish-rack.ensures.gathered;
       does = c.paraid-status.ensures.does command asked;
       complete = c.paraid-status.ensures.complete command asked;
