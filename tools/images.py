@@ -312,10 +312,12 @@ class Folder:
 
     def label(self, disk):
         """The label behind the last block; BARE where nothing, zeros or a text of another length stands there; None
-        where a label was torn, or no image can be read."""
+        where a label was torn, the file has no block, or no image can be read."""
         try:
             file = self.opened(disk)
             length = os.fstat(file).st_size
+            if length < BLOCK:
+                return None
             text = os.pread(file, LABEL_SIZE, length - LABEL_SIZE) if length % BLOCK == LABEL_SIZE else b""
             return read_label(text) if any(text) else BARE
         except PermissionError:

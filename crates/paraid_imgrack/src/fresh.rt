@@ -19,13 +19,12 @@ pub(crate) enum Obstacle {
     Data,
 }
 
-/// What stands in the place of a new image and is not of its array. The image that the slot had in this
-/// load is, also where it has no label. A file that cannot be read is no obstacle: its device fails.
+/// What stands in the place of a new image and is not of its array, as far as its label tells. A file that
+/// cannot be read is no obstacle: its device fails.
 pub(crate) fn obstacle_at<F: Files<File = File>>(
     files: &F,
     name: &str,
     identity: &Option<Identity>,
-    is_own: bool,
 ) -> Option<Obstacle> {
     let identity = identity.as_ref()?;
     let Found::Open(file) = find(files, name) else {
@@ -33,7 +32,6 @@ pub(crate) fn obstacle_at<F: Files<File = File>>(
     };
     match label_of(&file) {
         Some(label) => array_in(&label, identity),
-        None if is_own => None,
         None => data_in(&file),
     }
 }

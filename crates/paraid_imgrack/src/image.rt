@@ -63,8 +63,6 @@ pub(crate) struct Image {
     pub(crate) misfit: Option<Misfit>,
     /// The error of the first call that failed, since the disk was last to be attached.
     pub(crate) cause: Option<io::Error>,
-    /// The slot had an image at the load.
-    loaded: bool,
     /// The disk was attached since the load.
     pub(crate) attached: bool,
     pub ghost empty: { power ≡ Absent → size ≡ 0 },
@@ -108,7 +106,6 @@ impl Image {
                 tail: Tail::Other,
                 misfit: None,
                 cause: None,
-                loaded: true,
                 attached: false,
             }),
             Opened::Lost(cause) => Ok(Image::absent(names, None, cause)),
@@ -131,7 +128,6 @@ impl Image {
             tail: Tail::Other,
             misfit: None,
             cause,
-            loaded: false,
             attached: false,
         }
     }
@@ -365,7 +361,7 @@ impl Image {
         self.file = None; // and its lock
         self.misfit = None;
         self.cause = None;
-        match obstacle_at(files, self.names.image.as_str(), identity, self.is_own()) {
+        match obstacle_at(files, self.names.image.as_str(), identity) {
             Some(Obstacle::Foreign) => {
                 self.misfit = Some(Misfit::Foreign);
                 return Err(self.fail(files));
@@ -383,11 +379,6 @@ impl Image {
         self.unsynced = false;
         self.attached = true;
         Ok(())
-    }
-
-    /// Whether the image in the slot was that of the disk in this load.
-    fn is_own(&self) -> bool {
-        self.loaded || self.attached
     }
 
     /// There is no disk from now on, and why is kept, unless a call has failed before.

@@ -28,8 +28,11 @@ fn end(size: u32) -> u64
     size as u64 * BLOCK_SIZE as u64
 }
 
-/// What stands behind the blocks of an image of this size.
+/// What stands behind the blocks of an image of this size. A file without a block has no place for a label.
 pub(crate) fn read_tail(file: &File, size: u32) -> io::Result<Tail> {
+    if size == 0 {
+        return Ok(Tail::Other);
+    }
     let length = file.metadata()?.len();
     if length == end(size) {
         return Ok(Tail::Blank);
