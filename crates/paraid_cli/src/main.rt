@@ -7,6 +7,7 @@ mod program;
 mod served;
 mod streams;
 
+use crate::served::Sealed;
 use crate::streams::Paraid;
 use paraid_io::{StdSink, StdSource};
 use paraid_serve::status;
@@ -29,8 +30,8 @@ fn main(rt: HostRuntime) -> ExitCode {
     }
     let program = Paraid {
         alloc: rt.alloc(),
-        source: StdSource::new(rt.reader()),
-        sink: StdSink::new(io::writer(&rt)),
+        source: Sealed::new(StdSource::new(rt.reader())),
+        sink: Sealed::new(StdSink::new(io::writer(&rt))),
     };
     ExitCode::from(edge::answer_words(&rt, program, &words).status)
 }

@@ -1,7 +1,7 @@
 //! The program over a rack whose writes are gathered. All that it wrote is in the files when it returns.
 //!
-//! A rack comes sealed, and rack and streams go shut: here alone they are opened, and whichever they
-//! are. So no call is made on them but those of which the contract tells, none before and none after.
+//! Rack and streams come sealed and go shut: here alone they are opened, and whichever they are. So no
+//! call is made on them but those of which the contract tells, none before and none after.
 ghost use Rattle.std.specs.Prelude.{◌≡◌, IfErr, IfOk, Some, map, string_bytes};
 ghost use Rattle.paraid_cli.specs.CommandEnd.{EndsCommand};
 ghost use Rattle.paraid_gather.specs.Above.{told_above};
@@ -20,14 +20,14 @@ use paraid_program::{Ended, paraid};
 use std::alloc::Global;
 use std::fs::{File, Files};
 
-/// A rack in hands that can make no call on it, but hand it to one command.
+/// A rack or a stream in hands that cannot use it, but hand it to one command.
 #[derive(Drop)]
-pub(crate) struct Sealed<R> {
-    inside: R,
+pub(crate) struct Sealed<T> {
+    inside: T,
 }
 
-impl<R> Sealed<R> {
-    pub(crate) fn new(inside: R) -> Sealed<R>
+impl<T> Sealed<T> {
+    pub(crate) fn new(inside: T) -> Sealed<T>
         ensures { result.inside ≡ inside }
     {
         Sealed { inside }
@@ -60,41 +60,41 @@ pub(crate) struct Served<S, K, R, L> {
 
 /// Hands the program these streams and this rack, whose writes are gathered, and notes its calls in the
 /// log, which begins with the record that the rack has. Only where there is no memory do the streams
-/// come back open.
+/// come back as they were.
 pub(crate) fn serve_gathered<S: Source + Drop, K: Sink + Drop, R: BulkRack + Drop, L: Noted + Drop>(
     alloc: Global,
     words: &Vec<String>,
-    source: S,
-    sink: K,
+    source: Sealed<S>,
+    sink: Sealed<K>,
     rack: Sealed<R>,
     log: L,
-) -> Result<Served<S, K, R, L>, (S, K)>
+) -> Result<Served<S, K, R, L>, (Sealed<S>, Sealed<K>)>
     requires begun { (t : Trail) → L.noted log ≡ Some t → R.told rack.inside ≡ Some t }
     ensures told { IfOk result (λ served. (c : CommandType) → AskFor c (map string_bytes words.now.items)
         → EndsCommand (R.slot_count rack.inside) (R.slot rack.inside) (R.slot served.rack.inside)
         (told_above (R.told rack.inside) (L.noted log)) (R.told served.rack.inside)
-        (L.noted served.log) (source_use S.left S.faults source served.source.inside)
-        (sink_use K.written K.faults sink served.sink.inside) c served.status) }
+        (L.noted served.log) (source_use S.left S.faults source.inside served.source.inside)
+        (sink_use K.written K.faults sink.inside served.sink.inside) c served.status) }
     ensures words { IfOk result (λ served. ((c : CommandType)
         → AskFor c (map string_bytes words.now.items) → ⊥)
-        → EndsWithLine (K.written sink) (K.written served.sink.inside) usage_line
+        → EndsWithLine (K.written sink.inside) (K.written served.sink.inside) usage_line
         status_words served.status) }
     // A source that the command does not read stays as it was, and so it does where no command is asked for.
     ensures unread { IfOk result (λ served. (c : CommandType) → (ReadsSource c → ⊥)
-        → AskFor c (map string_bytes words.now.items) → served.source.inside ≡ source) }
+        → AskFor c (map string_bytes words.now.items) → served.source.inside ≡ source.inside) }
     ensures unasked { IfOk result (λ served. ((c : CommandType)
-        → AskFor c (map string_bytes words.now.items) → ⊥) → served.source.inside ≡ source) }
+        → AskFor c (map string_bytes words.now.items) → ⊥) → served.source.inside ≡ source.inside) }
     ensures slots { IfOk result (λ served. R.slot_count served.rack.inside
         ≡ R.slot_count rack.inside) }
     // Without memory nothing was read, and nothing written.
     ensures none { IfErr result (λ left. (left.0 ≡ source) × (left.1 ≡ sink)) }
 {
     let Sealed { inside: rack } = rack;
-    let mut source = source;
-    let mut sink = sink;
     let Ok(gathered) = Gathered::new(alloc, rack, log) else {
         return Err((source, sink));
     };
+    let Sealed { inside: mut source } = source;
+    let Sealed { inside: mut sink } = sink;
     let Ended { status, rack } = paraid(alloc, words, &mut source, &mut sink, gathered);
     let Finished { rack, log } = rack.finish();
     Ok(Served {
