@@ -19,19 +19,21 @@ pub(crate) enum Obstacle {
     Data,
 }
 
-/// What stands in the place of a new image and is not of its array, as far as its label tells. A file that
-/// cannot be read is no obstacle: its device fails.
+/// What stands in the place of a new image and is not of its array, as far as its label tells. A file
+/// that cannot be opened is no obstacle; one whose end cannot be read is none to write over either.
 pub(crate) fn obstacle_at<F: Files<File = File>>(
     files: &F,
     name: &str,
     identity: &Option<Identity>,
-) -> Option<Obstacle> {
-    let identity = identity.as_ref()?;
-    let Found::Open(file) = find(files, name) else {
-        return None;
+) -> io::Result<Option<Obstacle>> {
+    let Some(identity) = identity else {
+        return Ok(None);
     };
-    match label_of(&file) {
-        Some(label) => array_in(&label, identity),
+    let Found::Open(file) = find(files, name) else {
+        return Ok(None);
+    };
+    match label_of(&file)? {
+        Some(label) => Ok(array_in(&label, identity)),
         None => data_in(&file),
     }
 }
@@ -44,19 +46,20 @@ fn array_in(label: &Label, identity: &Identity) -> Option<Obstacle> {
     }
 }
 
-/// The label of a file, if it has one that can be read.
-fn label_of(file: &File) -> Option<Label> {
-    let size = whole_blocks(file.metadata().ok()?.len());
-    match read_tail(file, size) {
-        Ok(Tail::Label(label)) => Some(label),
-        _ => None,
+/// The label of a file, if it has one.
+fn label_of(file: &File) -> io::Result<Option<Label>> {
+    let size = whole_blocks(file.metadata()?.len());
+    match read_tail(file, size)? {
+        Tail::Label(label) => Ok(Some(label)),
+        _ => Ok(None),
     }
 }
 
-fn data_in(file: &File) -> Option<Obstacle> {
-    match holds_data(file) {
-        Ok(true) => Some(Obstacle::Data),
-        _ => None,
+fn data_in(file: &File) -> io::Result<Option<Obstacle>> {
+    if holds_data(file)? {
+        Ok(Some(Obstacle::Data))
+    } else {
+        Ok(None)
     }
 }
 

@@ -362,12 +362,13 @@ impl Image {
         self.misfit = None;
         self.cause = None;
         match obstacle_at(files, self.names.image.as_str(), identity) {
-            Some(Obstacle::Foreign) => {
+            Ok(None) => {}
+            Ok(Some(Obstacle::Foreign)) => {
                 self.misfit = Some(Misfit::Foreign);
                 return Err(self.fail(files));
             }
-            Some(Obstacle::Data) => return Err(self.fail_by(files, other_data())),
-            None => {}
+            Ok(Some(Obstacle::Data)) => return Err(self.fail_by(files, other_data())),
+            Err(error) => return Err(self.fail_by(files, error)),
         }
         match make_image(files, &self.names, identity, disk, size) {
             Ok(file) => self.file = file,

@@ -1,5 +1,5 @@
 //! The label of an image: a text of one form, which says what image it is and how new.
-ghost use Rattle.std.specs.Prelude.{◌≡◌, ◌≤◌, ◌+◌, ℕ};
+ghost use Rattle.std.specs.Prelude.{◌≡◌, ◌≤◌, ◌+◌, ◌*◌, ℕ, length};
 
 use paraid_base::DiskNo;
 
@@ -48,9 +48,7 @@ impl Label {
     /// The text of the label.
     pub fn text(&self) -> [u8; LABEL_SIZE] {
         let mut text = FORM;
-        for at in 0..16 {
-            put_hex(&mut text, ARRAY_AT + 2 * at, self.array[at]);
-        }
+        put_bytes(&mut text, ARRAY_AT, &self.array);
         text[DISK_AT] = b'0' + self.disk % 10;
         text[DISKS_AT] = b'0' + self.disks % 10;
         put_number(&mut text, GENERATION_AT, self.generation);
@@ -58,9 +56,7 @@ impl Label {
             put_number(&mut text, KNOWN_AT + KNOWN_STEP * disk, self.known[disk]);
         }
         let sum = sum(&text).to_be_bytes();
-        for at in 0..8 {
-            put_hex(&mut text, SUM_AT + 2 * at, sum[at]);
-        }
+        put_bytes(&mut text, SUM_AT, &sum);
         text
     }
 
@@ -76,16 +72,12 @@ impl Label {
 
     /// What stands in the places of the numbers.
     fn fields(text: &[u8; LABEL_SIZE]) -> Label {
-        let mut array = [0; 16];
-        for at in 0..16 {
-            array[at] = hex_at(text, ARRAY_AT + 2 * at);
-        }
         let mut known = [0; 8];
         for disk in 0..8 {
             known[disk] = number_at(text, KNOWN_AT + KNOWN_STEP * disk);
         }
         Label {
-            array,
+            array: array_at(text),
             disk: digit(text[DISK_AT]),
             disks: digit(text[DISKS_AT]),
             generation: number_at(text, GENERATION_AT),
@@ -100,6 +92,15 @@ pub fn begins_as_label(text: &[u8; LABEL_SIZE]) -> bool {
 }
 
 const DIGITS: [u8; 16] = *b"0123456789abcdef";
+
+/// Two digits to the base 16 for each byte.
+fn put_bytes(text: &mut [u8; LABEL_SIZE], at: usize, bytes: &[u8])
+    requires { at + 2 * length bytes.now ≤ 384 }
+{
+    for k in 0..bytes.len() {
+        put_hex(text, at + 2 * k, bytes[k]);
+    }
+}
 
 /// Two digits to the base 16.
 fn put_hex(text: &mut [u8; LABEL_SIZE], at: usize, byte: u8)
@@ -130,6 +131,15 @@ fn digit(byte: u8) -> u8 {
     } else {
         byte.wrapping_sub(b'0')
     }
+}
+
+/// The number of the array.
+fn array_at(text: &[u8; LABEL_SIZE]) -> [u8; 16] {
+    let mut array = [0; 16];
+    for at in 0..16 {
+        array[at] = hex_at(text, ARRAY_AT + 2 * at);
+    }
+    array
 }
 
 fn hex_at(text: &[u8; LABEL_SIZE], at: usize) -> u8

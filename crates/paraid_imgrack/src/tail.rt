@@ -15,7 +15,7 @@ pub(crate) enum Tail {
     /// A label that was cut short: one can be written over it.
     Torn,
     Label(Label),
-    /// Other bytes of a label's length, which are left alone.
+    /// Other bytes of a label's length, which are left alone; or a file without a block.
     Other,
     /// A tail of another length, which is left alone too.
     Odd,
