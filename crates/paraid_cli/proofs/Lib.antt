@@ -1,2 +1,1 @@
 mod CommandEndLemmas
-mod LogLemmas

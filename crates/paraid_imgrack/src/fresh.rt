@@ -4,8 +4,7 @@ ghost use Rattle.std.specs.Prelude.{◌+◌, ◌<◌, ◌^◌};
 use crate::found::{Found, find, is_locked};
 use crate::identity::Identity;
 use crate::image::{offset, whole_blocks};
-use crate::label::Label;
-use crate::tail::{Tail, keep_room, read_tail};
+use crate::tail::{Tail, is_torn_of, keep_room, read_tail};
 use paraid_base::BLOCK_SIZE;
 use std::fs::{self, File, Files, OpenOptions};
 use std::io;
@@ -15,7 +14,7 @@ use std::os::unix::fs::FileExt;
 pub(crate) enum Obstacle {
     /// An image that has the label of another array.
     Foreign,
-    /// A file that holds data and has no label of the array.
+    /// A file that holds data and has no label of the array, not even a damaged one.
     Data,
 }
 
@@ -32,26 +31,12 @@ pub(crate) fn obstacle_at<F: Files<File = File>>(
     let Found::Open(file) = find(files, name) else {
         return Ok(None);
     };
-    match label_of(&file)? {
-        Some(label) => Ok(array_in(&label, identity)),
-        None => data_in(&file),
-    }
-}
-
-fn array_in(label: &Label, identity: &Identity) -> Option<Obstacle> {
-    if label.array == identity.array {
-        None
-    } else {
-        Some(Obstacle::Foreign)
-    }
-}
-
-/// The label of a file, if it has one.
-fn label_of(file: &File) -> io::Result<Option<Label>> {
     let size = whole_blocks(file.metadata()?.len());
-    match read_tail(file, size)? {
-        Tail::Label(label) => Ok(Some(label)),
-        _ => Ok(None),
+    match read_tail(&file, size)? {
+        Tail::Label(label) if label.array == identity.array => Ok(None),
+        Tail::Label(_) => Ok(Some(Obstacle::Foreign)),
+        Tail::Torn if is_torn_of(&file, size, &identity.array)? => Ok(None),
+        _ => data_in(&file),
     }
 }
 

@@ -86,9 +86,14 @@ impl Label {
     }
 }
 
-/// Whether a text has the first line of a label, whatever follows.
-pub fn begins_as_label(text: &[u8; LABEL_SIZE]) -> bool {
-    text[..15] == FORM[..15]
+/// Whether a text was a label once: it has the first words of one, or two others in their places.
+pub fn was_label(text: &[u8; LABEL_SIZE]) -> bool {
+    text[..15] == FORM[..15] || (text[48..54] == FORM[48..54] && text[362..367] == FORM[362..367])
+}
+
+/// Whether a text has the number of an array where a label has it.
+pub fn names_array(text: &[u8; LABEL_SIZE], array: &[u8; 16]) -> bool {
+    array_at(text) == *array
 }
 
 const DIGITS: [u8; 16] = *b"0123456789abcdef";

@@ -1,7 +1,7 @@
 //! What stands behind the last block of an image: a label, or room for one.
 ghost use Rattle.std.specs.Prelude.{◌≡◌, ◌*◌};
 
-use crate::label::{LABEL_SIZE, Label, begins_as_label};
+use crate::label::{LABEL_SIZE, Label, names_array, was_label};
 use paraid_base::BLOCK_SIZE;
 use std::fs::File;
 use std::io;
@@ -12,7 +12,7 @@ use std::os::unix::fs::FileExt;
 pub(crate) enum Tail {
     /// Nothing, or zeros of a label's length: one can be written.
     Blank,
-    /// A label that was cut short: one can be written over it.
+    /// A label that was cut short or damaged: one can be written over it.
     Torn,
     Label(Label),
     /// Other bytes of a label's length, which are left alone; or a file without a block.
@@ -45,10 +45,17 @@ pub(crate) fn read_tail(file: &File, size: u32) -> io::Result<Tail> {
     Ok(tail_of(&text))
 }
 
+/// Whether a damaged label has the number of this array in its place.
+pub(crate) fn is_torn_of(file: &File, size: u32, array: &[u8; 16]) -> io::Result<bool> {
+    let mut text = [0; LABEL_SIZE];
+    file.read_exact_at(&mut text, end(size))?;
+    Ok(names_array(&text, array))
+}
+
 fn tail_of(text: &[u8; LABEL_SIZE]) -> Tail {
     match Label::read(text) {
         Some(label) => Tail::Label(label),
-        None if begins_as_label(text) => Tail::Torn,
+        None if was_label(text) => Tail::Torn,
         None if *text == [0; LABEL_SIZE] => Tail::Blank,
         None => Tail::Other,
     }

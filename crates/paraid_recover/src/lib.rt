@@ -47,6 +47,7 @@ pub use examining::{examine, refusal_by_slots};
 pub use fault::MountFault;
 pub use faults::{first_faulty, is_unformatted};
 pub use format_fault::FormatFault;
+pub use found::greatest_epoch;
 pub use hearing::{Heard, hear};
 pub use lacking::two_missing;
 pub use law::{
