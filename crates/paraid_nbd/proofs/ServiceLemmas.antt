@@ -252,7 +252,7 @@ pub unsent_first : {a b : Option (List ℕ)} {p : List ℕ} (q : List ℕ) {f z 
 unsent_first {a} {b} {p} q {f} {z} {e} u = record {
   sent = u.sent;
   within = omega (arith, length-append p q, u.within);
-  grows = subst (λ (x : List ℕ). GrowsByBytes a b x) (sym (take-append-le u.sent p q u.within)) u.grows;
+  grows = subst (λ (x : List ℕ). GrowsByBytes a b x) (sym (take-append-le u.sent p q (omega (arith, u.within)))) u.grows;
   cause = u.cause;
   is = u.is;
 }

@@ -13,10 +13,10 @@ use Rattle.paraid_nbd.specs.Taking.{Takes, Lacks, IsCut}
 unfoldable pub greeting : List ℕ
 greeting = codes "NBDMAGIC" ++ (number_bytes 8 0x49484156454F5054 ++ number_bytes 2 3)
 
--- A first part of this was written, and then the sink failed.
+-- A first part of this was written, which is not all of it, and then the sink failed.
 pub record IsUnsent (before after : Option (List ℕ)) (out : List ℕ) (faults now : ℕ) (end : NbdEnd) : Type 0 where
   pub sent : ℕ
-  pub within : sent ≤ length out
+  pub within : sent < length out
   pub grows : GrowsByBytes before after (take sent out)
   pub cause : HasRisen faults now
   pub is : end ≡ Sink
