@@ -41,13 +41,15 @@ asked_read offset d block start size bytes value many block_is start_is part a b
     subst (λ (x : ℕ). AreBytesRead offset (bytes ++ take size (drop x value.bytes)) (a ++ b)) (sym from)
     (One_read bytes a b size value r (subst (λ (x : ℕ). IsNextPart offset x size) (sym many) part) (subst (λ (x : ℕ). IsOneRead x value b) at one))
 
-pub asked_read_halts : (offset d block count : ℕ) (bytes : List ℕ) → length bytes ≡ d → block ≡ (offset + d) / 512 → d < count
+pub asked_read_halts : (offset d block size count : ℕ) (bytes : List ℕ) → length bytes ≡ d → block ≡ (offset + d) / 512 → d + size ≤ count → IsNextPart offset d size
     → (a b : Answers) (event : Event) → AreBytesRead offset bytes a → HaltsAtOnce (ReadEvent block) b event → IsReadHalted offset count (a ++ b) event
-asked_read_halts offset d block count bytes many block_is lt a b event r h =
+asked_read_halts offset d block size count bytes many block_is within part a b event r h =
     let at : block ≡ (offset + length bytes) / 512 = block_is ∙ ap (λ (x : ℕ). (offset + x) / 512) (sym many) in
     record {
       bytes = bytes;
-      few = subst (λ (x : ℕ). x < count) (sym many) lt;
+      size = size;
+      within = subst (λ (x : ℕ). x + size ≤ count) (sym many) within;
+      part = subst (λ (x : ℕ). IsNextPart offset x size) (sym many) part;
       read = subst (AreBytesRead offset bytes) (sym (append-nil a) ∙ ap (λ (x : Answers). a ++ x) (sym h.0)) r;
       is = h.1 ∙ ap ReadEvent at;
     }

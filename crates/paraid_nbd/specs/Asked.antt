@@ -83,10 +83,12 @@ pub data ArePartsWritten (offset : ℕ) : List ℕ → Answers → Type 0 where
       → IsPartWritten ((offset + length bytes) / 512) ((offset + length bytes) % 512) piece more
       → ArePartsWritten offset (bytes ++ piece) (events ++ more)
 
--- A read of `count` bytes from `offset` on came to a halt: these first bytes were read, and the read of the block of the next one gave it.
+-- A read of `count` bytes from `offset` on came to a halt: these first bytes were read, and the read of the block of the next part gave it.
 pub record IsReadHalted (offset count : ℕ) (done : Answers) (event : Event) : Type 0 where
   pub bytes : List ℕ
-  pub few : length bytes < count
+  pub size : ℕ
+  pub within : length bytes + size ≤ count
+  pub part : IsNextPart offset (length bytes) size
   pub read : AreBytesRead offset bytes done
   pub is : event ≡ ReadEvent ((offset + length bytes) / 512)
 

@@ -38,7 +38,8 @@ returns-in_err-read_block g c =
       keeps = keeps_then _ _ _ _ i.keeps e.keeps;
       serves = rw (err_from_is_err_and c.from_residual.result c.from_residual.ensures.1).1 tt;
       halts = on_err c.from_residual.result (halts_on_then _ _ _ _
-          (asked_read_halts c.args.offset c.loop-done.done c.at-part.result.block (length c.args.into.now) (take c.loop-done.done c.loop-done.into) (length-take-le c.loop-done.done c.loop-done.into i.within) c.at-part.ensures.block (omega (arith, c.loop-done-test.true, c.loop-done.auto.into)))
+          (asked_read_halts c.args.offset c.loop-done.done c.at-part.result.block c.at-part.result.length (length c.args.into.now) (take c.loop-done.done c.loop-done.into) (length-take-le c.loop-done.done c.loop-done.into i.within) c.at-part.ensures.block (omega (arith, c.at-part.ensures.length, c.loop-done-test.true, c.loop-done.auto.into))
+          (next_part c.args.offset c.loop-done.done (length c.loop-done.into) c.at-part.result.length c.at-part.ensures.length c.loop-done-test.true i.whole))
           i.serves e.halts);
       read = rw p.1 tt;
       stops = on_err c.from_residual.result (λ first tells s events is kept.
