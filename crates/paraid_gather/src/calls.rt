@@ -1,5 +1,5 @@
 //! Calls on one disk, with the blocks that wait for it.
-ghost use Rattle.std.specs.Prelude.{◌≡◌, ◌<◌, ℕ, true, false, [], ◌∷◌, Some, is_ok};
+ghost use Rattle.std.specs.Prelude.{◌≡◌, ◌<◌, ℕ, true, false, [], ◌∷◌, Some, IsSome, is_ok};
 ghost use Rattle.paraid_rack.specs.declared.call.Call.TheVariants.{Attach, Read, Sync, Write};
 ghost use Rattle.paraid_rack.specs.declared.call.Power.TheVariants.{Spinning as Turning};
 ghost use Rattle.paraid_rack.specs.Disks.{Disks, step, with_at};
@@ -10,7 +10,7 @@ ghost use Rattle.paraid_gather.specs.Above.{IsAbove, slot_above};
 ghost use Rattle.paraid_gather.specs.Bulk.{left_by};
 ghost use Rattle.paraid_gather.specs.Does.{DoesAbove};
 ghost use Rattle.paraid_gather.specs.PowerCalls.{PowersAs};
-ghost use Rattle.paraid_gather.specs.Waiting.{Fits, Joins, Waiting, run_of, waits};
+ghost use Rattle.paraid_gather.specs.Waiting.{Fits, Joins, Waiting, run_of, waiting, waits};
 
 use crate::bulk::BulkRack;
 use crate::run::Run;
@@ -66,6 +66,7 @@ fn make_room<R: BulkRack>(
         (is_ok result) (left_by (is_ok result) disk) }
     ensures power_calls { Ran (R.told rack.old) (R.told rack.new) (PowersAs []) }
     ensures joins { is_ok result ≡ true → Joins (run_of run.new) place }
+    ensures joined { Joins (run_of run.old) place → rack.new ≡ rack.old }
     ensures waited { is_ok result ≡ false → waits (run_of run.old) ≡ true }
 {
     if run.joins(place) {
@@ -90,6 +91,7 @@ pub(crate) fn write<R: BulkRack>(
         (record (slot_above (R.slot rack.old disk) (run_of run.old)) { unsynced = true }) true
         (is_ok result) (step (Write disk place block.now (is_ok result))) }
     ensures power_calls { Ran (R.told rack.old) (R.told rack.new) (PowersAs []) }
+    ensures joined { Joins (run_of run.old) place → rack.new ≡ rack.old }
 {
     let Ok(()) = make_room(rack, run, disk, place) else {
         return Err(Failed);
@@ -118,6 +120,7 @@ pub(crate) fn read<R: BulkRack>(
     ensures bytes { is_ok result ≡ true → (t : Trail) (w : ℕ → Waiting) (s : Disks)
         → R.told rack.old ≡ Some t → IsAbove (now t) (with_at w disk (run_of run.now)) s
         → into.new ≡ s.block disk place }
+    ensures held { IsSome (waiting (run_of run.now) place) → rack.new ≡ rack.old }
 {
     if let Some(bytes) = run.get(place) {
         *into = Block::from_array(*bytes);

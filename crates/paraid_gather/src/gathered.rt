@@ -190,7 +190,7 @@ fn no_runs(alloc: Global) -> Result<Vec<Run>, NoMemory>
 }
 
 impl<R: BulkRack, L: Noted> Rack for Gathered<R, L> {
-    ghost use Rattle.std.specs.Prelude.{◌<◌, true, false, Some, OnOk, is_ok};
+    ghost use Rattle.std.specs.Prelude.{◌<◌, true, false, Some, IsSome, OnOk, is_ok};
     ghost use Rattle.paraid_rack.specs.Slots.{ChangesOneSlot};
     ghost use Rattle.paraid_rack.specs.Told.{GrowsByCall};
     ghost use Rattle.paraid_rack.specs.Trail.{Trail, now};
@@ -198,6 +198,7 @@ impl<R: BulkRack, L: Noted> Rack for Gathered<R, L> {
     ghost use Rattle.paraid_gather.specs.Above.{Follows, IsAbove, slots_above, told_above};
     ghost use Rattle.paraid_gather.specs.Gathers.{log_of, rack_below, waiting_in};
     ghost use Rattle.paraid_gather.specs.Laws.{above_agrees, above_lawful, slots_above_hold};
+    ghost use Rattle.paraid_gather.specs.Waiting.{Joins, waiting};
 
     ghost slot_count = { λ gathered. R.slot_count gathered.rack };
 
@@ -248,6 +249,9 @@ impl<R: BulkRack, L: Noted> Rack for Gathered<R, L> {
         ensures bytes_above { is_ok result ≡ true → (t : Trail) (s : Disks)
             → R.told (rack_below self.old) ≡ Some t → IsAbove (now t) (waiting_in self.old) s
             → into.new ≡ s.block disk place }
+        // Where the block waits, nothing is called.
+        ensures held { IsSome (waiting (waiting_in self.old disk) place)
+            → rack_below self.new ≡ rack_below self.old }
     {
         let result = calls::read(&mut self.rack, &self.runs[disk as usize], disk, place, into);
         let done = result.is_ok();
@@ -271,6 +275,9 @@ impl<R: BulkRack, L: Noted> Rack for Gathered<R, L> {
         ensures above { (s : Disks) → Follows (R.told (rack_below self.old)) (R.told (rack_below self.new))
             (waiting_in self.old) (waiting_in self.new) s
             (step (Call.Write disk place block.now (is_ok result)) s) }
+        // A block that joins those that wait is not written yet: nothing is called.
+        ensures joined { Joins (waiting_in self.old disk) place
+            → rack_below self.new ≡ rack_below self.old }
     {
         let result = calls::write(
             &mut self.rack,

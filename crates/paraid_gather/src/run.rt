@@ -17,7 +17,7 @@ pub(crate) struct Run {
 }
 
 impl Run {
-    ghost use Rattle.std.specs.Prelude.{ℕ, ◌<◌, if◌then◌else◌, ◌==◌, Some, true, not, option_copied, IfOk};
+    ghost use Rattle.std.specs.Prelude.{ℕ, ◌<◌, ◌↔◌, if◌then◌else◌, ◌==◌, Some, true, not, option_copied, IfOk, IsTrue};
     ghost use Rattle.paraid_gather.specs.Waiting.{IsWithin, Joins, waiting, waits, run_of, none_waits};
 
     /// No blocks, with room for as many as it may ever hold.
@@ -38,7 +38,7 @@ impl Run {
 
     /// Whether a block at this place can be put: it takes the place of one, or follows the last.
     pub(crate) fn joins(&self, place: Place) -> bool
-        ensures { result ≡ true → Joins (run_of self.now) place }
+        ensures { IsTrue result ↔ Joins (run_of self.now) place }
     {
         let count = self.blocks.len();
         if count == 0 {

@@ -1,4 +1,4 @@
-use Rattle.std.proofs.Common.{◌≡◌, ◌||◌, refl, sym, ◌∙◌, ap, true, is_ok, Result, Ok, Err}
+use Rattle.std.proofs.Common.{◌≡◌, ◌||◌, refl, sym, ◌∙◌, ap, subst, true, IsSome, is_ok, Result, Ok, Err}
 use Rattle.std.specs.Prelude.{OnOk}
 use Rattle.std.proofs.lemmas.Bool.{false≢true}
 use Rattle.paraid_base.proofs.XorLemmas.{same_block}
@@ -45,6 +45,7 @@ returns g c =
           let here = present_above (now t) (with_at w d run) s a d (ap is_present ((g.met.R.Rack.agrees c.args.rack.now t told).power d ∙ c.requires.spinning)) in
           on_ok c.read.result is c.read.ensures.bytes t told ∙ sym (a.rests d c.args.place here (ap (λ (v : Waiting). waiting v c.args.place) (with_at_same w d run d refl) ∙ sym c.in_default.ensures));
       power_calls = power_calls_call (g.R.Rack.told c.args.rack.now) (g.R.Rack.told c.read.new.self) (Read d c.args.place ok) c.read.ensures.told;
+      held = λ h. absurd (false≢true (subst IsSome (sym c.in_default.ensures) h));
     }
 
 pub returns-in-Some-clause-power_calls : goal.returns-in-Some-clause-power_calls

@@ -1,4 +1,4 @@
-use Rattle.std.proofs.Common.{ℕ, Bool, length, sym, subst, is_ok}
+use Rattle.std.proofs.Common.{ℕ, Bool, IsSome, length, sym, subst, is_ok}
 use Rattle.paraid_rack.specs.declared.call.Call.TheVariants.{Read}
 use Rattle.paraid_rack.specs.Slots.{Slot}
 use Rattle.paraid_rack.specs.Disks.{step}
@@ -6,7 +6,7 @@ use Rattle.paraid_rack.specs.Told.{GrowsByCall}
 use Rattle.paraid_rack.specs.Trail.{now}
 use Rattle.paraid_gather.specs.Above.{IsAbove}
 use Rattle.paraid_gather.specs.Laws.{both_told}
-use Rattle.paraid_gather.specs.Waiting.{Waiting, Fits, run_of, waiting_at}
+use Rattle.paraid_gather.specs.Waiting.{Waiting, Fits, run_of, waiting, waiting_at}
 use Rattle.paraid_gather.proofs.StandsLemmas.{grows_above, stands_read}
 use Rattle.paraid_gather.proofs.WholeLemmas.{does_whole, disk_within, waiting_here, with_this, on_ok}
 use Rattle.paraid_gather.proofs.gathered.GatheredRack.read.Goals as goal
@@ -55,4 +55,5 @@ returns g c =
           (subst (λ (f : ℕ → Waiting). IsAbove (now both.0) f (now t)) (sym (with_this runs d y within c.index.ensures)) (gathered.stands both.0 t both.1 both.2).above));
       above = whole.told;
       bytes_above = λ is t s told a. c.read-result.ensures.bytes is t (waiting_at runs) s told (subst (λ (f : ℕ → Waiting). IsAbove (now t) f s) (sym (with_this runs d y within c.index.ensures)) a);
+      held = λ h. c.read-result.ensures.held (subst (λ (v : Waiting). IsSome (waiting v c.args.place)) (waiting_here runs d y within c.index.ensures) h);
     }

@@ -4,7 +4,7 @@ use Rattle.paraid_rack.specs.declared.call.Call.TheVariants.{Write}
 use Rattle.paraid_rack.specs.Slots.{Slot}
 use Rattle.paraid_rack.specs.Disks.{step}
 use Rattle.paraid_rack.specs.Told.{GrowsByCall}
-use Rattle.paraid_gather.specs.Waiting.{Waiting, Fits, run_of, waiting_at}
+use Rattle.paraid_gather.specs.Waiting.{Waiting, Fits, Joins, run_of, waiting_at}
 use Rattle.paraid_gather.proofs.StandsLemmas.{grows_above, stands_write}
 use Rattle.paraid_gather.proofs.WholeLemmas.{does_whole, disk_within, waiting_here, with_this, with_new}
 use Rattle.paraid_gather.proofs.gathered.GatheredRack.write.Goals as goal
@@ -51,4 +51,5 @@ returns g c =
       slot = whole.slot;
       told = grows_above (g.R.Rack.told gathered.rack) (g.R.Rack.told c.write-result.new.rack) (g.L.Noted.noted gathered.log) (g.L.Noted.noted c.note_write.new.log) (waiting_at runs) (waiting_at (set runs d x)) (Write d c.args.place c.args.block.now ok) whole.told grows;
       above = whole.told;
+      joined = λ j. c.write-result.ensures.joined (subst (λ (v : Waiting). Joins v c.args.place) (waiting_here runs d y within c.index_mut.ensures.value) j);
     }
