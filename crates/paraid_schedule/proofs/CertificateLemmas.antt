@@ -92,6 +92,38 @@ module _ (s : Setup) (demand : List ℕ) (ups : ℕ) (gears : List ℕ) (is : Is
       let end_here = rw (← last) at end in
       omega arith
 
+  -- from each period on it costs at least what the bound says
+  pub rest_costs : (bounds : List ℕ) → AreRight s demand ups bounds → (k t : ℕ) → t + 1 + k ≡ length gears
+      → (rises_before gears t ≤ ups) × (cost_before s gears t + bound s.geometry ups bounds t (slice_index gears t) (ups - rises_before gears t) ≤ schedule_cost s gears)
+  rest_costs bounds right zero t next =
+      let periods = is.periods in
+      let here : length gears - 1 ≡ t = omega arith in
+      let few : rises_before gears t ≤ ups = rw here at is.within in
+      let a = slice_index gears t in
+      let left = ups - rises_before gears t in
+      let gear = gear_at t (omega arith) in
+      let at = right.each t a (omega arith) gear in
+      let step = at.steps (is.served t (omega arith)) left a (omega arith) (inl refl) (omega arith) in
+      let on = onward-fall s ups bounds t a left a (omega arith) in
+      let end = right.end a left gear (omega arith) in
+      let last : t + 1 ≡ length demand = omega arith in
+      let end_here = rw (← last) at end in
+      (few, rw here (omega arith))
+  rest_costs bounds right (suc k) t next =
+      let after = rest_costs bounds right k (t + 1) (omega arith) in
+      let few_next = after.0 in
+      let costs_next = after.1 in
+      let a = slice_index gears t in
+      let b = slice_index gears (t + 1) in
+      let more = rises_before-more gears t in
+      let paid = cost_before-more s gears t in
+      let periods = is.periods in
+      let at = right.each t a (omega arith) (gear_at t (omega arith)) in
+      let step = at.steps (is.served t (omega arith)) (ups - rises_before gears t) b (omega arith) (is.steps t (omega arith)) (omega arith) in
+      let left : ups - rises_before gears t - rise a b ≡ ups - rises_before gears (t + 1) = omega arith in
+      let on = rw left at step in
+      (omega (arith, few_next, more), omega (arith, costs_next, paid, on))
+
   pub spin_ups_few : (d : ℕ) → spin_ups gears d ≤ ups
   spin_ups_few d =
       let few = is.within in

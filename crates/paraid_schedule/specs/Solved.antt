@@ -3,8 +3,8 @@ use Rattle.std.specs.Prelude.{◌≡◌, ◌⊎◌, ℕ, ◌+◌, ◌-◌, ◌<�
 use Rattle.paraid_base.specs.declared.geometry.Geometry.{Geometry}
 use Rattle.paraid_base.specs.Regions.{IsGear}
 use Rattle.paraid_record.specs.declared.meta.Setup.{Setup}
-use Rattle.paraid_schedule.specs.Schedule.{IsGearStep, GearServes, rise, rises}
-use Rattle.paraid_schedule.specs.Cost.{cost_before}
+use Rattle.paraid_schedule.specs.Schedule.{IsSchedule, IsGearStep, GearServes, rise, rises}
+use Rattle.paraid_schedule.specs.Cost.{cost_before, schedule_cost}
 use Rattle.paraid_schedule.specs.Bounds.{no_bound, row_start, bound, onward, IsRightAt}
 
 -- `after` is the least of `before` and what the permitted steps of a kind cost
@@ -44,7 +44,8 @@ abbrev pub AreSameIn : Geometry → ℕ → ℕ → List ℕ → List ℕ → Ty
 AreSameIn g ups t old new = (a left : ℕ) → IsGear g a → left ≤ ups → bound g ups new t a left ≡ bound g ups old t a left
 
 -- The gears chosen so far: they begin a schedule, the last is `gear`, `left` rises are left, and what
--- they cost and the bound from there on are together the bound of the start.
+-- they cost and the bound from there on are together the bound of the start. No schedule that costs
+-- as much as that goes on to a lower gear after the same ones.
 pub record IsWalk (s : Setup) (demand : List ℕ) (ups : ℕ) (bounds gears : List ℕ) (gear left : ℕ) : Type 0 where
   pub some : 1 ≤ length gears
   pub first : slice_index gears 0 ≡ s.geometry.disks
@@ -53,3 +54,5 @@ pub record IsWalk (s : Setup) (demand : List ℕ) (ups : ℕ) (bounds gears : Li
   pub steps : (t : ℕ) → t + 1 < length gears → IsGearStep s.geometry (slice_index gears t) (slice_index gears (t + 1))
   pub risen : rises gears + left ≡ ups
   pub paid : cost_before s gears (length gears - 1) + bound s.geometry ups bounds (length gears - 1) gear left ≡ bound s.geometry ups bounds 0 s.geometry.disks ups
+  pub lowest : (others : List ℕ) (t : ℕ) → IsSchedule s demand ups others → schedule_cost s others ≡ bound s.geometry ups bounds 0 s.geometry.disks ups → t + 1 < length gears
+      → ((k : ℕ) → k ≤ t → slice_index others k ≡ slice_index gears k) → slice_index gears (t + 1) ≤ slice_index others (t + 1)

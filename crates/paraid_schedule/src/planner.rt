@@ -7,7 +7,7 @@ ghost use Rattle.paraid_schedule.specs.Schedule.{IsDemand, IsSchedule, IsGearSte
 ghost use Rattle.paraid_schedule.specs.Cost.{period_cost as price_of_period, step_cost as price_of_step, schedule_cost, spin_ups};
 ghost use Rattle.paraid_schedule.specs.Bounds.{no_bound, row_start, bound_count, gear_count, rank, bound, onward, HasRow, AreRight, IsRightAt};
 ghost use Rattle.paraid_schedule.specs.Solved.{AreLoweredBy, IsMetBy, IsSolvedAt, AreSolvedFrom, DifferInRow, AreSameIn, IsWalk};
-ghost use Rattle.paraid_schedule.specs.Plan.{IsCertified, IsLeastCost, IsPlanFault};
+ghost use Rattle.paraid_schedule.specs.Plan.{AreLowest, IsCertified, IsLeastCost, IsPlanFault};
 
 use crate::{GearPlan, PlanFault};
 use paraid_base::{Geometry, NoMemory};
@@ -28,6 +28,7 @@ pub fn plan_gears(
     requires ration { ups ≤ setup.now.ration }
     ensures certified { IfOk result (λ plan. IsCertified setup.now demand.now ups plan) }
     ensures least { IfOk result (λ plan. IsLeastCost setup.now demand.now ups plan.cost) }
+    ensures lowest { IfOk result (λ plan. AreLowest setup.now demand.now ups plan.gears) }
     ensures spins { IfOk result (λ plan. (d : ℕ) → spin_ups plan.gears d ≤ ups) }
     ensures ration { IfOk result (λ plan. (d : ℕ) → spin_ups plan.gears d ≤ setup.now.ration) }
     ensures demand { IfOk result (λ plan. IsDemand demand.now) }
@@ -279,7 +280,7 @@ fn stay_meets(setup: &Setup, ups: u16, bounds: &[u64], t: usize, a: u8, left: u1
     period_cost(setup, a) + next == aim
 }
 
-/// The next gear by a step that meets the bound; the lower one where two do.
+/// The next gear by a step that meets the bound; the lowest one where several do.
 fn next_gear(
     setup: &Setup,
     demanded: u32,
@@ -296,6 +297,8 @@ fn next_gear(
     ensures step { IsGearStep setup.now.geometry a result }
     ensures permitted { rise a result ≤ left }
     ensures met { IsMetBy setup.now ups bounds.now t a left result }
+    ensures lowest { (b : ℕ) → IsGearStep setup.now.geometry a b → rise a b ≤ left
+        → IsMetBy setup.now ups bounds.now t a left b → result ≤ b }
 {
     if let Some(b) = meeting_fall(setup, ups, bounds, t, a, left) {
         return b;
@@ -324,6 +327,7 @@ fn follow(
     ensures schedule { IfOk result (λ gears. IsSchedule setup.now demand.now ups gears.items) }
     ensures cost { IfOk result (λ gears. schedule_cost setup.now gears.items
         ≡ bound setup.now.geometry ups bounds.now 0 setup.now.geometry.disks ups) }
+    ensures lowest { IfOk result (λ gears. AreLowest setup.now demand.now ups gears.items) }
 {
     let _spinning = setup.spinning_mj;
     let mut gears = Vec::new(alloc);

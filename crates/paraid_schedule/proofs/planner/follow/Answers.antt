@@ -4,12 +4,12 @@ use Rattle.std.proofs.lemmas.List.{length-append}
 use Rattle.paraid_schedule.specs.Schedule.{rise}
 use Rattle.paraid_schedule.proofs.GearStepLemmas.{step_gear}
 use Rattle.paraid_schedule.proofs.RoomLemmas.{HasRow-right, last_low, last_next, count_low, count_more, ended, left_after_rise, left_after, left_low, none_low}
-use Rattle.paraid_schedule.proofs.WalkLemmas.{IsWalk-start, walk-some, walk-more, walk-schedule, walk-cost}
+use Rattle.paraid_schedule.proofs.WalkLemmas.{IsWalk-start, walk-some, walk-more, walk-schedule, walk-cost, walk-lowest}
 use Rattle.paraid_schedule.proofs.planner.follow.Goals.{then-next-gear, else-next-gear}
 use Rattle.paraid_schedule.proofs.planner.follow.Goals as goal
 
 pub returns-in_default : goal.returns-in_default
-returns-in_default c = record { schedule = tt; cost = tt }
+returns-in_default c = record { schedule = tt; cost = tt; lowest = tt }
 
 pub loop-t-init : goal.loop-t-init
 loop-t-init c =
@@ -39,7 +39,7 @@ next_gear-next-requires c =
     }
 
 pub returns-in_default-push : goal.returns-in_default-push
-returns-in_default-push c = record { schedule = tt; cost = tt }
+returns-in_default-push c = record { schedule = tt; cost = tt; lowest = tt }
 
 pub loop-t-preserved : goal.loop-t-preserved
 loop-t-preserved c =
@@ -60,7 +60,7 @@ loop-t-preserved c =
       walk = rw items
           (walk-more s c.args.demand.now c.args.ups c.args.bounds.now c.requires.right gears c.loop-t.gear c.loop-t.left (t - 1) next c.if-next-gear.left
           c.requires.demand now.small now.walk (last_next t (length gears) c.loop-t.auto.t now.count) (count_low t (length c.args.demand.now) (length gears) now.count c.loop-t-test.true)
-          is met.step met.permitted left now.left_few met.met);
+          is met.step met.permitted left now.left_few met.met met.lowest);
       count = count_more t _ (length gears) now.count (ap length items ∙ length-append gears (next ∷ []));
       gear = is;
       left_few = left_low c.loop-t.left (rise c.loop-t.gear next) c.if-next-gear.left c.args.ups left now.left_few;
@@ -72,9 +72,11 @@ returns c =
     let s = c.args.setup.now in
     let now = c.loop-t.invariant in
     let periods = ended c.loop-t.t (length c.args.demand.now) (length c.loop-t.gears.items) now.count (c.loop-t.auto.t-end c.requires.demand.some) c.loop-t-test.false in
+    let costs =
+    walk-cost s c.args.demand.now c.args.ups c.args.bounds.now c.requires.right c.requires.demand now.small c.requires.solved c.loop-t.gears.items c.loop-t.gear c.loop-t.left
+    now.gear now.walk periods in
     record {
       schedule = walk-schedule s c.args.demand.now c.args.ups c.args.bounds.now c.requires.right c.loop-t.gears.items c.loop-t.gear c.loop-t.left now.walk periods;
-      cost =
-          walk-cost s c.args.demand.now c.args.ups c.args.bounds.now c.requires.right c.requires.demand now.small c.requires.solved c.loop-t.gears.items c.loop-t.gear c.loop-t.left
-          now.gear now.walk periods;
+      cost = costs;
+      lowest = walk-lowest s c.args.demand.now c.args.ups c.args.bounds.now c.requires.right c.loop-t.gears.items c.loop-t.gear c.loop-t.left now.walk costs;
     }

@@ -2,10 +2,10 @@ use Rattle.std.proofs.Common.{◌≡◌, ℕ, ◌<◌, ◌≤◌, List, inl, inr
 use Rattle.std.proofs.lemmas.Bool.{false≢true}
 use Rattle.paraid_record.specs.declared.meta.Setup.{Setup}
 use Rattle.paraid_record.specs.Range.{AreNextGears}
-use Rattle.paraid_schedule.specs.Schedule.{rise}
+use Rattle.paraid_schedule.specs.Schedule.{IsGearStep, rise}
 use Rattle.paraid_schedule.specs.Bounds.{bound, no_bound}
 use Rattle.paraid_schedule.specs.Solved.{IsMetBy, IsSolvedAt}
-use Rattle.paraid_schedule.proofs.GearStepLemmas.{next_higher-is, next_higher-none, next_higher-one}
+use Rattle.paraid_schedule.proofs.GearStepLemmas.{next_higher-is, next_higher-none, next_higher-one, next_lower-one}
 use Rattle.paraid_schedule.proofs.planner.next_gear.Goals as goal
 
 below_itself : (x n : ℕ) → x < n → x ≡ n → ⊥
@@ -33,14 +33,40 @@ risen s demanded ups bounds t a left within solved some no_fall no_stay =
       ]
     ]
 
+same_high : (x y : ℕ) → x ≡ y → x ≤ y
+same_high x y same = omega (arith, same)
+
+not_above : (x y z : ℕ) → x < y → y < z → x ≤ z
+not_above x y z low high = omega (arith, low, high)
+
+-- a fall that meets the bound leads to no higher gear than another step
+fall_lowest : (s : Setup) (a fall b : ℕ) → AreNextGears s.geometry fall a → IsGearStep s.geometry a b → fall ≤ b
+fall_lowest s a fall b is (inl same) = (let low = is.below in omega (arith, low, same))
+fall_lowest s a fall b is (inr (inl down)) = same_high fall b (next_lower-one s.geometry a fall b is down)
+fall_lowest s a fall b is (inr (inr up)) = not_above fall a b is.below up.below
+
+-- where no fall meets the bound, no step that does leads below the gear
+stay_lowest : (s : Setup) (ups : ℕ) (bounds : List ℕ) (t a left b : ℕ) → ((e : ℕ) → AreNextGears s.geometry e a → IsMetBy s ups bounds t a left e → ⊥)
+    → IsGearStep s.geometry a b → IsMetBy s ups bounds t a left b → a ≤ b
+stay_lowest s ups bounds t a left b no_fall (inl same) met = same_high a b (sym same)
+stay_lowest s ups bounds t a left b no_fall (inr (inl down)) met = absurd (no_fall b down met)
+stay_lowest s ups bounds t a left b no_fall (inr (inr up)) met = (let low = up.below in omega (arith, low))
+
+-- where staying does not meet it either, none does but the rise
+rise_lowest : (s : Setup) (ups : ℕ) (bounds : List ℕ) (t a left up b : ℕ) → ((e : ℕ) → AreNextGears s.geometry e a → IsMetBy s ups bounds t a left e → ⊥) → (IsMetBy s ups bounds t a left a → ⊥)
+    → AreNextGears s.geometry a up → IsGearStep s.geometry a b → IsMetBy s ups bounds t a left b → up ≤ b
+rise_lowest s ups bounds t a left up b no_fall no_stay is (inl same) met = absurd (no_stay (subst (λ (x : ℕ). IsMetBy s ups bounds t a left x) same met))
+rise_lowest s ups bounds t a left up b no_fall no_stay is (inr (inl down)) met = absurd (no_fall b down met)
+rise_lowest s ups bounds t a left up b no_fall no_stay is (inr (inr other)) met = same_high up b (next_higher-one s.geometry a up b is other)
+
 pub returns-in-Some : goal.returns-in-Some
 returns-in-Some c =
     let fall = c.in-Some.ensures in
-    record { step = inr (inl fall.0); permitted = fall_rises c.args.a c.in-Some.b c.args.left fall.0.below; met = fall.1 }
+    record { step = inr (inl fall.0); permitted = fall_rises c.args.a c.in-Some.b c.args.left fall.0.below; met = fall.1; lowest = λ b step room met. fall_lowest c.args.setup.now c.args.a c.in-Some.b b fall.0 step }
 
 pub returns-then-stay_meets : goal.returns-then-stay_meets
 returns-then-stay_meets c =
-    record { step = inl refl; permitted = stay_rises c.args.a c.args.left; met = c.stay_meets.ensures.0 c.if-stay_meets.true }
+    record { step = inl refl; permitted = stay_rises c.args.a c.args.left; met = c.stay_meets.ensures.0 c.if-stay_meets.true; lowest = λ b step room met. stay_lowest c.args.setup.now c.args.ups c.args.bounds.now c.args.t c.args.a c.args.left b c.in_default.ensures step met }
 
 pub returns-in-Some-higher : goal.returns-in-Some-higher
 returns-in-Some-higher c =
@@ -55,6 +81,7 @@ returns-in-Some-higher c =
       step = inr (inr next);
       permitted = subst (λ (x : ℕ). rise a x ≤ c.args.left) same w.2;
       met = subst (λ (x : ℕ). IsMetBy s c.args.ups c.args.bounds.now c.args.t a c.args.left x) same w.3;
+      lowest = λ e step room met. rise_lowest s c.args.ups c.args.bounds.now c.args.t a c.args.left b e c.in_default.ensures (λ m. false≢true (sym c.if-stay_meets.false ∙ c.stay_meets.ensures.1 m)) next step met;
     }
 
 pub returns-in-None : goal.returns-in-None

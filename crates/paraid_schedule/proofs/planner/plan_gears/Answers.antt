@@ -15,6 +15,7 @@ returns-in_err-test_demand c =
     record {
       certified = none_done_if _ c.from_residual.result _ handed_on;
       least = none_done_if _ c.from_residual.result _ handed_on;
+      lowest = none_done_if _ c.from_residual.result _ handed_on;
       spins = none_done_if _ c.from_residual.result _ handed_on;
       ration = none_done_if _ c.from_residual.result _ handed_on;
       demand = none_done_if _ c.from_residual.result _ handed_on;
@@ -25,7 +26,7 @@ pub solve-requires : goal.solve-requires
 solve-requires c = record { ups = c.requires.few; periods = c.in_ok-test_demand.ensures.ok.few }
 
 pub returns-in_default : goal.returns-in_default
-returns-in_default c = record { certified = tt; least = tt; spins = tt; ration = tt; demand = tt; err = c.in_ok-test_demand.ensures.ok }
+returns-in_default c = record { certified = tt; least = tt; lowest = tt; spins = tt; ration = tt; demand = tt; err = c.in_ok-test_demand.ensures.ok }
 
 pub follow-requires : goal.follow-requires
 follow-requires c = record {
@@ -36,7 +37,7 @@ follow-requires c = record {
 }
 
 pub returns-in_default-follow : goal.returns-in_default-follow
-returns-in_default-follow c = record { certified = tt; least = tt; spins = tt; ration = tt; demand = tt; err = c.in_ok-test_demand.ensures.ok }
+returns-in_default-follow c = record { certified = tt; least = tt; lowest = tt; spins = tt; ration = tt; demand = tt; err = c.in_ok-test_demand.ensures.ok }
 
 pub place-requires : goal.place-requires
 place-requires c = record { ups = c.requires.few; period = omega arith; gear = gear_low c.args.setup.now.geometry c.args.setup.now.geometry.disks c.args.setup.now.geometry.last }
@@ -82,6 +83,7 @@ returns c =
     record {
       certified = sure;
       least = λ gears is. rw sure.start (start_bounds_cost s c.args.demand.now c.args.ups gears is c.from_parts.result.bounds demanded sure.bounds);
+      lowest = rw c.from_parts.ensures c.in-Ok-follow.ensures.lowest;
       spins = few;
       ration = λ d. le_trans (few d) c.requires.ration;
       demand = demanded;
