@@ -4,6 +4,7 @@ ghost use Rattle.std.specs.Prelude.{◌+◌, ◌<◌, ◌^◌};
 use crate::found::{Found, find, is_locked};
 use crate::identity::Identity;
 use crate::image::{offset, whole_blocks};
+use crate::label::Label;
 use crate::tail::{Tail, is_torn_of, keep_room, read_tail};
 use paraid_base::BLOCK_SIZE;
 use std::fs::{self, File, Files, OpenOptions};
@@ -33,10 +34,26 @@ pub(crate) fn obstacle_at<F: Files<File = File>>(
     };
     let size = whole_blocks(file.metadata()?.len());
     match read_tail(&file, size)? {
-        Tail::Label(label) if label.array == identity.array => Ok(None),
-        Tail::Label(_) => Ok(Some(Obstacle::Foreign)),
-        Tail::Torn if is_torn_of(&file, size, &identity.array)? => Ok(None),
+        Tail::Label(label) => Ok(label_in(&label, identity)),
+        Tail::Torn => torn_in(&file, size, identity),
         _ => data_in(&file),
+    }
+}
+
+fn label_in(label: &Label, identity: &Identity) -> Option<Obstacle> {
+    if label.array == identity.array {
+        None
+    } else {
+        Some(Obstacle::Foreign)
+    }
+}
+
+/// A damaged label is the array's where its number stands in it. Else the file has none.
+fn torn_in(file: &File, size: u32, identity: &Identity) -> io::Result<Option<Obstacle>> {
+    if is_torn_of(file, size, &identity.array)? {
+        Ok(None)
+    } else {
+        data_in(file)
     }
 }
 
