@@ -3,3 +3,4 @@ pub mod NewlineLemmas
 pub mod BufferLemmas
 pub mod Midway
 pub mod WriteLemmas
+pub mod StreamLemmas

@@ -1,0 +1,6 @@
+-- Each read so far has failed.
+use Rattle.std.specs.Io.KnownBytes.{Keeps}
+use Rattle.paraid_io.proofs.stdio.read_once.Given as goal
+
+abbrev pub invariant-loop : goal.invariant-loop
+invariant-loop g l = Keeps (g.R.Read.remaining l.initial.reader) (g.R.Read.remaining l.reader)
