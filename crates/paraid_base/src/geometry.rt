@@ -159,6 +159,7 @@ impl Geometry {
             (λ b. (b < a) × IsGear self.now b
             × ((e : ℕ) → b < e → e < a → slice_index_or self.now.gears e false ≡ false)) }
     {
+        // (the proof has the bound of a number that is read)
         let _disks = self.disks;
         for e in (0..a).rev() {
             if self.gears[e as usize] {

@@ -21,6 +21,7 @@ fn unknown_place(table: &Table) -> Option<usize>
 pub fn first_unknown(table: &Table) -> Option<u32>
     ensures { result ≡ first_unknown_of (table_view table.now) }
 {
+    // (the proof has the order of the keys of a table that is used)
     let _ordered = table.len();
     match unknown_place(table) {
         Some(at) => Some(at as u32),

@@ -34,13 +34,13 @@ pub(crate) fn obstacle_at<F: Files<File = File>>(
     };
     let size = whole_blocks(file.metadata()?.len());
     match read_tail(&file, size)? {
-        Tail::Label(label) => Ok(label_in(&label, identity)),
+        Tail::Label(label) => Ok(foreign_in(&label, identity)),
         Tail::Torn => torn_in(&file, size, identity),
         _ => data_in(&file),
     }
 }
 
-fn label_in(label: &Label, identity: &Identity) -> Option<Obstacle> {
+fn foreign_in(label: &Label, identity: &Identity) -> Option<Obstacle> {
     if label.array == identity.array {
         None
     } else {

@@ -135,6 +135,7 @@ fn take_policy(reader: &mut Reader, geometry: Geometry) -> Option<Setup>
     let up = reader.take_u8();
     let down = reader.take_u8();
     let mode = reader.take_u8();
+    // (the windows tell it again, and the whole block is spelled anew and compared)
     let _count = reader.take_u8();
     let mut windows = [0; 3];
     reader.take_shorts(&mut windows);

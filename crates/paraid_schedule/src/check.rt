@@ -145,6 +145,7 @@ fn count_period(setup: &Setup, ledger: &mut Ledger, gear: u8)
     ensures total { ledger.new.total ≡ ledger.old.total + period_cost setup.now gear }
     ensures small { ledger.new.total ≤ ledger.old.total + 2 ^ 40 }
 {
+    // (the proof has the bounds of numbers that are read)
     let _spinning = setup.spinning_mj;
     let _parked = setup.parked_mj;
     ledger.tick(gear, setup.geometry.disks - gear);
@@ -158,6 +159,7 @@ fn count_step(setup: &Setup, ledger: &mut Ledger, from: u8, to: u8)
     ensures total { ledger.new.total ≡ ledger.old.total + step_cost setup.now from to }
     ensures small { ledger.new.total ≤ ledger.old.total + 2 ^ 40 }
 {
+    // (its bound, as above)
     let _spinup = setup.spinup_mj;
     ledger.spin_up(to.saturating_sub(from));
 }

@@ -329,6 +329,7 @@ fn follow(
         ≡ bound setup.now.geometry ups bounds.now 0 setup.now.geometry.disks ups) }
     ensures lowest { IfOk result (λ gears. AreLowest setup.now demand.now ups gears.items) }
 {
+    // (the proof has the bound of a number that is read)
     let _spinning = setup.spinning_mj;
     let mut gears = Vec::new(alloc);
     let mut gear = setup.geometry.disks;

@@ -69,6 +69,7 @@ fn serve_bad<B: Blocks>(volumes: &Volumes<B>, into: &mut Text) -> Option<Halt>
     requires going { halted_of volumes.now ≡ None }
     ensures { ServesHeld B.Blocks volumes.now volumes.now BadLine into.new result }
 {
+    // (the contract alone speaks of them)
     let _volumes = volumes;
     tell_word(b"bad", into);
     None

@@ -1,7 +1,7 @@
 //! The lines of `vol`: what each line asks for of named volumes, and the lines that tell the answers.
 //!
-//! What a line looks like stands in `specs/Grammar.antt` as printed text, and `read_line` finds a
-//! task exactly for its lines. Nothing here takes memory.
+//! What a line looks like stands in `specs/Grammar.antt` as printed text, and `parse_volume_line`
+//! finds a task exactly for its lines. Nothing here takes memory.
 #![tactic(auto)]
 
 mod asked;
