@@ -1,8 +1,9 @@
 -- What a check leaves of a core.
-use Rattle.std.specs.Prelude.{◌≡◌, ℕ, ◌⊎◌, List, [], ◌∷◌, Option, Some, None}
+use Rattle.std.specs.Prelude.{◌≡◌, ℕ, ◌<◌, ◌⊎◌, Bool, List, [], ◌∷◌, Option, Some, None}
 use Rattle.std.proofs.Common.{refl, sym, ◌∙◌, ap, arith, inl, inr}
 use Rattle.paraid_base.specs.History.{History}
 use Rattle.paraid_base.specs.Told.{HasRisen}
+use Rattle.paraid_dirty.specs.Table.{is_dirty}
 use Rattle.paraid_rack.specs.declared.call.Call.{Call}
 use Rattle.paraid_rack.specs.Disks.{Disks, is_present, step}
 use Rattle.paraid_rack.specs.Slots.{Agrees, Slot}
@@ -18,7 +19,7 @@ use Rattle.paraid_core.specs.Steps.{LeavesCore}
 use Rattle.paraid_core.proofs.ChainLemmas.{held_less}
 use Rattle.paraid_core.proofs.LostDiskLemmas.{out_all}
 use Rattle.paraid_core.proofs.ReadsLemmas.{knows_named}
-use Rattle.paraid_scrub.specs.Cores.{CanBeChecked, HasMapBits, ShowsView, core_view}
+use Rattle.paraid_scrub.specs.Cores.{CanBeChecked, HasMapBits, ShowsView, core_view, table_view}
 
 through : (P Q : Disks → Type 0) → ((s : Disks) → P s → Q s) → (s : Disks) (cs : List Call) → Through P s cs → Through Q s cs
 through P Q to s [] p = to s p
@@ -65,17 +66,23 @@ module _ {R : Type 0} {g : _} (count : R → ℕ) (slot : R → ℕ → Slot) (t
         | inr failed ↦ inr failed
       ]
 
-  -- the view of a core is shown
-  pub view_shown : CanBeChecked count slot a → ((t : Trail) → told (store_rack a.store) ≡ Some t → Agrees (now t) (slot (store_rack a.store))) → (t : Trail) → told (store_rack a.store) ≡ Some t → HasMapBits a (core_view a (now t))
-      → ShowsView told a (core_view a (now t))
-  view_shown can agrees t tells bits = record {
-    trail = t;
-    tells = tells;
-    meta = refl;
-    out = out_all (now t).power a.meta (λ d low gone. can.ready.absent d low (ap is_present (sym ((agrees t tells).power d)) ∙ gone));
-    block = ap (contents (now t)) can.nothing;
-    bits = bits;
-  }
+  module _ (can : CanBeChecked count slot a) (agrees : (t : Trail) → told (store_rack a.store) ≡ Some t → Agrees (now t) (slot (store_rack a.store))) (t : Trail) (tells : told (store_rack a.store) ≡ Some t) where
+    -- the view of a core is shown with whatever dirty cells its table has
+    cells_shown : (dirty : ℕ → ℕ → Bool) → ((r d : ℕ) → r < a.meta.setup.geometry.rows → is_dirty a.dirty r d ≡ dirty r d) → ShowsView told a (record (core_view a (now t)) { dirty = dirty })
+    cells_shown dirty bits = record {
+      trail = t;
+      tells = tells;
+      meta = refl;
+      out = out_all (now t).power a.meta (λ d low gone. can.ready.absent d low (ap is_present (sym ((agrees t tells).power d)) ∙ gone));
+      block = ap (contents (now t)) can.nothing;
+      bits = bits;
+    }
+
+    pub view_shown : HasMapBits a (core_view a (now t)) → ShowsView told a (core_view a (now t))
+    view_shown bits = cells_shown (core_view a (now t)).dirty bits
+
+    pub table_shown : ShowsView told a (table_view a (now t))
+    table_shown = cells_shown (is_dirty a.dirty) (λ r d low. refl)
 
   pub map_bits : (h : History) (lo : ℕ) (s : Disks) → CoreStandsFor count a h lo s → HasMapBits a (core_view a s)
   map_bits h lo s k r d low = k.dirty r d (omega (arith, low))

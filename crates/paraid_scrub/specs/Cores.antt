@@ -29,6 +29,10 @@ use Rattle.paraid_scrub.specs.declared.ending.Ending.TheVariants.{Lost, Two as L
 abbrev pub core_view : {R : Type 0} {g : _} → Core R g → Disks → View
 core_view core s = view_by core.meta s.power (contents s core.batch)
 
+-- the view of what a core stands for, by its meta, with the dirty cells of the table that it serves in place of those of the map
+abbrev pub table_view : {R : Type 0} {g : _} → Core R g → Disks → View
+table_view core s = record (core_view core s) { dirty = is_dirty core.dirty }
+
 -- the core's table of dirty cells has the bits of the map
 abbrev pub HasMapBits : {R : Type 0} {g : _} → Core R g → View → Type 0
 HasMapBits core v = (r d : ℕ) → r < core.meta.setup.geometry.rows → is_dirty core.dirty r d ≡ v.dirty r d

@@ -13,7 +13,7 @@ ghost use Rattle.paraid_core.specs.Cores.{CoreStandsFor, core_rack, meta_of};
 ghost use Rattle.paraid_core.specs.Lost.{CoreLosesDisk};
 ghost use Rattle.paraid_scrub.specs.Counts.{AreCounts, AreWithinMembers, all_members, no_faults};
 ghost use Rattle.paraid_scrub.specs.declared.kind.CheckReport.{CheckReport as ReportType};
-ghost use Rattle.paraid_scrub.specs.Cores.{CanBeChecked, HasMapBits, LeavesChecked, ServesChecked, core_view};
+ghost use Rattle.paraid_scrub.specs.Cores.{CanBeChecked, HasMapBits, LeavesChecked, ServesChecked, core_view, table_view};
 
 use crate::ending::Ending;
 use crate::five::{Checked, count_all};
@@ -75,12 +75,18 @@ impl<R: Rack> Stored for Core<R> {
 
 /// Counts what is false in an array whose writes are all committed: the rows, then the stripes, the filled stripes,
 /// the rebuilt units and the blocks of the map, each in ascending order. Only reads follow. A disk that is lost inside
-/// ends it with the counts so far.
+/// ends it with the counts of a first part, which may be empty.
 pub fn check<R: Rack>(core: &mut Core<R>) -> Result<Checked, Two>
     requires can { CanBeChecked R.slot_count R.slot core.old }
     ensures leaves { LeavesChecked core.old core.new result }
     ensures serves { OnOk result (ServesChecked core.old core.new) }
-    // The counts by the view of the core as the counting begins. No history is asked for: an array changed by hand is counted too.
+    // The counts by the view of the core as the counting begins, with the dirty cells of its table. No history is asked for: an
+    // array changed by hand is counted too.
+    ensures by_table { IfOk result (λ checked. (t : Trail) → R.told (core_rack core.old) ≡ Some t
+        → IsSome (R.told (core_rack core.new))
+        → (seen : ℕ) × AreCounts (table_view core.old (now t)) seen checked.report
+        × (IsTrue checked.whole → seen ≡ all_members (table_view core.old (now t)))) }
+    // They are also those with the dirty cells of the map, where its table has these.
     ensures counts { IfOk result (λ checked. (t : Trail) → R.told (core_rack core.old) ≡ Some t → IsSome (R.told (core_rack core.new))
         → HasMapBits core.old (core_view core.old (now t))
         → (seen : ℕ) × AreCounts (core_view core.old (now t)) seen checked.report

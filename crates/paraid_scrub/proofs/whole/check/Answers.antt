@@ -12,8 +12,8 @@ use Rattle.paraid_image.specs.Out.{named_out}
 use Rattle.paraid_rack.specs.Trail.{Trail, now}
 use Rattle.paraid_scrub.specs.Counts.{AreCounts, all_members}
 use Rattle.paraid_core.proofs.ErrLemmas.{none_done, none_done_if}
-use Rattle.paraid_scrub.specs.Cores.{HasLooked, HasMapBits, core_view}
-use Rattle.paraid_scrub.proofs.EndLemmas.{held_beside, leaves_down, map_bits, stands_beside, view_shown}
+use Rattle.paraid_scrub.specs.Cores.{HasLooked, HasMapBits, core_view, table_view}
+use Rattle.paraid_scrub.proofs.EndLemmas.{held_beside, leaves_down, map_bits, stands_beside, table_shown, view_shown}
 use Rattle.paraid_scrub.proofs.PartLemmas.{told_by}
 use Rattle.paraid_scrub.proofs.SoundLemmas.{sound_core_zero}
 use Rattle.paraid_scrub.proofs.whole.check.Given.{Over}
@@ -31,6 +31,11 @@ counts_then : (g : Over) (c : In_ok-checked g) → (t : Trail) → g.R.Rack.told
     → (seen : ℕ) × AreCounts (core_view c.args.core.now (now t)) seen c.in_ok-checked.checked.report × (IsTrue c.in_ok-checked.checked.whole → seen ≡ all_members (core_view c.args.core.now (now t)))
 counts_then g c t tells some bits =
     c.in_ok-checked.ensures.counts (core_view c.args.core.now (now t)) (view_shown g.R.Rack.slot_count g.R.Rack.slot g.R.Rack.told c.args.core.now c.count_all.new.core c.requires.can (g.met.R.Rack.agrees (store_rack c.args.core.now.store)) t tells bits) some
+
+table_then : (g : Over) (c : In_ok-checked g) → (t : Trail) → g.R.Rack.told (store_rack c.args.core.now.store) ≡ Some t → IsSome (g.R.Rack.told (store_rack c.count_all.new.core.store))
+    → (seen : ℕ) × AreCounts (table_view c.args.core.now (now t)) seen c.in_ok-checked.checked.report × (IsTrue c.in_ok-checked.checked.whole → seen ≡ all_members (table_view c.args.core.now (now t)))
+table_then g c t tells some =
+    c.in_ok-checked.ensures.counts (table_view c.args.core.now (now t)) (table_shown g.R.Rack.slot_count g.R.Rack.slot g.R.Rack.told c.args.core.now c.count_all.new.core c.requires.can (g.met.R.Rack.agrees (store_rack c.args.core.now.store)) t tells) some
 
 pub returns : goal.returns
 returns g c =
@@ -68,6 +73,7 @@ returns g c =
         stands = λ h lo. stands_beside g.R.Rack.slot_count g.R.Rack.slot g.R.Rack.told old new (CoreStandsFor g.R.Rack.slot_count old h lo) (CoreStandsFor g.R.Rack.slot_count new h lo) h lo (l.stands h lo);
         since = l.stands;
       };
+      by_table = table_then g c;
       counts = counts_then g c;
       most = c.in_ok-checked.ensures.most;
       zeros = λ h lo t tells stands some.
@@ -97,6 +103,7 @@ returns-in_err-checked g c =
         moments_since = two.held;
       };
       serves = none_done _ from.result _ from.ensures.1;
+      by_table = none_done_if _ from.result _ from.ensures.1;
       counts = none_done_if _ from.result _ from.ensures.1;
       most = none_done_if _ from.result _ from.ensures.1;
       zeros = none_done_if _ from.result _ from.ensures.1;
