@@ -23,7 +23,7 @@ use Rattle.paraid_core.specs.Cores.{CanCoreServe, core_down, core_rack}
 use Rattle.paraid_core.specs.Lost.{CoreMarksLost, CoreTellsLosses, MakesReads, MarksLost}
 use Rattle.paraid_core.specs.Units.{IsRebuilding}
 use Rattle.paraid_core.proofs.OrderLemmas.{down_is_named}
-use Rattle.paraid_scrub.specs.Cores.{HasMapBits, core_view}
+use Rattle.paraid_scrub.specs.Cores.{HasMapBits, core_view, table_view}
 use Rattle.paraid_scrub.specs.Counts.{AreCounts, CountBelow, CountsByView, IsOff, no_faults, part, total}
 use Rattle.paraid_scrub.specs.Counts.CountBelow.{none as none_counted}
 use Rattle.paraid_scrub.specs.declared.kind.CheckReport.{CheckReport}
@@ -96,30 +96,39 @@ module _ {R : Type 0} {g : _} (slot : R → ℕ → Slot) (told : R → Option T
     marks = marks;
     calls = calls;
     reads = no_reads (told (core_rack kept)) kept.meta.setup.geometry.disks;
-    counts = λ t tells some bits. record {
-      seen = 0;
-      counts = nothing_seen (core_view kept (now t));
-      all = inr (out_failed (slot (core_rack old)) (slot (core_rack kept)) old.meta kept.meta marks apart);
-    };
+    by_table = λ t tells some. none_by (table_view kept (now t));
+    counts = λ t tells some bits. none_by (core_view kept (now t));
   }
+    where
+      none_by : (v : View) → CountsByView v (slot (core_rack old)) (slot (core_rack kept)) no_faults
+      none_by v = record {
+        seen = 0;
+        counts = nothing_seen v;
+        all = inr (out_failed (slot (core_rack old)) (slot (core_rack kept)) old.meta kept.meta marks apart);
+      }
 
   -- all was counted after it, or a disk was lost in that
   pub counts_all : (new : Core R g) (report : CheckReport) → ((d : ℕ) → (slot (core_rack old) d).faults ≤ (slot (core_rack kept) d).faults) → MakesReads told kept new
+      → ((t : Trail) → told (core_rack kept) ≡ Some t → IsSome (told (core_rack new)) → CountsByView (table_view kept (now t)) (slot (core_rack kept)) (slot (core_rack new)) report)
       → ((t : Trail) → told (core_rack kept) ≡ Some t → IsSome (told (core_rack new)) → HasMapBits kept (core_view kept (now t)) → CountsByView (core_view kept (now t)) (slot (core_rack kept)) (slot (core_rack new)) report)
       → CountsCommitted slot told old new report
-  counts_all new report no_fall reads by = record {
+  counts_all new report no_fall reads by_table by_map = record {
     kept = kept;
     nothing = nothing;
     table = table;
     marks = marks;
     calls = calls;
     reads = reads;
-    counts = λ t tells some bits. let it = by t tells some bits in record {
-      seen = it.seen;
-      counts = it.counts;
-      all = elim it.all [
-        | inl all ↦ inl all
-        | inr failed ↦ inr (failed.0, rose_later (slot (core_rack old) failed.0).faults (slot (core_rack kept) failed.0).faults (slot (core_rack new) failed.0).faults (inl (no_fall failed.0)) failed.1)
-      ];
-    };
+    by_table = λ t tells some. since (table_view kept (now t)) (by_table t tells some);
+    counts = λ t tells some bits. since (core_view kept (now t)) (by_map t tells some bits);
   }
+    where
+      since : (v : View) → CountsByView v (slot (core_rack kept)) (slot (core_rack new)) report → CountsByView v (slot (core_rack old)) (slot (core_rack new)) report
+      since v it = record {
+        seen = it.seen;
+        counts = it.counts;
+        all = elim it.all [
+          | inl all ↦ inl all
+          | inr failed ↦ inr (failed.0, rose_later (slot (core_rack old) failed.0).faults (slot (core_rack kept) failed.0).faults (slot (core_rack new) failed.0).faults (inl (no_fall failed.0)) failed.1)
+        ];
+      }

@@ -16,7 +16,7 @@ use Rattle.paraid_core.specs.Steps.{AreUnsyncedCopied}
 use Rattle.paraid_core.specs.Units.{IsRebuilding}
 use Rattle.paraid_image.specs.Out.{named_out}
 use Rattle.paraid_txn.specs.Stores.{named_of}
-use Rattle.paraid_scrub.specs.Cores.{HasMapBits, core_view}
+use Rattle.paraid_scrub.specs.Cores.{HasMapBits, core_view, table_view}
 use Rattle.paraid_scrub.specs.Counts.{CountsByView}
 use Rattle.paraid_scrub.specs.declared.kind.CheckReport.{CheckReport}
 
@@ -25,13 +25,17 @@ abbrev pub answer_to_check : ℕ → Result CheckReport Halt → Answer
 answer_to_check writes (Ok report) = Flushed writes
 answer_to_check writes (Err halt) = Halted halt
 
--- From a core with nothing staged, whose table has the bits of the map on its disks, the counts are those of its disks.
-abbrev pub CountsDisks : {R : Type 0} {g : _} → (R → ℕ → Slot) → (R → Option Trail) → Core R g → Core R g → CheckReport → Type 0
-CountsDisks slot told old new report = old.batch ≡ [] → (t : Trail) → told (core_rack old) ≡ Some t → IsSome (told (core_rack new))
-    → HasMapBits old (core_view old (now t)) → CountsByView (core_view old (now t)) (slot (core_rack old)) (slot (core_rack new)) report
+-- From a core with nothing staged the counts are those of its disks, with the dirty cells of the table that it serves; and with
+-- those of the map on its disks, if the table has the bits of that.
+pub record CountsDisks {R : Type 0} {g : _} (slot : R → ℕ → Slot) (told : R → Option Trail) (old new : Core R g) (report : CheckReport) : Type 0 where
+  pub by_table : old.batch ≡ [] → (t : Trail) → told (core_rack old) ≡ Some t → IsSome (told (core_rack new))
+      → CountsByView (table_view old (now t)) (slot (core_rack old)) (slot (core_rack new)) report
+  pub by_map : old.batch ≡ [] → (t : Trail) → told (core_rack old) ≡ Some t → IsSome (told (core_rack new))
+      → HasMapBits old (core_view old (now t)) → CountsByView (core_view old (now t)) (slot (core_rack old)) (slot (core_rack new)) report
 
 -- All that was staged was committed, and this core was left with nothing staged; then reads alone were made. The counts are
--- those of the disks as these reads began, if the table had the bits of the map on them.
+-- those of the disks as these reads began, with the dirty cells of the table; and with those of the map on them, if the table had
+-- the bits of that.
 pub record CountsCommitted {R : Type 0} {g : _} (slot : R → ℕ → Slot) (told : R → Option Trail) (old new : Core R g) (report : CheckReport) : Type 0 where
   pub kept : Core R g
   pub nothing : kept.batch ≡ []
@@ -39,6 +43,8 @@ pub record CountsCommitted {R : Type 0} {g : _} (slot : R → ℕ → Slot) (tol
   pub marks : CoreMarksLost slot old kept
   pub calls : MakesTransferCalls told old kept
   pub reads : MakesReads told kept new
+  pub by_table : (t : Trail) → told (core_rack kept) ≡ Some t → IsSome (told (core_rack new))
+      → CountsByView (table_view kept (now t)) (slot (core_rack old)) (slot (core_rack new)) report
   pub counts : (t : Trail) → told (core_rack kept) ≡ Some t → IsSome (told (core_rack new)) → HasMapBits kept (core_view kept (now t))
       → CountsByView (core_view kept (now t)) (slot (core_rack old)) (slot (core_rack new)) report
 

@@ -20,7 +20,7 @@ use Rattle.paraid_core.proofs.UnsyncedLemmas.{gone_lost}
 use Rattle.paraid_array.proofs.CheckLemmas.{counts_by, failed_one}
 use Rattle.paraid_array.proofs.CountLemmas.{counts_all, counts_none, was_down, spins_then}
 use Rattle.paraid_array.specs.Checked.{CountsCommitted}
-use Rattle.paraid_scrub.specs.Cores.{core_view}
+use Rattle.paraid_scrub.specs.Cores.{core_view, table_view}
 use Rattle.paraid_scrub.specs.Counts.{no_faults}
 use Rattle.paraid_scrub.specs.declared.kind.CheckReport.{CheckReport}
 use Rattle.paraid_array.proofs.counting.commit_and_count.Goals as goal
@@ -207,6 +207,8 @@ returns g c = record {
       let new = c.check.new.core in
       let checked = c.in_ok-checked.checked in
       counts_all g.R.Rack.slot g.R.Rack.told c.args.core.now kept done.nothing c.commit.ensures.cells.table done.stays.losses.marks c.commit.ensures.brings.calls new checked.report c.commit.ensures.stays.losses.spared.no_fall c.check.ensures.leaves.reads
+      (λ t tells some. let it = c.in_ok-checked.ensures.by_table t tells some in
+      counts_by (table_view kept (now t)) (g.R.Rack.slot (core_rack kept)) (g.R.Rack.slot (core_rack new)) checked.report checked.whole it.0 it.1 it.2 (λ part. failed_one g.R.Rack.slot kept new (c.in_ok-checked.ensures.ended part)))
       (λ t tells some bits. let it = c.in_ok-checked.ensures.counts t tells some bits in
       counts_by (core_view kept (now t)) (g.R.Rack.slot (core_rack kept)) (g.R.Rack.slot (core_rack new)) checked.report checked.whole it.0 it.1 it.2 (λ part. failed_one g.R.Rack.slot kept new (c.in_ok-checked.ensures.ended part)));
 }

@@ -15,7 +15,7 @@ use Rattle.paraid_scrub.specs.Counts.{no_faults}
 use Rattle.paraid_shift.proofs.ServingLemmas.{copies_kept}
 use Rattle.paraid_core.specs.Cores.{core_rack}
 use Rattle.paraid_rack.specs.Trail.{now}
-use Rattle.paraid_scrub.specs.Cores.{core_view}
+use Rattle.paraid_scrub.specs.Cores.{core_view, table_view}
 use Rattle.paraid_array.proofs.CheckLemmas.{at_point, count_lost, count_on, counts_by, failed_one, only_reads}
 use Rattle.paraid_array.proofs.CoreLemmas.{serving_then}
 use Rattle.paraid_array.proofs.StandLemmas.{end_by, told_before}
@@ -69,9 +69,18 @@ returns-in-Ok g c = record {
       (told_before (g.R.Rack.told c.args.self.now.core.store.rack) (g.R.Rack.told c.check.new.core.store.rack) _ c.check.ensures.leaves.calls some) p at;
   most = c.in-Ok.ensures.most;
   reads = only_reads c.args.self.now.core.meta.setup.geometry.disks _ _ c.check.ensures.leaves.reads;
-  counts = λ nothing t tells some bits.
-      let it = c.in-Ok.ensures.counts t tells some bits in
-      counts_by (core_view c.args.self.now.core (now t)) (g.R.Rack.slot (core_rack c.args.self.now.core)) (g.R.Rack.slot (core_rack c.check.new.core)) c.in-Ok.checked.report c.in-Ok.checked.whole it.0 it.1 it.2 (λ part. failed_one g.R.Rack.slot c.args.self.now.core c.check.new.core (c.in-Ok.ensures.ended part));
+  counts =
+      let old = c.args.self.now.core in
+      let new = c.check.new.core in
+      let checked = c.in-Ok.checked in
+      record {
+        by_table = λ nothing t tells some.
+            let it = c.in-Ok.ensures.by_table t tells some in
+            counts_by (table_view old (now t)) (g.R.Rack.slot (core_rack old)) (g.R.Rack.slot (core_rack new)) checked.report checked.whole it.0 it.1 it.2 (λ part. failed_one g.R.Rack.slot old new (c.in-Ok.ensures.ended part));
+        by_map = λ nothing t tells some bits.
+            let it = c.in-Ok.ensures.counts t tells some bits in
+            counts_by (core_view old (now t)) (g.R.Rack.slot (core_rack old)) (g.R.Rack.slot (core_rack new)) checked.report checked.whole it.0 it.1 it.2 (λ part. failed_one g.R.Rack.slot old new (c.in-Ok.ensures.ended part));
+      };
 }
 
 pub returns-in-Err : goal.returns-in-Err

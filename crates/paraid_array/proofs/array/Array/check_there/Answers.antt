@@ -32,7 +32,10 @@ returns g c = record {
   sound = c.commit_and_check.ensures.sound;
   counts =
       unstaged {P = λ (report : CheckReport). CountsDisks g.R.Rack.slot g.R.Rack.told c.args.self.now.core c.commit_and_check.new.self.core report} c.commit_and_check.result
-      (λ report nothing. absurd (false≢true (c.if-is_kept.ensures.kept nothing)));
+      (λ report. record {
+        by_table = λ nothing. absurd (false≢true (c.if-is_kept.ensures.kept nothing));
+        by_map = λ nothing. absurd (false≢true (c.if-is_kept.ensures.kept nothing));
+      });
   most =
       unstaged {P = λ (report : CheckReport). c.args.self.now.core.batch ≡ [] → AreWithinMembers c.args.self.now.core.meta report} c.commit_and_check.result
       (λ report nothing. absurd (false≢true (c.if-is_kept.ensures.kept nothing)));
