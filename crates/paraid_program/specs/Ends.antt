@@ -113,11 +113,13 @@ pub record ChecksFromPoint (span : Span) (answer : Answer) (p : Point) : Type 0 
   pub flush : EndsStretch span p (Flush ∷ []) answer
   pub left : IsLeftByStretch flush.all
 
--- Held or not, these are the counts of what the disks of this array hold, if its dirty cells are those of their map: of all of
--- it, unless a disk has failed since.
-abbrev pub CountsArray : ServedArray → (ℕ → Slot) → Option Trail → Option Trail → CheckReport → Type 0
-CountsArray array new start final report = (t : Trail) → start ≡ Some t → IsSome final → HasBitsOf array.meta array.dirty (now t)
-    → CountsByView (view_by array.meta (now t).power (contents (now t) [])) array.slot new report
+-- Held or not, these are the counts of what the disks of this array hold, by the dirty cells that it serves; and by those of their
+-- map, if these are the same. They are of all of it, unless a disk has failed since.
+pub record CountsArray (array : ServedArray) (new : ℕ → Slot) (start final : Option Trail) (report : CheckReport) : Type 0 where
+  pub by_table : (t : Trail) → start ≡ Some t → IsSome final
+      → CountsByView (record (view_by array.meta (now t).power (contents (now t) [])) { dirty = array.dirty }) array.slot new report
+  pub by_map : (t : Trail) → start ≡ Some t → IsSome final → HasBitsOf array.meta array.dirty (now t)
+      → CountsByView (view_by array.meta (now t).power (contents (now t) [])) array.slot new report
 
 -- A check told its counts, of which this holds, or the halt that ended it. On a rack that held a history nothing was counted,
 -- and its calls are those of one flush.
