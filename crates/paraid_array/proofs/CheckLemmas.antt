@@ -34,6 +34,7 @@ use Rattle.paraid_core.proofs.CommitLemmas.{both_of}
 use Rattle.paraid_core.proofs.KindLemmas.{calls_milder, data_transfer}
 use Rattle.paraid_core.proofs.WriteLemmas.{all_kept}
 use Rattle.paraid_image.specs.Sides.{Batch}
+use Rattle.paraid_txn.specs.Losses.{IsGoneSince}
 use Rattle.paraid_txn.specs.Stores.{named_of}
 use Rattle.paraid_session.specs.Turn.{GoesOn, Point}
 use Rattle.paraid_event.specs.Counts.{CountsFlushed}
@@ -151,16 +152,17 @@ module _ {R : Type 0} {g : _} (count : R → ℕ) (told : R → Option Trail) (a
       (over_slots count told a b Flush (Flushed a.core.meta.writes) same turn p at)
 
 -- counts that were all made, or of which a disk that was lost has ended them
-pub counts_by : (v : View) (old new : ℕ → Slot) (report : CheckReport) (whole : Bool) (seen : ℕ) → AreCounts v seen report → (IsTrue whole → seen ≡ all_members v) → (whole ≡ false → (d : ℕ) × HasRisen (old d).faults (new d).faults)
+pub counts_by : (v : View) (old new : ℕ → Slot) (report : CheckReport) (whole : Bool) (seen : ℕ) → AreCounts v seen report → (IsTrue whole → seen ≡ all_members v) → (whole ≡ false → (d : ℕ) × IsGoneSince old new d × HasRisen (old d).faults (new d).faults)
     → CountsByView v old new report
 counts_by v old new report whole seen counts all part = record { seen = seen; counts = counts; all = by whole all part }
   where
-    by : (w : Bool) → (IsTrue w → seen ≡ all_members v) → (w ≡ false → (d : ℕ) × HasRisen (old d).faults (new d).faults) → (seen ≡ all_members v) ⊎ ((d : ℕ) × HasRisen (old d).faults (new d).faults)
+    by : (w : Bool) → (IsTrue w → seen ≡ all_members v) → (w ≡ false → (d : ℕ) × IsGoneSince old new d × HasRisen (old d).faults (new d).faults) → (seen ≡ all_members v) ⊎ ((d : ℕ) × IsGoneSince old new d × HasRisen (old d).faults (new d).faults)
     by true a b = inl (a refl)
     by false a b = inr (b refl)
 
-pub failed_one : {R : Type 0} {g : _} (slot : R → ℕ → Slot) (old new : Core R g) → CoreLosesDisk slot old new → (d : ℕ) × HasRisen (slot (core_rack old) d).faults (slot (core_rack new) d).faults
-failed_one slot old new loses = (loses.disk, loses.failed.risen)
+pub failed_one : {R : Type 0} {g : _} (slot : R → ℕ → Slot) (old new : Core R g) → ((loses : CoreLosesDisk slot old new) × IsGoneSince (slot (core_rack old)) (slot (core_rack new)) loses.disk)
+    → (d : ℕ) × IsGoneSince (slot (core_rack old)) (slot (core_rack new)) d × HasRisen (slot (core_rack old) d).faults (slot (core_rack new) d).faults
+failed_one slot old new it = (it.0.disk, it.1, it.0.failed.risen)
 
 -- what holds of each result holds of this one
 pub unstaged : {A : Type 0} {E : Type 0} {P : A → Type 0} (r : Result A E) → ((x : A) → P x) → IfOk r P

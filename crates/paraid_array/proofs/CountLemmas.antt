@@ -1,14 +1,16 @@
 -- A commit, and a count after it.
-use Rattle.std.proofs.Common.{◌≡◌, ℕ, ◌+◌, ◌≤◌, List, [], Option, Some, None, refl, sym, ap, ◌∙◌, subst, inl, inr, arith}
+use Rattle.std.proofs.Common.{◌≡◌, ℕ, ◌+◌, ◌<◌, Bool, true, false, List, [], Option, Some, None, refl, sym, ap, ◌∙◌, subst, inl, inr, arith}
 use Rattle.std.specs.Prelude.{IsSome}
+use Rattle.std.proofs.lemmas.Bool.{false≢true}
 use Rattle.std.proofs.lemmas.List.{append-nil}
 use Rattle.paraid_base.specs.declared.fault.Two.{Two}
 use Rattle.paraid_base.specs.declared.state.Out.{Out}
-use Rattle.paraid_base.specs.declared.state.Out.TheVariants.{Fresh}
+use Rattle.paraid_base.specs.declared.state.Out.TheVariants.{Fresh, Gone, No}
 use Rattle.paraid_base.specs.States.{gone_out, rebuilt_count}
 use Rattle.paraid_base.specs.Told.{HasRisen}
 use Rattle.paraid_rack.specs.declared.call.Call.{Call}
 use Rattle.paraid_rack.specs.declared.call.Power.TheVariants.{Spinning}
+use Rattle.paraid_rack.specs.Disks.{is_present}
 use Rattle.paraid_rack.specs.Slots.{Slot}
 use Rattle.paraid_rack.specs.Told.{Ran}
 use Rattle.paraid_rack.specs.Trail.{Trail, now}
@@ -16,6 +18,7 @@ use Rattle.paraid_record.specs.declared.meta.Meta.{Meta}
 use Rattle.paraid_image.specs.Out.{named_out}
 use Rattle.paraid_image.specs.Spot.{View}
 use Rattle.paraid_image.specs.Mark.{meta_with_lost}
+use Rattle.paraid_txn.specs.Losses.{IsGoneSince, OnlyLosesSlots}
 use Rattle.paraid_txn.specs.Stores.{named_of}
 use Rattle.paraid_core.specs.declared.staged.Core.{Core}
 use Rattle.paraid_core.specs.Calls.{MakesTransferCalls}
@@ -23,6 +26,7 @@ use Rattle.paraid_core.specs.Cores.{CanCoreServe, core_down, core_rack}
 use Rattle.paraid_core.specs.Lost.{CoreMarksLost, CoreTellsLosses, MakesReads, MarksLost}
 use Rattle.paraid_core.specs.Units.{IsRebuilding}
 use Rattle.paraid_core.proofs.OrderLemmas.{down_is_named}
+use Rattle.paraid_core.proofs.ReadyLemmas.{some_is}
 use Rattle.paraid_scrub.specs.Cores.{HasMapBits, core_view, table_view}
 use Rattle.paraid_scrub.specs.Counts.{AreCounts, CountBelow, CountsByView, IsOff, no_faults, part, total}
 use Rattle.paraid_scrub.specs.Counts.CountBelow.{none as none_counted}
@@ -69,13 +73,30 @@ nothing_seen v = record {
   mirrors = none_of (IsOff v Mirror) (total v.meta v.out Row + total v.meta v.out Stripe + total v.meta v.out Fill + total v.meta v.out RebuiltUnit) (total v.meta v.out Mirror);
 }
 
--- a disk has failed in a commit after which another one is out
-out_failed : (old new : ℕ → Slot) (m z : Meta) → MarksLost old new m z → (z.out ≡ m.out → ⊥) → (d : ℕ) × HasRisen (old d).faults (new d).faults
-out_failed old new m z marks apart = by marks.lost refl
-  where
-    by : (o : Option ℕ) → marks.lost ≡ o → (d : ℕ) × HasRisen (old d).faults (new d).faults
-    by None is = absurd (apart (ap (λ (y : Meta). y.out) marks.is ∙ ap (λ (l : Option ℕ). (meta_with_lost l m).out) is))
-    by (Some x) is = (x, (marks.failed x is).risen)
+-- a disk that was there has failed in a commit after which another one is out
+module _ (old new : ℕ → Slot) (m z : Meta) (marks : MarksLost old new m z) (absent : (d : ℕ) → d < m.setup.geometry.disks → is_present (old d).power ≡ false → named_out m.out ≡ Some d)
+    (spins : (d : ℕ) → IsRebuilding m d → (old d).power ≡ Spinning) (apart : z.out ≡ m.out → ⊥) where
+  out_by : (o : Option ℕ) → marks.lost ≡ o → z.out ≡ (meta_with_lost o m).out
+  out_by o is = ap (λ (y : Meta). y.out) marks.is ∙ ap (λ (l : Option ℕ). (meta_with_lost l m).out) is
+
+  -- the one that was lost was not out, or was there
+  not_away : (x : ℕ) → z.out ≡ Gone x → (o : Out) → m.out ≡ o → named_out o ≡ Some x → is_present (old x).power ≡ false → ⊥
+  not_away x gone No is named away = let y : None ≡ Some x = named in cc
+  not_away x gone (Gone y) is named away = apart (gone ∙ ap Gone (sym (some_is y x named)) ∙ sym is)
+  not_away x gone (Fresh y u) is named away =
+      let fresh : m.out ≡ Fresh x u = is ∙ ap (λ (n : ℕ). Fresh n u) (some_is y x named) in
+      false≢true (sym away ∙ ap is_present (spins x (fresh ∙ ap (Fresh x) (sym (ap rebuilt_count fresh)))))
+
+  was_there : (x : ℕ) → marks.lost ≡ Some x → (b : Bool) → is_present (old x).power ≡ b → is_present (old x).power ≡ true
+  was_there x some true here = here
+  was_there x some false away = absurd (not_away x (out_by (Some x) some) m.out refl (absent x (marks.disk x some) away) away)
+
+  out_failed : (d : ℕ) × IsGoneSince old new d × HasRisen (old d).faults (new d).faults
+  out_failed = by marks.lost refl
+    where
+      by : (o : Option ℕ) → marks.lost ≡ o → (d : ℕ) × IsGoneSince old new d × HasRisen (old d).faults (new d).faults
+      by None is = absurd (apart (out_by None is))
+      by (Some x) is = let failed = marks.failed x is in (x, record { there = was_there x is (is_present (old x).power) refl; absent = failed.absent }, failed.risen)
 
 no_reads : (told : Option Trail) (n : ℕ) → Ran told told (AreArrayReads n)
 no_reads told n t tells = record {
@@ -88,8 +109,9 @@ no_reads told n t tells = record {
 
 module _ {R : Type 0} {g : _} (slot : R → ℕ → Slot) (told : R → Option Trail) (old kept : Core R g) (nothing : kept.batch ≡ []) (table : kept.dirty ≡ old.dirty) (marks : CoreMarksLost slot old kept) (calls : MakesTransferCalls told old kept) where
   -- a disk was lost in the commit, and nothing was counted
-  pub counts_none : (kept.meta.out ≡ old.meta.out → ⊥) → CountsCommitted slot told old kept no_faults
-  counts_none apart = record {
+  pub counts_none : ((d : ℕ) → d < old.meta.setup.geometry.disks → is_present (slot (core_rack old) d).power ≡ false → named_out old.meta.out ≡ Some d) → ((d : ℕ) → IsRebuilding old.meta d → (slot (core_rack old) d).power ≡ Spinning)
+      → (kept.meta.out ≡ old.meta.out → ⊥) → CountsCommitted slot told old kept no_faults
+  counts_none absent spins apart = record {
     kept = kept;
     nothing = nothing;
     table = table;
@@ -104,15 +126,15 @@ module _ {R : Type 0} {g : _} (slot : R → ℕ → Slot) (told : R → Option T
       none_by v = record {
         seen = 0;
         counts = nothing_seen v;
-        all = inr (out_failed (slot (core_rack old)) (slot (core_rack kept)) old.meta kept.meta marks apart);
+        all = inr (out_failed (slot (core_rack old)) (slot (core_rack kept)) old.meta kept.meta marks absent spins apart);
       }
 
   -- all was counted after it, or a disk was lost in that
-  pub counts_all : (new : Core R g) (report : CheckReport) → ((d : ℕ) → (slot (core_rack old) d).faults ≤ (slot (core_rack kept) d).faults) → MakesReads told kept new
+  pub counts_all : (new : Core R g) (report : CheckReport) → OnlyLosesSlots (slot (core_rack old)) (slot (core_rack kept)) → MakesReads told kept new
       → ((t : Trail) → told (core_rack kept) ≡ Some t → IsSome (told (core_rack new)) → CountsByView (table_view kept (now t)) (slot (core_rack kept)) (slot (core_rack new)) report)
       → ((t : Trail) → told (core_rack kept) ≡ Some t → IsSome (told (core_rack new)) → HasMapBits kept (core_view kept (now t)) → CountsByView (core_view kept (now t)) (slot (core_rack kept)) (slot (core_rack new)) report)
       → CountsCommitted slot told old new report
-  counts_all new report no_fall reads by_table by_map = record {
+  counts_all new report spared reads by_table by_map = record {
     kept = kept;
     nothing = nothing;
     table = table;
@@ -129,6 +151,6 @@ module _ {R : Type 0} {g : _} (slot : R → ℕ → Slot) (told : R → Option T
         counts = it.counts;
         all = elim it.all [
           | inl all ↦ inl all
-          | inr failed ↦ inr (failed.0, rose_later (slot (core_rack old) failed.0).faults (slot (core_rack kept) failed.0).faults (slot (core_rack new) failed.0).faults (inl (no_fall failed.0)) failed.1)
+          | inr failed ↦ inr (failed.0, record { there = ap is_present (sym (spared.power failed.0 failed.1.there)) ∙ failed.1.there; absent = failed.1.absent }, rose_later (slot (core_rack old) failed.0).faults (slot (core_rack kept) failed.0).faults (slot (core_rack new) failed.0).faults (inl (spared.no_fall failed.0)) failed.2)
         ];
       }

@@ -5,7 +5,7 @@ use Rattle.paraid_base.specs.declared.event.Answer.TheVariants.{Flushed, Halted}
 use Rattle.paraid_base.specs.declared.event.Event.TheVariants.{Flush}
 use Rattle.paraid_base.specs.declared.fault.Halt.{Halt}
 use Rattle.paraid_rack.specs.Calls.{AreReads}
-use Rattle.paraid_rack.specs.Slots.{Slot}
+use Rattle.paraid_rack.specs.Slots.{Agrees, Slot}
 use Rattle.paraid_rack.specs.Told.{Extends, Ran}
 use Rattle.paraid_rack.specs.Trail.{Trail, extend, moments, now}
 use Rattle.paraid_rack.specs.declared.call.Call.{Call}
@@ -114,8 +114,9 @@ pub record ChecksFromPoint (span : Span) (answer : Answer) (p : Point) : Type 0 
   pub left : IsLeftByStretch flush.all
 
 -- Held or not, these are the counts of what the disks of this array hold, by the dirty cells that it serves; and by those of their
--- map, if these are the same. They are of all of it, unless a disk has failed since.
+-- map, if these are the same. They are of all of it, unless a disk has failed since that was there by the record then.
 pub record CountsArray (array : ServedArray) (new : ℕ → Slot) (start final : Option Trail) (report : CheckReport) : Type 0 where
+  pub agrees : (t : Trail) → start ≡ Some t → Agrees (now t) array.slot
   pub by_table : (t : Trail) → start ≡ Some t → IsSome final
       → CountsByView (record (view_by array.meta (now t).power (contents (now t) [])) { dirty = array.dirty }) array.slot new report
   pub by_map : (t : Trail) → start ≡ Some t → IsSome final → HasBitsOf array.meta array.dirty (now t)

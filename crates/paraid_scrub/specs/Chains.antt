@@ -1,10 +1,12 @@
 -- How reads of a core follow one another.
-use Rattle.std.specs.Prelude.{◌≡◌, ℕ, Option, Some, IsSome}
-use Rattle.std.proofs.Common.{refl, ◌∙◌, ap, subst, inl}
+use Rattle.std.specs.Prelude.{◌≡◌, ℕ, ◌<◌, Option, Some, IsSome}
+use Rattle.std.proofs.Common.{refl, sym, ◌∙◌, ap, subst, inl}
 use Rattle.paraid_base.specs.declared.fault.Two.{Two}
+use Rattle.paraid_rack.specs.Disks.{is_present}
 use Rattle.paraid_rack.specs.Slots.{Agrees, Slot}
 use Rattle.paraid_rack.specs.Trail.{Trail, now}
 use Rattle.paraid_record.specs.declared.meta.Meta.{Meta}
+use Rattle.paraid_image.specs.Mark.{meta_after_loss}
 use Rattle.paraid_image.specs.Out.{named_out}
 use Rattle.paraid_image.specs.Spot.{View}
 use Rattle.paraid_txn.specs.Stores.{store_rack}
@@ -13,9 +15,8 @@ use Rattle.paraid_view.proofs.ReadLemmas.{ran_none, told_before}
 use Rattle.paraid_view.proofs.TwoLemmas.{spared_then}
 use Rattle.paraid_core.specs.declared.staged.Core.{Core}
 use Rattle.paraid_core.specs.Calls.{IsDataCall}
-use Rattle.paraid_core.specs.Lost.{LosesDisk}
 use Rattle.paraid_core.proofs.KindLemmas.{calls_none, calls_then, data_same, reads_then}
-use Rattle.paraid_core.proofs.LostMarkLemmas.{loses_after, marks_none, marks_then}
+use Rattle.paraid_core.proofs.LostMarkLemmas.{lost_after, marks_none, marks_then}
 use Rattle.paraid_core.proofs.OrderLemmas.{core_tells_then, data_bears}
 use Rattle.paraid_core.proofs.StepLemmas.{dry_both, held_then, leaves_none, leaves_then, stands_none, stands_then, two_then}
 use Rattle.paraid_txn.specs.Commit.{gone_out}
@@ -71,7 +72,13 @@ module _ {R : Type 0} {g : _} (count : R → ℕ) (slot : R → ℕ → Slot) (t
     looks_till_lost : LooksTillLost count slot told b c → LooksTillLost count slot told a c
     looks_till_lost q = record {
       looked = looked_then q.looked;
-      loses = loses_after sa sb sc a.meta c.meta p.looked.leaves.spared (subst (λ (z : Meta). LosesDisk sb sc z c.meta) p.same q.loses);
+      loses = record {
+        disk = q.loses.disk;
+        low = subst (λ (z : Meta). q.loses.disk < z.setup.geometry.disks) p.same q.loses.low;
+        failed = lost_after sa sb sc q.loses.disk p.looked.leaves.spared q.loses.failed;
+        gone = q.loses.gone ∙ ap (λ (z : Meta). meta_after_loss z q.loses.disk) p.same;
+      };
+      there = ap is_present (sym (p.looked.leaves.spared.power q.loses.disk q.there)) ∙ q.there;
     }
 
     module _ (agrees : (rack : R) (t : Trail) → told rack ≡ Some t → Agrees (now t) (slot rack)) where

@@ -1,10 +1,10 @@
 -- What a check sees of a core, and what its reads leave of it.
-use Rattle.std.specs.Prelude.{◌≡◌, ℕ, ◌<◌, [], Option, Some, Result, IfErr}
+use Rattle.std.specs.Prelude.{◌≡◌, ℕ, ◌<◌, [], true, Option, Some, Result, IfErr}
 use Rattle.paraid_base.specs.declared.fault.Two.{Two}
 use Rattle.paraid_base.specs.History.{History}
 use Rattle.paraid_dirty.specs.Table.{is_dirty}
 use Rattle.paraid_rack.specs.declared.call.Power.TheVariants.{Spinning}
-use Rattle.paraid_rack.specs.Disks.{Disks}
+use Rattle.paraid_rack.specs.Disks.{Disks, is_present}
 use Rattle.paraid_rack.specs.declared.rack.Rack.{Ghosts}
 use Rattle.paraid_rack.specs.Slots.{Slot}
 use Rattle.paraid_rack.specs.Told.{CrashTriple, Ran}
@@ -70,10 +70,11 @@ pub record LooksOn {R : Type 0} {g : _} (count : R → ℕ) (slot : R → ℕ �
   pub looked : HasLooked count slot told old new
   pub same : new.meta ≡ old.meta
 
--- One disk was lost in them.
+-- One disk was lost in them, which was there before.
 pub record LooksTillLost {R : Type 0} {g : _} (count : R → ℕ) (slot : R → ℕ → Slot) (told : R → Option Trail) (old new : Core R g) : Type 0 where
   pub looked : HasLooked count slot told old new
   pub loses : CoreLosesDisk slot old new
+  pub there : is_present (slot (store_rack old.store) loses.disk).power ≡ true
 
 -- Two disks were found down in them.
 pub record LooksTillTwo {R : Type 0} {g : _} (count : R → ℕ) (slot : R → ℕ → Slot) (told : R → Option Trail) (old new : Core R g) (two : Two) : Type 0 where

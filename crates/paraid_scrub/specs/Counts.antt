@@ -15,6 +15,7 @@ use Rattle.paraid_image.specs.Sound.{IsStripeZero, stripes_on}
 use Rattle.paraid_image.specs.Spot.{View}
 use Rattle.paraid_image.specs.Standing.{other_log}
 use Rattle.paraid_image.specs.Value.{stripe, stripe_rest, value}
+use Rattle.paraid_txn.specs.Losses.{IsGoneSince}
 use Rattle.paraid_scrub.specs.declared.kind.CheckReport.{CheckReport}
 use Rattle.paraid_scrub.specs.declared.kind.Kind.{Kind}
 use Rattle.paraid_scrub.specs.declared.kind.Kind.TheVariants.{Row, Stripe, Fill, Unit as RebuiltUnit, Mirror}
@@ -95,12 +96,12 @@ pub record AreCounts (v : View) (seen : ℕ) (report : CheckReport) : Type 0 whe
 abbrev pub all_members : View → ℕ
 all_members v = total v.meta v.out Row + total v.meta v.out Stripe + total v.meta v.out Fill + total v.meta v.out RebuiltUnit + total v.meta v.out Mirror
 
--- The counts of the first `seen` members of all that is looked at by this view. All were seen, or a disk has failed since: then
--- nothing says how many were, and it may be none.
+-- The counts of the first `seen` members of all that is looked at by this view. All were seen, or a disk that was there has failed
+-- since, and is absent: then nothing says how many were, and it may be none.
 pub record CountsByView (v : View) (old new : ℕ → Slot) (report : CheckReport) : Type 0 where
   pub seen : ℕ
   pub counts : AreCounts v seen report
-  pub all : (seen ≡ all_members v) ⊎ ((d : ℕ) × HasRisen (old d).faults (new d).faults)
+  pub all : (seen ≡ all_members v) ⊎ ((d : ℕ) × IsGoneSince old new d × HasRisen (old d).faults (new d).faults)
 
 -- nothing is false
 abbrev pub no_faults : CheckReport

@@ -9,6 +9,7 @@ ghost use Rattle.paraid_image.specs.Standing.{Contents};
 ghost use Rattle.paraid_rack.specs.declared.call.Power.{Power as PowerType};
 ghost use Rattle.paraid_rack.specs.Disks.{is_present};
 ghost use Rattle.paraid_base.specs.declared.state.Out.TheVariants.{Fresh};
+ghost use Rattle.paraid_txn.specs.Losses.{IsGoneSince};
 ghost use Rattle.paraid_core.specs.Cores.{CoreStandsFor, core_rack, meta_of};
 ghost use Rattle.paraid_core.specs.Lost.{CoreLosesDisk};
 ghost use Rattle.paraid_scrub.specs.Counts.{AreCounts, AreWithinMembers, all_members, no_faults};
@@ -96,8 +97,11 @@ pub fn check<R: Rack>(core: &mut Core<R>) -> Result<Checked, Two>
     ensures zeros { IfOk result (λ checked. (h : History) (lo : ℕ) (t : Trail) → R.told (core_rack core.old) ≡ Some t
         → CoreStandsFor R.slot_count core.old h lo (now t) → IsSome (R.told (core_rack core.new))
         → checked.report ≡ no_faults) }
-    // Not all were counted only where a disk was lost; it has failed in the call, is absent, and the meta names it as gone.
-    ensures ended { IfOk result (λ checked. checked.whole ≡ false → CoreLosesDisk R.slot core.old core.new) }
+    // Not all were counted only where a disk was lost: it was there, has failed in the call and is absent, and the meta names it
+    // as gone.
+    ensures ended { IfOk result (λ checked. checked.whole ≡ false
+        → (loses : CoreLosesDisk R.slot core.old core.new)
+        × IsGoneSince (R.slot (core_rack core.old)) (R.slot (core_rack core.new)) loses.disk) }
     ensures same { IfOk result (λ checked. IsTrue checked.whole → meta_of core.new ≡ meta_of core.old) }
 {
     let checked = count_all(core)?;

@@ -85,7 +85,7 @@ returns-then-is_another_out g c = record {
   counts =
       let done = c.in_ok-commit.ensures in
       subst (λ (r : CheckReport). CountsCommitted g.R.Rack.slot g.R.Rack.told c.args.core.now c.commit.new.self r) (sym c.nothing_counted.ensures)
-      (counts_none g.R.Rack.slot g.R.Rack.told c.args.core.now c.commit.new.self done.nothing c.commit.ensures.cells.table done.stays.losses.marks c.commit.ensures.brings.calls (λ same. c.if-is_another_out.ensures refl (c.out.ensures ∙ same ∙ sym c.out-out.ensures)));
+      (counts_none g.R.Rack.slot g.R.Rack.told c.args.core.now c.commit.new.self done.nothing c.commit.ensures.cells.table done.stays.losses.marks c.commit.ensures.brings.calls c.requires.can.ready.absent c.requires.can.fresh (λ same. c.if-is_another_out.ensures refl (c.out.ensures ∙ same ∙ sym c.out-out.ensures)));
 }
 
 pub check-requires : goal.check-requires
@@ -206,7 +206,7 @@ returns g c = record {
       let kept = c.commit.new.self in
       let new = c.check.new.core in
       let checked = c.in_ok-checked.checked in
-      counts_all g.R.Rack.slot g.R.Rack.told c.args.core.now kept done.nothing c.commit.ensures.cells.table done.stays.losses.marks c.commit.ensures.brings.calls new checked.report c.commit.ensures.stays.losses.spared.no_fall c.check.ensures.leaves.reads
+      counts_all g.R.Rack.slot g.R.Rack.told c.args.core.now kept done.nothing c.commit.ensures.cells.table done.stays.losses.marks c.commit.ensures.brings.calls new checked.report c.commit.ensures.stays.losses.spared c.check.ensures.leaves.reads
       (λ t tells some. let it = c.in_ok-checked.ensures.by_table t tells some in
       counts_by (table_view kept (now t)) (g.R.Rack.slot (core_rack kept)) (g.R.Rack.slot (core_rack new)) checked.report checked.whole it.0 it.1 it.2 (λ part. failed_one g.R.Rack.slot kept new (c.in_ok-checked.ensures.ended part)))
       (λ t tells some bits. let it = c.in_ok-checked.ensures.counts t tells some bits in

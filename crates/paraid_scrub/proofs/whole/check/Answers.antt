@@ -79,7 +79,7 @@ returns g c =
       zeros = λ h lo t tells stands some.
           let counted = counts_then g c t tells some (map_bits g.R.Rack.slot_count g.R.Rack.slot g.R.Rack.told old new h lo (now t) stands) in
           sound_core_zero g.R.Rack.slot_count g.R.Rack.slot old c.requires.can (now t) (g.met.R.Rack.agrees (store_rack old.store) t tells) h lo stands counted.0 c.in_ok-checked.checked.report counted.1;
-      ended = λ not. (c.in_ok-checked.ensures.ended not).loses;
+      ended = λ not. let till = c.in_ok-checked.ensures.ended not in (till.loses, record { there = till.there; absent = till.loses.failed.absent });
       same = λ whole. (c.in_ok-checked.ensures.kept whole).same;
     }
 

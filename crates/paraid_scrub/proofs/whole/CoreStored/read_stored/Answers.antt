@@ -1,5 +1,6 @@
 use Rattle.std.proofs.Common.{◌∙◌, ap, arith}
 use Rattle.std.specs.Prelude.{Ok}
+use Rattle.paraid_rack.specs.Disks.{is_present}
 use Rattle.paraid_scrub.proofs.ReadLemmas.{read_block, read_can, read_data, read_looked, read_on, read_reads, read_shows, readable_large, readable_low, readable_spins}
 use Rattle.paraid_scrub.proofs.whole.CoreStored.read_stored.Goals as goal
 
@@ -47,6 +48,7 @@ returns g c = record {
       record {
         looked = read_looked g.R.Rack.slot_count g.R.Rack.slot g.R.Rack.told c.args.self.now c.read_stored.new.self c.args.disk c.args.place c.requires.usable c.requires.readable e.calls k.stays.leaves e.copied e.stays.still_synced k.stays.losses.marks k.stays.stands;
         loses = record { disk = c.args.disk; low = readable_low c.args.self.now.meta c.args.disk c.requires.usable.ready.in_range c.requires.readable; failed = e.loses.failed is; gone = e.loses.gone is };
+        there = ap is_present (readable_spins g.R.Rack.slot_count g.R.Rack.slot c.args.self.now c.requires.usable c.args.disk c.requires.readable);
       };
 }
 
