@@ -93,8 +93,7 @@ impl<R: Rack> Array<R> {
 
     /// Keeps all writes that were accepted, and then counts what is false on the disks. In a session it is one flush.
     ///
-    /// A disk that is lost ends the count: what was counted before it is told, and nothing where it was lost as the writes
-    /// were brought to the disks.
+    /// A disk that is lost ends the count. Then the counts are those of a first part, which may be empty.
     pub fn check(&mut self) -> Result<CheckReport, Halt>
         requires going { halt_of_array self.old ≡ None }
         ensures turn { OnOk result ((p : Point) → ArrayStandsAt R.slot_count R.told self.old p
