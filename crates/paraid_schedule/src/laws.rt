@@ -1,10 +1,10 @@
-//! What bounds prove. The law is the contract of a function that does nothing.
+//! What bounds prove, and that there are no two plans. Each law is the contract of a function that does nothing.
 
-ghost use Rattle.std.specs.Prelude.{ℕ, List, ◌≤◌};
+ghost use Rattle.std.specs.Prelude.{◌≡◌, ℕ, List, ◌≤◌};
 ghost use Rattle.paraid_schedule.specs.Schedule.{IsDemand, IsSchedule};
 ghost use Rattle.paraid_schedule.specs.Cost.{schedule_cost, spin_ups};
 ghost use Rattle.paraid_schedule.specs.Bounds.{bound, AreRight};
-ghost use Rattle.paraid_schedule.specs.Plan.{Claim, IsCertified, IsLeastCost};
+ghost use Rattle.paraid_schedule.specs.Plan.{AreLowest, Claim, IsCertified, IsLeastCost};
 
 use paraid_record::Setup;
 
@@ -22,4 +22,14 @@ pub fn right_bounds_certify_a_cost(setup: &Setup)
 pub fn a_schedule_spins_no_disk_up_too_often(setup: &Setup)
     ensures { (demand gears : List ℕ) (ups d : ℕ) → IsSchedule setup.now demand ups gears
         → spin_ups gears d ≤ ups }
+{}
+
+/// Two schedules that cost least, and have the lowest gears of those that do, are the same. So the
+/// demand, the setup and `ups` determine the gears of a plan.
+pub fn no_two_schedules_are_least_and_lowest(setup: &Setup)
+    ensures { (demand gears others : List ℕ) (ups : ℕ)
+        → IsSchedule setup.now demand ups gears → IsSchedule setup.now demand ups others
+        → IsLeastCost setup.now demand ups (schedule_cost setup.now gears)
+        → IsLeastCost setup.now demand ups (schedule_cost setup.now others)
+        → AreLowest setup.now demand ups gears → AreLowest setup.now demand ups others → gears ≡ others }
 {}
