@@ -4,7 +4,7 @@ use Rattle.paraid_base.specs.declared.event.Answer.TheVariants.{Halted}
 use Rattle.paraid_base.specs.declared.event.Answer.{Answer}
 use Rattle.paraid_base.specs.declared.event.Event.{Event}
 use Rattle.paraid_base.specs.declared.event.Event.TheVariants.{Flush}
-use Rattle.paraid_base.specs.Told.{AtEnd, GrowsByBytes, HasRisen}
+use Rattle.paraid_base.specs.Told.{GrowsByBytes, HasRisen}
 use Rattle.paraid_rack.specs.declared.call.Call.{Call}
 use Rattle.paraid_serve.specs.Uses.{RackUse, SinkUse, SourceUse}
 use Rattle.paraid_rack.specs.Trail.{Trail, extend, now}
@@ -32,7 +32,6 @@ use Rattle.paraid_program.specs.Volumes.{ServesVolumes}
 use Rattle.paraid_program.proofs.CompleteLemmas.{from_point, halted_comes, refused_comes}
 use Rattle.paraid_program.proofs.NbdComesLemmas.{ends_turns}
 use Rattle.paraid_program.proofs.EndLemmas.{over_span}
-use Rattle.paraid_program.proofs.TakenLemmas.{refused_not}
 
 events_joined : (ts us : List Turn) → turn_events (ts ++ us) ≡ turn_events ts ++ turn_events us
 events_joined [] us = refl
@@ -86,11 +85,6 @@ volumes_over rack source sink status service slots setup final e same f end begu
   last = ends;
   end = subst (λ (z : Setup). IsEndOver z rack sink status) same end;
 }
-
--- lines that end well were all that the source gave
-pub volumes_all : (rack : RackUse) (source : SourceUse) (sink : SinkUse) (status : ℕ) → {U : Type 0} → MountsAndThen rack sink status U (ServesVolumes rack source sink status) → status ≡ 0 → AtEnd source.left
-volumes_all rack source sink status (refused fault back end unheard) zero = absurd (refused_not fault sink.written_before sink.written _ status end zero)
-volumes_all rack source sink status (mounted service stood begins served) zero = (served.headline.all (inl zero)).1
 
 module _ {rack : RackUse} (h : HeldHistory rack) (kept : SinkUse) (status : ℕ) (sunk : status ≡ 4 → HasRisen kept.faults_before kept.faults) (given : SourceUse) (heard : status ≡ 3 → HasRisen given.faults_before given.faults) where
   abbrev Hindered : Type 0

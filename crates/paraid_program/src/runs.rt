@@ -1,11 +1,11 @@
 //! The command `run`.
 ghost use Rattle.std.specs.Prelude.{◌≡◌};
-ghost use Rattle.paraid_base.specs.Told.{HasRisen};
+ghost use Rattle.paraid_base.specs.Told.{AtEnd, HasRisen};
 ghost use Rattle.paraid_program.specs.Ends.{IsUnheard, MountsAndThen, ServesLines};
 ghost use Rattle.paraid_program.specs.Racks.{rack_use};
 ghost use Rattle.paraid_serve.specs.Streams.{EndsAtFaults, sink_use, source_use};
 ghost use Rattle.paraid_program.specs.Statuses.{run_statuses};
-ghost use Rattle.paraid_serve.specs.Statuses.{IsOneOf, status_sink, status_source};
+ghost use Rattle.paraid_serve.specs.Statuses.{IsOneOf, status_done, status_sink, status_source};
 
 use crate::fault::tell_refusal;
 use crate::outside::{Ended, Outside};
@@ -30,6 +30,7 @@ pub fn run<S: Source, K: Sink, R: Rack, A: Serves, O: Outside<R, A>>(
         (sink_use K.written K.faults sink.old sink.new) result.status) }
     ensures slots { R.slot_count result.rack ≡ R.slot_count rack }
     ensures status { IsOneOf run_statuses result.status }
+    ensures end { result.status ≡ status_done → AtEnd (S.left source.new) }
     ensures source { result.status ≡ status_source
         → HasRisen (S.faults source.old) (S.faults source.new) }
     ensures sink { result.status ≡ status_sink → HasRisen (K.faults sink.old) (K.faults sink.new) }

@@ -1,12 +1,12 @@
 //! The command `run` with spare disks.
 ghost use Rattle.std.specs.Prelude.{◌≡◌};
-ghost use Rattle.paraid_base.specs.Told.{HasRisen};
+ghost use Rattle.paraid_base.specs.Told.{AtEnd, HasRisen};
 ghost use Rattle.paraid_program.specs.Spares.{ServesSpares};
 ghost use Rattle.paraid_program.specs.Ends.{IsUnheard, MountsAndThen};
 ghost use Rattle.paraid_program.specs.Racks.{rack_use};
 ghost use Rattle.paraid_serve.specs.Streams.{EndsAtFaults, sink_use, source_use};
 ghost use Rattle.paraid_program.specs.Statuses.{run_statuses};
-ghost use Rattle.paraid_serve.specs.Statuses.{IsOneOf, status_sink, status_source};
+ghost use Rattle.paraid_serve.specs.Statuses.{IsOneOf, status_done, status_sink, status_source};
 ghost use Rattle.paraid_sparing.specs.Session.{fresh_stock};
 
 use crate::fault::tell_refusal;
@@ -35,6 +35,7 @@ pub fn run_with_spares<S: Source, K: Sink, R: Rack, A: Serves, O: Outside<R, A>>
         (record { wait = wait; stock = fresh_stock stock }) result.status) }
     ensures slots { R.slot_count result.rack ≡ R.slot_count rack }
     ensures status { IsOneOf run_statuses result.status }
+    ensures end { result.status ≡ status_done → AtEnd (S.left source.new) }
     ensures source { result.status ≡ status_source
         → HasRisen (S.faults source.old) (S.faults source.new) }
     ensures sink { result.status ≡ status_sink → HasRisen (K.faults sink.old) (K.faults sink.new) }

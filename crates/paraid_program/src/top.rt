@@ -1,28 +1,26 @@
 //! What the words ask for is done, or the usage is told where they ask for nothing.
-ghost use Rattle.std.specs.Prelude.{◌≡◌, ◌≢◌, ◌≤◌, map, string_bytes};
+ghost use Rattle.std.specs.Prelude.{◌≡◌, map, string_bytes};
 ghost use Rattle.paraid_base.specs.Told.{AtEnd, HasRisen};
 ghost use Rattle.paraid_serve.specs.Ending.{EndsWithLine};
-ghost use Rattle.paraid_program.specs.Clients.{ServesNbdOrNot};
-ghost use Rattle.paraid_program.specs.Outcome.{Formats, IsFormatStatus};
-ghost use Rattle.paraid_program.specs.Ends.{ChecksArray, IsUnheard, MountsAndThen, ServesGenerated, ServesLines};
-ghost use Rattle.paraid_program.specs.Spares.{ServesSpares};
-ghost use Rattle.paraid_program.specs.Volumes.{ServesVolumes};
 ghost use Rattle.paraid_words.specs.Words.{AskFor, usage_line};
 ghost use Rattle.paraid_program.specs.CommandCompletes.{CompletesCommand};
 ghost use Rattle.paraid_program.specs.CommandDoes.{DoesCommand, ReadsSource, TakesSource};
 ghost use Rattle.paraid_words.specs.declared.command.Command.{Command as CommandType};
 ghost use Rattle.paraid_program.specs.Racks.{rack_use};
 ghost use Rattle.paraid_serve.specs.Streams.{EndsAtFaults, sink_use, source_use};
-ghost use Rattle.paraid_program.specs.Statuses.{check_statuses, gen_statuses, nbd_statuses, run_statuses};
-ghost use Rattle.paraid_serve.specs.Statuses.{IsOneOf, status_done, status_sink, status_source, status_words};
-ghost use Rattle.paraid_sparing.specs.Session.{fresh_stock};
+ghost use Rattle.paraid_serve.specs.Statuses.{status_done, status_sink, status_source, status_words};
 
 use crate::arrays::Arrays;
+use crate::checks::check;
+use crate::client::nbd;
 use crate::format::format_array;
+use crate::generated::generate;
 use crate::outside::Ended;
 use crate::plan::show_plan;
+use crate::runs::run;
+use crate::spares::run_with_spares;
 use crate::status::show_state;
-use crate::{checks, client, generated, runs, spares, volumes};
+use crate::volumes::answer_volumes;
 use paraid_array::Array;
 use paraid_io::{Sink, Source};
 use paraid_rack::Rack;
@@ -30,170 +28,6 @@ use paraid_serve::ending::last;
 use paraid_serve::status;
 use paraid_words::{Command, read_words};
 use std::alloc::Global;
-
-// Makes an array of the disks of the rack.
-fn format<S: Source, K: Sink, R: Rack>(
-    alloc: Global,
-    force: bool,
-    source: &mut S,
-    sink: &mut K,
-    mut rack: R,
-) -> Ended<R>
-    ensures formats { Formats force (rack_use R.slot_count R.slot R.told rack result.rack)
-        (source_use S.left S.faults source.old source.new)
-        (sink_use K.written K.faults sink.old sink.new) result.status }
-    ensures slots { R.slot_count result.rack ≡ R.slot_count rack }
-    ensures status { IsFormatStatus result.status }
-    ensures end { result.status ≡ status_done → AtEnd (S.left source.new) }
-    ensures source { result.status ≡ status_source
-        → HasRisen (S.faults source.old) (S.faults source.new) }
-    ensures sink { result.status ≡ status_sink → HasRisen (K.faults sink.old) (K.faults sink.new) }
-    ensures unhurt { EndsAtFaults (source_use S.left S.faults source.old source.new)
-        (sink_use K.written K.faults sink.old sink.new) result.status }
-{
-    let status = format_array(alloc, force, source, sink, &mut rack);
-    Ended { status, rack }
-}
-
-// Mounts an array of the disks of the rack, and answers each line of the source.
-fn run<S: Source, K: Sink, R: Rack>(
-    alloc: Global,
-    source: &mut S,
-    sink: &mut K,
-    rack: R,
-) -> Ended<R>
-    ensures run { MountsAndThen (rack_use R.slot_count R.slot R.told rack result.rack)
-        (sink_use K.written K.faults sink.old sink.new) result.status
-        (IsUnheard (source_use S.left S.faults source.old source.new))
-        (ServesLines (rack_use R.slot_count R.slot R.told rack result.rack)
-        (source_use S.left S.faults source.old source.new)
-        (sink_use K.written K.faults sink.old sink.new) result.status) }
-    ensures slots { R.slot_count result.rack ≡ R.slot_count rack }
-    ensures status { IsOneOf run_statuses result.status }
-    ensures end { result.status ≡ status_done → AtEnd (S.left source.new) }
-    ensures source { result.status ≡ status_source
-        → HasRisen (S.faults source.old) (S.faults source.new) }
-    ensures sink { result.status ≡ status_sink → HasRisen (K.faults sink.old) (K.faults sink.new) }
-    ensures unhurt { EndsAtFaults (source_use S.left S.faults source.old source.new)
-        (sink_use K.written K.faults sink.old sink.new) result.status }
-{
-    let arrays = Arrays::new(alloc);
-    runs::run::<S, K, R, Array<R>, Arrays>(&arrays, source, sink, rack)
-}
-
-// Mounts one, and answers each line of the source with spares put in.
-fn run_with_spares<S: Source, K: Sink, R: Rack>(
-    alloc: Global,
-    source: &mut S,
-    sink: &mut K,
-    rack: R,
-    stock: u8,
-    wait: u32,
-) -> Ended<R>
-    ensures run { MountsAndThen (rack_use R.slot_count R.slot R.told rack result.rack)
-        (sink_use K.written K.faults sink.old sink.new) result.status
-        (IsUnheard (source_use S.left S.faults source.old source.new))
-        (ServesSpares (rack_use R.slot_count R.slot R.told rack result.rack)
-        (source_use S.left S.faults source.old source.new)
-        (sink_use K.written K.faults sink.old sink.new)
-        (record { wait = wait; stock = fresh_stock stock }) result.status) }
-    ensures slots { R.slot_count result.rack ≡ R.slot_count rack }
-    ensures status { IsOneOf run_statuses result.status }
-    ensures end { result.status ≡ status_done → AtEnd (S.left source.new) }
-    ensures source { result.status ≡ status_source
-        → HasRisen (S.faults source.old) (S.faults source.new) }
-    ensures sink { result.status ≡ status_sink → HasRisen (K.faults sink.old) (K.faults sink.new) }
-    ensures unhurt { EndsAtFaults (source_use S.left S.faults source.old source.new)
-        (sink_use K.written K.faults sink.old sink.new) result.status }
-{
-    let arrays = Arrays::new(alloc);
-    spares::run_with_spares::<S, K, R, Array<R>, Arrays>(&arrays, source, sink, rack, stock, wait)
-}
-
-// Mounts one, and answers generated lines.
-fn generate<K: Sink, R: Rack>(
-    alloc: Global,
-    sink: &mut K,
-    rack: R,
-    number: u32,
-    lines: u32,
-) -> Ended<R>
-    requires few { lines ≤ 1000000 }
-    ensures run { MountsAndThen (rack_use R.slot_count R.slot R.told rack result.rack)
-        (sink_use K.written K.faults sink.old sink.new) result.status (Unit {0})
-        (ServesGenerated (rack_use R.slot_count R.slot R.told rack result.rack)
-        (record { number = number; count = lines; sink = (sink_use K.written K.faults sink.old sink.new) }) result.status) }
-    ensures slots { R.slot_count result.rack ≡ R.slot_count rack }
-    ensures status { IsOneOf gen_statuses result.status }
-    ensures sink { result.status ≡ status_sink → HasRisen (K.faults sink.old) (K.faults sink.new) }
-    ensures still { result.status ≢ status_sink → K.faults sink.new ≡ K.faults sink.old }
-{
-    let arrays = Arrays::new(alloc);
-    generated::generate::<K, R, Array<R>, Arrays>(&arrays, sink, rack, number, lines)
-}
-
-// Mounts one, and counts what is false.
-fn check<K: Sink, R: Rack>(alloc: Global, sink: &mut K, rack: R) -> Ended<R>
-    ensures run { MountsAndThen (rack_use R.slot_count R.slot R.told rack result.rack)
-        (sink_use K.written K.faults sink.old sink.new) result.status (Unit {0})
-        (ChecksArray (rack_use R.slot_count R.slot R.told rack result.rack)
-        (sink_use K.written K.faults sink.old sink.new) result.status) }
-    ensures slots { R.slot_count result.rack ≡ R.slot_count rack }
-    ensures status { IsOneOf check_statuses result.status }
-    ensures sink { result.status ≡ status_sink → HasRisen (K.faults sink.old) (K.faults sink.new) }
-    ensures still { result.status ≢ status_sink → K.faults sink.new ≡ K.faults sink.old }
-{
-    let arrays = Arrays::new(alloc);
-    checks::check::<K, R, Array<R>, Arrays>(&arrays, sink, rack)
-}
-
-// Mounts one, and serves one client.
-fn nbd<S: Source, K: Sink, R: Rack>(
-    alloc: Global,
-    source: &mut S,
-    sink: &mut K,
-    rack: R,
-) -> Ended<R>
-    ensures nbd { ServesNbdOrNot (rack_use R.slot_count R.slot R.told rack result.rack)
-        (source_use S.left S.faults source.old source.new)
-        (sink_use K.written K.faults sink.old sink.new) result.status }
-    ensures slots { R.slot_count result.rack ≡ R.slot_count rack }
-    ensures status { IsOneOf nbd_statuses result.status }
-    ensures source { result.status ≡ status_source
-        → HasRisen (S.faults source.old) (S.faults source.new) }
-    ensures sink { result.status ≡ status_sink → HasRisen (K.faults sink.old) (K.faults sink.new) }
-    ensures unhurt { EndsAtFaults (source_use S.left S.faults source.old source.new)
-        (sink_use K.written K.faults sink.old sink.new) result.status }
-{
-    let arrays = Arrays::new(alloc);
-    client::nbd::<S, K, R, Array<R>, Arrays>(alloc, &arrays, source, sink, rack)
-}
-
-// Mounts one, and answers each line about volumes.
-fn vol<S: Source, K: Sink, R: Rack>(
-    alloc: Global,
-    source: &mut S,
-    sink: &mut K,
-    rack: R,
-) -> Ended<R>
-    ensures run { MountsAndThen (rack_use R.slot_count R.slot R.told rack result.rack)
-        (sink_use K.written K.faults sink.old sink.new) result.status
-        (IsUnheard (source_use S.left S.faults source.old source.new))
-        (ServesVolumes (rack_use R.slot_count R.slot R.told rack result.rack)
-        (source_use S.left S.faults source.old source.new)
-        (sink_use K.written K.faults sink.old sink.new) result.status) }
-    ensures slots { R.slot_count result.rack ≡ R.slot_count rack }
-    ensures status { IsOneOf run_statuses result.status }
-    ensures end { result.status ≡ status_done → AtEnd (S.left source.new) }
-    ensures source { result.status ≡ status_source
-        → HasRisen (S.faults source.old) (S.faults source.new) }
-    ensures sink { result.status ≡ status_sink → HasRisen (K.faults sink.old) (K.faults sink.new) }
-    ensures unhurt { EndsAtFaults (source_use S.left S.faults source.old source.new)
-        (sink_use K.written K.faults sink.old sink.new) result.status }
-{
-    let arrays = Arrays::new(alloc);
-    volumes::answer_volumes::<S, K, R, Array<R>, Arrays>(&arrays, source, sink, rack)
-}
 
 /// The program: it takes the words of the command line, and does what they ask for.
 ///
@@ -257,17 +91,26 @@ pub fn paraid<S: Source, K: Sink, R: Rack>(
     ensures unhurt { EndsAtFaults (source_use S.left S.faults source.old source.new)
         (sink_use K.written K.faults sink.old sink.new) result.status }
 {
+    let arrays = Arrays::new(alloc);
     match read_words(words) {
-        Some(Command::Format { force }) => format(alloc, force, source, sink, rack),
-        Some(Command::Run) => run(alloc, source, sink, rack),
+        Some(Command::Format { force }) => {
+            let mut rack = rack;
+            let status = format_array(alloc, force, source, sink, &mut rack);
+            Ended { status, rack }
+        }
+        Some(Command::Run) => run::<S, K, R, Array<R>, Arrays>(&arrays, source, sink, rack),
         Some(Command::Spare { stock, wait }) => {
-            run_with_spares(alloc, source, sink, rack, stock, wait)
+            run_with_spares::<S, K, R, Array<R>, Arrays>(&arrays, source, sink, rack, stock, wait)
         }
         Some(Command::Status) => show_state(alloc, sink, rack),
-        Some(Command::Check) => check(alloc, sink, rack),
-        Some(Command::Gen { number, lines }) => generate(alloc, sink, rack, number, lines),
-        Some(Command::Nbd) => nbd(alloc, source, sink, rack),
-        Some(Command::Vol) => vol(alloc, source, sink, rack),
+        Some(Command::Check) => check::<K, R, Array<R>, Arrays>(&arrays, sink, rack),
+        Some(Command::Gen { number, lines }) => {
+            generate::<K, R, Array<R>, Arrays>(&arrays, sink, rack, number, lines)
+        }
+        Some(Command::Nbd) => nbd::<S, K, R, Array<R>, Arrays>(alloc, &arrays, source, sink, rack),
+        Some(Command::Vol) => {
+            answer_volumes::<S, K, R, Array<R>, Arrays>(&arrays, source, sink, rack)
+        }
         Some(Command::Plan { ups }) => show_plan(alloc, source, sink, rack, ups),
         None => Ended {
             status: last(

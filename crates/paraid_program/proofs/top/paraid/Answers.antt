@@ -58,7 +58,7 @@ plan_is : (g : Over) (c : In-Some-Plan g) → c.read_words.result ≡ Some (Plan
 plan_is g c = c.in-Some-Plan.is ∙ ap Some c.in-Some-Plan.field-0-is
 
 pub returns-in-Some-Format-clause-does : goal.returns-in-Some-Format-clause-does
-returns-in-Some-Format-clause-does g c = does_it _ _ c.read_words.ensures.exact _ (Format c.in-Some-Format.force) (format_is g (goal.at.returns-in-Some-Format-clause-does g c).In-Some-Format) c.format.ensures.formats
+returns-in-Some-Format-clause-does g c = does_it _ _ c.read_words.ensures.exact _ (Format c.in-Some-Format.force) (format_is g (goal.at.returns-in-Some-Format-clause-does g c).In-Some-Format) c.format_array-status.ensures.formats
 
 pub returns-in-Some-Run-clause-does : goal.returns-in-Some-Run-clause-does
 returns-in-Some-Run-clause-does g c = does_it _ _ c.read_words.ensures.exact _ Run (run_is g (goal.at.returns-in-Some-Run-clause-does g c).In-Some-Run) (c.run.ensures.run, c.run.ensures.status)
@@ -131,7 +131,7 @@ returns-in-Some-Check-clause-source g c three = absurd (check_not_read _ c.check
 
 pub returns-in-Some-Format-clause-complete : goal.returns-in-Some-Format-clause-complete
 returns-in-Some-Format-clause-complete g c = does_it _ _ c.read_words.ensures.exact _ (Format c.in-Some-Format.force) (format_is g (goal.at.returns-in-Some-Format-clause-complete g c).In-Some-Format)
-    (format_comes _ _ _ _ c.format.ensures.source c.format.ensures.sink c.in-Some-Format.force c.format.ensures.formats)
+    (format_comes _ _ _ _ c.format_array-status.ensures.source c.format_array-status.ensures.sink c.in-Some-Format.force c.format_array-status.ensures.formats)
 
 pub returns-in-Some-Run-clause-complete : goal.returns-in-Some-Run-clause-complete
 returns-in-Some-Run-clause-complete g c = does_it _ _ c.read_words.ensures.exact _ Run (run_is g (goal.at.returns-in-Some-Run-clause-complete g c).In-Some-Run)
@@ -191,11 +191,11 @@ vol_is : (g : Over) (c : In-Some-Vol g) → c.read_words.result ≡ Some Vol
 vol_is g c = c.in-Some-Vol.is ∙ ap Some c.in-Some-Vol.field-0-is
 
 pub returns-in-Some-Vol-clause-does : goal.returns-in-Some-Vol-clause-does
-returns-in-Some-Vol-clause-does g c = does_it _ _ c.read_words.ensures.exact _ Vol (vol_is g (goal.at.returns-in-Some-Vol-clause-does g c).In-Some-Vol) (c.vol.ensures.run, c.vol.ensures.status)
+returns-in-Some-Vol-clause-does g c = does_it _ _ c.read_words.ensures.exact _ Vol (vol_is g (goal.at.returns-in-Some-Vol-clause-does g c).In-Some-Vol) (c.answer_volumes.ensures.run, c.answer_volumes.ensures.status)
 
 pub returns-in-Some-Vol-clause-complete : goal.returns-in-Some-Vol-clause-complete
 returns-in-Some-Vol-clause-complete g c = does_it _ _ c.read_words.ensures.exact _ Vol (vol_is g (goal.at.returns-in-Some-Vol-clause-complete g c).In-Some-Vol)
-    (λ h. volumes_come h _ _ c.vol.ensures.sink _ c.vol.ensures.source c.vol.ensures.run)
+    (λ h. volumes_come h _ _ c.answer_volumes.ensures.sink _ c.answer_volumes.ensures.source c.answer_volumes.ensures.run)
 
 pub returns-in-Some-Vol-clause-unread : goal.returns-in-Some-Vol-clause-unread
 returns-in-Some-Vol-clause-unread g c t not asked = absurd (not (does_it _ _ c.read_words.ensures.exact ReadsSource Vol (vol_is g (goal.at.returns-in-Some-Vol-clause-unread g c).In-Some-Vol) tt t asked))
@@ -207,7 +207,7 @@ pub returns-in-Some-Vol-clause-untouched : goal.returns-in-Some-Vol-clause-untou
 returns-in-Some-Vol-clause-untouched g c none = absurd (none Vol (asks _ _ c.read_words.ensures.exact Vol (vol_is g (goal.at.returns-in-Some-Vol-clause-untouched g c).In-Some-Vol)))
 
 pub returns-in-Some-Format-clause-unhurt : goal.returns-in-Some-Format-clause-unhurt
-returns-in-Some-Format-clause-unhurt g c = c.format.ensures.unhurt
+returns-in-Some-Format-clause-unhurt g c = c.format_array-status.ensures.unhurt
 
 pub returns-in-Some-Run-clause-unhurt : goal.returns-in-Some-Run-clause-unhurt
 returns-in-Some-Run-clause-unhurt g c = c.run.ensures.unhurt
@@ -219,7 +219,7 @@ pub returns-in-Some-Nbd-clause-unhurt : goal.returns-in-Some-Nbd-clause-unhurt
 returns-in-Some-Nbd-clause-unhurt g c = c.nbd.ensures.unhurt
 
 pub returns-in-Some-Vol-clause-unhurt : goal.returns-in-Some-Vol-clause-unhurt
-returns-in-Some-Vol-clause-unhurt g c = c.vol.ensures.unhurt
+returns-in-Some-Vol-clause-unhurt g c = c.answer_volumes.ensures.unhurt
 
 pub returns-in-Some-Plan-clause-unhurt : goal.returns-in-Some-Plan-clause-unhurt
 returns-in-Some-Plan-clause-unhurt g c = c.show_plan.ensures.unhurt

@@ -1,6 +1,7 @@
-use Rattle.std.proofs.Common.{rules, refl, sym, ◌∙◌}
+use Rattle.std.proofs.Common.{inl, rules, refl, sym, ◌∙◌}
 use Rattle.paraid_program.specs.Ends.MountsAndThen.{mounted, refused}
 use Rattle.paraid_program.proofs.EndLemmas.{began_at_end, begins_at_end, end_moment, end_over, run_is_refused, run_status, service_from}
+use Rattle.paraid_program.proofs.TakenLemmas.{refused_not}
 use Rattle.paraid_program.proofs.VolumeLemmas.{volumes_over}
 use Rattle.paraid_program.proofs.volumes.answer_volumes.Goals as goal
 
@@ -9,6 +10,7 @@ returns-in-Err g c = record {
   run = refused c.in-Err.field-0.fault c.in-Err.ensures.refused c.tell_refusal.ensures.tells (refl, refl);
   slots = c.in-Err.ensures.refused_slots;
   status = run_is_refused c.in-Err.field-0.fault _ _ _ _ c.tell_refusal.ensures.tells;
+  end = λ zero. absurd (refused_not c.in-Err.field-0.fault _ _ _ _ c.tell_refusal.ensures.tells zero);
   source = search rules;
   sink = search rules;
   unhurt = record { sink = c.tell_refusal.ensures.still; source = λ n m. refl };
@@ -29,6 +31,9 @@ returns-in-Ok g c = record {
       (done.headline began (e.mounted began (began_at_end before))));
   slots = c.unmount.ensures.slots ∙ c.serve_volumes-status.ensures.slots ∙ c.in-Ok.ensures.slots;
   status = run_status _ c.serve_volumes-status.ensures.status;
+  end =
+      let began = end_moment (g.R.Rack.told c.args.rack) in
+      λ zero. ((c.serve_volumes-status.ensures.headline began (c.in-Ok.ensures.mounted began (began_at_end (g.R.Rack.told c.args.rack)))).all (inl zero)).1;
   source = search rules;
   sink = search rules;
   unhurt = c.serve_volumes-status.ensures.unhurt;
