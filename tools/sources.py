@@ -8,16 +8,26 @@ signal.signal(signal.SIGPIPE, signal.SIG_DFL)
 
 TOP = os.path.dirname(os.path.dirname(os.path.abspath(__file__)))
 
-# a definition at the top of a file, or of a module with parameters
-HEAD = re.compile(r"(?P<pad>(?:  )?)(?P<how>(?:(?:abbrev|unfoldable|pub|record|data) )+)(?P<name>[A-Za-z_][A-Za-z0-9_-]*)(?= |$)")
+# a definition, and what ends the one above it without being one, as an item of specs/ begins
+HEAD = re.compile(r"(?P<how>(?:(?:abbrev|unfoldable|pub|record|data) )+)(?P<name>[A-Za-z_][A-Za-z0-9_-]*)(?= |$)")
+OTHER = re.compile(r"(?:abbrev|unfoldable|pub|use|mod|module) |[^ ]+ : ")
 USE = re.compile(r"(?:pub )?use ")
 WORD = re.compile(r"[A-Za-z_][A-Za-z0-9_-]*")
 FUNCTION = re.compile(r"(?P<pad> *)(?:pub(?:\([a-z]+\))? )?(?:const )?fn (?P<name>[a-z_][a-z0-9_]*)")
+# a comment to the end of its line, by the end of the file's name
+COMMENT = {".antt": re.compile(r"(?:(?<=\s)|^)--.*", re.MULTILINE),
+           **dict.fromkeys((".rt", ".rs"), re.compile(r"(?:(?<=\s)|^)//.*", re.MULTILINE))}
 
 
 def text_of(path):
     with open(os.path.join(TOP, path), encoding="utf-8") as file:
         return file.read()
+
+
+def code_of(path):
+    """The text of a file without its comments."""
+    comment = COMMENT.get(os.path.splitext(path)[1])
+    return comment.sub("", text_of(path)) if comment else text_of(path)
 
 
 def crates():
@@ -53,48 +63,65 @@ def module(path):
     return os.path.basename(path).rsplit(".", 1)[0]
 
 
+class Item:
+    """What begins at the column of a file's definitions, with the lines that go on with it."""
+
+    def __init__(self, number, comment, line):
+        self.number, self.comment, self.lines = number, comment, [line]
+
+    def text(self):
+        """Its words in one line, without comments: what does not depend on how the lines are broken."""
+        return " ".join(COMMENT[".antt"].sub("", "\n".join(self.lines)).split())
+
+
+def items_of(text):
+    """The head comment of a file of specs/ or proofs/ and its items, in their order.
+
+    A line goes on with the item above it where it stands deeper, or begins with a closing bracket.
+    """
+    head, found, comment, column = None, [], [], 0
+    for number, line in enumerate(text.split("\n"), 1):
+        bare, deep = line.strip(), len(line) - len(line.lstrip())
+        if bare.startswith("--") and deep <= column:
+            comment.append(bare[2:].strip())
+            continue
+        if comment and not found and (not bare or USE.match(bare)):
+            head = joined(comment)
+        if bare and found and (deep > column or bare[0] in ")]}"):
+            found[-1].lines.append(line)
+        elif bare:
+            found.append(Item(number, joined(comment), line))
+            # what follows stands in a module with parameters; one within it is one item
+            column = 2 if line.startswith("module _") else deep
+        comment = []
+    return head or "", found
+
+
 class Definition:
     def __init__(self, crate, path, name, public, line, comment):
         self.crate, self.path, self.name, self.public, self.line = crate, path, name, public, line
-        self.comment, self.body = comment, []
+        self.comment, self.items = comment, []
 
     def words(self):
         """The words of the definition, without those of its comments."""
-        return set(WORD.findall("\n".join(line.split("-- ")[0] for line in self.body)))
+        return {word for it in self.items for word in WORD.findall(it.text())}
 
 
 def definitions_of(crate, path):
     """The head comment of a file of specs/ and its definitions, in their order."""
-    head, found, comment, current, pad = None, [], [], None, ""
-    for number, line in enumerate(text_of(path).split("\n"), 1):
-        bare = line.strip()
-        if bare.startswith("--") and len(line) - len(line.lstrip()) <= len(pad):
-            comment.append(bare[2:].strip())
+    head, items = items_of(text_of(path))
+    found, current = [], None
+    for it in items:
+        start = HEAD.match(it.text())
+        if start and start.group("name") not in ("mod", "use"):
+            public = "pub" in start.group("how").split()
+            current = Definition(crate, path, start.group("name"), public, it.number, it.comment)
+            found.append(current)
+        elif OTHER.match(it.text()):
             current = None
-        elif USE.match(line):
-            if head is None and not found:
-                head = joined(comment)
-            comment, current = [], None
-        elif not bare:
-            if head is None and comment and not found:
-                head = joined(comment)
-            comment = []
-        elif line.startswith("module _"):
-            # what follows stands in a module with parameters
-            pad, comment, current = "  ", [], None
-        else:
-            start = HEAD.match(line)
-            if start and (not start.group("pad") or pad) and start.group("name") not in ("mod", "use"):
-                public = "pub" in start.group("how").split()
-                current = Definition(crate, path, start.group("name"), public, number, joined(comment))
-                found.append(current)
-            elif not line.startswith(" ") and not re.match(r"[^ ]+ .*=|[^ ]+ =|\(", line):
-                # a definition of the file's own, or `pub mod`
-                current = None
-            comment = []
-            if current is not None:
-                current.body.append(line)
-    return head or "", found
+        if current is not None:
+            current.items.append(it)
+    return head, found
 
 
 def joined(comment):
