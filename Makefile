@@ -19,7 +19,8 @@ PROGRAM = dist/paraid
 
 # Of the tools those that serve a running array. Each is also a command, paraid-NAME.
 COMMANDS = $(notdir $(wildcard $(addprefix tools/,ctl power state lint locate day check)))
-MODULES = $(notdir $(wildcard tools/*.py))
+# Nothing that is installed uses these two: they are of the checks of pages and of the trials.
+MODULES = $(notdir $(filter-out tools/sources.py tools/trials.py,$(wildcard tools/*.py)))
 PAGES = $(wildcard docs/*.[1-8])
 UNITS = paraid-nbd@.service paraid-check@.service paraid-check@.timer
 SAMPLES = $(wildcard examples/*.toml examples/first.trace examples/gears.trace) examples/day.txt etc/stop-for-check.conf

@@ -1,6 +1,9 @@
 """What is seen of a program that ran over an array: the blocks that it left, and its calls on them. bench/run and
 tools/try-plain compare the program with bench/plain by it."""
-import os, re, shutil, subprocess
+import os
+import re
+import shutil
+import subprocess
 
 BLOCK = 512
 HERE = os.path.dirname(os.path.abspath(__file__))

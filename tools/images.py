@@ -226,6 +226,14 @@ def read_targets(block, geometry):
     return targets if fit and len(set(targets)) == count else None
 
 
+def size_text(count):
+    """A number of bytes for people."""
+    for unit, name in ((2**30, "GiB"), (2**20, "MiB"), (2**10, "KiB")):
+        if count >= unit:
+            return f"{count / unit:,.1f} {name}"
+    return f"{count} bytes"
+
+
 def is_folder(path):
     """Whether there is such a folder. What this user may not know raises PermissionError."""
     try:

@@ -1,6 +1,7 @@
 """Whether the tools lie in the sources or in an install, and where the program is then."""
 import os
 import re
+import sys
 
 HERE = os.path.dirname(os.path.realpath(__file__))
 TOP = os.path.dirname(HERE)
@@ -17,3 +18,9 @@ def program():
 def told(text):
     """A text about the tools, each by the name that it has here."""
     return re.sub(r"\btools/([a-z]+)(?![a-z.])", r"paraid-\1", text) if IS_INSTALL else text
+
+
+def misused(words):
+    """Tells how a tool is used where its words are wrong: the status for that."""
+    print(told(f"usage: tools/{words}"), file=sys.stderr)
+    return 2
