@@ -6,14 +6,30 @@
 Each request becomes lines of one `paraid run`, in the order in which they come, and a clock sends the
 ticks by which the array shifts. So a write is answered when the run has accepted it, and a flush when
 the disks hold all writes that were answered before it. docs/paraid-nbd.8 tells the rest."""
-import binascii, collections, contextlib, errno, os, re, resource, select, shutil, signal, socket, stat, subprocess
-import sys, syslog, threading, time
+import binascii
+import collections
+import contextlib
+import errno
+import os
+import re
+import resource
+import select
+import shutil
+import signal
+import socket
+import stat
+import subprocess
+import sys
+import syslog
+import threading
+import time
 import nbdkit
 
 HERE = os.path.dirname(os.path.realpath(__file__))
 sys.dont_write_bytecode = True
 sys.path.insert(0, HERE)
-import losses, places
+import losses
+import places
 
 API_VERSION = 2
 sys.tracebacklimit = 0  # nbdkit tells an error by its line alone
@@ -42,6 +58,7 @@ def log(text):
 
 
 def text(line):
+    """What the program wrote as text, whatever its bytes are."""
     return line.decode(errors="replace")
 
 
@@ -124,9 +141,9 @@ class Run:
         while the other is waited for."""
         if self.ended:
             raise Refused(self.ended)
-        bytes = b"\n".join(lines) + b"\n"
-        self.sent += len(bytes)
-        left, answers = self.give(memoryview(bytes)), []
+        asked = b"\n".join(lines) + b"\n"
+        self.sent += len(asked)
+        left, answers = self.give(memoryview(asked)), []
         while len(answers) < len(lines):
             if left:
                 ready = dict(self.both.poll())
@@ -177,11 +194,13 @@ class Looks:
                 self.threads[-1].start()
 
     def look(self, disk):
+        """Logs what can be seen of the files of a disk."""
         seen = losses.seen(self.folder, disk)
         if not self.is_over:
             log(f"the files of disk {disk}: {seen}")
 
     def close(self):
+        """Waits a moment for the looks that are under way, and has the rest say nothing."""
         for thread in self.threads:
             thread.join(PATIENCE)
         self.is_over = True
@@ -292,6 +311,7 @@ class Array:
         return said
 
     def read(self, first, into):
+        """Fills these bytes with the blocks from `first` on."""
         count = len(into) // SIZE
         for n, said in enumerate(self.ask([b"r %d" % (first + n) for n in range(count)])):
             number, equals, digits = said.partition(b"=")
@@ -303,6 +323,7 @@ class Array:
             into[n * SIZE : (n + 1) * SIZE] = some
 
     def write(self, lines, fua):
+        """Asks for writes, and with `fua` for a flush behind them: it returns once all are answered."""
         answers = self.ask(lines + [b"f"] * fua)
         for said in answers[: len(lines)]:
             if not said.startswith(b"wrote "):
@@ -311,6 +332,7 @@ class Array:
             self.refuse(answers[-1])
 
     def flush(self):
+        """Returns once the disks hold what was answered before."""
         self.write([], True)
 
     def refuse(self, said):
@@ -321,6 +343,7 @@ class Array:
         raise Refused(text(said))
 
     def close(self):
+        """Ends the run once nobody asks for anything, and gives its last line."""
         with self.work:
             return self.run.close()
 
@@ -351,6 +374,7 @@ class Clock:
         self.thread.start()
 
     def run(self):
+        """Sends ticks until it is stopped, or until the array answers one no more."""
         due = time.monotonic() + self.tick
         while not self.stop.wait(max(0, due - time.monotonic())):
             try:
@@ -366,6 +390,7 @@ class Clock:
             due += self.tick * (max(0, time.monotonic() - due) // self.tick + 1)
 
     def tell(self, event, said):
+        """Logs what a tick did, if it is a shift, a loss or a rebuild, or hinders one; after a loss also the state."""
         lasts = event[0] in ("waiting", "ration")  # so it is told once
         if event[0] in ("begun", "flipped", "rebuilt", "gone", "lost") or (lasts and event != self.last):
             log(said)
@@ -374,6 +399,7 @@ class Clock:
         self.last = event
 
     def close(self):
+        """Lets the tick that is under way end, and sends no other."""
         self.stop.set()
         self.thread.join()
 
@@ -409,10 +435,12 @@ class Control:
         raise RuntimeError(f"control={self.path} is there, and is no socket that was left behind")
 
     def start(self, array):
+        """Lets clients ask this array from now on."""
         self.array = array
         threading.Thread(target=self.accept, daemon=True).start()
 
     def accept(self):
+        """Takes one client after the other, each in a thread of its own."""
         while True:
             try:
                 client, _ = self.socket.accept()
@@ -421,6 +449,7 @@ class Control:
                 time.sleep(1)
 
     def serve(self, client):
+        """Answers the lines of one client until it goes, is silent for a minute, or sends no whole line."""
         client.settimeout(60)
         try:
             with client, client.makefile("rwb", buffering=0) as stream:
@@ -432,6 +461,7 @@ class Control:
             pass
 
     def answer(self, line):
+        """What the array says to a line, or why it says nothing; `bad` where it is not asked."""
         if not ASKED.fullmatch(line):
             return b"bad"
         line = line[:-1]
@@ -444,6 +474,7 @@ class Control:
         return said
 
     def close(self):
+        """Takes no more clients, and leaves no socket behind."""
         self.socket.close()
         try:
             os.unlink(self.path)
@@ -493,6 +524,7 @@ class Ending:
                 signal.siginterrupt(number, False)
 
     def run(self):
+        """Once a signal comes or no run serves: closes the connections, each behind the answer that it waits for."""
         self.wait()
         nbdkit.shutdown()
         if clock is not None:
@@ -533,6 +565,7 @@ array = clock = control = ending = rights = mounter = None
 
 
 def config(key, value):
+    """nbdkit gives a parameter: it is kept, or refused where it has no such name."""
     if key not in given:
         raise RuntimeError(f"unknown parameter {key}: array, program, tick, control and limit are known")
     if not value:  # (as a path it would be the current folder)
@@ -544,6 +577,7 @@ def config(key, value):
 
 
 def config_complete():
+    """All parameters are there: refuses what cannot be served by them."""
     if given["array"] is None or not os.path.isdir(given["array"]):
         raise RuntimeError(f"array=FOLDER names no folder: {given['array']}")
     try:
@@ -559,8 +593,8 @@ def config_complete():
 
 
 def thread_model():
-    # Requests of several connections come at once, those of one in turn. More is not worth it: with threads for
-    # one connection nbdkit (1.32) may end by an assertion when a client goes before its requests are answered.
+    """Requests of several connections come at once, those of one in turn. More is not worth it: with threads for
+    one connection nbdkit (1.32) may end by an assertion when a client goes before its requests are answered."""
     return nbdkit.THREAD_MODEL_SERIALIZE_REQUESTS
 
 
@@ -575,6 +609,7 @@ def get_ready():
 
 
 def after_fork():
+    """nbdkit has gone to the background, where threads may begin: the clock, the control socket, the end."""
     global clock, ending
     if rights != (os.geteuid(), os.getegid()):
         if control is not None:
@@ -611,32 +646,38 @@ def cleanup():
 
 
 def open(readonly):
+    """A client connects: all have the same array, so there is nothing to keep of it."""
     return True
 
 
 def get_size(h):
+    """The bytes of the export."""
     return array.blocks * SIZE
 
 
 def block_size(h):
-    return (SIZE, 4096, 1 << 20)  # the filter cuts what is longer, so few lines are held at a time
+    """The least, the best and the most bytes of a request. The filter cuts what is longer, so few lines are held."""
+    return (SIZE, 4096, 1 << 20)
 
 
 def can_multi_conn(h):
-    # All clients share one run, so a flush of one covers what was answered to any.
+    """All clients share one run, so a flush of one covers what was answered to any."""
     return True
 
 
 def can_flush(h):
+    """Tells clients that they may ask for what they wrote to be kept."""
     return True
 
 
 def can_fua(h):
+    """Tells clients that a write may ask for its own flush, which this plugin makes."""
     return nbdkit.FUA_NATIVE
 
 
 def can_trim(h):
-    return False  # there is nothing that a trimmed block would save
+    """There is nothing that a trimmed block would save."""
+    return False
 
 
 def serves(what):
@@ -653,6 +694,7 @@ def serves(what):
 
 
 def blocks_of(count, offset):
+    """The number of the first block and how many there are; a part of a block is refused."""
     if count % SIZE or offset % SIZE:
         nbdkit.set_error(errno.EINVAL)
         raise OSError(errno.EINVAL, "a part of a block: start nbdkit with --filter=blocksize")
@@ -661,12 +703,14 @@ def blocks_of(count, offset):
 
 @serves
 def pread(h, buf, offset, flags):
+    """A client reads."""
     first, _ = blocks_of(len(buf), offset)
     array.read(first, buf)
 
 
 @serves
 def pwrite(h, buf, offset, flags):
+    """A client writes; with the flag for it the answer waits for a flush."""
     first, count = blocks_of(len(buf), offset)
     data = bytes(buf)
     pieces = [digits_of(data[n * SIZE : (n + 1) * SIZE]) for n in range(count)]
@@ -675,10 +719,12 @@ def pwrite(h, buf, offset, flags):
 
 @serves
 def zero(h, count, offset, flags):
+    """A client writes zeros, without sending them."""
     first, count = blocks_of(count, offset)
     array.write(write_lines(first, [b"00"] * count), bool(flags & nbdkit.FLAG_FUA))
 
 
 @serves
 def flush(h, flags):
+    """A client asks for what it wrote to be kept."""
     array.flush()

@@ -23,6 +23,8 @@ LOCAL_TIME = re.compile(TIME, re.ASCII)
 
 
 class NotToml(Exception):
+    """A text is refused: why, and at which of its lines."""
+
     def __init__(self, line, why):
         super().__init__(why)
         self.line = line
@@ -43,6 +45,7 @@ class Table:
         self.origin, self.line, self.inner = origin, line, {}
 
     def close(self):
+        """The table as a value, once nothing more can come to it."""
         return Value("table", close(self.inner), self.line)
 
 
@@ -53,10 +56,12 @@ class Tables:
         self.line, self.tables = line, [Table("header", line)]
 
     def close(self):
+        """The list of these tables as a value."""
         return Value("list", [table.close() for table in self.tables], self.line)
 
 
 def close(nodes):
+    """What these names stand for, each table in them and below being closed."""
     return {key: node if isinstance(node, Value) else node.close() for key, node in nodes.items()}
 
 
@@ -70,26 +75,34 @@ def parse(data):
 
 
 class Reader:
+    """A text and the place in it that is read next."""
+
     def __init__(self, text):
         self.text, self.at = text, 0
 
     def line(self):
+        """The number of the line that is read, from 1."""
         return self.text.count("\n", 0, self.at) + 1
 
     def fail(self, why):
+        """Refuses the text at this line."""
         raise NotToml(self.line(), why)
 
     def peek(self, ahead=0):
+        """The next character, or one that comes later; nothing at the end."""
         return self.text[self.at + ahead : self.at + ahead + 1]
 
     def is_at(self, front):
+        """Whether the text goes on so."""
         return self.text.startswith(front, self.at)
 
     def skip_white(self):
+        """Passes blanks and tabs."""
         while self.peek() in (" ", "\t"):
             self.at += 1
 
     def skip_newline(self):
+        """Passes the end of a line, and says whether there was one."""
         length = 1 if self.is_at("\n") else 2 if self.is_at("\r\n") else 0
         self.at += length
         return length > 0
@@ -109,6 +122,7 @@ class Reader:
     # keys and tables
 
     def document(self):
+        """The values of the whole text."""
         root, header = {}, []
         while True:
             self.skip_blank()
@@ -127,6 +141,7 @@ class Reader:
                 self.fail("more on the line than a key and its value")
 
     def header(self, closing):
+        """The names in brackets, for a table or a list of tables."""
         self.at += len(closing)
         self.skip_white()
         key = self.key()
@@ -136,6 +151,7 @@ class Reader:
         return key
 
     def key(self):
+        """The parts of a name, which points separate."""
         parts = [self.key_part()]
         self.skip_white()
         while self.peek() == ".":
@@ -148,6 +164,7 @@ class Reader:
         return parts
 
     def key_part(self):
+        """One part: bare, or a text in quotes."""
         if self.peek() in ('"', "'"):
             return self.string(self.peek(), False)
         start = self.at
@@ -158,6 +175,7 @@ class Reader:
         return self.text[start : self.at]
 
     def pair(self, depth=LIMIT):
+        """A name and its value, where so many more lists and tables may open."""
         key = self.key()
         if self.peek() != "=":
             self.fail(f"no `=` after `{key[-1]}`")
@@ -168,6 +186,7 @@ class Reader:
     # values
 
     def value(self, depth=LIMIT):
+        """A value of any kind, with the line on which it begins."""
         line, first = self.line(), self.peek()
         if first in ("[", "{") and depth == 0:
             self.fail(f"more than {LIMIT} lists and tables in one another")
@@ -181,6 +200,7 @@ class Reader:
         return self.scalar(line)
 
     def items(self, depth):
+        """The values between square brackets."""
         found = []
         self.at += 1
         while True:
@@ -192,6 +212,7 @@ class Reader:
             self.after_element("]", "list")
 
     def members(self, depth):
+        """The names and values between braces."""
         found = {}
         self.at += 1
         while True:
@@ -205,6 +226,7 @@ class Reader:
             self.after_element("}", "table")
 
     def after_element(self, closing, what):
+        """Passes the comma behind a value of a list or table, or stands before the closing bracket."""
         self.skip_blank()
         if self.peek() == ",":
             self.at += 1
@@ -212,6 +234,7 @@ class Reader:
             self.fail(f"no `,` and no `{closing}` after a value of a {what}")
 
     def string(self, delimiter, multi):
+        """A text up to its closing quote, or its three quotes."""
         self.at += 3 if multi else 1
         if multi:
             self.skip_newline()
@@ -238,6 +261,7 @@ class Reader:
             self.at += 1
 
     def escape(self, multi):
+        """What stands behind a backslash; nothing where that joins two lines."""
         start = self.at
         self.skip_white()
         if multi and (self.is_at("\n") or self.is_at("\r\n")):
@@ -260,6 +284,7 @@ class Reader:
         return ESCAPES[char]
 
     def scalar(self, line):
+        """A boolean, a moment or a number."""
         word = self.word()
         if not word:
             self.fail("a value was expected")
@@ -278,6 +303,7 @@ class Reader:
         raise NotToml(line, f"`{word}` is {why}")
 
     def word(self):
+        """What stands together here, with the blank between a date and a time."""
         end = self.word_end(self.at)
         # a space before a digit joins a date and a time
         if self.text[end : end + 1] == " " and self.text[end + 1 : end + 2] in DIGITS:
@@ -285,12 +311,14 @@ class Reader:
         return self.text[self.at : end]
 
     def word_end(self, at):
+        """Where the characters of a word end."""
         while self.text[at : at + 1] in WORD:
             at += 1
         return at
 
 
 def is_text(char):
+    """Whether a character may stand in a text or comment: it controls nothing."""
     return char == "\t" or char >= " " and char != "\x7f" and char != ""
 
 
@@ -319,6 +347,7 @@ def put(reader, nodes, path, value, line):
 
 
 def define_table(reader, nodes, key, tables, line):
+    """Makes the table that a header names, or goes on with one that no header has named yet."""
     node = nodes.get(key)
     if node is None:
         nodes[key] = Tables(line) if tables else Table("header", line)
@@ -376,4 +405,5 @@ def is_moment(word):
 
 
 def is_time(hour, minute, second):
+    """Whether there is such a time of day; the second 60 is a leap second."""
     return int(hour) < 24 and int(minute) < 60 and int(second or 0) <= 60
