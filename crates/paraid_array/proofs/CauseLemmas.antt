@@ -50,7 +50,7 @@ use Rattle.paraid_upkeep.specs.declared.fault.ShiftFault.{ShiftFault}
 use Rattle.paraid_upkeep.specs.declared.fault.ShiftFault.TheVariants.{Lowest, Out as ShiftOut, Ration, Shifting, Top}
 use Rattle.paraid_base.specs.Gears.{next_higher, next_lower}
 use Rattle.paraid_image.specs.Power.{PowerState}
-use Rattle.paraid_machine.specs.Moves.{first_spent}
+use Rattle.paraid_machine.specs.Moves.{first_used_up}
 use Rattle.paraid_array.specs.Used.{asked_energy}
 use Rattle.paraid_upkeep.specs.declared.fault.FailFault.{FailFault}
 use Rattle.paraid_upkeep.specs.declared.fault.FailFault.TheVariants.{NoDisk as FailNoDisk, Out as FailOut}
@@ -359,9 +359,9 @@ down_or setup s (Some to) (DownPhase t) out next_is phase_is out_is = inl (Shift
 down_or setup s (Some to) (UpPhase t) out next_is phase_is out_is = inl (Shifting t, (to, next_is, ((λ steady. let z : Steady ≡ UpPhase t = sym steady ∙ phase_is in cc), rw phase_is refl)), rw phase_is refl)
 down_or setup s (Some to) Steady (Gone d) next_is phase_is out_is = inl (ShiftOut d, (to, next_is, (phase_is, rw out_is refl)), rw (phase_is, out_is) refl)
 down_or setup s (Some to) Steady (Fresh d u) next_is phase_is out_is = inl (ShiftOut d, (to, next_is, (phase_is, rw out_is refl)), rw (phase_is, out_is) refl)
-down_or setup s (Some to) Steady No next_is phase_is out_is = by (first_spent setup s to) refl
+down_or setup s (Some to) Steady No next_is phase_is out_is = by (first_used_up setup s to) refl
   where
-    by : (o : Option ℕ) → first_spent setup s to ≡ o → ((f : ShiftFault) × IsDownRefused setup s f × (down_refusal setup (Some to) s ≡ Some (fault_answer f))) ⊎ ((t : ℕ) × MayGoDown setup s t × (down_refusal setup (Some to) s ≡ None))
+    by : (o : Option ℕ) → first_used_up setup s to ≡ o → ((f : ShiftFault) × IsDownRefused setup s f × (down_refusal setup (Some to) s ≡ Some (fault_answer f))) ⊎ ((t : ℕ) × MayGoDown setup s t × (down_refusal setup (Some to) s ≡ None))
     by None e = inr (to, record { next = next_is; at_ease = record { steady = phase_is; whole = out_is }; unworn = e }, rw (phase_is, out_is, e) refl)
     by (Some d) e = inl (Ration d, (to, next_is, record { steady = phase_is; whole = out_is }, e), rw (phase_is, out_is, e) refl)
 

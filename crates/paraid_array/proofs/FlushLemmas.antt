@@ -7,7 +7,7 @@ use Rattle.paraid_base.specs.declared.fault.Halt.TheVariants.{Two as HaltTwo}
 use Rattle.paraid_base.specs.declared.fault.Two.{Two}
 use Rattle.paraid_base.specs.History.{History}
 use Rattle.paraid_base.specs.Log.{worn_at}
-use Rattle.paraid_gear.specs.declared.windows.Windows.{Windows}
+use Rattle.paraid_gear.specs.declared.three_windows.Windows.{Windows}
 use Rattle.paraid_gear.specs.ThreeWindows.{HoldLastSamples}
 use Rattle.paraid_rack.specs.Slots.{Agrees, Slot}
 use Rattle.paraid_rack.specs.Told.{CrashTriple, Ran}

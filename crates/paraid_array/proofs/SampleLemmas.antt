@@ -6,7 +6,7 @@ use Rattle.std.proofs.lemmas.List.{drop-drop}
 use Rattle.circular_buffer.specs.Buffer.{keep_last}
 use Rattle.paraid_base.specs.declared.geometry.Geometry.{Geometry}
 use Rattle.paraid_base.specs.Gears.{first_from, is_gear, last_below, next_higher, next_lower}
-use Rattle.paraid_gear.specs.declared.windows.Windows.{Windows}
+use Rattle.paraid_gear.specs.declared.three_windows.Windows.{Windows}
 use Rattle.paraid_gear.specs.ThreeWindows.{HoldLastSamples, lengths_of}
 use Rattle.paraid_record.specs.declared.meta.Setup.{Setup}
 use Rattle.paraid_serve.specs.Causes.{longest}

@@ -22,7 +22,7 @@ use Rattle.paraid_image.specs.Out.{named_out, or_else}
 use Rattle.paraid_image.specs.Power.{PowerState}
 use Rattle.paraid_moves.specs.MoveMetas.{meta_after_begin}
 use Rattle.paraid_machine.specs.Energy.{begun_energy, energy_after, tick_energy}
-use Rattle.paraid_machine.specs.Moves.{after_loss, first_spent, units_of_tick, units_to_rebuild}
+use Rattle.paraid_machine.specs.Moves.{after_loss, first_used_up, units_of_tick, units_to_rebuild}
 use Rattle.paraid_txn.specs.declared.store.Store.{Store}
 use Rattle.paraid_txn.specs.Stores.{store_rack}
 use Rattle.paraid_core.specs.declared.staged.Core.{Core}
@@ -34,7 +34,7 @@ use Rattle.paraid_event.specs.Service.{IsStateOf, service_of}
 use Rattle.paraid_upkeep.proofs.DecisionLemmas.{decided_down, decided_up}
 use Rattle.paraid_upkeep.specs.Events.{CommitsInTick}
 use Rattle.paraid_upkeep.specs.Refusals.{IsDownRefused, IsShiftStateOf, MayGoDown, MayGoUp}
-use Rattle.paraid_upkeep.specs.TickAnswers.{HasTickedDown, HasTickedUp, IsIdleTick, TellsDecision, TellsMove, TellsRebuild, TellsRest, TellsWorn, units_unbuilt}
+use Rattle.paraid_upkeep.specs.TickAnswers.{HasTickedDown, HasTickedUp, IsIdleTick, TellsDecision, TellsMove, TellsRebuild, TellsRest, TellsUsedUp, units_unbuilt}
 use Rattle.paraid_upkeep.specs.declared.fault.ShiftFault.TheVariants.{Ration}
 use Rattle.paraid_serve.specs.Causes.{Begins, CommitsFew, Decides, GoesDown, HasFailed, IsAsBefore, MovesBy, MovesOn, Reaches, ReachesOrLoses, Rebuilds, Shown, TicksBy, decision_shown, shown_ticked, spins_up, state_shown}
 use Rattle.paraid_array.specs.declared.array.Array.{Array}
@@ -185,7 +185,7 @@ module _ {R : Type 0} {g : _} (slots : R → ℕ) (slot : R → ℕ → Slot) (a
       )
 
   begins_down : (to : ℕ) → named_out a.core.meta.out ≡ None → new.dirty ≡ a.core.dirty → HasTickedDown (with_tick a.core.meta) new.meta to
-      → (next_lower a.setup.geometry a.core.meta.gear ≡ Some to) × (first_spent a.setup (state_shown before) to ≡ None) × Begins before after (DownPhase to) (λ d. 0)
+      → (next_lower a.setup.geometry a.core.meta.gear ≡ Some to) × (first_used_up a.setup (state_shown before) to ≡ None) × Begins before after (DownPhase to) (λ d. 0)
   begins_down to none table w =
       let may = subst (λ (z : Setup). MayGoDown z (state_shown before) to) same_setup (w.could (state_shown before) (ticked_state slot a)) in (
         may.next,
@@ -194,7 +194,7 @@ module _ {R : Type 0} {g : _} (slots : R → ℕ) (slot : R → ℕ → Slot) (a
       )
 
   tells_worn : (d : ℕ) → ((s : PowerState) → IsShiftStateOf (with_tick a.core.meta) s → IsDownRefused a.core.meta.setup s (Ration d)) → IsAsBefore before after
-      → (to : ℕ) × (next_lower a.setup.geometry a.core.meta.gear ≡ Some to) × (first_spent a.setup (state_shown before) to ≡ Some d) × IsAsBefore before after
+      → (to : ℕ) × (next_lower a.setup.geometry a.core.meta.gear ≡ Some to) × (first_used_up a.setup (state_shown before) to ≡ Some d) × IsAsBefore before after
   tells_worn d w same =
       let why = subst (λ (z : Setup). IsDownRefused z (state_shown before) (Ration d)) same_setup (w (state_shown before) (ticked_state slot a)) in
       (why.0, why.1, why.3, same)
@@ -223,9 +223,9 @@ module _ {R : Type 0} {g : _} (slots : R → ℕ) (slot : R → ℕ → Slot) (a
       → (IsIdleTick e → IsAsBefore before after) → Decides made before after e
   decides_by Stay is e none table tells w idle = (tells, idle (subst IsIdleTick (sym tells) tt))
   decides_by (DecideUp to) is e none table tells w idle = (tells, begun_up_only to none table (decided_up a.setup a.core.meta.gear before.samples to is) (subst (TellsRest (with_tick a.core.meta) new.meta) tells w))
-  decides_by (DecideDown to) is e none table tells w idle = by (first_spent a.setup (state_shown before) to) tells
+  decides_by (DecideDown to) is e none table tells w idle = by (first_used_up a.setup (state_shown before) to) tells
     where
-      by : (worn : Option ℕ) → TellsWorn worn to e → GoesDown worn to before after e
+      by : (worn : Option ℕ) → TellsUsedUp worn to e → GoesDown worn to before after e
       by None tells = (tells, begun_down_only to none table (decided_down a.setup a.core.meta.gear before.samples to is) (subst (TellsRest (with_tick a.core.meta) new.meta) tells w))
       by (Some d) tells = (tells, idle (subst IsIdleTick (sym tells) tt))
 

@@ -3,7 +3,7 @@ use Rattle.std.specs.Prelude.{◌≡◌, ◌≢◌, ℕ, ◌≤◌, max, false, 
 use Rattle.paraid_base.specs.declared.fault.Halt.{Halt}
 use Rattle.paraid_base.specs.declared.fault.Halt.TheVariants.{Worn}
 use Rattle.paraid_base.specs.Log.{worn_at}
-use Rattle.paraid_gear.specs.declared.windows.Windows.{Windows}
+use Rattle.paraid_gear.specs.declared.three_windows.Windows.{Windows}
 use Rattle.paraid_rack.specs.declared.call.Power.TheVariants.{Spinning}
 use Rattle.paraid_rack.specs.Disks.{is_present}
 use Rattle.paraid_rack.specs.Slots.{Slot}

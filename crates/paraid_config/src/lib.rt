@@ -7,7 +7,7 @@
 
 mod fault;
 mod key;
-mod law;
+mod laws;
 mod list;
 mod number;
 mod read;
@@ -17,6 +17,6 @@ mod value;
 
 pub use fault::ConfigFault;
 pub use key::Key;
-pub use law::a_configuration_is_not_refused;
+pub use laws::a_configuration_is_not_refused;
 pub use read::read_config;
 pub use setup::setup_of;

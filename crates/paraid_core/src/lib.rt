@@ -3,8 +3,8 @@
 
 mod cells;
 mod changes;
-mod clean;
 mod cleaned;
+mod cleaning_read;
 mod fill;
 mod gather;
 mod gone;

@@ -24,7 +24,7 @@ use Rattle.paraid_image.specs.Power.{PowerState}
 use Rattle.paraid_core.specs.CoreInvariant.{AreCopiesSynced}
 use Rattle.paraid_machine.specs.Energy.{energy_after, spin_up_energy}
 use Rattle.paraid_machine.specs.Machine.{IsEventStep, begin, go_down, go_up, outcomes, ration_refusal, refusal_else, shift_refusal}
-use Rattle.paraid_machine.specs.Moves.{after_loss, begun_down, begun_up, first_spent}
+use Rattle.paraid_machine.specs.Moves.{after_loss, begun_down, begun_up, first_used_up}
 use Rattle.paraid_session.specs.Turn.{GoesOn, IsSecondLossEnergy, IsUnhurt, Point, bounds_at, bounds_of, makes_no_call, point_wear, watch_of}
 use Rattle.paraid_session.specs.Turn.IsSecondLossEnergy.{begun, own}
 use Rattle.paraid_session.specs.Watch.{Watch, first_lost, watch_all}
@@ -132,12 +132,12 @@ module _ (told : Option Trail) (k : Service) (setup : Setup) (p : Point) (at : S
         (subst (λ (o : Option Answer). Contains {X = Answer × PowerState} (begin o loss p.state to (begun_up to p.state)) (Shift p.state.gear to, new)) (sym open_now) is);
   }
 
-  down_step : next_lower setup.geometry p.state.gear ≡ Some to → first_spent setup p.state to ≡ None → (loss : Option ℕ) (new : PowerState) → Contains {X = Answer × PowerState} (begin None loss p.state to (begun_down to p.state)) (Shift p.state.gear to, new) → IsEventStep setup p.history p.energy p.state AskDown loss (Shift p.state.gear to) new
+  down_step : next_lower setup.geometry p.state.gear ≡ Some to → first_used_up setup p.state to ≡ None → (loss : Option ℕ) (new : PowerState) → Contains {X = Answer × PowerState} (begin None loss p.state to (begun_down to p.state)) (Shift p.state.gear to, new) → IsEventStep setup p.history p.energy p.state AskDown loss (Shift p.state.gear to) new
   unfolding outcomes
   down_step some unworn loss new is = record {
     among = subst (λ (o : Option ℕ). Contains {X = Answer × PowerState} (go_down setup loss p.state o) (Shift p.state.gear to, new)) (sym some)
         (subst (λ (o : Option Answer). Contains {X = Answer × PowerState} (begin o loss p.state to (begun_down to p.state)) (Shift p.state.gear to, new))
-        (sym (ap (λ (o : Option Answer). refusal_else o (ration_refusal (first_spent setup p.state to))) open_now ∙ ap ration_refusal unworn)) is);
+        (sym (ap (λ (o : Option Answer). refusal_else o (ration_refusal (first_used_up setup p.state to))) open_now ∙ ap ration_refusal unworn)) is);
   }
 
   -- A shift up that is asked for begins,
@@ -147,7 +147,7 @@ module _ (told : Option Trail) (k : Service) (setup : Setup) (p : Point) (at : S
       (capped_sum p.energy k.energy (spin_up_energy setup p.state.gear to) k2.energy at.energy energy) (under_cap k2.energy (k.energy + spin_up_energy setup p.state.gear to) energy) refl most few told_then refl
 
   -- and so does a shift down.
-  pub down_asked : next_lower setup.geometry p.state.gear ≡ Some to → to < p.state.gear → first_spent setup p.state to ≡ None → (k2 : Service) → AreCopiesSynced k2.meta.setup.geometry.disks k2.copied → GoesToState k2 (begun_down to p.state) → k2.energy ≡ k.energy
+  pub down_asked : next_lower setup.geometry p.state.gear ≡ Some to → to < p.state.gear → first_used_up setup p.state to ≡ None → (k2 : Service) → AreCopiesSynced k2.meta.setup.geometry.disks k2.copied → GoesToState k2 (begun_down to p.state) → k2.energy ≡ k.energy
       → (most : ℕ) → most ≤ 2 ^ 20 → (told_then : Option Trail) → Ran told told_then (StepsInEvent k k2 p.history p.low most) → Ran told told_then (GoesOn k.slots setup p AskDown (Shift p.state.gear to) (StandsAt told_then k2 setup))
   down_asked some lower unworn k2 synced goes_to energy most few told_then = begun_told AskDown (begun_down to p.state) (λ e. down_not_bad e) refl (down_step some unworn) (λ down. let z : Down to ≡ Steady = down in cc) k2 synced goes_to
       (capped_own p.energy k.energy (spin_up_energy setup p.state.gear to) k2.energy at.energy at.fits (no_spin_ups setup.spinup_mj to p.state.gear lower) energy) (let f = at.fits in omega (arith, f, energy)) refl most few told_then refl
@@ -167,7 +167,7 @@ module _ (told : Option Trail) (k : Service) (setup : Setup) (p : Point) (at : S
       → Ran told told_then (LosesInSteps k p.history p.low most two) → Ran told told_then (GoesOn k.slots setup p AskUp (Halted (HaltTwo two)) (IsHaltedWith p (HaltTwo two) energy))
   up_asked_lost some two energy which most few told_then = asked_lost AskUp two energy (λ e. up_not_bad e) refl refl (elim which [ inl same ↦ own_up energy same | inr after ↦ begun_energy_up some energy after ]) (up_busy told k setup p at to steady no_out some) most few told_then
 
-  pub down_asked_lost : next_lower setup.geometry p.state.gear ≡ Some to → first_spent setup p.state to ≡ None → (two : Two) (most : ℕ) → most ≤ 2 ^ 20 → (told_then : Option Trail)
+  pub down_asked_lost : next_lower setup.geometry p.state.gear ≡ Some to → first_used_up setup p.state to ≡ None → (two : Two) (most : ℕ) → most ≤ 2 ^ 20 → (told_then : Option Trail)
       → Ran told told_then (LosesInSteps k p.history p.low most two) → Ran told told_then (GoesOn k.slots setup p AskDown (Halted (HaltTwo two)) (IsHaltedWith p (HaltTwo two) k.energy))
   down_asked_lost some unworn two most few told_then = asked_lost AskDown two k.energy (λ e. down_not_bad e) refl refl (own_down k.energy refl) (down_busy told k setup p at to steady no_out some unworn) most few told_then
 
@@ -199,7 +199,7 @@ module _ (told : Option Trail) (k : Service) (setup : Setup) (p : Point) (at : S
       step : IsEventStep setup p.history p.energy p.state AskUp (Some e) (IsOut e) (after_loss p.state e)
       step = record { among = rw (some, steady, no_out) (0, omega arith, refl) }
 
-  pub down_hindered : next_lower setup.geometry p.state.gear ≡ Some to → first_spent setup p.state to ≡ None → (e : ℕ) (k2 : Service) → AreCopiesSynced k2.meta.setup.geometry.disks k2.copied → GoesToState k2 p.state → named_out k2.meta.out ≡ Some e → k2.energy ≡ k.energy → (most : ℕ) → most ≤ 2 ^ 20 → (told_then : Option Trail)
+  pub down_hindered : next_lower setup.geometry p.state.gear ≡ Some to → first_used_up setup p.state to ≡ None → (e : ℕ) (k2 : Service) → AreCopiesSynced k2.meta.setup.geometry.disks k2.copied → GoesToState k2 p.state → named_out k2.meta.out ≡ Some e → k2.energy ≡ k.energy → (most : ℕ) → most ≤ 2 ^ 20 → (told_then : Option Trail)
       → Ran told told_then (StepsInEvent k k2 p.history p.low most) → Ran told told_then (GoesOn k.slots setup p AskDown (IsOut e) (StandsAt told_then k2 setup))
   unfolding outcomes
   down_hindered some unworn e k2 synced goes_to named same_energy most few told_then = hindered_told AskDown (λ z. let y : AskDown ≡ Bad = z in cc) refl e refl refl step k2 synced goes_to named same_energy most few told_then

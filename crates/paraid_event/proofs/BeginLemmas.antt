@@ -27,7 +27,7 @@ use Rattle.paraid_image.specs.Power.{PowerState, power_by_gear}
 use Rattle.paraid_image.specs.Spins.{made_spin_ups}
 use Rattle.paraid_machine.specs.Energy.{energy_after, spin_up_energy}
 use Rattle.paraid_machine.specs.Machine.{IsEventStep, begin, go_down, go_up, outcomes, refusal_else, ration_refusal, shift_refusal}
-use Rattle.paraid_machine.specs.Moves.{begun_down, begun_up, first_spent}
+use Rattle.paraid_machine.specs.Moves.{begun_down, begun_up, first_used_up}
 use Rattle.paraid_moves.specs.MoveMetas.{meta_after_begin}
 use Rattle.paraid_session.specs.Turn.{GoesOn, IsFirstDown, IsMark, IsUnhurt, LosesSecondDisk, Point, bounds_at, makes_no_call, point_wear, watch_of}
 use Rattle.paraid_session.specs.Turn.IsFirstDown.{lost}
@@ -90,7 +90,7 @@ no_spin_ups mj to gear l = let e : to - gear ≡ 0 = omega (arith, l) in rw e (z
     zero_times a = grind (arith)
 
 module _ (told : Option Trail) (k k1 k2 : Service) (setup : Setup) (p : Point) (at : StandsAt told k setup p) (to : ℕ) (shift : MarksShiftDown k k1 k2 to) (some : next_lower setup.geometry p.state.gear ≡ Some to)
-    (steady : p.state.phase ≡ Steady) (no_out : p.state.out ≡ No) (unworn : first_spent setup p.state to ≡ None) (lo1 : ℕ) (le1 : p.low ≤ lo1) where
+    (steady : p.state.phase ≡ Steady) (no_out : p.state.out ≡ No) (unworn : first_used_up setup p.state to ≡ None) (lo1 : ℕ) (le1 : p.low ≤ lo1) where
   abbrev w0 : Watch
   w0 = watch_at p
 
@@ -311,7 +311,7 @@ module _ (told : Option Trail) (k k1 k2 : Service) (setup : Setup) (p : Point) (
         begun_step = record {
           among = subst (λ (o : Option ℕ). Contains {X = Answer × PowerState} (go_down setup (first_lost ds) p.state o) (Shift p.state.gear to, s3)) (sym some)
               (subst (λ (o : Option Answer). Contains {X = Answer × PowerState} (begin o (first_lost ds) p.state to (begun_down to p.state)) (Shift p.state.gear to, s3))
-              (sym (ap (λ (o : Option Answer). refusal_else o (ration_refusal (first_spent setup p.state to))) (ap (λ (x : Phase). shift_refusal x p.state.out) steady ∙ ap (λ (o : Out). shift_refusal Steady o) no_out) ∙ ap ration_refusal unworn))
+              (sym (ap (λ (o : Option Answer). refusal_else o (ration_refusal (first_used_up setup p.state to))) (ap (λ (x : Phase). shift_refusal x p.state.out) steady ∙ ap (λ (o : Out). shift_refusal Steady o) no_out) ∙ ap ration_refusal unworn))
               (begun_among (first_lost ds)));
         }
 
@@ -367,12 +367,12 @@ module _ (told : Option Trail) (k : Service) (setup : Setup) (p : Point) (at : S
   pub free : shift_refusal p.state.phase p.state.out ≡ None
   free = ap (λ (x : Phase). shift_refusal x p.state.out) steady ∙ ap (λ (o : Out). shift_refusal Steady o) no_out
 
-  pub down_busy : next_lower setup.geometry p.state.gear ≡ Some to → first_spent setup p.state to ≡ None → (answer : Answer) (new : PowerState) → IsUnhurt setup p AskDown answer new → makes_no_call answer ≡ false
+  pub down_busy : next_lower setup.geometry p.state.gear ≡ Some to → first_used_up setup p.state to ≡ None → (answer : Answer) (new : PowerState) → IsUnhurt setup p AskDown answer new → makes_no_call answer ≡ false
   unfolding outcomes
   down_busy some unworn answer new is =
       let one = subst (λ (o : Option ℕ). Contains {X = Answer × PowerState} (go_down setup None p.state o) (answer, new)) some is.among in
       let two = subst (λ (o : Option Answer). Contains {X = Answer × PowerState} (begin o None p.state to (begun_down to p.state)) (answer, new))
-      (ap (λ (o : Option Answer). refusal_else o (ration_refusal (first_spent setup p.state to))) free ∙ ap ration_refusal unworn) one in
+      (ap (λ (o : Option Answer). refusal_else o (ration_refusal (first_used_up setup p.state to))) free ∙ ap ration_refusal unworn) one in
       ap makes_no_call (sym (one_outcome (Shift p.state.gear to, begun_down to p.state) answer new two))
 
   pub up_busy : next_higher setup.geometry p.state.gear ≡ Some to → (answer : Answer) (new : PowerState) → IsUnhurt setup p AskUp answer new → makes_no_call answer ≡ false
@@ -383,14 +383,14 @@ module _ (told : Option Trail) (k : Service) (setup : Setup) (p : Point) (at : S
       ap makes_no_call (sym (one_outcome (Shift p.state.gear to, begun_up to p.state) answer new two))
 
   module _ (told_then : Option Trail) (two : Two) (fit : point_wear p < worn_at) (ran : Ran told told_then (λ s cs. LosesInEvent k p.history p.low s cs × TellsTwo k two s cs)) where
-    pub down_loses : next_lower setup.geometry p.state.gear ≡ Some to → first_spent setup p.state to ≡ None → Ran told told_then (GoesOn k.slots setup p AskDown (Halted (HaltTwo two)) (IsHaltedFrom p (HaltTwo two)))
+    pub down_loses : next_lower setup.geometry p.state.gear ≡ Some to → first_used_up setup p.state to ≡ None → Ran told told_then (GoesOn k.slots setup p AskDown (Halted (HaltTwo two)) (IsHaltedFrom p (HaltTwo two)))
     down_loses some unworn = loses_told told told_then k setup p at two AskDown refl refl refl (λ e. down_not_bad e) (down_busy some unworn) fit ran
 
     pub up_loses : next_higher setup.geometry p.state.gear ≡ Some to → Ran told told_then (GoesOn k.slots setup p AskUp (Halted (HaltTwo two)) (IsHaltedFrom p (HaltTwo two)))
     up_loses some = loses_told told told_then k setup p at two AskUp refl refl refl (λ e. up_not_bad e) (up_busy some) fit ran
 
 module _ (told : Option Trail) (k k1 k2 : Service) (setup : Setup) (p : Point) (at : StandsAt told k setup p) (to : ℕ) (shift : MarksShiftDown k k1 k2 to) (some : next_lower setup.geometry p.state.gear ≡ Some to)
-    (steady : p.state.phase ≡ Steady) (no_out : p.state.out ≡ No) (unworn : first_spent setup p.state to ≡ None) (lo1 : ℕ) (le1 : p.low ≤ lo1) (two : Two) (fit : point_wear p < worn_at) where
+    (steady : p.state.phase ≡ Steady) (no_out : p.state.out ≡ No) (unworn : first_used_up setup p.state to ≡ None) (lo1 : ℕ) (le1 : p.low ≤ lo1) (two : Two) (fit : point_wear p < worn_at) where
   abbrev w_first : Watch
   w_first = watch_at p
 

@@ -21,7 +21,7 @@ use Rattle.paraid_rack.specs.Trail.{Trail, now, run}
 use Rattle.paraid_record.specs.declared.meta.Setup.{Setup}
 use Rattle.paraid_image.specs.Power.{PowerState}
 use Rattle.paraid_machine.specs.Machine.{IsEventStep, outcomes}
-use Rattle.paraid_machine.specs.Moves.{after_loss, first_spent}
+use Rattle.paraid_machine.specs.Moves.{after_loss, first_used_up}
 use Rattle.paraid_session.specs.Turn.{GoesOn, Point, bounds_at, bounds_of, point_wear, watch_of}
 use Rattle.paraid_session.specs.Watch.{first_lost}
 use Rattle.paraid_session.proofs.LayerLemmas.{absent_failed, fails_first}
@@ -112,7 +112,7 @@ module _ (told told_then : Option Trail) (k k_then : Service) (setup : Setup) (p
       step : IsEventStep setup p.history p.energy p.state AskUp (Some e) (IsOut e) (after_loss p.state e)
       step = record { among = rw (some, steady, no_out) (0, omega arith, refl) }
 
-  pub down_hindered : (to : ℕ) → next_lower setup.geometry p.state.gear ≡ Some to → p.state.phase ≡ Steady → first_spent setup p.state to ≡ None → Hinders AskDown
+  pub down_hindered : (to : ℕ) → next_lower setup.geometry p.state.gear ≡ Some to → p.state.phase ≡ Steady → first_used_up setup p.state to ≡ None → Hinders AskDown
   unfolding outcomes
   down_hindered to some steady unworn = told_turn told told_then k k_then setup p at p.history lo_then AskDown (IsOut e)
       (λ cs part ends tells. hindered_turn cs part ends AskDown refl refl (λ z. let y : AskDown ≡ Bad = z in cc) refl step tells)

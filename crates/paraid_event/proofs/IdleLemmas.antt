@@ -28,7 +28,7 @@ use Rattle.paraid_core.proofs.MarkLemmas.{keeps_restaged}
 use Rattle.paraid_core.proofs.MomentLemmas.{base_in_range}
 use Rattle.paraid_machine.specs.Energy.{begun_energy, energy_after, tick_energy}
 use Rattle.paraid_machine.specs.Machine.{IsEventStep, outcomes, report}
-use Rattle.paraid_machine.specs.Moves.{first_spent, state_with_tick}
+use Rattle.paraid_machine.specs.Moves.{first_used_up, state_with_tick}
 use Rattle.paraid_session.specs.Turn.{GoesOn, Point, bounds_at, point_wear, is_begun}
 use Rattle.paraid_session.specs.Turn.IsTurn.{again, answered, bad}
 use Rattle.paraid_session.specs.Watch.{HoldsWhileServing, IsServing, down_from_out}
@@ -185,7 +185,7 @@ module _ (told : Option Trail) (k k_then : Service) (setup : Setup) (p : Point) 
       step : IsEventStep setup p.history p.energy p.state Tick None (report p.state 0 Waiting).0 s_then
       step = record { among = rw out (0, omega arith, refl) }
 
-  pub ration_turn : p.state.out ≡ No → p.state.phase ≡ PhaseSteady → (to d : ℕ) → decision setup p.state.gear s_then.samples ≡ DecideDown to → first_spent setup s_then to ≡ Some d → Ran told told (GoesOn k.slots setup p Tick (report p.state 0 (Ration d)).0 (StandsAt told k_then setup))
+  pub ration_turn : p.state.out ≡ No → p.state.phase ≡ PhaseSteady → (to d : ℕ) → decision setup p.state.gear s_then.samples ≡ DecideDown to → first_used_up setup s_then to ≡ Some d → Ran told told (GoesOn k.slots setup p Tick (report p.state 0 (Ration d)).0 (StandsAt told k_then setup))
   unfolding outcomes
   ration_turn no_out steady to d down worn = idle_told (Ration d) refl refl step
     where

@@ -23,7 +23,7 @@ use Rattle.paraid_record.specs.declared.meta.Setup.{Setup}
 use Rattle.paraid_record.specs.Codes.{phase_to}
 use Rattle.paraid_image.specs.Power.{PowerState}
 use Rattle.paraid_machine.specs.Machine.{IsEventStep, block_count, blocks_named, first_missing, outcomes, put_in, shift_refusal, take_out}
-use Rattle.paraid_machine.specs.Moves.{first_spent}
+use Rattle.paraid_machine.specs.Moves.{first_used_up}
 use Rattle.paraid_session.specs.Turn.{GoesOn, Point, may_halt, point_wear, with_halt}
 use Rattle.paraid_session.specs.Turn.IsTurn.{worn}
 use Rattle.paraid_event.proofs.ApartLemmas.{down_not_bad, fail_not_bad, no_one, read_not_bad, replace_not_bad, up_not_bad, write_not_bad}
@@ -118,7 +118,7 @@ module _ (told : Option Trail) (k : Service) (setup : Setup) (p : Point) (at : S
       step : IsEventStep setup p.history p.energy p.state AskDown None (IsOut d) p.state
       step = record { among = rw (some, ap (λ (x : Phase). shift_refusal x p.state.out) steady ∙ shift_named p.state.out d out) (0, omega arith, refl) }
 
-  pub down_ration : (to d : ℕ) → next_lower setup.geometry p.state.gear ≡ Some to → p.state.phase ≡ Steady → p.state.out ≡ No → first_spent setup p.state to ≡ Some d → Stays AskDown (RationUsed d)
+  pub down_ration : (to d : ℕ) → next_lower setup.geometry p.state.gear ≡ Some to → p.state.phase ≡ Steady → p.state.out ≡ No → first_used_up setup p.state to ≡ Some d → Stays AskDown (RationUsed d)
   unfolding outcomes
   down_ration to d some steady no_out used = no_call told k setup p at AskDown (RationUsed d)
       (asked_turn told k setup p at AskDown (RationUsed d) refl refl (λ a. refl) (λ e. down_not_bad e) (λ asked. fit) step refl refl refl refl (refl, refl))

@@ -31,7 +31,7 @@ use Rattle.paraid_image.specs.Power.{PowerState, power_by_gear}
 use Rattle.paraid_image.specs.Spins.{made_spin_ups}
 use Rattle.paraid_machine.specs.Energy.{begun_energy, energy_after, tick_energy}
 use Rattle.paraid_machine.specs.Machine.{IsEventStep, begin_by_tick, decide, outcomes, report, shift_down, tick_by_out, tick_by_phase}
-use Rattle.paraid_machine.specs.Moves.{begun_down, first_spent, state_with_tick}
+use Rattle.paraid_machine.specs.Moves.{begun_down, first_used_up, state_with_tick}
 use Rattle.paraid_moves.specs.MoveMetas.{meta_after_begin}
 use Rattle.paraid_session.specs.Turn.{GoesOn, IsFirstDown, IsMark, IsUnhurt, LosesSecondDisk, Point, bounds_at, makes_no_call, point_wear}
 use Rattle.paraid_session.specs.Turn.IsFirstDown.{lost}
@@ -89,7 +89,7 @@ one_outcome outcome answer new is = by is.0 is.1 is.2
     by (suc x) low at = absurd (omega arith)
 
 module _ (told : Option Trail) (k k1 k2 : Service) (setup : Setup) (p : Point) (at : StandsAt told k setup p) (to : ℕ) (counts : CountsTick k k1) (mark : k2 ≡ record k1 { meta = meta_after_begin k1.meta (Down to) k1.meta.spins }) (fit : point_wear p < worn_at) (lower : to < p.state.gear)
-    (steady : p.state.phase ≡ Steady) (no_out : p.state.out ≡ No) (down : decision setup p.state.gear (state_with_tick p.state).samples ≡ DecideDown to) (unworn : first_spent setup (state_with_tick p.state) to ≡ None) where
+    (steady : p.state.phase ≡ Steady) (no_out : p.state.out ≡ No) (down : decision setup p.state.gear (state_with_tick p.state).samples ≡ DecideDown to) (unworn : first_used_up setup (state_with_tick p.state) to ≡ None) where
   abbrev w0 : Watch
   w0 = watch_at p
 

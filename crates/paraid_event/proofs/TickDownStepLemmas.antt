@@ -26,7 +26,7 @@ use Rattle.paraid_image.specs.Power.{PowerState}
 use Rattle.paraid_core.specs.CoreInvariant.{AreCopiesSynced}
 use Rattle.paraid_machine.specs.Energy.{begun_energy, tick_energy}
 use Rattle.paraid_machine.specs.Machine.{IsEventStep, begin_by_tick, decide, outcomes, report, shift_down, tick_by_out, tick_by_phase}
-use Rattle.paraid_machine.specs.Moves.{after_loss, begun_down, first_spent, state_with_tick}
+use Rattle.paraid_machine.specs.Moves.{after_loss, begun_down, first_used_up, state_with_tick}
 use Rattle.paraid_session.specs.Turn.{GoesOn, IsUnhurt, Point, makes_no_call, point_wear}
 use Rattle.paraid_session.specs.Watch.{Watch, first_lost, watch_all}
 use Rattle.paraid_session.specs.Resting.{watch_at}
@@ -47,7 +47,7 @@ no_spin_ups mj to gear l = let e : to - gear ≡ 0 = omega (arith, l) in rw e (z
     zero_times a = grind (arith)
 
 module _ (told : Option Trail) (k k1 : Service) (setup : Setup) (p : Point) (at : StandsAt told k setup p) (counts : CountsTick k k1) (fit : point_wear p < worn_at) (no_out : p.state.out ≡ No) (steady : p.state.phase ≡ Steady) (to : ℕ)
-    (down : decision setup p.state.gear (state_with_tick p.state).samples ≡ DecideDown to) (unworn : first_spent setup (state_with_tick p.state) to ≡ None) where
+    (down : decision setup p.state.gear (state_with_tick p.state).samples ≡ DecideDown to) (unworn : first_used_up setup (state_with_tick p.state) to ≡ None) where
   abbrev w0 : Watch
   w0 = watch_at p
 

@@ -11,7 +11,7 @@ ghost use Rattle.paraid_base.specs.Log.{worn_at};
 ghost use Rattle.paraid_rack.specs.Told.{Ran};
 ghost use Rattle.paraid_rack.specs.Trail.{Trail, now};
 ghost use Rattle.paraid_record.specs.declared.meta.Setup.{Setup as SetupType};
-ghost use Rattle.paraid_machine.specs.Moves.{first_spent};
+ghost use Rattle.paraid_machine.specs.Moves.{first_used_up};
 ghost use Rattle.paraid_session.specs.Turn.{GoesOn, Point, point_wear};
 ghost use Rattle.paraid_event.specs.Begins.{BeginsDown, MarksShiftDown};
 ghost use Rattle.paraid_event.specs.Lost.{IsHaltedFrom, TellsTwo};
@@ -26,7 +26,7 @@ pub fn a_shift_down_begins()
         (setup : SetupType) (p : Point) (to lo lo_then : ℕ) → StandsAt told k setup p
         → point_wear p < worn_at → BeginsDown k committed begun k_then to
         → next_lower setup.geometry p.state.gear ≡ Some to → to < p.state.gear
-        → p.state.phase ≡ Steady → p.state.out ≡ No → first_spent setup p.state to ≡ None
+        → p.state.phase ≡ Steady → p.state.out ≡ No → first_used_up setup p.state to ≡ None
         → p.low ≤ lo → p.low ≤ lo_then
         → Ran told mid (ServesEvent k committed p.history p.low p.history lo)
         → ((t : Trail) → mid ≡ Some t → ServiceStandsFor committed p.history p.low (now t)
@@ -48,7 +48,7 @@ pub fn a_second_loss_ends_a_shift()
     ensures down { (told told_then : Option Trail) (k : Service) (setup : SetupType) (p : Point) (to : ℕ)
         (two : TwoType) → StandsAt told k setup p → point_wear p < worn_at
         → next_lower setup.geometry p.state.gear ≡ Some to → p.state.phase ≡ Steady
-        → p.state.out ≡ No → first_spent setup p.state to ≡ None
+        → p.state.out ≡ No → first_used_up setup p.state to ≡ None
         → Ran told told_then (λ s cs. LosesInEvent k p.history p.low s cs × TellsTwo k two s cs)
         → Ran told told_then (GoesOn k.slots setup p AskDown (Halted (HaltTwo two))
         (IsHaltedFrom p (HaltTwo two))) }
@@ -56,7 +56,7 @@ pub fn a_second_loss_ends_a_shift()
         (setup : SetupType) (p : Point) (to lo : ℕ) (two : TwoType) → StandsAt told k setup p
         → point_wear p < worn_at → MarksShiftDown k committed begun to
         → next_lower setup.geometry p.state.gear ≡ Some to → p.state.phase ≡ Steady
-        → p.state.out ≡ No → first_spent setup p.state to ≡ None → p.low ≤ lo
+        → p.state.out ≡ No → first_used_up setup p.state to ≡ None → p.low ≤ lo
         → Ran told mid (ServesEvent k committed p.history p.low p.history lo)
         → ((t : Trail) → mid ≡ Some t → ServiceStandsFor committed p.history p.low (now t)
         → ServiceStandsFor begun p.history p.low (now t))

@@ -10,7 +10,7 @@ ghost use Rattle.paraid_base.specs.States.{named_out};
 ghost use Rattle.paraid_rack.specs.Told.{Ran};
 ghost use Rattle.paraid_rack.specs.Trail.{Trail};
 ghost use Rattle.paraid_record.specs.declared.meta.Setup.{Setup as SetupType};
-ghost use Rattle.paraid_machine.specs.Moves.{first_spent};
+ghost use Rattle.paraid_machine.specs.Moves.{first_used_up};
 ghost use Rattle.paraid_session.specs.Turn.{GoesOn, Point, point_wear};
 ghost use Rattle.paraid_event.specs.Counts.{CountsFlushed};
 ghost use Rattle.paraid_event.specs.Parts.{ServesEvent};
@@ -39,7 +39,7 @@ pub fn a_lost_disk_hinders_an_event()
     ensures down { (told told_then : Option Trail) (k k_then : Service) (setup : SetupType) (p : Point)
         (to other lo_then : ℕ) → StandsAt told k setup p → point_wear p < worn_at
         → next_lower setup.geometry p.state.gear ≡ Some to → p.state.phase ≡ Steady → p.state.out ≡ No
-        → first_spent setup p.state to ≡ None → named_out k_then.meta.out ≡ Some other
+        → first_used_up setup p.state to ≡ None → named_out k_then.meta.out ≡ Some other
         → CountsFlushed k k_then → p.low ≤ lo_then
         → Ran told told_then (ServesEvent k k_then p.history p.low p.history lo_then)
         → Ran told told_then (GoesOn k.slots setup p AskDown (IsOut other)

@@ -14,7 +14,7 @@ ghost use Rattle.paraid_rack.specs.Told.{Ran};
 ghost use Rattle.paraid_rack.specs.Trail.{Trail};
 ghost use Rattle.paraid_record.specs.declared.meta.Setup.{Setup as SetupType};
 ghost use Rattle.paraid_machine.specs.Machine.{report};
-ghost use Rattle.paraid_machine.specs.Moves.{first_spent, state_with_tick};
+ghost use Rattle.paraid_machine.specs.Moves.{first_used_up, state_with_tick};
 ghost use Rattle.paraid_session.specs.Turn.{GoesOn, Point, point_wear};
 ghost use Rattle.paraid_event.specs.Service.{Service};
 ghost use Rattle.paraid_event.specs.Stands.{StandsAt};
@@ -38,7 +38,7 @@ pub fn a_tick_has_nothing_to_do()
         (to disk : ℕ) → StandsAt told k setup p → point_wear p < worn_at → CountsTick k k_then
         → p.state.out ≡ No → p.state.phase ≡ PhaseSteady
         → decision setup p.state.gear (state_with_tick p.state).samples ≡ DecideDown to
-        → first_spent setup (state_with_tick p.state) to ≡ Some disk
+        → first_used_up setup (state_with_tick p.state) to ≡ Some disk
         → Ran told told (GoesOn k.slots setup p TickEvent (report p.state 0 (Ration disk)).0
         (StandsAt told k_then setup)) }
 {}

@@ -13,7 +13,7 @@ mod hindered;
 mod idle;
 mod lost;
 mod marking;
-mod marks;
+mod marks_in_memory;
 mod moving;
 mod point;
 mod powered;
@@ -49,7 +49,7 @@ pub use lost::a_second_loss_ends_the_service;
 pub use marking::{
     a_mark_is_committed, a_shown_meta_is_that_of_the_shift, marks_are_a_step, powers_are_a_step,
 };
-pub use marks::marks_of_a_shift_are_in_memory;
+pub use marks_in_memory::marks_of_a_shift_are_in_memory;
 pub use moving::{
     a_tick_begins_a_shift_down_in_steps, a_tick_begins_a_shift_up, a_tick_moves_a_shift,
 };

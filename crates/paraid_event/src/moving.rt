@@ -17,7 +17,7 @@ ghost use Rattle.paraid_rack.specs.Trail.{Trail};
 ghost use Rattle.paraid_record.specs.declared.meta.Setup.{Setup as SetupType};
 ghost use Rattle.paraid_core.specs.CoreInvariant.{AreCopiesSynced};
 ghost use Rattle.paraid_machine.specs.Energy.{spin_up_energy};
-ghost use Rattle.paraid_machine.specs.Moves.{begun_down, first_spent, state_with_tick, units_left, units_of_tick};
+ghost use Rattle.paraid_machine.specs.Moves.{begun_down, first_used_up, state_with_tick, units_left, units_of_tick};
 ghost use Rattle.paraid_session.specs.Turn.{GoesOn, Point, point_wear};
 ghost use Rattle.paraid_event.specs.Moving.{EndsShift, GoesToState, MovesUnits, StartsShiftUp};
 ghost use Rattle.paraid_event.specs.Service.{Service};
@@ -103,7 +103,7 @@ pub fn a_tick_begins_a_shift_down_in_steps()
         (p : Point) (most to : ℕ) → StandsAt told k setup p → point_wear p < worn_at → CountsTick k counted
         → p.state.out ≡ No → p.state.phase ≡ Steady → to < p.state.gear
         → decision setup p.state.gear (state_with_tick p.state).samples ≡ DecideDown to
-        → first_spent setup (state_with_tick p.state) to ≡ None
+        → first_used_up setup (state_with_tick p.state) to ≡ None
         → AreCopiesSynced k_then.meta.setup.geometry.disks k_then.copied
         → GoesToState k_then (begun_down to (state_with_tick p.state)) → k_then.energy ≡ counted.energy
         → most ≤ 2 ^ 20 → Ran told told_then (StepsInEvent counted k_then p.history p.low most)
@@ -116,7 +116,7 @@ pub fn a_tick_begins_a_shift_down_in_steps()
         (p : Point) (most to : ℕ) (two : TwoType) → StandsAt told k setup p → point_wear p < worn_at
         → CountsTick k counted → p.state.out ≡ No → p.state.phase ≡ Steady
         → decision setup p.state.gear (state_with_tick p.state).samples ≡ DecideDown to
-        → first_spent setup (state_with_tick p.state) to ≡ None → most ≤ 2 ^ 20
+        → first_used_up setup (state_with_tick p.state) to ≡ None → most ≤ 2 ^ 20
         → Ran told told_then (LosesInSteps counted p.history p.low most two)
         → Ran told told_then (GoesOn k.slots setup p TickEvent (Halted (HaltTwo two))
         (IsHaltedWith p (HaltTwo two) counted.energy)) }

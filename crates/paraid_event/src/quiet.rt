@@ -15,7 +15,7 @@ ghost use Rattle.paraid_rack.specs.Told.{Ran};
 ghost use Rattle.paraid_rack.specs.Trail.{Trail};
 ghost use Rattle.paraid_record.specs.declared.meta.Setup.{Setup as SetupType};
 ghost use Rattle.paraid_machine.specs.Machine.{block_count, blocks_named, first_missing};
-ghost use Rattle.paraid_machine.specs.Moves.{first_spent};
+ghost use Rattle.paraid_machine.specs.Moves.{first_used_up};
 ghost use Rattle.paraid_session.specs.Turn.{GoesOn, Point, may_halt, point_wear, with_halt};
 ghost use Rattle.paraid_event.specs.Service.{Service};
 ghost use Rattle.paraid_event.specs.Stands.{StandsAt};
@@ -63,7 +63,7 @@ pub fn a_shift_is_refused()
     ensures ration { (told : Option Trail) (k : Service) (setup : SetupType) (p : Point) (to disk : ℕ)
         → StandsAt told k setup p → point_wear p < worn_at
         → next_lower setup.geometry p.state.gear ≡ Some to → p.state.phase ≡ Steady
-        → p.state.out ≡ No → first_spent setup p.state to ≡ Some disk
+        → p.state.out ≡ No → first_used_up setup p.state to ≡ Some disk
         → Ran told told (GoesOn k.slots setup p AskDown (RationUsed disk) (StandsAt told k setup)) }
 {}
 

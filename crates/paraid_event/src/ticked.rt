@@ -14,7 +14,7 @@ ghost use Rattle.paraid_rack.specs.Told.{Ran};
 ghost use Rattle.paraid_rack.specs.Trail.{Trail, now};
 ghost use Rattle.paraid_record.specs.declared.meta.Setup.{Setup as SetupType};
 ghost use Rattle.paraid_machine.specs.Machine.{report};
-ghost use Rattle.paraid_machine.specs.Moves.{first_spent, state_with_tick};
+ghost use Rattle.paraid_machine.specs.Moves.{first_used_up, state_with_tick};
 ghost use Rattle.paraid_moves.specs.MoveMetas.{meta_after_begin};
 ghost use Rattle.paraid_session.specs.Turn.{GoesOn, Point, point_wear};
 ghost use Rattle.paraid_event.specs.Lost.{TellsTwo};
@@ -31,7 +31,7 @@ pub fn a_tick_begins_a_shift_down()
         → point_wear p < worn_at → BeginsDownByTick k counted begun k_then to
         → to < p.state.gear → p.state.phase ≡ Steady → p.state.out ≡ No
         → decision setup p.state.gear (state_with_tick p.state).samples ≡ DecideDown to
-        → first_spent setup (state_with_tick p.state) to ≡ None → p.low ≤ lo_then
+        → first_used_up setup (state_with_tick p.state) to ≡ None → p.low ≤ lo_then
         → ((t : Trail) → told ≡ Some t → ServiceStandsFor counted p.history p.low (now t)
         → ServiceStandsFor begun p.history p.low (now t))
         → Ran told told_then (ServesEvent begun k_then p.history p.low p.history lo_then)
@@ -47,7 +47,7 @@ pub fn a_second_loss_ends_a_tick_that_begins()
         → begun ≡ record counted { meta = meta_after_begin counted.meta (Down to) counted.meta.spins }
         → to < p.state.gear → p.state.phase ≡ Steady → p.state.out ≡ No
         → decision setup p.state.gear (state_with_tick p.state).samples ≡ DecideDown to
-        → first_spent setup (state_with_tick p.state) to ≡ None
+        → first_used_up setup (state_with_tick p.state) to ≡ None
         → ((t : Trail) → told ≡ Some t → ServiceStandsFor counted p.history p.low (now t)
         → ServiceStandsFor begun p.history p.low (now t))
         → Ran told told_then (λ s cs. LosesInEvent begun p.history p.low s cs × TellsTwo begun two s cs)

@@ -1,6 +1,6 @@
 -- What the three windows stand for
 use Rattle.std.specs.Prelude.{ℕ, List, [], ◌∷◌, min}
-use Rattle.paraid_gear.specs.declared.windows.Windows.{Windows}
+use Rattle.paraid_gear.specs.declared.three_windows.Windows.{Windows}
 use Rattle.paraid_gear.specs.Window.{HoldsLast}
 
 -- the lengths of the three windows

@@ -5,8 +5,8 @@
 #![tactic(auto)]
 
 mod decision;
+mod three_windows;
 mod window;
-mod windows;
 
 pub use decision::Decision;
-pub use windows::{GREATEST_SAMPLE, Windows};
+pub use three_windows::{GREATEST_SAMPLE, Windows};

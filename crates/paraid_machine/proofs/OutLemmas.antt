@@ -26,7 +26,7 @@ use Rattle.paraid_record.specs.declared.meta.Setup.{Setup}
 use Rattle.paraid_image.specs.Out.{named_out, or_else}
 use Rattle.paraid_image.specs.Power.{PowerState}
 use Rattle.paraid_machine.specs.Machine.{IsEventStep, Outcomes, around, around_loss, begin, begin_by_tick, block_count, blocks_named, decide, first_missing, go_down, go_up, if_alone, lost_within, move, outcomes, put_in, quietly, ration_refusal, rebuild, refresh, refusal_else, report, serve, shift_down, shift_refusal, state_status, take_out, tick_by_out, tick_by_phase, without_fresh_disk}
-use Rattle.paraid_machine.specs.Moves.{all_written, block_written, begun_down, begun_up, block_read, with_one_served, first_dirty, first_spent, after_loss, after_units, after_unit, units_left, units_of_tick, units_to_rebuild, state_with_bit, state_with_tick}
+use Rattle.paraid_machine.specs.Moves.{all_written, block_written, begun_down, begun_up, block_read, with_one_served, first_dirty, first_used_up, after_loss, after_units, after_unit, units_left, units_of_tick, units_to_rebuild, state_with_bit, state_with_tick}
 
 abbrev pub is_rebuilt : TickEvent → Bool
 is_rebuilt (Rebuilt d) = true
@@ -145,7 +145,7 @@ go_up_out setup loss s (Some to) = begin_out (shift_refusal s.phase s.out) loss 
 
 go_down_out : (setup : Setup) (loss : Option ℕ) (s : PowerState) (to : Option ℕ) → AllOf (IsOutBy (named_out s.out) loss) (go_down setup loss s to)
 go_down_out setup loss s None = quietly_out loss Lowest s (named_out s.out) (record { rebuilt = refl; taken = refl }) refl
-go_down_out setup loss s (Some to) = begin_out (refusal_else (shift_refusal s.phase s.out) (ration_refusal (first_spent setup s to))) loss s to (begun_down to s) (may_begin_worn s.phase s.out (first_spent setup s to)) refl
+go_down_out setup loss s (Some to) = begin_out (refusal_else (shift_refusal s.phase s.out) (ration_refusal (first_used_up setup s to))) loss s to (begun_down to s) (may_begin_worn s.phase s.out (first_used_up setup s to)) refl
 
 take_out_out : (loss : Option ℕ) (s : PowerState) (d : ℕ) (o : Out) → s.out ≡ o → AllOf (IsOutBy (named_out s.out) loss) (take_out loss s d o)
 take_out_out None s d No is = (ap (λ (o : Out). or_else (named_out o) (Some d)) (sym is), tt)
@@ -218,7 +218,7 @@ shift_down_out setup loss s to (Some worn) none_out = quietly_out loss (report s
 decide_out : (setup : Setup) (loss : Option ℕ) (s : PowerState) (by : Decision) → named_out s.out ≡ None → AllOf (IsOutBy (named_out s.out) loss) (decide setup loss s by)
 decide_out setup loss s Stay none_out = quietly_out loss (report s 0 TickSteady).0 s (named_out s.out) (record { rebuilt = refl; taken = refl }) refl
 decide_out setup loss s (DecideUp to) none_out = begin_by_tick_out loss s (begun_up to s) to none_out refl
-decide_out setup loss s (DecideDown to) none_out = shift_down_out setup loss s to (first_spent setup s to) none_out
+decide_out setup loss s (DecideDown to) none_out = shift_down_out setup loss s to (first_used_up setup s to) none_out
 
 tick_by_phase_out : (setup : Setup) (loss : Option ℕ) (s : PowerState) (phase : Phase) → named_out s.out ≡ None → AllOf (IsOutBy (named_out s.out) loss) (tick_by_phase setup loss s phase)
 tick_by_phase_out setup loss s Steady none_out = decide_out setup loss s (decision setup s.gear s.samples) none_out

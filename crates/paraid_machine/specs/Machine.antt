@@ -25,7 +25,7 @@ use Rattle.paraid_gear.specs.Decision.{decision}
 use Rattle.paraid_base.specs.Gears.{next_higher, next_lower}
 use Rattle.paraid_record.specs.declared.meta.Setup.{Setup}
 use Rattle.paraid_image.specs.Power.{PowerState}
-use Rattle.paraid_machine.specs.Moves.{all_written, begun_down, begun_up, block_read, with_one_served, first_spent, after_flip, after_loss, after_units, units_left, units_of_tick, units_to_rebuild, state_with_tick, without_spin_ups}
+use Rattle.paraid_machine.specs.Moves.{all_written, begun_down, begun_up, block_read, with_one_served, first_used_up, after_flip, after_loss, after_units, units_left, units_of_tick, units_to_rebuild, state_with_tick, without_spin_ups}
 
 -- answers, each with the state after it
 abbrev pub Outcomes : Type 0
@@ -108,7 +108,7 @@ go_up setup loss s (Some to) = begin (shift_refusal s.phase s.out) loss s to (be
 abbrev pub go_down : Setup → Option ℕ → PowerState → Option ℕ → Outcomes
 go_down setup loss s None = quietly loss Lowest s
 go_down setup loss s (Some to) =
-    begin (refusal_else (shift_refusal s.phase s.out) (ration_refusal (first_spent setup s to))) loss s to (begun_down to s)
+    begin (refusal_else (shift_refusal s.phase s.out) (ration_refusal (first_used_up setup s to))) loss s to (begun_down to s)
 
 -- disk `d` of the array is taken out; where another one is lost first, that one is out
 abbrev pub take_out : Option ℕ → PowerState → ℕ → Out → Outcomes
@@ -181,7 +181,7 @@ shift_down setup loss s to (Some worn) = report_quietly loss s (Ration worn)
 abbrev pub decide : Setup → Option ℕ → PowerState → Decision → Outcomes
 decide setup loss s Stay = report_quietly loss s TickSteady
 decide setup loss s (DecideUp to) = begin_by_tick loss (begun_up to s) to
-decide setup loss s (DecideDown to) = shift_down setup loss s to (first_spent setup s to)
+decide setup loss s (DecideDown to) = shift_down setup loss s to (first_used_up setup s to)
 
 -- a tick with no disk out
 abbrev pub tick_by_phase : Setup → Option ℕ → PowerState → Phase → Outcomes

@@ -124,8 +124,8 @@ abbrev pub state_with_tick : PowerState → PowerState
 state_with_tick s = record s { ticks = min (s.ticks + 1) 18446744073709551615; samples = s.samples ++ sample_of s.served ∷ []; served = 0 }
 
 -- the first disk from `to` to the gear that has used up its allowance
-abbrev pub first_spent : Setup → PowerState → ℕ → Option ℕ
-first_spent setup s to = first_from (λ d. nat_le (allowed_by setup s.ticks) (slice_index s.spins d)) to (s.gear - to)
+abbrev pub first_used_up : Setup → PowerState → ℕ → Option ℕ
+first_used_up setup s to = first_from (λ d. nat_le (allowed_by setup s.ticks) (slice_index s.spins d)) to (s.gear - to)
 
 -- the units of a rebuild that are left
 abbrev pub units_to_rebuild : Setup → PowerState → ℕ → ℕ → ℕ

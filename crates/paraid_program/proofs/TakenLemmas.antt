@@ -1,8 +1,8 @@
 -- Which status a mount that is refused does not have, and which a command that reads no source.
 use Rattle.std.proofs.Common.{◌≡◌, ℕ, ◌⊎◌, List, length, Option, inl, inr, arith}
 use Rattle.paraid_serve.specs.Ending.{EndsWithLine}
-use Rattle.paraid_recover.specs.declared.fault.MountFault.{MountFault}
-use Rattle.paraid_recover.specs.declared.fault.MountFault.TheVariants.{NotFormatted, BadLog, BadMeta, Size, Power, Two as TwoDown, Worn, NoMemory}
+use Rattle.paraid_recover.specs.declared.mount_fault.MountFault.{MountFault}
+use Rattle.paraid_recover.specs.declared.mount_fault.MountFault.TheVariants.{NotFormatted, BadLog, BadMeta, Size, Power, Two as TwoDown, Worn, NoMemory}
 use Rattle.paraid_program.specs.Statuses.{check_statuses, gen_statuses}
 use Rattle.paraid_serve.specs.Statuses.{IsOneOf}
 use Rattle.paraid_program.specs.MountFaults.{mount_fault_status}

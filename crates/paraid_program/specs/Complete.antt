@@ -8,7 +8,7 @@ use Rattle.paraid_image.specs.RunStart.{IsRunStart}
 use Rattle.paraid_image.specs.Sides.{LogState}
 use Rattle.paraid_image.specs.Standing.{Stands}
 use Rattle.paraid_rack.specs.declared.call.Call.{Call}
-use Rattle.paraid_recover.specs.declared.fault.MountFault.{MountFault}
+use Rattle.paraid_recover.specs.declared.mount_fault.MountFault.{MountFault}
 use Rattle.paraid_recover.specs.Mount.{IsCauseOfRefusal}
 use Rattle.paraid_rack.specs.Trail.{Trail, extend, now}
 use Rattle.paraid_serve.specs.Stretch.{Turn, TurnsLead, turn_calls}

@@ -27,7 +27,7 @@ use Rattle.paraid_serve.specs.Uses.{RackUse, SinkUse, SourceUse}
 use Rattle.paraid_serve.specs.Statuses.{status_done, status_found, status_two, status_worn}
 use Rattle.paraid_session.specs.Turn.{Point}
 use Rattle.paraid_program.specs.Generating.{GenHeadline, GenStreams}
-use Rattle.paraid_recover.specs.declared.fault.MountFault.{MountFault}
+use Rattle.paraid_recover.specs.declared.mount_fault.MountFault.{MountFault}
 use Rattle.paraid_recover.specs.Map.{HasBitsOf}
 use Rattle.paraid_recover.specs.Mount.{IsCauseOfRefusal}
 use Rattle.paraid_recover.specs.StartRefusals.{refusal_by_fault}

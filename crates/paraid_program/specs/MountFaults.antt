@@ -1,7 +1,7 @@
 -- Why an array was not mounted: the last line, and its status.
 use Rattle.std.specs.Prelude.{ℕ, List, ◌++◌, codes, decimal}
-use Rattle.paraid_recover.specs.declared.fault.MountFault.{MountFault}
-use Rattle.paraid_recover.specs.declared.fault.MountFault.TheVariants.{NotFormatted, BadLog, BadMeta, Size, Power, Two as TwoDown, Worn, NoMemory}
+use Rattle.paraid_recover.specs.declared.mount_fault.MountFault.{MountFault}
+use Rattle.paraid_recover.specs.declared.mount_fault.MountFault.TheVariants.{NotFormatted, BadLog, BadMeta, Size, Power, Two as TwoDown, Worn, NoMemory}
 use Rattle.paraid_serve.specs.Statuses.{status_no_memory, status_not_an_array, status_two, status_worn}
 
 -- why it was not

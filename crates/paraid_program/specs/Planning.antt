@@ -7,7 +7,7 @@ use Rattle.paraid_planning.specs.declared.unplanned.Unplanned.TheVariants.{Sourc
 use Rattle.paraid_record.specs.declared.meta.Meta.{Meta}
 use Rattle.paraid_recover.specs.Mount.{IsCauseOfRefusal}
 use Rattle.paraid_recover.specs.StartRefusals.{refusal_by_fault}
-use Rattle.paraid_recover.specs.declared.fault.MountFault.{MountFault}
+use Rattle.paraid_recover.specs.declared.mount_fault.MountFault.{MountFault}
 use Rattle.paraid_serve.specs.Ending.{EndsWithLine, mount_line}
 use Rattle.paraid_serve.specs.Uses.{RackUse, SinkUse, SourceUse}
 use Rattle.paraid_serve.specs.Statuses.{status_demand, status_done, status_no_memory, status_source, status_too_long}

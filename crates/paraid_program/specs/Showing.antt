@@ -3,7 +3,7 @@ use Rattle.std.specs.Prelude.{◌≡◌, ℕ, Bool, List, Option, Some}
 use Rattle.paraid_serve.specs.Ending.{EndsWithLine}
 use Rattle.paraid_serve.specs.Uses.{RackUse, SinkUse}
 use Rattle.paraid_serve.specs.Statuses.{status_done}
-use Rattle.paraid_recover.specs.declared.fault.MountFault.{MountFault}
+use Rattle.paraid_recover.specs.declared.mount_fault.MountFault.{MountFault}
 use Rattle.paraid_rack.specs.Trail.{Trail, moments}
 use Rattle.paraid_record.specs.declared.meta.Meta.{Meta}
 use Rattle.paraid_recover.specs.Mount.{HasMounted, IsCauseOfRefusal}

@@ -5,7 +5,7 @@ ghost use Rattle.paraid_config.specs.Keys.{key_name};
 ghost use Rattle.paraid_program.specs.Lines.{config_line, formatted_line, geometry_line, refusal_line, refusal_status as refusal_status_of};
 
 use crate::Refusal;
-use crate::fault::numbered;
+use crate::fault_text::numbered;
 use itoa::Buffer;
 use paraid_base::GeoFault;
 use paraid_config::{ConfigFault, Key};

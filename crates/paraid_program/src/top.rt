@@ -11,16 +11,16 @@ ghost use Rattle.paraid_serve.specs.Streams.{EndsAtFaults, sink_use, source_use}
 ghost use Rattle.paraid_serve.specs.Statuses.{status_done, status_sink, status_source, status_words};
 
 use crate::arrays::Arrays;
-use crate::checks::check;
-use crate::client::nbd;
-use crate::format::format_array;
-use crate::generated::generate;
+use crate::check_command::check;
+use crate::nbd_command::nbd;
+use crate::format_command::format_array;
+use crate::gen_command::generate;
 use crate::outside::Ended;
-use crate::plan::show_plan;
-use crate::runs::run;
-use crate::spares::run_with_spares;
-use crate::status::show_state;
-use crate::volumes::answer_volumes;
+use crate::plan_command::show_plan;
+use crate::run_command::run;
+use crate::spares_command::run_with_spares;
+use crate::status_command::show_state;
+use crate::vol_command::answer_volumes;
 use paraid_array::Array;
 use paraid_io::{Sink, Source};
 use paraid_rack::Rack;

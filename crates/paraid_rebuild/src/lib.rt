@@ -5,11 +5,11 @@
 #![tactic(auto)]
 
 mod ending;
-mod last;
+mod last_tick;
 mod moving;
 mod replaced;
 mod stepping;
 
-pub use last::finish;
+pub use last_tick::finish;
 pub use replaced::begin;
 pub use stepping::{commit_lost, commit_staged, step};

@@ -6,7 +6,7 @@
 #![tactic(auto)]
 
 mod codes;
-mod law;
+mod laws;
 mod meta;
 mod pen;
 mod range;
@@ -15,7 +15,7 @@ mod reader;
 mod targets;
 mod write;
 
-pub use law::spellings_differ;
+pub use laws::spellings_differ;
 pub use meta::{Meta, Mode, Setup};
 pub use range::rebuild_units;
 pub use read::read_meta;

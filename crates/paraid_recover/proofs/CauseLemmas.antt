@@ -7,12 +7,12 @@ use Rattle.paraid_rack.specs.Slots.{Slot}
 use Rattle.paraid_rack.specs.Trail.{Trail}
 use Rattle.paraid_record.specs.declared.meta.Meta.{Meta}
 use Rattle.paraid_record.specs.Range.{IsInRange}
-use Rattle.paraid_recover.specs.declared.both.Sides.{Sides}
+use Rattle.paraid_recover.specs.declared.sides.Sides.{Sides}
 use Rattle.paraid_image.specs.Out.{named_out}
 use Rattle.paraid_image.specs.Sides.{Batch, LogState}
 use Rattle.paraid_image.specs.Standing.{other_log}
-use Rattle.paraid_recover.specs.declared.fault.MountFault.{MountFault}
-use Rattle.paraid_recover.specs.declared.fault.MountFault.TheVariants.{NotFormatted, BadLog, BadMeta, Size, Power, Two as BothMissing, Worn, NoMemory}
+use Rattle.paraid_recover.specs.declared.mount_fault.MountFault.{MountFault}
+use Rattle.paraid_recover.specs.declared.mount_fault.MountFault.TheVariants.{NotFormatted, BadLog, BadMeta, Size, Power, Two as BothMissing, Worn, NoMemory}
 use Rattle.paraid_recover.specs.Examined.{AreHeard, IsRefused, IsRefusedAsHeard, IsRefusedByLogs, IsRefusedBySlots, Logs, unpaired_fault}
 use Rattle.paraid_recover.specs.Examined.IsRefused.{by_slots, by_loss, as_heard}
 use Rattle.paraid_recover.specs.Examined.IsRefusedAsHeard.{by_logs, by_meta}

@@ -13,7 +13,7 @@ use Rattle.paraid_rack.specs.Slots.{Slot}
 use Rattle.paraid_rack.specs.Trail.{Trail, now}
 use Rattle.paraid_record.specs.declared.meta.Meta.{Meta}
 use Rattle.paraid_record.specs.Range.{IsInRange, IsOutInRange}
-use Rattle.paraid_recover.specs.declared.both.Sides.{Sides}
+use Rattle.paraid_recover.specs.declared.sides.Sides.{Sides}
 use Rattle.paraid_recover.specs.declared.hearing.Heard.{Heard}
 use Rattle.paraid_recover.specs.declared.hearing.Heard.TheVariants.{Blank, Bad, Formed}
 use Rattle.paraid_recover.specs.HeardSides.{AreBothLost, IsHeardAt, IsOneLost, gone_pair, side_by}
@@ -23,8 +23,8 @@ use Rattle.paraid_image.specs.Sides.{Batch, LogState, Side}
 use Rattle.paraid_image.specs.Sides.Side.{formed}
 use Rattle.paraid_image.specs.Standing.{other_log, standing}
 use Rattle.paraid_image.proofs.SidesLemmas.{Says-same, blank_says_nothing}
-use Rattle.paraid_recover.specs.declared.fault.MountFault.{MountFault}
-use Rattle.paraid_recover.specs.declared.fault.MountFault.TheVariants.{NotFormatted, BadLog, BadMeta, Size, Power, Two as BothMissing, Worn, NoMemory}
+use Rattle.paraid_recover.specs.declared.mount_fault.MountFault.{MountFault}
+use Rattle.paraid_recover.specs.declared.mount_fault.MountFault.TheVariants.{NotFormatted, BadLog, BadMeta, Size, Power, Two as BothMissing, Worn, NoMemory}
 use Rattle.paraid_recover.specs.Examined.{AreHeard, AreReadable, AreUnpaired, IsAgreed, IsExamined, IsRefused, IsRefusedByLogs, IsRefusedBySlots, IsStanding, Logs, side_of}
 use Rattle.paraid_recover.specs.Examined.IsRefused.{by_slots, by_loss, as_heard}
 use Rattle.paraid_recover.specs.Examined.IsRefusedAsHeard.{by_logs, by_meta}

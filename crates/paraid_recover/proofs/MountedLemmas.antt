@@ -23,8 +23,8 @@ use Rattle.paraid_image.specs.Spins.{made_spin_ups}
 use Rattle.paraid_image.specs.Standing.{Stands, contents}
 use Rattle.paraid_rack.specs.Atoms.{IsSure}
 use Rattle.paraid_recover.specs.Bearing.{IsNamedLog}
-use Rattle.paraid_recover.specs.declared.fault.MountFault.{MountFault}
-use Rattle.paraid_recover.specs.declared.fault.MountFault.TheVariants.{Two as BothMissing}
+use Rattle.paraid_recover.specs.declared.mount_fault.MountFault.{MountFault}
+use Rattle.paraid_recover.specs.declared.mount_fault.MountFault.TheVariants.{Two as BothMissing}
 use Rattle.paraid_recover.specs.Examined.{IsExamined, IsRefused}
 use Rattle.paraid_recover.proofs.DirtyKeptLemmas.{shown_dirty}
 use Rattle.paraid_recover.specs.HeldMoments.{IsAbsentSince}

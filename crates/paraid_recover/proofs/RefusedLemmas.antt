@@ -19,8 +19,8 @@ use Rattle.paraid_image.specs.Rest.{AreSynced}
 use Rattle.paraid_image.specs.RunStart.{IsRunStart}
 use Rattle.paraid_image.specs.Sides.{Batch, LogState, is_open, stored_block}
 use Rattle.paraid_image.specs.Standing.{Stands, other_log}
-use Rattle.paraid_recover.specs.declared.fault.MountFault.{MountFault}
-use Rattle.paraid_recover.specs.declared.fault.MountFault.TheVariants.{NotFormatted, BadLog, BadMeta, Size, Power as Asleep, Two as BothMissing, Worn, NoMemory}
+use Rattle.paraid_recover.specs.declared.mount_fault.MountFault.{MountFault}
+use Rattle.paraid_recover.specs.declared.mount_fault.MountFault.TheVariants.{NotFormatted, BadLog, BadMeta, Size, Power as Asleep, Two as BothMissing, Worn, NoMemory}
 use Rattle.paraid_recover.specs.Examined.{IsExamined, IsRefused, IsRefusedByLogs, IsRefusedBySlots, Logs}
 use Rattle.paraid_recover.specs.Examined.IsRefused.{by_slots, by_loss, as_heard}
 use Rattle.paraid_recover.specs.Examined.IsRefusedAsHeard.{by_logs, by_meta}

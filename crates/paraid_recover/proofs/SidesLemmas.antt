@@ -1,7 +1,7 @@
 -- The least log disk at fault.
 use Rattle.std.specs.Prelude.{◌≡◌, ◌≢◌, ℕ, ◌<◌, Bool, Option, Some}
 use Rattle.std.proofs.Common.{sym, ◌∙◌}
-use Rattle.paraid_recover.specs.declared.both.Sides.{Sides}
+use Rattle.paraid_recover.specs.declared.sides.Sides.{Sides}
 use Rattle.paraid_recover.specs.Faults.{IsFaulty, side_at}
 use Rattle.paraid_recover.specs.Said.{IsFaultless, IsLeastAtFault, standing_out}
 

@@ -4,15 +4,15 @@ use Rattle.std.proofs.Common.{zero, suc}
 use Rattle.paraid_base.specs.declared.fault.Two.{Two}
 use Rattle.paraid_rack.specs.Slots.{Slot, AreSameSlots}
 use Rattle.paraid_rack.specs.Trail.{Trail, now}
-use Rattle.paraid_recover.specs.declared.both.Sides.{Sides}
+use Rattle.paraid_recover.specs.declared.sides.Sides.{Sides}
 use Rattle.paraid_recover.specs.HeardSides.{AreBothLost, IsHeardAt, IsHeardBy, IsInForm, IsOneLost, side_by}
 use Rattle.paraid_image.specs.Out.{named_out}
 use Rattle.paraid_image.specs.Sides.{Batch, LogState, Side}
 use Rattle.paraid_image.specs.Sides.Side.{formed}
 use Rattle.paraid_image.specs.Sound.{Pairing}
 use Rattle.paraid_image.specs.Standing.{other_log, standing}
-use Rattle.paraid_recover.specs.declared.fault.MountFault.{MountFault}
-use Rattle.paraid_recover.specs.declared.fault.MountFault.TheVariants.{NotFormatted, BadLog, BadMeta, Power, Two as BothMissing}
+use Rattle.paraid_recover.specs.declared.mount_fault.MountFault.{MountFault}
+use Rattle.paraid_recover.specs.declared.mount_fault.MountFault.TheVariants.{NotFormatted, BadLog, BadMeta, Power, Two as BothMissing}
 use Rattle.paraid_recover.specs.Order.{IsRefusedBy, IsNotRefused}
 use Rattle.paraid_recover.specs.Refusals.{IsLeastDisk, IsNone, is_parked}
 use Rattle.paraid_recover.specs.Said.{AreSidesFormed, IsRefusedBySides, standing_out}

@@ -1,7 +1,7 @@
 -- Which sides are not well formed.
 use Rattle.std.specs.Prelude.{◌≡◌, ◌⊎◌, ℕ, Bool, false, Option, Some, None}
 use Rattle.std.proofs.Common.{zero, suc}
-use Rattle.paraid_recover.specs.declared.both.Sides.{Sides}
+use Rattle.paraid_recover.specs.declared.sides.Sides.{Sides}
 use Rattle.paraid_recover.specs.declared.hearing.Heard.{Heard}
 use Rattle.paraid_recover.specs.declared.hearing.Heard.TheVariants.{Blank, Bad}
 

@@ -7,8 +7,8 @@ use Rattle.paraid_record.specs.declared.meta.Meta.{Meta}
 use Rattle.paraid_record.specs.Range.{meta_wear}
 use Rattle.paraid_image.specs.Out.{IsDouble}
 use Rattle.paraid_image.specs.Sides.{Batch}
-use Rattle.paraid_recover.specs.declared.fault.MountFault.{MountFault}
-use Rattle.paraid_recover.specs.declared.fault.MountFault.TheVariants.{NotFormatted, BadLog, BadMeta, Size, Power, Two as BothMissing, Worn, NoMemory}
+use Rattle.paraid_recover.specs.declared.mount_fault.MountFault.{MountFault}
+use Rattle.paraid_recover.specs.declared.mount_fault.MountFault.TheVariants.{NotFormatted, BadLog, BadMeta, Size, Power, Two as BothMissing, Worn, NoMemory}
 use Rattle.paraid_recover.specs.Refusals.{AreMissing, IsLeastDisk, IsNone, is_asleep, is_small}
 
 -- the size that is found of a disk, 0 where there is no such slot

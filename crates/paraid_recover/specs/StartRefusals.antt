@@ -1,6 +1,6 @@
 -- What a session is told of why a mount is refused.
-use Rattle.paraid_recover.specs.declared.fault.MountFault.{MountFault}
-use Rattle.paraid_recover.specs.declared.fault.MountFault.TheVariants.{NotFormatted, BadLog, BadMeta, Size, Power, Two, Worn, NoMemory}
+use Rattle.paraid_recover.specs.declared.mount_fault.MountFault.{MountFault}
+use Rattle.paraid_recover.specs.declared.mount_fault.MountFault.TheVariants.{NotFormatted, BadLog, BadMeta, Size, Power, Two, Worn, NoMemory}
 use Rattle.paraid_session.specs.Mount.{Refusal, lacking, no_memory, worn}
 
 -- the cause of a refused mount, as far as it lies in what the rack held or not

@@ -9,14 +9,14 @@ ghost use Rattle.paraid_rack.specs.Trail.{Trail, now};
 ghost use Rattle.paraid_image.specs.Sides.{LogState};
 ghost use Rattle.paraid_image.specs.Standing.{Stands};
 ghost use Rattle.paraid_recover.specs.Examined.{AreReadable, IsExamined, IsRefused, IsRefusedAsHeard, IsRefusedBySlots, IsServedAsHeard, is_log_parked as is_log_parked_of, logs_of};
-ghost use Rattle.paraid_recover.specs.declared.fault.MountFault.TheVariants.{Worn};
+ghost use Rattle.paraid_recover.specs.declared.mount_fault.MountFault.TheVariants.{Worn};
 ghost use Rattle.paraid_record.specs.Range.{meta_wear};
 ghost use Rattle.paraid_recover.specs.HeardSides.{AtMost, IsInForm, IsReadLosing, IsReadOnly, ReadsLogs};
 ghost use Rattle.paraid_txn.specs.Losses.{AreFailedOrWell, OnlyLosesSlots};
 ghost use Rattle.paraid_txn.specs.Resume.{CanResume, log_state as said_by};
 ghost use Rattle.paraid_txn.specs.Uses.{EachCall};
 
-use crate::fault::MountFault;
+use crate::mount_fault::MountFault;
 use crate::refusal::refusal_by;
 use crate::standing::{Standing, stand};
 use crate::{Sides, hear_both};

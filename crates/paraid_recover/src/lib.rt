@@ -9,31 +9,31 @@
 #![tactic(auto)]
 
 mod alike;
+mod asleep;
 mod attach;
-mod both;
 mod choosing;
 mod examining;
-mod fault;
-mod faults;
 mod format_fault;
 mod found;
 mod hearing;
 mod lacking;
-mod law;
-mod law_of_reads;
-mod law_of_refusals;
-mod law_of_starts;
+mod laws_of_mounts;
+mod laws_of_reads;
+mod laws_of_recovery;
+mod laws_of_refusals;
 mod log;
 mod making;
+mod malformed;
 mod map;
 mod marking;
+mod mount_fault;
 mod mounting;
 mod pairing;
-mod power;
-mod powers;
+mod powering;
 mod reads;
 mod recovery;
 mod refusal;
+mod side_refusals;
 mod sides;
 mod sizes;
 mod standing;
@@ -41,25 +41,25 @@ mod starting;
 mod wear;
 mod witness;
 
-pub use both::{Sides, hear_both, hear_if_there};
+pub use sides::{Sides, hear_both, hear_if_there};
 pub use choosing::choose;
 pub use examining::{examine, refusal_by_slots};
-pub use fault::MountFault;
-pub use faults::{first_faulty, is_unformatted};
+pub use mount_fault::MountFault;
+pub use malformed::{first_faulty, is_unformatted};
 pub use format_fault::FormatFault;
 pub use found::greatest_epoch;
 pub use hearing::{Heard, hear};
 pub use lacking::two_missing;
-pub use law::{
+pub use laws_of_recovery::{
     a_disk_can_be_parked_at_rest, a_recovery_leaves_what_is_held, power_calls_keep_a_rest,
     reads_leave_what_can_be_recovered,
 };
-pub use law_of_reads::{reads_leave_the_images, reads_leave_what_is_held};
-pub use law_of_refusals::{
+pub use laws_of_reads::{reads_leave_the_images, reads_leave_what_is_held};
+pub use laws_of_refusals::{
     a_mount_is_refused_by_one_cause, a_mount_is_refused_or_goes_on,
     what_is_held_is_refused_for_wear,
 };
-pub use law_of_starts::{
+pub use laws_of_mounts::{
     a_fallback_was_foreseen, a_mount_ends_at_a_mark, a_mount_is_told_from_where_it_began,
     a_mount_is_what_a_session_asks, a_mount_with_a_loss_begins_with_the_state_after_it,
     a_mount_without_a_log_disk_begins_with_the_state_left,
@@ -72,11 +72,11 @@ pub use making::{first_meta, format};
 pub use map::read_map;
 pub use marking::{mark, marked};
 pub use mounting::{MountRefused, Mounted};
-pub use power::first_asleep;
-pub use powers::power_disks;
+pub use asleep::first_asleep;
+pub use powering::power_disks;
 pub use recovery::mark_out;
 pub use refusal::refusal_by;
-pub use sides::refusal_by_sides;
+pub use side_refusals::refusal_by_sides;
 pub use sizes::first_small;
 pub use standing::Standing;
 pub use starting::mount;

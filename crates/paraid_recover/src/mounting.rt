@@ -3,7 +3,7 @@ ghost use Rattle.std.specs.Prelude.{◌≡◌, ℕ, ◌<◌, ◌≤◌, ◌⊎�
 ghost use Rattle.paraid_dirty.specs.Table.{is_dirty};
 ghost use Rattle.paraid_base.specs.declared.fault.Two.{Two as TwoType};
 ghost use Rattle.paraid_base.specs.Log.{worn_at};
-ghost use Rattle.paraid_recover.specs.declared.fault.MountFault.TheVariants.{Two as BothMissing};
+ghost use Rattle.paraid_recover.specs.declared.mount_fault.MountFault.TheVariants.{Two as BothMissing};
 ghost use Rattle.paraid_txn.specs.Resume.{CanResume, log_state};
 ghost use Rattle.paraid_rack.specs.declared.call.Power.TheVariants.{Absent};
 ghost use Rattle.paraid_rack.specs.Disks.{is_present};
@@ -31,10 +31,10 @@ ghost use Rattle.paraid_txn.specs.Steps.{KeepsStore};
 ghost use Rattle.paraid_txn.specs.Stores.{disks_of, epoch_of, named_of as named_by, store_out, store_rack};
 
 use crate::examining::examine;
-use crate::fault::MountFault;
+use crate::mount_fault::MountFault;
 use crate::map::read_map;
 use crate::marking::marked;
-use crate::powers::power_disks;
+use crate::powering::power_disks;
 use crate::recovery::{mark_out, unmarked};
 use crate::standing::Standing;
 use crate::witness::heed;

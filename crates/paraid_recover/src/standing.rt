@@ -9,9 +9,9 @@ ghost use Rattle.paraid_recover.specs.declared.hearing.Heard.TheVariants.{Formed
 ghost use Rattle.paraid_recover.specs.HeardSides.{IsInForm};
 ghost use Rattle.paraid_txn.specs.Resume.{log_state as said_by};
 
-use crate::fault::MountFault;
+use crate::mount_fault::MountFault;
 use crate::pairing::fit_together;
-use crate::sides::{refusal_by_sides, standing_out};
+use crate::side_refusals::{refusal_by_sides, standing_out};
 use crate::{Heard, Sides, choose};
 use paraid_base::DiskNo;
 use paraid_record::Meta;

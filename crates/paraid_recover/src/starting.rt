@@ -10,7 +10,7 @@ ghost use Rattle.paraid_recover.specs.FirstPoint.{IsFirstPoint};
 ghost use Rattle.paraid_recover.specs.StartRefusals.{refusal_by_fault};
 ghost use Rattle.paraid_txn.specs.Stores.{disks_of, epoch_of, named_of as named_by, store_rack};
 
-use crate::fault::MountFault;
+use crate::mount_fault::MountFault;
 use crate::mounting;
 use crate::mounting::{MountRefused, Mounted};
 use paraid_rack::Rack;

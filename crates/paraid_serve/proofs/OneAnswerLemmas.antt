@@ -21,7 +21,7 @@ use Rattle.paraid_gear.specs.declared.decision.Decision.TheVariants.{Down as Dec
 use Rattle.paraid_image.specs.Power.{PowerState}
 use Rattle.paraid_image.specs.Mark.{meta_with_lost}
 use Rattle.paraid_machine.specs.Machine.{blocks_named}
-use Rattle.paraid_machine.specs.Moves.{after_flip, after_units, first_spent, units_left, units_of_tick, units_to_rebuild}
+use Rattle.paraid_machine.specs.Moves.{after_flip, after_units, first_used_up, units_left, units_of_tick, units_to_rebuild}
 use Rattle.paraid_record.specs.declared.meta.Meta.{Meta}
 use Rattle.paraid_session.specs.Turn.{may_halt}
 use Rattle.paraid_serve.specs.Alike.{AreAlike, NoneFails}
@@ -264,7 +264,7 @@ module _ (old x y : Shown) (none_x : NoneFails old x) (none_y : NoneFails old y)
   decides_same : (made : Decision) (m n : ℕ) (e f : TickEvent) → m ≡ 0 → n ≡ 0 → Decides made old x e → Decides made old y f → TellsSame x y m n e f
   decides_same Stay m n e f is is2 a b = record { count = is ∙ sym is2; event = a.0 ∙ sym b.0; gear = ap (λ (m : Meta). m.gear) a.1.meta ∙ sym (ap (λ (m : Meta). m.gear) b.1.meta) }
   decides_same (DecideUp to) m n e f is is2 a b = record { count = is ∙ sym is2; event = a.0 ∙ sym b.0; gear = begun_gear x _ _ a.1 ∙ sym (begun_gear y _ _ b.1) }
-  decides_same (DecideDown to) m n e f is is2 a b = down_same (first_spent old.setup (state_shown old) to) to m n e f is is2 a b
+  decides_same (DecideDown to) m n e f is is2 a b = down_same (first_used_up old.setup (state_shown old) to) to m n e f is is2 a b
 
   by_phase : (phase : Phase) (m n : ℕ) (e f : TickEvent) → MovesBy phase old x m e → MovesBy phase old y n f → TellsSame x y m n e f
   by_phase IsSteady m n e f a b = decides_same (decision_shown old) m n e f a.0 b.0 a.1 b.1

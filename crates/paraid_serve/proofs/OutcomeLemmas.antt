@@ -19,7 +19,7 @@ use Rattle.paraid_gear.specs.Decision.{decision}
 use Rattle.paraid_record.specs.declared.meta.Setup.{Setup}
 use Rattle.paraid_image.specs.Power.{PowerState}
 use Rattle.paraid_machine.specs.Machine.{IsEventStep, Outcomes, around, around_loss, begin, begin_by_tick, block_count, blocks_named, decide, first_missing, go_down, go_up, if_alone, lost_within, move, outcomes, put_in, quietly, ration_refusal, rebuild, refresh, refusal_else, report, serve, shift_down, shift_refusal, state_status, take_out, tick_by_out, tick_by_phase, without_fresh_disk}
-use Rattle.paraid_machine.specs.Moves.{all_written, begun_down, begun_up, block_read, with_one_served, first_spent, after_loss, units_left, units_of_tick, units_to_rebuild, state_with_tick}
+use Rattle.paraid_machine.specs.Moves.{all_written, begun_down, begun_up, block_read, with_one_served, first_used_up, after_loss, units_left, units_of_tick, units_to_rebuild, state_with_tick}
 use Rattle.paraid_session.specs.Turn.{halt_told}
 
 abbrev IsGoing : Answer × PowerState → Type 0
@@ -90,8 +90,8 @@ go_up_go setup loss s (Some to) = begin_go (shift_refusal s.phase s.out) loss s 
 
 go_down_go : (setup : Setup) (loss : Option ℕ) (s : PowerState) (to : Option ℕ) → AllGo (go_down setup loss s to)
 go_down_go setup loss s None = quietly_go loss Lowest s refl
-go_down_go setup loss s (Some to) = begin_go (refusal_else (shift_refusal s.phase s.out) (ration_refusal (first_spent setup s to))) loss s to (begun_down to s)
-    (else_goes (shift_refusal s.phase s.out) (ration_refusal (first_spent setup s to)) (shift_refusal_goes s.phase s.out) (ration_goes (first_spent setup s to)))
+go_down_go setup loss s (Some to) = begin_go (refusal_else (shift_refusal s.phase s.out) (ration_refusal (first_used_up setup s to))) loss s to (begun_down to s)
+    (else_goes (shift_refusal s.phase s.out) (ration_refusal (first_used_up setup s to)) (shift_refusal_goes s.phase s.out) (ration_goes (first_used_up setup s to)))
 
 take_out_go : (loss : Option ℕ) (s : PowerState) (d : ℕ) (o : Out) → AllGo (take_out loss s d o)
 take_out_go None s d No = (refl, tt)
@@ -139,7 +139,7 @@ shift_down_go setup loss s to (Some worn) = quietly_go loss (report s 0 (Ration 
 decide_go : (setup : Setup) (loss : Option ℕ) (s : PowerState) (by : Decision) → AllGo (decide setup loss s by)
 decide_go setup loss s Stay = quietly_go loss (report s 0 TickSteady).0 s refl
 decide_go setup loss s (DecideUp to) = begin_by_tick_go loss (begun_up to s) to
-decide_go setup loss s (DecideDown to) = shift_down_go setup loss s to (first_spent setup s to)
+decide_go setup loss s (DecideDown to) = shift_down_go setup loss s to (first_used_up setup s to)
 
 tick_by_phase_go : (setup : Setup) (loss : Option ℕ) (s : PowerState) (phase : Phase) → AllGo (tick_by_phase setup loss s phase)
 tick_by_phase_go setup loss s Steady = decide_go setup loss s (decision setup s.gear s.samples)

@@ -18,7 +18,7 @@ use Rattle.paraid_base.specs.declared.state.Phase.TheVariants.{Steady as IsStead
 use Rattle.paraid_base.specs.Gears.{next_higher, next_lower}
 use Rattle.paraid_image.specs.Out.{is_out, named_out}
 use Rattle.paraid_machine.specs.Machine.{block_count, blocks_named, first_missing, out_refusal, ration_refusal, refusal_else, shift_refusal}
-use Rattle.paraid_machine.specs.Moves.{first_spent}
+use Rattle.paraid_machine.specs.Moves.{first_used_up}
 use Rattle.paraid_rack.specs.Slots.{Slot}
 use Rattle.paraid_session.specs.Faults.{HaveNotFallen}
 use Rattle.paraid_session.specs.Turn.{halt_told, may_halt}
@@ -262,8 +262,8 @@ up_quiet (Some to) x answer is = shift_tells is_up_answer (λ d. refl) (λ gear.
 down_quiet : (o : Option ℕ) (x : Shown) (answer : Answer) → down_refusal x.setup o (state_shown x) ≡ Some answer → Tells (is_down_answer answer) answer
 down_quiet None x answer is = known is_down_answer Lowest answer is (refl, refl, tt)
 down_quiet (Some to) x answer is =
-    else_tells is_down_answer (shift_refusal x.meta.phase x.meta.out) (ration_refusal (first_spent x.setup (state_shown x) to)) answer
-    (shift_tells is_down_answer (λ d. refl) (λ gear. refl) x.meta.phase x.meta.out answer) (ration_tells (first_spent x.setup (state_shown x) to) answer) is
+    else_tells is_down_answer (shift_refusal x.meta.phase x.meta.out) (ration_refusal (first_used_up x.setup (state_shown x) to)) answer
+    (shift_tells is_down_answer (λ d. refl) (λ gear. refl) x.meta.phase x.meta.out answer) (ration_tells (first_used_up x.setup (state_shown x) to) answer) is
 
 number_tells : (kind : Answer → Bool) (there : Bool) (low : Option Answer) (d : ℕ) (answer : Answer) → kind (NoDisk d) ≡ true → (low ≡ Some answer → Tells (kind answer) answer) → (if there then low else Some (NoDisk d)) ≡ Some answer → Tells (kind answer) answer
 number_tells kind true low d answer holds by_low is = by_low is

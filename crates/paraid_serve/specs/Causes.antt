@@ -29,7 +29,7 @@ use Rattle.paraid_image.specs.Power.{PowerState}
 use Rattle.paraid_machine.specs.Energy.{energy_after}
 use Rattle.paraid_record.specs.Range.{meta_wear}
 use Rattle.paraid_machine.specs.Machine.{block_count, blocks_named, first_missing, out_refusal, ration_refusal, refusal_else, shift_refusal, state_status}
-use Rattle.paraid_machine.specs.Moves.{after_flip, after_loss, after_units, all_written, block_read, first_spent, units_left, units_of_tick, units_to_rebuild}
+use Rattle.paraid_machine.specs.Moves.{after_flip, after_loss, after_units, all_written, block_read, first_used_up, units_left, units_of_tick, units_to_rebuild}
 use Rattle.paraid_rack.specs.Slots.{Slot}
 use Rattle.paraid_record.specs.declared.meta.Meta.{Meta}
 use Rattle.paraid_record.specs.declared.meta.Setup.{Setup}
@@ -89,7 +89,7 @@ up_refusal (Some to) s = shift_refusal s.phase s.out
 -- why one down is, where it is; a disk that has used up its allowance comes last
 abbrev pub down_refusal : Setup → Option ℕ → PowerState → Option Answer
 down_refusal setup None s = Some Lowest
-down_refusal setup (Some to) s = refusal_else (shift_refusal s.phase s.out) (ration_refusal (first_spent setup s to))
+down_refusal setup (Some to) s = refusal_else (shift_refusal s.phase s.out) (ration_refusal (first_used_up setup s to))
 
 -- What an event is answered for which the array does nothing, where it does nothing. So no block, no disk and no shift is refused
 -- that there is, and none is served that there is not.
@@ -297,7 +297,7 @@ GoesDown (Some d) to old new event = (event ≡ Ration d) × IsAsBefore old new
 abbrev pub Decides : Decision → Shown → Shown → TickEvent → Type 0
 Decides Stay old new event = (event ≡ Steady) × IsAsBefore old new
 Decides (DecideUp to) old new event = (event ≡ Begun to) × Begins old new (IsUp to) (spins_up old.meta.gear to)
-Decides (DecideDown to) old new event = GoesDown (first_spent old.setup (state_shown old) to) to old new event
+Decides (DecideDown to) old new event = GoesDown (first_used_up old.setup (state_shown old) to) to old new event
 
 -- what its samples ask for
 abbrev pub decision_shown : Shown → Decision

@@ -22,7 +22,7 @@ use Rattle.paraid_gear.specs.Window.{is_busy, is_full}
 use Rattle.paraid_record.specs.declared.meta.Setup.{Setup}
 use Rattle.paraid_image.specs.Power.{PowerState}
 use Rattle.paraid_machine.specs.Machine.{IsEventStep, Outcomes, around, around_loss, begin, begin_by_tick, block_count, blocks_named, decide, first_missing, go_down, go_up, if_alone, lost_within, move, outcomes, put_in, quietly, ration_refusal, rebuild, refresh, refusal_else, report, serve, shift_down, shift_refusal, take_out, tick_by_out, tick_by_phase, with_fresh_disk, without_fresh_disk}
-use Rattle.paraid_machine.specs.Moves.{after_flip, after_loss, after_unit, after_units, all_written, begun_down, begun_up, block_read, first_dirty, first_spent, state_with_tick, units_left, units_of_tick, units_to_rebuild, with_one_served, with_spin_ups, with_spins, without_spin_ups}
+use Rattle.paraid_machine.specs.Moves.{after_flip, after_loss, after_unit, after_units, all_written, begun_down, begun_up, block_read, first_dirty, first_used_up, state_with_tick, units_left, units_of_tick, units_to_rebuild, with_one_served, with_spin_ups, with_spins, without_spin_ups}
 use Rattle.paraid_spare.specs.Pools.{is_among}
 use Rattle.paraid_sparing.specs.Sparing.{rise_to, spun_by}
 use Rattle.paraid_sparing.specs.Spinning.{spun_count}
@@ -162,7 +162,7 @@ go_up_all setup loss s (Some to) is = begin_all (shift_refusal s.phase s.out) lo
 
 go_down_all : (setup : Setup) (loss : Option ℕ) (s : PowerState) (next : Option ℕ) → AllGrow s (go_down setup loss s next)
 go_down_all setup loss s None = quiet_all s s loss Lowest refl
-go_down_all setup loss s (Some to) = begin_all (refusal_else (shift_refusal s.phase s.out) (ration_refusal (first_spent setup s to))) loss s to (begun_down to s) (same_grows s (begun_down to s) (Shift s.gear to) refl)
+go_down_all setup loss s (Some to) = begin_all (refusal_else (shift_refusal s.phase s.out) (ration_refusal (first_used_up setup s to))) loss s to (begun_down to s) (same_grows s (begun_down to s) (Shift s.gear to) refl)
 
 take_all : (loss : Option ℕ) (s : PowerState) (d : ℕ) (o : Out) → AllGrow s (take_out loss s d o)
 take_all None s d No = (same_grows s (after_loss s d) (Failed d) refl, tt)
@@ -239,7 +239,7 @@ up_decided setup gear samples to is = by (in_every_window is_full setup.windows 
 decide_all : (setup : Setup) (loss : Option ℕ) (s : PowerState) (x : Decision) → decision setup s.gear s.samples ≡ x → AllGrow s (decide setup loss s x)
 decide_all setup loss s Stay is = quiet_all s s loss (report s 0 TickSteady).0 refl
 decide_all setup loss s (DecideUp to) is = by_tick_all loss s (begun_up to s) to (λ d. ups_grow setup.geometry s to d (up_decided setup s.gear s.samples to is))
-decide_all setup loss s (DecideDown to) is = down_all setup loss s to (first_spent setup s to)
+decide_all setup loss s (DecideDown to) is = down_all setup loss s to (first_used_up setup s to)
 
 phase_all : (setup : Setup) (loss : Option ℕ) (s : PowerState) (x : Phase) → AllGrow s (tick_by_phase setup loss s x)
 phase_all setup loss s Steady = decide_all setup loss s (decision setup s.gear s.samples) refl

@@ -11,10 +11,10 @@ use Rattle.paraid_gear.specs.Decision.{decision, first_of_both, gear_down_for, g
 use Rattle.paraid_gear.specs.Window.{is_busy, is_full, is_low_and_even}
 use Rattle.paraid_record.specs.declared.meta.Setup.{Setup}
 use Rattle.paraid_image.specs.Power.{PowerState}
-use Rattle.paraid_machine.specs.Moves.{first_spent}
+use Rattle.paraid_machine.specs.Moves.{first_used_up}
 use Rattle.paraid_record.specs.declared.meta.Meta.{Meta}
 use Rattle.paraid_upkeep.specs.Refusals.{IsAtEase, IsDownRefused, IsShiftStateOf, IsUpRefused, MayGoDown, MayGoUp}
-use Rattle.paraid_upkeep.specs.TickAnswers.{IsIdleTick, TellsDecision, TellsRest, TellsWorn}
+use Rattle.paraid_upkeep.specs.TickAnswers.{IsIdleTick, TellsDecision, TellsRest, TellsUsedUp}
 use Rattle.paraid_upkeep.specs.declared.fault.ShiftFault.{ShiftFault}
 use Rattle.paraid_upkeep.specs.declared.fault.ShiftFault.TheVariants.{Lowest, Out, Ration, Shifting, Top}
 
@@ -71,7 +71,7 @@ module _ (setup : Setup) (s : PowerState) (made : Decision) (to : ℕ) where
   goes_down samples next by is may =
       let same : next ≡ to = some_of next to (next_lower setup.geometry s.gear) may.next (decided_down setup s.gear samples to (sym by ∙ is)) in
       subst (λ (z : Decision). TellsDecision setup s z (Begun next)) (sym is)
-      (subst (λ (z : Option ℕ). TellsWorn z to (Begun next)) (sym (ap (first_spent setup s) (sym same) ∙ may.unworn)) (ap Begun same))
+      (subst (λ (z : Option ℕ). TellsUsedUp z to (Begun next)) (sym (ap (first_used_up setup s) (sym same) ∙ may.unworn)) (ap Begun same))
 
   -- in an array at rest a shift up that the samples ask for is not refused
   pub up_free : (samples : List ℕ) (fault : ShiftFault) → made ≡ decision setup s.gear samples → made ≡ Up to → IsAtEase s.phase s.out → IsUpRefused setup s fault → ⊥
@@ -93,7 +93,7 @@ module _ (setup : Setup) (s : PowerState) (made : Decision) (to : ℕ) where
   tells_worn samples d by is why =
       let same : why.0 ≡ to = some_of why.0 to (next_lower setup.geometry s.gear) why.1 (decided_down setup s.gear samples to (sym by ∙ is)) in
       subst (λ (z : Decision). TellsDecision setup s z (RationTick d)) (sym is)
-      (subst (λ (z : Option ℕ). TellsWorn z to (RationTick d)) (sym (ap (first_spent setup s) (sym same) ∙ why.3)) refl)
+      (subst (λ (z : Option ℕ). TellsUsedUp z to (RationTick d)) (sym (ap (first_used_up setup s) (sym same) ∙ why.3)) refl)
 
   -- what is told where it is refused
   pub tells_down : (samples : List ℕ) (fault : ShiftFault) (event : TickEvent) → made ≡ decision setup s.gear samples → made ≡ Down to → IsAtEase s.phase s.out → IsDownRefused setup s fault

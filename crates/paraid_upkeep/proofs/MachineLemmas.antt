@@ -11,7 +11,7 @@ use Rattle.paraid_base.specs.States.{named_out, phase_to}
 use Rattle.paraid_record.specs.declared.meta.Setup.{Setup}
 use Rattle.paraid_image.specs.Power.{PowerState}
 use Rattle.paraid_machine.specs.Machine.{begin, go_down, go_up, out_refusal, ration_refusal, refusal_else, shift_refusal}
-use Rattle.paraid_machine.specs.Moves.{begun_down, begun_up, first_spent}
+use Rattle.paraid_machine.specs.Moves.{begun_down, begun_up, first_used_up}
 use Rattle.paraid_upkeep.specs.Refusals.{IsAtEase, IsDownRefused, IsUpRefused, MayGoDown, MayGoUp, fault_answer}
 use Rattle.paraid_upkeep.specs.declared.fault.ShiftFault.{ShiftFault}
 use Rattle.paraid_upkeep.specs.declared.fault.ShiftFault.TheVariants.{Lowest, Out, Ration, Shifting, Top}
@@ -35,8 +35,8 @@ is_out phase out d steady is = ap (λ (z : Phase). shift_refusal z out) steady �
 module _ (setup : Setup) (s : PowerState) where
   -- a shift down to this gear, by what refuses it first
   down_by : (to : ℕ) (first : Option Answer) → next_lower setup.geometry s.gear ≡ Some to → shift_refusal s.phase s.out ≡ first
-      → go_down setup None s (next_lower setup.geometry s.gear) ≡ begin (refusal_else first (ration_refusal (first_spent setup s to))) None s to (begun_down to s)
-  down_by to first next is = ap (go_down setup None s) next ∙ ap (λ (z : Option Answer). begin (refusal_else z (ration_refusal (first_spent setup s to))) None s to (begun_down to s)) is
+      → go_down setup None s (next_lower setup.geometry s.gear) ≡ begin (refusal_else first (ration_refusal (first_used_up setup s to))) None s to (begun_down to s)
+  down_by to first next is = ap (go_down setup None s) next ∙ ap (λ (z : Option Answer). begin (refusal_else z (ration_refusal (first_used_up setup s to))) None s to (begun_down to s)) is
 
   up_by : (to : ℕ) (first : Option Answer) → next_higher setup.geometry s.gear ≡ Some to → shift_refusal s.phase s.out ≡ first
       → go_up setup None s (next_higher setup.geometry s.gear) ≡ begin first None s to (begun_up to s)

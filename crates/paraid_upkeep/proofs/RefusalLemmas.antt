@@ -14,7 +14,7 @@ use Rattle.paraid_record.specs.declared.meta.Meta.{Meta}
 use Rattle.paraid_record.specs.declared.meta.Setup.{Setup}
 use Rattle.paraid_record.specs.Range.{allowed_by, allowed_spins}
 use Rattle.paraid_image.specs.Power.{PowerState}
-use Rattle.paraid_machine.specs.Moves.{first_spent}
+use Rattle.paraid_machine.specs.Moves.{first_used_up}
 use Rattle.paraid_upkeep.specs.Refusals.{IsAtEase, IsDownRefused, IsHinderedBy, IsShiftStateOf, IsUpRefused, MayGoDown, MayGoUp}
 use Rattle.paraid_upkeep.specs.declared.fault.ShiftFault.{ShiftFault}
 use Rattle.paraid_upkeep.specs.declared.fault.ShiftFault.TheVariants.{Lowest, Out, Ration, Shifting, Top}
@@ -57,7 +57,7 @@ module _ (m : Meta) (s : PowerState) (of : IsShiftStateOf m s) where
   up_hindered answer to (Ration d) some is h = h
 
   -- the first worn disk by the meta's own counts
-  worn_is : (to : ℕ) → first_spent m.setup s to ≡ first_from (λ d. nat_le (allowed_spins m) (slice_index m.spins d)) to (m.gear - to)
+  worn_is : (to : ℕ) → first_used_up m.setup s to ≡ first_from (λ d. nat_le (allowed_spins m) (slice_index m.spins d)) to (m.gear - to)
   worn_is to =
       ap (λ (z : ℕ). first_from (λ d. nat_le (allowed_by m.setup s.ticks) (slice_index s.spins d)) to (z - to)) of.gear
       ∙ ap (λ (z : List ℕ). first_from (λ d. nat_le (allowed_by m.setup s.ticks) (slice_index z d)) to (m.gear - to)) of.spins
@@ -149,7 +149,7 @@ down_refused_same setup s (Ration d) (Shifting y) first second = absurd (ease_hi
 down_refused_same setup s (Ration d) (Out e) first second = absurd (ease_hindered s.phase s.out (Out e) first.2 second.2)
 down_refused_same setup s (Ration d) (Ration e) first second =
     let next : first.0 ≡ second.0 = same_some first.1 second.1 in
-    ap Ration (same_some first.3 (ap (first_spent setup s) next ∙ second.3))
+    ap Ration (same_some first.3 (ap (first_used_up setup s) next ∙ second.3))
 
 -- and none where it may begin
 pub down_may_not : (setup : Setup) (s : PowerState) (to : ℕ) (fault : ShiftFault) → MayGoDown setup s to → IsDownRefused setup s fault → ⊥
@@ -157,7 +157,7 @@ down_may_not setup s to Top may why = why
 down_may_not setup s to Lowest may why = none_some why may.next
 down_may_not setup s to (Shifting x) may why = ease_hindered s.phase s.out (Shifting x) may.at_ease why.2
 down_may_not setup s to (Out d) may why = ease_hindered s.phase s.out (Out d) may.at_ease why.2
-down_may_not setup s to (Ration d) may why = none_some (ap (first_spent setup s) (same_some why.1 may.next) ∙ may.unworn) why.3
+down_may_not setup s to (Ration d) may why = none_some (ap (first_used_up setup s) (same_some why.1 may.next) ∙ may.unworn) why.3
 
 pub up_refused_same : (setup : Setup) (s : PowerState) (a b : ShiftFault) → IsUpRefused setup s a → IsUpRefused setup s b → a ≡ b
 up_refused_same setup s Lowest b first second = absurd first

@@ -41,7 +41,7 @@ use Rattle.paraid_core.specs.CoreInvariant.{AreCopiesSynced}
 use Rattle.paraid_core.specs.Steps.{IsMarkedFrom, IsNamedOrAbsent}
 use Rattle.paraid_machine.specs.Energy.{begun_energy, spin_up_energy, tick_energy}
 use Rattle.paraid_machine.specs.Machine.{report}
-use Rattle.paraid_machine.specs.Moves.{after_unit, after_units, first_dirty, first_spent, state_with_tick, units_by, units_left, units_of_tick, with_spin_ups, with_spins}
+use Rattle.paraid_machine.specs.Moves.{after_unit, after_units, first_dirty, first_used_up, state_with_tick, units_by, units_left, units_of_tick, with_spin_ups, with_spins}
 use Rattle.paraid_session.specs.Turn.{GoesOn, Point, point_wear}
 use Rattle.paraid_session.specs.Watch.{Watch, watch_all}
 use Rattle.paraid_event.specs.Moving.{EndsShift, GoesToState, MovesUnits}
@@ -343,7 +343,7 @@ module _ {R : Type 0} {g : _} (count : R → ℕ) (told : R → Option Trail) (a
         let worn = down_worn_only a.meta.setup s1 (DecideDown asked) asked samples fault made refl (record { steady = shows.phase ∙ steady; whole = shows.out ∙ whole }) why in
         let used : IsDownRefused a.meta.setup s1 (Ration worn.0) = subst (IsDownRefused a.meta.setup s1) worn.1 why in
         let next : used.0 ≡ asked = same_gear used.0 asked (next_lower a.meta.setup.geometry s1.gear) used.1 (decided_down a.meta.setup s1.gear samples asked (sym made)) in
-        let first : first_spent setup s1 asked ≡ Some worn.0 = ap (λ (z : Setup). first_spent z s1 asked) (sym setup_is) ∙ ap (first_spent a.meta.setup s1) (sym next) ∙ used.3 in
+        let first : first_used_up setup s1 asked ≡ Some worn.0 = ap (λ (z : Setup). first_used_up z s1 asked) (sym setup_is) ∙ ap (first_used_up a.meta.setup s1) (sym next) ∙ used.3 in
         subst (λ (e : TickEvent). Ran ta ta (Goes a (record { gear = a.meta.gear; moved = 0; event = e }))) (sym (tells worn.0 worn.1))
         (idle_so (RationTick worn.0) refl (ration_turn ta k counted setup p at counts fit (shows.out ∙ whole) (shows.phase ∙ steady) asked worn.0 (decided (DecideDown asked) is) first))
 
@@ -378,8 +378,8 @@ module _ {R : Type 0} {g : _} (count : R → ℕ) (told : R → Option Trail) (a
           decided (DecideDown asked) is
           ∙ ap DecideDown (same_gear asked to (next_lower a.meta.setup.geometry a.meta.gear) (decided_down a.meta.setup a.meta.gear samples asked (sym is)) (ap (next_lower a.meta.setup.geometry) (sym shows.gear) ∙ may.next))
 
-      unworn : first_spent setup s1 to ≡ None
-      unworn = ap (λ (z : Setup). first_spent z s1 to) (sym setup_is) ∙ may.unworn
+      unworn : first_used_up setup s1 to ≡ None
+      unworn = ap (λ (z : Setup). first_used_up z s1 to) (sym setup_is) ∙ may.unworn
 
       pub down_told : to < a.meta.gear → IsMarkedFrom (record (meta_after_begin a.meta (Down to) a.meta.spins) { epoch = a.meta.epoch + 1 }) b.meta → AreCopiesSynced b.meta.setup.geometry.disks b.copied → b.dirty ≡ a.dirty
           → CoreStepsInEvent count told a b 1 → Ran ta (told (store_rack b.store)) (Goes b (record { gear = b.meta.gear; moved = 0; event = Begun to }))

@@ -8,7 +8,7 @@ use Rattle.paraid_base.specs.declared.state.TickEvent.TheVariants.{Gone as GoneI
 use Rattle.paraid_base.specs.Told.{HasRisen}
 use Rattle.paraid_gear.specs.Decision.{decision}
 use Rattle.paraid_gear.specs.ThreeWindows.{HoldLastSamples}
-use Rattle.paraid_gear.specs.declared.windows.Windows.{Windows}
+use Rattle.paraid_gear.specs.declared.three_windows.Windows.{Windows}
 use Rattle.paraid_rack.specs.declared.rack.Rack.{Ghosts}
 use Rattle.paraid_image.specs.Mark.{meta_after_loss}
 use Rattle.paraid_image.specs.Out.{named_out}

@@ -11,7 +11,7 @@ use Rattle.paraid_base.specs.States.{named_out, phase_to}
 use Rattle.paraid_record.specs.declared.meta.Meta.{Meta}
 use Rattle.paraid_record.specs.declared.meta.Setup.{Setup}
 use Rattle.paraid_image.specs.Power.{PowerState}
-use Rattle.paraid_machine.specs.Moves.{first_spent}
+use Rattle.paraid_machine.specs.Moves.{first_used_up}
 use Rattle.paraid_moves.specs.MoveMetas.{meta_after_begin}
 use Rattle.paraid_core.specs.Steps.{IsMarkedFrom}
 use Rattle.paraid_shift.specs.Serving.{HasBegunUp}
@@ -53,7 +53,7 @@ IsHinderedBy phase out (Ration d) = ⊥
 pub record MayGoDown (setup : Setup) (s : PowerState) (to : ℕ) : Type 0 where
   pub next : next_lower setup.geometry s.gear ≡ Some to
   pub at_ease : IsAtEase s.phase s.out
-  pub unworn : first_spent setup s to ≡ None
+  pub unworn : first_used_up setup s to ≡ None
 
 -- a shift up to this gear may begin
 pub record MayGoUp (setup : Setup) (s : PowerState) (to : ℕ) : Type 0 where
@@ -66,7 +66,7 @@ IsDownRefused setup s Top = ⊥
 IsDownRefused setup s Lowest = next_lower setup.geometry s.gear ≡ None
 IsDownRefused setup s (Shifting to) = (next : ℕ) × (next_lower setup.geometry s.gear ≡ Some next) × IsHinderedBy s.phase s.out (Shifting to)
 IsDownRefused setup s (Out d) = (next : ℕ) × (next_lower setup.geometry s.gear ≡ Some next) × IsHinderedBy s.phase s.out (Out d)
-IsDownRefused setup s (Ration d) = (next : ℕ) × (next_lower setup.geometry s.gear ≡ Some next) × IsAtEase s.phase s.out × (first_spent setup s next ≡ Some d)
+IsDownRefused setup s (Ration d) = (next : ℕ) × (next_lower setup.geometry s.gear ≡ Some next) × IsAtEase s.phase s.out × (first_used_up setup s next ≡ Some d)
 
 -- a shift up is refused so
 abbrev pub IsUpRefused : Setup → PowerState → ShiftFault → Type 0

@@ -12,7 +12,7 @@ use Rattle.paraid_record.specs.Range.{rebuild_units}
 use Rattle.paraid_image.specs.Mark.{meta_after_loss}
 use Rattle.paraid_image.specs.Out.{named_out}
 use Rattle.paraid_image.specs.Power.{PowerState}
-use Rattle.paraid_machine.specs.Moves.{after_flip, after_loss, after_units, first_spent, units_left, units_of_tick}
+use Rattle.paraid_machine.specs.Moves.{after_flip, after_loss, after_units, first_used_up, units_left, units_of_tick}
 use Rattle.paraid_moves.specs.MoveMetas.{meta_after_begin}
 use Rattle.paraid_core.specs.declared.staged.Core.{Core}
 use Rattle.paraid_core.specs.Steps.{IsMarkedFrom}
@@ -40,15 +40,15 @@ TellsRebuild m m_then d u count (Lost e) = ⊥
 TellsRebuild m m_then d u count (Ration e) = ⊥
 
 -- a shift down that is due begins, unless a disk has used up its allowance
-abbrev pub TellsWorn : Option ℕ → ℕ → TickEvent → Type 0
-TellsWorn None to event = event ≡ Begun to
-TellsWorn (Some d) to event = event ≡ Ration d
+abbrev pub TellsUsedUp : Option ℕ → ℕ → TickEvent → Type 0
+TellsUsedUp None to event = event ≡ Begun to
+TellsUsedUp (Some d) to event = event ≡ Ration d
 
 -- a tick at rest does what the samples ask for
 abbrev pub TellsDecision : Setup → PowerState → Decision → TickEvent → Type 0
 TellsDecision setup s Stay event = event ≡ Steady
 TellsDecision setup s (Up to) event = event ≡ Begun to
-TellsDecision setup s (Down to) event = TellsWorn (first_spent setup s to) to event
+TellsDecision setup s (Down to) event = TellsUsedUp (first_used_up setup s to) to event
 
 -- such a tick that begins nothing
 abbrev pub IsIdleTick : TickEvent → Type 0

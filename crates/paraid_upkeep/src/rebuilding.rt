@@ -15,7 +15,7 @@ ghost use Rattle.paraid_upkeep.specs.TickTurns.{CoreComesBack, CoreLosesComing, 
 ghost use Rattle.paraid_upkeep.specs.Turns.{CoreTickHalts, CoreTicks};
 ghost use Rattle.paraid_event.specs.Service.{service_of};
 ghost use Rattle.paraid_event.specs.Steps.{StepsInEvent};
-ghost use Rattle.paraid_gear.specs.declared.windows.Windows.{Windows as WindowsType};
+ghost use Rattle.paraid_gear.specs.declared.three_windows.Windows.{Windows as WindowsType};
 ghost use Rattle.paraid_image.specs.Mark.{meta_after_loss};
 ghost use Rattle.paraid_moves.specs.MoveMetas.{meta_with_out};
 ghost use Rattle.paraid_rack.specs.declared.call.Power.TheVariants.{Spinning};

@@ -13,7 +13,7 @@ ghost use Rattle.paraid_upkeep.specs.TickTurns.{AreUnitsOfTick};
 ghost use Rattle.paraid_upkeep.specs.Turns.{CoreTickHalts, CoreTicks};
 ghost use Rattle.paraid_gear.specs.Decision.{decision};
 ghost use Rattle.paraid_gear.specs.ThreeWindows.{HoldLastSamples, lengths_of};
-ghost use Rattle.paraid_gear.specs.declared.windows.Windows.{Windows as WindowsType};
+ghost use Rattle.paraid_gear.specs.declared.three_windows.Windows.{Windows as WindowsType};
 ghost use Rattle.paraid_image.specs.Power.{PowerState};
 ghost use Rattle.paraid_machine.specs.Moves.{units_by};
 ghost use Rattle.paraid_record.specs.Range.{AreNextGears, IsInRange, allowed_spins};

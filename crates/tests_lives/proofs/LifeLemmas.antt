@@ -19,8 +19,8 @@ use Rattle.paraid_image.specs.RunStart.{IsRunStart}
 use Rattle.paraid_image.specs.Standing.{Stands}
 use Rattle.paraid_image.proofs.FormattedLemmas.{IsAtRest-formatted}
 use Rattle.paraid_recover.specs.Between.{RanBetween}
-use Rattle.paraid_recover.specs.declared.fault.MountFault.{MountFault}
-use Rattle.paraid_recover.specs.declared.fault.MountFault.TheVariants.{NotFormatted, BadLog, BadMeta, Size, Power, Two as TwoDown, Worn as WornOut, NoMemory}
+use Rattle.paraid_recover.specs.declared.mount_fault.MountFault.{MountFault}
+use Rattle.paraid_recover.specs.declared.mount_fault.MountFault.TheVariants.{NotFormatted, BadLog, BadMeta, Size, Power, Two as TwoDown, Worn as WornOut, NoMemory}
 use Rattle.paraid_recover.specs.First.{first_meta}
 use Rattle.paraid_session.specs.Mount.{IsBegun, IsMounted, IsMountedFromEach, IsMounting, start_watch}
 use Rattle.paraid_session.specs.Turn.{Point}

@@ -2,7 +2,7 @@ use Rattle.std.specs.Prelude.{◌<◌, ◌≤◌, length}
 use Rattle.std.proofs.Common.{ap, arith, refl, subst, sym, ◌∙◌}
 use Rattle.paraid_record.specs.declared.meta.Meta.{Meta}
 use Rattle.paraid_image.specs.Sides.{Batch}
-use Rattle.paraid_recover.specs.declared.fault.MountFault.TheVariants.{NoMemory}
+use Rattle.paraid_recover.specs.declared.mount_fault.MountFault.TheVariants.{NoMemory}
 use Rattle.paraid_core.specs.CoreInvariant.{AreSlotsReady}
 use Rattle.paraid_core.specs.Cores.{CanCoreServe, IsCoreReady}
 use Rattle.paraid_rack.specs.Told.{Extends}

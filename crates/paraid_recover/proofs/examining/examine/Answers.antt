@@ -12,7 +12,7 @@ use Rattle.paraid_recover.proofs.SyncedLemmas.{nothing_failed, nothing_lost}
 use Rattle.paraid_recover.proofs.UnchangedLemmas.{unchanged_none}
 use Rattle.paraid_recover.proofs.BothLemmas.{both_read, one_of_two}
 use Rattle.paraid_recover.proofs.FailedLemmas.{most_none}
-use Rattle.paraid_recover.specs.declared.fault.MountFault.TheVariants.{Worn}
+use Rattle.paraid_recover.specs.declared.mount_fault.MountFault.TheVariants.{Worn}
 use Rattle.paraid_recover.specs.Examined.{AreHeard, IsRefused, IsRefusedAsHeard, IsServedAsHeard, Logs, logs_of}
 use Rattle.paraid_recover.specs.Examined.IsRefused.{as_heard, by_loss, by_slots}
 use Rattle.paraid_recover.proofs.ExaminedLogLemmas.{heard_stands, if_err_is, worn_stands}

@@ -1,7 +1,7 @@
 use Rattle.std.specs.Prelude.{Result, Ok, Err, IfOk}
 use Rattle.std.proofs.Common.{refl, arith}
 use Rattle.std.proofs.lemmas.Result.{IfErr-weaker, IfOk-weaker}
-use Rattle.paraid_recover.specs.declared.fault.MountFault.TheVariants.{NoMemory}
+use Rattle.paraid_recover.specs.declared.mount_fault.MountFault.TheVariants.{NoMemory}
 use Rattle.paraid_recover.specs.Mount.IsCauseOfRefusal.{no_memory}
 use Rattle.paraid_txn.specs.Stores.{named_of, store_rack}
 use Rattle.paraid_recover.proofs.MountedLemmas.{mounted_extends, mounted_from_each, no_calls, ran_extends, refused_extends, refused_from_each, unstarted_here}

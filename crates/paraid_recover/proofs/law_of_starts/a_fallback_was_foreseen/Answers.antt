@@ -1,6 +1,0 @@
-use Rattle.paraid_recover.proofs.MayLoseLemmas.{may_lose_start}
-use Rattle.paraid_recover.proofs.law_of_starts.a_fallback_was_foreseen.Goals as goal
-
-pub returns : goal.returns
-returns c slots n skip h lo x z said o p w cs beside i stands weak each serving held stood looked off at says meta =
-    may_lose_start slots n skip h lo x said w stands weak cs each serving beside held stood i z o p looked off at says meta

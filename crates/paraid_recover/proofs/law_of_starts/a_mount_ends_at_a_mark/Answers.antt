@@ -1,6 +1,0 @@
-use Rattle.paraid_recover.proofs.FirstLemmas.{mark_at_end}
-use Rattle.paraid_recover.proofs.law_of_starts.a_mount_ends_at_a_mark.Goals as goal
-
-pub returns : goal.returns
-returns c slots s count last array rows slot named standing h spun agrees servable rest held borne =
-    mark_at_end slots s count last array slot named standing rows agrees servable h spun rest held borne

@@ -1,5 +1,0 @@
-use Rattle.paraid_recover.proofs.BaseLemmas.{some_base}
-use Rattle.paraid_recover.proofs.law_of_starts.a_run_begins_with_a_base.Goals as goal
-
-pub returns : goal.returns
-returns c slots s h lo down x said start stands = some_base slots s h lo down start x said stands
