@@ -94,14 +94,17 @@ shown_of_array slot array = record {
   halt = halt_of_end array.ended;
 }
 
--- It serves, and stands at this point of a session: by all samples since its mount, of which its windows hold the last, and
--- all requests since the last tick, of which it counts no more than a sample may have.
-pub record ServesAt {R : Type 0} {g : _} (count : R → ℕ) (told : R → Option Trail) (array : Array R g) (p : Point) : Type 0 where
+-- It serves, and stands at this point of a session: by all samples since its mount, of which its
+-- windows hold the last, and all requests since the last tick, of which it counts no more than a
+-- sample may have.
+pub record ServesAt {R : Type 0}
+    {g : _} (count : R → ℕ) (told : R → Option Trail) (array : Array R g) (p : Point) : Type 0 where
   pub samples : List ℕ
   pub requests : ℕ
   pub windows : HoldLastSamples array.windows samples
   pub served : array.served ≡ sample_of requests
-  pub stands : StandsAt (told_of_array told array) (service_of count array.core samples requests array.ledger.total) array.setup p
+  pub stands : StandsAt (told_of_array told array)
+      (service_of count array.core samples requests array.ledger.total) array.setup p
 
 -- Its service has ended: the point tells the halt, the gear before it, and so much energy.
 pub record HasEndedAt (ended : Ended) (used : ℕ) (p : Point) : Type 0 where
@@ -110,26 +113,32 @@ pub record HasEndedAt (ended : Ended) (used : ℕ) (p : Point) : Type 0 where
   pub energy : p.energy ≡ used
 
 -- where an array stands in a session, also after a halt
-pub record ArrayStandsAt {R : Type 0} {g : _} (count : R → ℕ) (told : R → Option Trail) (array : Array R g) (p : Point) : Type 0 where
+pub record ArrayStandsAt {R : Type 0}
+    {g : _} (count : R → ℕ) (told : R → Option Trail) (array : Array R g) (p : Point) : Type 0 where
   pub serves : array.ended ≡ None → ServesAt count told array p
   pub halted : (ended : Ended) → array.ended ≡ Some ended → HasEndedAt ended array.ledger.total p
 
 -- An event takes each point at which the array stood to one at which it stands then.
-abbrev pub GoesOnByEvent : {R : Type 0} {g : _} → (R → ℕ) → (R → Option Trail) → Array R g → Array R g → Event → Answer → Type 0
+abbrev pub GoesOnByEvent : {R : Type 0} {g : _}
+    → (R → ℕ) → (R → Option Trail) → Array R g → Array R g → Event → Answer → Type 0
 GoesOnByEvent count told old new event answer = (p : Point) → ArrayStandsAt count told old p
     → Ran (told_of_array told old) (told_of_array told new)
     (GoesOn (count (core_rack old.core)) old.setup p event answer (ArrayStandsAt count told new))
 
--- The array answers an event, over the same slots: each point at which it stood goes to one at which it
--- stands, what is told is longer by its calls, and the answer has its cause.
-pub record AnswersEvent {R : Type 0} {g : _} (count : R → ℕ) (slot : R → ℕ → Slot) (told : R → Option Trail) (old new : Array R g) (event : Event) (answer : Answer) : Type 0 where
+-- The array answers an event, over the same slots: each point at which it stood goes to one at
+-- which it stands, what is told is longer by its calls, and the answer has its cause.
+pub record AnswersEvent {R : Type 0} {g : _} (count : R → ℕ) (slot : R → ℕ → Slot)
+    (told : R → Option Trail) (old new : Array R g) (event : Event) (answer : Answer) : Type 0 where
   pub turn : GoesOnByEvent count told old new event answer
   pub grows : Extends (told_of_array told old) (told_of_array told new)
   pub slots : new.slots ≡ old.slots
   pub cause : HasCause (shown_of_array slot old) event answer (shown_of_array slot new)
 
--- The dirty cells are then those that this change makes of each state that the array showed, by its meta as it is then.
-abbrev pub ChangesCellsBy : {R : Type 0} {g : _} → (R → ℕ) → Array R g → Array R g → (PowerState → PowerState) → Type 0
+-- The dirty cells are then those that this change makes of each state that the array showed, by its
+-- meta as it is then.
+abbrev pub ChangesCellsBy : {R : Type 0} {g : _}
+    → (R → ℕ) → Array R g → Array R g → (PowerState → PowerState) → Type 0
 ChangesCellsBy count old new change = (samples : List ℕ) (requests : ℕ) (s : PowerState)
-    → IsStateOf (with_counts_of (service_of count new.core samples requests new.ledger.total) (service_of count old.core samples requests old.ledger.total)) s
-    → (r d : ℕ) → r < new.core.meta.setup.geometry.rows → is_dirty new.core.dirty r d ≡ (change s).dirty r d
+    → IsStateOf (with_counts_of (service_of count new.core samples requests new.ledger.total)
+    (service_of count old.core samples requests old.ledger.total)) s → (r d : ℕ)
+    → r < new.core.meta.setup.geometry.rows → is_dirty new.core.dirty r d ≡ (change s).dirty r d

@@ -25,18 +25,22 @@ abbrev pub answer_to_check : ℕ → Result CheckReport Halt → Answer
 answer_to_check writes (Ok report) = Flushed writes
 answer_to_check writes (Err halt) = Halted halt
 
--- From a core with nothing staged the counts are those of its disks, with the dirty cells of the table that it serves; and with
--- those of the map on its disks, if the table has the bits of that.
-pub record CountsDisks {R : Type 0} {g : _} (slot : R → ℕ → Slot) (told : R → Option Trail) (old new : Core R g) (report : CheckReport) : Type 0 where
-  pub by_table : old.batch ≡ [] → (t : Trail) → told (core_rack old) ≡ Some t → IsSome (told (core_rack new))
+-- From a core with nothing staged the counts are those of its disks, with the dirty cells of the
+-- table that it serves; and with those of the map on its disks, if the table has the bits of that.
+pub record CountsDisks {R : Type 0} {g : _} (slot : R → ℕ → Slot)
+    (told : R → Option Trail) (old new : Core R g) (report : CheckReport) : Type 0 where
+  pub by_table : old.batch ≡ []
+      → (t : Trail) → told (core_rack old) ≡ Some t → IsSome (told (core_rack new))
       → CountsByView (table_view old (now t)) (slot (core_rack old)) (slot (core_rack new)) report
-  pub by_map : old.batch ≡ [] → (t : Trail) → told (core_rack old) ≡ Some t → IsSome (told (core_rack new))
-      → HasMapBits old (core_view old (now t)) → CountsByView (core_view old (now t)) (slot (core_rack old)) (slot (core_rack new)) report
+  pub by_map : old.batch ≡ [] → (t : Trail) → told (core_rack old) ≡ Some t
+      → IsSome (told (core_rack new)) → HasMapBits old (core_view old (now t))
+      → CountsByView (core_view old (now t)) (slot (core_rack old)) (slot (core_rack new)) report
 
--- All that was staged was committed, and this core was left with nothing staged; then reads alone were made. The counts are
--- those of the disks as these reads began, with the dirty cells of the table; and with those of the map on them, if the table had
--- the bits of that.
-pub record CountsCommitted {R : Type 0} {g : _} (slot : R → ℕ → Slot) (told : R → Option Trail) (old new : Core R g) (report : CheckReport) : Type 0 where
+-- All that was staged was committed, and this core was left with nothing staged; then reads alone
+-- were made. The counts are those of the disks as these reads began, with the dirty cells of the
+-- table; and with those of the map on them, if the table had the bits of that.
+pub record CountsCommitted {R : Type 0} {g : _} (slot : R → ℕ → Slot)
+    (told : R → Option Trail) (old new : Core R g) (report : CheckReport) : Type 0 where
   pub kept : Core R g
   pub nothing : kept.batch ≡ []
   pub table : kept.dirty ≡ old.dirty
@@ -45,11 +49,12 @@ pub record CountsCommitted {R : Type 0} {g : _} (slot : R → ℕ → Slot) (tol
   pub reads : MakesReads told kept new
   pub by_table : (t : Trail) → told (core_rack kept) ≡ Some t → IsSome (told (core_rack new))
       → CountsByView (table_view kept (now t)) (slot (core_rack old)) (slot (core_rack new)) report
-  pub counts : (t : Trail) → told (core_rack kept) ≡ Some t → IsSome (told (core_rack new)) → HasMapBits kept (core_view kept (now t))
+  pub counts : (t : Trail) → told (core_rack kept) ≡ Some t
+      → IsSome (told (core_rack new)) → HasMapBits kept (core_view kept (now t))
       → CountsByView (core_view kept (now t)) (slot (core_rack old)) (slot (core_rack new)) report
 
--- A core can be committed and then counted: it can be read and written, no plan is under way, a disk that is being rebuilt
--- spins, an epoch is left, and each copy is synced.
+-- A core can be committed and then counted: it can be read and written, no plan is under way, a
+-- disk that is being rebuilt spins, an epoch is left, and each copy is synced.
 pub record CanBeCounted {R : Type 0} {g : Ghosts R} (core : Core R g) : Type 0 where
   pub ready : IsCoreReady g.slot_count g.slot core
   pub serves : CanCoreServe g.slot core
@@ -58,8 +63,8 @@ pub record CanBeCounted {R : Type 0} {g : Ghosts R} (core : Core R g) : Type 0 w
   pub epoch : core.meta.epoch < 2 ^ 63
   pub copies_synced : AreCopiesSynced core.meta.setup.geometry.disks core.copied
 
--- So it serves on one commit later with nothing staged, and the commit names the disk that was out. A disk that was lost is
--- marked.
+-- So it serves on one commit later with nothing staged, and the commit names the disk that was out.
+-- A disk that was lost is marked.
 pub record LeavesCounted {R : Type 0} {g : Ghosts R} (old new : Core R g) : Type 0 where
   pub draft : new.draft ≡ []
   pub table : new.dirty ≡ old.dirty

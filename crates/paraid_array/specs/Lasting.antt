@@ -17,12 +17,14 @@ use Rattle.paraid_core.specs.Units.{IsRebuilding}
 use Rattle.paraid_shift.specs.Serving.{IsCoreServing}
 use Rattle.paraid_array.specs.declared.ended.Ended.{Ended}
 
--- Its core can serve, with this setup and over so many slots; the disk that is out is absent unless the last commit names it,
--- and one that is being rebuilt is named and spins; each disk that is not out is powered by the gear; its windows have the lengths
--- of the setup.
-pub record IsArrayServing {R : Type 0} {g : _} (count : R → ℕ) (slot : R → ℕ → Slot) (core : Core R g) (lengths : List ℕ) (setup : Setup) (slots : ℕ) : Type 0 where
+-- Its core can serve, with this setup and over so many slots; the disk that is out is absent unless
+-- the last commit names it, and one that is being rebuilt is named and spins; each disk that is not
+-- out is powered by the gear; its windows have the lengths of the setup.
+pub record IsArrayServing {R : Type 0} {g : _} (count : R → ℕ) (slot : R → ℕ → Slot)
+    (core : Core R g) (lengths : List ℕ) (setup : Setup) (slots : ℕ) : Type 0 where
   pub serving : IsCoreServing count slot core
-  pub absent : (d : ℕ) → named_out core.meta.out ≡ Some d → named_of core.store ≢ Some d → is_present (slot (store_rack core.store) d).power ≡ false
+  pub absent : (d : ℕ) → named_out core.meta.out ≡ Some d
+      → named_of core.store ≢ Some d → is_present (slot (store_rack core.store) d).power ≡ false
   pub named : (d : ℕ) → IsRebuilding core.meta d → named_of core.store ≡ Some d
   pub spins : (d : ℕ) → IsRebuilding core.meta d → (slot (store_rack core.store) d).power ≡ Spinning
   pub fits : FitsSlots (slot (store_rack core.store)) core.meta
@@ -40,9 +42,11 @@ abbrev pub gear_of_end : Option Ended → ℕ → ℕ
 gear_of_end None now = now
 gear_of_end (Some ended) now = ended.gear
 
--- A halt that tells wear tells the greater of the commits and the writes that this meta counts, and that is 2^62 or more.
+-- A halt that tells wear tells the greater of the commits and the writes that this meta counts, and
+-- that is 2^62 or more.
 abbrev pub TellsItsWear : Meta → Option Halt → Type 0
-TellsItsWear m halt = (count : ℕ) → halt ≡ Some (Worn count) → (worn_at ≤ count) × (count ≡ max m.epoch m.writes)
+TellsItsWear m halt = (count : ℕ)
+    → halt ≡ Some (Worn count) → (worn_at ≤ count) × (count ≡ max m.epoch m.writes)
 
 -- the longer of two lists
 abbrev pub longer : List ℕ → List ℕ → List ℕ
@@ -50,4 +54,5 @@ longer xs ys = if nat_lt (length xs) (length ys) then ys else xs
 
 -- the samples of the longest window
 abbrev pub samples_held : Windows → List ℕ
-samples_held windows = longer windows.first.samples (longer windows.second.samples windows.third.samples)
+samples_held windows =
+    longer windows.first.samples (longer windows.second.samples windows.third.samples)

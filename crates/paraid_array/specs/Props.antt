@@ -28,7 +28,9 @@ out_once g gear (Gone disk) = hlevel props
 out_once g gear (Fresh disk rebuilt) = hlevel props
 
 -- that an array serves has one proof (a fact)
-pub IsArrayServing-prop : {R : Type 0} {g : _} (count : R → ℕ) (slot : R → ℕ → Slot) (core : Core R g) (lengths : List ℕ) (setup : Setup) (slots : ℕ) → IsProp (IsArrayServing count slot core lengths setup slots)
+pub IsArrayServing-prop : {R : Type 0} {g : _} (count : R
+    → ℕ) (slot : R → ℕ → Slot) (core : Core R g) (lengths : List ℕ) (setup : Setup) (slots : ℕ)
+    → IsProp (IsArrayServing count slot core lengths setup slots)
 IsArrayServing-prop count slot core lengths setup slots = hlevel (props, phase_once, out_once)
 
 -- what is asked only under a condition has one proof where it has one
@@ -40,7 +42,8 @@ pub TellsItsWear-prop : (m : Meta) (halt : Option Halt) → IsProp (TellsItsWear
 TellsItsWear-prop m halt = hlevel props
 
 -- that windows hold the last of some samples has one proof (a fact)
-pub HoldLastSamples-prop : (windows : Windows) (samples : List ℕ) → IsProp (HoldLastSamples windows samples)
+pub HoldLastSamples-prop : (windows : Windows) (samples : List ℕ)
+    → IsProp (HoldLastSamples windows samples)
 HoldLastSamples-prop windows samples = hlevel props
 
 -- that an account has the figures of a setup has one proof (a fact)

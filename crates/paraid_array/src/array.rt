@@ -13,7 +13,8 @@ use paraid_gear::Windows;
 use paraid_rack::Rack;
 use paraid_record::Setup;
 
-/// An array with gears. It answers the events of a session; after a halt each of them gives the halt.
+/// An array with gears. It answers the events of a session; after a halt each of them gives the
+/// halt.
 #[derive(Drop)]
 pub struct Array<R: Rack> {
     pub(crate) core: Core<R>,
@@ -26,11 +27,15 @@ pub struct Array<R: Rack> {
     // the energy since the mount
     pub(crate) ledger: Ledger,
     pub(crate) ended: Option<Ended>,
-    ghost serving: { ended ≡ None → IsArrayServing R.slot_count R.slot core (lengths_of windows) setup slots } by { while_prop (IsArrayServing-prop R.slot_count R.slot core (lengths_of windows) setup slots) },
+    ghost serving: { ended ≡ None
+        → IsArrayServing R.slot_count R.slot core (lengths_of windows) setup slots } by { while_prop
+            (IsArrayServing-prop R.slot_count R.slot core (lengths_of windows) setup slots) },
     ghost counted: { R.slot_count (core_rack core) ≡ slots },
-    ghost worn: { TellsItsWear core.meta (halt_of_end ended) } by { TellsItsWear-prop core.meta (halt_of_end ended) },
+    ghost worn: { TellsItsWear core.meta
+        (halt_of_end ended) } by { TellsItsWear-prop core.meta (halt_of_end ended) },
     ghost priced: { HasFigures setup ledger } by { HasFigures-prop setup ledger },
-    ghost sampled: { HoldLastSamples windows (samples_held windows) } by { HoldLastSamples-prop windows (samples_held windows) },
+    ghost sampled: { HoldLastSamples windows
+        (samples_held windows) } by { HoldLastSamples-prop windows (samples_held windows) },
 }
 
 impl<R: Rack> Array<R> {
@@ -42,10 +47,11 @@ impl<R: Rack> Array<R> {
     ghost use Rattle.paraid_session.specs.Turn.{Point};
     ghost use Rattle.paraid_array.specs.Arrays.{ArrayStandsAt, core_of_array, energy_of_array, halt_of_array, samples_of_array, served_of_array, setup_of_array, slots_of_array};
 
-    /// Takes over a core as a mount leaves it, over so many slots, with windows of the lengths of its setup that hold no
-    /// sample.
+    /// Takes over a core as a mount leaves it, over so many slots, with windows of the lengths of
+    /// its setup that hold no sample.
     pub(crate) fn new(core: Core<R>, windows: Windows, slots: u8) -> Array<R>
-        requires serving { IsArrayServing R.slot_count R.slot core (lengths_of windows) (meta_of core).setup slots }
+        requires serving { IsArrayServing R.slot_count R.slot core
+            (lengths_of windows) (meta_of core).setup slots }
         requires none { HoldLastSamples windows [] }
         ensures core { core_of_array result ≡ core }
         ensures setup { setup_of_array result ≡ (meta_of core).setup }
@@ -56,8 +62,8 @@ impl<R: Rack> Array<R> {
         ensures served { served_of_array result ≡ 0 }
         // It stands where its core does.
         ensures stands { (p : Point)
-            → StandsAt (R.told (core_rack core)) (service_of R.slot_count core [] 0 0) (meta_of core).setup p
-            → ArrayStandsAt R.slot_count R.told result p }
+            → StandsAt (R.told (core_rack core)) (service_of R.slot_count core [] 0 0)
+            (meta_of core).setup p → ArrayStandsAt R.slot_count R.told result p }
     {
         let setup = core.meta().setup;
         Array {
@@ -73,7 +79,8 @@ impl<R: Rack> Array<R> {
 
     /// The energy that it has used since its mount.
     pub fn energy(&self) -> u64
-        ensures point { (p : Point) → ArrayStandsAt R.slot_count R.told self.now p → result ≡ p.energy }
+        ensures point { (p : Point)
+            → ArrayStandsAt R.slot_count R.told self.now p → result ≡ p.energy }
         ensures value { result ≡ energy_of_array self.now }
     {
         self.ledger.total()
@@ -81,8 +88,8 @@ impl<R: Rack> Array<R> {
 
     /// How many writes it has accepted, while there is no halt.
     pub fn writes(&self) -> u64
-        ensures point { halt_of_array self.now ≡ None → (p : Point) → ArrayStandsAt R.slot_count R.told self.now p
-            → result ≡ length p.history }
+        ensures point { halt_of_array self.now ≡ None → (p : Point)
+            → ArrayStandsAt R.slot_count R.told self.now p → result ≡ length p.history }
         ensures shown { result ≡ (meta_of (core_of_array self.now)).writes }
     {
         self.core.meta().writes

@@ -55,7 +55,8 @@ fn begin<R: Rack>(mounted: Mounted<R>, memory: Memory) -> Begun<R>
     ensures table { core_table result.core ≡ mounted.dirty }
     ensures batch { batch_of result.core ≡ mounted.batch }
     ensures draft { draft_of result.core ≡ memory.draft }
-    ensures copies_synced { AreCopiesSynced mounted.meta.setup.geometry.disks (copied_of result.core) }
+    ensures copies_synced { AreCopiesSynced mounted.meta.setup.geometry.disks
+        (copied_of result.core) }
     ensures lengths { lengths_of result.windows ≡ mounted.meta.setup.windows }
     ensures none { HoldLastSamples result.windows [] }
 {
@@ -83,13 +84,15 @@ fn begin<R: Rack>(mounted: Mounted<R>, memory: Memory) -> Begun<R>
 /// first call.
 pub fn mount_core<R: Rack>(alloc: Global, rack: R) -> Result<Begun<R>, MountRefused<R>>
     ensures slots { IfOk result (λ it. R.slot_count (core_rack it.core) ≡ R.slot_count rack) }
-    // It can go through each event. Nothing is staged, and nothing is unsynced; a disk that is gone gets no sync.
+    // It can go through each event. Nothing is staged, and nothing is unsynced; a disk that is gone
+    // gets no sync.
     ensures begun { IfOk result (λ it. IsBegunCore it.core) }
     ensures lengths { IfOk result (λ it. lengths_of it.windows ≡ (meta_of it.core).setup.windows) }
     ensures none { IfOk result (λ it. HoldLastSamples it.windows []) }
     ensures later { IfOk result (λ it. (d : ℕ) → (R.slot rack d).faults
         ≤ (R.slot (core_rack it.core) d).faults) }
-    ensures refused_slots { IfErr result (λ refused. R.slot_count refused.rack ≡ R.slot_count rack) }
+    ensures refused_slots { IfErr result (λ refused.
+        R.slot_count refused.rack ≡ R.slot_count rack) }
     ensures refused_later { IfErr result (λ refused. (d : ℕ) → (R.slot rack d).faults
         ≤ (R.slot refused.rack d).faults) }
     // held or not, it serves what stood on the disks

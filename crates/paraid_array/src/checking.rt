@@ -30,7 +30,8 @@ impl<R: Rack> Array<R> {
             (answer_to_check (meta_of (core_of_array self.old)).writes result) }
         ensures sound { IfOk result (λ report. IsSome (told_of_array R.told self.new) → (p : Point)
             → ArrayStandsAt R.slot_count R.told self.old p → report ≡ no_faults) }
-        ensures counts { IfOk result (CountsCommitted R.slot R.told (core_of_array self.old) (core_of_array self.new)) }
+        ensures counts { IfOk result
+            (CountsCommitted R.slot R.told (core_of_array self.old) (core_of_array self.new)) }
     {
         let gear = self.core.meta().gear;
         match commit_and_count(&mut self.core) {
@@ -53,7 +54,8 @@ impl<R: Rack> Array<R> {
             (answer_to_check (meta_of (core_of_array self.old)).writes result) }
         ensures sound { IfOk result (λ report. IsSome (told_of_array R.told self.new) → (p : Point)
             → ArrayStandsAt R.slot_count R.told self.old p → report ≡ no_faults) }
-        ensures counts { IfOk result (CountsDisks R.slot R.told (core_of_array self.old) (core_of_array self.new)) }
+        ensures counts { IfOk result
+            (CountsDisks R.slot R.told (core_of_array self.old) (core_of_array self.new)) }
         ensures most { IfOk result (AreWithinMembers (meta_of (core_of_array self.old))) }
         ensures reads { OnlyReads (told_of_array R.told self.old) (told_of_array R.told self.new) }
     {
@@ -77,9 +79,11 @@ impl<R: Rack> Array<R> {
             (answer_to_check (meta_of (core_of_array self.old)).writes result) }
         ensures sound { IfOk result (λ report. IsSome (told_of_array R.told self.new) → (p : Point)
             → ArrayStandsAt R.slot_count R.told self.old p → report ≡ no_faults) }
-        ensures counts { IfOk result (CountsDisks R.slot R.told (core_of_array self.old) (core_of_array self.new)) }
+        ensures counts { IfOk result
+            (CountsDisks R.slot R.told (core_of_array self.old) (core_of_array self.new)) }
         ensures committed { IfOk result (λ report. batch_of (core_of_array self.old) ≢ []
-            → CountsCommitted R.slot R.told (core_of_array self.old) (core_of_array self.new) report) }
+            → CountsCommitted R.slot R.told
+            (core_of_array self.old) (core_of_array self.new) report) }
         ensures most { IfOk result (λ report. batch_of (core_of_array self.old) ≡ []
             → AreWithinMembers (meta_of (core_of_array self.old)) report) }
         ensures reads { batch_of (core_of_array self.old) ≡ []
@@ -91,29 +95,33 @@ impl<R: Rack> Array<R> {
         self.commit_and_check()
     }
 
-    /// Keeps all writes that were accepted, and then counts what is false on the disks. In a session it is one flush.
+    /// Keeps all writes that were accepted, and then counts what is false on the disks. In a
+    /// session it is one flush.
     ///
-    /// A disk that is lost ends the count. Then the counts are those of a first part, which may be empty.
+    /// A disk that is lost ends the count. Then the counts are those of a first part, which may be
+    /// empty.
     pub fn check(&mut self) -> Result<CheckReport, Halt>
         requires going { halt_of_array self.old ≡ None }
         ensures turn { OnOk result ((p : Point) → ArrayStandsAt R.slot_count R.told self.old p
             → Ran (told_of_array R.told self.old) (told_of_array R.told self.new)
-            (GoesOn (slots_of_array self.old) (setup_of_array self.old) p FlushEvent (Flushed (length p.history))
-            (ArrayStandsAt R.slot_count R.told self.new))) }
-        ensures ended { IfErr result (λ halt. (p : Point) → ArrayStandsAt R.slot_count R.told self.old p
+            (GoesOn (slots_of_array self.old) (setup_of_array self.old) p FlushEvent
+            (Flushed (length p.history)) (ArrayStandsAt R.slot_count R.told self.new))) }
+        ensures ended { IfErr result (λ halt. (p : Point)
+            → ArrayStandsAt R.slot_count R.told self.old p
             → Ran (told_of_array R.told self.old) (told_of_array R.told self.new)
-            (GoesOn (slots_of_array self.old) (setup_of_array self.old) p FlushEvent (Halted halt)
-            (ArrayStandsAt R.slot_count R.told self.new))) }
+            (GoesOn (slots_of_array self.old) (setup_of_array self.old) p FlushEvent
+            (Halted halt) (ArrayStandsAt R.slot_count R.told self.new))) }
         ensures told { Extends (told_of_array R.told self.old) (told_of_array R.told self.new) }
         ensures slots { slots_of_array self.new ≡ slots_of_array self.old }
         // Over every rack it is a flush with its cause.
-        ensures cause { HasCause (shown_of_array R.slot self.old) FlushEvent
-            (answer_to_check (meta_of (core_of_array self.old)).writes result) (shown_of_array R.slot self.new) }
+        ensures cause { HasCause (shown_of_array R.slot self.old) FlushEvent (answer_to_check
+            (meta_of (core_of_array self.old)).writes result) (shown_of_array R.slot self.new) }
         // An array that stands at a point of a session has nothing false.
         ensures sound { IfOk result (λ report. IsSome (told_of_array R.told self.new) → (p : Point)
             → ArrayStandsAt R.slot_count R.told self.old p → report ≡ no_faults) }
         // With nothing staged the counts are those of the disks, whatever these hold.
-        ensures counts { IfOk result (CountsDisks R.slot R.told (core_of_array self.old) (core_of_array self.new)) }
+        ensures counts { IfOk result
+            (CountsDisks R.slot R.told (core_of_array self.old) (core_of_array self.new)) }
         // Over every rack no more is counted then than there is.
         ensures most { IfOk result (λ report. batch_of (core_of_array self.old) ≡ []
             → AreWithinMembers (meta_of (core_of_array self.old)) report) }
@@ -122,7 +130,8 @@ impl<R: Rack> Array<R> {
             → OnlyReads (told_of_array R.told self.old) (told_of_array R.told self.new) }
         // Else they are those after its commit.
         ensures committed { IfOk result (λ report. batch_of (core_of_array self.old) ≢ []
-            → CountsCommitted R.slot R.told (core_of_array self.old) (core_of_array self.new) report) }
+            → CountsCommitted R.slot R.told
+            (core_of_array self.old) (core_of_array self.new) report) }
     {
         if let Some(count) = self.worn() {
             let halt = self.wear_out(count);

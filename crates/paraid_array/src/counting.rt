@@ -36,7 +36,8 @@ fn is_another_out(out: Out, before: Out) -> bool
     out != before
 }
 
-/// Commits all that is staged, and counts what is false then. Where a disk is lost in the commit nothing is counted.
+/// Commits all that is staged, and counts what is false then. Where a disk is lost in the commit
+/// nothing is counted.
 pub(crate) fn commit_and_count<R: Rack>(core: &mut Core<R>) -> Result<CheckReport, Two>
     requires can { CanBeCounted core.old }
     ensures copied { copied_of core.new ≡ copied_of core.old }
@@ -46,13 +47,12 @@ pub(crate) fn commit_and_count<R: Rack>(core: &mut Core<R>) -> Result<CheckRepor
     ensures calls { MakesTransferCalls R.told core.old core.new }
     ensures whole { CommitsWhole R.slot_count R.told core.old core.new }
     // Each stop leaves what it left before or all writes, and at the end all writes.
-    ensures moments { (h : History) (lo : ℕ)
-        → Ran (R.told (core_rack core.old)) (R.told (core_rack core.new))
-        (CrashTriple (IsCoreHeld R.slot_count core.old h lo) (CoreStandsFor R.slot_count core.old h lo)
-        (IsCoreHeld R.slot_count core.old h lo)) }
+    ensures moments { (h : History) (lo : ℕ) → Ran (R.told (core_rack core.old))
+        (R.told (core_rack core.new)) (CrashTriple (IsCoreHeld R.slot_count core.old h lo)
+        (CoreStandsFor R.slot_count core.old h lo) (IsCoreHeld R.slot_count core.old h lo)) }
     ensures stands { OnOk result ((h : History) (lo : ℕ)
-        → Ran (R.told (core_rack core.old)) (R.told (core_rack core.new))
-        (CrashTriple (IsCoreHeld R.slot_count core.old h lo) (CoreStandsFor R.slot_count core.old h lo)
+        → Ran (R.told (core_rack core.old)) (R.told (core_rack core.new)) (CrashTriple
+        (IsCoreHeld R.slot_count core.old h lo) (CoreStandsFor R.slot_count core.old h lo)
         (CoreStandsFor R.slot_count core.new h (length h)))) }
     // A core that stands for a history has nothing false.
     ensures sound { IfOk result (λ report. (h : History) (lo : ℕ) (t : Trail)

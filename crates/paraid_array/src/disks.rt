@@ -44,7 +44,8 @@ impl<R: Rack> Array<R> {
         requires going { end_of_array self.old ≡ None }
         requires epoch { (meta_of (core_of_array self.old)).epoch < worn_at }
         requires writes { (meta_of (core_of_array self.old)).writes < worn_at }
-        ensures answers { AnswersEvent R.slot_count R.slot R.told self.old self.new (FailEvent disk) (answer_of result) }
+        ensures answers { AnswersEvent R.slot_count R.slot R.told self.old self.new
+            (FailEvent disk) (answer_of result) }
     {
         let gear = self.core.meta().gear;
         match take_out(&mut self.core, disk) {
@@ -62,7 +63,8 @@ impl<R: Rack> Array<R> {
         requires going { end_of_array self.old ≡ None }
         requires epoch { (meta_of (core_of_array self.old)).epoch < worn_at }
         requires writes { (meta_of (core_of_array self.old)).writes < worn_at }
-        ensures answers { AnswersEvent R.slot_count R.slot R.told self.old self.new (ReplaceEvent disk) (answer_of result) }
+        ensures answers { AnswersEvent R.slot_count R.slot R.told self.old self.new
+            (ReplaceEvent disk) (answer_of result) }
     {
         let gear = self.core.meta().gear;
         match replace(&mut self.core, disk) {
@@ -78,7 +80,8 @@ impl<R: Rack> Array<R> {
     /// Answers that a disk is to be taken out.
     pub fn fail(&mut self, disk: u32) -> Brief
         requires going { halt_of_array self.old ≡ None }
-        ensures answers { AnswersEvent R.slot_count R.slot R.told self.old self.new (FailEvent disk) (answer_of result) }
+        ensures answers { AnswersEvent R.slot_count R.slot R.told self.old self.new
+            (FailEvent disk) (answer_of result) }
     {
         if let Some(count) = self.worn() {
             return Brief::Halted(self.wear_out(count));
@@ -92,7 +95,8 @@ impl<R: Rack> Array<R> {
     /// Answers that a disk is to be replaced.
     pub fn replace(&mut self, disk: u32) -> Brief
         requires going { halt_of_array self.old ≡ None }
-        ensures answers { AnswersEvent R.slot_count R.slot R.told self.old self.new (ReplaceEvent disk) (answer_of result) }
+        ensures answers { AnswersEvent R.slot_count R.slot R.told self.old self.new
+            (ReplaceEvent disk) (answer_of result) }
     {
         if let Some(count) = self.worn() {
             return Brief::Halted(self.wear_out(count));

@@ -43,7 +43,8 @@ fn disks_with(meta: &Meta, power: Power) -> u8
 
 /// Counts what all disks use between two ticks.
 pub(crate) fn count_disks(ledger: &mut Ledger, meta: &Meta)
-    ensures { ledger.new ≡ after_tick ledger.old (count_with meta.now Spinning) (count_with meta.now Parked) }
+    ensures { ledger.new
+        ≡ after_tick ledger.old (count_with meta.now Spinning) (count_with meta.now Parked) }
 {
     let spinning = disks_with(meta, Power::Spinning);
     let parked = disks_with(meta, Power::Parked);

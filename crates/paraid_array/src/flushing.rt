@@ -26,7 +26,8 @@ impl<R: Rack> Array<R> {
         requires going { end_of_array self.old ≡ None }
         requires epoch { (meta_of (core_of_array self.old)).epoch < worn_at }
         requires writes { (meta_of (core_of_array self.old)).writes < worn_at }
-        ensures answers { AnswersEvent R.slot_count R.slot R.told self.old self.new FlushEvent (answer_to_flush result) }
+        ensures answers { AnswersEvent R.slot_count R.slot R.told self.old self.new FlushEvent
+            (answer_to_flush result) }
     {
         let gear = self.core.meta().gear;
         let writes = self.core.meta().writes;
@@ -40,11 +41,14 @@ impl<R: Rack> Array<R> {
         }
     }
 
-    /// Keeps all writes that were accepted, and gives their number. Where nothing is staged it makes no call.
+    /// Keeps all writes that were accepted, and gives their number. Where nothing is staged it
+    /// makes no call.
     pub fn flush(&mut self) -> Result<u64, Halt>
         requires going { halt_of_array self.old ≡ None }
-        ensures idle { batch_of (core_of_array self.old) ≡ [] → core_of_array self.new ≡ core_of_array self.old }
-        ensures answers { AnswersEvent R.slot_count R.slot R.told self.old self.new FlushEvent (answer_to_flush result) }
+        ensures idle { batch_of (core_of_array self.old) ≡ []
+            → core_of_array self.new ≡ core_of_array self.old }
+        ensures answers { AnswersEvent R.slot_count R.slot R.told self.old self.new FlushEvent
+            (answer_to_flush result) }
     {
         if let Some(count) = self.worn() {
             let halt = self.wear_out(count);

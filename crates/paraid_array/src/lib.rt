@@ -1,5 +1,5 @@
-//! The array with gears that answers the events of a session: a core, and what is counted beside it; and
-//! the last step of its mount, from a rack that is mounted to an array that serves.
+//! The array with gears that answers the events of a session: a core, and what is counted beside
+//! it; and the last step of its mount, from a rack that is mounted to an array that serves.
 #![tactic(auto)]
 
 mod array;

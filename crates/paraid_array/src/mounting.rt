@@ -20,7 +20,8 @@ pub fn mount_array<R: Rack>(alloc: Global, rack: R) -> Result<Array<R>, MountRef
     ensures slots { IfOk result (λ array. slots_of_array array ≡ R.slot_count rack) }
     ensures later { IfOk result (λ array. (d : ℕ) → (R.slot rack d).faults
         ≤ (slot_of_array R.slot array d).faults) }
-    ensures refused_slots { IfErr result (λ refused. R.slot_count refused.rack ≡ R.slot_count rack) }
+    ensures refused_slots { IfErr result (λ refused.
+        R.slot_count refused.rack ≡ R.slot_count rack) }
     ensures refused_later { IfErr result (λ refused. (d : ℕ) → (R.slot rack d).faults
         ≤ (R.slot refused.rack d).faults) }
     ensures nothing { IfOk result HasNothingStaged }

@@ -34,7 +34,8 @@ impl<R: Rack> Array<R> {
 
     /// Its gear, after a halt that before it.
     pub fn gear(&self) -> u8
-        ensures point { (p : Point) → ArrayStandsAt R.slot_count R.told self.now p → result ≡ p.state.gear }
+        ensures point { (p : Point)
+            → ArrayStandsAt R.slot_count R.told self.now p → result ≡ p.state.gear }
         // Over every rack it is what is seen.
         ensures shown { result ≡ (shown_of_array R.slot self.now).gear }
     {
@@ -66,7 +67,8 @@ impl<R: Rack> Array<R> {
         ensures point { (p : Point) → ArrayStandsAt R.slot_count R.told self.now p
             → result ≡ state_status (setup_of_array self.now) (length p.history) p.state }
         // Over every rack it is that of the meta and the dirty cells.
-        ensures shown { result ≡ state_status (setup_of_array self.now) (meta_of (core_of_array self.now)).writes
+        ensures shown { result
+            ≡ state_status (setup_of_array self.now) (meta_of (core_of_array self.now)).writes
             (state_shown (shown_of_array R.slot self.now)) }
     {
         let meta = self.core.meta();
@@ -89,7 +91,8 @@ impl<R: Rack> Array<R> {
     /// Tells the state.
     pub(crate) fn tell_state(&self, beside: &mut Beside) -> Answered
         requires going { halt_of_array self.now ≡ None }
-        ensures answers { AnswersEvent R.slot_count R.slot R.told self.now self.now AskState (answer_with result beside.new) }
+        ensures answers { AnswersEvent R.slot_count R.slot R.told self.now self.now AskState
+            (answer_with result beside.new) }
     {
         beside.status = self.status();
         Answered::State {
@@ -100,7 +103,8 @@ impl<R: Rack> Array<R> {
     /// Tells the energy since the mount.
     pub(crate) fn tell_energy(&self) -> Brief
         requires going { halt_of_array self.now ≡ None }
-        ensures answers { AnswersEvent R.slot_count R.slot R.told self.now self.now AskEnergy (answer_of result) }
+        ensures answers { AnswersEvent R.slot_count R.slot R.told self.now self.now AskEnergy
+            (answer_of result) }
     {
         Brief::Energy {
             total: self.energy(),
@@ -109,8 +113,8 @@ impl<R: Rack> Array<R> {
 
     // How many commits or writes were made, the greater of the two, where it takes no more.
     pub(crate) fn worn(&self) -> Option<u64>
-        ensures worn { IfSome result (λ count. (worn_at ≤ count)
-            × (count ≡ max (meta_of (core_of_array self.now)).epoch (meta_of (core_of_array self.now)).writes)) }
+        ensures worn { IfSome result (λ count. (worn_at ≤ count) × (count ≡ max
+            (meta_of (core_of_array self.now)).epoch (meta_of (core_of_array self.now)).writes)) }
         ensures fit { IfNone result (((meta_of (core_of_array self.now)).epoch < worn_at)
             × ((meta_of (core_of_array self.now)).writes < worn_at)) }
     {
@@ -123,7 +127,8 @@ impl<R: Rack> Array<R> {
     pub(crate) fn wear_out(&mut self, count: u64) -> Halt
         requires going { halt_of_array self.old ≡ None }
         requires many { worn_at ≤ count }
-        requires is { count ≡ max (meta_of (core_of_array self.old)).epoch (meta_of (core_of_array self.old)).writes }
+        requires is { count ≡ max
+            (meta_of (core_of_array self.old)).epoch (meta_of (core_of_array self.old)).writes }
         ensures core { core_of_array self.new ≡ core_of_array self.old }
         ensures answers { (event : EventType) → may_halt event ≡ true
             → AnswersEvent R.slot_count R.slot R.told self.old self.new event (Halted result) }

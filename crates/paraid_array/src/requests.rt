@@ -37,7 +37,8 @@ impl<R: Rack> Array<R> {
         requires epoch { (meta_of (core_of_array self.old)).epoch < worn_at }
         requires writes { (meta_of (core_of_array self.old)).writes < worn_at }
         requires block { block < block_count (setup_of_array self.old) }
-        ensures answers { AnswersEvent R.slot_count R.slot R.told self.old self.new (ReadEvent block) (answer_with result beside.new) }
+        ensures answers { AnswersEvent R.slot_count R.slot R.told self.old self.new
+            (ReadEvent block) (answer_with result beside.new) }
     {
         let gear = self.core.meta().gear;
         match self.core.read(block, &mut beside.bytes) {
@@ -58,8 +59,10 @@ impl<R: Rack> Array<R> {
         requires going { end_of_array self.old ≡ None }
         requires epoch { (meta_of (core_of_array self.old)).epoch < worn_at }
         requires writes { (meta_of (core_of_array self.old)).writes < worn_at }
-        requires blocks { All (λ (pair : ℕ × BlockType). pair.0 < block_count (setup_of_array self.old)) (pairs_of pairs.now) }
-        ensures answers { AnswersEvent R.slot_count R.slot R.told self.old self.new (WriteEvent pairs.now) (answer_of result) }
+        requires blocks { All (λ (pair : ℕ × BlockType).
+            pair.0 < block_count (setup_of_array self.old)) (pairs_of pairs.now) }
+        ensures answers { AnswersEvent R.slot_count R.slot R.told self.old self.new
+            (WriteEvent pairs.now) (answer_of result) }
     {
         let gear = self.core.meta().gear;
         let writes = self.core.meta().writes;
@@ -79,7 +82,8 @@ impl<R: Rack> Array<R> {
     /// Answers a read, whose bytes stand beside the answer.
     pub fn read(&mut self, block: BlockNo, beside: &mut Beside) -> Answered
         requires going { halt_of_array self.old ≡ None }
-        ensures answers { AnswersEvent R.slot_count R.slot R.told self.old self.new (ReadEvent block) (answer_with result beside.new) }
+        ensures answers { AnswersEvent R.slot_count R.slot R.told self.old self.new
+            (ReadEvent block) (answer_with result beside.new) }
     {
         if let Some(count) = self.worn() {
             return Answered::Brief(Brief::Halted(self.wear_out(count)));
@@ -93,7 +97,8 @@ impl<R: Rack> Array<R> {
     /// Answers a write.
     pub fn write(&mut self, pairs: &Pairs) -> Brief
         requires going { halt_of_array self.old ≡ None }
-        ensures answers { AnswersEvent R.slot_count R.slot R.told self.old self.new (WriteEvent pairs.now) (answer_of result) }
+        ensures answers { AnswersEvent R.slot_count R.slot R.told self.old self.new
+            (WriteEvent pairs.now) (answer_of result) }
     {
         if let Some(count) = self.worn() {
             return Brief::Halted(self.wear_out(count));

@@ -17,7 +17,8 @@ impl<R: Rack> Array<R> {
     // The answer to a flush.
     fn flush_told(&mut self) -> Brief
         requires going { halt_of_array self.old ≡ None }
-        ensures answers { AnswersEvent R.slot_count R.slot R.told self.old self.new FlushEvent (answer_of result) }
+        ensures answers { AnswersEvent R.slot_count R.slot R.told self.old self.new FlushEvent
+            (answer_of result) }
     {
         match self.flush() {
             Ok(writes) => Brief::Flushed { writes },
@@ -41,11 +42,13 @@ impl<R: Rack> Array<R> {
         }
     }
 
-    /// Answers what is asked for, with the pairs of a write. What stands beside the answer becomes `beside`.
+    /// Answers what is asked for, with the pairs of a write. What stands beside the answer becomes
+    /// `beside`.
     pub fn answer(&mut self, asked: Asked, pairs: &Pairs, beside: &mut Beside) -> Answered
         requires going { halt_of_array self.old ≡ None }
         requires event { event_with asked pairs.now ≢ BadEvent }
-        ensures answers { AnswersEvent R.slot_count R.slot R.told self.old self.new (event_with asked pairs.now) (answer_with result beside.new) }
+        ensures answers { AnswersEvent R.slot_count R.slot R.told self.old self.new
+            (event_with asked pairs.now) (answer_with result beside.new) }
     {
         match asked {
             Asked::Read { block } => self.read(block, beside),
@@ -82,14 +85,19 @@ impl<R: Rack> Serves for Array<R> {
 
     ghost stands = { ArrayStandsAt R.slot_count R.told };
 
-    ghost serves = { λ array going. not_double R.slot_count R.slot array.core (lengths_of array.windows) array.setup array.slots (array.serving (going_end array.ended going)) };
+    ghost serves = { λ array going.
+        not_double R.slot_count R.slot array.core (lengths_of array.windows) array.setup array.slots
+        (array.serving (going_end array.ended going)) };
 
-    ghost absent = { λ array going. absent_out R.slot_count R.slot array.core (lengths_of array.windows) array.setup array.slots (array.serving (going_end array.ended going)) };
+    ghost absent = { λ array going.
+        absent_out R.slot_count R.slot array.core (lengths_of array.windows) array.setup array.slots
+        (array.serving (going_end array.ended going)) };
 
     ghost worn = { λ array count is. (array.worn count is).0 };
 
-    ghost shows = { λ array. shown_as R.slot array (λ going. (array.serving (going_end array.ended going)).fits)
-        (λ going. all_synced R.slot array.core (array.serving (going_end array.ended going)).serving.copies_synced
+    ghost shows = { λ array. shown_as R.slot array (λ going.
+        (array.serving (going_end array.ended going)).fits) (λ going. all_synced R.slot array.core
+        (array.serving (going_end array.ended going)).serving.copies_synced
         (array.serving (going_end array.ended going)).serving.unsynced) };
 
     ghost agrees = { λ array p at. halt_at R.slot_count R.told array p at };

@@ -46,7 +46,8 @@ impl<R: Rack> Array<R> {
         requires going { end_of_array self.old ≡ None }
         requires epoch { (meta_of (core_of_array self.old)).epoch < worn_at }
         requires writes { (meta_of (core_of_array self.old)).writes < worn_at }
-        ensures answers { AnswersEvent R.slot_count R.slot R.told self.old self.new (asked_event direction) (answer_of result) }
+        ensures answers { AnswersEvent R.slot_count R.slot R.told self.old self.new
+            (asked_event direction) (answer_of result) }
     {
         let gear = self.core.meta().gear;
         match ask_shift(&mut self.core, direction) {
@@ -65,7 +66,8 @@ impl<R: Rack> Array<R> {
     /// Answers that a shift in this direction is asked for.
     pub fn ask(&mut self, direction: Direction) -> Brief
         requires going { halt_of_array self.old ≡ None }
-        ensures answers { AnswersEvent R.slot_count R.slot R.told self.old self.new (asked_event direction) (answer_of result) }
+        ensures answers { AnswersEvent R.slot_count R.slot R.told self.old self.new
+            (asked_event direction) (answer_of result) }
     {
         if let Some(count) = self.worn() {
             return Brief::Halted(self.wear_out(count));

@@ -16,12 +16,14 @@ use paraid_upkeep::advance;
 impl<R: Rack> Array<R> {
     ghost use Rattle.paraid_array.specs.Arrays.{AnswersEvent, core_of_array, end_of_array, halt_of_array};
 
-    // Counts a tick, with its sample and what the disks used since the last one, and does what is due.
+    // Counts a tick, with its sample and what the disks used since the last one, and does what is
+    // due.
     fn tick_there(&mut self) -> Brief
         requires going { end_of_array self.old ≡ None }
         requires epoch { (meta_of (core_of_array self.old)).epoch < worn_at }
         requires writes { (meta_of (core_of_array self.old)).writes < worn_at }
-        ensures answers { AnswersEvent R.slot_count R.slot R.told self.old self.new TickEvent (answer_of result) }
+        ensures answers { AnswersEvent R.slot_count R.slot R.told self.old self.new TickEvent
+            (answer_of result) }
     {
         let gear = self.core.meta().gear;
         count_disks(&mut self.ledger, self.core.meta());
@@ -48,7 +50,8 @@ impl<R: Rack> Array<R> {
     /// Answers a tick.
     pub fn tick(&mut self) -> Brief
         requires going { halt_of_array self.old ≡ None }
-        ensures answers { AnswersEvent R.slot_count R.slot R.told self.old self.new TickEvent (answer_of result) }
+        ensures answers { AnswersEvent R.slot_count R.slot R.told self.old self.new TickEvent
+            (answer_of result) }
     {
         if let Some(count) = self.worn() {
             return Brief::Halted(self.wear_out(count));

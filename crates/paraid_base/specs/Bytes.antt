@@ -26,8 +26,10 @@ length-zeros zero = refl
 length-zeros (suc n) = ap suc (length-zeros n)
 
 -- the XOR of bytes is bytes (a fact that `xor` needs)
-pub xor_bytes_small : (a b : List ℕ) → ((k : ℕ) → slice_index a k < 256) → ((k : ℕ) → slice_index b k < 256) → (k : ℕ) → slice_index (xor_bytes a b) k < 256
+pub xor_bytes_small : (a b : List ℕ) → ((k : ℕ) → slice_index a k < 256)
+    → ((k : ℕ) → slice_index b k < 256) → (k : ℕ) → slice_index (xor_bytes a b) k < 256
 xor_bytes_small [] b p q k = omega arith
 xor_bytes_small (x ∷ a) [] p q k = omega arith
 xor_bytes_small (x ∷ a) (y ∷ b) p q zero = xor_of_8 x y (p 0) (q 0)
-xor_bytes_small (x ∷ a) (y ∷ b) p q (suc k) = xor_bytes_small a b (λ i. p (suc i)) (λ i. q (suc i)) k
+xor_bytes_small (x ∷ a) (y ∷ b) p q (suc k) =
+    xor_bytes_small a b (λ i. p (suc i)) (λ i. q (suc i)) k

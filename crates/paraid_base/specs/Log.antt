@@ -1,8 +1,10 @@
--- Where the parts of a log disk's log lie, how many targets a batch may have, and where the log ends
+-- Where the parts of a log disk's log lie, how many targets a batch may have, and where the log
+-- ends
 --
--- Place 0 is the gate, place 1 the meta, place 2 the meta of a batch. Then come its list of targets,
--- the blocks for them, and behind the log the dirty map. All logs are alike today: what takes a
--- geometry does so because a longer log would be an array's own. What takes none has none at hand.
+-- Place 0 is the gate, place 1 the meta, place 2 the meta of a batch. Then come its list of
+-- targets, the blocks for them, and behind the log the dirty map. All logs are alike today: what
+-- takes a geometry does so because a longer log would be an array's own. What takes none has none
+-- at hand.
 use Rattle.std.specs.Prelude.{ℕ, ◌+◌, ◌^◌}
 use Rattle.paraid_base.specs.declared.geometry.Geometry.{Geometry}
 

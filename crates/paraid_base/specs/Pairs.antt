@@ -56,7 +56,8 @@ length-padded d (suc n) [] = ap suc (length-padded d n [])
 length-padded d (suc n) (x ∷ xs) = ap suc (length-padded d n xs)
 
 -- past the list stands what it was filled up with (a fact)
-pub get_or-padded : {X : Type 0} (d : X) (n : ℕ) (xs : List X) (k : ℕ) → length xs ≤ k → get_or (pad_to d n xs) k d ≡ d
+pub get_or-padded : {X : Type 0} (d : X) (n : ℕ) (xs : List X) (k : ℕ)
+    → length xs ≤ k → get_or (pad_to d n xs) k d ≡ d
 get_or-padded d zero xs k l = refl
 get_or-padded d (suc n) [] zero l = refl
 get_or-padded d (suc n) [] (suc k) l = get_or-padded d n [] k (omega arith)
@@ -64,9 +65,11 @@ get_or-padded d (suc n) (x ∷ xs) zero l = let no : ⊥ = omega (arith, l) in a
 get_or-padded d (suc n) (x ∷ xs) (suc k) l = get_or-padded d n xs k (omega (arith, l))
 
 -- the members past a list that is filled up to eight are the filler (a fact)
-pub eight_rest : {X : Type 0} (d : X) (xs : List X) (k : ℕ) → min 8 (length xs) ≤ k → get_or (pad_to d 8 xs) k d ≡ d
+pub eight_rest : {X : Type 0} (d : X) (xs : List X) (k : ℕ)
+    → min 8 (length xs) ≤ k → get_or (pad_to d 8 xs) k d ≡ d
 eight_rest d xs k l = elim (cases_lt k (length xs)) [
-  | inl below ↦ let long = length-padded d 8 xs in get_or_past (pad_to d 8 xs) k d (omega (arith, below, l, long))
+  | inl below ↦ let long =
+      length-padded d 8 xs in get_or_past (pad_to d 8 xs) k d (omega (arith, below, l, long))
   | inr past ↦ get_or-padded d 8 xs k past
 ]
 
@@ -81,6 +84,8 @@ pairs_with (pair ∷ pairs) = record {
   few = omega arith;
   blocks_whole = length-padded 0 8 (map (λ (p : ℕ × Block). p.0) (pair ∷ pairs));
   bytes_whole = length-padded zero_block 8 (map (λ (p : ℕ × Block). p.1) (pair ∷ pairs));
-  blocks_rest = λ k l. eight_rest 0 (map (λ (p : ℕ × Block). p.0) (pair ∷ pairs)) k (let long = length-map (pair ∷ pairs) (λ (p : ℕ × Block). p.0) in omega (arith, l, long));
-  bytes_rest = λ k l. eight_rest zero_block (map (λ (p : ℕ × Block). p.1) (pair ∷ pairs)) k (let long = length-map (pair ∷ pairs) (λ (p : ℕ × Block). p.1) in omega (arith, l, long));
+  blocks_rest = λ k l. eight_rest 0 (map (λ (p : ℕ × Block). p.0) (pair ∷ pairs)) k
+      (let long = length-map (pair ∷ pairs) (λ (p : ℕ × Block). p.0) in omega (arith, l, long));
+  bytes_rest = λ k l. eight_rest zero_block (map (λ (p : ℕ × Block). p.1) (pair ∷ pairs)) k
+      (let long = length-map (pair ∷ pairs) (λ (p : ℕ × Block). p.1) in omega (arith, l, long));
 }

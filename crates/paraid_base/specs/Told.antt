@@ -5,8 +5,8 @@ use Rattle.std.specs.Prelude.{◌≡◌, ℕ, ◌<◌, ◌≤◌, ◌-◌, ◌^�
 abbrev pub told_bytes : Option (List ℕ) → List ℕ
 told_bytes o = unwrap_or o []
 
--- What was left is this piece and what is left now. What is told now was told before. (Where nothing is told now, this holds
--- of any piece.)
+-- What was left is this piece and what is left now. What is told now was told before. (Where
+-- nothing is told now, this holds of any piece.)
 pub record Gives (old new : Option (List ℕ)) (piece : List ℕ) : Type 0 where
   pub before : IsSome new → IsSome old
   pub bytes : IsSome new → told_bytes old ≡ piece ++ told_bytes new
@@ -20,6 +20,7 @@ pub record GrowsByBytes (old new : Option (List ℕ)) (piece : List ℕ) : Type 
 abbrev pub AtEnd : Option (List ℕ) → Type 0
 AtEnd left = IsSome left → told_bytes left ≡ []
 
--- A count of faults has risen: it is greater, or it stands at the end of its type, where it can rise no more.
+-- A count of faults has risen: it is greater, or it stands at the end of its type, where it can
+-- rise no more.
 pub record HasRisen (before now : ℕ) : Type 0 where
   pub risen : (before < now) ⊎ (2 ^ 64 - 1 ≤ now)

@@ -10,4 +10,9 @@ zero_block = record { bytes = replicate 512 0; whole = length-zeros 512; small =
 
 -- the XOR of two blocks
 unfoldable pub xor : Block → Block → Block
-xor a b = record { bytes = xor_bytes a.bytes b.bytes; whole = length-xor_bytes a.bytes b.bytes (a.whole ∙ sym b.whole) ∙ a.whole; small = xor_bytes_small a.bytes b.bytes a.small b.small }
+xor a b = record {
+  bytes = xor_bytes a.bytes b.bytes;
+  whole = length-xor_bytes a.bytes b.bytes
+      (a.whole ∙ sym b.whole) ∙ a.whole;
+  small = xor_bytes_small a.bytes b.bytes a.small b.small;
+}

@@ -48,7 +48,8 @@ impl Geometry {
     /// number of disks.
     pub fn new(disks: u8, rows: u32, gears: &[u8]) -> Result<Geometry, GeoFault>
         ensures numbers { IfOk result (λ g. (g.disks ≡ disks) × (g.rows ≡ rows)) }
-        ensures gears { IfOk result (λ g. IsGearList disks gears.now × AreFlagsOf gears.now (length gears.now) g.gears) }
+        ensures gears { IfOk result (λ g. IsGearList disks gears.now
+            × AreFlagsOf gears.now (length gears.now) g.gears) }
         ensures err { IfErr result (IsGeoFault disks rows gears.now) }
     {
         if disks < 3 || disks > 8 {

@@ -14,8 +14,8 @@ pub fn pairs_decide_a_value()
     ensures value { (e : Entry) → 1 ≤ length e → length e ≤ 8 → pairs_of (pairs_with e) ≡ e }
 {}
 
-/// A log is the gate, two metas, the lists of a batch and their blocks, in this order, and the dirty
-/// map starts behind it: each list has 96 targets, and no two things have one place.
+/// A log is the gate, two metas, the lists of a batch and their blocks, in this order, and the
+/// dirty map starts behind it: each list has 96 targets, and no two things have one place.
 pub fn log_lies_before_map(g: &Geometry)
     ensures start { map_start g.now ≡ 3 + 97 * log_groups g.now }
     ensures least { log_least ≤ map_start g.now }

@@ -164,10 +164,11 @@ pub enum TickEvent {
     Rebuilt { disk: DiskNo },
     /// The disk that was being rebuilt failed again.
     Gone { disk: DiskNo },
-    /// This disk was lost in a shift. A shift up goes on once it is rebuilt; a shift down is given up.
+    /// This disk was lost in a shift. A shift up goes on once it is rebuilt; a shift down is given
+    /// up.
     Lost { disk: DiskNo },
-    /// A shift down was due and did not begin: it would park this disk, which has used up its allowance
-    /// of spin-ups.
+    /// A shift down was due and did not begin: it would park this disk, which has used up its
+    /// allowance of spin-ups.
     Ration { disk: DiskNo },
 }
 

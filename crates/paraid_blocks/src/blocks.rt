@@ -56,8 +56,9 @@ pub trait Blocks {
             → into.new ≡ after_all h block) }
         ensures history { (h : History) → stands self.old h → IsTrue (tells self.new)
             → AfterRead (stands self.new) h result }
-        ensures events { (first : Self) (events : Answers) → kept first self.old events
-            → kept first self.new (events ++ (Read block, answer_to_read block into.new result) ∷ []) };
+        ensures events { (first : Self) (events : Answers)
+            → kept first self.old events → kept first self.new
+            (events ++ (Read block, answer_to_read block into.new result) ∷ []) };
 
     /// Writes one to eight blocks, all or none of them. Ok gives the number of this write, from 1:
     /// the length of the history with it. Of blocks that do not exist the first is named. After
@@ -92,14 +93,15 @@ pub trait Blocks {
         ensures told { IsTrue (tells self.new) → IsTrue (tells self.old) }
         ensures history { (h : History) → stands self.old h → IsTrue (tells self.new)
             → AfterWrite (stands self.new) h ((block, bytes.now) ∷ []) result }
-        ensures events { (first : Self) (events : Answers) → kept first self.old events
-            → kept first self.new (events ++ (Write (single_pair block bytes.now), answer_to_write result) ∷ []) }
+        ensures events { (first : Self) (events : Answers)
+            → kept first self.old events → kept first self.new
+            (events ++ (Write (single_pair block bytes.now), answer_to_write result) ∷ []) }
     {
         self.write_many(&Pairs::one(block, bytes))
     }
 
-    /// Asks that all writes which were accepted be kept. Ok gives their number. What a stop may still take
-    /// away once this is answered is for `kept` of each device to say.
+    /// Asks that all writes which were accepted be kept. Ok gives their number. What a stop may
+    /// still take away once this is answered is for `kept` of each device to say.
     fn flush(&mut self) -> Result<u64, Halt>
         ensures size { block_count self.new ≡ block_count self.old }
 

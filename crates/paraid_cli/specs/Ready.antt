@@ -6,7 +6,8 @@ use Rattle.paraid_imgrack.specs.Looks.{images_of, IsFitting, IsUnhindered, IsAsO
 use Rattle.paraid_words.specs.declared.command.Command.{Command}
 use Rattle.paraid_words.specs.declared.command.Command.TheVariants.{Format, Run, Spare, Status, Check, Gen, Nbd, Vol, Plan}
 
--- all slots are there and look as their images were opened, and each disk that is there can be served
+-- all slots are there and look as their images were opened, and each disk that is there can be
+-- served
 pub record IsWhole {F : Type 0} (rack : ImageRack F) : Type 0 where
   pub slots : length (images_of rack) ≡ 8
   pub opened : IsAsOpened rack
@@ -17,8 +18,8 @@ pub record IsSound {F : Type 0} (rack : ImageRack F) : Type 0 where
   pub whole : IsWhole rack
   pub fitting : IsFitting rack
 
--- A new array is made only where it may be or, if that is forced, over a whole rack; all else needs images that are of their slots. At
--- the program, `free` says no more than that there are eight.
+-- A new array is made only where it may be or, if that is forced, over a whole rack; all else needs
+-- images that are of their slots. At the program, `free` says no more than that there are eight.
 abbrev pub IsReady : {F : Type 0} → (List Image → Type 0) → Command → ImageRack F → Type 0
 IsReady free (Format false) rack = free (images_of rack)
 IsReady free (Format true) rack = IsWhole rack

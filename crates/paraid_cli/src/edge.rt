@@ -28,8 +28,8 @@ impl<R: Files<File = File> + AllocGlobal + Input + Print + Eprint> Host for R {}
 
 /// The folder, open three times.
 ///
-/// The number of a closed stream goes to the next file that is opened. That is to be no image, so it
-/// is the folder, which can be neither read nor written.
+/// The number of a closed stream goes to the next file that is opened. That is to be no image, so
+/// it is the folder, which can be neither read nor written.
 #[derive(Drop)]
 struct Folder {
     first: File,

@@ -1,8 +1,8 @@
 //! What the edge hands a command to.
 //!
-//! That a command has ended, and that a new array may be made, are known of it by its answers alone:
-//! so no other code can give a status in its place, and none can leave a look at the images out. It is
-//! given away with the words. So what it has served ends as it says, and it serves once.
+//! That a command has ended, and that a new array may be made, are known of it by its answers
+//! alone: so no other code can give a status in its place, and none can leave a look at the images
+//! out. It is given away with the words. So what it has served ends as it says, and it serves once.
 ghost use Rattle.std.specs.Prelude.{◌≡◌, ℕ, List, Some, IfErr, IfOk, IfNone, map, string_bytes};
 ghost use Rattle.paraid_cli.specs.Ready.{IsReady, IsWhole};
 ghost use Rattle.paraid_imgrack.specs.Looks.{images_of};
@@ -16,7 +16,8 @@ use paraid_base::DiskNo;
 use paraid_imgrack::{Claim, Closed, ImageRack};
 use paraid_program::Ended;
 
-/// The program over image files. It comes back only where there was no memory and it has done nothing.
+/// The program over image files. It comes back only where there was no memory and it has done
+/// nothing.
 pub(crate) trait Program<F>: Sized {
     /// This command was served with this rack and ended with this status.
     ghost ended: { Self → RackType F → CommandType → ℕ → Type 0 };
@@ -39,7 +40,8 @@ pub(crate) trait Program<F>: Sized {
         requires { IsWhole rack.old }
         ensures { IfNone result (free self.now (images_of rack.new)) };
 
-    /// Does the command that the words ask for. No call is made on the rack before it, and none after.
+    /// Does the command that the words ask for. No call is made on the rack before it, and none
+    /// after.
     fn serve(
         self,
         words: &Vec<String>,

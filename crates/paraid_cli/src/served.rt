@@ -1,7 +1,8 @@
-//! The program over a rack whose writes are gathered. All that it wrote is in the files when it returns.
+//! The program over a rack whose writes are gathered. All that it wrote is in the files when it
+//! returns.
 //!
-//! Rack and streams come sealed and go shut: here alone they are opened, and whichever they are. So no
-//! call is made on them but those of which the contract tells, none before and none after.
+//! Rack and streams come sealed and go shut: here alone they are opened, and whichever they are. So
+//! no call is made on them but those of which the contract tells, none before and none after.
 ghost use Rattle.std.specs.Prelude.{◌≡◌, IfErr, IfOk, Some, map, string_bytes};
 ghost use Rattle.paraid_cli.specs.CommandEnd.{EndsCommand};
 ghost use Rattle.paraid_gather.specs.Above.{told_above};
@@ -48,7 +49,8 @@ impl<F: Files<File = File> + Drop> Shut<ImageRack<F>> {
     }
 }
 
-/// What a command has left: its status, the streams, the rack, in which all is written, and the log.
+/// What a command has left: its status, the streams, the rack, in which all is written, and the
+/// log.
 #[derive(Drop)]
 pub(crate) struct Served<S, K, R, L> {
     pub(crate) status: u8,
@@ -58,9 +60,9 @@ pub(crate) struct Served<S, K, R, L> {
     pub(crate) log: L,
 }
 
-/// Hands the program these streams and this rack, whose writes are gathered, and notes its calls in the
-/// log, which begins with the record that the rack has. Only where there is no memory do the streams
-/// come back as they were.
+/// Hands the program these streams and this rack, whose writes are gathered, and notes its calls in
+/// the log, which begins with the record that the rack has. Only where there is no memory do the
+/// streams come back as they were.
 pub(crate) fn serve_gathered<S: Source + Drop, K: Sink + Drop, R: BulkRack + Drop, L: Noted + Drop>(
     alloc: Global,
     words: &Vec<String>,
@@ -70,7 +72,8 @@ pub(crate) fn serve_gathered<S: Source + Drop, K: Sink + Drop, R: BulkRack + Dro
     log: L,
 ) -> Result<Served<S, K, R, L>, (Sealed<S>, Sealed<K>)>
     requires begun { (t : Trail) → L.noted log ≡ Some t → R.told rack.inside ≡ Some t }
-    ensures told { IfOk result (λ served. (c : CommandType) → AskFor c (map string_bytes words.now.items)
+    ensures told { IfOk result (λ served. (c : CommandType)
+        → AskFor c (map string_bytes words.now.items)
         → EndsCommand (R.slot_count rack.inside) (R.slot rack.inside) (R.slot served.rack.inside)
         (told_above (R.told rack.inside) (L.noted log)) (R.told served.rack.inside)
         (L.noted served.log) (source_use S.left S.faults source.inside served.source.inside)
@@ -79,7 +82,8 @@ pub(crate) fn serve_gathered<S: Source + Drop, K: Sink + Drop, R: BulkRack + Dro
         → AskFor c (map string_bytes words.now.items) → ⊥)
         → EndsWithLine (K.written sink.inside) (K.written served.sink.inside) usage_line
         status_words served.status) }
-    // A source that the command does not read stays as it was, and so it does where no command is asked for.
+    // A source that the command does not read stays as it was, and so it does where no command is
+    // asked for.
     ensures unread { IfOk result (λ served. (c : CommandType) → (ReadsSource c → ⊥)
         → AskFor c (map string_bytes words.now.items) → served.source.inside ≡ source.inside) }
     ensures unasked { IfOk result (λ served. ((c : CommandType)

@@ -27,7 +27,8 @@ pub(crate) struct Paraid<S, K> {
 impl<F: Files<File = File> + Drop, S: Source + Drop, K: Sink + Drop> Program<F> for Paraid<S, K> {
     ghost use Rattle.std.specs.Prelude.{length};
 
-    ghost ended = { λ program rack c status. EndsOverImages (source_use S.left S.faults program.source.inside) (sink_use K.written K.faults program.sink.inside) program.source.inside rack c status };
+    ghost ended = { λ program rack c status. EndsOverImages (source_use S.left S.faults program.source.inside)
+        (sink_use K.written K.faults program.sink.inside) program.source.inside rack c status };
 
     // (what the files hold is told by no clause)
     ghost free = { λ program images. length images ≡ 8 };
@@ -84,8 +85,8 @@ impl<F: Files<File = File> + Drop, S: Source + Drop, K: Sink + Drop> Program<F> 
     ) -> Result<Ended<Closed<F>>, Self>
         ensures status { IfOk result (λ end. (c : CommandType)
             → AskFor c (map string_bytes words.now.items)
-            → EndsOverImages (source_use S.left S.faults self.source.inside)
-            (sink_use K.written K.faults self.sink.inside) self.source.inside rack.inside c end.status) }
+            → EndsOverImages (source_use S.left S.faults self.source.inside) (sink_use
+            K.written K.faults self.sink.inside) self.source.inside rack.inside c end.status) }
         ensures none { IfErr result (λ left. left ≡ self) }
     {
         let Paraid {

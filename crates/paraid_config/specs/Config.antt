@@ -54,7 +54,8 @@ pub record IsGeometryFault (document : Members) (fault : GeoFault) : Type 0 wher
 
 -- why a document is refused; want of memory has no cause in it
 abbrev pub IsDocumentFault : Members → ConfigFault → Type 0
-IsDocumentFault document (Geometry fault) = (document_fault document ≡ None) × IsGeometryFault document fault
+IsDocumentFault document (Geometry fault) =
+    (document_fault document ≡ None) × IsGeometryFault document fault
 IsDocumentFault document fault = IsFaultOf (document_fault document) fault
 
 -- the geometry of a document

@@ -25,7 +25,8 @@ key_name SpinupMj = codes "spinup_mj"
 
 -- every key, in the order in which their values are tested
 abbrev pub all_keys : List Key
-all_keys = Disks ∷ Rows ∷ Gears ∷ Mode ∷ Rate ∷ Service ∷ Up ∷ Down ∷ Windows ∷ Ration ∷ Burst ∷ Period ∷ SpinningMj ∷ ParkedMj ∷ SpinupMj ∷ []
+all_keys = Disks ∷ Rows ∷ Gears ∷ Mode ∷ Rate ∷ Service
+    ∷ Up ∷ Down ∷ Windows ∷ Ration ∷ Burst ∷ Period ∷ SpinningMj ∷ ParkedMj ∷ SpinupMj ∷ []
 
 -- the least number that is accepted at a key, or in its list; a mode has none
 abbrev pub low_of : Key → ℕ
@@ -45,7 +46,8 @@ low_of SpinningMj = 0
 low_of ParkedMj = 0
 low_of SpinupMj = 0
 
--- the greatest number that is accepted at a key, or in its list; a burst is at most the ration besides
+-- the greatest number that is accepted at a key, or in its list; a burst is at most the ration
+-- besides
 abbrev pub high_of : Key → ℕ
 high_of Disks = 255
 high_of Rows = 4294967295

@@ -1,4 +1,5 @@
--- The parts of a setup, in the order in which they are read, and the causes by which each is refused
+-- The parts of a setup, in the order in which they are read, and the causes by which each is
+-- refused
 use Rattle.std.specs.Prelude.{◌≡◌, ◌⊎◌, ◌≤◌, List, [], ◌∷◌, Option, Some, None}
 use Rattle.toml.specs.Data.{Members, string}
 use Rattle.paraid_record.specs.Range.{Within, AreWindows}
@@ -18,20 +19,24 @@ pub record IsFirstFault (faults : List (Option ConfigFault)) (f : ConfigFault) :
 
 -- the tests of the number of disks, of the rows and of the gears
 abbrev pub shape_faults : Members → List (Option ConfigFault)
-shape_faults document = number_fault document Disks ∷ number_fault document Rows ∷ list_fault document Gears 0 8 ∷ []
+shape_faults document =
+    number_fault document Disks ∷ number_fault document Rows ∷ list_fault document Gears 0 8 ∷ []
 
 -- those of the mode, of the rate, and of the loads at which gears shift
 abbrev pub pace_faults : Members → List (Option ConfigFault)
 pace_faults document =
-    mode_fault document ∷ number_fault document Rate ∷ number_fault document Service ∷ number_fault document Up ∷ number_fault document Down ∷ []
+    mode_fault document ∷ number_fault document Rate
+    ∷ number_fault document Service ∷ number_fault document Up ∷ number_fault document Down ∷ []
 
 -- those of the windows, of the ration, of the burst and of the period
 abbrev pub wear_faults : Members → List (Option ConfigFault)
-wear_faults document = list_fault document Windows 1 3 ∷ number_fault document Ration ∷ burst_fault document ∷ period_fault document ∷ []
+wear_faults document = list_fault document Windows 1 3
+    ∷ number_fault document Ration ∷ burst_fault document ∷ period_fault document ∷ []
 
 -- those of the energies
 abbrev pub energy_faults : Members → List (Option ConfigFault)
-energy_faults document = number_fault document SpinningMj ∷ number_fault document ParkedMj ∷ number_fault document SpinupMj ∷ []
+energy_faults document = number_fault document SpinningMj
+    ∷ number_fault document ParkedMj ∷ number_fault document SpinupMj ∷ []
 
 -- how many disks and rows there are, and the gears, as the document says them
 pub record IsShapeOf (document : Members) (s : Shape) : Type 0 where
@@ -53,7 +58,8 @@ pub record IsPaceOf (document : Members) (p : Pace) : Type 0 where
   pub down : Within 1 100 p.down
   pub accepted : first_fault (pace_faults document) ≡ None
 
--- the windows and the ration, as the document says them; where it says no burst, it is the ration, and where no period, it is 1
+-- the windows and the ration, as the document says them; where it says no burst, it is the ration,
+-- and where no period, it is 1
 pub record IsWearOf (document : Members) (w : Wear) : Type 0 where
   pub windows_at : AreWindowsOf document w.windows
   pub ration_at : IsNumberAt document Ration w.ration

@@ -50,11 +50,13 @@ number_in _ = 0
 
 -- a burst is at most the ration
 abbrev pub burst_fault : Members → Option ConfigFault
-burst_fault document = optional_fault_in key.Burst (number_in (value_at document key.Ration)) (value_at document key.Burst)
+burst_fault document = optional_fault_in key.Burst
+    (number_in (value_at document key.Ration)) (value_at document key.Burst)
 
 -- why the period is refused, if it is
 abbrev pub period_fault : Members → Option ConfigFault
-period_fault document = optional_fault_in key.Period (high_of key.Period) (value_at document key.Period)
+period_fault document =
+    optional_fault_in key.Period (high_of key.Period) (value_at document key.Period)
 
 -- the integers of a list that has nothing else
 abbrev pub integers_of : Items → Option (List ℤ)
@@ -76,7 +78,8 @@ member_fault k zs = first_fault (map (range_fault k) zs)
 abbrev pub members_fault : Key → ℕ → ℕ → Option (List ℤ) → Option ConfigFault
 members_fault k few many None = Some (Kind k)
 members_fault k few many (Some zs) =
-    if nat_le few (length zs) && nat_le (length zs) many then member_fault k zs else Some (Range k (pos (length zs)))
+    if nat_le few (length zs) && nat_le (length zs) many
+    then member_fault k zs else Some (Range k (pos (length zs)))
 
 -- a list of `few` to `many` integers is asked for
 abbrev pub list_fault_in : Key → ℕ → ℕ → Option Data → Option ConfigFault
@@ -84,8 +87,8 @@ list_fault_in k few many None = Some (Missing k)
 list_fault_in k few many (Some (array ds)) = members_fault k few many (integers_of ds)
 list_fault_in k few many (Some _) = Some (Kind k)
 
--- why the list at a key is refused, if it is: the number of its members, then the first member out of
--- range
+-- why the list at a key is refused, if it is: the number of its members, then the first member out
+-- of range
 abbrev pub list_fault : Members → Key → ℕ → ℕ → Option ConfigFault
 list_fault document k few many = list_fault_in k few many (value_at document k)
 
@@ -98,7 +101,8 @@ mode_name Access = codes "access"
 abbrev pub mode_fault_in : Option Data → Option ConfigFault
 mode_fault_in None = Some (Missing key.Mode)
 mode_fault_in (Some (string s)) =
-    if bytes_eq s (mode_name Whole) || bytes_eq s (mode_name Access) then None else Some (Kind key.Mode)
+    if bytes_eq s (mode_name Whole) || bytes_eq s (mode_name Access)
+    then None else Some (Kind key.Mode)
 mode_fault_in (Some _) = Some (Kind key.Mode)
 
 -- why the mode is refused, if it is
@@ -116,7 +120,8 @@ IsNumberAt document k n = value_at document k ≡ Some (integer (pos n))
 
 -- the number at a key, or this one where nothing is there
 abbrev pub IsNumberOr : Members → Key → ℕ → ℕ → Type 0
-IsNumberOr document k absent n = IsNumberAt document k n ⊎ ((value_at document k ≡ None) × (n ≡ absent))
+IsNumberOr document k absent n =
+    IsNumberAt document k n ⊎ ((value_at document k ≡ None) × (n ≡ absent))
 
 -- the list of numbers at a key
 abbrev pub IsListAt : Members → Key → List ℕ → Type 0

@@ -65,8 +65,8 @@ impl Key {
         }
     }
 
-    /// The least and the greatest number at the key, or in its list. A mode has none, and a burst is
-    /// at most the ration besides.
+    /// The least and the greatest number at the key, or in its list. A mode has none, and a burst
+    /// is at most the ration besides.
     pub(crate) fn limits(self) -> (u32, u32)
         ensures low { result.0 ≡ low_of self }
         ensures high { result.1 ≡ high_of self }

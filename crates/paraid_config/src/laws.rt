@@ -7,6 +7,6 @@ ghost use Rattle.paraid_record.specs.declared.meta.Setup.{Setup};
 
 /// A text that says a setup is refused for nothing but want of memory.
 pub fn a_configuration_is_not_refused()
-    ensures { (text : List ℕ) (setup : Setup) (fault : ConfigFaultType) → IsConfigurationOf text setup
-        → fault ≢ NoMemory → IsConfigRefusal text fault → ⊥ }
+    ensures { (text : List ℕ) (setup : Setup) (fault : ConfigFaultType)
+        → IsConfigurationOf text setup → fault ≢ NoMemory → IsConfigRefusal text fault → ⊥ }
 {}

@@ -16,7 +16,8 @@ use toml::{Table, Value};
 
 /// The members of a list of integers.
 fn integers(alloc: Global, key: Key, items: &[Value]) -> Result<Vec<i64>, ConfigFault>
-    ensures value { IfOk result (λ members. integers_of (items_view items.now) ≡ Some members.items) }
+    ensures value { IfOk result (λ members.
+        integers_of (items_view items.now) ≡ Some members.items) }
     ensures err { IfErr result (λ fault. (few many : ℕ)
         → IsFaultOf (members_fault key few many (integers_of (items_view items.now))) fault) }
 {
@@ -121,7 +122,8 @@ fn bytes_of(alloc: Global, numbers: &[u16]) -> Result<Vec<u8>, ConfigFault>
 
 /// The gears at their key: at most eight numbers.
 pub fn gears(alloc: Global, table: &Table) -> Result<Vec<u8>, ConfigFault>
-    ensures value { IfOk result (λ gears. IsListAt (table_view table.now) key_of.Gears gears.items) }
+    ensures value { IfOk result (λ gears.
+        IsListAt (table_view table.now) key_of.Gears gears.items) }
     ensures count { IfOk result (λ gears. length gears.items ≤ 8) }
     ensures accepted { OnOk result (list_fault (table_view table.now) key_of.Gears 0 8 ≡ None) }
     ensures err { IfErr result (IsFaultOf (list_fault (table_view table.now) key_of.Gears 0 8)) }

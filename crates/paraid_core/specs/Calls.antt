@@ -26,13 +26,13 @@ IsPastLog (Park d done) = ⊥
 IsPastLog (SpinUp d done) = ⊥
 IsPastLog (Attach d size done) = ⊥
 
--- A call between two commits: it is on one of the first `n` disks, on none that is gone, and writes no
--- block of the log.
+-- A call between two commits: it is on one of the first `n` disks, on none that is gone, and writes
+-- no block of the log.
 abbrev pub IsDataCall : ℕ → Option ℕ → Call → Type 0
 IsDataCall n gone c = (disk_of c < n) × (gone ≢ Some (disk_of c)) × IsPastLog c
 
--- A call of a commit, or between two: it reads, writes or syncs one of the first `n` disks, and none that
--- is gone.
+-- A call of a commit, or between two: it reads, writes or syncs one of the first `n` disks, and
+-- none that is gone.
 abbrev pub IsTransferCall : ℕ → Option ℕ → Call → Type 0
 IsTransferCall n gone c = (disk_of c < n) × (gone ≢ Some (disk_of c)) × IsTransfer c
 
@@ -49,34 +49,41 @@ IsCopySync n copied (Attach d size done) = ⊥
 abbrev pub IsOneCall : (Bool → Call) → Disks → List Call → Type 0
 IsOneCall call s cs = (done : Bool) × (cs ≡ call done ∷ []) × IsLawful s (call done)
 
--- Each call that was made is lawful by the power of its disk, and one between two commits: on a disk of the array that
--- is not gone by the core's meta.
+-- Each call that was made is lawful by the power of its disk, and one between two commits: on a
+-- disk of the array that is not gone by the core's meta.
 abbrev pub MakesDataCalls : {R : Type 0} {g : _} → (R → Option Trail) → Core R g → Core R g → Type 0
 MakesDataCalls told old new = Ran (told (store_rack old.store)) (told (store_rack new.store))
     (EachCall (IsDataCall old.meta.setup.geometry.disks (gone_out old.meta.out)))
 
 -- the same of a call that may commit
-abbrev pub MakesTransferCalls : {R : Type 0} {g : _} → (R → Option Trail) → Core R g → Core R g → Type 0
+abbrev pub MakesTransferCalls : {R : Type 0} {g : _}
+    → (R → Option Trail) → Core R g → Core R g → Type 0
 MakesTransferCalls told old new = Ran (told (store_rack old.store)) (told (store_rack new.store))
     (EachCall (IsTransferCall old.meta.setup.geometry.disks (gone_out old.meta.out)))
 
 -- it makes this one call
-abbrev pub MakesOneCall : {R : Type 0} {g : _} → (R → Option Trail) → (Bool → Call) → Core R g → Core R g → Type 0
-MakesOneCall told call old new = Ran (told (store_rack old.store)) (told (store_rack new.store)) (IsOneCall call)
+abbrev pub MakesOneCall : {R : Type 0} {g : _}
+    → (R → Option Trail) → (Bool → Call) → Core R g → Core R g → Type 0
+MakesOneCall told call old new =
+    Ran (told (store_rack old.store)) (told (store_rack new.store)) (IsOneCall call)
 
 -- each of its calls syncs a disk to which copies went
 abbrev pub MakesCopySyncs : {R : Type 0} {g : _} → (R → Option Trail) → Core R g → Core R g → Type 0
 MakesCopySyncs told old new = Ran (told (store_rack old.store)) (told (store_rack new.store))
     (EachCall (IsCopySync old.meta.setup.geometry.disks old.copied))
 
--- At each moment each image stands for what the last commit left, or for that with all that is staged laid over, under the
--- core's meta with the next epoch.
-abbrev pub CommitsWhole : {R : Type 0} {g : _} → (R → ℕ) → (R → Option Trail) → Core R g → Core R g → Type 0
-CommitsWhole count told old new = (h : History) (lo : ℕ) → Ran (told (store_rack old.store)) (told (store_rack new.store))
-    (λ start calls. (k : CoreStandsFor count old h lo start)
-    → Through (IsOldOrNew start k.base (record old.meta { epoch = old.meta.epoch + 1 }) old.batch) start calls)
+-- At each moment each image stands for what the last commit left, or for that with all that is
+-- staged laid over, under the core's meta with the next epoch.
+abbrev pub CommitsWhole : {R : Type 0} {g : _}
+    → (R → ℕ) → (R → Option Trail) → Core R g → Core R g → Type 0
+CommitsWhole count told old new = (h : History) (lo : ℕ)
+    → Ran (told (store_rack old.store)) (told (store_rack new.store)) (λ start calls.
+    (k : CoreStandsFor count old h lo start) → Through (IsOldOrNew start k.base
+    (record old.meta { epoch = old.meta.epoch + 1 }) old.batch) start calls)
 
 -- After it the disks are at rest under the core's meta with the next epoch.
-abbrev pub RestsCommitted : {R : Type 0} {g : _} → (R → ℕ) → (R → Option Trail) → Core R g → Core R g → Type 0
-RestsCommitted count told old new = (h : History) (lo : ℕ) → Ran (told (store_rack old.store)) (told (store_rack new.store))
-    (λ start calls. CoreStandsFor count old h lo start → IsAtRest (run start calls) (record old.meta { epoch = old.meta.epoch + 1 }))
+abbrev pub RestsCommitted : {R : Type 0} {g : _}
+    → (R → ℕ) → (R → Option Trail) → Core R g → Core R g → Type 0
+RestsCommitted count told old new = (h : History) (lo : ℕ) → Ran (told (store_rack old.store))
+    (told (store_rack new.store)) (λ start calls. CoreStandsFor count old h lo start
+    → IsAtRest (run start calls) (record old.meta { epoch = old.meta.epoch + 1 }))

@@ -25,7 +25,8 @@ use Rattle.paraid_core.specs.Taken.{AreApart}
 
 -- While no disk is missing but this one, by what is named or absent, each stop leaves a first part
 -- of `h` that has at least `lo` writes.
-pub record IsHeldWithOneMissing (slots n : ℕ) (named : Option ℕ) (h : History) (lo : ℕ) (s : Disks) : Type 0 where
+pub record IsHeldWithOneMissing
+    (slots n : ℕ) (named : Option ℕ) (h : History) (lo : ℕ) (s : Disks) : Type 0 where
   pub held : (down : Option ℕ) → ((d : ℕ) → d < n → is_present (s.power d) ≡ false → down ≡ Some d)
       → ((d : ℕ) → named ≡ Some d → down ≡ Some d) → IsHeld slots s h lo down
 
@@ -39,14 +40,16 @@ AreCopiesSynced n copied = (d : ℕ) → d < n → is_copied copied d ≡ false
 
 -- What the disks hold between two calls, where `named` is the disk that the meta of the last commit
 -- names out: the contents of that commit, `base` and `held`, which hold a first part of the writes;
--- and with all that is staged laid over, contents that hold all of them under the core's meta. Where nothing
--- is staged, that commit has brought all of them. A block is loose only on a disk to which copies went: a copy
--- is in a free place, where a stop may leave anything.
-pub record HoldsBetweenCalls (slots : ℕ) (named : Option ℕ) (m : Meta) (table : List (List Bool)) (batch : Batch) (copied : List Bool) (h : History) (lo : ℕ) (s : Disks) : Type 0 where
+-- and with all that is staged laid over, contents that hold all of them under the core's meta.
+-- Where nothing is staged, that commit has brought all of them. A block is loose only on a disk to
+-- which copies went: a copy is in a free place, where a stop may leave anything.
+pub record HoldsBetweenCalls (slots : ℕ) (named : Option ℕ) (m : Meta) (table : List (List Bool))
+    (batch : Batch) (copied : List Bool) (h : History) (lo : ℕ) (s : Disks) : Type 0 where
   pub base : Meta
   pub held : Contents
   pub copies : HoldsWithCopies slots base held h lo s
-  pub synced : (x p : ℕ) → IsPresent s x → (x < m.setup.geometry.disks → is_copied copied x ≡ false) → s.loose x p ≡ false
+  pub synced : (x p : ℕ) → IsPresent s x
+      → (x < m.setup.geometry.disks → is_copied copied x ≡ false) → s.loose x p ≡ false
   pub named_by : named_out base.out ≡ named
   pub borne : IsWitnessBorne named s
   pub epoch : m.epoch ≡ base.epoch
@@ -59,19 +62,24 @@ pub record HoldsBetweenCalls (slots : ℕ) (named : Option ℕ) (m : Meta) (tabl
 
 -- What holds of the slots between two calls, over every rack: `last`, `array` and `named` are what
 -- the store knows of the last commit.
-pub record AreSlotsReady (count : ℕ) (slot : ℕ → Slot) (last array : ℕ) (named : Option ℕ) (m : Meta) (rows : ℕ) (batch : Batch) : Type 0 where
+pub record AreSlotsReady (count : ℕ) (slot : ℕ → Slot)
+    (last array : ℕ) (named : Option ℕ) (m : Meta) (rows : ℕ) (batch : Batch) : Type 0 where
   pub in_range : IsInRange m
   pub array_is : m.setup.geometry.disks ≡ array
   pub epoch_is : m.epoch ≡ last
   pub enough : m.setup.geometry.disks ≤ count
   pub rows_are : rows ≡ m.setup.geometry.rows
   -- the meta names each disk that is absent, and no other one than the last commit named
-  pub absent : (d : ℕ) → d < m.setup.geometry.disks → is_present (slot d).power ≡ false → named_out m.out ≡ Some d
+  pub absent : (d : ℕ)
+      → d < m.setup.geometry.disks → is_present (slot d).power ≡ false → named_out m.out ≡ Some d
   pub one : (d e : ℕ) → named ≡ Some d → named_out m.out ≡ Some e → d ≡ e
   pub spins : (d : ℕ) → d < m.gear → named_out m.out ≢ Some d → (slot d).power ≡ Spinning
-  pub large : (d : ℕ) → d < m.gear → named_out m.out ≢ Some d → disk_size m.setup.geometry ≤ (slot d).size
-  pub fresh_spins : (d u : ℕ) → m.out ≡ Fresh d u → is_present (slot d).power ≡ true → (slot d).power ≡ Spinning
-  pub fresh_large : (d u : ℕ) → m.out ≡ Fresh d u → is_present (slot d).power ≡ true → disk_size m.setup.geometry ≤ (slot d).size
+  pub large : (d : ℕ)
+      → d < m.gear → named_out m.out ≢ Some d → disk_size m.setup.geometry ≤ (slot d).size
+  pub fresh_spins : (d u : ℕ)
+      → m.out ≡ Fresh d u → is_present (slot d).power ≡ true → (slot d).power ≡ Spinning
+  pub fresh_large : (d u : ℕ) → m.out ≡ Fresh d u
+      → is_present (slot d).power ≡ true → disk_size m.setup.geometry ≤ (slot d).size
   -- what is staged can be committed
   pub each : All (IsTargetInRange m.setup.geometry) (targets batch)
   pub can : AreTargetsReady (gone_out m.out) count slot (targets batch)
@@ -81,7 +89,8 @@ pub record AreSlotsReady (count : ℕ) (slot : ℕ → Slot) (last array : ℕ) 
 -- that was named out by the last commit still is.
 pub record CanServe (slot : ℕ → Slot) (named : Option ℕ) (m : Meta) : Type 0 where
   pub spins : (d : ℕ) → d < rising_to m.phase → named_out m.out ≢ Some d → (slot d).power ≡ Spinning
-  pub large : (d : ℕ) → d < rising_to m.phase → named_out m.out ≢ Some d → disk_size m.setup.geometry ≤ (slot d).size
+  pub large : (d : ℕ) → d < rising_to m.phase
+      → named_out m.out ≢ Some d → disk_size m.setup.geometry ≤ (slot d).size
   pub stays : (d : ℕ) → named ≡ Some d → named_out m.out ≡ Some d
 
 -- the disk that was lost, if it is one of the array

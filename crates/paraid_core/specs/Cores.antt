@@ -59,20 +59,28 @@ core_down core = or_else (named_of core.store) (named_out core.meta.out)
 -- it can be used
 abbrev pub IsCoreReady : {R : Type 0} {g : _} → (R → ℕ) → (R → ℕ → Slot) → Core R g → Type 0
 IsCoreReady count slot core =
-    AreSlotsReady (count (store_rack core.store)) (slot (store_rack core.store)) (epoch_of core.store) (disks_of core.store) (named_of core.store) core.meta (length core.dirty) core.batch
+    AreSlotsReady
+    (count (store_rack core.store)) (slot (store_rack core.store)) (epoch_of core.store)
+    (disks_of core.store) (named_of core.store) core.meta (length core.dirty) core.batch
 
--- its slots can serve: in a shift up the disks of the new gear spin and are large enough, and a disk that the last commit named out still is out
+-- its slots can serve: in a shift up the disks of the new gear spin and are large enough, and a
+-- disk that the last commit named out still is out
 abbrev pub CanCoreServe : {R : Type 0} {g : _} → (R → ℕ → Slot) → Core R g → Type 0
 CanCoreServe slot core = CanServe (slot (store_rack core.store)) (named_of core.store) core.meta
 
 -- it stands for these writes, of which no stop takes away the first `lo`
 abbrev pub CoreStandsFor : {R : Type 0} {g : _} → (R → ℕ) → Core R g → History → ℕ → Disks → Type 0
-CoreStandsFor count core h lo = HoldsBetweenCalls (count (store_rack core.store)) (named_of core.store) core.meta core.dirty core.batch core.copied h lo
+CoreStandsFor count core h lo = HoldsBetweenCalls (count (store_rack core.store))
+    (named_of core.store) core.meta core.dirty core.batch core.copied h lo
 
 -- what holds at each moment of a call
 abbrev pub IsCoreHeld : {R : Type 0} {g : _} → (R → ℕ) → Core R g → History → ℕ → Disks → Type 0
-IsCoreHeld count core h lo = IsHeldWithOneMissing (count (store_rack core.store)) core.meta.setup.geometry.disks (core_down core) h lo
+IsCoreHeld count core h lo = IsHeldWithOneMissing
+    (count (store_rack core.store)) core.meta.setup.geometry.disks (core_down core) h lo
 
--- what holds at each moment of reads: a disk that has failed since the last commit takes nothing away
-abbrev pub IsCoreHeldSinceCommit : {R : Type 0} {g : _} → (R → ℕ) → Core R g → History → ℕ → Disks → Type 0
-IsCoreHeldSinceCommit count core h lo = IsHeldWithOneMissing (count (store_rack core.store)) core.meta.setup.geometry.disks (named_of core.store) h lo
+-- what holds at each moment of reads: a disk that has failed since the last commit takes nothing
+-- away
+abbrev pub IsCoreHeldSinceCommit : {R : Type 0} {g : _}
+    → (R → ℕ) → Core R g → History → ℕ → Disks → Type 0
+IsCoreHeldSinceCommit count core h lo = IsHeldWithOneMissing
+    (count (store_rack core.store)) core.meta.setup.geometry.disks (named_of core.store) h lo

@@ -10,7 +10,8 @@ use Rattle.paraid_txn.specs.Stores.{disks_of, store_rack}
 use Rattle.paraid_view.specs.Reads.{CanRead}
 
 -- Stripe `s` of gear `to` can be read by the values of its cells: no disk is out.
-pub record CanGather {R : Type 0} {g : Ghosts R} (store : Store R g) (m : Meta) (table : List (List Bool)) (to s : ℕ) : Type 0 where
+pub record CanGather {R : Type 0} {g : Ghosts R}
+    (store : Store R g) (m : Meta) (table : List (List Bool)) (to s : ℕ) : Type 0 where
   pub in_range : IsInRange m
   pub gear : IsGear m.setup.geometry to
   pub region : to < m.setup.geometry.disks

@@ -13,8 +13,9 @@ use Rattle.paraid_txn.specs.Stores.{store_rack}
 use Rattle.paraid_view.specs.Reads.{AreArrayReads}
 use Rattle.paraid_core.specs.declared.staged.Core.{Core}
 
--- The meta is as it was, with its counts of commits and writes as they are now, but for the marks of a disk that was lost:
--- no other one was out, it has failed in the call and is absent. No other disk has failed.
+-- The meta is as it was, with its counts of commits and writes as they are now, but for the marks
+-- of a disk that was lost: no other one was out, it has failed in the call and is absent. No other
+-- disk has failed.
 pub record MarksLost (old new : ℕ → Slot) (m m_then : Meta) : Type 0 where
   pub lost : Option ℕ
   pub is : m_then ≡ record (meta_with_lost lost m) { epoch = m_then.epoch; writes = m_then.writes }
@@ -25,7 +26,8 @@ pub record MarksLost (old new : ℕ → Slot) (m m_then : Meta) : Type 0 where
 
 -- the same of a core
 abbrev pub CoreMarksLost : {R : Type 0} {g : _} → (R → ℕ → Slot) → Core R g → Core R g → Type 0
-CoreMarksLost slot old new = MarksLost (slot (store_rack old.store)) (slot (store_rack new.store)) old.meta new.meta
+CoreMarksLost slot old new =
+    MarksLost (slot (store_rack old.store)) (slot (store_rack new.store)) old.meta new.meta
 
 -- A disk of the array has failed in the call and is absent, and the meta names it as gone.
 pub record LosesDisk (old new : ℕ → Slot) (m m_then : Meta) : Type 0 where
@@ -36,12 +38,17 @@ pub record LosesDisk (old new : ℕ → Slot) (m m_then : Meta) : Type 0 where
 
 -- the same of a core
 abbrev pub CoreLosesDisk : {R : Type 0} {g : _} → (R → ℕ → Slot) → Core R g → Core R g → Type 0
-CoreLosesDisk slot old new = LosesDisk (slot (store_rack old.store)) (slot (store_rack new.store)) old.meta new.meta
+CoreLosesDisk slot old new =
+    LosesDisk (slot (store_rack old.store)) (slot (store_rack new.store)) old.meta new.meta
 
 -- it makes reads alone
 abbrev pub MakesReads : {R : Type 0} {g : _} → (R → Option Trail) → Core R g → Core R g → Type 0
-MakesReads told old new = Ran (told (store_rack old.store)) (told (store_rack new.store)) (AreArrayReads old.meta.setup.geometry.disks)
+MakesReads told old new = Ran (told (store_rack old.store))
+    (told (store_rack new.store)) (AreArrayReads old.meta.setup.geometry.disks)
 
--- Of two disks that are lost in a call, beside this one that was out or with none, it is told which was lost first.
-abbrev pub CoreTellsLosses : {R : Type 0} {g : _} → (R → Option Trail) → Option ℕ → Core R g → Core R g → Two → Type 0
-CoreTellsLosses told out old new = λ two. Ran (told (store_rack old.store)) (told (store_rack new.store)) (λ start calls. TellsLosses out two calls)
+-- Of two disks that are lost in a call, beside this one that was out or with none, it is told which
+-- was lost first.
+abbrev pub CoreTellsLosses : {R : Type 0} {g : _}
+    → (R → Option Trail) → Option ℕ → Core R g → Core R g → Two → Type 0
+CoreTellsLosses told out old new = λ two. Ran (told (store_rack old.store))
+    (told (store_rack new.store)) (λ start calls. TellsLosses out two calls)

@@ -35,28 +35,39 @@ abbrev pub without_draft : {R : Type 0} {g : _} → Core R g → Core R g
 without_draft core = record core { draft = []; changes = []; failed = None }
 
 -- cells can be read under this meta, and no read has failed
-pub record ServesPlan {R : Type 0} {g : _} (count : R → ℕ) (slot : R → ℕ → Slot) (core : Core R g) (m : Meta) : Type 0 where
+pub record ServesPlan {R : Type 0}
+    {g : _} (count : R → ℕ) (slot : R → ℕ → Slot) (core : Core R g) (m : Meta) : Type 0 where
   pub array : m.setup.geometry.disks ≡ disks_of core.store
   pub rows : length core.dirty ≡ m.setup.geometry.rows
-  pub ready : CanRead (count (store_rack core.store)) (slot (store_rack core.store)) m (named_out m.out)
+  pub ready
+      : CanRead (count (store_rack core.store)) (slot (store_rack core.store)) m (named_out m.out)
   pub out : named_out m.out ≡ named_out core.meta.out
   pub whole : core.failed ≡ None
 
 -- The second core comes from the first by reads and by what a plan stages: only the draft and the
--- changes of dirty bits have grown, and one disk has failed, or none. No call follows the one that failed.
-pub record LeadsTo {R : Type 0} {g : _} (count : R → ℕ) (slot : R → ℕ → Slot) (told : R → Option Trail) (a b : Core R g) : Type 0 where
+-- changes of dirty bits have grown, and one disk has failed, or none. No call follows the one that
+-- failed.
+pub record LeadsTo {R : Type 0} {g : _}
+    (count : R → ℕ) (slot : R → ℕ → Slot) (told : R → Option Trail) (a b : Core R g) : Type 0 where
   pub slots : count (store_rack b.store) ≡ count (store_rack a.store)
   pub same : IsSameStore a.store b.store
   pub meta : b.meta ≡ a.meta
   pub batch : b.batch ≡ a.batch
   pub copied : b.copied ≡ a.copied
   pub rows : length b.dirty ≡ length a.dirty
-  pub undone_same : undo_changes b.changes (is_dirty b.dirty) ≡ undo_changes a.changes (is_dirty a.dirty)
+  pub undone_same : undo_changes b.changes (is_dirty b.dirty)
+      ≡ undo_changes a.changes (is_dirty a.dirty)
   pub logged : AreOfTable (length a.dirty) a.changes → AreOfTable (length b.dirty) b.changes
-  pub calls : Ran (told (store_rack a.store)) (told (store_rack b.store)) (AreArrayReads (disks_of a.store))
-  pub off : Ran (told (store_rack a.store)) (told (store_rack b.store)) (AreOffDisk (named_out a.meta.out))
-  pub left : a.failed ≡ None → AreLeft b.failed (slot (store_rack a.store)) (slot (store_rack b.store))
-  pub ends : a.failed ≡ None → Ran (told (store_rack a.store)) (told (store_rack b.store)) (λ s cs. EndsByLoss b.failed cs)
-  pub over : (e : ℕ) → a.failed ≡ Some e → (b.failed ≡ Some e) × (slot (store_rack b.store) ≡ slot (store_rack a.store))
+  pub calls : Ran
+      (told (store_rack a.store)) (told (store_rack b.store)) (AreArrayReads (disks_of a.store))
+  pub off : Ran
+      (told (store_rack a.store)) (told (store_rack b.store)) (AreOffDisk (named_out a.meta.out))
+  pub left : a.failed ≡ None
+      → AreLeft b.failed (slot (store_rack a.store)) (slot (store_rack b.store))
+  pub ends : a.failed ≡ None
+      → Ran (told (store_rack a.store)) (told (store_rack b.store)) (λ s cs. EndsByLoss b.failed cs)
+  pub over : (e : ℕ) → a.failed ≡ Some e
+      → (b.failed ≡ Some e) × (slot (store_rack b.store) ≡ slot (store_rack a.store))
   pub still : (e : ℕ) → a.failed ≡ Some e → told (store_rack b.store) ≡ told (store_rack a.store)
-  pub below : (e : ℕ) → a.failed ≡ None → b.failed ≡ Some e → (e < disks_of a.store) × (named_out a.meta.out ≢ Some e)
+  pub below : (e : ℕ) → a.failed ≡ None
+      → b.failed ≡ Some e → (e < disks_of a.store) × (named_out a.meta.out ≢ Some e)

@@ -16,7 +16,8 @@ use Rattle.paraid_core.specs.Lost.{CoreTellsLosses}
 use Rattle.paraid_core.specs.Marking.{KeepsStaged}
 use Rattle.paraid_core.specs.Steps.{AreUnsyncedCopied, IsMarkedFrom, IsNamedOrAbsent, IsStillOut, OnlyPowersDisks}
 
--- The power of this disk can be turned: the gear does not need it, it is not out, and nothing is staged.
+-- The power of this disk can be turned: the gear does not need it, it is not out, and nothing is
+-- staged.
 pub record CanChangePower {R : Type 0} {g : Ghosts R} (core : Core R g) (disk : ℕ) : Type 0 where
   pub ready : IsCoreReady g.slot_count g.slot core
   pub still : IsStillOut (named_of core.store) core.meta
@@ -26,9 +27,11 @@ pub record CanChangePower {R : Type 0} {g : Ghosts R} (core : Core R g) (disk : 
   pub nothing : core.batch ≡ []
 
 -- No other slot changes, and what is staged is as it was.
-pub record PowersDisk {R A : Type 0} {g : Ghosts R} (disk : ℕ) (old new : Core R g) (result : Result A Two) : Type 0 where
+pub record PowersDisk {R A : Type 0}
+    {g : Ghosts R} (disk : ℕ) (old new : Core R g) (result : Result A Two) : Type 0 where
   pub slots : g.slot_count (store_rack new.store) ≡ g.slot_count (store_rack old.store)
-  pub others : (d : ℕ) → d ≢ disk → g.slot (store_rack new.store) d ≡ g.slot (store_rack old.store) d
+  pub others : (d : ℕ)
+      → d ≢ disk → g.slot (store_rack new.store) d ≡ g.slot (store_rack old.store) d
   pub turned : OnlyPowersDisks (g.slot (store_rack old.store)) (g.slot (store_rack new.store))
   pub store : IsSameStore old.store new.store
   pub staged : KeepsStaged old new
@@ -36,34 +39,45 @@ pub record PowersDisk {R A : Type 0} {g : Ghosts R} (disk : ℕ) (old new : Core
   pub unsynced : OnOk result (AreUnsyncedCopied g.slot old → AreUnsyncedCopied g.slot new)
   pub absent : OnOk result (IsNamedOrAbsent g.slot old → IsNamedOrAbsent g.slot new)
 
--- False where the disk was lost: it has failed and is gone. Where another one was out, two are down.
-pub record AnswersPowerCall {R : Type 0} {g : Ghosts R} (disk : ℕ) (old new : Core R g) (result : Result Bool Two) : Type 0 where
+-- False where the disk was lost: it has failed and is gone. Where another one was out, two are
+-- down.
+pub record AnswersPowerCall {R : Type 0}
+    {g : Ghosts R} (disk : ℕ) (old new : Core R g) (result : Result Bool Two) : Type 0 where
   pub meta : OnOk result (IsMarkedFrom old.meta new.meta)
   pub same : result ≡ Ok true → new.meta ≡ old.meta
-  pub risen : OnOk result ((d : ℕ) → named_out new.meta.out ≡ Some d
-      → (named_out old.meta.out ≡ Some d) ⊎ HasRisen (g.slot (store_rack old.store) d).faults (g.slot (store_rack new.store) d).faults)
+  pub risen : OnOk result ((d : ℕ)
+      → named_out new.meta.out ≡ Some d → (named_out old.meta.out ≡ Some d)
+      ⊎ HasRisen (g.slot (store_rack old.store) d).faults (g.slot (store_rack new.store) d).faults)
   pub gone : result ≡ Ok false → new.meta.out ≡ Gone disk
-  pub failed : result ≡ Ok false → IsLostNow (g.slot (store_rack old.store)) (g.slot (store_rack new.store)) disk
-  pub two : IfErr result (AreTwoDown (core_down old) (g.slot (store_rack old.store)) (g.slot (store_rack new.store)))
+  pub failed : result ≡ Ok false
+      → IsLostNow (g.slot (store_rack old.store)) (g.slot (store_rack new.store)) disk
+  pub two : IfErr result
+      (AreTwoDown (core_down old) (g.slot (store_rack old.store)) (g.slot (store_rack new.store)))
   pub tells : IfErr result (CoreTellsLosses g.told (named_out old.meta.out) old new)
 
--- Each stop leaves what it left before. The writes and what is copied stay, and where the disk was lost the shift is that
--- of the last commit still.
-pub record StandsPowered {R : Type 0} {g : Ghosts R} (old new : Core R g) (result : Result Bool Two) : Type 0 where
-  pub done : result ≡ Ok true → (h : History) (lo : ℕ) → Ran (g.told (store_rack old.store)) (g.told (store_rack new.store))
-      (CrashTriple (IsCoreHeldSinceCommit g.slot_count old h lo) (Filled g.slot_count old h lo old.meta.fill) (Filled g.slot_count new h lo old.meta.fill))
-  pub lost : result ≡ Ok false → (h : History) (lo : ℕ) → Ran (g.told (store_rack old.store)) (g.told (store_rack new.store))
-      (CrashTriple (IsCoreHeldSinceCommit g.slot_count old h lo) (CoreStandsFor g.slot_count old h lo) (CoreStandsFor g.slot_count new h lo))
-  pub lost_filled : result ≡ Ok false → (h : History) (lo : ℕ) → Ran (g.told (store_rack old.store)) (g.told (store_rack new.store))
-      (CrashTriple (IsCoreHeldSinceCommit g.slot_count old h lo) (Filled g.slot_count old h lo old.meta.fill) (Filled g.slot_count new h lo new.meta.fill))
-  pub moments : (h : History) (lo : ℕ) → Ran (g.told (store_rack old.store)) (g.told (store_rack new.store))
-      (CrashTriple (IsCoreHeldSinceCommit g.slot_count old h lo) (Filled g.slot_count old h lo old.meta.fill) (IsCoreHeldSinceCommit g.slot_count old h lo))
+-- Each stop leaves what it left before. The writes and what is copied stay, and where the disk was
+-- lost the shift is that of the last commit still.
+pub record StandsPowered
+    {R : Type 0} {g : Ghosts R} (old new : Core R g) (result : Result Bool Two) : Type 0 where
+  pub done : result ≡ Ok true → (h : History) (lo : ℕ) → Ran (g.told (store_rack old.store))
+      (g.told (store_rack new.store)) (CrashTriple (IsCoreHeldSinceCommit g.slot_count old h lo)
+      (Filled g.slot_count old h lo old.meta.fill) (Filled g.slot_count new h lo old.meta.fill))
+  pub lost : result ≡ Ok false → (h : History) (lo : ℕ) → Ran (g.told (store_rack old.store))
+      (g.told (store_rack new.store)) (CrashTriple (IsCoreHeldSinceCommit g.slot_count old h lo)
+      (CoreStandsFor g.slot_count old h lo) (CoreStandsFor g.slot_count new h lo))
+  pub lost_filled : result ≡ Ok false → (h : History) (lo : ℕ) → Ran (g.told (store_rack old.store))
+      (g.told (store_rack new.store)) (CrashTriple (IsCoreHeldSinceCommit g.slot_count old h lo)
+      (Filled g.slot_count old h lo old.meta.fill) (Filled g.slot_count new h lo new.meta.fill))
+  pub moments : (h : History) (lo : ℕ) → Ran (g.told (store_rack old.store))
+      (g.told (store_rack new.store)) (CrashTriple (IsCoreHeldSinceCommit g.slot_count old h lo)
+      (Filled g.slot_count old h lo old.meta.fill) (IsCoreHeldSinceCommit g.slot_count old h lo))
 
--- An attach of this disk, done or failed: no other slot changes, what is staged is as it was, and a core that could serve
--- still can.
+-- An attach of this disk, done or failed: no other slot changes, what is staged is as it was, and a
+-- core that could serve still can.
 pub record LeavesAttached {R : Type 0} {g : Ghosts R} (disk : ℕ) (old new : Core R g) : Type 0 where
   pub slots : g.slot_count (store_rack new.store) ≡ g.slot_count (store_rack old.store)
-  pub others : (d : ℕ) → d ≢ disk → g.slot (store_rack new.store) d ≡ g.slot (store_rack old.store) d
+  pub others : (d : ℕ)
+      → d ≢ disk → g.slot (store_rack new.store) d ≡ g.slot (store_rack old.store) d
   pub store : IsSameStore old.store new.store
   pub staged : KeepsStaged old new
   pub ready : IsCoreReady g.slot_count g.slot new

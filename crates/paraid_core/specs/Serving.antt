@@ -28,31 +28,38 @@ pub record CanBeCommitted {R : Type 0} {g : Ghosts R} (core : Core R g) : Type 0
   pub epoch : core.meta.epoch < 2 ^ 63
   pub copies_synced : AreCopiesSynced core.meta.setup.geometry.disks core.copied
 
--- It can be used still, its array is as it was, and copies may be unsynced on the same disks. A disk that is down was so
--- before, or has failed.
-pub record StaysReady {R A : Type 0} {g : Ghosts R} (out : Option ℕ) (old new : Core R g) (result : Result A Two) : Type 0 where
+-- It can be used still, its array is as it was, and copies may be unsynced on the same disks. A
+-- disk that is down was so before, or has failed.
+pub record StaysReady {R A : Type 0}
+    {g : Ghosts R} (out : Option ℕ) (old new : Core R g) (result : Result A Two) : Type 0 where
   pub losses : AnswersCoreLosses out old new result
   pub copied : new.copied ≡ old.copied
   pub ready : OnOk result (IsCoreReady g.slot_count g.slot new)
   pub setup : OnOk result (new.meta.setup ≡ old.meta.setup)
-  pub down : OnOk result (IsDownAfter (core_down old) (core_down new) (g.slot (store_rack old.store)) (g.slot (store_rack new.store)))
+  pub down : OnOk result (IsDownAfter (core_down old)
+      (core_down new) (g.slot (store_rack old.store)) (g.slot (store_rack new.store)))
 
--- No cell is written: dirty cells, draft and number of writes are as they were, and no read would clean a cell that none
--- would have cleaned before.
-pub record KeepsCells {R A : Type 0} {g : Ghosts R} (old new : Core R g) (result : Result A Two) : Type 0 where
+-- No cell is written: dirty cells, draft and number of writes are as they were, and no read would
+-- clean a cell that none would have cleaned before.
+pub record KeepsCells
+    {R A : Type 0} {g : Ghosts R} (old new : Core R g) (result : Result A Two) : Type 0 where
   pub draft : new.draft ≡ old.draft
   pub table : new.dirty ≡ old.dirty
-  pub cleans_less : OnOk result ((r d : ℕ) → is_cleaned old.meta old.dirty r d ≡ false → is_cleaned new.meta new.dirty r d ≡ false)
+  pub cleans_less : OnOk result ((r d : ℕ)
+      → is_cleaned old.meta old.dirty r d ≡ false → is_cleaned new.meta new.dirty r d ≡ false)
   pub writes : OnOk result (new.meta.writes ≡ old.meta.writes)
 
 -- Each stop leaves what it left before.
-abbrev pub StaysHeld : {R : Type 0} {g : _} → (R → ℕ) → (R → Option Trail) → Core R g → Core R g → Type 0
-StaysHeld count told old new = (h : History) (lo : ℕ) → Ran (told (store_rack old.store)) (told (store_rack new.store))
-    (CrashTriple (IsCoreHeld count old h lo) (CoreStandsFor count old h lo) (IsCoreHeld count old h lo))
+abbrev pub StaysHeld : {R : Type 0} {g : _}
+    → (R → ℕ) → (R → Option Trail) → Core R g → Core R g → Type 0
+StaysHeld count told old new = (h : History) (lo : ℕ)
+    → Ran (told (store_rack old.store)) (told (store_rack new.store)) (CrashTriple
+    (IsCoreHeld count old h lo) (CoreStandsFor count old h lo) (IsCoreHeld count old h lo))
 
--- It makes reads alone, none on a disk that is gone, and serves on. A disk that failed since the last commit takes nothing
--- away.
-pub record ReadsAlone {R A : Type 0} {g : Ghosts R} (old new : Core R g) (result : Result A Two) : Type 0 where
+-- It makes reads alone, none on a disk that is gone, and serves on. A disk that failed since the
+-- last commit takes nothing away.
+pub record ReadsAlone
+    {R A : Type 0} {g : Ghosts R} (old new : Core R g) (result : Result A Two) : Type 0 where
   pub stays : StaysReady (named_out old.meta.out) old new result
   pub serves : OnOk result (CanCoreServe g.slot new)
   pub epoch : OnOk result (new.meta.epoch ≡ old.meta.epoch)
@@ -63,22 +70,27 @@ pub record ReadsAlone {R A : Type 0} {g : Ghosts R} (old new : Core R g) (result
   pub moments_since : IsHeldStill g.slot_count g.told old new
 
 -- The same, and nothing is staged: the writes are as they were.
-pub record StagesNothing {R A : Type 0} {g : Ghosts R} (old new : Core R g) (result : Result A Two) : Type 0 where
+pub record StagesNothing
+    {R A : Type 0} {g : Ghosts R} (old new : Core R g) (result : Result A Two) : Type 0 where
   pub alone : ReadsAlone old new result
   pub cells : KeepsCells old new result
   pub batch : new.batch ≡ old.batch
   pub moments : StaysHeld g.slot_count g.told old new
-  pub stands : OnOk result ((h : History) (lo : ℕ) → Ran (g.told (store_rack old.store)) (g.told (store_rack new.store))
-      (CrashTriple (IsCoreHeld g.slot_count old h lo) (CoreStandsFor g.slot_count old h lo) (CoreStandsFor g.slot_count new h lo)))
+  pub stands : OnOk result ((h : History) (lo : ℕ) → Ran (g.told (store_rack old.store))
+      (g.told (store_rack new.store)) (CrashTriple (IsCoreHeld g.slot_count old h lo)
+      (CoreStandsFor g.slot_count old h lo) (CoreStandsFor g.slot_count new h lo)))
   pub since : OnOk result (StandsStill g.slot_count g.told old new)
 
 -- It commits first where `first` says so, else it writes nothing in the log; and it serves on.
-pub record MayCommit {R A : Type 0} {g : Ghosts R} (first : Bool) (old new : Core R g) (result : Result A Two) : Type 0 where
+pub record MayCommit {R A : Type 0}
+    {g : Ghosts R} (first : Bool) (old new : Core R g) (result : Result A Two) : Type 0 where
   pub stays : StaysReady (named_out old.meta.out) old new result
   pub serves : OnOk result (CanCoreServe g.slot new)
   pub epoch : OnOk result (new.meta.epoch ≡ old.meta.epoch + (if first then 1 else 0))
-  pub names : OnOk result (named_of new.store ≡ (if first then named_out old.meta.out else named_of old.store))
-  pub still_synced : OnOk result (StaySynced (g.slot (store_rack old.store)) (g.slot (store_rack new.store)))
+  pub names : OnOk result
+      (named_of new.store ≡ (if first then named_out old.meta.out else named_of old.store))
+  pub still_synced
+      : OnOk result (StaySynced (g.slot (store_rack old.store)) (g.slot (store_rack new.store)))
   pub unsynced : OnOk result (AreUnsyncedCopied g.slot old → AreUnsyncedCopied g.slot new)
   pub calls : MakesTransferCalls g.told old new
   pub kept : first ≡ false → MakesDataCalls g.told old new

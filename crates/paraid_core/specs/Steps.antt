@@ -25,7 +25,8 @@ pub record IsMarkedFrom (m new : Meta) : Type 0 where
 -- this disk was lost, or none, and no other one is out
 pub record IsPutOut (m new : Meta) (lost : Option ℕ) : Type 0 where
   pub marked : new ≡ meta_with_lost (lost_in m lost) m
-  pub alone : (d x : ℕ) → lost ≡ Some d → named_out m.out ≡ Some x → d < m.setup.geometry.disks → x ≡ d
+  pub alone : (d x : ℕ)
+      → lost ≡ Some d → named_out m.out ≡ Some x → d < m.setup.geometry.disks → x ≡ d
 
 -- the disk that the last commit names out is out still
 abbrev pub IsStillOut : Option ℕ → Meta → Type 0
@@ -38,7 +39,8 @@ IsNamedOrAbsent slot core = (d : ℕ) → named_out core.meta.out ≡ Some d
 
 -- a disk of the array that is there and not gone, and that is unsynced, is one to which copies went
 abbrev pub AreUnsyncedCopied : {R : Type 0} {g : _} → (R → ℕ → Slot) → Core R g → Type 0
-AreUnsyncedCopied slot core = (d : ℕ) → d < core.meta.setup.geometry.disks → gone_out core.meta.out ≢ Some d → is_present (slot (store_rack core.store) d).power ≡ true
+AreUnsyncedCopied slot core = (d : ℕ) → d < core.meta.setup.geometry.disks
+    → gone_out core.meta.out ≢ Some d → is_present (slot (store_rack core.store) d).power ≡ true
     → (slot (store_rack core.store) d).unsynced ≡ true → is_copied core.copied d ≡ true
 
 -- A disk that is there was there before, with the same size, and no count of faults falls.
@@ -48,7 +50,8 @@ pub record OnlyPowersDisks (old new : ℕ → Slot) : Type 0 where
   pub no_fall : (d : ℕ) → (old d).faults ≤ (new d).faults
 
 -- Over every rack: what is staged is as it was, and a disk that was lost is marked; it has failed.
-pub record LeavesCore {R : Type 0} {g : _} (count : R → ℕ) (slot : R → ℕ → Slot) (old new : Core R g) : Type 0 where
+pub record LeavesCore
+    {R : Type 0} {g : _} (count : R → ℕ) (slot : R → ℕ → Slot) (old new : Core R g) : Type 0 where
   pub slots : count (store_rack new.store) ≡ count (store_rack old.store)
   pub same : IsSameStore old.store new.store
   pub meta : IsMarkedFrom old.meta new.meta
@@ -61,8 +64,8 @@ pub record LeavesCore {R : Type 0} {g : _} (count : R → ℕ) (slot : R → ℕ
   pub unsynced : AreUnsyncedCopied slot old → AreUnsyncedCopied slot new
   pub still : IsStillOut (named_of new.store) new.meta
   pub spared : OnlyLosesSlots (slot (store_rack old.store)) (slot (store_rack new.store))
-  pub risen : (d : ℕ) → named_out new.meta.out ≡ Some d
-      → (named_out old.meta.out ≡ Some d) ⊎ HasRisen (slot (store_rack old.store) d).faults (slot (store_rack new.store) d).faults
+  pub risen : (d : ℕ) → named_out new.meta.out ≡ Some d → (named_out old.meta.out ≡ Some d)
+      ⊎ HasRisen (slot (store_rack old.store) d).faults (slot (store_rack new.store) d).faults
 
 -- copies may be unsynced on the same disks, but for this one, which is synced
 pub record IsCleared (old new : List Bool) (d : ℕ) : Type 0 where
@@ -75,11 +78,15 @@ pub record IsMarkedAt (old new : List Bool) (d : ℕ) : Type 0 where
   pub others : (x : ℕ) → x ≢ d → is_copied new x ≡ is_copied old x
 
 -- the writes that the core stands for are as they were, and so is what each stop leaves of them
-abbrev pub StandsStill : {R : Type 0} {g : _} → (R → ℕ) → (R → Option Trail) → Core R g → Core R g → Type 0
-StandsStill count told old new = (h : History) (lo : ℕ) → Ran (told (store_rack old.store)) (told (store_rack new.store))
-    (CrashTriple (IsCoreHeldSinceCommit count old h lo) (CoreStandsFor count old h lo) (CoreStandsFor count new h lo))
+abbrev pub StandsStill : {R : Type 0} {g : _}
+    → (R → ℕ) → (R → Option Trail) → Core R g → Core R g → Type 0
+StandsStill count told old new = (h : History) (lo : ℕ) → Ran (told (store_rack old.store))
+    (told (store_rack new.store)) (CrashTriple (IsCoreHeldSinceCommit count old h lo)
+    (CoreStandsFor count old h lo) (CoreStandsFor count new h lo))
 
 -- each stop leaves what it left before, whatever the call answered
-abbrev pub IsHeldStill : {R : Type 0} {g : _} → (R → ℕ) → (R → Option Trail) → Core R g → Core R g → Type 0
-IsHeldStill count told old new = (h : History) (lo : ℕ) → Ran (told (store_rack old.store)) (told (store_rack new.store))
-    (CrashTriple (IsCoreHeldSinceCommit count old h lo) (CoreStandsFor count old h lo) (IsCoreHeldSinceCommit count old h lo))
+abbrev pub IsHeldStill : {R : Type 0} {g : _}
+    → (R → ℕ) → (R → Option Trail) → Core R g → Core R g → Type 0
+IsHeldStill count told old new = (h : History) (lo : ℕ) → Ran (told (store_rack old.store))
+    (told (store_rack new.store)) (CrashTriple (IsCoreHeldSinceCommit count old h lo)
+    (CoreStandsFor count old h lo) (IsCoreHeldSinceCommit count old h lo))

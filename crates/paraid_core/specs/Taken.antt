@@ -21,17 +21,19 @@ AreApart batch = AllPairs (λ (s : Target) (t : Target). s ≢ t) (targets batch
 
 -- each target of a draft stands in the batch already
 abbrev pub AreStaged : Batch → Batch → Type 0
-AreStaged batch draft = (k : ℕ) → k < length draft
-    → names_place batch (get_or (targets draft) k no_target).disk (get_or (targets draft) k no_target).place ≡ true
+AreStaged batch draft = (k : ℕ) → k < length draft → names_place batch
+    (get_or (targets draft) k no_target).disk (get_or (targets draft) k no_target).place ≡ true
 
 -- there is room for a draft, or each of its targets stands in the batch already
 abbrev pub HasRoomFor : Batch → Batch → Type 0
 HasRoomFor batch draft = (length batch + length draft ≤ batch_room) ⊎ AreStaged batch draft
 
--- there is room for the block of the map with the bits of a row on both log disks, or it stands in the batch already
+-- there is room for the block of the map with the bits of a row on both log disks, or it stands in
+-- the batch already
 abbrev pub HasRoomForMap : Geometry → Batch → ℕ → Type 0
-HasRoomForMap g batch r = (length batch + 2 ≤ batch_room)
-    ⊎ ((names_place batch 0 (map_place_of g r) ≡ true) × (names_place batch 1 (map_place_of g r) ≡ true))
+HasRoomForMap g batch r =
+    (length batch + 2 ≤ batch_room) ⊎ ((names_place batch 0 (map_place_of g r) ≡ true)
+    × (names_place batch 1 (map_place_of g r) ≡ true))
 
 -- The draft is added to the batch, but for targets that a commit could not take; what could be
 -- committed still can.
@@ -40,8 +42,11 @@ pub record IsTakenIn (m : Meta) (old draft new : Batch) : Type 0 where
   pub grows : length old ≤ length new
   pub some : ArePlaced m draft → 1 ≤ length draft → 1 ≤ length new
   pub apart : AreApart new
-  pub laid_same : ArePlaced m draft → (d p : ℕ) (x : Block) → overlaid_block new d p x ≡ overlaid_block (old ++ draft) d p x
-  pub each : All (IsTargetInRange m.setup.geometry) (targets old) → All (IsTargetInRange m.setup.geometry) (targets new)
-  pub can : (skip : Option ℕ) (count : ℕ) (slot : ℕ → Slot)
-      → ((t : Target) → IsPlaced m t → (t.disk < count) × (skip ≢ Some t.disk → CanWrite slot t.disk t.place))
-      → AreTargetsReady skip count slot (targets old) → AreTargetsReady skip count slot (targets new)
+  pub laid_same : ArePlaced m draft
+      → (d p : ℕ) (x : Block) → overlaid_block new d p x ≡ overlaid_block (old ++ draft) d p x
+  pub each : All (IsTargetInRange m.setup.geometry) (targets old)
+      → All (IsTargetInRange m.setup.geometry) (targets new)
+  pub can : (skip : Option ℕ) (count : ℕ) (slot : ℕ → Slot) → ((t : Target)
+      → IsPlaced m t → (t.disk < count) × (skip ≢ Some t.disk → CanWrite slot t.disk t.place))
+      → AreTargetsReady skip count slot (targets old)
+      → AreTargetsReady skip count slot (targets new)

@@ -1,4 +1,5 @@
-//! Dirty cells of the disks that come up in a shift up are copied past the log to their hard places.
+//! Dirty cells of the disks that come up in a shift up are copied past the log to their hard
+//! places.
 ghost use Rattle.std.specs.Prelude.{◌≡◌, ℕ, List, Option, Bool, false, [], Ok};
 ghost use Rattle.paraid_base.specs.History.{History};
 ghost use Rattle.paraid_core.specs.CellCopies.{CellsCopied, CopyingCell, KeepsCellCopies, copied_with};
@@ -40,8 +41,8 @@ impl<R: Rack> Core<R> {
         put_out(&mut self.meta, disk)
     }
 
-    /// Copies the value of a dirty cell of a disk that comes up past the log to its hard place, with one
-    /// read of its value and one write. The cell stays dirty until it is marked.
+    /// Copies the value of a dirty cell of a disk that comes up past the log to its hard place,
+    /// with one read of its value and one write. The cell stays dirty until it is marked.
     ///
     /// True once the cell is copied. False where a disk was lost: that disk is out from then on.
     pub fn sync_cell(&mut self, r: Row, disk: DiskNo) -> Result<bool, Two>
@@ -74,13 +75,15 @@ impl<R: Rack> Core<R> {
     }
 }
 
-/// Where nothing is staged, copies of cells can begin: none is copied yet. And copies of stripes can go on
-/// from the fill mark, whichever cells are copied.
+/// Where nothing is staged, copies of cells can begin: none is copied yet. And copies of stripes
+/// can go on from the fill mark, whichever cells are copied.
 pub fn cells_are_copied_beside_stripes()
-    ensures cells { (slots : ℕ) (named : Option ℕ) (m : MetaType) (table : List (List Bool)) (copied : List Bool)
-        (h : History) (lo : ℕ) (s : Disks) → KeepsFilled slots named m table copied h lo m.fill s
+    ensures cells { (slots : ℕ) (named : Option ℕ) (m : MetaType)
+        (table : List (List Bool)) (copied : List Bool) (h : History) (lo : ℕ) (s : Disks)
+        → KeepsFilled slots named m table copied h lo m.fill s
         → KeepsCellCopies slots named m table [] copied h lo (λ r d. false) s }
-    ensures stripes { (slots : ℕ) (named : Option ℕ) (m : MetaType) (table : List (List Bool)) (copied : List Bool)
-        (h : History) (lo : ℕ) (cells : ℕ → ℕ → Bool) (s : Disks)
-        → KeepsCellCopies slots named m table [] copied h lo cells s → KeepsFilled slots named m table copied h lo m.fill s }
+    ensures stripes { (slots : ℕ) (named : Option ℕ) (m : MetaType) (table : List (List Bool))
+        (copied : List Bool) (h : History) (lo : ℕ) (cells : ℕ → ℕ → Bool) (s : Disks)
+        → KeepsCellCopies slots named m table [] copied h lo cells s
+        → KeepsFilled slots named m table copied h lo m.fill s }
 {}

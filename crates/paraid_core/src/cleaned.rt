@@ -1,5 +1,5 @@
-//! Cells that are copied to their hard places are marked as clean. It is staged, and the next commit brings it to the
-//! disks. No call is made.
+//! Cells that are copied to their hard places are marked as clean. It is staged, and the next
+//! commit brings it to the disks. No call is made.
 ghost use Rattle.std.specs.Prelude.{◌≡◌, ℕ, ◌+◌, ◌<◌, ◌≤◌, Bool, true, false, [], length};
 ghost use Rattle.paraid_base.specs.declared.state.Out.TheVariants.{No};
 ghost use Rattle.paraid_base.specs.History.{History};
@@ -34,10 +34,11 @@ fn is_held(batch: &Batch, target: Target) -> bool
 impl<R: Rack> Core<R> {
     ghost use Rattle.paraid_core.specs.Cores.{IsCoreHeldSinceCommit, batch_of, core_rack, core_table, draft_of, meta_of};
 
-    /// Whether the block of the map with the bits of a row can be staged on both log disks: there is room for it, or it is
-    /// staged already.
+    /// Whether the block of the map with the bits of a row can be staged on both log disks: there
+    /// is room for it, or it is staged already.
     pub fn has_map_room(&self, r: Row) -> bool
-        ensures room { result ≡ true → HasRoomForMap (meta_of self.now).setup.geometry (batch_of self.now) r }
+        ensures room { result ≡ true
+            → HasRoomForMap (meta_of self.now).setup.geometry (batch_of self.now) r }
         ensures few { length (batch_of self.now) ≤ 94 → result ≡ true }
     {
         if self.batch.count() <= 94 {
@@ -48,8 +49,9 @@ impl<R: Rack> Core<R> {
             && is_held(&self.batch, Target { disk: 1, place })
     }
 
-    /// Marks a dirty cell of a disk that comes up as clean: its bit is cleared, and its block of the map is
-    /// staged on both log disks. The cell is copied; the commit asks that each copy is synced.
+    /// Marks a dirty cell of a disk that comes up as clean: its bit is cleared, and its block of
+    /// the map is staged on both log disks. The cell is copied; the commit asks that each copy is
+    /// synced.
     pub fn mark_cleaned(&mut self, r: Row, d: DiskNo)
         requires serving { IsCoreInService self.old }
         requires no_draft { draft_of self.old ≡ [] }
@@ -62,10 +64,10 @@ impl<R: Rack> Core<R> {
         ensures staged { length (batch_of self.new) ≤ length (batch_of self.old) + 2 }
         ensures table { (q e : ℕ) → is_dirty (core_table self.new) q e
             ≡ table_with_bit (is_dirty (core_table self.old)) r d false q e }
-        ensures marked { (h : History) (lo : ℕ) (cells : ℕ → ℕ → Bool) → cells r d ≡ true
-            → Ran (R.told (core_rack self.old)) (R.told (core_rack self.new))
-            (CrashTriple (IsCoreHeldSinceCommit R.slot_count self.old h lo)
-            (CellsCopied R.slot_count self.old h lo cells) (CellsCopied R.slot_count self.new h lo cells)) }
+        ensures marked { (h : History) (lo : ℕ) (cells : ℕ → ℕ → Bool)
+            → cells r d ≡ true → Ran (R.told (core_rack self.old)) (R.told (core_rack self.new))
+            (CrashTriple (IsCoreHeldSinceCommit R.slot_count self.old h lo) (CellsCopied
+            R.slot_count self.old h lo cells) (CellsCopied R.slot_count self.new h lo cells)) }
     {
         let m = self.meta;
         let j = r / 512;

@@ -100,7 +100,8 @@ impl<R: Rack> Core<R> {
         requires room { length (batch_of self.old) + room ≤ batch_room }
         requires kept { room < 3 → is_cleaned (meta_of self.old) (core_table self.old) r d ≡ false }
         ensures cleaned { is_cleaned (meta_of self.new) (core_table self.new) r d ≡ false }
-        ensures bits { CleansCell (meta_of self.new) (core_table self.old) (core_table self.new) r d }
+        ensures bits { CleansCell
+            (meta_of self.new) (core_table self.old) (core_table self.new) r d }
         ensures nothing { room < 3 → (batch_of self.new ≡ batch_of self.old)
             × (core_table self.new ≡ core_table self.old) }
         ensures stages { OnlyStages self.old self.new }
@@ -124,8 +125,8 @@ impl<R: Rack> Core<R> {
     /// from then on.
     ///
     /// In access mode, in a shift up with no disk out, it stages the value of a dirty cell for its
-    /// hard place on a disk that comes up, and makes the cell clean. It first commits what is staged,
-    /// where that leaves no room for this.
+    /// hard place on a disk that comes up, and makes the cell clean. It first commits what is
+    /// staged, where that leaves no room for this.
     pub fn read(&mut self, block: BlockNo, into: &mut Block) -> Result<(), Two>
         requires serving { IsCoreInService self.old }
         requires block { block < core_block_count self.old }
@@ -141,21 +142,22 @@ impl<R: Rack> Core<R> {
             (home_row (meta_of self.old).setup.geometry.disks block)
             (home_disk (meta_of self.old).setup.geometry.disks block) ≡ false) }
         // By the meta after it the cell is cleaned or not, and no other bit changes.
-        ensures bits { OnOk result (CleansCell (meta_of self.new) (core_table self.old) (core_table self.new)
-            (home_row (meta_of self.old).setup.geometry.disks block)
+        ensures bits { OnOk result (CleansCell (meta_of self.new) (core_table self.old)
+            (core_table self.new) (home_row (meta_of self.old).setup.geometry.disks block)
             (home_disk (meta_of self.old).setup.geometry.disks block)) }
-        ensures nothing { OnOk result (is_cleaned (meta_of self.old) (core_table self.old)
-            (home_row (meta_of self.old).setup.geometry.disks block)
-            (home_disk (meta_of self.old).setup.geometry.disks block) ≡ false
-            → (batch_of self.new ≡ batch_of self.old) × (core_table self.new ≡ core_table self.old)) }
+        ensures nothing { OnOk result (is_cleaned (meta_of self.old)
+            (core_table self.old) (home_row (meta_of self.old).setup.geometry.disks block)
+            (home_disk (meta_of self.old).setup.geometry.disks block) ≡ false → (batch_of self.new
+            ≡ batch_of self.old) × (core_table self.new ≡ core_table self.old)) }
 
         ensures stands { OnOk result ((h : History) (lo : ℕ)
-            → Ran (R.told (core_rack self.old)) (R.told (core_rack self.new))
-            (CrashTriple (IsCoreHeld R.slot_count self.old h lo) (CoreStandsFor R.slot_count self.old h lo)
-            (CoreStandsFor R.slot_count self.new h
-            (if read_commits_first (meta_of self.old) (core_table self.old) (batch_of self.old) block then length h else lo)))) }
+            → Ran (R.told (core_rack self.old)) (R.told (core_rack self.new)) (CrashTriple
+            (IsCoreHeld R.slot_count self.old h lo) (CoreStandsFor R.slot_count self.old h lo)
+            (CoreStandsFor R.slot_count self.new h (if read_commits_first (meta_of self.old)
+            (core_table self.old) (batch_of self.old) block then length h else lo)))) }
         ensures value { OnOk result ((h : History) (lo : ℕ) (t : Trail)
-            → R.told (core_rack self.old) ≡ Some t → CoreStandsFor R.slot_count self.old h lo (now t)
+            → R.told (core_rack self.old) ≡ Some t
+            → CoreStandsFor R.slot_count self.old h lo (now t)
             → IsSome (R.told (core_rack self.new)) → into.new ≡ held_by h block) }
     {
         let (r, d) = home(&self.meta.setup.geometry, block);

@@ -66,8 +66,9 @@ impl<R: Rack> Core<R> {
             (Filling R.slot_count self.new h lo s blocks (disk + 1))) }
         ensures loses { LosesGiven disk self.old self.new result }
         ensures lost { result ≡ Ok false → StandsStill R.slot_count R.told self.old self.new }
-        ensures moments { (h : History) (lo : ℕ) → Ran (R.told (core_rack self.old)) (R.told (core_rack self.new))
-            (CrashTriple (IsCoreHeldSinceCommit R.slot_count self.old h lo) (Filled R.slot_count self.old h lo s)
+        ensures moments { (h : History) (lo : ℕ)
+            → Ran (R.told (core_rack self.old)) (R.told (core_rack self.new)) (CrashTriple
+            (IsCoreHeldSinceCommit R.slot_count self.old h lo) (Filled R.slot_count self.old h lo s)
             (IsCoreHeldSinceCommit R.slot_count self.old h lo)) }
     {
         let answer = self.store.write_free(disk, place, block);
@@ -103,9 +104,9 @@ impl<R: Rack> Core<R> {
     /// Copies stripe `s` of the region of the new gear past the log: the values of its cells, zeros
     /// for its pads and their XOR, each into its free place.
     ///
-    /// It reads each cell of the stripe once by value, and then writes each block once, in ascending
-    /// order of disks. True once the stripe is copied. False where a disk was lost: that disk is out
-    /// from then on, and the stripe does not count.
+    /// It reads each cell of the stripe once by value, and then writes each block once, in
+    /// ascending order of disks. True once the stripe is copied. False where a disk was lost: that
+    /// disk is out from then on, and the stripe does not count.
     pub fn fill_stripe(&mut self, s: u32) -> Result<bool, Two>
         requires serving { IsCoreInService self.old }
         requires no_draft { draft_of self.old ≡ [] }

@@ -45,7 +45,8 @@ fn read_copy<R: Rack>(
     ensures read { HaveRead R.slot_count R.slot R.told (disks_of store.old) (lost_by result)
         store.old store.new }
     ensures below { IfErr result (λ e. e < disks_of store.old) }
-    ensures value { OnOk result ((f : Contents) → ShowsContents (R.told (store_rack store.old)) (batch.now ++ draft.now) f
+    ensures value { OnOk result ((f : Contents)
+        → ShowsContents (R.told (store_rack store.old)) (batch.now ++ draft.now) f
         → IsSome (R.told (store_rack store.new))
         → into.new ≡ copies (seen_by meta.now dirty.now None f) to s disk) }
 {
@@ -77,13 +78,16 @@ fn gather_one<R: Rack>(
         store.old store.new }
     ensures below { IfErr result (λ e. e < disks_of store.old) }
     ensures others { (x : ℕ) → x ≢ disk → member blocks.new x ≡ member blocks.old x }
-    ensures here { OnOk result ((f : Contents) → ShowsContents (R.told (store_rack store.old)) (batch.now ++ draft.now) f
+    ensures here { OnOk result ((f : Contents)
+        → ShowsContents (R.told (store_rack store.old)) (batch.now ++ draft.now) f
         → IsSome (R.told (store_rack store.new)) → disk ≢ soft_parity_disk to s
         → member blocks.new disk ≡ copies (seen_by meta.now dirty.now None f) to s disk) }
-    ensures sums { OnOk result ((f : Contents) → ShowsContents (R.told (store_rack store.old)) (batch.now ++ draft.now) f
-        → IsSome (R.told (store_rack store.new))
-        → sum.old ≡ xor_upto (without (copies (seen_by meta.now dirty.now None f) to s) (soft_parity_disk to s)) disk
-        → sum.new ≡ xor_upto (without (copies (seen_by meta.now dirty.now None f) to s) (soft_parity_disk to s)) (disk + 1)) }
+    ensures sums { OnOk result ((f : Contents)
+        → ShowsContents (R.told (store_rack store.old)) (batch.now ++ draft.now) f
+        → IsSome (R.told (store_rack store.new)) → sum.old ≡ xor_upto
+        (without (copies (seen_by meta.now dirty.now None f) to s) (soft_parity_disk to s)) disk
+        → sum.new ≡ xor_upto (without
+        (copies (seen_by meta.now dirty.now None f) to s) (soft_parity_disk to s)) (disk + 1)) }
 {
     let parity = soft_parity(&meta.setup.geometry, to, s);
     if disk == parity {
@@ -112,9 +116,10 @@ pub(crate) fn gather<R: Rack>(
     ensures read { HaveRead R.slot_count R.slot R.told (disks_of store.old) (lost_by result)
         store.old store.new }
     ensures below { IfErr result (λ e. e < disks_of store.old) }
-    ensures value { OnOk result ((f : Contents) → ShowsContents (R.told (store_rack store.old)) (batch.now ++ draft.now) f
-        → IsSome (R.told (store_rack store.new)) → (e : ℕ) → e < to
-        → member blocks.new e ≡ copied_block (seen_by meta.now dirty.now None f) to s e) }
+    ensures value { OnOk result ((f : Contents)
+        → ShowsContents (R.told (store_rack store.old)) (batch.now ++ draft.now) f
+        → IsSome (R.told (store_rack store.new)) → (e : ℕ)
+        → e < to → member blocks.new e ≡ copied_block (seen_by meta.now dirty.now None f) to s e) }
 {
     let mut sum = Block::zero();
     for disk in 0..to {

@@ -1,5 +1,5 @@
-//! The spin-ups of a disk that is gone are forgotten before it is replaced. It is staged, and the next commit brings it
-//! to the disks. No call is made.
+//! The spin-ups of a disk that is gone are forgotten before it is replaced. It is staged, and the
+//! next commit brings it to the disks. No call is made.
 ghost use Rattle.std.specs.Prelude.{◌≡◌, ◌≢◌, ℕ, ◌<◌, length, slice_index};
 ghost use Rattle.paraid_base.specs.declared.state.Out.TheVariants.{Gone};
 ghost use Rattle.paraid_core.specs.Marking.{OnlyMarks};
@@ -26,7 +26,8 @@ impl<R: Rack> Core<R> {
     pub fn clear_spins(&mut self, disk: DiskNo)
         requires ready { IsCoreReady R.slot_count R.slot self.old }
         requires gone { (meta_of self.old).out ≡ Gone disk }
-        ensures meta { meta_of self.new ≡ record (meta_of self.old) { spins = (meta_of self.new).spins } }
+        ensures meta { meta_of self.new
+            ≡ record (meta_of self.old) { spins = (meta_of self.new).spins } }
         ensures cleared { slice_index (meta_of self.new).spins disk ≡ 0 }
         ensures others { (e : ℕ) → e ≢ disk
             → slice_index (meta_of self.new).spins e ≡ slice_index (meta_of self.old).spins e }

@@ -30,21 +30,22 @@ impl<R: Rack> Core<R> {
         requires committable { CanBeCommitted self.old }
 
         ensures cells { KeepsCells self.old self.new result }
-        ensures commits { MayCommit (commits_first (batch_of self.old) targets) self.old self.new result }
+        ensures commits { MayCommit
+            (commits_first (batch_of self.old) targets) self.old self.new result }
         ensures room { OnOk result (length (batch_of self.new) + targets ≤ batch_room) }
-        ensures staged { OnOk result (length (batch_of self.new)
-            ≤ (if commits_first (batch_of self.old) targets then 0 else length (batch_of self.old))) }
+        ensures staged { OnOk result (length (batch_of self.new) ≤ (if commits_first
+            (batch_of self.old) targets then 0 else length (batch_of self.old))) }
         ensures nothing { OnOk result (targets ≡ 0 → (batch_of self.new ≡ batch_of self.old)
             × (core_table self.new ≡ core_table self.old)) }
-        ensures idle { commits_first (batch_of self.old) targets ≡ false → R.told (core_rack self.new) ≡ R.told (core_rack self.old) }
+        ensures idle { commits_first (batch_of self.old) targets ≡ false
+            → R.told (core_rack self.new) ≡ R.told (core_rack self.old) }
         ensures named { OnOk result ((d : ℕ) → named_of (store_of self.new) ≡ Some d
             → core_down self.old ≡ Some d) }
         ensures gone { OnOk result ((d : ℕ) → gone_out_of (meta_of self.old).out ≡ Some d
             → gone_out_of (meta_of self.new).out ≡ Some d) }
-        ensures stands { OnOk result ((h : History) (lo : ℕ)
-            → Ran (R.told (core_rack self.old)) (R.told (core_rack self.new))
-            (CrashTriple (IsCoreHeld R.slot_count self.old h lo) (CoreStandsFor R.slot_count self.old h lo)
-            (CoreStandsFor R.slot_count self.new h
+        ensures stands { OnOk result ((h : History) (lo : ℕ) → Ran (R.told (core_rack self.old))
+            (R.told (core_rack self.new)) (CrashTriple (IsCoreHeld R.slot_count self.old h lo)
+            (CoreStandsFor R.slot_count self.old h lo) (CoreStandsFor R.slot_count self.new h
             (if commits_first (batch_of self.old) targets then length h else lo)))) }
     {
         if self.batch.count() <= ROOM - targets {
@@ -56,7 +57,8 @@ impl<R: Rack> Core<R> {
     // Plans the write, and where a disk fails in that plans it once more without this disk.
     fn write_whole(&mut self, pairs: &Pairs) -> Result<(), Two>
         requires serving { IsCoreInService self.old }
-        requires blocks { All (λ (pair : ℕ × BlockType). pair.0 < core_block_count self.old) (pairs_of pairs.now) }
+        requires blocks { All (λ (pair : ℕ × BlockType).
+            pair.0 < core_block_count self.old) (pairs_of pairs.now) }
         requires room { length (batch_of self.old) + 10 * pairs.now.count ≤ batch_room }
         requires fits { (meta_of self.old).writes + 1 < 2 ^ 64 }
 
@@ -64,14 +66,15 @@ impl<R: Rack> Core<R> {
         ensures reads { ReadsAlone self.old self.new result }
         ensures staged { OnOk result (length (batch_of self.new)
             ≤ length (batch_of self.old) + 10 * pairs.now.count) }
-        ensures bits { OnOk result (is_dirty (core_table self.new)
-            ≡ bits_after_writes (meta_of self.new) (pairs_of pairs.now) (is_dirty (core_table self.old))) }
+        ensures bits { OnOk result (is_dirty (core_table self.new) ≡ bits_after_writes
+            (meta_of self.new) (pairs_of pairs.now) (is_dirty (core_table self.old))) }
         ensures writes { OnOk result ((meta_of self.new).writes ≡ (meta_of self.old).writes + 1) }
-        ensures unsynced { OnOk result (AreUnsyncedCopied R.slot self.old → AreUnsyncedCopied R.slot self.new) }
+        ensures unsynced { OnOk result (AreUnsyncedCopied R.slot self.old
+            → AreUnsyncedCopied R.slot self.new) }
         ensures stands { OnOk result ((h : History) (lo : ℕ)
-            → Ran (R.told (core_rack self.old)) (R.told (core_rack self.new))
-            (CrashTriple (IsCoreHeldSinceCommit R.slot_count self.old h lo) (CoreStandsFor R.slot_count self.old h lo)
-            (CoreStandsFor R.slot_count self.new (h ++ pairs_of pairs.now ∷ []) lo))) }
+            → Ran (R.told (core_rack self.old)) (R.told (core_rack self.new)) (CrashTriple
+            (IsCoreHeldSinceCommit R.slot_count self.old h lo) (CoreStandsFor R.slot_count self.old
+            h lo) (CoreStandsFor R.slot_count self.new (h ++ pairs_of pairs.now ∷ []) lo))) }
     {
         let done = self.try_write(pairs)?;
         if done {
@@ -88,23 +91,25 @@ impl<R: Rack> Core<R> {
     /// It first commits what is staged, where that leaves no room for ten targets for each pair.
     pub fn write_many(&mut self, pairs: &Pairs) -> Result<(), Two>
         requires serving { IsCoreInService self.old }
-        requires blocks { All (λ (pair : ℕ × BlockType). pair.0 < core_block_count self.old) (pairs_of pairs.now) }
+        requires blocks { All (λ (pair : ℕ × BlockType).
+            pair.0 < core_block_count self.old) (pairs_of pairs.now) }
         requires committable { CanBeCommitted self.old }
         requires fits { (meta_of self.old).writes + 1 < 2 ^ 64 }
 
         ensures draft { OnOk result (draft_of self.new ≡ []) }
-        ensures commits { MayCommit (commits_first (batch_of self.old) (10 * pairs.now.count)) self.old self.new result }
+        ensures commits { MayCommit
+            (commits_first (batch_of self.old) (10 * pairs.now.count)) self.old self.new result }
         ensures staged { OnOk result (length (batch_of self.new)
-            ≤ (if commits_first (batch_of self.old) (10 * pairs.now.count) then 0 else length (batch_of self.old))
-            + 10 * pairs.now.count) }
+            ≤ (if commits_first (batch_of self.old) (10 * pairs.now.count)
+            then 0 else length (batch_of self.old)) + 10 * pairs.now.count) }
         // The dirty cells are those that the writes leave by the meta after them.
-        ensures bits { OnOk result (is_dirty (core_table self.new)
-            ≡ bits_after_writes (meta_of self.new) (pairs_of pairs.now) (is_dirty (core_table self.old))) }
+        ensures bits { OnOk result (is_dirty (core_table self.new) ≡ bits_after_writes
+            (meta_of self.new) (pairs_of pairs.now) (is_dirty (core_table self.old))) }
         ensures writes { OnOk result ((meta_of self.new).writes ≡ (meta_of self.old).writes + 1) }
 
         ensures stands { OnOk result ((h : History) (lo : ℕ)
-            → Ran (R.told (core_rack self.old)) (R.told (core_rack self.new))
-            (CrashTriple (IsCoreHeld R.slot_count self.old h lo) (CoreStandsFor R.slot_count self.old h lo)
+            → Ran (R.told (core_rack self.old)) (R.told (core_rack self.new)) (CrashTriple
+            (IsCoreHeld R.slot_count self.old h lo) (CoreStandsFor R.slot_count self.old h lo)
             (CoreStandsFor R.slot_count self.new (h ++ pairs_of pairs.now ∷ [])
             (if commits_first (batch_of self.old) (10 * pairs.now.count) then length h else lo)))) }
     {
@@ -121,15 +126,16 @@ impl<R: Rack> Core<R> {
         requires fits { (meta_of self.old).writes + 1 < 2 ^ 64 }
 
         ensures draft { OnOk result (draft_of self.new ≡ []) }
-        ensures commits { MayCommit (commits_first (batch_of self.old) 10) self.old self.new result }
-        ensures staged { OnOk result (length (batch_of self.new)
-            ≤ (if commits_first (batch_of self.old) 10 then 0 else length (batch_of self.old)) + 10) }
+        ensures commits { MayCommit
+            (commits_first (batch_of self.old) 10) self.old self.new result }
+        ensures staged { OnOk result (length (batch_of self.new) ≤ (if commits_first
+            (batch_of self.old) 10 then 0 else length (batch_of self.old)) + 10) }
         ensures bits { OnOk result (is_dirty (core_table self.new)
             ≡ bits_after_block (meta_of self.new) block (is_dirty (core_table self.old))) }
         ensures writes { OnOk result ((meta_of self.new).writes ≡ (meta_of self.old).writes + 1) }
         ensures stands { OnOk result ((h : History) (lo : ℕ)
-            → Ran (R.told (core_rack self.old)) (R.told (core_rack self.new))
-            (CrashTriple (IsCoreHeld R.slot_count self.old h lo) (CoreStandsFor R.slot_count self.old h lo)
+            → Ran (R.told (core_rack self.old)) (R.told (core_rack self.new)) (CrashTriple
+            (IsCoreHeld R.slot_count self.old h lo) (CoreStandsFor R.slot_count self.old h lo)
             (CoreStandsFor R.slot_count self.new (h ++ ((block, bytes.now) ∷ []) ∷ [])
             (if commits_first (batch_of self.old) 10 then length h else lo)))) }
     {

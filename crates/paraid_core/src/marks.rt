@@ -1,4 +1,5 @@
-//! Marks of a shift: they are staged, and the next commit brings them to the disks. No call is made.
+//! Marks of a shift: they are staged, and the next commit brings them to the disks. No call is
+//! made.
 ghost use Rattle.std.specs.Prelude.{◌≡◌, ℕ, ◌+◌, ◌<◌, ◌≤◌, ◌⊎◌, false, [], Some, length, min, slice_index};
 ghost use Rattle.paraid_base.specs.declared.state.Out.TheVariants.{No};
 ghost use Rattle.paraid_base.specs.declared.state.Phase.TheVariants.{Down, Steady, Up};
@@ -28,8 +29,10 @@ fn count_spins(spins: &mut [u16; 8], lo: u8, hi: u8)
     requires few { hi ≤ 8 }
     requires room { (d : ℕ) → lo ≤ d → d < hi → slice_index spins.old d < 65535 }
     ensures eight { length spins.new ≡ 8 }
-    ensures raised { (d : ℕ) → lo ≤ d → d < hi → slice_index spins.new d ≡ slice_index spins.old d + 1 }
-    ensures others { (d : ℕ) → (d < lo) ⊎ (hi ≤ d) → slice_index spins.new d ≡ slice_index spins.old d }
+    ensures raised { (d : ℕ)
+        → lo ≤ d → d < hi → slice_index spins.new d ≡ slice_index spins.old d + 1 }
+    ensures others { (d : ℕ)
+        → (d < lo) ⊎ (hi ≤ d) → slice_index spins.new d ≡ slice_index spins.old d }
 {
     for disk in lo..hi {
         spins[disk as usize] += 1;
@@ -44,8 +47,10 @@ impl<R: Rack> Core<R> {
         requires ready { IsCoreReady R.slot_count R.slot self.old }
         requires whole { (meta_of self.old).out ≡ No }
         requires nothing { batch_of self.old ≡ [] }
-        requires limit { end ≤ fill_limit (meta_of self.old).setup.geometry (meta_of self.old).phase }
-        requires copies_synced { AreCopiesSynced (meta_of self.old).setup.geometry.disks (copied_of self.old) }
+        requires limit { end
+            ≤ fill_limit (meta_of self.old).setup.geometry (meta_of self.old).phase }
+        requires copies_synced { AreCopiesSynced
+            (meta_of self.old).setup.geometry.disks (copied_of self.old) }
         ensures meta { meta_of self.new ≡ filled_to (meta_of self.old) end }
         ensures marks { OnlyMarks self.old self.new }
         ensures serves { CanCoreServe R.slot self.old → CanCoreServe R.slot self.new }
@@ -65,7 +70,8 @@ impl<R: Rack> Core<R> {
         requires next { AreNextGears (meta_of self.old).setup.geometry to (meta_of self.old).gear }
         requires spared { (d : ℕ) → to ≤ d → d < (meta_of self.old).gear
             → slice_index (meta_of self.old).spins d < allowed_spins (meta_of self.old) }
-        ensures meta { meta_of self.new ≡ meta_after_begin (meta_of self.old) (Down to) (meta_of self.old).spins }
+        ensures meta { meta_of self.new
+            ≡ meta_after_begin (meta_of self.old) (Down to) (meta_of self.old).spins }
         ensures marks { OnlyMarks self.old self.new }
         ensures serves { CanCoreServe R.slot self.new }
         ensures stands { StandsStill R.slot_count R.told self.old self.new }
@@ -74,14 +80,15 @@ impl<R: Rack> Core<R> {
         self.meta.fill = 0;
     }
 
-    /// Begins a shift up to the next higher gear, with a spin-up counted for each disk that comes up. The
-    /// allowance of a parked disk always leaves it one.
+    /// Begins a shift up to the next higher gear, with a spin-up counted for each disk that comes
+    /// up. The allowance of a parked disk always leaves it one.
     pub fn begin_up(&mut self, to: u8)
         requires ready { IsCoreReady R.slot_count R.slot self.old }
         requires whole { (meta_of self.old).out ≡ No }
         requires steady { (meta_of self.old).phase ≡ Steady }
         requires next { AreNextGears (meta_of self.old).setup.geometry (meta_of self.old).gear to }
-        ensures meta { meta_of self.new ≡ meta_after_begin (meta_of self.old) (Up to) (meta_of self.new).spins }
+        ensures meta { meta_of self.new
+            ≡ meta_after_begin (meta_of self.old) (Up to) (meta_of self.new).spins }
         ensures raised { (d : ℕ) → (meta_of self.old).gear ≤ d → d < to
             → slice_index (meta_of self.new).spins d ≡ slice_index (meta_of self.old).spins d + 1 }
         ensures others { (d : ℕ) → (d < (meta_of self.old).gear) ⊎ (to ≤ d)
@@ -100,11 +107,14 @@ impl<R: Rack> Core<R> {
         requires serving { IsCoreInService self.old }
         requires whole { (meta_of self.old).out ≡ No }
         requires shifts { 0 < phase_to (meta_of self.old).phase }
-        requires filled { (meta_of self.old).fill ≡ stripe_count (meta_of self.old).setup.geometry.disks
+        requires filled { (meta_of self.old).fill
+            ≡ stripe_count (meta_of self.old).setup.geometry.disks
             (meta_of self.old).setup.geometry.rows (phase_to (meta_of self.old).phase) }
-        requires clean { (r d : ℕ) → r < (meta_of self.old).setup.geometry.rows → (meta_of self.old).gear ≤ d
+        requires clean { (r d : ℕ)
+            → r < (meta_of self.old).setup.geometry.rows → (meta_of self.old).gear ≤ d
             → d < phase_to (meta_of self.old).phase → is_dirty (core_table self.old) r d ≡ false }
-        ensures meta { meta_of self.new ≡ meta_flipped_to (meta_of self.old) (phase_to (meta_of self.old).phase) }
+        ensures meta { meta_of self.new
+            ≡ meta_flipped_to (meta_of self.old) (phase_to (meta_of self.old).phase) }
         ensures marks { OnlyMarks self.old self.new }
         ensures serves { CanCoreServe R.slot self.new }
         ensures stands { StandsStill R.slot_count R.told self.old self.new }

@@ -43,11 +43,13 @@ impl<R: Rack> Core<R> {
         requires parked { (R.slot (core_rack self.old) disk).power ≡ Parked }
         ensures turns { PowersDisk disk self.old self.new result }
         ensures spins { result ≡ Ok true → (R.slot (core_rack self.new) disk).power ≡ Spinning }
-        ensures size { result ≡ Ok true → (R.slot (core_rack self.new) disk).size ≡ (R.slot (core_rack self.old) disk).size }
+        ensures size { result ≡ Ok true
+            → (R.slot (core_rack self.new) disk).size ≡ (R.slot (core_rack self.old) disk).size }
         ensures answers { AnswersPowerCall disk self.old self.new result }
-        // Once all disks of the gear that the shift goes to have come up, cells can be read and written.
-        ensures serves { OnOk result (HaveComeUpBut (R.slot (core_rack self.old)) (meta_of self.old) disk
-            → CanCoreServe R.slot self.new) }
+        // Once all disks of the gear that the shift goes to have come up, cells can be read and
+        // written.
+        ensures serves { OnOk result (HaveComeUpBut
+            (R.slot (core_rack self.old)) (meta_of self.old) disk → CanCoreServe R.slot self.new) }
         ensures calls { MakesOneCall R.told (λ done. SpinUp disk done) self.old self.new }
         ensures held { StandsPowered self.old self.new result }
     {

@@ -1,5 +1,5 @@
-//! A core as that over which a write is planned: what is drafted is seen by the reads of the plan, and
-//! nothing of it is staged yet.
+//! A core as that over which a write is planned: what is drafted is seen by the reads of the plan,
+//! and nothing of it is staged yet.
 ghost use Rattle.std.specs.Prelude.{◌++◌, ◌≡◌, ◌≢◌, ℕ, ◌+◌, ◌<◌, ◌≤◌, Some, Option, IfErr, IsSome, IsTrue, ◌↔◌, OnOk, length, false, []};
 ghost use Rattle.paraid_core.specs.Undo.{AreOfTable, undo_changes};
 ghost use Rattle.paraid_dirty.specs.Table.{table_with_bit, is_dirty};
@@ -50,8 +50,10 @@ fn read_stripe<R: Rack>(
         store.old store.new }
     ensures below { IfErr result (λ d. d < disks_of store.old) }
     ensures failed { IfErr result (λ d. out ≢ Some d) }
-    ensures off { Ran (R.told (store_rack store.old)) (R.told (store_rack store.new)) (AreOffDisk out) }
-    ensures value { OnOk result ((f : Contents) (table : _) → ShowsContents (R.told (store_rack store.old)) (batch.now ++ draft.now) f
+    ensures off { Ran
+        (R.told (store_rack store.old)) (R.told (store_rack store.new)) (AreOffDisk out) }
+    ensures value { OnOk result ((f : Contents) (table : _)
+        → ShowsContents (R.told (store_rack store.old)) (batch.now ++ draft.now) f
         → IsSome (R.told (store_rack store.new))
         → into.new ≡ stripe_block_now (seen_by meta.now table out f) s e) }
 {
@@ -67,7 +69,8 @@ fn turn(dirty: &mut DirtyTable, r: Row, d: DiskNo, bit: bool)
     requires row { r < length dirty.old }
     requires disk { d < 8 }
     ensures rows { length dirty.new ≡ length dirty.old }
-    ensures cells { (q e : ℕ) → is_dirty dirty.new q e ≡ table_with_bit (is_dirty dirty.old) r d bit q e }
+    ensures cells { (q e : ℕ)
+        → is_dirty dirty.new q e ≡ table_with_bit (is_dirty dirty.old) r d bit q e }
 {
     if bit {
         dirty.set(r, d);
@@ -88,7 +91,8 @@ pub(crate) fn undo(changes: &mut Changes, dirty: &mut DirtyTable)
     }
 }
 
-// Marks the disk of a target that is at this place. It branches nowhere, since no processor can guess which are.
+// Marks the disk of a target that is at this place. It branches nowhere, since no processor can
+// guess which are.
 fn mark_at(staged: &mut [bool; 8], place: Place, target: Target) {
     let at = (target.disk % 8) as usize;
     let is = u8::from(target.place == place) & u8::from(target.disk < 8);

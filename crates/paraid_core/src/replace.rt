@@ -1,5 +1,5 @@
-//! A fresh disk comes in the place of the one that is gone, and comes back once it is rebuilt. Both are staged, and the
-//! next commit brings them to the disks.
+//! A fresh disk comes in the place of the one that is gone, and comes back once it is rebuilt. Both
+//! are staged, and the next commit brings them to the disks.
 ghost use Rattle.std.specs.Prelude.{◌≡◌, ℕ, ◌<◌, false, true, [], None, Some};
 ghost use Rattle.paraid_base.specs.declared.state.Out.TheVariants.{Fresh, Gone, No};
 ghost use Rattle.paraid_base.specs.History.{History};
@@ -27,26 +27,33 @@ use paraid_rack::Rack;
 impl<R: Rack> Core<R> {
     ghost use Rattle.paraid_core.specs.Cores.{CanCoreServe, CoreStandsFor, IsCoreHeldSinceCommit, IsCoreReady, batch_of, core_rack, meta_of, store_of};
 
-    /// Attaches a fresh disk in the place of the one that is gone, by the last commit too, while nothing is staged. True
-    /// once it is there: none of its units is rebuilt. False where it failed: the disk is gone still.
+    /// Attaches a fresh disk in the place of the one that is gone, by the last commit too, while
+    /// nothing is staged. True once it is there: none of its units is rebuilt. False where it
+    /// failed: the disk is gone still.
     pub fn attach(&mut self, disk: DiskNo) -> bool
         requires ready { IsCoreReady R.slot_count R.slot self.old }
         requires gone { (meta_of self.old).out ≡ Gone disk }
         requires named { named_of (store_of self.old) ≡ Some disk }
         requires nothing { batch_of self.old ≡ [] }
         ensures leaves { LeavesAttached disk self.old self.new }
-        ensures attached { result ≡ true → R.slot (core_rack self.new) disk ≡ record (R.slot (core_rack self.old) disk)
-            { power = Spinning; size = disk_size (meta_of self.old).setup.geometry; unsynced = false } }
-        ensures fresh { result ≡ true → meta_of self.new ≡ meta_with_out (meta_of self.old) (Fresh disk 0) }
-        ensures lost { result ≡ false → IsLostNow (R.slot (core_rack self.old)) (R.slot (core_rack self.new)) disk }
+        ensures attached { result ≡ true → R.slot (core_rack self.new) disk
+            ≡ record (R.slot (core_rack self.old) disk) {
+              power = Spinning;
+              size = disk_size (meta_of self.old).setup.geometry;
+              unsynced = false;
+            } }
+        ensures fresh { result ≡ true
+            → meta_of self.new ≡ meta_with_out (meta_of self.old) (Fresh disk 0) }
+        ensures lost { result ≡ false
+            → IsLostNow (R.slot (core_rack self.old)) (R.slot (core_rack self.new)) disk }
         ensures same { result ≡ false → meta_of self.new ≡ meta_of self.old }
-        ensures calls { MakesOneCall R.told (λ done. Attach disk (disk_size (meta_of self.old).setup.geometry) done)
-            self.old self.new }
+        ensures calls { MakesOneCall R.told (λ done.
+            Attach disk (disk_size (meta_of self.old).setup.geometry) done) self.old self.new }
         // Each stop leaves what it left before, and the writes are as before.
         ensures stands { (h : History) (lo : ℕ)
             → Ran (R.told (core_rack self.old)) (R.told (core_rack self.new))
-            (CrashTriple (IsCoreHeldSinceCommit R.slot_count self.old h lo)
-            (CoreCommitted R.slot_count self.old h lo (Gone disk)) (CoreStandsFor R.slot_count self.new h lo)) }
+            (CrashTriple (IsCoreHeldSinceCommit R.slot_count self.old h lo) (CoreCommitted
+            R.slot_count self.old h lo (Gone disk)) (CoreStandsFor R.slot_count self.new h lo)) }
     {
         let size = self.meta.setup.geometry.size();
         let Ok(()) = self.store.attach(disk, size) else {
@@ -56,8 +63,9 @@ impl<R: Rack> Core<R> {
         true
     }
 
-    /// Takes the disk that is rebuilt into the array again, where each of its units is copied and all disks are there. It
-    /// is staged, and the disk comes back by the next commit. No call is made.
+    /// Takes the disk that is rebuilt into the array again, where each of its units is copied and
+    /// all disks are there. It is staged, and the disk comes back by the next commit. No call is
+    /// made.
     pub fn rejoin(&mut self)
         requires ready { IsCoreReady R.slot_count R.slot self.old }
         requires rebuilding { gone_out_of (meta_of self.old).out ≡ None }
@@ -66,12 +74,14 @@ impl<R: Rack> Core<R> {
         requires nothing { batch_of self.old ≡ [] }
         ensures meta { meta_of self.new ≡ meta_with_out (meta_of self.old) No }
         ensures marks { OnlyMarks self.old self.new }
-        ensures up { CanCoreServe R.slot self.old → HaveComeUp (R.slot (core_rack self.new)) (meta_of self.new) }
+        ensures up { CanCoreServe R.slot self.old
+            → HaveComeUp (R.slot (core_rack self.new)) (meta_of self.new) }
         ensures absent { IsNamedOrAbsent R.slot self.new }
-        ensures stands { (d units : ℕ) → (meta_of self.old).out ≡ Fresh d units → (h : History) (lo : ℕ)
-            → Ran (R.told (core_rack self.old)) (R.told (core_rack self.new))
-            (CrashTriple (IsCoreHeldSinceCommit R.slot_count self.old h lo)
-            (UnitsRebuilt R.slot_count self.old h lo (rebuild_units (meta_of self.old).setup.geometry (meta_of self.old).gear d))
+        ensures stands { (d units : ℕ)
+            → (meta_of self.old).out ≡ Fresh d units → (h : History) (lo : ℕ)
+            → Ran (R.told (core_rack self.old)) (R.told (core_rack self.new)) (CrashTriple
+            (IsCoreHeldSinceCommit R.slot_count self.old h lo) (UnitsRebuilt R.slot_count self.old
+            h lo (rebuild_units (meta_of self.old).setup.geometry (meta_of self.old).gear d))
             (CoreStandsFor R.slot_count self.new h lo)) }
     {
         self.meta.out = Out::No;

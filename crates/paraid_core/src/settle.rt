@@ -74,8 +74,9 @@ impl<R: Rack> Core<R> {
         requires ready { IsCoreReady R.slot_count R.slot self.old }
         requires still { IsStillOut (named_of (store_of self.old)) (meta_of self.old) }
         ensures keeps { LeavesCopies self.old self.new result }
-        ensures synced { OnOk result ((d : ℕ) → d < (meta_of self.old).setup.geometry.disks
-            → is_copied (copied_of self.old) d ≡ true → IsSyncedAt (R.slot (core_rack self.new)) d) }
+        ensures synced { OnOk result ((d : ℕ)
+            → d < (meta_of self.old).setup.geometry.disks → is_copied (copied_of self.old) d ≡ true
+            → IsSyncedAt (R.slot (core_rack self.new)) d) }
         ensures copies_synced { OnOk result (AreCopiesSynced (meta_of self.old).setup.geometry.disks
             (copied_of self.new)) }
         ensures calls { MakesCopySyncs R.told self.old self.new }

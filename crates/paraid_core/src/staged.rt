@@ -1,4 +1,5 @@
-//! The core of an array: its disks with what is staged over them, and the commit that brings it there.
+//! The core of an array: its disks with what is staged over them, and the commit that brings it
+//! there.
 ghost use Rattle.std.specs.Prelude.{◌≡◌, ◌≢◌, ℕ, ◌<◌, [], length, Some, Ok, OnOk, IfErr, IsSome, true};
 ghost use Rattle.paraid_base.specs.History.{History, after_all as held_by};
 ghost use Rattle.paraid_rack.specs.Trail.{Trail, now};
@@ -64,7 +65,8 @@ pub(crate) fn lose(meta: &mut Meta, lost: Option<DiskNo>) -> Result<(), Two>
     Ok(())
 }
 
-// A disk has failed, and what was asked of it is not done: it is out from now on, unless another one is.
+// A disk has failed, and what was asked of it is not done: it is out from now on, unless another
+// one is.
 pub(crate) fn put_out(meta: &mut Meta, disk: DiskNo) -> Result<bool, Two>
     ensures never { result ≡ Ok true → ⊥ }
     ensures out { OnOk result (IsPutOut meta.old meta.new (Some disk)) }
@@ -160,7 +162,8 @@ impl<R: Rack> Core<R> {
         ensures reads { StagesNothing self.old self.new result }
 
         ensures value { OnOk result ((h : History) (lo : ℕ) (t : Trail)
-            → R.told (core_rack self.old) ≡ Some t → CoreStandsFor R.slot_count self.old h lo (now t)
+            → R.told (core_rack self.old) ≡ Some t
+            → CoreStandsFor R.slot_count self.old h lo (now t)
             → IsSome (R.told (core_rack self.new)) → into.new ≡ held_by h block) }
     {
         let (r, d) = home(&self.meta.setup.geometry, block);
@@ -168,8 +171,8 @@ impl<R: Rack> Core<R> {
     }
 
     /// Brings all that is staged to the disks, whole or not at all. A disk that fails in it is out
-    /// from then on; the commit goes on without it. A disk that was out and is so no longer by what is
-    /// staged comes back in it; then no other one can be lost.
+    /// from then on; the commit goes on without it. A disk that was out and is so no longer by what
+    /// is staged comes back in it; then no other one can be lost.
     pub fn commit(&mut self) -> Result<(), Two>
         requires ready { IsCoreReady R.slot_count R.slot self.old }
         requires committable { CanBeCommitted self.old }
@@ -178,11 +181,13 @@ impl<R: Rack> Core<R> {
         ensures stays { StaysReady (core_down self.old) self.old self.new result }
         ensures serves { OnOk result (CanCoreServe R.slot self.old → CanCoreServe R.slot self.new) }
         // So it can after a commit in which a disk comes back.
-        ensures serves_again { OnOk result (HaveComeUp (R.slot (core_rack self.old)) (meta_of self.old)
-            → CanCoreServe R.slot self.new) }
+        ensures serves_again { OnOk result (HaveComeUp
+            (R.slot (core_rack self.old)) (meta_of self.old) → CanCoreServe R.slot self.new) }
         ensures meta { CommitsMeta self.old self.new result }
-        ensures still_synced { OnOk result (StaySynced (R.slot (core_rack self.old)) (R.slot (core_rack self.new))) }
-        ensures unsynced { OnOk result (AreUnsyncedCopied R.slot self.old → AreUnsyncedCopied R.slot self.new) }
+        ensures still_synced { OnOk result
+            (StaySynced (R.slot (core_rack self.old)) (R.slot (core_rack self.new))) }
+        ensures unsynced { OnOk result (AreUnsyncedCopied R.slot self.old
+            → AreUnsyncedCopied R.slot self.new) }
         ensures brings { CommitsStaged self.old self.new result }
         ensures nothing { OnOk result (batch_of self.new ≡ []) }
 

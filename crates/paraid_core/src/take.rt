@@ -12,7 +12,8 @@ use paraid_record::{Meta, Target};
 use paraid_txn::Batch;
 use paraid_view::Draft;
 
-// Whether a disk of the array has this place. The regions of the gears are counted only past the rows.
+// Whether a disk of the array has this place. The regions of the gears are counted only past the
+// rows.
 fn is_on_disk(g: &Geometry, place: Place) -> bool
     ensures is { IsTrue result → place < disk_size g.now }
     ensures of { place < disk_size g.now → IsTrue result }
@@ -20,7 +21,8 @@ fn is_on_disk(g: &Geometry, place: Place) -> bool
     place < g.map_start() + g.map_blocks() + g.rows || place < g.size()
 }
 
-// Whether a target is past the log, on a disk of the array, and on disk 0 or 1 where it is of the map.
+// Whether a target is past the log, on a disk of the array, and on disk 0 or 1 where it is of the
+// map.
 fn is_in_range(g: &Geometry, target: Target) -> bool
     ensures is { IsTrue result → IsTargetInRange g.now target }
     ensures of { IsTargetInRange g.now target → IsTrue result }
@@ -43,10 +45,12 @@ fn is_placed(m: &Meta, target: Target) -> bool
 
 // Adds a block, unless a commit could not take its target.
 fn take_one(batch: &mut Batch, m: &Meta, target: Target, block: &Block)
-    requires room { (length batch.old < batch_room) ⊎ (names_place batch.old target.disk target.place ≡ true) }
+    requires room { (length batch.old < batch_room)
+        ⊎ (names_place batch.old target.disk target.place ≡ true) }
     requires apart { AreApart batch.old }
     ensures taken { IsTakenIn m.now batch.old ((target, block.now) ∷ []) batch.new }
-    ensures names { (d p : ℕ) → names_place batch.old d p ≡ true → names_place batch.new d p ≡ true }
+    ensures names { (d p : ℕ)
+        → names_place batch.old d p ≡ true → names_place batch.new d p ≡ true }
 {
     if !is_placed(m, target) {
         return;
@@ -54,8 +58,8 @@ fn take_one(batch: &mut Batch, m: &Meta, target: Target, block: &Block)
     let _added = batch.add(target.disk, target.place, block);
 }
 
-/// Adds all that is drafted, for which there is room, or which stands in the batch already. What a plan has drafted can
-/// be committed; a target that could not be is left out.
+/// Adds all that is drafted, for which there is room, or which stands in the batch already. What a
+/// plan has drafted can be committed; a target that could not be is left out.
 pub(crate) fn take(batch: &mut Batch, m: &Meta, draft: &Draft)
     requires room { HasRoomFor batch.old draft.now }
     requires apart { AreApart batch.old }

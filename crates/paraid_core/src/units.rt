@@ -97,8 +97,8 @@ fn place_of_unit(meta: &Meta, disk: DiskNo, number: u32, unit: RebuildUnit) -> P
     }
 }
 
-// Whether a unit is passed over: the dirty cell of a disk from the gear on, which is stored nowhere but in
-// its copy.
+// Whether a unit is passed over: the dirty cell of a disk from the gear on, which is stored nowhere
+// but in its copy.
 fn is_passed(meta: &Meta, dirty: &DirtyTable, disk: DiskNo, number: u32, unit: RebuildUnit) -> bool
     requires unit { IsUnitNumber meta.now disk number unit }
     requires disk { disk < 8 }
@@ -114,8 +114,8 @@ fn is_passed(meta: &Meta, dirty: &DirtyTable, disk: DiskNo, number: u32, unit: R
     }
 }
 
-// Reads what a unit of the disk that is out stores, from the other disks. It refuses where one of them
-// has failed.
+// Reads what a unit of the disk that is out stores, from the other disks. It refuses where one of
+// them has failed.
 fn read_unit<R: Rack>(
     store: &mut Store<R>,
     batch: &Batch,
@@ -132,13 +132,14 @@ fn read_unit<R: Rack>(
     requires unit { IsUnitNumber meta.now disk number unit }
     requires rows { length dirty.now ≡ meta.now.setup.geometry.rows }
     requires array { meta.now.setup.geometry.disks ≡ disks_of store.old }
-    requires ready { CanRead (R.slot_count (rack_of_store store.old)) (R.slot (rack_of_store store.old))
-        meta.now (Some disk) }
+    requires ready { CanRead (R.slot_count (rack_of_store store.old))
+        (R.slot (rack_of_store store.old)) meta.now (Some disk) }
     ensures read { HaveRead R.slot_count R.slot R.told (disks_of store.old) (lost_by result)
         store.old store.new }
     ensures below { IfErr result (λ e. e < disks_of store.old) }
     ensures failed { IfErr result (λ e. e ≢ disk) }
-    ensures value { OnOk result ((f : Contents) → ShowsContents (R.told (rack_of_store store.old)) (batch.now ++ draft.now) f
+    ensures value { OnOk result ((f : Contents)
+        → ShowsContents (R.told (rack_of_store store.old)) (batch.now ++ draft.now) f
         → IsSome (R.told (rack_of_store store.new))
         → into.new ≡ rebuilt_block (seen_by meta.now dirty.now (Some disk) f) disk unit) }
 {
@@ -164,7 +165,8 @@ fn read_unit<R: Rack>(
 impl<R: Rack> Core<R> {
     ghost use Rattle.paraid_core.specs.Cores.{IsCoreHeldSinceCommit, IsCoreReady, CanCoreServe, CoreStandsFor, batch_of, copied_of, core_table, draft_of, meta_of, core_rack, store_of};
 
-    // Writes what a unit stores to its place of the disk that is rebuilt. False where that disk was lost.
+    // Writes what a unit stores to its place of the disk that is rebuilt. False where that disk was
+    // lost.
     fn write_unit(
         &mut self,
         disk: DiskNo,
@@ -231,18 +233,19 @@ impl<R: Rack> Core<R> {
         })
     }
 
-    /// Copies one unit of the disk that is rebuilt past the log, by what the other disks give, with one
-    /// write. The dirty cell of a disk from the gear on is a unit that writes nothing.
+    /// Copies one unit of the disk that is rebuilt past the log, by what the other disks give, with
+    /// one write. The dirty cell of a disk from the gear on is a unit that writes nothing.
     ///
-    /// True once the unit is copied. False where the disk that is rebuilt was lost: it is gone from then on.
+    /// True once the unit is copied. False where the disk that is rebuilt was lost: it is gone from
+    /// then on.
     pub fn rebuild_unit(&mut self, number: u32) -> Result<bool, Two>
         requires serving { IsCoreInService self.old }
         requires no_draft { draft_of self.old ≡ [] }
         requires out { has_out (meta_of self.old).out ≡ true }
         requires back { gone_out (meta_of self.old).out ≡ None }
         requires from { rebuilt_count (meta_of self.old).out ≤ number }
-        requires unit { (d : ℕ) → named_out_of (meta_of self.old).out ≡ Some d
-            → number < units_of_rebuild (meta_of self.old).setup.geometry (meta_of self.old).gear d }
+        requires unit { (d : ℕ) → named_out_of (meta_of self.old).out ≡ Some d → number
+            < units_of_rebuild (meta_of self.old).setup.geometry (meta_of self.old).gear d }
         requires spins { (d : ℕ) → named_out_of (meta_of self.old).out ≡ Some d
             → (R.slot (core_rack self.old) d).power ≡ Spinning }
         requires nothing { batch_of self.old ≡ [] }
@@ -250,8 +253,9 @@ impl<R: Rack> Core<R> {
         ensures spins { result ≡ Ok true → (d : ℕ) → named_out_of (meta_of self.old).out ≡ Some d
             → (R.slot (core_rack self.new) d).power ≡ Spinning }
         // No call is made for the dirty cell of a disk from the gear on.
-        ensures passed { (d : ℕ) → named_out_of (meta_of self.old).out ≡ Some d → (meta_of self.old).gear ≤ d
-            → number < (meta_of self.old).setup.geometry.rows → is_dirty (core_table self.old) number d ≡ true
+        ensures passed { (d : ℕ) → named_out_of (meta_of self.old).out ≡ Some d
+            → (meta_of self.old).gear ≤ d → number < (meta_of self.old).setup.geometry.rows
+            → is_dirty (core_table self.old) number d ≡ true
             → core_rack self.new ≡ core_rack self.old }
         ensures held { CopiesOrLoses self.old self.new result
             (λ h lo. UnitsRebuilt R.slot_count self.old h lo number)
@@ -270,7 +274,8 @@ impl<R: Rack> Core<R> {
         self.copy_unit(disk, number, unit)
     }
 
-    /// Marks the units below `end` of the disk that is rebuilt. They are copied, and each copy is synced.
+    /// Marks the units below `end` of the disk that is rebuilt. They are copied, and each copy is
+    /// synced.
     pub fn mark_rebuilt(&mut self, end: u32)
         requires ready { IsCoreReady R.slot_count R.slot self.old }
         requires out { has_out (meta_of self.old).out ≡ true }
@@ -278,28 +283,31 @@ impl<R: Rack> Core<R> {
         requires nothing { batch_of self.old ≡ [] }
         requires limit { (d : ℕ) → named_out_of (meta_of self.old).out ≡ Some d
             → end ≤ units_of_rebuild (meta_of self.old).setup.geometry (meta_of self.old).gear d }
-        requires copies_synced { AreCopiesSynced (meta_of self.old).setup.geometry.disks (copied_of self.old) }
+        requires copies_synced { AreCopiesSynced
+            (meta_of self.old).setup.geometry.disks (copied_of self.old) }
         ensures meta { (d : ℕ) → named_out_of (meta_of self.old).out ≡ Some d
             → meta_of self.new ≡ meta_with_out (meta_of self.old) (Fresh d end) }
         ensures marks { OnlyMarks self.old self.new }
         ensures serves { CanCoreServe R.slot self.old → CanCoreServe R.slot self.new }
         ensures stands { (h : History) (lo : ℕ)
             → Ran (R.told (core_rack self.old)) (R.told (core_rack self.new))
-            (CrashTriple (IsCoreHeldSinceCommit R.slot_count self.old h lo)
-            (UnitsRebuilt R.slot_count self.old h lo end) (CoreStandsFor R.slot_count self.new h lo)) }
+            (CrashTriple (IsCoreHeldSinceCommit R.slot_count self.old h lo) (UnitsRebuilt
+            R.slot_count self.old h lo end) (CoreStandsFor R.slot_count self.new h lo)) }
     {
         let disk = fresh_disk(self.meta.out);
         self.meta.out = Out::Fresh { disk, rebuilt: end };
     }
 }
 
-/// Where nothing is staged, copies of units can begin: those that are marked are copied. And copies of
-/// stripes and of cells could begin again, whichever units are copied.
+/// Where nothing is staged, copies of units can begin: those that are marked are copied. And copies
+/// of stripes and of cells could begin again, whichever units are copied.
 pub fn units_are_copied_beside_stripes()
-    ensures units { (slots : ℕ) (named : Option ℕ) (m : MetaType) (table : List (List Bool)) (copied : List Bool)
-        (h : History) (lo : ℕ) (s : Disks) → KeepsFilled slots named m table copied h lo m.fill s
+    ensures units { (slots : ℕ) (named : Option ℕ) (m : MetaType)
+        (table : List (List Bool)) (copied : List Bool) (h : History) (lo : ℕ) (s : Disks)
+        → KeepsFilled slots named m table copied h lo m.fill s
         → KeepsRebuilt slots named m table copied h lo (rebuilt_count m.out) s }
-    ensures stripes { (slots : ℕ) (named : Option ℕ) (m : MetaType) (table : List (List Bool)) (copied : List Bool)
-        (h : History) (lo end : ℕ) (s : Disks) → KeepsRebuilt slots named m table copied h lo end s
+    ensures stripes { (slots : ℕ) (named : Option ℕ) (m : MetaType)
+        (table : List (List Bool)) (copied : List Bool) (h : History) (lo end : ℕ) (s : Disks)
+        → KeepsRebuilt slots named m table copied h lo end s
         → KeepsFilled slots named m table copied h lo m.fill s }
 {}

@@ -22,8 +22,8 @@ use paraid_view::read_cell;
 impl<R: Rack> Core<R> {
     ghost use Rattle.paraid_core.specs.Cores.{IsCoreReady, CoreStandsFor, batch_of, copied_of, draft_of, meta_of, core_rack, store_of};
 
-    /// Reads the value of a cell, with all that is staged laid over the disks. What is staged stays as
-    /// it is; a disk that fails in the read is out from then on.
+    /// Reads the value of a cell, with all that is staged laid over the disks. What is staged stays
+    /// as it is; a disk that fails in the read is out from then on.
     pub fn read_value(&mut self, r: Row, d: DiskNo, into: &mut Block) -> Result<(), Two>
         requires serving { IsCoreInService self.old }
         requires row { r < (meta_of self.old).setup.geometry.rows }
@@ -33,9 +33,10 @@ impl<R: Rack> Core<R> {
         ensures reads { StagesNothing self.old self.new result }
 
         ensures value { OnOk result ((h : History) (lo : ℕ) (t : Trail)
-            → R.told (core_rack self.old) ≡ Some t → CoreStandsFor R.slot_count self.old h lo (now t)
-            → IsSome (R.told (core_rack self.new)) → into.new ≡ value_of (view_by (meta_of self.old) (now t).power
-            (contents (now t) (batch_of self.old))) r d) }
+            → R.told (core_rack self.old) ≡ Some t
+            → CoreStandsFor R.slot_count self.old h lo (now t)
+            → IsSome (R.told (core_rack self.new)) → into.new ≡ value_of
+            (view_by (meta_of self.old) (now t).power (contents (now t) (batch_of self.old))) r d) }
     {
         let lost = read_cell(
             &mut self.store,
@@ -50,8 +51,8 @@ impl<R: Rack> Core<R> {
         lose(&mut self.meta, lost)
     }
 
-    /// Reads the block that is stored at a place of a disk that spins, while nothing is staged. True once it is
-    /// read. False where the disk was lost: it is out from then on.
+    /// Reads the block that is stored at a place of a disk that spins, while nothing is staged.
+    /// True once it is read. False where the disk was lost: it is out from then on.
     pub fn read_stored(&mut self, disk: DiskNo, place: Place, into: &mut Block) -> Result<bool, Two>
         requires ready { IsCoreReady R.slot_count R.slot self.old }
         requires still { IsStillOut (named_of (store_of self.old)) (meta_of self.old) }

@@ -20,12 +20,15 @@ answer_asked (Ok answered) beside = answer_with answered beside
 answer_asked (Err halt) beside = Halted halt
 
 -- The array answers an event with its cause, or has halted.
-pub record AsksArray {A : Type 0} (g : Ghosts A) (old new : A) (event : Event) (answer : Answer) : Type 0 where
-  pub turn : (p : Point) → g.stands old p → Ran (g.told old) (g.told new) (GoesOn (g.slots old) (g.setup old) p event answer (g.stands new))
+pub record AsksArray
+    {A : Type 0} (g : Ghosts A) (old new : A) (event : Event) (answer : Answer) : Type 0 where
+  pub turn : (p : Point) → g.stands old p → Ran
+      (g.told old) (g.told new) (GoesOn (g.slots old) (g.setup old) p event answer (g.stands new))
   pub grows : Extends (g.told old) (g.told new)
   pub same_slots : g.slots new ≡ g.slots old
   pub same_setup : g.setup new ≡ g.setup old
   pub halt : g.halted new ≡ halt_told answer
   pub again : IsSome (g.halted old) → g.halted new ≡ g.halted old
   pub cause : HasCause (g.shown old) event answer (g.shown new)
-  pub since : (start : ℕ → Slot) → HasServedSince start (g.slot old) (g.halted old) → HasServedSince start (g.slot new) (g.halted new)
+  pub since : (start : ℕ → Slot) → HasServedSince start (g.slot old) (g.halted old)
+      → HasServedSince start (g.slot new) (g.halted new)

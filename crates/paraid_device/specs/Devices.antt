@@ -39,7 +39,8 @@ span_between g first now = span_of (g.slots first) (g.setup first) (g.told first
 
 -- From this point of a session these events were answered so, by the calls from one record to
 -- another, and then the array stands at the end of them.
-pub record AnswersFrom (span : Span) (p : Point) (events : Answers) (stood : Point → Type 0) : Type 0 where
+pub record AnswersFrom
+    (span : Span) (p : Point) (events : Answers) (stood : Point → Type 0) : Type 0 where
   pub asked : List Event
   pub all : Stretch span p asked
   pub answered : answers_in all.turns ≡ events
@@ -48,7 +49,8 @@ pub record AnswersFrom (span : Span) (p : Point) (events : Answers) (stood : Poi
 -- Each of these events is answered so with a cause, one after the other.
 abbrev pub HaveAnswerCauses : Shown → Answers → Shown → Type 0
 HaveAnswerCauses old [] new = new ≡ old
-HaveAnswerCauses old (e ∷ events) new = (mid : Shown) × HasCause old e.0 e.1 mid × HaveAnswerCauses mid events new
+HaveAnswerCauses old (e ∷ events) new =
+    (mid : Shown) × HasCause old e.0 e.1 mid × HaveAnswerCauses mid events new
 
 -- what a block device asks of its array: a read, a write or a flush
 abbrev pub IsBlockEvent : Event → Type 0
@@ -62,16 +64,17 @@ abbrev pub AreBlockEvents : Answers → Type 0
 AreBlockEvents [] = Unit {0}
 AreBlockEvents (e ∷ events) = IsBlockEvent e.0 × AreBlockEvents events
 
--- Since the array was as the first is, it answered these reads, writes and flushes, each with its cause: over the same slots and
--- with the same setup; what is told is longer by its calls; a halt that names two disks has come of the
--- failure of the second one since; and where its record is told, from each point at which it stood
--- then a session led to a point at which it stands now.
+-- Since the array was as the first is, it answered these reads, writes and flushes, each with its
+-- cause: over the same slots and with the same setup; what is told is longer by its calls; a halt
+-- that names two disks has come of the failure of the second one since; and where its record is
+-- told, from each point at which it stood then a session led to a point at which it stands now.
 pub record HasAnswered {A : Type 0} (g : Ghosts A) (first now : A) (events : Answers) : Type 0 where
   pub same_slots : g.slots now ≡ g.slots first
   pub same_setup : g.setup now ≡ g.setup first
   pub grows : Extends (g.told first) (g.told now)
   pub kinds : AreBlockEvents events
   pub causes : HaveAnswerCauses (g.shown first) events (g.shown now)
-  pub since : (start : ℕ → Slot) → HasServedSince start (g.slot first) (g.halted first) → HasServedSince start (g.slot now) (g.halted now)
+  pub since : (start : ℕ → Slot) → HasServedSince start (g.slot first) (g.halted first)
+      → HasServedSince start (g.slot now) (g.halted now)
   pub leads : IsSome (g.told now) → (p : Point) → g.stands first p
       → AnswersFrom (span_between g first now) p events (g.stands now)

@@ -36,5 +36,6 @@ few_blocks setup =
     omega (arith, mul-le setup.geometry.rows (setup.geometry.disks - 1) 65536 7 rows less)
 
 -- its halt is that of its array
-pub array_halt : {A : Type 0} {g : _} (device : Device A g) → g.halted (array_of device) ≡ halt_of_device device
+pub array_halt : {A : Type 0} {g : _} (device : Device A g)
+    → g.halted (array_of device) ≡ halt_of_device device
 array_halt device = sym device.agrees

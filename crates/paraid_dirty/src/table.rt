@@ -74,7 +74,8 @@ impl DirtyTable {
         requires row { r < length self.old }
         requires disk { d < 8 }
         ensures rows { length self.new ≡ length self.old }
-        ensures cells { (q e : ℕ) → is_dirty self.new q e ≡ table_with_bit (is_dirty self.old) r d true q e }
+        ensures cells { (q e : ℕ)
+            → is_dirty self.new q e ≡ table_with_bit (is_dirty self.old) r d true q e }
     {
         set_bit(&mut self.words, 8 * r as usize + d as usize);
         set_bit(&mut self.marks, r as usize / 8);
@@ -85,7 +86,8 @@ impl DirtyTable {
         requires row { r < length self.old }
         requires disk { d < 8 }
         ensures rows { length self.new ≡ length self.old }
-        ensures cells { (q e : ℕ) → is_dirty self.new q e ≡ table_with_bit (is_dirty self.old) r d false q e }
+        ensures cells { (q e : ℕ)
+            → is_dirty self.new q e ≡ table_with_bit (is_dirty self.old) r d false q e }
     {
         clear_bit(&mut self.words, 8 * r as usize + d as usize);
         let at = r as usize / 8;
@@ -129,7 +131,8 @@ impl DirtyTable {
         requires order { lo ≤ hi }
         requires high { hi ≤ 8 }
         ensures none { IfNone result (IsClean (is_dirty self.now) lo hi) }
-        ensures first { IfSome result (λ cell. IsFirstDirty (is_dirty self.now) lo hi cell.0 cell.1) }
+        ensures first { IfSome result (λ cell.
+            IsFirstDirty (is_dirty self.now) lo hi cell.0 cell.1) }
         ensures within { IfSome result (λ cell. cell.0 < length self.now) }
     {
         self.next_from(0, 0, lo, hi)
@@ -168,7 +171,8 @@ impl DirtyTable {
     /// The bits of eight rows from `8 * at` on, one row a byte, none past the table.
     fn eight_rows(&self, at: usize) -> [u8; 8]
         ensures length { length result ≡ 8 }
-        ensures bits { (k d : ℕ) → k < 8 → bit_of (slice_index result k) d ≡ is_dirty self.now (8 * at + k) d }
+        ensures bits { (k d : ℕ)
+            → k < 8 → bit_of (slice_index result k) d ≡ is_dirty self.now (8 * at + k) d }
     {
         if at < self.words.len() {
             self.words[at].to_le_bytes()

@@ -11,7 +11,12 @@ pub record Account : Type 0 where
 
 -- the account of a setup, with nothing used
 abbrev pub new_account : Setup → Account
-new_account s = record { spinning_mj = s.spinning_mj; parked_mj = s.parked_mj; spinup_mj = s.spinup_mj; total = 0 }
+new_account s = record {
+  spinning_mj = s.spinning_mj;
+  parked_mj = s.parked_mj;
+  spinup_mj = s.spinup_mj;
+  total = 0;
+}
 
 -- an account with the figures of a setup
 pub record HasFigures (s : Setup) (account : Account) : Type 0 where

@@ -9,7 +9,8 @@ use Rattle.paraid_event.specs.Service.{Service}
 -- What was staged is committed, with no disk lost, and the shift is marked.
 pub record MarksShiftDown (k committed begun : Service) (to : ℕ) : Type 0 where
   pub whole : committed.meta.out ≡ No
-  pub mark : begun ≡ record committed { meta = meta_after_begin committed.meta (Down to) committed.meta.spins }
+  pub mark : begun
+      ≡ record committed { meta = meta_after_begin committed.meta (Down to) committed.meta.spins }
   pub slots : committed.slots ≡ k.slots
   pub table : committed.table ≡ k.table
   pub samples : committed.samples ≡ k.samples

@@ -5,8 +5,8 @@ use Rattle.paraid_image.specs.Out.{named_out}
 use Rattle.paraid_core.specs.CoreInvariant.{AreCopiesSynced}
 use Rattle.paraid_event.specs.Service.{Service}
 
--- Of three states of a service: what was staged is committed, in which at most this disk is lost; the disk
--- is marked as out; and the mark is committed.
+-- Of three states of a service: what was staged is committed, in which at most this disk is lost;
+-- the disk is marked as out; and the mark is committed.
 pub record TakesOut (k committed marked k_then : Service) (d : ℕ) : Type 0 where
   pub alone : (e : ℕ) → named_out committed.meta.out ≡ Some e → e ≡ d
   pub mark : marked ≡ record committed { meta = meta_after_loss committed.meta d }

@@ -14,12 +14,14 @@ pub record GoesToState (k_then : Service) (new : PowerState) : Type 0 where
 -- So many units of a shift were moved, and then a disk may have been lost.
 pub record MovesUnits (k k_then : Service) (count : ℕ) : Type 0 where
   pub whole : k.meta.out ≡ No
-  pub moved : (s : PowerState) → IsStateOf k s → GoesToState k_then (after_units k.meta.setup count s)
+  pub moved : (s : PowerState)
+      → IsStateOf k s → GoesToState k_then (after_units k.meta.setup count s)
 
 -- So many units were moved, the last ones of the shift, and it has ended.
 pub record EndsShift (k k_then : Service) (count : ℕ) : Type 0 where
   pub whole : k.meta.out ≡ No
-  pub moved : (s : PowerState) → IsStateOf k s → GoesToState k_then (after_flip (after_units k.meta.setup count s))
+  pub moved : (s : PowerState)
+      → IsStateOf k s → GoesToState k_then (after_flip (after_units k.meta.setup count s))
 
 -- A shift up to gear `to` has begun.
 pub record StartsShiftUp (k k_then : Service) (to : ℕ) : Type 0 where

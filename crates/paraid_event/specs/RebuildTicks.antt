@@ -17,8 +17,12 @@ pub record CountsRebuild (k counted k_then : Service) : Type 0 where
 
 -- The units of disk `d` before `end` are rebuilt, and the marks are as they were but for that.
 pub record MarksRebuilt (k k_then : Service) (d end : ℕ) : Type 0 where
-  pub is : k_then.meta ≡ record (meta_with_out k.meta (Fresh d end)) { epoch = k_then.meta.epoch; writes = k_then.meta.writes }
+  pub is : k_then.meta ≡ record (meta_with_out k.meta (Fresh d end)) {
+    epoch = k_then.meta.epoch;
+    writes = k_then.meta.writes;
+  }
 
 -- Disk `d` is marked as gone.
 pub record MarksGoneAgain (k k_then : Service) (d : ℕ) : Type 0 where
-  pub is : k_then.meta ≡ record (meta_after_loss k.meta d) { epoch = k_then.meta.epoch; writes = k_then.meta.writes }
+  pub is : k_then.meta
+      ≡ record (meta_after_loss k.meta d) { epoch = k_then.meta.epoch; writes = k_then.meta.writes }

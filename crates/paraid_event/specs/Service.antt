@@ -7,8 +7,9 @@ use Rattle.paraid_record.specs.declared.meta.Meta.{Meta}
 use Rattle.paraid_txn.specs.Stores.{named_of, store_rack}
 use Rattle.paraid_core.specs.declared.staged.Core.{Core}
 
--- The number of slots of its rack; the disk that the last commit names out; what its core has staged;
--- and what it counts itself: the samples, the requests served since the last tick, and the energy.
+-- The number of slots of its rack; the disk that the last commit names out; what its core has
+-- staged; and what it counts itself: the samples, the requests served since the last tick, and the
+-- energy.
 pub record Service : Type 0 where
   pub slots : ℕ
   pub named : Option ℕ

@@ -21,14 +21,16 @@ ServiceStandsFor k h lo = HoldsBetweenCalls k.slots k.named k.meta k.table k.bat
 
 -- Of disk `d` the spin-ups that were made are recorded by this meta, unless the disk is gone by it.
 abbrev pub IsRecordedBy : Meta → Watch → ℕ → Type 0
-IsRecordedBy m w d = IsPresent w.disks d → gone_out m.out ≢ Some d → w.spun d ≤ made_spin_ups m w.disks.power d
+IsRecordedBy m w d = IsPresent w.disks d
+    → gone_out m.out ≢ Some d → w.spun d ≤ made_spin_ups m w.disks.power d
 
--- Between two calls of its core, in an event: it stands for `h`, the meta `base` stands on the disks,
--- and each disk that is absent or named out is down.
+-- Between two calls of its core, in an event: it stands for `h`, the meta `base` stands on the
+-- disks, and each disk that is absent or named out is down.
 pub record StandsIn (k : Service) (h : History) (lo : ℕ) (base : Meta) (w : Watch) : Type 0 where
   pub keeps : ServiceStandsFor k h lo w.disks
   pub is_base : keeps.base ≡ base
-  pub absent_down : (d : ℕ) → d < k.meta.setup.geometry.disks → is_present (w.disks.power d) ≡ false → IsAmongDown w.down d
+  pub absent_down : (d : ℕ) → d < k.meta.setup.geometry.disks
+      → is_present (w.disks.power d) ≡ false → IsAmongDown w.down d
   pub named_down : (d : ℕ) → named_out k.meta.out ≡ Some d → IsAmongDown w.down d
   pub stays : (d : ℕ) → k.named ≡ Some d → named_out k.meta.out ≡ Some d
   pub recorded : (d : ℕ) → d < k.meta.setup.geometry.disks → IsRecordedBy base w d
@@ -50,10 +52,11 @@ pub record StandsAt (told : Option Trail) (k : Service) (setup : Setup) (p : Poi
   pub fits : k.energy ≤ 18446744073709551615
   pub going : p.halt ≡ None
 
--- In the middle of an event: it stands, each disk that is absent is named out, one that is named out is of
--- the array, and one that is being rebuilt is there.
+-- In the middle of an event: it stands, each disk that is absent is named out, one that is named
+-- out is of the array, and one that is being rebuilt is there.
 pub record IsMidway (k : Service) (h : History) (lo : ℕ) (base : Meta) (w : Watch) : Type 0 where
   pub stands : StandsIn k h lo base w
-  pub named : (d : ℕ) → d < k.meta.setup.geometry.disks → is_present (w.disks.power d) ≡ false → named_out k.meta.out ≡ Some d
+  pub named : (d : ℕ) → d < k.meta.setup.geometry.disks
+      → is_present (w.disks.power d) ≡ false → named_out k.meta.out ≡ Some d
   pub low : (d : ℕ) → named_out k.meta.out ≡ Some d → d < k.meta.setup.geometry.disks
   pub fresh : (d rebuilt : ℕ) → k.meta.out ≡ Fresh d rebuilt → IsPresent w.disks d

@@ -10,7 +10,8 @@ use Rattle.paraid_moves.specs.MoveMetas.{meta_after_begin}
 use Rattle.paraid_session.specs.Turn.{Point}
 use Rattle.paraid_event.specs.Service.{IsStateOf, Service}
 
--- a tick was counted, with a sample of what was served since the last one, and with so much energy used
+-- a tick was counted, with a sample of what was served since the last one, and with so much energy
+-- used
 abbrev pub ticked : Service → ℕ → Service
 ticked k used = record k {
   meta = record k.meta { ticks = min (k.meta.ticks + 1) 18446744073709551615 };
@@ -22,13 +23,15 @@ ticked k used = record k {
 -- Nothing more has come of it, and what the disks use between two ticks was added.
 pub record CountsTick (k k_then : Service) : Type 0 where
   pub is : k_then ≡ ticked k k_then.energy
-  pub energy : (s : PowerState) → IsStateOf k s → k_then.energy ≡ min (k.energy + tick_energy k.meta.setup s) 18446744073709551615
+  pub energy : (s : PowerState) → IsStateOf k s
+      → k_then.energy ≡ min (k.energy + tick_energy k.meta.setup s) 18446744073709551615
 
--- A tick is counted and a shift down begins, by one commit with what was staged: the tick is counted, the shift is marked, and
--- the mark is committed.
+-- A tick is counted and a shift down begins, by one commit with what was staged: the tick is
+-- counted, the shift is marked, and the mark is committed.
 pub record BeginsDownByTick (k counted begun k_then : Service) (to : ℕ) : Type 0 where
   pub counts : CountsTick k counted
-  pub mark : begun ≡ record counted { meta = meta_after_begin counted.meta (Down to) counted.meta.spins }
+  pub mark : begun
+      ≡ record counted { meta = meta_after_begin counted.meta (Down to) counted.meta.spins }
   -- it is a commit
   pub epoch : k_then.meta.epoch ≡ begun.meta.epoch + 1
   pub slots : k_then.slots ≡ counted.slots

@@ -15,14 +15,17 @@ pub record IsCountedAs (k k_then : Service) : Type 0 where
   pub samples : k_then.samples ≡ k.samples
   pub served : k_then.served ≡ k.served
 
--- What was staged is committed, with no disk lost, and the shift is marked, with a spin-up recorded of each disk that
--- comes up.
+-- What was staged is committed, with no disk lost, and the shift is marked, with a spin-up recorded
+-- of each disk that comes up.
 pub record MarksShiftUp (k committed begun : Service) (to : ℕ) : Type 0 where
   pub whole : committed.meta.out ≡ No
-  pub mark : begun ≡ record committed { meta = meta_after_begin committed.meta (Up to) begun.meta.spins }
+  pub mark : begun
+      ≡ record committed { meta = meta_after_begin committed.meta (Up to) begun.meta.spins }
   pub spins : begun.meta.spins ≡ with_spin_ups committed.meta.gear to committed.meta.spins
-  pub raised : (d : ℕ) → committed.meta.gear ≤ d → d < to → slice_index begun.meta.spins d ≡ slice_index committed.meta.spins d + 1
-  pub others : (d : ℕ) → (d < committed.meta.gear) ⊎ (to ≤ d) → slice_index begun.meta.spins d ≡ slice_index committed.meta.spins d
+  pub raised : (d : ℕ) → committed.meta.gear ≤ d
+      → d < to → slice_index begun.meta.spins d ≡ slice_index committed.meta.spins d + 1
+  pub others : (d : ℕ) → (d < committed.meta.gear) ⊎ (to ≤ d)
+      → slice_index begun.meta.spins d ≡ slice_index committed.meta.spins d
   pub counts : IsCountedAs k committed
 
 -- The mark of a shift up, with its spin-ups counted, is committed.
@@ -34,7 +37,8 @@ pub record OpensShiftUp (k begun opened : Service) : Type 0 where
 pub record EndsShiftUp (k k_then : Service) (to : ℕ) : Type 0 where
   pub counts : IsCountedAs k k_then
   pub copies_synced : AreCopiesSynced k_then.meta.setup.geometry.disks k_then.copied
-  pub energy : k_then.energy ≡ min (k.energy + spin_up_energy k.meta.setup k.meta.gear to) 18446744073709551615
+  pub energy : k_then.energy
+      ≡ min (k.energy + spin_up_energy k.meta.setup k.meta.gear to) 18446744073709551615
 
 -- All of it, by four states of a service after the first one.
 pub record BeginsUp (k committed begun opened k_then : Service) (to : ℕ) : Type 0 where

@@ -22,50 +22,64 @@ ghost use Rattle.paraid_event.specs.Stands.{StandsAt};
 ghost use Rattle.paraid_event.specs.Steps.{LosesInSteps, StepsInEvent};
 ghost use Rattle.paraid_event.specs.Ticks.{IsHaltedWith};
 
-/// A shift that is asked for, and that nothing refuses, begins by the parts of its event, whether a disk is lost in
-/// the later ones or not. A second loss in them ends the service.
+/// A shift that is asked for, and that nothing refuses, begins by the parts of its event, whether a
+/// disk is lost in the later ones or not. A second loss in them ends the service.
 pub fn an_asked_shift_begins_in_steps()
-    ensures up { (told told_then : Option Trail) (k k_then : Service) (setup : SetupType) (p : Point) (to most : ℕ)
-        → StandsAt told k setup p → point_wear p < worn_at → p.state.phase ≡ Steady → p.state.out ≡ No
-        → next_higher setup.geometry p.state.gear ≡ Some to
-        → AreCopiesSynced k_then.meta.setup.geometry.disks k_then.copied → GoesToState k_then (begun_up to p.state)
-        → k_then.energy ≡ min (k.energy + spin_up_energy setup p.state.gear to) 18446744073709551615
-        → most ≤ 2 ^ 20 → Ran told told_then (StepsInEvent k k_then p.history p.low most)
-        → Ran told told_then (GoesOn k.slots setup p AskUp (Shift p.state.gear to) (StandsAt told_then k_then setup)) }
-    ensures down { (told told_then : Option Trail) (k k_then : Service) (setup : SetupType) (p : Point) (to most : ℕ)
-        → StandsAt told k setup p → point_wear p < worn_at → p.state.phase ≡ Steady → p.state.out ≡ No
-        → next_lower setup.geometry p.state.gear ≡ Some to → to < p.state.gear → first_used_up setup p.state to ≡ None
-        → AreCopiesSynced k_then.meta.setup.geometry.disks k_then.copied → GoesToState k_then (begun_down to p.state)
-        → k_then.energy ≡ k.energy → most ≤ 2 ^ 20 → Ran told told_then (StepsInEvent k k_then p.history p.low most)
-        → Ran told told_then (GoesOn k.slots setup p AskDown (Shift p.state.gear to) (StandsAt told_then k_then setup)) }
-    ensures up_loses { (told told_then : Option Trail) (k : Service) (setup : SetupType) (p : Point) (to most used : ℕ)
-        (two : TwoType) → StandsAt told k setup p → point_wear p < worn_at → p.state.phase ≡ Steady
+    ensures up { (told told_then : Option Trail)
+        (k k_then : Service) (setup : SetupType) (p : Point) (to most : ℕ)
+        → StandsAt told k setup p → point_wear p < worn_at → p.state.phase ≡ Steady
         → p.state.out ≡ No → next_higher setup.geometry p.state.gear ≡ Some to
-        → (used ≡ k.energy) ⊎ (used ≡ min (k.energy + spin_up_energy setup p.state.gear to) 18446744073709551615)
+        → AreCopiesSynced k_then.meta.setup.geometry.disks k_then.copied
+        → GoesToState k_then (begun_up to p.state)
+        → k_then.energy ≡ min (k.energy + spin_up_energy setup p.state.gear to) 18446744073709551615
+        → most ≤ 2 ^ 20
+        → Ran told told_then (StepsInEvent k k_then p.history p.low most) → Ran told told_then
+        (GoesOn k.slots setup p AskUp (Shift p.state.gear to) (StandsAt told_then k_then setup)) }
+    ensures down { (told told_then : Option Trail)
+        (k k_then : Service) (setup : SetupType) (p : Point) (to most : ℕ)
+        → StandsAt told k setup p → point_wear p < worn_at → p.state.phase ≡ Steady
+        → p.state.out ≡ No → next_lower setup.geometry p.state.gear ≡ Some to
+        → to < p.state.gear → first_used_up setup p.state to ≡ None
+        → AreCopiesSynced k_then.meta.setup.geometry.disks k_then.copied
+        → GoesToState k_then (begun_down to p.state) → k_then.energy ≡ k.energy → most ≤ 2 ^ 20
+        → Ran told told_then (StepsInEvent k k_then p.history p.low most) → Ran told told_then
+        (GoesOn k.slots setup p AskDown (Shift p.state.gear to) (StandsAt told_then k_then setup)) }
+    ensures up_loses { (told told_then : Option Trail)
+        (k : Service) (setup : SetupType) (p : Point) (to most used : ℕ) (two : TwoType)
+        → StandsAt told k setup p → point_wear p < worn_at → p.state.phase ≡ Steady
+        → p.state.out ≡ No → next_higher setup.geometry p.state.gear ≡ Some to → (used ≡ k.energy)
+        ⊎ (used ≡ min (k.energy + spin_up_energy setup p.state.gear to) 18446744073709551615)
+        → most ≤ 2 ^ 20
+        → Ran told told_then (LosesInSteps k p.history p.low most two) → Ran told told_then
+        (GoesOn k.slots setup p AskUp (Halted (HaltTwo two)) (IsHaltedWith p (HaltTwo two) used)) }
+    ensures down_loses { (told told_then : Option Trail) (k : Service)
+        (setup : SetupType) (p : Point) (to most : ℕ) (two : TwoType) → StandsAt told k setup p
+        → point_wear p < worn_at → p.state.phase ≡ Steady → p.state.out ≡ No
+        → next_lower setup.geometry p.state.gear ≡ Some to → first_used_up setup p.state to ≡ None
         → most ≤ 2 ^ 20 → Ran told told_then (LosesInSteps k p.history p.low most two)
-        → Ran told told_then (GoesOn k.slots setup p AskUp (Halted (HaltTwo two)) (IsHaltedWith p (HaltTwo two) used)) }
-    ensures down_loses { (told told_then : Option Trail) (k : Service) (setup : SetupType) (p : Point) (to most : ℕ)
-        (two : TwoType) → StandsAt told k setup p → point_wear p < worn_at → p.state.phase ≡ Steady
-        → p.state.out ≡ No → next_lower setup.geometry p.state.gear ≡ Some to → first_used_up setup p.state to ≡ None
-        → most ≤ 2 ^ 20 → Ran told told_then (LosesInSteps k p.history p.low most two)
-        → Ran told told_then (GoesOn k.slots setup p AskDown (Halted (HaltTwo two))
-        (IsHaltedWith p (HaltTwo two) k.energy)) }
+        → Ran told told_then (GoesOn k.slots setup p AskDown
+        (Halted (HaltTwo two)) (IsHaltedWith p (HaltTwo two) k.energy)) }
 {}
 
-/// A disk that is lost with what was staged stands in the way of a shift, by the parts of its event.
+/// A disk that is lost with what was staged stands in the way of a shift, by the parts of its
+/// event.
 pub fn a_lost_disk_hinders_an_asked_shift()
-    ensures up { (told told_then : Option Trail) (k k_then : Service) (setup : SetupType) (p : Point)
-        (to most other : ℕ) → StandsAt told k setup p → point_wear p < worn_at → p.state.phase ≡ Steady
+    ensures up { (told told_then : Option Trail)
+        (k k_then : Service) (setup : SetupType) (p : Point) (to most other : ℕ)
+        → StandsAt told k setup p → point_wear p < worn_at → p.state.phase ≡ Steady
         → p.state.out ≡ No → next_higher setup.geometry p.state.gear ≡ Some to
-        → AreCopiesSynced k_then.meta.setup.geometry.disks k_then.copied → GoesToState k_then p.state
+        → AreCopiesSynced k_then.meta.setup.geometry.disks k_then.copied
+        → GoesToState k_then p.state
         → named_out k_then.meta.out ≡ Some other → k_then.energy ≡ k.energy → most ≤ 2 ^ 20
-        → Ran told told_then (StepsInEvent k k_then p.history p.low most)
-        → Ran told told_then (GoesOn k.slots setup p AskUp (IsOut other) (StandsAt told_then k_then setup)) }
-    ensures down { (told told_then : Option Trail) (k k_then : Service) (setup : SetupType) (p : Point)
-        (to most other : ℕ) → StandsAt told k setup p → point_wear p < worn_at → p.state.phase ≡ Steady
-        → p.state.out ≡ No → next_lower setup.geometry p.state.gear ≡ Some to → first_used_up setup p.state to ≡ None
-        → AreCopiesSynced k_then.meta.setup.geometry.disks k_then.copied → GoesToState k_then p.state
+        → Ran told told_then (StepsInEvent k k_then p.history p.low most) → Ran told told_then
+        (GoesOn k.slots setup p AskUp (IsOut other) (StandsAt told_then k_then setup)) }
+    ensures down { (told told_then : Option Trail) (k k_then : Service)
+        (setup : SetupType) (p : Point) (to most other : ℕ) → StandsAt told k setup p
+        → point_wear p < worn_at → p.state.phase ≡ Steady → p.state.out ≡ No
+        → next_lower setup.geometry p.state.gear ≡ Some to → first_used_up setup p.state to ≡ None
+        → AreCopiesSynced k_then.meta.setup.geometry.disks k_then.copied
+        → GoesToState k_then p.state
         → named_out k_then.meta.out ≡ Some other → k_then.energy ≡ k.energy → most ≤ 2 ^ 20
-        → Ran told told_then (StepsInEvent k k_then p.history p.low most)
-        → Ran told told_then (GoesOn k.slots setup p AskDown (IsOut other) (StandsAt told_then k_then setup)) }
+        → Ran told told_then (StepsInEvent k k_then p.history p.low most) → Ran told told_then
+        (GoesOn k.slots setup p AskDown (IsOut other) (StandsAt told_then k_then setup)) }
 {}

@@ -1,4 +1,5 @@
-//! That the calls of a core in an event hold what a session asks at each moment, whichever of them fail.
+//! That the calls of a core in an event hold what a session asks at each moment, whichever of them
+//! fail.
 ghost use Rattle.std.specs.Prelude.{◌≡◌, ℕ, ◌+◌, ◌<◌, ◌≤◌, ◌++◌, List, Option, Some};
 ghost use Rattle.paraid_base.specs.History.{History};
 ghost use Rattle.paraid_base.specs.States.{gone_out};
@@ -24,8 +25,8 @@ pub fn parts_of_an_event_follow_each_other()
         → Each (HoldsWhileServing slots h lo b) (IsAllowed setup asked) w (cs ++ ds) }
 {}
 
-/// From where a core stands, its calls are allowed and hold what a session asks: between two commits
-/// the meta of the last one stands, and in a commit that one or the next.
+/// From where a core stands, its calls are allowed and hold what a session asks: between two
+/// commits the meta of the last one stands, and in a commit that one or the next.
 pub fn calls_of_a_core_keep_a_session()
     ensures between { (k : Service) (h g : History) (lo low : ℕ) (base : MetaType) (w : Watch)
         (b : Bounds) (asked out : Option ℕ) (cs : List CallType) → StandsIn k h lo base w

@@ -8,7 +8,8 @@ ghost use Rattle.paraid_core.specs.Cleaning.{CleansCell};
 ghost use Rattle.paraid_event.specs.Counts.{with_counts_of};
 ghost use Rattle.paraid_event.specs.Service.{IsStateOf, Service};
 
-/// A read that cleans its cell where the meta says so, and no other, leaves the dirty cells of the machine.
+/// A read that cleans its cell where the meta says so, and no other, leaves the dirty cells of the
+/// machine.
 pub fn a_read_cleans_its_cell()
     ensures { (k k_then : Service) (block : ℕ) → CleansCell k_then.meta k.table k_then.table
         (home_row k_then.meta.setup.geometry.disks block)

@@ -25,45 +25,48 @@ ghost use Rattle.paraid_event.specs.Stands.{StandsAt};
 ghost use Rattle.paraid_event.specs.Steps.{StepsInEvent};
 ghost use Rattle.paraid_event.specs.Ticks.{CountsTick, IsHaltedWith};
 
-/// A tick that moves the last units of a rebuild brings the disk back by a commit, and parks it where the gear does not need it.
-/// What is staged is committed first.
+/// A tick that moves the last units of a rebuild brings the disk back by a commit, and parks it
+/// where the gear does not need it. What is staged is committed first.
 pub fn a_tick_ends_a_rebuild()
-    ensures back { (told before mid told_then : Option Trail) (k counted j back k_then : Service) (setup : SetupType)
-        (p : Point) (disk rebuilt most : ℕ) → StandsAt told k setup p → point_wear p < worn_at
-        → p.state.out ≡ Fresh disk rebuilt → CountsRebuild k counted k_then → MarksRejoined counted k_then
-        → units_to_rebuild setup (state_with_tick p.state) disk rebuilt ≤ setup.rate → most + 1 ≤ 2 ^ 20
-        → Ran told before (StepsInEvent counted j p.history p.low most)
+    ensures back { (told before mid told_then : Option Trail)
+        (k counted j back k_then : Service) (setup : SetupType) (p : Point) (disk rebuilt most : ℕ)
+        → StandsAt told k setup p → point_wear p < worn_at → p.state.out ≡ Fresh disk rebuilt
+        → CountsRebuild k counted k_then → MarksRejoined counted k_then
+        → units_to_rebuild setup (state_with_tick p.state) disk rebuilt ≤ setup.rate
+        → most + 1 ≤ 2 ^ 20 → Ran told before (StepsInEvent counted j p.history p.low most)
         → FinishesRebuild before mid j back p.history p.low disk
         → ParksBack mid told_then back k_then p.history p.low disk
         → Ran told told_then (GoesOn k.slots setup p TickEvent
-        (report p.state (units_to_rebuild setup (state_with_tick p.state) disk rebuilt) (Rebuilt disk)).0
-        (StandsAt told_then k_then setup)) }
+        (report p.state (units_to_rebuild setup (state_with_tick p.state) disk rebuilt)
+        (Rebuilt disk)).0 (StandsAt told_then k_then setup)) }
 {}
 
-/// A disk that is lost again as its rebuild ends is gone: as units are copied, in the commit, or in the park. These are parts of
-/// an event, which goes on.
+/// A disk that is lost again as its rebuild ends is gone: as units are copied, in the commit, or in
+/// the park. These are parts of an event, which goes on.
 pub fn a_disk_is_lost_as_its_rebuild_ends()
-    ensures finish { (told before told_then : Option Trail) (k j k_then : Service) (h : History) (lo most disk : ℕ)
-        → named_out k.meta.out ≡ Some disk → k_then.meta.out ≡ Gone disk
-        → Ran told before (StepsInEvent k j h lo most) → FinishesRebuild before told_then j k_then h lo disk
+    ensures finish { (told before told_then : Option Trail)
+        (k j k_then : Service) (h : History) (lo most disk : ℕ) → named_out k.meta.out ≡ Some disk
+        → k_then.meta.out ≡ Gone disk → Ran told before (StepsInEvent k j h lo most)
+        → FinishesRebuild before told_then j k_then h lo disk
         → Ran told told_then (StepsInEvent k k_then h lo (most + 1)) }
-    ensures park { (told before mid told_then : Option Trail) (k j back k_then : Service) (h : History) (lo most disk : ℕ)
+    ensures park { (told before mid told_then : Option Trail)
+        (k j back k_then : Service) (h : History) (lo most disk : ℕ)
         → named_out k.meta.out ≡ Some disk → back.meta.out ≡ No → k_then.meta.out ≡ Gone disk
         → Ran told before (StepsInEvent k j h lo most) → FinishesRebuild before mid j back h lo disk
         → ParksBack mid told_then back k_then h lo disk
         → Ran told told_then (StepsInEvent k k_then h lo (most + 1)) }
 {}
 
-/// A second disk that is lost in it, before the park, ends the service; the tick's own energy is counted. In the park no
-/// second one can be lost.
+/// A second disk that is lost in it, before the park, ends the service; the tick's own energy is
+/// counted. In the park no second one can be lost.
 pub fn a_second_loss_ends_the_last_tick_of_a_rebuild()
-    ensures finish { (told before told_then : Option Trail) (k counted j : Service) (setup : SetupType) (p : Point)
-        (disk rebuilt most : ℕ) (two : TwoType) → StandsAt told k setup p → point_wear p < worn_at
-        → p.state.out ≡ Fresh disk rebuilt → CountsTick k counted → most + 1 ≤ 2 ^ 20
-        → Ran told before (StepsInEvent counted j p.history p.low most)
+    ensures finish { (told before told_then : Option Trail) (k counted j : Service) (setup
+        : SetupType) (p : Point) (disk rebuilt most : ℕ) (two : TwoType) → StandsAt told k setup p
+        → point_wear p < worn_at → p.state.out ≡ Fresh disk rebuilt → CountsTick k counted
+        → most + 1 ≤ 2 ^ 20 → Ran told before (StepsInEvent counted j p.history p.low most)
         → LosesFinishing before told_then j p.history p.low disk two
-        → Ran told told_then (GoesOn k.slots setup p TickEvent (Halted (HaltTwo two))
-        (IsHaltedWith p (HaltTwo two) counted.energy)) }
+        → Ran told told_then (GoesOn k.slots setup p TickEvent
+        (Halted (HaltTwo two)) (IsHaltedWith p (HaltTwo two) counted.energy)) }
     ensures park { (mid told_then : Option Trail) (disk : ℕ) (two : TwoType)
         → Ran mid told_then (IsOneCall (λ done. Park disk done))
         → Ran mid told_then (λ s cs. TellsLosses None two cs) → told_then ≡ None }

@@ -13,8 +13,8 @@ ghost use Rattle.paraid_event.specs.Parts.{ServesEvent};
 ghost use Rattle.paraid_event.specs.Service.{Service};
 ghost use Rattle.paraid_event.specs.Stands.{ServiceStandsFor, StandsAt};
 
-/// A disk is taken out by a commit of what is staged, the mark that it is gone, and a commit of that; it
-/// may itself be lost in them.
+/// A disk is taken out by a commit of what is staged, the mark that it is gone, and a commit of
+/// that; it may itself be lost in them.
 pub fn a_disk_is_taken_out()
     ensures { (told mid told_then : Option Trail) (k committed marked k_then : Service)
         (setup : SetupType) (p : Point) (disk lo lo_then : ℕ) → StandsAt told k setup p

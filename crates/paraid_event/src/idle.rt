@@ -20,8 +20,8 @@ ghost use Rattle.paraid_event.specs.Service.{Service};
 ghost use Rattle.paraid_event.specs.Stands.{StandsAt};
 ghost use Rattle.paraid_event.specs.Ticks.{CountsTick};
 
-/// A tick counts itself and does nothing more where the samples ask for no other gear, where a disk is
-/// gone, and where a shift down is asked for and the spin-ups of a disk are used up.
+/// A tick counts itself and does nothing more where the samples ask for no other gear, where a disk
+/// is gone, and where a shift down is asked for and the spin-ups of a disk are used up.
 pub fn a_tick_has_nothing_to_do()
     ensures steady { (told : Option Trail) (k k_then : Service) (setup : SetupType) (p : Point)
         → StandsAt told k setup p → point_wear p < worn_at → CountsTick k k_then
@@ -43,8 +43,8 @@ pub fn a_tick_has_nothing_to_do()
         (StandsAt told k_then setup)) }
 {}
 
-/// After a halt each event has the same answer, but for a line that is no event, which has its own as
-/// before it. Nothing changes.
+/// After a halt each event has the same answer, but for a line that is no event, which has its own
+/// as before it. Nothing changes.
 pub fn a_halt_is_the_last_answer()
     ensures again { (told : Option Trail) (slots : ℕ) (setup : SetupType) (p : Point)
         (event : EventType) (halt : HaltType) → p.halt ≡ Some halt → event ≢ BadEvent

@@ -18,7 +18,8 @@ ghost use Rattle.paraid_event.specs.Parts.{LosesInEvent};
 ghost use Rattle.paraid_event.specs.Service.{Service};
 ghost use Rattle.paraid_event.specs.Stands.{StandsAt};
 
-/// Where a second disk is lost in a request or a flush, the answer names both, and nothing is accepted.
+/// Where a second disk is lost in a request or a flush, the answer names both, and nothing is
+/// accepted.
 pub fn a_second_loss_ends_the_service()
     ensures read { (told told_then : Option Trail) (k : Service) (setup : SetupType) (p : Point)
         (two : TwoType) (block : ℕ) → StandsAt told k setup p → block < block_count setup

@@ -20,17 +20,17 @@ ghost use Rattle.paraid_event.specs.Stands.{StandsAt};
 ghost use Rattle.paraid_event.specs.Steps.{LosesInSteps, StepsInEvent};
 ghost use Rattle.paraid_event.specs.Ticks.{CountsTick, IsHaltedWith};
 
-/// A tick moves as many units of a rebuild as it may and marks them, where more are left; or the disk is lost
-/// again. What is staged is committed first.
+/// A tick moves as many units of a rebuild as it may and marks them, where more are left; or the
+/// disk is lost again. What is staged is committed first.
 pub fn a_tick_moves_units_of_a_rebuild()
-    ensures moving { (told told_then : Option Trail) (k counted k_then : Service) (setup : SetupType)
-        (p : Point) (disk rebuilt most : ℕ) → StandsAt told k setup p → point_wear p < worn_at
-        → p.state.out ≡ Fresh disk rebuilt → CountsRebuild k counted k_then
-        → MarksRebuilt counted k_then disk (rebuilt + setup.rate)
-        → setup.rate < units_to_rebuild setup (state_with_tick p.state) disk rebuilt → most ≤ 2 ^ 20
-        → Ran told told_then (StepsInEvent counted k_then p.history p.low most)
-        → Ran told told_then (GoesOn k.slots setup p TickEvent (report p.state setup.rate Moving).0
-        (StandsAt told_then k_then setup)) }
+    ensures moving { (told told_then : Option Trail)
+        (k counted k_then : Service) (setup : SetupType) (p : Point) (disk rebuilt most : ℕ)
+        → StandsAt told k setup p → point_wear p < worn_at → p.state.out ≡ Fresh disk rebuilt
+        → CountsRebuild k counted k_then → MarksRebuilt counted k_then disk (rebuilt + setup.rate)
+        → setup.rate < units_to_rebuild setup (state_with_tick p.state) disk rebuilt
+        → most ≤ 2 ^ 20 → Ran told told_then (StepsInEvent counted k_then p.history p.low most)
+        → Ran told told_then (GoesOn k.slots setup p TickEvent
+        (report p.state setup.rate Moving).0 (StandsAt told_then k_then setup)) }
     ensures gone { (told told_then : Option Trail) (k counted k_then : Service) (setup : SetupType)
         (p : Point) (disk rebuilt most : ℕ) → StandsAt told k setup p → point_wear p < worn_at
         → p.state.out ≡ Fresh disk rebuilt → CountsRebuild k counted k_then

@@ -29,8 +29,8 @@ pub fn a_question_leaves_an_array_as_it_is()
         (EnergyUsed p.energy) (StandsAt told k setup)) }
 {}
 
-/// A read is answered with what was written last, whether it commits first or not, and whether a disk
-/// is lost in it or not.
+/// A read is answered with what was written last, whether it commits first or not, and whether a
+/// disk is lost in it or not.
 pub fn a_read_is_answered()
     ensures { (told told_then : Option Trail) (k k_then : Service) (setup : SetupType) (p : Point)
         (block lo_then : ℕ) (bytes : BlockType) → StandsAt told k setup p → point_wear p < worn_at
@@ -47,14 +47,14 @@ pub fn a_write_is_answered()
         (pairs : PairsType) (lo_then : ℕ) → StandsAt told k setup p → point_wear p < worn_at
         → All (λ (pair : ℕ × BlockType). pair.0 < block_count setup) (pairs_of pairs)
         → CountsServed k k_then (all_written setup.geometry.disks (blocks_named (pairs_of pairs)))
-        → p.low ≤ lo_then
-        → Ran told told_then (ServesEvent k k_then p.history p.low (p.history ++ pairs_of pairs ∷ []) lo_then)
-        → Ran told told_then (GoesOn k.slots setup p (WriteEvent pairs) (Wrote (length p.history + 1))
-        (StandsAt told_then k_then setup)) }
+        → p.low ≤ lo_then → Ran told told_then
+        (ServesEvent k k_then p.history p.low (p.history ++ pairs_of pairs ∷ []) lo_then)
+        → Ran told told_then (GoesOn k.slots setup p
+        (WriteEvent pairs) (Wrote (length p.history + 1)) (StandsAt told_then k_then setup)) }
 {}
 
-/// And a flush with the number of all writes, which no stop takes away from then on; the disks show the
-/// dirty cells.
+/// And a flush with the number of all writes, which no stop takes away from then on; the disks show
+/// the dirty cells.
 pub fn a_flush_is_answered()
     ensures { (told told_then : Option Trail) (k k_then : Service) (setup : SetupType) (p : Point)
         (lo_then : ℕ) → StandsAt told k setup p → point_wear p < worn_at → CountsFlushed k k_then

@@ -16,9 +16,9 @@ ghost use Rattle.paraid_event.specs.Parts.{LosesInEvent, ServesEvent};
 ghost use Rattle.paraid_event.specs.Service.{Service};
 ghost use Rattle.paraid_event.specs.Stands.{ServiceStandsFor, StandsAt};
 
-/// Where a disk is taken out and two are lost in the commit of what is staged, the answer names both. Where
-/// that commit ended and another disk is lost in the one that brings the mark, it names the disk that is
-/// taken out first.
+/// Where a disk is taken out and two are lost in the commit of what is staged, the answer names
+/// both. Where that commit ended and another disk is lost in the one that brings the mark, it names
+/// the disk that is taken out first.
 pub fn a_second_disk_is_lost_as_one_is_taken_out()
     ensures staged { (told told_then : Option Trail) (k : Service) (setup : SetupType) (p : Point)
         (two : TwoType) (disk : ℕ) → StandsAt told k setup p → point_wear p < worn_at
@@ -26,15 +26,15 @@ pub fn a_second_disk_is_lost_as_one_is_taken_out()
         → Ran told told_then (λ s cs. LosesInEvent k p.history p.low s cs × TellsTwo k two s cs)
         → Ran told told_then (GoesOn k.slots setup p (FailEvent disk) (Halted (HaltTwo two))
         (IsHaltedFrom p (HaltTwo two))) }
-    ensures marked { (told mid told_then : Option Trail) (k committed marked : Service)
-        (setup : SetupType) (p : Point) (two : TwoType) (disk : ℕ) → StandsAt told k setup p
-        → point_wear p < worn_at → disk < setup.geometry.disks → p.state.out ≡ No
-        → MarksTakenOut k committed marked disk
+    ensures marked { (told mid told_then : Option Trail)
+        (k committed marked : Service) (setup : SetupType) (p : Point) (two : TwoType) (disk : ℕ)
+        → StandsAt told k setup p → point_wear p < worn_at
+        → disk < setup.geometry.disks → p.state.out ≡ No → MarksTakenOut k committed marked disk
         → Ran told mid (ServesEvent k committed p.history p.low p.history (length p.history))
-        → ((t : Trail) → mid ≡ Some t → ServiceStandsFor committed p.history (length p.history) (now t)
+        → ((t : Trail)
+        → mid ≡ Some t → ServiceStandsFor committed p.history (length p.history) (now t)
         → ServiceStandsFor marked p.history (length p.history) (now t))
         → Ran mid told_then (λ s cs. LosesInEvent marked p.history (length p.history) s cs
-        × TellsTwo marked two s cs)
-        → Ran told told_then (GoesOn k.slots setup p (FailEvent disk) (Halted (HaltTwo two))
-        (IsHaltedFrom p (HaltTwo two))) }
+        × TellsTwo marked two s cs) → Ran told told_then (GoesOn k.slots setup p
+        (FailEvent disk) (Halted (HaltTwo two)) (IsHaltedFrom p (HaltTwo two))) }
 {}

@@ -23,8 +23,8 @@ ghost use Rattle.paraid_event.specs.Service.{Service};
 ghost use Rattle.paraid_event.specs.Stands.{ServiceStandsFor, StandsAt};
 ghost use Rattle.paraid_event.specs.Ticks.{BeginsDownByTick, CountsTick, IsHaltedWith};
 
-/// A tick begins a shift down by one commit, with what was staged, the count of the tick and the mark; a disk
-/// may be lost in it.
+/// A tick begins a shift down by one commit, with what was staged, the count of the tick and the
+/// mark; a disk may be lost in it.
 pub fn a_tick_begins_a_shift_down()
     ensures { (told told_then : Option Trail) (k counted begun k_then : Service)
         (setup : SetupType) (p : Point) (to lo_then : ℕ) → StandsAt told k setup p
@@ -41,16 +41,16 @@ pub fn a_tick_begins_a_shift_down()
 
 /// A second disk that is lost in that commit ends the service; the tick's own energy is counted.
 pub fn a_second_loss_ends_a_tick_that_begins()
-    ensures { (told told_then : Option Trail) (k counted begun : Service) (setup : SetupType)
-        (p : Point) (to : ℕ) (two : TwoType) → StandsAt told k setup p
-        → point_wear p < worn_at → CountsTick k counted
-        → begun ≡ record counted { meta = meta_after_begin counted.meta (Down to) counted.meta.spins }
+    ensures { (told told_then : Option Trail)
+        (k counted begun : Service) (setup : SetupType) (p : Point) (to : ℕ) (two : TwoType)
+        → StandsAt told k setup p → point_wear p < worn_at → CountsTick k counted → begun
+        ≡ record counted { meta = meta_after_begin counted.meta (Down to) counted.meta.spins }
         → to < p.state.gear → p.state.phase ≡ Steady → p.state.out ≡ No
         → decision setup p.state.gear (state_with_tick p.state).samples ≡ DecideDown to
         → first_used_up setup (state_with_tick p.state) to ≡ None
         → ((t : Trail) → told ≡ Some t → ServiceStandsFor counted p.history p.low (now t)
         → ServiceStandsFor begun p.history p.low (now t))
-        → Ran told told_then (λ s cs. LosesInEvent begun p.history p.low s cs × TellsTwo begun two s cs)
-        → Ran told told_then (GoesOn k.slots setup p TickEvent (Halted (HaltTwo two))
-        (IsHaltedWith p (HaltTwo two) counted.energy)) }
+        → Ran told told_then (λ s cs. LosesInEvent begun p.history p.low s cs
+        × TellsTwo begun two s cs) → Ran told told_then (GoesOn k.slots setup p TickEvent
+        (Halted (HaltTwo two)) (IsHaltedWith p (HaltTwo two) counted.energy)) }
 {}

@@ -19,8 +19,8 @@ ghost use Rattle.paraid_event.specs.Service.{Service};
 ghost use Rattle.paraid_event.specs.Stands.{ServiceStandsFor, StandsAt};
 ghost use Rattle.paraid_event.specs.Upshift.{BeginsUp, MarksShiftUp, OpensShiftUp};
 
-/// A shift up begins by a commit of what is staged, its mark with the spin-ups, a commit of that, and the
-/// spin-ups; a disk may be lost in the last commit or among the spin-ups.
+/// A shift up begins by a commit of what is staged, its mark with the spin-ups, a commit of that,
+/// and the spin-ups; a disk may be lost in the last commit or among the spin-ups.
 pub fn a_shift_up_begins()
     ensures { (told mid opened_told told_then : Option Trail)
         (k committed begun opened k_then : Service) (setup : SetupType) (p : Point)
@@ -37,20 +37,19 @@ pub fn a_shift_up_begins()
         (StandsAt told_then k_then setup)) }
 {}
 
-/// A second disk that is lost in the commit of the mark, or among the spin-ups, ends the service. The first
-/// may be lost in that commit and the second among the spin-ups.
+/// A second disk that is lost in the commit of the mark, or among the spin-ups, ends the service.
+/// The first may be lost in that commit and the second among the spin-ups.
 pub fn a_second_loss_ends_a_shift_up()
-    ensures marked { (told mid told_then : Option Trail) (k committed begun : Service)
-        (setup : SetupType) (p : Point) (to lo : ℕ) (two : TwoType) → StandsAt told k setup p
-        → point_wear p < worn_at → MarksShiftUp k committed begun to
-        → next_higher setup.geometry p.state.gear ≡ Some to
-        → p.state.phase ≡ Steady → p.state.out ≡ No → p.low ≤ lo
-        → Ran told mid (ServesEvent k committed p.history p.low p.history lo)
+    ensures marked { (told mid told_then : Option Trail)
+        (k committed begun : Service) (setup : SetupType) (p : Point) (to lo : ℕ) (two : TwoType)
+        → StandsAt told k setup p → point_wear p < worn_at
+        → MarksShiftUp k committed begun to → next_higher setup.geometry p.state.gear ≡ Some to
+        → p.state.phase ≡ Steady → p.state.out ≡ No
+        → p.low ≤ lo → Ran told mid (ServesEvent k committed p.history p.low p.history lo)
         → ((t : Trail) → mid ≡ Some t → ServiceStandsFor committed p.history p.low (now t)
-        → ServiceStandsFor begun p.history p.low (now t))
-        → Ran mid told_then (λ s cs. LosesInEvent begun p.history p.low s cs × TellsTwo begun two s cs)
-        → Ran told told_then (GoesOn k.slots setup p AskUp (Halted (HaltTwo two))
-        (IsHaltedFrom p (HaltTwo two))) }
+        → ServiceStandsFor begun p.history p.low (now t)) → Ran mid told_then (λ s cs.
+        LosesInEvent begun p.history p.low s cs × TellsTwo begun two s cs) → Ran told told_then
+        (GoesOn k.slots setup p AskUp (Halted (HaltTwo two)) (IsHaltedFrom p (HaltTwo two))) }
     ensures raised { (told mid opened_told told_then : Option Trail)
         (k committed begun opened : Service) (setup : SetupType) (p : Point)
         (to lo lo_opened : ℕ) (two : TwoType) → StandsAt told k setup p

@@ -10,13 +10,13 @@ ghost use Rattle.paraid_plan.specs.WrittenBits.{bits_after_writes};
 ghost use Rattle.paraid_event.specs.Counts.{with_counts_of};
 ghost use Rattle.paraid_event.specs.Service.{IsStateOf, Service};
 
-/// A write of several blocks that sets the bits of their cells, and of those of their rows' parity, by the meta
-/// after it, leaves the dirty cells of the machine.
+/// A write of several blocks that sets the bits of their cells, and of those of their rows' parity,
+/// by the meta after it, leaves the dirty cells of the machine.
 pub fn a_write_marks_its_cells()
     ensures { (k k_then : Service) (pairs : PairsType)
         → is_dirty k_then.table ≡ bits_after_writes k_then.meta (pairs_of pairs) (is_dirty k.table)
-        → (s : PowerState) → IsStateOf (with_counts_of k_then k) s
-        → (r d : ℕ) → r < k_then.meta.setup.geometry.rows
-        → is_dirty k_then.table r d
-        ≡ (all_written k_then.meta.setup.geometry.disks (blocks_named (pairs_of pairs)) s).dirty r d }
+        → (s : PowerState)
+        → IsStateOf (with_counts_of k_then k) s → (r d : ℕ) → r < k_then.meta.setup.geometry.rows
+        → is_dirty k_then.table r d ≡ (all_written k_then.meta.setup.geometry.disks
+        (blocks_named (pairs_of pairs)) s).dirty r d }
 {}

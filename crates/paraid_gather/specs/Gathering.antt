@@ -7,7 +7,8 @@ use Rattle.paraid_rack.specs.Trail.{Trail, run, now, extend}
 use Rattle.paraid_gather.specs.Above.{LeavesImageOf}
 use Rattle.paraid_gather.specs.PowerCalls.{power_calls}
 
--- One call above, or none where what waits is written out, and the calls below that are made for it.
+-- One call above, or none where what waits is written out, and the calls below that are made for
+-- it.
 pub record CallGroup : Type 0 where
   pub above : List Call
   pub below : List Call
@@ -26,15 +27,19 @@ calls_below (g ∷ gs) = g.below ++ calls_below gs
 abbrev pub LeavesImage : Disks → Disks → Type 0
 LeavesImage s below = (i : Disks) → IsImage below i → IsImage s i
 
--- These groups are called where the disks above are `s` and those below are `b`. Before each of them and
--- after the last one what a stop leaves is an image of the disks above. At each moment of the calls below
--- of a group it is one of the disks above before the group's call, or of those after it. A group parks, spins
--- up and attaches below what it does above.
+-- These groups are called where the disks above are `s` and those below are `b`. Before each of
+-- them and after the last one what a stop leaves is an image of the disks above. At each moment of
+-- the calls below of a group it is one of the disks above before the group's call, or of those
+-- after it. A group parks, spins up and attaches below what it does above.
 abbrev pub AreGathered : Disks → Disks → List CallGroup → Type 0
 AreGathered s b [] = LeavesImage s b
-AreGathered s b (g ∷ gs) = LeavesImage s b × (length g.above ≤ 1) × (power_calls g.below ≡ power_calls g.above) × Through (LeavesImageOf s (run s g.above)) b g.below × AreGathered (run s g.above) (run b g.below) gs
+AreGathered s b (g ∷ gs) =
+    LeavesImage s b × (length g.above ≤ 1) × (power_calls g.below ≡ power_calls g.above)
+    × Through (LeavesImageOf s (run s g.above)) b g.below
+    × AreGathered (run s g.above) (run b g.below) gs
 
--- What was called above was called below in groups, since a moment up to which both records are the same.
+-- What was called above was called below in groups, since a moment up to which both records are the
+-- same.
 pub record IsGathered (below above : Trail) : Type 0 where
   pub start : Trail
   pub groups : List CallGroup

@@ -33,7 +33,8 @@ waiting_at runs d = get_or (map run_of runs) d none_waits
 -- A block at this place can join the run: none waits yet, or one waits there, or it follows the
 -- last one and there is room.
 abbrev pub Joins : Waiting → ℕ → Type 0
-Joins w p = (length w.blocks ≡ 0) ⊎ ((w.first ≤ p) × ((p < w.first + length w.blocks) ⊎ ((p ≡ w.first + length w.blocks) × (length w.blocks < 128))))
+Joins w p = (length w.blocks ≡ 0) ⊎ ((w.first ≤ p) × ((p < w.first + length w.blocks)
+    ⊎ ((p ≡ w.first + length w.blocks) × (length w.blocks < 128))))
 
 -- what waits, waits for places below n
 abbrev pub IsWithin : Waiting → ℕ → Type 0

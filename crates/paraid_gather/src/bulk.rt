@@ -10,8 +10,9 @@ use paraid_rack::Rack;
 
 /// A rack that can write several blocks by one call.
 pub trait BulkRack: Rack {
-    /// Writes blocks that follow one another, from place `first` on. Each is loose until a done sync,
-    /// also where the call failed. Where a rack has no call for it, it writes one after the other.
+    /// Writes blocks that follow one another, from place `first` on. Each is loose until a done
+    /// sync, also where the call failed. Where a rack has no call for it, it writes one after the
+    /// other.
     fn write_blocks(
         &mut self,
         disk: DiskNo,

@@ -16,8 +16,8 @@ use crate::bulk::BulkRack;
 use crate::run::Run;
 use paraid_base::{Block, DiskNo, Failed, Place};
 
-/// Writes what waits, so that nothing waits any more. After a failure the disk is lost, and what waits
-/// for it means nothing.
+/// Writes what waits, so that nothing waits any more. After a failure the disk is lost, and what
+/// waits for it means nothing.
 pub(crate) fn write_out<R: BulkRack>(
     rack: &mut R,
     run: &mut Run,

@@ -27,7 +27,9 @@ pub struct Gathered<R: BulkRack, L: Noted> {
     log: L,
     ghost eight: { length runs.items ≡ 8 },
     ghost fits: { AllFit (R.slot rack) (waiting_at runs.items) },
-    pub ghost stands: { StandsWhereTold (R.told rack) (L.noted log) (R.slot rack) (waiting_at runs.items) } by { StandsWhereTold-prop (R.told rack) (L.noted log) (R.slot rack) (waiting_at runs.items) },
+    pub ghost stands: { StandsWhereTold (R.told rack)
+        (L.noted log) (R.slot rack) (waiting_at runs.items) } by { StandsWhereTold-prop
+            (R.told rack) (L.noted log) (R.slot rack) (waiting_at runs.items) },
 }
 
 /// The rack below, in which all is written, and the log.
@@ -79,11 +81,13 @@ impl<R: BulkRack + Drop, L: Noted + Drop> Gathered<R, L> {
         requires exists { disk < R.slot_count (rack_below self.old) }
         requires spinning { (R.slot (rack_below self.old) disk).power ≡ Power.Spinning }
         ensures slots { R.slot_count (rack_below self.new) ≡ R.slot_count (rack_below self.old) }
-        ensures slot { ChangesOneSlot (slots_above (R.slot (rack_below self.old)) (waiting_in self.old))
+        ensures slot { ChangesOneSlot
+            (slots_above (R.slot (rack_below self.old)) (waiting_in self.old))
             (slots_above (R.slot (rack_below self.new)) (waiting_in self.new)) disk
-            (slots_above (R.slot (rack_below self.old)) (waiting_in self.old) disk)
-            (slots_above (R.slot (rack_below self.old)) (waiting_in self.old) disk).unsynced (is_ok result) }
-        ensures above { (s : Disks) → Follows (R.told (rack_below self.old)) (R.told (rack_below self.new))
+            (slots_above (R.slot (rack_below self.old)) (waiting_in self.old) disk) (slots_above
+            (R.slot (rack_below self.old)) (waiting_in self.old) disk).unsynced (is_ok result) }
+        ensures above { (s : Disks)
+            → Follows (R.told (rack_below self.old)) (R.told (rack_below self.new))
             (waiting_in self.old) (waiting_in self.new) s (left_by (is_ok result) disk s) }
         // No call is noted where it is done, and else a sync that has failed.
         ensures told { TellsOut (is_ok result) disk
@@ -92,16 +96,19 @@ impl<R: BulkRack + Drop, L: Noted + Drop> Gathered<R, L> {
         ensures noted { TellsOut (is_ok result) disk (L.noted (log_of self.old))
             (L.noted (log_of self.new)) }
         // No disk is turned on or off.
-        ensures power_calls { Ran (R.told (rack_below self.old)) (R.told (rack_below self.new)) (PowersAs []) }
+        ensures power_calls { Ran
+            (R.told (rack_below self.old)) (R.told (rack_below self.new)) (PowersAs []) }
         ensures empty { is_ok result ≡ true → waits (waiting_in self.new disk) ≡ false }
         ensures others { (d : ℕ) → d ≢ disk → waiting_in self.new d ≡ waiting_in self.old d }
         // It fails only where a block waits. The slots below become as they were above.
         ensures waited { is_ok result ≡ false → waits (waiting_in self.old disk) ≡ true }
-        ensures below { ChangesOneSlot (R.slot (rack_below self.old)) (R.slot (rack_below self.new)) disk
-            (slots_above (R.slot (rack_below self.old)) (waiting_in self.old) disk)
-            (slots_above (R.slot (rack_below self.old)) (waiting_in self.old) disk).unsynced (is_ok result) }
+        ensures below { ChangesOneSlot (R.slot (rack_below self.old)) (R.slot (rack_below self.new))
+            disk (slots_above (R.slot (rack_below self.old)) (waiting_in self.old) disk)
+            (slots_above (R.slot (rack_below self.old)) (waiting_in self.old) disk).unsynced
+            (is_ok result) }
         ensures log { is_ok result ≡ true → log_of self.new ≡ log_of self.old }
-        ensures idle { waits (waiting_in self.old disk) ≡ false → rack_below self.new ≡ rack_below self.old }
+        ensures idle { waits (waiting_in self.old disk) ≡ false
+            → rack_below self.new ≡ rack_below self.old }
     {
         let result = calls::write_out(&mut self.rack, &mut self.runs[disk as usize], disk);
         note_out(&mut self.log, disk, result.is_ok());
@@ -116,11 +123,12 @@ impl<R: BulkRack + Drop, L: Noted + Drop> Gathered<R, L> {
             (R.slot (rack_below self.new) disk) }
         ensures other_slots { (d : ℕ) → d ≢ disk → R.slot (rack_below self.new) d
             ≡ R.slot (rack_below self.old) d }
-        ensures log { NotesLost (lost_at disk (R.slot (rack_below self.old) disk) (R.slot (rack_below self.new) disk))
-            (L.noted (log_of self.old)) (L.noted (log_of self.new)) }
-        ensures below { Ran (R.told (rack_below self.old)) (R.told (rack_below self.new)) (WritesWhatWaits
+        ensures log { NotesLost
             (lost_at disk (R.slot (rack_below self.old) disk) (R.slot (rack_below self.new) disk))
-            (waiting_in self.old) (waiting_in self.new)) }
+            (L.noted (log_of self.old)) (L.noted (log_of self.new)) }
+        ensures below { Ran (R.told (rack_below self.old)) (R.told (rack_below self.new))
+            (WritesWhatWaits (lost_at disk (R.slot (rack_below self.old) disk)
+            (R.slot (rack_below self.new) disk)) (waiting_in self.old) (waiting_in self.new)) }
         ensures empty { (R.slot (rack_below self.new) disk).power ≡ Power.Spinning
             → waits (waiting_in self.new disk) ≡ false }
         ensures others { (d : ℕ) → d ≢ disk → waiting_in self.new d ≡ waiting_in self.old d }
@@ -133,22 +141,23 @@ impl<R: BulkRack + Drop, L: Noted + Drop> Gathered<R, L> {
         }
     }
 
-    /// Writes out all that waits, and gives the rack and the log back. Each disk is left as the caller saw it,
-    /// but for one that is lost as what waits for it is written.
+    /// Writes out all that waits, and gives the rack and the log back. Each disk is left as the
+    /// caller saw it, but for one that is lost as what waits for it is written.
     pub fn finish(self) -> Finished<R, L>
         ensures slots { R.slot_count result.rack ≡ R.slot_count (rack_below self) }
         // Each disk is as the rack above had it, or it is lost, and then a block waited for it.
         ensures slot { (d : ℕ) → WritesSlotOut (R.slot (rack_below self) d) (waiting_in self d)
             (R.slot result.rack d) }
         // Of each disk that is lost a failed sync is noted, and nothing else.
-        ensures log { NotesLost (lost_below (R.slot_count result.rack) (R.slot (rack_below self)) (R.slot result.rack))
-            (L.noted (log_of self)) (L.noted result.log) }
+        ensures log { NotesLost (lost_below (R.slot_count result.rack) (R.slot (rack_below self))
+            (R.slot result.rack)) (L.noted (log_of self)) (L.noted result.log) }
         // All that waits is on the disks that are left. None is turned on or off.
         ensures below { Ran (R.told (rack_below self)) (R.told result.rack) (WritesWhatWaits
             (lost_below (R.slot_count result.rack) (R.slot (rack_below self)) (R.slot result.rack))
             (waiting_in self) (λ _. none_waits)) }
-        ensures gathered { (below noted : Trail) → R.told result.rack ≡ Some below → L.noted result.log ≡ Some noted
-            → EndsGathered (told_above (R.told (rack_below self)) (L.noted (log_of self))) below noted }
+        ensures gathered { (below noted : Trail)
+            → R.told result.rack ≡ Some below → L.noted result.log ≡ Some noted → EndsGathered
+            (told_above (R.told (rack_below self)) (L.noted (log_of self))) below noted }
         // Where nothing waits for a disk that spins, nothing is called and nothing is noted.
         ensures idle { ((d : ℕ) → (R.slot (rack_below self) d).power ≡ Power.Spinning
             → waits (waiting_in self d) ≡ false)
@@ -206,11 +215,14 @@ impl<R: BulkRack, L: Noted> Rack for Gathered<R, L> {
 
     ghost told = { λ gathered. told_above (R.told gathered.rack) (L.noted gathered.log) };
 
-    ghost slots_hold = { λ gathered. slots_above_hold (R.slot_count gathered.rack) (R.slot gathered.rack) (waiting_at gathered.runs.items) (R.slots_hold gathered.rack) gathered.fits };
+    ghost slots_hold = { λ gathered. slots_above_hold (R.slot_count gathered.rack) (R.slot gathered.rack)
+        (waiting_at gathered.runs.items) (R.slots_hold gathered.rack) gathered.fits };
 
-    ghost agrees = { λ gathered. above_agrees (R.told gathered.rack) (L.noted gathered.log) (R.slot gathered.rack) (waiting_at gathered.runs.items) gathered.stands };
+    ghost agrees = { λ gathered. above_agrees (R.told gathered.rack) (L.noted gathered.log)
+        (R.slot gathered.rack) (waiting_at gathered.runs.items) gathered.stands };
 
-    ghost lawful = { λ gathered. above_lawful (R.told gathered.rack) (L.noted gathered.log) (R.slot gathered.rack) (waiting_at gathered.runs.items) gathered.stands };
+    ghost lawful = { λ gathered. above_lawful (R.told gathered.rack) (L.noted gathered.log)
+        (R.slot gathered.rack) (waiting_at gathered.runs.items) gathered.stands };
 
     fn slots(&self) -> u8 {
         self.rack.slots()
@@ -230,13 +242,16 @@ impl<R: BulkRack, L: Noted> Rack for Gathered<R, L> {
 
     fn read(&mut self, disk: DiskNo, place: Place, into: &mut Block) -> Result<(), Failed>
         requires exists { disk < R.slot_count (rack_below self.old) }
-        requires spinning { (slots_above (R.slot (rack_below self.old)) (waiting_in self.old) disk).power ≡ Power.Spinning }
-        requires within { place < (slots_above (R.slot (rack_below self.old)) (waiting_in self.old) disk).size }
+        requires spinning { (slots_above
+            (R.slot (rack_below self.old)) (waiting_in self.old) disk).power ≡ Power.Spinning }
+        requires within { place
+            < (slots_above (R.slot (rack_below self.old)) (waiting_in self.old) disk).size }
         ensures slots { R.slot_count (rack_below self.new) ≡ R.slot_count (rack_below self.old) }
-        ensures slot { ChangesOneSlot (slots_above (R.slot (rack_below self.old)) (waiting_in self.old))
+        ensures slot { ChangesOneSlot
+            (slots_above (R.slot (rack_below self.old)) (waiting_in self.old))
             (slots_above (R.slot (rack_below self.new)) (waiting_in self.new)) disk
-            (slots_above (R.slot (rack_below self.old)) (waiting_in self.old) disk)
-            (slots_above (R.slot (rack_below self.old)) (waiting_in self.old) disk).unsynced (is_ok result) }
+            (slots_above (R.slot (rack_below self.old)) (waiting_in self.old) disk) (slots_above
+            (R.slot (rack_below self.old)) (waiting_in self.old) disk).unsynced (is_ok result) }
         ensures told { GrowsByCall
             (told_above (R.told (rack_below self.old)) (L.noted (log_of self.old)))
             (told_above (R.told (rack_below self.new)) (L.noted (log_of self.new)))
@@ -244,8 +259,9 @@ impl<R: BulkRack, L: Noted> Rack for Gathered<R, L> {
         ensures bytes { OnOk result ((t : Trail)
             → told_above (R.told (rack_below self.old)) (L.noted (log_of self.old)) ≡ Some t
             → into.new ≡ (now t).block disk place) }
-        ensures above { (s : Disks) → Follows (R.told (rack_below self.old)) (R.told (rack_below self.new))
-            (waiting_in self.old) (waiting_in self.new) s (step (Call.Read disk place (is_ok result)) s) }
+        ensures above { (s : Disks)
+            → Follows (R.told (rack_below self.old)) (R.told (rack_below self.new)) (waiting_in
+            self.old) (waiting_in self.new) s (step (Call.Read disk place (is_ok result)) s) }
         ensures bytes_above { is_ok result ≡ true → (t : Trail) (s : Disks)
             → R.told (rack_below self.old) ≡ Some t → IsAbove (now t) (waiting_in self.old) s
             → into.new ≡ s.block disk place }
@@ -261,20 +277,23 @@ impl<R: BulkRack, L: Noted> Rack for Gathered<R, L> {
 
     fn write(&mut self, disk: DiskNo, place: Place, block: &Block) -> Result<(), Failed>
         requires exists { disk < R.slot_count (rack_below self.old) }
-        requires spinning { (slots_above (R.slot (rack_below self.old)) (waiting_in self.old) disk).power ≡ Power.Spinning }
-        requires within { place < (slots_above (R.slot (rack_below self.old)) (waiting_in self.old) disk).size }
+        requires spinning { (slots_above
+            (R.slot (rack_below self.old)) (waiting_in self.old) disk).power ≡ Power.Spinning }
+        requires within { place
+            < (slots_above (R.slot (rack_below self.old)) (waiting_in self.old) disk).size }
         ensures slots { R.slot_count (rack_below self.new) ≡ R.slot_count (rack_below self.old) }
-        ensures slot { ChangesOneSlot (slots_above (R.slot (rack_below self.old)) (waiting_in self.old))
+        ensures slot { ChangesOneSlot
+            (slots_above (R.slot (rack_below self.old)) (waiting_in self.old))
             (slots_above (R.slot (rack_below self.new)) (waiting_in self.new)) disk
-            (record (slots_above (R.slot (rack_below self.old)) (waiting_in self.old) disk) { unsynced = true })
-            true (is_ok result) }
+            (record (slots_above (R.slot (rack_below self.old))
+            (waiting_in self.old) disk) { unsynced = true }) true (is_ok result) }
         ensures told { GrowsByCall
             (told_above (R.told (rack_below self.old)) (L.noted (log_of self.old)))
             (told_above (R.told (rack_below self.new)) (L.noted (log_of self.new)))
             (Call.Write disk place block.now (is_ok result)) }
-        ensures above { (s : Disks) → Follows (R.told (rack_below self.old)) (R.told (rack_below self.new))
-            (waiting_in self.old) (waiting_in self.new) s
-            (step (Call.Write disk place block.now (is_ok result)) s) }
+        ensures above { (s : Disks) → Follows
+            (R.told (rack_below self.old)) (R.told (rack_below self.new)) (waiting_in self.old)
+            (waiting_in self.new) s (step (Call.Write disk place block.now (is_ok result)) s) }
         // A block that joins those that wait is not written yet: nothing is called.
         ensures joined { Joins (waiting_in self.old disk) place
             → rack_below self.new ≡ rack_below self.old }
@@ -292,17 +311,21 @@ impl<R: BulkRack, L: Noted> Rack for Gathered<R, L> {
 
     fn sync(&mut self, disk: DiskNo) -> Result<(), Failed>
         requires exists { disk < R.slot_count (rack_below self.old) }
-        requires spinning { (slots_above (R.slot (rack_below self.old)) (waiting_in self.old) disk).power ≡ Power.Spinning }
+        requires spinning { (slots_above
+            (R.slot (rack_below self.old)) (waiting_in self.old) disk).power ≡ Power.Spinning }
         ensures slots { R.slot_count (rack_below self.new) ≡ R.slot_count (rack_below self.old) }
-        ensures slot { ChangesOneSlot (slots_above (R.slot (rack_below self.old)) (waiting_in self.old))
+        ensures slot { ChangesOneSlot
+            (slots_above (R.slot (rack_below self.old)) (waiting_in self.old))
             (slots_above (R.slot (rack_below self.new)) (waiting_in self.new)) disk
-            (record (slots_above (R.slot (rack_below self.old)) (waiting_in self.old) disk) { unsynced = false })
-            (slots_above (R.slot (rack_below self.old)) (waiting_in self.old) disk).unsynced (is_ok result) }
+            (record (slots_above (R.slot (rack_below self.old))
+            (waiting_in self.old) disk) { unsynced = false }) (slots_above
+            (R.slot (rack_below self.old)) (waiting_in self.old) disk).unsynced (is_ok result) }
         ensures told { GrowsByCall
             (told_above (R.told (rack_below self.old)) (L.noted (log_of self.old)))
             (told_above (R.told (rack_below self.new)) (L.noted (log_of self.new)))
             (Call.Sync disk (is_ok result)) }
-        ensures above { (s : Disks) → Follows (R.told (rack_below self.old)) (R.told (rack_below self.new))
+        ensures above { (s : Disks)
+            → Follows (R.told (rack_below self.old)) (R.told (rack_below self.new))
             (waiting_in self.old) (waiting_in self.new) s (step (Call.Sync disk (is_ok result)) s) }
     {
         let result = calls::sync(&mut self.rack, &mut self.runs[disk as usize], disk);
@@ -313,18 +336,22 @@ impl<R: BulkRack, L: Noted> Rack for Gathered<R, L> {
 
     fn park(&mut self, disk: DiskNo) -> Result<(), Failed>
         requires exists { disk < R.slot_count (rack_below self.old) }
-        requires spinning { (slots_above (R.slot (rack_below self.old)) (waiting_in self.old) disk).power ≡ Power.Spinning }
-        requires synced { (slots_above (R.slot (rack_below self.old)) (waiting_in self.old) disk).unsynced ≡ false }
+        requires spinning { (slots_above
+            (R.slot (rack_below self.old)) (waiting_in self.old) disk).power ≡ Power.Spinning }
+        requires synced { (slots_above
+            (R.slot (rack_below self.old)) (waiting_in self.old) disk).unsynced ≡ false }
         ensures slots { R.slot_count (rack_below self.new) ≡ R.slot_count (rack_below self.old) }
-        ensures slot { ChangesOneSlot (slots_above (R.slot (rack_below self.old)) (waiting_in self.old))
+        ensures slot { ChangesOneSlot
+            (slots_above (R.slot (rack_below self.old)) (waiting_in self.old))
             (slots_above (R.slot (rack_below self.new)) (waiting_in self.new)) disk
-            (record (slots_above (R.slot (rack_below self.old)) (waiting_in self.old) disk) { power = Power.Parked })
-            false (is_ok result) }
+            (record (slots_above (R.slot (rack_below self.old))
+            (waiting_in self.old) disk) { power = Power.Parked }) false (is_ok result) }
         ensures told { GrowsByCall
             (told_above (R.told (rack_below self.old)) (L.noted (log_of self.old)))
             (told_above (R.told (rack_below self.new)) (L.noted (log_of self.new)))
             (Call.Park disk (is_ok result)) }
-        ensures above { (s : Disks) → Follows (R.told (rack_below self.old)) (R.told (rack_below self.new))
+        ensures above { (s : Disks)
+            → Follows (R.told (rack_below self.old)) (R.told (rack_below self.new))
             (waiting_in self.old) (waiting_in self.new) s (step (Call.Park disk (is_ok result)) s) }
     {
         let result = self.rack.park(disk);
@@ -335,18 +362,21 @@ impl<R: BulkRack, L: Noted> Rack for Gathered<R, L> {
 
     fn spin_up(&mut self, disk: DiskNo) -> Result<(), Failed>
         requires exists { disk < R.slot_count (rack_below self.old) }
-        requires parked { (slots_above (R.slot (rack_below self.old)) (waiting_in self.old) disk).power ≡ Power.Parked }
+        requires parked { (slots_above
+            (R.slot (rack_below self.old)) (waiting_in self.old) disk).power ≡ Power.Parked }
         ensures slots { R.slot_count (rack_below self.new) ≡ R.slot_count (rack_below self.old) }
-        ensures slot { ChangesOneSlot (slots_above (R.slot (rack_below self.old)) (waiting_in self.old))
+        ensures slot { ChangesOneSlot
+            (slots_above (R.slot (rack_below self.old)) (waiting_in self.old))
             (slots_above (R.slot (rack_below self.new)) (waiting_in self.new)) disk
-            (record (slots_above (R.slot (rack_below self.old)) (waiting_in self.old) disk) { power = Power.Spinning })
-            false (is_ok result) }
+            (record (slots_above (R.slot (rack_below self.old))
+            (waiting_in self.old) disk) { power = Power.Spinning }) false (is_ok result) }
         ensures told { GrowsByCall
             (told_above (R.told (rack_below self.old)) (L.noted (log_of self.old)))
             (told_above (R.told (rack_below self.new)) (L.noted (log_of self.new)))
             (Call.SpinUp disk (is_ok result)) }
-        ensures above { (s : Disks) → Follows (R.told (rack_below self.old)) (R.told (rack_below self.new))
-            (waiting_in self.old) (waiting_in self.new) s (step (Call.SpinUp disk (is_ok result)) s) }
+        ensures above { (s : Disks)
+            → Follows (R.told (rack_below self.old)) (R.told (rack_below self.new)) (waiting_in
+            self.old) (waiting_in self.new) s (step (Call.SpinUp disk (is_ok result)) s) }
     {
         let result = self.rack.spin_up(disk);
         let done = result.is_ok();
@@ -357,17 +387,19 @@ impl<R: BulkRack, L: Noted> Rack for Gathered<R, L> {
     fn attach(&mut self, disk: DiskNo, size: u32) -> Result<(), Failed>
         requires exists { disk < R.slot_count (rack_below self.old) }
         ensures slots { R.slot_count (rack_below self.new) ≡ R.slot_count (rack_below self.old) }
-        ensures slot { ChangesOneSlot (slots_above (R.slot (rack_below self.old)) (waiting_in self.old))
+        ensures slot { ChangesOneSlot
+            (slots_above (R.slot (rack_below self.old)) (waiting_in self.old))
             (slots_above (R.slot (rack_below self.new)) (waiting_in self.new)) disk
-            (record (slots_above (R.slot (rack_below self.old)) (waiting_in self.old) disk)
-            { power = Power.Spinning; size = size; unsynced = false })
-            (slots_above (R.slot (rack_below self.old)) (waiting_in self.old) disk).unsynced (is_ok result) }
+            (record (slots_above (R.slot (rack_below self.old)) (waiting_in self.old)
+            disk) { power = Power.Spinning; size = size; unsynced = false }) (slots_above
+            (R.slot (rack_below self.old)) (waiting_in self.old) disk).unsynced (is_ok result) }
         ensures told { GrowsByCall
             (told_above (R.told (rack_below self.old)) (L.noted (log_of self.old)))
             (told_above (R.told (rack_below self.new)) (L.noted (log_of self.new)))
             (Call.Attach disk size (is_ok result)) }
-        ensures above { (s : Disks) → Follows (R.told (rack_below self.old)) (R.told (rack_below self.new))
-            (waiting_in self.old) (waiting_in self.new) s (step (Call.Attach disk size (is_ok result)) s) }
+        ensures above { (s : Disks)
+            → Follows (R.told (rack_below self.old)) (R.told (rack_below self.new)) (waiting_in
+            self.old) (waiting_in self.new) s (step (Call.Attach disk size (is_ok result)) s) }
     {
         let result = calls::attach(&mut self.rack, &mut self.runs[disk as usize], disk, size);
         let done = result.is_ok();

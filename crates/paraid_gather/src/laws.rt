@@ -15,19 +15,20 @@ pub fn a_stop_leaves_an_image()
         → IsAbove below w s → IsImage below i → IsImage s i }
 {}
 
-/// Whatever a stop leaves of the rack below at any moment of its record, a stop of the rack above may
-/// leave at a moment of the record above.
+/// Whatever a stop leaves of the rack below at any moment of its record, a stop of the rack above
+/// may leave at a moment of the record above.
 pub fn a_stop_of_a_gathered_rack_is_a_stop_above()
     ensures { (below above : Trail) → IsGathered below above
         → (m : ℕ) → m ≤ moments below → (i : Disks) → IsImage (disks below m) i
         → (k : ℕ) × (k ≤ moments above) × IsImage (disks above k) i }
 {}
 
-/// That moment is the one before the call above for which the call below is made, or the one after it.
+/// That moment is the one before the call above for which the call below is made, or the one after
+/// it.
 pub fn a_stop_within_a_group()
     ensures { (below above : Trail) (it : IsGathered below above)
-        → (before : List CallGroup) (g : CallGroup) (after : List CallGroup) → it.groups ≡ before ++ g ∷ after
-        → (m : ℕ) → m ≤ length g.below
+        → (before : List CallGroup) (g : CallGroup) (after : List CallGroup)
+        → it.groups ≡ before ++ g ∷ after → (m : ℕ) → m ≤ length g.below
         → LeavesImageOf (disks above (moments it.start + length (calls_above before)))
         (disks above (moments it.start + length (calls_above (before ++ g ∷ []))))
         (disks below (moments it.start + length (calls_below before) + m)) }
@@ -43,7 +44,8 @@ pub fn a_stop_between_groups()
 
 /// The rack below parks, spins up and attaches what the rack above does, in the same order.
 pub fn a_gathered_rack_powers_as_above()
-    ensures { (below above : Trail) → IsGathered below above → power_calls below.calls ≡ power_calls above.calls }
+    ensures { (below above : Trail)
+        → IsGathered below above → power_calls below.calls ≡ power_calls above.calls }
 {}
 
 /// Where all is written out, a disk of which each block is synced is left as the rack above had it.

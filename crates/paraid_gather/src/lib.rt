@@ -1,8 +1,10 @@
-//! A rack that gathers what is written to it: blocks that follow one another on a disk wait in memory,
-//! and are written by one call at the disk's next sync, or before a block that does not follow them.
+//! A rack that gathers what is written to it: blocks that follow one another on a disk wait in
+//! memory, and are written by one call at the disk's next sync, or before a block that does not
+//! follow them.
 //!
-//! It stands over any rack that can write several blocks by one call. Whatever a stop leaves of that
-//! rack, at any moment, is an image of the rack above it, before the call that was under way or after.
+//! It stands over any rack that can write several blocks by one call. Whatever a stop leaves of
+//! that rack, at any moment, is an image of the rack above it, before the call that was under way
+//! or after.
 #![tactic(auto)]
 
 mod bulk;

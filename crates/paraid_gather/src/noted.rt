@@ -35,7 +35,8 @@ pub(crate) fn note_write<L: Noted>(
     block: &Block,
     done: bool,
 )
-    ensures { GrowsByCall (L.noted log.old) (L.noted log.new) (Call.Write disk place block.now done) }
+    ensures { GrowsByCall
+        (L.noted log.old) (L.noted log.new) (Call.Write disk place block.now done) }
 {
     let bytes = block.copy();
     log.note(Call::Write {
@@ -46,8 +47,8 @@ pub(crate) fn note_write<L: Noted>(
     });
 }
 
-/// Notes how what waits for a disk was written out: done, it is no call of the rack above, and failed it is
-/// a sync that has failed.
+/// Notes how what waits for a disk was written out: done, it is no call of the rack above, and
+/// failed it is a sync that has failed.
 pub(crate) fn note_out<L: Noted>(log: &mut L, disk: DiskNo, done: bool)
     ensures told { TellsOut done disk (L.noted log.old) (L.noted log.new) }
     ensures same { done ≡ true → log.new ≡ log.old }

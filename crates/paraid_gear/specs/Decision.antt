@@ -17,13 +17,15 @@ in_every_window test lengths samples = list_all (λ span. test span (keep_last s
 abbrev pub gear_up_for : Setup → ℕ → List ℕ → Option ℕ → Option ℕ
 gear_up_for setup gear samples None = None
 gear_up_for setup gear samples (Some to) =
-    if in_every_window (is_busy (setup.up * setup.service * gear)) setup.windows samples then Some to else None
+    if in_every_window (is_busy (setup.up * setup.service * gear)) setup.windows samples
+    then Some to else None
 
 -- the next lower gear, if there is one and in every window the load on it would be low and even
 abbrev pub gear_down_for : Setup → List ℕ → Option ℕ → Option ℕ
 gear_down_for setup samples None = None
 gear_down_for setup samples (Some to) =
-    if in_every_window (is_low_and_even (setup.down * setup.service * to)) setup.windows samples then Some to else None
+    if in_every_window (is_low_and_even (setup.down * setup.service * to)) setup.windows samples
+    then Some to else None
 
 -- up, or else down, or else neither
 abbrev pub first_of_both : Option ℕ → Option ℕ → Decision

@@ -34,9 +34,10 @@ abbrev pub is_busy : ℕ → ℕ → List ℕ → Bool
 is_busy load span samples = nat_le (load * span) (100 * sum samples)
 
 -- The mean of the samples and their deviation together are at most the load, a percentage. With
--- their sum S and their sum of squares Q: 100 S ≤ load * span, and (100 * span * deviation)^2, which
--- is 10000 (span * Q - S^2), is at most (load * span - 100 S)^2.
+-- their sum S and their sum of squares Q: 100 S ≤ load * span, and (100 * span * deviation)^2,
+-- which is 10000 (span * Q - S^2), is at most (load * span - 100 S)^2.
 abbrev pub is_low_and_even : ℕ → ℕ → List ℕ → Bool
 is_low_and_even load span samples =
     nat_le (100 * sum samples) (load * span)
-    && nat_le (10000 * (span * sum_squares samples - sum samples * sum samples)) ((load * span - 100 * sum samples) ^ 2)
+    && nat_le (10000 * (span * sum_squares samples - sum samples * sum samples))
+    ((load * span - 100 * sum samples) ^ 2)

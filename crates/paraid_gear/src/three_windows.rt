@@ -101,7 +101,8 @@ impl Windows {
         self.first.is_busy(load) && self.second.is_busy(load) && self.third.is_busy(load)
     }
 
-    /// Whether in each window the mean load and its deviation together are at most `load` hundredths.
+    /// Whether in each window the mean load and its deviation together are at most `load`
+    /// hundredths.
     fn are_quiet(&self, load: u128) -> bool
         requires { load < 2 ^ 48 }
         ensures { (samples : List ℕ) → HoldLastSamples self.now samples

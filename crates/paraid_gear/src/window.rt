@@ -30,7 +30,8 @@ impl Model for Window {
 
     ghost view = { λ w. record { span = w.span; samples = w.ring.items } };
 
-    ghost invariant = { λ w. (w.ring.capacity ≡ 1024) × (w.span ≤ 1024) × (length w.ring.items ≤ w.span) × AreSums w.ring.items w.sum w.squares };
+    ghost invariant = { λ w. (w.ring.capacity ≡ 1024)
+        × (w.span ≤ 1024) × (length w.ring.items ≤ w.span) × AreSums w.ring.items w.sum w.squares };
 }
 
 impl Window {
@@ -78,7 +79,8 @@ impl Window {
     /// Gives up the oldest sample of a full window.
     fn make_room(&mut self)
         requires { 1 ≤ self.old.span }
-        ensures { self.new ≡ sample_window self.old.span (keep_last (self.old.span - 1) self.old.samples) }
+        ensures { self.new
+            ≡ sample_window self.old.span (keep_last (self.old.span - 1) self.old.samples) }
     {
         if self.ring.len() < self.span as usize {
             return;

@@ -16,5 +16,5 @@ pub record IsLaidBelow (i : Disks) (x : ℕ) (said : LogState) : Type 0 where
   pub laid : contents i said.batch ≡ contents i []
   pub in_array : out_disk i.power said.meta ≢ Some x
   pub stands : (z : ℕ) (o : LogState) → Stands i z o → (o ≡ said) ⊎ (o ≡ closed_over said.meta)
-  pub other : (o : LogState) → Says i (other_log x) o → out_disk i.power said.meta ≢ Some (other_log x)
-      → (o ≡ said) ⊎ (o ≡ closed_over said.meta)
+  pub other : (o : LogState) → Says i (other_log x) o
+      → out_disk i.power said.meta ≢ Some (other_log x) → (o ≡ said) ⊎ (o ≡ closed_over said.meta)

@@ -9,7 +9,8 @@ use Rattle.paraid_image.specs.Sound.{ContentOk}
 use Rattle.paraid_image.specs.Standing.{contents}
 
 -- the first writes of the history, as many as the meta says and at least `lo`
-pub record HoldsFirstWrites (slots : ℕ) (s : Disks) (m : Meta) (batch : Batch) (h : History) (lo : ℕ) : Type 0 where
+pub record HoldsFirstWrites
+    (slots : ℕ) (s : Disks) (m : Meta) (batch : Batch) (h : History) (lo : ℕ) : Type 0 where
   pub low : lo ≤ m.writes
   pub high : m.writes ≤ length h
   pub content : ContentOk slots s.power s.size (view_by m s.power (contents s batch)) h m.writes

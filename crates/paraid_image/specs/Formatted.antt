@@ -26,5 +26,6 @@ pub record IsFormatted (slots : ℕ) (s : Disks) (m : Meta) : Type 0 where
   pub closed : (x : ℕ) → x < 2 → is_open (s.block x 0) ≡ false
   pub meta : (x : ℕ) → x < 2 → (s.block x 1).bytes ≡ meta_bytes m
   pub no_witness : (x : ℕ) → x < 2 → is_open (s.block 2 x) ≡ false
-  pub zeros : (d p : ℕ) → d < m.setup.geometry.disks → log_least ≤ p → p < disk_size m.setup.geometry → s.block d p ≡ zero_block
+  pub zeros : (d p : ℕ) → d < m.setup.geometry.disks
+      → log_least ≤ p → p < disk_size m.setup.geometry → s.block d p ≡ zero_block
   pub synced : (d p : ℕ) → s.loose d p ≡ false

@@ -31,20 +31,21 @@ pub data IsFree (v : View) (d p : ℕ) : Type 0 where
   -- any place past the log of a disk that is gone
   gone : v.meta.out ≡ Gone d → map_start v.meta.setup.geometry ≤ p → IsFree v d p
   -- a unit of the disk that is being rebuilt, which is not rebuilt yet
-  row : (rebuilt r : ℕ) → v.meta.out ≡ Fresh d rebuilt → rebuilt ≤ r → r < v.meta.setup.geometry.rows
-      → p ≡ hard_place_of v.meta.setup.geometry r → IsFree v d p
+  row : (rebuilt r : ℕ) → v.meta.out ≡ Fresh d rebuilt → rebuilt ≤ r
+      → r < v.meta.setup.geometry.rows → p ≡ hard_place_of v.meta.setup.geometry r → IsFree v d p
   stripe : (rebuilt s : ℕ) → v.meta.out ≡ Fresh d rebuilt → rebuilt ≤ v.meta.setup.geometry.rows + s
       → s < stripes_on v d → p ≡ soft_place_of v.meta.setup.geometry v.meta.gear s → IsFree v d p
   map_block : (rebuilt j : ℕ) → v.meta.out ≡ Fresh d rebuilt → j < map_count v.meta.setup.geometry
-      → rebuilt ≤ v.meta.setup.geometry.rows + stripes_on v d + j → p ≡ map_block_place v.meta.setup.geometry j → IsFree v d p
+      → rebuilt ≤ v.meta.setup.geometry.rows + stripes_on v d + j
+      → p ≡ map_block_place v.meta.setup.geometry j → IsFree v d p
 
 -- the gates of the log disks that are not out are closed
 pub record AreSidesClosed (i : Disks) (said : LogState) : Type 0 where
-  pub closed : (y : ℕ) (other : LogState) → y < 2 → Says i y other → named_out said.meta.out ≢ Some y
-      → other.opened ≡ false
+  pub closed : (y : ℕ) (other : LogState)
+      → y < 2 → Says i y other → named_out said.meta.out ≢ Some y → other.opened ≡ false
 
 -- place `p` of disk `d` is not seen: it is neutral, or it is free while the gates are closed
 pub data IsUnseen (i : Disks) (d p : ℕ) : Type 0 where
   neutral : IsNeutral i d p → IsUnseen i d p
-  free : (x : ℕ) (said : LogState) → Stands i x said → AreSidesClosed i said → IsFree (view_of i said) d p
-      → IsUnseen i d p
+  free : (x : ℕ) (said : LogState)
+      → Stands i x said → AreSidesClosed i said → IsFree (view_of i said) d p → IsUnseen i d p

@@ -13,6 +13,7 @@ pub data IsLooked (s j : Disks) : Type 0 where
 
 -- Each image that is looked at holds a first part of `h` of at least `lo` writes; before a disk is
 -- lost, a weak disk is the one that is down.
-pub record IsHeldLooked (slots : ℕ) (s : Disks) (h : History) (lo : ℕ) (down : Option ℕ) : Type 0 where
+pub record IsHeldLooked
+    (slots : ℕ) (s : Disks) (h : History) (lo : ℕ) (down : Option ℕ) : Type 0 where
   pub looked : (j : Disks) → IsLooked s j → IsSoundFrom slots j h lo
   pub weak : (i : Disks) (w : ℕ) → IsImage s i → IsWeak i w → down ≡ Some w

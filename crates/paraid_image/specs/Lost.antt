@@ -12,7 +12,8 @@ first_lost (call ∷ calls) = if is_done call then first_lost calls else Some (d
 -- disk `d` failed in one of these calls
 abbrev pub fails_on : ℕ → List Call → Bool
 fails_on d [] = false
-fails_on d (call ∷ calls) = if is_done call then fails_on d calls else (if disk_of call == d then true else fails_on d calls)
+fails_on d (call ∷ calls) = if is_done call
+    then fails_on d calls else (if disk_of call == d then true else fails_on d calls)
 
 -- After those calls before it the last of these failed, on this disk.
 pub record EndsFailing (disk : ℕ) (before cs : List Call) : Type 0 where
@@ -32,21 +33,22 @@ abbrev pub EndsByLoss : Option ℕ → List Call → Type 0
 EndsByLoss None cs = first_lost cs ≡ None
 EndsByLoss (Some disk) cs = EndsByFailure disk cs
 
--- The last of these calls is the one that failed on the second disk, and before it no disk failed but the first.
+-- The last of these calls is the one that failed on the second disk, and before it no disk failed
+-- but the first.
 pub record EndsBySecond (two : Two) (cs : List Call) : Type 0 where
   pub before : List Call
   pub ends : EndsFailing two.second before cs
   pub alone : (d : ℕ) → fails_on d before ≡ true → d ≡ two.first
 
--- Two disks are lost: these calls ended by the one that failed on the second; the first was out, or none was, and it
--- failed first.
+-- Two disks are lost: these calls ended by the one that failed on the second; the first was out, or
+-- none was, and it failed first.
 pub record TellsLosses (out : Option ℕ) (two : Two) (cs : List Call) : Type 0 where
   pub apart : two.first ≢ two.second
   pub first : (out ≡ Some two.first) ⊎ ((out ≡ None) × (first_lost cs ≡ Some two.first))
   pub ends : EndsBySecond two cs
 
--- One disk is lost at most: where none was out, the one that is out now is the first that failed in these
--- calls, and where one was out, it is so still. No other disk failed.
+-- One disk is lost at most: where none was out, the one that is out now is the first that failed in
+-- these calls, and where one was out, it is so still. No other disk failed.
 pub record BearsLoss (was now : Option ℕ) (cs : List Call) : Type 0 where
   pub first : was ≡ None → first_lost cs ≡ now
   pub stays : (d : ℕ) → was ≡ Some d → now ≡ Some d

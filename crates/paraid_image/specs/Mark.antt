@@ -6,7 +6,8 @@ use Rattle.paraid_image.specs.Power.{phase_beside}
 
 -- the meta with epoch `e` that names disk `d` gone: a shift down has ended, and nothing is filled
 abbrev pub marked_gone : Meta → ℕ → ℕ → Meta
-marked_gone m d e = record m { epoch = e; phase = phase_beside true m.phase; fill = 0; out = Gone d }
+marked_gone m d e =
+    record m { epoch = e; phase = phase_beside true m.phase; fill = 0; out = Gone d }
 
 -- disk `d` has gone out; a disk that is lost ends a shift down
 abbrev pub meta_after_loss : Meta → ℕ → Meta

@@ -19,7 +19,8 @@ IsLatest i y new = Says i y new ⊎ ((o : LogState) → Says i y o → o.meta.ep
 
 -- Log disk `x` has this batch and its meta in its log under whatever gate, and it is the next one:
 -- with the batch laid over, the image holds the first `k` writes of `h`.
-pub record IsLoggedNext (slots : ℕ) (i : Disks) (x : ℕ) (new : LogState) (h : History) (k : ℕ) : Type 0 where
+pub record IsLoggedNext
+    (slots : ℕ) (i : Disks) (x : ℕ) (new : LogState) (h : History) (k : ℕ) : Type 0 where
   pub log_disk : x < 2
   pub place : has_place i x 0 ≡ true
   pub present : IsPresent i x
@@ -37,14 +38,15 @@ pub record IsLoggedNext (slots : ℕ) (i : Disks) (x : ℕ) (new : LogState) (h 
       → out_disk i.power new.meta ≢ Some t.disk → i.power t.disk ≡ Spinning
   pub formed : IsPresent i (other_log x) → out_disk i.power new.meta ≢ Some (other_log x)
       → (o : LogState) × Says i (other_log x) o
-  pub paired : (o : LogState) → Says i (other_log x) o → out_disk i.power new.meta ≢ Some (other_log x)
-      → (o ≡ new) ⊎ IsAhead new o
+  pub paired : (o : LogState) → Says i (other_log x) o
+      → out_disk i.power new.meta ≢ Some (other_log x) → (o ≡ new) ⊎ IsAhead new o
   pub content : ContentOk slots i.power i.size (view_by new.meta i.power (contents i new.batch)) h k
   pub witnesses : AreWitnessesTrue i (out_disk i.power new.meta)
 
--- The closed gate of log disk `x` may be opened: then the image holds what the batch brings, as it is and with
--- a disk lost. Where log disk `x` itself can be lost then, it can be lost before.
-pub record CanOpen (slots : ℕ) (i : Disks) (x : ℕ) (new : LogState) (h : History) (k lo : ℕ) (down : Option ℕ) : Type 0 where
+-- The closed gate of log disk `x` may be opened: then the image holds what the batch brings, as it
+-- is and with a disk lost. Where log disk `x` itself can be lost then, it can be lost before.
+pub record CanOpen (slots : ℕ)
+    (i : Disks) (x : ℕ) (new : LogState) (h : History) (k lo : ℕ) (down : Option ℕ) : Type 0 where
   pub shut : is_open (stored_block i x 0) ≡ false
   pub low : lo ≤ k
   pub high : k ≤ length h

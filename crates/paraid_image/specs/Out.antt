@@ -16,7 +16,8 @@ or_else None second = second
 -- the least absent slot of the first `n`
 unfoldable pub first_absent : (ℕ → Power) → ℕ → Option ℕ
 first_absent power zero = None
-first_absent power (suc n) = or_else (first_absent power n) (if is_present (power n) then None else Some n)
+first_absent power (suc n) =
+    or_else (first_absent power n) (if is_present (power n) then None else Some n)
 
 -- the out disk: the one that the meta names out, or else an absent slot
 abbrev pub out_disk : (ℕ → Power) → Meta → Option ℕ
@@ -39,6 +40,7 @@ pub record IsDouble (power : ℕ → Power) (m : Meta) : Type 0 where
 -- disk names out. The latter is so only while the commit that ends a rebuild stands on one log
 -- disk and not yet on the other.
 pub data IsWeak (i : Disks) (w : ℕ) : Type 0 where
-  out : (x : ℕ) (said : LogState) → Stands i x said → out_disk i.power said.meta ≡ Some w → IsWeak i w
+  out : (x : ℕ) (said : LogState)
+      → Stands i x said → out_disk i.power said.meta ≡ Some w → IsWeak i w
   named : (x : ℕ) (said other : LogState) → Stands i x said → out_disk i.power said.meta ≡ None
       → Says i (other_log x) other → named_out other.meta.out ≡ Some w → IsWeak i w

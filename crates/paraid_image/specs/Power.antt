@@ -67,7 +67,8 @@ initial_state i said = state_by i.power said.meta (view_of i said).dirty
 
 -- below the gear, and in a shift up below the new gear, disks spin; the others are parked
 abbrev pub power_by_gear : ℕ → Phase → ℕ → Power
-power_by_gear gear phase d = if nat_lt d gear || nat_lt d (rising_to phase) then Spinning else Parked
+power_by_gear gear phase d =
+    if nat_lt d gear || nat_lt d (rising_to phase) then Spinning else Parked
 
 -- how a disk is powered, unless it is the one that is gone
 abbrev pub power_beside : Out → ℕ → Power → Option Power

@@ -1,16 +1,19 @@
--- What an event adds to the history and to the writes that are kept, and when a state shows another.
+-- What an event adds to the history and to the writes that are kept, and when a state shows
+-- another.
 use Rattle.std.specs.Prelude.{◌≡◌, ℕ, nat_lt, [], if◌then◌else◌}
 use Rattle.paraid_base.specs.declared.event.Answer.{Answer}
 use Rattle.paraid_base.specs.declared.event.Answer.TheVariants.{Flushed}
 use Rattle.paraid_image.specs.Power.{PowerState}
 
--- how many writes no stop takes away after this answer: a flush raises it to the number that it tells
+-- how many writes no stop takes away after this answer: a flush raises it to the number that it
+-- tells
 abbrev pub with_flush : ℕ → Answer → ℕ
 with_flush low (Flushed number) = if nat_lt low number then number else low
 with_flush low answer = low
 
--- The state and one that an image shows have the same gear, phase, fill mark, out disk and spins. (Of an image the slot of a
--- disk that is absent shows it as gone, whether or not the meta names it.)
+-- The state and one that an image shows have the same gear, phase, fill mark, out disk and spins.
+-- (Of an image the slot of a disk that is absent shows it as gone, whether or not the meta names
+-- it.)
 pub record IsShown (state shown : PowerState) : Type 0 where
   pub gear : shown.gear ≡ state.gear
   pub phase : shown.phase ≡ state.phase

@@ -97,6 +97,7 @@ pub record IsBad (i : Disks) (x : ℕ) : Type 0 where
 -- this is the side of log disk `x`
 abbrev pub IsSide : Disks → ℕ → Side → Type 0
 IsSide i x absent = is_present (i.power x) ≡ false
-IsSide i x blank = IsPresent i x × (is_open (stored_block i x 0) ≡ false) × (stored_block i x 1 ≡ zero_block)
+IsSide i x blank =
+    IsPresent i x × (is_open (stored_block i x 0) ≡ false) × (stored_block i x 1 ≡ zero_block)
 IsSide i x bad = IsBad i x
 IsSide i x (formed said) = Says i x said

@@ -70,7 +70,8 @@ pub record LogOk (i : Disks) (x : ℕ) (said : LogState) (k : ℕ) : Type 0 wher
 
 -- the values of each row sum to zero
 abbrev pub AreRowsZero : View → Type 0
-AreRowsZero v = (r : ℕ) → r < v.meta.setup.geometry.rows → xor_upto (value v r) v.meta.setup.geometry.disks ≡ zero_block
+AreRowsZero v = (r : ℕ)
+    → r < v.meta.setup.geometry.rows → xor_upto (value v r) v.meta.setup.geometry.disks ≡ zero_block
 
 -- a stripe sums to zero as it is stored
 abbrev pub IsStripeZero : View → ℕ → ℕ → Type 0
@@ -82,16 +83,19 @@ IsOffStripes out a = (d : ℕ) → out ≡ Some d → a ≤ d
 
 -- each stripe of the region of the gear sums to zero, unless one of its blocks is on the out disk
 abbrev pub AreStripesZero : View → Type 0
-AreStripesZero v = IsOffStripes v.out v.meta.gear → (s : ℕ)
-    → s < stripe_count v.meta.setup.geometry.disks v.meta.setup.geometry.rows v.meta.gear → IsStripeZero v v.meta.gear s
+AreStripesZero v = IsOffStripes v.out v.meta.gear
+    → (s : ℕ) → s < stripe_count v.meta.setup.geometry.disks v.meta.setup.geometry.rows v.meta.gear
+    → IsStripeZero v v.meta.gear s
 
 -- stripe `s` of the region of gear `a` is filled: it stores the values of its cells and zeros in
 -- its pads, and sums to zero
 pub record IsFilled (v : View) (a s : ℕ) : Type 0 where
-  pub cells : (r d : ℕ) → r < v.meta.setup.geometry.rows → a ≤ d → d < v.meta.setup.geometry.disks
-      → soft_stripe v.meta.setup.geometry.disks a r d ≡ s
-      → stripe v.meta.setup.geometry v.block a s (soft_disk v.meta.setup.geometry.disks a r d) ≡ value v r d
-  pub pads : (at : ℕ) → at < a - 1 → IsPad v.meta.setup.geometry.disks v.meta.setup.geometry.rows a s at
+  pub cells : (r d : ℕ) → r < v.meta.setup.geometry.rows
+      → a ≤ d → d < v.meta.setup.geometry.disks → soft_stripe v.meta.setup.geometry.disks a r d ≡ s
+      → stripe v.meta.setup.geometry v.block a s (soft_disk v.meta.setup.geometry.disks a r d)
+      ≡ value v r d
+  pub pads : (at : ℕ)
+      → at < a - 1 → IsPad v.meta.setup.geometry.disks v.meta.setup.geometry.rows a s at
       → stripe v.meta.setup.geometry v.block a s (skip (soft_parity_disk a s) at) ≡ zero_block
   pub zero : IsStripeZero v a s
 
@@ -101,12 +105,14 @@ AreFilled v = v.out ≡ None → (s : ℕ) → s < v.meta.fill → IsFilled v (p
 
 -- a clean cell of a disk from the gear on, which is not out, has its value in its hard place too
 abbrev pub AreCleanStored : View → Type 0
-AreCleanStored v = (r d : ℕ) → r < v.meta.setup.geometry.rows → v.meta.gear ≤ d → d < v.meta.setup.geometry.disks
-    → v.out ≢ Some d → v.dirty r d ≡ false → v.block d (hard_place_of v.meta.setup.geometry r) ≡ value v r d
+AreCleanStored v = (r d : ℕ) → r < v.meta.setup.geometry.rows
+    → v.meta.gear ≤ d → d < v.meta.setup.geometry.disks → v.out ≢ Some d
+    → v.dirty r d ≡ false → v.block d (hard_place_of v.meta.setup.geometry r) ≡ value v r d
 
 -- the number of stripes that a disk below the gear has to get back
 abbrev pub stripes_on : View → ℕ → ℕ
-stripes_on v d = if nat_lt d v.meta.gear then stripe_count v.meta.setup.geometry.disks v.meta.setup.geometry.rows v.meta.gear else 0
+stripes_on v d = if nat_lt d v.meta.gear
+    then stripe_count v.meta.setup.geometry.disks v.meta.setup.geometry.rows v.meta.gear else 0
 
 -- The first units of a disk store what they should: first the rows, then the stripes, then the
 -- blocks of the dirty map. A dirty cell of a parked disk is stored nowhere but in its copy.
@@ -115,7 +121,8 @@ pub record AreRebuilt (v : View) (d rebuilt : ℕ) : Type 0 where
       → (v.meta.gear ≤ d → v.dirty r d ≡ false)
       → v.block d (hard_place_of v.meta.setup.geometry r) ≡ value v r d
   pub stripes : (s : ℕ) → s < stripes_on v d → v.meta.setup.geometry.rows + s < rebuilt
-      → stripe v.meta.setup.geometry v.block v.meta.gear s d ≡ stripe_rest v.meta.setup.geometry v.block v.meta.gear s d
+      → stripe v.meta.setup.geometry v.block v.meta.gear s d
+      ≡ stripe_rest v.meta.setup.geometry v.block v.meta.gear s d
   pub map_blocks : (j : ℕ) → d < 2 → j < map_count v.meta.setup.geometry
       → v.meta.setup.geometry.rows + stripes_on v d + j < rebuilt
       → v.block d (map_block_place v.meta.setup.geometry j)
@@ -123,24 +130,30 @@ pub record AreRebuilt (v : View) (d rebuilt : ℕ) : Type 0 where
 
 -- the two maps agree, and a dirty cell is a cell of a disk from the gear on
 pub record IsMap (v : View) (bit : ℕ → ℕ → Bool) : Type 0 where
-  pub mirrored : (j : ℕ) → j < map_count v.meta.setup.geometry → v.out ≢ Some 0 → v.out ≢ Some 1
-      → v.block 0 (map_block_place v.meta.setup.geometry j) ≡ v.block 1 (map_block_place v.meta.setup.geometry j)
-  pub rows : (r d : ℕ) → r < 512 * map_count v.meta.setup.geometry → bit r d ≡ true → r < v.meta.setup.geometry.rows
-  pub parked : (r d : ℕ) → r < 512 * map_count v.meta.setup.geometry → bit r d ≡ true → v.meta.gear ≤ d
-  pub disks : (r d : ℕ) → r < 512 * map_count v.meta.setup.geometry → bit r d ≡ true → d < v.meta.setup.geometry.disks
+  pub mirrored : (j : ℕ) → j < map_count v.meta.setup.geometry
+      → v.out ≢ Some 0 → v.out ≢ Some 1 → v.block 0 (map_block_place v.meta.setup.geometry j)
+      ≡ v.block 1 (map_block_place v.meta.setup.geometry j)
+  pub rows : (r d : ℕ)
+      → r < 512 * map_count v.meta.setup.geometry → bit r d ≡ true → r < v.meta.setup.geometry.rows
+  pub parked : (r d : ℕ)
+      → r < 512 * map_count v.meta.setup.geometry → bit r d ≡ true → v.meta.gear ≤ d
+  pub disks : (r d : ℕ)
+      → r < 512 * map_count v.meta.setup.geometry → bit r d ≡ true → d < v.meta.setup.geometry.disks
 
 -- What is asked of the disks themselves: of `slots` slots, with these powers and sizes.
-pub record AreDisks (slots : ℕ) (power : ℕ → Power) (size : ℕ → ℕ) (m : Meta) (out : Option ℕ) : Type 0 where
+pub record AreDisks
+    (slots : ℕ) (power : ℕ → Power) (size : ℕ → ℕ) (m : Meta) (out : Option ℕ) : Type 0 where
   pub enough : m.setup.geometry.disks ≤ slots
   pub log_disks : (d : ℕ) → d < 2 → power d ≢ Parked
   pub large : (d : ℕ) → d < m.setup.geometry.disks → is_present (power d) ≡ true → out ≢ Some d
       → disk_size m.setup.geometry ≤ size d
-  pub fresh_large : (d rebuilt : ℕ) → IsFresh power m d rebuilt → disk_size m.setup.geometry ≤ size d
+  pub fresh_large : (d rebuilt : ℕ)
+      → IsFresh power m d rebuilt → disk_size m.setup.geometry ≤ size d
   pub below_gear : (d : ℕ) → d < m.gear → out ≢ Some d → power d ≡ Spinning
   pub fresh_spins : (d rebuilt : ℕ) → IsFresh power m d rebuilt → power d ≡ Spinning
   -- a disk that a shift up has not yet spun up has its spin-up recorded
-  pub recorded : (to d : ℕ) → m.phase ≡ Up to → m.gear ≤ d → d < to → power d ≡ Parked → out ≢ Some d
-      → 1 ≤ slice_index m.spins d
+  pub recorded : (to d : ℕ) → m.phase ≡ Up to
+      → m.gear ≤ d → d < to → power d ≡ Parked → out ≢ Some d → 1 ≤ slice_index m.spins d
 
 -- What is asked of the blocks past the log, and of the disks, whatever history they hold.
 pub record IsWellKept (slots : ℕ) (power : ℕ → Power) (size : ℕ → ℕ) (v : View) : Type 0 where
@@ -154,11 +167,13 @@ pub record IsWellKept (slots : ℕ) (power : ℕ → Power) (size : ℕ → ℕ)
 
 -- the blocks that are stood for are these
 abbrev pub AreBlocks : View → (ℕ → Block) → Type 0
-AreBlocks v held = (b : ℕ) → b < v.meta.setup.geometry.rows * (v.meta.setup.geometry.disks - 1) → blocks_of v b ≡ held b
+AreBlocks v held = (b : ℕ)
+    → b < v.meta.setup.geometry.rows * (v.meta.setup.geometry.disks - 1) → blocks_of v b ≡ held b
 
 -- The disks and the blocks past the log are kept well, and stand for what the first `k` writes of
 -- `h` leave.
-pub record ContentOk (slots : ℕ) (power : ℕ → Power) (size : ℕ → ℕ) (v : View) (h : History) (k : ℕ) : Type 0 where
+pub record ContentOk
+    (slots : ℕ) (power : ℕ → Power) (size : ℕ → ℕ) (v : View) (h : History) (k : ℕ) : Type 0 where
   pub kept : IsWellKept slots power size v
   pub blocks : AreBlocks v (after h k)
 

@@ -7,9 +7,10 @@ use Rattle.paraid_image.specs.Spot.{rising_to}
 
 -- one where the spin-up of disk `d` is recorded and has yet to be made
 abbrev pub pending_spin_ups : Meta → (ℕ → Power) → ℕ → ℕ
-pending_spin_ups m power d = if nat_le m.gear d && nat_lt d (rising_to m.phase) && is_parked (power d) then 1 else 0
+pending_spin_ups m power d =
+    if nat_le m.gear d && nat_lt d (rising_to m.phase) && is_parked (power d) then 1 else 0
 
--- the spin-ups that a meta has recorded and that were made: its spins, one less where one is still to
--- be made
+-- the spin-ups that a meta has recorded and that were made: its spins, one less where one is still
+-- to be made
 abbrev pub made_spin_ups : Meta → (ℕ → Power) → ℕ → ℕ
 made_spin_ups m power d = slice_index m.spins d - pending_spin_ups m power d

@@ -41,8 +41,10 @@ hard_spot g r d = record { disk = d; place = hard_place_of g r }
 
 -- the copy of a cell in the region of gear `a`
 abbrev pub soft_spot : Geometry → ℕ → ℕ → ℕ → Spot
-soft_spot g a r d = record { disk = soft_disk g.disks a r d; place = soft_place_of g a (soft_stripe g.disks a r d) }
+soft_spot g a r d =
+    record { disk = soft_disk g.disks a r d; place = soft_place_of g a (soft_stripe g.disks a r d) }
 
 -- where the value of the cell of row `r` and disk `d` lives
 unfoldable pub spot_of : View → ℕ → ℕ → Spot
-spot_of v r d = if is_hard v r d then hard_spot v.meta.setup.geometry r d else soft_spot v.meta.setup.geometry v.meta.gear r d
+spot_of v r d = if is_hard v r d
+    then hard_spot v.meta.setup.geometry r d else soft_spot v.meta.setup.geometry v.meta.gear r d

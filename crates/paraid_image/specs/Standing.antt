@@ -11,7 +11,8 @@ use Rattle.paraid_image.specs.Sides.Side.{formed}
 -- whether disk 0 stands where the two log disks say this: it has the greater epoch; or the epochs
 -- are the same, and its gate is closed or that of disk 1 is open
 abbrev pub is_first : LogState → LogState → Bool
-is_first a b = nat_lt b.meta.epoch a.meta.epoch || (a.meta.epoch == b.meta.epoch && (not a.opened || b.opened))
+is_first a b =
+    nat_lt b.meta.epoch a.meta.epoch || (a.meta.epoch == b.meta.epoch && (not a.opened || b.opened))
 
 -- the log disk that stands, by the sides of disk 0 and of disk 1
 abbrev pub standing : Side → Side → Option ℕ
@@ -38,7 +39,8 @@ pub record Stands (i : Disks) (x : ℕ) (said : LogState) : Type 0 where
 -- a block with the batch laid over
 abbrev pub overlaid_block : Batch → ℕ → ℕ → Block → Block
 overlaid_block [] d p b = b
-overlaid_block (w ∷ batch) d p b = overlaid_block batch d p (if w.0.disk == d && w.0.place == p then w.1 else b)
+overlaid_block (w ∷ batch) d p b =
+    overlaid_block batch d p (if w.0.disk == d && w.0.place == p then w.1 else b)
 
 -- blocks by disk and place
 abbrev pub Contents : Type 0
@@ -46,4 +48,5 @@ Contents = ℕ → ℕ → Block
 
 -- the blocks past the log, with the batch laid over them; zeros where there is no block
 unfoldable pub contents : Disks → Batch → Contents
-contents i batch d p = if nat_lt p log_least then zero_block else (if has_place i d p then overlaid_block batch d p (i.block d p) else zero_block)
+contents i batch d p = if nat_lt p log_least then zero_block
+    else (if has_place i d p then overlaid_block batch d p (i.block d p) else zero_block)

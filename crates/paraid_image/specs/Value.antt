@@ -23,11 +23,13 @@ soft_value v r d =
     let g = v.meta.setup.geometry in
     let s = soft_stripe g.disks v.meta.gear r d in
     let copy = soft_disk g.disks v.meta.gear r d in
-    if is_out v.out copy then stripe_rest g v.block v.meta.gear s copy else stripe g v.block v.meta.gear s copy
+    if is_out v.out copy
+    then stripe_rest g v.block v.meta.gear s copy else stripe g v.block v.meta.gear s copy
 
 -- the value of a cell that is not the hard place of the out disk
 unfoldable pub stored_value : View → ℕ → ℕ → Block
-stored_value v r d = if is_hard v r d then v.block d (hard_place_of v.meta.setup.geometry r) else soft_value v r d
+stored_value v r d =
+    if is_hard v r d then v.block d (hard_place_of v.meta.setup.geometry r) else soft_value v r d
 
 -- the XOR of the values of the row's other cells
 unfoldable pub reconstructed_value : View → ℕ → ℕ → Block
@@ -35,4 +37,5 @@ reconstructed_value v r d = xor_upto (without (stored_value v r) d) v.meta.setup
 
 -- the value of the cell of row `r` and disk `d`
 unfoldable pub value : View → ℕ → ℕ → Block
-value v r d = if is_hard v r d && is_out v.out d then reconstructed_value v r d else stored_value v r d
+value v r d =
+    if is_hard v r d && is_out v.out d then reconstructed_value v r d else stored_value v r d

@@ -87,8 +87,9 @@ pub fn what_is_held_is_of_images_looked_at()
         → IsHeld slots s h lo down ↔ IsHeldLooked slots s h lo down }
 {}
 
-/// Each image that is looked at, also one with a disk lost, is a run start for what was held, with its
-/// own weak disk as the one that is down; nothing is loose in it. So is a rack that begins alike.
+/// Each image that is looked at, also one with a disk lost, is a run start for what was held, with
+/// its own weak disk as the one that is down; nothing is loose in it. So is a rack that begins
+/// alike.
 pub fn an_image_looked_at_is_a_run_start()
     ensures synced { (s j : Disks) → IsLooked s j → (d p : ℕ) → j.loose d p ≡ false }
     ensures entry { (slots : ℕ) (s j : Disks) (h : History) (lo : ℕ) (down : Option ℕ)
@@ -108,10 +109,10 @@ pub fn an_image_looked_at_is_a_run_start()
 /// Any bytes in a neutral place leave the log disk that stands, what it says, the weak disk and
 /// what the image holds as they are.
 pub fn neutral_places_do_not_matter()
-    ensures stands { (i : Disks) (d p : ℕ) (b : BlockType) (x : ℕ) (said : LogState) → IsNeutral i d p
-        → Stands i x said → Stands (overwrite i d p b) x said }
-    ensures stood { (i : Disks) (d p : ℕ) (b : BlockType) (x : ℕ) (said : LogState) → IsNeutral i d p
-        → Stands (overwrite i d p b) x said → Stands i x said }
+    ensures stands { (i : Disks) (d p : ℕ) (b : BlockType) (x : ℕ) (said : LogState)
+        → IsNeutral i d p → Stands i x said → Stands (overwrite i d p b) x said }
+    ensures stood { (i : Disks) (d p : ℕ) (b : BlockType) (x : ℕ) (said : LogState)
+        → IsNeutral i d p → Stands (overwrite i d p b) x said → Stands i x said }
     ensures contents { (i : Disks) (d p : ℕ) (b : BlockType) (x : ℕ) (said : LogState)
         → IsNeutral i d p → Stands i x said
         → contents_of (overwrite i d p b) said.batch ≡ contents_of i said.batch }
@@ -213,9 +214,9 @@ pub fn what_stands_bounds_what_is_held()
 /// Closing a gate whose batch has been laid in place leaves what the image holds, and what is held
 /// where that is so in each image, as it is and with a disk lost.
 pub fn a_gate_can_be_closed()
-    ensures sound { (slots : ℕ) (i : Disks) (h : History) (k x : ℕ) (said : LogState) (b : BlockType)
-        → IsLaidBelow i x said → is_open b ≡ false → IsSoundAt slots i h k
-        → IsSoundAt slots (overwrite i x 0 b) h k }
+    ensures sound { (slots : ℕ)
+        (i : Disks) (h : History) (k x : ℕ) (said : LogState) (b : BlockType) → IsLaidBelow i x said
+        → is_open b ≡ false → IsSoundAt slots i h k → IsSoundAt slots (overwrite i x 0 b) h k }
     ensures held { (slots : ℕ) (s : Disks) (h : History) (lo : ℕ) (down : Option ℕ) (x : ℕ)
         (b : BlockType) (said : LogState) → ((i : Disks) → IsImage s i → IsLaidBelow i x said)
         → ((i : Disks) (e : ℕ) → IsImage s i → MayLose i e → e ≢ x

@@ -81,7 +81,8 @@ hindrance_at images d = get_or (map image_hindrance images) d None
 abbrev pub misfit_at : List Image → ℕ → Option Misfit
 misfit_at images d = get_or (map image_misfit images) d None
 
--- each label that was read in a slot of the array is one of its slot, and no image that was read is bare where its slot is known
+-- each label that was read in a slot of the array is one of its slot, and no image that was read is
+-- bare where its slot is known
 abbrev pub Fit : List Image → Identity → Type 0
 Fit images i = (d : ℕ) → d < i.disks → FitsTail i (tail_at images d) d
 
@@ -92,5 +93,6 @@ pub record IsLook (old new : List Image) : Type 0 where
 
 -- The first disk that is hindered, and why; or none is, and too few files may be open.
 abbrev pub FirstHindrance : List Image → ℕ → Hindrance → Type 0
-FirstHindrance images d h = ((hindrance_at images d ≡ Some h) × ((e : ℕ) → e < d → hindrance_at images e ≡ None))
+FirstHindrance images d h =
+    ((hindrance_at images d ≡ Some h) × ((e : ℕ) → e < d → hindrance_at images e ≡ None))
     ⊎ (((e : ℕ) → hindrance_at images e ≡ None) × ((d ≡ 0) × (h ≡ Crowded)))

@@ -10,11 +10,13 @@ use Rattle.paraid_imgrack.specs.declared.tail.Tail.TheVariants.{Blank, Torn, Lab
 use Rattle.paraid_rack.specs.declared.call.Power.{Power}
 use Rattle.paraid_rack.specs.declared.call.Power.TheVariants.{Spinning, Parked, Absent}
 
--- Which array is known, and how many disks it has: where this stays, a known array is not forgotten.
+-- Which array is known, and how many disks it has: where this stays, a known array is not
+-- forgotten.
 abbrev pub known_array : Option Identity → Option (List ℕ × ℕ)
 known_array known = option_map (λ (i : Identity). (i.array, i.disks)) known
 
--- An image with this label belongs into this slot: it is of the array and of the slot, and no older than it is known to be.
+-- An image with this label belongs into this slot: it is of the array and of the slot, and no older
+-- than it is known to be.
 pub record FitsSlot (i : Identity) (l : Label) (slot : ℕ) : Type 0 where
   pub array : l.array ≡ i.array
   pub disk : l.disk ≡ slot
@@ -25,11 +27,14 @@ abbrev pub Suits : Identity → Label → ℕ → Option Misfit → Type 0
 Suits i l slot None = FitsSlot i l slot
 Suits i l slot (Some Foreign) = l.array ≢ i.array
 Suits i l slot (Some (Moved disk)) = (disk ≡ l.disk) × (l.disk ≢ slot)
-Suits i l slot (Some (Old generation known)) = (generation ≡ l.generation) × ((generation < known) × (slot < 8 → known ≡ slice_index i.known slot))
+Suits i l slot (Some (Old generation known)) = (generation ≡ l.generation)
+    × ((generation < known) × (slot < 8 → known ≡ slice_index i.known slot))
 Suits i l slot (Some (New generation known)) = ⊥
 Suits i l slot (Some (Bare known)) = ⊥
 
--- The label of this slot says of its own image a generation that no image which was read knows of. It says too that disk e was of that generation or of a later one by then, so disk e had been told.
+-- The label of this slot says of its own image a generation that no image which was read knows of.
+-- It says too that disk e was of that generation or of a later one by then, so disk e had been
+-- told.
 pub record IsUnheardOf (i : Identity) (l : Label) (slot e : ℕ) : Type 0 where
   pub low : slot < 8
   pub less : slice_index i.known slot < slice_index l.known slot
@@ -40,7 +45,8 @@ pub record IsBehind (i : Identity) (l : Label) (slot e : ℕ) : Type 0 where
   pub seen : 0 < slice_index i.seen e
   pub before : (slice_index i.seen e < slice_index l.known e) ⊎ IsUnheardOf i l slot e
 
--- An image with this label that was parked until now belongs into its slot: it fits, and no image that was seen is of a time before it.
+-- An image with this label that was parked until now belongs into its slot: it fits, and no image
+-- that was seen is of a time before it.
 pub record FitsLate (i : Identity) (l : Label) (slot : ℕ) : Type 0 where
   pub fits : FitsSlot i l slot
   pub newest : (e : ℕ) → e < 8 → IsBehind i l slot e → ⊥
@@ -56,10 +62,12 @@ SuitsLate i l slot None = FitsLate i l slot
 SuitsLate i l slot (Some Foreign) = Suits i l slot (Some Foreign)
 SuitsLate i l slot (Some (Moved disk)) = Suits i l slot (Some (Moved disk))
 SuitsLate i l slot (Some (Old generation known)) = Suits i l slot (Some (Old generation known))
-SuitsLate i l slot (Some (New generation known)) = IsNewer i l slot × ((generation ≡ l.generation) × (slot < 8 → known ≡ slice_index i.known slot))
+SuitsLate i l slot (Some (New generation known)) =
+    IsNewer i l slot × ((generation ≡ l.generation) × (slot < 8 → known ≡ slice_index i.known slot))
 SuitsLate i l slot (Some (Bare known)) = ⊥
 
--- that an image with nothing that could be a label belongs into this slot, since nothing is known of the slot; or that the slot is known, so its image had a label
+-- that an image with nothing that could be a label belongs into this slot, since nothing is known
+-- of the slot; or that the slot is known, so its image had a label
 abbrev pub SuitsBare : Identity → ℕ → Option Misfit → Type 0
 SuitsBare i slot None = slot < 8 → slice_index i.known slot ≡ 0
 SuitsBare i slot (Some Foreign) = ⊥
@@ -68,7 +76,9 @@ SuitsBare i slot (Some (Old generation known)) = ⊥
 SuitsBare i slot (Some (New generation known)) = ⊥
 SuitsBare i slot (Some (Bare known)) = (0 < known) × (slot < 8 → known ≡ slice_index i.known slot)
 
--- That an image with this tail belongs into this slot, or why it does not. One is bare where nothing, zeros or a tail of another length stand behind its blocks. Other bytes of a label's length, also of one that was cut short, say nothing.
+-- That an image with this tail belongs into this slot, or why it does not. One is bare where
+-- nothing, zeros or a tail of another length stand behind its blocks. Other bytes of a label's
+-- length, also of one that was cut short, say nothing.
 abbrev pub SuitsTail : Identity → Tail → ℕ → Option Misfit → Type 0
 SuitsTail i (HasLabel l) slot misfit = Suits i l slot misfit
 SuitsTail i Blank slot misfit = SuitsBare i slot misfit
@@ -76,7 +86,8 @@ SuitsTail i Odd slot misfit = SuitsBare i slot misfit
 SuitsTail i Torn slot misfit = misfit ≡ None
 SuitsTail i Other slot misfit = misfit ≡ None
 
--- that an image with this tail, which was parked until now, belongs into this slot, or why it does not
+-- that an image with this tail, which was parked until now, belongs into this slot, or why it does
+-- not
 abbrev pub SuitsTailLate : Identity → Tail → ℕ → Option Misfit → Type 0
 SuitsTailLate i (HasLabel l) slot misfit = SuitsLate i l slot misfit
 SuitsTailLate i Blank slot misfit = SuitsBare i slot misfit
@@ -84,11 +95,14 @@ SuitsTailLate i Odd slot misfit = SuitsBare i slot misfit
 SuitsTailLate i Torn slot misfit = misfit ≡ None
 SuitsTailLate i Other slot misfit = misfit ≡ None
 
--- An image with this tail belongs into this slot: its label fits the slot; or it is bare and nothing is known of the slot; or its tail says nothing.
+-- An image with this tail belongs into this slot: its label fits the slot; or it is bare and
+-- nothing is known of the slot; or its tail says nothing.
 abbrev pub FitsTail : Identity → Tail → ℕ → Type 0
 FitsTail i tail slot = SuitsTail i tail slot None
 
--- An image with this tail that was parked until now belongs into this slot: its label fits, and no image that was seen is of a time before it; or it is bare and nothing is known of the slot; or its tail says nothing.
+-- An image with this tail that was parked until now belongs into this slot: its label fits, and no
+-- image that was seen is of a time before it; or it is bare and nothing is known of the slot; or
+-- its tail says nothing.
 abbrev pub FitsTailLate : Identity → Tail → ℕ → Type 0
 FitsTailLate i tail slot = SuitsTailLate i tail slot None
 
@@ -108,7 +122,8 @@ label_of (HasLabel l) = Some l
 label_of Other = None
 label_of Odd = None
 
--- what was read behind the blocks of an image with this power: of one that does not spin nothing, so its tail says nothing
+-- what was read behind the blocks of an image with this power: of one that does not spin nothing,
+-- so its tail says nothing
 abbrev pub read_tail_of : Power → Tail → Tail
 read_tail_of Spinning tail = tail
 read_tail_of Parked tail = Other
@@ -124,25 +139,31 @@ AreUnnamed labels = (d : ℕ) → d < 8 → IfSome (labels d) (λ l. l.disks ≤
 
 -- one of the labels says that this is the array, and how many disks it has
 abbrev pub IsNamed : (ℕ → Option Label) → Identity → Type 0
-IsNamed labels i = (d : ℕ) × ((d < 8) × IsSomeAnd (labels d) (λ l. (l.array ≡ i.array) × (l.disks ≡ i.disks)))
+IsNamed labels i =
+    (d : ℕ) × ((d < 8) × IsSomeAnd (labels d) (λ l. (l.array ≡ i.array) × (l.disks ≡ i.disks)))
 
--- Each disk's image is known to be at least as new as this label knows it, and the generation that labels get next is above its own.
+-- Each disk's image is known to be at least as new as this label knows it, and the generation that
+-- labels get next is above its own.
 pub record IsTakenOver (i : Identity) (l : Label) : Type 0 where
   pub known : (e : ℕ) → e < 8 → slice_index l.known e ≤ slice_index i.known e
   pub past : HasRisen l.generation i.generation
 
 -- what the labels of the array in their slots say of how new images are, is known
 abbrev pub IsLearned : (ℕ → Option Label) → Identity → Type 0
-IsLearned labels i = (d : ℕ) → d < 8 → IfSome (labels d) (λ l. d < i.disks → l.disk ≡ d → l.array ≡ i.array → IsTakenOver i l)
+IsLearned labels i = (d : ℕ) → d < 8
+    → IfSome (labels d) (λ l. d < i.disks → l.disk ≡ d → l.array ≡ i.array → IsTakenOver i l)
 
--- no image is known to be less new than before, and the generation that labels get next has not fallen
+-- no image is known to be less new than before, and the generation that labels get next has not
+-- fallen
 pub record IsNoLess (old new : Identity) : Type 0 where
   pub known : (e : ℕ) → slice_index old.known e ≤ slice_index new.known e
   pub generation : old.generation ≤ new.generation
 
--- what is known of the array by its labels, where there is any: which it is, and how new its images are
+-- what is known of the array by its labels, where there is any: which it is, and how new its images
+-- are
 abbrev pub Names : (ℕ → Option Label) → Option Identity → Type 0
-Names labels known = AreUnnamed labels ⊎ IsSomeAnd known (λ i. IsNamed labels i × IsLearned labels i)
+Names labels known =
+    AreUnnamed labels ⊎ IsSomeAnd known (λ i. IsNamed labels i × IsLearned labels i)
 
 -- one of the labels
 abbrev pub IsAmong : (ℕ → Option Label) → Label → Type 0

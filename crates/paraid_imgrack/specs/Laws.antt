@@ -7,23 +7,27 @@ use Rattle.paraid_rack.specs.Trail.{Trail}
 use Rattle.paraid_imgrack.specs.declared.image.Image.{Image}
 use Rattle.paraid_imgrack.specs.Images.{image_slot_at}
 
-missing : (images : List Image) (d : ℕ) → length images ≤ d → (image_slot_at images d).power ≡ Absent
+missing : (images : List Image) (d : ℕ)
+    → length images ≤ d → (image_slot_at images d).power ≡ Absent
 missing [] d le = refl
 missing (i ∷ images) zero le = absurd (omega arith)
 missing (i ∷ images) (suc d) le = missing images d (omega arith)
 
-empty : (images : List Image) (d : ℕ) → (image_slot_at images d).power ≡ Absent → (image_slot_at images d).size ≡ 0
+empty : (images : List Image) (d : ℕ)
+    → (image_slot_at images d).power ≡ Absent → (image_slot_at images d).size ≡ 0
 empty [] d is = refl
 empty (i ∷ images) zero is = i.empty is
 empty (i ∷ images) (suc d) is = empty images d is
 
-still : (images : List Image) (d : ℕ) → (image_slot_at images d).power ≡ Parked → (image_slot_at images d).unsynced ≡ false
+still : (images : List Image) (d : ℕ)
+    → (image_slot_at images d).power ≡ Parked → (image_slot_at images d).unsynced ≡ false
 still [] d is = refl
 still (i ∷ images) zero is = i.still is
 still (i ∷ images) (suc d) is = still images d is
 
 -- what holds of the slots of every rack holds of these
-pub are_slots : (images : List Image) → length images ≤ 8 → AreSlots (length images) (image_slot_at images)
+pub are_slots : (images : List Image)
+    → length images ≤ 8 → AreSlots (length images) (image_slot_at images)
 are_slots images few = record {
   few = few;
   missing = missing images;

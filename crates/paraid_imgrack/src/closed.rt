@@ -4,7 +4,8 @@ ghost use Rattle.std.specs.Prelude.{◌≡◌};
 use crate::rack::ImageRack;
 use std::fs::{File, Files};
 
-/// The images after a command. Their labels can be brought up to date, and what was found of them be told.
+/// The images after a command. Their labels can be brought up to date, and what was found of them
+/// be told.
 #[derive(Drop)]
 pub struct Closed<F> {
     rack: ImageRack<F>,

@@ -36,8 +36,8 @@ fn open<F: Files<File = File>>(files: &F, name: &str) -> Found {
     }
 }
 
-/// What stands under a name of which this is told instead: nothing, or a link that leads nowhere, as
-/// to a drive that is not mounted.
+/// What stands under a name of which this is told instead: nothing, or a link that leads nowhere,
+/// as to a drive that is not mounted.
 fn find_unseen<F: Files<File = File>>(files: &F, name: &str, error: io::Error) -> Found {
     match fs::symlink_metadata(files, name) {
         Err(other) if other.kind() == io::ErrorKind::NotFound => Found::Nothing,
@@ -53,8 +53,8 @@ fn by_error(error: io::Error) -> Found {
     }
 }
 
-/// The codes of Linux for an error of the device: EIO, ENXIO, ENODEV, EBADMSG, EUCLEAN, EREMOTEIO and
-/// ENOMEDIUM.
+/// The codes of Linux for an error of the device: EIO, ENXIO, ENODEV, EBADMSG, EUCLEAN, EREMOTEIO
+/// and ENOMEDIUM.
 const OF_DEVICE: [Option<i32>; 7] = [
     Some(5),
     Some(6),

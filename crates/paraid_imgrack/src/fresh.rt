@@ -19,8 +19,9 @@ pub(crate) enum Obstacle {
     Data,
 }
 
-/// What stands in the place of a new image and is not of its array, as far as its label tells. A file
-/// that cannot be opened is no obstacle; one whose end cannot be read is none to write over either.
+/// What stands in the place of a new image and is not of its array, as far as its label tells. A
+/// file that cannot be opened is no obstacle; one whose end cannot be read is none to write over
+/// either.
 pub(crate) fn obstacle_at<F: Files<File = File>>(
     files: &F,
     name: &str,
@@ -65,9 +66,9 @@ fn data_in(file: &File) -> io::Result<Option<Obstacle>> {
     }
 }
 
-/// A file of so many blocks of zeros, which the disk has when it returns. Where there is no room for
-/// it, it is left empty, and the room is given back. Through a link that leads nowhere, as to a drive
-/// that is not mounted, no file is made.
+/// A file of so many blocks of zeros, which the disk has when it returns. Where there is no room
+/// for it, it is left empty, and the room is given back. Through a link that leads nowhere, as to a
+/// drive that is not mounted, no file is made.
 pub(crate) fn create_image<F: Files<File = File>>(
     files: &F,
     name: &str,
@@ -95,7 +96,8 @@ const PIECE: u32 = 128;
 
 static ZEROS: [u8; PIECE as usize * BLOCK_SIZE] = [0; PIECE as usize * BLOCK_SIZE];
 
-/// Writes each block, so that no later write of one needs room that a full file system does not have.
+/// Writes each block, so that no later write of one needs room that a full file system does not
+/// have.
 fn fill_image(file: &File, size: u32) -> io::Result<()> {
     for piece in 0..size / PIECE {
         file.write_all_at(&ZEROS, offset(piece * PIECE))?;

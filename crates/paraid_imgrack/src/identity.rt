@@ -20,7 +20,8 @@ pub enum Misfit {
     Foreign,
     /// It is an old copy: the other images know a newer one.
     Old { generation: u64, known: u64 },
-    /// The other images are of an earlier time: they do not know it, or are older than it knows them.
+    /// The other images are of an earlier time: they do not know it, or are older than it knows
+    /// them.
     New { generation: u64, known: u64 },
     /// It has no label, where the other images know that the disk had one.
     Bare { known: u64 },
@@ -51,7 +52,8 @@ impl Display for Misfit {
 pub(crate) struct Identity {
     pub(crate) array: [u8; 16],
     pub(crate) disks: u8,
-    /// What the label of an image gets now. Each load has a greater one, and each disk that is attached.
+    /// What the label of an image gets now. Each load has a greater one, and each disk that is
+    /// attached.
     pub(crate) generation: u64,
     /// The images that spin have not got it yet.
     pub(crate) is_new: bool,
@@ -98,8 +100,8 @@ impl Identity {
         requires { slot < 8 }
         ensures same { known_array (Some self.new) ≡ known_array (Some self.old) }
         ensures kept { IsNoLess self.old self.new }
-        ensures taken { IfSome (label_in labels.now slot) (λ l. slot < self.old.disks → l.disk ≡ slot
-            → l.array ≡ self.old.array → IsTakenOver self.new l) }
+        ensures taken { IfSome (label_in labels.now slot) (λ l. slot < self.old.disks
+            → l.disk ≡ slot → l.array ≡ self.old.array → IsTakenOver self.new l) }
     {
         if let Some(label) = labels[slot]
             && self.is_right(&label, slot as u8)
@@ -126,14 +128,14 @@ impl Identity {
     /// Whether a label is of this slot and of this array.
     fn is_right(&self, label: &Label, slot: DiskNo) -> bool
         ensures slot { result ≡ true → label.now.disk ≡ slot }
-        ensures right { slot < self.now.disks → label.now.disk ≡ slot → label.now.array ≡ self.now.array
-            → result ≡ true }
+        ensures right { slot < self.now.disks
+            → label.now.disk ≡ slot → label.now.array ≡ self.now.array → result ≡ true }
     {
         slot < self.disks && label.disk == slot && label.array == self.array
     }
 
-    /// The label that the image of a slot is to have. Of its own disk it says what is known only where
-    /// each other image has heard of that.
+    /// The label that the image of a slot is to have. Of its own disk it says what is known only
+    /// where each other image has heard of that.
     pub(crate) fn label(&self, disk: DiskNo, is_heard: bool) -> Label
         ensures label { IsLabelOf self.now disk result }
         ensures own { disk < 8 → is_heard ≡ false → slice_index result.known disk ≡ 0 }
@@ -198,7 +200,8 @@ impl Identity {
         None
     }
 
-    /// The same of an image that was parked until now: it may also be newer than the others know it.
+    /// The same of an image that was parked until now: it may also be newer than the others know
+    /// it.
     pub(crate) fn late_misfit_of(&self, tail: &Tail, slot: DiskNo) -> Option<Misfit>
         ensures read { slot < self.now.disks → SuitsTailLate self.now tail.now slot result }
         ensures none { IfSome result (λ _. slot < self.now.disks) }
@@ -241,8 +244,9 @@ impl Identity {
         false
     }
 
-    /// Whether the image of a disk was seen, and is of a time before this label of a slot: it is older than
-    /// the label knows it; or it is to have heard how new this image is, by the label, and none has.
+    /// Whether the image of a disk was seen, and is of a time before this label of a slot: it is
+    /// older than the label knows it; or it is to have heard how new this image is, by the label,
+    /// and none has.
     fn is_behind(&self, label: &Label, slot: DiskNo, disk: usize) -> bool
         requires { disk < 8 }
         ensures yes { result ≡ true → IsBehind self.now label.now slot disk }
@@ -252,7 +256,8 @@ impl Identity {
             && (self.seen[disk] < label.known[disk] || self.is_unheard(label, slot, disk))
     }
 
-    /// Whether no label knows this image to be as new as this one says that the image of a disk has heard.
+    /// Whether no label knows this image to be as new as this one says that the image of a disk has
+    /// heard.
     fn is_unheard(&self, label: &Label, slot: DiskNo, disk: usize) -> bool
         requires { disk < 8 }
         ensures yes { result ≡ true → IsUnheardOf self.now label.now slot disk }
@@ -272,8 +277,8 @@ impl Identity {
         disk < 8 && self.seen[disk] == self.generation
     }
 
-    /// What gets a label from now on is newer than each image that has one, and those that spin are to
-    /// get one again.
+    /// What gets a label from now on is newer than each image that has one, and those that spin are
+    /// to get one again.
     pub(crate) fn renew(&mut self)
         ensures newer { HasRisen self.old.generation self.new.generation }
         ensures again { self.new.is_new ≡ true }
@@ -316,8 +321,8 @@ fn raise_known(known: &mut [u64; 8], disk: usize, generation: u64)
     known[disk] = known[disk].max(generation);
 }
 
-/// A label of the array that the images are of: the first one, where no image of its array's slots is
-/// of another array; else the first of the array that most are of.
+/// A label of the array that the images are of: the first one, where no image of its array's slots
+/// is of another array; else the first of the array that most are of.
 ///
 /// So a new array is told from images of an older, wider one, which stand in slots past its own. A
 /// label in a slot past those of its array names none.

@@ -21,8 +21,9 @@ use std::os::unix::fs::FileExt;
 /// Why a disk that is there can be neither served nor called lost.
 #[derive(Clone, Copy)]
 pub enum Hindrance {
-    /// Its image is there and cannot be opened: this process has no right to it or no descriptor left,
-    /// or it is a link that leads nowhere, as to a drive that is not mounted. The system tells why.
+    /// Its image is there and cannot be opened: this process has no right to it or no descriptor
+    /// left, or it is a link that leads nowhere, as to a drive that is not mounted. The system
+    /// tells why.
     ImageShut(io::Error),
     /// So it is with its sidecar.
     SidecarShut(io::Error),
@@ -152,7 +153,8 @@ impl Image {
         label_in(&self.tail)
     }
 
-    /// What stands behind the blocks of an image that spins, as it was read. Of others nothing was read.
+    /// What stands behind the blocks of an image that spins, as it was read. Of others nothing was
+    /// read.
     pub(crate) fn tail(&self) -> Tail
         ensures { result ≡ image_tail self.now }
     {
@@ -335,9 +337,9 @@ impl Image {
         Ok(())
     }
 
-    /// The image is newer than each that has a label, also than the one that it replaces. The others
-    /// know it from the next sync on. An image of another array is left as it is, and so is a file of
-    /// other data, and the disk has failed.
+    /// The image is newer than each that has a label, also than the one that it replaces. The
+    /// others know it from the next sync on. An image of another array is left as it is, and so is
+    /// a file of other data, and the disk has failed.
     pub(crate) fn attach<F: Files<File = File>>(
         &mut self,
         files: &F,
@@ -457,9 +459,9 @@ fn open_image<F: Files<File = File>>(files: &F, name: &str) -> Opened {
     }
 }
 
-/// Opens an image at a load. What a process that was killed has written may be in the system's memory
-/// alone, so the disk takes it before anything is read. Where it does not, the sidecar says that the
-/// disk has failed: writes may be lost, and the system tells it once.
+/// Opens an image at a load. What a process that was killed has written may be in the system's
+/// memory alone, so the disk takes it before anything is read. Where it does not, the sidecar says
+/// that the disk has failed: writes may be lost, and the system tells it once.
 fn open_kept<F: Files<File = File>>(files: &F, names: &Names, power: Power) -> Opened {
     match open_image(files, names.image.as_str()) {
         Opened::Image(file, size) if power == Power::Spinning => match file.sync_data() {
@@ -565,7 +567,8 @@ fn as_bytes(bytes: [u8; BLOCK_SIZE]) -> [u8; BLOCK_SIZE]
     bytes
 }
 
-/// Reads a block by one call, where one does. The library goes on after an interrupted or a short one.
+/// Reads a block by one call, where one does. The library goes on after an interrupted or a short
+/// one.
 fn read_whole(file: &File, bytes: &mut [u8; BLOCK_SIZE], at: u64) -> io::Result<()> {
     match file.read_at(bytes, at) {
         Ok(BLOCK_SIZE) => Ok(()),
@@ -575,7 +578,8 @@ fn read_whole(file: &File, bytes: &mut [u8; BLOCK_SIZE], at: u64) -> io::Result<
     }
 }
 
-/// Writes all bytes by one call, where one does. The library goes on after an interrupted or a short one.
+/// Writes all bytes by one call, where one does. The library goes on after an interrupted or a
+/// short one.
 fn write_whole(file: &File, bytes: &[u8], at: u64) -> io::Result<()> {
     match file.write_at(bytes, at) {
         Ok(written) if written == bytes.len() => Ok(()),
@@ -617,7 +621,8 @@ fn label_in(tail: &Tail) -> Option<Label>
     }
 }
 
-/// Writes a label where one can stand, and syncs the image. Where there is no room for it, it is left out.
+/// Writes a label where one can stand, and syncs the image. Where there is no room for it, it is
+/// left out.
 fn put_label(file: &Option<File>, size: u32, tail: &Tail, label: &Label) -> io::Result<bool>
     ensures { IfOk result (λ given. given ≡ true → (tail.now ≢ Other) × (tail.now ≢ Odd)) }
 {
@@ -637,8 +642,8 @@ fn put_label(file: &Option<File>, size: u32, tail: &Tail, label: &Label) -> io::
     Ok(true)
 }
 
-/// Gives an image the label of this generation, where it can have one, and says whether it has it now.
-/// Its error is one of the device.
+/// Gives an image the label of this generation, where it can have one, and says whether it has it
+/// now. Its error is one of the device.
 fn mark_image(
     file: &Option<File>,
     size: u32,
@@ -675,7 +680,8 @@ fn disks_at(file: &File, size: u32, place: Place) -> io::Result<Option<u8>> {
     Ok(None)
 }
 
-/// Whether an image has the label of an array, or a log, or other data, or may have them since it cannot be read.
+/// Whether an image has the label of an array, or a log, or other data, or may have them since it
+/// cannot be read.
 fn claim_of(file: &Option<File>) -> Option<Claim> {
     let file = file.as_ref()?;
     match is_of_array(file) {

@@ -37,8 +37,8 @@ pub struct Label {
     pub disk: DiskNo,
     /// How many disks the array has.
     pub disks: u8,
-    /// At which load, or which attaching of a disk since, the image was last seen to spin. Each has a
-    /// greater number than the last.
+    /// At which load, or which attaching of a disk since, the image was last seen to spin. Each has
+    /// a greater number than the last.
     pub generation: u64,
     /// The generation of each disk's image, as far as this one knows.
     pub known: [u64; 8],

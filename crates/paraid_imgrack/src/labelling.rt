@@ -36,8 +36,9 @@ impl<F: Files<File = File> + Drop> ImageRack<F> {
         None
     }
 
-    /// Reads the labels of the images that spin, and says whether each image belongs into its slot. Nothing
-    /// is written before the first sync. A rack whose images do not fit is to be used no more.
+    /// Reads the labels of the images that spin, and says whether each image belongs into its slot.
+    /// Nothing is written before the first sync. A rack whose images do not fit is to be used no
+    /// more.
     pub fn has_fitting_images(&mut self) -> bool
         ensures look { IsLook self.old.images.items self.new.images.items }
         ensures fits { result ≡ true → IsFitting self.new }
@@ -62,8 +63,8 @@ impl<F: Files<File = File> + Drop> ImageRack<F> {
         }
     }
 
-    /// Why the first call on a disk failed that did, or why it was lost at the load; of a disk that was to
-    /// be attached, since then.
+    /// Why the first call on a disk failed that did, or why it was lost at the load; of a disk that
+    /// was to be attached, since then.
     pub fn cause(&self, disk: DiskNo) -> Option<io::Error> {
         if (disk as usize) < self.images.len() {
             self.images[disk as usize].cause
@@ -81,12 +82,14 @@ impl<F: Files<File = File> + Drop> ImageRack<F> {
     }
 
     /// Each image that spins gets the new generation, and once all have it, what is known of the
-    /// others. It is done once in a load, and once for each disk that is attached since. Of a disk that
-    /// is spun up in between, which has its label by then, the others know it from the next sync on.
+    /// others. It is done once in a load, and once for each disk that is attached since. Of a disk
+    /// that is spun up in between, which has its label by then, the others know it from the next
+    /// sync on.
     ///
     /// So no label knows more than what the disks keep, and a stop between two leaves none refused.
     pub(crate) fn renew_labels(&mut self)
-        ensures slots { map image_slot self.new.images.items ≡ map image_slot self.old.images.items }
+        ensures slots { map image_slot self.new.images.items
+            ≡ map image_slot self.old.images.items }
         ensures told { IfSome self.new.identity IsTold }
         ensures known { known_array self.new.identity ≡ known_array self.old.identity }
     {
@@ -98,7 +101,8 @@ impl<F: Files<File = File> + Drop> ImageRack<F> {
     // It is apart from the test whether labels are due, since in most syncs they are not.
     #[inline(never)]
     fn give_labels(&mut self)
-        ensures slots { map image_slot self.new.images.items ≡ map image_slot self.old.images.items }
+        ensures slots { map image_slot self.new.images.items
+            ≡ map image_slot self.old.images.items }
         ensures told { IfSome self.new.identity IsTold }
         ensures known { known_array self.new.identity ≡ known_array self.old.identity }
     {
@@ -117,10 +121,11 @@ impl<F: Files<File = File> + Drop> ImageRack<F> {
         }
     }
 
-    /// Gives the images that spin a new generation, and says what is known from then on. Each hears of those
-    /// that have got it before.
+    /// Gives the images that spin a new generation, and says what is known from then on. Each hears
+    /// of those that have got it before.
     fn mark_images(&mut self, identity: Identity) -> Identity
-        ensures slots { map image_slot self.new.images.items ≡ map image_slot self.old.images.items }
+        ensures slots { map image_slot self.new.images.items
+            ≡ map image_slot self.old.images.items }
         ensures marked { result.is_new ≡ false }
         ensures known { known_array (Some result) ≡ known_array (Some identity) }
     {
@@ -147,9 +152,11 @@ impl<F: Files<File = File> + Drop> ImageRack<F> {
         self.images[disk].give_label(&identity.label(disk as u8, is_heard))
     }
 
-    /// At the end, too: what was spun up or attached since the last sync is made known to the others.
+    /// At the end, too: what was spun up or attached since the last sync is made known to the
+    /// others.
     pub fn end_load(&mut self)
-        ensures slots { map image_slot self.new.images.items ≡ map image_slot self.old.images.items }
+        ensures slots { map image_slot self.new.images.items
+            ≡ map image_slot self.old.images.items }
         ensures known { known_array self.new.identity ≡ known_array self.old.identity }
     {
         if let Some(identity) = self.identity {
@@ -157,10 +164,12 @@ impl<F: Files<File = File> + Drop> ImageRack<F> {
         }
     }
 
-    /// Makes the news known to the images that have a label of this generation. Each is told what the others
-    /// know of itself only as long as none was missed: so none says that it is known to be newer than it is.
+    /// Makes the news known to the images that have a label of this generation. Each is told what
+    /// the others know of itself only as long as none was missed: so none says that it is known to
+    /// be newer than it is.
     fn tell(&mut self, identity: Identity)
-        ensures slots { map image_slot self.new.images.items ≡ map image_slot self.old.images.items }
+        ensures slots { map image_slot self.new.images.items
+            ≡ map image_slot self.old.images.items }
         ensures told { self.new.identity ≡ Some (record identity { has_news = false }) }
     {
         let mut is_heard = !self.misses_one(&identity);
@@ -260,11 +269,12 @@ impl<F: Files<File = File> + Drop> ImageRack<F> {
         None
     }
 
-    /// Whether each label is one of its slot, and no image is bare where its slot is known. Why one is not
-    /// as it should be is kept with its image.
+    /// Whether each label is one of its slot, and no image is bare where its slot is known. Why one
+    /// is not as it should be is kept with its image.
     fn fits(&mut self, identity: &Identity) -> bool
         ensures look { IsLook self.old.images.items self.new.images.items }
-        ensures tails { map image_tail self.new.images.items ≡ map image_tail self.old.images.items }
+        ensures tails { map image_tail self.new.images.items
+            ≡ map image_tail self.old.images.items }
         ensures known { self.new.identity ≡ self.old.identity }
         ensures fits { result ≡ true → Fit self.new.images.items identity.now }
         ensures misfit { result ≡ false → (d : ℕ) × IsSome (misfit_at self.new.images.items d) }
@@ -279,7 +289,8 @@ impl<F: Files<File = File> + Drop> ImageRack<F> {
     fn fits_slot(&mut self, disk: usize, identity: &Identity) -> bool
         requires { disk < length self.old.images.items }
         ensures look { IsLook self.old.images.items self.new.images.items }
-        ensures tails { map image_tail self.new.images.items ≡ map image_tail self.old.images.items }
+        ensures tails { map image_tail self.new.images.items
+            ≡ map image_tail self.old.images.items }
         ensures known { self.new.identity ≡ self.old.identity }
         ensures fits { result ≡ true → disk < identity.now.disks
             → FitsTail identity.now (tail_at self.new.images.items disk) disk }

@@ -42,8 +42,9 @@ impl Names {
         })
     }
 
-    /// The power that the sidecar tells, or why it cannot be opened. A missing one tells `Spinning`,
-    /// and one that is unknown or cannot be read tells `Absent`; why, where its device has failed.
+    /// The power that the sidecar tells, or why it cannot be opened. A missing one tells
+    /// `Spinning`, and one that is unknown or cannot be read tells `Absent`; why, where its device
+    /// has failed.
     pub(crate) fn load<F: Files<File = File>>(
         &self,
         files: &F,
@@ -161,7 +162,8 @@ fn overwrite<F: Files<File = File>>(files: &F, name: &str, text: &str) -> io::Re
     sync_folder(files)
 }
 
-/// A sidecar that a process replaced which was then killed stays so, unless the folder's device fails.
+/// A sidecar that a process replaced which was then killed stays so, unless the folder's device
+/// fails.
 pub(crate) fn keep_sidecars<F: Files<File = File>>(files: &F) {
     let _ = sync_folder(files);
 }

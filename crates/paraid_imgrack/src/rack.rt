@@ -66,7 +66,8 @@ impl<F: Files<File = File> + Drop> ImageRack<F> {
     /// absent; what is done to the others then would take the disk out of the array.
     pub fn hindrance(&self) -> Option<(DiskNo, Hindrance)>
         ensures none { IfNone result (IsUnhindered self.now) }
-        ensures first { IfSome result (λ found. FirstHindrance self.now.images.items found.0 found.1) }
+        ensures first { IfSome result (λ found.
+            FirstHindrance self.now.images.items found.0 found.1) }
     {
         for disk in 0..self.images.len() {
             if let Some(hindrance) = self.hindrance_in(disk) {

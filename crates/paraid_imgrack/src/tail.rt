@@ -28,7 +28,8 @@ fn end(size: u32) -> u64
     size as u64 * BLOCK_SIZE as u64
 }
 
-/// What stands behind the blocks of an image of this size. A file without a block has no place for a label.
+/// What stands behind the blocks of an image of this size. A file without a block has no place for
+/// a label.
 pub(crate) fn read_tail(file: &File, size: u32) -> io::Result<Tail> {
     if size == 0 {
         return Ok(Tail::Other);

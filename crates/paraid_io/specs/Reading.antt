@@ -7,8 +7,8 @@ use Rattle.paraid_io.specs.declared.line.LineFault.TheVariants.{Source, TooLong}
 use Rattle.paraid_base.specs.Told.{Gives, AtEnd, HasRisen}
 use Rattle.paraid_io.specs.Lines.{NoNewline, lines_of, whole_lines}
 
--- what is seen of a reader: the bytes in no line yet, the last line, the bytes taken, whether the end
--- was given, and the fault that is kept
+-- what is seen of a reader: the bytes in no line yet, the last line, the bytes taken, whether the
+-- end was given, and the fault that is kept
 pub record Reading : Type 0 where
   -- bytes that were taken and are in no line yet
   pub rest : List ℕ
@@ -35,18 +35,21 @@ pub record ReaderTakes (before after : Option (List ℕ)) (old new : Reading) (n
   pub limit : new.taken ≤ 2 ^ 40
   pub end : n ≡ 0 → AtEnd after
 
--- The bytes that are in no line yet begin with this line, whatever follows them, and what the reader
--- holds now is left of them.
+-- The bytes that are in no line yet begin with this line, whatever follows them, and what the
+-- reader holds now is left of them.
 pub record IsNextLine (bytes line : List ℕ) (new : Reading) : Type 0 where
-  pub lines : (more : List ℕ) → (IsTrue new.ended → more ≡ []) → lines_of (bytes ++ more) ≡ line ∷ lines_of (new.rest ++ more)
-  pub whole : new.ended ≡ false → (more : List ℕ) → whole_lines (bytes ++ more) ≡ line ∷ whole_lines (new.rest ++ more)
+  pub lines : (more : List ℕ) → (IsTrue new.ended → more ≡ [])
+      → lines_of (bytes ++ more) ≡ line ∷ lines_of (new.rest ++ more)
+  pub whole : new.ended ≡ false
+      → (more : List ℕ) → whole_lines (bytes ++ more) ≡ line ∷ whole_lines (new.rest ++ more)
   pub shorter : length new.rest < length bytes
 
 -- The first line of the input is this one, and this is the rest. The last line may lack its
 -- newline, at the end.
 pub record CutsOff (input line rest : List ℕ) (ended : Bool) : Type 0 where
   pub plain : NoNewline line
-  pub cut : (input ≡ line ++ 10 ∷ rest) ⊎ ((input ≡ line) × (line ≢ []) × (rest ≡ []) × IsTrue ended)
+  pub cut : (input ≡ line ++ 10 ∷ rest)
+      ⊎ ((input ≡ line) × (line ≢ []) × (rest ≡ []) × IsTrue ended)
 
 -- what an answer says of the bytes that were held before and taken in the call
 abbrev pub IsAnswer : Result Line LineFault → List ℕ → Reading → Type 0

@@ -82,7 +82,8 @@ pub fn pads_are_last()
 pub fn parts_lie_apart(g: &Geometry)
     ensures map { (r : ℕ) → r < g.now.rows → (map_start g.now ≤ map_place_of g.now r)
         × (map_place_of g.now r < map_start g.now + map_count g.now) }
-    ensures hard { (r : ℕ) → r < g.now.rows → (map_start g.now + map_count g.now ≤ hard_place_of g.now r)
+    ensures hard { (r : ℕ)
+        → r < g.now.rows → (map_start g.now + map_count g.now ≤ hard_place_of g.now r)
         × (hard_place_of g.now r < map_start g.now + map_count g.now + g.now.rows) }
     ensures soft { (a s : ℕ) → IsGear g.now a → s < stripe_count g.now.disks g.now.rows a
         → (map_start g.now + map_count g.now + g.now.rows ≤ soft_place_of g.now a s)

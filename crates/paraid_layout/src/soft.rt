@@ -41,8 +41,9 @@ pub fn soft_of(g: &Geometry, a: u8, r: Row, d: DiskNo) -> (u32, DiskNo)
     ensures not_parity { result.1 ≢ soft_parity_disk a result.0 }
 
     // `cell_at` finds the cell at this stripe and this disk's index.
-    ensures back { let number = number_at a result.0 (index_among (soft_parity_disk a result.0) result.1) in
-        (row_of_number g.now.disks a number ≡ r) × (disk_of_number g.now.disks a number ≡ d) }
+    ensures back { let number = number_at a result.0 (index_among
+        (soft_parity_disk a result.0) result.1) in (row_of_number g.now.disks a number ≡ r)
+        × (disk_of_number g.now.disks a number ≡ d) }
 {
     let number = r * (g.disks - a) as u32 + (d - a) as u32;
     let data = a as u32 - 1;

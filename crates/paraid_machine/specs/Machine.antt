@@ -97,7 +97,8 @@ refusal_else (Some first) second = Some first
 abbrev pub begin : Option Answer → Option ℕ → PowerState → ℕ → PowerState → Outcomes
 begin (Some refusal) loss s to begun = quietly loss refusal s
 begin None None s to begun = (Shift s.gear to, begun) ∷ []
-begin None (Some d) s to begun = (IsOut d, after_loss s d) ∷ (Shift s.gear to, after_loss begun d) ∷ []
+begin None (Some d) s to begun =
+    (IsOut d, after_loss s d) ∷ (Shift s.gear to, after_loss begun d) ∷ []
 
 -- the outcomes of `up`
 abbrev pub go_up : Setup → Option ℕ → PowerState → Option ℕ → Outcomes
@@ -108,12 +109,14 @@ go_up setup loss s (Some to) = begin (shift_refusal s.phase s.out) loss s to (be
 abbrev pub go_down : Setup → Option ℕ → PowerState → Option ℕ → Outcomes
 go_down setup loss s None = quietly loss Lowest s
 go_down setup loss s (Some to) =
-    begin (refusal_else (shift_refusal s.phase s.out) (ration_refusal (first_used_up setup s to))) loss s to (begun_down to s)
+    begin (refusal_else (shift_refusal s.phase s.out) (ration_refusal (first_used_up setup s to)))
+    loss s to (begun_down to s)
 
 -- disk `d` of the array is taken out; where another one is lost first, that one is out
 abbrev pub take_out : Option ℕ → PowerState → ℕ → Out → Outcomes
 take_out None s d No = (Failed d, after_loss s d) ∷ []
-take_out (Some e) s d No = if d == e then (Failed d, after_loss s d) ∷ [] else (IsOut e, after_loss s e) ∷ []
+take_out (Some e) s d No =
+    if d == e then (Failed d, after_loss s d) ∷ [] else (IsOut e, after_loss s e) ∷ []
 take_out loss s d (Gone e) = quietly loss (IsOut e) s
 take_out loss s d (Fresh e rebuilt) = quietly loss (IsOut e) s
 
@@ -136,7 +139,8 @@ abbrev pub put_in : Option ℕ → PowerState → ℕ → Out → Outcomes
 put_in loss s d No = quietly loss (NotOut d) s
 put_in loss s d (Gone e) = if d == e then refresh loss s d else quietly loss (NotOut d) s
 put_in None s d (Fresh e rebuilt) = if d == e then refresh None s d else quietly None (NotOut d) s
-put_in (Some f) s d (Fresh e rebuilt) = if d == e then refresh (Some f) s d ++ (if f == d then refresh None s d else []) else []
+put_in (Some f) s d (Fresh e rebuilt) =
+    if d == e then refresh (Some f) s d ++ (if f == d then refresh None s d else []) else []
 
 -- the answer to a tick
 abbrev pub report : PowerState → ℕ → TickEvent → Answer × PowerState
@@ -147,20 +151,25 @@ abbrev pub rebuild : Setup → Option ℕ → PowerState → ℕ → ℕ → Out
 rebuild setup None s d rebuilt =
     let left = units_to_rebuild setup s d rebuilt in
     let count = min setup.rate left in
-    (if count == left then report (record s { out = No }) count (Rebuilt d) else report (record s { out = Fresh d (rebuilt + count) }) count Moving)
+    (if count == left then report (record s { out = No }) count (Rebuilt d)
+    else report (record s { out = Fresh d (rebuilt + count) }) count Moving)
     ∷ []
-rebuild setup (Some e) s d rebuilt = if e == d then report (after_loss s d) 0 (GoneAgain d) ∷ [] else []
+rebuild setup (Some e) s d rebuilt =
+    if e == d then report (after_loss s d) 0 (GoneAgain d) ∷ [] else []
 
 -- disk `d` is lost after the first 0, .., or `m` units of a shift
 abbrev pub lost_within : Setup → PowerState → ℕ → ℕ → Outcomes
 lost_within setup s d zero = report (after_loss s d) 0 (Lost d) ∷ []
-lost_within setup s d (suc m) = report (after_loss (after_units setup (suc m) s) d) (suc m) (Lost d) ∷ lost_within setup s d m
+lost_within setup s d (suc m) =
+    report (after_loss (after_units setup (suc m) s) d) (suc m) (Lost d) ∷ lost_within setup s d m
 
 -- a tick that moves so many units, the last ones or not; a disk may also be lost after the flip
 abbrev pub move : Setup → Option ℕ → PowerState → ℕ → Bool → Outcomes
 move setup None s count true = report (after_flip (after_units setup count s)) count Flipped ∷ []
 move setup None s count false = report (after_units setup count s) count Moving ∷ []
-move setup (Some d) s count true = report (after_loss (after_flip (after_units setup count s)) d) count Flipped ∷ lost_within setup s d count
+move setup (Some d) s count true =
+    report (after_loss (after_flip (after_units setup count s)) d) count Flipped
+    ∷ lost_within setup s d count
 move setup (Some d) s count false = lost_within setup s d count
 
 -- a tick that begins a shift; a disk is lost after that
@@ -186,8 +195,10 @@ decide setup loss s (DecideDown to) = shift_down setup loss s to (first_used_up 
 -- a tick with no disk out
 abbrev pub tick_by_phase : Setup → Option ℕ → PowerState → Phase → Outcomes
 tick_by_phase setup loss s Steady = decide setup loss s (decision setup s.gear s.samples)
-tick_by_phase setup loss s (Down to) = let count = units_of_tick setup s in move setup loss s count (count == units_left setup s)
-tick_by_phase setup loss s (Up to) = let count = units_of_tick setup s in move setup loss s count (count == units_left setup s)
+tick_by_phase setup loss s (Down to) =
+    let count = units_of_tick setup s in move setup loss s count (count == units_left setup s)
+tick_by_phase setup loss s (Up to) =
+    let count = units_of_tick setup s in move setup loss s count (count == units_left setup s)
 
 -- a tick that has counted itself
 abbrev pub tick_by_out : Setup → Option ℕ → PowerState → Out → Outcomes
@@ -209,10 +220,12 @@ state_status setup writes s = record {
   halt = None;
 }
 
--- What may come of an event, where these writes were accepted before it and so much energy was used.
+-- What may come of an event, where these writes were accepted before it and so much energy was
+-- used.
 unfoldable pub outcomes : Setup → History → ℕ → PowerState → Event → Option ℕ → Outcomes
 outcomes setup h used s (Read b) loss =
-    serve (first_missing (block_count setup) (b ∷ [])) loss s (λ s. (Value b (after_all h b), with_one_served (block_read setup b s)))
+    serve (first_missing (block_count setup) (b ∷ [])) loss s (λ s.
+    (Value b (after_all h b), with_one_served (block_read setup b s)))
 outcomes setup h used s (Write pairs) loss =
     let blocks = blocks_named (pairs_of pairs) in
     serve (first_missing (block_count setup) blocks) loss s
@@ -221,12 +234,16 @@ outcomes setup h used s Flush loss = around loss s (λ s. (Flushed (length h), s
 outcomes setup h used s Tick loss = tick_by_out setup loss (state_with_tick s) s.out
 outcomes setup h used s AskUp loss = go_up setup loss s (next_higher setup.geometry s.gear)
 outcomes setup h used s AskDown loss = go_down setup loss s (next_lower setup.geometry s.gear)
-outcomes setup h used s (Fail d) loss = if nat_lt d setup.geometry.disks then take_out loss s d s.out else quietly loss (NoDisk d) s
-outcomes setup h used s (Replace d) loss = if nat_lt d setup.geometry.disks then put_in loss s d s.out else quietly loss (NoDisk d) s
-outcomes setup h used s AskState loss = quietly loss (IsState (state_status setup (length h) s) setup.geometry.disks) s
+outcomes setup h used s (Fail d) loss =
+    if nat_lt d setup.geometry.disks then take_out loss s d s.out else quietly loss (NoDisk d) s
+outcomes setup h used s (Replace d) loss =
+    if nat_lt d setup.geometry.disks then put_in loss s d s.out else quietly loss (NoDisk d) s
+outcomes setup h used s AskState loss =
+    quietly loss (IsState (state_status setup (length h) s) setup.geometry.disks) s
 outcomes setup h used s AskEnergy loss = quietly loss (EnergyUsed used) s
 outcomes setup h used s Bad loss = quietly loss IsBad s
 
 -- the event is answered so, with no halt, and leaves this state
-pub record IsEventStep (setup : Setup) (h : History) (used : ℕ) (s : PowerState) (event : Event) (loss : Option ℕ) (answer : Answer) (new : PowerState) : Type 0 where
+pub record IsEventStep (setup : Setup) (h : History) (used : ℕ) (s : PowerState)
+    (event : Event) (loss : Option ℕ) (answer : Answer) (new : PowerState) : Type 0 where
   pub among : Contains (outcomes setup h used s event loss) (answer, new)

@@ -31,7 +31,8 @@ with_spins f at (count ∷ spins) = f at count ∷ with_spins f (suc at) spins
 
 -- one more of each disk from `lo` to `hi - 1`
 abbrev pub with_spin_ups : ℕ → ℕ → List ℕ → List ℕ
-with_spin_ups lo hi spins = with_spins (λ d count. if nat_le lo d && nat_lt d hi then count + 1 else count) 0 spins
+with_spin_ups lo hi spins =
+    with_spins (λ d count. if nat_le lo d && nat_lt d hi then count + 1 else count) 0 spins
 
 -- none of disk `d`
 abbrev pub without_spin_ups : ℕ → List ℕ → List ℕ
@@ -51,11 +52,13 @@ after_flip s = record s { gear = phase_to s.phase; phase = Steady; fill = 0 }
 
 -- the cells that a shift up copies, by number: those of the disks from the gear to the new gear
 abbrev pub is_dirty_number : PowerState → ℕ → Bool
-is_dirty_number s c = s.dirty (row_of_number (rising_to s.phase) s.gear c) (disk_of_number (rising_to s.phase) s.gear c)
+is_dirty_number s c = s.dirty
+    (row_of_number (rising_to s.phase) s.gear c) (disk_of_number (rising_to s.phase) s.gear c)
 
 -- the first dirty one of them
 abbrev pub first_dirty : Setup → PowerState → Option ℕ
-first_dirty setup s = first_from (is_dirty_number s) 0 (setup.geometry.rows * (rising_to s.phase - s.gear))
+first_dirty setup s =
+    first_from (is_dirty_number s) 0 (setup.geometry.rows * (rising_to s.phase - s.gear))
 
 -- the cell of row `r` and disk `d` with this dirty bit
 abbrev pub state_with_bit : PowerState → ℕ → ℕ → Bool → PowerState
@@ -63,7 +66,8 @@ state_with_bit s r d bit = record s { dirty = table_with_bit s.dirty r d bit }
 
 -- a unit of a shift: a dirty cell is copied, or where there is none a stripe is filled
 abbrev pub after_unit : PowerState → Option ℕ → PowerState
-after_unit s (Some c) = state_with_bit s (row_of_number (rising_to s.phase) s.gear c) (disk_of_number (rising_to s.phase) s.gear c) false
+after_unit s (Some c) = state_with_bit s
+    (row_of_number (rising_to s.phase) s.gear c) (disk_of_number (rising_to s.phase) s.gear c) false
 after_unit s None = record s { fill = s.fill + 1 }
 
 -- the next `m` units of a shift
@@ -89,10 +93,12 @@ abbrev pub units_of_tick : Setup → PowerState → ℕ
 units_of_tick setup s = units_by setup.mode s.phase setup.rate (units_left setup s)
 
 -- The dirty bit of a cell of disk `d` that is written. One below the gear is clean; one of a disk
--- that a shift up has spun up is clean too, but keeps its bit if that disk is out; any other is dirty.
+-- that a shift up has spun up is clean too, but keeps its bit if that disk is out; any other is
+-- dirty.
 abbrev pub bit_written : PowerState → ℕ → Bool → Bool
 bit_written s d bit =
-    if nat_lt d s.gear then false else (if nat_lt d (rising_to s.phase) then is_out (named_out s.out) d && bit else true)
+    if nat_lt d s.gear then false
+    else (if nat_lt d (rising_to s.phase) then is_out (named_out s.out) d && bit else true)
 
 -- the state after a write of one cell
 abbrev pub cell_written : ℕ → ℕ → PowerState → PowerState
@@ -100,7 +106,8 @@ cell_written r d s = state_with_bit s r d (bit_written s d (s.dirty r d))
 
 -- a write changes the cell of its block and that of the row's parity
 abbrev pub block_written : ℕ → ℕ → PowerState → PowerState
-block_written n b s = cell_written (home_row n b) (parity_disk n (home_row n b)) (cell_written (home_row n b) (home_disk n b) s)
+block_written n b s = cell_written
+    (home_row n b) (parity_disk n (home_row n b)) (cell_written (home_row n b) (home_disk n b) s)
 
 -- the blocks of one write, one after the other
 abbrev pub all_written : ℕ → List ℕ → PowerState → PowerState
@@ -121,11 +128,16 @@ with_one_served s = record s { served = s.served + 1 }
 
 -- a tick counts itself, and makes a sample of what was served since the last one
 abbrev pub state_with_tick : PowerState → PowerState
-state_with_tick s = record s { ticks = min (s.ticks + 1) 18446744073709551615; samples = s.samples ++ sample_of s.served ∷ []; served = 0 }
+state_with_tick s = record s {
+  ticks = min (s.ticks + 1) 18446744073709551615;
+  samples = s.samples ++ sample_of s.served ∷ [];
+  served = 0;
+}
 
 -- the first disk from `to` to the gear that has used up its allowance
 abbrev pub first_used_up : Setup → PowerState → ℕ → Option ℕ
-first_used_up setup s to = first_from (λ d. nat_le (allowed_by setup s.ticks) (slice_index s.spins d)) to (s.gear - to)
+first_used_up setup s to =
+    first_from (λ d. nat_le (allowed_by setup s.ticks) (slice_index s.spins d)) to (s.gear - to)
 
 -- the units of a rebuild that are left
 abbrev pub units_to_rebuild : Setup → PowerState → ℕ → ℕ → ℕ

@@ -37,4 +37,5 @@ listed_after most calls c = if has_room_for_call most calls then calls ++ c ∷ 
 -- has no number, and is not named
 unfoldable pub is_planned : ℕ → List Planned → List Call → ℕ → Bool
 is_planned most plan calls disk =
-    has_room_for_call most calls && list_any (names_call (length calls) disk (count_on disk calls)) plan
+    has_room_for_call most calls && list_any
+    (names_call (length calls) disk (count_on disk calls)) plan

@@ -39,7 +39,8 @@ past_start b = record { power = b.power; versions = map synced_block b.blocks }
 pub record IsPast (s : Disks) (kept : ℕ → ℕ → Block) (d : ℕ) (v : Past) : Type 0 where
   pub power : s.power d ≡ v.power
   pub size : s.size d ≡ length v.versions
-  pub blocks : (p : ℕ) → p < length v.versions → get_or v.versions p (synced_block zero_block) ≡ versions_in s kept d p
+  pub blocks : (p : ℕ) → p < length v.versions
+      → get_or v.versions p (synced_block zero_block) ≡ versions_in s kept d p
 
 -- a call makes the slot w of the slot v of its disk
 pub record MakesPast (c : Call) (v w : Past) : Type 0 where

@@ -43,7 +43,8 @@ fails_next m disk = is_planned m.log.most m.log.plan.items m.log.calls.items dis
 pub record Notes (old new : MemRack) (c : Call) : Type 0 where
   pub rules : rules_of new ≡ rules_of old
   pub list : listed_calls new ≡ listed_after (rules_of old).most (listed_calls old) c
-  pub tells : told_of new ≡ told_after (has_room_for_call (rules_of old).most (listed_calls old)) (told_of old) c
+  pub tells : told_of new
+      ≡ told_after (has_room_for_call (rules_of old).most (listed_calls old)) (told_of old) c
 
 -- how each slot was at the start
 abbrev pub start_of : MemRack → List Beginning
@@ -59,4 +60,9 @@ no_disks count = before_calls (replicate count no_beginning)
 
 -- a slot of a rack that begins so, before any call
 abbrev pub first_slot : List Beginning → ℕ → Slot
-first_slot start d = record { power = (beginning start d).power; size = length (beginning start d).blocks; unsynced = false; faults = 0 }
+first_slot start d = record {
+  power = (beginning start d).power;
+  size = length (beginning start d).blocks;
+  unsynced = false;
+  faults = 0;
+}

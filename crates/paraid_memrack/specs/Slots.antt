@@ -16,7 +16,8 @@ pub record FullSlot : Type 0 where
 
 -- a slot with its blocks, as a value
 abbrev pub full_slot : MemSlot → FullSlot
-full_slot s = record { power = s.power; blocks = s.blocks.items; unsynced = s.unsynced; faults = s.faults }
+full_slot s =
+    record { power = s.power; blocks = s.blocks.items; unsynced = s.unsynced; faults = s.faults }
 
 -- a slot that does not exist
 abbrev pub no_slot : FullSlot
@@ -28,7 +29,8 @@ full_slot_at slots d = get_or (map full_slot slots) d no_slot
 
 -- what is told of it
 abbrev pub told_slot : FullSlot → Slot
-told_slot v = record { power = v.power; size = length v.blocks; unsynced = v.unsynced; faults = v.faults }
+told_slot v =
+    record { power = v.power; size = length v.blocks; unsynced = v.unsynced; faults = v.faults }
 
 -- what is told of the slot of this number
 abbrev pub told_slot_at : List MemSlot → ℕ → Slot
@@ -36,7 +38,12 @@ told_slot_at slots d = told_slot (full_slot_at slots d)
 
 -- after a failed call
 abbrev pub after_failure : Bool → FullSlot → FullSlot
-after_failure dirt v = record { power = Absent; blocks = []; unsynced = dirt; faults = min (v.faults + 1) 18446744073709551615 }
+after_failure dirt v = record {
+  power = Absent;
+  blocks = [];
+  unsynced = dirt;
+  faults = min (v.faults + 1) 18446744073709551615;
+}
 
 -- a slot as it is at the start
 abbrev pub full_slot_from : Beginning → FullSlot

@@ -42,5 +42,6 @@ picked_bytes Mixed kept written = take 256 written ++ drop 256 kept
 
 -- in disks after a stop at moment m, each loose block that exists holds what the pick says
 pub record IsPicked (pick : Pick) (t : Trail) (m : ℕ) (after : Disks) : Type 0 where
-  pub bytes : (d p : ℕ) → HasPlace (disks t m) d p → (disks t m).loose d p ≡ true
-      → (after.block d p).bytes ≡ picked_bytes pick (kept_at t m d p).bytes ((disks t m).block d p).bytes
+  pub bytes : (d p : ℕ)
+      → HasPlace (disks t m) d p → (disks t m).loose d p ≡ true → (after.block d p).bytes
+      ≡ picked_bytes pick (kept_at t m d p).bytes ((disks t m).block d p).bytes

@@ -13,7 +13,8 @@ synced_block b = record { written = b; kept = b; loose = false }
 
 -- a block is written, where there is such a place
 abbrev pub write_version : List Versions → ℕ → Block → List Versions
-write_version blocks p b = set blocks p (record (get_or blocks p (synced_block zero_block)) { written = b; loose = true })
+write_version blocks p b =
+    set blocks p (record (get_or blocks p (synced_block zero_block)) { written = b; loose = true })
 
 -- a block is kept as it was written last
 abbrev pub after_block_sync : Versions → Versions
@@ -25,4 +26,5 @@ versions_in s kept d p = record { written = s.block d p; kept = kept d p; loose 
 
 -- the bytes of a block after a stop
 abbrev pub left_bytes : Pick → Versions → List ℕ
-left_bytes pick v = if v.loose then picked_bytes pick v.kept.bytes v.written.bytes else v.written.bytes
+left_bytes pick v =
+    if v.loose then picked_bytes pick v.kept.bytes v.written.bytes else v.written.bytes

@@ -87,7 +87,8 @@ impl Log {
         ensures start { self.new.start ≡ self.old.start }
         ensures most { self.new.most ≡ self.old.most }
         ensures plan { self.new.plan ≡ self.old.plan }
-        ensures calls { self.new.calls.items ≡ listed_after self.old.most self.old.calls.items call }
+        ensures calls { self.new.calls.items
+            ≡ listed_after self.old.most self.old.calls.items call }
         ensures told { told_by self.new.tells self.new.start.items self.new.calls.items
             ≡ told_after (has_room_for_call self.old.most self.old.calls.items)
             (told_by self.old.tells self.old.start.items self.old.calls.items) call }

@@ -78,8 +78,8 @@ impl PastSlot {
         };
     }
 
-    // A block is written, where there is such a place: so a replay need not know that a listed write
-    // was within its disk.
+    // A block is written, where there is such a place: so a replay need not know that a listed
+    // write was within its disk.
     fn write(&mut self, place: Place, block: &Block)
         ensures { past_of self.new
             ≡ record (past_of self.old)

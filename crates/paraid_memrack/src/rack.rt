@@ -34,7 +34,9 @@ pub struct MemRack {
     ghost keeps: { AreSlotsOf (told_by log.tells log.start.items log.calls.items)
         (full_slot_at slots.items) },
     ghost same: { length log.start.items ≡ length slots.items },
-    ghost lawful: { AreToldLawful (told_by log.tells log.start.items log.calls.items) } by { AreToldLawful-prop (told_by log.tells log.start.items log.calls.items) },
+    ghost lawful: { AreToldLawful
+        (told_by log.tells log.start.items log.calls.items) } by { AreToldLawful-prop
+            (told_by log.tells log.start.items log.calls.items) },
 }
 
 impl MemRack {

@@ -75,7 +75,8 @@ pub fn fail(slots: &mut Vec<MemSlot>, alloc: Global, disk: DiskNo, dirt: bool)
     requires { disk < length slots.old.items }
     ensures becomes { SetsSlot slots.old.items slots.new.items disk
         (after_failure dirt (full_slot_at slots.old.items disk)) }
-    ensures later { (full_slot_at slots.old.items disk).faults ≤ (full_slot_at slots.new.items disk).faults }
+    ensures later { (full_slot_at slots.old.items disk).faults
+        ≤ (full_slot_at slots.new.items disk).faults }
 {
     let slot = &mut slots[disk as usize];
     slot.power = Power::Absent;
@@ -130,8 +131,8 @@ pub fn turn(slots: &mut Vec<MemSlot>, disk: DiskNo, power: Power)
 /// A fresh disk with these blocks is in the slot.
 pub fn fill(slots: &mut Vec<MemSlot>, disk: DiskNo, blocks: Vec<Block>)
     requires { disk < length slots.old.items }
-    ensures { SetsSlot slots.old.items slots.new.items disk (record (full_slot_at slots.old.items disk)
-        { power = Spinning; blocks = blocks.items; unsynced = false }) }
+    ensures { SetsSlot slots.old.items slots.new.items disk (record (full_slot_at
+        slots.old.items disk) { power = Spinning; blocks = blocks.items; unsynced = false }) }
 {
     let slot = &mut slots[disk as usize];
     slot.power = Power::Spinning;

@@ -20,13 +20,14 @@ pub record IsCopyImage (i : Disks) (m : Meta) (f : Contents) : Type 0 where
   pub witnesses : AreWitnessesTrue i (out_disk i.power m)
   pub only : (x q : ℕ) → IsFree (view_by m i.power f) x q ⊎ (contents i [] x q ≡ f x q)
 
--- In all that a stop may leave, this meta stands by closed gates, and past the log the blocks are these but
--- for free places.
+-- In all that a stop may leave, this meta stands by closed gates, and past the log the blocks are
+-- these but for free places.
 abbrev pub IsCopying : Disks → Meta → Contents → Type 0
 IsCopying s m f = (i : Disks) → IsImage s i → IsCopyImage i m f
 
 -- The disks hold the history in these contents, with copies made beside them.
-pub record HoldsWithCopies (slots : ℕ) (m : Meta) (f : Contents) (h : History) (lo : ℕ) (s : Disks) : Type 0 where
+pub record HoldsWithCopies
+    (slots : ℕ) (m : Meta) (f : Contents) (h : History) (lo : ℕ) (s : Disks) : Type 0 where
   pub copying : IsCopying s m f
   pub low : lo ≤ m.writes
   pub high : m.writes ≤ length h
@@ -37,12 +38,14 @@ abbrev pub IsHeldByCopies : ℕ → Meta → History → ℕ → Disks → Type 
 IsHeldByCopies slots m h lo s = IsHeld slots s h lo (out_disk s.power m)
 
 -- a copy can be written to this place: it is free
-pub record CanCopy (slots : ℕ) (m : Meta) (f : Contents) (h : History) (lo d p : ℕ) (s : Disks) : Type 0 where
+pub record CanCopy
+    (slots : ℕ) (m : Meta) (f : Contents) (h : History) (lo d p : ℕ) (s : Disks) : Type 0 where
   pub copies : HoldsWithCopies slots m f h lo s
   pub free : IsFree (view_by m s.power f) d p
 
 -- this disk can be lost: no other one is missing
-pub record CanLose (slots : ℕ) (m : Meta) (f : Contents) (h : History) (lo d : ℕ) (s : Disks) : Type 0 where
+pub record CanLose
+    (slots : ℕ) (m : Meta) (f : Contents) (h : History) (lo d : ℕ) (s : Disks) : Type 0 where
   pub copies : HoldsWithCopies slots m f h lo s
   pub disk : d < m.setup.geometry.disks
   pub others : (e : ℕ) → IsMissing s.power m e → e ≡ d

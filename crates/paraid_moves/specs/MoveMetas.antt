@@ -21,7 +21,8 @@ use Rattle.paraid_image.specs.Value.{value}
 
 -- the view of these blocks under this meta with this disk out
 abbrev pub view_with_out : Meta → Option ℕ → Contents → View
-view_with_out m o f = record { meta = m; dirty = map_bit m.setup.geometry (f (map_disk o)); out = o; block = f }
+view_with_out m o f =
+    record { meta = m; dirty = map_bit m.setup.geometry (f (map_disk o)); out = o; block = f }
 
 -- a shift begins, with these spin-ups recorded
 abbrev pub meta_after_begin : Meta → Phase → List ℕ → Meta
@@ -45,15 +46,18 @@ AreStripesCopied v end = (s : ℕ) → v.meta.fill ≤ s → s < end → IsFille
 
 -- of these cells those that are dirty store their values in their hard places
 abbrev pub AreCellsCopied : View → (ℕ → ℕ → Bool) → Type 0
-AreCellsCopied v cells = (r d : ℕ) → r < v.meta.setup.geometry.rows → d < v.meta.setup.geometry.disks → v.dirty r d ≡ true → cells r d ≡ true
-    → v.block d (hard_place_of v.meta.setup.geometry r) ≡ value v r d
+AreCellsCopied v cells = (r d : ℕ)
+    → r < v.meta.setup.geometry.rows → d < v.meta.setup.geometry.disks → v.dirty r d ≡ true
+    → cells r d ≡ true → v.block d (hard_place_of v.meta.setup.geometry r) ≡ value v r d
 
--- what index `i` of stripe `s` of the region of gear `a` copies: the value of its cell, zeros for a pad
+-- what index `i` of stripe `s` of the region of gear `a` copies: the value of its cell, zeros for a
+-- pad
 unfoldable pub copied_value : View → ℕ → ℕ → ℕ → Block
 copied_value v a s i =
     let n = v.meta.setup.geometry.disks in
     let c = number_at a s i in
-    if nat_lt c (v.meta.setup.geometry.rows * (n - a)) then value v (row_of_number n a c) (disk_of_number n a c) else zero_block
+    if nat_lt c (v.meta.setup.geometry.rows * (n - a))
+    then value v (row_of_number n a c) (disk_of_number n a c) else zero_block
 
 -- the copies of a stripe by disk; on its parity disk any block
 abbrev pub copies : View → ℕ → ℕ → ℕ → Block
@@ -62,7 +66,8 @@ copies v a s = λ e. copied_value v a s (index_among (soft_parity_disk a s) e)
 -- the blocks of a stripe by disk: the copies, and on its parity disk their XOR
 unfoldable pub copied_block : View → ℕ → ℕ → ℕ → Block
 copied_block v a s e =
-    if e == soft_parity_disk a s then xor_upto (without (copies v a s) (soft_parity_disk a s)) a else copies v a s e
+    if e == soft_parity_disk a s
+    then xor_upto (without (copies v a s) (soft_parity_disk a s)) a else copies v a s e
 
 -- `t` is `m` but for the version, the epoch and the numbers of writes and of ticks
 pub record IsAs (m t : Meta) : Type 0 where

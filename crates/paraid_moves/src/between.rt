@@ -27,8 +27,8 @@ ghost use Rattle.paraid_image.specs.Value.{stripe_rest, value};
 ghost use Rattle.paraid_moves.specs.Copying.{CanCopy, CanLose, HoldsWithCopies, without_disk};
 ghost use Rattle.paraid_moves.specs.MoveMetas.{AreCellsCopied, view_with_out};
 
-/// Between two commits, before any copy, the disks hold what their blocks past the log are, where the
-/// witnesses are true.
+/// Between two commits, before any copy, the disks hold what their blocks past the log are, where
+/// the witnesses are true.
 pub fn copies_begin_at_a_rest()
     ensures { (slots : ℕ) (m : MetaType) (h : History) (lo : ℕ) (s : Disks) → IsAtRest s m
         → AreWitnessesTrue s (out_disk s.power m)
@@ -49,10 +49,12 @@ pub fn copies_leave_what_is_held()
 /// The calls that are made between two commits leave the copies, and what is held with them: done
 /// ones, and a failed one where no other disk is missing.
 pub fn calls_between_commits_leave_copies()
-    ensures read { (slots : ℕ) (m : MetaType) (f : Contents) (h : History) (lo : ℕ) (s : Disks)
-        (d p : ℕ) → HoldsWithCopies slots m f h lo s → HoldsWithCopies slots m f h lo (step (Read d p true) s) }
-    ensures sync { (slots : ℕ) (m : MetaType) (f : Contents) (h : History) (lo : ℕ) (s : Disks)
-        (d : ℕ) → HoldsWithCopies slots m f h lo s → HoldsWithCopies slots m f h lo (step (Sync d true) s) }
+    ensures read { (slots : ℕ) (m : MetaType) (f : Contents)
+        (h : History) (lo : ℕ) (s : Disks) (d p : ℕ) → HoldsWithCopies slots m f h lo s
+        → HoldsWithCopies slots m f h lo (step (Read d p true) s) }
+    ensures sync { (slots : ℕ)
+        (m : MetaType) (f : Contents) (h : History) (lo : ℕ) (s : Disks) (d : ℕ)
+        → HoldsWithCopies slots m f h lo s → HoldsWithCopies slots m f h lo (step (Sync d true) s) }
     ensures write { (slots : ℕ) (m : MetaType) (f : Contents) (h : History) (lo : ℕ) (s : Disks)
         (d p : ℕ) (b : BlockType) → CanCopy slots m f h lo d p s
         → HoldsWithCopies slots m f h lo (step (Write d p b true) s) }
@@ -90,30 +92,33 @@ pub fn a_cell_is_copied()
 /// stripe by the XOR of its other blocks, and a block of the map by the other log disk's. A dirty
 /// cell of a parked disk is passed over.
 pub fn a_unit_is_rebuilt()
-    ensures passed { (m : MetaType) (d row : ℕ) (f : Contents) → IsInRange m
-        → d < m.setup.geometry.disks
+    ensures passed { (m : MetaType) (d row : ℕ) (f : Contents)
+        → IsInRange m → d < m.setup.geometry.disks
         → row < m.setup.geometry.rows → m.gear ≤ d → (view_with_out m (Some d) f).dirty row d ≡ true
-        → AreRebuilt (view_with_out m (Some d) f) d row → AreRebuilt (view_with_out m (Some d) f) d (row + 1) }
+        → AreRebuilt (view_with_out m (Some d) f) d row
+        → AreRebuilt (view_with_out m (Some d) f) d (row + 1) }
     ensures row { (m : MetaType) (d p row : ℕ) (f after : Contents) → IsInRange m
         → d < m.setup.geometry.disks → ((x q : ℕ) → (x ≡ d → q ≢ p) → after x q ≡ f x q)
         → AreRowsZero (view_with_out m (Some d) f) → AreStripesZero (view_with_out m (Some d) f)
         → row < m.setup.geometry.rows → p ≡ hard_place_of m.setup.geometry row
-        → after d p ≡ value (view_with_out m (Some d) f) row d → AreRebuilt (view_with_out m (Some d) f) d row
+        → after d p ≡ value (view_with_out m (Some d) f) row d
+        → AreRebuilt (view_with_out m (Some d) f) d row
         → AreRebuilt (view_with_out m (Some d) after) d (row + 1) }
     ensures stripe { (m : MetaType) (d p s : ℕ) (f after : Contents) → IsInRange m
         → d < m.setup.geometry.disks → ((x q : ℕ) → (x ≡ d → q ≢ p) → after x q ≡ f x q)
         → AreRowsZero (view_with_out m (Some d) f) → AreStripesZero (view_with_out m (Some d) f)
-        → s < stripes_on (view_with_out m (Some d) f) d → p ≡ soft_place_of m.setup.geometry m.gear s
+        → s < stripes_on (view_with_out m (Some d) f) d
+        → p ≡ soft_place_of m.setup.geometry m.gear s
         → after d p ≡ stripe_rest m.setup.geometry f m.gear s d
         → AreRebuilt (view_with_out m (Some d) f) d (m.setup.geometry.rows + s)
         → AreRebuilt (view_with_out m (Some d) after) d (m.setup.geometry.rows + s + 1) }
     ensures map_block { (m : MetaType) (d p j : ℕ) (f after : Contents) → IsInRange m
         → d < m.setup.geometry.disks → ((x q : ℕ) → (x ≡ d → q ≢ p) → after x q ≡ f x q)
-        → AreRowsZero (view_with_out m (Some d) f) → AreStripesZero (view_with_out m (Some d) f) → d < 2
-        → j < map_count m.setup.geometry → p ≡ map_block_place m.setup.geometry j
+        → AreRowsZero (view_with_out m (Some d) f) → AreStripesZero (view_with_out m (Some d) f)
+        → d < 2 → j < map_count m.setup.geometry → p ≡ map_block_place m.setup.geometry j
         → after d p ≡ f (other_log d) (map_block_place m.setup.geometry j)
-        → AreRebuilt (view_with_out m (Some d) f) d (m.setup.geometry.rows
-        + stripes_on (view_with_out m (Some d) f) d + j)
-        → AreRebuilt (view_with_out m (Some d) after) d (m.setup.geometry.rows
-        + stripes_on (view_with_out m (Some d) f) d + j + 1) }
+        → AreRebuilt (view_with_out m (Some d) f) d
+        (m.setup.geometry.rows + stripes_on (view_with_out m (Some d) f) d + j)
+        → AreRebuilt (view_with_out m (Some d) after) d
+        (m.setup.geometry.rows + stripes_on (view_with_out m (Some d) f) d + j + 1) }
 {}

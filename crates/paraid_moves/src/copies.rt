@@ -28,8 +28,8 @@ pub fn copy<R: Rack>(
     requires within { place < (R.slot (store_rack store.old) disk).size }
     ensures slots { R.slot_count (store_rack store.new) ≡ R.slot_count (store_rack store.old) }
     ensures same { IsSameStore store.old store.new }
-    ensures slot { ChangesOneSlot (R.slot (store_rack store.old)) (R.slot (store_rack store.new)) disk
-        (record (R.slot (store_rack store.old) disk) { unsynced = true }) true (is_ok result) }
+    ensures slot { ChangesOneSlot (R.slot (store_rack store.old)) (R.slot (store_rack store.new))
+        disk (record (R.slot (store_rack store.old) disk) { unsynced = true }) true (is_ok result) }
     ensures told { GrowsByCall (R.told (store_rack store.old)) (R.told (store_rack store.new))
         (Write disk place block.now (is_ok result)) }
     ensures cause { IfErr result (IsLostBy (store_out R.slot store.old) disk

@@ -34,7 +34,8 @@ blocks_joined h block (suc n) = (after_all h block).bytes ++ blocks_joined h (bl
 
 -- the byte at a place when these bytes were written from `offset` on
 unfoldable pub byte_after : History → ℕ → List ℕ → ℕ → ℕ
-byte_after h offset bytes k = if nat_le offset k && nat_lt k (offset + length bytes) then slice_index bytes (k - offset) else byte_at h k
+byte_after h offset bytes k = if nat_le offset k && nat_lt k (offset + length bytes)
+    then slice_index bytes (k - offset) else byte_at h k
 
 -- so many numbers from the first one on
 abbrev pub count_from : ℕ → ℕ → List ℕ
@@ -50,9 +51,10 @@ abbrev pub each_alone : Entry → History
 each_alone [] = []
 each_alone (w ∷ ws) = (w ∷ []) ∷ each_alone ws
 
--- After these writes the device has the bytes from `offset` on, and its other bytes as before. Each block that they
--- touch was written once, in ascending order.
-pub record AreBytesWritten (h : History) (offset : ℕ) (bytes : List ℕ) (writes : Entry) : Type 0 where
+-- After these writes the device has the bytes from `offset` on, and its other bytes as before. Each
+-- block that they touch was written once, in ascending order.
+pub record AreBytesWritten
+    (h : History) (offset : ℕ) (bytes : List ℕ) (writes : Entry) : Type 0 where
   pub blocks : map (λ w. w.0) writes ≡ count_from (offset / 512) (block_span offset (length bytes))
   pub bytes_are : (k : ℕ) → byte_at (h ++ each_alone writes) k ≡ byte_after h offset bytes k
 
@@ -80,8 +82,10 @@ abbrev pub write_events : Entry → List Event
 write_events [] = []
 write_events (w ∷ ws) = WriteEvent (single_pair w.0 w.1) ∷ write_events ws
 
--- What a device holds: `Some h`, or None once it has halted. Of a halted device no contents are claimed.
-pub record IsDeviceState (stands : History → Type 0) (halted : Option Halt) (s : Option History) : Type 0 where
+-- What a device holds: `Some h`, or None once it has halted. Of a halted device no contents are
+-- claimed.
+pub record IsDeviceState
+    (stands : History → Type 0) (halted : Option Halt) (s : Option History) : Type 0 where
   pub serves : (h : History) → s ≡ Some h → stands h × (halted ≡ None)
   pub halts : s ≡ None → IsSome halted
 
@@ -91,22 +95,29 @@ pub record HaltsAtLast (kept : Answers → Type 0) (events done : Answers) : Typ
   pub halt : Halt
   pub kept_is : kept (events ++ (done ++ (event, HaltedAnswer halt) ∷ []))
 
--- What was written before a halt: the first bytes of a write, in whole blocks, or nothing after an earlier halt.
+-- What was written before a halt: the first bytes of a write, in whole blocks, or nothing after an
+-- earlier halt.
 abbrev pub WrittenFirst : Option History → ℕ → List ℕ → Answers → Type 0
 WrittenFirst None offset bytes done = done ≡ []
 WrittenFirst (Some h) offset bytes done =
-    (writes : Entry) × (m : ℕ) × (m ≤ length bytes) × AreBytesWritten h offset (take m bytes) writes × (changes done ≡ write_events writes)
+    (writes : Entry) × (m : ℕ) × (m ≤ length bytes)
+    × AreBytesWritten h offset (take m bytes) writes × (changes done ≡ write_events writes)
 
--- P holds of each state that a device may have and each list of the events that were kept until then, if it still tells
-abbrev pub ForEachState : (History → Type 0) → Option Halt → (Answers → Type 0) → Bool → (Option History → Answers → Type 0) → Type 0
-ForEachState stands halted kept tells P = IsTrue tells → (s : Option History) (events : Answers) → IsDeviceState stands halted s → kept events → P s events
+-- P holds of each state that a device may have and each list of the events that were kept until
+-- then, if it still tells
+abbrev pub ForEachState : (History → Type 0)
+    → Option Halt → (Answers → Type 0) → Bool → (Option History → Answers → Type 0) → Type 0
+ForEachState stands halted kept tells P = IsTrue tells → (s : Option History) (events : Answers)
+    → IsDeviceState stands halted s → kept events → P s events
 
 -- Whatever was kept since any time before, more is kept now.
 pub record KeepsOn {D : Type 0} (kept : D → D → Answers → Type 0) (old new : D) : Type 0 where
-  pub grows : (first : D) (events : Answers) → kept first old events → (more : Answers) × kept first new (events ++ more)
+  pub grows : (first : D) (events : Answers)
+      → kept first old events → (more : Answers) × kept first new (events ++ more)
 
 -- A call gave a halt, and before it nothing was written.
-pub record HaltsHere (stands : History → Type 0) (halted : Option Halt) (kept : Answers → Type 0) (s : Option History) (events : Answers) : Type 0 where
+pub record HaltsHere (stands : History → Type 0) (halted : Option Halt)
+    (kept : Answers → Type 0) (s : Option History) (events : Answers) : Type 0 where
   pub now : IsDeviceState stands halted None
   pub done : Answers
   pub reads : changes done ≡ []
@@ -114,7 +125,8 @@ pub record HaltsHere (stands : History → Type 0) (halted : Option Halt) (kept 
   pub halting : HaltsAtLast kept events done
 
 -- A device that serves was read.
-pub record HasRead (stands : History → Type 0) (halted : Option Halt) (kept : Answers → Type 0) (s : Option History) (events : Answers) (block : ℕ) (bytes : Block) : Type 0 where
+pub record HasRead (stands : History → Type 0) (halted : Option Halt) (kept : Answers → Type 0)
+    (s : Option History) (events : Answers) (block : ℕ) (bytes : Block) : Type 0 where
   pub h : History
   pub was : s ≡ Some h
   pub now : IsDeviceState stands halted s
@@ -124,7 +136,8 @@ pub record HasRead (stands : History → Type 0) (halted : Option Halt) (kept : 
   pub kept_is : kept (events ++ new)
 
 -- The block was read, unless all of it is to be written.
-pub record HasRest (stands : History → Type 0) (halted : Option Halt) (kept : Answers → Type 0) (s : Option History) (events : Answers) (block size : ℕ) (bytes : Block) : Type 0 where
+pub record HasRest (stands : History → Type 0) (halted : Option Halt) (kept : Answers → Type 0)
+    (s : Option History) (events : Answers) (block size : ℕ) (bytes : Block) : Type 0 where
   pub now : IsDeviceState stands halted s
   pub value : (h : History) → s ≡ Some h → size ≢ 512 → bytes ≡ after_all h block
   pub new : Answers
@@ -133,7 +146,8 @@ pub record HasRest (stands : History → Type 0) (halted : Option Halt) (kept : 
   pub kept_is : kept (events ++ new)
 
 -- A device that serves wrote this block.
-pub record HasBlock (stands : History → Type 0) (halted : Option Halt) (kept : Answers → Type 0) (s : Option History) (events : Answers) (number : ℕ) (block : Block) : Type 0 where
+pub record HasBlock (stands : History → Type 0) (halted : Option Halt) (kept : Answers → Type 0)
+    (s : Option History) (events : Answers) (number : ℕ) (block : Block) : Type 0 where
   pub h : History
   pub was : s ≡ Some h
   pub now : IsDeviceState stands halted (Some (h ++ ((number, block) ∷ []) ∷ []))
@@ -142,7 +156,8 @@ pub record HasBlock (stands : History → Type 0) (halted : Option Halt) (kept :
   pub kept_is : kept (events ++ new)
 
 -- These bytes were read from `offset` on. For no bytes no call was made.
-pub record HasBytes (stands : History → Type 0) (halted : Option Halt) (kept : Answers → Type 0) (s : Option History) (events : Answers) (offset : ℕ) (bytes : List ℕ) : Type 0 where
+pub record HasBytes (stands : History → Type 0) (halted : Option Halt) (kept : Answers → Type 0)
+    (s : Option History) (events : Answers) (offset : ℕ) (bytes : List ℕ) : Type 0 where
   pub now : IsDeviceState stands halted s
   pub value : (h : History) → s ≡ Some h → bytes ≡ bytes_from h offset (length bytes)
   pub serves : s ≡ None → length bytes ≡ 0
@@ -152,20 +167,24 @@ pub record HasBytes (stands : History → Type 0) (halted : Option Halt) (kept :
   pub kept_is : kept (events ++ new)
 
 -- A call gave a halt, after a first part of these bytes was written from `offset` on.
-pub record Stops (stands : History → Type 0) (halted : Option Halt) (kept : Answers → Type 0) (s : Option History) (events : Answers) (offset : ℕ) (bytes : List ℕ) : Type 0 where
+pub record Stops (stands : History → Type 0) (halted : Option Halt) (kept : Answers → Type 0)
+    (s : Option History) (events : Answers) (offset : ℕ) (bytes : List ℕ) : Type 0 where
   pub now : IsDeviceState stands halted None
   pub done : Answers
   pub first : WrittenFirst s offset bytes done
   pub halting : HaltsAtLast kept events done
 
 -- One block was written, with these bytes from `start` on and its other bytes as before.
-pub record HasPart (stands : History → Type 0) (halted : Option Halt) (kept : Answers → Type 0) (s : Option History) (events : Answers) (number start : ℕ) (bytes : List ℕ) : Type 0 where
+pub record HasPart (stands : History → Type 0) (halted : Option Halt) (kept : Answers → Type 0)
+    (s : Option History) (events : Answers) (number start : ℕ) (bytes : List ℕ) : Type 0 where
   pub h : History
   pub was : s ≡ Some h
   pub block : Block
   pub now : IsDeviceState stands halted (Some (h ++ ((number, block) ∷ []) ∷ []))
-  pub inside : (k : ℕ) → k < length bytes → slice_index block.bytes (start + k) ≡ slice_index bytes k
-  pub outside : (k : ℕ) → (start ≤ k → k < start + length bytes → ⊥) → slice_index block.bytes k ≡ slice_index (after_all h number).bytes k
+  pub inside : (k : ℕ)
+      → k < length bytes → slice_index block.bytes (start + k) ≡ slice_index bytes k
+  pub outside : (k : ℕ) → (start ≤ k → k < start + length bytes → ⊥)
+      → slice_index block.bytes k ≡ slice_index (after_all h number).bytes k
   pub new : Answers
   pub writes : changes new ≡ WriteEvent (single_pair number block) ∷ []
   pub kept_is : kept (events ++ new)
@@ -173,10 +192,12 @@ pub record HasPart (stands : History → Type 0) (halted : Option Halt) (kept : 
 -- how a write of these bytes from `offset` on changes the state
 abbrev pub WritesBytes : Option History → ℕ → List ℕ → Option History → Answers → Type 0
 WritesBytes None offset bytes t new = (length bytes ≡ 0) × (t ≡ None) × (new ≡ [])
-WritesBytes (Some h) offset bytes t new = (writes : Entry) × AreBytesWritten h offset bytes writes × (t ≡ Some (h ++ each_alone writes)) × (changes new ≡ write_events writes)
+WritesBytes (Some h) offset bytes t new = (writes : Entry) × AreBytesWritten h offset bytes writes
+    × (t ≡ Some (h ++ each_alone writes)) × (changes new ≡ write_events writes)
 
 -- These bytes were written from `offset` on. For no bytes no call was made.
-pub record HasWritten (stands : History → Type 0) (halted : Option Halt) (kept : Answers → Type 0) (s : Option History) (events : Answers) (offset : ℕ) (bytes : List ℕ) : Type 0 where
+pub record HasWritten (stands : History → Type 0) (halted : Option Halt) (kept : Answers → Type 0)
+    (s : Option History) (events : Answers) (offset : ℕ) (bytes : List ℕ) : Type 0 where
   pub t : Option History
   pub now : IsDeviceState stands halted t
   pub new : Answers
@@ -184,18 +205,23 @@ pub record HasWritten (stands : History → Type 0) (halted : Option Halt) (kept
   pub quiet : length bytes ≡ 0 → new ≡ []
   pub kept_is : kept (events ++ new)
 
--- One request, on a device of so many bytes: the state before, the reply, the events that were kept, the state after.
-pub data RequestStep (size : ℕ) (s : Option History) (r : Request) (content : List ℕ) (out : List ℕ) (events : Answers) (t : Option History) : Type 0 where
+-- One request, on a device of so many bytes: the state before, the reply, the events that were
+-- kept, the state after.
+pub data RequestStep (size : ℕ) (s : Option History) (r : Request)
+    (content : List ℕ) (out : List ℕ) (events : Answers) (t : Option History) : Type 0 where
   -- it cannot be done
   Refused : outcome_of size r ≢ Done → out ≡ reply_head r (outcome_of size r)
       → events ≡ [] → t ≡ s → RequestStep size s r content out events t
-  Reads : (h : History) → outcome_of size r ≡ Done → r.command ≡ Read → s ≡ Some h → t ≡ s → changes events ≡ []
-      → out ≡ reply_head r Done ++ bytes_from h r.offset r.length → RequestStep size s r content out events t
-  Writes : (h : History) (writes : Entry) → outcome_of size r ≡ Done → r.command ≡ Write → s ≡ Some h → t ≡ Some (h ++ each_alone writes)
+  Reads : (h : History) → outcome_of size r ≡ Done → r.command ≡ Read → s ≡ Some h
+      → t ≡ s → changes events ≡ [] → out ≡ reply_head r Done ++ bytes_from h r.offset r.length
+      → RequestStep size s r content out events t
+  Writes : (h : History) (writes : Entry) → outcome_of size r ≡ Done
+      → r.command ≡ Write → s ≡ Some h → t ≡ Some (h ++ each_alone writes)
       → AreBytesWritten h r.offset content writes → changes events ≡ write_events writes
       → out ≡ reply_head r Done → RequestStep size s r content out events t
-  Flushes : (h : History) → outcome_of size r ≡ Done → r.command ≡ Flush → s ≡ Some h → t ≡ s
-      → events ≡ (FlushEvent, Flushed (length h)) ∷ [] → out ≡ reply_head r Done → RequestStep size s r content out events t
+  Flushes : (h : History) → outcome_of size r ≡ Done
+      → r.command ≡ Flush → s ≡ Some h → t ≡ s → events ≡ (FlushEvent, Flushed (length h)) ∷ []
+      → out ≡ reply_head r Done → RequestStep size s r content out events t
   -- a read or write of no bytes makes no call
   Empties : outcome_of size r ≡ Done → r.command ≢ Flush → r.length ≡ 0 → events ≡ [] → t ≡ s
       → out ≡ reply_head r Done → RequestStep size s r content out events t
@@ -205,7 +231,11 @@ pub data RequestStep (size : ℕ) (s : Option History) (r : Request) (content : 
       → out ≡ reply_head r Halted → RequestStep size s r content out events t
 
 -- Requests, one after the other.
-pub data RequestSteps (size : ℕ) (s : Option History) : List RequestParts → List ℕ → Answers → Option History → Type 0 where
+pub data RequestSteps (size : ℕ) (s : Option History) : List RequestParts
+    → List ℕ → Answers → Option History → Type 0 where
   None_yet : RequestSteps size s [] [] [] s
-  One_more : (ps : List RequestParts) (out : List ℕ) (events : Answers) (m : Option History) (p : RequestParts) (more : List ℕ) (kept : Answers) (t : Option History)
-      → RequestSteps size s ps out events m → RequestStep size m (request_in p.head) p.content more kept t → RequestSteps size s (ps ++ p ∷ []) (out ++ more) (events ++ kept) t
+  One_more : (ps : List RequestParts) (out : List ℕ) (events : Answers)
+      (m : Option History) (p : RequestParts) (more : List ℕ) (kept : Answers) (t : Option History)
+      → RequestSteps size s ps out events m
+      → RequestStep size m (request_in p.head) p.content more kept t
+      → RequestSteps size s (ps ++ p ∷ []) (out ++ more) (events ++ kept) t

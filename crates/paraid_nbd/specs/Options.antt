@@ -24,7 +24,8 @@ option_length head = number 4 (drop 4 head)
 
 -- what the option of this number asks for
 abbrev pub option_kind : ℕ → OptionKind
-option_kind n = if n == 1 then Export else if n == 2 then Abort else if n == 3 then Names else if n == 6 then Info else if n == 7 then Go else Unknown
+option_kind n = if n == 1 then Export else if n == 2 then Abort
+    else if n == 3 then Names else if n == 6 then Info else if n == 7 then Go else Unknown
 
 -- it names an export and asks for information
 abbrev pub chooses : OptionKind → Bool
@@ -56,7 +57,8 @@ IsChoice content =
 
 -- the length of a choice is 6 to 8,192
 abbrev pub HasRange : List ℕ → Type 0
-HasRange head = chooses (option_kind (option_number head)) ≡ true → (6 ≤ option_length head) × (option_length head ≤ 8192)
+HasRange head = chooses (option_kind (option_number head)) ≡ true
+    → (6 ≤ option_length head) × (option_length head ≤ 8192)
 
 -- a whole option that is right
 pub record IsOption (p : OptionParts) : Type 0 where
@@ -69,19 +71,26 @@ pub record IsOption (p : OptionParts) : Type 0 where
 -- less than an option, with nothing wrong in it
 pub data IsPartOption (rest : List ℕ) : Type 0 where
   InMagic : length rest < 8 → IsPartOption rest
-  InHead : (magic part : List ℕ) → rest ≡ magic ++ part → IsOptionMagic magic → length part < 8 → IsPartOption rest
-  InContent : (magic head part : List ℕ) → rest ≡ magic ++ (head ++ part) → IsOptionMagic magic → length head ≡ 8 → HasRange head → length part < option_length head → IsPartOption rest
+  InHead : (magic part : List ℕ)
+      → rest ≡ magic ++ part → IsOptionMagic magic → length part < 8 → IsPartOption rest
+  InContent : (magic head part : List ℕ) → rest ≡ magic ++ (head ++ part) → IsOptionMagic magic
+      → length head ≡ 8 → HasRange head → length part < option_length head → IsPartOption rest
 
 -- what begins at place `at` of the input is no option: the field at this place is wrong
 pub data IsWrongOption (at : ℕ) (rest : List ℕ) (place : ℕ) : Type 0 where
-  WrongMagic : length rest ≡ 8 → number 8 rest ≢ 0x49484156454F5054 → place ≡ at → IsWrongOption at rest place
-  WrongRange : (magic head : List ℕ) → rest ≡ magic ++ head → IsOptionMagic magic → length head ≡ 8 → (HasRange head → ⊥) → place ≡ at + 12 → IsWrongOption at rest place
-  WrongChoice : (p : OptionParts) → rest ≡ option_bytes p → IsOptionMagic p.magic → length p.head ≡ 8 → HasRange p.head → length p.content ≡ option_length p.head
-      → chooses (option_kind (option_number p.head)) ≡ true → (IsChoice p.content → ⊥) → place ≡ at + 12 → IsWrongOption at rest place
+  WrongMagic : length rest ≡ 8
+      → number 8 rest ≢ 0x49484156454F5054 → place ≡ at → IsWrongOption at rest place
+  WrongRange : (magic head : List ℕ) → rest ≡ magic ++ head → IsOptionMagic magic
+      → length head ≡ 8 → (HasRange head → ⊥) → place ≡ at + 12 → IsWrongOption at rest place
+  WrongChoice : (p : OptionParts) → rest ≡ option_bytes p → IsOptionMagic p.magic
+      → length p.head ≡ 8 → HasRange p.head → length p.content ≡ option_length p.head
+      → chooses (option_kind (option_number p.head)) ≡ true
+      → (IsChoice p.content → ⊥) → place ≡ at + 12 → IsWrongOption at rest place
 
 -- the head of a reply to option `n`, with the length of the content that follows
 abbrev pub reply_to : ℕ → ℕ → ℕ → List ℕ
-reply_to n kind size = number_bytes 8 0x0003E889045565A9 ++ (number_bytes 4 n ++ (number_bytes 4 kind ++ number_bytes 4 size))
+reply_to n kind size = number_bytes 8 0x0003E889045565A9
+    ++ (number_bytes 4 n ++ (number_bytes 4 kind ++ number_bytes 4 size))
 
 -- the reply that an option is done
 abbrev pub ack : ℕ → List ℕ
@@ -89,13 +98,17 @@ ack n = reply_to n 1 0
 
 -- the reply to an option of this kind and number, by a device of so many bytes
 abbrev pub kind_reply : ℕ → Bool → OptionKind → ℕ → List ℕ
-kind_reply size no_zeros Export n = number_bytes 8 size ++ (number_bytes 2 5 ++ (if no_zeros then [] else replicate 124 0))
+kind_reply size no_zeros Export n =
+    number_bytes 8 size ++ (number_bytes 2 5 ++ (if no_zeros then [] else replicate 124 0))
 kind_reply size no_zeros Abort n = ack n
 kind_reply size no_zeros Names n = reply_to n 2 4 ++ (number_bytes 4 0 ++ ack n)
-kind_reply size no_zeros Info n = reply_to n 3 12 ++ (number_bytes 2 0 ++ (number_bytes 8 size ++ (number_bytes 2 5 ++ ack n)))
-kind_reply size no_zeros Go n = reply_to n 3 12 ++ (number_bytes 2 0 ++ (number_bytes 8 size ++ (number_bytes 2 5 ++ ack n)))
+kind_reply size no_zeros Info n =
+    reply_to n 3 12 ++ (number_bytes 2 0 ++ (number_bytes 8 size ++ (number_bytes 2 5 ++ ack n)))
+kind_reply size no_zeros Go n =
+    reply_to n 3 12 ++ (number_bytes 2 0 ++ (number_bytes 8 size ++ (number_bytes 2 5 ++ ack n)))
 kind_reply size no_zeros Unknown n = reply_to n 2147483649 0
 
 -- the reply to an option
 abbrev pub option_reply : ℕ → Bool → OptionParts → List ℕ
-option_reply size no_zeros p = kind_reply size no_zeros (option_kind (option_number p.head)) (option_number p.head)
+option_reply size no_zeros p =
+    kind_reply size no_zeros (option_kind (option_number p.head)) (option_number p.head)

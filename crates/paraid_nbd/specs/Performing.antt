@@ -46,7 +46,8 @@ abbrev pub Fills : Request → Outcome → List ℕ → Type 0
 Fills r outcome content = length content ≡ part_length r.command outcome r.length
 
 -- The bytes to write were taken, and stand in the buffer where they are to be written.
-pub record TakesContent (before after : Option (List ℕ)) (old new : ℕ) (r : Request) (outcome : Outcome) (n : ℕ) (buffer : List ℕ) : Type 0 where
+pub record TakesContent (before after : Option (List ℕ))
+    (old new : ℕ) (r : Request) (outcome : Outcome) (n : ℕ) (buffer : List ℕ) : Type 0 where
   pub content : List ℕ
   pub whole : length content ≡ content_length r.command r.length
   pub takes : Takes before after old new content
@@ -54,9 +55,11 @@ pub record TakesContent (before after : Option (List ℕ)) (old new : ℕ) (r : 
   pub within : n ≤ length buffer
   pub held : r.command ≡ Write → outcome ≡ Done → take n buffer ≡ content
 
--- A request was done: this is its step, whatever follows a request that is not written, and its reply says `found`.
-pub record Performs (size : ℕ) (stands : History → Type 0) (halted : Option Halt) (kept : Answers → Type 0)
-    (s : Option History) (events : Answers) (r : Request) (content found : List ℕ) (outcome : Outcome) : Type 0 where
+-- A request was done: this is its step, whatever follows a request that is not written, and its
+-- reply says `found`.
+pub record Performs (size : ℕ) (stands : History → Type 0)
+    (halted : Option Halt) (kept : Answers → Type 0) (s : Option History)
+    (events : Answers) (r : Request) (content found : List ℕ) (outcome : Outcome) : Type 0 where
   pub new : Answers
   pub t : Option History
   pub now : IsDeviceState stands halted t

@@ -19,7 +19,8 @@ request_bytes p = p.magic ++ (p.head ++ p.content)
 
 -- the command of this number
 abbrev pub command_in : ℕ → Command
-command_in n = if n == 0 then Read else if n == 1 then Write else if n == 2 then Disconnect else if n == 3 then Flush else Unknown
+command_in n = if n == 0 then Read
+    else if n == 1 then Write else if n == 2 then Disconnect else if n == 3 then Flush else Unknown
 
 -- what the 24 bytes of a request say
 unfoldable pub request_in : List ℕ → Request
@@ -33,15 +34,18 @@ request_in head = record {
 
 -- how a command is answered by a device of so many bytes
 abbrev pub command_outcome : ℕ → Command → ℕ → ℕ → Outcome
-command_outcome size Read offset count = if nat_lt 33554432 count || nat_lt size (offset + count) then Invalid else Done
-command_outcome size Write offset count = if nat_lt 33554432 count then Invalid else if nat_lt size (offset + count) then NoSpace else Done
+command_outcome size Read offset count =
+    if nat_lt 33554432 count || nat_lt size (offset + count) then Invalid else Done
+command_outcome size Write offset count = if nat_lt 33554432 count
+    then Invalid else if nat_lt size (offset + count) then NoSpace else Done
 command_outcome size Disconnect offset count = Done
 command_outcome size Flush offset count = Done
 command_outcome size Unknown offset count = Invalid
 
 -- how a request is answered by a device of so many bytes that does not halt
 abbrev pub outcome_of : ℕ → Request → Outcome
-outcome_of size r = if r.flags == 0 then command_outcome size r.command r.offset r.length else Invalid
+outcome_of size r =
+    if r.flags == 0 then command_outcome size r.command r.offset r.length else Invalid
 
 -- the number of an outcome in a reply
 abbrev pub error_of : Outcome → ℕ
@@ -52,7 +56,8 @@ error_of NoSpace = 28
 
 -- a reply up to the bytes of a read
 abbrev pub reply_head : Request → Outcome → List ℕ
-reply_head r outcome = number_bytes 4 0x67446698 ++ (number_bytes 4 (error_of outcome) ++ number_bytes 8 r.cookie)
+reply_head r outcome =
+    number_bytes 4 0x67446698 ++ (number_bytes 4 (error_of outcome) ++ number_bytes 8 r.cookie)
 
 -- the number before a request
 abbrev pub IsRequestMagic : List ℕ → Type 0
@@ -71,14 +76,18 @@ pub record IsRequest (p : RequestParts) : Type 0 where
   pub magic : IsRequestMagic p.magic
   pub head : length p.head ≡ 24
   pub stays : (request_in p.head).command ≢ Disconnect
-  pub content : length p.content ≡ content_length (request_in p.head).command (request_in p.head).length
+  pub content : length p.content
+      ≡ content_length (request_in p.head).command (request_in p.head).length
 
 -- less than a request, with nothing wrong in it
 pub data IsPartRequest (rest : List ℕ) : Type 0 where
   InMagic : length rest < 4 → IsPartRequest rest
-  InHead : (magic part : List ℕ) → rest ≡ magic ++ part → IsRequestMagic magic → length part < 24 → IsPartRequest rest
-  InContent : (magic head part : List ℕ) → rest ≡ magic ++ (head ++ part) → IsRequestMagic magic → length head ≡ 24 → (request_in head).command ≢ Disconnect
-      → length part < content_length (request_in head).command (request_in head).length → IsPartRequest rest
+  InHead : (magic part : List ℕ)
+      → rest ≡ magic ++ part → IsRequestMagic magic → length part < 24 → IsPartRequest rest
+  InContent : (magic head part : List ℕ) → rest ≡ magic ++ (head ++ part)
+      → IsRequestMagic magic → length head ≡ 24 → (request_in head).command ≢ Disconnect
+      → length part < content_length (request_in head).command (request_in head).length
+      → IsPartRequest rest
 
 -- the client disconnects
 pub record IsLast (rest : List ℕ) : Type 0 where

@@ -21,7 +21,8 @@ IsCut Sink after taken faults now = ⊥
 IsCut NoMemory after taken faults now = ⊥
 
 -- Fewer than so many bytes were taken, and no more come.
-pub record Lacks (before after : Option (List ℕ)) (old new most faults now : ℕ) (end : NbdEnd) : Type 0 where
+pub record Lacks
+    (before after : Option (List ℕ)) (old new most faults now : ℕ) (end : NbdEnd) : Type 0 where
   pub got : List ℕ
   pub takes : Takes before after old new got
   pub few : length got < most

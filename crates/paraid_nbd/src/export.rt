@@ -45,10 +45,13 @@ fn read_block<B: Blocks>(blocks: &mut B, block: BlockNo, into: &mut Block) -> Re
         (IsOneRead block into.new)) }
     ensures halts { OnErr result (KeepsHalted B.kept blocks.old blocks.new
         (HaltsAtOnce (Read block))) }
-    ensures read { OnOk result ((first : B) → ForEachState (B.stands blocks.old) (B.halted blocks.old) (B.kept first blocks.old)
-        (B.tells blocks.new) (λ s events. HasRead (B.stands blocks.new) (B.halted blocks.new) (B.kept first blocks.new) s events block into.new)) }
-    ensures stops { OnErr result ((first : B) → ForEachState (B.stands blocks.old) (B.halted blocks.old) (B.kept first blocks.old)
-        (B.tells blocks.new) (λ s events. HaltsHere (B.stands blocks.new) (B.halted blocks.new) (B.kept first blocks.new) s events)) }
+    ensures read { OnOk result ((first : B)
+        → ForEachState (B.stands blocks.old) (B.halted blocks.old)
+        (B.kept first blocks.old) (B.tells blocks.new) (λ s events. HasRead (B.stands blocks.new)
+        (B.halted blocks.new) (B.kept first blocks.new) s events block into.new)) }
+    ensures stops { OnErr result ((first : B) → ForEachState (B.stands blocks.old)
+        (B.halted blocks.old) (B.kept first blocks.old) (B.tells blocks.new) (λ s events.
+        HaltsHere (B.stands blocks.new) (B.halted blocks.new) (B.kept first blocks.new) s events)) }
 {
     match blocks.read(block, into) {
         Ok(()) => Ok(()),
@@ -67,10 +70,13 @@ fn write_block<B: Blocks>(blocks: &mut B, block: BlockNo, bytes: &Block) -> Resu
         (IsOneWrite block bytes.now)) }
     ensures halts { OnErr result (KeepsHalted B.kept blocks.old blocks.new
         (HaltsAtOnce (Write (single_pair block bytes.now)))) }
-    ensures written { OnOk result ((first : B) → ForEachState (B.stands blocks.old) (B.halted blocks.old) (B.kept first blocks.old)
-        (B.tells blocks.new) (λ s events. HasBlock (B.stands blocks.new) (B.halted blocks.new) (B.kept first blocks.new) s events block bytes.now)) }
-    ensures stops { OnErr result ((first : B) → ForEachState (B.stands blocks.old) (B.halted blocks.old) (B.kept first blocks.old)
-        (B.tells blocks.new) (λ s events. HaltsHere (B.stands blocks.new) (B.halted blocks.new) (B.kept first blocks.new) s events)) }
+    ensures written { OnOk result ((first : B)
+        → ForEachState (B.stands blocks.old) (B.halted blocks.old)
+        (B.kept first blocks.old) (B.tells blocks.new) (λ s events. HasBlock (B.stands blocks.new)
+        (B.halted blocks.new) (B.kept first blocks.new) s events block bytes.now)) }
+    ensures stops { OnErr result ((first : B) → ForEachState (B.stands blocks.old)
+        (B.halted blocks.old) (B.kept first blocks.old) (B.tells blocks.new) (λ s events.
+        HaltsHere (B.stands blocks.new) (B.halted blocks.new) (B.kept first blocks.new) s events)) }
 {
     match blocks.write(block, bytes) {
         Ok(_number) => Ok(()),
@@ -99,10 +105,13 @@ pub(crate) fn read_bytes<B: Blocks>(
         (AreBytesRead offset into.new)) }
     ensures halts { OnErr result (KeepsHalted B.kept blocks.old blocks.new
         (IsReadHalted offset (length into.old))) }
-    ensures read { OnOk result ((first : B) → ForEachState (B.stands blocks.old) (B.halted blocks.old) (B.kept first blocks.old)
-        (B.tells blocks.new) (λ s events. HasBytes (B.stands blocks.new) (B.halted blocks.new) (B.kept first blocks.new) s events offset into.new)) }
-    ensures stops { OnErr result ((first : B) → ForEachState (B.stands blocks.old) (B.halted blocks.old) (B.kept first blocks.old)
-        (B.tells blocks.new) (λ s events. HaltsHere (B.stands blocks.new) (B.halted blocks.new) (B.kept first blocks.new) s events)) }
+    ensures read { OnOk result ((first : B)
+        → ForEachState (B.stands blocks.old) (B.halted blocks.old)
+        (B.kept first blocks.old) (B.tells blocks.new) (λ s events. HasBytes (B.stands blocks.new)
+        (B.halted blocks.new) (B.kept first blocks.new) s events offset into.new)) }
+    ensures stops { OnErr result ((first : B) → ForEachState (B.stands blocks.old)
+        (B.halted blocks.old) (B.kept first blocks.old) (B.tells blocks.new) (λ s events.
+        HaltsHere (B.stands blocks.new) (B.halted blocks.new) (B.kept first blocks.new) s events)) }
     ensures some { OnErr result (0 < length into.old) }
 {
     let mut block = Block::zero();
@@ -128,10 +137,14 @@ pub(crate) fn write_bytes<B: Blocks>(blocks: &mut B, offset: u64, from: &[u8]) -
         (ArePartsWritten offset from.now)) }
     ensures halts { OnErr result (KeepsHalted B.kept blocks.old blocks.new
         (IsWriteHalted offset from.now)) }
-    ensures written { OnOk result ((first : B) → ForEachState (B.stands blocks.old) (B.halted blocks.old) (B.kept first blocks.old)
-        (B.tells blocks.new) (λ s events. HasWritten (B.stands blocks.new) (B.halted blocks.new) (B.kept first blocks.new) s events offset from.now)) }
-    ensures stops { OnErr result ((first : B) → ForEachState (B.stands blocks.old) (B.halted blocks.old) (B.kept first blocks.old)
-        (B.tells blocks.new) (λ s events. Stops (B.stands blocks.new) (B.halted blocks.new) (B.kept first blocks.new) s events offset from.now)) }
+    ensures written { OnOk result ((first : B)
+        → ForEachState (B.stands blocks.old) (B.halted blocks.old)
+        (B.kept first blocks.old) (B.tells blocks.new) (λ s events. HasWritten (B.stands blocks.new)
+        (B.halted blocks.new) (B.kept first blocks.new) s events offset from.now)) }
+    ensures stops { OnErr result ((first : B)
+        → ForEachState (B.stands blocks.old) (B.halted blocks.old)
+        (B.kept first blocks.old) (B.tells blocks.new) (λ s events. Stops (B.stands blocks.new)
+        (B.halted blocks.new) (B.kept first blocks.new) s events offset from.now)) }
 {
     let mut done = 0;
     while done < from.len() {
@@ -154,10 +167,13 @@ fn write_part<B: Blocks>(blocks: &mut B, part: Part, bytes: &[u8]) -> Result<(),
         (IsPartWritten part.block part.start bytes.now)) }
     ensures halts { OnErr result (KeepsHalted B.kept blocks.old blocks.new
         (IsPartHalted part.block part.start bytes.now)) }
-    ensures written { OnOk result ((first : B) → ForEachState (B.stands blocks.old) (B.halted blocks.old) (B.kept first blocks.old)
-        (B.tells blocks.new) (λ s events. HasPart (B.stands blocks.new) (B.halted blocks.new) (B.kept first blocks.new) s events part.block part.start bytes.now)) }
-    ensures stops { OnErr result ((first : B) → ForEachState (B.stands blocks.old) (B.halted blocks.old) (B.kept first blocks.old)
-        (B.tells blocks.new) (λ s events. HaltsHere (B.stands blocks.new) (B.halted blocks.new) (B.kept first blocks.new) s events)) }
+    ensures written { OnOk result ((first : B)
+        → ForEachState (B.stands blocks.old) (B.halted blocks.old)
+        (B.kept first blocks.old) (B.tells blocks.new) (λ s events. HasPart (B.stands blocks.new)
+        (B.halted blocks.new) (B.kept first blocks.new) s events part.block part.start bytes.now)) }
+    ensures stops { OnErr result ((first : B) → ForEachState (B.stands blocks.old)
+        (B.halted blocks.old) (B.kept first blocks.old) (B.tells blocks.new) (λ s events.
+        HaltsHere (B.stands blocks.new) (B.halted blocks.new) (B.kept first blocks.new) s events)) }
 {
     let mut block = Block::zero();
     read_rest(blocks, part, &mut block)?;
@@ -176,10 +192,13 @@ fn read_rest<B: Blocks>(blocks: &mut B, part: Part, into: &mut Block) -> Result<
         (IsRestRead part.length part.block into.new)) }
     ensures halts { OnErr result (KeepsHalted B.kept blocks.old blocks.new
         (IsRestHalted part.length part.block)) }
-    ensures read { OnOk result ((first : B) → ForEachState (B.stands blocks.old) (B.halted blocks.old) (B.kept first blocks.old)
-        (B.tells blocks.new) (λ s events. HasRest (B.stands blocks.new) (B.halted blocks.new) (B.kept first blocks.new) s events part.block part.length into.new)) }
-    ensures stops { OnErr result ((first : B) → ForEachState (B.stands blocks.old) (B.halted blocks.old) (B.kept first blocks.old)
-        (B.tells blocks.new) (λ s events. HaltsHere (B.stands blocks.new) (B.halted blocks.new) (B.kept first blocks.new) s events)) }
+    ensures read { OnOk result ((first : B)
+        → ForEachState (B.stands blocks.old) (B.halted blocks.old)
+        (B.kept first blocks.old) (B.tells blocks.new) (λ s events. HasRest (B.stands blocks.new)
+        (B.halted blocks.new) (B.kept first blocks.new) s events part.block part.length into.new)) }
+    ensures stops { OnErr result ((first : B) → ForEachState (B.stands blocks.old)
+        (B.halted blocks.old) (B.kept first blocks.old) (B.tells blocks.new) (λ s events.
+        HaltsHere (B.stands blocks.new) (B.halted blocks.new) (B.kept first blocks.new) s events)) }
 {
     if part.length == BLOCK_SIZE {
         return Ok(());
@@ -190,8 +209,10 @@ fn read_rest<B: Blocks>(blocks: &mut B, part: Part, into: &mut Block) -> Result<
 // The block with these bytes from a place on.
 fn replaced(block: &Block, start: usize, bytes: &[u8]) -> Block
     requires { start + length bytes.now ≤ 512 }
-    ensures inside { (k : ℕ) → k < length bytes.now → slice_index result.bytes (start + k) ≡ slice_index bytes.now k }
-    ensures outside { (k : ℕ) → (start ≤ k → k < start + length bytes.now → ⊥) → slice_index result.bytes k ≡ slice_index block.now.bytes k }
+    ensures inside { (k : ℕ)
+        → k < length bytes.now → slice_index result.bytes (start + k) ≡ slice_index bytes.now k }
+    ensures outside { (k : ℕ) → (start ≤ k → k < start + length bytes.now → ⊥)
+        → slice_index result.bytes k ≡ slice_index block.now.bytes k }
 {
     let mut new = block.bytes;
     new[start..start + bytes.len()].copy_from_slice(bytes);

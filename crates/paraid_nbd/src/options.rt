@@ -67,9 +67,10 @@ fn kind_of(number: u32) -> OptionKind
 
 /// Sends a packet.
 pub(crate) fn send<K: Sink>(sink: &mut K, packet: &Packet) -> Result<(), NbdEnd>
-    ensures sends { OnOk result (GrowsByBytes (K.written sink.old) (K.written sink.new) packet.now) }
-    ensures unsent { IfErr result (λ e. IsUnsent (K.written sink.old) (K.written sink.new) packet.now
-        (K.faults sink.old) (K.faults sink.new) e) }
+    ensures sends { OnOk result
+        (GrowsByBytes (K.written sink.old) (K.written sink.new) packet.now) }
+    ensures unsent { IfErr result (λ e. IsUnsent (K.written sink.old)
+        (K.written sink.new) packet.now (K.faults sink.old) (K.faults sink.new) e) }
     ensures later_sink { K.faults sink.old ≤ K.faults sink.new }
     ensures still_sink { result ≢ Err NbdEnd.Sink → K.faults sink.new ≡ K.faults sink.old }
 {
@@ -148,10 +149,11 @@ fn option<S: Source, K: Sink>(
     size: u64,
     no_zeros: bool,
 ) -> Result<bool, NbdEnd>
-    ensures answers { IfOk result (λ begun. AnswersOption size no_zeros (S.left source.old) (S.left source.new)
+    ensures answers { IfOk result (λ begun.
+        AnswersOption size no_zeros (S.left source.old) (S.left source.new)
         input.old.taken input.new.taken (K.written sink.old) (K.written sink.new) begun) }
-    ensures ends { IfErr result (λ e. EndsOption size no_zeros (S.left source.old) (S.left source.new)
-        input.old.taken input.new.taken (K.written sink.old) (K.written sink.new)
+    ensures ends { IfErr result (λ e. EndsOption size no_zeros (S.left source.old) (S.left
+        source.new) input.old.taken input.new.taken (K.written sink.old) (K.written sink.new)
         (S.faults source.old) (S.faults source.new) (K.faults sink.old) (K.faults sink.new) e) }
     ensures later { S.faults source.old ≤ S.faults source.new }
     ensures still { result ≢ Err NbdEnd.Source → S.faults source.new ≡ S.faults source.old }
@@ -306,7 +308,8 @@ fn put_reply(packet: &mut Packet, number: u32, kind: u32, size: u32)
 
 fn put_names(packet: &mut Packet, number: u32)
     requires { length packet.old + 44 ≤ 160 }
-    ensures value { packet.new ≡ packet.old ++ (reply_to number 2 4 ++ (number_bytes 4 0 ++ ack number)) }
+    ensures value { packet.new
+        ≡ packet.old ++ (reply_to number 2 4 ++ (number_bytes 4 0 ++ ack number)) }
     ensures length { length packet.new ≡ length packet.old + 44 }
 {
     put_reply(packet, number, SERVER, 4);
@@ -316,7 +319,8 @@ fn put_names(packet: &mut Packet, number: u32)
 
 fn put_info(packet: &mut Packet, number: u32, size: u64)
     requires { length packet.old + 52 ≤ 160 }
-    ensures value { packet.new ≡ packet.old ++ (reply_to number 3 12 ++ (number_bytes 2 0 ++ (number_bytes 8 size ++ (number_bytes 2 5 ++ ack number)))) }
+    ensures value { packet.new ≡ packet.old ++ (reply_to number 3 12
+        ++ (number_bytes 2 0 ++ (number_bytes 8 size ++ (number_bytes 2 5 ++ ack number)))) }
     ensures length { length packet.new ≡ length packet.old + 52 }
 {
     put_reply(packet, number, INFO, 12);
@@ -328,7 +332,8 @@ fn put_info(packet: &mut Packet, number: u32, size: u64)
 
 fn put_export(packet: &mut Packet, size: u64, no_zeros: bool)
     requires { length packet.old + 134 ≤ 160 }
-    ensures value { packet.new ≡ packet.old ++ (number_bytes 8 size ++ (number_bytes 2 5 ++ (if no_zeros then [] else replicate 124 0))) }
+    ensures value { packet.new ≡ packet.old ++ (number_bytes 8 size
+        ++ (number_bytes 2 5 ++ (if no_zeros then [] else replicate 124 0))) }
     ensures length { length packet.new ≤ length packet.old + 134 }
 {
     packet.put_u64(size);

@@ -31,7 +31,8 @@ pub fn serve_nbd<B: Blocks, S: Source, K: Sink>(
     source: &mut S,
     sink: &mut K,
 ) -> NbdEnd
-    ensures service { Service (512 * B.block_count blocks.old) B.stands B.halted B.kept B.tells blocks.old blocks.new
+    ensures service { Service
+        (512 * B.block_count blocks.old) B.stands B.halted B.kept B.tells blocks.old blocks.new
         (S.left source.old) (S.left source.new) (K.written sink.old) (K.written sink.new)
         (S.faults source.old) (S.faults source.new) (K.faults sink.old) (K.faults sink.new) result }
     ensures size { B.block_count blocks.new ≡ B.block_count blocks.old }
@@ -67,7 +68,8 @@ fn transmit<B: Blocks, S: Source, K: Sink>(
     requires few { B.block_count blocks.old < 2 ^ 32 }
     requires room { length buffer.old ≡ min size 33554432 }
     ensures transmits { Transmits size B.stands B.halted B.kept B.tells blocks.old blocks.new
-        (S.left source.old) (S.left source.new) input.old.taken input.new.taken (K.written sink.old) (K.written sink.new)
+        (S.left source.old) (S.left source.new) input.old.taken input.new.taken
+        (K.written sink.old) (K.written sink.new)
         (S.faults source.old) (S.faults source.new) (K.faults sink.old) (K.faults sink.new) result }
     ensures size { B.block_count blocks.new ≡ B.block_count blocks.old }
     ensures told { IsTrue (B.tells blocks.new) → IsTrue (B.tells blocks.old) }
@@ -97,9 +99,11 @@ fn serve_request<B: Blocks, S: Source, K: Sink>(
     requires few { B.block_count blocks.old < 2 ^ 32 }
     requires room { length buffer.old ≡ min size 33554432 }
     ensures serves { OnOk result (Serves size B.stands B.halted B.kept B.tells blocks.old blocks.new
-        (S.left source.old) (S.left source.new) input.old.taken input.new.taken (K.written sink.old) (K.written sink.new)) }
-    ensures ends { IfErr result (λ e. EndsRequest size B.stands B.halted B.kept B.tells blocks.old blocks.new
-        (S.left source.old) (S.left source.new) input.old.taken input.new.taken (K.written sink.old) (K.written sink.new)
+        (S.left source.old) (S.left source.new) input.old.taken input.new.taken
+        (K.written sink.old) (K.written sink.new)) }
+    ensures ends { IfErr result (λ e. EndsRequest size B.stands B.halted B.kept B.tells blocks.old
+        blocks.new (S.left source.old) (S.left source.new) input.old.taken input.new.taken
+        (K.written sink.old) (K.written sink.new)
         (S.faults source.old) (S.faults source.new) (K.faults sink.old) (K.faults sink.new) e) }
     ensures size { B.block_count blocks.new ≡ B.block_count blocks.old }
     ensures told { IsTrue (B.tells blocks.new) → IsTrue (B.tells blocks.old) }
@@ -121,8 +125,8 @@ fn serve_request<B: Blocks, S: Source, K: Sink>(
 fn take_magic<S: Source>(source: &mut S, input: &mut Input) -> Result<(), NbdEnd>
     ensures takes { OnOk result ((magic : List ℕ) × IsRequestMagic magic
         × Takes (S.left source.old) (S.left source.new) input.old.taken input.new.taken magic) }
-    ensures stops { IfErr result (λ e. StopsRequest (S.left source.old) (S.left source.new) input.old.taken input.new.taken
-        (S.faults source.old) (S.faults source.new) e) }
+    ensures stops { IfErr result (λ e. StopsRequest (S.left source.old) (S.left source.new)
+        input.old.taken input.new.taken (S.faults source.old) (S.faults source.new) e) }
     ensures later { S.faults source.old ≤ S.faults source.new }
     ensures still { result ≢ Err NbdEnd.Source → S.faults source.new ≡ S.faults source.old }
 {
@@ -137,9 +141,10 @@ fn take_magic<S: Source>(source: &mut S, input: &mut Input) -> Result<(), NbdEnd
 
 // Takes a request up to the bytes to write.
 fn take_request<S: Source>(source: &mut S, input: &mut Input) -> Result<Request, NbdEnd>
-    ensures takes { IfOk result (λ r. TakesHead (S.left source.old) (S.left source.new) input.old.taken input.new.taken r) }
-    ensures stops { IfErr result (λ e. StopsRequest (S.left source.old) (S.left source.new) input.old.taken input.new.taken
-        (S.faults source.old) (S.faults source.new) e) }
+    ensures takes { IfOk result (λ r.
+        TakesHead (S.left source.old) (S.left source.new) input.old.taken input.new.taken r) }
+    ensures stops { IfErr result (λ e. StopsRequest (S.left source.old) (S.left source.new)
+        input.old.taken input.new.taken (S.faults source.old) (S.faults source.new) e) }
     ensures later { S.faults source.old ≤ S.faults source.new }
     ensures still { result ≢ Err NbdEnd.Source → S.faults source.new ≡ S.faults source.old }
 {
@@ -164,10 +169,11 @@ fn take_content<S: Source>(
 ) -> Result<usize, NbdEnd>
     requires outcome { outcome ≡ outcome_of size request.now }
     requires room { length buffer.old ≡ min size 33554432 }
-    ensures takes { IfOk result (λ n. TakesContent (S.left source.old) (S.left source.new) input.old.taken input.new.taken
-        request.now outcome n buffer.new) }
-    ensures lacks { IfErr result (λ e. Lacks (S.left source.old) (S.left source.new) input.old.taken input.new.taken
-        (content_length request.now.command request.now.length) (S.faults source.old) (S.faults source.new) e) }
+    ensures takes { IfOk result (λ n. TakesContent (S.left source.old)
+        (S.left source.new) input.old.taken input.new.taken request.now outcome n buffer.new) }
+    ensures lacks { IfErr result (λ e. Lacks (S.left source.old) (S.left source.new)
+        input.old.taken input.new.taken (content_length request.now.command request.now.length)
+        (S.faults source.old) (S.faults source.new) e) }
     ensures later { S.faults source.old ≤ S.faults source.new }
     ensures still { result ≢ Err NbdEnd.Source → S.faults source.new ≡ S.faults source.old }
 {
@@ -190,10 +196,11 @@ fn take_written<S: Source>(
     requires command { request.now.command ≡ Command.Write }
     requires outcome { outcome ≡ outcome_of size request.now }
     requires room { length buffer.old ≡ min size 33554432 }
-    ensures takes { IfOk result (λ n. TakesContent (S.left source.old) (S.left source.new) input.old.taken input.new.taken
-        request.now outcome n buffer.new) }
-    ensures lacks { IfErr result (λ e. Lacks (S.left source.old) (S.left source.new) input.old.taken input.new.taken
-        (content_length request.now.command request.now.length) (S.faults source.old) (S.faults source.new) e) }
+    ensures takes { IfOk result (λ n. TakesContent (S.left source.old)
+        (S.left source.new) input.old.taken input.new.taken request.now outcome n buffer.new) }
+    ensures lacks { IfErr result (λ e. Lacks (S.left source.old) (S.left source.new)
+        input.old.taken input.new.taken (content_length request.now.command request.now.length)
+        (S.faults source.old) (S.faults source.new) e) }
     ensures later { S.faults source.old ≤ S.faults source.new }
     ensures still { result ≢ Err NbdEnd.Source → S.faults source.new ≡ S.faults source.old }
 {
@@ -219,8 +226,10 @@ fn perform<B: Blocks>(
     requires outcome { outcome ≡ outcome_of size request.now }
     requires stays { request.now.command ≢ Command.Disconnect }
     requires room { Fills request.now outcome content.old }
-    ensures performs { (first : B) → ForEachState (B.stands blocks.old) (B.halted blocks.old) (B.kept first blocks.old)
-        (B.tells blocks.new) (λ s events. Performs size (B.stands blocks.new) (B.halted blocks.new) (B.kept first blocks.new) s events request.now content.old content.new result) }
+    ensures performs { (first : B)
+        → ForEachState (B.stands blocks.old) (B.halted blocks.old) (B.kept first blocks.old)
+        (B.tells blocks.new) (λ s events. Performs size (B.stands blocks.new) (B.halted blocks.new)
+        (B.kept first blocks.new) s events request.now content.old content.new result) }
     ensures comes { KeepsBy B.kept blocks.old blocks.new
         (ComesBy size request.now content.old content.new result) }
     ensures many { request.now.command ≡ Command.Read → result ≡ Outcome.Done
@@ -246,10 +255,10 @@ fn perform_read<B: Blocks>(blocks: &mut B, request: &Request, content: &mut [u8]
     requires command { request.now.command ≡ Command.Read }
     requires done { outcome_of (512 * B.block_count blocks.old) request.now ≡ Outcome.Done }
     requires room { length content.old ≡ request.now.length }
-    ensures performs { (first : B) → ForEachState (B.stands blocks.old) (B.halted blocks.old) (B.kept first blocks.old)
-        (B.tells blocks.new) (λ s events. Performs (512 * B.block_count blocks.old)
-        (B.stands blocks.new) (B.halted blocks.new) (B.kept first blocks.new)
-        s events request.now content.old content.new result) }
+    ensures performs { (first : B) → ForEachState (B.stands blocks.old)
+        (B.halted blocks.old) (B.kept first blocks.old) (B.tells blocks.new) (λ s events.
+        Performs (512 * B.block_count blocks.old) (B.stands blocks.new) (B.halted blocks.new)
+        (B.kept first blocks.new) s events request.now content.old content.new result) }
     ensures comes { KeepsBy B.kept blocks.old blocks.new
         (ComesBy (512 * B.block_count blocks.old) request.now content.old content.new result) }
     ensures size { B.block_count blocks.new ≡ B.block_count blocks.old }
@@ -268,10 +277,10 @@ fn perform_write<B: Blocks>(blocks: &mut B, request: &Request, content: &mut [u8
     requires command { request.now.command ≡ Command.Write }
     requires done { outcome_of (512 * B.block_count blocks.old) request.now ≡ Outcome.Done }
     requires room { length content.old ≡ request.now.length }
-    ensures performs { (first : B) → ForEachState (B.stands blocks.old) (B.halted blocks.old) (B.kept first blocks.old)
-        (B.tells blocks.new) (λ s events. Performs (512 * B.block_count blocks.old)
-        (B.stands blocks.new) (B.halted blocks.new) (B.kept first blocks.new)
-        s events request.now content.old content.new result) }
+    ensures performs { (first : B) → ForEachState (B.stands blocks.old)
+        (B.halted blocks.old) (B.kept first blocks.old) (B.tells blocks.new) (λ s events.
+        Performs (512 * B.block_count blocks.old) (B.stands blocks.new) (B.halted blocks.new)
+        (B.kept first blocks.new) s events request.now content.old content.new result) }
     ensures comes { KeepsBy B.kept blocks.old blocks.new
         (ComesBy (512 * B.block_count blocks.old) request.now content.old content.new result) }
     ensures size { B.block_count blocks.new ≡ B.block_count blocks.old }
@@ -290,10 +299,10 @@ fn perform_flush<B: Blocks>(blocks: &mut B, request: &Request, content: &mut [u8
     requires command { request.now.command ≡ Command.Flush }
     requires done { outcome_of (512 * B.block_count blocks.old) request.now ≡ Outcome.Done }
     requires room { length content.old ≡ 0 }
-    ensures performs { (first : B) → ForEachState (B.stands blocks.old) (B.halted blocks.old) (B.kept first blocks.old)
-        (B.tells blocks.new) (λ s events. Performs (512 * B.block_count blocks.old)
-        (B.stands blocks.new) (B.halted blocks.new) (B.kept first blocks.new)
-        s events request.now content.old content.new result) }
+    ensures performs { (first : B) → ForEachState (B.stands blocks.old)
+        (B.halted blocks.old) (B.kept first blocks.old) (B.tells blocks.new) (λ s events.
+        Performs (512 * B.block_count blocks.old) (B.stands blocks.new) (B.halted blocks.new)
+        (B.kept first blocks.new) s events request.now content.old content.new result) }
     ensures comes { KeepsBy B.kept blocks.old blocks.new
         (ComesBy (512 * B.block_count blocks.old) request.now content.old content.new result) }
     ensures size { B.block_count blocks.new ≡ B.block_count blocks.old }
@@ -313,9 +322,10 @@ fn reply<K: Sink>(
     outcome: Outcome,
     content: &[u8],
 ) -> Result<(), NbdEnd>
-    ensures sends { OnOk result (GrowsByBytes (K.written sink.old) (K.written sink.new) (said_with request.now outcome content.now)) }
-    ensures unsent { IfErr result (λ e. IsUnsent (K.written sink.old) (K.written sink.new) (said_with request.now outcome content.now)
-        (K.faults sink.old) (K.faults sink.new) e) }
+    ensures sends { OnOk result (GrowsByBytes
+        (K.written sink.old) (K.written sink.new) (said_with request.now outcome content.now)) }
+    ensures unsent { IfErr result (λ e. IsUnsent (K.written sink.old) (K.written sink.new)
+        (said_with request.now outcome content.now) (K.faults sink.old) (K.faults sink.new) e) }
     ensures later_sink { K.faults sink.old ≤ K.faults sink.new }
     ensures still_sink { result ≢ Err NbdEnd.Sink → K.faults sink.new ≡ K.faults sink.old }
 {
@@ -332,9 +342,10 @@ fn reply<K: Sink>(
 // Sends the head of a reply and what was read: at once, unless that is long.
 fn send_read<K: Sink>(sink: &mut K, mut packet: Packet, content: &[u8]) -> Result<(), NbdEnd>
     requires head { length packet ≡ 16 }
-    ensures sends { OnOk result (GrowsByBytes (K.written sink.old) (K.written sink.new) (packet ++ content.now)) }
-    ensures unsent { IfErr result (λ e. IsUnsent (K.written sink.old) (K.written sink.new) (packet ++ content.now)
-        (K.faults sink.old) (K.faults sink.new) e) }
+    ensures sends { OnOk result
+        (GrowsByBytes (K.written sink.old) (K.written sink.new) (packet ++ content.now)) }
+    ensures unsent { IfErr result (λ e. IsUnsent (K.written sink.old)
+        (K.written sink.new) (packet ++ content.now) (K.faults sink.old) (K.faults sink.new) e) }
     ensures later_sink { K.faults sink.old ≤ K.faults sink.new }
     ensures still_sink { result ≢ Err NbdEnd.Sink → K.faults sink.new ≡ K.faults sink.old }
 {

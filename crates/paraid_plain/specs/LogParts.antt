@@ -25,7 +25,8 @@ IsSingle power m = (d : ℕ) → IsSingleWith power m d
 
 -- a log disk that is being rebuilt has its gate closed
 abbrev pub IsFreshShut : Disks → Meta → Type 0
-IsFreshShut i m = (d rebuilt : ℕ) → IsFresh i.power m d rebuilt → d < 2 → is_open (stored_block i d 0) ≡ false
+IsFreshShut i m = (d rebuilt : ℕ)
+    → IsFresh i.power m d rebuilt → d < 2 → is_open (stored_block i d 0) ≡ false
 
 -- the disk of a target spins, if it is not out
 abbrev pub IsTargetSpinning : (ℕ → Power) → Option ℕ → Target → Type 0
@@ -33,7 +34,8 @@ IsTargetSpinning power out t = out ≢ Some t.disk → power t.disk ≡ Spinning
 
 -- each target that is not on the out disk is on a disk that spins
 abbrev pub AreTargetsSpinning : (ℕ → Power) → LogState → Option ℕ → Type 0
-AreTargetsSpinning power said out = (t : Target) → Contains (targets said.batch) t → IsTargetSpinning power out t
+AreTargetsSpinning power said out = (t : Target)
+    → Contains (targets said.batch) t → IsTargetSpinning power out t
 
 -- log disk `y` says something, if it is there and not out
 abbrev pub IsLogFormed : Disks → Option ℕ → ℕ → Type 0
@@ -45,7 +47,8 @@ AreLogsFormed i out = (y : ℕ) → y < 2 → IsLogFormed i out y
 
 -- what the two log disks say fits together, if neither is out
 abbrev pub ArePaired : Disks → Option ℕ → Type 0
-ArePaired i out = (a b : LogState) → Says i 0 a → Says i 1 b → out ≢ Some 0 → out ≢ Some 1 → Pairing a b
+ArePaired i out = (a b : LogState)
+    → Says i 0 a → Says i 1 b → out ≢ Some 0 → out ≢ Some 1 → Pairing a b
 
 -- where both name a disk out, it is the same one
 abbrev pub AreOutAlike : Out → Out → Type 0
@@ -54,7 +57,8 @@ AreOutAlike a b = (d e : ℕ) → named_out a ≡ Some d → named_out b ≡ Som
 -- target `k` and its block are the same in two statements
 abbrev pub IsSameTarget : Image → Statement → Statement → ℕ → Type 0
 IsSameTarget image a b k = (get_or a.targets.list k no_target ≡ get_or b.targets.list k no_target)
-    × (stored_block (disks_in image) a.disk (body_place k) ≡ stored_block (disks_in image) b.disk (body_place k))
+    × (stored_block (disks_in image) a.disk (body_place k)
+    ≡ stored_block (disks_in image) b.disk (body_place k))
 
 -- where there is a witness against log disk `x`, it is out
 abbrev pub IsWitnessTrue : Disks → Option ℕ → ℕ → Type 0

@@ -19,7 +19,8 @@ use Rattle.paraid_image.specs.Value.{stripe, stripe_rest, value}
 -- where the cell of row `r` and disk `d` is of stripe `s` of gear `a`, the stripe stores its value
 abbrev pub IsCopied : View → ℕ → ℕ → ℕ → ℕ → Type 0
 IsCopied v a s r d = soft_stripe v.meta.setup.geometry.disks a r d ≡ s
-    → stripe v.meta.setup.geometry v.block a s (soft_disk v.meta.setup.geometry.disks a r d) ≡ value v r d
+    → stripe v.meta.setup.geometry v.block a s (soft_disk v.meta.setup.geometry.disks a r d)
+    ≡ value v r d
 
 -- the stripe stores the values of its cells of row `r`
 abbrev pub AreCopied : View → ℕ → ℕ → ℕ → Type 0
@@ -37,21 +38,25 @@ ArePadsZero v a s = (at : ℕ) → at < a - 1 → IsPadZero v a s at
 -- where the cell of row `r` and disk `d` is clean and its disk is not out, its hard place has its
 -- value
 abbrev pub IsCleanStored : View → ℕ → ℕ → Type 0
-IsCleanStored v r d = v.out ≢ Some d → v.dirty r d ≡ false → v.block d (hard_place_of v.meta.setup.geometry r) ≡ value v r d
+IsCleanStored v r d = v.out ≢ Some d
+    → v.dirty r d ≡ false → v.block d (hard_place_of v.meta.setup.geometry r) ≡ value v r d
 
 -- the same, of each disk from the gear on
 abbrev pub AreRowCleanStored : View → ℕ → Type 0
-AreRowCleanStored v r = (d : ℕ) → v.meta.gear ≤ d → d < v.meta.setup.geometry.disks → IsCleanStored v r d
+AreRowCleanStored v r = (d : ℕ)
+    → v.meta.gear ≤ d → d < v.meta.setup.geometry.disks → IsCleanStored v r d
 
 -- row `r` of a disk that is being rebuilt, if it is rebuilt: its value is stored, unless the cell
 -- is a dirty one of a parked disk
 abbrev pub IsRowRebuilt : View → ℕ → ℕ → ℕ → Type 0
-IsRowRebuilt v d rebuilt r = r < rebuilt → (v.meta.gear ≤ d → v.dirty r d ≡ false) → v.block d (hard_place_of v.meta.setup.geometry r) ≡ value v r d
+IsRowRebuilt v d rebuilt r = r < rebuilt → (v.meta.gear ≤ d → v.dirty r d ≡ false)
+    → v.block d (hard_place_of v.meta.setup.geometry r) ≡ value v r d
 
 -- stripe `s` of such a disk, if it is rebuilt
 abbrev pub IsStripeRebuilt : View → ℕ → ℕ → ℕ → Type 0
 IsStripeRebuilt v d rebuilt s = v.meta.setup.geometry.rows + s < rebuilt
-    → stripe v.meta.setup.geometry v.block v.meta.gear s d ≡ stripe_rest v.meta.setup.geometry v.block v.meta.gear s d
+    → stripe v.meta.setup.geometry v.block v.meta.gear s d
+    ≡ stripe_rest v.meta.setup.geometry v.block v.meta.gear s d
 
 -- block `j` of the dirty map of such a disk, if it is rebuilt
 abbrev pub IsMapRebuilt : View → ℕ → ℕ → ℕ → Type 0
@@ -65,11 +70,13 @@ IsFreshRebuilt power v = (d rebuilt : ℕ) → IsFresh power v.meta d rebuilt �
 
 -- a dirty bit is of a row, and of a disk from the gear on
 abbrev pub IsBitOfCell : View → ℕ → ℕ → Type 0
-IsBitOfCell v r d = v.dirty r d ≡ true → (r < v.meta.setup.geometry.rows) × (v.meta.gear ≤ d) × (d < v.meta.setup.geometry.disks)
+IsBitOfCell v r d = v.dirty r d ≡ true
+    → (r < v.meta.setup.geometry.rows) × (v.meta.gear ≤ d) × (d < v.meta.setup.geometry.disks)
 
 -- disk `d` has the blocks that each disk of the array needs, if it is there and not out
 abbrev pub IsLarge : Disks → Meta → Option ℕ → ℕ → Type 0
-IsLarge i m out d = is_present (i.power d) ≡ true → out ≢ Some d → disk_size m.setup.geometry ≤ i.size d
+IsLarge i m out d = is_present (i.power d) ≡ true
+    → out ≢ Some d → disk_size m.setup.geometry ≤ i.size d
 
 -- each disk is large enough
 abbrev pub AreDisksLarge : Disks → Meta → Option ℕ → Type 0
@@ -85,7 +92,8 @@ AreSpinning power m out = (d : ℕ) → d < m.gear → IsSpinning power out d
 
 -- the disk that is being rebuilt is large enough and spins
 abbrev pub IsFreshReady : Disks → Meta → Type 0
-IsFreshReady i m = (d rebuilt : ℕ) → IsFresh i.power m d rebuilt → (disk_size m.setup.geometry ≤ i.size d) × (i.power d ≡ Spinning)
+IsFreshReady i m = (d rebuilt : ℕ)
+    → IsFresh i.power m d rebuilt → (disk_size m.setup.geometry ≤ i.size d) × (i.power d ≡ Spinning)
 
 -- disk `d` has its spin-up recorded, if it is parked and not out
 abbrev pub IsRecorded : (ℕ → Power) → Meta → Option ℕ → ℕ → Type 0
@@ -93,4 +101,5 @@ IsRecorded power m out d = power d ≡ Parked → out ≢ Some d → 1 ≤ slice
 
 -- each disk that a shift up has still to spin up has that recorded
 abbrev pub AreRecorded : (ℕ → Power) → Meta → Option ℕ → Type 0
-AreRecorded power m out = (to d : ℕ) → m.phase ≡ Up to → m.gear ≤ d → d < to → IsRecorded power m out d
+AreRecorded power m out = (to d : ℕ)
+    → m.phase ≡ Up to → m.gear ≤ d → d < to → IsRecorded power m out d

@@ -9,7 +9,8 @@ use Rattle.paraid_base.specs.declared.state.Phase.TheVariants.{Steady, Down, Up}
 use Rattle.paraid_record.specs.declared.meta.Meta.{Meta}
 use Rattle.paraid_record.specs.Range.{IsInRange, IsOutInRange, IsPhaseInRange}
 
-IsPhaseInRange-prop : (g : Geometry) (gear : ℕ) (phase : Phase) → IsProp (IsPhaseInRange g gear phase)
+IsPhaseInRange-prop : (g : Geometry) (gear : ℕ) (phase : Phase)
+    → IsProp (IsPhaseInRange g gear phase)
 IsPhaseInRange-prop g gear Steady = hlevel props
 IsPhaseInRange-prop g gear (Down to) = hlevel props
 IsPhaseInRange-prop g gear (Up to) = hlevel props

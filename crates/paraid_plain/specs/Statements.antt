@@ -21,7 +21,8 @@ batch_from log p (t ∷ ts) = (t, log p) ∷ batch_from log (suc p) ts
 
 -- the batch that a statement stands for
 unfoldable pub batch_in : Image → Statement → Batch
-batch_in image s = batch_from (stored_block (disks_in image) s.disk) (body_place 0) (targets_of s.targets)
+batch_in image s =
+    batch_from (stored_block (disks_in image) s.disk) (body_place 0) (targets_of s.targets)
 
 -- what a statement stands for
 abbrev pub said_of : Image → Statement → LogState

@@ -14,7 +14,8 @@ use paraid_base::DiskNo;
 /// What the standing log disk says, if one stands.
 pub fn standing_of(image: &Image) -> Option<Statement>
     ensures some { IfSome result (λ s. Stands (disks_in image.now) s.disk (said_of image.now s)) }
-    ensures none { IfNone result ((x : ℕ) (said : LogState) → Stands (disks_in image.now) x said → ⊥) }
+    ensures none { IfNone result ((x : ℕ) (said : LogState)
+        → Stands (disks_in image.now) x said → ⊥) }
     ensures value { (x : ℕ) (said : LogState) → Stands (disks_in image.now) x said
         → IsSomeAnd result (λ s. (s.disk ≡ x) × (said_of image.now s ≡ said)) }
 {

@@ -23,11 +23,13 @@ pub record Desk : Type 0 where
 
 -- a desk with these blocks staged
 unfoldable pub with_targets : Desk → Batch → Desk
-with_targets s batch = record { block = overlaid_blocks batch s.block; dirty = s.dirty; staged = s.staged ++ batch }
+with_targets s batch =
+    record { block = overlaid_blocks batch s.block; dirty = s.dirty; staged = s.staged ++ batch }
 
 -- a desk with this dirty bit
 unfoldable pub desk_with_bit : Desk → ℕ → ℕ → Bool → Desk
-desk_with_bit s r d bit = record { block = s.block; dirty = table_with_bit s.dirty r d bit; staged = s.staged }
+desk_with_bit s r d bit =
+    record { block = s.block; dirty = table_with_bit s.dirty r d bit; staged = s.staged }
 
 -- the view of a desk under a meta
 abbrev pub sees : Meta → Desk → View
@@ -42,7 +44,8 @@ place_targets m hard r d new parity_block =
     let parity = soft_parity_disk m.gear s in
     let place = soft_place_of g m.gear s in
     if hard then target_if (is_written m.out d r) d (hard_place_of g r) new
-    else target_if (is_written m.out copy (g.rows + s)) copy place new ++ target_if (is_written m.out parity (g.rows + s)) parity place parity_block
+    else target_if (is_written m.out copy (g.rows + s)) copy place new
+    ++ target_if (is_written m.out parity (g.rows + s)) parity place parity_block
 
 -- those of its copy in the region that is being filled
 unfoldable pub copy_targets : Meta → Bool → ℕ → ℕ → Block → Block → Batch
@@ -51,11 +54,13 @@ copy_targets m filled r d new parity_block =
     let to = phase_to m.phase in
     let s = soft_stripe g.disks to r d in
     let place = soft_place_of g to s in
-    target_if filled (soft_disk g.disks to r d) place new ++ target_if filled (soft_parity_disk to s) place parity_block
+    target_if filled (soft_disk g.disks to r d) place new
+    ++ target_if filled (soft_parity_disk to s) place parity_block
 
 -- the desk after the write of a cell
 unfoldable pub cell_desk : Meta → Desk → ℕ → ℕ → Block → Block → Desk
-cell_desk m s r d old new = desk_with_bit (with_targets s (cell_targets (sees m s) r d old new)) r d (not (goes_hard (sees m s) r d))
+cell_desk m s r d old new = desk_with_bit
+    (with_targets s (cell_targets (sees m s) r d old new)) r d (not (goes_hard (sees m s) r d))
 
 -- what is staged for the map
 pub record StagesMap (m : Meta) (before after : Desk) (j : ℕ) (staged : Bool) : Type 0 where
@@ -64,6 +69,8 @@ pub record StagesMap (m : Meta) (before after : Desk) (j : ℕ) (staged : Bool) 
   pub is : after ≡ with_targets before (if staged then map_targets m j map else [])
 
 -- What is in view is kept well, and the dirty bits are those of the map.
-pub record IsKeptDesk (slots : ℕ) (power : ℕ → Power) (size : ℕ → ℕ) (m : Meta) (s : Desk) : Type 0 where
-  pub shown : (q e : ℕ) → q < 512 * map_count m.setup.geometry → s.dirty q e ≡ map_bit m.setup.geometry (s.block (map_disk (named_out m.out))) q e
+pub record IsKeptDesk
+    (slots : ℕ) (power : ℕ → Power) (size : ℕ → ℕ) (m : Meta) (s : Desk) : Type 0 where
+  pub shown : (q e : ℕ) → q < 512 * map_count m.setup.geometry
+      → s.dirty q e ≡ map_bit m.setup.geometry (s.block (map_disk (named_out m.out))) q e
   pub kept : IsWellKept slots power size (sees m s)

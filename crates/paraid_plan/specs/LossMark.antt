@@ -11,7 +11,8 @@ use Rattle.paraid_image.specs.Standing.{Contents}
 use Rattle.paraid_image.specs.Mark.{meta_after_loss}
 
 -- Disk `d` is lost, whatever is left of it, and no other disk was out.
-pub record IsLostDisk (m : Meta) (power power_now : ℕ → Power) (size size_now : ℕ → ℕ) (block block_now : Contents) (d : ℕ) : Type 0 where
+pub record IsLostDisk (m : Meta) (power power_now : ℕ → Power)
+    (size size_now : ℕ → ℕ) (block block_now : Contents) (d : ℕ) : Type 0 where
   pub alone : (e : ℕ) → named_out m.out ≡ Some e → e ≡ d
   pub powers : (e : ℕ) → e ≢ d → power_now e ≡ power e
   pub sizes : (e : ℕ) → e ≢ d → size_now e ≡ size e
@@ -20,8 +21,11 @@ pub record IsLostDisk (m : Meta) (power power_now : ℕ → Power) (size size_no
 
 -- the law that the mark of a lost disk keeps the disks well
 abbrev pub LostKeeps : Type 0
-LostKeeps = (slots : ℕ) (power power_now : ℕ → Power) (size size_now : ℕ → ℕ) (m : Meta) (block block_now : Contents) (d : ℕ)
-    → IsInRange m → IsInRange (meta_after_loss m d) → out_disk power m ≡ named_out m.out → IsWellKept slots power size (view_by m power block)
+LostKeeps = (slots : ℕ) (power power_now : ℕ
+    → Power) (size size_now : ℕ → ℕ) (m : Meta) (block block_now : Contents) (d : ℕ)
+    → IsInRange m → IsInRange (meta_after_loss m d)
+    → out_disk power m ≡ named_out m.out → IsWellKept slots power size (view_by m power block)
     → IsLostDisk m power power_now size size_now block block_now d
     → IsWellKept slots power_now size_now (view_by (meta_after_loss m d) power_now block_now)
-    × ((b : ℕ) → b < m.setup.geometry.rows * (m.setup.geometry.disks - 1) → blocks_of (view_by (meta_after_loss m d) power_now block_now) b ≡ blocks_of (view_by m power block) b)
+    × ((b : ℕ) → b < m.setup.geometry.rows * (m.setup.geometry.disks - 1) → blocks_of
+    (view_by (meta_after_loss m d) power_now block_now) b ≡ blocks_of (view_by m power block) b)

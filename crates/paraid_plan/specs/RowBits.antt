@@ -10,7 +10,8 @@ use Rattle.paraid_record.specs.declared.meta.Meta.{Meta}
 
 -- The bits of these cells are those after a write of them, and each other bit is as it was.
 abbrev pub TurnsBits : Meta → (ℕ → ℕ → Bool) → (ℕ → ℕ → Bool) → (ℕ → ℕ → Bool) → Type 0
-TurnsBits m before after turned = (q e : ℕ) → after q e ≡ (if turned q e then bit_after_write m e (before q e) else before q e)
+TurnsBits m before after turned = (q e : ℕ)
+    → after q e ≡ (if turned q e then bit_after_write m e (before q e) else before q e)
 
 -- whether the block of one of the pairs lies in row `r` on disk `e`
 unfoldable pub names_cell : ℕ → Entry → ℕ → ℕ → Bool
@@ -21,7 +22,8 @@ names_cell n (w ∷ ws) r e = (home_row n w.0 == r && e == home_disk n w.0) || n
 unfoldable pub turns_cell_of : ℕ → Entry → ℕ → ℕ → Bool
 turns_cell_of n ws r e = names_cell n ws r e || e == parity_disk n r
 
--- whether the cell of row `q` and disk `e` is written with the row of one pair, where no pair before it lies in that row
+-- whether the cell of row `q` and disk `e` is written with the row of one pair, where no pair
+-- before it lies in that row
 unfoldable pub turns_in_new_row : ℕ → Pairs → ℕ → ℕ → ℕ → Bool
 turns_in_new_row n pairs at q e =
     let r = home_row n (get_or pairs.blocks at 0) in

@@ -39,16 +39,19 @@ count_in_row n (w ∷ ws) r = one_in_row n w.0 r + count_in_row n ws r
 -- the last pair that names block `b`, by its place among the members
 abbrev pub IsLastPair : List Block → ℕ → Entry → Option ℕ → Type 0
 IsLastPair bytes b ws None = names_block ws b ≡ false
-IsLastPair bytes b ws (Some at) = (at < 8) × (names_block ws b ≡ true) × ((x : Block) → last_of b x ws ≡ get_or bytes at zero_block)
+IsLastPair bytes b ws (Some at) = (at < 8)
+    × (names_block ws b ≡ true) × ((x : Block) → last_of b x ws ≡ get_or bytes at zero_block)
 
--- whether the pairs give the cell of row `r` on disk `d` new bytes: never where that is the row's parity
+-- whether the pairs give the cell of row `r` on disk `d` new bytes: never where that is the row's
+-- parity
 unfoldable pub is_given : ℕ → Entry → ℕ → ℕ → Bool
 is_given n ws r d = not (d == parity_disk n r) && names_block ws (cell_block n r d)
 
 -- the last pair that gives it new bytes
 abbrev pub IsGivenBy : List Block → ℕ → Entry → ℕ → ℕ → Option ℕ → Type 0
 IsGivenBy bytes n ws r d None = is_given n ws r d ≡ false
-IsGivenBy bytes n ws r d (Some at) = (at < 8) × (is_given n ws r d ≡ true) × ((x : Block) → last_of (cell_block n r d) x ws ≡ get_or bytes at zero_block)
+IsGivenBy bytes n ws r d (Some at) = (at < 8) × (is_given n ws r d ≡ true)
+    × ((x : Block) → last_of (cell_block n r d) x ws ≡ get_or bytes at zero_block)
 
 -- for each cell of the row the last pair that gives it new bytes
 abbrev pub AreGivenBy : List Block → ℕ → Entry → ℕ → List (Option ℕ) → Type 0
@@ -60,25 +63,28 @@ is_changed n ws r d = d == parity_disk n r || is_given n ws r d
 
 -- the values of a row's cells with the new bytes, and the parity as it was
 unfoldable pub given_row : ℕ → Entry → ℕ → (ℕ → Block) → ℕ → Block
-given_row n ws r row d = if d == parity_disk n r then row d else last_of (cell_block n r d) (row d) ws
+given_row n ws r row d =
+    if d == parity_disk n r then row d else last_of (cell_block n r d) (row d) ws
 
 -- the parity that the row has with the new bytes: the XOR of all its other cells
 unfoldable pub new_parity : ℕ → Entry → ℕ → (ℕ → Block) → Block
 new_parity n ws r row = xor_upto (without (given_row n ws r row) (parity_disk n r)) n
 
--- What the cell on disk `d` brings to the new parity. By one rule these are the values of the cells that do not
--- change and the new bytes; by the other one the old values of those that do and the new bytes.
+-- What the cell on disk `d` brings to the new parity. By one rule these are the values of the cells
+-- that do not change and the new bytes; by the other one the old values of those that do and the
+-- new bytes.
 unfoldable pub parity_part : ℕ → Entry → ℕ → (ℕ → Block) → Bool → ℕ → Block
 parity_part n ws r row anew d =
-    xor (if (if anew then not (is_changed n ws r d) else is_changed n ws r d) then row d else zero_block)
+    xor (if (if anew then not (is_changed n ws r d) else is_changed n ws r d)
+    then row d else zero_block)
     (if is_given n ws r d then last_of (cell_block n r d) zero_block ws else zero_block)
 
 -- what is kept for disk `d` is block `b`
 abbrev pub IsOldOf : List (Option Block) → ℕ → Block → Type 0
 IsOldOf kept d b = get_or kept d None ≡ Some b
 
--- whether what is staged of some cell can depend on its old value: the array is not in its top gear, or a shift fills
--- the region of another one
+-- whether what is staged of some cell can depend on its old value: the array is not in its top
+-- gear, or a shift fills the region of another one
 unfoldable pub has_soft : Meta → Bool
 has_soft m = nat_lt m.gear m.setup.geometry.disks || nat_lt 0 m.fill
 
@@ -87,8 +93,10 @@ abbrev pub HasRoom : Meta → List (Option Block) → Type 0
 HasRoom m olds = has_soft m ≡ true → length olds ≡ 8
 
 -- the old value of each cell that changes is kept, where what is staged of it depends on that
-pub record AreOldRead (m : Meta) (s : Desk) (ws : Entry) (r : ℕ) (olds : List (Option Block)) (row : ℕ → Block) : Type 0 where
-  pub read : (e : ℕ) → e < m.setup.geometry.disks → is_changed m.setup.geometry.disks ws r e ≡ true → needs_old (sees m s) r e ≡ true → IsOldOf olds e (row e)
+pub record AreOldRead (m : Meta)
+    (s : Desk) (ws : Entry) (r : ℕ) (olds : List (Option Block)) (row : ℕ → Block) : Type 0 where
+  pub read : (e : ℕ) → e < m.setup.geometry.disks → is_changed m.setup.geometry.disks ws r e ≡ true
+      → needs_old (sees m s) r e ≡ true → IsOldOf olds e (row e)
 
 -- More is staged, and laid over what is seen; each of its targets can be committed.
 pub record AddsTargets (m : Meta) (before after : Desk) : Type 0 where
@@ -101,23 +109,29 @@ pub record AddsTargets (m : Meta) (before after : Desk) : Type 0 where
 unfoldable pub with_row : (ℕ → ℕ → Block) → ℕ → (ℕ → Block) → ℕ → ℕ → Block
 with_row value r row q e = if q == r then row e else value q e
 
--- Cells of row `r` are written: where the row's cells had the first values, they have the second ones, and all
--- else is as it was.
-pub record TurnsRow (m : Meta) (r : ℕ) (before after : Desk) (row row_then : ℕ → Block) : Type 0 where
-  pub others : (q e : ℕ) → (q ≡ r → e < m.setup.geometry.disks → ⊥) → after.dirty q e ≡ before.dirty q e
+-- Cells of row `r` are written: where the row's cells had the first values, they have the second
+-- ones, and all else is as it was.
+pub record TurnsRow
+    (m : Meta) (r : ℕ) (before after : Desk) (row row_then : ℕ → Block) : Type 0 where
+  pub others : (q e : ℕ)
+      → (q ≡ r → e < m.setup.geometry.disks → ⊥) → after.dirty q e ≡ before.dirty q e
   pub bits : AreBits m before.dirty → AreBits m after.dirty
   pub stored : (power : ℕ → Power) (value : ℕ → ℕ → Block) (map : ℕ → Block)
-      → StoresCells power m (named_out m.out) before.block before.dirty value map → ((e : ℕ) → e < m.setup.geometry.disks → value r e ≡ row e)
-      → StoresCells power m (named_out m.out) after.block after.dirty (with_row value r row_then) map
+      → StoresCells power m (named_out m.out) before.block before.dirty value map
+      → ((e : ℕ) → e < m.setup.geometry.disks → value r e ≡ row e) → StoresCells power m
+      (named_out m.out) after.block after.dirty (with_row value r row_then) map
 
 -- What is staged keeps the disks well, and makes this of what each block holds.
 pub record StagesBlocks (m : Meta) (before after : Desk) (change : ℕ → Block → Block) : Type 0 where
   pub adds : AddsTargets m before after
-  pub kept : (slots : ℕ) (power : ℕ → Power) (size : ℕ → ℕ) → IsKeptDesk slots power size m before → IsKeptDesk slots power size m after
+  pub kept : (slots : ℕ) (power : ℕ → Power) (size : ℕ → ℕ)
+      → IsKeptDesk slots power size m before → IsKeptDesk slots power size m after
   pub blocks : (slots : ℕ) (power : ℕ → Power) (size : ℕ → ℕ) → IsKeptDesk slots power size m before
-      → (c : ℕ) → c < m.setup.geometry.rows * (m.setup.geometry.disks - 1) → blocks_of (sees m after) c ≡ change c (blocks_of (sees m before) c)
+      → (c : ℕ) → c < m.setup.geometry.rows * (m.setup.geometry.disks - 1)
+      → blocks_of (sees m after) c ≡ change c (blocks_of (sees m before) c)
 
--- Each block that the pairs name has the bytes of the last one that does, and each other block what it held.
+-- Each block that the pairs name has the bytes of the last one that does, and each other block what
+-- it held.
 abbrev pub StageAll : Meta → Desk → Desk → Entry → Type 0
 StageAll m before after ws = StagesBlocks m before after (λ c x. last_of c x ws)
 
@@ -125,7 +139,8 @@ StageAll m before after ws = StagesBlocks m before after (λ c x. last_of c x ws
 unfoldable pub pairs_before : Pairs → ℕ → Entry
 pairs_before pairs at = take at (numbered_blocks pairs.blocks pairs.bytes)
 
--- how many pairs name blocks of the row of this one, or none where a pair before it lies in that row
+-- how many pairs name blocks of the row of this one, or none where a pair before it lies in that
+-- row
 unfoldable pub count_of_new_row : ℕ → Pairs → ℕ → ℕ
 count_of_new_row n pairs at =
     let r = home_row n (get_or pairs.blocks at 0) in
@@ -135,4 +150,5 @@ count_of_new_row n pairs at =
 unfoldable pub row_change : ℕ → Pairs → ℕ → ℕ → Block → Block
 row_change n pairs at c x =
     let r = home_row n (get_or pairs.blocks at 0) in
-    if not (names_row n (pairs_before pairs at) r) && home_row n c == r then last_of c x (pairs_of pairs) else x
+    if not (names_row n (pairs_before pairs at) r) && home_row n c == r
+    then last_of c x (pairs_of pairs) else x

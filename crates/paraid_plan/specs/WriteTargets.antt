@@ -47,7 +47,8 @@ stripe_block_now v s e =
 
 -- the block of a cell for its hard place, unless its unit is not rebuilt
 abbrev pub hard_targets : View → ℕ → ℕ → Block → Batch
-hard_targets v r d new = target_if (is_written v.meta.out d r) d (hard_place_of v.meta.setup.geometry r) new
+hard_targets v r d new =
+    target_if (is_written v.meta.out d r) d (hard_place_of v.meta.setup.geometry r) new
 
 -- the copy in the current region, and its stripe's parity
 abbrev pub soft_targets : View → ℕ → ℕ → Block → Block → Batch
@@ -58,11 +59,13 @@ soft_targets v r d old new =
     let parity = soft_parity_disk v.meta.gear s in
     let place = soft_place_of g v.meta.gear s in
     target_if (is_written v.meta.out copy (g.rows + s)) copy place new
-    ++ target_if (is_written v.meta.out parity (g.rows + s)) parity place (xor (stripe_block_now v s parity) (xor old new))
+    ++ target_if (is_written v.meta.out parity (g.rows + s)) parity place
+    (xor (stripe_block_now v s parity) (xor old new))
 
 -- whether a cell has its copy in a stripe that a shift has filled already
 abbrev pub is_filled : Meta → ℕ → ℕ → Bool
-is_filled m r d = nat_le (phase_to m.phase) d && nat_lt (soft_stripe m.setup.geometry.disks (phase_to m.phase) r d) m.fill
+is_filled m r d = nat_le (phase_to m.phase) d && nat_lt
+    (soft_stripe m.setup.geometry.disks (phase_to m.phase) r d) m.fill
 
 -- the copy in the region that is being filled, and its stripe's parity
 abbrev pub fill_targets : View → ℕ → ℕ → Block → Block → Batch
@@ -79,7 +82,8 @@ fill_targets v r d old new =
 -- what the write of one cell stages, whose value was `old`
 abbrev pub cell_targets : View → ℕ → ℕ → Block → Block → Batch
 cell_targets v r d old new =
-    (if goes_hard v r d then hard_targets v r d new else soft_targets v r d old new) ++ fill_targets v r d old new
+    (if goes_hard v r d then hard_targets v r d new else soft_targets v r d old new)
+    ++ fill_targets v r d old new
 
 -- whether what the write of a cell stages shows its new value: not where that goes to a hard place
 -- which is not written
@@ -91,7 +95,8 @@ unfoldable pub needs_old : View → ℕ → ℕ → Bool
 needs_old v r d =
     let g = v.meta.setup.geometry in
     let s = soft_stripe g.disks v.meta.gear r d in
-    (not (goes_hard v r d) && is_written v.meta.out (soft_parity_disk v.meta.gear s) (g.rows + s)) || is_filled v.meta r d
+    (not (goes_hard v r d) && is_written v.meta.out (soft_parity_disk v.meta.gear s) (g.rows + s))
+    || is_filled v.meta r d
 
 -- what is seen after it, but for the map of dirty cells
 abbrev pub view_with_cell : View → ℕ → ℕ → Block → Block → View
@@ -103,5 +108,7 @@ view_with_cell v r d old new = record v {
 -- block `j` of the map of dirty cells, on each disk on which it is written
 abbrev pub map_targets : Meta → ℕ → Block → Batch
 map_targets m j b =
-    target_if (is_written m.out 0 (m.setup.geometry.rows + soft_count m + j)) 0 (map_block_place m.setup.geometry j) b
-    ++ target_if (is_written m.out 1 (m.setup.geometry.rows + soft_count m + j)) 1 (map_block_place m.setup.geometry j) b
+    target_if (is_written m.out 0 (m.setup.geometry.rows + soft_count m + j)) 0
+    (map_block_place m.setup.geometry j) b
+    ++ target_if (is_written m.out 1 (m.setup.geometry.rows + soft_count m + j)) 1
+    (map_block_place m.setup.geometry j) b

@@ -1,5 +1,6 @@
-//! The write of one cell of a row, of which most writes are. Where its old value makes the row's new parity and neither
-//! has a copy, the first block is read straight into its place, and the other two are added to it in one pass.
+//! The write of one cell of a row, of which most writes are. Where its old value makes the row's
+//! new parity and neither has a copy, the first block is read straight into its place, and the
+//! other two are added to it in one pass.
 ghost use Rattle.std.specs.Prelude.{◌≡◌, ◌≢◌, ℕ, ◌<◌, ◌≤◌, true, false, get_or, Some, None, OnOk, IfSome};
 ghost use Rattle.paraid_base.specs.Xor.{xor, zero_block};
 ghost use Rattle.paraid_plan.specs.Alone.{IsWrittenAlone};
@@ -24,7 +25,8 @@ pub(crate) struct Given {
 // The first cell of a row that is given new bytes.
 fn first_given(given: &[Option<u8>; 8], disks: u8) -> Option<Given>
     requires { disks ≤ 8 }
-    ensures { IfSome result (λ one. (one.disk < disks) × (get_or given.now one.disk None ≡ Some one.at)) }
+    ensures { IfSome result (λ one. (one.disk < disks)
+        × (get_or given.now one.disk None ≡ Some one.at)) }
 {
     for d in 0..disks {
         if let Some(at) = given[d as usize] {
@@ -65,8 +67,8 @@ fn is_plain(m: &Meta, d: DiskNo) -> bool
     d < m.gear && m.fill == 0
 }
 
-/// The one cell of a row that is given new bytes, where neither it nor the parity has a copy, and the new parity is
-/// needed and is made of the old one.
+/// The one cell of a row that is given new bytes, where neither it nor the parity has a copy, and
+/// the new parity is needed and is made of the old one.
 pub(crate) fn alone(
     m: &Meta,
     given: &[Option<u8>; 8],
@@ -97,7 +99,8 @@ fn xor_both(to: &mut Block, one: &Block, other: &Block)
     }
 }
 
-/// Makes the new parity of a row, which is needed, of its old one, and of the old and the new bytes of one cell.
+/// Makes the new parity of a row, which is needed, of its old one, and of the old and the new bytes
+/// of one cell.
 pub(crate) fn read_alone<P: WritePlan>(
     plan: &mut P,
     m: &Meta,
@@ -114,9 +117,11 @@ pub(crate) fn read_alone<P: WritePlan>(
     requires parity_disk { p < m.now.setup.geometry.disks }
     requires few { one.at < 8 }
     requires needed { needs_new_in (sees m.now (P.desk plan.old)) r p ≡ true }
-    ensures sum { OnOk result (P.tells plan.new → sum.new ≡ xor (value_of (sees m.now (P.desk plan.old)) r one.disk)
-        (xor (value_of (sees m.now (P.desk plan.old)) r p) (get_or pairs.now.bytes one.at zero_block))) }
-    ensures reads { Leaves P.WritePlan (StaysAsWas P.WritePlan m.now plan.old plan.new) plan.old plan.new result }
+    ensures sum { OnOk result (P.tells plan.new
+        → sum.new ≡ xor (value_of (sees m.now (P.desk plan.old)) r one.disk) (xor
+        (value_of (sees m.now (P.desk plan.old)) r p) (get_or pairs.now.bytes one.at zero_block))) }
+    ensures reads { Leaves P.WritePlan
+        (StaysAsWas P.WritePlan m.now plan.old plan.new) plan.old plan.new result }
 {
     plan.value(m, r, one.disk, sum)?;
     let mut parity = Block::zero();

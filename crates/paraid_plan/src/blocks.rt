@@ -40,7 +40,8 @@ pub(crate) fn keep_if(needed: bool, kept: &mut [Option<Block>], at: DiskNo, bloc
     requires { needed ≡ true → at < length kept.old }
     ensures length { length kept.new ≡ length kept.old }
     ensures here { needed ≡ true → IsOldOf kept.new at block.now }
-    ensures others { (x : ℕ) (b : BlockType) → x ≢ at → IsOldOf kept.old x b → IsOldOf kept.new x b }
+    ensures others { (x : ℕ) (b : BlockType)
+        → x ≢ at → IsOldOf kept.old x b → IsOldOf kept.new x b }
 {
     if needed {
         kept[at as usize] = Some(block.copy());

@@ -122,11 +122,13 @@ fn read_parity<P: WritePlan>(
     requires row { r < m.now.setup.geometry.rows }
     requires disk { d < m.now.setup.geometry.disks }
     requires parked { m.now.gear ≤ d }
-    ensures ok { OnOk result (P.tells plan.new →
-        let s = soft_stripe m.now.setup.geometry.disks m.now.gear r d in
-        written_in m.now.out (soft_parity_disk m.now.gear s) (m.now.setup.geometry.rows + s) ≡ true
-        → into.new ≡ xor (xor (stripe_block_now (sees m.now (P.desk plan.old)) s (soft_parity_disk m.now.gear s)) old.now) new.now) }
-    ensures reads { Leaves P.WritePlan (StaysAsWas P.WritePlan m.now plan.old plan.new) plan.old plan.new result }
+    ensures ok { OnOk result (P.tells plan.new
+        → let s = soft_stripe m.now.setup.geometry.disks m.now.gear r d in written_in m.now.out
+        (soft_parity_disk m.now.gear s) (m.now.setup.geometry.rows + s) ≡ true
+        → into.new ≡ xor (xor (stripe_block_now
+        (sees m.now (P.desk plan.old)) s (soft_parity_disk m.now.gear s)) old.now) new.now) }
+    ensures reads { Leaves P.WritePlan
+        (StaysAsWas P.WritePlan m.now plan.old plan.new) plan.old plan.new result }
 {
     let (s, _copy) = soft_of(&m.setup.geometry, m.gear, r, d);
     let parity = soft_parity(&m.setup.geometry, m.gear, s);
@@ -155,11 +157,13 @@ fn read_place<P: WritePlan>(
     requires row { r < m.now.setup.geometry.rows }
     requires disk { d < m.now.setup.geometry.disks }
     requires parked { hard ≡ false → m.now.gear ≤ d }
-    ensures ok { OnOk result (P.tells plan.new →
-        let s = soft_stripe m.now.setup.geometry.disks m.now.gear r d in hard ≡ false
-        → written_in m.now.out (soft_parity_disk m.now.gear s) (m.now.setup.geometry.rows + s) ≡ true
-        → into.new ≡ xor (xor (stripe_block_now (sees m.now (P.desk plan.old)) s (soft_parity_disk m.now.gear s)) old.now) new.now) }
-    ensures reads { Leaves P.WritePlan (StaysAsWas P.WritePlan m.now plan.old plan.new) plan.old plan.new result }
+    ensures ok { OnOk result (P.tells plan.new
+        → let s = soft_stripe m.now.setup.geometry.disks m.now.gear r d in hard ≡ false
+        → written_in m.now.out (soft_parity_disk m.now.gear s) (m.now.setup.geometry.rows + s)
+        ≡ true → into.new ≡ xor (xor (stripe_block_now
+        (sees m.now (P.desk plan.old)) s (soft_parity_disk m.now.gear s)) old.now) new.now) }
+    ensures reads { Leaves P.WritePlan
+        (StaysAsWas P.WritePlan m.now plan.old plan.new) plan.old plan.new result }
 {
     if hard {
         return Ok(());
@@ -183,11 +187,12 @@ fn read_copy<P: WritePlan>(
     requires row { r < m.now.setup.geometry.rows }
     requires disk { d < m.now.setup.geometry.disks }
     requires filled { filled ≡ filled_in m.now r d }
-    ensures ok { OnOk result (P.tells plan.new →
-        let to = phase_to_of m.now.phase in
-        let s = soft_stripe m.now.setup.geometry.disks to r d in filled ≡ true
-        → into.new ≡ xor (xor ((P.desk plan.old).block (soft_parity_disk to s) (soft_place_of m.now.setup.geometry to s)) old.now) new.now) }
-    ensures reads { Leaves P.WritePlan (StaysAsWas P.WritePlan m.now plan.old plan.new) plan.old plan.new result }
+    ensures ok { OnOk result (P.tells plan.new
+        → let to = phase_to_of m.now.phase in let s = soft_stripe m.now.setup.geometry.disks
+        to r d in filled ≡ true → into.new ≡ xor (xor ((P.desk plan.old).block
+        (soft_parity_disk to s) (soft_place_of m.now.setup.geometry to s)) old.now) new.now) }
+    ensures reads { Leaves P.WritePlan
+        (StaysAsWas P.WritePlan m.now plan.old plan.new) plan.old plan.new result }
 {
     if !filled {
         return Ok(());
@@ -210,7 +215,8 @@ pub(crate) fn stage_if<P: WritePlan>(
     block: &Block,
 )
     requires room { length (P.desk plan.old).staged < 80 }
-    ensures desk { P.desk plan.new ≡ with_targets (P.desk plan.old) (target_if written disk place block.now) }
+    ensures desk { P.desk plan.new
+        ≡ with_targets (P.desk plan.old) (target_if written disk place block.now) }
     ensures room { length (P.desk plan.new).staged ≤ length (P.desk plan.old).staged + 1 }
     ensures changes { P.changes plan.new ≡ P.changes plan.old }
     ensures goes_on { (n : MetaType) → P.serves plan.old n → P.serves plan.new n }
@@ -236,7 +242,8 @@ fn stage_place<P: WritePlan>(
     requires disk { d < m.now.setup.geometry.disks }
     requires parked { hard ≡ false → m.now.gear ≤ d }
     requires room { length (P.desk plan.old).staged + 2 ≤ 80 }
-    ensures desk { P.desk plan.new ≡ with_targets (P.desk plan.old) (place_targets m.now hard r d new.now parity_block.now) }
+    ensures desk { P.desk plan.new
+        ≡ with_targets (P.desk plan.old) (place_targets m.now hard r d new.now parity_block.now) }
     ensures room { length (P.desk plan.new).staged ≤ length (P.desk plan.old).staged + 2 }
     ensures changes { P.changes plan.new ≡ P.changes plan.old }
     ensures goes_on { (n : MetaType) → P.serves plan.old n → P.serves plan.new n }
@@ -275,7 +282,8 @@ fn stage_copy<P: WritePlan>(
     requires disk { d < m.now.setup.geometry.disks }
     requires filled { filled ≡ filled_in m.now r d }
     requires room { length (P.desk plan.old).staged + 2 ≤ 80 }
-    ensures desk { P.desk plan.new ≡ with_targets (P.desk plan.old) (copy_targets m.now filled r d new.now parity_block.now) }
+    ensures desk { P.desk plan.new
+        ≡ with_targets (P.desk plan.old) (copy_targets m.now filled r d new.now parity_block.now) }
     ensures room { length (P.desk plan.new).staged ≤ length (P.desk plan.old).staged + 2 }
     ensures changes { P.changes plan.new ≡ P.changes plan.old }
     ensures goes_on { (n : MetaType) → P.serves plan.old n → P.serves plan.new n }
@@ -314,9 +322,12 @@ fn write_copies<P: WritePlan>(
     requires filled { filled ≡ filled_in m.now r d }
     requires room { length (P.desk plan.old).staged + 4 ≤ 80 }
     requires few { P.changes plan.old < 16 }
-    ensures desk { OnOk result (P.tells plan.new → P.desk plan.new ≡ cell_desk m.now (P.desk plan.old) r d old.now new.now) }
-    ensures bits { OnOk result ((P.desk plan.new).dirty ≡ bits_after_cell m.now r d (P.desk plan.old).dirty) }
-    ensures room { OnOk result (length (P.desk plan.new).staged ≤ length (P.desk plan.old).staged + 4) }
+    ensures desk { OnOk result (P.tells plan.new
+        → P.desk plan.new ≡ cell_desk m.now (P.desk plan.old) r d old.now new.now) }
+    ensures bits { OnOk result
+        ((P.desk plan.new).dirty ≡ bits_after_cell m.now r d (P.desk plan.old).dirty) }
+    ensures room { OnOk result
+        (length (P.desk plan.new).staged ≤ length (P.desk plan.old).staged + 4) }
     ensures changes { OnOk result (P.changes plan.new ≡ P.changes plan.old + 1) }
     ensures goes_on { OnOk result (P.serves plan.new m.now) }
     ensures fails { IfErr result (λ lost. P.fails plan.new) }
@@ -348,9 +359,12 @@ pub fn write_cell<P: WritePlan>(
     requires disk { d < m.now.setup.geometry.disks }
     requires room { length (P.desk plan.old).staged + 4 ≤ 80 }
     requires few { P.changes plan.old < 16 }
-    ensures desk { OnOk result (P.tells plan.new → P.desk plan.new ≡ cell_desk m.now (P.desk plan.old) r d old.now new.now) }
-    ensures bits { OnOk result ((P.desk plan.new).dirty ≡ bits_after_cell m.now r d (P.desk plan.old).dirty) }
-    ensures room { OnOk result (length (P.desk plan.new).staged ≤ length (P.desk plan.old).staged + 4) }
+    ensures desk { OnOk result (P.tells plan.new
+        → P.desk plan.new ≡ cell_desk m.now (P.desk plan.old) r d old.now new.now) }
+    ensures bits { OnOk result
+        ((P.desk plan.new).dirty ≡ bits_after_cell m.now r d (P.desk plan.old).dirty) }
+    ensures room { OnOk result
+        (length (P.desk plan.new).staged ≤ length (P.desk plan.old).staged + 4) }
     ensures changes { OnOk result (P.changes plan.new ≡ P.changes plan.old + 1) }
     ensures goes_on { OnOk result (P.serves plan.new m.now) }
     ensures fails { IfErr result (λ lost. P.fails plan.new) }

@@ -45,7 +45,8 @@ pub trait WritePlan {
         requires in_range { IsInRange m.now }
         requires row { r < m.now.setup.geometry.rows }
         requires disk { d < m.now.setup.geometry.disks }
-        ensures ok { OnOk result (tells self.new → into.new ≡ value_of (sees m.now (desk self.old)) r d) }
+        ensures ok { OnOk result (tells self.new
+            → into.new ≡ value_of (sees m.now (desk self.old)) r d) }
         ensures same { OnOk result (tells self.new → desk self.new ≡ desk self.old) }
         ensures bits { OnOk result ((desk self.new).dirty ≡ (desk self.old).dirty) }
         ensures staged { OnOk result
@@ -61,7 +62,8 @@ pub trait WritePlan {
         requires in_range { IsInRange m.now }
         requires stripe { s < soft_count m.now }
         requires disk { e < m.now.gear }
-        ensures ok { OnOk result (tells self.new → into.new ≡ stripe_block_now (sees m.now (desk self.old)) s e) }
+        ensures ok { OnOk result (tells self.new
+            → into.new ≡ stripe_block_now (sees m.now (desk self.old)) s e) }
         ensures same { OnOk result (tells self.new → desk self.new ≡ desk self.old) }
         ensures bits { OnOk result ((desk self.new).dirty ≡ (desk self.old).dirty) }
         ensures staged { OnOk result
@@ -112,7 +114,8 @@ pub trait WritePlan {
     /// Stages a block.
     fn stage(&mut self, disk: DiskNo, place: Place, block: &Block)
         requires room { length (desk self.old).staged < 80 }
-        ensures desk { desk self.new ≡ with_targets (desk self.old) (target_if true disk place block.now) }
+        ensures desk { desk self.new
+            ≡ with_targets (desk self.old) (target_if true disk place block.now) }
         ensures changes { changes self.new ≡ changes self.old }
         ensures goes_on { (m : MetaType) → serves self.old m → serves self.new m }
         ensures leads { leads self.old self.new };

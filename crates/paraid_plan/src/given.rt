@@ -25,7 +25,8 @@ fn set_given(given: &mut [Option<u8>; 8], d: DiskNo, at: u8)
 fn give(g: &Geometry, pairs: &Pairs, at: u8, r: Row, given: &mut [Option<u8>; 8])
     requires at { at < pairs.now.count }
     requires block { get_or pairs.now.blocks at 0 < g.now.rows * (g.now.disks - 1) }
-    requires before { AreGivenBy pairs.now.bytes g.now.disks (pairs_before pairs.now at) r given.old }
+    requires before { AreGivenBy pairs.now.bytes g.now.disks
+        (pairs_before pairs.now at) r given.old }
     ensures { AreGivenBy pairs.now.bytes g.now.disks (pairs_before pairs.now (at + 1)) r given.new }
 {
     let (q, d) = home(g, pairs.blocks[at as usize]);
@@ -37,7 +38,8 @@ fn give(g: &Geometry, pairs: &Pairs, at: u8, r: Row, given: &mut [Option<u8>; 8]
 
 /// The last pair that gives each cell of a row new bytes; none gives any to the row's parity.
 pub(crate) fn given_cells(g: &Geometry, pairs: &Pairs, r: Row) -> [Option<u8>; 8]
-    requires blocks { All (λ (pair : ℕ × BlockType). pair.0 < g.now.rows * (g.now.disks - 1)) (pairs_of pairs.now) }
+    requires blocks { All (λ (pair : ℕ × BlockType).
+        pair.0 < g.now.rows * (g.now.disks - 1)) (pairs_of pairs.now) }
     ensures { AreGivenBy pairs.now.bytes g.now.disks (pairs_of pairs.now) r result }
 {
     let mut given = [None; 8];
@@ -87,7 +89,8 @@ fn either(first: bool, second: bool) -> bool
 /// Whether one of the pairs before this one lies in a row.
 pub(crate) fn is_row_before(g: &Geometry, pairs: &Pairs, at: usize, r: Row) -> bool
     requires at { at < pairs.now.count }
-    requires blocks { All (λ (pair : ℕ × BlockType). pair.0 < g.now.rows * (g.now.disks - 1)) (pairs_of pairs.now) }
+    requires blocks { All (λ (pair : ℕ × BlockType).
+        pair.0 < g.now.rows * (g.now.disks - 1)) (pairs_of pairs.now) }
     ensures { result ≡ names_row g.now.disks (pairs_before pairs.now at) r }
 {
     let mut found = false;

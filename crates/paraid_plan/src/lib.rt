@@ -1,8 +1,8 @@
 //! What writes, copies and marks make of what the disks store, in every gear, phase and state of a
 //! rebuild: the disks are kept well, and hold the blocks that they should.
 //!
-//! `write_blocks` plans a write over anything that can be read and staged to, a `WritePlan`. The laws
-//! speak of no history: which blocks are held before and after is all that they say.
+//! `write_blocks` plans a write over anything that can be read and staged to, a `WritePlan`. The
+//! laws speak of no history: which blocks are held before and after is all that they say.
 #![tactic(auto)]
 
 mod alone;

@@ -65,7 +65,8 @@ fn add_part(
 )
     requires disk { d < 8 }
     requires few { (at : ℕ) → get_or given.now d None ≡ Some at → at < 8 }
-    ensures { (n r : ℕ) (row : ℕ → Block) → d < n → AreGivenBy pairs.now.bytes n (pairs_of pairs.now) r given.now
+    ensures { (n r : ℕ) (row : ℕ → Block)
+        → d < n → AreGivenBy pairs.now.bytes n (pairs_of pairs.now) r given.now
         → changed ≡ changed_in n (pairs_of pairs.now) r d
         → ((if anew then not changed else changed) ≡ true → value.now ≡ row d)
         → sum.new ≡ xor sum.old (parity_part n (pairs_of pairs.now) r row anew d) }
@@ -74,8 +75,8 @@ fn add_part(
     add_given(pairs, given, d, sum);
 }
 
-// Reads the old value of a cell, keeps it where that is asked, and adds to the parity what the cell brings to it. It is
-// apart from the test whether a cell is read, since most are not.
+// Reads the old value of a cell, keeps it where that is asked, and adds to the parity what the cell
+// brings to it. It is apart from the test whether a cell is read, since most are not.
 #[inline(never)]
 fn read_wanted<P: WritePlan>(
     plan: &mut P,
@@ -95,16 +96,19 @@ fn read_wanted<P: WritePlan>(
     requires in_range { IsInRange m.now }
     requires row { r < m.now.setup.geometry.rows }
     requires disk { d < m.now.setup.geometry.disks }
-    requires given { AreGivenBy pairs.now.bytes m.now.setup.geometry.disks (pairs_of pairs.now) r given.now }
+    requires given { AreGivenBy pairs.now.bytes m.now.setup.geometry.disks
+        (pairs_of pairs.now) r given.now }
     requires changed { changed ≡ changed_in m.now.setup.geometry.disks (pairs_of pairs.now) r d }
     requires kept { keeps ≡ true → d < length old.old }
     ensures here { OnOk result (P.tells plan.new → keeps ≡ true
         → IsOldOf old.new d (value_of (sees m.now (P.desk plan.old)) r d)) }
     ensures others { (x : ℕ) (b : BlockType) → x ≢ d → IsOldOf old.old x b → IsOldOf old.new x b }
-    ensures sum { OnOk result (P.tells plan.new → sum.new ≡ xor sum.old
-        (parity_part m.now.setup.geometry.disks (pairs_of pairs.now) r (value_of (sees m.now (P.desk plan.old)) r) anew d)) }
+    ensures sum { OnOk result (P.tells plan.new
+        → sum.new ≡ xor sum.old (parity_part m.now.setup.geometry.disks
+        (pairs_of pairs.now) r (value_of (sees m.now (P.desk plan.old)) r) anew d)) }
     ensures kept { OnOk result (length old.new ≡ length old.old) }
-    ensures reads { Leaves P.WritePlan (StaysAsWas P.WritePlan m.now plan.old plan.new) plan.old plan.new result }
+    ensures reads { Leaves P.WritePlan
+        (StaysAsWas P.WritePlan m.now plan.old plan.new) plan.old plan.new result }
 {
     plan.value(m, r, d, into)?;
     keep_if(keeps, old, d, into);
@@ -112,8 +116,9 @@ fn read_wanted<P: WritePlan>(
     Ok(())
 }
 
-// Reads the old value of a cell, where what is staged of it or the new parity depends on it, and adds
-// to the parity what the cell brings to it. What is read goes into a block that many cells can share.
+// Reads the old value of a cell, where what is staged of it or the new parity depends on it, and
+// adds to the parity what the cell brings to it. What is read goes into a block that many cells can
+// share.
 fn read_cell<P: WritePlan>(
     plan: &mut P,
     m: &Meta,
@@ -133,16 +138,20 @@ fn read_cell<P: WritePlan>(
     requires row { r < m.now.setup.geometry.rows }
     requires disk { d < m.now.setup.geometry.disks }
     requires parity { p ≡ parity_disk_of m.now.setup.geometry.disks r }
-    requires given { AreGivenBy pairs.now.bytes m.now.setup.geometry.disks (pairs_of pairs.now) r given.now }
+    requires given { AreGivenBy pairs.now.bytes m.now.setup.geometry.disks
+        (pairs_of pairs.now) r given.now }
     requires kept { HasRoom m.now old.old }
-    ensures here { OnOk result (P.tells plan.new → changed_in m.now.setup.geometry.disks (pairs_of pairs.now) r d ≡ true
+    ensures here { OnOk result (P.tells plan.new
+        → changed_in m.now.setup.geometry.disks (pairs_of pairs.now) r d ≡ true
         → needs_old_in (sees m.now (P.desk plan.old)) r d ≡ true
         → IsOldOf old.new d (value_of (sees m.now (P.desk plan.old)) r d)) }
     ensures others { (x : ℕ) (b : BlockType) → x ≢ d → IsOldOf old.old x b → IsOldOf old.new x b }
-    ensures sum { OnOk result (P.tells plan.new → needed ≡ true → sum.new ≡ xor sum.old
-        (parity_part m.now.setup.geometry.disks (pairs_of pairs.now) r (value_of (sees m.now (P.desk plan.old)) r) anew d)) }
+    ensures sum { OnOk result (P.tells plan.new
+        → needed ≡ true → sum.new ≡ xor sum.old (parity_part m.now.setup.geometry.disks
+        (pairs_of pairs.now) r (value_of (sees m.now (P.desk plan.old)) r) anew d)) }
     ensures kept { OnOk result (length old.new ≡ length old.old) }
-    ensures reads { Leaves P.WritePlan (StaysAsWas P.WritePlan m.now plan.old plan.new) plan.old plan.new result }
+    ensures reads { Leaves P.WritePlan
+        (StaysAsWas P.WritePlan m.now plan.old plan.new) plan.old plan.new result }
 {
     let changed = is_changed(given, p, d);
     let depends = needs_old(plan, m, r, d);
@@ -178,19 +187,22 @@ fn read_data<P: WritePlan>(
     requires row { r < m.now.setup.geometry.rows }
     requires disk { d < m.now.setup.geometry.disks }
     requires parity { p ≡ parity_disk_of m.now.setup.geometry.disks r }
-    requires given { AreGivenBy pairs.now.bytes m.now.setup.geometry.disks (pairs_of pairs.now) r given.now }
+    requires given { AreGivenBy pairs.now.bytes m.now.setup.geometry.disks
+        (pairs_of pairs.now) r given.now }
     requires kept { HasRoom m.now old.old }
     ensures here { OnOk result (P.tells plan.new → d ≢ parity_disk_of m.now.setup.geometry.disks r
         → changed_in m.now.setup.geometry.disks (pairs_of pairs.now) r d ≡ true
         → needs_old_in (sees m.now (P.desk plan.old)) r d ≡ true
         → IsOldOf old.new d (value_of (sees m.now (P.desk plan.old)) r d)) }
     ensures others { (x : ℕ) (b : BlockType) → x ≢ d → IsOldOf old.old x b → IsOldOf old.new x b }
-    ensures sum { OnOk result (P.tells plan.new → needed ≡ true →
-        let n = m.now.setup.geometry.disks in
-        let part = parity_part n (pairs_of pairs.now) r (value_of (sees m.now (P.desk plan.old)) r) anew in
-        sum.old ≡ xor_upto (without part (parity_disk_of n r)) d → sum.new ≡ xor_upto (without part (parity_disk_of n r)) (d + 1)) }
+    ensures sum { OnOk result (P.tells plan.new
+        → needed ≡ true → let n = m.now.setup.geometry.disks in let part = parity_part n
+        (pairs_of pairs.now) r (value_of (sees m.now (P.desk plan.old)) r) anew in sum.old
+        ≡ xor_upto (without part (parity_disk_of n r)) d
+        → sum.new ≡ xor_upto (without part (parity_disk_of n r)) (d + 1)) }
     ensures kept { OnOk result (length old.new ≡ length old.old) }
-    ensures reads { Leaves P.WritePlan (StaysAsWas P.WritePlan m.now plan.old plan.new) plan.old plan.new result }
+    ensures reads { Leaves P.WritePlan
+        (StaysAsWas P.WritePlan m.now plan.old plan.new) plan.old plan.new result }
 {
     if d == p {
         return Ok(());
@@ -218,15 +230,17 @@ fn read_cells<P: WritePlan>(
     requires parity_disk { p < m.now.setup.geometry.disks }
     requires empty { sum.old ≡ zero_block }
     requires parity { p ≡ parity_disk_of m.now.setup.geometry.disks r }
-    requires given { AreGivenBy pairs.now.bytes m.now.setup.geometry.disks (pairs_of pairs.now) r given.now }
+    requires given { AreGivenBy pairs.now.bytes m.now.setup.geometry.disks
+        (pairs_of pairs.now) r given.now }
     requires kept { HasRoom m.now old.old }
-    ensures old { OnOk result (P.tells plan.new
-        → AreOldRead m.now (P.desk plan.old) (pairs_of pairs.now) r old.new (value_of (sees m.now (P.desk plan.old)) r)) }
-    ensures sum { OnOk result (P.tells plan.new → needed ≡ true →
-        let n = m.now.setup.geometry.disks in
-        sum.new ≡ xor_upto (parity_part n (pairs_of pairs.now) r (value_of (sees m.now (P.desk plan.old)) r) anew) n) }
+    ensures old { OnOk result (P.tells plan.new → AreOldRead m.now (P.desk plan.old)
+        (pairs_of pairs.now) r old.new (value_of (sees m.now (P.desk plan.old)) r)) }
+    ensures sum { OnOk result (P.tells plan.new
+        → needed ≡ true → let n = m.now.setup.geometry.disks in sum.new ≡ xor_upto
+        (parity_part n (pairs_of pairs.now) r (value_of (sees m.now (P.desk plan.old)) r) anew) n) }
     ensures kept { OnOk result (length old.new ≡ length old.old) }
-    ensures reads { Leaves P.WritePlan (StaysAsWas P.WritePlan m.now plan.old plan.new) plan.old plan.new result }
+    ensures reads { Leaves P.WritePlan
+        (StaysAsWas P.WritePlan m.now plan.old plan.new) plan.old plan.new result }
 {
     let mut value = Block::zero();
     for d in 0..m.setup.geometry.disks {
@@ -239,8 +253,8 @@ fn read_cells<P: WritePlan>(
     )
 }
 
-/// Makes the new parity of a row, by whichever rule reads less, and reads the old values of the cells
-/// that change on which more than that depends.
+/// Makes the new parity of a row, by whichever rule reads less, and reads the old values of the
+/// cells that change on which more than that depends.
 pub(crate) fn read_row<P: WritePlan>(
     plan: &mut P,
     m: &Meta,
@@ -257,16 +271,18 @@ pub(crate) fn read_row<P: WritePlan>(
     requires parity_disk { p < m.now.setup.geometry.disks }
     requires empty { fixed.old ≡ zero_block }
     requires parity { p ≡ parity_disk_of m.now.setup.geometry.disks r }
-    requires given { AreGivenBy pairs.now.bytes m.now.setup.geometry.disks (pairs_of pairs.now) r given.now }
+    requires given { AreGivenBy pairs.now.bytes m.now.setup.geometry.disks
+        (pairs_of pairs.now) r given.now }
     requires kept { HasRoom m.now old.old }
-    ensures old { OnOk result (P.tells plan.new
-        → AreOldRead m.now (P.desk plan.old) (pairs_of pairs.now) r old.new (value_of (sees m.now (P.desk plan.old)) r)) }
-    ensures fixed { OnOk result (P.tells plan.new
-        → needs_new_in (sees m.now (P.desk plan.old)) r p ≡ true
-        → xor_upto (value_of (sees m.now (P.desk plan.old)) r) m.now.setup.geometry.disks ≡ zero_block
-        → fixed.new ≡ new_parity m.now.setup.geometry.disks (pairs_of pairs.now) r (value_of (sees m.now (P.desk plan.old)) r)) }
+    ensures old { OnOk result (P.tells plan.new → AreOldRead m.now (P.desk plan.old)
+        (pairs_of pairs.now) r old.new (value_of (sees m.now (P.desk plan.old)) r)) }
+    ensures fixed { OnOk result (P.tells plan.new → needs_new_in (sees m.now (P.desk plan.old)) r p
+        ≡ true → xor_upto (value_of (sees m.now (P.desk plan.old)) r) m.now.setup.geometry.disks
+        ≡ zero_block → fixed.new ≡ new_parity m.now.setup.geometry.disks
+        (pairs_of pairs.now) r (value_of (sees m.now (P.desk plan.old)) r)) }
     ensures kept { OnOk result (length old.new ≡ length old.old) }
-    ensures reads { Leaves P.WritePlan (StaysAsWas P.WritePlan m.now plan.old plan.new) plan.old plan.new result }
+    ensures reads { Leaves P.WritePlan
+        (StaysAsWas P.WritePlan m.now plan.old plan.new) plan.old plan.new result }
 {
     let needed = needs_new(plan, m, r, p);
     let anew = is_made_anew(plan, m, given, r, p);

@@ -74,8 +74,8 @@ fn is_anew_in_any_gear<P: WritePlan>(
     rest < old
 }
 
-// The same where each cell has its value in its hard place and no disk is out: all are at one place of the disks. They
-// are counted without a branch, since no processor can guess which are staged.
+// The same where each cell has its value in its hard place and no disk is out: all are at one place
+// of the disks. They are counted without a branch, since no processor can guess which are staged.
 fn is_anew_in_place<P: WritePlan>(
     plan: &P,
     m: &Meta,
@@ -97,8 +97,8 @@ fn is_anew_in_place<P: WritePlan>(
     rest < old
 }
 
-/// Whether the new parity of a row is made of the values of its cells that do not change, and not of
-/// the old values of those that do: where that reads less.
+/// Whether the new parity of a row is made of the values of its cells that do not change, and not
+/// of the old values of those that do: where that reads less.
 pub(crate) fn is_made_anew<P: WritePlan>(
     plan: &P,
     m: &Meta,

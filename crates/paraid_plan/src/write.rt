@@ -1,5 +1,5 @@
-//! The write of up to eight blocks, in any gear and phase and whichever disk is out: row by row, each
-//! with one new parity, and at most ten targets for each block.
+//! The write of up to eight blocks, in any gear and phase and whichever disk is out: row by row,
+//! each with one new parity, and at most ten targets for each block.
 ghost use Rattle.std.specs.Prelude.{◌≡◌, ◌≢◌, ℕ, ◌+◌, ◌-◌, ◌*◌, ◌/◌, ◌<◌, ◌≤◌, ◌==◌, ◌&&◌, ◌∷◌, [], true, false, length, get_or, All, OnOk, IfErr, if◌then◌else◌};
 ghost use Rattle.paraid_base.specs.declared.block.Block.{Block as BlockType};
 ghost use Rattle.paraid_base.specs.Cells.{home_row};
@@ -63,8 +63,8 @@ fn has_changed<P: WritePlan>(plan: &P, m: &Meta, r: Row, was: u8) -> bool
     is_other(plan.dirty_row(m, r), was)
 }
 
-// Writes the cell of one pair, unless it lies in another row; its new bytes are the old ones of what
-// follows.
+// Writes the cell of one pair, unless it lies in another row; its new bytes are the old ones of
+// what follows.
 fn write_pair<P: WritePlan>(
     plan: &mut P,
     m: &Meta,
@@ -78,13 +78,16 @@ fn write_pair<P: WritePlan>(
     requires row { r < m.now.setup.geometry.rows }
     requires at { at < pairs.now.count }
     requires kept { HasRoom m.now old.old }
-    requires block { get_or pairs.now.blocks at 0 < m.now.setup.geometry.rows * (m.now.setup.geometry.disks - 1) }
+    requires block { get_or pairs.now.blocks at 0
+        < m.now.setup.geometry.rows * (m.now.setup.geometry.disks - 1) }
     requires room { length (P.desk plan.old).staged
         + 4 * one_in_row m.now.setup.geometry.disks (get_or pairs.now.blocks at 0) r ≤ 80 }
     requires bits { P.changes plan.old
         + one_in_row m.now.setup.geometry.disks (get_or pairs.now.blocks at 0) r ≤ 16 }
-    ensures { Leaves P.WritePlan (WritesCells P.WritePlan m.now (pairs_of pairs.now) ((get_or pairs.now.blocks at 0, get_or pairs.now.bytes at zero_block) ∷ []) r
-        (one_in_row m.now.setup.geometry.disks (get_or pairs.now.blocks at 0) r) old.old old.new plan.old plan.new) plan.old plan.new result }
+    ensures { Leaves P.WritePlan (WritesCells P.WritePlan m.now (pairs_of pairs.now)
+        ((get_or pairs.now.blocks at 0, get_or pairs.now.bytes at zero_block) ∷ []) r
+        (one_in_row m.now.setup.geometry.disks (get_or pairs.now.blocks at 0) r)
+        old.old old.new plan.old plan.new) plan.old plan.new result }
 {
     let (q, d) = home(&m.setup.geometry, pairs.blocks[at]);
     if q != r {
@@ -109,12 +112,15 @@ fn write_pairs<P: WritePlan>(
     requires in_range { IsInRange m.now }
     requires row { r < m.now.setup.geometry.rows }
     requires kept { HasRoom m.now old.old }
-    requires blocks { All (λ (pair : ℕ × BlockType). pair.0 < m.now.setup.geometry.rows * (m.now.setup.geometry.disks - 1)) (pairs_of pairs.now) }
+    requires blocks { All (λ (pair : ℕ × BlockType). pair.0
+        < m.now.setup.geometry.rows * (m.now.setup.geometry.disks - 1)) (pairs_of pairs.now) }
     requires room { length (P.desk plan.old).staged
         + 4 * count_in_row m.now.setup.geometry.disks (pairs_of pairs.now) r ≤ 80 }
-    requires bits { P.changes plan.old + count_in_row m.now.setup.geometry.disks (pairs_of pairs.now) r ≤ 16 }
-    ensures { Leaves P.WritePlan (WritesCells P.WritePlan m.now (pairs_of pairs.now) (pairs_of pairs.now) r
-        (count_in_row m.now.setup.geometry.disks (pairs_of pairs.now) r) old.old old.new plan.old plan.new) plan.old plan.new result }
+    requires bits { P.changes plan.old
+        + count_in_row m.now.setup.geometry.disks (pairs_of pairs.now) r ≤ 16 }
+    ensures { Leaves P.WritePlan (WritesCells P.WritePlan m.now (pairs_of pairs.now)
+        (pairs_of pairs.now) r (count_in_row m.now.setup.geometry.disks (pairs_of pairs.now) r)
+        old.old old.new plan.old plan.new) plan.old plan.new result }
 {
     for at in 0..pairs.count as usize {
         write_pair(plan, m, pairs, at, r, old)?;
@@ -134,15 +140,18 @@ fn write_row_in<P: WritePlan>(
     requires serves { P.serves plan.old m.now }
     requires in_range { IsInRange m.now }
     requires row { r < m.now.setup.geometry.rows }
-    requires blocks { All (λ (pair : ℕ × BlockType). pair.0 < m.now.setup.geometry.rows * (m.now.setup.geometry.disks - 1)) (pairs_of pairs.now) }
+    requires blocks { All (λ (pair : ℕ × BlockType). pair.0
+        < m.now.setup.geometry.rows * (m.now.setup.geometry.disks - 1)) (pairs_of pairs.now) }
     requires kept { HasRoom m.now old.old }
     requires some { 1 ≤ count_in_row m.now.setup.geometry.disks (pairs_of pairs.now) r }
     requires room { length (P.desk plan.old).staged
         + 10 * count_in_row m.now.setup.geometry.disks (pairs_of pairs.now) r ≤ 80 }
-    requires bits { P.changes plan.old + 2 * count_in_row m.now.setup.geometry.disks (pairs_of pairs.now) r ≤ 16 }
-    ensures { Leaves P.WritePlan (WritesRow P.WritePlan m.now (count_in_row m.now.setup.geometry.disks (pairs_of pairs.now) r)
-        (λ c x. if home_row m.now.setup.geometry.disks c == r then last_of c x (pairs_of pairs.now) else x)
-        (λ q e. q == r && turns_cell_of m.now.setup.geometry.disks (pairs_of pairs.now) r e)
+    requires bits { P.changes plan.old
+        + 2 * count_in_row m.now.setup.geometry.disks (pairs_of pairs.now) r ≤ 16 }
+    ensures { Leaves P.WritePlan (WritesRow P.WritePlan m.now
+        (count_in_row m.now.setup.geometry.disks (pairs_of pairs.now) r) (λ c x.
+        if home_row m.now.setup.geometry.disks c == r then last_of c x (pairs_of pairs.now)
+        else x) (λ q e. q == r && turns_cell_of m.now.setup.geometry.disks (pairs_of pairs.now) r e)
         plan.old plan.new) plan.old plan.new result }
 {
     let p = parity_disk(&m.setup.geometry, r);
@@ -162,14 +171,17 @@ fn write_row<P: WritePlan>(plan: &mut P, m: &Meta, pairs: &Pairs, r: Row) -> Res
     requires serves { P.serves plan.old m.now }
     requires in_range { IsInRange m.now }
     requires row { r < m.now.setup.geometry.rows }
-    requires blocks { All (λ (pair : ℕ × BlockType). pair.0 < m.now.setup.geometry.rows * (m.now.setup.geometry.disks - 1)) (pairs_of pairs.now) }
+    requires blocks { All (λ (pair : ℕ × BlockType). pair.0
+        < m.now.setup.geometry.rows * (m.now.setup.geometry.disks - 1)) (pairs_of pairs.now) }
     requires some { 1 ≤ count_in_row m.now.setup.geometry.disks (pairs_of pairs.now) r }
     requires room { length (P.desk plan.old).staged
         + 10 * count_in_row m.now.setup.geometry.disks (pairs_of pairs.now) r ≤ 80 }
-    requires bits { P.changes plan.old + 2 * count_in_row m.now.setup.geometry.disks (pairs_of pairs.now) r ≤ 16 }
-    ensures { Leaves P.WritePlan (WritesRow P.WritePlan m.now (count_in_row m.now.setup.geometry.disks (pairs_of pairs.now) r)
-        (λ c x. if home_row m.now.setup.geometry.disks c == r then last_of c x (pairs_of pairs.now) else x)
-        (λ q e. q == r && turns_cell_of m.now.setup.geometry.disks (pairs_of pairs.now) r e)
+    requires bits { P.changes plan.old
+        + 2 * count_in_row m.now.setup.geometry.disks (pairs_of pairs.now) r ≤ 16 }
+    ensures { Leaves P.WritePlan (WritesRow P.WritePlan m.now
+        (count_in_row m.now.setup.geometry.disks (pairs_of pairs.now) r) (λ c x.
+        if home_row m.now.setup.geometry.disks c == r then last_of c x (pairs_of pairs.now)
+        else x) (λ q e. q == r && turns_cell_of m.now.setup.geometry.disks (pairs_of pairs.now) r e)
         plan.old plan.new) plan.old plan.new result }
 {
     if has_soft(m) {
@@ -183,12 +195,16 @@ fn write_row_of<P: WritePlan>(plan: &mut P, m: &Meta, pairs: &Pairs, at: usize) 
     requires serves { P.serves plan.old m.now }
     requires in_range { IsInRange m.now }
     requires at { at < pairs.now.count }
-    requires blocks { All (λ (pair : ℕ × BlockType). pair.0 < m.now.setup.geometry.rows * (m.now.setup.geometry.disks - 1)) (pairs_of pairs.now) }
-    requires room { length (P.desk plan.old).staged + 10 * count_of_new_row m.now.setup.geometry.disks pairs.now at ≤ 80 }
-    requires bits { P.changes plan.old + 2 * count_of_new_row m.now.setup.geometry.disks pairs.now at ≤ 16 }
-    ensures { Leaves P.WritePlan (WritesRow P.WritePlan m.now (count_of_new_row m.now.setup.geometry.disks pairs.now at)
-        (row_change m.now.setup.geometry.disks pairs.now at) (turns_in_new_row m.now.setup.geometry.disks pairs.now at)
-        plan.old plan.new) plan.old plan.new result }
+    requires blocks { All (λ (pair : ℕ × BlockType). pair.0
+        < m.now.setup.geometry.rows * (m.now.setup.geometry.disks - 1)) (pairs_of pairs.now) }
+    requires room { length (P.desk plan.old).staged
+        + 10 * count_of_new_row m.now.setup.geometry.disks pairs.now at ≤ 80 }
+    requires bits { P.changes plan.old
+        + 2 * count_of_new_row m.now.setup.geometry.disks pairs.now at ≤ 16 }
+    ensures { Leaves P.WritePlan
+        (WritesRow P.WritePlan m.now (count_of_new_row m.now.setup.geometry.disks pairs.now at)
+        (row_change m.now.setup.geometry.disks pairs.now at) (turns_in_new_row
+        m.now.setup.geometry.disks pairs.now at) plan.old plan.new) plan.old plan.new result }
 {
     let (r, _d) = home(&m.setup.geometry, pairs.blocks[at]);
     if is_row_before(&m.setup.geometry, pairs, at, r) {
@@ -197,20 +213,23 @@ fn write_row_of<P: WritePlan>(plan: &mut P, m: &Meta, pairs: &Pairs, at: usize) 
     write_row(plan, m, pairs, r)
 }
 
-/// Writes the blocks of these pairs in one plan, row by row: at most ten targets for each pair, and at
-/// least one in all. Of several pairs that name a block the last one counts.
+/// Writes the blocks of these pairs in one plan, row by row: at most ten targets for each pair, and
+/// at least one in all. Of several pairs that name a block the last one counts.
 pub fn write_blocks<P: WritePlan>(plan: &mut P, m: &Meta, pairs: &Pairs) -> Result<(), Lost>
     requires serves { P.serves plan.old m.now }
     requires in_range { IsInRange m.now }
-    requires blocks { All (λ (pair : ℕ × BlockType). pair.0 < m.now.setup.geometry.rows * (m.now.setup.geometry.disks - 1)) (pairs_of pairs.now) }
+    requires blocks { All (λ (pair : ℕ × BlockType). pair.0
+        < m.now.setup.geometry.rows * (m.now.setup.geometry.disks - 1)) (pairs_of pairs.now) }
     requires room { length (P.desk plan.old).staged + 10 * pairs.now.count ≤ 80 }
     requires bits { P.changes plan.old + 2 * pairs.now.count ≤ 16 }
     ensures writes { OnOk result (P.tells plan.new
         → StageAll m.now (P.desk plan.old) (P.desk plan.new) (pairs_of pairs.now)) }
-    ensures bits { OnOk result ((P.desk plan.new).dirty ≡ bits_after_writes m.now (pairs_of pairs.now) (P.desk plan.old).dirty) }
+    ensures bits { OnOk result ((P.desk plan.new).dirty
+        ≡ bits_after_writes m.now (pairs_of pairs.now) (P.desk plan.old).dirty) }
     ensures few { OnOk result
         (length (P.desk plan.new).staged ≤ length (P.desk plan.old).staged + 10 * pairs.now.count) }
-    ensures grows { OnOk result (P.tells plan.new → length (P.desk plan.old).staged + 1 ≤ length (P.desk plan.new).staged) }
+    ensures grows { OnOk result (P.tells plan.new
+        → length (P.desk plan.old).staged + 1 ≤ length (P.desk plan.new).staged) }
     ensures goes_on { OnOk result (P.serves plan.new m.now) }
     ensures fails { IfErr result (λ lost. P.fails plan.new) }
     ensures leads { P.leads plan.old plan.new }

@@ -20,17 +20,21 @@ pub record AreFewAndSmall (numbers : List ℕ) : Type 0 where
 abbrev pub IsNoNumber : List ℕ → Type 0
 IsNoNumber line = (number : ℕ) → number ≤ 1048576 → line ≢ decimal number
 
--- Whatever follows these bytes, the first lines are these. Where the source gave its end, nothing follows.
-pub record BeginsWithLines (bytes : List ℕ) (left : Option (List ℕ)) (lines : List (List ℕ)) : Type 0 where
+-- Whatever follows these bytes, the first lines are these. Where the source gave its end, nothing
+-- follows.
+pub record BeginsWithLines
+    (bytes : List ℕ) (left : Option (List ℕ)) (lines : List (List ℕ)) : Type 0 where
   pub ended : Bool
   pub at_end : IsTrue ended → AtEnd left
-  pub begins : (more : List ℕ) → (IsTrue ended → more ≡ []) → (others : List (List ℕ)) × (lines_of (bytes ++ more) ≡ lines ++ others)
+  pub begins : (more : List ℕ) → (IsTrue ended → more ≡ [])
+      → (others : List (List ℕ)) × (lines_of (bytes ++ more) ≡ lines ++ others)
 
--- The first line that is none of a demand is the one of this number: there is no line; or it is no number, or it
--- is one too many, and those before it are numbers.
+-- The first line that is none of a demand is the one of this number: there is no line; or it is no
+-- number, or it is one too many, and those before it are numbers.
 pub data FirstMiss (bytes : List ℕ) (left : Option (List ℕ)) : ℕ → Type 0 where
   empty : bytes ≡ [] → AtEnd left → FirstMiss bytes left 0
-  line : (numbers line : List ℕ) → AreFewAndSmall numbers → BeginsWithLines bytes left (map decimal numbers ++ line ∷ [])
+  line : (numbers line : List ℕ)
+      → AreFewAndSmall numbers → BeginsWithLines bytes left (map decimal numbers ++ line ∷ [])
       → IsNoNumber line ⊎ (length numbers ≡ 1024) → FirstMiss bytes left (length numbers)
 
 -- The whole lines of these bytes are numbers of a demand.
@@ -47,7 +51,8 @@ IsCause bytes left faults faults_now NoMemory = Unit {0}
 IsCause bytes left faults faults_now (Demand at) = FirstMiss bytes left at
 
 -- These bytes were taken of a source, and no plan was made.
-pub record IsUnplanned (before left : Option (List ℕ)) (faults faults_now : ℕ) (cause : Unplanned) : Type 0 where
+pub record IsUnplanned
+    (before left : Option (List ℕ)) (faults faults_now : ℕ) (cause : Unplanned) : Type 0 where
   pub bytes : List ℕ
   pub given : Gives before left bytes
   pub is : IsCause bytes left faults faults_now cause

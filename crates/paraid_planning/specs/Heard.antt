@@ -16,7 +16,8 @@ IsSpoken (Ok End) bytes new = (bytes ≡ []) × (new.rest ≡ []) × IsTrue new.
 IsSpoken (Err fault) bytes new = (whole_lines bytes ≡ []) × (new.ended ≡ false)
 
 -- One call took these bytes.
-pub record HearsNumber (before left : Option (List ℕ)) (old new : Reading) (result : Result Spoken LineFault) : Type 0 where
+pub record HearsNumber (before left : Option (List ℕ))
+    (old new : Reading) (result : Result Spoken LineFault) : Type 0 where
   pub got : List ℕ
   pub given : Gives before left got
   pub taken : new.taken ≡ old.taken + length got

@@ -11,11 +11,14 @@ use Rattle.paraid_planning.specs.declared.unplanned.Unplanned.TheVariants.{Sourc
 
 -- the lines of gears and what they cost
 abbrev pub plan_lines : ℕ → List ℕ → List ℕ
-plan_lines cost gears = codes "plan cost " ++ decimal cost ++ codes "\ngears" ++ numbers_text gears ++ codes "\n"
+plan_lines cost gears =
+    codes "plan cost " ++ decimal cost ++ codes "\ngears" ++ numbers_text gears ++ codes "\n"
 
--- Of the demand that the source gave, these are the lines of a schedule with at most `ups` steps up, and no more than
--- the ration. No such schedule costs less, and of those that cost as little it has the lowest gears.
-pub record IsPlanned (before left : Option (List ℕ)) (setup : Setup) (ups : ℕ) (text : List ℕ) : Type 0 where
+-- Of the demand that the source gave, these are the lines of a schedule with at most `ups` steps
+-- up, and no more than the ration. No such schedule costs less, and of those that cost as little it
+-- has the lowest gears.
+pub record IsPlanned
+    (before left : Option (List ℕ)) (setup : Setup) (ups : ℕ) (text : List ℕ) : Type 0 where
   pub demand : List ℕ
   pub gears : List ℕ
   pub read : ReadsDemand before left demand

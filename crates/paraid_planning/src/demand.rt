@@ -16,7 +16,8 @@ const MOST_PERIODS: usize = 1024;
 
 /// The demand that a source gives, a number a line, up to its end; or the first line that is none.
 pub fn read_demand<S: Source>(alloc: Global, source: &mut S) -> Result<Vec<u32>, Unplanned>
-    ensures read { IfOk result (λ demand. ReadsDemand (S.left source.old) (S.left source.new) demand.items) }
+    ensures read { IfOk result (λ demand.
+        ReadsDemand (S.left source.old) (S.left source.new) demand.items) }
     ensures unread { IfErr result (IsUnplanned (S.left source.old) (S.left source.new)
         (S.faults source.old) (S.faults source.new)) }
     ensures later { S.faults source.old ≤ S.faults source.new }
@@ -51,8 +52,8 @@ pub fn read_demand<S: Source>(alloc: Global, source: &mut S) -> Result<Vec<u32>,
     Ok(demand)
 }
 
-/// The lines of the schedule that costs least for the demand that a source gives, with at most `ups` steps up and no
-/// more than the ration.
+/// The lines of the schedule that costs least for the demand that a source gives, with at most
+/// `ups` steps up and no more than the ration.
 pub fn plan_demand<S: Source>(
     alloc: Global,
     source: &mut S,
@@ -60,7 +61,8 @@ pub fn plan_demand<S: Source>(
     ups: u16,
 ) -> Result<Vec<u8>, Unplanned>
     requires { ups ≤ 256 }
-    ensures planned { IfOk result (λ text. IsPlanned (S.left source.old) (S.left source.new) setup.now ups text.items) }
+    ensures planned { IfOk result (λ text.
+        IsPlanned (S.left source.old) (S.left source.new) setup.now ups text.items) }
     ensures unplanned { IfErr result (IsUnplanned (S.left source.old) (S.left source.new)
         (S.faults source.old) (S.faults source.new)) }
     ensures later { S.faults source.old ≤ S.faults source.new }

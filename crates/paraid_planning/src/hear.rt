@@ -35,7 +35,8 @@ fn small_number(line: &[u8]) -> Option<u32>
 // What the next line says.
 pub(crate) fn hear<S: Source>(reader: &mut LineReader, source: &mut S) -> Result<Spoken, LineFault>
     requires { reader.old.fault ≡ None }
-    ensures heard { HearsNumber (S.left source.old) (S.left source.new) reader.old reader.new result }
+    ensures heard { HearsNumber
+        (S.left source.old) (S.left source.new) reader.old reader.new result }
     ensures goes_on { OnOk result (reader.new.fault ≡ None) }
     ensures later { S.faults source.old ≤ S.faults source.new }
     ensures still { result ≢ Err LineFault.Source → S.faults source.new ≡ S.faults source.old }

@@ -1,5 +1,5 @@
-//! A demand is read from a source, a number a line, and its cheapest schedule of gears is told in two lines; or the
-//! first line that is none of a demand is named.
+//! A demand is read from a source, a number a line, and its cheapest schedule of gears is told in
+//! two lines; or the first line that is none of a demand is named.
 #![tactic(auto)]
 
 mod demand;

@@ -28,46 +28,66 @@ use Rattle.paraid_words.specs.declared.command.Command.{Command}
 use Rattle.paraid_words.specs.declared.command.Command.TheVariants.{Format, Run, Spare, Status, Check, Gen, Nbd, Vol, Plan}
 
 -- The array that the source describes was made, and its line was told.
-pub record IsFormatWhole (force : Bool) (rack : RackUse) (source : SourceUse) (sink : SinkUse) : Type 0 where
+pub record IsFormatWhole
+    (force : Bool) (rack : RackUse) (source : SourceUse) (sink : SinkUse) : Type 0 where
   pub setup : Setup
   pub configured : IsConfigured source setup
   pub made : IsArrayMade force rack setup
   pub told : TellsLast sink (formatted_line setup)
 
 -- What hinders a format, with the status that it has then.
-pub data HindersFormat (force : Bool) (rack : RackUse) (source : SourceUse) (sink : SinkUse) (status : ℕ) : Type 0 where
+pub data HindersFormat (force : Bool)
+    (rack : RackUse) (source : SourceUse) (sink : SinkUse) (status : ℕ) : Type 0 where
   -- the source has failed
-  source_failed : status ≡ status_source → HasRisen source.faults_before source.faults → HindersFormat force rack source sink status
+  source_failed : status ≡ status_source
+      → HasRisen source.faults_before source.faults → HindersFormat force rack source sink status
   -- the sink has failed
-  sink_failed : status ≡ status_sink → HasRisen sink.faults_before sink.faults → HindersFormat force rack source sink status
+  sink_failed : status ≡ status_sink
+      → HasRisen sink.faults_before sink.faults → HindersFormat force rack source sink status
   -- what the source gave is no configuration, for this cause
-  config : status ≡ status_config → (fault : ConfigFault) → fault ≢ NoMemory → IsUnread source (Config fault) → HindersFormat force rack source sink status
+  config : status ≡ status_config → (fault : ConfigFault) → fault ≢ NoMemory
+      → IsUnread source (Config fault) → HindersFormat force rack source sink status
   -- it was not forced, and a log disk belonged to an array
-  claimed : status ≡ status_already_formatted → force ≡ false → (epoch : ℕ) → Ran rack.before rack.after (λ start calls. AreReads calls × IsGreatest start epoch)
+  claimed : status ≡ status_already_formatted → force ≡ false → (epoch : ℕ)
+      → Ran rack.before rack.after (λ start calls. AreReads calls × IsGreatest start epoch)
       → HindersFormat force rack source sink status
   -- a disk has failed
-  disk : status ≡ status_disk → (d : ℕ) → HasRisen (rack.old d).faults (rack.new d).faults → HindersFormat force rack source sink status
+  disk : status ≡ status_disk → (d : ℕ) → HasRisen (rack.old d).faults (rack.new d).faults
+      → HindersFormat force rack source sink status
   -- the rack has fewer slots than the array has disks
-  few : status ≡ status_disk → (setup : Setup) → IsConfigured source setup → rack.slots < setup.geometry.disks → HindersFormat force rack source sink status
+  few : status ≡ status_disk → (setup : Setup) → IsConfigured source setup
+      → rack.slots < setup.geometry.disks → HindersFormat force rack source sink status
 
--- How a command comes out. A format does so whatever the rack held, and the others where it told its calls and held a history.
+-- How a command comes out. A format does so whatever the rack held, and the others where it told
+-- its calls and held a history.
 abbrev pub CompletesCommand : RackUse → SourceUse → SinkUse → ℕ → Command → Type 0
 CompletesCommand rack source sink status (Format force) =
-    Completes (IsFormatWhole force rack source sink) (IsUntouched rack) (HindersFormat force rack source sink status) status
+    Completes (IsFormatWhole force rack source sink)
+    (IsUntouched rack) (HindersFormat force rack source sink status) status
 CompletesCommand rack source sink status Run =
-    (h : HeldHistory rack) → Completes (IsRunWhole source sink) (IsUnstarted rack.old rack.new rack.before rack.after) (HindersRun h source sink status) status
+    (h : HeldHistory rack) → Completes (IsRunWhole source sink)
+    (IsUnstarted rack.old rack.new rack.before rack.after) (HindersRun h source sink status) status
 CompletesCommand rack source sink status (Spare stock wait) =
-    (h : HeldHistory rack) → Completes (IsRunWhole source sink) (IsUnstarted rack.old rack.new rack.before rack.after) (HindersRun h source sink status) status
+    (h : HeldHistory rack) → Completes (IsRunWhole source sink)
+    (IsUnstarted rack.old rack.new rack.before rack.after) (HindersRun h source sink status) status
 CompletesCommand rack source sink status Status =
-    (h : HeldHistory rack) → Completes ((meta : Meta) × (dirty : ℕ → ℕ → Bool) × TellsLast sink (status_lines meta dirty)) (IsUnstarted rack.old rack.new rack.before rack.after) (Hinders h sink status) status
+    (h : HeldHistory rack)
+    → Completes ((meta : Meta) × (dirty : ℕ → ℕ → Bool) × TellsLast sink (status_lines meta dirty))
+    (IsUnstarted rack.old rack.new rack.before rack.after) (Hinders h sink status) status
 CompletesCommand rack source sink status Check =
-    (h : HeldHistory rack) → Completes (TellsLast sink (check_line no_faults)) (IsUnstarted rack.old rack.new rack.before rack.after) (Hinders h sink status) status
+    (h : HeldHistory rack) → Completes (TellsLast sink (check_line no_faults))
+    (IsUnstarted rack.old rack.new rack.before rack.after) (Hinders h sink status) status
 CompletesCommand rack source sink status (Gen number lines) =
-    (h : HeldHistory rack) → Completes ((writes : ℕ) × TellsLast sink (end_line writes)) (IsUnstarted rack.old rack.new rack.before rack.after) (Hinders h sink status) status
+    (h : HeldHistory rack) → Completes ((writes : ℕ) × TellsLast sink (end_line writes))
+    (IsUnstarted rack.old rack.new rack.before rack.after) (Hinders h sink status) status
 CompletesCommand rack source sink status Nbd =
-    (h : HeldHistory rack) → Completes (IsNbdWhole h source sink) (IsUnstarted rack.old rack.new rack.before rack.after) (HindersNbd h source sink status) status
+    (h : HeldHistory rack) → Completes (IsNbdWhole h source sink)
+    (IsUnstarted rack.old rack.new rack.before rack.after) (HindersNbd h source sink status) status
 CompletesCommand rack source sink status Vol =
-    (h : HeldHistory rack) → Completes (IsRunWhole source sink) (IsUnstarted rack.old rack.new rack.before rack.after) (HindersRun h source sink status) status
+    (h : HeldHistory rack) → Completes (IsRunWhole source sink)
+    (IsUnstarted rack.old rack.new rack.before rack.after) (HindersRun h source sink status) status
 CompletesCommand rack source sink status (Plan ups) =
-    (h : HeldHistory rack) → Completes (AtEnd source.left × (cost : ℕ) × (gears : List ℕ) × TellsLast sink (plan_lines cost gears))
-    (IsUnstarted rack.old rack.new rack.before rack.after ⊎ ((meta : Meta) × (dirty : ℕ → ℕ → Bool) × IsServedBy rack meta dirty)) (HindersPlan h source sink status) status
+    (h : HeldHistory rack) → Completes (AtEnd source.left
+    × (cost : ℕ) × (gears : List ℕ) × TellsLast sink (plan_lines cost gears))
+    (IsUnstarted rack.old rack.new rack.before rack.after ⊎ ((meta : Meta) × (dirty : ℕ → ℕ → Bool)
+    × IsServedBy rack meta dirty)) (HindersPlan h source sink status) status

@@ -17,16 +17,28 @@ use Rattle.paraid_words.specs.declared.command.Command.TheVariants.{Format, Run,
 -- What the program does on a command: to the rack, the source and the sink, and with which status.
 abbrev pub DoesCommand : RackUse → SourceUse → SinkUse → ℕ → Command → Type 0
 DoesCommand rack source sink status (Format force) = Formats force rack source sink status
-DoesCommand rack source sink status Run = MountsAndThen rack sink status (IsUnheard source) (ServesLines rack source sink status) × IsOneOf run_statuses status
+DoesCommand rack source sink status Run =
+    MountsAndThen rack sink status (IsUnheard source) (ServesLines rack source sink status)
+    × IsOneOf run_statuses status
 DoesCommand rack source sink status (Spare stock wait) =
-    MountsAndThen rack sink status (IsUnheard source) (ServesSpares rack source sink (record { wait = wait; stock = fresh_stock stock }) status) × IsOneOf run_statuses status
+    MountsAndThen rack sink status (IsUnheard source)
+    (ServesSpares rack source sink (record { wait = wait; stock = fresh_stock stock }) status)
+    × IsOneOf run_statuses status
 DoesCommand rack source sink status Status = Shows rack sink status
-DoesCommand rack source sink status Check = MountsAndThen rack sink status (Unit {0}) (ChecksArray rack sink status) × IsOneOf check_statuses status
+DoesCommand rack source sink status Check =
+    MountsAndThen rack sink status (Unit {0}) (ChecksArray rack sink status)
+    × IsOneOf check_statuses status
 DoesCommand rack source sink status (Gen number lines) =
-    MountsAndThen rack sink status (Unit {0}) (ServesGenerated rack (record { number = number; count = lines; sink = sink }) status) × IsOneOf gen_statuses status
-DoesCommand rack source sink status Nbd = ServesNbdOrNot rack source sink status × IsOneOf nbd_statuses status
-DoesCommand rack source sink status Vol = MountsAndThen rack sink status (IsUnheard source) (ServesVolumes rack source sink status) × IsOneOf run_statuses status
-DoesCommand rack source sink status (Plan ups) = PlanOutcome rack source sink ups status × IsOneOf plan_statuses status
+    MountsAndThen rack sink status (Unit {0})
+    (ServesGenerated rack (record { number = number; count = lines; sink = sink }) status)
+    × IsOneOf gen_statuses status
+DoesCommand rack source sink status Nbd =
+    ServesNbdOrNot rack source sink status × IsOneOf nbd_statuses status
+DoesCommand rack source sink status Vol =
+    MountsAndThen rack sink status (IsUnheard source) (ServesVolumes rack source sink status)
+    × IsOneOf run_statuses status
+DoesCommand rack source sink status (Plan ups) =
+    PlanOutcome rack source sink ups status × IsOneOf plan_statuses status
 
 -- a command that takes the source to its end
 abbrev pub TakesSource : Command → Type 0

@@ -1,4 +1,5 @@
--- How a command that mounts ends on a rack that held a history: all is done, or one of a few causes is told.
+-- How a command that mounts ends on a rack that held a history: all is done, or one of a few causes
+-- is told.
 use Rattle.std.specs.Prelude.{◌≡◌, ℕ, ◌^◌, List, [], ◌∷◌, ◌++◌, length, Option, Some}
 use Rattle.paraid_base.specs.declared.fault.Two.{Two}
 use Rattle.paraid_base.specs.History.{History}
@@ -25,8 +26,8 @@ abbrev pub down_after_calls : Down → List Call → Down
 down_after_calls down [] = down
 down_after_calls down (call ∷ calls) = down_after_calls (down_after down call) calls
 
--- The rack tells its calls before a command and after it. Before it, it held a history with at most one disk down, and
--- this log disk stood.
+-- The rack tells its calls before a command and after it. Before it, it held a history with at most
+-- one disk down, and this log disk stood.
 pub record HeldHistory (rack : RackUse) : Type 0 where
   pub first : Trail
   pub last : Trail
@@ -40,8 +41,10 @@ pub record HeldHistory (rack : RackUse) : Type 0 where
   pub held : IsRunStart rack.slots (now first) history low down
   pub stands : Stands (now first) side said
 
--- The command mounted, and came to a turn of its session of which this holds. These were all its calls: after that turn it made none.
-pub record ComesTo {rack : RackUse} (h : HeldHistory rack) (Q : Point → Turn → Point → Type 0) : Type 0 where
+-- The command mounted, and came to a turn of its session of which this holds. These were all its
+-- calls: after that turn it made none.
+pub record ComesTo
+    {rack : RackUse} (h : HeldHistory rack) (Q : Point → Turn → Point → Type 0) : Type 0 where
   pub base : ℕ → ℕ
   pub mount : List Call
   pub begun : Point
@@ -55,33 +58,48 @@ pub record ComesTo {rack : RackUse} (h : HeldHistory rack) (Q : Point → Turn �
   pub calls : h.last ≡ extend h.first (mount ++ (turn_calls turns ++ turn.calls))
 
 -- What hinders a command that mounts, with the status that it has then.
-pub data Hinders {rack : RackUse} (h : HeldHistory rack) (sink : SinkUse) (status : ℕ) : Type 0 where
+pub data Hinders
+    {rack : RackUse} (h : HeldHistory rack) (sink : SinkUse) (status : ℕ) : Type 0 where
   -- the sink has failed
-  sink_failed : status ≡ status_sink → HasRisen sink.faults_before sink.faults → Hinders h sink status
-  -- a second disk failed in the mount while one was down, and the mount was refused for this cause; the calls are its own
-  two_in_mount : (fault : MountFault) → status ≡ mount_fault_status fault → IsCauseOfRefusal rack.slots rack.old rack.new rack.before rack.after fault
-      → (calls : List Call) → h.last ≡ extend h.first calls → down_after_calls (down_from_out h.down) calls ≡ several → Hinders h sink status
+  sink_failed : status ≡ status_sink
+      → HasRisen sink.faults_before sink.faults → Hinders h sink status
+  -- a second disk failed in the mount while one was down, and the mount was refused for this cause;
+  -- the calls are its own
+  two_in_mount : (fault : MountFault) → status ≡ mount_fault_status fault
+      → IsCauseOfRefusal rack.slots rack.old rack.new rack.before rack.after fault
+      → (calls : List Call) → h.last ≡ extend h.first calls
+      → down_after_calls (down_from_out h.down) calls ≡ several → Hinders h sink status
   -- 2^62 commits or writes had been made before the command
-  worn_before : status ≡ status_worn → (calls : List Call) → h.last ≡ extend h.first calls → (many : ℕ) → IsWornOut (now h.first) calls many → Hinders h sink status
+  worn_before : status ≡ status_worn → (calls : List Call) → h.last ≡ extend h.first calls
+      → (many : ℕ) → IsWornOut (now h.first) calls many → Hinders h sink status
   -- a second disk failed in the session while one was down
-  two : status ≡ status_two → (pair : Two) → ComesTo h (λ p t q. LosesSecondDisk rack.slots h.said.meta.setup p t.event pair t.calls q) → Hinders h sink status
+  two : status ≡ status_two → (pair : Two)
+      → ComesTo h (λ p t q. LosesSecondDisk rack.slots h.said.meta.setup p t.event pair t.calls q)
+      → Hinders h sink status
   -- the session came to 2^62 commits or writes
-  worn : status ≡ status_worn → (many : ℕ) → ComesTo h (λ p t q. IsWorn p t.event many) → Hinders h sink status
-  -- A second disk failed in the mount while one was down, and the array was served all the same. As in the headline nothing is
-  -- said of the session then; it ended as it may over every rack.
-  double : (mount rest : List Call) → h.last ≡ extend h.first (mount ++ rest) → down_after_calls (down_from_out h.down) mount ≡ several
-      → (service : ServiceStart) → service.told ≡ Some (extend h.first mount) → IsServed rack service → IsEndOver service.array.meta.setup rack sink status → Hinders h sink status
+  worn : status ≡ status_worn
+      → (many : ℕ) → ComesTo h (λ p t q. IsWorn p t.event many) → Hinders h sink status
+  -- A second disk failed in the mount while one was down, and the array was served all the same. As
+  -- in the headline nothing is said of the session then; it ended as it may over every rack.
+  double : (mount rest : List Call) → h.last ≡ extend h.first (mount ++ rest)
+      → down_after_calls (down_from_out h.down) mount ≡ several → (service : ServiceStart)
+      → service.told ≡ Some (extend h.first mount) → IsServed rack service
+      → IsEndOver service.array.meta.setup rack sink status → Hinders h sink status
 
 -- what hinders a run: as the others, or by its source
-pub data HindersRun {rack : RackUse} (h : HeldHistory rack) (source : SourceUse) (sink : SinkUse) (status : ℕ) : Type 0 where
+pub data HindersRun {rack : RackUse}
+    (h : HeldHistory rack) (source : SourceUse) (sink : SinkUse) (status : ℕ) : Type 0 where
   -- the source has failed
-  source_failed : status ≡ status_source → HasRisen source.faults_before source.faults → HindersRun h source sink status
+  source_failed : status ≡ status_source
+      → HasRisen source.faults_before source.faults → HindersRun h source sink status
   -- 2^40 bytes were taken
-  too_long : status ≡ status_too_long → (bytes : List ℕ) → Gives source.left_before source.left bytes → length bytes ≡ 2 ^ 40 → HindersRun h source sink status
+  too_long : status ≡ status_too_long
+      → (bytes : List ℕ) → Gives source.left_before source.left bytes
+      → length bytes ≡ 2 ^ 40 → HindersRun h source sink status
   other : Hinders h sink status → HindersRun h source sink status
 
--- How a command comes out: all was done; or there was no memory; or something hindered it, and the cause says with which
--- status.
+-- How a command comes out: all was done; or there was no memory; or something hindered it, and the
+-- cause says with which status.
 pub data Completes (Whole Unstarted Hindered : Type 0) (status : ℕ) : Type 0 where
   whole : status ≡ status_done → Whole → Completes Whole Unstarted Hindered status
   no_memory : status ≡ status_no_memory → Unstarted → Completes Whole Unstarted Hindered status

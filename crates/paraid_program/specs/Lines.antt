@@ -25,7 +25,8 @@ config_line NotToml = codes "config nottoml\n"
 config_line (Unknown at) = codes "config unknown " ++ decimal at ++ codes "\n"
 config_line (Missing key) = codes "config missing " ++ key_name key ++ codes "\n"
 config_line (Kind key) = codes "config kind " ++ key_name key ++ codes "\n"
-config_line (Range key value) = codes "config range " ++ key_name key ++ codes " " ++ signed_decimal value ++ codes "\n"
+config_line (Range key value) =
+    codes "config range " ++ key_name key ++ codes " " ++ signed_decimal value ++ codes "\n"
 config_line (Geometry fault) = geometry_line fault
 config_line NoMemory = codes "nomemory\n"
 
@@ -52,4 +53,5 @@ refusal_status (Format (Disk disk)) = status_disk
 
 -- the number of blocks of a new array
 abbrev pub formatted_line : Setup → List ℕ
-formatted_line setup = codes "formatted " ++ decimal (setup.geometry.rows * (setup.geometry.disks - 1)) ++ codes "\n"
+formatted_line setup =
+    codes "formatted " ++ decimal (setup.geometry.rows * (setup.geometry.disks - 1)) ++ codes "\n"

@@ -9,9 +9,11 @@ abbrev pub mount_fault_line : MountFault → List ℕ
 mount_fault_line NotFormatted = codes "notformatted\n"
 mount_fault_line (BadLog disk) = codes "badlog " ++ decimal disk ++ codes "\n"
 mount_fault_line (BadMeta disk) = codes "badmeta " ++ decimal disk ++ codes "\n"
-mount_fault_line (Size disk found needed) = codes "size " ++ decimal disk ++ codes " " ++ decimal found ++ codes " " ++ decimal needed ++ codes "\n"
+mount_fault_line (Size disk found needed) = codes "size "
+    ++ decimal disk ++ codes " " ++ decimal found ++ codes " " ++ decimal needed ++ codes "\n"
 mount_fault_line (Power disk) = codes "power " ++ decimal disk ++ codes "\n"
-mount_fault_line (TwoDown two) = codes "two " ++ decimal two.first ++ codes " " ++ decimal two.second ++ codes "\n"
+mount_fault_line (TwoDown two) =
+    codes "two " ++ decimal two.first ++ codes " " ++ decimal two.second ++ codes "\n"
 mount_fault_line (Worn count) = codes "worn " ++ decimal count ++ codes "\n"
 mount_fault_line NoMemory = codes "nomemory\n"
 

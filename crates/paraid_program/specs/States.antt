@@ -23,4 +23,5 @@ shown_status m dirty = record {
 
 -- the line of a mount and the line of the state
 abbrev pub status_lines : Meta → (ℕ → ℕ → Bool) → List ℕ
-status_lines m dirty = mount_line m.writes m.gear ++ reply_of (State (shown_status m dirty) m.setup.geometry.disks)
+status_lines m dirty =
+    mount_line m.writes m.gear ++ reply_of (State (shown_status m dirty) m.setup.geometry.disks)

@@ -28,7 +28,8 @@ tally_with_tick t event = t
 
 -- a read that was answered adds its block's first two bytes, and a tick that flipped is counted
 abbrev pub tally_with_answer : Tally → Answer → Tally
-tally_with_answer t (Value block bytes) = record t { sum = t.sum + (256 * slice_index bytes.bytes 0 + slice_index bytes.bytes 1) }
+tally_with_answer t (Value block bytes) =
+    record t { sum = t.sum + (256 * slice_index bytes.bytes 0 + slice_index bytes.bytes 1) }
 tally_with_answer t (Ticked report) = tally_with_tick t report.event
 tally_with_answer t answer = t
 

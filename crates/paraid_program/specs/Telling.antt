@@ -9,7 +9,8 @@ use Rattle.paraid_session.specs.Turn.{Point}
 
 -- the state line of a point of a session
 abbrev pub state_line : Setup → Point → List ℕ
-state_line setup p = reply_of (IsState (state_status setup (length p.history) p.state) setup.geometry.disks)
+state_line setup p =
+    reply_of (IsState (state_status setup (length p.history) p.state) setup.geometry.disks)
 
 -- the two lines of `status`
 abbrev pub state_lines : Setup → Point → List ℕ

@@ -14,9 +14,9 @@ ghost use Rattle.paraid_serve.specs.Stretch.{span_of};
 ghost use Rattle.paraid_program.specs.Statuses.{check_statuses, checked_statuses};
 ghost use Rattle.paraid_serve.specs.Statuses.{IsOneOf, status_done, status_found, status_sink, status_two, status_worn};
 
+use crate::counts_text::{check_status, check_text};
 use crate::fault_text::tell_refusal;
 use crate::outside::{Ended, Outside};
-use crate::counts_text::{check_status, check_text};
 use paraid_io::Sink;
 use paraid_rack::Rack;
 use paraid_recover::MountRefused;
@@ -24,7 +24,8 @@ use paraid_serve::Serves;
 use paraid_serve::ending::{halt_status, last};
 use paraid_trace::{Brief, Text, reply};
 
-// Checks an array that was just mounted, by a mount that began at some moment: it tells the counts, or the halt that ended them.
+// Checks an array that was just mounted, by a mount that began at some moment: it tells the counts,
+// or the halt that ended them.
 fn tell_counts<K: Sink, R: Rack, A: Serves, O: Outside<R, A>>(
     outside: &O,
     sink: &mut K,
@@ -32,12 +33,11 @@ fn tell_counts<K: Sink, R: Rack, A: Serves, O: Outside<R, A>>(
 ) -> u8
     requires going { A.halted array.old ≡ None }
     requires nothing { O.nothing array.old }
-    ensures counts { (began : ℕ) → IsMountedFromEach (A.slots array.old) (A.setup array.old) began
-        (A.told array.old) (A.stands array.old)
-        → TellsCounts
-        (span_of (A.slots array.old) (A.setup array.old) (A.told array.old) (A.told array.new)) began
-        (sink_use K.written K.faults sink.old sink.new) result
-        (CountsArray (O.served array.old) (A.slot array.new) (A.told array.old) (A.told array.new)) }
+    ensures counts { (began : ℕ) → IsMountedFromEach (A.slots array.old)
+        (A.setup array.old) began (A.told array.old) (A.stands array.old) → TellsCounts
+        (span_of (A.slots array.old) (A.setup array.old) (A.told array.old) (A.told array.new))
+        began (sink_use K.written K.faults sink.old sink.new) result (CountsArray
+        (O.served array.old) (A.slot array.new) (A.told array.old) (A.told array.new)) }
     ensures causes { HasCheckCauses (A.shown array.old) (A.shown array.new) (K.written sink.old)
         (K.written sink.new) result }
     ensures told { Extends (A.told array.old) (A.told array.new) }

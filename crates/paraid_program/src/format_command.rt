@@ -27,7 +27,8 @@ fn make_array<S: Source, R: Rack>(
     rack: &mut R,
 ) -> Result<Setup, Refusal>
     ensures slots { R.slot_count rack.new ≡ R.slot_count rack.old }
-    ensures configured { IfOk result (IsConfigured (source_use S.left S.faults source.old source.new)) }
+    ensures configured { IfOk result
+        (IsConfigured (source_use S.left S.faults source.old source.new)) }
     ensures made { IfOk result (IsArrayMade force
         (rack_use R.slot_count R.slot R.told rack.old rack.new)) }
     ensures refused { IfErr result (IsRefusalCause force

@@ -25,9 +25,12 @@ pub fn generate<K: Sink, R: Rack, A: Serves, O: Outside<R, A>>(
 ) -> Ended<R>
     requires few { lines ≤ 1000000 }
     ensures run { MountsAndThen (rack_use R.slot_count R.slot R.told rack result.rack)
-        (sink_use K.written K.faults sink.old sink.new) result.status (Unit {0})
-        (ServesGenerated (rack_use R.slot_count R.slot R.told rack result.rack)
-        (record { number = number; count = lines; sink = (sink_use K.written K.faults sink.old sink.new) }) result.status) }
+        (sink_use K.written K.faults sink.old sink.new) result.status (Unit {0}) (ServesGenerated
+        (rack_use R.slot_count R.slot R.told rack result.rack) (record {
+          number = number;
+          count = lines;
+          sink = (sink_use K.written K.faults sink.old sink.new);
+        }) result.status) }
     ensures slots { R.slot_count result.rack ≡ R.slot_count rack }
     ensures status { IsOneOf gen_statuses result.status }
     ensures sink { result.status ≡ status_sink → HasRisen (K.faults sink.old) (K.faults sink.new) }

@@ -1,4 +1,5 @@
-//! Generated lines over a mounted array: the first line, the answers, their summary, and the last line.
+//! Generated lines over a mounted array: the first line, the answers, their summary, and the last
+//! line.
 ghost use Rattle.std.specs.Prelude.{◌≡◌, ◌≢◌, ℕ, ◌≤◌, ◌<◌, None, IsSome};
 ghost use Rattle.paraid_base.specs.Told.{HasRisen};
 ghost use Rattle.paraid_rack.specs.Slots.{Slot};
@@ -42,7 +43,8 @@ pub fn answer_lines<A: Serves>(
     ensures slots { A.slots array.new ≡ A.slots array.old }
     ensures setup { A.setup array.new ≡ A.setup array.old }
     ensures halt { halt.new ≡ A.halted array.new }
-    ensures since { (start : ℕ → Slot) → HasServedSince start (A.slot array.old) (A.halted array.old)
+    ensures since { (start : ℕ → Slot)
+        → HasServedSince start (A.slot array.old) (A.halted array.old)
         → HasServedSince start (A.slot array.new) (A.halted array.new) }
 {
     let blocks = array.blocks();
@@ -67,7 +69,11 @@ pub fn serve_generated<K: Sink, A: Serves>(
     requires going { A.halted array.old ≡ None }
     ensures run { GenRun (A.shown array.old) (A.shown array.new)
         (span_of (A.slots array.old) (A.setup array.old) (A.told array.old) (A.told array.new))
-        (A.stands array.old) (record { number = number; count = lines; sink = (sink_use K.written K.faults sink.old sink.new) }) result }
+        (A.stands array.old) (record {
+          number = number;
+          count = lines;
+          sink = (sink_use K.written K.faults sink.old sink.new);
+        }) result }
     ensures told { Extends (A.told array.old) (A.told array.new) }
     ensures slots { A.slots array.new ≡ A.slots array.old }
     ensures status { IsGenStatus result }
@@ -112,11 +118,14 @@ pub fn serve_generated_mounted<K: Sink, A: Serves>(
 ) -> u8
     requires few { lines ≤ 1000000 }
     requires going { A.halted array.old ≡ None }
-    ensures headline { (began : ℕ) → IsMountedFromEach (A.slots array.old) (A.setup array.old) began
-        (A.told array.old) (A.stands array.old)
-        → GenHeadline (A.shown array.old) (A.shown array.new)
-        (span_of (A.slots array.old) (A.setup array.old) (A.told array.old) (A.told array.new)) began
-        (record { number = number; count = lines; sink = (sink_use K.written K.faults sink.old sink.new) }) result }
+    ensures headline { (began : ℕ) → IsMountedFromEach
+        (A.slots array.old) (A.setup array.old) began (A.told array.old) (A.stands array.old)
+        → GenHeadline (A.shown array.old) (A.shown array.new) (span_of (A.slots array.old)
+        (A.setup array.old) (A.told array.old) (A.told array.new)) began (record {
+          number = number;
+          count = lines;
+          sink = (sink_use K.written K.faults sink.old sink.new);
+        }) result }
     ensures told { Extends (A.told array.old) (A.told array.new) }
     ensures slots { A.slots array.new ≡ A.slots array.old }
     ensures status { IsGenStatus result }

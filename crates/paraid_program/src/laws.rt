@@ -9,8 +9,8 @@ ghost use Rattle.paraid_program.specs.Telling.{state_lines};
 ghost use Rattle.paraid_recover.specs.FirstPoint.{IsFirstPoint};
 ghost use Rattle.paraid_program.specs.States.{status_lines};
 
-/// What is told of a mounted array by its meta and its table is what is told of the point at which its
-/// session begins.
+/// What is told of a mounted array by its meta and its table is what is told of the point at which
+/// its session begins.
 pub fn a_mounted_array_is_told_as_its_first_point()
     ensures { (slots side : ℕ) (said : LogState) (m : MetaType) (dirty : ℕ → ℕ → Bool)
         (old new : Option Trail) (t : Trail) (p : Point)

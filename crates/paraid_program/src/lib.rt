@@ -2,15 +2,18 @@
 //!
 //! `format` reads a configuration from a source and makes an array of the disks of a rack; `status`
 //! mounts one and tells its state; `run`, with and without spares, `gen`, `check`, `nbd`, `vol` and
-//! `plan` mount one and answer with it. Each tells how it came out in its last line and a status. The
-//! commands stand over anything that mounts an array (`Outside`); `Arrays` mounts arrays with gears.
+//! `plan` mount one and answer with it. Each tells how it came out in its last line and a status.
+//! The commands stand over anything that mounts an array (`Outside`); `Arrays` mounts arrays with
+//! gears.
 //!
-//! The contract of `paraid` says what is written at each status, what the disks then hold, and which
-//! losses a status has for its cause.
+//! The contract of `paraid` says what is written at each status, what the disks then hold, and
+//! which losses a status has for its cause.
 #![tactic(auto)]
 
+mod array_state;
 mod arrays;
 mod check_command;
+mod counts_text;
 mod fault_text;
 mod format_command;
 mod format_text;
@@ -20,8 +23,6 @@ mod generated_lines;
 mod laws;
 mod nbd_command;
 pub mod outside;
-mod array_state;
-mod counts_text;
 mod plan_command;
 mod read;
 mod refusal;
@@ -32,7 +33,9 @@ mod tally;
 mod top;
 mod vol_command;
 
+pub use array_state::{status_of, tell_state};
 pub use arrays::Arrays;
+pub use counts_text::{check_status, check_text};
 pub use fault_text::{mount_fault_status, mount_fault_text};
 pub use format_command::format_array;
 pub use format_text::{config_text, refusal_status, refusal_text};
@@ -42,8 +45,6 @@ pub use outside::Ended;
 pub use plan_command::show_plan;
 pub use read::{read_all, read_setup};
 pub use refusal::Refusal;
-pub use counts_text::{check_status, check_text};
-pub use array_state::{status_of, tell_state};
 pub use status_command::show_state;
 pub use tally::Tally;
 pub use top::paraid;

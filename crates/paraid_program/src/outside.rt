@@ -41,8 +41,8 @@ pub trait Outside<R: Rack, A: Serves> {
         // No count of faults falls in a mount.
         ensures later { IfOk result (λ a. HaveNotFallen (R.slot rack) (A.slot a)) }
         ensures refused_slots { IfErr result (λ r. R.slot_count r.rack ≡ R.slot_count rack) }
-        ensures refused { IfErr result (λ r. HandsBack (rack_use R.slot_count R.slot R.told rack r.rack)
-            r.fault) }
+        ensures refused { IfErr result (λ r.
+            HandsBack (rack_use R.slot_count R.slot R.told rack r.rack) r.fault) }
         ensures mounted { IfOk result (λ a. (began : ℕ) → BeganAt (R.told rack) began
             → IsMountedFromEach (A.slots a) (A.setup a) began (A.told a) (A.stands a)) }
         // Held or not, it serves what stood on the disks, and nothing is staged.

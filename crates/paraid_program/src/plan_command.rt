@@ -1,4 +1,5 @@
-//! The command `plan`: mounts an array, reads a demand, and tells the schedule of gears that costs least; or why there is none.
+//! The command `plan`: mounts an array, reads a demand, and tells the schedule of gears that costs
+//! least; or why there is none.
 ghost use Rattle.std.specs.Prelude.{◌≡◌, ◌≢◌, ◌≤◌, ◌++◌};
 ghost use Rattle.paraid_base.specs.Told.{AtEnd, HasRisen};
 ghost use Rattle.paraid_serve.specs.Ending.{EndsWithLine};
@@ -78,12 +79,12 @@ fn tell_plan<S: Source, K: Sink>(
     }
 }
 
-/// Mounts an array, reads a demand of one number a line, and tells the schedule that costs least for it, with at most
-/// `ups` steps to a higher gear and no more than the ration.
+/// Mounts an array, reads a demand of one number a line, and tells the schedule that costs least
+/// for it, with at most `ups` steps to a higher gear and no more than the ration.
 ///
-/// The statuses are those of a mount that is refused, and 0, the plan was told; 3, the source has failed; 4, the sink
-/// has failed; 7, there was no memory, before the mount had ended or for the plan; 10, 2^40 bytes were taken; and 15,
-/// a line is none of a demand.
+/// The statuses are those of a mount that is refused, and 0, the plan was told; 3, the source has
+/// failed; 4, the sink has failed; 7, there was no memory, before the mount had ended or for the
+/// plan; 10, 2^40 bytes were taken; and 15, a line is none of a demand.
 pub fn show_plan<S: Source, K: Sink, R: Rack>(
     alloc: Global,
     source: &mut S,

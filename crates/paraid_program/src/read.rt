@@ -49,7 +49,8 @@ pub fn read_all<S: Source>(alloc: Global, source: &mut S) -> Result<Vec<u8>, Ref
 
 /// The setup that the bytes of a source say.
 pub fn read_setup<S: Source>(alloc: Global, source: &mut S) -> Result<Setup, Refusal>
-    ensures configured { IfOk result (IsConfigured (source_use S.left S.faults source.old source.new)) }
+    ensures configured { IfOk result
+        (IsConfigured (source_use S.left S.faults source.old source.new)) }
     ensures range { IfOk result IsSetupInRange }
     ensures unread { IfErr result (IsUnread
         (source_use S.left S.faults source.old source.new)) }

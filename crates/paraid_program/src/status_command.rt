@@ -1,4 +1,5 @@
-//! The command `status`: mounts an array and tells its state in two lines, or why it was not mounted.
+//! The command `status`: mounts an array and tells its state in two lines, or why it was not
+//! mounted.
 ghost use Rattle.std.specs.Prelude.{◌≡◌, ◌≢◌};
 ghost use Rattle.paraid_base.specs.Told.{HasRisen};
 ghost use Rattle.paraid_program.specs.Showing.{Shows};
@@ -7,9 +8,9 @@ ghost use Rattle.paraid_serve.specs.Streams.{sink_use};
 ghost use Rattle.paraid_program.specs.Statuses.{show_statuses};
 ghost use Rattle.paraid_serve.specs.Statuses.{IsOneOf, status_sink};
 
+use crate::array_state::tell_state;
 use crate::fault_text::tell_refusal;
 use crate::outside::Ended;
-use crate::array_state::tell_state;
 use paraid_io::Sink;
 use paraid_rack::Rack;
 use paraid_recover::{MountRefused, Mounted, mount};

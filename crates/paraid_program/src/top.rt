@@ -12,9 +12,9 @@ ghost use Rattle.paraid_serve.specs.Statuses.{status_done, status_sink, status_s
 
 use crate::arrays::Arrays;
 use crate::check_command::check;
-use crate::nbd_command::nbd;
 use crate::format_command::format_array;
 use crate::gen_command::generate;
+use crate::nbd_command::nbd;
 use crate::outside::Ended;
 use crate::plan_command::show_plan;
 use crate::run_command::run;
@@ -33,24 +33,24 @@ use std::alloc::Global;
 ///
 /// `format` and `format --force` read a configuration from the source and make an array of the
 /// disks of the rack. The others mount it: `status` tells its state, `run` answers each line of the
-/// source, also with spares put in, `gen` answers generated lines, `check` counts what is false on the
-/// disks, `nbd` serves one client of the network block service, `vol` answers lines about named
-/// volumes, and `plan` reads a demand and tells the schedule of gears that costs least for it. Memory
-/// is taken before a mount has ended, in a format, for a client and for a plan. On all other words it
-/// tells which there are, and does nothing else.
+/// source, also with spares put in, `gen` answers generated lines, `check` counts what is false on
+/// the disks, `nbd` serves one client of the network block service, `vol` answers lines about named
+/// volumes, and `plan` reads a demand and tells the schedule of gears that costs least for it.
+/// Memory is taken before a mount has ended, in a format, for a client and for a plan. On all other
+/// words it tells which there are, and does nothing else.
 ///
 /// The statuses are 0, all was done; 2, the words ask for nothing; 3, the source has failed; 4, the
 /// sink has failed; 5, two disks are lost, and both are named; 6, the disks are no array, for the
-/// cause that is named; 7, there was no memory; 8, the configuration is refused; 9, the disks belong
-/// to an array; 10, 2^40 bytes were taken and no whole line is left; 11, a disk failed in a format,
-/// or there is no slot for it; 12, 2^62 commits or writes were made; 13, a check has counted
-/// something that is false, and all counts were told; 14, a client has broken the protocol; and 15,
-/// a line is none of a demand.
+/// cause that is named; 7, there was no memory; 8, the configuration is refused; 9, the disks
+/// belong to an array; 10, 2^40 bytes were taken and no whole line is left; 11, a disk failed in a
+/// format, or there is no slot for it; 12, 2^62 commits or writes were made; 13, a check has
+/// counted something that is false, and all counts were told; 14, a client has broken the protocol;
+/// and 15, a line is none of a demand.
 ///
 /// Where the rack tells its calls and held a history, `run` has the headline of a session: what is
 /// written is what the array answers to the lines, and the disks hold at each stop a first part of
-/// the writes, no fewer than the last flush has told. There a check is one flush, it counts nothing,
-/// and all writes that the disks held when they were mounted are held at each stop in it.
+/// the writes, no fewer than the last flush has told. There a check is one flush, it counts
+/// nothing, and all writes that the disks held when they were mounted are held at each stop in it.
 pub fn paraid<S: Source, K: Sink, R: Rack>(
     alloc: Global,
     words: &Vec<String>,

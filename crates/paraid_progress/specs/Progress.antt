@@ -28,7 +28,8 @@ AreMild (step ∷ steps) = (is_mild step.0 ≡ true) × AreMild steps
 abbrev pub AnswersEach : Setup → PowerState → List (Event × Answer) → Type 0
 AnswersEach setup s [] = Unit {0}
 AnswersEach setup s (step ∷ steps) =
-    (h : History) × (used : ℕ) × (new : PowerState) × IsEventStep setup h used s step.0 None step.1 new × AnswersEach setup new steps
+    (h : History) × (used : ℕ) × (new : PowerState)
+    × IsEventStep setup h used s step.0 None step.1 new × AnswersEach setup new steps
 
 -- an event that is a tick
 abbrev pub counts_as_tick : Event → Bool
@@ -42,12 +43,15 @@ ticks_in (step ∷ steps) = (if counts_as_tick step.0 then 1 else 0) + ticks_in 
 
 -- the answer of a tick, in which this came
 abbrev pub IsToldBy : TickEvent → Answer → Type 0
-IsToldBy event answer = (gear : ℕ) × (moved : ℕ) × (answer ≡ Ticked (record { gear = gear; moved = moved; event = event }))
+IsToldBy event answer = (gear : ℕ)
+    × (moved : ℕ) × (answer ≡ Ticked (record { gear = gear; moved = moved; event = event }))
 
--- The answer of a tick of a shift that moved so many of the units that were left: it ends the shift where these are all.
+-- The answer of a tick of a shift that moved so many of the units that were left: it ends the shift
+-- where these are all.
 abbrev pub TellsUnits : ℕ → ℕ → Answer → Type 0
 TellsUnits count left answer =
-    (gear : ℕ) × (answer ≡ Ticked (record { gear = gear; moved = count; event = if count == left then Flipped else Moving }))
+    (gear : ℕ) × (answer ≡ Ticked
+    (record { gear = gear; moved = count; event = if count == left then Flipped else Moving }))
 
 -- one of the answers is that of a tick in which this came
 abbrev pub AnswersTell : TickEvent → List (Event × Answer) → Type 0

@@ -32,12 +32,15 @@ pub fn a_shift_ends()
         → AnswersTell Flipped steps }
 {}
 
-/// A rebuild under way ends by a tick that is answered `rebuilt`, if at least one of the events is a
-/// tick, and the number of ticks times the rate is at least the number of units that are left of it.
+/// A rebuild under way ends by a tick that is answered `rebuilt`, if at least one of the events is
+/// a tick, and the number of ticks times the rate is at least the number of units that are left of
+/// it.
 ///
-/// No other disk is out, none fails, and no event asks for a shift, takes a disk out or replaces one.
+/// No other disk is out, none fails, and no event asks for a shift, takes a disk out or replaces
+/// one.
 pub fn a_rebuild_ends()
-    ensures { (setup : SetupType) (s : PowerState) (d rebuilt : ℕ) (steps : List (EventType × AnswerType))
+    ensures { (setup : SetupType)
+        (s : PowerState) (d rebuilt : ℕ) (steps : List (EventType × AnswerType))
         → s.out ≡ Fresh d rebuilt → AnswersEach setup s steps → AreMild steps
         → 0 < ticks_in steps → units_to_rebuild setup s d rebuilt ≤ setup.rate * ticks_in steps
         → AnswersTell (Rebuilt d) steps }
@@ -46,10 +49,12 @@ pub fn a_rebuild_ends()
 /// A tick of a shift tells how many units it moved: the lesser of the rate and what is left, or in
 /// whole mode all of a shift up. Where that is not all, at least so many fewer are left after it.
 pub fn a_tick_moves_its_units()
-    ensures fewer { (setup : SetupType) (h : History) (used : ℕ) (s new : PowerState) (answer : AnswerType)
-        → s.out ≡ No → 0 < phase_to s.phase → IsEventStep setup h used s TickEvent None answer new
-        → IsToldBy Moving answer → units_left setup new + units_of_tick setup s ≤ units_left setup s }
-    ensures tells { (setup : SetupType) (h : History) (used : ℕ) (s new : PowerState) (answer : AnswerType)
+    ensures fewer { (setup : SetupType) (h : History)
+        (used : ℕ) (s new : PowerState) (answer : AnswerType) → s.out ≡ No → 0 < phase_to s.phase
+        → IsEventStep setup h used s TickEvent None answer new → IsToldBy Moving answer
+        → units_left setup new + units_of_tick setup s ≤ units_left setup s }
+    ensures tells { (setup : SetupType)
+        (h : History) (used : ℕ) (s new : PowerState) (answer : AnswerType)
         → s.out ≡ No → 0 < phase_to s.phase → IsEventStep setup h used s TickEvent None answer new
         → TellsUnits (units_of_tick setup s) (units_left setup s) answer }
 {}

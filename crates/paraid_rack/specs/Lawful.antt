@@ -33,4 +33,5 @@ IsLawful-prop s (Attach d size done) = hlevel props
 -- so has that of several
 pub AreLawful-prop : (s : Disks) (cs : List Call) → IsProp (AreLawful s cs)
 AreLawful-prop s [] = hlevel props
-AreLawful-prop s (c ∷ cs) = let first = IsLawful-prop s c in let rest = AreLawful-prop (step c s) cs in hlevel (props, first, rest)
+AreLawful-prop s (c ∷ cs) = let first =
+    IsLawful-prop s c in let rest = AreLawful-prop (step c s) cs in hlevel (props, first, rest)

@@ -18,7 +18,8 @@ vacant_slot = record { power = Absent; size = 0; unsynced = false; faults = 0 }
 
 -- A call on one slot. Done, it leaves the slot as `leaves`. Failed, it leaves it absent, of size 0,
 -- its count risen, and unsynced as `dirt` says. No other slot changes.
-pub record ChangesOneSlot (old new : ℕ → Slot) (disk : ℕ) (leaves : Slot) (dirt : Bool) (ok : Bool) : Type 0 where
+pub record ChangesOneSlot
+    (old new : ℕ → Slot) (disk : ℕ) (leaves : Slot) (dirt : Bool) (ok : Bool) : Type 0 where
   pub others : (d : ℕ) → d ≢ disk → new d ≡ old d
   pub done : ok ≡ true → new disk ≡ leaves
   pub absent : ok ≡ false → (new disk).power ≡ Absent

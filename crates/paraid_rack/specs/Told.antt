@@ -7,7 +7,8 @@ use Rattle.paraid_rack.specs.Trail.{Trail, run, now, extend}
 -- Where the record is told after a call, it was told before, the start is the same and the list is
 -- longer by this one call.
 abbrev pub GrowsByCall : Option Trail → Option Trail → Call → Type 0
-GrowsByCall old new c = (t : Trail) → new ≡ Some t → (s : Trail) × (old ≡ Some s) × (t ≡ extend s (c ∷ []))
+GrowsByCall old new c = (t : Trail)
+    → new ≡ Some t → (s : Trail) × (old ≡ Some s) × (t ≡ extend s (c ∷ []))
 
 -- P at each moment of these calls, the first and the last too
 abbrev pub Through : (Disks → Type 0) → Disks → List Call → Type 0

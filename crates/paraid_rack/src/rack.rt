@@ -53,7 +53,8 @@ pub trait Rack {
         ensures slots { slot_count self.new ≡ slot_count self.old }
         ensures slot { ChangesOneSlot (slot self.old) (slot self.new) disk
             (slot self.old disk) (slot self.old disk).unsynced (is_ok result) }
-        ensures told { GrowsByCall (told self.old) (told self.new) (Call.Read disk place (is_ok result)) }
+        ensures told { GrowsByCall
+            (told self.old) (told self.new) (Call.Read disk place (is_ok result)) }
         ensures bytes { OnOk result ((t : Trail) → told self.old ≡ Some t
             → into.new ≡ (now t).block disk place) };
 
@@ -76,7 +77,8 @@ pub trait Rack {
         ensures slot { ChangesOneSlot (slot self.old) (slot self.new) disk
             (record (slot self.old disk) { unsynced = false }) (slot self.old disk).unsynced
             (is_ok result) }
-        ensures told { GrowsByCall (told self.old) (told self.new) (Call.Sync disk (is_ok result)) };
+        ensures told { GrowsByCall
+            (told self.old) (told self.new) (Call.Sync disk (is_ok result)) };
 
     /// Parks a spinning disk.
     fn park(&mut self, disk: DiskNo) -> Result<(), Failed>
@@ -86,7 +88,8 @@ pub trait Rack {
         ensures slots { slot_count self.new ≡ slot_count self.old }
         ensures slot { ChangesOneSlot (slot self.old) (slot self.new) disk
             (record (slot self.old disk) { power = Power.Parked }) false (is_ok result) }
-        ensures told { GrowsByCall (told self.old) (told self.new) (Call.Park disk (is_ok result)) };
+        ensures told { GrowsByCall
+            (told self.old) (told self.new) (Call.Park disk (is_ok result)) };
 
     /// Spins up a parked disk.
     fn spin_up(&mut self, disk: DiskNo) -> Result<(), Failed>
@@ -95,7 +98,8 @@ pub trait Rack {
         ensures slots { slot_count self.new ≡ slot_count self.old }
         ensures slot { ChangesOneSlot (slot self.old) (slot self.new) disk
             (record (slot self.old disk) { power = Power.Spinning }) false (is_ok result) }
-        ensures told { GrowsByCall (told self.old) (told self.new) (Call.SpinUp disk (is_ok result)) };
+        ensures told { GrowsByCall
+            (told self.old) (told self.new) (Call.SpinUp disk (is_ok result)) };
 
     /// Puts a fresh disk of `size` blocks of zeros into the slot, spinning.
     fn attach(&mut self, disk: DiskNo, size: u32) -> Result<(), Failed>

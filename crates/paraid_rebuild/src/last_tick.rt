@@ -1,4 +1,5 @@
-//! A rebuild ends: the units that are left are copied past the log, and the disk comes back by a commit.
+//! A rebuild ends: the units that are left are copied past the log, and the disk comes back by a
+//! commit.
 ghost use Rattle.std.specs.Prelude.{◌≡◌, ℕ, ◌^◌, ◌<◌, ◌≤◌, true, false, List, [], None, Ok, OnOk, IfErr};
 ghost use Rattle.paraid_base.specs.declared.state.Out.TheVariants.{No};
 ghost use Rattle.paraid_base.specs.History.{History};
@@ -18,12 +19,14 @@ use paraid_core::Core;
 use paraid_rack::Rack;
 use paraid_record::rebuild_units;
 
-// Copies the units that are left, which end at `end`, and takes the disk into the array again by a commit.
+// Copies the units that are left, which end at `end`, and takes the disk into the array again by a
+// commit.
 fn conclude<R: Rack>(core: &mut Core<R>, disk: DiskNo, end: u32) -> Result<bool, Two>
     requires can { CanRebuild core.old disk }
     requires nothing { batch_of core.old ≡ [] }
     requires from { rebuilt_count (meta_of core.old).out ≤ end }
-    requires all { end ≡ units_of_rebuild (meta_of core.old).setup.geometry (meta_of core.old).gear disk }
+    requires all { end
+        ≡ units_of_rebuild (meta_of core.old).setup.geometry (meta_of core.old).gear disk }
     requires epoch { (meta_of core.old).epoch < 2 ^ 63 }
     ensures serves { OnOk result (ServesLater core.old core.new 1) }
     ensures absent { OnOk result (IsNamedOrAbsent R.slot core.new) }
@@ -38,8 +41,8 @@ fn conclude<R: Rack>(core: &mut Core<R>, disk: DiskNo, end: u32) -> Result<bool,
         → FinishesRebuild (R.told (core_rack core.old)) (R.told (core_rack core.new))
         (service_of R.slot_count core.old samples served energy)
         (service_of R.slot_count core.new samples served energy) h lo disk) }
-    ensures loses { IfErr result (λ two. (samples : List ℕ) (served energy : ℕ) (h : History) (lo : ℕ)
-        → LosesFinishing (R.told (core_rack core.old)) (R.told (core_rack core.new))
+    ensures loses { IfErr result (λ two. (samples : List ℕ) (served energy : ℕ) (h : History)
+        (lo : ℕ) → LosesFinishing (R.told (core_rack core.old)) (R.told (core_rack core.new))
         (service_of R.slot_count core.old samples served energy) h lo disk two) }
 {
     let first = core.out().rebuilt();
@@ -50,10 +53,11 @@ fn conclude<R: Rack>(core: &mut Core<R>, disk: DiskNo, end: u32) -> Result<bool,
     come_back(core, disk)
 }
 
-/// Ends a rebuild, with nothing staged: copies the units that are left, and takes the disk into the array again by one
-/// commit. The disk is not parked.
+/// Ends a rebuild, with nothing staged: copies the units that are left, and takes the disk into the
+/// array again by one commit. The disk is not parked.
 ///
-/// True once it is back. False where it was lost: it is gone, which the next commit, `commit_lost`, brings to the disks.
+/// True once it is back. False where it was lost: it is gone, which the next commit, `commit_lost`,
+/// brings to the disks.
 pub fn finish<R: Rack>(core: &mut Core<R>, disk: DiskNo) -> Result<bool, Two>
     requires can { CanRebuild core.old disk }
     requires nothing { batch_of core.old ≡ [] }
@@ -73,8 +77,8 @@ pub fn finish<R: Rack>(core: &mut Core<R>, disk: DiskNo) -> Result<bool, Two>
         (service_of R.slot_count core.old samples served energy)
         (service_of R.slot_count core.new samples served energy) h lo disk) }
     // So they are where a second disk is lost in them.
-    ensures loses { IfErr result (λ two. (samples : List ℕ) (served energy : ℕ) (h : History) (lo : ℕ)
-        → LosesFinishing (R.told (core_rack core.old)) (R.told (core_rack core.new))
+    ensures loses { IfErr result (λ two. (samples : List ℕ) (served energy : ℕ) (h : History)
+        (lo : ℕ) → LosesFinishing (R.told (core_rack core.old)) (R.told (core_rack core.new))
         (service_of R.slot_count core.old samples served energy) h lo disk two) }
 {
     let end = rebuild_units(&core.meta().setup.geometry, core.meta().gear, disk);

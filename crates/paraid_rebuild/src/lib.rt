@@ -1,7 +1,8 @@
 //! The rebuild of a disk, over the calls of a core.
 //!
-//! A disk that is out is replaced by a fresh one; its units are copied past the log and marked by commits; once all are
-//! copied it comes back by a commit. No stop takes a write away, and where the fresh disk is lost again it is gone.
+//! A disk that is out is replaced by a fresh one; its units are copied past the log and marked by
+//! commits; once all are copied it comes back by a commit. No stop takes a write away, and where
+//! the fresh disk is lost again it is gone.
 #![tactic(auto)]
 
 mod ending;

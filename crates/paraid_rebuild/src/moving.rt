@@ -23,24 +23,27 @@ fn copy_units<R: Rack>(core: &mut Core<R>, disk: DiskNo, first: u32, end: u32) -
     requires nothing { batch_of core.old ≡ [] }
     requires from { rebuilt_count (meta_of core.old).out ≤ first }
     requires order { first ≤ end }
-    requires limit { end ≤ rebuild_units (meta_of core.old).setup.geometry (meta_of core.old).gear disk }
+    requires limit { end
+        ≤ rebuild_units (meta_of core.old).setup.geometry (meta_of core.old).gear disk }
     ensures leaves { OnOk result (LeavesCore R.slot_count R.slot core.old core.new) }
     ensures same { result ≡ Ok true → KeepsDisk core.new disk (meta_of core.old) }
     ensures lost { result ≡ Ok false → LosesAgain core.old core.new disk (meta_of core.old).epoch }
     ensures keeps { SparesSlots core.old core.new result }
     ensures calls { MakesDataCalls R.told core.old core.new }
-    ensures tells { IfErr result (CoreTellsLosses R.told (named_out (meta_of core.old).out) core.old core.new) }
-    ensures copied { result ≡ Ok true → (h : History) (lo : ℕ)
-        → Ran (R.told (core_rack core.old)) (R.told (core_rack core.new))
-        (CrashTriple (IsCoreHeldSinceCommit R.slot_count core.old h lo)
-        (UnitsRebuilt R.slot_count core.old h lo first) (UnitsRebuilt R.slot_count core.new h lo end)) }
+    ensures tells { IfErr result
+        (CoreTellsLosses R.told (named_out (meta_of core.old).out) core.old core.new) }
+    ensures copied { result ≡ Ok true
+        → (h : History) (lo : ℕ) → Ran (R.told (core_rack core.old)) (R.told (core_rack core.new))
+        (CrashTriple (IsCoreHeldSinceCommit R.slot_count core.old h lo) (UnitsRebuilt
+        R.slot_count core.old h lo first) (UnitsRebuilt R.slot_count core.new h lo end)) }
     ensures stands { OnOk result ((h : History) (lo : ℕ)
         → Ran (R.told (core_rack core.old)) (R.told (core_rack core.new))
-        (CrashTriple (IsCoreHeldSinceCommit R.slot_count core.old h lo)
-        (UnitsRebuilt R.slot_count core.old h lo first) (CoreStandsFor R.slot_count core.new h lo))) }
-    ensures moments { (h : History) (lo : ℕ) → Ran (R.told (core_rack core.old)) (R.told (core_rack core.new))
-        (CrashTriple (IsCoreHeldSinceCommit R.slot_count core.old h lo)
-        (UnitsRebuilt R.slot_count core.old h lo first) (IsCoreHeldSinceCommit R.slot_count core.old h lo)) }
+        (CrashTriple (IsCoreHeldSinceCommit R.slot_count core.old h lo) (UnitsRebuilt
+        R.slot_count core.old h lo first) (CoreStandsFor R.slot_count core.new h lo))) }
+    ensures moments { (h : History) (lo : ℕ)
+        → Ran (R.told (core_rack core.old)) (R.told (core_rack core.new))
+        (CrashTriple (IsCoreHeldSinceCommit R.slot_count core.old h lo) (UnitsRebuilt
+        R.slot_count core.old h lo first) (IsCoreHeldSinceCommit R.slot_count core.old h lo)) }
 {
     for number in first..end {
         let done = core.rebuild_unit(number)?;
@@ -51,7 +54,8 @@ fn copy_units<R: Rack>(core: &mut Core<R>, disk: DiskNo, first: u32, end: u32) -
     Ok(true)
 }
 
-// Copies the units from `first` to `end - 1` of the disk that is rebuilt, and makes them last. False where it was lost.
+// Copies the units from `first` to `end - 1` of the disk that is rebuilt, and makes them last.
+// False where it was lost.
 pub(crate) fn move_units<R: Rack>(
     core: &mut Core<R>,
     disk: DiskNo,
@@ -62,25 +66,28 @@ pub(crate) fn move_units<R: Rack>(
     requires nothing { batch_of core.old ≡ [] }
     requires from { rebuilt_count (meta_of core.old).out ≤ first }
     requires order { first ≤ end }
-    requires limit { end ≤ rebuild_units (meta_of core.old).setup.geometry (meta_of core.old).gear disk }
+    requires limit { end
+        ≤ rebuild_units (meta_of core.old).setup.geometry (meta_of core.old).gear disk }
     ensures serving { OnOk result (IsCoreServing R.slot_count R.slot core.new) }
     ensures leaves { OnOk result (LeavesCore R.slot_count R.slot core.old core.new) }
     ensures same { result ≡ Ok true → KeepsDisk core.new disk (meta_of core.old) }
     ensures lost { result ≡ Ok false → LosesAgain core.old core.new disk (meta_of core.old).epoch }
     ensures keeps { SparesSlots core.old core.new result }
     ensures calls { MakesDataCalls R.told core.old core.new }
-    ensures tells { IfErr result (CoreTellsLosses R.told (named_out (meta_of core.old).out) core.old core.new) }
-    ensures copied { result ≡ Ok true → (h : History) (lo : ℕ)
-        → Ran (R.told (core_rack core.old)) (R.told (core_rack core.new))
-        (CrashTriple (IsCoreHeldSinceCommit R.slot_count core.old h lo)
-        (UnitsRebuilt R.slot_count core.old h lo first) (UnitsRebuilt R.slot_count core.new h lo end)) }
+    ensures tells { IfErr result
+        (CoreTellsLosses R.told (named_out (meta_of core.old).out) core.old core.new) }
+    ensures copied { result ≡ Ok true
+        → (h : History) (lo : ℕ) → Ran (R.told (core_rack core.old)) (R.told (core_rack core.new))
+        (CrashTriple (IsCoreHeldSinceCommit R.slot_count core.old h lo) (UnitsRebuilt
+        R.slot_count core.old h lo first) (UnitsRebuilt R.slot_count core.new h lo end)) }
     ensures stands { OnOk result ((h : History) (lo : ℕ)
         → Ran (R.told (core_rack core.old)) (R.told (core_rack core.new))
-        (CrashTriple (IsCoreHeldSinceCommit R.slot_count core.old h lo)
-        (UnitsRebuilt R.slot_count core.old h lo first) (CoreStandsFor R.slot_count core.new h lo))) }
-    ensures moments { (h : History) (lo : ℕ) → Ran (R.told (core_rack core.old)) (R.told (core_rack core.new))
-        (CrashTriple (IsCoreHeldSinceCommit R.slot_count core.old h lo)
-        (UnitsRebuilt R.slot_count core.old h lo first) (IsCoreHeldSinceCommit R.slot_count core.old h lo)) }
+        (CrashTriple (IsCoreHeldSinceCommit R.slot_count core.old h lo) (UnitsRebuilt
+        R.slot_count core.old h lo first) (CoreStandsFor R.slot_count core.new h lo))) }
+    ensures moments { (h : History) (lo : ℕ)
+        → Ran (R.told (core_rack core.old)) (R.told (core_rack core.new))
+        (CrashTriple (IsCoreHeldSinceCommit R.slot_count core.old h lo) (UnitsRebuilt
+        R.slot_count core.old h lo first) (IsCoreHeldSinceCommit R.slot_count core.old h lo)) }
 {
     let done = copy_units(core, disk, first, end)?;
     core.settle()?;

@@ -1,4 +1,5 @@
-//! A step of a rebuild: what is staged is committed first, then units are copied and marked by a commit.
+//! A step of a rebuild: what is staged is committed first, then units are copied and marked by a
+//! commit.
 ghost use Rattle.std.specs.Prelude.{◌≡◌, ℕ, ◌+◌, ◌^◌, ◌<◌, ◌≤◌, true, false, [], Ok, Some, OnOk};
 ghost use Rattle.paraid_base.specs.declared.state.Out.TheVariants.{Fresh, Gone};
 ghost use Rattle.paraid_base.specs.History.{History};
@@ -35,14 +36,14 @@ pub fn commit_staged<R: Rack>(core: &mut Core<R>, disk: DiskNo) -> Result<bool, 
     ensures same { result ≡ Ok true → KeepsDisk core.new disk
         (record (meta_of core.old) { epoch = (meta_of core.new).epoch }) }
     // The disk has failed, and is gone.
-    ensures lost { result ≡ Ok false → LosesAgain core.old core.new disk ((meta_of core.old).epoch + 1) }
+    ensures lost { result ≡ Ok false
+        → LosesAgain core.old core.new disk ((meta_of core.old).epoch + 1) }
     ensures table { core_table core.new ≡ core_table core.old }
     ensures keeps { SparesSlots core.old core.new result }
     ensures moments { IsHeldInShift R.slot_count R.told core.old core.new }
-    ensures rests { OnOk result ((h : History) (lo : ℕ)
-        → Ran (R.told (core_rack core.old)) (R.told (core_rack core.new))
-        (CrashTriple (IsCoreHeldSinceCommit R.slot_count core.old h lo) (StandsInShift R.slot_count core.old h lo)
-        (RestsInShift R.slot_count core.new h lo))) }
+    ensures rests { OnOk result ((h : History) (lo : ℕ) → Ran (R.told (core_rack core.old)) (R.told
+        (core_rack core.new)) (CrashTriple (IsCoreHeldSinceCommit R.slot_count core.old h lo)
+        (StandsInShift R.slot_count core.old h lo) (RestsInShift R.slot_count core.new h lo))) }
     // In an event it is a part with at most one commit, also where a second disk is lost in it.
     ensures in_event { IsEventPart core.old core.new 1 result }
 {
@@ -60,17 +61,17 @@ pub fn commit_lost<R: Rack>(core: &mut Core<R>, disk: DiskNo) -> Result<(), Two>
     requires absent { IsNamedOrAbsent R.slot core.old }
     requires epoch { (meta_of core.old).epoch < 2 ^ 63 }
     ensures serves { OnOk result (HasCommitted core.new (Some disk)) }
-    ensures gone { OnOk result (meta_of core.new
-        ≡ record (meta_after_loss (meta_of core.old) disk) { epoch = (meta_of core.old).epoch + 1 }) }
+    ensures gone { OnOk result (meta_of core.new ≡ record (meta_after_loss
+        (meta_of core.old) disk) { epoch = (meta_of core.old).epoch + 1 }) }
     ensures table { core_table core.new ≡ core_table core.old }
     ensures keeps { SparesSlots core.old core.new result }
-    ensures moments { (h : History) (lo : ℕ) → Ran (R.told (core_rack core.old)) (R.told (core_rack core.new))
-        (CrashTriple (IsCoreHeldSinceCommit R.slot_count core.old h lo) (CoreStandsFor R.slot_count core.old h lo)
-        (IsCoreHeldSinceCommit R.slot_count core.old h lo)) }
-    ensures rests { OnOk result ((h : History) (lo : ℕ)
+    ensures moments { (h : History) (lo : ℕ)
         → Ran (R.told (core_rack core.old)) (R.told (core_rack core.new))
-        (CrashTriple (IsCoreHeldSinceCommit R.slot_count core.old h lo) (CoreStandsFor R.slot_count core.old h lo)
-        (RestsInShift R.slot_count core.new h lo))) }
+        (CrashTriple (IsCoreHeldSinceCommit R.slot_count core.old h lo) (CoreStandsFor
+        R.slot_count core.old h lo) (IsCoreHeldSinceCommit R.slot_count core.old h lo)) }
+    ensures rests { OnOk result ((h : History) (lo : ℕ) → Ran (R.told (core_rack core.old)) (R.told
+        (core_rack core.new)) (CrashTriple (IsCoreHeldSinceCommit R.slot_count core.old h lo)
+        (CoreStandsFor R.slot_count core.old h lo) (RestsInShift R.slot_count core.new h lo))) }
     ensures in_event { IsEventPart core.old core.new 1 result }
 {
     core.mark_out(disk);
@@ -78,12 +79,14 @@ pub fn commit_lost<R: Rack>(core: &mut Core<R>, disk: DiskNo) -> Result<(), Two>
     Ok(())
 }
 
-// Copies the units below `end` that are not rebuilt, and marks them by a commit. False where the disk was lost.
+// Copies the units below `end` that are not rebuilt, and marks them by a commit. False where the
+// disk was lost.
 fn advance<R: Rack>(core: &mut Core<R>, disk: DiskNo, end: u32) -> Result<bool, Two>
     requires can { CanRebuild core.old disk }
     requires nothing { batch_of core.old ≡ [] }
     requires from { rebuilt_count (meta_of core.old).out ≤ end }
-    requires limit { end ≤ rebuild_units (meta_of core.old).setup.geometry (meta_of core.old).gear disk }
+    requires limit { end
+        ≤ rebuild_units (meta_of core.old).setup.geometry (meta_of core.old).gear disk }
     requires epoch { (meta_of core.old).epoch < 2 ^ 63 }
     ensures serves { OnOk result (ServesLater core.old core.new 1) }
     ensures named { OnOk result (named_of (store_of core.new) ≡ Some disk) }
@@ -107,7 +110,8 @@ fn advance<R: Rack>(core: &mut Core<R>, disk: DiskNo, end: u32) -> Result<bool, 
 fn go_on<R: Rack>(core: &mut Core<R>, disk: DiskNo, end: u32) -> Result<bool, Two>
     requires can { CanRebuild core.old disk }
     requires from { rebuilt_count (meta_of core.old).out ≤ end }
-    requires limit { end ≤ rebuild_units (meta_of core.old).setup.geometry (meta_of core.old).gear disk }
+    requires limit { end
+        ≤ rebuild_units (meta_of core.old).setup.geometry (meta_of core.old).gear disk }
     requires epoch { (meta_of core.old).epoch + 1 < 2 ^ 63 }
     ensures serves { OnOk result (ServesLater core.old core.new 2) }
     ensures named { OnOk result (named_of (store_of core.new) ≡ Some disk) }
@@ -117,14 +121,13 @@ fn go_on<R: Rack>(core: &mut Core<R>, disk: DiskNo, end: u32) -> Result<bool, Tw
     ensures lost { result ≡ Ok false → LosesAgain core.old core.new disk (meta_of core.new).epoch }
     ensures keeps { SparesSlots core.old core.new result }
     ensures moments { IsHeldInShift R.slot_count R.told core.old core.new }
-    ensures stands { OnOk result ((h : History) (lo : ℕ)
-        → Ran (R.told (core_rack core.old)) (R.told (core_rack core.new))
-        (CrashTriple (IsCoreHeldSinceCommit R.slot_count core.old h lo) (StandsInShift R.slot_count core.old h lo)
-        (CoreStandsFor R.slot_count core.new h lo))) }
-    ensures rests { result ≡ Ok true → (h : History) (lo : ℕ)
-        → Ran (R.told (core_rack core.old)) (R.told (core_rack core.new))
-        (CrashTriple (IsCoreHeldSinceCommit R.slot_count core.old h lo) (StandsInShift R.slot_count core.old h lo)
-        (RestsInShift R.slot_count core.new h lo)) }
+    ensures stands { OnOk result ((h : History) (lo : ℕ) → Ran (R.told (core_rack core.old)) (R.told
+        (core_rack core.new)) (CrashTriple (IsCoreHeldSinceCommit R.slot_count core.old h lo)
+        (StandsInShift R.slot_count core.old h lo) (CoreStandsFor R.slot_count core.new h lo))) }
+    ensures rests { result ≡ Ok true
+        → (h : History) (lo : ℕ) → Ran (R.told (core_rack core.old)) (R.told (core_rack core.new))
+        (CrashTriple (IsCoreHeldSinceCommit R.slot_count core.old h lo)
+        (StandsInShift R.slot_count core.old h lo) (RestsInShift R.slot_count core.new h lo)) }
     ensures in_event { IsEventPart core.old core.new 2 result }
 {
     let there = commit_staged(core, disk)?;
@@ -134,14 +137,15 @@ fn go_on<R: Rack>(core: &mut Core<R>, disk: DiskNo, end: u32) -> Result<bool, Tw
     advance(core, disk, end)
 }
 
-/// A step of a rebuild: what is staged is committed first, if anything is; then the units below `end` that are not rebuilt
-/// are copied past the log, made to last and marked by one commit.
+/// A step of a rebuild: what is staged is committed first, if anything is; then the units below
+/// `end` that are not rebuilt are copied past the log, made to last and marked by one commit.
 ///
 /// True once they are. False where the disk was lost again.
 pub fn step<R: Rack>(core: &mut Core<R>, disk: DiskNo, end: u32) -> Result<bool, Two>
     requires can { CanRebuild core.old disk }
     requires from { rebuilt_count (meta_of core.old).out ≤ end }
-    requires limit { end ≤ rebuild_units (meta_of core.old).setup.geometry (meta_of core.old).gear disk }
+    requires limit { end
+        ≤ rebuild_units (meta_of core.old).setup.geometry (meta_of core.old).gear disk }
     requires epoch { (meta_of core.old).epoch + 2 < 2 ^ 63 }
     ensures serves { OnOk result (ServesLater core.old core.new 3) }
     ensures absent { OnOk result (IsNamedOrAbsent R.slot core.new) }
@@ -153,11 +157,11 @@ pub fn step<R: Rack>(core: &mut Core<R>, disk: DiskNo, end: u32) -> Result<bool,
     ensures keeps { SparesSlots core.old core.new result }
     ensures moments { IsHeldInShift R.slot_count R.told core.old core.new }
     // Each stop leaves what it left before, and the writes are as they were, with nothing staged.
-    ensures rests { OnOk result ((h : History) (lo : ℕ)
-        → Ran (R.told (core_rack core.old)) (R.told (core_rack core.new))
-        (CrashTriple (IsCoreHeldSinceCommit R.slot_count core.old h lo) (StandsInShift R.slot_count core.old h lo)
-        (RestsInShift R.slot_count core.new h lo))) }
-    // In an event these are parts with at most three commits, also where a second disk is lost in them.
+    ensures rests { OnOk result ((h : History) (lo : ℕ) → Ran (R.told (core_rack core.old)) (R.told
+        (core_rack core.new)) (CrashTriple (IsCoreHeldSinceCommit R.slot_count core.old h lo)
+        (StandsInShift R.slot_count core.old h lo) (RestsInShift R.slot_count core.new h lo))) }
+    // In an event these are parts with at most three commits, also where a second disk is lost in
+    // them.
     ensures in_event { IsEventPart core.old core.new 3 result }
 {
     let moved = go_on(core, disk, end)?;

@@ -1,4 +1,5 @@
--- The numbers that stand for modes, phases and disks that are out, and the lists of gears and windows
+-- The numbers that stand for modes, phases and disks that are out, and the lists of gears and
+-- windows
 use Rattle.std.specs.Prelude.{ℕ, false, List, [], ◌∷◌, ◌++◌, if◌then◌else◌, nat_lt, count_by, slice_index_or}
 use Rattle.std.proofs.Common.{zero, suc}
 use Rattle.paraid_base.specs.declared.geometry.Geometry.{Geometry}
@@ -45,7 +46,8 @@ period_code version s = if nat_lt 1 version then s.period else 0
 -- the gears below `a`, in ascending order
 unfoldable pub gears_below : Geometry → ℕ → List ℕ
 gears_below g zero = []
-gears_below g (suc a) = if slice_index_or g.gears a false then gears_below g a ++ a ∷ [] else gears_below g a
+gears_below g (suc a) =
+    if slice_index_or g.gears a false then gears_below g a ++ a ∷ [] else gears_below g a
 
 -- all gears, in ascending order
 abbrev pub gear_list : Geometry → List ℕ

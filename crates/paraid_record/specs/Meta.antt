@@ -69,7 +69,8 @@ energy_bytes s = joined_parts
 
 -- how the allowance of spin-ups grows
 unfoldable pub growth_bytes : ℕ → Setup → List ℕ
-growth_bytes version s = joined_parts (big_endian 2 (burst_code version s) ∷ big_endian 4 (period_code version s) ∷ [])
+growth_bytes version s =
+    joined_parts (big_endian 2 (burst_code version s) ∷ big_endian 4 (period_code version s) ∷ [])
 
 -- the whole block: the fields, and then zeros
 unfoldable pub meta_bytes : Meta → List ℕ

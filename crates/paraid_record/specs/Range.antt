@@ -61,7 +61,8 @@ fill_limit g (Up to) = stripe_count g.disks g.rows to
 -- disks 0 and 1 the blocks of the dirty map
 abbrev pub rebuild_units : Geometry → ℕ → ℕ → ℕ
 rebuild_units g gear disk =
-    g.rows + (if nat_lt disk gear then stripe_count g.disks g.rows gear else 0) + (if nat_lt disk 2 then map_count g else 0)
+    g.rows + (if nat_lt disk gear then stripe_count g.disks g.rows gear else 0)
+    + (if nat_lt disk 2 then map_count g else 0)
 
 -- the out disk is one of the array, with at most its units rebuilt
 abbrev pub IsOutInRange : Geometry → ℕ → Out → Type 0
@@ -83,13 +84,16 @@ allowed_by setup ticks = allowance setup.ration setup.burst setup.period ticks
 abbrev pub allowed_spins : Meta → ℕ
 allowed_spins m = allowed_by m.setup m.ticks
 
--- the spin-ups of a disk: at most what is allowed, below it where the disk is parked, and none past the last disk
+-- the spin-ups of a disk: at most what is allowed, below it where the disk is parked, and none past
+-- the last disk
 pub record IsSpinCount (m : Meta) (disk : ℕ) : Type 0 where
   pub within : slice_index m.spins disk ≤ allowed_spins m
-  pub parked : first_parked m.gear m.phase ≤ disk → disk < m.setup.geometry.disks → slice_index m.spins disk < allowed_spins m
+  pub parked : first_parked m.gear m.phase ≤ disk
+      → disk < m.setup.geometry.disks → slice_index m.spins disk < allowed_spins m
   pub unused : m.setup.geometry.disks ≤ disk → slice_index m.spins disk ≡ 0
 
--- the fill mark is within the region of the new gear; with a disk out there is no shift down and nothing is filled
+-- the fill mark is within the region of the new gear; with a disk out there is no shift down and
+-- nothing is filled
 pub record IsShiftInRange (m : Meta) : Type 0 where
   pub fill : m.fill ≤ fill_limit m.setup.geometry m.phase
   pub down : is_down m.phase ≡ true → has_out m.out ≡ false

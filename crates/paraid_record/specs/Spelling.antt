@@ -20,7 +20,9 @@ shorts (x ∷ xs) = big_endian 2 x ++ shorts xs
 unfoldable pub zero_filled : ℕ → List ℕ → List ℕ
 zero_filled size xs = xs ++ replicate (size - length xs) 0
 
--- where a number of `width` bytes stands next among the bytes left, it was read, and the rest is left
+-- where a number of `width` bytes stands next among the bytes left, it was read, and the rest is
+-- left
 abbrev pub ReadsNumber : ℕ → List ℕ → List ℕ → ℕ → Type 0
 ReadsNumber width old new value =
-    (x : ℕ) (rest : List ℕ) → x < 256 ^ width → old ≡ big_endian width x ++ rest → (value ≡ x) × (new ≡ rest)
+    (x : ℕ) (rest : List ℕ)
+    → x < 256 ^ width → old ≡ big_endian width x ++ rest → (value ≡ x) × (new ≡ rest)

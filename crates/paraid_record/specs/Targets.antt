@@ -20,7 +20,8 @@ places_bytes (t ∷ ts) = big_endian 1 t.disk ++ (big_endian 4 t.place ++ places
 unfoldable pub targets_bytes : List Target → List ℕ
 targets_bytes ts = zero_filled 512 (big_endian 2 (length ts) ++ places_bytes ts)
 
--- a place past the log, on a disk of the array, and only on disk 0 or 1 where it is of the dirty map
+-- a place past the log, on a disk of the array, and only on disk 0 or 1 where it is of the dirty
+-- map
 pub record IsTargetInRange (g : Geometry) (t : Target) : Type 0 where
   pub disk : t.disk < g.disks
   pub past_log : map_start g ≤ t.place

@@ -5,10 +5,11 @@ use paraid_base::{Geometry, Out, Phase};
 /// How a shift up brings back what was written meanwhile.
 #[derive(Clone, Copy)]
 pub enum Mode {
-    /// One tick of a shift up moves all units that are left, whatever the rate. A read changes nothing.
+    /// One tick of a shift up moves all units that are left, whatever the rate. A read changes
+    /// nothing.
     Whole,
-    /// A tick of a shift up moves as many units as the rate says. A read of a dirty cell of a disk that
-    /// comes up makes it clean, where no disk is out.
+    /// A tick of a shift up moves as many units as the rate says. A read of a dirty cell of a disk
+    /// that comes up makes it clean, where no disk is out.
     Access,
 }
 

@@ -19,7 +19,8 @@ impl Model for Pen {
 
     ghost view = { λ p. take p.at p.bytes };
 
-    ghost invariant = { λ p. (p.at ≤ 512) × (length p.bytes ≡ 512) × (drop p.at p.bytes ≡ replicate (512 - p.at) 0) };
+    ghost invariant = { λ p. (p.at ≤ 512)
+        × (length p.bytes ≡ 512) × (drop p.at p.bytes ≡ replicate (512 - p.at) 0) };
 }
 
 impl Pen {

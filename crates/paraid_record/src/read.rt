@@ -124,9 +124,9 @@ fn take_geometry(reader: &mut Reader) -> Option<Geometry>
 /// on.
 fn take_policy(reader: &mut Reader, geometry: Geometry) -> Option<Setup>
     requires { 20 ≤ length reader.old }
-    ensures reads { (s : SetupType) (rest : List ℕ) → IsSetupInRange s → s.geometry ≡ geometry
-        → reader.old ≡ policy_bytes s ++ rest
-        → (result ≡ Some (record s { burst = 0; period = 0; spinning_mj = 0; parked_mj = 0; spinup_mj = 0 }))
+    ensures reads { (s : SetupType) (rest : List ℕ)
+        → IsSetupInRange s → s.geometry ≡ geometry → reader.old ≡ policy_bytes s ++ rest → (result
+        ≡ Some (record s { burst = 0; period = 0; spinning_mj = 0; parked_mj = 0; spinup_mj = 0 }))
         × (reader.new ≡ rest) }
     ensures length { length reader.new + 20 ≡ length reader.old }
 {

@@ -97,8 +97,8 @@ fn is_spelling(targets: &[Target], block: &Block) -> bool
 fn take_targets(reader: &mut Reader) -> Option<Targets>
     requires { 482 ≤ length reader.old }
     ensures rest { IfSome result AreRestUnused }
-    ensures value { (ts : List TargetType) (rest : List ℕ) → length ts ≤ batch_room → All FitsBytes ts
-        → reader.old ≡ big_endian 2 (length ts) ++ (places_bytes ts ++ rest)
+    ensures value { (ts : List TargetType) (rest : List ℕ) → length ts ≤ batch_room
+        → All FitsBytes ts → reader.old ≡ big_endian 2 (length ts) ++ (places_bytes ts ++ rest)
         → IsSomeAnd result (λ t. targets_of t ≡ ts) }
 {
     let count = reader.take_u16();

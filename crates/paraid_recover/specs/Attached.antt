@@ -34,4 +34,5 @@ pub record IsMetaWritten (x : ℕ) (b : Block) (start s : Disks) : Type 0 where
 -- they are.
 pub record BecomesFormatted (slots : ℕ) (m : Meta) (start s : Disks) : Type 0 where
   pub stops : (i : Disks) → IsImage s i → IsFormatted slots i m
-  pub whole : ((d p : ℕ) → m.setup.geometry.disks ≤ d → start.loose d p ≡ false) → IsFormatted slots s m
+  pub whole : ((d p : ℕ) → m.setup.geometry.disks ≤ d → start.loose d p ≡ false)
+      → IsFormatted slots s m

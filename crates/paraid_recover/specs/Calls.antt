@@ -24,7 +24,8 @@ AreAttaches size low high (Write d p b done ∷ cs) = ⊥
 AreAttaches size low high (Sync d done ∷ cs) = ⊥
 AreAttaches size low high (Park d done ∷ cs) = ⊥
 AreAttaches size low high (SpinUp d done ∷ cs) = ⊥
-AreAttaches size low high (Attach d s done ∷ cs) = (low ≤ d) × (s ≡ size) × AreAttaches size (d + 1) high cs
+AreAttaches size low high (Attach d s done ∷ cs) =
+    (low ≤ d) × (s ≡ size) × AreAttaches size (d + 1) high cs
 
 -- a write of a meta, and a sync
 abbrev pub IsMetaCall : Call → Type 0
@@ -49,9 +50,10 @@ pub record AreMakingCalls (count size : ℕ) (calls : List Call) : Type 0 where
   pub first : AreAttaches size 0 count attaches
   pub second : AreMetaCalls writes
 
--- Reads, unless they are not asked for; then the calls that make the array. There are such only where
--- no log disk says that it belongs to an array, or where that does not matter.
-pub record AreFormatCalls (force : Bool) (count size : ℕ) (start : Disks) (calls : List Call) : Type 0 where
+-- Reads, unless they are not asked for; then the calls that make the array. There are such only
+-- where no log disk says that it belongs to an array, or where that does not matter.
+pub record AreFormatCalls
+    (force : Bool) (count size : ℕ) (start : Disks) (calls : List Call) : Type 0 where
   pub reads : List Call
   pub rest : List Call
   pub is : calls ≡ reads ++ rest

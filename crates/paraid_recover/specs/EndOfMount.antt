@@ -24,9 +24,9 @@ IsMarkAtEnd m mark end = (t : Trail) → end ≡ Some t → mark ≡ to_mark (no
 -- From disks with nothing loose on which a commit was interrupted to a rest under this meta, the
 -- cells that are shown as dirty stay, where one disk at most is absent or was weak.
 abbrev pub KeepsDirty : ℕ → ℕ → LogState → Meta → Option Trail → Option Trail → Type 0
-KeepsDirty slots x said m old new = (t : Trail) → new ≡ Some t → (s : Trail) × (old ≡ Some s)
-    × ((h : History) (lo : ℕ) (was down : Option ℕ) → IsResumable (now s) x said
-    → IsHeld slots (now s) h lo was → IsAbsentSince said.meta.setup.geometry.disks t (moments s) (moments t) down
-    → ((w : ℕ) → IsWeak (now s) w → down ≡ Some w)
-    → (r d : ℕ) → r < said.meta.setup.geometry.rows
+KeepsDirty slots x said m old new = (t : Trail)
+    → new ≡ Some t → (s : Trail) × (old ≡ Some s) × ((h : History) (lo : ℕ) (was down : Option ℕ)
+    → IsResumable (now s) x said → IsHeld slots (now s) h lo was
+    → IsAbsentSince said.meta.setup.geometry.disks t (moments s) (moments t) down
+    → ((w : ℕ) → IsWeak (now s) w → down ≡ Some w) → (r d : ℕ) → r < said.meta.setup.geometry.rows
     → (initial_state (now t) (closed_over m)).dirty r d ≡ (initial_state (now s) said).dirty r d)

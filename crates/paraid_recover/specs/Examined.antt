@@ -64,7 +64,8 @@ pub record AreUnpaired (logs : Logs) : Type 0 where
 
 -- one of them refuses the mount: for its log where both gates are open, else for its meta
 abbrev pub unpaired_fault : Bool → Bool → ℕ → MountFault
-unpaired_fault first_open second_open disk = if first_open && second_open then BadLog disk else BadMeta disk
+unpaired_fault first_open second_open disk =
+    if first_open && second_open then BadLog disk else BadMeta disk
 
 -- Why a mount is refused by what the log disks say, in the order of the tests: by each alone; by
 -- one that stands and names itself out, which no array writes; by the one of two that are unpaired
@@ -73,8 +74,10 @@ pub data IsRefusedByLogs (logs : Logs) (fault : MountFault) : Type 0 where
   by_sides : IsRefusedBySides logs.sides fault → IsRefusedByLogs logs fault
   by_itself : AreSidesFormed logs.sides → (x : ℕ) (said : LogState) → IsStanding logs x said
       → named_out said.meta.out ≡ Some x → fault ≡ BadMeta x → IsRefusedByLogs logs fault
-  unpaired : AreSidesFormed logs.sides → (x : ℕ) (said : LogState) → IsStanding logs x said → named_out said.meta.out ≢ Some x
-      → (pair : AreUnpaired logs) → fault ≡ unpaired_fault pair.first.opened pair.second.opened (other_log x) → IsRefusedByLogs logs fault
+  unpaired : AreSidesFormed logs.sides → (x : ℕ) (said : LogState)
+      → IsStanding logs x said → named_out said.meta.out ≢ Some x → (pair : AreUnpaired logs)
+      → fault ≡ unpaired_fault pair.first.opened pair.second.opened (other_log x)
+      → IsRefusedByLogs logs fault
 
 -- none of these causes is there, and this stands
 pub record IsAgreed (logs : Logs) (x : ℕ) (said : LogState) : Type 0 where
@@ -93,7 +96,8 @@ AreLogsAwake slot = IsNone (is_log_parked slot) 2
 
 -- Why a mount is refused before a read: a log disk is parked, or there are not two slots.
 pub data IsRefusedBySlots (count : ℕ) (slot : ℕ → Slot) (fault : MountFault) : Type 0 where
-  asleep : (x : ℕ) → IsLeastDisk (is_log_parked slot) 2 x → fault ≡ Power x → IsRefusedBySlots count slot fault
+  asleep : (x : ℕ)
+      → IsLeastDisk (is_log_parked slot) 2 x → fault ≡ Power x → IsRefusedBySlots count slot fault
   few : AreLogsAwake slot → count < 2 → fault ≡ NotFormatted → IsRefusedBySlots count slot fault
 
 -- no log disk is parked, and there are two slots
@@ -101,27 +105,32 @@ abbrev pub AreReadable : ℕ → (ℕ → Slot) → Type 0
 AreReadable count slot = AreLogsAwake slot × (2 ≤ count)
 
 -- Why a mount is refused after the reads: by what the log disks say, or by the meta that stands.
-pub data IsRefusedAsHeard (count : ℕ) (slot : ℕ → Slot) (logs : Logs) (fault : MountFault) : Type 0 where
+pub data IsRefusedAsHeard
+    (count : ℕ) (slot : ℕ → Slot) (logs : Logs) (fault : MountFault) : Type 0 where
   by_logs : IsRefusedByLogs logs fault → IsRefusedAsHeard count slot logs fault
-  by_meta : (x : ℕ) (said : LogState) → IsAgreed logs x said → IsRefusedBy count slot said.meta said.batch fault
-      → IsRefusedAsHeard count slot logs fault
+  by_meta : (x : ℕ) (said : LogState) → IsAgreed logs x said
+      → IsRefusedBy count slot said.meta said.batch fault → IsRefusedAsHeard count slot logs fault
 
 -- Why a mount on so many slots is refused with reads of the log disks alone, in the order of the
 -- tests: by the slots; by the loss of both log disks; by what was heard.
-pub data IsRefused (count : ℕ) (old new : ℕ → Slot) (told : Option Trail) (fault : MountFault) : Type 0 where
-  by_slots : IsRefusedBySlots count old fault → AreSameSlots old new → IsRefused count old new told fault
+pub data IsRefused
+    (count : ℕ) (old new : ℕ → Slot) (told : Option Trail) (fault : MountFault) : Type 0 where
+  by_slots : IsRefusedBySlots count old fault
+      → AreSameSlots old new → IsRefused count old new told fault
   by_loss : AreReadable count old → (two : Two) → AreBothLost old new two → fault ≡ BothMissing two
       → IsRefused count old new told fault
   as_heard : AreReadable count old → IsOneLost old new → (logs : Logs) → AreHeard told new logs
       → IsRefusedAsHeard count new logs fault → IsRefused count old new told fault
 
 -- log disk `x` stands with this, and there is no cause
-pub record IsServedAsHeard (count : ℕ) (slot : ℕ → Slot) (logs : Logs) (x : ℕ) (said : LogState) : Type 0 where
+pub record IsServedAsHeard
+    (count : ℕ) (slot : ℕ → Slot) (logs : Logs) (x : ℕ) (said : LogState) : Type 0 where
   pub agreed : IsAgreed logs x said
   pub served : IsNotRefused count slot said.meta said.batch
 
 -- No cause is there, before the reads and after them.
-pub record IsExamined (count : ℕ) (old new : ℕ → Slot) (told : Option Trail) (x : ℕ) (said : LogState) : Type 0 where
+pub record IsExamined
+    (count : ℕ) (old new : ℕ → Slot) (told : Option Trail) (x : ℕ) (said : LogState) : Type 0 where
   pub readable : AreReadable count old
   pub lost : IsOneLost old new
   pub logs : Logs

@@ -29,13 +29,15 @@ first_point s m h spun = record {
 }
 
 -- The session begins at this point, where the record ends: the disks rest under this meta, which
--- counts the writes that are held, and has recorded the spin-ups of each disk that is there; and these
--- cells are dirty, which the map of the disks shows, past the last row too.
-pub record IsFirstPoint (m : Meta) (dirty : ℕ → ℕ → Bool) (told : Option Trail) (p : Point) : Type 0 where
+-- counts the writes that are held, and has recorded the spin-ups of each disk that is there; and
+-- these cells are dirty, which the map of the disks shows, past the last row too.
+pub record IsFirstPoint
+    (m : Meta) (dirty : ℕ → ℕ → Bool) (told : Option Trail) (p : Point) : Type 0 where
   pub history : History
   pub spun : ℕ → ℕ
   pub is : (t : Trail) → told ≡ Some t → p ≡ first_point (now t) m history spun
   pub recorded : (d : ℕ) → IsPresent p.disks d → spun d ≤ made_spin_ups m p.disks.power d
   pub writes : length p.history ≡ m.writes
   pub cells : (r d : ℕ) → r < m.setup.geometry.rows → dirty r d ≡ p.state.dirty r d
-  pub map : (r d : ℕ) → r < 512 * map_count m.setup.geometry → dirty r d ≡ (view_by m p.disks.power (contents p.disks [])).dirty r d
+  pub map : (r d : ℕ) → r < 512 * map_count m.setup.geometry
+      → dirty r d ≡ (view_by m p.disks.power (contents p.disks [])).dirty r d

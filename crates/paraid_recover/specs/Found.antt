@@ -12,7 +12,8 @@ use Rattle.paraid_image.specs.Sides.{Spells, is_open, stored_block}
 -- by a closed gate the meta at place 1, by an open one the meta at place 2 with a list of targets
 abbrev pub IsMetaUnder : Bool → (ℕ → Block) → Meta → Type 0
 IsMetaUnder false log m = Spells (log 1) m
-IsMetaUnder true log m = Spells (log 2) m × (ts : List Target) × AreTargets m.setup.geometry ts × ((log (list_place 0)).bytes ≡ targets_bytes ts)
+IsMetaUnder true log m = Spells (log 2) m × (ts : List Target)
+    × AreTargets m.setup.geometry ts × ((log (list_place 0)).bytes ≡ targets_bytes ts)
 
 -- the log disk is well formed, and this is its meta
 abbrev pub IsFormedMeta : Disks → ℕ → Meta → Type 0

@@ -25,7 +25,8 @@ use Rattle.paraid_txn.specs.Uses.{EachCall}
 abbrev pub IsHeard : Disks → ℕ → Heard → Batch → Type 0
 IsHeard i x Blank batch = IsSide i x blank
 IsHeard i x (Bad gate_open) batch = IsBad i x × (is_open (stored_block i x 0) ≡ gate_open)
-IsHeard i x (Formed gate_open meta) batch = Says i x (record { opened = gate_open; meta = meta; batch = batch })
+IsHeard i x (Formed gate_open meta) batch =
+    Says i x (record { opened = gate_open; meta = meta; batch = batch })
 
 -- the side of log disk `x` is this, with this batch; or that log disk is absent, and there is none
 abbrev pub IsHeardAt : Disks → ℕ → Option Heard → Batch → Type 0
@@ -37,17 +38,20 @@ abbrev pub side_by : Option Heard → Batch → Side
 side_by None batch = absent
 side_by (Some Blank) batch = blank
 side_by (Some (Bad gate_open)) batch = bad
-side_by (Some (Formed gate_open meta)) batch = formed (record { opened = gate_open; meta = meta; batch = batch })
+side_by (Some (Formed gate_open meta)) batch =
+    formed (record { opened = gate_open; meta = meta; batch = batch })
 
 -- The calls from the one record to the other leave the disks as they are at each moment.
 abbrev pub IsUnchanged : Option Trail → Option Trail → Type 0
-IsUnchanged old new = (start : Disks) → Ran old new (CrashTriple (λ s. s ≡ start) (λ s. s ≡ start) (λ s. s ≡ start))
+IsUnchanged old new = (start : Disks)
+    → Ran old new (CrashTriple (λ s. s ≡ start) (λ s. s ≡ start) (λ s. s ≡ start))
 
--- The calls from the one record to the other leave the disks as they are, until this disk is lost in the last
--- one.
+-- The calls from the one record to the other leave the disks as they are, until this disk is lost
+-- in the last one.
 abbrev pub IsLosing : ℕ → Option Trail → Option Trail → Type 0
 IsLosing d old new =
-    (start : Disks) → Ran old new (CrashTriple (λ s. (s ≡ start) ⊎ (s ≡ lose d start)) (λ s. s ≡ start) (λ s. s ≡ lose d start))
+    (start : Disks) → Ran old new
+    (CrashTriple (λ s. (s ≡ start) ⊎ (s ≡ lose d start)) (λ s. s ≡ start) (λ s. s ≡ lose d start))
 
 -- these disks, or with one log disk lost; or with both
 abbrev pub AmongOne : Disks → Disks → Type 0
@@ -59,11 +63,13 @@ AmongTwo start s = AmongOne start s ⊎ (s ≡ lose 1 (lose 0 start))
 
 -- The calls leave the disks as they are at each moment, but for one log disk that may be lost.
 abbrev pub IsReadOnly : Option Trail → Option Trail → Type 0
-IsReadOnly old new = (start : Disks) → Ran old new (CrashTriple (AmongOne start) (λ s. s ≡ start) (AmongOne start))
+IsReadOnly old new = (start : Disks)
+    → Ran old new (CrashTriple (AmongOne start) (λ s. s ≡ start) (AmongOne start))
 
 -- the same, where both may be lost
 abbrev pub IsReadLosing : Option Trail → Option Trail → Type 0
-IsReadLosing old new = (start : Disks) → Ran old new (CrashTriple (AmongTwo start) (λ s. s ≡ start) (AmongTwo start))
+IsReadLosing old new = (start : Disks)
+    → Ran old new (CrashTriple (AmongTwo start) (λ s. s ≡ start) (AmongTwo start))
 
 -- Which two log disks are gone, by the power that disk 1 had before any failed: that which was
 -- absent comes first, or else disk 0.
@@ -93,7 +99,8 @@ IsInForm None batch = Unit {0}
 IsInForm (Some Blank) batch = Unit {0}
 IsInForm (Some (Bad gate_open)) batch = Unit {0}
 IsInForm (Some (Formed gate_open meta)) batch =
-    IsInRange meta × AreTargets meta.setup.geometry (targets batch) × (gate_open ≡ false → batch ≡ [])
+    IsInRange meta
+    × AreTargets meta.setup.geometry (targets batch) × (gate_open ≡ false → batch ≡ [])
 
 -- None is heard of a log disk that is absent, and all else of one that spins
 abbrev pub IsHeardBy : Option Heard → Power → Type 0
@@ -113,8 +120,8 @@ ReadsLogs (Attach d size done) = ⊥
 abbrev pub AtMost : ℕ → Disks → List Call → Type 0
 AtMost n s calls = length calls ≤ n
 
--- At most `n` reads of the log of log disk `x` were made. All is as it was; or the last one failed, and
--- the disk is lost by it.
+-- At most `n` reads of the log of log disk `x` were made. All is as it was; or the last one failed,
+-- and the disk is lost by it.
 pub record HasReadLog {R : Type 0} (g : Ghosts R) (x n : ℕ) (old new : R) (ok : Bool) : Type 0 where
   pub slots : g.slot_count new ≡ g.slot_count old
   pub others : (d : ℕ) → d ≢ x → g.slot new d ≡ g.slot old d
@@ -128,14 +135,15 @@ pub record HasReadLog {R : Type 0} (g : Ghosts R) (x n : ℕ) (old new : R) (ok 
 -- No slot has changed; or one log disk that spun has failed, and the other one spins.
 pub data IsOneLost (old new : ℕ → Slot) : Type 0 where
   none : AreSameSlots old new → IsOneLost old new
-  one : (x : ℕ) → x < 2 → (old x).power ≡ Spinning → IsFailed old new x → ((d : ℕ) → d ≢ x → new d ≡ old d)
-      → (new (other_log x)).power ≡ Spinning → IsOneLost old new
+  one : (x : ℕ) → x < 2 → (old x).power ≡ Spinning → IsFailed old new x
+      → ((d : ℕ) → d ≢ x → new d ≡ old d) → (new (other_log x)).power ≡ Spinning → IsOneLost old new
 
 -- Both log disks are absent. The second of these two spun and has failed; the first was absent, or
 -- has failed too. No other slot has changed.
 pub record AreBothLost (old new : ℕ → Slot) (two : Two) : Type 0 where
   pub pair : two ≡ gone_pair (old 1).power
-  pub first : ((old two.first).power ≡ Absent) ⊎ (((old two.first).power ≡ Spinning) × IsFailed old new two.first)
+  pub first : ((old two.first).power ≡ Absent)
+      ⊎ (((old two.first).power ≡ Spinning) × IsFailed old new two.first)
   pub spun : (old two.second).power ≡ Spinning
   pub failed : IsFailed old new two.second
   pub gone : (x : ℕ) → x < 2 → (new x).power ≡ Absent

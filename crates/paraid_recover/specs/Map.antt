@@ -29,7 +29,8 @@ ShowsMap g blocks dirty = (r d : ℕ) → r < g.rows → dirty r d ≡ map_bit g
 
 -- each log disk that is not out spins and has all blocks of the map
 abbrev pub IsMapReady : Geometry → (ℕ → Slot) → Option ℕ → Type 0
-IsMapReady g slot out = (x : ℕ) → x < 2 → out ≢ Some x → ((slot x).power ≡ Spinning) × (99 + map_count g < (slot x).size)
+IsMapReady g slot out = (x : ℕ)
+    → x < 2 → out ≢ Some x → ((slot x).power ≡ Spinning) × (99 + map_count g < (slot x).size)
 
 -- a read of the map of disk `x`
 abbrev pub ReadsMapOf : Geometry → ℕ → Call → Type 0
@@ -42,7 +43,8 @@ ReadsMapOf g x (Attach d size done) = ⊥
 
 -- a read of the map of a log disk that is not out
 abbrev pub ReadsMap : Geometry → Option ℕ → Call → Type 0
-ReadsMap g out (Read d p done) = (d < 2) × (out ≢ Some d) × (map_start g ≤ p) × (p < map_start g + map_count g)
+ReadsMap g out (Read d p done) =
+    (d < 2) × (out ≢ Some d) × (map_start g ≤ p) × (p < map_start g + map_count g)
 ReadsMap g out (Write d p b done) = ⊥
 ReadsMap g out (Sync d done) = ⊥
 ReadsMap g out (Park d done) = ⊥
@@ -51,16 +53,19 @@ ReadsMap g out (Attach d size done) = ⊥
 
 -- No block past the log has changed.
 abbrev pub KeepsFar : Option Trail → Option Trail → Type 0
-KeepsFar old new = Ran old new (λ start calls. (d p : ℕ) → log_least ≤ p → (run start calls).block d p ≡ start.block d p)
+KeepsFar old new = Ran old new (λ start calls. (d p : ℕ)
+    → log_least ≤ p → (run start calls).block d p ≡ start.block d p)
 
 -- Past the log each block is as it was, or is the one that the batch has for its place.
 abbrev pub ChangesByBatch : Batch → Option Trail → Option Trail → Type 0
-ChangesByBatch batch old new = Ran old new (λ start calls. (d p : ℕ) → log_least ≤ p
-    → ((run start calls).block d p ≡ start.block d p) ⊎ Contains batch (record { disk = d; place = p }, (run start calls).block d p))
+ChangesByBatch batch old new = Ran old new (λ start calls. (d p : ℕ)
+    → log_least ≤ p → ((run start calls).block d p ≡ start.block d p)
+    ⊎ Contains batch (record { disk = d; place = p }, (run start calls).block d p))
 
 -- The table shows the map of this log disk, which was the lower one that was not out as the map was
 -- read; or it is the second one, where none was out and the first one failed in the reads.
-pub record HasMap (g : Geometry) (out : Option ℕ) (slot : ℕ → Slot) (dirty : ℕ → ℕ → Bool) (old new : Option Trail) : Type 0 where
+pub record HasMap (g : Geometry) (out : Option ℕ)
+    (slot : ℕ → Slot) (dirty : ℕ → ℕ → Bool) (old new : Option Trail) : Type 0 where
   pub far : KeepsFar old new
   pub disk : ℕ
   pub which : (disk ≡ map_disk out) ⊎ ((out ≡ None) × (disk ≡ 1) × ((slot 0).power ≡ Absent))
@@ -68,11 +73,15 @@ pub record HasMap (g : Geometry) (out : Option ℕ) (slot : ℕ → Slot) (dirty
 
 -- the dirty cells of each row of the array are those that these disks show under this meta
 abbrev pub HasBitsOf : Meta → (ℕ → ℕ → Bool) → Disks → Type 0
-HasBitsOf m dirty s = (r d : ℕ) → r < m.setup.geometry.rows → dirty r d ≡ (view_by m s.power (contents s [])).dirty r d
+HasBitsOf m dirty s = (r d : ℕ)
+    → r < m.setup.geometry.rows → dirty r d ≡ (view_by m s.power (contents s [])).dirty r d
 
--- At the end of a mount the table has the bits of the map: those that the disks show then; or log disk
--- 0 was lost after its map had been read, and they are those of that one.
-pub data HasMapAtEnd (old new : ℕ → Slot) (m : Meta) (dirty : ℕ → ℕ → Bool) (told : Option Trail) : Type 0 where
-  shown : ((t : Trail) → told ≡ Some t → HasBitsOf m dirty (now t)) → HasMapAtEnd old new m dirty told
+-- At the end of a mount the table has the bits of the map: those that the disks show then; or log
+-- disk 0 was lost after its map had been read, and they are those of that one.
+pub data HasMapAtEnd
+    (old new : ℕ → Slot) (m : Meta) (dirty : ℕ → ℕ → Bool) (told : Option Trail) : Type 0 where
+  shown : ((t : Trail) → told ≡ Some t → HasBitsOf m dirty (now t))
+      → HasMapAtEnd old new m dirty told
   lost : IsGoneSince old new 0 → HasRisen (old 0).faults (new 0).faults
-      → ((t : Trail) → told ≡ Some t → ShowsMap m.setup.geometry ((now t).block 0) dirty) → HasMapAtEnd old new m dirty told
+      → ((t : Trail) → told ≡ Some t → ShowsMap m.setup.geometry ((now t).block 0) dirty)
+      → HasMapAtEnd old new m dirty told

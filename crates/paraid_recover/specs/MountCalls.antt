@@ -17,4 +17,5 @@ pub record IsMountCall (n : ℕ) (gone : Option ℕ) (c : Call) : Type 0 where
 
 -- The calls are such as a mount may make of an array of which this meta stood.
 abbrev pub OnlyMountCalls : Meta → Option Trail → Option Trail → Type 0
-OnlyMountCalls m old new = Ran old new (EachCall (IsMountCall m.setup.geometry.disks (gone_out m.out)))
+OnlyMountCalls m old new =
+    Ran old new (EachCall (IsMountCall m.setup.geometry.disks (gone_out m.out)))

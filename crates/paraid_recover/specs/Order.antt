@@ -21,7 +21,8 @@ AreSlotsLarge slots slot m = IsNone (is_small slots slot m) m.setup.geometry.dis
 
 -- each disk has its slot and its size, and none is parked that is to spin
 abbrev pub AreAwake : ℕ → (ℕ → Slot) → Meta → Batch → Type 0
-AreAwake slots slot m batch = AreSlotsLarge slots slot m × IsNone (is_asleep slot m batch) m.setup.geometry.disks
+AreAwake slots slot m batch =
+    AreSlotsLarge slots slot m × IsNone (is_asleep slot m batch) m.setup.geometry.disks
 
 -- each disk has its slot and its size, none is parked that is to spin, and no two are missing
 abbrev pub AreEnough : ℕ → (ℕ → Slot) → Meta → Batch → Type 0
@@ -34,10 +35,14 @@ IsRefusedBy slots slot m batch NotFormatted = ⊥
 IsRefusedBy slots slot m batch (BadLog disk) = ⊥
 IsRefusedBy slots slot m batch (BadMeta disk) = ⊥
 IsRefusedBy slots slot m batch (Size disk found needed) =
-    IsLeastDisk (is_small slots slot m) m.setup.geometry.disks disk × (found ≡ size_found slots slot disk) × (needed ≡ disk_size m.setup.geometry)
-IsRefusedBy slots slot m batch (Power disk) = AreSlotsLarge slots slot m × IsLeastDisk (is_asleep slot m batch) m.setup.geometry.disks disk
-IsRefusedBy slots slot m batch (BothMissing two) = AreAwake slots slot m batch × AreMissing slot m two
-IsRefusedBy slots slot m batch (Worn count) = AreEnough slots slot m batch × (count ≡ meta_wear m) × (worn_at ≤ count)
+    IsLeastDisk (is_small slots slot m) m.setup.geometry.disks disk
+    × (found ≡ size_found slots slot disk) × (needed ≡ disk_size m.setup.geometry)
+IsRefusedBy slots slot m batch (Power disk) =
+    AreSlotsLarge slots slot m × IsLeastDisk (is_asleep slot m batch) m.setup.geometry.disks disk
+IsRefusedBy slots slot m batch (BothMissing two) =
+    AreAwake slots slot m batch × AreMissing slot m two
+IsRefusedBy slots slot m batch (Worn count) =
+    AreEnough slots slot m batch × (count ≡ meta_wear m) × (worn_at ≤ count)
 IsRefusedBy slots slot m batch NoMemory = ⊥
 
 -- there is no cause

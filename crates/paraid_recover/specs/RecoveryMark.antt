@@ -14,7 +14,8 @@ to_mark_by No power n = first_absent power n
 to_mark_by (Gone d) power n = None
 to_mark_by (Fresh d rebuilt) power n = if is_present (power d) then None else Some d
 
--- the least absent disk where none is named out, or the one that is being rebuilt where it is absent
+-- the least absent disk where none is named out, or the one that is being rebuilt where it is
+-- absent
 abbrev pub to_mark : (ℕ → Power) → Meta → Option ℕ
 to_mark power m = to_mark_by m.out power m.setup.geometry.disks
 

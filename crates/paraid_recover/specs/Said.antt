@@ -42,7 +42,8 @@ IsFaultless sides gate = (x : ℕ) → IsAtFault sides gate x → ⊥
 
 -- the least log disk that is so
 abbrev pub IsLeastAtFault : Sides → Bool → ℕ → Type 0
-IsLeastAtFault sides gate x = IsAtFault sides gate x × ((e : ℕ) → e < x → IsAtFault sides gate e → ⊥)
+IsLeastAtFault sides gate x =
+    IsAtFault sides gate x × ((e : ℕ) → e < x → IsAtFault sides gate e → ⊥)
 
 -- one is formed, and each is well formed but for one that is named out
 pub record AreSidesFormed (sides : Sides) : Type 0 where
@@ -50,12 +51,14 @@ pub record AreSidesFormed (sides : Sides) : Type 0 where
   pub opened : IsFaultless sides true
   pub closed : IsFaultless sides false
 
--- The cause of a refusal is there, and none that is tested before it: that none is formatted, then a
--- log under an open gate, then one under a closed gate. The other causes lie not in the two sides.
+-- The cause of a refusal is there, and none that is tested before it: that none is formatted, then
+-- a log under an open gate, then one under a closed gate. The other causes lie not in the two
+-- sides.
 abbrev pub IsRefusedBySides : Sides → MountFault → Type 0
 IsRefusedBySides sides NotFormatted = AreSilent sides
 IsRefusedBySides sides (BadLog disk) = (AreSilent sides → ⊥) × IsLeastAtFault sides true disk
-IsRefusedBySides sides (BadMeta disk) = (AreSilent sides → ⊥) × IsFaultless sides true × IsLeastAtFault sides false disk
+IsRefusedBySides sides (BadMeta disk) =
+    (AreSilent sides → ⊥) × IsFaultless sides true × IsLeastAtFault sides false disk
 IsRefusedBySides sides (Size disk found needed) = ⊥
 IsRefusedBySides sides (Power disk) = ⊥
 IsRefusedBySides sides (BothMissing two) = ⊥

@@ -22,19 +22,20 @@ use Rattle.paraid_txn.specs.Uses.{EachCall}
 -- or brings it to version 2.
 pub data StandsForeseen (s : Disks) (x : ℕ) (said : LogState) (i : Disks) (m : Meta) : Type 0 where
   same : m ≡ said.meta → StandsForeseen s x said i m
-  without : (o : LogState) → is_present (i.power x) ≡ false → MayLose s x → Says s (other_log x) o → m ≡ o.meta → StandsForeseen s x said i m
+  without : (o : LogState) → is_present (i.power x) ≡ false
+      → MayLose s x → Says s (other_log x) o → m ≡ o.meta → StandsForeseen s x said i m
   marked : (mark : Option ℕ) → m ≡ with_mark said.meta mark → StandsForeseen s x said i m
 
--- From disks with nothing loose on which a commit was interrupted, at each moment from the one record
--- to the other such a meta stands in each image that is looked at, where one disk at most is absent
--- or was weak.
+-- From disks with nothing loose on which a commit was interrupted, at each moment from the one
+-- record to the other such a meta stands in each image that is looked at, where one disk at most is
+-- absent or was weak.
 abbrev pub StandsInMoments : ℕ → ℕ → LogState → Option Trail → Option Trail → Type 0
-StandsInMoments slots x said old new = (t : Trail) → new ≡ Some t → (s : Trail) × (old ≡ Some s) × (moments s ≤ moments t)
-    × ((h : History) (lo m : ℕ) (was down : Option ℕ) → IsResumable (now s) x said
-    → IsHeld slots (now s) h lo was → moments s ≤ m → m ≤ moments t
-    → IsAbsentSince said.meta.setup.geometry.disks t (moments s) m down
-    → ((w : ℕ) → IsWeak (now s) w → down ≡ Some w)
-    → (i : Disks) (z : ℕ) (o : LogState) → IsLooked (disks t m) i → Stands i z o → StandsForeseen (now s) x said i o.meta)
+StandsInMoments slots x said old new = (t : Trail) → new ≡ Some t → (s : Trail)
+    × (old ≡ Some s) × (moments s ≤ moments t) × ((h : History) (lo m : ℕ) (was down : Option ℕ)
+    → IsResumable (now s) x said → IsHeld slots (now s) h lo was → moments s ≤ m
+    → m ≤ moments t → IsAbsentSince said.meta.setup.geometry.disks t (moments s) m down
+    → ((w : ℕ) → IsWeak (now s) w → down ≡ Some w) → (i : Disks) (z : ℕ) (o : LogState)
+    → IsLooked (disks t m) i → Stands i z o → StandsForeseen (now s) x said i o.meta)
 
 -- From `settled` on the disks are powered by the gear, at rest under the meta that stands, which is
 -- the one that stood, with version 2 or with this disk marked.
@@ -44,8 +45,9 @@ pub record IsPoweredFrom (x : ℕ) (said : LogState) (read settled new : Option 
   pub out : IsOutAtEnd said (with_mark said.meta mark) settled
   pub calls : Ran settled new (EachCall (IsPowerCall (with_mark said.meta mark)))
 
--- After the reads of the log disks a meta that is foreseen stands at each moment. Up to `settled` there
--- are only reads, writes and syncs; then the disks are powered, or the mount is refused before.
+-- After the reads of the log disks a meta that is foreseen stands at each moment. Up to `settled`
+-- there are only reads, writes and syncs; then the disks are powered, or the mount is refused
+-- before.
 pub record StandsThroughMount (x : ℕ) (said : LogState) (read new : Option Trail) : Type 0 where
   pub foreseen : (slots : ℕ) → StandsInMoments slots x said read new
   pub settled : Option Trail

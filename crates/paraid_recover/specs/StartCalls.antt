@@ -11,8 +11,8 @@ use Rattle.paraid_image.specs.Standing.{Stands}
 use Rattle.paraid_session.specs.Watch.{IsServing, Watch}
 use Rattle.paraid_recover.specs.MountCalls.{IsMountCall}
 
--- At this moment of a mount the call is lawful by the power of its disk and attaches none; and while
--- one disk at most is down it is a call of a mount of `n` disks.
+-- At this moment of a mount the call is lawful by the power of its disk and attaches none; and
+-- while one disk at most is down it is a call of a mount of `n` disks.
 pub record MakesMountCall (n : ℕ) (gone : Option ℕ) (w : Watch) (c : Call) : Type 0 where
   pub power : IsLawful w.disks c
   pub attaches : is_attach c ≡ false

@@ -22,23 +22,29 @@ use Rattle.paraid_recover.specs.StartCalls.{IsSpinUpRecorded, MakesMountCall}
 use Rattle.paraid_recover.specs.StartHeld.{HoldsAfter}
 use Rattle.paraid_recover.specs.RecordedSpins.{StaysWithin}
 
--- Of the calls of a mount: which they are, what is held after each first part of them, and that what
--- stands is within the bounds.
-pub record AreMountCalls (slots : ℕ) (s : Disks) (x : ℕ) (said : LogState) (h : History) (lo : ℕ) (down : Option ℕ) (calls : List Call) : Type 0 where
+-- Of the calls of a mount: which they are, what is held after each first part of them, and that
+-- what stands is within the bounds.
+pub record AreMountCalls (slots : ℕ) (s : Disks) (x : ℕ)
+    (said : LogState) (h : History) (lo : ℕ) (down : Option ℕ) (calls : List Call) : Type 0 where
   pub base : ℕ → ℕ
   pub ticks : ℕ
   pub is_base : IsBase s x said base ticks
-  pub each : Each (λ w. Unit {0}) (MakesMountCall said.meta.setup.geometry.disks (gone_out said.meta.out)) (start_watch s down base) calls
-  pub held : (k : ℕ) → k ≤ length calls → IsServing (watch_all (take k calls) (start_watch s down base)).down
+  pub each : Each (λ w. Unit {0}) (MakesMountCall said.meta.setup.geometry.disks
+      (gone_out said.meta.out)) (start_watch s down base) calls
+  pub held : (k : ℕ)
+      → k ≤ length calls → IsServing (watch_all (take k calls) (start_watch s down base)).down
       → HoldsAfter slots said.meta.setup.geometry.disks s h lo calls k
-  pub within : Each (StaysWithin (mount_bounds said ticks)) IsSpinUpRecorded (start_watch s down base) calls
+  pub within : Each
+      (StaysWithin (mount_bounds said ticks)) IsSpinUpRecorded (start_watch s down base) calls
 
 -- Of the end of a mount that is served: the disks rest under this meta and hold the writes that it
 -- counts, the slots can be served, and the state that they show is one with which a session begins.
-pub record EndsServed (slots : ℕ) (s : Disks) (said : LogState) (h : History) (calls : List Call) (standing : Meta) : Type 0 where
+pub record EndsServed (slots : ℕ)
+    (s : Disks) (said : LogState) (h : History) (calls : List Call) (standing : Meta) : Type 0 where
   pub setup : standing.setup ≡ said.meta.setup
   pub rest : IsAtRest (run s calls) standing
-  pub held : IsHeld slots (run s calls) (take standing.writes h) standing.writes (out_disk (run s calls).power standing)
+  pub held : IsHeld slots
+      (run s calls) (take standing.writes h) standing.writes (out_disk (run s calls).power standing)
   pub count : ℕ
   pub slot : ℕ → Slot
   pub last : ℕ
@@ -46,13 +52,17 @@ pub record EndsServed (slots : ℕ) (s : Disks) (said : LogState) (h : History) 
   pub named : Option ℕ
   pub rows : ℕ
   pub agrees : Agrees (run s calls) slot
-  pub servable : IsServable count slot last array named (with_loss standing (to_mark (run s calls).power standing)) rows
-  pub borne : (y : ℕ) → IsNamedLog (named_out standing.out) y → IsSure (run s calls) 2 y (λ b. is_open b ≡ true)
-  pub begins : BeginsSession s said calls standing.writes (initial_state (run s calls) (closed_over standing))
+  pub servable : IsServable count slot last array named
+      (with_loss standing (to_mark (run s calls).power standing)) rows
+  pub borne : (y : ℕ)
+      → IsNamedLog (named_out standing.out) y → IsSure (run s calls) 2 y (λ b. is_open b ≡ true)
+  pub begins : BeginsSession s said calls standing.writes
+      (initial_state (run s calls) (closed_over standing))
 
 -- Of the end of a mount that is refused: while one disk at most is down nothing is loose, and the
 -- cause lies not in the disks.
-pub record EndsRefused (s : Disks) (down : Option ℕ) (base : ℕ → ℕ) (calls : List Call) (why : Refusal) : Type 0 where
+pub record EndsRefused
+    (s : Disks) (down : Option ℕ) (base : ℕ → ℕ) (calls : List Call) (why : Refusal) : Type 0 where
   pub synced : IsServing (down_after_mount s down base calls) → AreSynced (run s calls)
   pub cause : IsServing (down_after_mount s down base calls) → IsCauseOutsideDisks why
   pub worn_out : (k : ℕ) → why ≡ worn k → IsWornOut s calls k

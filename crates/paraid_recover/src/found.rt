@@ -18,7 +18,8 @@ use paraid_record::{Meta, read_meta, read_targets};
 fn hear_closed<R: Rack>(rack: &mut R, disk: DiskNo) -> Result<Option<Meta>, Failed>
     requires exists { disk < R.slot_count rack.old }
     requires spinning { (R.slot rack.old disk).power ≡ Spinning }
-    requires shut { (t : Trail) → R.told rack.old ≡ Some t → is_open (stored_block (now t) disk 0) ≡ false }
+    requires shut { (t : Trail)
+        → R.told rack.old ≡ Some t → is_open (stored_block (now t) disk 0) ≡ false }
     ensures reads { HasReadLog R.Rack disk 1 rack.old rack.new (is_ok result) }
     ensures heard { IfOk result (λ meta. (t : Trail) → R.told rack.new ≡ Some t
         → IsMetaOf (now t) disk meta) }
@@ -32,7 +33,8 @@ fn hear_closed<R: Rack>(rack: &mut R, disk: DiskNo) -> Result<Option<Meta>, Fail
 fn hear_open<R: Rack>(rack: &mut R, disk: DiskNo) -> Result<Option<Meta>, Failed>
     requires exists { disk < R.slot_count rack.old }
     requires spinning { (R.slot rack.old disk).power ≡ Spinning }
-    requires opened { (t : Trail) → R.told rack.old ≡ Some t → is_open (stored_block (now t) disk 0) ≡ true }
+    requires opened { (t : Trail)
+        → R.told rack.old ≡ Some t → is_open (stored_block (now t) disk 0) ≡ true }
     ensures reads { HasReadLog R.Rack disk 2 rack.old rack.new (is_ok result) }
     ensures heard { IfOk result (λ meta. (t : Trail) → R.told rack.new ≡ Some t
         → IsMetaOf (now t) disk meta) }

@@ -36,7 +36,8 @@ fn is_zero(block: &Block) -> bool
 fn hear_closed<R: Rack>(rack: &mut R, disk: DiskNo) -> Result<Heard, Failed>
     requires exists { disk < R.slot_count rack.old }
     requires spinning { (R.slot rack.old disk).power ≡ Spinning }
-    requires shut { (t : Trail) → R.told rack.old ≡ Some t → is_open (stored_block (now t) disk 0) ≡ false }
+    requires shut { (t : Trail)
+        → R.told rack.old ≡ Some t → is_open (stored_block (now t) disk 0) ≡ false }
     ensures reads { HasReadLog R.Rack disk 1 rack.old rack.new (is_ok result) }
     ensures heard { IfOk result (λ heard. (t : Trail) → R.told rack.new ≡ Some t
         → IsHeard (now t) disk heard []) }
@@ -99,7 +100,8 @@ fn hear_open<R: Rack>(rack: &mut R, disk: DiskNo, batch: &mut Batch) -> Result<H
     requires exists { disk < R.slot_count rack.old }
     requires spinning { (R.slot rack.old disk).power ≡ Spinning }
     requires empty { batch.old ≡ [] }
-    requires opened { (t : Trail) → R.told rack.old ≡ Some t → is_open (stored_block (now t) disk 0) ≡ true }
+    requires opened { (t : Trail)
+        → R.told rack.old ≡ Some t → is_open (stored_block (now t) disk 0) ≡ true }
     ensures reads { HasReadLog R.Rack disk 98 rack.old rack.new (is_ok result) }
     ensures heard { IfOk result (λ heard. (t : Trail) → R.told rack.new ≡ Some t
         → IsHeard (now t) disk heard batch.new) }

@@ -62,13 +62,13 @@ pub fn calls_of_a_mount_are_allowed()
 /// What the steps of a mount say by the disks that are absent, a session says by the calls that
 /// failed: at each moment what is held is held beside the one disk that is down.
 pub fn failed_calls_bring_down_what_is_absent()
-    ensures { (slots : ℕ) (s : Disks) (h : History) (lo : ℕ) (down : Option ℕ) (x : ℕ)
-        (said : LogState) (base : ℕ → ℕ) (cs : List CallType) → IsRunStart slots s h lo down
-        → Stands s x said
-        → ((k : ℕ) → k ≤ length cs → IsServing (watch_all (take k cs) (start_watch s down base)).down
+    ensures { (slots : ℕ) (s : Disks) (h : History)
+        (lo : ℕ) (down : Option ℕ) (x : ℕ) (said : LogState) (base : ℕ → ℕ) (cs : List CallType)
+        → IsRunStart slots s h lo down → Stands s x said → ((k : ℕ)
+        → k ≤ length cs → IsServing (watch_all (take k cs) (start_watch s down base)).down
         → HoldsAfter slots said.meta.setup.geometry.disks s h lo cs k)
-        → Each (λ w. IsHeldWhileServing slots w.disks h lo w.down) (λ w c. Unit {0})
-        (start_watch s down base) cs }
+        → Each (λ w. IsHeldWhileServing slots w.disks h lo w.down) (λ w c.
+        Unit {0}) (start_watch s down base) cs }
 {}
 
 /// What was held as a mount began is held at each of its moments, where it is so from the reads of
@@ -119,13 +119,13 @@ pub fn powers_keep_to_what_is_recorded()
 
 /// A mount whose steps say this is what a session asks of a mount, served or refused.
 pub fn a_mount_is_what_a_session_asks()
-    ensures mounted { (slots : ℕ) (s : Disks) (x : ℕ) (said : LogState) (h : History) (lo : ℕ)
-        (down : Option ℕ) (calls : List CallType) (standing : MetaType) → IsRunStart slots s h lo down → Stands s x said
-        → (parts : AreMountCalls slots s x said h lo down calls)
+    ensures mounted { (slots : ℕ) (s : Disks) (x : ℕ) (said : LogState) (h : History) (lo : ℕ) (down
+        : Option ℕ) (calls : List CallType) (standing : MetaType) → IsRunStart slots s h lo down
+        → Stands s x said → (parts : AreMountCalls slots s x said h lo down calls)
         → (IsServing (down_after_mount s down parts.base calls)
         → EndsServed slots s said h calls standing)
-        → IsMounted slots s x said h lo down calls (λ p. p ≡ first_point (run s calls) standing h
-        (watch_all calls (start_watch s down parts.base)).spun) }
+        → IsMounted slots s x said h lo down calls (λ p. p ≡ first_point
+        (run s calls) standing h (watch_all calls (start_watch s down parts.base)).spun) }
     ensures refused { (slots : ℕ) (s : Disks) (x : ℕ) (said : LogState) (h : History) (lo : ℕ)
         (down : Option ℕ) (calls : List CallType) (why : Refusal)
         → IsRunStart slots s h lo down → Stands s x said
@@ -216,8 +216,8 @@ pub fn a_mount_is_told_from_where_it_began()
         → IsRefusedFromEach slots began new why }
 {}
 
-/// Where the log disk that stood failed in the reads, the session begins with the state that is shown
-/// without it; and where just one disk failed, the disks that are there are those without it.
+/// Where the log disk that stood failed in the reads, the session begins with the state that is
+/// shown without it; and where just one disk failed, the disks that are there are those without it.
 pub fn a_mount_without_a_log_disk_begins_with_the_state_left()
     ensures begins { (s : Disks) (said : LogState) (calls : List CallType) (d y : ℕ)
         (other : LogState) (standing : MetaType) → first_lost calls ≡ Some d
@@ -236,15 +236,15 @@ pub fn a_mount_without_a_log_disk_begins_with_the_state_left()
         → is_present ((run s calls).power e) ≡ is_present ((lose d s).power e) }
 {}
 
-/// While an interrupted commit is ended and one disk at most is down, the log disk that stood could be
-/// lost at the start, where the meta of the other one stands without it.
+/// While an interrupted commit is ended and one disk at most is down, the log disk that stood could
+/// be lost at the start, where the meta of the other one stands without it.
 pub fn a_fallback_was_foreseen()
-    ensures { (slots n : ℕ) (skip : Option ℕ) (h : History) (lo x z : ℕ) (said o p : LogState)
-        (w : Watch) (cs : List CallType) (beside : Option ℕ) (i : Disks) → Stands w.disks x said
-        → ((v : ℕ) → IsWeak w.disks v → IsAmongDown w.down v) → EachCall (IsMountCall n skip) w.disks cs
-        → IsServing (watch_all cs w).down → IsHeld slots (run w.disks cs) h lo beside
-        → ((j : Disks) → IsImage (run w.disks cs) j → IsPresent j x → (y : ℕ) (k : LogState)
-        → Stands j y k → k.meta ≡ said.meta)
-        → IsLooked (run w.disks cs) i → is_present (i.power x) ≡ false → Stands i z o
-        → Says w.disks (other_log x) p → o.meta ≡ p.meta → MayLose w.disks x }
+    ensures { (slots n : ℕ) (skip : Option ℕ) (h : History) (lo x z : ℕ)
+        (said o p : LogState) (w : Watch) (cs : List CallType) (beside : Option ℕ) (i : Disks)
+        → Stands w.disks x said → ((v : ℕ) → IsWeak w.disks v → IsAmongDown w.down v)
+        → EachCall (IsMountCall n skip) w.disks cs → IsServing (watch_all cs w).down
+        → IsHeld slots (run w.disks cs) h lo beside → ((j : Disks) → IsImage (run w.disks cs) j
+        → IsPresent j x → (y : ℕ) (k : LogState) → Stands j y k → k.meta ≡ said.meta)
+        → IsLooked (run w.disks cs) i → is_present (i.power x) ≡ false
+        → Stands i z o → Says w.disks (other_log x) p → o.meta ≡ p.meta → MayLose w.disks x }
 {}

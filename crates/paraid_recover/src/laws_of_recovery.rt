@@ -28,7 +28,8 @@ pub fn a_recovery_leaves_what_is_held()
     ensures refused { (slots x : ℕ) (said : LogState) (old new : Option Trail)
         → StandsWhileResumed old new x said → RecoversHeld slots x said old new }
     ensures resumed { (slots x : ℕ) (said : LogState) (old new : Option Trail)
-        → StandsWhileResumed old new x said → EndsResumed old new x said → Recovers slots x said old new }
+        → StandsWhileResumed old new x said
+        → EndsResumed old new x said → Recovers slots x said old new }
     ensures calls { (slots x : ℕ) (said : LogState) (old mid new : Option Trail)
         → Ran mid new (EachCall (IsReadOrSync said.meta.setup.geometry.disks))
         → Recovers slots x said old mid → Recovers slots x said old new }

@@ -25,8 +25,8 @@ pub fn a_mount_is_refused_by_one_cause()
         → IsRefused count old new told second → first ≡ second }
 {}
 
-/// Where a rack holds a history and nothing is loose, the one cause by which a mount is refused is that
-/// the array took as many commits or writes as it can.
+/// Where a rack holds a history and nothing is loose, the one cause by which a mount is refused is
+/// that the array took as many commits or writes as it can.
 pub fn what_is_held_is_refused_for_wear()
     ensures { (count : ℕ) (old new : ℕ → Slot) (told : Option Trail) (t : Trail)
         (fault : MountFaultType) (h : History) (lo : ℕ) (down : Option ℕ) → told ≡ Some t

@@ -2,8 +2,8 @@
 ghost use Rattle.std.specs.Prelude.{◌≡◌, ◌≢◌, ◌⊎◌, ◌↔◌, ◌<◌, ℕ, Some, None, IsTrue};
 ghost use Rattle.paraid_recover.specs.Faults.{IsFaulty, IsSilent, side_at};
 
-use crate::sides::Sides;
 use crate::hearing::Heard;
+use crate::sides::Sides;
 use paraid_base::DiskNo;
 
 // Whether a side is not well formed, under such a gate.

@@ -175,9 +175,9 @@ pub fn read_map<R: Rack>(
         (store_out R.slot store.old) two store.old store.new) }
     ensures gone { IfErr result (AreGoneSince (λ d. store_out R.slot store.old ≡ Some d)
         (R.slot (store_rack store.old)) (R.slot (store_rack store.new))) }
-    ensures shows { IfOk result (λ lost. (f : Contents) → ShowsContents (R.told (store_rack store.old)) [] f
-        → IsSome (R.told (store_rack store.new))
-        → ShowsMap meta.now.setup.geometry
+    ensures shows { IfOk result (λ lost. (f : Contents)
+        → ShowsContents (R.told (store_rack store.old)) [] f
+        → IsSome (R.told (store_rack store.new)) → ShowsMap meta.now.setup.geometry
         (f (map_disk_of (or_else (store_out R.slot store.old) lost))) (is_dirty table.new)) }
 {
     let out = store.out();

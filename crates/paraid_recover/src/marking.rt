@@ -65,10 +65,12 @@ pub fn mark<R: Rack>(
     ensures calls { Ran (R.told (store_rack store.old)) (R.told (store_rack store.new))
         (EachCall (UsesInCommit (marked_of (of_version_two meta.now) disk meta.now.epoch) [])) }
     ensures grows { Extends (R.told (store_rack store.old)) (R.told (store_rack store.new)) }
-    ensures held { (slots : ℕ) → KeepsHeld (λ s. IsAtRest s meta.now) slots
-        meta.now.setup.geometry.disks (R.told (store_rack store.old)) (R.told (store_rack store.new)) }
-    ensures moments { IsWholeOrAbsent (R.told (store_rack store.old)) (R.told (store_rack store.new))
-        meta.now (marked_of (of_version_two meta.now) disk (meta.now.epoch + 1)) [] }
+    ensures held { (slots : ℕ)
+        → KeepsHeld (λ s. IsAtRest s meta.now) slots meta.now.setup.geometry.disks
+        (R.told (store_rack store.old)) (R.told (store_rack store.new)) }
+    ensures moments { IsWholeOrAbsent
+        (R.told (store_rack store.old)) (R.told (store_rack store.new)) meta.now
+        (marked_of (of_version_two meta.now) disk (meta.now.epoch + 1)) [] }
     ensures committed { OnOk result (EndsCommitted (R.told (store_rack store.old))
         (R.told (store_rack store.new)) meta.now
         (marked_of (of_version_two meta.now) disk (meta.now.epoch + 1)) batch.now) }

@@ -6,13 +6,13 @@ use paraid_base::{DiskNo, Two};
 pub enum MountFault {
     /// No log disk belongs to an array.
     NotFormatted,
-    /// This log disk has an open gate and is not well formed; or both have open gates and what they say
-    /// does not fit together, and this one does not stand.
+    /// This log disk has an open gate and is not well formed; or both have open gates and what they
+    /// say does not fit together, and this one does not stand.
     BadLog {
         disk: DiskNo,
     },
-    /// This log disk has a closed gate and is not well formed; or what both say does not fit together,
-    /// one gate is closed, and this one does not stand.
+    /// This log disk has a closed gate and is not well formed; or what both say does not fit
+    /// together, one gate is closed, and this one does not stand.
     BadMeta {
         disk: DiskNo,
     },

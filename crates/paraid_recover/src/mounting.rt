@@ -31,9 +31,9 @@ ghost use Rattle.paraid_txn.specs.Steps.{KeepsStore};
 ghost use Rattle.paraid_txn.specs.Stores.{disks_of, epoch_of, named_of as named_by, store_out, store_rack};
 
 use crate::examining::examine;
-use crate::mount_fault::MountFault;
 use crate::map::read_map;
 use crate::marking::marked;
+use crate::mount_fault::MountFault;
 use crate::powering::power_disks;
 use crate::recovery::{mark_out, unmarked};
 use crate::standing::Standing;
@@ -64,9 +64,9 @@ fn settle<R: Rack>(
     ensures stood { IfOk result (HasStood store.new) }
     ensures given { IfOk result (λ m. (lost : Option ℕ) × (m ≡ with_mark meta.now lost)
         × ((d : ℕ) → lost ≡ Some d → (is_present (R.slot (store_rack store.new) d).power ≡ false)
-        × (d < meta.now.setup.geometry.disks))
-        × ((d : ℕ) → lost ≡ Some d → (e : ℕ) → named_of meta.now.out ≡ Some e → e ≡ d)
-        × IsMarkAtMoment meta.now lost (R.told (store_rack store.old)) (R.told (store_rack store.new))) }
+        × (d < meta.now.setup.geometry.disks)) × ((d : ℕ) → lost ≡ Some d
+        → (e : ℕ) → named_of meta.now.out ≡ Some e → e ≡ d) × IsMarkAtMoment meta.now lost
+        (R.told (store_rack store.old)) (R.told (store_rack store.new))) }
     ensures still { Ran (R.told (store_rack store.old)) (R.told (store_rack store.new))
         (EachCall WritesOnlyLogs) }
     ensures ends { IfOk result (λ m. (slots x : ℕ) (said : LogState) (old : Option Trail)
@@ -129,19 +129,19 @@ fn raise<R: Rack>(
     ensures servable { IfOk result (λ m. IsServable (R.slot_count (store_rack store.new))
         (R.slot (store_rack store.new)) (epoch_of store.new) (disks_of store.new)
         (named_by store.new) m (length table.new)) }
-    ensures split { (mid : Option Trail) × Ran (R.told (store_rack store.old)) mid (EachCall IsTransfer)
-        × ((R.told (store_rack store.new) ≡ mid) ⊎ ((mark : Option ℕ)
-        × ((slots x : ℕ) (said : LogState) (old : Option Trail) → said.meta ≡ meta.now
-        → Recovers slots x said old (R.told (store_rack store.old))
-        → EndsHeld slots x said (with_mark meta.now mark) old mid)
-        × ((said : LogState) → said.meta ≡ meta.now
-        → IsOutAtEnd said (with_mark meta.now mark) mid)
-        × Ran mid (R.told (store_rack store.new)) (EachCall (IsPowerCall (with_mark meta.now mark))))) }
+    ensures split { (mid : Option Trail)
+        × Ran (R.told (store_rack store.old)) mid (EachCall IsTransfer)
+        × ((R.told (store_rack store.new) ≡ mid)
+        ⊎ ((mark : Option ℕ) × ((slots x : ℕ) (said : LogState) (old : Option Trail)
+        → said.meta ≡ meta.now → Recovers slots x said old (R.told (store_rack store.old))
+        → EndsHeld slots x said (with_mark meta.now mark) old mid) × ((said : LogState)
+        → said.meta ≡ meta.now → IsOutAtEnd said (with_mark meta.now mark) mid) × Ran mid
+        (R.told (store_rack store.new)) (EachCall (IsPowerCall (with_mark meta.now mark))))) }
     ensures ends { IfOk result (λ m. (standing : MetaType) × (lost : Option ℕ)
-        × (m ≡ with_loss_of standing lost) × (standing.setup ≡ meta.now.setup)
-        × ((d : ℕ) → named_of meta.now.out ≡ Some d → named_of standing.out ≡ Some d)
-        × (standing.version ≡ 2) × ((mark : Option ℕ) × (standing ≡ with_mark meta.now mark)
-        × IsMarkAtMoment meta.now mark (R.told (store_rack store.old)) (R.told (store_rack store.new)))
+        × (m ≡ with_loss_of standing lost) × (standing.setup ≡ meta.now.setup) × ((d : ℕ)
+        → named_of meta.now.out ≡ Some d → named_of standing.out ≡ Some d) × (standing.version ≡ 2)
+        × ((mark : Option ℕ) × (standing ≡ with_mark meta.now mark) × IsMarkAtMoment meta.now mark
+        (R.told (store_rack store.old)) (R.told (store_rack store.new)))
         × ((slots x : ℕ) (said : LogState) (old : Option Trail)
         → said.meta ≡ meta.now → Recovers slots x said old (R.told (store_rack store.old))
         → EndsHeld slots x said standing old (R.told (store_rack store.new)))
@@ -207,13 +207,12 @@ fn bring_up<R: Rack>(
         (R.slot (store_rack it.store)) (epoch_of it.store) (disks_of it.store)
         (named_by it.store) it.meta (length it.dirty)) }
     ensures nothing { IfOk result (λ it. it.batch ≡ []) }
-    ensures two { IfErr result (λ refused. (two : TwoType)
-        × (refused.fault ≡ BothMissing two) × AreTwoDownBeside (IsOutOfCommit (λ e. (R.slot rack e).power)
+    ensures two { IfErr result (λ refused. (two : TwoType) × (refused.fault ≡ BothMissing two)
+        × AreTwoDownBeside (IsOutOfCommit (λ e. (R.slot rack e).power)
         standing.now.meta.setup.geometry.disks (named_of standing.now.meta.out) None)
-        (R.slot rack) (R.slot refused.rack) two
-        × AreGoneSince (IsOutOfCommit (λ e. (R.slot rack e).power)
-        standing.now.meta.setup.geometry.disks (named_of standing.now.meta.out) None)
-        (R.slot rack) (R.slot refused.rack) two
+        (R.slot rack) (R.slot refused.rack) two × AreGoneSince
+        (IsOutOfCommit (λ e. (R.slot rack e).power) standing.now.meta.setup.geometry.disks
+        (named_of standing.now.meta.out) None) (R.slot rack) (R.slot refused.rack) two
         × Ran (R.told rack) (R.told refused.rack) (λ start calls. EndsBySecond two calls)) }
     ensures ends { IfOk result (λ it. (stands : MetaType) × (lost : Option ℕ)
         × (it.meta ≡ with_loss_of stands lost) × (stands.version ≡ 2)
@@ -230,8 +229,8 @@ fn bring_up<R: Rack>(
         (log_state standing.now.gate_open standing.now.meta batch) stands
         (R.told rack) (R.told (store_rack it.store)))
         × IsStandingWithLoss (R.slot (store_rack it.store)) (named_by it.store) stands it.meta) }
-    ensures map { IfOk result (λ it. HasMapAtEnd (R.slot rack) (R.slot (store_rack it.store)) it.meta
-        (is_dirty it.dirty) (R.told (store_rack it.store))) }
+    ensures map { IfOk result (λ it. HasMapAtEnd (R.slot rack)
+        (R.slot (store_rack it.store)) it.meta (is_dirty it.dirty) (R.told (store_rack it.store))) }
     ensures borne { IfOk result (λ it. IsBorneAgainst (named_of standing.now.meta.out)
         (R.told (store_rack it.store))) }
     ensures marked { IfOk result (λ it. (slots : ℕ) → EndsBorne (IsNamedLog (named_by it.store))
@@ -265,10 +264,11 @@ fn bring_up<R: Rack>(
     }
 }
 
-/// Mounts an array: it examines what both log disks say, heeds a witness against the one that stands
-/// alone, ends a commit that was interrupted, reads the dirty map, syncs all disks, marks an absent
-/// one, bears witness against a log disk that was named out, and powers the others by the gear. A
-/// meta of version 1 comes to version 2, by the commit that marks a disk or by one of its own.
+/// Mounts an array: it examines what both log disks say, heeds a witness against the one that
+/// stands alone, ends a commit that was interrupted, reads the dirty map, syncs all disks, marks an
+/// absent one, bears witness against a log disk that was named out, and powers the others by the
+/// gear. A meta of version 1 comes to version 2, by the commit that marks a disk or by one of its
+/// own.
 ///
 /// The memory for the dirty table is taken after reads alone and before the first write, that for
 /// the batch of the second log disk before all. What was in `batch` is dropped. A disk that fails

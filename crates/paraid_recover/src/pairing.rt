@@ -77,8 +77,8 @@ fn say_the_same(a: &Meta, first: &Batch, b: &Meta, second: &Batch) -> bool
     is_same_meta(a, b) && is_same_batch(first, second)
 }
 
-/// Whether what both log disks say fits together: it is the same; or one gate is open, over the next
-/// commit or over the meta of the other one.
+/// Whether what both log disks say fits together: it is the same; or one gate is open, over the
+/// next commit or over the meta of the other one.
 pub fn fit_together(a: &Standing, first: &Batch, b: &Standing, second: &Batch) -> bool
     requires a_range { IsInRange a.now.meta }
     requires b_range { IsInRange b.now.meta }

@@ -80,15 +80,16 @@ fn renew<R: Rack>(store: &mut Store<R>, nothing: &Batch, meta: &Meta) -> Result<
     Ok(next)
 }
 
-// Marks a disk that is absent where no other disk is named out, and gives the meta that stands then.
-// Where there is none to mark, a meta of version 1 is brought to version 2 by a commit of its own.
+// Marks a disk that is absent where no other disk is named out, and gives the meta that stands
+// then. Where there is none to mark, a meta of version 1 is brought to version 2 by a commit of its
+// own.
 fn mark_or_renew<R: Rack>(store: &mut Store<R>, nothing: &Batch, meta: &Meta) -> Result<Meta, Two>
     requires empty { nothing.now ≡ [] }
     requires can { CanMarkOut store.old meta.now }
     requires witness { named_of meta.now.out ≢ Some 2 → CanBear (R.slot (store_rack store.old)) }
-    ensures kept { KeepsStore (IsOutOfCommit (λ e. (R.slot (store_rack store.old) e).power)
-        (disks_of store.old) (named_by store.old)
-        (to_mark (λ d. (R.slot (store_rack store.old) d).power) meta.now)) store.old store.new result }
+    ensures kept { KeepsStore (IsOutOfCommit (λ e.
+        (R.slot (store_rack store.old) e).power) (disks_of store.old) (named_by store.old) (to_mark
+        (λ d. (R.slot (store_rack store.old) d).power) meta.now)) store.old store.new result }
     ensures recovers { RecoversOn meta.now store.old store.new }
     ensures given { IfOk result (λ m. m ≡ with_mark meta.now
         (to_mark (λ d. (R.slot (store_rack store.old) d).power) meta.now)) }
@@ -120,9 +121,9 @@ fn mark_or_renew<R: Rack>(store: &mut Store<R>, nothing: &Batch, meta: &Meta) ->
     })
 }
 
-/// Marks a disk that is absent where no other disk is named out, and gives the meta that stands then.
-/// Where there is none to mark, a meta of version 1 is brought to version 2 by a commit of its own.
-/// Then witness is borne against a log disk that the meta before named out.
+/// Marks a disk that is absent where no other disk is named out, and gives the meta that stands
+/// then. Where there is none to mark, a meta of version 1 is brought to version 2 by a commit of
+/// its own. Then witness is borne against a log disk that the meta before named out.
 ///
 /// It is the last step of a recovery: the commit that was interrupted was ended, and only reads and
 /// syncs were made since.
@@ -130,9 +131,9 @@ pub fn mark_out<R: Rack>(store: &mut Store<R>, nothing: &Batch, meta: &Meta) -> 
     requires empty { nothing.now ≡ [] }
     requires can { CanMarkOut store.old meta.now }
     requires witness { named_of meta.now.out ≢ Some 2 → CanBear (R.slot (store_rack store.old)) }
-    ensures kept { KeepsStore (IsOutOfCommit (λ e. (R.slot (store_rack store.old) e).power)
-        (disks_of store.old) (named_by store.old)
-        (to_mark (λ d. (R.slot (store_rack store.old) d).power) meta.now)) store.old store.new result }
+    ensures kept { KeepsStore (IsOutOfCommit (λ e.
+        (R.slot (store_rack store.old) e).power) (disks_of store.old) (named_by store.old) (to_mark
+        (λ d. (R.slot (store_rack store.old) d).power) meta.now)) store.old store.new result }
     ensures recovers { RecoversOn meta.now store.old store.new }
     ensures given { IfOk result (λ m. m ≡ with_mark meta.now
         (to_mark (λ d. (R.slot (store_rack store.old) d).power) meta.now)) }

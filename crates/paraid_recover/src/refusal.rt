@@ -2,9 +2,9 @@
 ghost use Rattle.std.specs.Prelude.{◌≡◌, ◌<◌, ◌≤◌, ℕ, MatchOption};
 ghost use Rattle.paraid_recover.specs.Order.{IsRefusedBy, IsNotRefused, size_found};
 
-use crate::mount_fault::MountFault;
-use crate::lacking::two_missing;
 use crate::asleep::first_asleep;
+use crate::lacking::two_missing;
+use crate::mount_fault::MountFault;
 use crate::sizes::first_small;
 use crate::wear::worn_count;
 use paraid_base::DiskNo;

@@ -28,8 +28,8 @@ pub fn standing_out(sides: &Sides) -> Option<DiskNo>
 }
 
 /// Why a mount is refused by what the log disks said: none of them belongs to an array; or one that
-/// the standing meta does not name out is not well formed, and an open gate is found before a closed
-/// one. The least such log disk is named.
+/// the standing meta does not name out is not well formed, and an open gate is found before a
+/// closed one. The least such log disk is named.
 pub fn refusal_by_sides(sides: &Sides) -> Option<MountFault>
     ensures { MatchOption result (AreSidesFormed sides.now) (IsRefusedBySides sides.now) }
 {

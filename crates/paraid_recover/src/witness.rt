@@ -15,8 +15,8 @@ use paraid_rack::{Power, Rack};
 use paraid_record::Meta;
 use paraid_txn::{Lost, Store};
 
-/// Where log disk `side` stands and the other one is absent, the place of the witness against `side`
-/// on disk 2 is read: if it is open, `side` was named out and is refused.
+/// Where log disk `side` stands and the other one is absent, the place of the witness against
+/// `side` on disk 2 is read: if it is open, `side` was named out and is refused.
 pub fn heed<R: Rack>(rack: &mut R, side: DiskNo) -> Result<(), Two>
     requires log_disk { side < 2 }
     requires exists { 3 ≤ R.slot_count rack.old }

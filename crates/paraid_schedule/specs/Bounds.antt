@@ -49,14 +49,17 @@ pub record HasRow (g : Geometry) (ups : ℕ) (bounds : List ℕ) (t a : ℕ) : T
 -- the bounds of one period and gear: none where the gear does not serve the demand, and else at
 -- most what each step costs that the rises left permit
 pub record IsRightAt (s : Setup) (demanded ups : ℕ) (bounds : List ℕ) (t a : ℕ) : Type 0 where
-  pub unserved : (GearServes s demanded a → ⊥) → (left : ℕ) → left ≤ ups → bound s.geometry ups bounds t a left ≡ no_bound
-  pub steps : GearServes s demanded a → (left b : ℕ) → left ≤ ups → IsGearStep s.geometry a b → rise a b ≤ left
-      → bound s.geometry ups bounds t a left ≤ onward s ups bounds t a left b
+  pub unserved : (GearServes s demanded a → ⊥)
+      → (left : ℕ) → left ≤ ups → bound s.geometry ups bounds t a left ≡ no_bound
+  pub steps : GearServes s demanded a → (left b : ℕ) → left ≤ ups → IsGearStep s.geometry a b
+      → rise a b ≤ left → bound s.geometry ups bounds t a left ≤ onward s ups bounds t a left b
 
--- There is one bound for each period, gear and number of rises left, and none is above `no_bound`. So
--- where the next bound is `no_bound`, a step asks nothing. Past the last period nothing is paid.
+-- There is one bound for each period, gear and number of rises left, and none is above `no_bound`.
+-- So where the next bound is `no_bound`, a step asks nothing. Past the last period nothing is paid.
 pub record AreRight (s : Setup) (demand : List ℕ) (ups : ℕ) (bounds : List ℕ) : Type 0 where
   pub count : length bounds ≡ bound_count s.geometry ups (length demand)
   pub most : (k : ℕ) → slice_index bounds k ≤ no_bound
-  pub end : (a left : ℕ) → IsGear s.geometry a → left ≤ ups → bound s.geometry ups bounds (length demand) a left ≡ 0
-  pub each : (t a : ℕ) → t < length demand → IsGear s.geometry a → IsRightAt s (slice_index demand t) ups bounds t a
+  pub end : (a left : ℕ)
+      → IsGear s.geometry a → left ≤ ups → bound s.geometry ups bounds (length demand) a left ≡ 0
+  pub each : (t a : ℕ)
+      → t < length demand → IsGear s.geometry a → IsRightAt s (slice_index demand t) ups bounds t a

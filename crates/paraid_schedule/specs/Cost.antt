@@ -14,7 +14,8 @@ step_cost s a b = (b - a) * s.spinup_mj
 -- what the periods before period `t` cost, each with the step that ends it
 abbrev pub cost_before : Setup → List ℕ → ℕ → ℕ
 cost_before s gears t =
-    sum_before (λ k. period_cost s (slice_index gears k) + step_cost s (slice_index gears k) (slice_index gears (k + 1))) t
+    sum_before (λ k. period_cost s (slice_index gears k)
+    + step_cost s (slice_index gears k) (slice_index gears (k + 1))) t
 
 -- all periods and the steps between them; no step ends the last period
 abbrev pub schedule_cost : Setup → List ℕ → ℕ
@@ -24,4 +25,5 @@ schedule_cost s gears =
 -- how often disk `d` is spun up: the disks from `a` to `b - 1` spin up at a step from `a` to `b`
 abbrev pub spin_ups : List ℕ → ℕ → ℕ
 spin_ups gears d =
-    sum_before (λ k. if nat_le (slice_index gears k) d && nat_lt d (slice_index gears (k + 1)) then 1 else 0) (length gears - 1)
+    sum_before (λ k. if nat_le (slice_index gears k) d && nat_lt d (slice_index gears (k + 1))
+    then 1 else 0) (length gears - 1)

@@ -36,6 +36,8 @@ rises gears = rises_before gears (length gears - 1)
 pub record IsSchedule (s : Setup) (demand : List ℕ) (ups : ℕ) (gears : List ℕ) : Type 0 where
   pub periods : length gears ≡ length demand
   pub first : slice_index gears 0 ≡ s.geometry.disks
-  pub served : (t : ℕ) → t < length gears → GearServes s (slice_index demand t) (slice_index gears t)
-  pub steps : (t : ℕ) → t + 1 < length gears → IsGearStep s.geometry (slice_index gears t) (slice_index gears (t + 1))
+  pub served : (t : ℕ)
+      → t < length gears → GearServes s (slice_index demand t) (slice_index gears t)
+  pub steps : (t : ℕ) → t + 1 < length gears
+      → IsGearStep s.geometry (slice_index gears t) (slice_index gears (t + 1))
   pub within : rises gears ≤ ups

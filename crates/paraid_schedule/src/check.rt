@@ -124,7 +124,8 @@ fn count_rises(gears: &[u8]) -> u16
 fn cost_of(setup: &Setup, gears: &[u8]) -> u64
     requires some { 1 ≤ length gears.now }
     requires few { length gears.now ≤ 1024 }
-    requires gears { (t : ℕ) → t < length gears.now → slice_index gears.now t ≤ setup.now.geometry.disks }
+    requires gears { (t : ℕ)
+        → t < length gears.now → slice_index gears.now t ≤ setup.now.geometry.disks }
     ensures { result ≡ schedule_cost setup.now gears.now }
 {
     let mut ledger = Ledger::new(setup);
@@ -253,8 +254,9 @@ fn step_of(setup: &Setup, a: u8, b: u8) -> u64
 /// Whether the bounds of a period and gear allow for a step to the next lower gear.
 fn allow_a_fall(setup: &Setup, ups: u16, bounds: &[u64], t: usize, a: u8) -> bool
     requires { HasRow setup.now.geometry ups bounds.now t a }
-    ensures { IsTrue result ↔ ((left b : ℕ) → left ≤ ups → AreNextGears setup.now.geometry b a
-        → bound setup.now.geometry ups bounds.now t a left ≤ onward setup.now ups bounds.now t a left b) }
+    ensures { IsTrue result ↔ ((left b : ℕ) → left ≤ ups
+        → AreNextGears setup.now.geometry b a → bound setup.now.geometry ups bounds.now t a left
+        ≤ onward setup.now ups bounds.now t a left b) }
 {
     let geometry = &setup.geometry;
     match geometry.lower(a) {
@@ -270,8 +272,9 @@ fn allow_a_fall(setup: &Setup, ups: u16, bounds: &[u64], t: usize, a: u8) -> boo
 /// Whether they allow for staying in the gear.
 fn allow_a_stay(setup: &Setup, ups: u16, bounds: &[u64], t: usize, a: u8) -> bool
     requires { HasRow setup.now.geometry ups bounds.now t a }
-    ensures { IsTrue result ↔ ((left : ℕ) → left ≤ ups
-        → bound setup.now.geometry ups bounds.now t a left ≤ onward setup.now ups bounds.now t a left a) }
+    ensures { IsTrue result
+        ↔ ((left : ℕ) → left ≤ ups → bound setup.now.geometry ups bounds.now t a left
+        ≤ onward setup.now ups bounds.now t a left a) }
 {
     let geometry = &setup.geometry;
     let at = row(geometry, ups, t, a);
@@ -282,8 +285,9 @@ fn allow_a_stay(setup: &Setup, ups: u16, bounds: &[u64], t: usize, a: u8) -> boo
 /// Whether they allow for a step to the next higher gear, where one is left.
 fn allow_a_rise(setup: &Setup, ups: u16, bounds: &[u64], t: usize, a: u8) -> bool
     requires { HasRow setup.now.geometry ups bounds.now t a }
-    ensures { IsTrue result ↔ ((left b : ℕ) → left ≤ ups → AreNextGears setup.now.geometry a b → rise a b ≤ left
-        → bound setup.now.geometry ups bounds.now t a left ≤ onward setup.now ups bounds.now t a left b) }
+    ensures { IsTrue result ↔ ((left b : ℕ) → left ≤ ups → AreNextGears setup.now.geometry a b
+        → rise a b ≤ left → bound setup.now.geometry ups bounds.now t a left
+        ≤ onward setup.now ups bounds.now t a left b) }
 {
     let geometry = &setup.geometry;
     match geometry.higher(a) {
@@ -317,7 +321,8 @@ fn is_right_in(setup: &Setup, demanded: u32, ups: u16, bounds: &[u64], t: usize)
     requires period { t < 1024 }
     requires room { bound_count setup.now.geometry ups (t + 1) ≤ length bounds.now }
     requires most { (k : ℕ) → slice_index bounds.now k ≤ no_bound }
-    ensures { IsTrue result ↔ ((a : ℕ) → IsGear setup.now.geometry a → IsRightAt setup.now demanded ups bounds.now t a) }
+    ensures { IsTrue result ↔ ((a : ℕ)
+        → IsGear setup.now.geometry a → IsRightAt setup.now demanded ups bounds.now t a) }
 {
     for a in 3..setup.geometry.disks + 1 {
         if setup.geometry.is_gear(a) && !is_right_at(setup, demanded, ups, bounds, t, a) {

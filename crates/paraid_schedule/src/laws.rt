@@ -1,4 +1,5 @@
-//! What bounds prove, and that there are no two plans. Each law is the contract of a function that does nothing.
+//! What bounds prove, and that there are no two plans. Each law is the contract of a function that
+//! does nothing.
 
 ghost use Rattle.std.specs.Prelude.{◌≡◌, ℕ, List, ◌≤◌};
 ghost use Rattle.paraid_schedule.specs.Schedule.{IsDemand, IsSchedule};
@@ -11,9 +12,9 @@ use paraid_record::Setup;
 /// Where bounds are right, no schedule costs less than the bound of the start. So the cost of a
 /// certified claim is the least.
 pub fn right_bounds_certify_a_cost(setup: &Setup)
-    ensures bound { (demand bounds : List ℕ) (ups : ℕ) → IsDemand demand
-        → AreRight setup.now demand ups bounds
-        → IsLeastCost setup.now demand ups (bound setup.now.geometry ups bounds 0 setup.now.geometry.disks ups) }
+    ensures bound { (demand bounds : List ℕ) (ups : ℕ)
+        → IsDemand demand → AreRight setup.now demand ups bounds → IsLeastCost setup.now demand ups
+        (bound setup.now.geometry ups bounds 0 setup.now.geometry.disks ups) }
     ensures claim { (demand : List ℕ) (ups : ℕ) (claim : Claim) → IsDemand demand
         → IsCertified setup.now demand ups claim → IsLeastCost setup.now demand ups claim.cost }
 {}
@@ -31,5 +32,6 @@ pub fn no_two_schedules_are_least_and_lowest(setup: &Setup)
         → IsSchedule setup.now demand ups gears → IsSchedule setup.now demand ups others
         → IsLeastCost setup.now demand ups (schedule_cost setup.now gears)
         → IsLeastCost setup.now demand ups (schedule_cost setup.now others)
-        → AreLowest setup.now demand ups gears → AreLowest setup.now demand ups others → gears ≡ others }
+        → AreLowest setup.now demand ups gears
+        → AreLowest setup.now demand ups others → gears ≡ others }
 {}

@@ -122,7 +122,8 @@ fn clear(bounds: &mut [u64], at: usize, count: usize)
     requires within { at + count ≤ length bounds.old }
     requires most { (k : ℕ) → slice_index bounds.old k ≤ no_bound }
     ensures cleared { (j : ℕ) → j < count → slice_index bounds.new (at + j) ≡ no_bound }
-    ensures same { (k : ℕ) → (k < at) ⊎ (at + count ≤ k) → slice_index bounds.new k ≡ slice_index bounds.old k }
+    ensures same { (k : ℕ)
+        → (k < at) ⊎ (at + count ≤ k) → slice_index bounds.new k ≡ slice_index bounds.old k }
     ensures most { (k : ℕ) → slice_index bounds.new k ≤ no_bound }
 {
     for j in 0..count {
@@ -138,7 +139,8 @@ fn relax(bounds: &mut [u64], at: usize, next: usize, cost: u64, count: usize)
     requires cost { cost ≤ no_bound }
     ensures relaxed { (j : ℕ) → j < count → slice_index bounds.new (at + j)
         ≡ min (slice_index bounds.old (at + j)) (cost + slice_index bounds.old (next + j)) }
-    ensures same { (k : ℕ) → (k < at) ⊎ (at + count ≤ k) → slice_index bounds.new k ≡ slice_index bounds.old k }
+    ensures same { (k : ℕ)
+        → (k < at) ⊎ (at + count ≤ k) → slice_index bounds.new k ≡ slice_index bounds.old k }
     ensures most { (k : ℕ) → slice_index bounds.new k ≤ no_bound }
 {
     for j in 0..count {
@@ -161,7 +163,8 @@ fn relax_to(setup: &Setup, ups: u16, bounds: &mut [u64], t: usize, a: u8, b: u8)
 /// Lowers them to what a step to the next lower gear costs.
 fn relax_by_fall(setup: &Setup, ups: u16, bounds: &mut [u64], t: usize, a: u8)
     requires { HasRow setup.now.geometry ups bounds.old t a }
-    ensures { AreLoweredBy (λ b. AreNextGears setup.now.geometry b a) setup.now ups t a bounds.old bounds.new }
+    ensures { AreLoweredBy (λ b.
+        AreNextGears setup.now.geometry b a) setup.now ups t a bounds.old bounds.new }
 {
     if let Some(b) = setup.geometry.lower(a) {
         relax_to(setup, ups, bounds, t, a, b);
@@ -171,7 +174,8 @@ fn relax_by_fall(setup: &Setup, ups: u16, bounds: &mut [u64], t: usize, a: u8)
 /// Lowers them to what a step to the next higher gear costs, where one is left.
 fn relax_by_rise(setup: &Setup, ups: u16, bounds: &mut [u64], t: usize, a: u8)
     requires { HasRow setup.now.geometry ups bounds.old t a }
-    ensures { AreLoweredBy (λ b. AreNextGears setup.now.geometry a b) setup.now ups t a bounds.old bounds.new }
+    ensures { AreLoweredBy (λ b.
+        AreNextGears setup.now.geometry a b) setup.now ups t a bounds.old bounds.new }
 {
     if let Some(b) = setup.geometry.higher(a) {
         let at = place(&setup.geometry, ups, t, a);
@@ -203,7 +207,8 @@ fn solve_period(setup: &Setup, demanded: u32, ups: u16, bounds: &mut [u64], t: u
     requires period { t < 1024 }
     requires room { bound_count setup.now.geometry ups (t + 1) ≤ length bounds.old }
     requires most { (k : ℕ) → slice_index bounds.old k ≤ no_bound }
-    ensures solved { (a : ℕ) → IsGear setup.now.geometry a → IsSolvedAt setup.now demanded ups bounds.new t a }
+    ensures solved { (a : ℕ)
+        → IsGear setup.now.geometry a → IsSolvedAt setup.now demanded ups bounds.new t a }
     ensures same { (u : ℕ) → t < u → AreSameIn setup.now.geometry ups u bounds.old bounds.new }
     ensures most { (k : ℕ) → slice_index bounds.new k ≤ no_bound }
 {
@@ -251,9 +256,9 @@ fn solve(alloc: Global, setup: &Setup, demand: &[u32], ups: u16) -> Result<Vec<u
 fn meeting_fall(setup: &Setup, ups: u16, bounds: &[u64], t: usize, a: u8, left: u16) -> Option<u8>
     requires row { HasRow setup.now.geometry ups bounds.now t a }
     requires left { left ≤ ups }
-    ensures { MatchOption result
-        ((b : ℕ) → AreNextGears setup.now.geometry b a → ¬ IsMetBy setup.now ups bounds.now t a left b)
-        (λ b. AreNextGears setup.now.geometry b a × IsMetBy setup.now ups bounds.now t a left b) }
+    ensures { MatchOption result ((b : ℕ) → AreNextGears setup.now.geometry b a
+        → ¬ IsMetBy setup.now ups bounds.now t a left b) (λ b. AreNextGears setup.now.geometry b a
+        × IsMetBy setup.now ups bounds.now t a left b) }
 {
     let aim = bounds[place(&setup.geometry, ups, t, a) + left as usize];
     match setup.geometry.lower(a) {

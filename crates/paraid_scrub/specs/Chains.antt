@@ -33,9 +33,11 @@ module _ {R : Type 0} {g : _} (count : R → ℕ) (slot : R → ℕ → Slot) (t
       leaves = leaves_none count slot told a can.ready can.serves.stays;
       copied = refl;
       synced = λ d here wet. inl wet;
-      calls = calls_none (IsDataCall a.meta.setup.geometry.disks (gone_out a.meta.out)) (told (store_rack a.store));
+      calls = calls_none (IsDataCall a.meta.setup.geometry.disks (gone_out a.meta.out))
+          (told (store_rack a.store));
       reads = ran_none (told (store_rack a.store)) a.meta.setup.geometry.disks;
-      marks = marks_none a.meta a.meta (slot (store_rack a.store)) (slot (store_rack a.store)) a.meta.epoch a.meta.writes (λ d. refl) refl;
+      marks = marks_none a.meta a.meta (slot (store_rack a.store))
+          (slot (store_rack a.store)) a.meta.epoch a.meta.writes (λ d. refl) refl;
       stands = stands_none count slot told a;
     };
     same = refl;
@@ -59,10 +61,15 @@ module _ {R : Type 0} {g : _} (count : R → ℕ) (slot : R → ℕ → Slot) (t
       leaves = leaves_then count slot told a b p.looked.leaves c q.leaves;
       copied = q.copied ∙ p.looked.copied;
       synced = dry_both sa sb sc p.looked.synced q.synced q.leaves.spared;
-      calls = calls_then (IsDataCall a.meta.setup.geometry.disks (gone_out a.meta.out)) (told (store_rack a.store)) (told (store_rack b.store)) (told (store_rack c.store)) p.looked.calls
-          (data_same b.meta a.meta p.same (told (store_rack b.store)) (told (store_rack c.store)) q.calls);
-      reads = reads_then a.meta.setup.geometry.disks b.meta.setup.geometry.disks disks_same (told (store_rack a.store)) (told (store_rack b.store)) (told (store_rack c.store)) p.looked.reads q.reads;
-      marks = marks_then sa sb sc a.meta b.meta c.meta p.looked.marks q.marks p.looked.leaves.spared q.leaves.spared;
+      calls = calls_then (IsDataCall a.meta.setup.geometry.disks (gone_out a.meta.out))
+          (told (store_rack a.store)) (told (store_rack b.store))
+          (told (store_rack c.store)) p.looked.calls (data_same b.meta a.meta p.same
+          (told (store_rack b.store)) (told (store_rack c.store)) q.calls);
+      reads = reads_then a.meta.setup.geometry.disks b.meta.setup.geometry.disks disks_same
+          (told (store_rack a.store))
+          (told (store_rack b.store)) (told (store_rack c.store)) p.looked.reads q.reads;
+      marks = marks_then sa
+          sb sc a.meta b.meta c.meta p.looked.marks q.marks p.looked.leaves.spared q.leaves.spared;
       stands = stands_then count slot told a b p.looked.leaves c p.looked.stands q.stands;
     }
 
@@ -81,34 +88,48 @@ module _ {R : Type 0} {g : _} (count : R → ℕ) (slot : R → ℕ → Slot) (t
       there = ap is_present (sym (p.looked.leaves.spared.power q.loses.disk q.there)) ∙ q.there;
     }
 
-    module _ (agrees : (rack : R) (t : Trail) → told rack ≡ Some t → Agrees (now t) (slot rack)) where
-      looks_till_two : (two : Two) → LooksTillTwo count slot told b c two → LooksTillTwo count slot told a c two
+    module _ (agrees : (rack : R) (t : Trail)
+        → told rack ≡ Some t → Agrees (now t) (slot rack)) where
+      looks_till_two : (two : Two)
+          → LooksTillTwo count slot told b c two → LooksTillTwo count slot told a c two
       looks_till_two two q = record {
         slots = q.slots ∙ p.looked.leaves.slots;
         copied = q.copied ∙ p.looked.copied;
         spared = spared_then sa sb sc p.looked.leaves.spared q.spared;
         synced = dry_both sa sb sc p.looked.synced q.synced q.spared;
         down = two_then count slot told a b p.looked.leaves c q.spared two q.down;
-        tells = core_tells_then slot told agrees a b p.began.absent p.looked.marks c two (data_bears slot told agrees a b p.began.absent p.looked.marks p.looked.calls) q.tells;
-        calls = calls_then (IsDataCall a.meta.setup.geometry.disks (gone_out a.meta.out)) (told (store_rack a.store)) (told (store_rack b.store)) (told (store_rack c.store)) p.looked.calls
-            (data_same b.meta a.meta p.same (told (store_rack b.store)) (told (store_rack c.store)) q.calls);
-        reads = reads_then a.meta.setup.geometry.disks b.meta.setup.geometry.disks disks_same (told (store_rack a.store)) (told (store_rack b.store)) (told (store_rack c.store)) p.looked.reads q.reads;
+        tells = core_tells_then slot told agrees a b p.began.absent p.looked.marks c two
+            (data_bears slot told agrees a b p.began.absent p.looked.marks p.looked.calls) q.tells;
+        calls = calls_then (IsDataCall a.meta.setup.geometry.disks (gone_out a.meta.out))
+            (told (store_rack a.store)) (told (store_rack b.store))
+            (told (store_rack c.store)) p.looked.calls (data_same b.meta a.meta p.same
+            (told (store_rack b.store)) (told (store_rack c.store)) q.calls);
+        reads = reads_then a.meta.setup.geometry.disks b.meta.setup.geometry.disks disks_same
+            (told (store_rack a.store))
+            (told (store_rack b.store)) (told (store_rack c.store)) p.looked.reads q.reads;
         held = held_then count slot told a b p.looked.leaves c p.looked.stands q.held;
       }
 
-      pub looks_till_then : (ending : Ending) → LooksTill count slot told b c ending → LooksTill count slot told a c ending
+      pub looks_till_then : (ending : Ending)
+          → LooksTill count slot told b c ending → LooksTill count slot told a c ending
       looks_till_then Lost q = looks_till_lost q
       looks_till_then (LostTwo two) q = looks_till_two two q
 
   -- what is told after reads was told before them
-  pub looks_told : (a b : Core R g) → LooksOn count slot told a b → IsSome (told (store_rack b.store)) → IsSome (told (store_rack a.store))
-  looks_told a b p some = told_before (told (store_rack a.store)) (told (store_rack b.store)) (AreArrayReads a.meta.setup.geometry.disks) p.looked.reads some
+  pub looks_told : (a b : Core R g) → LooksOn count slot told a b
+      → IsSome (told (store_rack b.store)) → IsSome (told (store_rack a.store))
+  looks_told a b p some = told_before (told (store_rack a.store))
+      (told (store_rack b.store)) (AreArrayReads a.meta.setup.geometry.disks) p.looked.reads some
 
   -- the same, however they end
-  pub looks_till_told : (a b : Core R g) (ending : Ending) → LooksTill count slot told a b ending → IsSome (told (store_rack b.store)) → IsSome (told (store_rack a.store))
-  looks_till_told a b Lost p some = told_before (told (store_rack a.store)) (told (store_rack b.store)) (AreArrayReads a.meta.setup.geometry.disks) p.looked.reads some
-  looks_till_told a b (LostTwo two) p some = told_before (told (store_rack a.store)) (told (store_rack b.store)) (AreArrayReads a.meta.setup.geometry.disks) p.reads some
+  pub looks_till_told : (a b : Core R g) (ending : Ending) → LooksTill count slot told a b ending
+      → IsSome (told (store_rack b.store)) → IsSome (told (store_rack a.store))
+  looks_till_told a b Lost p some = told_before (told (store_rack a.store))
+      (told (store_rack b.store)) (AreArrayReads a.meta.setup.geometry.disks) p.looked.reads some
+  looks_till_told a b (LostTwo two) p some = told_before (told (store_rack a.store))
+      (told (store_rack b.store)) (AreArrayReads a.meta.setup.geometry.disks) p.reads some
 
 -- a view that is shown is by the core's meta
-pub view_agrees : {R : Type 0} {g : _} (told : R → Option Trail) (core : Core R g) (v : View) → ShowsView told core v → (v.meta ≡ core.meta) × (v.out ≡ named_out core.meta.out)
+pub view_agrees : {R : Type 0} {g : _} (told : R → Option Trail) (core : Core R g) (v : View)
+    → ShowsView told core v → (v.meta ≡ core.meta) × (v.out ≡ named_out core.meta.out)
 view_agrees told core v shows = (shows.meta, shows.out)

@@ -29,16 +29,19 @@ use Rattle.paraid_scrub.specs.declared.ending.Ending.TheVariants.{Lost, Two as L
 abbrev pub core_view : {R : Type 0} {g : _} → Core R g → Disks → View
 core_view core s = view_by core.meta s.power (contents s core.batch)
 
--- the view of what a core stands for, by its meta, with the dirty cells of the table that it serves in place of those of the map
+-- the view of what a core stands for, by its meta, with the dirty cells of the table that it serves
+-- in place of those of the map
 abbrev pub table_view : {R : Type 0} {g : _} → Core R g → Disks → View
 table_view core s = record (core_view core s) { dirty = is_dirty core.dirty }
 
 -- the core's table of dirty cells has the bits of the map
 abbrev pub HasMapBits : {R : Type 0} {g : _} → Core R g → View → Type 0
-HasMapBits core v = (r d : ℕ) → r < core.meta.setup.geometry.rows → is_dirty core.dirty r d ≡ v.dirty r d
+HasMapBits core v = (r d : ℕ)
+    → r < core.meta.setup.geometry.rows → is_dirty core.dirty r d ≡ v.dirty r d
 
 -- A core can be checked: it can be read, nothing is staged, and a disk that is being rebuilt spins.
-pub record CanBeChecked {R : Type 0} {g : _} (count : R → ℕ) (slot : R → ℕ → Slot) (core : Core R g) : Type 0 where
+pub record CanBeChecked
+    {R : Type 0} {g : _} (count : R → ℕ) (slot : R → ℕ → Slot) (core : Core R g) : Type 0 where
   pub ready : IsCoreReady count slot core
   pub serves : CanCoreServe slot core
   pub draft : core.draft ≡ []
@@ -46,7 +49,8 @@ pub record CanBeChecked {R : Type 0} {g : _} (count : R → ℕ) (slot : R → �
   pub fresh : (d : ℕ) → IsRebuilding core.meta d → (slot (store_rack core.store) d).power ≡ Spinning
 
 -- the rack tells blocks of this view, under the core's meta
-pub record ShowsView {R : Type 0} {g : _} (told : R → Option Trail) (core : Core R g) (v : View) : Type 0 where
+pub record ShowsView
+    {R : Type 0} {g : _} (told : R → Option Trail) (core : Core R g) (v : View) : Type 0 where
   pub trail : Trail
   pub tells : told (store_rack core.store) ≡ Some trail
   pub meta : v.meta ≡ core.meta
@@ -55,7 +59,8 @@ pub record ShowsView {R : Type 0} {g : _} (told : R → Option Trail) (core : Co
   pub bits : (r d : ℕ) → r < core.meta.setup.geometry.rows → is_dirty core.dirty r d ≡ v.dirty r d
 
 -- Some reads were made, in which at most one disk was lost.
-pub record HasLooked {R : Type 0} {g : _} (count : R → ℕ) (slot : R → ℕ → Slot) (told : R → Option Trail) (old new : Core R g) : Type 0 where
+pub record HasLooked {R : Type 0} {g : _} (count : R → ℕ)
+    (slot : R → ℕ → Slot) (told : R → Option Trail) (old new : Core R g) : Type 0 where
   pub leaves : LeavesCore count slot old new
   pub copied : new.copied ≡ old.copied
   pub synced : StaySynced (slot (store_rack old.store)) (slot (store_rack new.store))
@@ -65,52 +70,60 @@ pub record HasLooked {R : Type 0} {g : _} (count : R → ℕ) (slot : R → ℕ 
   pub stands : StandsStill count told old new
 
 -- No disk was lost in them, and the core can be read on.
-pub record LooksOn {R : Type 0} {g : _} (count : R → ℕ) (slot : R → ℕ → Slot) (told : R → Option Trail) (old new : Core R g) : Type 0 where
+pub record LooksOn {R : Type 0} {g : _} (count : R → ℕ)
+    (slot : R → ℕ → Slot) (told : R → Option Trail) (old new : Core R g) : Type 0 where
   pub began : IsCoreReady count slot old
   pub looked : HasLooked count slot told old new
   pub same : new.meta ≡ old.meta
 
 -- One disk was lost in them, which was there before.
-pub record LooksTillLost {R : Type 0} {g : _} (count : R → ℕ) (slot : R → ℕ → Slot) (told : R → Option Trail) (old new : Core R g) : Type 0 where
+pub record LooksTillLost {R : Type 0} {g : _} (count : R → ℕ)
+    (slot : R → ℕ → Slot) (told : R → Option Trail) (old new : Core R g) : Type 0 where
   pub looked : HasLooked count slot told old new
   pub loses : CoreLosesDisk slot old new
   pub there : is_present (slot (store_rack old.store) loses.disk).power ≡ true
 
 -- Two disks were found down in them.
-pub record LooksTillTwo {R : Type 0} {g : _} (count : R → ℕ) (slot : R → ℕ → Slot) (told : R → Option Trail) (old new : Core R g) (two : Two) : Type 0 where
+pub record LooksTillTwo {R : Type 0} {g : _} (count : R → ℕ)
+    (slot : R → ℕ → Slot) (told : R → Option Trail) (old new : Core R g) (two : Two) : Type 0 where
   pub slots : count (store_rack new.store) ≡ count (store_rack old.store)
   pub copied : new.copied ≡ old.copied
   pub spared : OnlyLosesSlots (slot (store_rack old.store)) (slot (store_rack new.store))
   pub synced : StaySynced (slot (store_rack old.store)) (slot (store_rack new.store))
-  pub down : AreTwoDown (core_down old) (slot (store_rack old.store)) (slot (store_rack new.store)) two
+  pub down
+      : AreTwoDown (core_down old) (slot (store_rack old.store)) (slot (store_rack new.store)) two
   pub tells : CoreTellsLosses told (named_out old.meta.out) old new two
   pub calls : MakesDataCalls told old new
   pub reads : MakesReads told old new
   pub held : IsHeldStill count told old new
 
 -- how such reads end
-abbrev pub LooksTill : {R : Type 0} {g : _} → (R → ℕ) → (R → ℕ → Slot) → (R → Option Trail) → Core R g → Core R g → Ending → Type 0
+abbrev pub LooksTill : {R : Type 0} {g : _}
+    → (R → ℕ) → (R → ℕ → Slot) → (R → Option Trail) → Core R g → Core R g → Ending → Type 0
 LooksTill count slot told old new Lost = LooksTillLost count slot told old new
 LooksTill count slot told old new (LostTwo two) = LooksTillTwo count slot told old new two
 
--- Whatever becomes of a check: it makes reads alone, and each stop leaves what it left before. The rack has as many slots, a
--- slot changes only as it becomes absent, and nothing becomes unsynced. Where two disks are down, it is told which was lost
--- first.
-pub record LeavesChecked {R A : Type 0} {g : Ghosts R} (old new : Core R g) (result : Result A Two) : Type 0 where
+-- Whatever becomes of a check: it makes reads alone, and each stop leaves what it left before. The
+-- rack has as many slots, a slot changes only as it becomes absent, and nothing becomes unsynced.
+-- Where two disks are down, it is told which was lost first.
+pub record LeavesChecked
+    {R A : Type 0} {g : Ghosts R} (old new : Core R g) (result : Result A Two) : Type 0 where
   pub slots : g.slot_count (store_rack new.store) ≡ g.slot_count (store_rack old.store)
   pub spared : OnlyLosesSlots (g.slot (store_rack old.store)) (g.slot (store_rack new.store))
   pub still_synced : StaySynced (g.slot (store_rack old.store)) (g.slot (store_rack new.store))
   pub copied : new.copied ≡ old.copied
-  pub two : IfErr result (AreTwoDown (core_down old) (g.slot (store_rack old.store)) (g.slot (store_rack new.store)))
+  pub two : IfErr result
+      (AreTwoDown (core_down old) (g.slot (store_rack old.store)) (g.slot (store_rack new.store)))
   pub tells : IfErr result (CoreTellsLosses g.told (named_out old.meta.out) old new)
   pub calls : MakesDataCalls g.told old new
   pub reads : MakesReads g.told old new
-  pub moments : (h : History) (lo : ℕ) → Ran (g.told (store_rack old.store)) (g.told (store_rack new.store))
-      (CrashTriple (IsCoreHeld g.slot_count old h lo) (CoreStandsFor g.slot_count old h lo) (IsCoreHeld g.slot_count old h lo))
+  pub moments : (h : History) (lo : ℕ) → Ran (g.told (store_rack old.store))
+      (g.told (store_rack new.store)) (CrashTriple (IsCoreHeld g.slot_count old h lo)
+      (CoreStandsFor g.slot_count old h lo) (IsCoreHeld g.slot_count old h lo))
   pub moments_since : IsHeldStill g.slot_count g.told old new
 
--- A check that made its counts, all or a first part of them: the core serves on as it was, but for the mark of a disk that was
--- lost, and the writes are as they were.
+-- A check that made its counts, all or a first part of them: the core serves on as it was, but for
+-- the mark of a disk that was lost, and the writes are as they were.
 pub record ServesChecked {R : Type 0} {g : Ghosts R} (old new : Core R g) : Type 0 where
   pub draft : new.draft ≡ old.draft
   pub batch : new.batch ≡ old.batch
@@ -121,9 +134,11 @@ pub record ServesChecked {R : Type 0} {g : Ghosts R} (old new : Core R g) : Type
   pub setup : new.meta.setup ≡ old.meta.setup
   pub writes : new.meta.writes ≡ old.meta.writes
   pub epoch : new.meta.epoch ≡ old.meta.epoch
-  pub down : IsDownAfter (core_down old) (core_down new) (g.slot (store_rack old.store)) (g.slot (store_rack new.store))
+  pub down : IsDownAfter (core_down old)
+      (core_down new) (g.slot (store_rack old.store)) (g.slot (store_rack new.store))
   pub marks : CoreMarksLost g.slot old new
   pub unsynced : AreUnsyncedCopied g.slot old → AreUnsyncedCopied g.slot new
-  pub stands : (h : History) (lo : ℕ) → Ran (g.told (store_rack old.store)) (g.told (store_rack new.store))
-      (CrashTriple (IsCoreHeld g.slot_count old h lo) (CoreStandsFor g.slot_count old h lo) (CoreStandsFor g.slot_count new h lo))
+  pub stands : (h : History) (lo : ℕ) → Ran (g.told (store_rack old.store))
+      (g.told (store_rack new.store)) (CrashTriple (IsCoreHeld g.slot_count old h lo)
+      (CoreStandsFor g.slot_count old h lo) (CoreStandsFor g.slot_count new h lo))
   pub since : StandsStill g.slot_count g.told old new

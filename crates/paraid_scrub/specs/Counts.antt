@@ -28,15 +28,17 @@ pub data CountBelow (P : ℕ → Type 0) : ℕ → ℕ → Type 0 where
 
 -- stripe `s` of the region of gear `a` stores the values of its cells, and sums to zero
 pub record IsFillRight (v : View) (a s : ℕ) : Type 0 where
-  pub cells : (r d : ℕ) → r < v.meta.setup.geometry.rows → a ≤ d → d < v.meta.setup.geometry.disks
-      → soft_stripe v.meta.setup.geometry.disks a r d ≡ s
-      → stripe v.meta.setup.geometry v.block a s (soft_disk v.meta.setup.geometry.disks a r d) ≡ value v r d
+  pub cells : (r d : ℕ) → r < v.meta.setup.geometry.rows
+      → a ≤ d → d < v.meta.setup.geometry.disks → soft_stripe v.meta.setup.geometry.disks a r d ≡ s
+      → stripe v.meta.setup.geometry v.block a s (soft_disk v.meta.setup.geometry.disks a r d)
+      ≡ value v r d
   pub zero : IsStripeZero v a s
 
 -- what disk `e` stores of such a stripe is the value of the cell whose copy it is, if it is one
 abbrev pub IsCopyRight : View → ℕ → ℕ → ℕ → Type 0
-IsCopyRight v a s e = (r d : ℕ) → r < v.meta.setup.geometry.rows → a ≤ d → d < v.meta.setup.geometry.disks
-    → soft_stripe v.meta.setup.geometry.disks a r d ≡ s → soft_disk v.meta.setup.geometry.disks a r d ≡ e
+IsCopyRight v a s e = (r d : ℕ) → r < v.meta.setup.geometry.rows
+    → a ≤ d → d < v.meta.setup.geometry.disks → soft_stripe v.meta.setup.geometry.disks a r d ≡ s
+    → soft_disk v.meta.setup.geometry.disks a r d ≡ e
     → stripe v.meta.setup.geometry v.block a s e ≡ value v r d
 
 -- Unit `u` of disk `d` stores what the rest gives: a row, then a stripe, then a block of the map.
@@ -44,9 +46,11 @@ IsCopyRight v a s e = (r d : ℕ) → r < v.meta.setup.geometry.rows → a ≤ d
 pub record IsUnitRight (v : View) (d u : ℕ) : Type 0 where
   pub row : u < v.meta.setup.geometry.rows → (v.meta.gear ≤ d → v.dirty u d ≡ false)
       → v.block d (hard_place_of v.meta.setup.geometry u) ≡ value v u d
-  pub stripe_of : (s : ℕ) → s < stripes_on v d → u ≡ v.meta.setup.geometry.rows + s
-      → stripe v.meta.setup.geometry v.block v.meta.gear s d ≡ stripe_rest v.meta.setup.geometry v.block v.meta.gear s d
-  pub map_block : (j : ℕ) → d < 2 → j < map_count v.meta.setup.geometry → u ≡ v.meta.setup.geometry.rows + stripes_on v d + j
+  pub stripe_of : (s : ℕ) → s < stripes_on v d
+      → u ≡ v.meta.setup.geometry.rows + s → stripe v.meta.setup.geometry v.block v.meta.gear s d
+      ≡ stripe_rest v.meta.setup.geometry v.block v.meta.gear s d
+  pub map_block : (j : ℕ) → d < 2
+      → j < map_count v.meta.setup.geometry → u ≡ v.meta.setup.geometry.rows + stripes_on v d + j
       → v.block d (map_block_place v.meta.setup.geometry j)
       ≡ v.block (other_log d) (map_block_place v.meta.setup.geometry j)
 
@@ -56,7 +60,8 @@ IsOff v Row r = xor_upto (value v r) v.meta.setup.geometry.disks ≢ zero_block
 IsOff v Stripe s = IsStripeZero v v.meta.gear s → ⊥
 IsOff v Fill s = IsFillRight v (phase_to v.meta.phase) s → ⊥
 IsOff v RebuiltUnit u = ((d : ℕ) → v.out ≡ Some d → IsUnitRight v d u) → ⊥
-IsOff v Mirror j = v.block 0 (map_block_place v.meta.setup.geometry j) ≢ v.block 1 (map_block_place v.meta.setup.geometry j)
+IsOff v Mirror j = v.block 0 (map_block_place v.meta.setup.geometry j)
+    ≢ v.block 1 (map_block_place v.meta.setup.geometry j)
 
 -- a count, 0 while a disk is out
 abbrev pub when_whole : Option ℕ → ℕ → ℕ
@@ -73,13 +78,14 @@ is_whole_below (Some d) a = nat_le a d
 -- out disk; and the map blocks while no log disk is out.
 abbrev pub total : Meta → Option ℕ → Kind → ℕ
 total m out Row = when_whole out m.setup.geometry.rows
-total m out Stripe = if is_whole_below out m.gear then stripe_count m.setup.geometry.disks m.setup.geometry.rows m.gear else 0
+total m out Stripe = if is_whole_below out m.gear
+    then stripe_count m.setup.geometry.disks m.setup.geometry.rows m.gear else 0
 total m out Fill = when_whole out m.fill
 total m out RebuiltUnit = rebuilt_count m.out
 total m out Mirror = if is_whole_below out 2 then map_count m.setup.geometry else 0
 
--- All members stand in one row, kind by kind. Of its first `seen` so many are of the kind that begins after `from` others and
--- has `size`.
+-- All members stand in one row, kind by kind. Of its first `seen` so many are of the kind that
+-- begins after `from` others and has `size`.
 abbrev pub part : ℕ → ℕ → ℕ → ℕ
 part seen from size = min (seen - from) size
 
@@ -87,21 +93,29 @@ part seen from size = min (seen - from) size
 -- blocks, in this order.
 pub record AreCounts (v : View) (seen : ℕ) (report : CheckReport) : Type 0 where
   pub rows : CountBelow (IsOff v Row) (part seen 0 (total v.meta v.out Row)) report.rows
-  pub stripes : CountBelow (IsOff v Stripe) (part seen (total v.meta v.out Row) (total v.meta v.out Stripe)) report.stripes
-  pub fill : CountBelow (IsOff v Fill) (part seen (total v.meta v.out Row + total v.meta v.out Stripe) (total v.meta v.out Fill)) report.fill
-  pub units : CountBelow (IsOff v RebuiltUnit) (part seen (total v.meta v.out Row + total v.meta v.out Stripe + total v.meta v.out Fill) (total v.meta v.out RebuiltUnit)) report.units
-  pub mirrors : CountBelow (IsOff v Mirror) (part seen (total v.meta v.out Row + total v.meta v.out Stripe + total v.meta v.out Fill + total v.meta v.out RebuiltUnit) (total v.meta v.out Mirror)) report.mirrors
+  pub stripes : CountBelow (IsOff v Stripe)
+      (part seen (total v.meta v.out Row) (total v.meta v.out Stripe)) report.stripes
+  pub fill : CountBelow (IsOff v Fill) (part seen
+      (total v.meta v.out Row + total v.meta v.out Stripe) (total v.meta v.out Fill)) report.fill
+  pub units : CountBelow (IsOff v RebuiltUnit) (part seen (total v.meta v.out Row + total
+      v.meta v.out Stripe + total v.meta v.out Fill) (total v.meta v.out RebuiltUnit)) report.units
+  pub mirrors : CountBelow (IsOff v Mirror)
+      (part seen (total v.meta v.out Row + total v.meta v.out Stripe + total v.meta v.out Fill
+      + total v.meta v.out RebuiltUnit) (total v.meta v.out Mirror)) report.mirrors
 
 -- the number of all of them
 abbrev pub all_members : View → ℕ
-all_members v = total v.meta v.out Row + total v.meta v.out Stripe + total v.meta v.out Fill + total v.meta v.out RebuiltUnit + total v.meta v.out Mirror
+all_members v = total v.meta v.out Row + total v.meta v.out Stripe
+    + total v.meta v.out Fill + total v.meta v.out RebuiltUnit + total v.meta v.out Mirror
 
--- The counts of the first `seen` members of all that is looked at by this view. All were seen, or a disk that was there has failed
--- since, and is absent: then nothing says how many were, and it may be none.
+-- The counts of the first `seen` members of all that is looked at by this view. All were seen, or a
+-- disk that was there has failed since, and is absent: then nothing says how many were, and it may
+-- be none.
 pub record CountsByView (v : View) (old new : ℕ → Slot) (report : CheckReport) : Type 0 where
   pub seen : ℕ
   pub counts : AreCounts v seen report
-  pub all : (seen ≡ all_members v) ⊎ ((d : ℕ) × IsGoneSince old new d × HasRisen (old d).faults (new d).faults)
+  pub all : (seen ≡ all_members v)
+      ⊎ ((d : ℕ) × IsGoneSince old new d × HasRisen (old d).faults (new d).faults)
 
 -- nothing is false
 abbrev pub no_faults : CheckReport

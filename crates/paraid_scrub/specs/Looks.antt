@@ -7,13 +7,16 @@ use Rattle.paraid_image.specs.Spot.{View, rising_to}
 use Rattle.paraid_scrub.specs.declared.kind.Kind.{Kind}
 use Rattle.paraid_scrub.specs.Counts.{CountBelow, IsOff}
 
--- Disk `d` can be read: it is not out, and the gear or a shift up powers it; or it is being rebuilt.
+-- Disk `d` can be read: it is not out, and the gear or a shift up powers it; or it is being
+-- rebuilt.
 pub data IsReadable (m : Meta) (d : ℕ) : Type 0 where
   powered : (d < m.gear) ⊎ (d < rising_to m.phase) → named_out m.out ≢ Some d → IsReadable m d
   fresh : (u : ℕ) → m.out ≡ Fresh d u → IsReadable m d
 
 -- The meta and the view are as before, it can be read on, and of the view this holds.
-pub record KeepsView {C : Type 0} (meta : C → Meta) (usable tells : C → Type 0) (shows : C → View → Type 0) (leads : C → C → Type 0) (old new : C) (fact : View → Type 0) : Type 0 where
+pub record KeepsView
+    {C : Type 0} (meta : C → Meta) (usable tells : C → Type 0) (shows : C → View → Type 0)
+    (leads : C → C → Type 0) (old new : C) (fact : View → Type 0) : Type 0 where
   pub goes : leads old new
   pub same : meta new ≡ meta old
   pub still : usable new

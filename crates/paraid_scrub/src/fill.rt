@@ -23,7 +23,8 @@ fn either(a: bool, b: bool) -> bool
     a || b
 }
 
-// Whether the block that a disk stores of a stripe of this gear is not the value of the cell whose copy it is.
+// Whether the block that a disk stores of a stripe of this gear is not the value of the cell whose
+// copy it is.
 fn is_copy_off<C: Stored>(
     core: &mut C,
     gear: u8,
@@ -37,8 +38,8 @@ fn is_copy_off<C: Stored>(
     requires at { at < stripe_count (C.meta core.old).setup.geometry.disks
         (C.meta core.old).setup.geometry.rows gear }
     requires disk { disk < gear }
-    ensures shown { IfOk result (λ off. KeepsView C.meta C.usable C.tells C.shows C.leads core.old core.new
-        (λ v. stored.now ≡ stripe (C.meta core.old).setup.geometry v.block gear at disk
+    ensures shown { IfOk result (λ off. KeepsView C.meta C.usable C.tells C.shows C.leads core.old
+        core.new (λ v. stored.now ≡ stripe (C.meta core.old).setup.geometry v.block gear at disk
         → (IsTrue off ↔ (IsCopyRight v gear at disk → ⊥)))) }
     ensures lost { IfErr result (C.loses core.old core.new) }
 {
@@ -70,8 +71,9 @@ fn look_at_copy<C: Stored>(
         (C.meta core.old).setup.geometry.rows gear }
     requires disk { disk < gear }
     requires readable { IsReadable (C.meta core.old) disk }
-    ensures shown { IfOk result (λ off. KeepsView C.meta C.usable C.tells C.shows C.leads core.old core.new
-        (λ v. (sum.new ≡ xor sum.old (stripe (C.meta core.old).setup.geometry v.block gear at disk))
+    ensures shown { IfOk result (λ off.
+        KeepsView C.meta C.usable C.tells C.shows C.leads core.old core.new (λ v.
+        (sum.new ≡ xor sum.old (stripe (C.meta core.old).setup.geometry v.block gear at disk))
         × (IsTrue off ↔ (IsCopyRight v gear at disk → ⊥)))) }
     ensures lost { IfErr result (C.loses core.old core.new) }
 {
@@ -82,7 +84,8 @@ fn look_at_copy<C: Stored>(
     is_copy_off(core, gear, at, disk, &stored)
 }
 
-/// Whether a stripe of the region of this gear does not store the values of its cells, or does not sum to zero.
+/// Whether a stripe of the region of this gear does not store the values of its cells, or does not
+/// sum to zero.
 pub(crate) fn is_fill_off<C: Stored>(core: &mut C, gear: u8, at: u32) -> Result<bool, Ending>
     requires usable { C.usable core.old }
     requires gear { IsGear (C.meta core.old).setup.geometry gear }
@@ -90,8 +93,8 @@ pub(crate) fn is_fill_off<C: Stored>(core: &mut C, gear: u8, at: u32) -> Result<
     requires at { at < stripe_count (C.meta core.old).setup.geometry.disks
         (C.meta core.old).setup.geometry.rows gear }
     requires readable { (d : ℕ) → d < gear → IsReadable (C.meta core.old) d }
-    ensures shown { IfOk result (λ off. KeepsView C.meta C.usable C.tells C.shows C.leads core.old core.new
-        (λ v. IsTrue off ↔ (IsFillRight v gear at → ⊥))) }
+    ensures shown { IfOk result (λ off. KeepsView C.meta C.usable
+        C.tells C.shows C.leads core.old core.new (λ v. IsTrue off ↔ (IsFillRight v gear at → ⊥))) }
     ensures lost { IfErr result (C.loses core.old core.new) }
 {
     let mut sum = Block::zero();

@@ -41,9 +41,10 @@ fn so_far(rows: u32, stripes: u32, fill: u32, units: u32, mirrors: u32, whole: b
 /// those of a first part.
 pub(crate) fn count_all<C: Stored>(core: &mut C) -> Result<Checked, Two>
     requires usable { C.usable core.old }
-    ensures kept { IfOk result (λ checked. IsTrue checked.whole
-        → KeepsView C.meta C.usable C.tells C.shows C.leads core.old core.new (λ v. C.shows core.new v)) }
-    ensures ended { IfOk result (λ checked. checked.whole ≡ false → C.loses core.old core.new HasLost) }
+    ensures kept { IfOk result (λ checked. IsTrue checked.whole → KeepsView
+        C.meta C.usable C.tells C.shows C.leads core.old core.new (λ v. C.shows core.new v)) }
+    ensures ended { IfOk result (λ checked. checked.whole ≡ false
+        → C.loses core.old core.new HasLost) }
     ensures two { IfErr result (λ two. C.loses core.old core.new (LostTwo two)) }
     ensures counts { IfOk result (λ checked. (v : View) → C.shows core.old v → C.tells core.new
         → (seen : ℕ) × AreCounts v seen checked.report

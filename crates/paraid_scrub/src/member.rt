@@ -45,8 +45,9 @@ fn sum_row<C: Stored>(core: &mut C, row: Row, into: &mut Block) -> Result<(), En
 pub(crate) fn is_row_off<C: Stored>(core: &mut C, row: Row) -> Result<bool, Ending>
     requires usable { C.usable core.old }
     requires row { row < (C.meta core.old).setup.geometry.rows }
-    ensures shown { IfOk result (λ off. KeepsView C.meta C.usable C.tells C.shows C.leads core.old core.new
-        (λ v. IsTrue off ↔ (xor_upto (value v row) (C.meta core.old).setup.geometry.disks ≢ zero_block))) }
+    ensures shown { IfOk result (λ off.
+        KeepsView C.meta C.usable C.tells C.shows C.leads core.old core.new (λ v. IsTrue off
+        ↔ (xor_upto (value v row) (C.meta core.old).setup.geometry.disks ≢ zero_block))) }
     ensures lost { IfErr result (C.loses core.old core.new) }
 {
     let mut sum = Block::zero();
@@ -62,9 +63,9 @@ pub(crate) fn is_stripe_off<C: Stored>(core: &mut C, gear: u8, at: u32) -> Resul
     requires at { at < stripe_count (C.meta core.old).setup.geometry.disks
         (C.meta core.old).setup.geometry.rows gear }
     requires readable { (d : ℕ) → d < gear → IsReadable (C.meta core.old) d }
-    ensures shown { IfOk result (λ off. KeepsView C.meta C.usable C.tells C.shows C.leads core.old core.new
-        (λ v. IsTrue off ↔ (xor_upto
-        (stripe (C.meta core.old).setup.geometry v.block gear at) gear ≢ zero_block))) }
+    ensures shown { IfOk result (λ off.
+        KeepsView C.meta C.usable C.tells C.shows C.leads core.old core.new (λ v. IsTrue off
+        ↔ (xor_upto (stripe (C.meta core.old).setup.geometry v.block gear at) gear ≢ zero_block))) }
     ensures lost { IfErr result (C.loses core.old core.new) }
 {
     let mut sum = Block::zero();
@@ -80,8 +81,8 @@ pub(crate) fn is_map_off<C: Stored>(core: &mut C, disk: DiskNo, at: u32) -> Resu
     requires readable { IsReadable (C.meta core.old) disk }
     requires other { IsReadable (C.meta core.old) (1 - disk) }
     requires at { at < map_count (C.meta core.old).setup.geometry }
-    ensures shown { IfOk result (λ off. KeepsView C.meta C.usable C.tells C.shows C.leads core.old core.new
-        (λ v. IsTrue off ↔ (v.block disk (map_block_place v.meta.setup.geometry at)
+    ensures shown { IfOk result (λ off. KeepsView C.meta C.usable C.tells C.shows C.leads core.old
+        core.new (λ v. IsTrue off ↔ (v.block disk (map_block_place v.meta.setup.geometry at)
         ≢ v.block (other_log disk) (map_block_place v.meta.setup.geometry at)))) }
     ensures lost { IfErr result (C.loses core.old core.new) }
 {

@@ -71,8 +71,8 @@ fn members(meta: &Meta, kind: Kind) -> u32
 fn is_rebuilt_off<C: Stored>(core: &mut C, at: u32) -> Result<bool, Ending>
     requires usable { C.usable core.old }
     requires at { at < total (C.meta core.old) (named_out (C.meta core.old).out) Kind.Unit }
-    ensures shown { IfOk result (λ off. KeepsView C.meta C.usable C.tells C.shows C.leads core.old core.new
-        (λ v. IsTrue off ↔ IsOff v Kind.Unit at)) }
+    ensures shown { IfOk result (λ off. KeepsView C.meta C.usable
+        C.tells C.shows C.leads core.old core.new (λ v. IsTrue off ↔ IsOff v Kind.Unit at)) }
     ensures lost { IfErr result (C.loses core.old core.new) }
 {
     match core.meta().out {
@@ -86,8 +86,8 @@ fn is_rebuilt_off<C: Stored>(core: &mut C, at: u32) -> Result<bool, Ending>
 fn is_off<C: Stored>(core: &mut C, kind: Kind, at: u32) -> Result<bool, Ending>
     requires usable { C.usable core.old }
     requires at { at < total (C.meta core.old) (named_out (C.meta core.old).out) kind }
-    ensures shown { IfOk result (λ off. KeepsView C.meta C.usable C.tells C.shows C.leads core.old core.new
-        (λ v. IsTrue off ↔ IsOff v kind at)) }
+    ensures shown { IfOk result (λ off. KeepsView C.meta
+        C.usable C.tells C.shows C.leads core.old core.new (λ v. IsTrue off ↔ IsOff v kind at)) }
     ensures lost { IfErr result (C.loses core.old core.new) }
 {
     let meta = core.meta();
@@ -103,13 +103,14 @@ fn is_off<C: Stored>(core: &mut C, kind: Kind, at: u32) -> Result<bool, Ending>
 /// Counts the members of a kind that are false. A disk that is lost inside ends it.
 pub(crate) fn count<C: Stored>(core: &mut C, kind: Kind) -> Result<Part, Two>
     requires usable { C.usable core.old }
-    ensures kept { IfOk result (λ part. IsTrue part.whole
-        → KeepsView C.meta C.usable C.tells C.shows C.leads core.old core.new (λ v. C.shows core.new v)) }
+    ensures kept { IfOk result (λ part. IsTrue part.whole → KeepsView
+        C.meta C.usable C.tells C.shows C.leads core.old core.new (λ v. C.shows core.new v)) }
     ensures ended { IfOk result (λ part. part.whole ≡ false → C.loses core.old core.new HasLost) }
     ensures two { IfErr result (λ two. C.loses core.old core.new (LostTwo two)) }
     ensures counts { IfOk result (λ part. (v : View) → C.shows core.old v → C.tells core.new
         → PartCount v kind (total v.meta v.out kind) part.found part.whole) }
-    ensures most { IfOk result (λ part. part.found ≤ total (C.meta core.old) (named_out (C.meta core.old).out) kind) }
+    ensures most { IfOk result (λ part.
+        part.found ≤ total (C.meta core.old) (named_out (C.meta core.old).out) kind) }
 {
     let size = members(&core.meta(), kind);
     let mut found = 0;

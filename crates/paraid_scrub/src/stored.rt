@@ -59,7 +59,8 @@ pub trait Stored {
 
     ghost then: { (a b c : Self) → leads a b → leads b c → leads a c };
 
-    ghost then_lost: { (a b c : Self) (ending : EndingType) → leads a b → loses b c ending → loses a c ending };
+    ghost then_lost: { (a b c : Self) (ending : EndingType)
+        → leads a b → loses b c ending → loses a c ending };
 
     // What is told after some reads was told before them.
     ghost told: { (a b : Self) → leads a b → tells b → tells a };

@@ -39,9 +39,10 @@ fn is_rebuilt_row_off<C: Stored>(core: &mut C, disk: DiskNo, row: Row) -> Result
     requires row { row < (C.meta core.old).setup.geometry.rows }
     requires disk { disk < (C.meta core.old).setup.geometry.disks }
     requires readable { IsReadable (C.meta core.old) disk }
-    ensures shown { IfOk result (λ off. KeepsView C.meta C.usable C.tells C.shows C.leads core.old core.new
-        (λ v. IsTrue off ↔ ((((C.meta core.old).gear ≤ disk → v.dirty row disk ≡ false)
-        → v.block disk (hard_place_of (C.meta core.old).setup.geometry row) ≡ value v row disk) → ⊥))) }
+    ensures shown { IfOk result (λ off.
+        KeepsView C.meta C.usable C.tells C.shows C.leads core.old core.new (λ v. IsTrue off
+        ↔ ((((C.meta core.old).gear ≤ disk → v.dirty row disk ≡ false) → v.block disk
+        (hard_place_of (C.meta core.old).setup.geometry row) ≡ value v row disk) → ⊥))) }
     ensures lost { IfErr result (C.loses core.old core.new) }
 {
     if is_copy_alone(core, disk, row) {
@@ -55,15 +56,17 @@ fn is_rebuilt_row_off<C: Stored>(core: &mut C, disk: DiskNo, row: Row) -> Result
     Ok(differs(&mut stored, &value))
 }
 
-// Whether the block of a stripe on the disk that is rebuilt is not the sum of the stripe's other blocks.
+// Whether the block of a stripe on the disk that is rebuilt is not the sum of the stripe's other
+// blocks.
 fn is_rebuilt_stripe_off<C: Stored>(core: &mut C, disk: DiskNo, at: u32) -> Result<bool, Ending>
     requires usable { C.usable core.old }
     requires below { disk < (C.meta core.old).gear }
     requires at { at < stripe_count (C.meta core.old).setup.geometry.disks
         (C.meta core.old).setup.geometry.rows (C.meta core.old).gear }
     requires readable { (d : ℕ) → d < (C.meta core.old).gear → IsReadable (C.meta core.old) d }
-    ensures shown { IfOk result (λ off. KeepsView C.meta C.usable C.tells C.shows C.leads core.old core.new
-        (λ v. IsTrue off ↔ (stripe (C.meta core.old).setup.geometry v.block (C.meta core.old).gear at disk
+    ensures shown { IfOk result (λ off.
+        KeepsView C.meta C.usable C.tells C.shows C.leads core.old core.new (λ v. IsTrue off
+        ↔ (stripe (C.meta core.old).setup.geometry v.block (C.meta core.old).gear at disk
         ≢ stripe_rest (C.meta core.old).setup.geometry v.block (C.meta core.old).gear at disk))) }
     ensures lost { IfErr result (C.loses core.old core.new) }
 {
@@ -74,8 +77,8 @@ fn is_rebuilt_stripe_off<C: Stored>(core: &mut C, disk: DiskNo, at: u32) -> Resu
 // How many stripes a disk has to get back.
 fn stripes_of(meta: &Meta, disk: DiskNo) -> u32
     requires { IsGear meta.now.setup.geometry meta.now.gear }
-    ensures { result ≡ (if nat_lt disk meta.now.gear
-        then stripe_count meta.now.setup.geometry.disks meta.now.setup.geometry.rows meta.now.gear else 0) }
+    ensures { result ≡ (if nat_lt disk meta.now.gear then stripe_count
+        meta.now.setup.geometry.disks meta.now.setup.geometry.rows meta.now.gear else 0) }
 {
     if disk < meta.gear {
         return meta.setup.geometry.stripes(meta.gear);
@@ -83,14 +86,14 @@ fn stripes_of(meta: &Meta, disk: DiskNo) -> u32
     0
 }
 
-/// Whether unit `at` of the disk that is rebuilt does not store what the rest gives: a row, then a stripe, then
-/// a block of the map.
+/// Whether unit `at` of the disk that is rebuilt does not store what the rest gives: a row, then a
+/// stripe, then a block of the map.
 pub(crate) fn is_unit_off<C: Stored>(core: &mut C, disk: DiskNo, at: u32) -> Result<bool, Ending>
     requires usable { C.usable core.old }
     requires fresh { (C.meta core.old).out ≡ Fresh disk (rebuilt_count (C.meta core.old).out) }
     requires at { at < rebuilt_count (C.meta core.old).out }
-    ensures shown { IfOk result (λ off. KeepsView C.meta C.usable C.tells C.shows C.leads core.old core.new
-        (λ v. IsTrue off ↔ (IsUnitRight v disk at → ⊥))) }
+    ensures shown { IfOk result (λ off. KeepsView C.meta C.usable
+        C.tells C.shows C.leads core.old core.new (λ v. IsTrue off ↔ (IsUnitRight v disk at → ⊥))) }
     ensures lost { IfErr result (C.loses core.old core.new) }
 {
     let meta = core.meta();

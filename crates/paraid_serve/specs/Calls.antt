@@ -11,4 +11,5 @@ IsNotDouble setup slot = (d e : ℕ) → d < setup.geometry.disks → e < setup.
 
 -- a disk of the array that is absent is the one that is out, so at most one is absent or out
 abbrev pub IsAbsentOut : Setup → Option ℕ → (ℕ → Slot) → Type 0
-IsAbsentOut setup down slot = (d : ℕ) → d < setup.geometry.disks → is_present (slot d).power ≡ false → down ≡ Some d
+IsAbsentOut setup down slot = (d : ℕ)
+    → d < setup.geometry.disks → is_present (slot d).power ≡ false → down ≡ Some d

@@ -9,7 +9,8 @@ use Rattle.paraid_serve.specs.Statuses.{status_sink, status_two, status_worn}
 
 -- the line of a mount
 abbrev pub mount_line : ℕ → ℕ → List ℕ
-mount_line writes gear = codes "mounted " ++ decimal writes ++ codes " gear " ++ decimal gear ++ codes "\n"
+mount_line writes gear =
+    codes "mounted " ++ decimal writes ++ codes " gear " ++ decimal gear ++ codes "\n"
 
 -- the line of an end at which all was kept
 abbrev pub end_line : ℕ → List ℕ
@@ -24,8 +25,10 @@ abbrev pub status_of_halt : Halt → ℕ
 status_of_halt (Two two) = status_two
 status_of_halt (Worn count) = status_worn
 
--- A last line was written whole, with this status, or a first part of it, which is not the whole, at `status_sink`.
-pub record EndsWithLine (before after : Option (List ℕ)) (line : List ℕ) (code status : ℕ) : Type 0 where
+-- A last line was written whole, with this status, or a first part of it, which is not the whole,
+-- at `status_sink`.
+pub record EndsWithLine
+    (before after : Option (List ℕ)) (line : List ℕ) (code status : ℕ) : Type 0 where
   pub count : ℕ
   pub within : (count < length line) ⊎ ((count ≡ length line) × (status ≡ code))
   pub grows : GrowsByBytes before after (take count line)

@@ -12,14 +12,17 @@ abbrev pub texts : List Answer → List ℕ
 texts [] = []
 texts (answer ∷ answers) = reply_of answer ++ texts answers
 
--- A text that tells an answer to each of these lines, with its cause: as an array showing `old` answers them, which then shows `new`.
-pub record HasAnswers (old : Shown) (lines : List (List ℕ)) (text : List ℕ) (new : Shown) : Type 0 where
+-- A text that tells an answer to each of these lines, with its cause: as an array showing `old`
+-- answers them, which then shows `new`.
+pub record HasAnswers
+    (old : Shown) (lines : List (List ℕ)) (text : List ℕ) (new : Shown) : Type 0 where
   pub answers : List Answer
   pub causes : HaveCauses old (events_in lines) answers new
   pub is : text ≡ texts answers
 
--- A text that tells an answer to each of some lines, and a first part of the answer to the next one, which is not the whole, with the
--- cause of each. After that answer no line was served: the array showed `old` before the first line, and shows `new` after that answer.
+-- A text that tells an answer to each of some lines, and a first part of the answer to the next
+-- one, which is not the whole, with the cause of each. After that answer no line was served: the
+-- array showed `old` before the first line, and shows `new` after that answer.
 pub record BeginsAnswers (old : Shown) (bytes text : List ℕ) (new : Shown) : Type 0 where
   pub before : List (List ℕ)
   pub line : List ℕ

@@ -18,12 +18,14 @@ heard_event (Err fault) pairs = Err fault
 
 -- what an answer says of the bytes that were held before and taken in the call
 abbrev pub IsHeardEvent : Result (Option Event) LineFault → List ℕ → Reading → Type 0
-IsHeardEvent (Ok (Some event)) bytes new = (line : List ℕ) × (event ≡ event_of line) × IsNextLine bytes line new
+IsHeardEvent (Ok (Some event)) bytes new =
+    (line : List ℕ) × (event ≡ event_of line) × IsNextLine bytes line new
 IsHeardEvent (Ok None) bytes new = (bytes ≡ []) × (new.rest ≡ []) × IsTrue new.ended
 IsHeardEvent (Err fault) bytes new = (whole_lines bytes ≡ []) × (new.ended ≡ false)
 
 -- One call took these bytes.
-pub record HearsLine (before after : Option (List ℕ)) (old new : Reading) (result : Result (Option Event) LineFault) : Type 0 where
+pub record HearsLine (before after : Option (List ℕ))
+    (old new : Reading) (result : Result (Option Event) LineFault) : Type 0 where
   pub got : List ℕ
   pub given : Gives before after got
   pub taken : new.taken ≡ old.taken + length got

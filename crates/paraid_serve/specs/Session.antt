@@ -16,8 +16,8 @@ use Rattle.paraid_serve.specs.Stretch.{EndsStretch, Span, Stretch, events_in, re
 use Rattle.paraid_session.specs.Turn.{Point}
 use Rattle.paraid_trace.specs.Replies.{reply_of}
 
--- From a point on the lines of these bytes were answered up to one, and no line after it. This text is the answers to the lines
--- before it, and a first part of its own, which is not the whole.
+-- From a point on the lines of these bytes were answered up to one, and no line after it. This text
+-- is the answers to the lines before it, and a first part of its own, which is not the whole.
 pub record CutsAnswers (span : Span) (p : Point) (bytes text : List ℕ) : Type 0 where
   pub before : List (List ℕ)
   pub line : List ℕ
@@ -33,9 +33,11 @@ pub record CutsAnswers (span : Span) (p : Point) (bytes text : List ℕ) : Type 
 abbrev pub AreLinesAnswered : Span → Point → Result ℕ Stop → List ℕ → List ℕ → Type 0
 -- all lines, and a flush
 AreLinesAnswered span p (Ok writes) bytes text =
-    (e : EndsStretch span p (events_in (lines_of bytes) ++ Flush ∷ []) (Flushed writes)) × (text ≡ replies e.before)
+    (e : EndsStretch span p (events_in (lines_of bytes) ++ Flush ∷ []) (Flushed writes))
+    × (text ≡ replies e.before)
 AreLinesAnswered span p (Err (Halts halt)) bytes text =
-    (e : EndsStretch span p (events_in (lines_of bytes) ++ Flush ∷ []) (Halted halt)) × (text ≡ replies e.before)
+    (e : EndsStretch span p (events_in (lines_of bytes) ++ Flush ∷ []) (Halted halt))
+    × (text ≡ replies e.before)
 -- those that end with a newline
 AreLinesAnswered span p (Err Source) bytes text =
     (c : Stretch span p (events_in (whole_lines bytes))) × (text ≡ replies c.turns)
@@ -44,11 +46,13 @@ AreLinesAnswered span p (Err TooLong) bytes text =
 -- those to the one whose answer could not be written whole
 AreLinesAnswered span p (Err Sink) bytes text = CutsAnswers span p bytes text
 
--- the form of what was written for the lines, by how the session ended, and the cause of each answer; all lines are followed by a
--- flush
+-- the form of what was written for the lines, by how the session ended, and the cause of each
+-- answer; all lines are followed by a flush
 abbrev pub HaveLinesForm : Shown → Result ℕ Stop → List ℕ → List ℕ → Shown → Type 0
-HaveLinesForm old (Ok writes) bytes text new = (mid : Shown) × HasAnswers old (lines_of bytes) text mid × HasCause mid Flush (Flushed writes) new
-HaveLinesForm old (Err (Halts halt)) bytes text new = (mid : Shown) × HasAnswers old (lines_of bytes) text mid × HasCause mid Flush (Halted halt) new
+HaveLinesForm old (Ok writes) bytes text new = (mid : Shown)
+    × HasAnswers old (lines_of bytes) text mid × HasCause mid Flush (Flushed writes) new
+HaveLinesForm old (Err (Halts halt)) bytes text new =
+    (mid : Shown) × HasAnswers old (lines_of bytes) text mid × HasCause mid Flush (Halted halt) new
 HaveLinesForm old (Err Source) bytes text new = HasAnswers old (whole_lines bytes) text new
 HaveLinesForm old (Err TooLong) bytes text new = HasAnswers old (whole_lines bytes) text new
 HaveLinesForm old (Err Sink) bytes text new = BeginsAnswers old bytes text new
@@ -77,7 +81,8 @@ IsStopByWear Sink = Unit {0}
 
 -- A session took these bytes and wrote this text. What it answered is known where the record is
 -- told, from each point at which the array stood.
-pub record ServesSession (seen seen_now : Shown) (span : Span) (stood : Point → Type 0) (streams : Streams) (result : Result ℕ Stop) : Type 0 where
+pub record ServesSession (seen seen_now : Shown) (span : Span)
+    (stood : Point → Type 0) (streams : Streams) (result : Result ℕ Stop) : Type 0 where
   pub bytes : List ℕ
   pub text : List ℕ
   pub given : Gives streams.source.left_before streams.source.left bytes

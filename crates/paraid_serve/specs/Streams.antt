@@ -30,8 +30,8 @@ sink_use written faults old new = record {
 abbrev pub streams_of : SourceUse → SinkUse → Streams
 streams_of source sink = record { source = source; sink = sink }
 
--- A fault ends the command, and its status names it: where it is not `status_sink`, the sink has counted none; where it is neither that
--- nor `status_source`, the source has counted none either.
+-- A fault ends the command, and its status names it: where it is not `status_sink`, the sink has
+-- counted none; where it is neither that nor `status_source`, the source has counted none either.
 pub record EndsAtFaults (given : SourceUse) (kept : SinkUse) (status : ℕ) : Type 0 where
   pub sink : status ≢ status_sink → kept.faults ≡ kept.faults_before
   pub source : status ≢ status_source → status ≢ status_sink → given.faults ≡ given.faults_before

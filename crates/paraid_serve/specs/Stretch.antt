@@ -22,7 +22,8 @@ turn_with event answer calls = record { event = event; answer = answer; calls = 
 -- these turns lead from one point of a session to another
 abbrev pub TurnsLead : ℕ → Setup → Point → List Turn → Point → Type 0
 TurnsLead slots setup p [] q = q ≡ p
-TurnsLead slots setup p (t ∷ turns) q = (mid : Point) × IsTurn slots setup p t.event t.answer t.calls mid × TurnsLead slots setup mid turns q
+TurnsLead slots setup p (t ∷ turns) q = (mid : Point)
+    × IsTurn slots setup p t.event t.answer t.calls mid × TurnsLead slots setup mid turns q
 
 -- the events of some turns
 abbrev pub turn_events : List Turn → List Event
@@ -44,7 +45,8 @@ abbrev pub events_in : List (List ℕ) → List Event
 events_in [] = []
 events_in (line ∷ lines) = event_of line ∷ events_in lines
 
--- Where a session runs: over a rack with so many slots, of an array configured so, from one record of it to another.
+-- Where a session runs: over a rack with so many slots, of an array configured so, from one record
+-- of it to another.
 pub record Span : Type 0 where
   pub slots : ℕ
   pub setup : Setup
@@ -68,7 +70,8 @@ pub record Stretch (span : Span) (p : Point) (events : List Event) : Type 0 wher
   pub calls : to ≡ extend from (turn_calls turns)
 
 -- the same, and the last event was answered so
-pub record EndsStretch (span : Span) (p : Point) (events : List Event) (answer : Answer) : Type 0 where
+pub record EndsStretch
+    (span : Span) (p : Point) (events : List Event) (answer : Answer) : Type 0 where
   pub all : Stretch span p events
   pub before : List Turn
   pub last : Turn

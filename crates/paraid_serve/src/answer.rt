@@ -76,7 +76,8 @@ pub fn answer<A: Serves>(
     ensures slots { A.slots array.new ≡ A.slots array.old }
     ensures setup { A.setup array.new ≡ A.setup array.old }
     ensures halt { halt.new ≡ A.halted array.new }
-    ensures since { (start : ℕ → Slot) → HasServedSince start (A.slot array.old) (A.halted array.old)
+    ensures since { (start : ℕ → Slot)
+        → HasServedSince start (A.slot array.old) (A.halted array.old)
         → HasServedSince start (A.slot array.new) (A.halted array.new) }
     ensures few { HasFewDisks (answer_with result beside.new) }
     ensures cause { HasCause (A.shown array.old) (event_with asked pairs.now)
@@ -102,7 +103,8 @@ pub fn answer_event<A: Serves>(array: &mut A, halt: &mut Option<Halt>, event: &E
     ensures slots { A.slots array.new ≡ A.slots array.old }
     ensures setup { A.setup array.new ≡ A.setup array.old }
     ensures halt { halt.new ≡ A.halted array.new }
-    ensures since { (start : ℕ → Slot) → HasServedSince start (A.slot array.old) (A.halted array.old)
+    ensures since { (start : ℕ → Slot)
+        → HasServedSince start (A.slot array.old) (A.halted array.old)
         → HasServedSince start (A.slot array.new) (A.halted array.new) }
     ensures cause { HasCause (A.shown array.old) event.now result (A.shown array.new) }
 {
@@ -130,7 +132,8 @@ pub fn finish<A: Serves>(array: &mut A, halt: Option<Halt>) -> Result<u64, Halt>
         → HasServedSince start (A.slot array.old) (A.halted array.old)
         → HasServedSince start (A.slot array.new) (Some halt)) }
     ensures worn { IfErr result (λ halt. HaltsByWear (Some halt)) }
-    ensures cause { HasCause (A.shown array.old) FlushEvent (answer_to_flush result) (A.shown array.new) }
+    ensures cause { HasCause
+        (A.shown array.old) FlushEvent (answer_to_flush result) (A.shown array.new) }
 {
     if let Some(halt) = halt {
         return Err(halt);

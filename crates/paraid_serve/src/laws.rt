@@ -12,8 +12,10 @@ pub fn an_answer_is_of_its_events_kind()
         → HasCause old event answer new → is_answer_to event answer ≡ true }
 {}
 
-/// An event in which no disk fails has one answer, by what is seen of the array before it, but for the bytes that a read gives.
+/// An event in which no disk fails has one answer, by what is seen of the array before it, but for
+/// the bytes that a read gives.
 pub fn an_event_without_a_failure_has_one_answer()
-    ensures { (old one other : Shown) (event : EventType) (answer told : AnswerType) → NoneFails old one → NoneFails old other
+    ensures { (old one other : Shown) (event : EventType) (answer told : AnswerType)
+        → NoneFails old one → NoneFails old other
         → HasCause old event answer one → HasCause old event told other → AreAlike answer told }
 {}

@@ -1,5 +1,5 @@
-//! The session of an array, over anything that answers its events by its contract; and what all commands
-//! share: how a line is heard, the last lines, and the table of the statuses.
+//! The session of an array, over anything that answers its events by its contract; and what all
+//! commands share: how a line is heard, the last lines, and the table of the statuses.
 #![tactic(auto)]
 
 pub mod answer;

@@ -63,7 +63,8 @@ pub trait Serves {
             (stands self.new)) }
         ensures told { Extends (told self.old) (told self.new) }
         ensures slots { slots self.new ≡ slots self.old }
-        ensures cause { HasCause (shown self.old) FlushEvent (answer_to_flush result) (shown self.new) };
+        ensures cause { HasCause
+            (shown self.old) FlushEvent (answer_to_flush result) (shown self.new) };
 
     /// How many writes it has accepted, while there is no halt.
     fn writes(&self) -> u64
@@ -107,8 +108,8 @@ pub trait Serves {
     /// It halts by wear only after 2^62 commits or writes, or more.
     ghost worn: { (x : Self) → HaltsByWear (halted x) };
 
-    /// What is seen has its setup, its slots, its halt and its gear. While there is no halt its disks are powered
-    /// by that gear, and each that is there and not gone is synced.
+    /// What is seen has its setup, its slots, its halt and its gear. While there is no halt its
+    /// disks are powered by that gear, and each that is there and not gone is synced.
     ghost shows: { (x : Self) → Shows (shown x) (setup x) (slot x) (halted x) };
 
     /// A point tells the halt.

@@ -23,11 +23,19 @@ broken_status Sink = Some status_sink
 broken_status NoMemory = Some status_no_memory
 
 -- A flush is the last event, and the status tells its answer.
-pub data Flushes {A : Type 0} (g : Ghosts A) (first now : A) (events : Answers) (status : ℕ) : Type 0 where
-  kept : (writes : ℕ) → status ≡ status_done → g.halted now ≡ None → HasAnswered g first now (events ++ (Flush, Flushed writes) ∷ []) → Flushes g first now events status
-  halted : (halt : Halt) → status ≡ status_of_halt halt → g.halted now ≡ Some halt → HasAnswered g first now (events ++ (Flush, Halted halt) ∷ []) → Flushes g first now events status
+pub data Flushes
+    {A : Type 0} (g : Ghosts A) (first now : A) (events : Answers) (status : ℕ) : Type 0 where
+  kept : (writes : ℕ) → status ≡ status_done
+      → g.halted now ≡ None → HasAnswered g first now (events ++ (Flush, Flushed writes) ∷ [])
+      → Flushes g first now events status
+  halted : (halt : Halt) → status ≡ status_of_halt halt
+      → g.halted now ≡ Some halt → HasAnswered g first now (events ++ (Flush, Halted halt) ∷ [])
+      → Flushes g first now events status
 
 -- The service ended so.
-pub data EndsService {A : Type 0} (g : Ghosts A) (first now : A) (events : Answers) (end : NbdEnd) (status : ℕ) : Type 0 where
-  broken : broken_status end ≡ Some status → HasAnswered g first now events → EndsService g first now events end status
-  flushed : broken_status end ≡ None → Flushes g first now events status → EndsService g first now events end status
+pub data EndsService {A : Type 0}
+    (g : Ghosts A) (first now : A) (events : Answers) (end : NbdEnd) (status : ℕ) : Type 0 where
+  broken : broken_status end ≡ Some status
+      → HasAnswered g first now events → EndsService g first now events end status
+  flushed : broken_status end ≡ None
+      → Flushes g first now events status → EndsService g first now events end status

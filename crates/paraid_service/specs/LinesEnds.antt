@@ -18,17 +18,31 @@ use Rattle.paraid_service.specs.declared.run.LinesEnd.TheVariants.{Done, Source,
 abbrev pub device_kept : {A : Type 0} (g : Ghosts A) → Device A g → Device A g → Answers → Type 0
 device_kept g first now = HasAnswered g (array_of first) (array_of now)
 
--- The last flush: the device kept it with this answer, has this halt then, and a halt that it had before.
-pub record HasFlushed {A : Type 0} (g : Ghosts A) (old new : Device A g) (answer : Answer) (halt : Option Halt) : Type 0 where
-  pub kept : (first : Device A g) (events : Answers) → device_kept g first old events → device_kept g first new (events ++ (Flush, answer) ∷ [])
+-- The last flush: the device kept it with this answer, has this halt then, and a halt that it had
+-- before.
+pub record HasFlushed {A : Type 0}
+    (g : Ghosts A) (old new : Device A g) (answer : Answer) (halt : Option Halt) : Type 0 where
+  pub kept : (first : Device A g) (events : Answers)
+      → device_kept g first old events → device_kept g first new (events ++ (Flush, answer) ∷ [])
   pub halted : halt_of_device new ≡ halt
   pub again : IsSome (halt_of_device old) → halt_of_device new ≡ halt_of_device old
-  pub number : (h : History) → StandsFor (g.stands (array_of old)) h → IsSome (g.told (array_of new)) → (writes : ℕ) → answer ≡ Flushed writes → writes ≡ length h
+  pub number : (h : History) → StandsFor (g.stands (array_of old)) h
+      → IsSome (g.told (array_of new)) → (writes : ℕ) → answer ≡ Flushed writes → writes ≡ length h
 
--- The lines have ended so; what was written is kept where all were answered, and the last line tells the end.
-pub data EndsSession {A : Type 0} (g : Ghosts A) (old new : Device A g) (before after : Option (List ℕ)) : LinesEnd → ℕ → Type 0 where
-  kept : (writes status : ℕ) → HasFlushed g old new (Flushed writes) None → EndsWithLine before after (end_line writes) status_done status → EndsSession g old new before after Done status
-  halted : (halt : Halt) (status : ℕ) → HasFlushed g old new (Halted halt) (Some halt) → EndsWithLine before after (halt_line halt) (status_of_halt halt) status → EndsSession g old new before after Done status
-  at_source : (status : ℕ) → new ≡ old → EndsWithLine before after (codes "source\n") status_source status → EndsSession g old new before after Source status
-  too_long : (status : ℕ) → new ≡ old → EndsWithLine before after (codes "toolong\n") status_too_long status → EndsSession g old new before after TooLong status
+-- The lines have ended so; what was written is kept where all were answered, and the last line
+-- tells the end.
+pub data EndsSession {A : Type 0} (g : Ghosts A)
+    (old new : Device A g) (before after : Option (List ℕ)) : LinesEnd → ℕ → Type 0 where
+  kept : (writes status : ℕ) → HasFlushed g old new (Flushed writes) None
+      → EndsWithLine before after (end_line writes) status_done status
+      → EndsSession g old new before after Done status
+  halted : (halt : Halt) (status : ℕ) → HasFlushed g old new (Halted halt) (Some halt)
+      → EndsWithLine before after (halt_line halt) (status_of_halt halt) status
+      → EndsSession g old new before after Done status
+  at_source : (status : ℕ)
+      → new ≡ old → EndsWithLine before after (codes "source\n") status_source status
+      → EndsSession g old new before after Source status
+  too_long : (status : ℕ)
+      → new ≡ old → EndsWithLine before after (codes "toolong\n") status_too_long status
+      → EndsSession g old new before after TooLong status
   at_sink : new ≡ old → after ≡ before → EndsSession g old new before after Sink status_sink

@@ -72,7 +72,8 @@ pub fn serve_client<S: Source, K: Sink, A: Serves>(
         (span_of (A.slots array) (A.setup array) (A.told array) (A.told result.array)) began
         (streams_of (source_use S.left S.faults source.old source.new)
         (sink_use K.written K.faults sink.old sink.new)) result.status }
-    // Over every rack each error is by what the request says or by a halt, and each event of the array has its cause.
+    // Over every rack each error is by what the request says or by a halt, and each event of the
+    // array has its cause.
     ensures causes { ClientCauses (A.shown array) (A.shown result.array)
         (streams_of (source_use S.left S.faults source.old source.new)
         (sink_use K.written K.faults sink.old sink.new)) result.status }

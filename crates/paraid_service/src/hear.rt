@@ -14,7 +14,8 @@ pub(crate) fn hear_volumes<S: Source>(
     bytes: &mut Block,
 ) -> Result<Option<VolAsked>, LineFault>
     requires { reader.old.fault ≡ None }
-    ensures heard { HearsVolumes (S.left source.old) (S.left source.new) reader.old reader.new bytes.new result }
+    ensures heard { HearsVolumes
+        (S.left source.old) (S.left source.new) reader.old reader.new bytes.new result }
     ensures goes_on { OnOk result (reader.new.fault ≡ None) }
     ensures later { S.faults source.old ≤ S.faults source.new }
     ensures still { result ≢ Err LineFault.Source → S.faults source.new ≡ S.faults source.old }

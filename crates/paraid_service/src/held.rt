@@ -25,7 +25,8 @@ pub fn serve_held<B: Blocks>(
     into: &mut Text,
 ) -> Option<Halt>
     requires going { halted_of volumes.old ≡ None }
-    ensures { ServesHeld B.Blocks volumes.old volumes.new (line_with asked.now bytes.old) into.new result }
+    ensures { ServesHeld B.Blocks volumes.old volumes.new
+        (line_with asked.now bytes.old) into.new result }
 {
     match asked {
         VolAsked::Init => serve_init(volumes, into),
@@ -82,7 +83,8 @@ fn serve_create<B: Blocks>(
     into: &mut Text,
 ) -> Option<Halt>
     requires going { halted_of volumes.old ≡ None }
-    ensures { ServesHeld B.Blocks volumes.old volumes.new (CreateLine (word_of name.now) extents) into.new result }
+    ensures { ServesHeld B.Blocks volumes.old volumes.new
+        (CreateLine (word_of name.now) extents) into.new result }
 {
     let made = create_named(volumes, name, extents);
     tell_created(name, &made, into);
@@ -91,7 +93,8 @@ fn serve_create<B: Blocks>(
 
 fn serve_delete<B: Blocks>(volumes: &mut Volumes<B>, name: &Name, into: &mut Text) -> Option<Halt>
     requires going { halted_of volumes.old ≡ None }
-    ensures { ServesHeld B.Blocks volumes.old volumes.new (DeleteLine (word_of name.now)) into.new result }
+    ensures { ServesHeld B.Blocks volumes.old volumes.new
+        (DeleteLine (word_of name.now)) into.new result }
 {
     match delete_named(volumes, name) {
         Ok(there) => {
@@ -113,7 +116,8 @@ fn serve_read<B: Blocks>(
     into: &mut Text,
 ) -> Option<Halt>
     requires going { halted_of volumes.old ≡ None }
-    ensures { ServesHeld B.Blocks volumes.old volumes.new (ReadLine (word_of name.now) block) into.new result }
+    ensures { ServesHeld B.Blocks volumes.old volumes.new
+        (ReadLine (word_of name.now) block) into.new result }
 {
     let read = read_named(volumes, name, block, bytes);
     tell_read(name, block, &read, bytes, into);
@@ -128,7 +132,8 @@ fn serve_write<B: Blocks>(
     into: &mut Text,
 ) -> Option<Halt>
     requires going { halted_of volumes.old ≡ None }
-    ensures { ServesHeld B.Blocks volumes.old volumes.new (WriteLine (word_of name.now) block bytes.now) into.new result }
+    ensures { ServesHeld B.Blocks volumes.old volumes.new
+        (WriteLine (word_of name.now) block bytes.now) into.new result }
 {
     let written = write_named(volumes, name, block, bytes);
     tell_written(&written, into);

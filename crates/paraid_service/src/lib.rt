@@ -1,4 +1,5 @@
-//! What a mounted array serves other than a trace: one client of the network block service, or lines about volumes.
+//! What a mounted array serves other than a trace: one client of the network block service, or
+//! lines about volumes.
 //!
 //! Each is a session of the array, by the events that its device kept. So each stop in it leaves
 //! what a session promises.

@@ -17,16 +17,21 @@ use paraid_volume::{Name, VolFault, Volumes};
 /// Removes the volume of this name, and says whether there was one.
 pub fn delete_named<B: Blocks>(volumes: &mut Volumes<B>, name: &Name) -> Result<bool, Halt>
     ensures halt { halted_of volumes.old ≡ None → halted_of volumes.new ≡ halt_in result }
-    ensures went { DeviceGoesOn B.block_count B.halts B.halted B.tells (device_of volumes.old) (device_of volumes.new) }
-    ensures keeps { KeepsMore B.kept B.tells IsWriteEvent (device_of volumes.old) (device_of volumes.new) }
+    ensures went { DeviceGoesOn B.block_count B.halts B.halted B.tells
+        (device_of volumes.old) (device_of volumes.new) }
+    ensures keeps { KeepsMore B.kept B.tells IsWriteEvent
+        (device_of volumes.old) (device_of volumes.new) }
     ensures line { IfOk result (λ there. (from : SinceHistory B) (start : ℕ) (log : VolLog)
-        → (lived : HasLived (VolumesStandFor (DeviceHolds B.stands B.kept from) volumes.old) (B.block_count (device_of volumes.old)) start log)
+        → (lived : HasLived (VolumesStandFor (DeviceHolds B.stands B.kept from) volumes.old)
+        (B.block_count (device_of volumes.old)) start log)
         → IsTrue (B.tells (device_of volumes.new))
         → (word : List ℕ) → ((k : ℕ) → k < 16 → slice_index_or word k 0 ≡ letter_of name.now k)
-        → AnswersLine (VolumesStandFor (DeviceHolds B.stands B.kept from) volumes.old) (VolumesStandFor (DeviceHolds B.stands B.kept from) volumes.new)
-        (B.block_count (device_of volumes.old)) start log lived (DeleteLine word) (deleted_text word there)) }
+        → AnswersLine (VolumesStandFor (DeviceHolds B.stands B.kept from) volumes.old)
+        (VolumesStandFor (DeviceHolds B.stands B.kept from) volumes.new) (B.block_count
+        (device_of volumes.old)) start log lived (DeleteLine word) (deleted_text word there)) }
     ensures reply { IfOk result (λ there. halted_of volumes.old ≡ None
-        → RepliesHeld B.Blocks volumes.old volumes.new (DeleteLine (word_of name.now)) (deleted_text (word_of name.now) there)) }
+        → RepliesHeld B.Blocks volumes.old volumes.new
+        (DeleteLine (word_of name.now)) (deleted_text (word_of name.now) there)) }
 {
     let Some(id) = volumes.find(name) else {
         return Ok(false);
@@ -46,16 +51,22 @@ pub fn read_named<B: Blocks>(
     into: &mut Block,
 ) -> Result<(), VolFault>
     ensures halt { halted_of volumes.old ≡ None → halted_of volumes.new ≡ vol_halt_in result }
-    ensures went { DeviceGoesOn B.block_count B.halts B.halted B.tells (device_of volumes.old) (device_of volumes.new) }
-    ensures keeps { KeepsMore B.kept B.tells IsReadEvent (device_of volumes.old) (device_of volumes.new) }
+    ensures went { DeviceGoesOn B.block_count B.halts B.halted B.tells
+        (device_of volumes.old) (device_of volumes.new) }
+    ensures keeps { KeepsMore B.kept B.tells IsReadEvent
+        (device_of volumes.old) (device_of volumes.new) }
     ensures line { halted_of volumes.new ≡ None → (from : SinceHistory B) (start : ℕ) (log : VolLog)
-        → (lived : HasLived (VolumesStandFor (DeviceHolds B.stands B.kept from) volumes.old) (B.block_count (device_of volumes.old)) start log)
+        → (lived : HasLived (VolumesStandFor (DeviceHolds B.stands B.kept from) volumes.old)
+        (B.block_count (device_of volumes.old)) start log)
         → IsTrue (B.tells (device_of volumes.new))
         → (word : List ℕ) → ((k : ℕ) → k < 16 → slice_index_or word k 0 ≡ letter_of name.now k)
-        → AnswersLine (VolumesStandFor (DeviceHolds B.stands B.kept from) volumes.old) (VolumesStandFor (DeviceHolds B.stands B.kept from) volumes.new)
-        (B.block_count (device_of volumes.old)) start log lived (ReadLine word block) (read_text word block result into.new) }
-    ensures reply { halted_of volumes.old ≡ None → halted_of volumes.new ≡ None
-        → RepliesHeld B.Blocks volumes.old volumes.new (ReadLine (word_of name.now) block) (read_text (word_of name.now) block result into.new) }
+        → AnswersLine (VolumesStandFor (DeviceHolds B.stands B.kept from) volumes.old)
+        (VolumesStandFor (DeviceHolds B.stands B.kept from) volumes.new)
+        (B.block_count (device_of volumes.old)) start log lived
+        (ReadLine word block) (read_text word block result into.new) }
+    ensures reply { halted_of volumes.old ≡ None
+        → halted_of volumes.new ≡ None → RepliesHeld B.Blocks volumes.old volumes.new
+        (ReadLine (word_of name.now) block) (read_text (word_of name.now) block result into.new) }
 {
     let Some(id) = volumes.find(name) else {
         return Err(VolFault::NoVolume { id: 0 });
@@ -71,16 +82,22 @@ pub fn write_named<B: Blocks>(
     bytes: &Block,
 ) -> Result<(), VolFault>
     ensures halt { halted_of volumes.old ≡ None → halted_of volumes.new ≡ vol_halt_in result }
-    ensures went { DeviceGoesOn B.block_count B.halts B.halted B.tells (device_of volumes.old) (device_of volumes.new) }
-    ensures keeps { KeepsMore B.kept B.tells IsWriteEvent (device_of volumes.old) (device_of volumes.new) }
+    ensures went { DeviceGoesOn B.block_count B.halts B.halted B.tells
+        (device_of volumes.old) (device_of volumes.new) }
+    ensures keeps { KeepsMore B.kept B.tells IsWriteEvent
+        (device_of volumes.old) (device_of volumes.new) }
     ensures line { halted_of volumes.new ≡ None → (from : SinceHistory B) (start : ℕ) (log : VolLog)
-        → (lived : HasLived (VolumesStandFor (DeviceHolds B.stands B.kept from) volumes.old) (B.block_count (device_of volumes.old)) start log)
+        → (lived : HasLived (VolumesStandFor (DeviceHolds B.stands B.kept from) volumes.old)
+        (B.block_count (device_of volumes.old)) start log)
         → IsTrue (B.tells (device_of volumes.new))
         → (word : List ℕ) → ((k : ℕ) → k < 16 → slice_index_or word k 0 ≡ letter_of name.now k)
-        → AnswersLine (VolumesStandFor (DeviceHolds B.stands B.kept from) volumes.old) (VolumesStandFor (DeviceHolds B.stands B.kept from) volumes.new)
-        (B.block_count (device_of volumes.old)) start log lived (WriteLine word block bytes.now) (written_text result) }
-    ensures reply { halted_of volumes.old ≡ None → halted_of volumes.new ≡ None
-        → RepliesHeld B.Blocks volumes.old volumes.new (WriteLine (word_of name.now) block bytes.now) (written_text result) }
+        → AnswersLine (VolumesStandFor (DeviceHolds B.stands B.kept from) volumes.old)
+        (VolumesStandFor (DeviceHolds B.stands B.kept from) volumes.new)
+        (B.block_count (device_of volumes.old)) start log lived
+        (WriteLine word block bytes.now) (written_text result) }
+    ensures reply { halted_of volumes.old ≡ None
+        → halted_of volumes.new ≡ None → RepliesHeld B.Blocks volumes.old volumes.new
+        (WriteLine (word_of name.now) block bytes.now) (written_text result) }
 {
     let Some(id) = volumes.find(name) else {
         return Err(VolFault::NoVolume { id: 0 });
@@ -95,16 +112,22 @@ pub fn create_named<B: Blocks>(
     extents: u32,
 ) -> Result<u8, VolFault>
     ensures halt { halted_of volumes.new ≡ vol_halt_in result }
-    ensures went { DeviceGoesOn B.block_count B.halts B.halted B.tells (device_of volumes.old) (device_of volumes.new) }
-    ensures keeps { KeepsMore B.kept B.tells IsWriteEvent (device_of volumes.old) (device_of volumes.new) }
+    ensures went { DeviceGoesOn B.block_count B.halts B.halted B.tells
+        (device_of volumes.old) (device_of volumes.new) }
+    ensures keeps { KeepsMore B.kept B.tells IsWriteEvent
+        (device_of volumes.old) (device_of volumes.new) }
     ensures line { halted_of volumes.new ≡ None → (from : SinceHistory B) (start : ℕ) (log : VolLog)
-        → (lived : HasLived (VolumesStandFor (DeviceHolds B.stands B.kept from) volumes.old) (B.block_count (device_of volumes.old)) start log)
+        → (lived : HasLived (VolumesStandFor (DeviceHolds B.stands B.kept from) volumes.old)
+        (B.block_count (device_of volumes.old)) start log)
         → IsTrue (B.tells (device_of volumes.new))
         → (word : List ℕ) → ((k : ℕ) → k < 16 → slice_index_or word k 0 ≡ letter_of name.now k)
-        → AnswersLine (VolumesStandFor (DeviceHolds B.stands B.kept from) volumes.old) (VolumesStandFor (DeviceHolds B.stands B.kept from) volumes.new)
-        (B.block_count (device_of volumes.old)) start log lived (CreateLine word extents) (created_text word result) }
-    ensures reply { halted_of volumes.old ≡ None → halted_of volumes.new ≡ None
-        → RepliesHeld B.Blocks volumes.old volumes.new (CreateLine (word_of name.now) extents) (created_text (word_of name.now) result) }
+        → AnswersLine (VolumesStandFor (DeviceHolds B.stands B.kept from) volumes.old)
+        (VolumesStandFor (DeviceHolds B.stands B.kept from) volumes.new)
+        (B.block_count (device_of volumes.old)) start log lived
+        (CreateLine word extents) (created_text word result) }
+    ensures reply { halted_of volumes.old ≡ None
+        → halted_of volumes.new ≡ None → RepliesHeld B.Blocks volumes.old volumes.new
+        (CreateLine (word_of name.now) extents) (created_text (word_of name.now) result) }
 {
     volumes.create(name, extents)
 }
@@ -112,12 +135,16 @@ pub fn create_named<B: Blocks>(
 /// Keeps all that was written.
 pub fn flush_volumes<B: Blocks>(volumes: &mut Volumes<B>) -> Result<u64, VolFault>
     ensures halt { halted_of volumes.new ≡ vol_halt_in result }
-    ensures went { DeviceGoesOn B.block_count B.halts B.halted B.tells (device_of volumes.old) (device_of volumes.new) }
-    ensures keeps { KeepsMore B.kept B.tells IsFlushEvent (device_of volumes.old) (device_of volumes.new) }
+    ensures went { DeviceGoesOn B.block_count B.halts B.halted B.tells
+        (device_of volumes.old) (device_of volumes.new) }
+    ensures keeps { KeepsMore B.kept B.tells IsFlushEvent
+        (device_of volumes.old) (device_of volumes.new) }
     ensures line { halted_of volumes.new ≡ None → (from : SinceHistory B) (start : ℕ) (log : VolLog)
-        → (lived : HasLived (VolumesStandFor (DeviceHolds B.stands B.kept from) volumes.old) (B.block_count (device_of volumes.old)) start log)
+        → (lived : HasLived (VolumesStandFor (DeviceHolds B.stands B.kept from) volumes.old)
+        (B.block_count (device_of volumes.old)) start log)
         → IsTrue (B.tells (device_of volumes.new))
-        → AnswersLine (VolumesStandFor (DeviceHolds B.stands B.kept from) volumes.old) (VolumesStandFor (DeviceHolds B.stands B.kept from) volumes.new)
+        → AnswersLine (VolumesStandFor (DeviceHolds B.stands B.kept from) volumes.old)
+        (VolumesStandFor (DeviceHolds B.stands B.kept from) volumes.new)
         (B.block_count (device_of volumes.old)) start log lived FlushLine (flushed_text result) }
     ensures flushed { halted_of volumes.new ≡ None
         → KeepsFlush B.Blocks volumes.old volumes.new × (flushed_text result ≡ codes "flushed") }

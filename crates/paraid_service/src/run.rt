@@ -37,8 +37,9 @@ pub fn serve_lines<S: Source, K: Sink, B: Blocks>(
     sink: &mut K,
     blocks: B,
 ) -> LinesRun<B>
-    ensures lines { ServesVolumeLines B.Blocks blocks (S.left source.old) (S.left source.new)
-        (K.written sink.old) (K.written sink.new) result.shelved.shelf result.shelved.halt result.end }
+    ensures lines { ServesVolumeLines B.Blocks blocks
+        (S.left source.old) (S.left source.new) (K.written sink.old)
+        (K.written sink.new) result.shelved.shelf result.shelved.halt result.end }
     ensures source { result.end ≡ AtSource → HasRisen (S.faults source.old) (S.faults source.new) }
     ensures sink { result.end ≡ AtSink → HasRisen (K.faults sink.old) (K.faults sink.new) }
     ensures later_source { S.faults source.old ≤ S.faults source.new }

@@ -44,10 +44,11 @@ pub fn serve_volumes<S: Source, K: Sink, A: Serves>(
 ) -> Served<A>
     requires going { A.halted array ≡ None }
     ensures run { VolumesRun (A.shown array) (A.shown result.array)
-        (span_of (A.slots array) (A.setup array) (A.told array) (A.told result.array)) (A.stands array)
-        (streams_of (source_use S.left S.faults source.old source.new)
+        (span_of (A.slots array) (A.setup array) (A.told array) (A.told result.array))
+        (A.stands array) (streams_of (source_use S.left S.faults source.old source.new)
         (sink_use K.written K.faults sink.old sink.new)) result.status }
-    ensures headline { (began : ℕ) → IsMountedFromEach (A.slots array) (A.setup array) began (A.told array) (A.stands array)
+    ensures headline { (began : ℕ)
+        → IsMountedFromEach (A.slots array) (A.setup array) began (A.told array) (A.stands array)
         → VolumesHeadline (A.shown array) (A.shown result.array)
         (span_of (A.slots array) (A.setup array) (A.told array) (A.told result.array)) began
         (streams_of (source_use S.left S.faults source.old source.new)
@@ -87,7 +88,8 @@ pub fn serve_volumes<S: Source, K: Sink, A: Serves>(
 
 // The last flush and the last line.
 fn end_session<K: Sink, A: Serves>(device: &mut Device<A>, end: LinesEnd, sink: &mut K) -> u8
-    ensures ends { EndsSession A.Serves device.old device.new (K.written sink.old) (K.written sink.new) end result }
+    ensures ends { EndsSession A.Serves device.old device.new
+        (K.written sink.old) (K.written sink.new) end result }
     ensures cause { result ≡ status_sink
         → end ≢ AtSink → HasRisen (K.faults sink.old) (K.faults sink.new) }
     ensures later { K.faults sink.old ≤ K.faults sink.new }
@@ -102,7 +104,8 @@ fn end_session<K: Sink, A: Serves>(device: &mut Device<A>, end: LinesEnd, sink: 
 }
 
 fn end_done<K: Sink, A: Serves>(device: &mut Device<A>, sink: &mut K) -> u8
-    ensures ends { EndsSession A.Serves device.old device.new (K.written sink.old) (K.written sink.new) Done result }
+    ensures ends { EndsSession A.Serves device.old device.new
+        (K.written sink.old) (K.written sink.new) Done result }
     ensures cause { result ≡ status_sink → HasRisen (K.faults sink.old) (K.faults sink.new) }
     ensures later { K.faults sink.old ≤ K.faults sink.new }
     ensures still { result ≢ status_sink → K.faults sink.new ≡ K.faults sink.old }

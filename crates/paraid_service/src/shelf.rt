@@ -68,7 +68,8 @@ pub fn serve_line<B: Blocks>(
     into: &mut Text,
 ) -> Shelved<B>
     requires going { IsGoing shelf }
-    ensures { ServesShelf B.Blocks shelf result.shelf (line_with asked.now bytes.old) into.new result.halt }
+    ensures { ServesShelf B.Blocks shelf result.shelf
+        (line_with asked.now bytes.old) into.new result.halt }
 {
     match shelf {
         Shelf::Held(volumes) => {
@@ -85,7 +86,8 @@ pub fn serve_line<B: Blocks>(
 
 // A line where there is no table.
 fn serve_bare<B: Blocks>(blocks: B, asked: &VolAsked, into: &mut Text) -> Shelved<B>
-    ensures { (bytes : BlockType) → ServesShelf B.Blocks (BareShelf blocks) result.shelf (line_with asked.now bytes) into.new result.halt }
+    ensures { (bytes : BlockType) → ServesShelf B.Blocks
+        (BareShelf blocks) result.shelf (line_with asked.now bytes) into.new result.halt }
 {
     match asked {
         VolAsked::Init => begin_table(blocks, into),
@@ -140,7 +142,8 @@ pub fn answer_volume_line<B: Blocks>(
     into: &mut Text,
 ) -> Shelved<B>
     requires going { shelved.halt ≡ None → IsGoing shelved.shelf }
-    ensures runs { RunsOn B.Blocks shelved.shelf result.shelf shelved.halt result.halt (line_with asked.now bytes.old) into.new }
+    ensures runs { RunsOn B.Blocks shelved.shelf result.shelf shelved.halt result.halt
+        (line_with asked.now bytes.old) into.new }
 {
     let Shelved { shelf, halt } = shelved;
     match halt {
@@ -157,7 +160,8 @@ pub fn answer_volume_line<B: Blocks>(
 
 // The answer to a line after a halt.
 fn tell_halted(halt: Halt, asked: &VolAsked, into: &mut Text)
-    ensures { (bytes : BlockType) → into.new ≡ halted_text halt (line_with asked.now bytes) ++ codes "\n" }
+    ensures { (bytes : BlockType)
+        → into.new ≡ halted_text halt (line_with asked.now bytes) ++ codes "\n" }
 {
     match asked {
         VolAsked::Bad => tell_word(b"bad", into),

@@ -28,9 +28,9 @@ pub record AreCommitBlocks (m : Meta) (meta list opening closing : Block) : Type
   pub opens : is_open opening ≡ true
   pub closes : is_open closing ≡ false
 
--- From these disks on, with nothing held yet: a mount, a write of a block of zeros, a flush, a write
--- in which disk 2 is lost, a stop after it, and a mount of what the stop leaves. The next run begins
--- with the write that was flushed and without the other one.
+-- From these disks on, with nothing held yet: a mount, a write of a block of zeros, a flush, a
+-- write in which disk 2 is lost, a stop after it, and a mount of what the stop leaves. The next run
+-- begins with the write that was flushed and without the other one.
 pub record IsCourse (slots : ℕ) (s : Disks) (m : Meta) : Type 0 where
   pub first : Point
   pub written : Point
@@ -38,10 +38,12 @@ pub record IsCourse (slots : ℕ) (s : Disks) (m : Meta) : Type 0 where
   pub lossy : Point
   pub next : Point
   pub flush_calls : List Call
-  pub mounted : (x : ℕ) (said : LogState) → Stands s x said → IsMounted slots s x said [] 0 None [] (λ p. p ≡ first)
+  pub mounted : (x : ℕ) (said : LogState)
+      → Stands s x said → IsMounted slots s x said [] 0 None [] (λ p. p ≡ first)
   pub writes : IsTurn slots m.setup first (Write (single_pair 0 zero_block)) (Wrote 1) [] written
   pub flushes : IsTurn slots m.setup written Flush (Flushed 1) flush_calls kept
-  pub loses : IsTurn slots m.setup kept (Write (single_pair 0 zero_block)) (Wrote 2) (Read 2 101 false ∷ []) lossy
+  pub loses : IsTurn slots m.setup kept
+      (Write (single_pair 0 zero_block)) (Wrote 2) (Read 2 101 false ∷ []) lossy
   pub stopped : IsImage lossy.disks lossy.disks
   pub entry : IsRunStart slots lossy.disks lossy.history lossy.low (Some 2)
   pub mounted_again : (x : ℕ) (said : LogState) → Stands lossy.disks x said

@@ -5,4 +5,5 @@ use Rattle.paraid_rack.specs.Slots.{Slot}
 
 -- no count has fallen, unless it has come to the end of its type
 abbrev pub HaveNotFallen : (ℕ → Slot) → (ℕ → Slot) → Type 0
-HaveNotFallen old new = (d : ℕ) → ((old d).faults ≤ (new d).faults) ⊎ HasRisen (old d).faults (new d).faults
+HaveNotFallen old new = (d : ℕ)
+    → ((old d).faults ≤ (new d).faults) ⊎ HasRisen (old d).faults (new d).faults

@@ -22,18 +22,21 @@ use Rattle.paraid_session.specs.Turn.{AreDirtyShown, IsMark, Point}
 use Rattle.paraid_session.specs.Watch.{Bounds, Down, Each, IsAllowed, HoldsWhileServing, IsServing, Watch, down_from_out, first_lost, several, watch_all}
 use Rattle.paraid_rack.specs.Calls.{AreReads}
 
--- The spin-ups at a run start, by disk, and the most ticks: what the log disk that stands has recorded;
--- or where it may be lost and the other one stands then, the lesser, and the more, of what both have.
+-- The spin-ups at a run start, by disk, and the most ticks: what the log disk that stands has
+-- recorded; or where it may be lost and the other one stands then, the lesser, and the more, of
+-- what both have.
 pub data IsBase (s : Disks) (x : ℕ) (said : LogState) (base : ℕ → ℕ) (ticks : ℕ) : Type 0 where
   alone : ((y : ℕ) (other : LogState) → MayLose s x → Stands (lose x s) y other → ⊥)
-      → ((d : ℕ) → base d ≡ made_spin_ups said.meta s.power d) → ticks ≡ said.meta.ticks → IsBase s x said base ticks
-  lesser : (y : ℕ) (other : LogState) → MayLose s x → Stands (lose x s) y other
-      → ((d : ℕ) → base d ≡ min (made_spin_ups said.meta s.power d) (made_spin_ups other.meta s.power d))
+      → ((d : ℕ) → base d ≡ made_spin_ups said.meta s.power d)
+      → ticks ≡ said.meta.ticks → IsBase s x said base ticks
+  lesser : (y : ℕ) (other : LogState) → MayLose s x → Stands (lose x s) y other → ((d : ℕ)
+      → base d ≡ min (made_spin_ups said.meta s.power d) (made_spin_ups other.meta s.power d))
       → ticks ≡ max said.meta.ticks other.meta.ticks → IsBase s x said base ticks
 
 -- what is watched from where a run begins
 abbrev pub start_watch : Disks → Option ℕ → (ℕ → ℕ) → Watch
-start_watch s down base = record { disks = s; down = down_from_out down; spun = base; awaited = None }
+start_watch s down base =
+    record { disks = s; down = down_from_out down; spun = base; awaited = None }
 
 -- A call of a mount is lawful by the power of its disk and attaches none. While at most one disk is
 -- down it is one that is allowed, and only reads the log of a disk that was gone.
@@ -50,15 +53,20 @@ pub record IsLike (setup : Setup) (state shown : PowerState) : Type 0 where
 
 -- Which writes are held and which state begins: those of the run start; where a disk was
 -- lost, those of the run start with this disk gone, or with its slot absent.
-pub data BeginsSession (s : Disks) (said : LogState) (calls : List Call) (k : ℕ) (state : PowerState) : Type 0 where
-  quietly : first_lost calls ≡ None → k ≡ said.meta.writes → IsLike said.meta.setup state (initial_state s said) → BeginsSession s said calls k state
-  losing : (d : ℕ) → first_lost calls ≡ Some d → k ≡ said.meta.writes → IsLike said.meta.setup state (after_loss (initial_state s said) d)
+pub data BeginsSession
+    (s : Disks) (said : LogState) (calls : List Call) (k : ℕ) (state : PowerState) : Type 0 where
+  quietly : first_lost calls ≡ None → k ≡ said.meta.writes
+      → IsLike said.meta.setup state (initial_state s said) → BeginsSession s said calls k state
+  losing : (d : ℕ) → first_lost calls ≡ Some d
+      → k ≡ said.meta.writes → IsLike said.meta.setup state (after_loss (initial_state s said) d)
       → BeginsSession s said calls k state
-  without : (d y : ℕ) (other : LogState) → first_lost calls ≡ Some d → Stands (lose d s) y other → k ≡ other.meta.writes
-      → IsLike said.meta.setup state (initial_state (lose d s) other) → BeginsSession s said calls k state
+  without : (d y : ℕ) (other : LogState) → first_lost calls ≡ Some d → Stands (lose d s) y other
+      → k ≡ other.meta.writes → IsLike said.meta.setup state (initial_state (lose d s) other)
+      → BeginsSession s said calls k state
 
 -- the first point of a session
-pub record IsBegun (slots : ℕ) (s : Disks) (said : LogState) (h : History) (lo : ℕ) (down : Option ℕ) (base : ℕ → ℕ) (calls : List Call) (p : Point) : Type 0 where
+pub record IsBegun (slots : ℕ) (s : Disks) (said : LogState) (h : History)
+    (lo : ℕ) (down : Option ℕ) (base : ℕ → ℕ) (calls : List Call) (p : Point) : Type 0 where
   pub disks : p.disks ≡ run s calls
   pub low : lo ≤ p.low
   pub high : p.low ≤ length h
@@ -75,21 +83,26 @@ pub record IsBegun (slots : ℕ) (s : Disks) (said : LogState) (h : History) (lo
 
 -- what bounds the metas that stand during a mount
 abbrev pub mount_bounds : LogState → ℕ → Bounds
-mount_bounds said ticks = record { setup = said.meta.setup; epoch = said.meta.epoch + 8; ticks = ticks }
+mount_bounds said ticks =
+    record { setup = said.meta.setup; epoch = said.meta.epoch + 8; ticks = ticks }
 
 -- The calls of a mount. At each moment each stop leaves the history of the run start.
-pub record IsMounting (slots : ℕ) (s : Disks) (x : ℕ) (said : LogState) (h : History) (lo : ℕ) (down : Option ℕ) (calls : List Call) : Type 0 where
+pub record IsMounting (slots : ℕ) (s : Disks) (x : ℕ)
+    (said : LogState) (h : History) (lo : ℕ) (down : Option ℕ) (calls : List Call) : Type 0 where
   pub base : ℕ → ℕ
   pub ticks : ℕ
   pub is_base : IsBase s x said base ticks
-  pub moments : Each (HoldsWhileServing slots h lo (mount_bounds said ticks)) (IsAllowedInMount said) (start_watch s down base) calls
+  pub moments : Each (HoldsWhileServing slots h lo (mount_bounds said ticks))
+      (IsAllowedInMount said) (start_watch s down base) calls
 
 -- the disks that are down after the calls of a mount
 abbrev pub down_after_mount : Disks → Option ℕ → (ℕ → ℕ) → List Call → Down
 down_after_mount s down base calls = (watch_all calls (start_watch s down base)).down
 
--- A mount that is not refused. Where two disks are down at its end, nothing is said of what follows.
-pub record IsMounted (slots : ℕ) (s : Disks) (x : ℕ) (said : LogState) (h : History) (lo : ℕ) (down : Option ℕ) (calls : List Call) (follows : Point → Type 0) : Type 0 where
+-- A mount that is not refused. Where two disks are down at its end, nothing is said of what
+-- follows.
+pub record IsMounted (slots : ℕ) (s : Disks) (x : ℕ) (said : LogState) (h : History)
+    (lo : ℕ) (down : Option ℕ) (calls : List Call) (follows : Point → Type 0) : Type 0 where
   pub mounting : IsMounting slots s x said h lo down calls
   pub ends : (down_after_mount s down mounting.base calls ≡ several)
       ⊎ ((p : Point) × IsBegun slots s said h lo down mounting.base calls p × follows p)
@@ -112,27 +125,32 @@ IsCauseOutsideDisks lacking = ⊥
 pub record IsWornOut (s : Disks) (calls : List Call) (count : ℕ) : Type 0 where
   pub reads : AreReads calls
   pub many : worn_at ≤ count
-  pub is : (x : ℕ) (said : LogState) → Stands (run s calls) x said → count ≡ max said.meta.epoch said.meta.writes
+  pub is : (x : ℕ) (said : LogState)
+      → Stands (run s calls) x said → count ≡ max said.meta.epoch said.meta.writes
 
 -- A mount that is refused: two disks are down at its end, or the rack still holds the history, and
 -- the cause is want of memory or wear.
-pub record IsMountRefused (slots : ℕ) (s : Disks) (x : ℕ) (said : LogState) (h : History) (lo : ℕ) (down : Option ℕ) (calls : List Call) (why : Refusal) : Type 0 where
+pub record IsMountRefused (slots : ℕ) (s : Disks) (x : ℕ) (said : LogState)
+    (h : History) (lo : ℕ) (down : Option ℕ) (calls : List Call) (why : Refusal) : Type 0 where
   pub mounting : IsMounting slots s x said h lo down calls
   pub ends : (down_after_mount s down mounting.base calls ≡ several)
       ⊎ ((own : Option ℕ) × IsRunStart slots (run s calls) h lo own × IsCauseOutsideDisks why)
   pub worn_out : (count : ℕ) → why ≡ worn count → IsWornOut s calls count
 
 -- from each run start of a rack whose record is told and on which a mount began at this moment
-abbrev pub FromRunStart : ℕ → ℕ → Option Trail → (Disks → ℕ → LogState → History → ℕ → Option ℕ → List Call → Type 0) → Type 0
-FromRunStart slots began told P = (t : Trail) → told ≡ Some t → (h : History) (lo : ℕ) (down : Option ℕ) (x : ℕ) (said : LogState)
-    → IsRunStart slots (disks t began) h lo down → Stands (disks t began) x said
-    → P (disks t began) x said h lo down (drop began t.calls)
+abbrev pub FromRunStart : ℕ → ℕ
+    → Option Trail → (Disks → ℕ → LogState → History → ℕ → Option ℕ → List Call → Type 0) → Type 0
+FromRunStart slots began told P = (t : Trail)
+    → told ≡ Some t → (h : History) (lo : ℕ) (down : Option ℕ) (x : ℕ) (said : LogState)
+    → IsRunStart slots (disks t began) h lo down
+    → Stands (disks t began) x said → P (disks t began) x said h lo down (drop began t.calls)
 
--- A mount from each run start of a rack whose record is told. Where a session follows, its setup is that of
--- what stood.
+-- A mount from each run start of a rack whose record is told. Where a session follows, its setup is
+-- that of what stood.
 abbrev pub IsMountedFromEach : ℕ → Setup → ℕ → Option Trail → (Point → Type 0) → Type 0
-IsMountedFromEach slots setup began told follows = FromRunStart slots began told
-    (λ s x said h lo down calls. IsMounted slots s x said h lo down calls (λ p. (said.meta.setup ≡ setup) × follows p))
+IsMountedFromEach slots setup began told follows =
+    FromRunStart slots began told (λ s x said h lo down calls.
+    IsMounted slots s x said h lo down calls (λ p. (said.meta.setup ≡ setup) × follows p))
 
 -- the same of a mount that is refused
 abbrev pub IsRefusedFromEach : ℕ → ℕ → Option Trail → Refusal → Type 0

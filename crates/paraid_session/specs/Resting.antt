@@ -7,7 +7,12 @@ use Rattle.paraid_session.specs.Watch.{HoldsWhileServing, Watch, down_from_out}
 
 -- the watch between two events
 abbrev pub watch_at : Point → Watch
-watch_at p = record { disks = p.disks; down = down_from_out (named_out p.state.out); spun = p.spun; awaited = p.awaited }
+watch_at p = record {
+  disks = p.disks;
+  down = down_from_out (named_out p.state.out);
+  spun = p.spun;
+  awaited = p.awaited;
+}
 
 -- what an array gives of a point at which it stands
 pub record IsResting (slots : ℕ) (setup : Setup) (p : Point) : Type 0 where

@@ -64,11 +64,13 @@ pub record IsMark (slots : ℕ) (setup : Setup) (p : Point) : Type 0 where
   pub shown : IsShown p.state (state_at p)
   pub powers : (d : ℕ) (power : Power) → d < setup.geometry.disks → power_of p.state d ≡ Some power
       → p.disks.power d ≡ power
-  pub borne : (x : ℕ) → x < 2 → named_out p.meta.out ≡ Some x → IsSure p.disks 2 x (λ b. is_open b ≡ true)
+  pub borne : (x : ℕ)
+      → x < 2 → named_out p.meta.out ≡ Some x → IsSure p.disks 2 x (λ b. is_open b ≡ true)
 
 -- the disks show the dirty cells of the state too
 abbrev pub AreDirtyShown : Setup → Point → Type 0
-AreDirtyShown setup p = (r d : ℕ) → r < setup.geometry.rows → (state_at p).dirty r d ≡ p.state.dirty r d
+AreDirtyShown setup p = (r d : ℕ)
+    → r < setup.geometry.rows → (state_at p).dirty r d ≡ p.state.dirty r d
 
 -- whether an answer tells that a disk was put in, or that none could be
 abbrev pub tells_attach : Answer → Bool
@@ -173,15 +175,18 @@ bounds_of setup p Tick = bounds_at setup p (state_with_tick p.state)
 bounds_of setup p event = bounds_at setup p p.state
 
 -- An event that is answered with no halt. In its calls each stop leaves the writes after it.
-pub record IsAnswered (slots : ℕ) (setup : Setup) (p : Point) (event : Event) (answer : Answer) (calls : List Call) (q : Point) : Type 0 where
+pub record IsAnswered (slots : ℕ) (setup : Setup)
+    (p : Point) (event : Event) (answer : Answer) (calls : List Call) (q : Point) : Type 0 where
   pub fit : may_halt event ≡ true → point_wear p < worn_at
   pub machine : IsEventStep setup p.history p.energy p.state event (first_lost calls) answer q.state
-  pub moments : Each (HoldsWhileServing slots q.history p.low (bounds_of setup p event)) (IsAllowed setup (replaced_by event)) (watch_of p event answer) calls
+  pub moments : Each (HoldsWhileServing slots q.history p.low (bounds_of setup p event))
+      (IsAllowed setup (replaced_by event)) (watch_of p event answer) calls
   pub once : attach_count calls ≤ 1
   -- a disk is told to be in, or not to be, by the one call that attaches it
   pub attached : tells_attach answer ≡ true → attach_count calls ≡ 1
   -- no disk is spun up more often than the state has recorded of it since
-  pub ups : (d : ℕ) → d < setup.geometry.disks → up_count d calls ≤ slice_index q.state.spins d - slice_index p.state.spins d
+  pub ups : (d : ℕ) → d < setup.geometry.disks
+      → up_count d calls ≤ slice_index q.state.spins d - slice_index p.state.spins d
   pub quiet : makes_no_call answer ≡ true → first_lost calls ≡ None → calls ≡ []
   -- one disk at most is down after it
   pub serving : IsServing (watch_all calls (watch_of p event answer)).down
@@ -190,9 +195,10 @@ pub record IsAnswered (slots : ℕ) (setup : Setup) (p : Point) (event : Event) 
   pub carried : tells_begin answer ≡ true → first_lost calls ≡ None → q.meta.ticks ≡ q.state.ticks
   -- a commit brings all ticks
   pub brought : q.meta ≢ p.meta → q.meta.ticks ≡ q.state.ticks
-  -- a commit names a disk that was gone before the event and is gone after it, or the fresh one that was attached for it and
-  -- lost in that commit
-  pub named : (d : ℕ) → p.state.out ≡ Gone d → q.state.out ≡ Gone d → q.meta ≢ p.meta → (q.meta.out ≡ Gone d) ⊎ ((q.meta.out ≡ Fresh d 0) × (attach_count calls ≡ 1))
+  -- a commit names a disk that was gone before the event and is gone after it, or the fresh one
+  -- that was attached for it and lost in that commit
+  pub named : (d : ℕ) → p.state.out ≡ Gone d → q.state.out ≡ Gone d → q.meta ≢ p.meta
+      → (q.meta.out ≡ Gone d) ⊎ ((q.meta.out ≡ Fresh d 0) × (attach_count calls ≡ 1))
   pub flushed : is_flush answer ≡ true → AreDirtyShown setup q
   pub disks : q.disks ≡ run p.disks calls
   pub history : q.history ≡ p.history ++ accepted_write event answer
@@ -204,13 +210,16 @@ pub record IsAnswered (slots : ℕ) (setup : Setup) (p : Point) (event : Event) 
 
 -- this may come of the event where no call fails
 abbrev pub IsUnhurt : Setup → Point → Event → Answer → PowerState → Type 0
-IsUnhurt setup p event answer new = IsEventStep setup p.history p.energy p.state event None answer new
+IsUnhurt setup p event answer new =
+    IsEventStep setup p.history p.energy p.state event None answer new
 
 -- Why the first of two disks is down: it was out; or none was, and it is the first that failed; or
 -- it is taken out, where all writes were kept before any call failed.
-pub data IsFirstDown (slots : ℕ) (setup : Setup) (p : Point) (event : Event) (calls : List Call) (d : ℕ) : Type 0 where
+pub data IsFirstDown (slots : ℕ)
+    (setup : Setup) (p : Point) (event : Event) (calls : List Call) (d : ℕ) : Type 0 where
   out : named_out p.state.out ≡ Some d → IsFirstDown slots setup p event calls d
-  lost : named_out p.state.out ≡ None → first_lost calls ≡ Some d → IsFirstDown slots setup p event calls d
+  lost : named_out p.state.out ≡ None
+      → first_lost calls ≡ Some d → IsFirstDown slots setup p event calls d
   taken : named_out p.state.out ≡ None → event ≡ Fail d → d < setup.geometry.disks
       → IsHeld slots (run p.disks (before_loss calls)) p.history (length p.history) (Some d)
       → IsFirstDown slots setup p event calls d
@@ -222,24 +231,30 @@ own_energy setup s event = 0
 
 -- the energy after an event in which a second disk is lost: a begin may have used its spin-ups
 pub data IsSecondLossEnergy (setup : Setup) (p : Point) (event : Event) (energy : ℕ) : Type 0 where
-  own : energy ≡ min (p.energy + own_energy setup p.state event) 18446744073709551615 → IsSecondLossEnergy setup p event energy
-  begun : (answer : Answer) (new : PowerState) → IsUnhurt setup p event answer new
-      → energy ≡ energy_after setup p.energy p.state answer → IsSecondLossEnergy setup p event energy
+  own : energy ≡ min (p.energy + own_energy setup p.state event) 18446744073709551615
+      → IsSecondLossEnergy setup p event energy
+  begun : (answer : Answer) (new : PowerState)
+      → IsUnhurt setup p event answer new → energy ≡ energy_after setup p.energy p.state answer
+      → IsSecondLossEnergy setup p event energy
 
 -- the gear after it: a shift may have ended
 pub data IsSecondLossGear (setup : Setup) (p : Point) (event : Event) (gear : ℕ) : Type 0 where
   same : gear ≡ p.state.gear → IsSecondLossGear setup p event gear
-  flipped : (answer : Answer) (new : PowerState) → IsUnhurt setup p event answer new → gear ≡ new.gear → IsSecondLossGear setup p event gear
+  flipped : (answer : Answer) (new : PowerState)
+      → IsUnhurt setup p event answer new → gear ≡ new.gear → IsSecondLossGear setup p event gear
 
 -- A second disk is lost, in an event that makes calls. Its write is not accepted.
-pub record LosesSecondDisk (slots : ℕ) (setup : Setup) (p : Point) (event : Event) (two : Two) (calls : List Call) (q : Point) : Type 0 where
+pub record LosesSecondDisk (slots : ℕ) (setup : Setup)
+    (p : Point) (event : Event) (two : Two) (calls : List Call) (q : Point) : Type 0 where
   pub fit : point_wear p < worn_at
   pub first : IsFirstDown slots setup p event calls two.first
   pub apart : two.first ≢ two.second
   -- its last call is the one that failed on the second disk: none comes after it
   pub ends : EndsServing two (watch_of p event (Halted (HaltTwo two))) calls
-  pub busy : (answer : Answer) (new : PowerState) → IsUnhurt setup p event answer new → makes_no_call answer ≡ false
-  pub moments : Each (HoldsWhileServing slots p.history p.low (bounds_of setup p event)) (IsAllowed setup (replaced_by event)) (watch_of p event (Halted (HaltTwo two))) calls
+  pub busy : (answer : Answer) (new : PowerState)
+      → IsUnhurt setup p event answer new → makes_no_call answer ≡ false
+  pub moments : Each (HoldsWhileServing slots p.history p.low (bounds_of setup p event))
+      (IsAllowed setup (replaced_by event)) (watch_of p event (Halted (HaltTwo two))) calls
   pub once : attach_count calls ≤ 1
   pub disks : q.disks ≡ run p.disks calls
   pub history : q.history ≡ p.history
@@ -258,17 +273,25 @@ abbrev pub with_halt : Point → Halt → Point
 with_halt p halt = record p { halt = Some halt }
 
 -- An event from one point of a session to the next.
-pub data IsTurn (slots : ℕ) (setup : Setup) (p : Point) (event : Event) (answer : Answer) (calls : List Call) (q : Point) : Type 0 where
-  answered : p.halt ≡ None → event ≢ Bad → IsAnswered slots setup p event answer calls q → IsTurn slots setup p event answer calls q
-  two : (two : Two) → p.halt ≡ None → event ≢ Bad → answer ≡ Halted (HaltTwo two) → LosesSecondDisk slots setup p event two calls q → IsTurn slots setup p event answer calls q
-  worn : (count : ℕ) → p.halt ≡ None → event ≢ Bad → answer ≡ Halted (Worn count) → IsWorn p event count → calls ≡ [] → q ≡ with_halt p (Worn count)
-      → IsTurn slots setup p event answer calls q
-  again : (halt : Halt) → p.halt ≡ Some halt → event ≢ Bad → answer ≡ Halted halt → calls ≡ [] → q ≡ p → IsTurn slots setup p event answer calls q
-  bad : event ≡ Bad → answer ≡ IsBad → calls ≡ [] → q ≡ p → IsTurn slots setup p event answer calls q
+pub data IsTurn (slots : ℕ) (setup : Setup)
+    (p : Point) (event : Event) (answer : Answer) (calls : List Call) (q : Point) : Type 0 where
+  answered : p.halt ≡ None → event ≢ Bad
+      → IsAnswered slots setup p event answer calls q → IsTurn slots setup p event answer calls q
+  two : (two : Two) → p.halt ≡ None → event ≢ Bad → answer ≡ Halted (HaltTwo two)
+      → LosesSecondDisk slots setup p event two calls q → IsTurn slots setup p event answer calls q
+  worn : (count : ℕ)
+      → p.halt ≡ None → event ≢ Bad → answer ≡ Halted (Worn count) → IsWorn p event count
+      → calls ≡ [] → q ≡ with_halt p (Worn count) → IsTurn slots setup p event answer calls q
+  again : (halt : Halt) → p.halt ≡ Some halt → event ≢ Bad
+      → answer ≡ Halted halt → calls ≡ [] → q ≡ p → IsTurn slots setup p event answer calls q
+  bad : event ≡ Bad
+      → answer ≡ IsBad → calls ≡ [] → q ≡ p → IsTurn slots setup p event answer calls q
 
 -- what the calls of an event leave, where `stands` says at which points an array stands after it
-abbrev pub GoesOn : ℕ → Setup → Point → Event → Answer → (Point → Type 0) → Disks → List Call → Type 0
-GoesOn slots setup p event answer stands s calls = (q : Point) × IsTurn slots setup p event answer calls q × stands q
+abbrev pub GoesOn : ℕ
+    → Setup → Point → Event → Answer → (Point → Type 0) → Disks → List Call → Type 0
+GoesOn slots setup p event answer stands s calls =
+    (q : Point) × IsTurn slots setup p event answer calls q × stands q
 
 -- the halt that an answer tells
 abbrev pub halt_told : Answer → Option Halt

@@ -79,8 +79,8 @@ abbrev pub watch_all : List Call → Watch → Watch
 watch_all [] w = w
 watch_all (call ∷ calls) w = watch_all calls (watch call w)
 
--- The last of these calls failed on the second disk, and up to it one disk at most was down. So none
--- comes after two are down.
+-- The last of these calls failed on the second disk, and up to it one disk at most was down. So
+-- none comes after two are down.
 pub record EndsServing (two : Two) (w : Watch) (calls : List Call) : Type 0 where
   pub before : List Call
   pub ends : EndsFailing two.second before calls
@@ -115,14 +115,16 @@ pub record IsWithinBounds (b : Bounds) (spun : ℕ → ℕ) (i : Disks) (m : Met
 
 -- What holds at each moment, while at most one disk is down: each stop leaves a first part of `h`
 -- of at least `lo` writes, and in each image that is looked at what stands is within the bounds.
-pub record HoldsWhileServing (slots : ℕ) (h : History) (lo : ℕ) (b : Bounds) (w : Watch) : Type 0 where
+pub record HoldsWhileServing
+    (slots : ℕ) (h : History) (lo : ℕ) (b : Bounds) (w : Watch) : Type 0 where
   pub held : IsHeldWhileServing slots w.disks h lo w.down
-  pub within : IsServing w.down → (x : ℕ) (i : Disks) (said : LogState) → IsLooked w.disks i → Stands i x said
-      → IsWithinBounds b w.spun i said.meta
+  pub within : IsServing w.down → (x : ℕ) (i : Disks) (said : LogState)
+      → IsLooked w.disks i → Stands i x said → IsWithinBounds b w.spun i said.meta
 
 -- A call is on a disk of the array and lawful by its power. A disk is attached where this one is
 -- asked for, and with the size that it needs; one that was taken out gets no call before it is
--- attached; and one is spun up where all that may stand has recorded it, and while at most one disk is down.
+-- attached; and one is spun up where all that may stand has recorded it, and while at most one disk
+-- is down.
 pub record IsAllowed (setup : Setup) (asked : Option ℕ) (w : Watch) (call : Call) : Type 0 where
   pub disk : disk_of call < setup.geometry.disks
   pub power : IsLawful w.disks call

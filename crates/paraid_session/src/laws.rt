@@ -31,16 +31,17 @@ pub fn a_stop_leaves_a_run_start()
     ensures moment { (slots : ℕ) (h : History) (lo : ℕ) (b : Bounds) (w : Watch) (i : Disks)
         → HoldsWhileServing slots h lo b w → IsServing w.down → IsLooked w.disks i
         → (own : Option ℕ) × IsRunStart slots i h lo own }
-    ensures event { (slots : ℕ) (setup : SetupType) (p q : Point) (event : EventType)
-        (answer : AnswerType) (done rest : List CallType) (i : Disks)
+    ensures event { (slots : ℕ) (setup : SetupType) (p q : Point)
+        (event : EventType) (answer : AnswerType) (done rest : List CallType) (i : Disks)
         → IsAnswered slots setup p event answer (done ++ rest) q
-        → IsServing (watch_all done (watch_of p event answer)).down
-        → IsLooked (run p.disks done) i → (own : Option ℕ) × IsRunStart slots i q.history p.low own }
-    ensures two { (slots : ℕ) (setup : SetupType) (p q : Point) (event : EventType)
-        (two : TwoType) (done rest : List CallType) (i : Disks)
+        → IsServing (watch_all done (watch_of p event answer)).down → IsLooked (run p.disks done) i
+        → (own : Option ℕ) × IsRunStart slots i q.history p.low own }
+    ensures two { (slots : ℕ) (setup : SetupType)
+        (p q : Point) (event : EventType) (two : TwoType) (done rest : List CallType) (i : Disks)
         → LosesSecondDisk slots setup p event two (done ++ rest) q
         → IsServing (watch_all done (watch_of p event (Halted (HaltTwo two)))).down
-        → IsLooked (run p.disks done) i → (own : Option ℕ) × IsRunStart slots i p.history p.low own }
+        → IsLooked (run p.disks done) i
+        → (own : Option ℕ) × IsRunStart slots i p.history p.low own }
     ensures mount { (slots : ℕ) (s i : Disks) (x : ℕ) (said : LogState) (h : History) (lo : ℕ)
         (down : Option ℕ) (done rest : List CallType)
         (m : IsMounting slots s x said h lo down (done ++ rest))
@@ -57,11 +58,11 @@ pub fn a_mark_is_a_run_start()
 /// The spin-ups with which the next run begins are never below those that were made. A log disk is
 /// never parked, and so never spun up.
 pub fn the_next_run_counts_no_fewer_spin_ups()
-    ensures { (slots : ℕ) (h : History) (lo : ℕ) (b : Bounds) (w : Watch) (i : Disks) (x : ℕ)
-        (said : LogState) (base : ℕ → ℕ) (ticks d : ℕ) → HoldsWhileServing slots h lo b w → IsServing w.down
-        → IsLooked w.disks i → Stands i x said → IsBase i x said base ticks
-        → 2 ≤ d → d < b.setup.geometry.disks → IsPresent i d → named_out said.meta.out ≢ Some d
-        → w.spun d ≤ base d }
+    ensures { (slots : ℕ) (h : History) (lo : ℕ)
+        (b : Bounds) (w : Watch) (i : Disks) (x : ℕ) (said : LogState) (base : ℕ → ℕ) (ticks d : ℕ)
+        → HoldsWhileServing slots h lo b w → IsServing w.down → IsLooked w.disks i
+        → Stands i x said → IsBase i x said base ticks → 2 ≤ d → d < b.setup.geometry.disks
+        → IsPresent i d → named_out said.meta.out ≢ Some d → w.spun d ≤ base d }
 {}
 
 /// There are sessions: on each formatted array a mount, a write, its flush, a write in which a disk

@@ -23,10 +23,12 @@ use Rattle.paraid_core.specs.Steps.{AreUnsyncedCopied, IsMarkedFrom, IsStillOut,
 
 -- each disk of the array that is not out has the size of the array
 abbrev pub AreAllLarge : (ℕ → Slot) → Meta → Type 0
-AreAllLarge slot m = (d : ℕ) → d < m.setup.geometry.disks → named_out m.out ≢ Some d → disk_size m.setup.geometry ≤ (slot d).size
+AreAllLarge slot m = (d : ℕ) → d < m.setup.geometry.disks
+    → named_out m.out ≢ Some d → disk_size m.setup.geometry ≤ (slot d).size
 
 -- Over every rack: the core can be read and written, no plan is under way, and each copy is synced.
-pub record IsCoreServing {R : Type 0} {g : _} (count : R → ℕ) (slot : R → ℕ → Slot) (core : Core R g) : Type 0 where
+pub record IsCoreServing
+    {R : Type 0} {g : _} (count : R → ℕ) (slot : R → ℕ → Slot) (core : Core R g) : Type 0 where
   pub ready : IsCoreReady count slot core
   pub serves : CanCoreServe slot core
   pub draft : core.draft ≡ []
@@ -35,31 +37,37 @@ pub record IsCoreServing {R : Type 0} {g : _} (count : R → ℕ) (slot : R → 
   pub large : AreAllLarge (slot (store_rack core.store)) core.meta
 
 -- The same with nothing staged, while the disks below `end` have come up in a shift up.
-pub record IsComingUp {R : Type 0} {g : _} (count : R → ℕ) (slot : R → ℕ → Slot) (core : Core R g) (end : ℕ) : Type 0 where
+pub record IsComingUp {R : Type 0}
+    {g : _} (count : R → ℕ) (slot : R → ℕ → Slot) (core : Core R g) (end : ℕ) : Type 0 where
   pub ready : IsCoreReady count slot core
   pub still : IsStillOut (named_of core.store) core.meta
-  pub up : (d : ℕ) → d < end → named_out core.meta.out ≢ Some d → (slot (store_rack core.store) d).power ≡ Spinning
+  pub up : (d : ℕ) → d < end
+      → named_out core.meta.out ≢ Some d → (slot (store_rack core.store) d).power ≡ Spinning
   pub draft : core.draft ≡ []
   pub copies_synced : AreCopiesSynced core.meta.setup.geometry.disks core.copied
   pub unsynced : AreUnsyncedCopied slot core
   pub large : AreAllLarge (slot (store_rack core.store)) core.meta
   pub nothing : core.batch ≡ []
 
--- What a call leaves beside that: the array, how its meta is spelled and the number of its writes are as they were, and a disk that is down
--- was so before, or has failed.
-pub record LeavesArray {R : Type 0} {g : _} (count : R → ℕ) (slot : R → ℕ → Slot) (old new : Core R g) : Type 0 where
+-- What a call leaves beside that: the array, how its meta is spelled and the number of its writes
+-- are as they were, and a disk that is down was so before, or has failed.
+pub record LeavesArray
+    {R : Type 0} {g : _} (count : R → ℕ) (slot : R → ℕ → Slot) (old new : Core R g) : Type 0 where
   pub slots : count (store_rack new.store) ≡ count (store_rack old.store)
   pub setup : new.meta.setup ≡ old.meta.setup
   pub version : new.meta.version ≡ old.meta.version
   pub writes : new.meta.writes ≡ old.meta.writes
   pub turned : OnlyPowersDisks (slot (store_rack old.store)) (slot (store_rack new.store))
-  pub down : IsDownAfter (core_down old) (core_down new) (slot (store_rack old.store)) (slot (store_rack new.store))
+  pub down : IsDownAfter
+      (core_down old) (core_down new) (slot (store_rack old.store)) (slot (store_rack new.store))
 
 -- Slots that fit the meta before fit it still.
 abbrev pub KeepsFit : {R : Type 0} {g : _} → (R → ℕ → Slot) → Core R g → Core R g → Type 0
-KeepsFit slot old new = FitsSlots (slot (store_rack old.store)) old.meta → FitsSlots (slot (store_rack new.store)) new.meta
+KeepsFit slot old new = FitsSlots (slot (store_rack old.store)) old.meta
+    → FitsSlots (slot (store_rack new.store)) new.meta
 
--- The core stands for these writes, and the shift that is under way, or none, is that of the last commit.
+-- The core stands for these writes, and the shift that is under way, or none, is that of the last
+-- commit.
 abbrev pub StandsInShift : {R : Type 0} {g : _} → (R → ℕ) → Core R g → History → ℕ → Disks → Type 0
 StandsInShift count core h lo = CellsCopied count core h lo (λ r d. false)
 
@@ -67,38 +75,51 @@ StandsInShift count core h lo = CellsCopied count core h lo (λ r d. false)
 abbrev pub RestsInShift : {R : Type 0} {g : _} → (R → ℕ) → Core R g → History → ℕ → Disks → Type 0
 RestsInShift count core h lo = Filled count core h lo core.meta.fill
 
--- Nothing is staged before and after, the shift is that of the last commit, and the writes are as they were.
-abbrev pub StaysAtRest : {R : Type 0} {g : _} → (R → ℕ) → (R → Option Trail) → Core R g → Core R g → Type 0
-StaysAtRest count told old new = (h : History) (lo : ℕ) → Ran (told (store_rack old.store)) (told (store_rack new.store))
-    (CrashTriple (IsCoreHeldSinceCommit count old h lo) (RestsInShift count old h lo) (RestsInShift count new h lo))
+-- Nothing is staged before and after, the shift is that of the last commit, and the writes are as
+-- they were.
+abbrev pub StaysAtRest : {R : Type 0} {g : _}
+    → (R → ℕ) → (R → Option Trail) → Core R g → Core R g → Type 0
+StaysAtRest count told old new = (h : History) (lo : ℕ) → Ran (told (store_rack old.store))
+    (told (store_rack new.store)) (CrashTriple (IsCoreHeldSinceCommit count old h lo)
+    (RestsInShift count old h lo) (RestsInShift count new h lo))
 
 -- Each stop leaves what it left before, from such a rest on.
-abbrev pub IsHeldFromRest : {R : Type 0} {g : _} → (R → ℕ) → (R → Option Trail) → Core R g → Core R g → Type 0
-IsHeldFromRest count told old new = (h : History) (lo : ℕ) → Ran (told (store_rack old.store)) (told (store_rack new.store))
-    (CrashTriple (IsCoreHeldSinceCommit count old h lo) (RestsInShift count old h lo) (IsCoreHeldSinceCommit count old h lo))
+abbrev pub IsHeldFromRest : {R : Type 0} {g : _}
+    → (R → ℕ) → (R → Option Trail) → Core R g → Core R g → Type 0
+IsHeldFromRest count told old new = (h : History) (lo : ℕ) → Ran (told (store_rack old.store))
+    (told (store_rack new.store)) (CrashTriple (IsCoreHeldSinceCommit count old h lo)
+    (RestsInShift count old h lo) (IsCoreHeldSinceCommit count old h lo))
 
 -- From such a rest on the writes are as they were.
-abbrev pub StandsFromRest : {R : Type 0} {g : _} → (R → ℕ) → (R → Option Trail) → Core R g → Core R g → Type 0
-StandsFromRest count told old new = (h : History) (lo : ℕ) → Ran (told (store_rack old.store)) (told (store_rack new.store))
-    (CrashTriple (IsCoreHeldSinceCommit count old h lo) (RestsInShift count old h lo) (CoreStandsFor count new h lo))
+abbrev pub StandsFromRest : {R : Type 0} {g : _}
+    → (R → ℕ) → (R → Option Trail) → Core R g → Core R g → Type 0
+StandsFromRest count told old new = (h : History) (lo : ℕ) → Ran (told (store_rack old.store))
+    (told (store_rack new.store)) (CrashTriple (IsCoreHeldSinceCommit count old h lo)
+    (RestsInShift count old h lo) (CoreStandsFor count new h lo))
 
 -- From such a rest on these cells are copied.
-abbrev pub CopiesFromRest : {R : Type 0} {g : _} → (R → ℕ) → (R → Option Trail) → Core R g → Core R g → (ℕ → ℕ → Bool) → Type 0
-CopiesFromRest count told old new cells = (h : History) (lo : ℕ) → Ran (told (store_rack old.store)) (told (store_rack new.store))
-    (CrashTriple (IsCoreHeldSinceCommit count old h lo) (RestsInShift count old h lo) (CellsCopied count new h lo cells))
+abbrev pub CopiesFromRest : {R : Type 0} {g : _}
+    → (R → ℕ) → (R → Option Trail) → Core R g → Core R g → (ℕ → ℕ → Bool) → Type 0
+CopiesFromRest count told old new cells = (h : History) (lo : ℕ) → Ran (told (store_rack old.store))
+    (told (store_rack new.store)) (CrashTriple (IsCoreHeldSinceCommit count old h lo)
+    (RestsInShift count old h lo) (CellsCopied count new h lo cells))
 
 -- These cells are copied still.
-abbrev pub KeepsCopied : {R : Type 0} {g : _} → (R → ℕ) → (R → Option Trail) → Core R g → Core R g → (ℕ → ℕ → Bool) → Type 0
-KeepsCopied count told old new cells = (h : History) (lo : ℕ) → Ran (told (store_rack old.store)) (told (store_rack new.store))
-    (CrashTriple (IsCoreHeldSinceCommit count old h lo) (CellsCopied count old h lo cells) (CellsCopied count new h lo cells))
+abbrev pub KeepsCopied : {R : Type 0} {g : _}
+    → (R → ℕ) → (R → Option Trail) → Core R g → Core R g → (ℕ → ℕ → Bool) → Type 0
+KeepsCopied count told old new cells = (h : History) (lo : ℕ) → Ran (told (store_rack old.store))
+    (told (store_rack new.store)) (CrashTriple (IsCoreHeldSinceCommit count old h lo)
+    (CellsCopied count old h lo cells) (CellsCopied count new h lo cells))
 
 -- the same from a core that may have something staged
-abbrev pub IsHeldInShift : {R : Type 0} {g : _} → (R → ℕ) → (R → Option Trail) → Core R g → Core R g → Type 0
-IsHeldInShift count told old new = (h : History) (lo : ℕ) → Ran (told (store_rack old.store)) (told (store_rack new.store))
-    (CrashTriple (IsCoreHeldSinceCommit count old h lo) (StandsInShift count old h lo) (IsCoreHeldSinceCommit count old h lo))
+abbrev pub IsHeldInShift : {R : Type 0} {g : _}
+    → (R → ℕ) → (R → Option Trail) → Core R g → Core R g → Type 0
+IsHeldInShift count told old new = (h : History) (lo : ℕ) → Ran (told (store_rack old.store))
+    (told (store_rack new.store)) (CrashTriple (IsCoreHeldSinceCommit count old h lo)
+    (StandsInShift count old h lo) (IsCoreHeldSinceCommit count old h lo))
 
--- A shift up to gear `to` has begun, by a commit, with a spin-up counted for each disk that comes up; a disk may be
--- lost in it.
+-- A shift up to gear `to` has begun, by a commit, with a spin-up counted for each disk that comes
+-- up; a disk may be lost in it.
 pub record HasBegunUp (old new : Meta) (to : ℕ) : Type 0 where
   pub spins : List ℕ
   pub is : IsMarkedFrom (record (meta_after_begin old (Up to) spins) { epoch = old.epoch + 1 }) new

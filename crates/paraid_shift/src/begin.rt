@@ -1,5 +1,5 @@
-//! A shift begins: its phase is committed, with each spin-up counted, and then the disks that a shift up needs are
-//! spun up.
+//! A shift begins: its phase is committed, with each spin-up counted, and then the disks that a
+//! shift up needs are spun up.
 ghost use Rattle.std.specs.Prelude.{◌≡◌, ◌≢◌, ℕ, ◌+◌, ◌<◌, ◌≤◌, ◌⊎◌, true, false, [], Some, OnOk, length, slice_index};
 ghost use Rattle.paraid_base.specs.declared.state.Phase.TheVariants.{Down};
 ghost use Rattle.paraid_base.specs.History.{History};
@@ -30,15 +30,16 @@ pub fn begin_down<R: Rack>(core: &mut Core<R>, to: u8) -> Result<(), Two>
     requires spared { (d : ℕ) → to ≤ d → d < (meta_of core.old).gear
         → slice_index (meta_of core.old).spins d < allowed_spins (meta_of core.old) }
     ensures shifted { OnOk result (ServesShifted core.old core.new) }
-    ensures meta { OnOk result (IsMarkedFrom (record (meta_after_begin (meta_of core.old) (Down to) (meta_of core.old).spins)
-        { epoch = (meta_of core.old).epoch + 1 }) (meta_of core.new)) }
+    ensures meta { OnOk result (IsMarkedFrom (record (meta_after_begin (meta_of core.old) (Down to)
+        (meta_of core.old).spins) { epoch = (meta_of core.old).epoch + 1 }) (meta_of core.new)) }
     ensures keeps { KeepsContents core.old core.new }
     ensures steps { OnOk result (CoreStepsInEvent R.slot_count R.told core.old core.new 1) }
-    ensures rack { SparesRack core.old core.new (CoreLosesInSteps R.slot_count R.told core.old core.new 1) result }
+    ensures rack { SparesRack core.old core.new
+        (CoreLosesInSteps R.slot_count R.told core.old core.new 1) result }
     ensures rests { OnOk result ((h : History) (lo : ℕ)
         → Ran (R.told (core_rack core.old)) (R.told (core_rack core.new))
-        (CrashTriple (IsCoreHeldSinceCommit R.slot_count core.old h lo) (CoreStandsFor R.slot_count core.old h lo)
-        (RestsInShift R.slot_count core.new h (length h)))) }
+        (CrashTriple (IsCoreHeldSinceCommit R.slot_count core.old h lo) (CoreStandsFor
+        R.slot_count core.old h lo) (RestsInShift R.slot_count core.new h (length h)))) }
 {
     core.begin_down(to);
     core.commit()?;
@@ -75,7 +76,8 @@ fn raise<R: Rack>(core: &mut Core<R>, disk: DiskNo) -> Result<(), Two>
     ensures rack { KeepsRack core.old core.new
         (CoreTellsLosses R.told (named_out (meta_of core.old).out) core.old core.new) result }
     ensures store { IsSameStore (store_of core.old) (store_of core.new) }
-    ensures others { (d : ℕ) → d ≢ disk → R.slot (core_rack core.new) d ≡ R.slot (core_rack core.old) d }
+    ensures others { (d : ℕ)
+        → d ≢ disk → R.slot (core_rack core.new) d ≡ R.slot (core_rack core.old) d }
     ensures within { disk < rising_to (meta_of core.old).phase }
 {
     if !is_down(core, disk) {
@@ -85,8 +87,8 @@ fn raise<R: Rack>(core: &mut Core<R>, disk: DiskNo) -> Result<(), Two>
     Ok(())
 }
 
-// Spins up each disk from the gear to that of a shift up, in ascending order. After one that fails the others are spun
-// up still.
+// Spins up each disk from the gear to that of a shift up, in ascending order. After one that fails
+// the others are spun up still.
 fn bring_up<R: Rack>(core: &mut Core<R>) -> Result<(), Two>
     requires rising { IsComingUp R.slot_count R.slot core.old (meta_of core.old).gear }
     ensures serving { OnOk result (IsCoreServing R.slot_count R.slot core.new) }
@@ -94,7 +96,8 @@ fn bring_up<R: Rack>(core: &mut Core<R>) -> Result<(), Two>
     ensures turns { PowersFromRest core.old core.new result }
     ensures rack { KeepsRack core.old core.new
         (CoreTellsLosses R.told (named_out (meta_of core.old).out) core.old core.new) result }
-    ensures others { OnOk result ((d : ℕ) → (d < (meta_of core.old).gear) ⊎ (rising_to (meta_of core.old).phase ≤ d)
+    ensures others { OnOk result ((d : ℕ)
+        → (d < (meta_of core.old).gear) ⊎ (rising_to (meta_of core.old).phase ≤ d)
         → R.slot (core_rack core.new) d ≡ R.slot (core_rack core.old) d) }
 {
     let gear = core.meta().gear;
@@ -110,15 +113,16 @@ fn commit_up<R: Rack>(core: &mut Core<R>, to: u8) -> Result<(), Two>
     requires next { AreNextGears (meta_of core.old).setup.geometry (meta_of core.old).gear to }
     ensures begun { OnOk result (CommitsUp R.slot_count R.slot R.told core.old core.new to) }
     ensures keeps { KeepsContents core.old core.new }
-    ensures rack { SparesRack core.old core.new (LosesUp R.slot_count R.told core.old core.new to) result }
+    ensures rack { SparesRack core.old core.new
+        (LosesUp R.slot_count R.told core.old core.new to) result }
 {
     core.begin_up(to);
     core.commit()?;
     Ok(())
 }
 
-/// Begins a shift up to the next higher gear: by one commit with all that is staged, in which a spin-up is counted for
-/// each disk that comes up; then they are spun up in ascending order.
+/// Begins a shift up to the next higher gear: by one commit with all that is staged, in which a
+/// spin-up is counted for each disk that comes up; then they are spun up in ascending order.
 pub fn begin_up<R: Rack>(core: &mut Core<R>, to: u8) -> Result<(), Two>
     requires can { CanBeginShift core.old }
     requires next { AreNextGears (meta_of core.old).setup.geometry (meta_of core.old).gear to }
@@ -126,11 +130,11 @@ pub fn begin_up<R: Rack>(core: &mut Core<R>, to: u8) -> Result<(), Two>
     ensures meta { OnOk result (HasBegunUp (meta_of core.old) (meta_of core.new) to) }
     ensures keeps { KeepsContents core.old core.new }
     ensures steps { OnOk result (CoreStepsInEvent R.slot_count R.told core.old core.new 1) }
-    ensures rack { KeepsRack core.old core.new (CoreLosesInSteps R.slot_count R.told core.old core.new 1) result }
-    ensures rests { OnOk result ((h : History) (lo : ℕ)
-        → Ran (R.told (core_rack core.old)) (R.told (core_rack core.new))
-        (CrashTriple (IsCoreHeldSinceCommit R.slot_count core.old h lo) (CoreStandsFor R.slot_count core.old h lo)
-        (RestsInShift R.slot_count core.new h lo))) }
+    ensures rack { KeepsRack core.old core.new
+        (CoreLosesInSteps R.slot_count R.told core.old core.new 1) result }
+    ensures rests { OnOk result ((h : History) (lo : ℕ) → Ran (R.told (core_rack core.old)) (R.told
+        (core_rack core.new)) (CrashTriple (IsCoreHeldSinceCommit R.slot_count core.old h lo)
+        (CoreStandsFor R.slot_count core.old h lo) (RestsInShift R.slot_count core.new h lo))) }
 {
     commit_up(core, to)?;
     bring_up(core)?;

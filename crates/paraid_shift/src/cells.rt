@@ -27,7 +27,8 @@ struct Group {
     disk: DiskNo,
 }
 
-// The group with the cell of row `r` and disk `d`, unless that one lies in one block of the map too many.
+// The group with the cell of row `r` and disk `d`, unless that one lies in one block of the map too
+// many.
 fn with_cell(group: Group, r: Row, d: DiskNo) -> Option<Group>
     requires few { group.count < 2 ^ 32 - 1 }
     requires disk { d < 8 }
@@ -52,7 +53,8 @@ fn with_cell(group: Group, r: Row, d: DiskNo) -> Option<Group>
     })
 }
 
-// Copies dirty cells of the disks that come up, in their order and at most `most`. None where a disk was lost.
+// Copies dirty cells of the disks that come up, in their order and at most `most`. None where a
+// disk was lost.
 fn copy_cells<R: Rack>(core: &mut Core<R>, most: u32) -> Result<Option<Group>, Two>
     requires can { CanMoveUnits core.old }
     ensures copies { CopiesUnits core.old core.new result }
@@ -61,8 +63,8 @@ fn copy_cells<R: Rack>(core: &mut Core<R>, most: u32) -> Result<Option<Group>, T
     ensures group { IfOk result (λ group. IfSome group (λ it.
         IsGroupOf (meta_of core.old) (core_table core.old) most it.count it.row it.disk)) }
     ensures lost { IfOk result (λ group. IfNone group ((meta_of core.new).out ≢ No)) }
-    ensures copied { IfOk result (λ group. IfSome group (λ it. CopiesFromRest R.slot_count R.told core.old core.new
-        (are_copied_before (meta_of core.old) it.row it.disk))) }
+    ensures copied { IfOk result (λ group. IfSome group (λ it. CopiesFromRest R.slot_count
+        R.told core.old core.new (are_copied_before (meta_of core.old) it.row it.disk))) }
 {
     let mut group = Group {
         count: 0,
@@ -88,8 +90,10 @@ fn copy_cells<R: Rack>(core: &mut Core<R>, most: u32) -> Result<Option<Group>, T
 
 // Whether the cell of row `r` and disk `d` does not come after the last one of the group.
 fn is_within(group: &Group, r: Row, d: DiskNo) -> bool
-    ensures within { result ≡ true → (r < group.now.row) ⊎ ((r ≡ group.now.row) × (d < group.now.disk)) }
-    ensures past { result ≡ false → (group.now.row < r) ⊎ ((group.now.row ≡ r) × (group.now.disk ≤ d)) }
+    ensures within { result ≡ true
+        → (r < group.now.row) ⊎ ((r ≡ group.now.row) × (d < group.now.disk)) }
+    ensures past { result ≡ false
+        → (group.now.row < r) ⊎ ((group.now.row ≡ r) × (group.now.disk ≤ d)) }
 {
     if group.row == r {
         return d < group.disk;
@@ -97,7 +101,8 @@ fn is_within(group: &Group, r: Row, d: DiskNo) -> bool
     r < group.row
 }
 
-// Marks the first dirty cell of the disks that come up as clean, if it is one of the group and there is room.
+// Marks the first dirty cell of the disks that come up as clean, if it is one of the group and
+// there is room.
 fn mark_one<R: Rack>(core: &mut Core<R>, group: &Group) -> bool
     requires serving { IsCoreServing R.slot_count R.slot core.old }
     requires whole { (meta_of core.old).out ≡ No }
@@ -135,7 +140,8 @@ fn mark_cells<R: Rack>(core: &mut Core<R>, group: &Group) -> u32
     ensures moves { CoreCountsMoved R.slot_count core.old core.new result }
     ensures idle { result ≡ 0 → core.new ≡ core.old }
     ensures some { length (batch_of core.old) ≤ 94 → 0 < group.now.count
-        → HasDirtyBefore (meta_of core.old) (core_table core.old) group.now.row group.now.disk → 0 < result }
+        → HasDirtyBefore (meta_of core.old) (core_table core.old) group.now.row group.now.disk
+        → 0 < result }
     ensures copied { KeepsCopied R.slot_count R.told core.old core.new
         (are_copied_before (meta_of core.old) group.now.row group.now.disk) }
 {
@@ -147,12 +153,14 @@ fn mark_cells<R: Rack>(core: &mut Core<R>, group: &Group) -> u32
     group.count
 }
 
-/// Copies a group of dirty cells of the disks that come up, at most `most`, makes them last and marks them; the marks
-/// are staged. It gives how many were marked, none where a disk was lost.
+/// Copies a group of dirty cells of the disks that come up, at most `most`, makes them last and
+/// marks them; the marks are staged. It gives how many were marked, none where a disk was lost.
 pub(crate) fn move_group<R: Rack>(core: &mut Core<R>, most: u32) -> Result<u32, Two>
     requires can { CanMoveUnits core.old }
-    ensures marks { IfOk result (λ count. MarksGroup R.slot_count R.slot R.told core.old core.new most count) }
-    ensures rack { SparesRack core.old core.new (CoreLosesInSteps R.slot_count R.told core.old core.new 1) result }
+    ensures marks { IfOk result (λ count.
+        MarksGroup R.slot_count R.slot R.told core.old core.new most count) }
+    ensures rack { SparesRack core.old core.new
+        (CoreLosesInSteps R.slot_count R.told core.old core.new 1) result }
 {
     let copied = copy_group(core, most)?;
     let Some(group) = copied else {
@@ -172,8 +180,8 @@ fn copy_group<R: Rack>(core: &mut Core<R>, most: u32) -> Result<Option<Group>, T
     ensures group { IfOk result (λ group. IfSome group (λ it.
         IsGroupOf (meta_of core.new) (core_table core.new) most it.count it.row it.disk)) }
     ensures lost { IfOk result (λ group. IfNone group ((meta_of core.new).out ≢ No)) }
-    ensures copied { IfOk result (λ group. IfSome group (λ it. CopiesFromRest R.slot_count R.told core.old core.new
-        (are_copied_before (meta_of core.old) it.row it.disk))) }
+    ensures copied { IfOk result (λ group. IfSome group (λ it. CopiesFromRest R.slot_count
+        R.told core.old core.new (are_copied_before (meta_of core.old) it.row it.disk))) }
 {
     let copied = copy_cells(core, most)?;
     core.settle()?;

@@ -1,4 +1,5 @@
-//! A shift ends: the new gear is committed, and after a shift down the disks that it does not need are parked.
+//! A shift ends: the new gear is committed, and after a shift down the disks that it does not need
+//! are parked.
 ghost use Rattle.std.specs.Prelude.{◌≡◌, ◌≢◌, ℕ, ◌+◌, ◌<◌, ◌≤◌, ◌⊎◌, [], true, false, Some, OnOk};
 ghost use Rattle.paraid_base.specs.declared.state.Phase.TheVariants.{Steady};
 ghost use Rattle.paraid_base.specs.History.{History};
@@ -55,7 +56,8 @@ fn lower<R: Rack>(core: &mut Core<R>, disk: DiskNo) -> Result<(), Two>
     ensures store { IsSameStore (store_of core.old) (store_of core.new) }
     ensures parked { OnOk result (named_out (meta_of core.new).out ≢ Some disk
         → (R.slot (core_rack core.new) disk).power ≡ Parked) }
-    ensures others { (d : ℕ) → d ≢ disk → R.slot (core_rack core.new) d ≡ R.slot (core_rack core.old) d }
+    ensures others { (d : ℕ)
+        → d ≢ disk → R.slot (core_rack core.new) d ≡ R.slot (core_rack core.old) d }
 {
     if !is_up(core, disk) {
         return Ok(());
@@ -64,7 +66,8 @@ fn lower<R: Rack>(core: &mut Core<R>, disk: DiskNo) -> Result<(), Two>
     Ok(())
 }
 
-// Parks each disk from the gear to `hi - 1`, in ascending order. After one that fails the others are parked still.
+// Parks each disk from the gear to `hi - 1`, in ascending order. After one that fails the others
+// are parked still.
 fn park_down<R: Rack>(core: &mut Core<R>, hi: u8) -> Result<(), Two>
     requires serving { IsCoreServing R.slot_count R.slot core.old }
     requires steady { (meta_of core.old).phase ≡ Steady }
@@ -75,8 +78,9 @@ fn park_down<R: Rack>(core: &mut Core<R>, hi: u8) -> Result<(), Two>
     ensures turns { PowersFromRest core.old core.new result }
     ensures rack { KeepsRack core.old core.new
         (CoreTellsLosses R.told (named_out (meta_of core.old).out) core.old core.new) result }
-    ensures parked { OnOk result ((d : ℕ) → (meta_of core.old).gear ≤ d → d < hi
-        → named_out (meta_of core.new).out ≢ Some d → (R.slot (core_rack core.new) d).power ≡ Parked) }
+    ensures parked { OnOk result ((d : ℕ)
+        → (meta_of core.old).gear ≤ d → d < hi → named_out (meta_of core.new).out ≢ Some d
+        → (R.slot (core_rack core.new) d).power ≡ Parked) }
     ensures others { OnOk result ((d : ℕ) → (d < (meta_of core.old).gear) ⊎ (hi ≤ d)
         → R.slot (core_rack core.new) d ≡ R.slot (core_rack core.old) d) }
 {
@@ -99,22 +103,22 @@ fn commit_gear<R: Rack>(core: &mut Core<R>) -> Result<(), Two>
     Ok(())
 }
 
-/// Ends a shift of which no unit is left: by one commit with all that is staged, after which the disks that a shift
-/// down leaves are parked in ascending order.
+/// Ends a shift of which no unit is left: by one commit with all that is staged, after which the
+/// disks that a shift down leaves are parked in ascending order.
 pub fn flip<R: Rack>(core: &mut Core<R>) -> Result<(), Two>
     requires can { CanEndShift core.old }
     ensures shifted { OnOk result (ServesShifted core.old core.new) }
-    ensures meta { OnOk result (IsMarkedFrom (record (meta_flipped_to (meta_of core.old) (phase_to (meta_of core.old).phase))
-        { epoch = (meta_of core.old).epoch + 1 }) (meta_of core.new)) }
+    ensures meta { OnOk result (IsMarkedFrom (record (meta_flipped_to (meta_of core.old) (phase_to
+        (meta_of core.old).phase)) { epoch = (meta_of core.old).epoch + 1 }) (meta_of core.new)) }
     ensures keeps { KeepsContents core.old core.new }
-    // Wherever the last marks of the shift wait in memory, they are brought with one commit more, and the event is
-    // underway again.
+    // Wherever the last marks of the shift wait in memory, they are brought with one commit more,
+    // and the event is underway again.
     ensures steps { OnOk result (EndsInSteps R.slot_count R.told core.old core.new) }
-    ensures rack { KeepsRack core.old core.new (EndsLosing R.slot_count R.told core.old core.new) result }
-    ensures rests { OnOk result ((h : History) (lo : ℕ)
-        → Ran (R.told (core_rack core.old)) (R.told (core_rack core.new))
-        (CrashTriple (IsCoreHeldSinceCommit R.slot_count core.old h lo) (CoreStandsFor R.slot_count core.old h lo)
-        (RestsInShift R.slot_count core.new h lo))) }
+    ensures rack { KeepsRack core.old core.new
+        (EndsLosing R.slot_count R.told core.old core.new) result }
+    ensures rests { OnOk result ((h : History) (lo : ℕ) → Ran (R.told (core_rack core.old)) (R.told
+        (core_rack core.new)) (CrashTriple (IsCoreHeldSinceCommit R.slot_count core.old h lo)
+        (CoreStandsFor R.slot_count core.old h lo) (RestsInShift R.slot_count core.new h lo))) }
 {
     let hi = core.meta().gear;
     commit_gear(core)?;

@@ -1,8 +1,8 @@
 //! Shifts between gears, over the calls of a core.
 //!
-//! A shift begins with a commit of its phase; its units are copied past the log and marked by commits; it ends with a
-//! commit of the new gear, after which the disks that are not needed are parked. No stop takes a write away, and a
-//! disk that is lost leaves the shift where it stands.
+//! A shift begins with a commit of its phase; its units are copied past the log and marked by
+//! commits; it ends with a commit of the new gear, after which the disks that are not needed are
+//! parked. No stop takes a write away, and a disk that is lost leaves the shift where it stands.
 #![tactic(auto)]
 
 mod begin;

@@ -19,7 +19,8 @@ use paraid_base::{DiskNo, Out, Two};
 use paraid_core::Core;
 use paraid_rack::Rack;
 
-/// What a step of a shift moved: so many units, of which so many are left, and the disk that was lost in it.
+/// What a step of a shift moved: so many units, of which so many are left, and the disk that was
+/// lost in it.
 #[derive(Clone, Copy)]
 pub struct Moved {
     pub units: u32,
@@ -33,7 +34,8 @@ fn commit<R: Rack>(core: &mut Core<R>) -> Result<(), Two>
     requires epoch { (meta_of core.old).epoch < 2 ^ 63 }
     ensures commits { OnOk result (CommitsInEvent R.slot_count R.slot R.told core.old core.new) }
     ensures table { core_table core.new ≡ core_table core.old }
-    ensures rack { SparesRack core.old core.new (LosesInCommit R.slot_count R.slot R.told core.old core.new) result }
+    ensures rack { SparesRack core.old core.new
+        (LosesInCommit R.slot_count R.slot R.told core.old core.new) result }
 {
     core.commit()?;
     Ok(())
@@ -45,10 +47,11 @@ pub fn commit_staged<R: Rack>(core: &mut Core<R>) -> Result<(), Two>
     requires epoch { (meta_of core.old).epoch < 2 ^ 63 }
     ensures serves { OnOk result (ServesOn R.slot_count R.slot core.old core.new 1) }
     ensures nothing { OnOk result (batch_of core.new ≡ []) }
-    ensures meta { OnOk result (IsMarkedFrom (record (meta_of core.old) { epoch = (meta_of core.new).epoch })
-        (meta_of core.new)) }
+    ensures meta { OnOk result (IsMarkedFrom
+        (record (meta_of core.old) { epoch = (meta_of core.new).epoch }) (meta_of core.new)) }
     ensures table { core_table core.new ≡ core_table core.old }
-    ensures moves { OnOk result ((meta_of core.old).out ≡ No → CoreCountsMoved R.slot_count core.old core.new 0) }
+    ensures moves { OnOk result ((meta_of core.old).out ≡ No
+        → CoreCountsMoved R.slot_count core.old core.new 0) }
     ensures steps { OnOk result (IsNamedOrAbsent R.slot core.old
         → CoreStepsInEvent R.slot_count R.told core.old core.new 1) }
     ensures rack { KeepsRack core.old core.new (λ two. IsNamedOrAbsent R.slot core.old
@@ -71,14 +74,16 @@ fn has_ended<R: Rack>(core: &Core<R>) -> bool
     is_done(core)
 }
 
-// Moves a group of cells, at most `most`, and commits it, unless the shift ends with it. It gives how many they were.
+// Moves a group of cells, at most `most`, and commits it, unless the shift ends with it. It gives
+// how many they were.
 fn step_group<R: Rack>(core: &mut Core<R>, most: u32) -> Result<u32, Two>
     requires can { CanMoveUnits core.old }
     requires epoch { (meta_of core.old).epoch < 2 ^ 63 }
     ensures steps { IfOk result (λ count. StepsOn R.slot_count R.slot core.old core.new most 1 count
         (MovesGroup R.slot_count core.old core.new most count)
         (CoreStepsInEvent R.slot_count R.told core.old core.new 1)) }
-    ensures rack { KeepsRack core.old core.new (CoreLosesInSteps R.slot_count R.told core.old core.new 1) result }
+    ensures rack { KeepsRack core.old core.new
+        (CoreLosesInSteps R.slot_count R.told core.old core.new 1) result }
 {
     let count = move_group(core, most)?;
     if count == 0 {
@@ -91,14 +96,17 @@ fn step_group<R: Rack>(core: &mut Core<R>, most: u32) -> Result<u32, Two>
     Ok(count)
 }
 
-// Moves dirty cells of the disks that come up, group by group and at most `most`. It gives how many they were.
+// Moves dirty cells of the disks that come up, group by group and at most `most`. It gives how many
+// they were.
 fn step_cells<R: Rack>(core: &mut Core<R>, most: u32) -> Result<u32, Two>
     requires can { CanMoveUnits core.old }
     requires epoch { (meta_of core.old).epoch + most < 2 ^ 63 }
-    ensures steps { IfOk result (λ count. StepsOn R.slot_count R.slot core.old core.new most most count
-        (MovesUpTo R.slot_count core.old core.new (AreCellsDone (meta_of core.new) (core_table core.new)) most count)
+    ensures steps { IfOk result (λ count.
+        StepsOn R.slot_count R.slot core.old core.new most most count (MovesUpTo R.slot_count
+        core.old core.new (AreCellsDone (meta_of core.new) (core_table core.new)) most count)
         (CoreStepsInEvent R.slot_count R.told core.old core.new most)) }
-    ensures rack { KeepsRack core.old core.new (CoreLosesInSteps R.slot_count R.told core.old core.new most) result }
+    ensures rack { KeepsRack core.old core.new
+        (CoreLosesInSteps R.slot_count R.told core.old core.new most) result }
 {
     let mut moved = 0;
     for at in 0..most {
@@ -123,7 +131,8 @@ fn next_end<R: Rack>(core: &Core<R>, most: u32) -> u32
     ensures from { (meta_of core.now).fill ≤ result }
     ensures few { result ≤ (meta_of core.now).fill + most }
     ensures some { (meta_of core.now).fill < result → AreStripesToFill (meta_of core.now) result }
-    ensures all { (result ≡ (meta_of core.now).fill + most) ⊎ (result ≡ stripe_count (meta_of core.now).setup.geometry.disks
+    ensures all { (result ≡ (meta_of core.now).fill + most)
+        ⊎ (result ≡ stripe_count (meta_of core.now).setup.geometry.disks
         (meta_of core.now).setup.geometry.rows (phase_to (meta_of core.now).phase)) }
 {
     let meta = core.meta();
@@ -134,16 +143,17 @@ fn next_end<R: Rack>(core: &Core<R>, most: u32) -> u32
     meta.fill + stripes_left(core).min(most)
 }
 
-// Fills the next stripes, at most `most`, and commits that, unless the shift ends with them. It gives how many they
-// were, none where a disk was lost.
+// Fills the next stripes, at most `most`, and commits that, unless the shift ends with them. It
+// gives how many they were, none where a disk was lost.
 fn step_stripes<R: Rack>(core: &mut Core<R>, most: u32) -> Result<u32, Two>
     requires can { CanMoveUnits core.old }
     requires clean { 0 < most → AreCellsDone (meta_of core.old) (core_table core.old) }
     requires epoch { (meta_of core.old).epoch < 2 ^ 63 }
     ensures steps { IfOk result (λ count. StepsOn R.slot_count R.slot core.old core.new most 1 count
-        (MovesUpTo R.slot_count core.old core.new (AreUnitsDone (meta_of core.new) (core_table core.new)) most count)
-        (StepsOrWaits R.slot_count R.told core.old core.new 1)) }
-    ensures rack { KeepsRack core.old core.new (CoreLosesInSteps R.slot_count R.told core.old core.new 1) result }
+        (MovesUpTo R.slot_count core.old core.new (AreUnitsDone (meta_of core.new)
+        (core_table core.new)) most count) (StepsOrWaits R.slot_count R.told core.old core.new 1)) }
+    ensures rack { KeepsRack core.old core.new
+        (CoreLosesInSteps R.slot_count R.told core.old core.new 1) result }
 {
     let from = core.meta().fill;
     let end = next_end(core, most);
@@ -165,10 +175,12 @@ fn step_stripes<R: Rack>(core: &mut Core<R>, most: u32) -> Result<u32, Two>
 fn step_units<R: Rack>(core: &mut Core<R>, most: u32) -> Result<u32, Two>
     requires can { CanMoveUnits core.old }
     requires epoch { (meta_of core.old).epoch + most < 2 ^ 63 }
-    ensures steps { IfOk result (λ count. StepsOn R.slot_count R.slot core.old core.new most (most + 1) count
-        (MovesUpTo R.slot_count core.old core.new (AreUnitsDone (meta_of core.new) (core_table core.new)) most count)
+    ensures steps { IfOk result (λ count.
+        StepsOn R.slot_count R.slot core.old core.new most (most + 1) count (MovesUpTo R.slot_count
+        core.old core.new (AreUnitsDone (meta_of core.new) (core_table core.new)) most count)
         (StepsOrWaits R.slot_count R.told core.old core.new (most + 1))) }
-    ensures rack { KeepsRack core.old core.new (CoreLosesInSteps R.slot_count R.told core.old core.new (most + 1)) result }
+    ensures rack { KeepsRack core.old core.new
+        (CoreLosesInSteps R.slot_count R.told core.old core.new (most + 1)) result }
 {
     let cells = step_cells(core, most)?;
     let Out::No = core.out() else {
@@ -186,12 +198,14 @@ fn step_whole<R: Rack>(core: &mut Core<R>, most: u32) -> Result<u32, Two>
     requires serving { IsCoreServing R.slot_count R.slot core.old }
     requires nothing { batch_of core.old ≡ [] }
     requires epoch { (meta_of core.old).epoch + most < 2 ^ 63 }
-    ensures steps { IfOk result (λ count. StepsOn R.slot_count R.slot core.old core.new most (most + 1) count
-        ((meta_of core.old).out ≡ No → MovesUpTo R.slot_count core.old core.new
+    ensures steps { IfOk result (λ count. StepsOn R.slot_count R.slot core.old core.new most
+        (most + 1) count ((meta_of core.old).out ≡ No → MovesUpTo R.slot_count core.old core.new
         (AreUnitsDone (meta_of core.new) (core_table core.new)) most count)
         (StepsOrWaits R.slot_count R.told core.old core.new (most + 1))) }
-    ensures idle { IfOk result (λ count. (meta_of core.old).out ≢ No → (count ≡ 0) × (core.new ≡ core.old)) }
-    ensures rack { KeepsRack core.old core.new (CoreLosesInSteps R.slot_count R.told core.old core.new (most + 1)) result }
+    ensures idle { IfOk result (λ count. (meta_of core.old).out ≢ No
+        → (count ≡ 0) × (core.new ≡ core.old)) }
+    ensures rack { KeepsRack core.old core.new
+        (CoreLosesInSteps R.slot_count R.told core.old core.new (most + 1)) result }
 {
     let Out::No = core.out() else {
         return Ok(0);
@@ -210,20 +224,23 @@ pub fn units_left<R: Rack>(core: &Core<R>) -> u32
     cells_left(core).saturating_add(stripes_left(core))
 }
 
-/// A step of a shift that moves the next units, at most so many: what is staged is committed first, if anything is;
-/// then dirty cells of the disks that come up are copied, group by group, and then stripes of the region of the new
-/// gear. Each group is made to last, marked and committed; only the marks of units with which the shift ends are left
-/// staged, for the commit of its end. Where a disk is lost, no more is moved.
+/// A step of a shift that moves the next units, at most so many: what is staged is committed first,
+/// if anything is; then dirty cells of the disks that come up are copied, group by group, and then
+/// stripes of the region of the new gear. Each group is made to last, marked and committed; only
+/// the marks of units with which the shift ends are left staged, for the commit of its end. Where a
+/// disk is lost, no more is moved.
 pub fn step<R: Rack>(core: &mut Core<R>, units: u32) -> Result<Moved, Two>
     requires serving { IsCoreServing R.slot_count R.slot core.old }
     requires epoch { (meta_of core.old).epoch < 2 ^ 63 - 2 ^ 32 - 2 }
     ensures serves { OnOk result (ServesOn R.slot_count R.slot core.old core.new (units + 2)) }
     ensures few { IfOk result (λ moved. moved.units ≤ units) }
-    // The units moved are the next ones by the state of the machine; where no disk was lost they are as many as were
-    // asked for, or no unit is left.
-    ensures moves { IfOk result (λ moved. (meta_of core.old).out ≡ No → MovesUpTo R.slot_count core.old core.new
+    // The units moved are the next ones by the state of the machine; where no disk was lost they
+    // are as many as were asked for, or no unit is left.
+    ensures moves { IfOk result (λ moved. (meta_of core.old).out ≡ No
+        → MovesUpTo R.slot_count core.old core.new
         (AreUnitsDone (meta_of core.new) (core_table core.new)) units moved.units) }
-    // An event is underway after it, or its last marks wait in memory for the commit with which the shift ends.
+    // An event is underway after it, or its last marks wait in memory for the commit with which the
+    // shift ends.
     ensures steps { OnOk result (IsNamedOrAbsent R.slot core.old
         → StepsOrWaits R.slot_count R.told core.old core.new (units + 2)) }
     ensures left { IfOk result (λ moved. AreCoreUnitsLeft R.slot_count core.new moved.left) }

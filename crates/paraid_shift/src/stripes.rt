@@ -25,10 +25,10 @@ fn fill_stripes<R: Rack>(core: &mut Core<R>, end: u32) -> Result<bool, Two>
         (CoreTellsLosses R.told (named_out (meta_of core.old).out) core.old core.new) result }
     ensures same { result ≡ Ok true → meta_of core.new ≡ meta_of core.old }
     ensures gone { result ≡ Ok false → (meta_of core.new).out ≢ No }
-    ensures filled { result ≡ Ok true → (h : History) (lo : ℕ)
-        → Ran (R.told (core_rack core.old)) (R.told (core_rack core.new))
-        (CrashTriple (IsCoreHeldSinceCommit R.slot_count core.old h lo) (RestsInShift R.slot_count core.old h lo)
-        (Filled R.slot_count core.new h lo end)) }
+    ensures filled { result ≡ Ok true
+        → (h : History) (lo : ℕ) → Ran (R.told (core_rack core.old)) (R.told (core_rack core.new))
+        (CrashTriple (IsCoreHeldSinceCommit R.slot_count core.old h lo)
+        (RestsInShift R.slot_count core.old h lo) (Filled R.slot_count core.new h lo end)) }
 {
     let from = core.meta().fill;
     for s in from..end {
@@ -40,13 +40,15 @@ fn fill_stripes<R: Rack>(core: &mut Core<R>, end: u32) -> Result<bool, Two>
     Ok(true)
 }
 
-/// Copies the stripes from the fill mark to `end - 1`, makes them last and marks them; the marks are staged. False where
-/// a disk was lost: then none is marked.
+/// Copies the stripes from the fill mark to `end - 1`, makes them last and marks them; the marks
+/// are staged. False where a disk was lost: then none is marked.
 pub(crate) fn move_stripes<R: Rack>(core: &mut Core<R>, end: u32) -> Result<bool, Two>
     requires can { CanMoveUnits core.old }
     requires stripes { AreStripesToFill (meta_of core.old) end }
-    ensures marks { IfOk result (λ done. MarksStripes R.slot_count R.slot R.told core.old core.new end done) }
-    ensures rack { SparesRack core.old core.new (CoreLosesInSteps R.slot_count R.told core.old core.new 1) result }
+    ensures marks { IfOk result (λ done.
+        MarksStripes R.slot_count R.slot R.told core.old core.new end done) }
+    ensures rack { SparesRack core.old core.new
+        (CoreLosesInSteps R.slot_count R.told core.old core.new 1) result }
 {
     let done = fill_stripes(core, end)?;
     core.settle()?;

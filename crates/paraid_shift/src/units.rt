@@ -1,4 +1,5 @@
-//! The units of a shift that are left: dirty cells of the disks that come up, and stripes of the region of the new gear.
+//! The units of a shift that are left: dirty cells of the disks that come up, and stripes of the
+//! region of the new gear.
 ghost use Rattle.std.specs.Prelude.{◌≡◌, ℕ, ◌-◌, ◌<◌, ◌≤◌, true, false, List, IfNone, IfSome};
 ghost use Rattle.paraid_base.specs.Soft.{stripe_count};
 ghost use Rattle.paraid_base.specs.States.{phase_to, rising_to};
@@ -16,7 +17,8 @@ pub fn stripes_left<R: Rack>(core: &Core<R>) -> u32
     requires ready { IsCoreReady R.slot_count R.slot core.now }
     requires shifts { 0 < phase_to (meta_of core.now).phase }
     ensures left { result ≡ stripe_count (meta_of core.now).setup.geometry.disks
-        (meta_of core.now).setup.geometry.rows (phase_to (meta_of core.now).phase) - (meta_of core.now).fill }
+        (meta_of core.now).setup.geometry.rows (phase_to (meta_of core.now).phase)
+        - (meta_of core.now).fill }
     ensures within { (meta_of core.now).fill ≤ stripe_count (meta_of core.now).setup.geometry.disks
         (meta_of core.now).setup.geometry.rows (phase_to (meta_of core.now).phase) }
 {
@@ -27,9 +29,10 @@ pub fn stripes_left<R: Rack>(core: &Core<R>) -> u32
 /// The first dirty cell of the disks that come up.
 pub fn first_cell<R: Rack>(core: &Core<R>) -> Option<(Row, DiskNo)>
     requires ready { IsCoreReady R.slot_count R.slot core.now }
-    ensures none { IfNone result (IsClean (is_dirty (core_table core.now)) (meta_of core.now).gear (rising_to (meta_of core.now).phase)) }
-    ensures first { IfSome result (λ cell. IsFirstDirty (is_dirty (core_table core.now)) (meta_of core.now).gear
-        (rising_to (meta_of core.now).phase) cell.0 cell.1) }
+    ensures none { IfNone result (IsClean (is_dirty (core_table core.now))
+        (meta_of core.now).gear (rising_to (meta_of core.now).phase)) }
+    ensures first { IfSome result (λ cell. IsFirstDirty (is_dirty (core_table core.now))
+        (meta_of core.now).gear (rising_to (meta_of core.now).phase) cell.0 cell.1) }
     ensures row { IfSome result (λ cell. cell.0 < (meta_of core.now).setup.geometry.rows) }
 {
     let meta = core.meta();
@@ -44,10 +47,10 @@ pub fn first_cell<R: Rack>(core: &Core<R>) -> Option<(Row, DiskNo)>
 pub(crate) fn next_cell<R: Rack>(core: &Core<R>, r: Row, d: DiskNo) -> Option<(Row, DiskNo)>
     requires ready { IsCoreReady R.slot_count R.slot core.now }
     requires disk { d ≤ 8 }
-    ensures none { IfNone result (IsCleanFrom (is_dirty (core_table core.now)) r d (meta_of core.now).gear
-        (rising_to (meta_of core.now).phase)) }
-    ensures first { IfSome result (λ cell. IsFirstFrom (is_dirty (core_table core.now)) r d (meta_of core.now).gear
-        (rising_to (meta_of core.now).phase) cell.0 cell.1) }
+    ensures none { IfNone result (IsCleanFrom (is_dirty (core_table core.now)) r d
+        (meta_of core.now).gear (rising_to (meta_of core.now).phase)) }
+    ensures first { IfSome result (λ cell. IsFirstFrom (is_dirty (core_table core.now)) r d
+        (meta_of core.now).gear (rising_to (meta_of core.now).phase) cell.0 cell.1) }
     ensures row { IfSome result (λ cell. cell.0 < (meta_of core.now).setup.geometry.rows) }
     ensures disk { IfSome result (λ cell. cell.1 < 8) }
 {
@@ -62,8 +65,9 @@ pub(crate) fn next_cell<R: Rack>(core: &Core<R>, r: Row, d: DiskNo) -> Option<(R
 /// How many dirty cells there are of the disks that come up.
 pub fn cells_left<R: Rack>(core: &Core<R>) -> u32
     requires ready { IsCoreReady R.slot_count R.slot core.now }
-    ensures some { (meta_of core.now).gear < rising_to (meta_of core.now).phase → result ≡ dirty_count
-        (is_dirty (core_table core.now)) (meta_of core.now).setup.geometry.rows (meta_of core.now).gear (rising_to (meta_of core.now).phase) }
+    ensures some { (meta_of core.now).gear < rising_to (meta_of core.now).phase → result
+        ≡ dirty_count (is_dirty (core_table core.now)) (meta_of core.now).setup.geometry.rows
+        (meta_of core.now).gear (rising_to (meta_of core.now).phase) }
     ensures none { rising_to (meta_of core.now).phase ≤ (meta_of core.now).gear → result ≡ 0 }
 {
     let meta = core.meta();
@@ -78,10 +82,12 @@ pub fn cells_left<R: Rack>(core: &Core<R>) -> u32
 pub fn is_done<R: Rack>(core: &Core<R>) -> bool
     requires ready { IsCoreReady R.slot_count R.slot core.now }
     requires shifts { 0 < phase_to (meta_of core.now).phase }
-    ensures filled { result ≡ true → (meta_of core.now).fill ≡ stripe_count (meta_of core.now).setup.geometry.disks
+    ensures filled { result ≡ true
+        → (meta_of core.now).fill ≡ stripe_count (meta_of core.now).setup.geometry.disks
         (meta_of core.now).setup.geometry.rows (phase_to (meta_of core.now).phase) }
-    ensures clean { result ≡ true → (r d : ℕ) → r < (meta_of core.now).setup.geometry.rows
-        → (meta_of core.now).gear ≤ d → d < phase_to (meta_of core.now).phase → is_dirty (core_table core.now) r d ≡ false }
+    ensures clean { result ≡ true
+        → (r d : ℕ) → r < (meta_of core.now).setup.geometry.rows → (meta_of core.now).gear ≤ d
+        → d < phase_to (meta_of core.now).phase → is_dirty (core_table core.now) r d ≡ false }
     ensures done { result ≡ true → AreUnitsDone (meta_of core.now) (core_table core.now) }
     ensures units { (samples : List ℕ) (served energy : ℕ)
         → TellsDone (service_of R.slot_count core.now samples served energy) result }

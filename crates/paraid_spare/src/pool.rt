@@ -103,8 +103,8 @@ impl Pool {
         ensures left { left_of self.new ≡ left_of self.old }
         ensures wait { wait_of self.new ≡ wait_of self.old }
         ensures waits { (d : ℕ) → waits_of self.new d ≡ waits_of self.old d }
-        ensures spins { (d : ℕ) → d < 8 → spins_of self.new d
-            ≡ (if nat_le lo d && nat_lt d hi then saturating_next 64 (spins_of self.old d) else spins_of self.old d) }
+        ensures spins { (d : ℕ) → d < 8 → spins_of self.new d ≡ (if nat_le lo d && nat_lt d hi
+            then saturating_next 64 (spins_of self.old d) else spins_of self.old d) }
         ensures covers { (calls ups : List Call) → Covers self.old calls → AreUpsOf lo hi ups
             → Covers self.new (calls ++ ups) }
     {

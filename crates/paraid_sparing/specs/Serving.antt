@@ -17,8 +17,11 @@ pub record Keeps (pool : Pool) (wait : ℕ) (k : Stock) : Type 0 where
   pub waits : (d : ℕ) → waits_of pool d ≡ k.waits d
   pub spins : (d : ℕ) → d < 8 → spins_of pool d ≡ k.spins d
 
--- A line is answered by these calls. The array then stands at the point at which it ends, and the pool keeps the stock.
-pub record ServesLine (slots : ℕ) (setup : Setup) (wait : ℕ) (p : Point) (k : Stock) (event : Event) (text : List ℕ) (stands : Point → Type 0) (pool : Pool) (start : Disks) (calls : List Call) : Type 0 where
+-- A line is answered by these calls. The array then stands at the point at which it ends, and the
+-- pool keeps the stock.
+pub record ServesLine
+    (slots : ℕ) (setup : Setup) (wait : ℕ) (p : Point) (k : Stock) (event : Event) (text : List ℕ)
+    (stands : Point → Type 0) (pool : Pool) (start : Disks) (calls : List Call) : Type 0 where
   pub turns : List Turn
   pub end : Point
   pub stock : Stock

@@ -27,29 +27,35 @@ use Rattle.paraid_trace.specs.LineEvents.{event_of}
 abbrev pub fresh_stock : ℕ → Stock
 fresh_stock left = record { left = left; waits = λ d. 0; spins = λ d. 0 }
 
--- These events of a trace were answered with spares put in, and told by this text: a session went over them from point `p` on,
--- by the calls from one record to another.
-pub record Spared (span : Span) (wait : ℕ) (p : Point) (k : Stock) (events : List Event) (text : List ℕ) : Type 0 where
+-- These events of a trace were answered with spares put in, and told by this text: a session went
+-- over them from point `p` on, by the calls from one record to another.
+pub record Spared (span : Span)
+    (wait : ℕ) (p : Point) (k : Stock) (events : List Event) (text : List ℕ) : Type 0 where
   pub put_in : List Event
   pub all : Stretch span p put_in
   pub stock : Stock
   pub answers : AnswersTrace span.slots span.setup wait p k events all.turns text all.end stock
   -- while at most one disk is down no slot was spun up more often than its number
-  pub counts : AreBesideOne all.turns → (d : ℕ) → d < 8 → k.spins d ≡ 0 → min (slot_spin_ups (turn_calls all.turns) d) (2 ^ 64 - 1) ≤ stock.spins d
+  pub counts : AreBesideOne all.turns → (d : ℕ) → d < 8
+      → k.spins d ≡ 0 → min (slot_spin_ups (turn_calls all.turns) d) (2 ^ 64 - 1) ≤ stock.spins d
 
 -- the same, and a flush at last, which is answered so
-pub record EndsSpared (span : Span) (wait : ℕ) (p : Point) (k : Stock) (events : List Event) (text : List ℕ) (answer : Answer) : Type 0 where
+pub record EndsSpared (span : Span) (wait : ℕ)
+    (p : Point) (k : Stock) (events : List Event) (text : List ℕ) (answer : Answer) : Type 0 where
   pub middle : Option Trail
   pub lines : Spared (record span { now = middle }) wait p k events text
   pub all : Stretch span p (lines.put_in ++ Flush ∷ [])
   pub calls : List Call
   pub turns : all.turns ≡ lines.all.turns ++ turn_with Flush answer calls ∷ []
   -- with its calls too
-  pub counts : AreBesideOne all.turns → (d : ℕ) → d < 8 → k.spins d ≡ 0 → min (slot_spin_ups (turn_calls all.turns) d) (2 ^ 64 - 1) ≤ lines.stock.spins d
+  pub counts : AreBesideOne all.turns → (d : ℕ) → d < 8 → k.spins d ≡ 0
+      → min (slot_spin_ups (turn_calls all.turns) d) (2 ^ 64 - 1) ≤ lines.stock.spins d
 
--- From point `p` on the lines of these bytes were answered up to one, and no line after it. This text tells the lines before it so, and
--- a first part of what is told of it, which is not the whole.
-pub record CutsSpared (span : Span) (wait : ℕ) (p : Point) (k : Stock) (bytes text : List ℕ) : Type 0 where
+-- From point `p` on the lines of these bytes were answered up to one, and no line after it. This
+-- text tells the lines before it so, and a first part of what is told of it, which is not the
+-- whole.
+pub record CutsSpared
+    (span : Span) (wait : ℕ) (p : Point) (k : Stock) (bytes text : List ℕ) : Type 0 where
   pub before : List (List ℕ)
   pub line : List ℕ
   pub more : List (List ℕ)
@@ -62,29 +68,38 @@ pub record CutsSpared (span : Span) (wait : ℕ) (p : Point) (k : Stock) (bytes 
   pub j : Stock
   pub lines : AnswersTrace span.slots span.setup wait p k (events_in before) turns front mid j
   pub last_turns : List Turn
-  pub last : AnswersLine span.slots span.setup wait mid j (event_of line) last_turns told all.all.end all.stock
+  pub last : AnswersLine span.slots span.setup wait mid j
+      (event_of line) last_turns told all.all.end all.stock
   pub parts : all.all.turns ≡ turns ++ last_turns
   pub count : ℕ
   pub short : count < length told
   pub cut : text ≡ front ++ take count told
 
 -- which lines were answered, and what was written for them, by how the session ended
-abbrev pub AreLinesSpared : Span → ℕ → Point → Stock → Pool → Result ℕ Stop → List ℕ → List ℕ → Type 0
+abbrev pub AreLinesSpared : Span
+    → ℕ → Point → Stock → Pool → Result ℕ Stop → List ℕ → List ℕ → Type 0
 AreLinesSpared span wait p k pool (Ok writes) bytes text =
-    (e : EndsSpared span wait p k (events_in (lines_of bytes)) text (Flushed writes)) × Keeps pool wait e.lines.stock
+    (e : EndsSpared span wait p k (events_in (lines_of bytes)) text (Flushed writes))
+    × Keeps pool wait e.lines.stock
 AreLinesSpared span wait p k pool (Err (Halts halt)) bytes text =
-    (e : EndsSpared span wait p k (events_in (lines_of bytes)) text (Halted halt)) × Keeps pool wait e.lines.stock
-AreLinesSpared span wait p k pool (Err Source) bytes text = Spared span wait p k (events_in (whole_lines bytes)) text
-AreLinesSpared span wait p k pool (Err TooLong) bytes text = Spared span wait p k (events_in (whole_lines bytes)) text
+    (e : EndsSpared span wait p k (events_in (lines_of bytes)) text (Halted halt))
+    × Keeps pool wait e.lines.stock
+AreLinesSpared span wait p k pool (Err Source) bytes text =
+    Spared span wait p k (events_in (whole_lines bytes)) text
+AreLinesSpared span wait p k pool (Err TooLong) bytes text =
+    Spared span wait p k (events_in (whole_lines bytes)) text
 AreLinesSpared span wait p k pool (Err Sink) bytes text = CutsSpared span wait p k bytes text
 
--- A session took these bytes and wrote this text. What it answered is known where the record is told, from each point at
--- which the array stood.
-pub record ServesSpared (seen seen_now : Shown) (span : Span) (wait : ℕ) (k : Stock) (stood : Point → Type 0) (streams : Streams) (pool : Pool) (result : Result ℕ Stop) : Type 0 where
+-- A session took these bytes and wrote this text. What it answered is known where the record is
+-- told, from each point at which the array stood.
+pub record ServesSpared
+    (seen seen_now : Shown) (span : Span) (wait : ℕ) (k : Stock) (stood : Point → Type 0)
+    (streams : Streams) (pool : Pool) (result : Result ℕ Stop) : Type 0 where
   pub bytes : List ℕ
   pub text : List ℕ
   pub given : Gives streams.source.left_before streams.source.left bytes
   pub grows : GrowsByBytes streams.sink.written_before streams.sink.written text
   pub full : IsAllTaken result bytes streams.source.left
   pub causes : HaveSparedCauses wait seen k pool result bytes text seen_now
-  pub answered : IsSome span.now → (p : Point) → stood p → AreLinesSpared span wait p k pool result bytes text
+  pub answered : IsSome span.now
+      → (p : Point) → stood p → AreLinesSpared span wait p k pool result bytes text

@@ -16,8 +16,8 @@ use Rattle.paraid_spare.specs.Pools.{saturating_next}
 use Rattle.paraid_sparing.specs.Texts.{spares_line}
 use Rattle.paraid_trace.specs.Replies.{reply_of}
 
--- What is kept of the spares: how many are left, how many ticks each disk has waited, and how often each slot was
--- spun up. The counts stay at the end of their type.
+-- What is kept of the spares: how many are left, how many ticks each disk has waited, and how often
+-- each slot was spun up. The counts stay at the end of their type.
 pub record Stock : Type 0 where
   pub left : ℕ
   pub waits : ℕ → ℕ
@@ -38,7 +38,8 @@ abbrev pub unless_halted : Option Halt → Option ℕ → Option ℕ
 unless_halted None due = due
 unless_halted (Some halt) due = None
 
--- The disk for which a spare is put in before an event, with this halt and this disk out: before a tick, where there is no halt.
+-- The disk for which a spare is put in before an event, with this halt and this disk out: before a
+-- tick, where there is no halt.
 abbrev pub due_when : ℕ → Stock → Option Halt → Out → Event → Option ℕ
 due_when wait k halt out Tick = unless_halted halt (due_of wait k (gone_out out))
 due_when wait k halt out event = None
@@ -66,7 +67,8 @@ spun_by answer = None
 -- value
 abbrev pub spins_after : Option (ℕ × ℕ) → (ℕ → ℕ) → ℕ → ℕ
 spins_after None spins d = spins d
-spins_after (Some range) spins d = if nat_le range.0 d && nat_lt d range.1 then saturating_next 64 (spins d) else spins d
+spins_after (Some range) spins d =
+    if nat_le range.0 d && nat_lt d range.1 then saturating_next 64 (spins d) else spins d
 
 -- whether a tick waits for a disk
 abbrev pub is_wait : TickEvent → Bool
@@ -99,25 +101,33 @@ stock_when k answer halt out = record {
 
 -- the line of a spare that was put in, after which so many are left; a halt is told as ever
 abbrev pub spare_line : Answer → ℕ → List ℕ
-spare_line (Replaced d) left = codes "spare " ++ decimal d ++ codes " left " ++ decimal left ++ codes "\n"
-spare_line (NoFresh d) left = codes "sparefailed " ++ decimal d ++ codes " left " ++ decimal left ++ codes "\n"
+spare_line (Replaced d) left =
+    codes "spare " ++ decimal d ++ codes " left " ++ decimal left ++ codes "\n"
+spare_line (NoFresh d) left =
+    codes "sparefailed " ++ decimal d ++ codes " left " ++ decimal left ++ codes "\n"
 spare_line answer left = reply_of answer
 
--- An event of a trace is answered by these turns of a session and told by this text: by itself where no spare is due
--- before it, and else after the spare.
-pub data AnswersLine (slots : ℕ) (setup : Setup) (wait : ℕ) (p : Point) (k : Stock) (event : Event) : List Turn → List ℕ → Point → Stock → Type 0 where
-  alone : (t : Turn) (q : Point) → due_when wait k p.halt p.state.out event ≡ None → t.event ≡ event → IsTurn slots setup p t.event t.answer t.calls q
-      → AnswersLine slots setup wait p k event (t ∷ []) (reply_of t.answer) q (stock_when k t.answer q.halt q.state.out)
+-- An event of a trace is answered by these turns of a session and told by this text: by itself
+-- where no spare is due before it, and else after the spare.
+pub data AnswersLine (slots : ℕ) (setup : Setup) (wait : ℕ)
+    (p : Point) (k : Stock) (event : Event) : List Turn → List ℕ → Point → Stock → Type 0 where
+  alone : (t : Turn) (q : Point) → due_when wait k p.halt p.state.out event ≡ None → t.event ≡ event
+      → IsTurn slots setup p t.event t.answer t.calls q → AnswersLine slots setup wait p k event
+      (t ∷ []) (reply_of t.answer) q (stock_when k t.answer q.halt q.state.out)
   spared : (d : ℕ) (s t : Turn) (mid q : Point) → due_when wait k p.halt p.state.out event ≡ Some d
       → s.event ≡ Replace d → IsTurn slots setup p s.event s.answer s.calls mid
       → t.event ≡ event → IsTurn slots setup mid t.event t.answer t.calls q
-      → AnswersLine slots setup wait p k event (s ∷ t ∷ []) (spare_line s.answer (k.left - 1) ++ reply_of t.answer) q (stock_when (used k) t.answer q.halt q.state.out)
+      → AnswersLine slots setup wait p k event (s ∷ t ∷ []) (spare_line s.answer (k.left - 1)
+      ++ reply_of t.answer) q (stock_when (used k) t.answer q.halt q.state.out)
 
 -- The events of a trace, one after the other.
-pub data AnswersTrace (slots : ℕ) (setup : Setup) (wait : ℕ) (p : Point) (k : Stock) : List Event → List Turn → List ℕ → Point → Stock → Type 0 where
+pub data AnswersTrace (slots : ℕ) (setup : Setup) (wait : ℕ) (p : Point) (k : Stock) : List Event
+    → List Turn → List ℕ → Point → Stock → Type 0 where
   none : AnswersTrace slots setup wait p k [] [] [] p k
-  more : (events : List Event) (turns : List Turn) (text : List ℕ) (mid : Point) (j : Stock) → AnswersTrace slots setup wait p k events turns text mid j
-      → (event : Event) (ts : List Turn) (line : List ℕ) (q : Point) (i : Stock) → AnswersLine slots setup wait mid j event ts line q i
+  more : (events : List Event) (turns : List Turn) (text : List ℕ) (mid : Point) (j : Stock)
+      → AnswersTrace slots setup wait p k events turns text mid j
+      → (event : Event) (ts : List Turn) (line : List ℕ) (q : Point) (i : Stock)
+      → AnswersLine slots setup wait mid j event ts line q i
       → AnswersTrace slots setup wait p k (events ++ event ∷ []) (turns ++ ts) (text ++ line) q i
 
 -- the line that tells the spares left and the spin-ups of each slot

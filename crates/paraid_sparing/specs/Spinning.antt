@@ -14,7 +14,8 @@ abbrev pub spun_count : Option (ℕ × ℕ) → ℕ → ℕ
 spun_count None d = 0
 spun_count (Some range) d = is_among range.0 range.1 d
 
--- how often an event that is answered so may spin up disk `d`: once where it begins a shift up that brings it
+-- how often an event that is answered so may spin up disk `d`: once where it begins a shift up that
+-- brings it
 abbrev pub may_spin : Event → Answer → ℕ → ℕ
 may_spin (Replace e) answer d = 0
 may_spin event answer d = spun_count (spun_by answer) d
@@ -22,7 +23,8 @@ may_spin event answer d = spun_count (spun_by answer) d
 -- the calls of each turn spin up no disk more often
 abbrev pub AreSpunByAnswers : List Turn → Type 0
 AreSpunByAnswers [] = Unit {0}
-AreSpunByAnswers (t ∷ turns) = ((d : ℕ) → slot_spin_ups t.calls d ≤ may_spin t.event t.answer d) × AreSpunByAnswers turns
+AreSpunByAnswers (t ∷ turns) =
+    ((d : ℕ) → slot_spin_ups t.calls d ≤ may_spin t.event t.answer d) × AreSpunByAnswers turns
 
 -- a second disk is lost
 abbrev pub is_second_loss : Answer → Bool

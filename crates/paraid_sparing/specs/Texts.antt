@@ -9,4 +9,5 @@ slot_words spins (suc d) = slot_words spins d ++ (codes " " ++ decimal (spins d)
 
 -- the line of the spares that are left, and of the spin-ups by slot
 abbrev pub spares_line : ℕ → (ℕ → ℕ) → ℕ → List ℕ
-spares_line left spins disks = codes "spares " ++ decimal left ++ codes " slots" ++ slot_words spins disks ++ codes "\n"
+spares_line left spins disks =
+    codes "spares " ++ decimal left ++ codes " slots" ++ slot_words spins disks ++ codes "\n"

@@ -9,10 +9,12 @@ ghost use Rattle.paraid_sparing.specs.Session.{fresh_stock};
 ghost use Rattle.paraid_sparing.specs.Sparing.{AnswersTrace, Stock};
 ghost use Rattle.paraid_sparing.specs.Spinning.{AreBesideOne};
 
-/// While at most one disk is down no slot was spun up more often than the number that is told of it.
+/// While at most one disk is down no slot was spun up more often than the number that is told of
+/// it.
 pub fn slots_count_their_spin_ups()
-    ensures { (slots wait left : ℕ) (setup : Setup) (p q : Point) (events : List EventType) (turns : List Turn)
-        (text : List ℕ) (stock : Stock) → AnswersTrace slots setup wait p (fresh_stock left) events turns text q stock
-        → AreBesideOne turns → (d : ℕ) → d < 8
-        → min (slot_spin_ups (turn_calls turns) d) (2 ^ 64 - 1) ≤ stock.spins d }
+    ensures { (slots wait left : ℕ) (setup : Setup)
+        (p q : Point) (events : List EventType) (turns : List Turn) (text : List ℕ) (stock : Stock)
+        → AnswersTrace slots setup wait p (fresh_stock left) events turns text q stock
+        → AreBesideOne turns
+        → (d : ℕ) → d < 8 → min (slot_spin_ups (turn_calls turns) d) (2 ^ 64 - 1) ≤ stock.spins d }
 {}

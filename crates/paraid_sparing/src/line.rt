@@ -41,7 +41,8 @@ fn put_in<A: Serves>(
     ensures slots { A.slots array.new ≡ A.slots array.old }
     ensures setup { A.setup array.new ≡ A.setup array.old }
     ensures halt { halt.new ≡ A.halted array.new }
-    ensures since { (start : ℕ → Slot) → HasServedSince start (A.slot array.old) (A.halted array.old)
+    ensures since { (start : ℕ → Slot)
+        → HasServedSince start (A.slot array.old) (A.halted array.old)
         → HasServedSince start (A.slot array.new) (A.halted array.new) }
     ensures keeps { (wait : ℕ) (k : Stock) → Keeps pool.old wait k → Keeps pool.new wait (used k) }
     ensures line { line.new ≡ spare_line (answer_with result beside.new) (left_of pool.old - 1) }
@@ -81,9 +82,11 @@ fn answer_alone<A: Serves>(
     ensures slots { A.slots array.new ≡ A.slots array.old }
     ensures setup { A.setup array.new ≡ A.setup array.old }
     ensures halt { halt.new ≡ A.halted array.new }
-    ensures since { (start : ℕ → Slot) → HasServedSince start (A.slot array.old) (A.halted array.old)
+    ensures since { (start : ℕ → Slot)
+        → HasServedSince start (A.slot array.old) (A.halted array.old)
         → HasServedSince start (A.slot array.new) (A.halted array.new) }
-    ensures keeps { (q : Point) (wait : ℕ) (k : Stock) → A.stands array.new q → Keeps pool.old wait k
+    ensures keeps { (q : Point) (wait : ℕ) (k : Stock)
+        → A.stands array.new q → Keeps pool.old wait k
         → Keeps pool.new wait (stock_when k (answer_with result beside.new) q.halt q.state.out) }
     ensures text { text.new ≡ reply_of (answer_with result beside.new) }
     ensures cause { HasCause (A.shown array.old) (event_with asked pairs.now)
@@ -98,7 +101,8 @@ fn answer_alone<A: Serves>(
     answered
 }
 
-/// Answers what a line asks for, after the spare that is due before it. `line` tells the spare, and `text` the answer.
+/// Answers what a line asks for, after the spare that is due before it. `line` tells the spare, and
+/// `text` the answer.
 pub fn answer_line<A: Serves>(
     array: &mut A,
     halt: &mut Option<Halt>,
@@ -110,17 +114,20 @@ pub fn answer_line<A: Serves>(
     text: &mut Text,
 )
     requires halt { halt.old ≡ A.halted array.old }
-    ensures serves { (p : Point) (wait : ℕ) (k : Stock) → A.stands array.old p → Keeps pool.old wait k
-        → Ran (A.told array.old) (A.told array.new) (ServesLine (A.slots array.old) (A.setup array.old)
-        wait p k (event_with asked pairs.now) (line.new ++ text.new) (A.stands array.new) pool.new) }
+    ensures serves { (p : Point) (wait : ℕ) (k : Stock)
+        → A.stands array.old p → Keeps pool.old wait k → Ran (A.told array.old)
+        (A.told array.new) (ServesLine (A.slots array.old) (A.setup array.old) wait p k
+        (event_with asked pairs.now) (line.new ++ text.new) (A.stands array.new) pool.new) }
     // Over every rack a spare is put in exactly where one is due, and each answer has its cause.
-    ensures causes { (wait : ℕ) (k : Stock) → Keeps pool.old wait k → CausesLine wait (A.shown array.old) k
+    ensures causes { (wait : ℕ) (k : Stock)
+        → Keeps pool.old wait k → CausesLine wait (A.shown array.old) k
         (event_with asked pairs.now) (line.new ++ text.new) (A.shown array.new) pool.new }
     ensures told { Extends (A.told array.old) (A.told array.new) }
     ensures slots { A.slots array.new ≡ A.slots array.old }
     ensures setup { A.setup array.new ≡ A.setup array.old }
     ensures halt { halt.new ≡ A.halted array.new }
-    ensures since { (start : ℕ → Slot) → HasServedSince start (A.slot array.old) (A.halted array.old)
+    ensures since { (start : ℕ → Slot)
+        → HasServedSince start (A.slot array.old) (A.halted array.old)
         → HasServedSince start (A.slot array.new) (A.halted array.new) }
 {
     match due(array, *halt, pool, asked) {

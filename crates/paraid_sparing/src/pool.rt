@@ -36,10 +36,12 @@ pub(crate) fn due<A: Serves>(
     asked: Asked,
 ) -> Option<DiskNo>
     requires halt { halt ≡ A.halted array.now }
-    ensures due { (p : Point) (wait : ℕ) (k : Stock) (pairs : PairsType) → A.stands array.now p
-        → Keeps pool.now wait k → result ≡ due_when wait k p.halt p.state.out (event_with asked pairs) }
-    ensures shown { (wait : ℕ) (k : Stock) (pairs : PairsType) → Keeps pool.now wait k → result
-        ≡ due_when wait k (A.halted array.now) (A.shown array.now).meta.out (event_with asked pairs) }
+    ensures due { (p : Point) (wait : ℕ) (k : Stock) (pairs : PairsType)
+        → A.stands array.now p → Keeps pool.now wait k
+        → result ≡ due_when wait k p.halt p.state.out (event_with asked pairs) }
+    ensures shown { (wait : ℕ) (k : Stock) (pairs : PairsType)
+        → Keeps pool.now wait k → result ≡ due_when wait k
+        (A.halted array.now) (A.shown array.now).meta.out (event_with asked pairs) }
     ensures left { IfSome result (λ d. 0 < left_of pool.now) }
 {
     let Asked::Tick = asked else {
@@ -144,8 +146,9 @@ fn count_wait<A: Serves>(array: &A, halt: Option<Halt>, pool: &mut Pool, answere
     ensures left { left_of pool.new ≡ left_of pool.old }
     ensures wait { wait_of pool.new ≡ wait_of pool.old }
     ensures spins { (d : ℕ) → spins_of pool.new d ≡ spins_of pool.old d }
-    ensures waits { (p : Point) (beside : BesideType) → A.stands array.now p → (d : ℕ) → waits_of pool.new d
-        ≡ waits_then p.halt (gone_out p.state.out) (is_waiting (answer_with answered.now beside)) (waits_of pool.old) d }
+    ensures waits { (p : Point) (beside : BesideType) → A.stands array.now p
+        → (d : ℕ) → waits_of pool.new d ≡ waits_then p.halt (gone_out p.state.out)
+        (is_waiting (answer_with answered.now beside)) (waits_of pool.old) d }
     ensures shown { (beside : BesideType) (d : ℕ) → waits_of pool.new d
         ≡ waits_then (A.halted array.now) (gone_out (A.shown array.now).meta.out)
         (is_waiting (answer_with answered.now beside)) (waits_of pool.old) d }

@@ -37,8 +37,8 @@ fn tell<K: Sink>(sink: &mut K, line: &[u8], text: &[u8]) -> Result<(), Failed>
     }
 }
 
-/// Answers each line, with a spare put in before a tick where one is due, and flushes at the end. It gives the number of
-/// writes.
+/// Answers each line, with a spare put in before a tick where one is due, and flushes at the end.
+/// It gives the number of writes.
 pub fn session<S: Source, K: Sink, A: Serves>(
     source: &mut S,
     sink: &mut K,

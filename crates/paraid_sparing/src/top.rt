@@ -41,8 +41,8 @@ fn tell_end<K: Sink>(sink: &mut K, pool: &Pool, disks: u8, line: &[u8], status: 
     last(sink, line, status)
 }
 
-/// Serves the trace with a mounted array and so many spares, of which one is put in after so many ticks. It gives the
-/// status.
+/// Serves the trace with a mounted array and so many spares, of which one is put in after so many
+/// ticks. It gives the status.
 pub fn serve<S: Source, K: Sink, A: Serves>(
     source: &mut S,
     sink: &mut K,

@@ -16,7 +16,8 @@ use Rattle.paraid_trace.specs.Repeats.{repeating_block}
 -- the number below 2^32 that is printed as these digits
 unfoldable pub number_of : List ℕ → Option ℕ
 number_of digits =
-    if nat_lt (digits_value 10 digits) (2 ^ 32) && bytes_eq digits (decimal (digits_value 10 digits))
+    if nat_lt (digits_value 10 digits)
+    (2 ^ 32) && bytes_eq digits (decimal (digits_value 10 digits))
     then Some (digits_value 10 digits) else None
 
 -- a block from digits that are hexadecimal
@@ -95,7 +96,8 @@ rest_at others text end = if nat_lt end (length text) then others (drop (end + 1
 
 -- the groups of a text as an entry, from its first group on
 abbrev pub entry_from : (List ℕ → Option Entry) → List ℕ → Option Group → Option Entry
-entry_from others text (Some group) = onto (group.block, group.bytes) (rest_at others text group.end)
+entry_from others text (Some group) =
+    onto (group.block, group.bytes) (rest_at others text group.end)
 entry_from others text None = None
 
 -- the pairs of a text of one to `room` groups
@@ -110,7 +112,8 @@ write_of None = Bad
 
 -- a line that begins with `replace`
 abbrev pub replace_event : List ℕ → List ℕ → Event
-replace_event word rest = if bytes_eq word (codes "replace") then replace_of (number_of rest) else Bad
+replace_event word rest =
+    if bytes_eq word (codes "replace") then replace_of (number_of rest) else Bad
 
 -- the event of a first word and what follows its space
 abbrev pub named_event : List ℕ → List ℕ → Event

@@ -5,7 +5,8 @@ use Rattle.paraid_base.specs.declared.block.Block.{Block}
 
 -- the block is the repetition of the list, cut at 512 bytes
 pub record Repeats (pattern : List ℕ) (block : Block) : Type 0 where
-  pub each : (k : ℕ) → k < 512 → slice_index block.bytes k ≡ slice_index pattern (k % length pattern)
+  pub each : (k : ℕ)
+      → k < 512 → slice_index block.bytes k ≡ slice_index pattern (k % length pattern)
 
 -- the list `f 0`, .., `f (n - 1)`
 abbrev pub list_upto : (ℕ → ℕ) → ℕ → List ℕ
@@ -22,7 +23,8 @@ length-listed f zero = refl
 length-listed f (suc n) = ap suc (length-listed (λ k. f (suc k)) n)
 
 -- a list of bytes has bytes (a fact)
-pub list_upto_small : (f : ℕ → ℕ) → ((k : ℕ) → f k < 256) → (n k : ℕ) → slice_index (list_upto f n) k < 256
+pub list_upto_small : (f : ℕ → ℕ)
+    → ((k : ℕ) → f k < 256) → (n k : ℕ) → slice_index (list_upto f n) k < 256
 list_upto_small f h zero k = omega arith
 list_upto_small f h (suc n) zero = h 0
 list_upto_small f h (suc n) (suc k) = list_upto_small (λ i. f (suc i)) (λ i. h (suc i)) n k

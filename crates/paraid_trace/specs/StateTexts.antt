@@ -28,4 +28,5 @@ abbrev pub state_text : Status → ℕ → List ℕ
 state_text status disks =
     codes "state " ++ decimal status.gear ++ codes " " ++ phase_text status.phase
     ++ codes " dirty " ++ decimal status.dirty ++ codes " fill " ++ decimal status.fill
-    ++ codes " out " ++ out_text status.out ++ codes " spins" ++ numbers_text (take disks status.spins)
+    ++ codes " out "
+    ++ out_text status.out ++ codes " spins" ++ numbers_text (take disks status.spins)

@@ -20,8 +20,8 @@ use paraid_base::{Block, BlockNo, Event, Pairs};
 /// The most bytes of a line that asks for something.
 const MAX_LINE: usize = 1100;
 
-/// What a line of the trace asks for, and `Bad` where it asks for nothing. The line comes without its
-/// newline. A line of more than 1,100 bytes asks for nothing.
+/// What a line of the trace asks for, and `Bad` where it asks for nothing. The line comes without
+/// its newline. A line of more than 1,100 bytes asks for nothing.
 ///
 /// The pairs of a write are kept in `pairs`; where the line asks for no write they may be any.
 pub fn read_line(line: &[u8], pairs: &mut Pairs) -> Asked

@@ -9,7 +9,8 @@ use Rattle.paraid_image.specs.Sides.{Batch}
 abbrev pub with_target : Batch → Target → Block → Batch
 with_target [] t b = (t, b) ∷ []
 with_target (w ∷ batch) t b =
-    if w.0.disk == t.disk && w.0.place == t.place then (w.0, b) ∷ batch else w ∷ with_target batch t b
+    if w.0.disk == t.disk && w.0.place == t.place
+    then (w.0, b) ∷ batch else w ∷ with_target batch t b
 
 -- the blocks of a batch, in the order of its targets
 abbrev pub batch_blocks : Batch → List Block

@@ -6,8 +6,8 @@ use Rattle.paraid_rack.specs.Disks.{Disks}
 use Rattle.paraid_rack.specs.Trail.{Trail, now}
 use Rattle.paraid_image.specs.Sides.{is_open}
 
--- The witness against this disk, if it is a log disk, is borne: it is open where disk 2 is there, and
--- no stop takes it back.
+-- The witness against this disk, if it is a log disk, is borne: it is open where disk 2 is there,
+-- and no stop takes it back.
 abbrev pub IsWitnessBorne : Option ℕ → Disks → Type 0
 IsWitnessBorne against s = (x : ℕ) → x < 2 → against ≡ Some x → IsSure s 2 x (λ b. is_open b ≡ true)
 

@@ -32,12 +32,13 @@ pub record ImageStandsFor (start i : Disks) (m : Meta) (batch : Batch) : Type 0 
   pub log : LogOk i disk said m.writes
   pub meta : said.meta ≡ m
   pub kept : KeepsSlots start i
-  pub blocks : (d p : ℕ) → gone_out m.out ≢ Some d → has_place i d p ≡ true → map_start m.setup.geometry ≤ p
-      → contents i said.batch d p ≡ contents start batch d p
+  pub blocks : (d p : ℕ) → gone_out m.out ≢ Some d → has_place i d p ≡ true
+      → map_start m.setup.geometry ≤ p → contents i said.batch d p ≡ contents start batch d p
 
 -- for what `start` held, or for that with batch and meta laid over
 abbrev pub ImageStandsForEither : Disks → Meta → Meta → Batch → Disks → Type 0
-ImageStandsForEither start before after batch i = ImageStandsFor start i before [] ⊎ ImageStandsFor start i after batch
+ImageStandsForEither start before after batch i =
+    ImageStandsFor start i before [] ⊎ ImageStandsFor start i after batch
 
 -- disk `d` is absent, or one of the two metas names it out
 abbrev pub IsEitherMissing : (ℕ → Power) → Meta → Meta → ℕ → Type 0
@@ -64,7 +65,8 @@ KeepsWitnesses start before i = AreWitnessesTrue start (out_disk start.power bef
 -- So each image of `s` stands for what `start` held or for that with batch and meta laid over; its
 -- weak disk is absent or named out by one of the two metas, and its witnesses are true if those of
 -- `start` were.
-pub record IsOldOrNew (start : Disks) (before after : Meta) (batch : Batch) (s : Disks) : Type 0 where
+pub record IsOldOrNew
+    (start : Disks) (before after : Meta) (batch : Batch) (s : Disks) : Type 0 where
   pub images : IsEachImage before after (ImageStandsForEither start before after batch) s
   pub weak : (i : Disks) (w : ℕ) → IsImage s i → IsOneMissing i.power before after → IsWeak i w
       → IsEitherMissing i.power before after w
@@ -91,7 +93,8 @@ IsWholeOrAbsent old new before after batch = Ran old new (λ start calls.
 -- The witness is borne at the end against this disk, if it is a log disk, and if disk 2 could be
 -- written or was absent.
 abbrev pub LeavesBorne : Disks → Disks → Option ℕ → Type 0
-LeavesBorne start end against = (is_present (start.power 2) ≡ true → (start.power 2 ≡ Spinning) × (1 < start.size 2))
+LeavesBorne start end against =
+    (is_present (start.power 2) ≡ true → (start.power 2 ≡ Spinning) × (1 < start.size 2))
     → IsWitnessBorne against end
 
 -- What a commit that ends leaves: only the new contents, nothing loose, the gates closed; and where
@@ -106,8 +109,8 @@ pub record IsCommitted (start end : Disks) (before after : Meta) (batch : Batch)
   pub witnesses : IsEachImage before after (KeepsWitnesses start before) end
   pub borne : LeavesBorne start end (named_out after.out)
 
--- If these calls began at a rest under the meta before, which this meta can follow, the disks are at
--- their end as a commit that ends leaves them.
+-- If these calls began at a rest under the meta before, which this meta can follow, the disks are
+-- at their end as a commit that ends leaves them.
 abbrev pub EndsCommitted : Option Trail → Option Trail → Meta → Meta → Batch → Type 0
 EndsCommitted old new before after batch = Ran old new (λ start calls.
     IsAtRest start before → IsNext start before after

@@ -106,7 +106,8 @@ pub record KeepsSlotsAndLogs (j : Job) (s : Disks) : Type 0 where
 
 -- the log of a log disk that is left alone is as it was
 pub record IsAside (j : Job) (s : Disks) : Type 0 where
-  pub log : (y p : ℕ) → y < 2 → job_named j ≡ Some y → p < job_map_start j → IsSure s y p (IsBlock (j.start.block y p))
+  pub log : (y p : ℕ) → y < 2
+      → job_named j ≡ Some y → p < job_map_start j → IsSure s y p (IsBlock (j.start.block y p))
 
 -- what holds at every moment of a commit, whatever the step
 pub record HoldsThroughout (j : Job) (s : Disks) : Type 0 where
@@ -149,7 +150,8 @@ ContentsAreOld j s = (d p : ℕ) → job_map_start j ≤ p → IsSure s d p (IsB
 
 -- past the log the batch is laid
 abbrev pub ContentsAreNew : Job → Disks → Type 0
-ContentsAreNew j s = (d p : ℕ) → GetsTargets j d → job_map_start j ≤ p → IsSure s d p (IsBlock (block_with_batch j d p))
+ContentsAreNew j s = (d p : ℕ)
+    → GetsTargets j d → job_map_start j ≤ p → IsSure s d p (IsBlock (block_with_batch j d p))
 
 -- Step 1: the gates are closed, and the log disks below `k` are logged.
 pub record LogCore (j : Job) (k : ℕ) (s : Disks) : Type 0 where
@@ -176,7 +178,8 @@ pub record LogIn (j : Job) (k n : ℕ) (s : Disks) : Type 0 where
   pub synced : SyncedBut (job_named j) k s
   pub meta : job_named j ≢ Some k → IsSeen s k 2 (IsBlock j.spelled)
   pub list : job_named j ≢ Some k → IsSeen s k (list_place 0) (IsBlock j.list)
-  pub blocks : (m : ℕ) → m < n → job_named j ≢ Some k → IsSeen s k (body_place m) (IsBlock (target_block j m))
+  pub blocks : (m : ℕ)
+      → m < n → job_named j ≢ Some k → IsSeen s k (body_place m) (IsBlock (target_block j m))
 
 -- Step 2: all live log disks are logged, and the gates of the first `k` are open; those after the
 -- next one are closed.
@@ -204,18 +207,22 @@ pub record LayCore (j : Job) (s : Disks) : Type 0 where
   pub beside : HoldsThroughout j s
   pub logged : (x : ℕ) → IsLiveLog j x → IsBatchLogged j s x
   pub opened : (x : ℕ) → IsLiveLog j x → IsGateOpen s x
-  pub others : (d p : ℕ) → job_map_start j ≤ p → (names_place j.batch d p ≡ true) ⊎ IsSure s d p (IsBlock (block_before j d p))
-  pub synced : (d p : ℕ) → ((names_place j.batch d p ≡ true) × GetsTargets j d) ⊎ IsSyncedPlace s d p
+  pub others : (d p : ℕ) → job_map_start j ≤ p
+      → (names_place j.batch d p ≡ true) ⊎ IsSure s d p (IsBlock (block_before j d p))
+  pub synced : (d p : ℕ)
+      → ((names_place j.batch d p ≡ true) × GetsTargets j d) ⊎ IsSyncedPlace s d p
 
 -- Step 3: the first `n` targets are written, and not synced.
 pub record LayIn (j : Job) (n : ℕ) (s : Disks) : Type 0 where
   pub core : LayCore j s
-  pub held : (d p : ℕ) → GetsTargets j d → job_map_start j ≤ p → IsSeen s d p (IsBlock (overlaid_block (take n j.batch) d p (block_before j d p)))
+  pub held : (d p : ℕ) → GetsTargets j d → job_map_start j ≤ p
+      → IsSeen s d p (IsBlock (overlaid_block (take n j.batch) d p (block_before j d p)))
 
 -- Step 3: all targets are written, and the disks below `n` are synced.
 pub record SyncIn (j : Job) (n : ℕ) (s : Disks) : Type 0 where
   pub core : LayCore j s
-  pub held : (d p : ℕ) → GetsTargets j d → job_map_start j ≤ p → IsSeen s d p (IsBlock (block_with_batch j d p))
+  pub held : (d p : ℕ)
+      → GetsTargets j d → job_map_start j ≤ p → IsSeen s d p (IsBlock (block_with_batch j d p))
   pub synced : (d p : ℕ) → d < n → IsSyncedPlace s d p
 
 -- Step 4: the batch is laid, and the meta stands at place 1 of the log disks below `k`.
@@ -250,7 +257,8 @@ pub record CloseStage (j : Job) (k : ℕ) (s : Disks) : Type 0 where
   pub core : CloseCore j k s
   pub synced : AllSynced s
 
--- Step 5: the gates of the log disks below `k` are closed, and that of disk `k` is written closed, not synced.
+-- Step 5: the gates of the log disks below `k` are closed, and that of disk `k` is written closed,
+-- not synced.
 pub record CloseIn (j : Job) (k : ℕ) (s : Disks) : Type 0 where
   pub core : CloseCore j k s
   pub synced : SyncedBut (job_named j) k s
@@ -260,55 +268,58 @@ pub record CloseIn (j : Job) (k : ℕ) (s : Disks) : Type 0 where
 -- open with the batch; and where the first one is closed, so is the other.
 pub record IsEarlyImage (j : Job) (i : Disks) : Type 0 where
   pub kept : KeepsSlotsAndLogs j i
-  pub sides : (x : ℕ) → IsLiveLog j x → IsPresent i x
-      → ((is_open (i.block x 0) ≡ false) × (i.block x 1 ≡ j.start.block x 1)) ⊎ Says i x (open_with j)
+  pub sides : (x : ℕ) → IsLiveLog j x
+      → IsPresent i x → ((is_open (i.block x 0) ≡ false) × (i.block x 1 ≡ j.start.block x 1))
+      ⊎ Says i x (open_with j)
   pub in_order : IsLiveLog j j.first → IsPresent i j.first → is_open (i.block j.first 0) ≡ false
       → (y : ℕ) → IsLiveLog j y → IsPresent i y → is_open (i.block y 0) ≡ false
   pub held : (d p : ℕ) → IsPresent i d → job_map_start j ≤ p → i.block d p ≡ block_before j d p
 
--- What a stop may leave from the first write of a target on: each live log disk is open with the batch,
--- or closed over the new meta with the batch laid.
+-- What a stop may leave from the first write of a target on: each live log disk is open with the
+-- batch, or closed over the new meta with the batch laid.
 pub record IsLateImage (j : Job) (i : Disks) : Type 0 where
   pub kept : KeepsSlotsAndLogs j i
   pub sides : (x : ℕ) → IsLiveLog j x → IsPresent i x
       → Says i x (open_with j) ⊎ Says i x (closed_over j.meta)
   pub held : (d p : ℕ) → GetsTargets j d → IsPresent i d → job_map_start j ≤ p
       → overlaid_block j.batch d p (i.block d p) ≡ block_with_batch j d p
-  pub done : (x d p : ℕ) → IsLiveLog j x → IsPresent i x → Says i x (closed_over j.meta) → GetsTargets j d
-      → IsPresent i d → job_map_start j ≤ p → i.block d p ≡ block_with_batch j d p
+  pub done : (x d p : ℕ) → IsLiveLog j x → IsPresent i x → Says i x (closed_over j.meta)
+      → GetsTargets j d → IsPresent i d → job_map_start j ≤ p → i.block d p ≡ block_with_batch j d p
 
 -- what holds at every moment before the targets are touched, of all that a stop may leave there
 pub record HoldsEarly (j : Job) (s : Disks) : Type 0 where
   pub early : (i : Disks) → IsLeftByStop s i → IsEarlyImage j i
-  pub aside : (i : Disks) → IsLeftByStop s i → (y p : ℕ) → y < 2 → job_named j ≡ Some y → p < job_map_start j → IsPresent i y
-      → i.block y p ≡ j.start.block y p
+  pub aside : (i : Disks) → IsLeftByStop s i → (y p : ℕ) → y < 2
+      → job_named j ≡ Some y → p < job_map_start j → IsPresent i y → i.block y p ≡ j.start.block y p
 
--- what holds at every moment from the first write of a target on, of all that a stop may leave there
+-- what holds at every moment from the first write of a target on, of all that a stop may leave
+-- there
 pub record HoldsLate (j : Job) (s : Disks) : Type 0 where
   pub late : (i : Disks) → IsLeftByStop s i → IsLateImage j i
-  pub aside : (i : Disks) → IsLeftByStop s i → (y p : ℕ) → y < 2 → job_named j ≡ Some y → p < job_map_start j → IsPresent i y
-      → i.block y p ≡ j.start.block y p
+  pub aside : (i : Disks) → IsLeftByStop s i → (y p : ℕ) → y < 2
+      → job_named j ≡ Some y → p < job_map_start j → IsPresent i y → i.block y p ≡ j.start.block y p
 
 -- what holds at every moment of a commit, of all that a stop may leave there, with any slots lost
 pub record HoldsWhole (j : Job) (s : Disks) : Type 0 where
-  pub either : ((i : Disks) → IsLeftByStop s i → IsEarlyImage j i) ⊎ ((i : Disks) → IsLeftByStop s i → IsLateImage j i)
-  pub aside : (i : Disks) → IsLeftByStop s i → (y p : ℕ) → y < 2 → job_named j ≡ Some y → p < job_map_start j → IsPresent i y
-      → i.block y p ≡ j.start.block y p
+  pub either : ((i : Disks) → IsLeftByStop s i → IsEarlyImage j i)
+      ⊎ ((i : Disks) → IsLeftByStop s i → IsLateImage j i)
+  pub aside : (i : Disks) → IsLeftByStop s i → (y p : ℕ) → y < 2
+      → job_named j ≡ Some y → p < job_map_start j → IsPresent i y → i.block y p ≡ j.start.block y p
 
 -- A witness that an image bears is true by each meta that may stand in it: its log disk is out by
--- both; or by the one before, and no log disk says the new one yet; or by the new one, and each says
--- it.
+-- both; or by the one before, and no log disk says the new one yet; or by the new one, and each
+-- says it.
 pub data IsTrueWitness (j : Job) (before : Meta) (i : Disks) (p : ℕ) : Type 0 where
   by_both : IsMissing i.power before p → IsMissing i.power j.meta p → IsTrueWitness j before i p
-  by_old : IsMissing i.power before p
-      → ((x : ℕ) → IsLiveLog j x → IsPresent i x → (is_open (i.block x 0) ≡ false) × (i.block x 1 ≡ j.start.block x 1))
+  by_old : IsMissing i.power before p → ((x : ℕ) → IsLiveLog j x
+      → IsPresent i x → (is_open (i.block x 0) ≡ false) × (i.block x 1 ≡ j.start.block x 1))
       → IsTrueWitness j before i p
   by_new : IsMissing i.power j.meta p → IsLateImage j i → IsTrueWitness j before i p
 
 -- each witness of all that a stop may leave, with any slots lost, is a true one
 abbrev pub HoldsWitnesses : Job → Meta → Disks → Type 0
-HoldsWitnesses j before s = (i : Disks) → IsLeftByStop s i → (p : ℕ) → p < 2 → is_open (stored_block i 2 p) ≡ true
-    → IsTrueWitness j before i p
+HoldsWitnesses j before s = (i : Disks) → IsLeftByStop s i
+    → (p : ℕ) → p < 2 → is_open (stored_block i 2 p) ≡ true → IsTrueWitness j before i p
 
 -- The place of a witness is surely closed, if it is there.
 abbrev pub IsWitnessClosed : Job → Disks → ℕ → Type 0
@@ -335,7 +346,8 @@ pub record FirstStage (j : Job) (before : Meta) (s : Disks) : Type 0 where
   pub setup : j.meta.setup ≡ before.setup
   pub out : (d e : ℕ) → named_out j.meta.out ≡ Some d → named_out before.out ≡ Some e → d ≡ e
   pub single : (d e : ℕ) → IsMissing s.power before d → IsMissing s.power before e → d ≡ e
-  pub old : BeganTrue j before → (p : ℕ) → p < 2 → IsWitnessClosed j s p ⊎ IsMissing s.power before p
+  pub old : BeganTrue j before
+      → (p : ℕ) → p < 2 → IsWitnessClosed j s p ⊎ IsMissing s.power before p
 
 -- As the five steps begin: nothing is written, and the witnesses are settled if they were true.
 pub record SettledStage (j : Job) (before : Meta) (s : Disks) : Type 0 where

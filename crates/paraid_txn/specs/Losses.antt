@@ -14,8 +14,8 @@ use Rattle.paraid_txn.specs.declared.losses.Losses.{Losses}
 use Rattle.paraid_txn.specs.declared.store.Lost.{Lost as LostType}
 use Rattle.paraid_txn.specs.declared.store.Lost.TheVariants.{One as LostOne, Two as LostTwo}
 
--- Two different disks are down: the first was so, or has failed since, and the second has failed. Which
--- of the two failed first is not said here.
+-- Two different disks are down: the first was so, or has failed since, and the second has failed.
+-- Which of the two failed first is not said here.
 pub record AreTwoDown (down : Option ℕ) (old new : ℕ → Slot) (two : Two) : Type 0 where
   pub first : (down ≡ Some two.first) ⊎ HasRisen (old two.first).faults (new two.first).faults
   pub apart : two.first ≢ two.second
@@ -27,7 +27,8 @@ FollowsAnswer from to disk done (Ok it) =
     ((done ≡ true) × (to ≡ from)) ⊎ ((done ≡ false) × (to.down ≡ Some disk) × (to.lost ≡ Some disk)
     × ((first : ℕ) → from.down ≡ Some first → first ≡ disk))
 FollowsAnswer from to disk done (Err two) =
-    (done ≡ false) × (to ≡ from) × (from.down ≡ Some two.first) × (two.first ≢ disk) × (two.second ≡ disk)
+    (done ≡ false)
+    × (to ≡ from) × (from.down ≡ Some two.first) × (two.first ≢ disk) × (two.second ≡ disk)
 
 -- A disk has not failed: its count, its power and its size are as they were.
 pub record IsWell (old new : Slot) : Type 0 where
@@ -50,7 +51,8 @@ pub record AreCommitCalls (from to : Losses) (old new : ℕ → Slot) : Type 0 w
   pub down : (d : ℕ) → to.down ≡ Some d → (from.down ≡ Some d) ⊎ (to.lost ≡ Some d)
   pub remains : (d : ℕ) → from.down ≡ Some d → to.down ≡ Some d
   pub stays : (d : ℕ) → from.lost ≡ Some d → to.lost ≡ Some d
-  pub lost : (d : ℕ) → to.lost ≡ Some d → (from.lost ≡ Some d) ⊎ HasRisen (old d).faults (new d).faults
+  pub lost : (d : ℕ)
+      → to.lost ≡ Some d → (from.lost ≡ Some d) ⊎ HasRisen (old d).faults (new d).faults
   pub absent : (d : ℕ) → to.lost ≡ Some d → (from.lost ≡ Some d) ⊎ ((new d).power ≡ Absent)
 
 -- no disk has failed but the one that is lost
@@ -71,10 +73,12 @@ abbrev pub IsSyncedAt : (ℕ → Slot) → ℕ → Type 0
 IsSyncedAt slot d = is_present (slot d).power ≡ true → (slot d).unsynced ≡ false
 
 -- This call on the disk, done or failed; or none, where the disk is skipped or absent.
-pub data MayDo (old new : Option Trail) (slot : ℕ → Slot) (skip : Option ℕ) (disk : ℕ) (call : Bool → Call) : Type 0 where
+pub data MayDo (old new : Option Trail)
+    (slot : ℕ → Slot) (skip : Option ℕ) (disk : ℕ) (call : Bool → Call) : Type 0 where
   skipped : skip ≡ Some disk → new ≡ old → MayDo old new slot skip disk call
   absent : (slot disk).power ≡ Absent → new ≡ old → MayDo old new slot skip disk call
-  called : skip ≢ Some disk → (done : Bool) → GrowsByCall old new (call done) → MayDo old new slot skip disk call
+  called : skip ≢ Some disk
+      → (done : Bool) → GrowsByCall old new (call done) → MayDo old new slot skip disk call
 
 -- this disk can be written at `place`, unless it is absent
 pub record CanWrite (slot : ℕ → Slot) (disk place : ℕ) : Type 0 where
@@ -84,9 +88,11 @@ pub record CanWrite (slot : ℕ → Slot) (disk place : ℕ) : Type 0 where
 -- why a call on a disk answers so: it has failed, and no other disk was out, or this one
 abbrev pub IsLostBy : Option ℕ → ℕ → (ℕ → Slot) → (ℕ → Slot) → LostType → Type 0
 IsLostBy out disk old new (LostOne lost) =
-    (lost ≡ disk) × HasRisen (old disk).faults (new disk).faults × ((first : ℕ) → out ≡ Some first → first ≡ disk)
+    (lost ≡ disk)
+    × HasRisen (old disk).faults (new disk).faults × ((first : ℕ) → out ≡ Some first → first ≡ disk)
 IsLostBy out disk old new (LostTwo two) =
-    (two.second ≡ disk) × HasRisen (old disk).faults (new disk).faults × (out ≡ Some two.first) × (two.first ≢ disk)
+    (two.second ≡ disk)
+    × HasRisen (old disk).faults (new disk).faults × (out ≡ Some two.first) × (two.first ≢ disk)
 
 -- Only a slot that becomes absent changes its power or size, and no count falls.
 pub record OnlyLosesSlots (old new : ℕ → Slot) : Type 0 where
@@ -100,7 +106,8 @@ pub record IsLostNow (old new : ℕ → Slot) (d : ℕ) : Type 0 where
   pub absent : (new d).power ≡ Absent
 
 -- Disk `e` is out as a commit begins: it is absent, or the last meta or the one given names it out.
-pub data IsOutOfCommit (power : ℕ → Power) (disks : ℕ) (before after : Option ℕ) (e : ℕ) : Type 0 where
+pub data IsOutOfCommit
+    (power : ℕ → Power) (disks : ℕ) (before after : Option ℕ) (e : ℕ) : Type 0 where
   is_absent : e < disks → power e ≡ Absent → IsOutOfCommit power disks before after e
   was_named : before ≡ Some e → IsOutOfCommit power disks before after e
   is_named : after ≡ Some e → IsOutOfCommit power disks before after e
@@ -122,19 +129,22 @@ pub record IsGoneSince (old new : ℕ → Slot) (d : ℕ) : Type 0 where
   pub there : is_present (old d).power ≡ true
   pub absent : (new d).power ≡ Absent
 
--- Of two disks that are down the second was there and is absent since; so is the first, unless it was
--- out before.
+-- Of two disks that are down the second was there and is absent since; so is the first, unless it
+-- was out before.
 pub record AreGoneSince (out : ℕ → Type 0) (old new : ℕ → Slot) (two : Two) : Type 0 where
   pub first : out two.first ⊎ IsGoneSince old new two.first
   pub second : IsGoneSince old new two.second
 
--- Where one disk at most was out, these calls tell which of two was lost first, and none follows the one that failed on the second.
+-- Where one disk at most was out, these calls tell which of two was lost first, and none follows
+-- the one that failed on the second.
 abbrev pub TellsSecondLoss : (ℕ → Type 0) → Option Trail → Option Trail → Two → Type 0
-TellsSecondLoss out old new two = (only : Option ℕ) → IsOnlyOut out only → Ran old new (λ start calls. TellsLosses only two calls)
+TellsSecondLoss out old new two = (only : Option ℕ)
+    → IsOnlyOut out only → Ran old new (λ start calls. TellsLosses only two calls)
 
 -- of the first disks one at most is absent or named out
 abbrev pub IsOneOut : ℕ → Option ℕ → (ℕ → Slot) → Type 0
-IsOneOut disks named slot = (d e : ℕ) → IsOutOfCommit (λ x. (slot x).power) disks named None d → IsOutOfCommit (λ x. (slot x).power) disks named None e → d ≡ e
+IsOneOut disks named slot = (d e : ℕ) → IsOutOfCommit (λ x. (slot x).power) disks named None d
+    → IsOutOfCommit (λ x. (slot x).power) disks named None e → d ≡ e
 
 -- disk `d` is one of the array, and no other one was out
 pub record IsAlone (disks : ℕ) (out : ℕ → Type 0) (d : ℕ) : Type 0 where

@@ -22,7 +22,8 @@ AreTargetsReady skip count slot ts =
 -- What can be committed to an array of so many disks, whose last commit had this epoch: a meta and
 -- targets in range, where each live log disk and each disk with targets can be written, unless it
 -- is absent.
-pub record CanCommit (last disks count : ℕ) (slot : ℕ → Slot) (batch : Batch) (m : Meta) : Type 0 where
+pub record CanCommit
+    (last disks count : ℕ) (slot : ℕ → Slot) (batch : Batch) (m : Meta) : Type 0 where
   pub in_range : IsInRange m
   pub epoch : last < 2 ^ 64 - 1
   pub array : m.setup.geometry.disks ≡ disks

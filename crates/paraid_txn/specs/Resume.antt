@@ -30,7 +30,8 @@ pub record IsResumable (s : Disks) (x : ℕ) (said : LogState) : Type 0 where
 -- the log disk that stood is absent, and the image stands for what the other one stands for then
 pub record IsFallback (s : Disks) (x : ℕ) (i : Disks) : Type 0 where
   pub gone : is_present (i.power x) ≡ false
-  pub stands : (y : ℕ) (o : LogState) (k : ℕ) → LogOk (lose x s) y o k → ImageStandsFor s i o.meta o.batch
+  pub stands : (y : ℕ) (o : LogState) (k : ℕ)
+      → LogOk (lose x s) y o k → ImageStandsFor s i o.meta o.batch
   pub meta : (z : ℕ) (o p : LogState) → Stands i z o → Says s (other_log x) p → o.meta ≡ p.meta
 
 -- Image `i` stands for what log disk `x` of `s` says, or for what is left without it; no log disk
@@ -38,11 +39,13 @@ pub record IsFallback (s : Disks) (x : ℕ) (i : Disks) : Type 0 where
 -- had.
 pub record ImageStandsForResumed (s : Disks) (x : ℕ) (said : LogState) (i : Disks) : Type 0 where
   pub stands : ImageStandsFor s i said.meta said.batch ⊎ IsFallback s x i
-  pub metas : (y : ℕ) (o : LogState) → y < 2 → Says i y o → (z : ℕ) × (p : LogState) × (z < 2) × Says s z p × (o.meta ≡ p.meta)
+  pub metas : (y : ℕ) (o : LogState)
+      → y < 2 → Says i y o → (z : ℕ) × (p : LogState) × (z < 2) × Says s z p × (o.meta ≡ p.meta)
   pub kept : KeepsSlots s i
   pub witnesses : (p : ℕ) → p < 2 → IsPresent i 2 → i.block 2 p ≡ s.block 2 p
 
--- At each moment of the calls from the one record to the other, an image stands for what is resumed.
+-- At each moment of the calls from the one record to the other, an image stands for what is
+-- resumed.
 abbrev pub StandsWhileResumed : Option Trail → Option Trail → ℕ → LogState → Type 0
 StandsWhileResumed old new x said = Ran old new (λ start calls. IsResumable start x said
     → Through (IsEachImage said.meta said.meta (ImageStandsForResumed start x said)) start calls)
@@ -54,9 +57,11 @@ pub record EndsResume (end : Disks) (m : Meta) : Type 0 where
   pub shut : AreLogGatesClosed end m
   pub rest : IsOneMissing end.power m m → IsAtRest end m
 
--- the calls of a resumption end with nothing loose, the gates closed and, with at most one disk out, at rest under this meta
+-- the calls of a resumption end with nothing loose, the gates closed and, with at most one disk
+-- out, at rest under this meta
 abbrev pub EndsResumed : Option Trail → Option Trail → ℕ → LogState → Type 0
-EndsResumed old new x said = Ran old new (λ start calls. IsResumable start x said → EndsResume (run start calls) said.meta)
+EndsResumed old new x said =
+    Ran old new (λ start calls. IsResumable start x said → EndsResume (run start calls) said.meta)
 
 -- At the end, where at most one disk is out, the disks stand for what the log disk said, with its
 -- batch laid over.
@@ -68,7 +73,8 @@ EndsLaid old new x said = Ran old new (λ start calls. IsResumable start x said
 -- What can be resumed on a rack of so many slots: the log disk is not named out, the meta and the
 -- targets are in range, each live log disk and each disk with targets can be written, unless it is
 -- absent, and there are no targets under a closed gate.
-pub record CanResume (count : ℕ) (slot : ℕ → Slot) (side : ℕ) (opened : Bool) (batch : Batch) (m : Meta) : Type 0 where
+pub record CanResume (count : ℕ)
+    (slot : ℕ → Slot) (side : ℕ) (opened : Bool) (batch : Batch) (m : Meta) : Type 0 where
   pub exists : m.setup.geometry.disks ≤ count
   pub log_disk : side < 2
   pub in_array : named_out m.out ≢ Some side
@@ -112,15 +118,17 @@ pub record IsCatchUpImage (j : Job) (x : ℕ) (i : Disks) : Type 0 where
   pub kept : KeepsSlotsAndLogs j i
   pub first : IsPresent i x → Says i x (open_with j)
   pub other : IsLiveLog j (other_log x) → IsPresent i (other_log x)
-      → ((is_open (i.block (other_log x) 0) ≡ false) × (is_open (j.start.block (other_log x) 0) ≡ false)
-      × (i.block (other_log x) 1 ≡ j.start.block (other_log x) 1)) ⊎ Says i (other_log x) (open_with j)
+      → ((is_open (i.block (other_log x) 0) ≡ false) × (is_open (j.start.block (other_log x) 0)
+      ≡ false) × (i.block (other_log x) 1 ≡ j.start.block (other_log x) 1))
+      ⊎ Says i (other_log x) (open_with j)
   pub held : (d p : ℕ) → IsPresent i d → job_map_start j ≤ p → i.block d p ≡ block_before j d p
 
 -- What holds at every moment, of all that a stop may leave there, with any slots lost.
 pub record HoldsThroughResume (j : Job) (x : ℕ) (s : Disks) : Type 0 where
-  pub either : ((i : Disks) → IsLeftByStop s i → IsCatchUpImage j x i) ⊎ ((i : Disks) → IsLeftByStop s i → IsLateImage j i)
-  pub aside : (i : Disks) → IsLeftByStop s i → (y p : ℕ) → y < 2 → job_named j ≡ Some y → p < job_map_start j → IsPresent i y
-      → i.block y p ≡ j.start.block y p
+  pub either : ((i : Disks) → IsLeftByStop s i → IsCatchUpImage j x i)
+      ⊎ ((i : Disks) → IsLeftByStop s i → IsLateImage j i)
+  pub aside : (i : Disks) → IsLeftByStop s i → (y p : ℕ) → y < 2
+      → job_named j ≡ Some y → p < job_map_start j → IsPresent i y → i.block y p ≡ j.start.block y p
 
 -- All but the gate and the meta of log disk `y` is as it was.
 pub record AreOthersSame (j : Job) (y : ℕ) (s : Disks) : Type 0 where
@@ -169,7 +177,8 @@ pub record IsShutImage (j : Job) (y : ℕ) (i : Disks) : Type 0 where
   pub kept : KeepsSlotsAndLogs j i
   pub rest : (d p : ℕ) → IsPresent i d → (d ≡ y → 2 ≤ p) → i.block d p ≡ j.start.block d p
   pub still : (p : ℕ) → job_named j ≡ Some y → IsPresent i y → i.block y p ≡ j.start.block y p
-  pub log : IsPresent i y → ((is_open (i.block y 0) ≡ is_open (j.start.block y 0)) × (is_open (i.block y 0) ≡ false → i.block y 1 ≡ j.start.block y 1))
+  pub log : IsPresent i y → ((is_open (i.block y 0) ≡ is_open (j.start.block y 0))
+      × (is_open (i.block y 0) ≡ false → i.block y 1 ≡ j.start.block y 1))
       ⊎ ((job_named j ≢ Some y) × (is_open (i.block y 0) ≡ false) × (i.block y 1 ≡ j.spelled))
 
 -- each image with any slots lost is one that the end of a resume leaves

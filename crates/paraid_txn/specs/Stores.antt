@@ -26,7 +26,8 @@ borne_of store = store.borne
 
 -- the disk that is out: the one that the last meta names, or else the least absent one
 abbrev pub store_out : {R : Type 0} {g : _} → (R → ℕ → Slot) → Store R g → Option ℕ
-store_out slot store = or_else store.named (first_absent (λ d. (slot store.rack d).power) store.disks)
+store_out slot store =
+    or_else store.named (first_absent (λ d. (slot store.rack d).power) store.disks)
 
 -- a call on one disk leaves all but the rack and what is known of the witnesses
 pub record IsSameStore {R : Type 0} {g : _} (old new : Store R g) : Type 0 where

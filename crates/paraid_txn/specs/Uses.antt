@@ -29,10 +29,12 @@ UsesLog skip (Park d done) = ⊥
 UsesLog skip (SpinUp d done) = ⊥
 UsesLog skip (Attach d size done) = ⊥
 
--- a write of the block for a target of the batch, or a sync of a disk that has one, which is not skipped
+-- a write of the block for a target of the batch, or a sync of a disk that has one, which is not
+-- skipped
 abbrev pub UsesTarget : Option ℕ → Batch → Call → Type 0
 UsesTarget skip batch (Read d p done) = ⊥
-UsesTarget skip batch (Write d p b done) = (skip ≢ Some d) × (names_place batch d p ≡ true) × Contains batch (record { disk = d; place = p }, b)
+UsesTarget skip batch (Write d p b done) = (skip ≢ Some d)
+    × (names_place batch d p ≡ true) × Contains batch (record { disk = d; place = p }, b)
 UsesTarget skip batch (Sync d done) = (skip ≢ Some d) × (names_disk batch d ≡ true)
 UsesTarget skip batch (Park d done) = ⊥
 UsesTarget skip batch (SpinUp d done) = ⊥
@@ -41,12 +43,14 @@ UsesTarget skip batch (Attach d size done) = ⊥
 -- A call of the commit of a meta and a batch. It is on a disk of the array; a log disk that the
 -- meta names out keeps its log, and no target is written on a disk that is gone.
 abbrev pub Uses : Meta → Batch → Call → Type 0
-Uses m batch c = (disk_of c < m.setup.geometry.disks) × (UsesLog (named_out m.out) c ⊎ UsesTarget (gone_out m.out) batch c)
+Uses m batch c = (disk_of c < m.setup.geometry.disks)
+    × (UsesLog (named_out m.out) c ⊎ UsesTarget (gone_out m.out) batch c)
 
 -- a write of a witness on disk 2, or a sync of that disk, where it is one of the array and not gone
 abbrev pub UsesWitness : Meta → Call → Type 0
 UsesWitness m (Read d p done) = ⊥
-UsesWitness m (Write d p b done) = (d ≡ 2) × (2 < m.setup.geometry.disks) × (gone_out m.out ≢ Some 2) × (p < 2)
+UsesWitness m (Write d p b done) =
+    (d ≡ 2) × (2 < m.setup.geometry.disks) × (gone_out m.out ≢ Some 2) × (p < 2)
 UsesWitness m (Sync d done) = (d ≡ 2) × (2 < m.setup.geometry.disks) × (gone_out m.out ≢ Some 2)
 UsesWitness m (Park d done) = ⊥
 UsesWitness m (SpinUp d done) = ⊥

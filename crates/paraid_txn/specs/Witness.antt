@@ -16,10 +16,12 @@ use Rattle.paraid_txn.specs.Borne.{IsWitnessBorne}
 use Rattle.paraid_txn.specs.Commit.{gone_out}
 use Rattle.paraid_txn.specs.declared.bearing.Witness.{Witness}
 
--- the place of the witness against log disk `x` is written so, and disk 2 is synced; it may have failed in either
+-- the place of the witness against log disk `x` is written so, and disk 2 is synced; it may have
+-- failed in either
 pub data SetsWitness (x : ℕ) (opened : Bool) (cs : List Call) : Type 0 where
   refused : (b : Block) → is_open b ≡ opened → cs ≡ Write 2 x b false ∷ [] → SetsWitness x opened cs
-  ended : (b : Block) (done : Bool) → is_open b ≡ opened → cs ≡ Write 2 x b true ∷ Sync 2 done ∷ [] → SetsWitness x opened cs
+  ended : (b : Block) (done : Bool)
+      → is_open b ≡ opened → cs ≡ Write 2 x b true ∷ Sync 2 done ∷ [] → SetsWitness x opened cs
 
 -- the place can not be written: disk 2 is skipped, does not spin, or is too small
 pub data CannotSet (slot : ℕ → Slot) (skip : Option ℕ) (place : ℕ) : Type 0 where
@@ -28,7 +30,8 @@ pub data CannotSet (slot : ℕ → Slot) (skip : Option ℕ) (place : ℕ) : Typ
   too_small : (slot 2).size ≤ place → CannotSet slot skip place
 
 -- the witness is set, or its place can not be written
-pub data MaySetWitness (slot : ℕ → Slot) (skip : Option ℕ) (x : ℕ) (opened : Bool) (cs : List Call) : Type 0 where
+pub data MaySetWitness
+    (slot : ℕ → Slot) (skip : Option ℕ) (x : ℕ) (opened : Bool) (cs : List Call) : Type 0 where
   cannot : CannotSet slot skip x → cs ≡ [] → MaySetWitness slot skip x opened cs
   sets : SetsWitness x opened cs → MaySetWitness slot skip x opened cs
 
@@ -57,47 +60,57 @@ IsFirstWitness absent was now borne (Some w) =
 -- was lost, against one that is named out; unless it is borne against that disk.
 abbrev pub IsLastWitness : Option ℕ → Option ℕ → Option ℕ → Option Witness → Type 0
 IsLastWitness lost now borne None = (x : ℕ) → x < 2 → or_else lost now ≡ Some x → borne ≡ Some x
-IsLastWitness lost now borne (Some w) = (w.opened ≡ true) × (or_else lost now ≡ Some w.disk) × (borne ≢ Some w.disk)
+IsLastWitness lost now borne (Some w) =
+    (w.opened ≡ true) × (or_else lost now ≡ Some w.disk) × (borne ≢ Some w.disk)
 
--- What is set before the steps by the meta given, where the last one named disk `was` out: none is borne
--- where one is known to be.
+-- What is set before the steps by the meta given, where the last one named disk `was` out: none is
+-- borne where one is known to be.
 pub data SetsBefore (m : Meta) (was borne : Option ℕ) (s : Disks) (cs : List Call) : Type 0 where
-  closes : (x : ℕ) → x < 2 → was ≡ Some x → named_out m.out ≢ Some x → SetsWitness x false cs → SetsBefore m was borne s cs
-  cannot_close : (x : ℕ) → x < 2 → was ≡ Some x → named_out m.out ≢ Some x
-      → (is_present (s.power 2) ≡ false) ⊎ (gone_out m.out ≡ Some 2) → cs ≡ [] → SetsBefore m was borne s cs
-  bears : (p : ℕ) → p < 2 → borne ≡ None → is_present (s.power p) ≡ false → NoneJoins was (named_out m.out) → SetsWitness p true cs → SetsBefore m was borne s cs
+  closes : (x : ℕ) → x < 2 → was ≡ Some x
+      → named_out m.out ≢ Some x → SetsWitness x false cs → SetsBefore m was borne s cs
+  cannot_close : (x : ℕ) → x < 2 → was ≡ Some x
+      → named_out m.out ≢ Some x → (is_present (s.power 2) ≡ false) ⊎ (gone_out m.out ≡ Some 2)
+      → cs ≡ [] → SetsBefore m was borne s cs
+  bears : (p : ℕ) → p < 2 → borne ≡ None → is_present (s.power p) ≡ false
+      → NoneJoins was (named_out m.out) → SetsWitness p true cs → SetsBefore m was borne s cs
   none : NoneJoins was (named_out m.out) → cs ≡ [] → SetsBefore m was borne s cs
 
 -- What is set after them: none, or one is borne against a log disk that is out by this meta, and
 -- against which it is not known to be borne.
 pub data SetsAfter (m : Meta) (borne : Option ℕ) (s : Disks) (cs : List Call) : Type 0 where
-  bears : (p : ℕ) → p < 2 → borne ≢ Some p → IsMissing s.power m p → SetsWitness p true cs → SetsAfter m borne s cs
+  bears : (p : ℕ) → p < 2
+      → borne ≢ Some p → IsMissing s.power m p → SetsWitness p true cs → SetsAfter m borne s cs
   none : cs ≡ [] → SetsAfter m borne s cs
 
--- Disk 2, if it is there, can be written at the places of the witnesses by a commit of this meta; and
--- witness is borne there against this disk, if it is a log disk.
+-- Disk 2, if it is there, can be written at the places of the witnesses by a commit of this meta;
+-- and witness is borne there against this disk, if it is a log disk.
 pub record IsBorne (m : Meta) (against : Option ℕ) (s : Disks) : Type 0 where
   pub gone : gone_out m.out ≢ Some 2
   pub spins : is_present (s.power 2) ≡ true → s.power 2 ≡ Spinning
   pub within : is_present (s.power 2) ≡ true → 1 < s.size 2
   pub borne : IsWitnessBorne against s
 
--- If disk 2 and the witness against `from` are so (`IsBorne`) where the calls begin, they are so with
--- `to` where they end. Nothing is said of the moments between.
+-- If disk 2 and the witness against `from` are so (`IsBorne`) where the calls begin, they are so
+-- with `to` where they end. Nothing is said of the moments between.
 abbrev pub KeepsBorne : Option Trail → Option Trail → Meta → Option ℕ → Option ℕ → Type 0
-KeepsBorne old new m from to = Ran old new (CrashTriple (λ s. Unit {0}) (IsBorne m from) (IsBorne m to))
+KeepsBorne old new m from to =
+    Ran old new (CrashTriple (λ s. Unit {0}) (IsBorne m from) (IsBorne m to))
 
 -- where a disk was lost and the meta names one out, they are the same
 abbrev pub IsNoSecond : Option ℕ → Meta → Type 0
 IsNoSecond lost m = (d e : ℕ) → lost ≡ Some d → named_out m.out ≡ Some e → e ≡ d
 
--- At the end witness is borne against the disk that was lost, or else the one that the meta names out.
+-- At the end witness is borne against the disk that was lost, or else the one that the meta names
+-- out.
 abbrev pub BearsAtEnd : Option Trail → Option Trail → Meta → Option ℕ → Option ℕ → Type 0
-BearsAtEnd old new m from lost = IsNoSecond lost m → KeepsBorne old new m from (or_else lost (named_out m.out))
+BearsAtEnd old new m from lost = IsNoSecond lost m
+    → KeepsBorne old new m from (or_else lost (named_out m.out))
 
--- if this disk is a log disk, and disk 2 spins and is large enough, the store knows that the witness against it is borne
+-- if this disk is a log disk, and disk 2 spins and is large enough, the store knows that the
+-- witness against it is borne
 abbrev pub IsKnown : (ℕ → Slot) → Option ℕ → Option ℕ → Type 0
-IsKnown slot out borne = (x : ℕ) → x < 2 → out ≡ Some x → (slot 2).power ≡ Spinning → 1 < (slot 2).size → borne ≡ Some x
+IsKnown slot out borne = (x : ℕ)
+    → x < 2 → out ≡ Some x → (slot 2).power ≡ Spinning → 1 < (slot 2).size → borne ≡ Some x
 
 -- this call does not write this place
 abbrev pub LeavesPlace : ℕ → ℕ → Call → Type 0

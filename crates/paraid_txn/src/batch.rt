@@ -76,8 +76,8 @@ impl Batch {
     pub fn add(&mut self, disk: DiskNo, place: Place, block: &Block) -> Result<(), Full>
         ensures ok { OnOk result (self.new
             ≡ with_target self.old (record { disk = disk; place = place }) block.now) }
-        ensures full { IfErr result (λ full. (full.count ≡ batch_room) × (length self.old ≡ batch_room)
-            × (names_place self.old disk place ≡ false) × (self.new ≡ self.old)) }
+        ensures full { IfErr result (λ full. (full.count ≡ batch_room) × (length self.old
+            ≡ batch_room) × (names_place self.old disk place ≡ false) × (self.new ≡ self.old)) }
         ensures room { OnOk result
             ((names_place self.old disk place ≡ true) ⊎ (length self.old < batch_room)) }
     {

@@ -14,8 +14,8 @@ pub(crate) struct Witness {
     ghost log_disk: { disk < 2 },
 }
 
-/// Who is out as a commit begins: the disk that is absent, if one is, and the one that the last meta
-/// names out; and the log disk against which witness is borne, as far as it is known.
+/// Who is out as a commit begins: the disk that is absent, if one is, and the one that the last
+/// meta names out; and the log disk against which witness is borne, as far as it is known.
 #[derive(Clone, Copy)]
 pub(crate) struct Bearing {
     pub absent: Option<DiskNo>,

@@ -43,7 +43,8 @@ fn is_passed<R: Rack>(rack: &R, skip: Option<DiskNo>, disk: DiskNo) -> bool
     skip == Some(disk) || rack.power(disk) == Power::Absent
 }
 
-/// Writes a block, unless the disk is skipped or absent. Most calls that a commit makes are of this kind.
+/// Writes a block, unless the disk is skipped or absent. Most calls that a commit makes are of this
+/// kind.
 #[inline(always)]
 pub fn put<R: Rack>(
     rack: &mut R,
@@ -58,8 +59,8 @@ pub fn put<R: Rack>(
     ensures slots { R.slot_count rack.new ≡ R.slot_count rack.old }
     ensures does { MayDo (R.told rack.old) (R.told rack.new) (R.slot rack.old) skip disk
         (λ done. Write disk place block.now done) }
-    ensures part { CommitPart R.Rack (IsThisCall skip disk (λ done. Write disk place block.now done)) losses.old losses.new rack.old rack.new
-        result }
+    ensures part { CommitPart R.Rack (IsThisCall skip disk (λ done.
+        Write disk place block.now done)) losses.old losses.new rack.old rack.new result }
     ensures still_synced { StaySyncedBut (λ d. (d ≡ disk) × (skip ≢ Some d))
         (R.slot rack.old) (R.slot rack.new) }
 {
@@ -82,8 +83,8 @@ pub fn sync_slot<R: Rack>(
     ensures slots { R.slot_count rack.new ≡ R.slot_count rack.old }
     ensures does { MayDo (R.told rack.old) (R.told rack.new) (R.slot rack.old) skip disk
         (λ done. Sync disk done) }
-    ensures part { CommitPart R.Rack (IsThisCall skip disk (λ done. Sync disk done)) losses.old losses.new rack.old rack.new
-        result }
+    ensures part { CommitPart R.Rack (IsThisCall skip disk (λ done. Sync disk done))
+        losses.old losses.new rack.old rack.new result }
     ensures still_synced { StaySyncedBut (λ d. ⊥) (R.slot rack.old) (R.slot rack.new) }
     ensures synced { skip ≢ Some disk → IsSyncedAt (R.slot rack.new) disk }
 {
@@ -131,8 +132,8 @@ pub fn take<R: Rack>(
     ensures slots { R.slot_count rack.new ≡ R.slot_count rack.old }
     ensures does { MayDo (R.told rack.old) (R.told rack.new) (R.slot rack.old) skip disk
         (λ done. Read disk place done) }
-    ensures part { CommitPart R.Rack (IsThisCall skip disk (λ done. Read disk place done)) losses.old losses.new rack.old rack.new
-        result }
+    ensures part { CommitPart R.Rack (IsThisCall skip disk (λ done. Read disk place done))
+        losses.old losses.new rack.old rack.new result }
     ensures still_synced { StaySyncedBut (λ d. ⊥) (R.slot rack.old) (R.slot rack.new) }
     ensures bytes { result ≡ Ok true → (t : Trail) → R.told rack.old ≡ Some t
         → into.new ≡ (now t).block disk place }

@@ -21,9 +21,9 @@
 //! 5. On each log disk the gate is closed, and synced. The meta at place 1 is that of the batch,
 //!    and the targets hold what the batch would lay.
 //!
-//! Before them the witness on disk 2 against a log disk that comes in again is taken back; or, if none
-//! is borne, one is borne against a log disk that is absent. After them one is borne against a log
-//! disk that was lost in them or is named out, unless it is borne already.
+//! Before them the witness on disk 2 against a log disk that comes in again is taken back; or, if
+//! none is borne, one is borne against a log disk that is absent. After them one is borne against a
+//! log disk that was lost in them or is named out, unless it is borne already.
 //!
 //! A log disk that the meta names out is left alone, and so are the targets on a disk that is gone.
 //! A disk that fails is left out of the rest.
@@ -147,8 +147,8 @@ fn lay<R: Rack>(
     requires past_log { All (λ (t : TargetType). log_least ≤ t.place) (targets batch.now) }
     requires few { length batch.now ≤ batch_room }
     ensures slots { R.slot_count rack.new ≡ R.slot_count rack.old }
-    ensures part { CommitPart R.Rack (UsesTarget skip batch.now) losses.old losses.new rack.old rack.new
-        result }
+    ensures part { CommitPart R.Rack
+        (UsesTarget skip batch.now) losses.old losses.new rack.old rack.new result }
     ensures still_synced { StaySyncedBut (λ d. (names_disk batch.now d ≡ true) × (skip ≢ Some d))
         (R.slot rack.old) (R.slot rack.new) }
     ensures crash { (j : Job) → IsSpelled j → job_gone j ≡ skip → j.batch ≡ batch.now
@@ -181,8 +181,8 @@ fn sync_target_slot<R: Rack>(
     requires ready { AreTargetsReady skip (R.slot_count rack.old) (R.slot rack.old)
         (targets batch.now) }
     ensures slots { R.slot_count rack.new ≡ R.slot_count rack.old }
-    ensures part { CommitPart R.Rack (UsesTarget skip batch.now) losses.old losses.new rack.old rack.new
-        result }
+    ensures part { CommitPart R.Rack
+        (UsesTarget skip batch.now) losses.old losses.new rack.old rack.new result }
     ensures still_synced { StaySynced (R.slot rack.old) (R.slot rack.new) }
     ensures synced { names_disk batch.now disk ≡ true → skip ≢ Some disk
         → IsSyncedAt (R.slot rack.new) disk }
@@ -209,8 +209,8 @@ fn sync_target_slots<R: Rack>(
         (targets batch.now) }
     requires below { All (λ (t : TargetType). t.disk < disks) (targets batch.now) }
     ensures slots { R.slot_count rack.new ≡ R.slot_count rack.old }
-    ensures part { CommitPart R.Rack (UsesTarget skip batch.now) losses.old losses.new rack.old rack.new
-        result }
+    ensures part { CommitPart R.Rack
+        (UsesTarget skip batch.now) losses.old losses.new rack.old rack.new result }
     ensures still_synced { StaySynced (R.slot rack.old) (R.slot rack.new) }
     ensures synced { OnOk result ((d : ℕ) → names_disk batch.now d ≡ true → skip ≢ Some d
         → IsSyncedAt (R.slot rack.new) d) }
@@ -282,8 +282,8 @@ pub fn lay_all<R: Rack>(
     requires past_log { All (λ (t : TargetType). log_least ≤ t.place) (targets batch.now) }
     requires below { All (λ (t : TargetType). t.disk < disks) (targets batch.now) }
     requires few { length batch.now ≤ batch_room }
-    ensures leaves { SyncedPart R.Rack (UsesTarget skip batch.now) losses.old losses.new rack.old rack.new
-        result }
+    ensures leaves { SyncedPart R.Rack
+        (UsesTarget skip batch.now) losses.old losses.new rack.old rack.new result }
     ensures crash { (j : Job) → IsSpelled j → job_gone j ≡ skip → j.batch ≡ batch.now
         → CrashSpecification (HoldsLate j) (LayIn j 0) (MarkStage j 0)
         (R.told rack.old) (R.told rack.new) result }
@@ -330,8 +330,8 @@ fn run<R: Rack>(
     requires ready { AreTargetsReady (gone_of meta.now.out) (R.slot_count rack.old)
         (R.slot rack.old) (targets batch.now) }
     requires in_range { AreTargets meta.now.setup.geometry (targets batch.now) }
-    ensures leaves { SyncedPart R.Rack (Uses meta.now batch.now) losses.old losses.new rack.old rack.new
-        result }
+    ensures leaves { SyncedPart R.Rack
+        (Uses meta.now batch.now) losses.old losses.new rack.old rack.new result }
     ensures crash { (start : Disks)
         → IsSpelled (job start meta.now batch.now spelled.now list.now first)
         → CrashSpecification (HoldsWhole (job start meta.now batch.now spelled.now list.now first))
@@ -361,8 +361,8 @@ fn set_if_any<R: Rack>(
     borne: Option<DiskNo>,
 ) -> Result<Option<DiskNo>, Two>
     requires exists { 2 < R.slot_count rack.old }
-    ensures leaves { SyncedPart R.Rack (UsesWitness meta.now) losses.old losses.new rack.old rack.new
-        result }
+    ensures leaves { SyncedPart R.Rack
+        (UsesWitness meta.now) losses.old losses.new rack.old rack.new result }
     ensures told { Ran (R.told rack.old) (R.told rack.new)
         (λ s cs. MaySetAny (R.slot rack.old) (gone_of meta.now.out) witness cs) }
     ensures known { IfOk result (λ then. IsBorneNow borne (R.told rack.old)
@@ -388,12 +388,14 @@ fn bear_before<R: Rack>(
     requires absent { (d : ℕ) → out.absent ≡ Some d → is_present (R.slot rack.old d).power ≡ false }
     requires witness { (x : ℕ) → x < 2 → out.named ≡ Some x → named_of meta.now.out ≢ Some x
         → CanWrite (R.slot rack.old) 2 1 }
-    ensures leaves { SyncedPart R.Rack (UsesWitness meta.now) losses.old losses.new rack.old rack.new
-        result }
-    ensures told { Ran (R.told rack.old) (R.told rack.new) (SetsBefore meta.now out.named out.borne) }
+    ensures leaves { SyncedPart R.Rack
+        (UsesWitness meta.now) losses.old losses.new rack.old rack.new result }
+    ensures told { Ran
+        (R.told rack.old) (R.told rack.new) (SetsBefore meta.now out.named out.borne) }
     ensures known { IfOk result (λ borne. IsBorneNow out.borne (R.told rack.old)
         → IsBorneNow borne (R.told rack.new)) }
-    ensures borne { IfOk result (λ borne. KeepsBorne (R.told rack.old) (R.told rack.new) meta.now out.borne borne) }
+    ensures borne { IfOk result (λ borne.
+        KeepsBorne (R.told rack.old) (R.told rack.new) meta.now out.borne borne) }
     ensures stays { NoneJoins out.named (named_of meta.now.out) → (x : ℕ) → out.borne ≡ Some x
         → IfOk result (λ borne. borne ≡ Some x) }
 {
@@ -401,8 +403,8 @@ fn bear_before<R: Rack>(
     set_if_any(rack, losses, meta, witness, out.borne)
 }
 
-// What is set after them, unless two disks are down, by the log disk against which witness is borne.
-// It answers against which one it is then.
+// What is set after them, unless two disks are down, by the log disk against which witness is
+// borne. It answers against which one it is then.
 fn bear_after<R: Rack>(
     rack: &mut R,
     losses: &mut Losses,
@@ -411,8 +413,8 @@ fn bear_after<R: Rack>(
 ) -> Result<Option<DiskNo>, Two>
     requires exists { 2 < R.slot_count rack.old }
     requires lost { (d : ℕ) → losses.old.lost ≡ Some d → (R.slot rack.old d).power ≡ Absent }
-    ensures leaves { SyncedPart R.Rack (UsesWitness meta.now) losses.old losses.new rack.old rack.new
-        result }
+    ensures leaves { SyncedPart R.Rack
+        (UsesWitness meta.now) losses.old losses.new rack.old rack.new result }
     ensures told { Ran (R.told rack.old) (R.told rack.new) (SetsAfter meta.now borne) }
     ensures known { IfOk result (λ then. IsBorneNow borne (R.told rack.old)
         → IsBorneNow then (R.told rack.new)) }
@@ -451,12 +453,12 @@ fn run_witnessed<R: Rack>(
     requires witness { (x : ℕ) → x < 2 → out.named ≡ Some x → named_of meta.now.out ≢ Some x
         → CanWrite (R.slot rack.old) 2 1 }
     requires none_lost { losses.old.lost ≡ None }
-    ensures leaves { SyncedPart R.Rack (UsesInCommit meta.now batch.now) losses.old losses.new rack.old rack.new
-        result }
+    ensures leaves { SyncedPart R.Rack
+        (UsesInCommit meta.now batch.now) losses.old losses.new rack.old rack.new result }
     ensures crash { (start : Disks) (before : MetaType)
         → IsSpelled (job start meta.now batch.now spelled.now list.now first)
-        → out.named ≡ named_of before.out
-        → CrashSpecification (HoldsWitnessed (job start meta.now batch.now spelled.now list.now first) before)
+        → out.named ≡ named_of before.out → CrashSpecification
+        (HoldsWitnessed (job start meta.now batch.now spelled.now list.now first) before)
         (FirstStage (job start meta.now batch.now spelled.now list.now first) before)
         (LastStage (job start meta.now batch.now spelled.now list.now first) before)
         (R.told rack.old) (R.told rack.new) result }
@@ -466,8 +468,8 @@ fn run_witnessed<R: Rack>(
         losses.new.lost) }
     ensures knows { IfOk result (λ borne. IsNoSecond losses.new.lost meta.now
         → IsKnown (R.slot rack.new) (or_else losses.new.lost (named_of meta.now.out)) borne) }
-    ensures once { NoneJoins out.named (named_of meta.now.out) → (x : ℕ) → x < 2 → out.borne ≡ Some x
-        → Ran (R.told rack.old) (R.told rack.new) (λ s cs. LeavePlace 2 x cs) }
+    ensures once { NoneJoins out.named (named_of meta.now.out) → (x : ℕ) → x < 2
+        → out.borne ≡ Some x → Ran (R.told rack.old) (R.told rack.new) (λ s cs. LeavePlace 2 x cs) }
 {
     let borne = bear_before(rack, losses, meta, out)?;
     run(rack, losses, meta, batch, list, spelled, first)?;
@@ -541,8 +543,8 @@ impl<R: Rack> Store<R> {
         requires can { CanCommit (epoch_of self.old) (disks_of self.old)
             (R.slot_count (store_rack self.old)) (R.slot (store_rack self.old)) batch.now meta.now }
         // Where a log disk comes in again, disk 2 can be written.
-        requires witness { (x : ℕ) → x < 2 → named_by self.old ≡ Some x → named_of meta.now.out ≢ Some x
-            → CanWrite (R.slot (store_rack self.old)) 2 1 }
+        requires witness { (x : ℕ) → x < 2 → named_by self.old ≡ Some x
+            → named_of meta.now.out ≢ Some x → CanWrite (R.slot (store_rack self.old)) 2 1 }
 
         ensures keeps { KeepsStore (IsOutOfCommit (λ e. (R.slot (store_rack self.old) e).power)
             (disks_of self.old) (named_by self.old) (named_of meta.now.out))
@@ -559,20 +561,23 @@ impl<R: Rack> Store<R> {
         ensures calls { Ran (R.told (store_rack self.old)) (R.told (store_rack self.new))
             (EachCall (UsesInCommit meta.now batch.now)) }
 
-        // Witness is borne at its end against a log disk that it lost, or that is named out, and that is
-        // known; and the place of one that is known is not written.
-        ensures bears_witness { IfOk result (λ lost. Ran (R.told (store_rack self.old)) (R.told (store_rack self.new))
-            (λ start calls. LeavesBorne start (run start calls) (or_else lost (named_of meta.now.out)))) }
-        ensures knows { IfOk result (λ lost. IsKnown (R.slot (store_rack self.new)) (or_else lost (named_of meta.now.out))
-            (borne_of self.new)) }
-        ensures once { NoneJoins (named_by self.old) (named_of meta.now.out) → (x : ℕ) → x < 2 → borne_of self.old ≡ Some x
-            → Ran (R.told (store_rack self.old)) (R.told (store_rack self.new)) (λ start calls. LeavePlace 2 x calls) }
+        // Witness is borne at its end against a log disk that it lost, or that is named out, and
+        // that is known; and the place of one that is known is not written.
+        ensures bears_witness { IfOk result (λ lost.
+            Ran (R.told (store_rack self.old)) (R.told (store_rack self.new)) (λ start calls.
+            LeavesBorne start (run start calls) (or_else lost (named_of meta.now.out)))) }
+        ensures knows { IfOk result (λ lost. IsKnown (R.slot (store_rack self.new))
+            (or_else lost (named_of meta.now.out)) (borne_of self.new)) }
+        ensures once { NoneJoins (named_by self.old) (named_of meta.now.out)
+            → (x : ℕ) → x < 2 → borne_of self.old ≡ Some x → Ran (R.told (store_rack self.old))
+            (R.told (store_rack self.new)) (λ start calls. LeavePlace 2 x calls) }
 
         // At each moment the old contents or the new ones; at the end only these.
         ensures any_moment { (before : MetaType) → named_by self.old ≡ named_of before.out
             → IsWholeOrAbsent (R.told (store_rack self.old)) (R.told (store_rack self.new)) before
             (record meta.now { epoch = epoch_of self.old + 1 }) batch.now }
-        ensures committed { OnOk result ((before : MetaType) → named_by self.old ≡ named_of before.out
+        ensures committed { OnOk result ((before : MetaType)
+            → named_by self.old ≡ named_of before.out
             → EndsCommitted (R.told (store_rack self.old)) (R.told (store_rack self.new)) before
             (record meta.now { epoch = epoch_of self.old + 1 }) batch.now) }
     {

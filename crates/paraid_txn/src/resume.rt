@@ -90,8 +90,8 @@ fn resume_open<R: Rack>(
     requires ready { AreTargetsReady (gone_of meta.now.out) (R.slot_count rack.old)
         (R.slot rack.old) (targets batch.now) }
     requires in_range { AreTargets meta.now.setup.geometry (targets batch.now) }
-    ensures leaves { SyncedPart R.Rack (Uses meta.now batch.now) losses.old losses.new rack.old rack.new
-        result }
+    ensures leaves { SyncedPart R.Rack
+        (Uses meta.now batch.now) losses.old losses.new rack.old rack.new result }
     ensures crash { (j : Job) → IsSpelled j → job_named j ≡ named_of meta.now.out
         → job_gone j ≡ gone_of meta.now.out → j.batch ≡ batch.now → j.list ≡ list.now
         → j.spelled ≡ spelled.now → LeadsResume j side
@@ -146,9 +146,9 @@ fn resume_closed<R: Rack>(
     requires log { IsLogReady skip (R.slot rack.old) }
     ensures leaves { SyncedPart R.Rack (UsesLog skip) losses.old losses.new rack.old rack.new
         result }
-    ensures crash { (j : Job) → IsSpelled j → job_named j ≡ skip → j.spelled ≡ meta.now
-        → CrashSpecification (HoldsThroughShut j (other_log side)) (AreDisksSame j) (ShutEnd j (other_log side))
-        (R.told rack.old) (R.told rack.new) result }
+    ensures crash { (j : Job) → IsSpelled j → job_named j ≡ skip
+        → j.spelled ≡ meta.now → CrashSpecification (HoldsThroughShut j (other_log side))
+        (AreDisksSame j) (ShutEnd j (other_log side)) (R.told rack.old) (R.told rack.new) result }
 {
     let other = 1 - side;
     let mut found = Block::zero();

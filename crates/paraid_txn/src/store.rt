@@ -187,9 +187,9 @@ impl<R: Rack> Store<R> {
         requires within { place < (R.slot (store_rack self.old) disk).size }
         ensures slots { R.slot_count (store_rack self.new) ≡ R.slot_count (store_rack self.old) }
         ensures same { IsSameStore self.old self.new }
-        ensures slot { ChangesOneSlot (R.slot (store_rack self.old)) (R.slot (store_rack self.new)) disk
-            (R.slot (store_rack self.old) disk) (R.slot (store_rack self.old) disk).unsynced
-            (is_ok result) }
+        ensures slot { ChangesOneSlot (R.slot (store_rack self.old))
+            (R.slot (store_rack self.new)) disk (R.slot (store_rack self.old) disk)
+            (R.slot (store_rack self.old) disk).unsynced (is_ok result) }
         ensures told { GrowsByCall (R.told (store_rack self.old)) (R.told (store_rack self.new))
             (Read disk place (is_ok result)) }
         ensures bytes { OnOk result ((t : Trail) → R.told (store_rack self.old) ≡ Some t
@@ -210,8 +210,8 @@ impl<R: Rack> Store<R> {
         requires spinning { (R.slot (store_rack self.old) disk).power ≡ Spinning }
         ensures slots { R.slot_count (store_rack self.new) ≡ R.slot_count (store_rack self.old) }
         ensures same { IsSameStore self.old self.new }
-        ensures slot { ChangesOneSlot (R.slot (store_rack self.old)) (R.slot (store_rack self.new)) disk
-            (record (R.slot (store_rack self.old) disk) { unsynced = false })
+        ensures slot { ChangesOneSlot (R.slot (store_rack self.old)) (R.slot (store_rack self.new))
+            disk (record (R.slot (store_rack self.old) disk) { unsynced = false })
             (R.slot (store_rack self.old) disk).unsynced (is_ok result) }
         ensures told { GrowsByCall (R.told (store_rack self.old)) (R.told (store_rack self.new))
             (Sync disk (is_ok result)) }
@@ -233,7 +233,8 @@ impl<R: Rack> Store<R> {
         requires within { place < (R.slot (store_rack self.old) disk).size }
         ensures slots { R.slot_count (store_rack self.new) ≡ R.slot_count (store_rack self.old) }
         ensures same { IsSameStore self.old self.new }
-        ensures slot { ChangesOneSlot (R.slot (store_rack self.old)) (R.slot (store_rack self.new)) disk
+        ensures slot { ChangesOneSlot
+            (R.slot (store_rack self.old)) (R.slot (store_rack self.new)) disk
             (record (R.slot (store_rack self.old) disk) { unsynced = true }) true (is_ok result) }
         ensures told { GrowsByCall (R.told (store_rack self.old)) (R.told (store_rack self.new))
             (Write disk place block.now (is_ok result)) }
@@ -255,7 +256,8 @@ impl<R: Rack> Store<R> {
         requires synced { (R.slot (store_rack self.old) disk).unsynced ≡ false }
         ensures slots { R.slot_count (store_rack self.new) ≡ R.slot_count (store_rack self.old) }
         ensures same { IsSameStore self.old self.new }
-        ensures slot { ChangesOneSlot (R.slot (store_rack self.old)) (R.slot (store_rack self.new)) disk
+        ensures slot { ChangesOneSlot
+            (R.slot (store_rack self.old)) (R.slot (store_rack self.new)) disk
             (record (R.slot (store_rack self.old) disk) { power = Parked }) false (is_ok result) }
         ensures told { GrowsByCall (R.told (store_rack self.old)) (R.told (store_rack self.new))
             (Park disk (is_ok result)) }
@@ -275,9 +277,9 @@ impl<R: Rack> Store<R> {
         requires parked { (R.slot (store_rack self.old) disk).power ≡ Parked }
         ensures slots { R.slot_count (store_rack self.new) ≡ R.slot_count (store_rack self.old) }
         ensures same { IsSameStore self.old self.new }
-        ensures slot { ChangesOneSlot (R.slot (store_rack self.old)) (R.slot (store_rack self.new)) disk
-            (record (R.slot (store_rack self.old) disk) { power = Spinning }) false
-            (is_ok result) }
+        ensures slot { ChangesOneSlot
+            (R.slot (store_rack self.old)) (R.slot (store_rack self.new)) disk
+            (record (R.slot (store_rack self.old) disk) { power = Spinning }) false (is_ok result) }
         ensures told { GrowsByCall (R.told (store_rack self.old)) (R.told (store_rack self.new))
             (SpinUp disk (is_ok result)) }
         ensures lost { IfErr result (IsLostBy (store_out R.slot self.old) disk
@@ -295,9 +297,12 @@ impl<R: Rack> Store<R> {
         requires exists { disk < R.slot_count (store_rack self.old) }
         ensures slots { R.slot_count (store_rack self.new) ≡ R.slot_count (store_rack self.old) }
         ensures same { IsSameStore self.old self.new }
-        ensures slot { ChangesOneSlot (R.slot (store_rack self.old)) (R.slot (store_rack self.new)) disk
-            (record (R.slot (store_rack self.old) disk) { power = Spinning; size = size; unsynced = false })
-            (R.slot (store_rack self.old) disk).unsynced (is_ok result) }
+        ensures slot { ChangesOneSlot (R.slot (store_rack self.old)) (R.slot (store_rack self.new))
+            disk (record (R.slot (store_rack self.old) disk) {
+              power = Spinning;
+              size = size;
+              unsynced = false;
+            }) (R.slot (store_rack self.old) disk).unsynced (is_ok result) }
         ensures told { GrowsByCall (R.told (store_rack self.old)) (R.told (store_rack self.new))
             (Attach disk size (is_ok result)) }
         ensures lost { IfErr result (IsLostBy (store_out R.slot self.old) disk

@@ -69,18 +69,22 @@ impl<R: Rack> Store<R> {
         requires { CanSync (disks_of self.old) skip (R.slot (store_rack self.old)) }
         ensures slots { R.slot_count (store_rack self.new) ≡ R.slot_count (store_rack self.old) }
         ensures same { IsSameStore self.old self.new }
-        ensures powers { OnlyLosesSlots (R.slot (store_rack self.old)) (R.slot (store_rack self.new)) }
-        ensures each { AreFailedOrWell (R.slot (store_rack self.old)) (R.slot (store_rack self.new)) }
-        ensures still_synced { StaySynced (R.slot (store_rack self.old)) (R.slot (store_rack self.new)) }
+        ensures powers { OnlyLosesSlots
+            (R.slot (store_rack self.old)) (R.slot (store_rack self.new)) }
+        ensures each { AreFailedOrWell
+            (R.slot (store_rack self.old)) (R.slot (store_rack self.new)) }
+        ensures still_synced { StaySynced
+            (R.slot (store_rack self.old)) (R.slot (store_rack self.new)) }
         ensures synced { OnOk result ((d : ℕ) → d < disks_of self.old → skip ≢ Some d
             → IsSyncedAt (R.slot (store_rack self.new)) d) }
-        ensures one { OnOk result (IsOneOut (disks_of self.old) (named_of self.old) (R.slot (store_rack self.old))
+        ensures one { OnOk result
+            (IsOneOut (disks_of self.old) (named_of self.old) (R.slot (store_rack self.old))
             → IsOneOut (disks_of self.old) (named_of self.old) (R.slot (store_rack self.new))) }
-        ensures two { IfErr result (AreTwoDownBeside (IsOutOfCommit (λ e. (R.slot (store_rack self.old) e).power)
-            (disks_of self.old) (named_of self.old) None)
+        ensures two { IfErr result (AreTwoDownBeside (IsOutOfCommit (λ e.
+            (R.slot (store_rack self.old) e).power) (disks_of self.old) (named_of self.old) None)
             (R.slot (store_rack self.old)) (R.slot (store_rack self.new))) }
-        ensures gone { IfErr result (AreGoneSince (IsOutOfCommit (λ e. (R.slot (store_rack self.old) e).power)
-            (disks_of self.old) (named_of self.old) None)
+        ensures gone { IfErr result (AreGoneSince (IsOutOfCommit (λ e.
+            (R.slot (store_rack self.old) e).power) (disks_of self.old) (named_of self.old) None)
             (R.slot (store_rack self.old)) (R.slot (store_rack self.new))) }
         ensures order { IfErr result (λ two. (only : _) → IsOnlyOut
             (IsOutOfCommit (λ e. (R.slot (store_rack self.old) e).power)

@@ -1,7 +1,7 @@
-//! The witnesses that disk 2 bears against the log disks. Its place `x` is open, as a gate is, where
-//! log disk `x` was out: then a mount that finds the other log disk absent refuses what log disk `x`
-//! says. They stand on disk 2, which spins in every gear, and not on the log disk, which may be away as it
-//! is taken out.
+//! The witnesses that disk 2 bears against the log disks. Its place `x` is open, as a gate is,
+//! where log disk `x` was out: then a mount that finds the other log disk absent refuses what log
+//! disk `x` says. They stand on disk 2, which spins in every gear, and not on the log disk, which
+//! may be away as it is taken out.
 ghost use Rattle.std.specs.Prelude.{◌≡◌, ◌≢◌, ℕ, ◌<◌, ◌⊎◌, true, false, Some, None, Ok, IfOk, IfSome};
 ghost use Rattle.paraid_rack.specs.declared.call.Power.TheVariants.{Absent, Spinning};
 ghost use Rattle.paraid_rack.specs.Told.{Ran};
@@ -113,7 +113,8 @@ fn write_witness<R: Rack>(
     requires within { place < (R.slot rack.old 2).size }
     ensures leaves { (m : MetaType) → gone_of m.out ≡ skip
         → SyncedPart R.Rack (UsesWitness m) losses.old losses.new rack.old rack.new result }
-    ensures told { Ran (R.told rack.old) (R.told rack.new) (λ s cs. SetsWitness place (is_open block.now) cs) }
+    ensures told { Ran (R.told rack.old) (R.told rack.new) (λ s cs.
+        SetsWitness place (is_open block.now) cs) }
 {
     put(rack, losses, skip, BEARER, place, block)?;
     sync_slot(rack, losses, skip, BEARER) // before a step that counts on it
@@ -130,8 +131,8 @@ fn borne_by(witness: Witness) -> Option<DiskNo>
     None
 }
 
-/// Sets a witness on disk 2. Nothing is done where that disk is gone, or cannot be written. It answers
-/// against which log disk witness is borne then, as far as it knows.
+/// Sets a witness on disk 2. Nothing is done where that disk is gone, or cannot be written. It
+/// answers against which log disk witness is borne then, as far as it knows.
 pub(crate) fn set_witness<R: Rack>(
     rack: &mut R,
     losses: &mut Losses,
@@ -139,10 +140,10 @@ pub(crate) fn set_witness<R: Rack>(
     witness: Witness,
 ) -> Result<Option<DiskNo>, Two>
     requires exists { 2 < R.slot_count rack.old }
-    ensures leaves { SyncedPart R.Rack (UsesWitness meta.now) losses.old losses.new rack.old rack.new
-        result }
-    ensures told { Ran (R.told rack.old) (R.told rack.new)
-        (λ s cs. MaySetWitness (R.slot rack.old) (gone_of meta.now.out) witness.disk witness.opened cs) }
+    ensures leaves { SyncedPart R.Rack
+        (UsesWitness meta.now) losses.old losses.new rack.old rack.new result }
+    ensures told { Ran (R.told rack.old) (R.told rack.new) (λ s cs.
+        MaySetWitness (R.slot rack.old) (gone_of meta.now.out) witness.disk witness.opened cs) }
     ensures known { IfOk result (λ borne. IsBorneNow borne (R.told rack.new)) }
     ensures opens { witness.opened ≡ true → IfOk result (λ borne. (borne ≡ Some witness.disk)
         ⊎ CannotSet (R.slot rack.old) (gone_of meta.now.out) witness.disk) }

@@ -31,15 +31,18 @@ abbrev pub IsRefusedTo : Direction → Setup → PowerState → ShiftFault → T
 IsRefusedTo Up setup s fault = IsUpRefused setup s fault
 IsRefusedTo Down setup s fault = IsDownRefused setup s fault
 
--- this is the next gear in this direction, and no disk that a shift to it parks has used up its allowance
+-- this is the next gear in this direction, and no disk that a shift to it parks has used up its
+-- allowance
 abbrev pub IsNextTo : Direction → Meta → ℕ → Type 0
 IsNextTo Up m to = AreNextGears m.setup.geometry m.gear to
-IsNextTo Down m to = AreNextGears m.setup.geometry to m.gear × ((d : ℕ) → to ≤ d → d < m.gear → slice_index m.spins d < allowed_spins m)
+IsNextTo Down m to = AreNextGears m.setup.geometry to m.gear
+    × ((d : ℕ) → to ≤ d → d < m.gear → slice_index m.spins d < allowed_spins m)
 
 -- a shift in this direction has begun, to this gear, by a commit
 abbrev pub HasBegun : Direction → Meta → Meta → ℕ → Type 0
 HasBegun Up m m_then to = HasBegunUp m m_then to
-HasBegun Down m m_then to = IsMarkedFrom (record (meta_after_begin m (PhaseDown to) m.spins) { epoch = m.epoch + 1 }) m_then
+HasBegun Down m m_then to =
+    IsMarkedFrom (record (meta_after_begin m (PhaseDown to) m.spins) { epoch = m.epoch + 1 }) m_then
 
 -- what a shift in this direction that was asked for has left of the meta, so many commits later
 abbrev pub HasMarkedShift : Direction → Meta → Meta → Asked → Type 0

@@ -33,8 +33,8 @@ pub record ServesKnown {R : Type 0} {g : Ghosts R} (core : Core R g) : Type 0 wh
   pub serving : IsCoreServing g.slot_count g.slot core
   pub known : IsOutKnown g.slot core
 
--- The array is in service still, as it was. Copies may be unsynced on the same disks, and a disk that is out is known if
--- it was before; and the slots fit the meta still.
+-- The array is in service still, as it was. Copies may be unsynced on the same disks, and a disk
+-- that is out is known if it was before; and the slots fit the meta still.
 pub record StaysInService {R : Type 0} {g : Ghosts R} (old new : Core R g) : Type 0 where
   pub service : IsInService g.slot_count g.slot new
   pub setup : new.meta.setup ≡ old.meta.setup
@@ -54,51 +54,66 @@ pub record CommitsGone {R : Type 0} {g : Ghosts R} (old new : Core R g) (disk : 
   pub gone : new.meta.out ≡ Gone disk
   pub epoch : new.meta.epoch ≡ old.meta.epoch + 1
 
--- Why a disk is not taken out. Where there is no such disk, or one is out, that is the answer, and nothing has changed;
--- where none was out, the other disk that is named has failed in the call.
-pub record RefusesFail {R : Type 0} {g : Ghosts R} (old new : Core R g) (disk : ℕ) (result : Result (Option FailFault) Two) : Type 0 where
-  pub no_disk : old.meta.setup.geometry.disks ≤ disk → (result ≡ Ok (Some (FailNoDisk disk))) × (new ≡ old)
+-- Why a disk is not taken out. Where there is no such disk, or one is out, that is the answer, and
+-- nothing has changed; where none was out, the other disk that is named has failed in the call.
+pub record RefusesFail {R : Type 0} {g : Ghosts R}
+    (old new : Core R g) (disk : ℕ) (result : Result (Option FailFault) Two) : Type 0 where
+  pub no_disk : old.meta.setup.geometry.disks ≤ disk
+      → (result ≡ Ok (Some (FailNoDisk disk))) × (new ≡ old)
   pub out : (d : ℕ) → disk < old.meta.setup.geometry.disks → named_out old.meta.out ≡ Some d
       → (result ≡ Ok (Some (FailOut d))) × (new ≡ old)
   pub refused : IfOk result (λ refusal. IfSome refusal (IsFailRefused old.meta new.meta disk))
-  pub lost : IfOk result (λ refusal. (e : ℕ) → refusal ≡ Some (FailOut e) → named_out old.meta.out ≡ None
+  pub lost : IfOk result (λ refusal. (e : ℕ)
+      → refusal ≡ Some (FailOut e) → named_out old.meta.out ≡ None
       → HasRisen (g.slot (store_rack old.store) e).faults (g.slot (store_rack new.store) e).faults)
 
--- Why a disk is not replaced. Where there is no such disk, or it is not out, that is the answer, and nothing has changed;
--- nor has it after such an answer.
-pub record RefusesReplace {R : Type 0} {g : Ghosts R} (old new : Core R g) (disk : ℕ) (result : Result (Option ReplaceFault) Two) : Type 0 where
-  pub missing : old.meta.setup.geometry.disks ≤ disk → (result ≡ Ok (Some (NoDisk disk))) × (new ≡ old)
+-- Why a disk is not replaced. Where there is no such disk, or it is not out, that is the answer,
+-- and nothing has changed; nor has it after such an answer.
+pub record RefusesReplace {R : Type 0} {g : Ghosts R}
+    (old new : Core R g) (disk : ℕ) (result : Result (Option ReplaceFault) Two) : Type 0 where
+  pub missing : old.meta.setup.geometry.disks ≤ disk
+      → (result ≡ Ok (Some (NoDisk disk))) × (new ≡ old)
   pub in_place : disk < old.meta.setup.geometry.disks → named_out old.meta.out ≢ Some disk
       → (result ≡ Ok (Some (NotOut disk))) × (new ≡ old)
   pub refused : IfOk result (λ refusal. IfSome refusal (IsReplaceRefused old.meta disk))
   pub no_disk : result ≡ Ok (Some (NoDisk disk)) → new ≡ old
   pub not_out : result ≡ Ok (Some (NotOut disk)) → new ≡ old
 
--- What a tick tells of a disk that is being rebuilt, with the dirty table as it was. One that is told as gone has failed in
--- the tick, and is named out by its last commit.
-pub record TicksRebuild {R : Type 0} {g : Ghosts R} (old new : Core R g) (moved : ℕ) (event : TickEvent) : Type 0 where
-  pub rebuilds : (d u : ℕ) → old.meta.out ≡ Fresh d u → TellsRebuild old.meta new.meta d u moved event
+-- What a tick tells of a disk that is being rebuilt, with the dirty table as it was. One that is
+-- told as gone has failed in the tick, and is named out by its last commit.
+pub record TicksRebuild
+    {R : Type 0} {g : Ghosts R} (old new : Core R g) (moved : ℕ) (event : TickEvent) : Type 0 where
+  pub rebuilds : (d u : ℕ)
+      → old.meta.out ≡ Fresh d u → TellsRebuild old.meta new.meta d u moved event
   pub table : (d u : ℕ) → old.meta.out ≡ Fresh d u → new.dirty ≡ old.dirty
   pub failed : (d u : ℕ) → old.meta.out ≡ Fresh d u → event ≡ GoneInTick d
       → HasRisen (g.slot (store_rack old.store) d).faults (g.slot (store_rack new.store) d).faults
-  pub committed : (d u : ℕ) → old.meta.out ≡ Fresh d u → event ≡ GoneInTick d → named_of new.store ≡ Some d
+  pub committed : (d u : ℕ)
+      → old.meta.out ≡ Fresh d u → event ≡ GoneInTick d → named_of new.store ≡ Some d
 
--- At rest a tick begins the shift that the samples ask for, unless a disk has used up its allowance; an idle one changes
--- nothing. `rests` says what it may tell, whatever the samples are. No cell becomes dirty or clean.
-pub record TicksAtRest {R : Type 0} {g : Ghosts R} (windows : Windows) (old new : Core R g) (moved : ℕ) (event : TickEvent) : Type 0 where
-  pub decides : old.meta.out ≡ No → old.meta.phase ≡ Steady → (samples : List ℕ) → HoldLastSamples windows samples
-      → (s : PowerState) → IsShiftStateOf old.meta s
+-- At rest a tick begins the shift that the samples ask for, unless a disk has used up its
+-- allowance; an idle one changes nothing. `rests` says what it may tell, whatever the samples are.
+-- No cell becomes dirty or clean.
+pub record TicksAtRest {R : Type 0} {g : Ghosts R}
+    (windows : Windows) (old new : Core R g) (moved : ℕ) (event : TickEvent) : Type 0 where
+  pub decides : old.meta.out ≡ No → old.meta.phase ≡ Steady → (samples : List ℕ)
+      → HoldLastSamples windows samples → (s : PowerState) → IsShiftStateOf old.meta s
       → (moved ≡ 0) × TellsDecision old.meta.setup s (decision old.meta.setup s.gear samples) event
   pub idle : old.meta.out ≡ No → old.meta.phase ≡ Steady → IsIdleTick event → new ≡ old
-  pub rests : old.meta.out ≡ No → old.meta.phase ≡ Steady → (moved ≡ 0) × TellsRest old.meta new.meta event
+  pub rests : old.meta.out ≡ No
+      → old.meta.phase ≡ Steady → (moved ≡ 0) × TellsRest old.meta new.meta event
   pub table : old.meta.out ≡ No → old.meta.phase ≡ Steady → new.dirty ≡ old.dirty
 
 -- What a tick moves of a shift that is under way, and what it tells of that.
-pub record TicksShift {R : Type 0} {g : Ghosts R} (old new : Core R g) (moved : ℕ) (event : TickEvent) : Type 0 where
-  pub moves : old.meta.out ≡ No → old.meta.phase ≢ Steady → CoreMoves g.slot_count old new moved event
+pub record TicksShift
+    {R : Type 0} {g : Ghosts R} (old new : Core R g) (moved : ℕ) (event : TickEvent) : Type 0 where
+  pub moves : old.meta.out ≡ No
+      → old.meta.phase ≢ Steady → CoreMoves g.slot_count old new moved event
 
--- The epoch has not fallen, and has risen by three at most beside one for each unit that the tick may move.
+-- The epoch has not fallen, and has risen by three at most beside one for each unit that the tick
+-- may move.
 pub record CommitsInTick {R : Type 0} {g : _} (count : R → ℕ) (old new : Core R g) : Type 0 where
   pub later : old.meta.epoch ≤ new.meta.epoch
-  pub few : (samples : List ℕ) (served energy : ℕ) (s : PowerState) → IsStateOf (service_of count old samples served energy) s
+  pub few : (samples : List ℕ) (served energy : ℕ) (s : PowerState)
+      → IsStateOf (service_of count old samples served energy) s
       → new.meta.epoch ≤ old.meta.epoch + (units_of_tick old.meta.setup s + 3)

@@ -1,4 +1,5 @@
--- When a shift that is asked for begins, and why it is refused: the conditions of the machine, one after the other.
+-- When a shift that is asked for begins, and why it is refused: the conditions of the machine, one
+-- after the other.
 use Rattle.std.specs.Prelude.{◌≡◌, ◌≢◌, ℕ, Some, None}
 use Rattle.paraid_base.specs.declared.event.Answer.{Answer}
 use Rattle.paraid_base.specs.declared.event.Answer.TheVariants.{Lowest as IsLowest, Out as IsOut, Ration as RationUsed, Shifting as IsShifting, Top as IsTop}
@@ -49,7 +50,8 @@ IsHinderedBy phase out (Shifting to) = (phase ≢ Steady) × (to ≡ phase_to ph
 IsHinderedBy phase out (Out d) = (phase ≡ Steady) × (named_out out ≡ Some d)
 IsHinderedBy phase out (Ration d) = ⊥
 
--- a shift down to this gear may begin: it is the next lower one, nothing hinders it, and no disk that it parks has used up its allowance
+-- a shift down to this gear may begin: it is the next lower one, nothing hinders it, and no disk
+-- that it parks has used up its allowance
 pub record MayGoDown (setup : Setup) (s : PowerState) (to : ℕ) : Type 0 where
   pub next : next_lower setup.geometry s.gear ≡ Some to
   pub at_ease : IsAtEase s.phase s.out
@@ -64,30 +66,40 @@ pub record MayGoUp (setup : Setup) (s : PowerState) (to : ℕ) : Type 0 where
 abbrev pub IsDownRefused : Setup → PowerState → ShiftFault → Type 0
 IsDownRefused setup s Top = ⊥
 IsDownRefused setup s Lowest = next_lower setup.geometry s.gear ≡ None
-IsDownRefused setup s (Shifting to) = (next : ℕ) × (next_lower setup.geometry s.gear ≡ Some next) × IsHinderedBy s.phase s.out (Shifting to)
-IsDownRefused setup s (Out d) = (next : ℕ) × (next_lower setup.geometry s.gear ≡ Some next) × IsHinderedBy s.phase s.out (Out d)
-IsDownRefused setup s (Ration d) = (next : ℕ) × (next_lower setup.geometry s.gear ≡ Some next) × IsAtEase s.phase s.out × (first_used_up setup s next ≡ Some d)
+IsDownRefused setup s (Shifting to) = (next : ℕ)
+    × (next_lower setup.geometry s.gear ≡ Some next) × IsHinderedBy s.phase s.out (Shifting to)
+IsDownRefused setup s (Out d) =
+    (next : ℕ) × (next_lower setup.geometry s.gear ≡ Some next) × IsHinderedBy s.phase s.out (Out d)
+IsDownRefused setup s (Ration d) = (next : ℕ) × (next_lower setup.geometry s.gear ≡ Some next)
+    × IsAtEase s.phase s.out × (first_used_up setup s next ≡ Some d)
 
 -- a shift up is refused so
 abbrev pub IsUpRefused : Setup → PowerState → ShiftFault → Type 0
 IsUpRefused setup s Top = next_higher setup.geometry s.gear ≡ None
 IsUpRefused setup s Lowest = ⊥
-IsUpRefused setup s (Shifting to) = (next : ℕ) × (next_higher setup.geometry s.gear ≡ Some next) × IsHinderedBy s.phase s.out (Shifting to)
-IsUpRefused setup s (Out d) = (next : ℕ) × (next_higher setup.geometry s.gear ≡ Some next) × IsHinderedBy s.phase s.out (Out d)
+IsUpRefused setup s (Shifting to) = (next : ℕ)
+    × (next_higher setup.geometry s.gear ≡ Some next) × IsHinderedBy s.phase s.out (Shifting to)
+IsUpRefused setup s (Out d) = (next : ℕ)
+    × (next_higher setup.geometry s.gear ≡ Some next) × IsHinderedBy s.phase s.out (Out d)
 IsUpRefused setup s (Ration d) = ⊥
 
 -- A shift to gear `to` has begun; or it was refused, since a disk is out by the meta after it.
 abbrev pub HasBegunOrLost : Meta → ℕ → Asked → Type 0
 HasBegunOrLost m_then to (Begun gear) = gear ≡ to
-HasBegunOrLost m_then to (Refused fault) = (d : ℕ) × (fault ≡ Out d) × (named_out m_then.out ≡ Some d)
+HasBegunOrLost m_then to (Refused fault) =
+    (d : ℕ) × (fault ≡ Out d) × (named_out m_then.out ≡ Some d)
 
--- What a shift up that was asked for has left of the meta, so many commits later: where it has begun its marks and the spin-ups of
--- the disks that come up, and else the marks of a disk that was lost with what was staged.
+-- What a shift up that was asked for has left of the meta, so many commits later: where it has
+-- begun its marks and the spin-ups of the disks that come up, and else the marks of a disk that was
+-- lost with what was staged.
 abbrev pub HasMarkedUp : Meta → Meta → Asked → Type 0
 HasMarkedUp m m_then (Begun to) = (epoch : ℕ) × HasBegunUp (record m { epoch = epoch }) m_then to
-HasMarkedUp m m_then (Refused fault) = (epoch : ℕ) × IsMarkedFrom (record m { epoch = epoch }) m_then
+HasMarkedUp m m_then (Refused fault) =
+    (epoch : ℕ) × IsMarkedFrom (record m { epoch = epoch }) m_then
 
 -- the same of a shift down, which spins up no disk
 abbrev pub HasMarkedDown : Meta → Meta → Asked → Type 0
-HasMarkedDown m m_then (Begun to) = (epoch : ℕ) × IsMarkedFrom (record (meta_after_begin m (Down to) m.spins) { epoch = epoch }) m_then
-HasMarkedDown m m_then (Refused fault) = (epoch : ℕ) × IsMarkedFrom (record m { epoch = epoch }) m_then
+HasMarkedDown m m_then (Begun to) = (epoch : ℕ)
+    × IsMarkedFrom (record (meta_after_begin m (Down to) m.spins) { epoch = epoch }) m_then
+HasMarkedDown m m_then (Refused fault) =
+    (epoch : ℕ) × IsMarkedFrom (record m { epoch = epoch }) m_then

@@ -26,16 +26,21 @@ use Rattle.paraid_upkeep.specs.declared.fault.ShiftFault.TheVariants.{Ration as 
 abbrev pub units_unbuilt : Meta → ℕ → ℕ → ℕ
 units_unbuilt m d u = rebuild_units m.setup.geometry m.gear d - u
 
--- A tick that rebuilds disk `d`, of which `u` units are rebuilt: it moves as many as the rate says where more are left, or the
--- last ones, and then the disk is back; or it is gone again. Nothing else of the meta has changed but the epoch.
+-- A tick that rebuilds disk `d`, of which `u` units are rebuilt: it moves as many as the rate says
+-- where more are left, or the last ones, and then the disk is back; or it is gone again. Nothing
+-- else of the meta has changed but the epoch.
 abbrev pub TellsRebuild : Meta → Meta → ℕ → ℕ → ℕ → TickEvent → Type 0
 TellsRebuild m m_then d u count Steady = ⊥
 TellsRebuild m m_then d u count Waiting = ⊥
-TellsRebuild m m_then d u count Moving = (count ≡ m.setup.rate) × (m.setup.rate < units_unbuilt m d u) × (m_then ≡ record m { epoch = m_then.epoch; out = Fresh d (u + count) })
+TellsRebuild m m_then d u count Moving =
+    (count ≡ m.setup.rate) × (m.setup.rate < units_unbuilt m d u)
+    × (m_then ≡ record m { epoch = m_then.epoch; out = Fresh d (u + count) })
 TellsRebuild m m_then d u count Flipped = ⊥
 TellsRebuild m m_then d u count (Begun to) = ⊥
-TellsRebuild m m_then d u count (Rebuilt e) = (e ≡ d) × (count ≡ units_unbuilt m d u) × (units_unbuilt m d u ≤ m.setup.rate) × (m_then ≡ record m { epoch = m_then.epoch; out = No })
-TellsRebuild m m_then d u count (Gone e) = (e ≡ d) × (count ≡ 0) × (m_then ≡ record (meta_after_loss m d) { epoch = m_then.epoch })
+TellsRebuild m m_then d u count (Rebuilt e) = (e ≡ d) × (count ≡ units_unbuilt m d u)
+    × (units_unbuilt m d u ≤ m.setup.rate) × (m_then ≡ record m { epoch = m_then.epoch; out = No })
+TellsRebuild m m_then d u count (Gone e) =
+    (e ≡ d) × (count ≡ 0) × (m_then ≡ record (meta_after_loss m d) { epoch = m_then.epoch })
 TellsRebuild m m_then d u count (Lost e) = ⊥
 TellsRebuild m m_then d u count (Ration e) = ⊥
 
@@ -70,10 +75,11 @@ pub record HasTickedUp (m m_then : Meta) (to : ℕ) : Type 0 where
 -- a shift down to this gear might begin by the first meta, and has begun by the second
 pub record HasTickedDown (m m_then : Meta) (to : ℕ) : Type 0 where
   pub could : (s : PowerState) → IsShiftStateOf m s → MayGoDown m.setup s to
-  pub begun : IsMarkedFrom (record (meta_after_begin m (PhaseDown to) m.spins) { epoch = m.epoch + 1 }) m_then
+  pub begun : IsMarkedFrom
+      (record (meta_after_begin m (PhaseDown to) m.spins) { epoch = m.epoch + 1 }) m_then
 
--- What a tick at rest may tell, whatever the samples are: nothing, that a shift has begun which might, or the disk for whose
--- allowance one down is refused.
+-- What a tick at rest may tell, whatever the samples are: nothing, that a shift has begun which
+-- might, or the disk for whose allowance one down is refused.
 abbrev pub TellsRest : Meta → Meta → TickEvent → Type 0
 TellsRest m m_then Steady = Unit {0}
 TellsRest m m_then Waiting = ⊥
@@ -83,24 +89,30 @@ TellsRest m m_then (Begun to) = HasTickedUp m m_then to ⊎ HasTickedDown m m_th
 TellsRest m m_then (Rebuilt d) = ⊥
 TellsRest m m_then (Gone d) = ⊥
 TellsRest m m_then (Lost d) = ⊥
-TellsRest m m_then (Ration d) = (s : PowerState) → IsShiftStateOf m s → IsDownRefused m.setup s (Worn d)
+TellsRest m m_then (Ration d) = (s : PowerState)
+    → IsShiftStateOf m s → IsDownRefused m.setup s (Worn d)
 
--- What a tick of a shift moves and tells, by the machine, from a state that was shown to the service after it: units that do not end
--- the shift; or the last ones, and it ends, after which a disk may be lost; or a disk is lost after some of them.
+-- What a tick of a shift moves and tells, by the machine, from a state that was shown to the
+-- service after it: units that do not end the shift; or the last ones, and it ends, after which a
+-- disk may be lost; or a disk is lost after some of them.
 abbrev pub TellsMove : Setup → PowerState → Service → ℕ → TickEvent → Type 0
 TellsMove setup s k_then count Steady = ⊥
 TellsMove setup s k_then count Waiting = ⊥
-TellsMove setup s k_then count Moving = (count ≡ units_of_tick setup s) × (count < units_left setup s) × IsStateOf k_then (after_units setup count s)
+TellsMove setup s k_then count Moving = (count ≡ units_of_tick setup s)
+    × (count < units_left setup s) × IsStateOf k_then (after_units setup count s)
 TellsMove setup s k_then count Flipped =
-    (count ≡ units_left setup s) × (count ≤ units_of_tick setup s) × GoesToState k_then (after_flip (after_units setup count s))
+    (count ≡ units_left setup s)
+    × (count ≤ units_of_tick setup s) × GoesToState k_then (after_flip (after_units setup count s))
 TellsMove setup s k_then count (Begun to) = ⊥
 TellsMove setup s k_then count (Rebuilt d) = ⊥
 TellsMove setup s k_then count (Gone d) = ⊥
 TellsMove setup s k_then count (Lost d) =
-    (count ≤ units_of_tick setup s) × (named_out k_then.meta.out ≡ Some d) × IsStateOf k_then (after_loss (after_units setup count s) d)
+    (count ≤ units_of_tick setup s) × (named_out k_then.meta.out ≡ Some d)
+    × IsStateOf k_then (after_loss (after_units setup count s) d)
 TellsMove setup s k_then count (Ration d) = ⊥
 
 -- the same of a core, from each state that it shows
 abbrev pub CoreMoves : {R : Type 0} {g : _} → (R → ℕ) → Core R g → Core R g → ℕ → TickEvent → Type 0
-CoreMoves count old new moved event = (samples : List ℕ) (served energy : ℕ) (s : PowerState) → IsStateOf (service_of count old samples served energy) s
+CoreMoves count old new moved event = (samples : List ℕ) (served energy : ℕ) (s : PowerState)
+    → IsStateOf (service_of count old samples served energy) s
     → TellsMove old.meta.setup s (service_of count new samples served energy) moved event

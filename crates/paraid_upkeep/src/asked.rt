@@ -69,7 +69,8 @@ fn begin_shift<R: Rack>(core: &mut Core<R>, direction: Direction, to: u8) -> Res
     ensures meta { OnOk result (HasBegun direction (meta_of core.old) (meta_of core.new) to) }
     ensures keeps { KeepsContents core.old core.new }
     ensures steps { OnOk result (CoreStepsInEvent R.slot_count R.told core.old core.new 1) }
-    ensures rack { KeepsRack core.old core.new (CoreLosesInSteps R.slot_count R.told core.old core.new 1) result }
+    ensures rack { KeepsRack core.old core.new
+        (CoreLosesInSteps R.slot_count R.told core.old core.new 1) result }
 {
     match direction {
         Direction::Up => begin_up(core, to),
@@ -77,19 +78,21 @@ fn begin_shift<R: Rack>(core: &mut Core<R>, direction: Direction, to: u8) -> Res
     }
 }
 
-/// Begins a shift to the next gear in this direction, unless it is refused. What is staged is committed first; a disk that
-/// is lost in that refuses it too.
+/// Begins a shift to the next gear in this direction, unless it is refused. What is staged is
+/// committed first; a disk that is lost in that refuses it too.
 pub fn ask_shift<R: Rack>(core: &mut Core<R>, direction: Direction) -> Result<Asked, Two>
     requires serving { IsCoreServing R.slot_count R.slot core.old }
     requires epoch { (meta_of core.old).epoch < worn_at }
     ensures serves { OnOk result (StaysServing R.slot_count R.slot core.old core.new) }
     // Where the machine refuses it, this is its refusal, and nothing changes.
-    ensures refused { (fault : ShiftFaultType) (s : PowerState) → IsShiftStateOf (meta_of core.old) s
+    ensures refused { (fault : ShiftFaultType) (s : PowerState)
+        → IsShiftStateOf (meta_of core.old) s
         → IsRefusedTo direction (meta_of core.old).setup s fault
         → (result ≡ Ok (Refused fault)) × (core.new ≡ core.old) }
     // What it does not refuse begins, unless a disk is lost with what was staged.
-    ensures begins { IfOk result (λ asked. (to : ℕ) (s : PowerState) → IsShiftStateOf (meta_of core.old) s
-        → MayGo direction (meta_of core.old).setup s to → HasBegunOrLost (meta_of core.new) to asked) }
+    ensures begins { IfOk result (λ asked. (to : ℕ) (s : PowerState)
+        → IsShiftStateOf (meta_of core.old) s → MayGo direction (meta_of core.old).setup s to
+        → HasBegunOrLost (meta_of core.new) to asked) }
     ensures marks { IfOk result (HasMarkedShift direction (meta_of core.old) (meta_of core.new)) }
     ensures commits { OnOk result (CommitsAtMost core.old core.new 2) }
     // No cell becomes dirty or clean.

@@ -21,8 +21,8 @@ use paraid_base::{DiskNo, Two};
 use paraid_core::Core;
 use paraid_rack::Rack;
 
-// Commits what is staged, if anything is: so all writes are kept before a disk is taken out, whatever is lost as it is
-// marked.
+// Commits what is staged, if anything is: so all writes are kept before a disk is taken out,
+// whatever is lost as it is marked.
 fn commit_writes<R: Rack>(core: &mut Core<R>) -> Result<(), Two>
     requires service { IsInService R.slot_count R.slot core.old }
     requires epoch { (meta_of core.old).epoch < worn_at }
@@ -33,11 +33,12 @@ fn commit_writes<R: Rack>(core: &mut Core<R>) -> Result<(), Two>
     ensures keeps { SparesSlots core.old core.new result }
     ensures down { OnOk result (IsDownAfter (core_down core.old) (core_down core.new)
         (R.slot (core_rack core.old)) (R.slot (core_rack core.new))) }
-    ensures meta { OnOk result (IsMarkedFrom (record (meta_of core.old) { epoch = (meta_of core.new).epoch })
-        (meta_of core.new)) }
+    ensures meta { OnOk result (IsMarkedFrom
+        (record (meta_of core.old) { epoch = (meta_of core.new).epoch }) (meta_of core.new)) }
     ensures epoch { OnOk result (CommitsAtMost core.old core.new 1) }
     ensures commits { OnOk result (CoreCommits R.slot_count R.told core.old core.new) }
-    ensures loses { IfErr result (λ two. CoreLosesCommit R.slot_count R.told core.old core.new two) }
+    ensures loses { IfErr result (λ two.
+        CoreLosesCommit R.slot_count R.told core.old core.new two) }
     ensures told { Extends (R.told (core_rack core.old)) (R.told (core_rack core.new)) }
 {
     if core.staged() == 0 {
@@ -61,7 +62,8 @@ fn mark_gone<R: Rack>(core: &mut Core<R>, disk: DiskNo) -> Result<(), Two>
     // In an event the mark is one in memory, and is committed.
     ensures marks { CanMarkTaken R.slot_count R.told core.old disk }
     ensures commits { OnOk result (CoreCommitsTaken R.slot_count R.told core.old core.new disk) }
-    ensures loses { IfErr result (λ two. CoreLosesTaken R.slot_count R.told core.old core.new disk two) }
+    ensures loses { IfErr result (λ two.
+        CoreLosesTaken R.slot_count R.told core.old core.new disk two) }
     ensures spared { OnlyLosesSlots (R.slot (core_rack core.old)) (R.slot (core_rack core.new)) }
     ensures two { IfErr result (AreTwoDownBeside (λ d. (core_down core.old ≡ Some d) ⊎ (d ≡ disk))
         (R.slot (core_rack core.old)) (R.slot (core_rack core.new))) }
@@ -72,8 +74,9 @@ fn mark_gone<R: Rack>(core: &mut Core<R>, disk: DiskNo) -> Result<(), Two>
     Ok(())
 }
 
-/// Takes a disk out, unless it is refused: where there is no such disk, or one is out. What is staged is committed
-/// first, if anything is; another disk that is lost in that refuses it too. It gives the refusal.
+/// Takes a disk out, unless it is refused: where there is no such disk, or one is out. What is
+/// staged is committed first, if anything is; another disk that is lost in that refuses it too. It
+/// gives the refusal.
 pub fn take_out<R: Rack>(core: &mut Core<R>, disk: DiskNo) -> Result<Option<FailFault>, Two>
     requires service { IsInService R.slot_count R.slot core.old }
     requires epoch { (meta_of core.old).epoch < worn_at }
@@ -87,11 +90,13 @@ pub fn take_out<R: Rack>(core: &mut Core<R>, disk: DiskNo) -> Result<Option<Fail
     ensures table { core_table core.new ≡ core_table core.old }
     ensures commits { OnOk result (CommitsAtMost core.old core.new 2) }
     // Where nothing is staged, the mark is the only commit.
-    ensures alone { batch_of core.old ≡ [] → OnOk result ((meta_of core.new).epoch ≤ (meta_of core.old).epoch + 1) }
+    ensures alone { batch_of core.old ≡ []
+        → OnOk result ((meta_of core.new).epoch ≤ (meta_of core.old).epoch + 1) }
     // It is an event of a session.
     ensures turn { IfOk result (λ refusal. CoreGoesOn R.slot_count R.told core.old core.new
         (FailEvent disk) (fail_answer disk refusal)) }
-    ensures halts { IfErr result (λ two. CoreHalts R.slot_count R.told core.old core.new (FailEvent disk) two) }
+    ensures halts { IfErr result (λ two.
+        CoreHalts R.slot_count R.told core.old core.new (FailEvent disk) two) }
     // The first of two disks may be the one that is taken out.
     ensures two { IfErr result (AreTwoDownBeside (λ d. (core_down core.old ≡ Some d) ⊎ (d ≡ disk))
         (R.slot (core_rack core.old)) (R.slot (core_rack core.new))) }

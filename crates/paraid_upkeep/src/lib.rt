@@ -1,8 +1,8 @@
-//! The events of an array with gears over a core: ticks, shifts, failures and replacements. Reads, writes and flushes are
-//! calls of the core.
+//! The events of an array with gears over a core: ticks, shifts, failures and replacements. Reads,
+//! writes and flushes are calls of the core.
 //!
-//! Each call is made of calls of the core, the shifts and the rebuild, under their conditions. Which halt follows a second
-//! loss or wear is for the array that is to stand on these.
+//! Each call is made of calls of the core, the shifts and the rebuild, under their conditions.
+//! Which halt follows a second loss or wear is for the array that is to stand on these.
 #![tactic(auto)]
 
 mod asked;

@@ -43,12 +43,15 @@ fn park_back<R: Rack>(core: &mut Core<R>, disk: DiskNo) -> Result<bool, Two>
     requires spins { (R.slot (core_rack core.old) disk).power ≡ Spinning }
     ensures serves { OnOk result (LeavesInService R.slot_count R.slot core.old core.new) }
     // With it each disk is powered by the gear, where the others are.
-    ensures fits { OnOk result (FitsSlots (R.slot (core_rack core.old)) (meta_with_out (meta_of core.old) (Gone disk))
+    ensures fits { OnOk result
+        (FitsSlots (R.slot (core_rack core.old)) (meta_with_out (meta_of core.old) (Gone disk))
         → FitsSlots (R.slot (core_rack core.new)) (meta_of core.new)) }
     ensures answers { AnswersPowerCall disk core.old core.new result }
-    ensures marked { result ≡ Ok false → meta_of core.new ≡ meta_after_loss (meta_of core.old) disk }
+    ensures marked { result ≡ Ok false
+        → meta_of core.new ≡ meta_after_loss (meta_of core.old) disk }
     ensures table { core_table core.new ≡ core_table core.old }
-    // In the event of a tick it is the park with which a rebuild ends; no second disk is lost in one call.
+    // In the event of a tick it is the park with which a rebuild ends; no second disk is lost in
+    // one call.
     ensures parks { OnOk result (CoreParksBack R.slot_count R.told core.old core.new disk) }
     ensures alone { IfErr result (λ two. R.told (core_rack core.new) ≡ None) }
     ensures calls { MakesCalls R.slot_count R.slot R.told core.old core.new }
@@ -62,7 +65,8 @@ fn park_back<R: Rack>(core: &mut Core<R>, disk: DiskNo) -> Result<bool, Two>
     core.park(disk)
 }
 
-// Copies the units that are left, and takes the disk into the array again. False where it was lost in that.
+// Copies the units that are left, and takes the disk into the array again. False where it was lost
+// in that.
 fn come_back<R: Rack>(core: &mut Core<R>, disk: DiskNo) -> Result<bool, Two>
     requires can { CanRebuild core.old disk }
     requires nothing { batch_of core.old ≡ [] }
@@ -70,15 +74,18 @@ fn come_back<R: Rack>(core: &mut Core<R>, disk: DiskNo) -> Result<bool, Two>
     requires epoch { (meta_of core.old).epoch < 2 ^ 63 }
     ensures serves { OnOk result (LeavesInService R.slot_count R.slot core.old core.new) }
     ensures commits { OnOk result (CommitsAtMost core.old core.new 1) }
-    ensures lost { result ≡ Ok false → IsLostNow (R.slot (core_rack core.old)) (R.slot (core_rack core.new)) disk }
+    ensures lost { result ≡ Ok false
+        → IsLostNow (R.slot (core_rack core.old)) (R.slot (core_rack core.new)) disk }
     ensures rejoined { result ≡ Ok true → meta_of core.new ≡ record (meta_of core.old)
         { epoch = (meta_of core.new).epoch; out = No } }
     ensures marked { result ≡ Ok false → meta_of core.new
         ≡ record (meta_after_loss (meta_of core.old) disk) { epoch = (meta_of core.new).epoch } }
     ensures table { OnOk result (core_table core.new ≡ core_table core.old) }
     // In the event of a tick these are the calls with which a rebuild ends.
-    ensures comes { IfOk result (λ back. CoreComesBack R.slot_count R.told core.old core.new disk back) }
-    ensures loses { IfErr result (λ two. CoreLosesComing R.slot_count R.told core.old core.new disk two) }
+    ensures comes { IfOk result (λ back.
+        CoreComesBack R.slot_count R.told core.old core.new disk back) }
+    ensures loses { IfErr result (λ two.
+        CoreLosesComing R.slot_count R.told core.old core.new disk two) }
     ensures calls { MakesCalls R.slot_count R.slot R.told core.old core.new }
     ensures two { IfErr result (AreTwoDown (core_down core.old)
         (R.slot (core_rack core.old)) (R.slot (core_rack core.new))) }
@@ -90,8 +97,8 @@ fn come_back<R: Rack>(core: &mut Core<R>, disk: DiskNo) -> Result<bool, Two>
     park_back(core, disk)
 }
 
-// Commits what is staged, copies the units that are left, and takes the disk into the array again. False where it was lost
-// in that: it is gone, which no commit has brought to the disks yet.
+// Commits what is staged, copies the units that are left, and takes the disk into the array again.
+// False where it was lost in that: it is gone, which no commit has brought to the disks yet.
 fn rejoin_disk<R: Rack>(core: &mut Core<R>, disk: DiskNo) -> Result<bool, Two>
     requires can { CanRebuild core.old disk }
     requires disk { disk < (meta_of core.old).setup.geometry.disks }
@@ -102,22 +109,27 @@ fn rejoin_disk<R: Rack>(core: &mut Core<R>, disk: DiskNo) -> Result<bool, Two>
         { epoch = (meta_of core.new).epoch; out = No } }
     ensures marked { result ≡ Ok false → meta_of core.new
         ≡ record (meta_after_loss (meta_of core.old) disk) { epoch = (meta_of core.new).epoch } }
-    ensures lost { result ≡ Ok false → IsLostNow (R.slot (core_rack core.old)) (R.slot (core_rack core.new)) disk }
+    ensures lost { result ≡ Ok false
+        → IsLostNow (R.slot (core_rack core.old)) (R.slot (core_rack core.new)) disk }
     ensures table { OnOk result (core_table core.new ≡ core_table core.old) }
     // Where it is back, that is a tick of a session, with so many units as were left.
-    ensures turn { result ≡ Ok true → (rebuilt : ℕ) (windows : WindowsType) → (meta_of core.old).out ≡ Fresh disk rebuilt
+    ensures turn { result ≡ Ok true
+        → (rebuilt : ℕ) (windows : WindowsType) → (meta_of core.old).out ≡ Fresh disk rebuilt
         → units_unbuilt (meta_of core.old) disk rebuilt ≤ (meta_of core.old).setup.rate
-        → CoreTicks R.slot_count R.told windows core.old core.new (record {
+        → CoreTicks R.slot_count R.told windows core.old core.new
+        (record {
           gear = (meta_of core.new).gear;
           moved = units_unbuilt (meta_of core.old) disk rebuilt;
           event = Rebuilt disk;
         }) }
     // Where it was lost, these are parts of the tick with at most two commits.
-    ensures event { result ≡ Ok false → (samples : List ℕ) (served energy : ℕ) (h : History) (lo : ℕ)
+    ensures event { result ≡ Ok false
+        → (samples : List ℕ) (served energy : ℕ) (h : History) (lo : ℕ)
         → Ran (R.told (core_rack core.old)) (R.told (core_rack core.new))
         (StepsInEvent (service_of R.slot_count core.old samples served energy)
         (service_of R.slot_count core.new samples served energy) h lo 2) }
-    ensures halts { IfErr result (λ two. (rebuilt : ℕ) (windows : WindowsType) → (meta_of core.old).out ≡ Fresh disk rebuilt
+    ensures halts { IfErr result (λ two. (rebuilt : ℕ) (windows : WindowsType)
+        → (meta_of core.old).out ≡ Fresh disk rebuilt
         → CoreTickHalts R.slot_count R.told windows core.old core.new two) }
     ensures calls { MakesCalls R.slot_count R.slot R.told core.old core.new }
     ensures two { IfErr result (AreTwoDown (core_down core.old)
@@ -130,8 +142,8 @@ fn rejoin_disk<R: Rack>(core: &mut Core<R>, disk: DiskNo) -> Result<bool, Two>
     come_back(core, disk)
 }
 
-// The last tick of a rebuild: what is staged is committed first. False where the disk was lost in it: that it is gone is
-// committed.
+// The last tick of a rebuild: what is staged is committed first. False where the disk was lost in
+// it: that it is gone is committed.
 fn end_rebuild<R: Rack>(core: &mut Core<R>, disk: DiskNo) -> Result<bool, Two>
     requires can { CanRebuild core.old disk }
     requires disk { disk < (meta_of core.old).setup.geometry.disks }
@@ -143,18 +155,20 @@ fn end_rebuild<R: Rack>(core: &mut Core<R>, disk: DiskNo) -> Result<bool, Two>
     ensures marked { result ≡ Ok false → meta_of core.new
         ≡ record (meta_after_loss (meta_of core.old) disk) { epoch = (meta_of core.new).epoch } }
     ensures committed { result ≡ Ok false → named_of (store_of core.new) ≡ Some disk }
-    ensures failed { result ≡ Ok false
-        → HasRisen (R.slot (core_rack core.old) disk).faults (R.slot (core_rack core.new) disk).faults }
+    ensures failed { result ≡ Ok false → HasRisen
+        (R.slot (core_rack core.old) disk).faults (R.slot (core_rack core.new) disk).faults }
     ensures table { OnOk result (core_table core.new ≡ core_table core.old) }
     // It is a tick of a session, with so many units as were left.
-    ensures turn { IfOk result (λ back. (rebuilt : ℕ) (windows : WindowsType) → (meta_of core.old).out ≡ Fresh disk rebuilt
-        → units_unbuilt (meta_of core.old) disk rebuilt ≤ (meta_of core.old).setup.rate
-        → CoreTicks R.slot_count R.told windows core.old core.new (record {
+    ensures turn { IfOk result (λ back. (rebuilt : ℕ) (windows : WindowsType)
+        → (meta_of core.old).out ≡ Fresh disk rebuilt
+        → units_unbuilt (meta_of core.old) disk rebuilt ≤ (meta_of core.old).setup.rate → CoreTicks
+        R.slot_count R.told windows core.old core.new (record {
           gear = (meta_of core.new).gear;
           moved = if back then units_unbuilt (meta_of core.old) disk rebuilt else 0;
           event = if back then Rebuilt disk else GoneInTick disk;
         })) }
-    ensures halts { IfErr result (λ two. (rebuilt : ℕ) (windows : WindowsType) → (meta_of core.old).out ≡ Fresh disk rebuilt
+    ensures halts { IfErr result (λ two. (rebuilt : ℕ) (windows : WindowsType)
+        → (meta_of core.old).out ≡ Fresh disk rebuilt
         → CoreTickHalts R.slot_count R.told windows core.old core.new two) }
     ensures calls { MakesCalls R.slot_count R.slot R.told core.old core.new }
     ensures two { IfErr result (AreTwoDown (core_down core.old)
@@ -172,7 +186,8 @@ fn end_rebuild<R: Rack>(core: &mut Core<R>, disk: DiskNo) -> Result<bool, Two>
 fn move_units<R: Rack>(core: &mut Core<R>, disk: DiskNo, end: u32) -> Result<bool, Two>
     requires can { CanRebuild core.old disk }
     requires from { rebuilt_count (meta_of core.old).out ≤ end }
-    requires limit { end ≤ units_of_rebuild (meta_of core.old).setup.geometry (meta_of core.old).gear disk }
+    requires limit { end
+        ≤ units_of_rebuild (meta_of core.old).setup.geometry (meta_of core.old).gear disk }
     requires epoch { (meta_of core.old).epoch + 2 < 2 ^ 63 }
     ensures serves { OnOk result (LeavesInService R.slot_count R.slot core.old core.new) }
     ensures commits { OnOk result (CommitsAtMost core.old core.new 3) }
@@ -181,19 +196,22 @@ fn move_units<R: Rack>(core: &mut Core<R>, disk: DiskNo, end: u32) -> Result<boo
     ensures marked { result ≡ Ok false → meta_of core.new
         ≡ record (meta_after_loss (meta_of core.old) disk) { epoch = (meta_of core.new).epoch } }
     ensures committed { result ≡ Ok false → named_of (store_of core.new) ≡ Some disk }
-    ensures failed { result ≡ Ok false
-        → HasRisen (R.slot (core_rack core.old) disk).faults (R.slot (core_rack core.new) disk).faults }
+    ensures failed { result ≡ Ok false → HasRisen
+        (R.slot (core_rack core.old) disk).faults (R.slot (core_rack core.new) disk).faults }
     ensures table { OnOk result (core_table core.new ≡ core_table core.old) }
     // It is a tick of a session, where the rate leaves some units.
-    ensures turn { IfOk result (λ moved. (rebuilt : ℕ) (windows : WindowsType) → (meta_of core.old).out ≡ Fresh disk rebuilt
+    ensures turn { IfOk result (λ moved. (rebuilt : ℕ) (windows : WindowsType)
+        → (meta_of core.old).out ≡ Fresh disk rebuilt
         → (meta_of core.old).setup.rate < units_unbuilt (meta_of core.old) disk rebuilt
-        → end ≡ rebuilt + (meta_of core.old).setup.rate
-        → CoreTicks R.slot_count R.told windows core.old core.new (record {
+        → end ≡ rebuilt + (meta_of core.old).setup.rate → CoreTicks R.slot_count R.told windows
+        core.old core.new (record {
           gear = (meta_of core.new).gear;
-          moved = if moved then (meta_of core.old).setup.rate else 0;
+          moved = if moved then (meta_of
+              core.old).setup.rate else 0;
           event = if moved then Moving else GoneInTick disk;
         })) }
-    ensures halts { IfErr result (λ two. (rebuilt : ℕ) (windows : WindowsType) → (meta_of core.old).out ≡ Fresh disk rebuilt
+    ensures halts { IfErr result (λ two. (rebuilt : ℕ) (windows : WindowsType)
+        → (meta_of core.old).out ≡ Fresh disk rebuilt
         → CoreTickHalts R.slot_count R.told windows core.old core.new two) }
     ensures calls { MakesCalls R.slot_count R.slot R.told core.old core.new }
     ensures two { IfErr result (AreTwoDown (core_down core.old)
@@ -214,14 +232,17 @@ pub(crate) fn rebuild<R: Rack>(
     requires epoch { (meta_of core.old).epoch < worn_at }
     ensures serves { OnOk result (LeavesInService R.slot_count R.slot core.old core.new) }
     ensures commits { OnOk result (CommitsAtMost core.old core.new 3) }
-    ensures tells { IfOk result (λ done. TellsRebuild (meta_of core.old) (meta_of core.new) disk first done.0 done.1) }
+    ensures tells { IfOk result (λ done.
+        TellsRebuild (meta_of core.old) (meta_of core.new) disk first done.0 done.1) }
     // A disk that is told as gone has failed in the tick, and is named out by its last commit.
-    ensures committed { IfOk result (λ done. done.1 ≡ GoneInTick disk → named_of (store_of core.new) ≡ Some disk) }
-    ensures failed { IfOk result (λ done. done.1 ≡ GoneInTick disk
-        → HasRisen (R.slot (core_rack core.old) disk).faults (R.slot (core_rack core.new) disk).faults) }
+    ensures committed { IfOk result (λ done. done.1 ≡ GoneInTick disk
+        → named_of (store_of core.new) ≡ Some disk) }
+    ensures failed { IfOk result (λ done. done.1 ≡ GoneInTick disk → HasRisen
+        (R.slot (core_rack core.old) disk).faults (R.slot (core_rack core.new) disk).faults) }
     ensures table { OnOk result (core_table core.new ≡ core_table core.old) }
     // It is a tick of a session.
-    ensures turn { IfOk result (λ done. (windows : WindowsType) → CoreTicks R.slot_count R.told windows core.old core.new
+    ensures turn { IfOk result (λ done. (windows : WindowsType)
+        → CoreTicks R.slot_count R.told windows core.old core.new
         (record { gear = (meta_of core.new).gear; moved = done.0; event = done.1 })) }
     ensures halts { IfErr result (λ two. (windows : WindowsType)
         → CoreTickHalts R.slot_count R.told windows core.old core.new two) }

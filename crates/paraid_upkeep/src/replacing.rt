@@ -28,7 +28,8 @@ fn bring<R: Rack>(core: &mut Core<R>, disk: DiskNo) -> Result<Option<ReplaceFaul
     ensures service { OnOk result (ServesKnown core.new) }
     ensures fits { OnOk result (KeepsFit R.slot core.old core.new) }
     ensures leaves { OnOk result (LeavesArrayBut R.slot_count R.slot core.old core.new disk) }
-    ensures fresh { result ≡ Ok None → IsReplacedFrom (meta_of core.old) (meta_of core.new) disk 2 (Fresh disk 0) }
+    ensures fresh { result ≡ Ok None
+        → IsReplacedFrom (meta_of core.old) (meta_of core.new) disk 2 (Fresh disk 0) }
     ensures lacks { result ≡ Ok (Some (NoFresh disk)) → LacksFreshDisk core.old core.new disk
         (IsReplacedFrom (meta_of core.old) (meta_of core.new) disk 1 (Gone disk)
         ⊎ IsReplacedFrom (meta_of core.old) (meta_of core.new) disk 2 (Gone disk)) }
@@ -37,7 +38,8 @@ fn bring<R: Rack>(core: &mut Core<R>, disk: DiskNo) -> Result<Option<ReplaceFaul
     // It is an event of a session.
     ensures turn { IfOk result (λ refusal. CoreGoesOn R.slot_count R.told core.old core.new
         (ReplaceEvent disk) (replace_answer disk refusal)) }
-    ensures halts { IfErr result (λ two. CoreHalts R.slot_count R.told core.old core.new (ReplaceEvent disk) two) }
+    ensures halts { IfErr result (λ two.
+        CoreHalts R.slot_count R.told core.old core.new (ReplaceEvent disk) two) }
     ensures keeps { KeepsCounts core.old core.new result }
     ensures told { Extends (R.told (core_rack core.old)) (R.told (core_rack core.new)) }
 {
@@ -48,8 +50,9 @@ fn bring<R: Rack>(core: &mut Core<R>, disk: DiskNo) -> Result<Option<ReplaceFaul
     Ok(Some(ReplaceFault::NoFresh { disk }))
 }
 
-/// Replaces a disk that is out, also one that is being rebuilt, unless it is refused: where there is no such disk, or it
-/// is not out. It gives the refusal; where no fresh disk came the disk is gone, with no spin-up counted.
+/// Replaces a disk that is out, also one that is being rebuilt, unless it is refused: where there
+/// is no such disk, or it is not out. It gives the refusal; where no fresh disk came the disk is
+/// gone, with no spin-up counted.
 pub fn replace<R: Rack>(core: &mut Core<R>, disk: DiskNo) -> Result<Option<ReplaceFault>, Two>
     requires service { ServesKnown core.old }
     requires epoch { (meta_of core.old).epoch < worn_at }
@@ -57,7 +60,8 @@ pub fn replace<R: Rack>(core: &mut Core<R>, disk: DiskNo) -> Result<Option<Repla
     ensures fits { OnOk result (KeepsFit R.slot core.old core.new) }
     ensures setup { OnOk result ((meta_of core.new).setup ≡ (meta_of core.old).setup) }
     ensures writes { OnOk result ((meta_of core.new).writes ≡ (meta_of core.old).writes) }
-    ensures fresh { result ≡ Ok None → IsReplacedFrom (meta_of core.old) (meta_of core.new) disk 2 (Fresh disk 0) }
+    ensures fresh { result ≡ Ok None
+        → IsReplacedFrom (meta_of core.old) (meta_of core.new) disk 2 (Fresh disk 0) }
     // The disk is gone, and its slot has failed.
     ensures lacks { result ≡ Ok (Some (NoFresh disk)) → LacksFreshDisk core.old core.new disk
         (IsReplacedFrom (meta_of core.old) (meta_of core.new) disk 1 (Gone disk)
@@ -70,7 +74,8 @@ pub fn replace<R: Rack>(core: &mut Core<R>, disk: DiskNo) -> Result<Option<Repla
     // It is an event of a session.
     ensures turn { IfOk result (λ refusal. CoreGoesOn R.slot_count R.told core.old core.new
         (ReplaceEvent disk) (replace_answer disk refusal)) }
-    ensures halts { IfErr result (λ two. CoreHalts R.slot_count R.told core.old core.new (ReplaceEvent disk) two) }
+    ensures halts { IfErr result (λ two.
+        CoreHalts R.slot_count R.told core.old core.new (ReplaceEvent disk) two) }
     ensures keeps { KeepsCounts core.old core.new result }
     ensures told { Extends (R.told (core_rack core.old)) (R.told (core_rack core.new)) }
 {

@@ -56,7 +56,8 @@ pub fn gear_below(meta: &Meta) -> Result<u8, ShiftFault>
     ensures spared { IfOk result (λ to. (d : ℕ) → to ≤ d → d < meta.now.gear
         → slice_index meta.now.spins d < allowed_spins meta.now) }
     // By the conditions of the machine, one after the other.
-    ensures may { IfOk result (λ to. (s : PowerState) → IsShiftStateOf meta.now s → MayGoDown meta.now.setup s to) }
+    ensures may { IfOk result (λ to. (s : PowerState)
+        → IsShiftStateOf meta.now s → MayGoDown meta.now.setup s to) }
     ensures refused { IfErr result (λ fault. (s : PowerState) → IsShiftStateOf meta.now s
         → IsDownRefused meta.now.setup s fault) }
 {
@@ -79,7 +80,8 @@ pub fn gear_above(meta: &Meta) -> Result<u8, ShiftFault>
     ensures steady { OnOk result (meta.now.phase ≡ Steady) }
     ensures whole { OnOk result (meta.now.out ≡ No) }
     // By the conditions of the machine.
-    ensures may { IfOk result (λ to. (s : PowerState) → IsShiftStateOf meta.now s → MayGoUp meta.now.setup s to) }
+    ensures may { IfOk result (λ to. (s : PowerState)
+        → IsShiftStateOf meta.now s → MayGoUp meta.now.setup s to) }
     ensures refused { IfErr result (λ fault. (s : PowerState) → IsShiftStateOf meta.now s
         → IsUpRefused meta.now.setup s fault) }
 {
@@ -90,7 +92,8 @@ pub fn gear_above(meta: &Meta) -> Result<u8, ShiftFault>
     Ok(to)
 }
 
-// How many of so many units that are left a tick moves: all of a shift up in whole mode, else as many as the rate says.
+// How many of so many units that are left a tick moves: all of a shift up in whole mode, else as
+// many as the rate says.
 fn units_among(meta: &Meta, left: u32) -> u32
     ensures units { result ≡ units_by meta.now.setup.mode meta.now.phase meta.now.setup.rate left }
 {
@@ -124,7 +127,8 @@ fn move_on<R: Rack>(core: &mut Core<R>) -> Result<(u32, TickEvent), Two>
     ensures moves { IfOk result (λ done. CoreMoves R.slot_count core.old core.new done.0 done.1) }
     ensures commits { OnOk result (CommitsInTick R.slot_count core.old core.new) }
     // It is a tick of a session.
-    ensures turn { IfOk result (λ done. (windows : WindowsType) → CoreTicks R.slot_count R.told windows core.old core.new
+    ensures turn { IfOk result (λ done. (windows : WindowsType)
+        → CoreTicks R.slot_count R.told windows core.old core.new
         (record { gear = (meta_of core.new).gear; moved = done.0; event = done.1 })) }
     ensures halts { IfErr result (λ two. (windows : WindowsType)
         → CoreTickHalts R.slot_count R.told windows core.old core.new two) }
@@ -166,8 +170,8 @@ fn decide<R: Rack>(core: &mut Core<R>, windows: &Windows) -> Result<TickEvent, T
     ensures serves { OnOk result (LeavesInService R.slot_count R.slot core.old core.new) }
     // It begins the shift that the samples ask for, unless a disk has used up its allowance.
     ensures tells { IfOk result (λ event. (samples : List ℕ) → HoldLastSamples windows.now samples
-        → (s : PowerState) → IsShiftStateOf (meta_of core.old) s
-        → TellsDecision (meta_of core.old).setup s (decision (meta_of core.old).setup s.gear samples) event) }
+        → (s : PowerState) → IsShiftStateOf (meta_of core.old) s → TellsDecision
+        (meta_of core.old).setup s (decision (meta_of core.old).setup s.gear samples) event) }
     ensures idle { IfOk result (λ event. IsIdleTick event → core.new ≡ core.old) }
     // What it tells whatever the samples are.
     ensures rests { IfOk result (λ event. TellsRest (meta_of core.old) (meta_of core.new) event) }
@@ -176,7 +180,8 @@ fn decide<R: Rack>(core: &mut Core<R>, windows: &Windows) -> Result<TickEvent, T
     // It is a tick of a session.
     ensures turn { IfOk result (λ event. CoreTicks R.slot_count R.told windows.now core.old core.new
         (record { gear = (meta_of core.new).gear; moved = 0; event = event })) }
-    ensures halts { IfErr result (λ two. CoreTickHalts R.slot_count R.told windows.now core.old core.new two) }
+    ensures halts { IfErr result (λ two.
+        CoreTickHalts R.slot_count R.told windows.now core.old core.new two) }
     ensures calls { MakesCalls R.slot_count R.slot R.told core.old core.new }
     ensures two { IfErr result (AreTwoDown (core_down core.old)
         (R.slot (core_rack core.old)) (R.slot (core_rack core.new))) }
@@ -210,12 +215,16 @@ pub fn advance<R: Rack>(core: &mut Core<R>, windows: &Windows) -> Result<(u32, T
     // It is a tick of a session, whether it ends or a second disk is lost in it.
     ensures turn { IfOk result (λ done. CoreTicks R.slot_count R.told windows.now core.old core.new
         (record { gear = (meta_of core.new).gear; moved = done.0; event = done.1 })) }
-    ensures halts { IfErr result (λ two. CoreTickHalts R.slot_count R.told windows.now core.old core.new two) }
+    ensures halts { IfErr result (λ two.
+        CoreTickHalts R.slot_count R.told windows.now core.old core.new two) }
     // With a disk gone it waits, and nothing changes.
-    ensures waits { (d : ℕ) → (meta_of core.old).out ≡ Gone d → (result ≡ Ok (0, Waiting)) × (core.new ≡ core.old) }
+    ensures waits { (d : ℕ)
+        → (meta_of core.old).out ≡ Gone d → (result ≡ Ok (0, Waiting)) × (core.new ≡ core.old) }
     ensures rebuilds { IfOk result (λ done. TicksRebuild core.old core.new done.0 done.1) }
-    // At rest it begins the shift that the samples ask for, unless a disk has used up its allowance.
-    ensures decides { IfOk result (λ done. TicksAtRest windows.now core.old core.new done.0 done.1) }
+    // At rest it begins the shift that the samples ask for, unless a disk has used up its
+    // allowance.
+    ensures decides { IfOk result (λ done.
+        TicksAtRest windows.now core.old core.new done.0 done.1) }
     // In a shift it moves what the machine moves.
     ensures moves { IfOk result (λ done. TicksShift core.old core.new done.0 done.1) }
     ensures commits { OnOk result (CommitsInTick R.slot_count core.old core.new) }

@@ -24,7 +24,8 @@ use Rattle.paraid_txn.specs.Stores.{IsSameStore, store_rack}
 -- Each disk that is powered by this meta spins and is large enough, but for the one that is out.
 pub record CanRead (count : ℕ) (slot : ℕ → Slot) (m : Meta) (out : Option ℕ) : Type 0 where
   pub enough : m.setup.geometry.disks ≤ count
-  pub spins : (d : ℕ) → (d < m.gear) ⊎ (d < rising_to m.phase) → out ≢ Some d → (slot d).power ≡ Spinning
+  pub spins : (d : ℕ)
+      → (d < m.gear) ⊎ (d < rising_to m.phase) → out ≢ Some d → (slot d).power ≡ Spinning
   pub large : (d : ℕ) → (d < m.gear) ⊎ (d < rising_to m.phase) → out ≢ Some d
       → disk_size m.setup.geometry ≤ (slot d).size
 
@@ -58,8 +59,10 @@ abbrev pub lost_by : Result (Unit {0}) ℕ → Option ℕ
 lost_by (Ok it) = None
 lost_by (Err disk) = Some disk
 
--- Some reads were made, in which this disk, or none, has failed. No call follows the one that failed.
-pub record HaveRead {R : Type 0} {g : _} (count : R → ℕ) (slot : R → ℕ → Slot) (told : R → Option Trail) (n : ℕ) (lost : Option ℕ) (old new : Store R g) : Type 0 where
+-- Some reads were made, in which this disk, or none, has failed. No call follows the one that
+-- failed.
+pub record HaveRead {R : Type 0} {g : _} (count : R → ℕ) (slot : R → ℕ → Slot)
+    (told : R → Option Trail) (n : ℕ) (lost : Option ℕ) (old new : Store R g) : Type 0 where
   pub slots : count (store_rack new) ≡ count (store_rack old)
   pub same : IsSameStore old new
   pub left : AreLeft lost (slot (store_rack old)) (slot (store_rack new))
@@ -67,7 +70,8 @@ pub record HaveRead {R : Type 0} {g : _} (count : R → ℕ) (slot : R → ℕ �
   pub ends : Ran (told (store_rack old)) (told (store_rack new)) (λ s cs. EndsByLoss lost cs)
 
 -- The same where the reads went on without the disk that failed.
-pub record HaveReadOn {R : Type 0} {g : _} (count : R → ℕ) (slot : R → ℕ → Slot) (told : R → Option Trail) (n : ℕ) (lost : Option ℕ) (old new : Store R g) : Type 0 where
+pub record HaveReadOn {R : Type 0} {g : _} (count : R → ℕ) (slot : R → ℕ → Slot)
+    (told : R → Option Trail) (n : ℕ) (lost : Option ℕ) (old new : Store R g) : Type 0 where
   pub slots : count (store_rack new) ≡ count (store_rack old)
   pub same : IsSameStore old new
   pub left : AreLeft lost (slot (store_rack old)) (slot (store_rack new))
@@ -76,15 +80,18 @@ pub record HaveReadOn {R : Type 0} {g : _} (count : R → ℕ) (slot : R → ℕ
 
 -- with the batch laid over, the disks hold these blocks past the log
 abbrev pub ShowsContents : Option Trail → Batch → Contents → Type 0
-ShowsContents told batch f = (t : Trail) → told ≡ Some t → (d p : ℕ) → has_place (now t) d p ≡ true → log_least ≤ p
-    → overlaid_block batch d p ((now t).block d p) ≡ f d p
+ShowsContents told batch f = (t : Trail) → told ≡ Some t → (d p : ℕ) → has_place (now t) d p ≡ true
+    → log_least ≤ p → overlaid_block batch d p ((now t).block d p) ≡ f d p
 
 -- what is seen of these blocks
 abbrev pub seen_by : Meta → List (List Bool) → Option ℕ → Contents → View
 seen_by m table out f = record { meta = m; dirty = is_dirty table; out = out; block = f }
 
--- Reads in which two disks were found down: the first was out, or has failed in the reads before. Their record tells which.
-pub record HaveLostTwo {R : Type 0} {g : _} (count : R → ℕ) (slot : R → ℕ → Slot) (told : R → Option Trail) (n : ℕ) (out : Option ℕ) (two : Two) (old new : Store R g) : Type 0 where
+-- Reads in which two disks were found down: the first was out, or has failed in the reads before.
+-- Their record tells which.
+pub record HaveLostTwo
+    {R : Type 0} {g : _} (count : R → ℕ) (slot : R → ℕ → Slot) (told : R → Option Trail)
+    (n : ℕ) (out : Option ℕ) (two : Two) (old new : Store R g) : Type 0 where
   pub slots : count (store_rack new) ≡ count (store_rack old)
   pub same : IsSameStore old new
   pub down : AreTwoDown out (slot (store_rack old)) (slot (store_rack new)) two

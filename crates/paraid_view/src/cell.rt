@@ -51,8 +51,10 @@ fn read_soft<R: Rack>(
         store.old store.new }
     ensures below { IfErr result (λ e. e < disks_of store.old) }
     ensures failed { IfErr result (λ e. out ≢ Some e) }
-    ensures off { Ran (R.told (store_rack store.old)) (R.told (store_rack store.new)) (AreOffDisk out) }
-    ensures value { OnOk result ((f : Contents) (table : _) → ShowsContents (R.told (store_rack store.old)) (batch.now ++ draft.now) f
+    ensures off { Ran
+        (R.told (store_rack store.old)) (R.told (store_rack store.new)) (AreOffDisk out) }
+    ensures value { OnOk result ((f : Contents) (table : _)
+        → ShowsContents (R.told (store_rack store.old)) (batch.now ++ draft.now) f
         → IsSome (R.told (store_rack store.new))
         → into.new ≡ soft_value (seen_by meta.now table out f) r d) }
 {
@@ -97,8 +99,10 @@ fn read_near<R: Rack>(
         store.old store.new }
     ensures below { IfErr result (λ e. e < disks_of store.old) }
     ensures failed { IfErr result (λ e. out ≢ Some e) }
-    ensures off { Ran (R.told (store_rack store.old)) (R.told (store_rack store.new)) (AreOffDisk out) }
-    ensures value { OnOk result ((f : Contents) → ShowsContents (R.told (store_rack store.old)) (batch.now ++ draft.now) f
+    ensures off { Ran
+        (R.told (store_rack store.old)) (R.told (store_rack store.new)) (AreOffDisk out) }
+    ensures value { OnOk result ((f : Contents)
+        → ShowsContents (R.told (store_rack store.old)) (batch.now ++ draft.now) f
         → IsSome (R.told (store_rack store.new))
         → into.new ≡ near_of (seen_by meta.now dirty.now out f) r d) }
 {
@@ -115,8 +119,8 @@ fn read_near<R: Rack>(
     read_soft(store, batch, draft, meta, out, r, d, into)
 }
 
-// Adds the value of one cell of a row to a sum, unless it is on the disk that is out or on the one that
-// is skipped.
+// Adds the value of one cell of a row to a sum, unless it is on the disk that is out or on the one
+// that is skipped.
 fn add_near<R: Rack>(
     store: &mut Store<R>,
     batch: &Batch,
@@ -140,11 +144,14 @@ fn add_near<R: Rack>(
         store.old store.new }
     ensures below { IfErr result (λ e. e < disks_of store.old) }
     ensures failed { IfErr result (λ e. out ≢ e) }
-    ensures off { Ran (R.told (store_rack store.old)) (R.told (store_rack store.new)) (AreOffDisk (Some out)) }
-    ensures value { OnOk result ((f : Contents) → ShowsContents (R.told (store_rack store.old)) (batch.now ++ draft.now) f
-        → IsSome (R.told (store_rack store.new))
-        → sum.old ≡ xor_upto (without (without (near_of (seen_by meta.now dirty.now (Some out) f) r) out) skipped) d
-        → sum.new ≡ xor_upto (without (without (near_of (seen_by meta.now dirty.now (Some out) f) r) out) skipped) (d + 1)) }
+    ensures off { Ran
+        (R.told (store_rack store.old)) (R.told (store_rack store.new)) (AreOffDisk (Some out)) }
+    ensures value { OnOk result ((f : Contents)
+        → ShowsContents (R.told (store_rack store.old)) (batch.now ++ draft.now) f
+        → IsSome (R.told (store_rack store.new)) → sum.old ≡ xor_upto
+        (without (without (near_of (seen_by meta.now dirty.now (Some out) f) r) out) skipped) d
+        → sum.new ≡ xor_upto (without
+        (without (near_of (seen_by meta.now dirty.now (Some out) f) r) out) skipped) (d + 1)) }
 {
     if d == out || d == skipped {
         return Ok(());
@@ -165,8 +172,9 @@ fn add_near<R: Rack>(
     Ok(())
 }
 
-/// The XOR of the values of a row's cells but for that on the disk that is out and that on one other.
-/// They may be one disk. It is apart, with room for a block, since most reads have no disk out.
+/// The XOR of the values of a row's cells but for that on the disk that is out and that on one
+/// other. They may be one disk. It is apart, with room for a block, since most reads have no disk
+/// out.
 #[inline(never)]
 pub fn read_others<R: Rack>(
     store: &mut Store<R>,
@@ -189,10 +197,13 @@ pub fn read_others<R: Rack>(
         store.old store.new }
     ensures below { IfErr result (λ e. e < disks_of store.old) }
     ensures failed { IfErr result (λ e. out ≢ e) }
-    ensures off { Ran (R.told (store_rack store.old)) (R.told (store_rack store.new)) (AreOffDisk (Some out)) }
-    ensures value { OnOk result ((f : Contents) → ShowsContents (R.told (store_rack store.old)) (batch.now ++ draft.now) f
-        → IsSome (R.told (store_rack store.new))
-        → into.new ≡ xor_upto (without (without (near_of (seen_by meta.now dirty.now (Some out) f) r) out) skipped) meta.now.setup.geometry.disks) }
+    ensures off { Ran
+        (R.told (store_rack store.old)) (R.told (store_rack store.new)) (AreOffDisk (Some out)) }
+    ensures value { OnOk result ((f : Contents)
+        → ShowsContents (R.told (store_rack store.old)) (batch.now ++ draft.now) f
+        → IsSome (R.told (store_rack store.new)) → into.new
+        ≡ xor_upto (without (without (near_of (seen_by meta.now dirty.now (Some out) f) r) out)
+        skipped) meta.now.setup.geometry.disks) }
 {
     *into = Block::zero();
     for d in 0..meta.setup.geometry.disks {
@@ -225,8 +236,10 @@ pub fn read_value<R: Rack>(
         store.old store.new }
     ensures below { IfErr result (λ e. e < disks_of store.old) }
     ensures failed { IfErr result (λ e. out ≢ Some e) }
-    ensures off { Ran (R.told (store_rack store.old)) (R.told (store_rack store.new)) (AreOffDisk out) }
-    ensures value { OnOk result ((f : Contents) → ShowsContents (R.told (store_rack store.old)) (batch.now ++ draft.now) f
+    ensures off { Ran
+        (R.told (store_rack store.old)) (R.told (store_rack store.new)) (AreOffDisk out) }
+    ensures value { OnOk result ((f : Contents)
+        → ShowsContents (R.told (store_rack store.old)) (batch.now ++ draft.now) f
         → IsSome (R.told (store_rack store.new))
         → into.new ≡ value_of (seen_by meta.now dirty.now out f) r d) }
 {
@@ -274,13 +287,17 @@ pub fn read_cell<R: Rack>(
         (AreOffDisk (out_disk (λ e. (R.slot (store_rack store.old) e).power) meta.now)) }
     ensures one { IfOk result (λ lost. (e : ℕ) → lost ≡ Some e
         → out_disk (λ x. (R.slot (store_rack store.old) x).power) meta.now ≡ None) }
-    ensures value { OnOk result ((f : Contents) → ShowsContents (R.told (store_rack store.old)) (batch.now ++ draft.now) f
-        → IsSome (R.told (store_rack store.new))
-        → AreRowsZero (seen_by meta.now dirty.now (out_disk (λ e. (R.slot (store_rack store.old) e).power) meta.now) f)
-        → AreStripesZero (seen_by meta.now dirty.now (out_disk (λ e. (R.slot (store_rack store.old) e).power) meta.now) f)
-        → into.new ≡ value_of (seen_by meta.now dirty.now (out_disk (λ e. (R.slot (store_rack store.old) e).power) meta.now) f) r d) }
-    ensures two { IfErr result (λ two. HaveLostTwo R.slot_count R.slot R.told (disks_of store.old)
-        (out_disk (λ e. (R.slot (store_rack store.old) e).power) meta.now) two store.old store.new) }
+    ensures value { OnOk result ((f : Contents)
+        → ShowsContents (R.told (store_rack store.old)) (batch.now ++ draft.now) f
+        → IsSome (R.told (store_rack store.new)) → AreRowsZero (seen_by meta.now dirty.now
+        (out_disk (λ e. (R.slot (store_rack store.old) e).power) meta.now) f)
+        → AreStripesZero (seen_by meta.now dirty.now
+        (out_disk (λ e. (R.slot (store_rack store.old) e).power) meta.now) f)
+        → into.new ≡ value_of (seen_by meta.now dirty.now
+        (out_disk (λ e. (R.slot (store_rack store.old) e).power) meta.now) f) r d) }
+    ensures two { IfErr result (λ two.
+        HaveLostTwo R.slot_count R.slot R.told (disks_of store.old) (out_disk (λ e.
+        (R.slot (store_rack store.old) e).power) meta.now) two store.old store.new) }
 {
     let out = out_of(store, meta);
     let Err(lost) = read_value(store, batch, draft, meta, dirty, out, r, d, into) else {

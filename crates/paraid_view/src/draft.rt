@@ -1,5 +1,5 @@
-//! The blocks of a plan that is not yet taken: they are seen by its reads, and dropped where it is not
-//! completed.
+//! The blocks of a plan that is not yet taken: they are seen by its reads, and dropped where it is
+//! not completed.
 ghost use Rattle.std.specs.Prelude.{◌≡◌, ◌≢◌, ℕ, ◌+◌, ◌<◌, ◌≤◌, ◌∷◌, ◌++◌, [], length, get_or, IfOk, MatchOption};
 ghost use Rattle.paraid_base.specs.declared.block.Block.{Block as BlockType};
 ghost use Rattle.paraid_base.specs.Xor.{zero_block};
@@ -75,8 +75,9 @@ impl Draft {
 
     /// The last block for this target: what is read there with the draft laid over.
     pub fn get(&self, disk: DiskNo, place: Place) -> Option<&Block>
-        ensures { MatchOption result ((any : BlockType) → overlaid_block self.now disk place any ≡ any)
-            (λ block. (any : BlockType) → overlaid_block self.now disk place any ≡ block.now) }
+        ensures { MatchOption result ((any : BlockType)
+            → overlaid_block self.now disk place any ≡ any) (λ block. (any : BlockType)
+            → overlaid_block self.now disk place any ≡ block.now) }
     {
         let Some(at) = self.find(Target { disk, place }) else {
             return None;

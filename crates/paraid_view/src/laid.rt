@@ -28,8 +28,9 @@ fn find_staged<'a>(
     disk: DiskNo,
     place: Place,
 ) -> Option<&'a Block>
-    ensures { MatchOption result ((any : BlockType) → overlaid_block (batch.now ++ draft.now) disk place any ≡ any)
-        (λ block. (any : BlockType) → overlaid_block (batch.now ++ draft.now) disk place any ≡ block.now) }
+    ensures { MatchOption result ((any : BlockType)
+        → overlaid_block (batch.now ++ draft.now) disk place any ≡ any) (λ block. (any : BlockType)
+        → overlaid_block (batch.now ++ draft.now) disk place any ≡ block.now) }
 {
     if let Some(block) = draft.get(disk, place) {
         return Some(block);
@@ -57,7 +58,8 @@ pub fn read_laid<R: Rack>(
     ensures failed { IfErr result (λ e. e ≡ disk) }
     ensures off { (out : Option ℕ) → out ≢ Some disk
         → Ran (R.told (store_rack store.old)) (R.told (store_rack store.new)) (AreOffDisk out) }
-    ensures value { OnOk result ((f : Contents) → ShowsContents (R.told (store_rack store.old)) (batch.now ++ draft.now) f
+    ensures value { OnOk result ((f : Contents)
+        → ShowsContents (R.told (store_rack store.old)) (batch.now ++ draft.now) f
         → IsSome (R.told (store_rack store.new)) → into.new ≡ f disk place) }
 {
     if let Some(block) = find_staged(batch, draft, disk, place) {
@@ -89,8 +91,10 @@ fn add_block<R: Rack>(
         store.old store.new }
     ensures below { IfErr result (λ e. e < disks_of store.old) }
     ensures failed { IfErr result (λ e. (e ≡ disk) × (e ≢ skipped)) }
-    ensures off { Ran (R.told (store_rack store.old)) (R.told (store_rack store.new)) (AreOffDisk (Some skipped)) }
-    ensures value { OnOk result ((f : Contents) → ShowsContents (R.told (store_rack store.old)) (batch.now ++ draft.now) f
+    ensures off { Ran (R.told (store_rack store.old))
+        (R.told (store_rack store.new)) (AreOffDisk (Some skipped)) }
+    ensures value { OnOk result ((f : Contents)
+        → ShowsContents (R.told (store_rack store.old)) (batch.now ++ draft.now) f
         → IsSome (R.told (store_rack store.new))
         → sum.old ≡ xor_upto (without (λ e. f e place) skipped) disk
         → sum.new ≡ xor_upto (without (λ e. f e place) skipped) (disk + 1)) }
@@ -116,7 +120,8 @@ pub fn read_rest<R: Rack>(
 ) -> Result<(), DiskNo>
     requires in_range { IsInRange meta.now }
     requires region { meta.now.gear < meta.now.setup.geometry.disks }
-    requires stripe { stripe < stripe_count meta.now.setup.geometry.disks meta.now.setup.geometry.rows meta.now.gear }
+    requires stripe { stripe
+        < stripe_count meta.now.setup.geometry.disks meta.now.setup.geometry.rows meta.now.gear }
     requires array { meta.now.setup.geometry.disks ≡ disks_of store.old }
     requires ready { CanRead (R.slot_count (store_rack store.old)) (R.slot (store_rack store.old))
         meta.now (Some skipped) }
@@ -124,8 +129,10 @@ pub fn read_rest<R: Rack>(
         store.old store.new }
     ensures below { IfErr result (λ e. e < disks_of store.old) }
     ensures failed { IfErr result (λ e. e ≢ skipped) }
-    ensures off { Ran (R.told (store_rack store.old)) (R.told (store_rack store.new)) (AreOffDisk (Some skipped)) }
-    ensures value { OnOk result ((f : Contents) → ShowsContents (R.told (store_rack store.old)) (batch.now ++ draft.now) f
+    ensures off { Ran (R.told (store_rack store.old))
+        (R.told (store_rack store.new)) (AreOffDisk (Some skipped)) }
+    ensures value { OnOk result ((f : Contents)
+        → ShowsContents (R.told (store_rack store.old)) (batch.now ++ draft.now) f
         → IsSome (R.told (store_rack store.new))
         → into.new ≡ stripe_rest meta.now.setup.geometry f meta.now.gear stripe skipped) }
 {

@@ -9,7 +9,8 @@ use Rattle.paraid_base.specs.Xor.{zero_block}
 use Rattle.paraid_base.specs.Told.{HasRisen}
 
 -- its size is the same, a halt has a cause and stays, and what is told was told before
-pub record DeviceGoesOn {S : Type 0} (count halts : S → ℕ) (halted : S → Option Halt) (tells : S → Bool) (old new : S) : Type 0 where
+pub record DeviceGoesOn {S : Type 0}
+    (count halts : S → ℕ) (halted : S → Option Halt) (tells : S → Bool) (old new : S) : Type 0 where
   pub size : count new ≡ count old
   pub later : halts old ≤ halts new
   pub cause : IsNone (halted old) → IsSome (halted new) → HasRisen (halts old) (halts new)
@@ -18,7 +19,8 @@ pub record DeviceGoesOn {S : Type 0} (count halts : S → ℕ) (halted : S → O
 
 -- what it stood for it stands for
 abbrev pub KeepsHistories : {S : Type 0} → (S → History → Type 0) → (S → Bool) → S → S → Type 0
-KeepsHistories stands tells old new = (h : History) → stands old h → IsTrue (tells new) → stands new h
+KeepsHistories stands tells old new = (h : History)
+    → stands old h → IsTrue (tells new) → stands new h
 
 -- the event is a read
 abbrev pub IsReadEvent : Event → Type 0
@@ -53,8 +55,10 @@ pub record More (holds : Answers → Type 0) (kind : Event → Type 0) (events :
   pub all : AreAll kind more
 
 -- The events that were kept are kept, and more of this kind, those that gave a halt included.
-pub record KeepsMore {S : Type 0} (kept : S → S → Answers → Type 0) (tells : S → Bool) (kind : Event → Type 0) (old new : S) : Type 0 where
-  pub grows : (first : S) (events : Answers) → kept first old events → More (kept first new) kind events
+pub record KeepsMore {S : Type 0} (kept : S → S → Answers → Type 0)
+    (tells : S → Bool) (kind : Event → Type 0) (old new : S) : Type 0 where
+  pub grows : (first : S) (events : Answers)
+      → kept first old events → More (kept first new) kind events
 
 -- the entries of the writes that were accepted among these events
 abbrev pub entries_in : Answers → History
@@ -65,12 +69,14 @@ entries_in (e ∷ es) = accepted_write e.0 e.1 ++ entries_in es
 abbrev pub SinceHistory : Type 0 → Type 0
 SinceHistory S = Option (S × History × Answers)
 
--- The device stands for this history. If a history and events are given, it is that history with the
--- writes of the events that were kept after these.
-abbrev pub DeviceHolds : {S : Type 0} → (S → History → Type 0) → (S → S → Answers → Type 0) → SinceHistory S → S → History → Type 0
+-- The device stands for this history. If a history and events are given, it is that history with
+-- the writes of the events that were kept after these.
+abbrev pub DeviceHolds : {S : Type 0}
+    → (S → History → Type 0) → (S → S → Answers → Type 0) → SinceHistory S → S → History → Type 0
 DeviceHolds stands kept None device h = stands device h
 DeviceHolds stands kept (Some from) device h =
-    stands device h × (made : Answers) × kept from.0 device (from.2 ++ made) × (h ≡ from.1 ++ entries_in made)
+    stands device h
+    × (made : Answers) × kept from.0 device (from.2 ++ made) × (h ≡ from.1 ++ entries_in made)
 
 -- the halt in a result
 abbrev pub halt_in : {A : Type 0} → Result A Halt → Option Halt
@@ -90,8 +96,10 @@ pub record IsZeroed (holds : History → Type 0) (h : History) (inside : ℕ →
   pub zeros : (b : ℕ) → inside b → after_all (h ++ more) b ≡ zero_block
 
 -- What was stood for is stood for with such writes, in each case.
-abbrev pub Clears : {S : Type 0} → (S → History → Type 0) → (S → Bool) → S → S → (ℕ → Type 0) → Type 0
-Clears stands tells old new inside = (h : History) → stands old h → IsTrue (tells new) → IsZeroed (stands new) h inside
+abbrev pub Clears : {S : Type 0}
+    → (S → History → Type 0) → (S → Bool) → S → S → (ℕ → Type 0) → Type 0
+Clears stands tells old new inside = (h : History)
+    → stands old h → IsTrue (tells new) → IsZeroed (stands new) h inside
 
 -- a block of extent `e`, which `id` owns
 abbrev pub OfExtent : (ℕ → ℕ) → ℕ → ℕ → ℕ → ℕ → Type 0

@@ -18,7 +18,8 @@ vol_halt_in (Err fault) = None
 abbrev pub IsPlaceFault : ℕ → (ℕ → Block) → Option Halt → ℕ → ℕ → VolFault → Type 0
 IsPlaceFault count content halted id v (VolHalt halt) = halted ≡ Some halt
 IsPlaceFault count content halted id v (NoVolume i) = (i ≡ id) × (IsLiveId content id → ⊥)
-IsPlaceFault count content halted id v (NoBlock b) = (b ≡ v) × IsLiveId content id × (extent_size count * extents_owned (owner_in content) id (extent_count count) ≤ v)
+IsPlaceFault count content halted id v (NoBlock b) = (b ≡ v) × IsLiveId content id
+    × (extent_size count * extents_owned (owner_in content) id (extent_count count) ≤ v)
 IsPlaceFault count content halted id v fault = ⊥
 
 -- why a device with volumes was not taken
@@ -52,7 +53,8 @@ IsNew content name = (i : ℕ) → IsLiveId content i → IsNameOf content i nam
 
 -- there is such a block of volume `id`
 abbrev pub IsServedBlock : ℕ → (ℕ → Block) → ℕ → ℕ → Type 0
-IsServedBlock count content id v = IsLiveId content id × (v < extent_size count * extents_owned (owner_in content) id (extent_count count))
+IsServedBlock count content id v = IsLiveId content id
+    × (v < extent_size count * extents_owned (owner_in content) id (extent_count count))
 
 -- the least id that has no name
 pub record IsLeastFree (content : ℕ → Block) (id : ℕ) : Type 0 where
@@ -71,8 +73,12 @@ pub record CanCreate (count : ℕ) (content : ℕ → Block) (name : Name) (exte
 -- why there is no new volume of this name and so many extents
 abbrev pub IsCreateFault : ℕ → (ℕ → Block) → Option Halt → Name → ℕ → VolFault → Type 0
 IsCreateFault count content halted name extents (VolHalt halt) = halted ≡ Some halt
-IsCreateFault count content halted name extents (Exists i) = IsLiveId content i × IsNameOf content i name
+IsCreateFault count content halted name extents (Exists i) =
+    IsLiveId content i × IsNameOf content i name
 IsCreateFault count content halted name extents NoExtents = IsNew content name × (extents ≡ 0)
-IsCreateFault count content halted name extents Names = IsNew content name × (0 < extents) × ((i : ℕ) → 1 ≤ i → i ≤ 31 → IsLiveId content i)
-IsCreateFault count content halted name extents (Space f) = IsNew content name × ((i : ℕ) × IsLeastFree content i) × (f ≡ extents_owned (owner_in content) 0 (extent_count count)) × (f < extents)
+IsCreateFault count content halted name extents Names =
+    IsNew content name × (0 < extents) × ((i : ℕ) → 1 ≤ i → i ≤ 31 → IsLiveId content i)
+IsCreateFault count content halted name extents (Space f) =
+    IsNew content name × ((i : ℕ) × IsLeastFree content i)
+    × (f ≡ extents_owned (owner_in content) 0 (extent_count count)) × (f < extents)
 IsCreateFault count content halted name extents fault = ⊥

@@ -30,8 +30,9 @@ AllLeave id (pair ∷ log) = LeavesVolume id pair.0 pair.1 × AllLeave id log
 -- the calls one after the other, each a step
 pub data VolumeRun (count : ℕ) : VolumeState → VolLog → VolumeState → Type 0 where
   ends : (s : VolumeState) → VolumeRun count s [] s
-  steps : (s m t : VolumeState) (call : VolCall) (answer : VolAnswer) (log : VolLog) → VolumeStep count s call answer m → VolumeRun count m log t
-      → VolumeRun count s ((call, answer) ∷ log) t
+  steps : (s m t : VolumeState) (call : VolCall) (answer : VolAnswer) (log : VolLog)
+      → VolumeStep count s call answer m
+      → VolumeRun count m log t → VolumeRun count s ((call, answer) ∷ log) t
 
 -- the pair before others, if it is a read or a write of volume `id`
 abbrev pub with_own : ℕ → VolCall → VolAnswer → VolLog → VolLog

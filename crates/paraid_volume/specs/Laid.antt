@@ -14,11 +14,14 @@ pub record IsLaid (old new : ℕ → Block) (entry : Entry) : Type 0 where
   pub rest : (k : ℕ) (bytes : Block) → 6 ≤ k → last_of k bytes entry ≡ bytes
   pub below : All (λ (pair : ℕ × Block). pair.0 < 6) entry
 
--- The pairs are block 1 and each later block below `n` whose bytes are others than before, in ascending order, with its new bytes.
+-- The pairs are block 1 and each later block below `n` whose bytes are others than before, in
+-- ascending order, with its new bytes.
 pub data AreChanges (old new : ℕ → Block) : ℕ → Entry → Type 0 where
   names : AreChanges old new 2 ((1, new 1) ∷ [])
-  same : (n : ℕ) (entry : Entry) → AreChanges old new n entry → (old n).bytes ≡ (new n).bytes → AreChanges old new (n + 1) entry
-  other : (n : ℕ) (entry : Entry) → AreChanges old new n entry → ((old n).bytes ≡ (new n).bytes → ⊥) → AreChanges old new (n + 1) (entry ++ (n, new n) ∷ [])
+  same : (n : ℕ) (entry : Entry) → AreChanges old new n entry
+      → (old n).bytes ≡ (new n).bytes → AreChanges old new (n + 1) entry
+  other : (n : ℕ) (entry : Entry) → AreChanges old new n entry
+      → ((old n).bytes ≡ (new n).bytes → ⊥) → AreChanges old new (n + 1) (entry ++ (n, new n) ∷ [])
 
 -- the first `n` blocks with their bytes
 abbrev pub table_pairs : (ℕ → Block) → ℕ → Entry
@@ -31,7 +34,9 @@ owner_without owner id extents e = if nat_lt e extents && owner e == id then 0 e
 
 -- owners after `id` was given the first `count` free extents
 abbrev pub owner_with : (ℕ → ℕ) → ℕ → ℕ → ℕ → ℕ → ℕ
-owner_with owner id count extents e = if nat_lt e extents && (owner e == 0 && nat_lt (extents_owned owner 0 e) count) then id else owner e
+owner_with owner id count extents e =
+    if nat_lt e extents && (owner e == 0 && nat_lt (extents_owned owner 0 e) count)
+    then id else owner e
 
 -- one table is the other without `id`
 pub record IsWithout (id extents : ℕ) (old new : ℕ → Block) : Type 0 where
@@ -50,7 +55,8 @@ pub record IsWith (id : ℕ) (text : Name) (count extents : ℕ) (old new : ℕ 
   pub owners : (e : ℕ) → e < 2048 → owner_in new e ≡ owner_with (owner_in old) id count extents e
 
 -- Zeros were written to the blocks inside, and then the blocks of a table in one entry.
-pub record MakesTable (holds : History → Type 0) (h : History) (inside : ℕ → Type 0) (old new : ℕ → Block) : Type 0 where
+pub record MakesTable (holds : History → Type 0)
+    (h : History) (inside : ℕ → Type 0) (old new : ℕ → Block) : Type 0 where
   pub more : History
   pub entry : Entry
   pub stands : holds ((h ++ more) ++ entry ∷ [])

@@ -63,26 +63,33 @@ IsBlockOf s id v = IsNamedId s id × (v < s.size id)
 pub data IsCallRefused (s : VolumeState) : VolCall → VolFault → Type 0 where
   unnamed_delete : (id : ℕ) → (IsNamedId s id → ⊥) → IsCallRefused s (delete id) (NoVolume id)
   unnamed_read : (id v : ℕ) → (IsNamedId s id → ⊥) → IsCallRefused s (read id v) (NoVolume id)
-  unnamed_write : (id v : ℕ) (bytes : Block) → (IsNamedId s id → ⊥) → IsCallRefused s (write id v bytes) (NoVolume id)
+  unnamed_write : (id v : ℕ) (bytes : Block)
+      → (IsNamedId s id → ⊥) → IsCallRefused s (write id v bytes) (NoVolume id)
   past_read : (id v : ℕ) → IsNamedId s id → s.size id ≤ v → IsCallRefused s (read id v) (NoBlock v)
-  past_write : (id v : ℕ) (bytes : Block) → IsNamedId s id → s.size id ≤ v → IsCallRefused s (write id v bytes) (NoBlock v)
-  exists : (text : ℕ → ℕ) (extents id : ℕ) → HasName s id text → IsCallRefused s (create text extents) (Exists id)
+  past_write : (id v : ℕ) (bytes : Block)
+      → IsNamedId s id → s.size id ≤ v → IsCallRefused s (write id v bytes) (NoBlock v)
+  exists : (text : ℕ → ℕ) (extents id : ℕ)
+      → HasName s id text → IsCallRefused s (create text extents) (Exists id)
   no_extents : (text : ℕ → ℕ) → IsUnused s text → IsCallRefused s (create text 0) NoExtents
-  all_named : (text : ℕ → ℕ) (extents : ℕ) → IsUnused s text → 0 < extents → ((id : ℕ) → 1 ≤ id → id ≤ 31 → IsNamedId s id)
-      → IsCallRefused s (create text extents) Names
-  no_space : (text : ℕ → ℕ) (extents id : ℕ) → IsUnused s text → IsLeastUnnamed s id → s.free < extents
-      → IsCallRefused s (create text extents) (Space s.free)
+  all_named : (text : ℕ → ℕ) (extents : ℕ) → IsUnused s text → 0 < extents
+      → ((id : ℕ) → 1 ≤ id → id ≤ 31 → IsNamedId s id) → IsCallRefused s (create text extents) Names
+  no_space : (text : ℕ → ℕ) (extents id : ℕ) → IsUnused s text → IsLeastUnnamed s id
+      → s.free < extents → IsCallRefused s (create text extents) (Space s.free)
 
 -- Volume step: a call with its answer, and the state after it. Which number a flush is answered is
 -- for the device to say.
 pub data VolumeStep (count : ℕ) (s : VolumeState) : VolCall → VolAnswer → VolumeState → Type 0 where
-  creates : (text : ℕ → ℕ) (extents id : ℕ) → IsNameText text → IsUnused s text → 0 < extents → IsLeastUnnamed s id → extents ≤ s.free
-      → VolumeStep count s (create text extents) (made id) (with_volume (extent_size count) s id text extents)
-  deletes : (id : ℕ) → IsNamedId s id → VolumeStep count s (delete id) removed (without_volume (extent_size count) s id)
+  creates : (text : ℕ → ℕ) (extents id : ℕ) → IsNameText text
+      → IsUnused s text → 0 < extents → IsLeastUnnamed s id → extents ≤ s.free → VolumeStep count s
+      (create text extents) (made id) (with_volume (extent_size count) s id text extents)
+  deletes : (id : ℕ) → IsNamedId s id
+      → VolumeStep count s (delete id) removed (without_volume (extent_size count) s id)
   reads : (id v : ℕ) → IsBlockOf s id v → VolumeStep count s (read id v) (value (s.block id v)) s
-  writes : (id v : ℕ) (bytes : Block) → IsBlockOf s id v → VolumeStep count s (write id v bytes) wrote (with_block s id v bytes)
+  writes : (id v : ℕ) (bytes : Block)
+      → IsBlockOf s id v → VolumeStep count s (write id v bytes) wrote (with_block s id v bytes)
   flushes : (number : ℕ) → VolumeStep count s flush (flushed number) s
-  refuses : (call : VolCall) (fault : VolFault) → IsCallRefused s call fault → VolumeStep count s call (refused fault) s
+  refuses : (call : VolCall) (fault : VolFault)
+      → IsCallRefused s call fault → VolumeStep count s call (refused fault) s
 
 -- the number of a flush is at most `k`
 abbrev pub IsFlushedBy : ℕ → VolCall × VolAnswer → Type 0
@@ -91,10 +98,12 @@ IsFlushedBy k pair = (number : ℕ) × (pair.1 ≡ flushed number) × (number �
 -- The calls of one value. The writes that a call added show the state before it or, all of them,
 -- the state after it.
 pub data Life (count : ℕ) (start : ℕ) : History → VolumeState → VolLog → Type 0 where
-  begun : (h : History) (s : VolumeState) → length h ≡ start → ShowsVolumes count (after_all h) s → Life count start h s []
+  begun : (h : History) (s : VolumeState)
+      → length h ≡ start → ShowsVolumes count (after_all h) s → Life count start h s []
   next : (h more : History) (s t : VolumeState) (log : VolLog) (call : VolCall) (answer : VolAnswer)
       → Life count start h s log → VolumeStep count s call answer t
-      → ((k : ℕ) → ShowsVolumes count (after_all (h ++ take k more)) s ⊎ ShowsVolumes count (after_all (h ++ take k more)) t)
+      → ((k : ℕ) → ShowsVolumes count (after_all (h ++ take k more)) s
+      ⊎ ShowsVolumes count (after_all (h ++ take k more)) t)
       → ShowsVolumes count (after_all (h ++ more)) t
       → ((number : ℕ) → answer ≡ flushed number → number ≡ length h)
       → Life count start (h ++ more) t (log ++ (call, answer) ∷ [])
@@ -122,7 +131,8 @@ pub record HasLived (holds : History → Type 0) (count start : ℕ) (log : VolL
   pub life : Life count start writes state log
 
 -- One call more was answered, from the state of the life so far.
-pub record LivesMore (old new : History → Type 0) (count start : ℕ) (log : VolLog) (lived : HasLived old count start log) (call : VolCall) (answer : VolAnswer) : Type 0 where
+pub record LivesMore (old new : History → Type 0) (count start : ℕ) (log : VolLog)
+    (lived : HasLived old count start log) (call : VolCall) (answer : VolAnswer) : Type 0 where
   pub all : HasLived new count start (log ++ (call, answer) ∷ [])
   pub step : VolumeStep count lived.state call answer all.state
 

@@ -25,13 +25,15 @@ pub record IsPlace (count : ℕ) (content : ℕ → Block) (id v place : ℕ) : 
 pub record ShowsVolumes (count : ℕ) (content : ℕ → Block) (s : VolumeState) : Type 0 where
   pub table : IsVolumeTable count content
   pub name : (id k : ℕ) → 1 ≤ id → id ≤ 31 → k < 16 → s.name id k ≡ name_in content id k
-  pub size : (id : ℕ) → 1 ≤ id → id ≤ 31 → s.size id ≡ extent_size count * extents_owned (owner_in content) id (extent_count count)
+  pub size : (id : ℕ) → 1 ≤ id → id ≤ 31
+      → s.size id ≡ extent_size count * extents_owned (owner_in content) id (extent_count count)
   pub block : (id v place : ℕ) → IsPlace count content id v place → s.block id v ≡ content place
   pub free : s.free ≡ extents_owned (owner_in content) 0 (extent_count count)
 
 -- block `v` of volume `id` has these bytes now
 abbrev pub with_block : VolumeState → ℕ → ℕ → Block → VolumeState
-with_block s id v bytes = record s { block = λ i w. if i == id && w == v then bytes else s.block i w }
+with_block s id v bytes =
+    record s { block = λ i w. if i == id && w == v then bytes else s.block i w }
 
 -- volume `id` is gone, and its extents, of `x` blocks each, are free
 abbrev pub without_volume : ℕ → VolumeState → ℕ → VolumeState
@@ -41,7 +43,8 @@ without_volume x s id = record s {
   free = s.free + s.size id / x;
 }
 
--- volume `id` is new, with this name and `n` extents of `x` blocks of zeros, which are no longer free
+-- volume `id` is new, with this name and `n` extents of `x` blocks of zeros, which are no longer
+-- free
 abbrev pub with_volume : ℕ → VolumeState → ℕ → (ℕ → ℕ) → ℕ → VolumeState
 with_volume x s id text n = record {
   name = λ i k. if i == id then text k else s.name i k;
@@ -52,10 +55,12 @@ with_volume x s id text n = record {
 
 -- no volume, and each extent is free
 abbrev pub no_volumes : ℕ → VolumeState
-no_volumes count = record { name = λ i k. 0; size = λ i. 0; block = λ i v. zero_block; free = extent_count count }
+no_volumes count =
+    record { name = λ i k. 0; size = λ i. 0; block = λ i v. zero_block; free = extent_count count }
 
 -- One entry more is stood for, and with it the device shows this state.
-pub record Adds (holds : History → Type 0) (count : ℕ) (h : History) (s : VolumeState) : Type 0 where
+pub record Adds
+    (holds : History → Type 0) (count : ℕ) (h : History) (s : VolumeState) : Type 0 where
   pub entry : Entry
   pub stands : holds (h ++ entry ∷ [])
   pub shows : ShowsVolumes count (after_all (h ++ entry ∷ [])) s
@@ -68,7 +73,8 @@ pub record AddsNoVolume (holds : History → Type 0) (count : ℕ) (h : History)
 
 -- So many writes more are stood for, and one entry more. With each of the former the device shows
 -- the state as it was, and with the entry this one.
-pub record Makes (holds : History → Type 0) (count : ℕ) (h : History) (was s : VolumeState) : Type 0 where
+pub record Makes
+    (holds : History → Type 0) (count : ℕ) (h : History) (was s : VolumeState) : Type 0 where
   pub more : History
   pub entry : Entry
   pub stands : holds ((h ++ more) ++ entry ∷ [])

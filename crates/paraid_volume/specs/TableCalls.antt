@@ -17,10 +17,12 @@ use Rattle.paraid_volume.specs.Laid.{AreChanges, table_pairs}
 use Rattle.paraid_volume.specs.Tables.{IsVolumeTable, owner_in}
 
 -- The events that were kept are kept, and then some of which this holds.
-pub record KeepsThen {S : Type 0} (kept : S → S → Answers → Type 0) (are : Answers → Type 0) (old new : S) : Type 0 where
+pub record KeepsThen {S : Type 0}
+    (kept : S → S → Answers → Type 0) (are : Answers → Type 0) (old new : S) : Type 0 where
   pub made : Answers
   pub all : are made
-  pub grows : (first : S) (events : Answers) → kept first old events → kept first new (events ++ made)
+  pub grows : (first : S) (events : Answers)
+      → kept first old events → kept first new (events ++ made)
 
 -- the reads of the first `n` blocks, which gave these bytes
 abbrev pub table_reads : (ℕ → Block) → ℕ → Answers
@@ -70,12 +72,14 @@ pub record AreOfInit (count : ℕ) (new : ℕ → Block) (made : Answers) : Type
 -- the blocks of the extents of `id`, of the first `n`, in ascending order
 abbrev pub owned_blocks : (ℕ → ℕ) → ℕ → ℕ → ℕ → List ℕ
 owned_blocks owner id size zero = []
-owned_blocks owner id size (suc n) = owned_blocks owner id size n ++ (if owner n == id then range_with_len (6 + n * size) size else [])
+owned_blocks owner id size (suc n) = owned_blocks owner id size n
+    ++ (if owner n == id then range_with_len (6 + n * size) size else [])
 
 -- a write of zeros to each of these blocks, in this order
 abbrev pub AreZerosTo : List ℕ → Answers → Type 0
 AreZerosTo [] [] = Unit {0}
-AreZerosTo (b ∷ blocks) (e ∷ made) = (e.0 ≡ Write (single_pair b zero_block)) × ((number : ℕ) × (e.1 ≡ Wrote number)) × AreZerosTo blocks made
+AreZerosTo (b ∷ blocks) (e ∷ made) = (e.0 ≡ Write (single_pair b zero_block))
+    × ((number : ℕ) × (e.1 ≡ Wrote number)) × AreZerosTo blocks made
 AreZerosTo blocks made = ⊥
 
 -- zeros to the blocks of `id`, and one write of what is new in this table

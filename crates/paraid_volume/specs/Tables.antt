@@ -15,7 +15,8 @@ extent_count count = (count - 6) / extent_size count
 
 -- `PARAIDVT`, 1, how many blocks an extent has, how many extents there are, and zeros
 unfoldable pub head_bytes : ℕ → ℕ → List ℕ
-head_bytes size extents = (80 ∷ 65 ∷ 82 ∷ 65 ∷ 73 ∷ 68 ∷ 86 ∷ 84 ∷ 0 ∷ 1 ∷ []) ++ (to_be_bytes w32 size ++ (to_be_bytes w32 extents ++ replicate 494 0))
+head_bytes size extents = (80 ∷ 65 ∷ 82 ∷ 65 ∷ 73 ∷ 68 ∷ 86 ∷ 84 ∷ 0 ∷ 1 ∷ [])
+    ++ (to_be_bytes w32 size ++ (to_be_bytes w32 extents ++ replicate 494 0))
 
 -- byte `k` of the name of `id`, 0 past its end
 abbrev pub name_in : (ℕ → Block) → ℕ → ℕ → ℕ

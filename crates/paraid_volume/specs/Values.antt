@@ -25,17 +25,20 @@ abbrev pub volume_table : {B : Type 0} {g : _} → Volumes B g → ℕ → Block
 volume_table v = in_table v.table
 
 -- Its device stands for these writes, which left its table.
-abbrev pub VolumesStandFor : {B : Type 0} {g : _} → (B → History → Type 0) → Volumes B g → History → Type 0
+abbrev pub VolumesStandFor : {B : Type 0} {g : _}
+    → (B → History → Type 0) → Volumes B g → History → Type 0
 VolumesStandFor stands v h = stands v.blocks h × IsSameTable (in_table v.table) (after_all h)
 
 -- What is kept are these events and the read of one block, where this block of a volume lies.
-pub record KeepsRead (holds : Answers → Type 0) (events : Answers) (count : ℕ) (content : ℕ → Block) (id v : ℕ) (bytes : Block) : Type 0 where
+pub record KeepsRead (holds : Answers → Type 0)
+    (events : Answers) (count : ℕ) (content : ℕ → Block) (id v : ℕ) (bytes : Block) : Type 0 where
   pub place : ℕ
   pub is : IsPlace count content id v place
   pub kept : holds (events ++ (Read place, Value place bytes) ∷ [])
 
 -- What is kept are these events and the write of one block, where this block of a volume lies.
-pub record KeepsWrite (holds : Answers → Type 0) (events : Answers) (count : ℕ) (content : ℕ → Block) (id v : ℕ) (bytes : Block) : Type 0 where
+pub record KeepsWrite (holds : Answers → Type 0)
+    (events : Answers) (count : ℕ) (content : ℕ → Block) (id v : ℕ) (bytes : Block) : Type 0 where
   pub place : ℕ
   pub is : IsPlace count content id v place
   pub number : ℕ

@@ -24,14 +24,15 @@ fn read_block<B: Blocks>(device: &mut B, table: &mut Table, at: u32) -> Result<(
     ensures went { DeviceGoesOn B.block_count B.halts B.halted B.tells device.old device.new }
     ensures grown { KeepsMore B.kept B.tells IsReadEvent device.old device.new }
     ensures halt { B.halted device.new ≡ halt_in result }
-    ensures keeps { OnOk result ((from : SinceHistory B) → KeepsHistories (DeviceHolds B.stands B.kept from) B.tells
-        device.old device.new) }
+    ensures keeps { OnOk result ((from : SinceHistory B)
+        → KeepsHistories (DeviceHolds B.stands B.kept from) B.tells device.old device.new) }
     ensures read { OnOk result ((h : History) → B.stands device.old h
         → IsTrue (B.tells device.new) → in_table table.new at ≡ after_all h at) }
     ensures rest { (k : ℕ) → k ≢ at → in_table table.new k ≡ in_table table.old k }
     ensures event { OnOk result ((first : B) (events : Answers) → B.kept first device.old events
         → B.kept first device.new (events ++ (Read at, Value at (in_table table.new at)) ∷ [])) }
-    ensures halted { IfErr result (λ halt. (first : B) (events : Answers) → B.kept first device.old events
+    ensures halted { IfErr result (λ halt. (first : B) (events : Answers)
+        → B.kept first device.old events
         → B.kept first device.new (events ++ (Read at, Halted halt) ∷ [])) }
 {
     let mut bytes = Block::zero();
@@ -51,13 +52,14 @@ pub(crate) fn read_table<B: Blocks>(device: &mut B, table: &mut Table) -> Result
     ensures went { DeviceGoesOn B.block_count B.halts B.halted B.tells device.old device.new }
     ensures grown { KeepsMore B.kept B.tells IsReadEvent device.old device.new }
     ensures halt { B.halted device.new ≡ halt_in result }
-    ensures keeps { OnOk result ((from : SinceHistory B) → KeepsHistories (DeviceHolds B.stands B.kept from) B.tells
-        device.old device.new) }
+    ensures keeps { OnOk result ((from : SinceHistory B)
+        → KeepsHistories (DeviceHolds B.stands B.kept from) B.tells device.old device.new) }
     ensures read { OnOk result ((h : History) → B.stands device.old h
         → IsTrue (B.tells device.new) → IsSameTable (in_table table.new) (after_all h)) }
     ensures reads { OnOk result ((first : B) (events : Answers) → B.kept first device.old events
         → B.kept first device.new (events ++ table_reads (in_table table.new) 6)) }
-    ensures halted { IfErr result (λ halt. KeepsThen B.kept (AreHaltedReads halt) device.old device.new) }
+    ensures halted { IfErr result (λ halt.
+        KeepsThen B.kept (AreHaltedReads halt) device.old device.new) }
 {
     for at in 0..6 {
         read_block(device, table, at)?;
@@ -75,8 +77,8 @@ pub(crate) fn write_table<B: Blocks>(device: &mut B, pairs: &Pairs) -> Result<()
     ensures adds { OnOk result ((from : SinceHistory B) (h : History)
         → DeviceHolds B.stands B.kept from device.old h → IsTrue (B.tells device.new)
         → DeviceHolds B.stands B.kept from device.new (h ++ pairs_of pairs.now ∷ [])) }
-    ensures event { OnOk result (KeepsThen B.kept
-        (λ made. (number : ℕ) × (made ≡ (Write pairs.now, Wrote number) ∷ [])) device.old device.new) }
+    ensures event { OnOk result (KeepsThen B.kept (λ made. (number : ℕ)
+        × (made ≡ (Write pairs.now, Wrote number) ∷ [])) device.old device.new) }
 {
     match device.write_many(pairs) {
         Ok(_) => Ok(()),
@@ -91,7 +93,8 @@ fn clear_block<B: Blocks>(device: &mut B, at: u32) -> Result<(), Halt>
     ensures went { DeviceGoesOn B.block_count B.halts B.halted B.tells device.old device.new }
     ensures grown { KeepsMore B.kept B.tells IsWriteEvent device.old device.new }
     ensures halt { B.halted device.new ≡ halt_in result }
-    ensures clears { OnOk result ((from : SinceHistory B) → Clears (DeviceHolds B.stands B.kept from) B.tells device.old device.new (Between at (at + 1))) }
+    ensures clears { OnOk result ((from : SinceHistory B) → Clears
+        (DeviceHolds B.stands B.kept from) B.tells device.old device.new (Between at (at + 1))) }
     ensures event { OnOk result (KeepsThen B.kept (AreZerosTo (at ∷ [])) device.old device.new) }
 {
     match device.write(at, &Block::zero()) {
@@ -108,7 +111,8 @@ pub(crate) fn clear_blocks<B: Blocks>(device: &mut B, start: u32, end: u32) -> R
     ensures went { DeviceGoesOn B.block_count B.halts B.halted B.tells device.old device.new }
     ensures grown { KeepsMore B.kept B.tells IsWriteEvent device.old device.new }
     ensures halt { B.halted device.new ≡ halt_in result }
-    ensures clears { OnOk result ((from : SinceHistory B) → Clears (DeviceHolds B.stands B.kept from) B.tells device.old device.new (Between start end)) }
+    ensures clears { OnOk result ((from : SinceHistory B) → Clears
+        (DeviceHolds B.stands B.kept from) B.tells device.old device.new (Between start end)) }
     ensures events { OnOk result (KeepsThen B.kept (AreZerosTo (range_with_len start (end - start)))
         device.old device.new) }
 {
@@ -134,7 +138,8 @@ fn clear_extent<B: Blocks>(
     ensures went { DeviceGoesOn B.block_count B.halts B.halted B.tells device.old device.new }
     ensures grown { KeepsMore B.kept B.tells IsWriteEvent device.old device.new }
     ensures halt { B.halted device.new ≡ halt_in result }
-    ensures clears { OnOk result ((from : SinceHistory B) → Clears (DeviceHolds B.stands B.kept from) B.tells device.old device.new
+    ensures clears { OnOk result ((from : SinceHistory B)
+        → Clears (DeviceHolds B.stands B.kept from) B.tells device.old device.new
         (OfExtent (owner_in (in_table table.now)) id size extent)) }
     ensures events { OnOk result (KeepsThen B.kept
         (AreZerosTo (if owner_in (in_table table.now) extent == id
@@ -163,7 +168,8 @@ pub(crate) fn clear_extents<B: Blocks>(
     ensures went { DeviceGoesOn B.block_count B.halts B.halted B.tells device.old device.new }
     ensures grown { KeepsMore B.kept B.tells IsWriteEvent device.old device.new }
     ensures halt { B.halted device.new ≡ halt_in result }
-    ensures clears { OnOk result ((from : SinceHistory B) → Clears (DeviceHolds B.stands B.kept from) B.tells device.old device.new
+    ensures clears { OnOk result ((from : SinceHistory B)
+        → Clears (DeviceHolds B.stands B.kept from) B.tells device.old device.new
         (InExtent (owner_in (in_table table.now)) id size extents)) }
     ensures events { OnOk result (KeepsThen B.kept
         (AreZerosTo (owned_blocks (owner_in (in_table table.now)) id size extents))
@@ -199,8 +205,8 @@ pub(crate) fn make<B: Blocks>(
         → MakesTable (DeviceHolds B.stands B.kept from device.new) h
         (InExtent (owner_in (in_table next.now)) id size extents) (in_table old.now)
         (in_table next.now)) }
-    ensures events { OnOk result (KeepsThen B.kept
-        (AreOfCreate id size extents (in_table old.now) (in_table next.now)) device.old device.new) }
+    ensures events { OnOk result (KeepsThen B.kept (AreOfCreate id size extents
+        (in_table old.now) (in_table next.now)) device.old device.new) }
 {
     clear_extents(device, next, id, size, extents)?;
     write_table(device, &old.changes(next))

@@ -9,7 +9,8 @@ ghost use Rattle.paraid_volume.specs.Isolation.{AllLeave, IsElsewhere, IsSameVol
 /// A stop leaves the state after a first part of the calls, with each call before a flush that it
 /// left.
 pub fn a_stop_leaves_a_first_part_of_the_calls()
-    ensures { (count start : ℕ) (h : History) (s : VolumeState) (log : VolLog) → Life count start h s log
+    ensures { (count start : ℕ) (h : History) (s : VolumeState) (log : VolLog)
+        → Life count start h s log
         → (k : ℕ) → start ≤ k → k ≤ length h → IsLeftByLife count start h k log }
 {}
 
@@ -23,9 +24,11 @@ pub fn calls_on_other_volumes_leave_a_volume()
 /// removes it, and its own reads and writes are the same calls, their answers are the same,
 /// whatever calls on other volumes come between.
 pub fn a_volume_answers_by_its_own_calls()
-    ensures { (count id : ℕ) (s t s_end t_end : VolumeState) (one other : VolLog) → IsSameVolume id s t
-        → VolumeRun count s one s_end → VolumeRun count t other t_end → AllLeave id one → AllLeave id other
-        → calls_in_log (own_calls id one) ≡ calls_in_log (own_calls id other) → own_calls id one ≡ own_calls id other }
+    ensures { (count id : ℕ) (s t s_end t_end : VolumeState) (one other : VolLog)
+        → IsSameVolume id s t
+        → VolumeRun count s one s_end → VolumeRun count t other t_end → AllLeave id one
+        → AllLeave id other → calls_in_log (own_calls id one) ≡ calls_in_log (own_calls id other)
+        → own_calls id one ≡ own_calls id other }
 {}
 
 /// Each block of a volume that was made reads as zeros.

@@ -29,7 +29,8 @@ fn set_byte_in(blocks: &mut [Block; 6], block: usize, at: usize, byte: u8)
     requires at { at < 512 }
     ensures here { (d : BlockType) (i : ℕ) → slice_index (get_or blocks.new block d).bytes i
         ≡ (if i == at then byte else slice_index (get_or blocks.old block d).bytes i) }
-    ensures rest { (d : BlockType) (k : ℕ) → k ≢ block → get_or blocks.new k d ≡ get_or blocks.old k d }
+    ensures rest { (d : BlockType) (k : ℕ)
+        → k ≢ block → get_or blocks.new k d ≡ get_or blocks.old k d }
     ensures length { length blocks.new ≡ 6 }
 {
     blocks[block].set(at, byte);
@@ -154,7 +155,8 @@ impl Table {
     }
 
     fn are_fields(&self) -> bool
-        ensures { IsTrue result ↔ ((id : ℕ) → 1 ≤ id → id ≤ 31 → IsField (name_in (in_table self.now) id)) }
+        ensures { IsTrue result
+            ↔ ((id : ℕ) → 1 ≤ id → id ≤ 31 → IsField (name_in (in_table self.now) id)) }
     {
         for id in 1..32 {
             if !self.is_field(id) {
@@ -217,8 +219,8 @@ impl Table {
     // Whether no live id before this one has its name.
     fn is_first(&self, id: u8) -> bool
         requires { IsLiveId (in_table self.now) id }
-        ensures { IsTrue result ↔ ((i : ℕ) → i < id → IsLiveId (in_table self.now) i
-            → ((k : ℕ) → k < 16 → name_in (in_table self.now) i k ≡ name_in (in_table self.now) id k) → ⊥) }
+        ensures { IsTrue result ↔ ((i : ℕ) → i < id → IsLiveId (in_table self.now) i → ((k : ℕ)
+            → k < 16 → name_in (in_table self.now) i k ≡ name_in (in_table self.now) id k) → ⊥) }
     {
         for other in 1..id {
             if self.is_live(other) && self.is_same_name(other, id) {
@@ -229,9 +231,9 @@ impl Table {
     }
 
     fn are_distinct(&self) -> bool
-        ensures { IsTrue result ↔ ((j i : ℕ) → i < j → IsLiveId (in_table self.now) i
-            → IsLiveId (in_table self.now) j
-            → ((k : ℕ) → k < 16 → name_in (in_table self.now) i k ≡ name_in (in_table self.now) j k) → ⊥) }
+        ensures { IsTrue result ↔ ((j i : ℕ)
+            → i < j → IsLiveId (in_table self.now) i → IsLiveId (in_table self.now) j → ((k : ℕ)
+            → k < 16 → name_in (in_table self.now) i k ≡ name_in (in_table self.now) j k) → ⊥) }
     {
         for id in 1..32 {
             if self.is_live(id) && !self.is_first(id) {
@@ -264,7 +266,8 @@ impl Table {
 
     fn is_end_free(&self, extents: u32) -> bool
         requires { extents ≤ 2048 }
-        ensures { IsTrue result ↔ ((e : ℕ) → extents ≤ e → e < 2048 → owner_in (in_table self.now) e ≡ 0) }
+        ensures { IsTrue result
+            ↔ ((e : ℕ) → extents ≤ e → e < 2048 → owner_in (in_table self.now) e ≡ 0) }
     {
         for extent in extents..2048 {
             if self.owner(extent) != 0 {
@@ -374,11 +377,12 @@ impl Table {
     /// Changes the 16 bytes of a name.
     pub(crate) fn set_name(&mut self, id: u8, text: &[u8; 16])
         requires { (1 ≤ id) × (id ≤ 31) }
-        ensures here { (k : ℕ) → k < 16 → name_in (in_table self.new) id k ≡ slice_index text.now k }
+        ensures here { (k : ℕ)
+            → k < 16 → name_in (in_table self.new) id k ≡ slice_index text.now k }
         ensures others { (i k : ℕ) → 1 ≤ i → i ≢ id → k < 16
             → name_in (in_table self.new) i k ≡ name_in (in_table self.old) i k }
-        ensures end { (k : ℕ) → 496 ≤ k
-            → slice_index (in_table self.new 1).bytes k ≡ slice_index (in_table self.old 1).bytes k }
+        ensures end { (k : ℕ) → 496 ≤ k → slice_index (in_table self.new 1).bytes k
+            ≡ slice_index (in_table self.old 1).bytes k }
         ensures rest { (k : ℕ) → k ≢ 1 → in_table self.new k ≡ in_table self.old k }
     {
         for at in 0..16 {

@@ -62,17 +62,21 @@ impl<B: Blocks> Volumes<B> {
             KeepsMore B.kept B.tells IsReadEvent blocks (device_of volumes)) }
         ensures grown_refused { IfErr result (λ refused.
             KeepsMore B.kept B.tells IsReadEvent blocks refused.blocks) }
-        ensures stands_refused { IfErr result (λ refused. B.halted refused.blocks ≡ None → (from : SinceHistory B) (h : History)
-            → DeviceHolds B.stands B.kept from blocks h → IsTrue (B.tells refused.blocks)
-            → DeviceHolds B.stands B.kept from refused.blocks h) }
-        ensures untouched { IfErr result (λ refused. B.block_count blocks < 7 → refused.blocks ≡ blocks) }
+        ensures stands_refused { IfErr result (λ refused. B.halted refused.blocks ≡ None
+            → (from : SinceHistory B) (h : History) → DeviceHolds B.stands B.kept from blocks h
+            → IsTrue (B.tells refused.blocks) → DeviceHolds B.stands B.kept from refused.blocks h) }
+        ensures untouched { IfErr result (λ refused. B.block_count blocks < 7
+            → refused.blocks ≡ blocks) }
         ensures ok { IfOk result (λ volumes. halted_of volumes ≡ None) }
-        ensures stands { IfOk result (λ volumes. (from : SinceHistory B) (h : History) → DeviceHolds B.stands B.kept from blocks h
-            → IsTrue (B.tells (device_of volumes)) → VolumesStandFor (DeviceHolds B.stands B.kept from) volumes h) }
-        ensures lived { IfOk result (λ volumes. (from : SinceHistory B) (h : History) → DeviceHolds B.stands B.kept from blocks h
-            → IsTrue (B.tells (device_of volumes))
-            → HasLived (VolumesStandFor (DeviceHolds B.stands B.kept from) volumes) (B.block_count blocks) (length h) []) }
-        ensures reads { IfOk result (λ volumes. (first : B) (events : Answers) → B.kept first blocks events
+        ensures stands { IfOk result (λ volumes. (from : SinceHistory B) (h : History)
+            → DeviceHolds B.stands B.kept from blocks h → IsTrue (B.tells (device_of volumes))
+            → VolumesStandFor (DeviceHolds B.stands B.kept from) volumes h) }
+        ensures lived { IfOk result (λ volumes. (from : SinceHistory B) (h : History)
+            → DeviceHolds B.stands B.kept from blocks h → IsTrue (B.tells (device_of volumes))
+            → HasLived (VolumesStandFor (DeviceHolds B.stands B.kept from) volumes)
+            (B.block_count blocks) (length h) []) }
+        ensures reads { IfOk result (λ volumes. (first : B) (events : Answers)
+            → B.kept first blocks events
             → B.kept first (device_of volumes) (events ++ table_reads (volume_table volumes) 6)) }
         ensures reads_refused { IfErr result (λ refused. KeepsThen B.kept
             (AreRefusedReads (B.block_count blocks) refused.fault) blocks refused.blocks) }
@@ -108,8 +112,9 @@ impl<B: Blocks> Volumes<B> {
             (B.halted refused.blocks)
             ((h : History) → B.stands blocks h → IsTrue (B.tells refused.blocks)
             → IsVolumeTable (B.block_count blocks) (after_all h)) refused.fault) }
-        ensures taken { IfOk result (λ volumes. (h : History) → B.stands blocks h
-            → IsTrue (B.tells (device_of volumes)) → IsVolumeTable (B.block_count blocks) (after_all h) → ⊥) }
+        ensures taken { IfOk result (λ volumes. (h : History)
+            → B.stands blocks h → IsTrue (B.tells (device_of volumes))
+            → IsVolumeTable (B.block_count blocks) (after_all h) → ⊥) }
         ensures went { IfOk result (λ volumes.
             DeviceGoesOn B.block_count B.halts B.halted B.tells blocks (device_of volumes)) }
         ensures went_refused { IfErr result (λ refused.
@@ -118,18 +123,22 @@ impl<B: Blocks> Volumes<B> {
             KeepsMore B.kept B.tells IsReadOrWrite blocks (device_of volumes)) }
         ensures grown_refused { IfErr result (λ refused.
             KeepsMore B.kept B.tells IsReadOrWrite blocks refused.blocks) }
-        ensures stands_refused { IfErr result (λ refused. B.halted refused.blocks ≡ None → (from : SinceHistory B) (h : History)
-            → DeviceHolds B.stands B.kept from blocks h → IsTrue (B.tells refused.blocks)
-            → DeviceHolds B.stands B.kept from refused.blocks h) }
-        ensures untouched { IfErr result (λ refused. B.block_count blocks < 7 → refused.blocks ≡ blocks) }
+        ensures stands_refused { IfErr result (λ refused. B.halted refused.blocks ≡ None
+            → (from : SinceHistory B) (h : History) → DeviceHolds B.stands B.kept from blocks h
+            → IsTrue (B.tells refused.blocks) → DeviceHolds B.stands B.kept from refused.blocks h) }
+        ensures untouched { IfErr result (λ refused. B.block_count blocks < 7
+            → refused.blocks ≡ blocks) }
         ensures ok { IfOk result (λ volumes. halted_of volumes ≡ None) }
-        ensures stands { IfOk result (λ volumes. (from : SinceHistory B) (h : History) → DeviceHolds B.stands B.kept from blocks h
-            → IsTrue (B.tells (device_of volumes))
-            → AddsNoVolume (VolumesStandFor (DeviceHolds B.stands B.kept from) volumes) (B.block_count blocks) h) }
-        ensures lived { IfOk result (λ volumes. (from : SinceHistory B) (h : History) → DeviceHolds B.stands B.kept from blocks h
-            → IsTrue (B.tells (device_of volumes))
-            → BeginsLife (VolumesStandFor (DeviceHolds B.stands B.kept from) volumes) (B.block_count blocks) (length h + 1)) }
-        ensures empty { IfOk result (λ volumes. (k : ℕ) → 1 ≤ k → volume_table volumes k ≡ zero_block) }
+        ensures stands { IfOk result (λ volumes. (from : SinceHistory B) (h : History)
+            → DeviceHolds B.stands B.kept from blocks h
+            → IsTrue (B.tells (device_of volumes)) → AddsNoVolume
+            (VolumesStandFor (DeviceHolds B.stands B.kept from) volumes) (B.block_count blocks) h) }
+        ensures lived { IfOk result (λ volumes. (from : SinceHistory B) (h : History)
+            → DeviceHolds B.stands B.kept from blocks h → IsTrue (B.tells (device_of volumes))
+            → BeginsLife (VolumesStandFor (DeviceHolds B.stands B.kept from) volumes)
+            (B.block_count blocks) (length h + 1)) }
+        ensures empty { IfOk result (λ volumes. (k : ℕ)
+            → 1 ≤ k → volume_table volumes k ≡ zero_block) }
         ensures events { IfOk result (λ volumes. KeepsThen B.kept
             (AreOfInit (B.block_count blocks) (volume_table volumes)) blocks (device_of volumes)) }
         ensures found { IfErr result (λ refused. refused.fault ≡ AlreadyFault
@@ -184,8 +193,8 @@ impl<B: Blocks> Volumes<B> {
         ensures fault { IfErr result (IsPlaceFault (B.block_count (device_of self.now))
             (volume_table self.now) (halted_of self.now) id block) }
         ensures halt { vol_halt_in result ≡ halted_of self.now }
-        ensures ok { IfOk result (IsPlace (B.block_count (device_of self.now)) (volume_table self.now)
-            id block) }
+        ensures ok { IfOk result
+            (IsPlace (B.block_count (device_of self.now)) (volume_table self.now) id block) }
         ensures below { IfOk result (λ place. place < B.block_count (device_of self.now)) }
     {
         if let Some(halt) = self.halt {
@@ -209,29 +218,36 @@ impl<B: Blocks> Volumes<B> {
         ensures halt { halted_of self.new ≡ vol_halt_in result }
         ensures went { DeviceGoesOn B.block_count B.halts B.halted B.tells (device_of self.old)
             (device_of self.new) }
-        ensures grown { KeepsMore B.kept B.tells IsReadEvent (device_of self.old) (device_of self.new) }
+        ensures grown { KeepsMore B.kept B.tells IsReadEvent
+            (device_of self.old) (device_of self.new) }
         ensures table { volume_table self.new ≡ volume_table self.old }
-        ensures stands { halted_of self.new ≡ None → (from : SinceHistory B) (h : History) → VolumesStandFor (DeviceHolds B.stands B.kept from) self.old h
-            → IsTrue (B.tells (device_of self.new)) → VolumesStandFor (DeviceHolds B.stands B.kept from) self.new h }
-        ensures value { OnOk result ((h : History) (s : VolumeState) → VolumesStandFor B.stands self.old h
+        ensures stands { halted_of self.new ≡ None → (from : SinceHistory B) (h : History)
+            → VolumesStandFor (DeviceHolds B.stands B.kept from) self.old h
+            → IsTrue (B.tells (device_of self.new))
+            → VolumesStandFor (DeviceHolds B.stands B.kept from) self.new h }
+        ensures value { OnOk result ((h : History) (s : VolumeState)
+            → VolumesStandFor B.stands self.old h
             → ShowsVolumes (B.block_count (device_of self.old)) (after_all h) s
             → IsTrue (B.tells (device_of self.new)) → into.new ≡ s.block id block) }
-        ensures event { OnOk result ((first : B) (events : Answers) → B.kept first (device_of self.old) events
-            → KeepsRead (B.kept first (device_of self.new)) events (B.block_count (device_of self.old))
-            (volume_table self.old) id block into.new) }
+        ensures event { OnOk result ((first : B) (events : Answers)
+            → B.kept first (device_of self.old) events
+            → KeepsRead (B.kept first (device_of self.new)) events
+            (B.block_count (device_of self.old)) (volume_table self.old) id block into.new) }
         ensures untouched { OnErr result (halted_of self.new ≡ halted_of self.old
             → (device_of self.new ≡ device_of self.old) × (into.new ≡ into.old)) }
         ensures lived { OnOk result ((from : SinceHistory B) (start : ℕ) (log : VolLog)
-            → (lived : HasLived (VolumesStandFor (DeviceHolds B.stands B.kept from) self.old) (B.block_count (device_of self.old)) start log)
-            → IsTrue (B.tells (device_of self.new))
-            → LivesMore (VolumesStandFor (DeviceHolds B.stands B.kept from) self.old) (VolumesStandFor (DeviceHolds B.stands B.kept from) self.new)
-            (B.block_count (device_of self.old)) start log lived (ReadCall id block) (Gave into.new)) }
-        ensures lived_refused { IfErr result (λ fault. halted_of self.new ≡ None → (from : SinceHistory B) (start : ℕ)
-            (log : VolLog)
-            → (lived : HasLived (VolumesStandFor (DeviceHolds B.stands B.kept from) self.old) (B.block_count (device_of self.old)) start log)
-            → IsTrue (B.tells (device_of self.new))
-            → LivesMore (VolumesStandFor (DeviceHolds B.stands B.kept from) self.old) (VolumesStandFor (DeviceHolds B.stands B.kept from) self.new)
-            (B.block_count (device_of self.old)) start log lived (ReadCall id block) (Refused fault)) }
+            → (lived : HasLived (VolumesStandFor (DeviceHolds B.stands B.kept from) self.old)
+            (B.block_count (device_of self.old)) start log) → IsTrue (B.tells (device_of self.new))
+            → LivesMore (VolumesStandFor (DeviceHolds B.stands B.kept from) self.old)
+            (VolumesStandFor (DeviceHolds B.stands B.kept from) self.new) (B.block_count
+            (device_of self.old)) start log lived (ReadCall id block) (Gave into.new)) }
+        ensures lived_refused { IfErr result (λ fault. halted_of self.new ≡ None
+            → (from : SinceHistory B) (start : ℕ) (log : VolLog)
+            → (lived : HasLived (VolumesStandFor (DeviceHolds B.stands B.kept from) self.old)
+            (B.block_count (device_of self.old)) start log) → IsTrue (B.tells (device_of self.new))
+            → LivesMore (VolumesStandFor (DeviceHolds B.stands B.kept from) self.old)
+            (VolumesStandFor (DeviceHolds B.stands B.kept from) self.new) (B.block_count
+            (device_of self.old)) start log lived (ReadCall id block) (Refused fault)) }
     {
         let place = self.place(id, block)?;
         match self.blocks.read(place, into) {
@@ -253,32 +269,39 @@ impl<B: Blocks> Volumes<B> {
         ensures halt { halted_of self.new ≡ vol_halt_in result }
         ensures went { DeviceGoesOn B.block_count B.halts B.halted B.tells (device_of self.old)
             (device_of self.new) }
-        ensures grown { KeepsMore B.kept B.tells IsWriteEvent (device_of self.old) (device_of self.new) }
+        ensures grown { KeepsMore B.kept B.tells IsWriteEvent
+            (device_of self.old) (device_of self.new) }
         ensures table { volume_table self.new ≡ volume_table self.old }
-        ensures adds { OnOk result ((from : SinceHistory B) (h : History) (s : VolumeState) → VolumesStandFor (DeviceHolds B.stands B.kept from) self.old h
+        ensures adds { OnOk result ((from : SinceHistory B) (h : History) (s : VolumeState)
+            → VolumesStandFor (DeviceHolds B.stands B.kept from) self.old h
             → ShowsVolumes (B.block_count (device_of self.old)) (after_all h) s
             → IsTrue (B.tells (device_of self.new))
-            → Adds (VolumesStandFor (DeviceHolds B.stands B.kept from) self.new) (B.block_count (device_of self.old)) h
-            (with_block s id block bytes.now)) }
-        ensures stands { OnErr result (halted_of self.new ≡ None → (from : SinceHistory B) (h : History)
-            → VolumesStandFor (DeviceHolds B.stands B.kept from) self.old h → IsTrue (B.tells (device_of self.new))
+            → Adds (VolumesStandFor (DeviceHolds B.stands B.kept from) self.new)
+            (B.block_count (device_of self.old)) h (with_block s id block bytes.now)) }
+        ensures stands { OnErr result (halted_of self.new ≡ None
+            → (from : SinceHistory B) (h : History)
+            → VolumesStandFor (DeviceHolds B.stands B.kept from) self.old h
+            → IsTrue (B.tells (device_of self.new))
             → VolumesStandFor (DeviceHolds B.stands B.kept from) self.new h) }
-        ensures event { OnOk result ((first : B) (events : Answers) → B.kept first (device_of self.old) events
-            → KeepsWrite (B.kept first (device_of self.new)) events (B.block_count (device_of self.old))
-            (volume_table self.old) id block bytes.now) }
+        ensures event { OnOk result ((first : B) (events : Answers)
+            → B.kept first (device_of self.old) events
+            → KeepsWrite (B.kept first (device_of self.new)) events
+            (B.block_count (device_of self.old)) (volume_table self.old) id block bytes.now) }
         ensures untouched { OnErr result (halted_of self.new ≡ halted_of self.old
             → device_of self.new ≡ device_of self.old) }
         ensures lived { OnOk result ((from : SinceHistory B) (start : ℕ) (log : VolLog)
-            → (lived : HasLived (VolumesStandFor (DeviceHolds B.stands B.kept from) self.old) (B.block_count (device_of self.old)) start log)
-            → IsTrue (B.tells (device_of self.new))
-            → LivesMore (VolumesStandFor (DeviceHolds B.stands B.kept from) self.old) (VolumesStandFor (DeviceHolds B.stands B.kept from) self.new)
-            (B.block_count (device_of self.old)) start log lived (WriteCall id block bytes.now) Wrote) }
-        ensures lived_refused { IfErr result (λ fault. halted_of self.new ≡ None → (from : SinceHistory B) (start : ℕ)
-            (log : VolLog)
-            → (lived : HasLived (VolumesStandFor (DeviceHolds B.stands B.kept from) self.old) (B.block_count (device_of self.old)) start log)
-            → IsTrue (B.tells (device_of self.new))
-            → LivesMore (VolumesStandFor (DeviceHolds B.stands B.kept from) self.old) (VolumesStandFor (DeviceHolds B.stands B.kept from) self.new)
-            (B.block_count (device_of self.old)) start log lived (WriteCall id block bytes.now) (Refused fault)) }
+            → (lived : HasLived (VolumesStandFor (DeviceHolds B.stands B.kept from) self.old)
+            (B.block_count (device_of self.old)) start log) → IsTrue (B.tells (device_of self.new))
+            → LivesMore (VolumesStandFor (DeviceHolds B.stands B.kept from) self.old)
+            (VolumesStandFor (DeviceHolds B.stands B.kept from) self.new) (B.block_count
+            (device_of self.old)) start log lived (WriteCall id block bytes.now) Wrote) }
+        ensures lived_refused { IfErr result (λ fault. halted_of self.new ≡ None
+            → (from : SinceHistory B) (start : ℕ) (log : VolLog)
+            → (lived : HasLived (VolumesStandFor (DeviceHolds B.stands B.kept from) self.old)
+            (B.block_count (device_of self.old)) start log) → IsTrue (B.tells (device_of self.new))
+            → LivesMore (VolumesStandFor (DeviceHolds B.stands B.kept from) self.old)
+            (VolumesStandFor (DeviceHolds B.stands B.kept from) self.new) (B.block_count
+            (device_of self.old)) start log lived (WriteCall id block bytes.now) (Refused fault)) }
     {
         let place = self.place(id, block)?;
         match self.blocks.write(place, bytes) {
@@ -291,27 +314,30 @@ impl<B: Blocks> Volumes<B> {
         }
     }
 
-    /// Flushes the device. Ok gives the length of the history. That no stop takes any of it away holds
-    /// where the device's `kept` says so.
+    /// Flushes the device. Ok gives the length of the history. That no stop takes any of it away
+    /// holds where the device's `kept` says so.
     pub fn flush(&mut self) -> Result<u64, VolFault>
         ensures fault { IfErr result (IsHalt (halted_of self.new)) }
         ensures halt { halted_of self.new ≡ vol_halt_in result }
         ensures went { DeviceGoesOn B.block_count B.halts B.halted B.tells (device_of self.old)
             (device_of self.new) }
-        ensures grown { KeepsMore B.kept B.tells IsFlushEvent (device_of self.old) (device_of self.new) }
+        ensures grown { KeepsMore B.kept B.tells IsFlushEvent
+            (device_of self.old) (device_of self.new) }
         ensures table { volume_table self.new ≡ volume_table self.old }
-        ensures stands { IfOk result (λ number. (from : SinceHistory B) (h : History) → VolumesStandFor (DeviceHolds B.stands B.kept from) self.old h
+        ensures stands { IfOk result (λ number. (from : SinceHistory B) (h : History)
+            → VolumesStandFor (DeviceHolds B.stands B.kept from) self.old h
             → IsTrue (B.tells (device_of self.new))
             → (number ≡ length h) × VolumesStandFor (DeviceHolds B.stands B.kept from) self.new h) }
         ensures event { IfOk result (λ number. (first : B) (events : Answers)
-            → B.kept first (device_of self.old) events
-            → B.kept first (device_of self.new) (events ++ (FlushEvent, FlushedAnswer number) ∷ [])) }
+            → B.kept first (device_of self.old) events → B.kept first
+            (device_of self.new) (events ++ (FlushEvent, FlushedAnswer number) ∷ [])) }
         ensures untouched { OnErr result (halted_of self.new ≡ halted_of self.old
             → device_of self.new ≡ device_of self.old) }
         ensures lived { IfOk result (λ number. (from : SinceHistory B) (start : ℕ) (log : VolLog)
-            → (lived : HasLived (VolumesStandFor (DeviceHolds B.stands B.kept from) self.old) (B.block_count (device_of self.old)) start log)
-            → IsTrue (B.tells (device_of self.new))
-            → LivesMore (VolumesStandFor (DeviceHolds B.stands B.kept from) self.old) (VolumesStandFor (DeviceHolds B.stands B.kept from) self.new)
+            → (lived : HasLived (VolumesStandFor (DeviceHolds B.stands B.kept from) self.old)
+            (B.block_count (device_of self.old)) start log) → IsTrue (B.tells (device_of self.new))
+            → LivesMore (VolumesStandFor (DeviceHolds B.stands B.kept from) self.old)
+            (VolumesStandFor (DeviceHolds B.stands B.kept from) self.new)
             (B.block_count (device_of self.old)) start log lived FlushCall (Flushed number)) }
     {
         if let Some(halt) = self.halt {
@@ -329,8 +355,8 @@ impl<B: Blocks> Volumes<B> {
     /// The number of blocks of a volume, 0 where there is none.
     pub fn size(&self, id: u8) -> u32
         ensures live { IsLiveId (volume_table self.now) id
-            → result ≡ size_of (B.block_count (device_of self.now))
-            * extents_owned (owner_in (volume_table self.now)) id (count_of (B.block_count (device_of self.now))) }
+            → result ≡ size_of (B.block_count (device_of self.now)) * extents_owned
+            (owner_in (volume_table self.now)) id (count_of (B.block_count (device_of self.now))) }
         ensures free { (IsLiveId (volume_table self.now) id → ⊥) → result ≡ 0 }
     {
         if !self.table.is_live(id) {
@@ -368,28 +394,34 @@ impl<B: Blocks> Volumes<B> {
         ensures halt { halted_of self.new ≡ vol_halt_in result }
         ensures went { DeviceGoesOn B.block_count B.halts B.halted B.tells (device_of self.old)
             (device_of self.new) }
-        ensures grown { KeepsMore B.kept B.tells IsWriteEvent (device_of self.old) (device_of self.new) }
+        ensures grown { KeepsMore B.kept B.tells IsWriteEvent
+            (device_of self.old) (device_of self.new) }
         ensures refused { OnErr result (volume_table self.new ≡ volume_table self.old) }
-        ensures adds { OnOk result ((from : SinceHistory B) (h : History) (s : VolumeState) → VolumesStandFor (DeviceHolds B.stands B.kept from) self.old h
+        ensures adds { OnOk result ((from : SinceHistory B) (h : History) (s : VolumeState)
+            → VolumesStandFor (DeviceHolds B.stands B.kept from) self.old h
             → ShowsVolumes (B.block_count (device_of self.old)) (after_all h) s
-            → IsTrue (B.tells (device_of self.new))
-            → Adds (VolumesStandFor (DeviceHolds B.stands B.kept from) self.new) (B.block_count (device_of self.old)) h
+            → IsTrue (B.tells (device_of self.new)) → Adds (VolumesStandFor
+            (DeviceHolds B.stands B.kept from) self.new) (B.block_count (device_of self.old)) h
             (without_volume (size_of (B.block_count (device_of self.old))) s id)) }
-        ensures stands { OnErr result (halted_of self.new ≡ None → (from : SinceHistory B) (h : History)
-            → VolumesStandFor (DeviceHolds B.stands B.kept from) self.old h → IsTrue (B.tells (device_of self.new))
+        ensures stands { OnErr result (halted_of self.new ≡ None
+            → (from : SinceHistory B) (h : History)
+            → VolumesStandFor (DeviceHolds B.stands B.kept from) self.old h
+            → IsTrue (B.tells (device_of self.new))
             → VolumesStandFor (DeviceHolds B.stands B.kept from) self.new h) }
         ensures untouched { OnErr result (halted_of self.new ≡ halted_of self.old
             → device_of self.new ≡ device_of self.old) }
         ensures lived { OnOk result ((from : SinceHistory B) (start : ℕ) (log : VolLog)
-            → (lived : HasLived (VolumesStandFor (DeviceHolds B.stands B.kept from) self.old) (B.block_count (device_of self.old)) start log)
-            → IsTrue (B.tells (device_of self.new))
-            → LivesMore (VolumesStandFor (DeviceHolds B.stands B.kept from) self.old) (VolumesStandFor (DeviceHolds B.stands B.kept from) self.new)
+            → (lived : HasLived (VolumesStandFor (DeviceHolds B.stands B.kept from) self.old)
+            (B.block_count (device_of self.old)) start log) → IsTrue (B.tells (device_of self.new))
+            → LivesMore (VolumesStandFor (DeviceHolds B.stands B.kept from) self.old)
+            (VolumesStandFor (DeviceHolds B.stands B.kept from) self.new)
             (B.block_count (device_of self.old)) start log lived (DeleteCall id) Removed) }
-        ensures lived_refused { IfErr result (λ fault. halted_of self.new ≡ None → (from : SinceHistory B) (start : ℕ)
-            (log : VolLog)
-            → (lived : HasLived (VolumesStandFor (DeviceHolds B.stands B.kept from) self.old) (B.block_count (device_of self.old)) start log)
-            → IsTrue (B.tells (device_of self.new))
-            → LivesMore (VolumesStandFor (DeviceHolds B.stands B.kept from) self.old) (VolumesStandFor (DeviceHolds B.stands B.kept from) self.new)
+        ensures lived_refused { IfErr result (λ fault. halted_of self.new ≡ None
+            → (from : SinceHistory B) (start : ℕ) (log : VolLog)
+            → (lived : HasLived (VolumesStandFor (DeviceHolds B.stands B.kept from) self.old)
+            (B.block_count (device_of self.old)) start log) → IsTrue (B.tells (device_of self.new))
+            → LivesMore (VolumesStandFor (DeviceHolds B.stands B.kept from) self.old)
+            (VolumesStandFor (DeviceHolds B.stands B.kept from) self.new)
             (B.block_count (device_of self.old)) start log lived (DeleteCall id) (Refused fault)) }
         ensures next { OnOk result (IsWithout id (count_of (B.block_count (device_of self.old)))
             (volume_table self.old) (volume_table self.new)) }
@@ -453,39 +485,44 @@ impl<B: Blocks> Volumes<B> {
         ensures halt { halted_of self.new ≡ vol_halt_in result }
         ensures went { DeviceGoesOn B.block_count B.halts B.halted B.tells (device_of self.old)
             (device_of self.new) }
-        ensures grown { KeepsMore B.kept B.tells IsWriteEvent (device_of self.old) (device_of self.new) }
+        ensures grown { KeepsMore B.kept B.tells IsWriteEvent
+            (device_of self.old) (device_of self.new) }
         ensures refused { OnErr result (volume_table self.new ≡ volume_table self.old) }
         ensures id { IfOk result (IsLeastFree (volume_table self.old)) }
         ensures makes { IfOk result (λ id. (from : SinceHistory B) (h : History) (s : VolumeState)
             → VolumesStandFor (DeviceHolds B.stands B.kept from) self.old h
             → ShowsVolumes (B.block_count (device_of self.old)) (after_all h) s
             → IsTrue (B.tells (device_of self.new))
-            → Makes (VolumesStandFor (DeviceHolds B.stands B.kept from) self.new) (B.block_count (device_of self.old)) h s
-            (with_volume (size_of (B.block_count (device_of self.old))) s id
-            (letter_of name.now) extents)) }
-        ensures stands { OnErr result (halted_of self.new ≡ None → (from : SinceHistory B) (h : History)
-            → VolumesStandFor (DeviceHolds B.stands B.kept from) self.old h → IsTrue (B.tells (device_of self.new))
+            → Makes (VolumesStandFor (DeviceHolds B.stands B.kept from) self.new)
+            (B.block_count (device_of self.old)) h s (with_volume
+            (size_of (B.block_count (device_of self.old))) s id (letter_of name.now) extents)) }
+        ensures stands { OnErr result (halted_of self.new ≡ None
+            → (from : SinceHistory B) (h : History)
+            → VolumesStandFor (DeviceHolds B.stands B.kept from) self.old h
+            → IsTrue (B.tells (device_of self.new))
             → VolumesStandFor (DeviceHolds B.stands B.kept from) self.new h) }
         ensures untouched { OnErr result (halted_of self.new ≡ halted_of self.old
             → device_of self.new ≡ device_of self.old) }
         ensures lived { IfOk result (λ id. (from : SinceHistory B) (start : ℕ) (log : VolLog)
-            → (lived : HasLived (VolumesStandFor (DeviceHolds B.stands B.kept from) self.old) (B.block_count (device_of self.old)) start log)
-            → IsTrue (B.tells (device_of self.new))
-            → LivesMore (VolumesStandFor (DeviceHolds B.stands B.kept from) self.old) (VolumesStandFor (DeviceHolds B.stands B.kept from) self.new)
-            (B.block_count (device_of self.old)) start log lived (CreateCall (letter_of name.now) extents) (Made id)) }
-        ensures lived_refused { IfErr result (λ fault. halted_of self.new ≡ None → (from : SinceHistory B) (start : ℕ)
-            (log : VolLog)
-            → (lived : HasLived (VolumesStandFor (DeviceHolds B.stands B.kept from) self.old) (B.block_count (device_of self.old)) start log)
-            → IsTrue (B.tells (device_of self.new))
-            → LivesMore (VolumesStandFor (DeviceHolds B.stands B.kept from) self.old) (VolumesStandFor (DeviceHolds B.stands B.kept from) self.new)
-            (B.block_count (device_of self.old)) start log lived (CreateCall (letter_of name.now) extents) (Refused fault)) }
+            → (lived : HasLived (VolumesStandFor (DeviceHolds B.stands B.kept from) self.old)
+            (B.block_count (device_of self.old)) start log) → IsTrue (B.tells (device_of self.new))
+            → LivesMore (VolumesStandFor (DeviceHolds B.stands B.kept from) self.old)
+            (VolumesStandFor (DeviceHolds B.stands B.kept from) self.new) (B.block_count (device_of
+            self.old)) start log lived (CreateCall (letter_of name.now) extents) (Made id)) }
+        ensures lived_refused { IfErr result (λ fault. halted_of self.new ≡ None
+            → (from : SinceHistory B) (start : ℕ) (log : VolLog)
+            → (lived : HasLived (VolumesStandFor (DeviceHolds B.stands B.kept from) self.old)
+            (B.block_count (device_of self.old)) start log) → IsTrue (B.tells (device_of self.new))
+            → LivesMore (VolumesStandFor (DeviceHolds B.stands B.kept from) self.old)
+            (VolumesStandFor (DeviceHolds B.stands B.kept from) self.new) (B.block_count (device_of
+            self.old)) start log lived (CreateCall (letter_of name.now) extents) (Refused fault)) }
         ensures next { IfOk result (λ id. IsWith id name.now extents
             (count_of (B.block_count (device_of self.old)))
             (volume_table self.old) (volume_table self.new)) }
-        ensures events { IfOk result (λ id. KeepsThen B.kept
-            (AreOfCreate id (size_of (B.block_count (device_of self.old)))
-            (count_of (B.block_count (device_of self.old))) (volume_table self.old) (volume_table self.new))
-            (device_of self.old) (device_of self.new)) }
+        ensures events { IfOk result (λ id.
+            KeepsThen B.kept (AreOfCreate id (size_of (B.block_count (device_of self.old)))
+            (count_of (B.block_count (device_of self.old))) (volume_table self.old)
+            (volume_table self.new)) (device_of self.old) (device_of self.new)) }
     {
         let id = self.new_id(name, extents)?;
         let next = self.table.with(id, name, extents, self.extents);

@@ -42,7 +42,8 @@ pair_with None bytes = None
 
 -- a number that ends at place `at`, and the digits of a block from there to the end
 abbrev pub pair_at : Option ℕ → List ℕ → Option (ℕ × Block)
-pair_at (Some at) text = pair_with (number_of (take at text)) (block_from_digits (drop (at + 1) text))
+pair_at (Some at) text =
+    pair_with (number_of (take at text)) (block_from_digits (drop (at + 1) text))
 pair_at None text = None
 
 -- what a deletion asks for, where these bytes are a name
@@ -55,7 +56,8 @@ delete_of word name = if bytes_eq word (codes "delete") then deletes name else b
 
 -- a creation, if this is its word
 abbrev pub create_line : List ℕ → List ℕ → List ℕ → VolLine
-create_line word name rest = if bytes_eq word (codes "create") then create_with name (number_of rest) else bad
+create_line word name rest =
+    if bytes_eq word (codes "create") then create_with name (number_of rest) else bad
 
 -- what a word asks for with a name and what follows the space behind it
 abbrev pub asked_of : List ℕ → List ℕ → List ℕ → VolLine
@@ -75,7 +77,8 @@ named_at word None rest = delete_of word rest
 
 -- a line that is cut at its first space
 abbrev pub line_at : Option ℕ → List ℕ → VolLine
-line_at (Some at) line = named_at (take at line) (position is_space (drop (at + 1) line)) (drop (at + 1) line)
+line_at (Some at) line =
+    named_at (take at line) (position is_space (drop (at + 1) line)) (drop (at + 1) line)
 line_at None line = bare_line line
 
 -- what a line asks for

@@ -30,7 +30,8 @@ deleted_text name false = codes "novolume"
 
 -- what is answered to a read
 abbrev pub read_text : List ℕ → ℕ → Result (Unit {0}) VolFault → Block → List ℕ
-read_text name block (Ok done) bytes = name ++ codes " " ++ decimal block ++ codes "=" ++ block_text bytes
+read_text name block (Ok done) bytes =
+    name ++ codes " " ++ decimal block ++ codes "=" ++ block_text bytes
 read_text name block (Err fault) bytes = fault_text fault
 
 -- what is answered to a write

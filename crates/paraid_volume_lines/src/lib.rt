@@ -1,4 +1,5 @@
-//! The lines of `vol`: what each line asks for of named volumes, and the lines that tell the answers.
+//! The lines of `vol`: what each line asks for of named volumes, and the lines that tell the
+//! answers.
 //!
 //! What a line looks like stands in `specs/Grammar.antt` as printed text, and `parse_volume_line`
 //! finds a task exactly for its lines. Nothing here takes memory.

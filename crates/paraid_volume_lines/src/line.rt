@@ -20,8 +20,10 @@ pub fn parse_volume_line(line: &[u8], bytes: &mut Block) -> VolAsked
     ensures value { line_with result bytes.new ≡ line_of line.now }
     ensures task { line_with result bytes.new ≢ BadLine
         → IsVolLine line.now (line_with result bytes.new) }
-    ensures only { (asked : VolLine) → IsVolLine line.now asked → line_with result bytes.new ≡ asked }
-    ensures bad { line_with result bytes.new ≡ BadLine → (asked : VolLine) → IsVolLine line.now asked → ⊥ }
+    ensures only { (asked : VolLine)
+        → IsVolLine line.now asked → line_with result bytes.new ≡ asked }
+    ensures bad { line_with result bytes.new ≡ BadLine
+        → (asked : VolLine) → IsVolLine line.now asked → ⊥ }
     ensures long { 1100 < length line.now → line_with result bytes.new ≡ BadLine }
 {
     task(line, bytes)

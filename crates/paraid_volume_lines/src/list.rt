@@ -11,7 +11,8 @@ use paraid_volume::{Name, Volumes};
 
 /// The name and the size of each volume.
 pub fn tell_list<B: Blocks>(volumes: &Volumes<B>, into: &mut Text)
-    ensures { TellsVolumes (B.block_count (device_of volumes.now)) (volume_table volumes.now) into.new }
+    ensures { TellsVolumes
+        (B.block_count (device_of volumes.now)) (volume_table volumes.now) into.new }
 {
     into.clear();
     into.push(b"list");
@@ -28,7 +29,8 @@ fn tell_volume<B: Blocks>(volumes: &Volumes<B>, id: u8, into: &mut Text)
     requires room { length into.old ≤ 1000 }
     ensures { (n : ℕ) → id ≡ n + 1
         → ListsFirst (B.block_count (device_of volumes.now)) (volume_table volumes.now) n into.old
-        → ListsFirst (B.block_count (device_of volumes.now)) (volume_table volumes.now) (n + 1) into.new }
+        → ListsFirst
+        (B.block_count (device_of volumes.now)) (volume_table volumes.now) (n + 1) into.new }
 {
     if let Some(name) = volumes.name(id) {
         tell_entry(&name, volumes.size(id), into);
@@ -37,7 +39,8 @@ fn tell_volume<B: Blocks>(volumes: &Volumes<B>, id: u8, into: &mut Text)
 
 fn tell_entry(name: &Name, size: u32, into: &mut Text)
     requires room { length into.old ≤ 1000 }
-    ensures value { into.new ≡ into.old ++ (codes " " ++ (word_of name.now ++ (codes " " ++ decimal size))) }
+    ensures value { into.new
+        ≡ into.old ++ (codes " " ++ (word_of name.now ++ (codes " " ++ decimal size))) }
     ensures length { length into.new ≤ length into.old + 28 }
 {
     into.push(b" ");

@@ -118,7 +118,8 @@ pub fn tell_read(
 }
 
 fn tell_bytes(name: &Name, block: BlockNo, bytes: &Block, into: &mut Text)
-    ensures { into.new ≡ word_of name.now ++ codes " " ++ decimal block ++ codes "=" ++ block_text bytes.now ++ codes "\n" }
+    ensures { into.new ≡ word_of name.now
+        ++ codes " " ++ decimal block ++ codes "=" ++ block_text bytes.now ++ codes "\n" }
 {
     into.clear();
     push_name(name, into);

@@ -5,7 +5,8 @@ use Rattle.paraid_words.specs.declared.command.Command.TheVariants.{Format, Run,
 
 -- an option with its value, in decimal digits: two words, or one joined by `=`
 abbrev pub IsNumberOption : List ℕ → ℕ → List (List ℕ) → Type 0
-IsNumberOption name n words = (words ≡ name ∷ decimal n ∷ []) ⊎ (words ≡ (name ++ codes "=" ++ decimal n) ∷ [])
+IsNumberOption name n words =
+    (words ≡ name ∷ decimal n ∷ []) ⊎ (words ≡ (name ++ codes "=" ++ decimal n) ∷ [])
 
 -- `gen` and its two options, once each, in either order
 pub record IsGen (number lines : ℕ) (words : List (List ℕ)) : Type 0 where
@@ -25,7 +26,8 @@ pub record IsPlan (ups : ℕ) (words : List (List ℕ)) : Type 0 where
   pub ups_are : IsNumberOption (codes "--ups") ups option
   pub words_are : words ≡ codes "plan" ∷ option
 
--- `run` with its spares; and with the ticks of a wait, which are 0 where they are not given, in either order
+-- `run` with its spares; and with the ticks of a wait, which are 0 where they are not given, in
+-- either order
 pub record IsSpared (stock wait : ℕ) (words : List (List ℕ)) : Type 0 where
   pub stock_from : 1 ≤ stock
   pub stock_to : stock ≤ 255
@@ -33,7 +35,8 @@ pub record IsSpared (stock wait : ℕ) (words : List (List ℕ)) : Type 0 where
   pub spares : List (List ℕ)
   pub spares_are : IsNumberOption (codes "--spares") stock spares
   pub words_are : ((words ≡ codes "run" ∷ spares) × (wait ≡ 0))
-      ⊎ ((ticks : List (List ℕ)) × IsNumberOption (codes "--wait") wait ticks × ((words ≡ codes "run" ∷ spares ++ ticks) ⊎ (words ≡ codes "run" ∷ ticks ++ spares)))
+      ⊎ ((ticks : List (List ℕ)) × IsNumberOption (codes "--wait") wait ticks
+      × ((words ≡ codes "run" ∷ spares ++ ticks) ⊎ (words ≡ codes "run" ∷ ticks ++ spares)))
 
 -- The words ask for the command.
 abbrev pub AskFor : Command → List (List ℕ) → Type 0
@@ -50,4 +53,5 @@ AskFor (Plan ups) words = IsPlan ups words
 
 -- the line that says which words there are
 abbrev pub usage_line : List ℕ
-usage_line = codes "usage: paraid format [--force] | run | status | check | gen --number N --lines L | nbd | run --spares N [--wait W] | vol | plan --ups U\n"
+usage_line = codes
+    "usage: paraid format [--force] | run | status | check | gen --number N --lines L | nbd | run --spares N [--wait W] | vol | plan --ups U\n"

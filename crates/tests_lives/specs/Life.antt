@@ -22,20 +22,23 @@ use Rattle.paraid_program.specs.Outcome.{IsEmptyArray}
 abbrev pub is_done_or_on : ℕ → Call → Bool
 is_done_or_on d call = is_done call || disk_of call == d
 
--- A run from one record to another answered these lines by this text, as a session does from each history that the rack held.
+-- A run from one record to another answered these lines by this text, as a session does from each
+-- history that the rack held.
 pub record RunAnswers (slots : ℕ) (before after : Option Trail) (lines text : List ℕ) : Type 0 where
   pub setup : Setup
   pub began : ℕ
   pub middle : Option Trail
   pub begins : BeginsAt before middle after began
-  pub said : IsSome after → IsMountedFromEach slots setup began middle (FollowsFromPoint (span_of slots setup middle after) lines 0 text)
+  pub said : IsSome after → IsMountedFromEach slots setup began middle
+      (FollowsFromPoint (span_of slots setup middle after) lines 0 text)
 
 -- what the log disks of a new array say
 abbrev pub said_first : Setup → LogState
 said_first setup = closed_over (first_meta setup)
 
--- There are disks that held no write, calls that mount them, and a session from the first point on: each line is a turn from one
--- point to the next, and so is the flush at the end. The text is what they answer.
+-- There are disks that held no write, calls that mount them, and a session from the first point on:
+-- each line is a turn from one point to the next, and so is the flush at the end. The text is what
+-- they answer.
 pub record IsLife (slots : ℕ) (lines text : List ℕ) : Type 0 where
   pub setup : Setup
   pub array : Disks
@@ -48,5 +51,6 @@ pub record IsLife (slots : ℕ) (lines text : List ℕ) : Type 0 where
   pub start : Option Trail
   pub final : Option Trail
   pub writes : ℕ
-  pub answered : EndsStretch (span_of slots setup start final) first (events_in (lines_of lines) ++ Flush ∷ []) (Flushed writes)
+  pub answered : EndsStretch (span_of slots setup start final) first
+      (events_in (lines_of lines) ++ Flush ∷ []) (Flushed writes)
   pub told : text ≡ begins_with first ++ replies answered.before ++ end_line writes

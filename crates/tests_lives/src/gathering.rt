@@ -23,7 +23,8 @@ fn write_twice<R: Rack>(rack: &mut R, first: &Block, second: &Block) -> Result<(
     Ok(())
 }
 
-/// The disks below a rack that gathers, after a block was written twice and then synced. `None` is of no memory.
+/// The disks below a rack that gathers, after a block was written twice and then synced. `None` is
+/// of no memory.
 pub fn gather_writes(alloc: Global, first: &Block, second: &Block) -> Option<MemRack>
     ensures { IfSome result (λ rack.
         TellsGathered (written_twice first.now second.now) (told_of rack)) }

@@ -84,8 +84,8 @@ fn fail_only_on(calls: &[Call], disk: DiskNo) -> bool
         .all(|call| call.is_done() || call.disk() == disk)
 }
 
-/// What a run over these lines on a new array tells, as this plan has calls fail. `None` is of a run that did not end well, or in
-/// which a call failed on another disk than `weak`.
+/// What a run over these lines on a new array tells, as this plan has calls fail. `None` is of a
+/// run that did not end well, or in which a call failed on another disk than `weak`.
 pub fn live(alloc: Global, lines: &[u8], plan: Vec<Planned>, weak: DiskNo) -> Option<Vec<u8>>
     ensures { IfSome result (λ text. IsLife 5 lines.now text.items) }
 {

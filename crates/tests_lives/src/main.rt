@@ -1,7 +1,8 @@
-//! Plays a trace with the whole program on a new array on disks in memory, and prints what it tells.
+//! Plays a trace with the whole program on a new array on disks in memory, and prints what it
+//! tells.
 //!
-//! The text that is printed is proved to be what a session of an array answers: `IsLife`. One more line tells of two
-//! writes that are gathered, and is printed only where `TellsGathered` holds.
+//! The text that is printed is proved to be what a session of an array answers: `IsLife`. One more
+//! line tells of two writes that are gathered, and is printed only where `TellsGathered` holds.
 #![tactic(auto)]
 
 mod gathering;
@@ -14,7 +15,8 @@ use paraid_memrack::Planned;
 use std::io;
 use std::io::Read;
 
-// The disk that is lost, and the number of its call that fails, from the format on: it is the first of a write.
+// The disk that is lost, and the number of its call that fails, from the format on: it is the first
+// of a write.
 const WEAK: DiskNo = 2;
 
 const LOST_AT: u32 = 6;

@@ -236,8 +236,8 @@ fn calls_on(disk: DiskNo) -> u32 {
     }
 }
 
-// How many calls it makes in all. Where a log disk fails in it, disk 2 bears witness against that one
-// by a write and a sync more.
+// How many calls it makes in all. Where a log disk fails in it, disk 2 bears witness against that
+// one by a write and a sync more.
 fn calls_without(disk: DiskNo) -> u32 {
     match disk {
         0 | 1 => 24,
@@ -278,7 +278,8 @@ fn go_on(alloc: Global) -> Option<u8> {
     Some(3)
 }
 
-// What the commit answers where a call of disk 1 and one of disk 2 fail, and how many calls are made.
+// What the commit answers where a call of disk 1 and one of disk 2 fail, and how many calls are
+// made.
 fn second_loss(alloc: Global) -> Option<(Result<Option<DiskNo>, Two>, u32)> {
     let first = Planned::OnDisk { disk: 1, nth: 3 };
     let second = Planned::OnDisk { disk: 2, nth: 0 };
@@ -366,8 +367,8 @@ fn written(alloc: Global) -> Option<Committed> {
     committed(alloc, SMALL, &batch_of(alloc, &ONE_WRITE)?, 1, &[])
 }
 
-// How many writes an image holds by the log disk that a mount would let stand; None where it does not hold so many, or
-// where another log disk stands.
+// How many writes an image holds by the log disk that a mount would let stand; None where it does
+// not hold so many, or where another log disk stands.
 fn writes_held(image: &Image, chosen: DiskNo) -> Option<u64> {
     let history = [Pairs::one(7, &filled_with(0x77))];
     let says = standing_of(image)?;

@@ -41,7 +41,8 @@ fn next_of(table: &DirtyTable, row: u32, disk: u8, lo: u8, hi: u8) -> Option<(u3
     table.next_from(row, disk, lo, hi)
 }
 
-/// Whether each cell is found from the one before on, and none after the last; and one of some disks.
+/// Whether each cell is found from the one before on, and none after the last; and one of some
+/// disks.
 fn are_found(table: &DirtyTable) -> bool {
     let mut from = (0, 0);
     for &(row, disk) in &CELLS {

@@ -91,7 +91,8 @@ use Deed::{
 /// A deed, and the number of what a rack then finds.
 type Row = (Deed, u8);
 
-// What a rack finds. The table names it by number, since a table with fewer enums costs less to prove.
+// What a rack finds. The table names it by number, since a table with fewer enums costs less to
+// prove.
 const FIT: u8 = 0;
 
 const SWAPPED: u8 = 1;
@@ -265,7 +266,8 @@ fn use_rack<H: Files, F: Files<File = File> + Drop>(
     }
 }
 
-/// Whether these bytes end in a label. It gets the number of another array, or knows nothing of disk 1.
+/// Whether these bytes end in a label. It gets the number of another array, or knows nothing of
+/// disk 1.
 fn gets_label(bytes: &mut [u8], is_renamed: bool) -> bool {
     let Some(at) = bytes.len().checked_sub(LABEL_SIZE) else {
         return false;

@@ -68,8 +68,8 @@ enum Change {
 
 use Change::{Byte, Fewer, Fill, Log, MetaByte, Nothing, Powered, Short};
 
-/// Fills a row of a table up. A row that held a slice would be steps of its own in the proof of what
-/// walks the table.
+/// Fills a row of a table up. A row that held a slice would be steps of its own in the proof of
+/// what walks the table.
 const NO: Change = Nothing;
 
 /// A block of these bytes and then zeros.
@@ -266,7 +266,8 @@ const FORMATTED: [Row; 33] = [
     // The standing disk is named out.
     ([MetaByte(OUT, 0), NO, NO], 0, false),
     ([MetaByte(OUT, 1), NO, NO], 0, true),
-    // A witness is open against a log disk that is in, that is out, and that is absent; and one is closed.
+    // A witness is open against a log disk that is in, that is out, and that is absent; and one is
+    // closed.
     ([Byte(2, 0, 0, 1), NO, NO], 0, false),
     ([Byte(2, 1, 511, 1), NO, NO], 0, true),
     ([Byte(2, 1, 0, 1), MetaByte(OUT, 1), NO], 0, true),
@@ -472,8 +473,8 @@ fn block_byte(image: &Image, says: &Statement, block: BlockNo) -> Option<u8> {
     }
 }
 
-/// The disk that stands, whether its gate is open, how many writes and targets it says, and the disk
-/// that is out.
+/// The disk that stands, whether its gate is open, how many writes and targets it says, and the
+/// disk that is out.
 fn standing(image: &Image) -> Option<(DiskNo, bool, u64, u8, Option<DiskNo>)> {
     let says = standing_of(image)?;
     let out = out_of(image, &says);
@@ -486,7 +487,8 @@ fn standing(image: &Image) -> Option<(DiskNo, bool, u64, u8, Option<DiskNo>)> {
     ))
 }
 
-/// By what stands: the last byte of the place of a target, and whether two cells of row 1 are dirty.
+/// By what stands: the last byte of the place of a target, and whether two cells of row 1 are
+/// dirty.
 fn laid(image: &Image) -> Option<(u8, [bool; 2])> {
     let says = standing_of(image)?;
     let dirty = [is_dirty(image, &says, 1, 4), is_dirty(image, &says, 1, 3)];

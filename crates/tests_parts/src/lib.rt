@@ -1,6 +1,7 @@
-//! Tests of the lower crates, of the definitions of an image and of a commit, and of the crates that
-//! stand beside the array, as tables of values from outside: worked by hand from the formats and the
-//! formulas, or taken from another program. What a clause says of all inputs is not tried again.
+//! Tests of the lower crates, of the definitions of an image and of a commit, and of the crates
+//! that stand beside the array, as tables of values from outside: worked by hand from the formats
+//! and the formulas, or taken from another program. What a clause says of all inputs is not tried
+//! again.
 #![tactic(auto)]
 
 #[cfg(test)]

@@ -1,4 +1,5 @@
-//! Plays a script of runs of the whole program over disks in memory, and tells what each line of it shows.
+//! Plays a script of runs of the whole program over disks in memory, and tells what each line of it
+//! shows.
 //!
 //! Each line is echoed. What it tells follows, each line of that indented.
 #![tactic(auto)]

@@ -1,4 +1,5 @@
-//! Runs that are stopped before each of their calls, and runs in which each call of a disk fails: all that is told then.
+//! Runs that are stopped before each of their calls, and runs in which each call of a disk fails:
+//! all that is told then.
 
 use crate::changes::without;
 use crate::lines::{add_line, add_word, trace_of};
@@ -44,7 +45,8 @@ impl Sights {
         self.list.push(sight).ok()
     }
 
-    /// Notes what a run has told, in one line without the blocks of zeros, and its status where that is not 0.
+    /// Notes what a run has told, in one line without the blocks of zeros, and its status where
+    /// that is not 0.
     pub fn note_run(&mut self, alloc: Global, left: &Left, moment: u32) -> Option<()> {
         let mut text = String::new(alloc);
         for line in left.text.as_str().lines() {
@@ -152,8 +154,8 @@ fn end_of(alloc: Global, left: &Left) -> Option<String> {
     Some(text)
 }
 
-/// A run over these lines of which the blocks and the last line are told, and then those of a run over all blocks, with
-/// a check after it.
+/// A run over these lines of which the blocks and the last line are told, and then those of a run
+/// over all blocks, with a check after it.
 pub fn ended(alloc: Global, lines: &str, conditions: &Conditions, disks: &MemRack) -> Option<Left> {
     let left = whole(alloc, lines, conditions, disks)?;
     let text = end_of(alloc, &left)?;
@@ -199,8 +201,8 @@ fn see_picks(
     Some(())
 }
 
-/// What a run over all blocks tells after a stop at each moment of a run over these lines. Past the mount this disk
-/// is out, if it is one.
+/// What a run over all blocks tells after a stop at each moment of a run over these lines. Past the
+/// mount this disk is out, if it is one.
 pub fn stops(
     alloc: Global,
     lines: &str,
@@ -245,8 +247,8 @@ fn see_mount(
     Some(())
 }
 
-/// What a run over all blocks tells after a stop at each moment of each mount of what a stop at each moment past the
-/// mount of a run over these lines leaves. This disk is out.
+/// What a run over all blocks tells after a stop at each moment of each mount of what a stop at
+/// each moment past the mount of a run over these lines leaves. This disk is out.
 pub fn stops_twice(
     alloc: Global,
     lines: &str,
@@ -264,7 +266,8 @@ pub fn stops_twice(
     sights.told(alloc)
 }
 
-/// What the program with these words tells over the last lines, after a stop at each moment of it over the first ones.
+/// What the program with these words tells over the last lines, after a stop at each moment of it
+/// over the first ones.
 pub fn leaves(
     alloc: Global,
     words: &str,

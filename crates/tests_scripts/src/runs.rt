@@ -13,7 +13,8 @@ use std::alloc::Global;
 /// The number of a call that no run here has. So many calls of a run are listed.
 pub const NEVER: u32 = 4000;
 
-/// Which calls fail, how many bytes one call of the source gives at most, and whether writes are gathered.
+/// Which calls fail, how many bytes one call of the source gives at most, and whether writes are
+/// gathered.
 #[derive(Drop)]
 pub struct Conditions {
     pub disks: Vec<Planned>,
@@ -64,7 +65,8 @@ pub fn bare(alloc: Global, slots: u8) -> Option<MemRack> {
     MemRack::new(alloc, slots, 400, NEVER, Vec::new(alloc)).ok()
 }
 
-/// What a stop before this call leaves of disks, or the end where there are fewer. These calls fail.
+/// What a stop before this call leaves of disks, or the end where there are fewer. These calls
+/// fail.
 pub fn stopped(
     alloc: Global,
     disks: &MemRack,
@@ -133,8 +135,8 @@ fn written(alloc: Global, words: &str, sink: &MemSink) -> Option<String> {
     String::from_str(alloc, text).ok()
 }
 
-// The program over disks on which no call was made, whose writes are gathered, as `main` calls it over files. The calls
-// above are noted.
+// The program over disks on which no call was made, whose writes are gathered, as `main` calls it
+// over files. The calls above are noted.
 fn gathered(
     alloc: Global,
     words: &Vec<String>,
@@ -167,8 +169,8 @@ fn called(
     Some(paraid(alloc, words, source, sink, disks))
 }
 
-// What the program does with these words over this input and these disks. These calls of the source and of the sink
-// fail.
+// What the program does with these words over this input and these disks. These calls of the source
+// and of the sink fail.
 fn ran_on(
     alloc: Global,
     words: &str,
@@ -227,8 +229,8 @@ pub fn checked(alloc: Global, disks: MemRack) -> Option<Left> {
     ran_on(alloc, "check", b"", &Conditions::plain(alloc), disks)
 }
 
-/// What these words and then a check tell, on a new array of eight disks of up to 17516 blocks, none of whose calls is
-/// listed, with the greater status.
+/// What these words and then a check tell, on a new array of eight disks of up to 17516 blocks,
+/// none of whose calls is listed, with the greater status.
 pub fn unlisted(alloc: Global, words: &str, configuration: &str) -> Option<Left> {
     let bare = MemRack::new(alloc, 8, 17_516, 0, Vec::new(alloc)).ok()?;
     let conditions = Conditions::plain(alloc);

@@ -1,4 +1,5 @@
-//! The disks, the configuration and the conditions to come, and what each line of the script makes of them.
+//! The disks, the configuration and the conditions to come, and what each line of the script makes
+//! of them.
 
 use crate::changes::{byte_at, changed, put_back, without};
 use crate::lines::{
@@ -84,7 +85,8 @@ fn cost(alloc: Global, lines: &str, conditions: &Conditions, disks: &MemRack) ->
     priced(alloc, &cut_off(alloc, lines, conditions, disks)?, first)
 }
 
-// What a stop before a call of a run leaves, which is cut off after these lines. The number of the call comes first.
+// What a stop before a call of a run leaves, which is cut off after these lines. The number of the
+// call comes first.
 fn stop(alloc: Global, text: &str, conditions: &Conditions, disks: &MemRack) -> Option<MemRack> {
     let (moment, lines) = first_number(text);
     let left = cut_off(alloc, lines, conditions, disks)?;
@@ -127,7 +129,8 @@ fn told_stops(
     stops_twice(alloc, lines, out, conditions, disks)
 }
 
-// What these words tell over the lines after the second `<`, after stops in them over those after the first one.
+// What these words tell over the lines after the second `<`, after stops in them over those after
+// the first one.
 fn told_leaves(
     alloc: Global,
     text: &str,
@@ -171,7 +174,8 @@ impl Stage {
         })
     }
 
-    /// Plays a line, and gives what it tells. `None` is of a line that is no command, or was not done.
+    /// Plays a line, and gives what it tells. `None` is of a line that is no command, or was not
+    /// done.
     pub fn play(&mut self, alloc: Global, line: &str) -> Option<String> {
         let (word, rest) = first_word(line);
         match kind_of(word) {
@@ -307,8 +311,8 @@ impl Stage {
         Some(())
     }
 
-    // What a command that runs the program tells as each of so many calls fails: of each disk, or of the source or the
-    // sink where the command comes after that word.
+    // What a command that runs the program tells as each of so many calls fails: of each disk, or
+    // of the source or the sink where the command comes after that word.
     fn each(&self, alloc: Global, rest: &str) -> Option<String> {
         let (count, rest) = first_number(rest);
         let (word, command) = first_word(rest);
