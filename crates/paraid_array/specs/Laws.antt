@@ -20,8 +20,8 @@ use Rattle.paraid_array.specs.Arrays.{ArrayStandsAt, dirty_of_array, samples_of_
 use Rattle.paraid_array.specs.Lasting.{IsArrayServing, gear_of_end, halt_of_end}
 
 -- a point at which it stands tells its halt
-pub halt_at : {R : Type 0} {g : _} (count : R
-    → ℕ) (told : R → Option Trail) (a : Array R g) (p : Point)
+pub halt_at : {R : Type 0} {g : _}
+    (count : R → ℕ) (told : R → Option Trail) (a : Array R g) (p : Point)
     → ArrayStandsAt count told a p → p.halt ≡ halt_of_end a.ended
 halt_at count told a p at = by a.ended refl
   where
@@ -113,17 +113,17 @@ begins_as slot a setup energy going samples served =
     (gear_going a.ended a.core.meta.gear going)
 
 -- a disk of one that serves is absent only where it is out
-pub absent_out : {R : Type 0} {g : _} (count : R
-    → ℕ) (slot : R → ℕ → Slot) (core : Core R g) (lengths : List ℕ) (setup : Setup) (slots : ℕ)
-    → IsArrayServing count slot core lengths setup slots
+pub absent_out : {R : Type 0} {g : _}
+    (count : R → ℕ) (slot : R → ℕ → Slot) (core : Core R g) (lengths : List ℕ) (setup : Setup)
+    (slots : ℕ) → IsArrayServing count slot core lengths setup slots
     → IsAbsentOut setup (named_out core.meta.out) (slot (store_rack core.store))
 absent_out count slot core lengths setup slots q x low away = q.serving.ready.absent x
     (subst (λ (z : Setup). x < z.geometry.disks) (sym q.same_setup) low) away
 
 -- an array that serves has at most one absent disk
-pub not_double : {R : Type 0} {g : _} (count : R
-    → ℕ) (slot : R → ℕ → Slot) (core : Core R g) (lengths : List ℕ) (setup : Setup) (slots : ℕ)
-    → IsArrayServing count slot core lengths setup slots
+pub not_double : {R : Type 0} {g : _}
+    (count : R → ℕ) (slot : R → ℕ → Slot) (core : Core R g) (lengths : List ℕ) (setup : Setup)
+    (slots : ℕ) → IsArrayServing count slot core lengths setup slots
     → IsNotDouble setup (slot (store_rack core.store))
 not_double count slot core lengths setup slots q d e d_low e_low d_away e_away =
     let z : Some d ≡ Some e = sym (out d d_low d_away) ∙ out e e_low e_away in cc

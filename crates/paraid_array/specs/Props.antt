@@ -28,9 +28,9 @@ out_once g gear (Gone disk) = hlevel props
 out_once g gear (Fresh disk rebuilt) = hlevel props
 
 -- that an array serves has one proof (a fact)
-pub IsArrayServing-prop : {R : Type 0} {g : _} (count : R
-    → ℕ) (slot : R → ℕ → Slot) (core : Core R g) (lengths : List ℕ) (setup : Setup) (slots : ℕ)
-    → IsProp (IsArrayServing count slot core lengths setup slots)
+pub IsArrayServing-prop : {R : Type 0} {g : _}
+    (count : R → ℕ) (slot : R → ℕ → Slot) (core : Core R g) (lengths : List ℕ) (setup : Setup)
+    (slots : ℕ) → IsProp (IsArrayServing count slot core lengths setup slots)
 IsArrayServing-prop count slot core lengths setup slots = hlevel (props, phase_once, out_once)
 
 -- what is asked only under a condition has one proof where it has one

@@ -27,7 +27,8 @@ pub(crate) struct Paraid<S, K> {
 impl<F: Files<File = File> + Drop, S: Source + Drop, K: Sink + Drop> Program<F> for Paraid<S, K> {
     ghost use Rattle.std.specs.Prelude.{length};
 
-    ghost ended = { λ program rack c status. EndsOverImages (source_use S.left S.faults program.source.inside)
+    ghost ended = { λ program rack c status. EndsOverImages
+        (source_use S.left S.faults program.source.inside)
         (sink_use K.written K.faults program.sink.inside) program.source.inside rack c status };
 
     // (what the files hold is told by no clause)

@@ -80,8 +80,8 @@ pub fn an_attach_brings_no_meta()
 /// Where the disks are powered by the gear, or out, a core can begin over them with nothing staged,
 /// and cells can be read and written.
 pub fn a_powered_array_can_begin()
-    ensures ready { (count : ℕ) (slot : ℕ
-        → Slot) (last array : ℕ) (named : Option ℕ) (m : MetaType) (rows : ℕ)
+    ensures ready { (count : ℕ)
+        (slot : ℕ → Slot) (last array : ℕ) (named : Option ℕ) (m : MetaType) (rows : ℕ)
         → IsPoweredBy count slot named m → m.setup.geometry.disks ≡ array → m.epoch ≡ last
         → rows ≡ m.setup.geometry.rows → AreSlotsReady count slot last array named m rows [] }
     ensures serves { (count : ℕ) (slot : ℕ → Slot) (named : Option ℕ) (m : MetaType)

@@ -60,9 +60,10 @@ pub fn a_disk_is_lost_as_its_rebuild_ends()
 /// A second disk that is lost in it, before the park, ends the service; the tick's own energy is
 /// counted. In the park no second one can be lost.
 pub fn a_second_loss_ends_the_last_tick_of_a_rebuild()
-    ensures finish { (told before told_then : Option Trail) (k counted j : Service) (setup
-        : SetupType) (p : Point) (disk rebuilt most : ℕ) (two : TwoType) → StandsAt told k setup p
-        → point_wear p < worn_at → p.state.out ≡ Fresh disk rebuilt → CountsTick k counted
+    ensures finish { (told before told_then : Option Trail) (k counted j : Service)
+        (setup : SetupType) (p : Point) (disk rebuilt most : ℕ) (two : TwoType)
+        → StandsAt told k setup p → point_wear p < worn_at → p.state.out ≡ Fresh disk rebuilt
+        → CountsTick k counted
         → most + 1 ≤ 2 ^ 20 → Ran told before (StepsInEvent counted j p.history p.low most)
         → LosesFinishing before told_then j p.history p.low disk two
         → Ran told told_then (GoesOn k.slots setup p TickEvent

@@ -11,8 +11,8 @@ ghost use Rattle.paraid_event.specs.Stands.{StandsAt};
 
 /// After a mount an array stands at the first point of its session.
 pub fn a_service_begins_at_the_first_point()
-    ensures { (told : Option Trail) (s : Disks) (standing : MetaType) (h : History) (spun : ℕ
-        → ℕ) (k : Service)
+    ensures { (told : Option Trail) (s : Disks) (standing : MetaType) (h : History)
+        (spun : ℕ → ℕ) (k : Service)
         → BeginsService s standing h spun k → ((t : Trail) → told ≡ Some t → now t ≡ s)
         → StandsAt told k standing.setup (first_point s standing h spun) }
 {}

@@ -24,15 +24,16 @@ pub fn a_marked_service_goes_to_its_state()
         (meta_flipped_to j.meta (phase_to j.meta.phase))) { epoch = epoch; writes = writes }
         → k_then.table ≡ j.table
         → k_then.samples ≡ j.samples → k_then.served ≡ j.served → EndsShift k k_then count }
-    ensures begun { (k k_then : Service) (to : ℕ) (spins : List ℕ) (lost : Option ℕ) (epoch writes
-        : ℕ) → k.meta.out ≡ No → spins ≡ with_spin_ups k.meta.gear to k.meta.spins → k_then.meta
-        ≡ record (meta_with_lost lost (meta_after_begin k.meta (Up to) spins)) {
+    ensures begun { (k k_then : Service) (to : ℕ) (spins : List ℕ) (lost : Option ℕ)
+        (epoch writes : ℕ) → k.meta.out ≡ No → spins ≡ with_spin_ups k.meta.gear to k.meta.spins
+        → k_then.meta ≡ record (meta_with_lost lost (meta_after_begin k.meta (Up to) spins)) {
           epoch = epoch;
           writes = writes;
         } → k_then.table ≡ k.table
         → k_then.samples ≡ k.samples → k_then.served ≡ k.served → StartsShiftUp k k_then to }
-    ensures down { (k k_then : Service) (s : PowerState) (to : ℕ) (lost : Option ℕ) (epoch writes
-        : ℕ) → IsStateOf k s → k.meta.out ≡ No → k_then.meta ≡ record (meta_with_lost lost
+    ensures down { (k k_then : Service) (s : PowerState) (to : ℕ) (lost : Option ℕ)
+        (epoch writes : ℕ) → IsStateOf k s → k.meta.out ≡ No
+        → k_then.meta ≡ record (meta_with_lost lost
         (meta_after_begin k.meta (Down to) k.meta.spins)) { epoch = epoch; writes = writes }
         → k_then.table ≡ k.table → k_then.samples ≡ k.samples
         → k_then.served ≡ k.served → GoesToState k_then (begun_down to s) }

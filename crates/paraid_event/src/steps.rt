@@ -24,8 +24,9 @@ pub fn one_part_is_a_step()
         → Ran told told_then (ServesShown k k_then h lo lo_then) → Ran told told_then
         (EachCall (IsDataCall k.meta.setup.geometry.disks (gone_out k.meta.out)))
         → Ran told told_then (StepsInEvent k k_then h lo 0) }
-    ensures loses { (told told_then : Option Trail) (k : Service) (h : History) (lo : ℕ) (two
-        : TwoType) → Ran told told_then (λ s cs. LosesInEvent k h lo s cs × TellsTwo k two s cs)
+    ensures loses { (told told_then : Option Trail) (k : Service) (h : History) (lo : ℕ)
+        (two : TwoType)
+        → Ran told told_then (λ s cs. LosesInEvent k h lo s cs × TellsTwo k two s cs)
         → Ran told told_then (LosesInSteps k h lo 1 two) }
     ensures loses_shown { (told told_then : Option Trail) (k : Service) (h : History) (lo : ℕ)
         (two : TwoType) → Ran told told_then (λ s cs. LosesShown k h lo s cs × TellsTwo k two s cs)

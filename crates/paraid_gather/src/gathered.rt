@@ -211,11 +211,13 @@ impl<R: BulkRack, L: Noted> Rack for Gathered<R, L> {
 
     ghost slot_count = { λ gathered. R.slot_count gathered.rack };
 
-    ghost slot = { λ gathered. slots_above (R.slot gathered.rack) (waiting_at gathered.runs.items) };
+    ghost slot = { λ gathered.
+        slots_above (R.slot gathered.rack) (waiting_at gathered.runs.items) };
 
     ghost told = { λ gathered. told_above (R.told gathered.rack) (L.noted gathered.log) };
 
-    ghost slots_hold = { λ gathered. slots_above_hold (R.slot_count gathered.rack) (R.slot gathered.rack)
+    ghost slots_hold = { λ gathered. slots_above_hold
+        (R.slot_count gathered.rack) (R.slot gathered.rack)
         (waiting_at gathered.runs.items) (R.slots_hold gathered.rack) gathered.fits };
 
     ghost agrees = { λ gathered. above_agrees (R.told gathered.rack) (L.noted gathered.log)

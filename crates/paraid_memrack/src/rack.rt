@@ -256,7 +256,8 @@ impl Rack for MemRack {
 
     ghost slots_hold = { λ rack. rack.sound };
 
-    ghost agrees = { λ rack t is. agrees_of (now t) (full_slot_at rack.slots.items) (rack.keeps t is) };
+    ghost agrees = { λ rack t is.
+        agrees_of (now t) (full_slot_at rack.slots.items) (rack.keeps t is) };
 
     ghost lawful = { λ rack t is. rack.lawful t is };
 

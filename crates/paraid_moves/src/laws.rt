@@ -58,8 +58,8 @@ pub fn a_shift_can_end()
 
 /// Cells that are copied can be marked as clean.
 pub fn copied_cells_can_be_marked()
-    ensures { (slots : ℕ) (power : ℕ → PowerType) (size : ℕ
-        → ℕ) (h : History) (k : ℕ) (m : MetaType) (f : Contents) → out_disk power m ≡ None
+    ensures { (slots : ℕ) (power : ℕ → PowerType)
+        (size : ℕ → ℕ) (h : History) (k : ℕ) (m : MetaType) (f : Contents) → out_disk power m ≡ None
         → HoldUnder slots power size h k m f → (cells : ℕ → ℕ → Bool) (after : Contents)
         → AreCellsCopied (view_by m power f) cells → ((x q : ℕ)
         → map_start m.setup.geometry + map_count m.setup.geometry ≤ q → after x q ≡ f x q)
@@ -89,9 +89,9 @@ pub fn a_disk_can_be_marked_out()
 
 /// Units that are copied can be marked as rebuilt; a disk that is whole again joins.
 pub fn a_disk_can_be_rebuilt()
-    ensures fresh { (slots : ℕ) (power : ℕ
-        → PowerType) (size : ℕ → ℕ) (h : History) (k : ℕ) (m : MetaType) (f : Contents) (d : ℕ)
-        → d < m.setup.geometry.disks → m.out ≡ Gone d → power d ≡ Spinning
+    ensures fresh { (slots : ℕ)
+        (power : ℕ → PowerType) (size : ℕ → ℕ) (h : History) (k : ℕ) (m : MetaType) (f : Contents)
+        (d : ℕ) → d < m.setup.geometry.disks → m.out ≡ Gone d → power d ≡ Spinning
         → disk_size m.setup.geometry ≤ size d → HoldUnder slots power size h k m f
         → HoldUnder slots power size h k (meta_with_out m (Fresh d 0)) f }
     ensures units { (slots : ℕ) (power : ℕ → PowerType) (size : ℕ → ℕ) (h : History) (k : ℕ)
@@ -102,8 +102,8 @@ pub fn a_disk_can_be_rebuilt()
         → (is_present (power d) ≡ true → power d ≡ Spinning)
         → HoldUnder slots power size h k m f
         → HoldUnder slots power size h k (meta_with_out m (Fresh d units)) f }
-    ensures joins { (slots : ℕ) (power : ℕ → PowerType) (size : ℕ
-        → ℕ) (h : History) (k : ℕ) (m : MetaType) (f : Contents) (d units : ℕ)
+    ensures joins { (slots : ℕ) (power : ℕ → PowerType)
+        (size : ℕ → ℕ) (h : History) (k : ℕ) (m : MetaType) (f : Contents) (d units : ℕ)
         → IsInRange m → d < m.setup.geometry.disks
         → m.out ≡ Fresh d units → units ≡ rebuild_units m.setup.geometry m.gear d
         → m.fill ≡ 0 → ((e : ℕ) → e < m.setup.geometry.disks → is_present (power e) ≡ true)

@@ -21,9 +21,9 @@ pub record IsLostDisk (m : Meta) (power power_now : ℕ → Power)
 
 -- the law that the mark of a lost disk keeps the disks well
 abbrev pub LostKeeps : Type 0
-LostKeeps = (slots : ℕ) (power power_now : ℕ
-    → Power) (size size_now : ℕ → ℕ) (m : Meta) (block block_now : Contents) (d : ℕ)
-    → IsInRange m → IsInRange (meta_after_loss m d)
+LostKeeps = (slots : ℕ)
+    (power power_now : ℕ → Power) (size size_now : ℕ → ℕ) (m : Meta) (block block_now : Contents)
+    (d : ℕ) → IsInRange m → IsInRange (meta_after_loss m d)
     → out_disk power m ≡ named_out m.out → IsWellKept slots power size (view_by m power block)
     → IsLostDisk m power power_now size size_now block block_now d
     → IsWellKept slots power_now size_now (view_by (meta_after_loss m d) power_now block_now)

@@ -95,12 +95,15 @@ SumToZero m value = (r : ℕ)
 -- Disks that store cells of these values, whose rows sum to zero, are kept well, and each cell has
 -- its value.
 abbrev pub StoredIsKept : Type 0
-StoredIsKept = (slots : ℕ) (power : ℕ
-    → Power) (size : ℕ → ℕ) (v : View) (values : ℕ → ℕ → Block) (map : ℕ → Block) → IsInRange v.meta
-    → v.out ≡ named_out v.meta.out → StoresCells power v.meta v.out v.block v.dirty values map
+StoredIsKept = (slots : ℕ)
+    (power : ℕ → Power) (size : ℕ → ℕ) (v : View) (values : ℕ → ℕ → Block) (map : ℕ → Block)
+    → IsInRange v.meta → v.out ≡ named_out v.meta.out
+    → StoresCells power v.meta v.out v.block v.dirty values map
     → SumToZero v.meta values → AreBits v.meta v.dirty
-    → AreDisks slots power size v.meta v.out → IsWellKept slots power size v × ((r d : ℕ)
-    → r < v.meta.setup.geometry.rows → d < v.meta.setup.geometry.disks → value v r d ≡ values r d)
+    → AreDisks slots power size v.meta v.out
+    → IsWellKept slots power size v
+    × ((r d : ℕ) → r < v.meta.setup.geometry.rows → d < v.meta.setup.geometry.disks
+    → value v r d ≡ values r d)
 
 -- these blocks are the same at each place that is kept
 abbrev pub AgreeWhereKept : (ℕ → Power) → Meta → Option ℕ → Contents → Contents → Type 0

@@ -27,8 +27,8 @@ sync_targets v r d map = hard_targets v r d (value v r d) ++ map_targets v.meta 
 
 -- the law that a cell brought up to date keeps the disks well
 abbrev pub SyncKeeps : Type 0
-SyncKeeps = (slots : ℕ) (power : ℕ
-    → Power) (size : ℕ → ℕ) (m : Meta) (block : Contents) (r d : ℕ) (map : Block)
+SyncKeeps = (slots : ℕ)
+    (power : ℕ → Power) (size : ℕ → ℕ) (m : Meta) (block : Contents) (r d : ℕ) (map : Block)
     → IsInRange m → out_disk power m ≡ named_out m.out
     → IsWellKept slots power size (view_by m power block) → r < m.setup.geometry.rows
     → d < m.setup.geometry.disks → d < rising_to m.phase → named_out m.out ≢ Some d

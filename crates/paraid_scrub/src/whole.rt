@@ -70,7 +70,8 @@ impl<R: Rack> Stored for Core<R> {
 
     ghost told = { λ a b p some. looks_told R.slot_count R.slot R.told a b p some };
 
-    ghost told_lost = { λ a b ending p some. looks_till_told R.slot_count R.slot R.told a b ending p some };
+    ghost told_lost = { λ a b ending p some.
+        looks_till_told R.slot_count R.slot R.told a b ending p some };
 
     ghost agrees = { λ core v shows. view_agrees R.told core v shows };
 }
@@ -112,8 +113,8 @@ pub fn check<R: Rack>(core: &mut Core<R>) -> Result<Checked, Two>
 
 /// What is kept well has nothing false, if the disk that is being rebuilt is there.
 pub fn a_sound_array_counts_nothing()
-    ensures { (slots : ℕ) (power : ℕ
-        → PowerType) (size : ℕ → ℕ) (m : MetaType) (f : Contents) (h : History) (k : ℕ)
+    ensures { (slots : ℕ)
+        (power : ℕ → PowerType) (size : ℕ → ℕ) (m : MetaType) (f : Contents) (h : History) (k : ℕ)
         → ContentOk slots power size (view_by m power f) h k
         → ((d u : ℕ) → m.out ≡ Fresh d u → is_present (power d) ≡ true)
         → (seen : ℕ) (report : ReportType)

@@ -141,9 +141,10 @@ pub data TakesClient (size : ℕ) (streams : Streams) (end : NbdEnd) : Type 0 wh
       0 taken streams.sink.written_before streams.sink.written streams.source.faults_before
       streams.source.faults streams.sink.faults_before streams.sink.faults end
       → TakesClient size streams end
-  late : (middle left : Option (List ℕ)) (at place taken : ℕ) (said : Option (List ℕ)) (low sink_low
-      : ℕ) (requests : List RequestParts) → BeginsTransmission size streams.source.left_before
-      middle 0 at streams.sink.written_before said → AllByRecursion IsRequest requests
+  late : (middle left : Option (List ℕ)) (at place taken : ℕ) (said : Option (List ℕ))
+      (low sink_low : ℕ) (requests : List RequestParts)
+      → BeginsTransmission size streams.source.left_before middle 0 at
+      streams.sink.written_before said → AllByRecursion IsRequest requests
       → Takes middle left at place (flat_map request_bytes requests)
       → streams.source.faults_before ≤ low
       → streams.sink.faults_before ≤ sink_low → StopsAtRequest left streams.source.left place taken

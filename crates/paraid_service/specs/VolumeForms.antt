@@ -152,9 +152,9 @@ pub data FormsLines (old : Shown) : List (List ℕ)
       → (asked ≡ bad → ⊥) → (asked ≡ list → ⊥) → AreAll (IsEventOf asked) more
       → HaveAnswerCauses mid more now → now.halt ≡ Some halt → FormsLines old
       (lines ++ line ∷ []) (front ++ reply) (halt_text halt ++ codes "\n") (made ++ more) now table
-  later : (lines : List (List ℕ)) (line front reply : List ℕ) (asked : VolLine) (halt : Halt) (made
-      : Answers) (now : Shown) (table : Tabled) → FormsLines old lines front reply made now table
-      → now.halt ≡ Some halt → AsksVolumes line asked → FormsLines old
+  later : (lines : List (List ℕ)) (line front reply : List ℕ) (asked : VolLine) (halt : Halt)
+      (made : Answers) (now : Shown) (table : Tabled) → FormsLines old lines front reply made now
+      table → now.halt ≡ Some halt → AsksVolumes line asked → FormsLines old
       (lines ++ line ∷ []) (front ++ reply) (halted_text halt asked ++ codes "\n") made now table
 
 -- The form of a whole text for these bytes, by its status: the line of the array that was mounted

@@ -118,8 +118,9 @@ pub record IsCatchUpImage (j : Job) (x : ℕ) (i : Disks) : Type 0 where
   pub kept : KeepsSlotsAndLogs j i
   pub first : IsPresent i x → Says i x (open_with j)
   pub other : IsLiveLog j (other_log x) → IsPresent i (other_log x)
-      → ((is_open (i.block (other_log x) 0) ≡ false) × (is_open (j.start.block (other_log x) 0)
-      ≡ false) × (i.block (other_log x) 1 ≡ j.start.block (other_log x) 1))
+      → ((is_open (i.block (other_log x) 0) ≡ false)
+      × (is_open (j.start.block (other_log x) 0) ≡ false)
+      × (i.block (other_log x) 1 ≡ j.start.block (other_log x) 1))
       ⊎ Says i (other_log x) (open_with j)
   pub held : (d p : ℕ) → IsPresent i d → job_map_start j ≤ p → i.block d p ≡ block_before j d p
 

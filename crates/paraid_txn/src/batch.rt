@@ -47,7 +47,8 @@ impl Model for Batch {
 
     ghost view = { λ b. map (λ s. (s.target, s.block)) b.staged.items };
 
-    ghost invariant = { λ b. (length b.staged.items ≤ batch_room) × (batch_room ≤ vec_capacity b.staged)
+    ghost invariant = { λ b. (length b.staged.items ≤ batch_room)
+        × (batch_room ≤ vec_capacity b.staged)
         × AllPairs (λ s t. s.target ≢ t.target) b.staged.items };
 }
 
@@ -76,8 +77,9 @@ impl Batch {
     pub fn add(&mut self, disk: DiskNo, place: Place, block: &Block) -> Result<(), Full>
         ensures ok { OnOk result (self.new
             ≡ with_target self.old (record { disk = disk; place = place }) block.now) }
-        ensures full { IfErr result (λ full. (full.count ≡ batch_room) × (length self.old
-            ≡ batch_room) × (names_place self.old disk place ≡ false) × (self.new ≡ self.old)) }
+        ensures full { IfErr result (λ full. (full.count ≡ batch_room)
+            × (length self.old ≡ batch_room) × (names_place self.old disk place ≡ false)
+            × (self.new ≡ self.old)) }
         ensures room { OnOk result
             ((names_place self.old disk place ≡ true) ⊎ (length self.old < batch_room)) }
     {
