@@ -20,7 +20,7 @@ use Rattle.paraid_record.specs.Targets.{IsTargetInRange, no_target}
 use Rattle.paraid_txn.specs.declared.batch.Full.{Full}
 use Rattle.paraid_image.specs.Neutral.{names_place}
 use Rattle.paraid_txn.specs.Losses.{CanWrite}
-use Rattle.paraid_txn.specs.Batches.{batch_blocks, with_target}
+use Rattle.paraid_image.specs.Batches.{batch_blocks, with_target}
 use Rattle.paraid_core.specs.Taken.{AreApart, HasRoomFor, IsTakenIn}
 
 -- the first one of a list

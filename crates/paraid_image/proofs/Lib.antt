@@ -2,6 +2,7 @@ pub mod SidesLemmas
 pub mod StandingLemmas
 pub mod HeldLemmas
 pub mod NeutralLemmas
+pub mod BatchesLemmas
 pub mod CallLemmas
 pub mod OutLemmas
 pub mod FailedCallLemmas

@@ -1,5 +1,6 @@
 pub mod Sides
 pub mod Standing
+pub mod Batches
 pub mod Out
 pub mod Spot
 pub mod Value

@@ -8,8 +8,8 @@ use Rattle.paraid_record.specs.declared.targets.Target.{Target}
 use Rattle.paraid_image.specs.Neutral.{names_place}
 use Rattle.paraid_image.specs.Sides.{Batch, targets}
 use Rattle.paraid_image.specs.Standing.{overlaid_block}
-use Rattle.paraid_txn.specs.Batches.{with_target}
-use Rattle.paraid_txn.proofs.BatchesLemmas.{AreApart, AreApart-rest, overlaid_block-other, names_place-rest, same_target}
+use Rattle.paraid_image.specs.Batches.{with_target}
+use Rattle.paraid_image.proofs.BatchesLemmas.{AreApart, AreApart-rest, overlaid_block-other, names_place-rest, same_target}
 use Rattle.paraid_plan.proofs.LayLemmas.{laid_append}
 
 -- the block of one target, laid over another

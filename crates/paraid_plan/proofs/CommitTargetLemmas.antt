@@ -23,7 +23,7 @@ use Rattle.paraid_plan.proofs.OutsLemmas.{alone_by}
 use Rattle.paraid_record.specs.declared.meta.Meta.{Meta}
 use Rattle.paraid_record.specs.Codes.{phase_to}
 use Rattle.paraid_record.specs.Range.{IsInRange, IsPhaseInRange, fill_limit}
-use Rattle.paraid_txn.specs.Commit.{gone_out}
+use Rattle.paraid_base.specs.States.{gone_out}
 use Rattle.paraid_image.specs.Out.{is_out, named_out}
 use Rattle.paraid_image.specs.Sides.{Batch}
 use Rattle.paraid_image.specs.Spot.{View, is_hard, rising_to}

@@ -4,7 +4,7 @@ use Rattle.std.specs.List.{AllByRecursion}
 use Rattle.paraid_record.specs.declared.meta.Meta.{Meta}
 use Rattle.paraid_record.specs.declared.targets.Target.{Target}
 use Rattle.paraid_record.specs.Targets.{IsTargetInRange}
-use Rattle.paraid_txn.specs.Commit.{gone_out}
+use Rattle.paraid_base.specs.States.{gone_out}
 use Rattle.paraid_image.specs.Sides.{Batch, targets}
 use Rattle.paraid_image.specs.Spot.{rising_to}
 

@@ -4,7 +4,7 @@ use Rattle.std.proofs.Common.{refl, ◌∙◌, ap, arith, suc}
 use Rattle.paraid_base.specs.Xor.{zero_block}
 use Rattle.paraid_record.specs.Targets.{no_target}
 use Rattle.paraid_image.specs.Sides.{Batch, targets}
-use Rattle.paraid_txn.specs.Batches.{batch_blocks}
+use Rattle.paraid_image.specs.Batches.{batch_blocks}
 
 pub same_batch : (a b : Batch) → length a ≡ length b
     → ((k : ℕ) → k < length a → get_or (targets a) k no_target ≡ get_or (targets b) k no_target)

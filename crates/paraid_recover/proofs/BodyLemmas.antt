@@ -7,9 +7,9 @@ use Rattle.paraid_record.specs.declared.targets.Target.{Target}
 use Rattle.paraid_record.specs.Targets.{no_target}
 use Rattle.paraid_image.specs.Neutral.{names_place}
 use Rattle.paraid_image.specs.Sides.{Batch, targets}
-use Rattle.paraid_txn.specs.Batches.{with_target}
+use Rattle.paraid_image.specs.Batches.{with_target}
 use Rattle.paraid_image.proofs.NeutralLemmas.{length-targets}
-use Rattle.paraid_txn.proofs.BatchesLemmas.{names_place-off, with_target-new}
+use Rattle.paraid_image.proofs.BatchesLemmas.{names_place-off, with_target-new}
 
 take_long : {A : Type 0} (n : ℕ) (xs : List A) → n ≤ length xs → length (take n xs) ≡ n
 take_long zero xs le = refl

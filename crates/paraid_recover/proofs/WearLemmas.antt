@@ -34,7 +34,7 @@ use Rattle.paraid_recover.specs.declared.hearing.Heard.{Heard}
 use Rattle.paraid_recover.specs.declared.hearing.Heard.TheVariants.{Blank, Bad, Formed}
 use Rattle.paraid_recover.specs.Faults.{IsFaulty, IsSilent, side_at}
 use Rattle.paraid_recover.specs.HeardSides.{AreBothLost, IsHeardAt, side_by}
-use Rattle.paraid_txn.specs.Batches.{names_disk}
+use Rattle.paraid_image.specs.Batches.{names_disk}
 use Rattle.paraid_recover.specs.declared.mount_fault.MountFault.{MountFault}
 use Rattle.paraid_recover.specs.declared.mount_fault.MountFault.TheVariants.{NotFormatted, BadLog, BadMeta, Size, Power, Two as BothMissing, Worn, NoMemory}
 use Rattle.paraid_recover.specs.Examined.{AreUnpaired, IsAgreed, IsRefused, IsRefusedBySlots, Logs, batch_at, side_of}

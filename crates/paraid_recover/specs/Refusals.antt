@@ -9,7 +9,7 @@ use Rattle.paraid_rack.specs.Slots.{Slot}
 use Rattle.paraid_record.specs.declared.meta.Meta.{Meta}
 use Rattle.paraid_image.specs.Out.{is_out, named_out}
 use Rattle.paraid_image.specs.Sides.{Batch}
-use Rattle.paraid_txn.specs.Batches.{names_disk}
+use Rattle.paraid_image.specs.Batches.{names_disk}
 
 -- the least disk of the first `n` of which this holds
 pub record IsLeastDisk (is : ℕ → Bool) (n d : ℕ) : Type 0 where

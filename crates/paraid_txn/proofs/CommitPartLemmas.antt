@@ -30,11 +30,11 @@ use Rattle.paraid_txn.specs.CommitPart.{CommitPart}
 use Rattle.paraid_txn.specs.Losses.{AreGoneSince, IsGoneSince, MayDo, StaySyncedBut, AreFailedOrWell, FollowsAnswer, AreTwoDown, IsWell, AreCommitCalls}
 use Rattle.paraid_txn.specs.Losses.MayDo.{absent, skipped}
 use Rattle.paraid_txn.specs.Ready.{IsLogReady}
-use Rattle.paraid_txn.specs.Batches.{names_disk}
+use Rattle.paraid_image.specs.Batches.{names_disk}
 use Rattle.paraid_txn.specs.Uses.{EachCall, IsUnskippedLog, IsOn, IsThisCall, Uses, UsesLog, UsesTarget}
 use Rattle.paraid_txn.proofs.DownLemmas.{AreOthersWell-none, AreOthersWell-then, AreTwoDown-later, AreCommitCalls-gone, AreCommitCalls-none, AreCommitCalls-present, AreCommitCalls-then}
 use Rattle.paraid_txn.proofs.ReadyLemmas.{log_stays_ready}
-use Rattle.paraid_txn.proofs.BatchesLemmas.{names_disk-named}
+use Rattle.paraid_image.proofs.BatchesLemmas.{names_disk-named}
 use Rattle.paraid_txn.proofs.TargetsLemmas.{names_disk-below}
 
 -- Calls

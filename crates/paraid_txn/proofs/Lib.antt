@@ -18,7 +18,7 @@ pub mod PutSyncedLemmas
 pub mod AloneLemmas
 pub mod OneLemmas
 pub mod SyncLemmas
-pub mod BatchesLemmas
+pub mod StagedLemmas
 pub mod PutsLemmas
 pub mod TargetsLemmas
 pub mod StagesLemmas

@@ -8,7 +8,7 @@ use Rattle.paraid_txn.specs.declared.losses.Losses.{Losses}
 use Rattle.paraid_txn.specs.Losses.{CanWrite, AreCommitCalls}
 use Rattle.paraid_txn.specs.Ready.{AreTargetsReady, IsLogReady}
 use Rattle.paraid_image.specs.Sides.{Batch, targets}
-use Rattle.paraid_txn.specs.Batches.{names_disk}
+use Rattle.paraid_image.specs.Batches.{names_disk}
 use Rattle.paraid_txn.proofs.DownLemmas.{CanWrite-later, CanWrite-lower}
 use Rattle.paraid_txn.proofs.TargetsLemmas.{target_on}
 

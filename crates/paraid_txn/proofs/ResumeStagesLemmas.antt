@@ -20,7 +20,7 @@ use Rattle.paraid_txn.specs.Losses.{MayDo}
 use Rattle.paraid_txn.specs.Losses.MayDo.{skipped, absent, called as made}
 use Rattle.paraid_txn.specs.Resume.{AreOthersSame, LeadsResume, HoldsThroughResume, AreDisksSame, ShutSynced, ShutIn, ShutMetaSynced, ShutMeta, IsShutImage, HoldsThroughShut, job_on_other_log}
 use Rattle.paraid_image.specs.Sides.{AreBlocksLogged, Batch, Says, is_open, stored_block}
-use Rattle.paraid_txn.specs.Batches.{batch_blocks}
+use Rattle.paraid_image.specs.Batches.{batch_blocks}
 use Rattle.paraid_txn.specs.CommitStages.{AllSynced, HoldsEarly, IsBlock, KeepsSlotsAndLogs, IsLiveLog, IsSpelled, Job, LayIn, HoldsLate, LogStage, IsBatchLogged, OpenStage, IsGateOpen, target_block, job_named, open_with, job_log}
 use Rattle.paraid_image.specs.Standing.{other_log}
 use Rattle.paraid_image.proofs.NeutralLemmas.{length-targets}

@@ -13,7 +13,7 @@ use Rattle.paraid_record.specs.declared.targets.Target.{Target}
 use Rattle.paraid_rack.proofs.TrailsLemmas.{stays, then, weaker}
 use Rattle.paraid_txn.specs.Losses.{MayDo}
 use Rattle.paraid_txn.specs.CommitStages.{CloseStage, CloseIn, HoldsEarly, IsSpelled, Job, HoldsLate, LayIn, LogStage, LogIn, LogMeta, MarkStage, MarkIn, OpenStage, OpenIn, SyncIn, target_block, job_gone, job_named}
-use Rattle.paraid_txn.specs.Batches.{names_disk}
+use Rattle.paraid_image.specs.Batches.{names_disk}
 use Rattle.paraid_txn.proofs.PutsLemmas.{put_ran, sync_slot_ran}
 use Rattle.paraid_txn.proofs.RanLemmas.{through_milder}
 use Rattle.paraid_txn.proofs.StagesLemmas.{lay_one, log_block, log_list, log_meta, log_sync, sync_in_none, sync_target_slot}

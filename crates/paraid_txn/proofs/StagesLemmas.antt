@@ -15,7 +15,7 @@ use Rattle.paraid_txn.specs.CommitStages.{AllSynced, CloseStage, CloseIn, IsSync
 use Rattle.paraid_image.specs.Standing.{overlaid_block}
 use Rattle.paraid_txn.proofs.PutsLemmas.{Puts, Settles, skips}
 use Rattle.paraid_image.proofs.NeutralLemmas.{length-targets}
-use Rattle.paraid_txn.proofs.BatchesLemmas.{names_place-at}
+use Rattle.paraid_image.proofs.BatchesLemmas.{names_place-at}
 use Rattle.paraid_txn.proofs.TargetsLemmas.{overlaid_block-next_else, overlaid_block-next_here, target_at}
 
 -- this place, or another

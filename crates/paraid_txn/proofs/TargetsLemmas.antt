@@ -9,9 +9,9 @@ use Rattle.paraid_record.specs.declared.targets.Target.{Target}
 use Rattle.paraid_record.specs.Targets.{no_target}
 use Rattle.paraid_image.specs.Neutral.{names_place}
 use Rattle.paraid_image.specs.Sides.{Batch, targets}
-use Rattle.paraid_txn.specs.Batches.{batch_blocks, names_disk}
+use Rattle.paraid_image.specs.Batches.{batch_blocks, names_disk}
 use Rattle.paraid_image.specs.Standing.{overlaid_block}
-use Rattle.paraid_txn.proofs.BatchesLemmas.{names_disk-named}
+use Rattle.paraid_image.proofs.BatchesLemmas.{names_disk-named}
 
 abbrev pub target_at : Batch → ℕ → Target
 target_at batch n = get_or (targets batch) n no_target

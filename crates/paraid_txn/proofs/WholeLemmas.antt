@@ -10,7 +10,7 @@ use Rattle.paraid_rack.specs.Disks.{Disks, IsPresent, is_present}
 use Rattle.paraid_rack.proofs.AtomsLemmas.{left_sure}
 use Rattle.paraid_image.specs.Neutral.{names_place}
 use Rattle.paraid_image.specs.Sides.{AreBlocksLogged, Batch, Says, Spells, closed_over, is_open, stored_block}
-use Rattle.paraid_txn.specs.Batches.{batch_blocks}
+use Rattle.paraid_image.specs.Batches.{batch_blocks}
 use Rattle.paraid_image.specs.Standing.{overlaid_block, other_log}
 use Rattle.paraid_txn.specs.CommitStages.{CloseCore, HoldsEarly, IsBlock, HoldsThroughout, KeepsSlotsAndLogs, IsLiveLog, IsSpelled, Job, IsLateImage, HoldsLate, LayCore, IsBatchLogged, LogCore, MarkCore, OpenCore, IsGateClosed, HoldsWhole, job_named, open_with, block_before}
 use Rattle.paraid_image.proofs.NeutralLemmas.{overlaid_block-named, length-targets}

@@ -13,7 +13,7 @@ use Rattle.paraid_image.specs.Neutral.{names_place}
 use Rattle.paraid_image.specs.Out.{IsMissing, named_out, out_disk}
 use Rattle.paraid_image.specs.Sides.{Batch, LogState, Says, Spells, closed_over, is_open, stored_block, targets}
 use Rattle.paraid_image.specs.Sound.{AreWitnessesTrue}
-use Rattle.paraid_txn.specs.Batches.{batch_blocks}
+use Rattle.paraid_image.specs.Batches.{batch_blocks}
 use Rattle.paraid_image.specs.Standing.{overlaid_block, other_log}
 
 -- What a commit does: the disks with which it begins, the batch, the meta that it brings, the

@@ -1,5 +1,4 @@
 pub mod Borne
-pub mod Batches
 pub mod Losses
 pub mod Stores
 pub mod Commit

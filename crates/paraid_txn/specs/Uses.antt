@@ -14,7 +14,7 @@ use Rattle.paraid_image.specs.Neutral.{names_place}
 use Rattle.paraid_image.specs.Out.{named_out}
 use Rattle.paraid_image.specs.Sides.{Batch}
 use Rattle.paraid_txn.specs.Commit.{gone_out}
-use Rattle.paraid_txn.specs.Batches.{names_disk}
+use Rattle.paraid_image.specs.Batches.{names_disk}
 
 -- a log disk that is not skipped
 abbrev pub IsUnskippedLog : Option ℕ → ℕ → Type 0

@@ -7,7 +7,7 @@ ghost use Rattle.paraid_base.specs.Xor.{zero_block};
 ghost use Rattle.paraid_record.specs.Targets.{no_target, targets_of};
 ghost use Rattle.paraid_image.specs.Neutral.{names_place};
 ghost use Rattle.paraid_image.specs.Sides.{targets};
-ghost use Rattle.paraid_txn.specs.Batches.{batch_blocks, names_disk, with_target};
+ghost use Rattle.paraid_image.specs.Batches.{batch_blocks, names_disk, with_target};
 ghost use Rattle.paraid_image.specs.Standing.{overlaid_block};
 
 use paraid_base::{BATCH_ROOM, Block, DiskNo, NoMemory, Place};

@@ -44,7 +44,7 @@ ghost use Rattle.paraid_rack.specs.Trail.{run};
 ghost use Rattle.paraid_txn.specs.Borne.{IsBorneNow};
 ghost use Rattle.paraid_txn.specs.Witness.{BearsAtEnd, CannotSet, IsKnown, IsNoSecond, KeepsBorne, LeavePlace, MaySetAny, NoneJoins, SetsAfter, SetsBefore};
 ghost use Rattle.paraid_txn.specs.declared.bearing.Witness.{Witness as WitnessType};
-ghost use Rattle.paraid_txn.specs.Batches.{names_disk};
+ghost use Rattle.paraid_image.specs.Batches.{names_disk};
 ghost use Rattle.paraid_txn.specs.CommitStages.{CloseStage, FirstStage, HoldsEarly, HoldsWitnessed, LastStage, IsSpelled, Job, HoldsLate, LayIn, LogStage, LogIn, MarkStage, OpenStage, SyncIn, HoldsWhole, job_gone, job, job_named};
 ghost use Rattle.paraid_txn.specs.Commit.{EndsCommitted, IsWholeOrAbsent, LeavesBorne, gone_out as gone_of};
 ghost use Rattle.paraid_image.specs.Out.{named_out as named_of, or_else};

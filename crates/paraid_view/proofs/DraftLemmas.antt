@@ -8,8 +8,8 @@ use Rattle.paraid_record.specs.declared.targets.Target.{Target}
 use Rattle.paraid_record.specs.Targets.{no_target}
 use Rattle.paraid_image.specs.Sides.{Batch, targets}
 use Rattle.paraid_image.specs.Standing.{overlaid_block}
-use Rattle.paraid_txn.specs.Batches.{batch_blocks}
-use Rattle.paraid_txn.proofs.BatchesLemmas.{is_same-false, is_same-true}
+use Rattle.paraid_image.specs.Batches.{batch_blocks}
+use Rattle.paraid_image.proofs.BatchesLemmas.{is_same-false, is_same-true}
 use Rattle.paraid_view.specs.declared.draft.Drafted.{Drafted}
 
 abbrev pub drafts : List Drafted → Batch

@@ -6,7 +6,7 @@ ghost use Rattle.paraid_base.specs.Xor.{zero_block};
 ghost use Rattle.paraid_image.specs.Sides.{targets};
 ghost use Rattle.paraid_image.specs.Standing.{overlaid_block};
 ghost use Rattle.paraid_record.specs.Targets.{no_target};
-ghost use Rattle.paraid_txn.specs.Batches.{batch_blocks};
+ghost use Rattle.paraid_image.specs.Batches.{batch_blocks};
 
 use paraid_base::{Block, DiskNo, NoMemory, Place};
 use paraid_record::Target;

@@ -1,5 +1,5 @@
 use Rattle.std.proofs.Common.{◌<◌, ◌∙◌, length, sym, arith}
-use Rattle.paraid_txn.proofs.BatchesLemmas.{names_place-at, same_target}
+use Rattle.paraid_image.proofs.BatchesLemmas.{names_place-at, same_target}
 use Rattle.paraid_core.proofs.cleaned.is_held.Goals as goal
 
 pub returns-then-eq : goal.returns-then-eq

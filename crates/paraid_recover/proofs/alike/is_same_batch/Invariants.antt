@@ -2,7 +2,7 @@ use Rattle.std.proofs.Common.{◌≡◌, ◌<◌, get_or, ℕ}
 use Rattle.paraid_base.specs.Xor.{zero_block}
 use Rattle.paraid_image.specs.Sides.{targets}
 use Rattle.paraid_record.specs.Targets.{no_target}
-use Rattle.paraid_txn.specs.Batches.{batch_blocks}
+use Rattle.paraid_image.specs.Batches.{batch_blocks}
 use Rattle.paraid_recover.proofs.alike.is_same_batch.Given as goal
 
 abbrev pub invariant-loop-at : goal.invariant-loop-at

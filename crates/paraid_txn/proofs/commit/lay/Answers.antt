@@ -8,13 +8,13 @@ use Rattle.paraid_txn.specs.Losses.{StaySyncedBut, CanWrite}
 use Rattle.paraid_image.specs.Neutral.{names_place}
 use Rattle.paraid_image.specs.Sides.{Batch}
 use Rattle.paraid_txn.specs.CommitStages.{IsSpelled, Job, LayIn, HoldsLate, target_block, job_gone}
-use Rattle.paraid_txn.specs.Batches.{batch_blocks, names_disk}
+use Rattle.paraid_image.specs.Batches.{batch_blocks, names_disk}
 use Rattle.paraid_txn.proofs.StageCallsLemmas.{andthen, ends, lay_ran, lay_whole, nothing_ran}
 use Rattle.paraid_txn.proofs.ReadyLemmas.{targets_stay_ready}
 use Rattle.paraid_txn.proofs.DownLemmas.{StaySyncedBut-both, StaySyncedBut-weaker}
 use Rattle.paraid_txn.proofs.CommitPartLemmas.{CommitPart_answer, CommitPart_none, CommitPart_raised, CommitPart_then, writes_target}
 use Rattle.paraid_image.proofs.NeutralLemmas.{length-targets}
-use Rattle.paraid_txn.proofs.BatchesLemmas.{names_place-at, names_disk-at, target_block-at}
+use Rattle.paraid_image.proofs.BatchesLemmas.{names_place-at, names_disk-at, target_block-at}
 use Rattle.paraid_txn.proofs.TargetsLemmas.{target_at}
 use Rattle.paraid_txn.proofs.CrashSpecificationLemmas.{crash_failed, crash_ran}
 use Rattle.paraid_txn.proofs.commit.lay.Given.{Over}

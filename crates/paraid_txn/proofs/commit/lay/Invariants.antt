@@ -4,7 +4,7 @@ use Rattle.paraid_txn.specs.Losses.{StaySyncedBut}
 use Rattle.paraid_txn.specs.Ready.{AreTargetsReady}
 use Rattle.paraid_image.specs.Sides.{targets}
 use Rattle.paraid_txn.specs.CommitStages.{IsSpelled, Job, LayIn, HoldsLate, job_gone}
-use Rattle.paraid_txn.specs.Batches.{names_disk}
+use Rattle.paraid_image.specs.Batches.{names_disk}
 use Rattle.paraid_txn.specs.CommitPart.{CommitPart}
 use Rattle.paraid_txn.specs.Uses.{UsesTarget}
 use Rattle.paraid_txn.proofs.commit.lay.Given as goal

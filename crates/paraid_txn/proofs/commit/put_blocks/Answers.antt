@@ -5,7 +5,7 @@ use Rattle.std.proofs.Common.{inl, ap, subst, sym, ◌∙◌, refl, arith, rules
 use Rattle.paraid_rack.specs.Told.{Ran, CrashTriple}
 use Rattle.paraid_image.specs.Sides.{Batch}
 use Rattle.paraid_txn.specs.CommitStages.{IsSpelled, Job, LogIn, HoldsEarly, target_block, job_named}
-use Rattle.paraid_txn.specs.Batches.{batch_blocks}
+use Rattle.paraid_image.specs.Batches.{batch_blocks}
 use Rattle.paraid_txn.proofs.StageCallsLemmas.{andthen, ends, log_block_ran, log_in_whole, nothing_ran}
 use Rattle.paraid_txn.proofs.ReadyLemmas.{log_can, log_stays_ready}
 use Rattle.paraid_txn.proofs.DownLemmas.{StaySyncedBut-both}

@@ -4,7 +4,7 @@ use Rattle.std.proofs.lemmas.Bool.{true≢false}
 use Rattle.paraid_rack.specs.Told.{Ran, CrashTriple}
 use Rattle.paraid_image.specs.Sides.{Batch}
 use Rattle.paraid_txn.specs.CommitStages.{IsSpelled, Job, SyncIn, HoldsLate, job_gone}
-use Rattle.paraid_txn.specs.Batches.{names_disk}
+use Rattle.paraid_image.specs.Batches.{names_disk}
 use Rattle.paraid_txn.proofs.DownLemmas.{StaySyncedBut-none}
 use Rattle.paraid_txn.proofs.StageCallsLemmas.{sync_in_none_ran, sync_in_one_ran, sync_in_whole}
 use Rattle.paraid_txn.proofs.ReadyLemmas.{disk_can}

@@ -2,7 +2,7 @@ use Rattle.std.specs.Prelude.{◌≡◌, ◌≢◌, ℕ, ◌<◌, ◌≤◌, tru
 use Rattle.std.proofs.Common.{inl, arith, below_more, refl, ◌∙◌, rules}
 use Rattle.paraid_txn.specs.Losses.{IsSyncedAt}
 use Rattle.paraid_image.specs.Neutral.{names_place}
-use Rattle.paraid_txn.specs.Batches.{names_disk}
+use Rattle.paraid_image.specs.Batches.{names_disk}
 use Rattle.paraid_txn.proofs.StageCallsLemmas.{andthen, nothing_ran, sync_in_whole}
 use Rattle.paraid_txn.proofs.ReadyLemmas.{targets_stay_ready}
 use Rattle.paraid_txn.proofs.DownLemmas.{StaySyncedBut-both, IsSyncedAt-later}

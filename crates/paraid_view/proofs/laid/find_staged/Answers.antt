@@ -1,5 +1,5 @@
 use Rattle.std.proofs.Common.{◌∙◌}
-use Rattle.paraid_txn.proofs.BatchesLemmas.{overlaid_block-other}
+use Rattle.paraid_image.proofs.BatchesLemmas.{overlaid_block-other}
 use Rattle.paraid_view.proofs.DraftLemmas.{laid_both, option_map}
 use Rattle.paraid_view.proofs.laid.find_staged.Goals as goal
 

@@ -3,8 +3,9 @@ use Rattle.std.specs.Prelude.{AllPairs}
 use Rattle.paraid_base.proofs.XorLemmas.{same_block}
 use Rattle.paraid_record.specs.declared.targets.Target.{Target}
 use Rattle.paraid_txn.specs.declared.batch.Staged.{Staged}
-use Rattle.paraid_txn.specs.Batches.{with_target}
-use Rattle.paraid_txn.proofs.BatchesLemmas.{apart-push, held, held-push, held-set, length-view, names_place-at}
+use Rattle.paraid_image.specs.Batches.{with_target}
+use Rattle.paraid_image.proofs.BatchesLemmas.{names_place-at}
+use Rattle.paraid_txn.proofs.StagedLemmas.{apart-push, held, held-push, held-set, length-view}
 use Rattle.paraid_txn.proofs.batch.Batch.add.Goals as goal
 
 pub returns-in-Some-clause-ok : goal.returns-in-Some-clause-ok

@@ -1,5 +1,5 @@
 use Rattle.std.proofs.Common.{sym, arith}
-use Rattle.paraid_txn.proofs.BatchesLemmas.{block-read, length-view}
+use Rattle.paraid_txn.proofs.StagedLemmas.{block-read, length-view}
 use Rattle.paraid_txn.proofs.batch.Batch.block.Goals as goal
 
 pub returns : goal.returns

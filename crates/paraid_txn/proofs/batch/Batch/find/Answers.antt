@@ -1,5 +1,6 @@
 use Rattle.std.proofs.Common.{sym, ◌∙◌, arith, below_more}
-use Rattle.paraid_txn.proofs.BatchesLemmas.{length-view, names_place-off, target-read}
+use Rattle.paraid_image.proofs.BatchesLemmas.{names_place-off}
+use Rattle.paraid_txn.proofs.StagedLemmas.{length-view, target-read}
 use Rattle.paraid_txn.proofs.batch.Batch.find.Goals as goal
 
 pub returns-then-is_same : goal.returns-then-is_same

@@ -1,5 +1,6 @@
 use Rattle.std.proofs.Common.{◌∙◌, arith}
-use Rattle.paraid_txn.proofs.BatchesLemmas.{block-read, overlaid_block-at, length-view, targets-apart}
+use Rattle.paraid_image.proofs.BatchesLemmas.{overlaid_block-at}
+use Rattle.paraid_txn.proofs.StagedLemmas.{block-read, length-view, targets-apart}
 use Rattle.paraid_txn.proofs.batch.Batch.get.Goals as goal
 
 pub returns : goal.returns

@@ -1,5 +1,5 @@
 use Rattle.std.proofs.Common.{rules}
-use Rattle.paraid_txn.proofs.BatchesLemmas.{names_disk-held}
+use Rattle.paraid_txn.proofs.StagedLemmas.{names_disk-held}
 use Rattle.paraid_txn.proofs.batch.Batch.has_disk.Goals as goal
 
 pub returns : goal.returns

@@ -1,5 +1,5 @@
 use Rattle.std.proofs.Common.{sym, arith}
-use Rattle.paraid_txn.proofs.BatchesLemmas.{length-view, target-read}
+use Rattle.paraid_txn.proofs.StagedLemmas.{length-view, target-read}
 use Rattle.paraid_txn.proofs.batch.Batch.target.Goals as goal
 
 pub returns : goal.returns

@@ -4,7 +4,7 @@ use Rattle.paraid_record.specs.declared.targets.Target.{Target}
 use Rattle.paraid_record.specs.Targets.{no_target}
 use Rattle.paraid_image.specs.Sides.{targets}
 use Rattle.paraid_image.proofs.NeutralLemmas.{length-targets}
-use Rattle.paraid_txn.proofs.BatchesLemmas.{length-view, target-read, targets-apart}
+use Rattle.paraid_txn.proofs.StagedLemmas.{length-view, target-read, targets-apart}
 use Rattle.paraid_txn.proofs.batch.Batch.targets.Goals as goal
 
 pub loop-at-preserved : goal.loop-at-preserved

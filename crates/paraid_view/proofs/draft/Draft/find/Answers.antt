@@ -2,7 +2,7 @@ use Rattle.std.proofs.Common.{◌-◌, ◌∙◌, ℕ, sym, ap, arith, inl, inr,
 use Rattle.std.proofs.lemmas.Bool.{cases_eq}
 use Rattle.paraid_image.specs.Sides.{targets}
 use Rattle.paraid_record.specs.Targets.{no_target}
-use Rattle.paraid_txn.proofs.BatchesLemmas.{other_target, same_target}
+use Rattle.paraid_image.proofs.BatchesLemmas.{other_target, same_target}
 use Rattle.paraid_view.proofs.DraftLemmas.{drafted_target, drafts_long}
 use Rattle.paraid_view.proofs.draft.Draft.find.Goals as goal
 
