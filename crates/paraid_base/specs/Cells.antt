@@ -1,4 +1,5 @@
--- Where blocks and cells lie
+-- Where blocks and cells lie: `n` is the number of disks, `r` a row, `d` a disk, `b` a block of the
+-- array. The parity's disk goes down by one from row to row.
 use Rattle.std.specs.Prelude.{ℕ, ◌+◌, ◌-◌, ◌*◌, ◌/◌, ◌%◌}
 use Rattle.paraid_base.specs.Skips.{index_among, skip}
 

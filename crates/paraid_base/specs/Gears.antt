@@ -11,7 +11,7 @@ is_bad_gear n gears k = nat_lt (slice_index gears k) 3 || nat_lt n (slice_index 
     (nat_lt 0 k && nat_le (slice_index gears k) (slice_index gears (k - 1)))
 
 -- `at` is the least place of a bad member, or the list's length where no member is bad and the last
--- is not `n`
+-- is not `n`; of an empty list it is 0
 pub record IsGearsFault (n : ℕ) (gears : List ℕ) (at : ℕ) : Type 0 where
   pub within : at ≤ length gears
   pub before : (k : ℕ) → k < at → is_bad_gear n gears k ≡ false
@@ -32,7 +32,7 @@ IsGeoFault n rows gears (Rows value) =
 IsGeoFault n rows gears (Gears at) =
     (3 ≤ n) × (n ≤ 8) × (1 ≤ rows) × (rows ≤ 65536) × IsGearsFault n gears at
 
--- the flags mark the members and nothing else
+-- the flags mark the first `count` members and nothing else
 pub record AreFlagsOf (gears : List ℕ) (count : ℕ) (flags : List Bool) : Type 0 where
   pub each : (k : ℕ) → k < count → slice_index_or flags (slice_index gears k) false ≡ true
   pub only : (a : ℕ)

@@ -1,4 +1,5 @@
--- Where the copies of parked disks' cells lie
+-- Where the copies of parked disks' cells lie: `n` is the number of disks, `a` the gear, `r` a row,
+-- `d` the disk of the cell, `c` a cell's number, `s` a stripe of the gear, `i` an index in it.
 use Rattle.std.specs.Prelude.{ℕ, ◌+◌, ◌-◌, ◌*◌, ◌/◌, ◌%◌}
 use Rattle.paraid_base.specs.Skips.{skip}
 

@@ -45,7 +45,7 @@ impl Geometry {
     ghost use Rattle.paraid_base.specs.Regions.{IsGear, map_count, disk_size, soft_start as soft_start_of};
 
     /// The geometry of so many disks and rows with these gears, which ascend and end with the
-    /// number of disks.
+    /// number of disks. An empty list of gears is refused at 0.
     pub fn new(disks: u8, rows: u32, gears: &[u8]) -> Result<Geometry, GeoFault>
         ensures numbers { IfOk result (λ g. (g.disks ≡ disks) × (g.rows ≡ rows)) }
         ensures gears { IfOk result (λ g. IsGearList disks gears.now

@@ -11,7 +11,9 @@ use crate::{Block, BlockNo};
 pub struct Pairs {
     /// How many pairs there are, 1 to 8.
     pub count: u8,
+    /// The block that each pair writes, 0 past the count.
     pub blocks: [BlockNo; 8],
+    /// What it writes there, zeros past the count.
     pub bytes: [Block; 8],
     pub ghost some: { 1 ≤ count },
     pub ghost few: { count ≤ 8 },

@@ -172,11 +172,14 @@ pub enum TickEvent {
     Ration { disk: DiskNo },
 }
 
-/// The answer to a tick: the gear after it, the units moved in it, and what it did.
+/// The answer to a tick.
 #[derive(Clone, Copy)]
 pub struct GearReport {
+    /// The gear after the tick.
     pub gear: u8,
+    /// How many units of a shift or of a rebuild were moved in it.
     pub moved: u32,
+    /// What it did.
     pub event: TickEvent,
 }
 

@@ -39,8 +39,8 @@ pub record ServesPlan {R : Type 0}
     {g : _} (count : R → ℕ) (slot : R → ℕ → Slot) (core : Core R g) (m : Meta) : Type 0 where
   pub array : m.setup.geometry.disks ≡ disks_of core.store
   pub rows : length core.dirty ≡ m.setup.geometry.rows
-  pub ready
-      : CanRead (count (store_rack core.store)) (slot (store_rack core.store)) m (named_out m.out)
+  pub ready : CanRead (count (store_rack core.store)) (slot (store_rack core.store)) m
+      (named_out m.out)
   pub out : named_out m.out ≡ named_out core.meta.out
   pub whole : core.failed ≡ None
 

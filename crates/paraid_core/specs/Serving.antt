@@ -89,8 +89,8 @@ pub record MayCommit {R A : Type 0}
   pub epoch : OnOk result (new.meta.epoch ≡ old.meta.epoch + (if first then 1 else 0))
   pub names : OnOk result
       (named_of new.store ≡ (if first then named_out old.meta.out else named_of old.store))
-  pub still_synced
-      : OnOk result (StaySynced (g.slot (store_rack old.store)) (g.slot (store_rack new.store)))
+  pub still_synced : OnOk result
+      (StaySynced (g.slot (store_rack old.store)) (g.slot (store_rack new.store)))
   pub unsynced : OnOk result (AreUnsyncedCopied g.slot old → AreUnsyncedCopied g.slot new)
   pub calls : MakesTransferCalls g.told old new
   pub kept : first ≡ false → MakesDataCalls g.told old new

@@ -23,6 +23,7 @@ use paraid_layout::{hard_place, home};
 use paraid_rack::Rack;
 use paraid_record::Mode;
 
+// Whether reads clean cells in this mode.
 fn is_access(mode: Mode) -> bool
     ensures { result ≡ is_access_in mode }
 {

@@ -46,8 +46,8 @@ pub record AwaitsCommit
   pub midway : IsMidway k h lo base w
   pub only : IsOnly (named_out k.meta.out) w.down
   pub settled : IsSettled k.meta
-  pub powered
-      : ArePoweredByGear w.disks.power (record k.meta { gear = powers.gear; phase = powers.phase })
+  pub powered : ArePoweredByGear w.disks.power
+      (record k.meta { gear = powers.gear; phase = powers.phase })
 
 -- Of the calls of parts of an event, from a watch on under the meta `base`: each is allowed and
 -- holds what a session asks, with room for so many commits; and no disk is attached.

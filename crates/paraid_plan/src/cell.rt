@@ -22,6 +22,7 @@ use paraid_layout::{hard_place, soft_of, soft_parity, soft_place};
 use paraid_parity::xor_into;
 use paraid_record::Meta;
 
+/// Whether the value of a cell lives in its hard place; else it lives in its copy.
 #[tactic(auto, unfolding(paraid_image::specs::Spot::is_hard))]
 pub(crate) fn is_hard<P: WritePlan>(plan: &P, m: &Meta, r: Row, d: DiskNo) -> bool
     requires serves { P.serves plan.now m.now }
@@ -32,6 +33,8 @@ pub(crate) fn is_hard<P: WritePlan>(plan: &P, m: &Meta, r: Row, d: DiskNo) -> bo
     d < m.gear || (d < m.phase.rising_to() && !plan.is_dirty(m, r, d))
 }
 
+// Whether a write of a cell goes to its hard place: its value lives there, or a shift up brings its
+// disk up and that disk is not out.
 #[tactic(auto, unfolding(crate::specs::WriteTargets::goes_hard))]
 fn goes_hard<P: WritePlan>(plan: &P, m: &Meta, r: Row, d: DiskNo) -> bool
     requires serves { P.serves plan.now m.now }

@@ -92,10 +92,11 @@ pub trait WritePlan {
         ensures fails { IfErr result (λ lost. fails self.new) }
         ensures leads { leads self.old self.new };
 
-    /// Whether a block is staged, so that no disk is asked for it.
+    /// Whether a block is staged, so that no disk is asked for it. Nothing is promised of it: only
+    /// the number of reads depends on it.
     fn is_staged(&self, disk: DiskNo, place: Place) -> bool;
 
-    /// The same of this place of each disk.
+    /// For each disk whether its block at this place is staged. Nothing is promised of it either.
     fn staged_at(&self, place: Place) -> [bool; 8];
 
     /// Whether a cell is dirty.
@@ -139,9 +140,12 @@ pub trait WritePlan {
         ensures goes_on { (m : MetaType) → serves self.old m → serves self.new m }
         ensures leads { leads self.old self.new };
 
+    /// A plan leads to itself.
     ghost stays: { (a : Self) → leads a a };
 
+    /// What leads from one plan to a second, and from there to a third, leads to the third.
     ghost then: { (a b c : Self) → leads a b → leads b c → leads a c };
 
+    /// If the record of the disks is told at the end, it was told at the start.
     ghost told: { (a b : Self) → leads a b → tells b → tells a };
 }

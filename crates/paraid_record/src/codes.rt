@@ -15,6 +15,7 @@ use paraid_base::{DiskNo, Geometry, Out, Phase};
 /// The disk number that stands for no disk.
 const NO_DISK: DiskNo = 255;
 
+/// The number of a mode: 0 for `Whole`, 1 for `Access`.
 pub fn mode_code(mode: Mode) -> u8
     ensures { result ≡ code_of_mode mode }
 {
@@ -35,6 +36,7 @@ pub fn mode_of(code: u8) -> Option<Mode>
     }
 }
 
+/// The number of a phase: 0 for steady, 1 for down, 2 for up.
 pub fn phase_code(phase: Phase) -> u8
     ensures { result ≡ code_of_phase phase }
 {
@@ -68,6 +70,7 @@ pub fn out_code(out: Out) -> u8
     }
 }
 
+/// 1 where the disk that is out is being rebuilt, else 0.
 pub fn fresh_code(out: Out) -> u8
     ensures { result ≡ code_of_fresh out }
 {

@@ -34,6 +34,7 @@ impl Pen {
         }
     }
 
+    /// Writes these bytes. There must be room for them in 512.
     pub fn put_bytes(&mut self, bytes: &[u8])
         requires { length self.old + length bytes.now ≤ 512 }
         ensures value { self.new ≡ self.old ++ bytes.now }
@@ -44,6 +45,7 @@ impl Pen {
         self.at = end;
     }
 
+    /// Writes a number in one byte.
     #[tactic(auto, using(crate::proofs::SpellingLemmas::byte_steps))]
     pub fn put_u8(&mut self, value: u8)
         requires { length self.old + 1 ≤ 512 }
@@ -53,6 +55,7 @@ impl Pen {
         self.put_bytes(&[value]);
     }
 
+    /// Writes a number in two bytes, the highest first.
     #[tactic(auto, unfolding(crate::specs::Spelling::big_endian))]
     pub fn put_u16(&mut self, value: u16)
         requires { length self.old + 2 ≤ 512 }
@@ -64,6 +67,7 @@ impl Pen {
         self.put_bytes(&bytes);
     }
 
+    /// Writes a number in four bytes, the highest first.
     #[tactic(auto, unfolding(crate::specs::Spelling::big_endian))]
     pub fn put_u32(&mut self, value: u32)
         requires { length self.old + 4 ≤ 512 }
@@ -75,6 +79,7 @@ impl Pen {
         self.put_bytes(&bytes);
     }
 
+    /// Writes a number in eight bytes, the highest first.
     #[tactic(auto, unfolding(crate::specs::Spelling::big_endian))]
     pub fn put_u64(&mut self, value: u64)
         requires { length self.old + 8 ≤ 512 }

@@ -63,7 +63,7 @@ impl Meta {
         meta.is_shift_in_range() && meta.are_spins_in_range()
     }
 
-    /// Whether the fill mark, the phase and the disk that is out fit together.
+    // Whether the fill mark, the phase and the disk that is out fit together.
     fn is_shift_in_range(&self) -> bool
         requires { IsPhaseInRange self.now.setup.geometry self.now.gear self.now.phase }
         ensures { IsTrue result ↔ IsShiftInRange self.now }
@@ -104,7 +104,7 @@ impl Meta {
     }
 }
 
-/// Whether a ration is one, and the burst and the period fit it.
+// Whether a ration is one, and the burst and the period fit it.
 fn is_growth_in_range(ration: u16, burst: u16, period: u32) -> bool
     ensures { IsTrue result ↔ (Within 1 65535 ration × (Within 1 ration burst
         × Within 1 4294967295 period)) }
@@ -112,7 +112,7 @@ fn is_growth_in_range(ration: u16, burst: u16, period: u32) -> bool
     ration >= 1 && burst >= 1 && burst <= ration && period >= 1
 }
 
-/// Whether the version is known, and a setup of version 1 allows the whole ration at once.
+// Whether the version is known, and a setup of version 1 allows the whole ration at once.
 fn is_version_in_range(version: u8, setup: &Setup) -> bool
     ensures { IsTrue result ↔ IsVersionInRange version setup.now }
 {
@@ -123,10 +123,11 @@ fn is_version_in_range(version: u8, setup: &Setup) -> bool
     }
 }
 
-/// Whether the epoch is one that a commit has. The other counters are any numbers of 64 bits.
+// Whether the epoch is one that a commit has. The other counters are any numbers of 64 bits.
 fn are_counters_in_range(epoch: u64, _writes: u64, _ticks: u64) -> bool
     ensures { IsTrue result ↔ AreCountersInRange epoch _writes _ticks }
 {
+    // (the statement bounds the others as their types do)
     epoch >= 1
 }
 
@@ -143,7 +144,7 @@ fn are_windows(windows: &[u16; 3]) -> bool
     first >= 1 && first <= 1024 && second <= 1024 && third <= 1024 && (second > 0 || third == 0)
 }
 
-/// The first disk that the shift under way, or the gear, leaves parked.
+// The first disk that the shift under way, or the gear, leaves parked.
 fn first_parked(gear: u8, phase: Phase) -> DiskNo
     ensures { result ≡ parked_from gear phase }
 {
@@ -164,7 +165,7 @@ fn is_phase_in_range(geometry: &Geometry, gear: u8, phase: Phase) -> bool
     }
 }
 
-/// Whether these are two gears with none between them.
+// Whether these are two gears with none between them.
 fn are_next_gears(geometry: &Geometry, lower: u8, higher: u8) -> bool
     ensures { IsTrue result ↔ AreNextGears geometry.now lower higher }
 {
@@ -187,7 +188,7 @@ fn is_out_in_range(geometry: &Geometry, gear: u8, out: Out) -> bool
     }
 }
 
-/// How many stripes of the region of the new gear can be filled.
+// How many stripes of the region of the new gear can be filled.
 fn fill_limit(geometry: &Geometry, gear: u8, phase: Phase) -> u32
     requires { IsPhaseInRange geometry.now gear phase }
     ensures { result ≡ limit_of_fill geometry.now phase }

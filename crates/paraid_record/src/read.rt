@@ -62,7 +62,7 @@ fn take_meta(reader: &mut Reader) -> Option<Meta>
     Some(meta)
 }
 
-/// Passes over the text, which is compared with the whole spelling, and takes the version.
+// Passes over the text, which is compared with the whole spelling, and takes the version.
 fn take_heading(reader: &mut Reader) -> Option<u8>
     requires { 10 ≤ length reader.old }
     ensures reads { (version : ℕ) (rest : List ℕ) → Within 1 2 version
@@ -78,7 +78,7 @@ fn take_heading(reader: &mut Reader) -> Option<u8>
     Some(version as u8)
 }
 
-/// Takes the burst, which is the ration in version 1.
+// Takes the burst, which is the ration in version 1.
 fn take_burst(reader: &mut Reader, version: u8, ration: u16) -> u16
     requires { 2 ≤ length reader.old }
     ensures reads { (s : SetupType) (rest : List ℕ) → IsVersionInRange version s
@@ -91,7 +91,7 @@ fn take_burst(reader: &mut Reader, version: u8, ration: u16) -> u16
     if version > 1 { burst } else { ration }
 }
 
-/// Takes the period, which is 1 in version 1.
+// Takes the period, which is 1 in version 1.
 fn take_period(reader: &mut Reader, version: u8) -> u32
     requires { 4 ≤ length reader.old }
     ensures reads { (s : SetupType) (rest : List ℕ) → IsVersionInRange version s
@@ -120,8 +120,8 @@ fn take_geometry(reader: &mut Reader) -> Option<Geometry>
     Geometry::new(disks, rows, &gears[..count]).ok()
 }
 
-/// Takes what a setup says but its energy figures, the burst and the period, which stand further
-/// on.
+// Takes what a setup says but its energy figures, the burst and the period, which stand further
+// on.
 fn take_policy(reader: &mut Reader, geometry: Geometry) -> Option<Setup>
     requires { 20 ≤ length reader.old }
     ensures reads { (s : SetupType) (rest : List ℕ)
@@ -157,7 +157,7 @@ fn take_policy(reader: &mut Reader, geometry: Geometry) -> Option<Setup>
     })
 }
 
-/// Takes the state of an array with this setup, in this version.
+// Takes the state of an array with this setup, in this version.
 fn take_state(reader: &mut Reader, version: u8, setup: Setup) -> Option<Meta>
     requires { 56 ≤ length reader.old }
     ensures reads { (m : MetaType) (rest : List ℕ) → IsInRange m

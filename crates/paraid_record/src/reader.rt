@@ -19,12 +19,14 @@ impl<'a> Model for Reader<'a> {
 }
 
 impl<'a> Reader<'a> {
+    /// Reads these bytes from the first on.
     pub fn new(bytes: &'a [u8]) -> Self
         ensures { result ≡ bytes.now }
     {
         Reader { rest: bytes }
     }
 
+    /// Takes a number of one byte.
     pub fn take_u8(&mut self) -> u8
         requires { 1 ≤ length self.old }
         ensures reads { ReadsNumber 1 self.old self.new result }
@@ -35,6 +37,7 @@ impl<'a> Reader<'a> {
         value
     }
 
+    /// Takes a number of two bytes, the highest first.
     pub fn take_u16(&mut self) -> u16
         requires { 2 ≤ length self.old }
         ensures reads { ReadsNumber 2 self.old self.new result }
@@ -45,6 +48,7 @@ impl<'a> Reader<'a> {
         value
     }
 
+    /// Takes a number of four bytes, the highest first.
     pub fn take_u32(&mut self) -> u32
         requires { 4 ≤ length self.old }
         ensures reads { ReadsNumber 4 self.old self.new result }
@@ -55,6 +59,7 @@ impl<'a> Reader<'a> {
         value
     }
 
+    /// Takes a number of eight bytes, the highest first.
     pub fn take_u64(&mut self) -> u64
         requires { 8 ≤ length self.old }
         ensures reads { ReadsNumber 8 self.old self.new result }
@@ -74,6 +79,7 @@ impl<'a> Reader<'a> {
         self.rest = &self.rest[count..];
     }
 
+    /// Takes eight bytes.
     pub fn take_eight(&mut self) -> [u8; 8]
         requires { 8 ≤ length self.old }
         ensures reads { (bytes rest : List ℕ) → length bytes ≡ 8 → self.old ≡ bytes ++ rest

@@ -28,11 +28,12 @@ impl Target {
     }
 }
 
-/// The targets of a batch, in its order. Those past the count say nothing.
+/// The targets of a batch, in its order.
 #[derive(Clone, Copy)]
 pub struct Targets {
     /// How many targets there are, at most 96.
     pub count: u8,
+    /// The targets; those past the count say nothing.
     pub list: [Target; BATCH_ROOM],
 }
 

@@ -43,8 +43,8 @@ pub record IsOnBearer {R : Type 0}
   pub others : (d : ℕ) → d ≢ 2 → g.slot (store_rack new) d ≡ g.slot (store_rack old) d
   pub powers : OnlyLosesSlots (g.slot (store_rack old)) (g.slot (store_rack new))
   pub well : done ≡ true → IsWell (g.slot (store_rack old) 2) (g.slot (store_rack new) 2)
-  pub calls
-      : Ran (g.told (store_rack old)) (g.told (store_rack new)) (EachCall (BearsAgainst named))
+  pub calls : Ran (g.told (store_rack old)) (g.told (store_rack new))
+      (EachCall (BearsAgainst named))
   pub risen : done ≡ false
       → HasRisen (g.slot (store_rack old) 2).faults (g.slot (store_rack new) 2).faults
   pub gone : done ≡ false → IsGoneSince (g.slot (store_rack old)) (g.slot (store_rack new)) 2

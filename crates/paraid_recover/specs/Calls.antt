@@ -8,7 +8,7 @@ use Rattle.paraid_rack.specs.declared.call.Call.TheVariants.{Read, Write, Sync, 
 use Rattle.paraid_rack.specs.Calls.{AreReads}
 use Rattle.paraid_recover.specs.Found.{IsUnclaimed}
 
--- Only reads were made from the one record to the other; and the disks are as they were.
+-- Only reads were made from the one record to the other. A read that failed has lost its disk.
 abbrev pub OnlyReads : Option Trail → Option Trail → Type 0
 OnlyReads old new = Ran old new (λ start calls. AreReads calls)
 

@@ -63,8 +63,8 @@ pub record HasChangedPower {R : Type 0} {l : _} (g : Ghosts R)
       → is_present (g.slot (store_rack new) disk).power ≡ true)
   pub lost : IfErr result
       (IsLostBy (store_out g.slot old) disk (g.slot (store_rack old)) (g.slot (store_rack new)))
-  pub gone
-      : IfErr result (λ lost. IsGoneSince (g.slot (store_rack old)) (g.slot (store_rack new)) disk)
+  pub gone : IfErr result (λ lost.
+      IsGoneSince (g.slot (store_rack old)) (g.slot (store_rack new)) disk)
   pub ends : Ran (g.told (store_rack old)) (g.told (store_rack new)) (λ s cs.
       EndsByLoss (if is_ok result then None else Some disk) cs)
 

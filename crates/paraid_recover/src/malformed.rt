@@ -36,6 +36,7 @@ pub fn first_faulty(sides: &Sides, gate: bool, out: Option<DiskNo>) -> Option<Di
     None
 }
 
+// Whether a log disk is absent or blank.
 fn is_silent(side: Option<Heard>) -> bool
     ensures { IsTrue result ↔ IsSilent side }
 {

@@ -170,12 +170,14 @@ fn raise<R: Rack>(
     Ok(with_loss(store, &standing))
 }
 
-/// An array that was mounted. No batch is staged.
+/// An array that was mounted.
 #[derive(Drop)]
 pub struct Mounted<R: Rack> {
     pub store: Store<R>,
+    /// The meta that stands, with the marks that are in memory alone.
     pub meta: Meta,
     pub dirty: DirtyTable,
+    /// Room for a batch, in which nothing is staged.
     pub batch: Batch,
 }
 

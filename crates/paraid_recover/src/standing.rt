@@ -21,6 +21,7 @@ use std::mem::swap;
 /// The log disk that stands, whether its gate is open, and its meta.
 #[derive(Clone, Copy)]
 pub struct Standing {
+    /// Which log disk it is, 0 or 1.
     pub side: DiskNo,
     pub gate_open: bool,
     pub meta: Meta,

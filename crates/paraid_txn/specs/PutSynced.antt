@@ -14,6 +14,6 @@ pub record MayPutSynced {R T E : Type 0} (g : Ghosts R) (skip : Option ℕ)
       Write disk place block done)
   pub syncs : OnOk result
       (MayDo (g.told between) (g.told new) (g.slot between) skip disk (λ done. Sync disk done))
-  pub ends
-      : (MayDo (g.told between) (g.told new) (g.slot between) skip disk (λ done. Sync disk done))
+  pub ends : (MayDo (g.told between) (g.told new) (g.slot between) skip disk
+      (λ done. Sync disk done))
       ⊎ (g.told new ≡ g.told between)

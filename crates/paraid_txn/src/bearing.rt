@@ -9,7 +9,9 @@ pub(crate) const BEARER: DiskNo = 2;
 /// Which witness a commit sets, and how.
 #[derive(Clone, Copy)]
 pub(crate) struct Witness {
+    /// The log disk that it is against.
     pub disk: DiskNo,
+    /// Whether it is borne (open) or taken back (closed).
     pub opened: bool,
     ghost log_disk: { disk < 2 },
 }

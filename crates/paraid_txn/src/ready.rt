@@ -32,6 +32,7 @@ fn can_log<R: Rack>(rack: &R, skip: Option<DiskNo>, disk: DiskNo) -> bool
     skip == Some(disk) || can_write(rack, disk, 99)
 }
 
+// Whether the log of each log disk that is not skipped can be written.
 fn is_log_ready<R: Rack>(rack: &R, skip: Option<DiskNo>) -> bool
     requires { 2 ≤ R.slot_count rack.now }
     ensures { IsTrue result ↔ IsLogReady skip (R.slot rack.now) }
@@ -39,6 +40,7 @@ fn is_log_ready<R: Rack>(rack: &R, skip: Option<DiskNo>) -> bool
     can_log(rack, skip, 0) && can_log(rack, skip, 1)
 }
 
+// Whether the slot of a target exists, and can be written or is skipped.
 fn is_target_ready<R: Rack>(rack: &R, skip: Option<DiskNo>, target: Target) -> bool
     ensures { IsTrue result ↔ ((target.disk < R.slot_count rack.now)
         × (skip ≢ Some target.disk → CanWrite (R.slot rack.now) target.disk target.place)) }
@@ -49,6 +51,7 @@ fn is_target_ready<R: Rack>(rack: &R, skip: Option<DiskNo>, target: Target) -> b
     skip == Some(target.disk) || can_write(rack, target.disk, target.place)
 }
 
+// The same of each target of a batch.
 fn are_targets_ready<R: Rack>(rack: &R, skip: Option<DiskNo>, batch: &Batch) -> bool
     ensures { IsTrue result ↔ AreTargetsReady skip (R.slot_count rack.now) (R.slot rack.now)
         (targets batch.now) }
@@ -61,6 +64,7 @@ fn are_targets_ready<R: Rack>(rack: &R, skip: Option<DiskNo>, batch: &Batch) -> 
     true
 }
 
+// Whether each target of a batch is in range for this geometry.
 fn are_in_range(geometry: &Geometry, batch: &Batch) -> bool
     ensures { IsTrue result ↔ All (IsTargetInRange geometry.now) (targets batch.now) }
 {

@@ -30,9 +30,13 @@ pub enum Lost {
 #[derive(Drop)]
 pub struct Store<R: Rack> {
     pub(crate) rack: R,
+    // how many disks the array has
     pub(crate) disks: u8,
+    // the epoch of the last commit
     pub(crate) epoch: u64,
+    // the disk that the last meta names out
     pub(crate) named: Option<DiskNo>,
+    // a log disk against which disk 2 is known to bear witness
     pub(crate) borne: Option<DiskNo>,
     ghost exists: { disks ≤ R.slot_count rack },
     ghost known: { IsBorneNow borne (R.told rack) } by { IsBorneNow-prop borne (R.told rack) },
