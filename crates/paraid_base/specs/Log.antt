@@ -30,7 +30,7 @@ map_start g = 100
 
 -- the place of block `j` of the dirty map
 abbrev pub map_block_place : Geometry → ℕ → ℕ
-map_block_place g j = 100 + j
+map_block_place g j = map_start g + j
 
 -- no log is shorter: below it each disk has log, or nothing that is looked at
 abbrev pub log_least : ℕ

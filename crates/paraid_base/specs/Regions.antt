@@ -1,7 +1,7 @@
 -- Where the parts of a disk of one geometry begin
 use Rattle.std.specs.Prelude.{◌≡◌, ℕ, ◌+◌, ◌/◌, if◌then◌else◌, slice_index_or, true, false}
 use Rattle.paraid_base.specs.declared.geometry.Geometry.{Geometry}
-use Rattle.paraid_base.specs.Log.{map_start}
+use Rattle.paraid_base.specs.Log.{map_block_place, map_start}
 use Rattle.paraid_base.specs.Soft.{stripe_count}
 use Rattle.paraid_base.specs.Sums.{sum_before}
 
@@ -19,7 +19,7 @@ map_count g = (g.rows + 511) / 512
 
 -- the place of the map block of a row
 abbrev pub map_place_of : Geometry → ℕ → ℕ
-map_place_of g r = map_start g + r / 512
+map_place_of g r = map_block_place g (r / 512)
 
 -- the hard place of a row, the same on each disk
 abbrev pub hard_place_of : Geometry → ℕ → ℕ

@@ -1,6 +1,7 @@
 -- Where the copies of parked disks' cells lie: `n` is the number of disks, `a` the gear, `r` a row,
 -- `d` the disk of the cell, `c` a cell's number, `s` a stripe of the gear, `i` an index in it.
 use Rattle.std.specs.Prelude.{ℕ, ◌+◌, ◌-◌, ◌*◌, ◌/◌, ◌%◌}
+use Rattle.paraid_base.specs.Cells.{parity_disk}
 use Rattle.paraid_base.specs.Skips.{skip}
 
 -- the number of cell `(r, d)` among the cells of disks `a` to `n - 1`
@@ -25,7 +26,7 @@ soft_index n a r d = cell_number n a r d % (a - 1)
 
 -- the parity disk of a stripe, which goes down by one from stripe to stripe
 abbrev pub soft_parity_disk : ℕ → ℕ → ℕ
-soft_parity_disk a s = a - 1 - s % a
+soft_parity_disk a s = parity_disk a s
 
 -- the disk with the copy of a cell
 abbrev pub soft_disk : ℕ → ℕ → ℕ → ℕ → ℕ

@@ -8,7 +8,7 @@ use Rattle.paraid_record.specs.declared.targets.Target.{Target}
 use Rattle.paraid_image.specs.Content.{view_by}
 use Rattle.paraid_image.specs.HeldAt.{MayLose}
 use Rattle.paraid_image.specs.Neutral.{overwrite}
-use Rattle.paraid_image.specs.Out.{IsMissing, IsWeak, named_out, out_disk}
+use Rattle.paraid_image.specs.Out.{IsAtMostOneMissing, IsWeak, named_out, out_disk}
 use Rattle.paraid_image.specs.Sides.{LogState, Says, SaysOpen, has_place, is_open, stored_block, targets}
 use Rattle.paraid_image.specs.Sound.{AreWitnessesTrue, ContentOk, IsAhead, IsFresh}
 use Rattle.paraid_image.specs.Standing.{contents, other_log}
@@ -28,7 +28,7 @@ pub record IsLoggedNext
   pub logged : SaysOpen (stored_block i x) new.meta new.batch
   pub latest : IsLatest i (other_log x) new
   pub writes : new.meta.writes ≡ k
-  pub single : (d e : ℕ) → IsMissing i.power new.meta d → IsMissing i.power new.meta e → d ≡ e
+  pub single : IsAtMostOneMissing i.power new.meta
   pub in_array : named_out new.meta.out ≢ Some x
   -- a log disk that says it too is in the array
   pub other_in : Says i (other_log x) new → named_out new.meta.out ≢ Some (other_log x)

@@ -28,6 +28,10 @@ pub record IsMissing (power : ℕ → Power) (m : Meta) (d : ℕ) : Type 0 where
   pub disk : d < m.setup.geometry.disks
   pub is : (is_present (power d) ≡ false) ⊎ (named_out m.out ≡ Some d)
 
+-- at most one disk is missing
+abbrev pub IsAtMostOneMissing : (ℕ → Power) → Meta → Type 0
+IsAtMostOneMissing power m = (d e : ℕ) → IsMissing power m d → IsMissing power m e → d ≡ e
+
 -- two disks are absent, or one is absent and another is named out
 pub record IsDouble (power : ℕ → Power) (m : Meta) : Type 0 where
   pub first : ℕ

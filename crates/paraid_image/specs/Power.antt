@@ -65,10 +65,13 @@ state_by power m dirty = record {
 abbrev pub initial_state : Disks → LogState → PowerState
 initial_state i said = state_by i.power said.meta (view_of i said).dirty
 
--- below the gear, and in a shift up below the new gear, disks spin; the others are parked
+-- whether a disk that is not out is to spin: it is below the gear, or a shift up brings it up
+abbrev pub spins_by_gear : ℕ → Phase → ℕ → Bool
+spins_by_gear gear phase d = nat_lt d gear || nat_lt d (rising_to phase)
+
+-- the others are parked
 abbrev pub power_by_gear : ℕ → Phase → ℕ → Power
-power_by_gear gear phase d =
-    if nat_lt d gear || nat_lt d (rising_to phase) then Spinning else Parked
+power_by_gear gear phase d = if spins_by_gear gear phase d then Spinning else Parked
 
 -- how a disk is powered, unless it is the one that is gone
 abbrev pub power_beside : Out → ℕ → Power → Option Power

@@ -53,9 +53,13 @@ pub record LogState : Type 0 where
   pub meta : Meta
   pub batch : Batch
 
+-- that by its three parts
+abbrev pub log_state : Bool → Meta → Batch → LogState
+log_state opened meta batch = record { opened = opened; meta = meta; batch = batch }
+
 -- what a log disk says by a gate that is closed over this meta
 abbrev pub closed_over : Meta → LogState
-closed_over m = record { opened = false; meta = m; batch = [] }
+closed_over m = log_state false m []
 
 -- under a closed gate
 pub record SaysClosed (log : ℕ → Block) (m : Meta) (batch : Batch) : Type 0 where

@@ -18,7 +18,7 @@ use Rattle.paraid_record.specs.declared.meta.Meta.{Meta}
 use Rattle.paraid_record.specs.declared.targets.Target.{Target}
 use Rattle.paraid_record.specs.Codes.{phase_to}
 use Rattle.paraid_image.specs.Content.{blocks_of, view_of}
-use Rattle.paraid_image.specs.Out.{IsMissing, named_out, out_disk}
+use Rattle.paraid_image.specs.Out.{IsAtMostOneMissing, named_out, out_disk}
 use Rattle.paraid_image.specs.Sides.{LogState, Says, is_open, stored_block, targets}
 use Rattle.paraid_image.specs.Spot.{View}
 use Rattle.paraid_image.specs.Standing.{Stands, other_log}
@@ -55,8 +55,7 @@ pub record IsFresh (power : ℕ → Power) (m : Meta) (d rebuilt : ℕ) : Type 0
 pub record LogOk (i : Disks) (x : ℕ) (said : LogState) (k : ℕ) : Type 0 where
   pub stands : Stands i x said
   pub writes : said.meta.writes ≡ k
-  -- the image is not double
-  pub single : (d e : ℕ) → IsMissing i.power said.meta d → IsMissing i.power said.meta e → d ≡ e
+  pub single : IsAtMostOneMissing i.power said.meta
   pub standing_in : named_out said.meta.out ≢ Some x
   -- a log disk that is being rebuilt says nothing of a batch
   pub fresh_closed : (d rebuilt : ℕ) → IsFresh i.power said.meta d rebuilt → d < 2

@@ -26,7 +26,7 @@ ghost use Rattle.paraid_image.specs.HeldAt.{IsHeldAt, IsHeld, MayLose};
 ghost use Rattle.paraid_image.specs.LostDisk.{IsLoss};
 ghost use Rattle.paraid_image.specs.Neutral.{IsNeutral, overwrite};
 ghost use Rattle.paraid_image.specs.Open.{CanOpen, IsLoggedNext};
-ghost use Rattle.paraid_image.specs.Out.{IsDouble, IsMissing, IsWeak, is_out, out_disk};
+ghost use Rattle.paraid_image.specs.Out.{IsAtMostOneMissing, IsDouble, IsWeak, is_out, out_disk};
 ghost use Rattle.paraid_image.specs.Sides.{Batch, IsSide, LogState, Says, Side, is_open};
 ghost use Rattle.paraid_image.specs.Sound.{ContentOk, IsSoundAt};
 ghost use Rattle.paraid_image.specs.Spot.{View, spot_of};
@@ -262,10 +262,9 @@ pub fn values_live_at_their_spots()
 /// An image is double exactly where two disks of the array are missing.
 pub fn double_is_two_missing()
     ensures single { (power : ℕ → PowerType) (m : MetaType)
-        → ((d e : ℕ) → IsMissing power m d → IsMissing power m e → d ≡ e)
-        → IsDouble power m → ⊥ }
+        → IsAtMostOneMissing power m → IsDouble power m → ⊥ }
     ensures double { (power : ℕ → PowerType) (m : MetaType) → (IsDouble power m → ⊥)
-        → (d e : ℕ) → IsMissing power m d → IsMissing power m e → d ≡ e }
+        → IsAtMostOneMissing power m }
 {}
 
 /// A disk that is attached in the place of one that is gone by all that stands leaves what is held.
@@ -300,8 +299,7 @@ pub fn an_absent_disk_can_be_marked()
         → 1 ≤ epoch → epoch < 2 ^ 64 → IsInRange (marked_gone m d epoch) }
     ensures content { (slots : ℕ) (power : ℕ → PowerType) (size : ℕ → ℕ) (m : MetaType)
         (d epoch : ℕ) (block : Contents) (h : History) (k : ℕ) → IsInRange m
-        → ((e f : ℕ) → IsMissing power m e → IsMissing power m f → e ≡ f)
-        → d < m.setup.geometry.disks → is_present (power d) ≡ false
+        → IsAtMostOneMissing power m → d < m.setup.geometry.disks → is_present (power d) ≡ false
         → ContentOk slots power size (view_by m power block) h k
         → ContentOk slots power size (view_by (marked_gone m d epoch) power block) h k }
 {}

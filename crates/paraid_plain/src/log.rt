@@ -1,7 +1,7 @@
 //! What is asked of the log disks and of the powers of the targets.
 ghost use Rattle.std.specs.Prelude.{◌≡◌, ◌≢◌, ◌<◌, ◌↔◌, Some, true, All, IsTrue};
 ghost use Rattle.paraid_rack.specs.Disks.{is_present};
-ghost use Rattle.paraid_image.specs.Out.{IsMissing, named_out as named_by};
+ghost use Rattle.paraid_image.specs.Out.{IsMissing, named_out};
 ghost use Rattle.paraid_image.specs.Sides.{LogState, Says};
 ghost use Rattle.paraid_image.specs.Sound.{LogOk, Pairing};
 ghost use Rattle.paraid_image.specs.Standing.{Stands};
@@ -82,13 +82,13 @@ fn is_missing(image: &Image, says: &Statement, disk: DiskNo) -> bool
 }
 
 fn is_named_out(says: &Statement, disk: DiskNo) -> bool
-    ensures { IsTrue result ↔ (named_by says.now.meta.out ≡ Some disk) }
+    ensures { IsTrue result ↔ (named_out says.now.meta.out ≡ Some disk) }
 {
     says.meta.out.named() == Some(disk)
 }
 
 fn is_standing_in(says: &Statement) -> bool
-    ensures { IsTrue result ↔ (named_by says.now.meta.out ≢ Some says.now.disk) }
+    ensures { IsTrue result ↔ (named_out says.now.meta.out ≢ Some says.now.disk) }
 {
     !is_named_out(says, says.disk)
 }

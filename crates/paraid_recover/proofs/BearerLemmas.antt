@@ -33,7 +33,8 @@ use Rattle.paraid_txn.specs.Losses.IsOutOfCommit.{was_named}
 use Rattle.paraid_txn.specs.Stores.{IsSameStore, store_rack}
 use Rattle.paraid_txn.specs.Uses.{EachCall}
 use Rattle.paraid_view.proofs.TwoLemmas.{spared_then}
-use Rattle.paraid_recover.specs.Bearing.{BearsAgainst, CanBear, EndsBorne, HasBorne, IsBorneAgainst, IsNamedLog, IsNewlyNamed, IsOnBearer}
+use Rattle.paraid_recover.specs.Bearing.{BearsAgainst, CanBear, EndsBorne, HasBorne, IsNamedLog, IsNewlyNamed, IsOnBearer}
+use Rattle.paraid_txn.specs.Borne.{IsBorneNow}
 use Rattle.paraid_recover.specs.HeldMoments.{EndsHeld, Recovers}
 use Rattle.paraid_recover.specs.RecoveryMark.{renewed}
 use Rattle.paraid_recover.proofs.RecoverLemmas.{disks_before}
@@ -230,15 +231,15 @@ bearer_calls m old new ran = calls_milder (BearsAgainst (named_out m.out)) (IsMo
 
 -- what is seen and synced is borne
 pub borne_sure : (o : Option ℕ) (told : Option Trail) (slot : ℕ → Slot) → ((t : Trail) → told ≡ Some t → Agrees (now t) slot) → IsSyncedAt slot 2
-    → ((x : ℕ) → IsNamedLog o x → (t : Trail) → told ≡ Some t → IsSeen (now t) 2 x (λ b. is_open b ≡ true)) → IsBorneAgainst o told
-borne_sure o told slot agrees synced seen x named t tells = record {
+    → ((x : ℕ) → IsNamedLog o x → (t : Trail) → told ≡ Some t → IsSeen (now t) 2 x (λ b. is_open b ≡ true)) → IsBorneNow o told
+borne_sure o told slot agrees synced seen t tells x below is = record {
   holds = λ here.
       let it = agrees t tells in (
         elim (cases_Bool ((now t).loose 2 x)) [
           | inl loose ↦ absurd (true≢false (sym (it.loose 2 x loose) ∙ synced (ap is_present (sym (it.power 2)) ∙ here)))
           | inr kept ↦ kept
         ],
-        (seen x named t tells).holds here,
+        (seen x (is, below) t tells).holds here,
       );
 }
 
@@ -271,11 +272,11 @@ turns_sure : (m : Meta) (s : Disks) (cs : List Call) (d p : ℕ) (Q : Block → 
 turns_sure m s [] d p Q each sure = sure
 turns_sure m s (c ∷ cs) d p Q each sure = turns_sure m (step c s) cs d p Q each.2 (turned_sure m c s d p Q each.1 each.0 sure)
 
-pub borne_turned : (o : Option ℕ) (m : Meta) (mid new : Option Trail) → Ran mid new (EachCall (IsPowerCall m)) → IsBorneAgainst o mid → IsBorneAgainst o new
-borne_turned o m mid new ran borne x named t tells =
+pub borne_turned : (o : Option ℕ) (m : Meta) (mid new : Option Trail) → Ran mid new (EachCall (IsPowerCall m)) → IsBorneNow o mid → IsBorneNow o new
+borne_turned o m mid new ran borne t tells x below is =
     let it = ran t tells in
     subst (λ (s : Disks). IsSure s 2 x (λ b. is_open b ≡ true)) (sym (ap now it.is ∙ now-extend it.from it.calls))
-    (turns_sure m (now it.from) it.calls 2 x (λ b. is_open b ≡ true) it.holds (borne x named it.from it.was))
+    (turns_sure m (now it.from) it.calls 2 x (λ b. is_open b ≡ true) it.holds (borne it.from it.was x below is))
 
 -- a disk that is not absent is there
 pub not_absent : (p : Power) → p ≢ Absent → is_present p ≡ true

@@ -26,7 +26,8 @@ use Rattle.paraid_image.proofs.NeutralLemmas.{length-targets}
 use Rattle.paraid_txn.specs.Commit.{gone_out}
 use Rattle.paraid_txn.specs.Losses.{CanWrite}
 use Rattle.paraid_txn.specs.Ready.{IsLogReady}
-use Rattle.paraid_txn.specs.Resume.{CanResume, log_state}
+use Rattle.paraid_txn.specs.Resume.{CanResume}
+use Rattle.paraid_image.specs.Sides.{log_state}
 use Rattle.paraid_image.specs.Batches.{names_disk}
 use Rattle.paraid_image.proofs.BatchesLemmas.{names_disk-at}
 use Rattle.paraid_recover.specs.Examined.{AreHeard, IsAgreed, IsServedAsHeard, Logs, side_of}

@@ -82,9 +82,3 @@ EndsBorne N slots x said old new = (t : Trail)
     → IsAbsentSince said.meta.setup.geometry.disks t (moments s) (moments t) down
     → ((w : ℕ) → IsWeak (now s) w → down ≡ Some w)
     → (y : ℕ) → N y → IsSure (now t) 2 y (λ b. is_open b ≡ true))
-
--- Where this record ends witness is borne against the log disk that is named, and no stop takes it
--- back.
-abbrev pub IsBorneAgainst : Option ℕ → Option Trail → Type 0
-IsBorneAgainst named told = (x : ℕ)
-    → IsNamedLog named x → (t : Trail) → told ≡ Some t → IsSure (now t) 2 x (λ b. is_open b ≡ true)

@@ -11,7 +11,8 @@ use Rattle.paraid_image.specs.Sides.{LogState, is_open, stored_block}
 use Rattle.paraid_image.specs.Standing.{Stands, other_log}
 use Rattle.paraid_recover.specs.declared.mount_fault.MountFault.{MountFault}
 use Rattle.paraid_recover.specs.declared.mount_fault.MountFault.TheVariants.{NoMemory, Two as BothMissing}
-use Rattle.paraid_recover.specs.Bearing.{EndsBorne, IsBorneAgainst, IsNamedLog}
+use Rattle.paraid_recover.specs.Bearing.{EndsBorne, IsNamedLog}
+use Rattle.paraid_txn.specs.Borne.{IsBorneNow}
 use Rattle.paraid_recover.specs.Examined.{IsExamined, IsRefused}
 use Rattle.paraid_recover.specs.HeardSides.{IsOneLost, IsReadLosing, IsReadOnly, ReadsLogs}
 use Rattle.paraid_txn.specs.Losses.{AreGoneSince, IsOutOfCommit, AreTwoDownBeside}
@@ -84,7 +85,7 @@ pub record HasMounted (count : ℕ) (old new : ℕ → Slot) (named : Option ℕ
   pub unwitnessed : (read (other_log side)).power ≡ Absent → (read 2).power ≡ Spinning → (t : Trail)
       → settled.recovered.read ≡ Some t → is_open (stored_block (now t) 2 side) ≡ false
   -- witness is borne against the log disk that was named out
-  pub borne : IsBorneAgainst (named_out said.meta.out) told_new
+  pub borne : IsBorneNow (named_out said.meta.out) told_new
   -- and where a history was held, against the one that the meta that stands at the end names out
   pub marked : (slots : ℕ)
       → EndsBorne (IsNamedLog named) slots side said settled.recovered.read told_new

@@ -11,7 +11,7 @@ use Rattle.paraid_rack.specs.Told.{Ran}
 use Rattle.paraid_record.specs.declared.meta.Meta.{Meta}
 use Rattle.paraid_image.specs.Lost.{AnswersLosses, EndsByLoss}
 use Rattle.paraid_image.specs.Out.{named_out}
-use Rattle.paraid_image.specs.Power.{power_by_gear}
+use Rattle.paraid_image.specs.Power.{power_by_gear, spins_by_gear}
 use Rattle.paraid_image.specs.Spot.{rising_to}
 use Rattle.paraid_txn.specs.declared.store.Lost.{Lost}
 use Rattle.paraid_txn.specs.declared.store.Store.{Store}
@@ -21,7 +21,7 @@ use Rattle.paraid_txn.specs.Uses.{EachCall}
 
 -- whether a disk that is not out is to spin
 abbrev pub is_to_spin : Meta → ℕ → Bool
-is_to_spin m d = nat_lt d m.gear || nat_lt d (rising_to m.phase)
+is_to_spin m d = spins_by_gear m.gear m.phase d
 
 -- a park of a disk that is not to spin, or a spin-up of one that a shift up has recorded; the disk
 -- is not named out

@@ -13,7 +13,8 @@ ghost use Rattle.paraid_recover.specs.declared.mount_fault.MountFault.TheVariant
 ghost use Rattle.paraid_record.specs.Range.{meta_wear};
 ghost use Rattle.paraid_recover.specs.HeardSides.{AtMost, IsInForm, IsReadLosing, IsReadOnly, ReadsLogs};
 ghost use Rattle.paraid_txn.specs.Losses.{AreFailedOrWell, OnlyLosesSlots};
-ghost use Rattle.paraid_txn.specs.Resume.{CanResume, log_state as said_by};
+ghost use Rattle.paraid_txn.specs.Resume.{CanResume};
+ghost use Rattle.paraid_image.specs.Sides.{log_state};
 ghost use Rattle.paraid_txn.specs.Uses.{EachCall};
 
 use crate::mount_fault::MountFault;
@@ -61,7 +62,7 @@ fn judge<R: Rack>(
         (logs_of sides.now batch.old other.old)) }
     ensures ok { IfOk result (λ it. IsServedAsHeard (R.slot_count rack.now) (R.slot rack.now)
         (logs_of sides.now batch.old other.old) it.side
-        (said_by it.gate_open it.meta batch.new)) }
+        (log_state it.gate_open it.meta batch.new)) }
 {
     let standing = match stand(sides, batch, other) {
         Ok(standing) => standing,
@@ -91,9 +92,9 @@ pub fn examine<R: Rack>(
         (R.slot rack.new) (R.told rack.new)) }
     ensures ok { IfOk result (λ it. IsExamined (R.slot_count rack.old) (R.slot rack.old)
         (R.slot rack.new) (R.told rack.new) it.side
-        (said_by it.gate_open it.meta batch.new)) }
+        (log_state it.gate_open it.meta batch.new)) }
     ensures stands { IfOk result (λ it. (t : Trail) → R.told rack.new ≡ Some t
-        → Stands (now t) it.side (said_by it.gate_open it.meta batch.new)) }
+        → Stands (now t) it.side (log_state it.gate_open it.meta batch.new)) }
     ensures resumes { IfOk result (λ it. CanResume (R.slot_count rack.new) (R.slot rack.new)
         it.side it.gate_open batch.new it.meta) }
     ensures worn { (count : ℕ) → result ≡ Err (Worn count)

@@ -8,12 +8,12 @@ ghost use Rattle.paraid_rack.specs.Told.{Extends, Ran};
 ghost use Rattle.paraid_txn.specs.Losses.{IsOutOfCommit};
 ghost use Rattle.paraid_txn.specs.Uses.{EachCall, UsesInCommit};
 ghost use Rattle.paraid_image.specs.Mark.{marked_gone as marked_of};
-ghost use Rattle.paraid_image.specs.Out.{named_out as named_of};
+ghost use Rattle.paraid_image.specs.Out.{named_out};
 ghost use Rattle.paraid_recover.specs.RecoveryMark.{of_version_two};
 ghost use Rattle.paraid_recover.specs.Steps.{HasMarked};
 ghost use Rattle.paraid_txn.specs.Ready.{CanCommit};
 ghost use Rattle.paraid_txn.specs.Steps.{KeepsStore};
-ghost use Rattle.paraid_txn.specs.Stores.{disks_of, epoch_of, named_of as named_by, store_rack};
+ghost use Rattle.paraid_txn.specs.Stores.{disks_of, epoch_of, named_of, store_rack};
 
 use paraid_base::{DiskNo, Out, Two};
 use paraid_rack::Rack;
@@ -51,16 +51,16 @@ pub fn mark<R: Rack>(
     disk: DiskNo,
 ) -> Result<Option<DiskNo>, Two>
     requires empty { batch.now ≡ [] }
-    requires only { (e : ℕ) → named_of meta.now.out ≡ Some e → e ≡ disk }
+    requires only { (e : ℕ) → named_out meta.now.out ≡ Some e → e ≡ disk }
     requires low { disk < meta.now.setup.geometry.disks }
     requires epoch { epoch_of store.old ≡ meta.now.epoch }
-    requires named { named_by store.old ≡ named_of meta.now.out }
+    requires named { named_of store.old ≡ named_out meta.now.out }
     requires absent { (R.slot (store_rack store.old) disk).power ≡ Absent }
     requires can { CanCommit (epoch_of store.old) (disks_of store.old)
         (R.slot_count (store_rack store.old)) (R.slot (store_rack store.old)) batch.now
         (marked_of (of_version_two meta.now) disk meta.now.epoch) }
     ensures kept { KeepsStore (IsOutOfCommit (λ e. (R.slot (store_rack store.old) e).power)
-        (disks_of store.old) (named_by store.old) (Some disk)) store.old store.new result }
+        (disks_of store.old) (named_of store.old) (Some disk)) store.old store.new result }
     ensures marked { HasMarked disk store.old store.new result }
     ensures calls { Ran (R.told (store_rack store.old)) (R.told (store_rack store.new))
         (EachCall (UsesInCommit (marked_of (of_version_two meta.now) disk meta.now.epoch) [])) }

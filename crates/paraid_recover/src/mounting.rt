@@ -4,16 +4,18 @@ ghost use Rattle.paraid_dirty.specs.Table.{is_dirty};
 ghost use Rattle.paraid_base.specs.declared.fault.Two.{Two as TwoType};
 ghost use Rattle.paraid_base.specs.Log.{worn_at};
 ghost use Rattle.paraid_recover.specs.declared.mount_fault.MountFault.TheVariants.{Two as BothMissing};
-ghost use Rattle.paraid_txn.specs.Resume.{CanResume, log_state};
+ghost use Rattle.paraid_txn.specs.Resume.{CanResume};
+ghost use Rattle.paraid_image.specs.Sides.{log_state};
 ghost use Rattle.paraid_rack.specs.declared.call.Power.TheVariants.{Absent};
 ghost use Rattle.paraid_rack.specs.Disks.{is_present};
 ghost use Rattle.paraid_record.specs.declared.meta.Meta.{Meta as MetaType};
 ghost use Rattle.paraid_record.specs.Range.{IsInRange};
 ghost use Rattle.paraid_rack.specs.Trail.{Trail};
 ghost use Rattle.paraid_image.specs.Lost.{EndsBySecond};
-ghost use Rattle.paraid_image.specs.Out.{named_out as named_of};
+ghost use Rattle.paraid_image.specs.Out.{named_out};
 ghost use Rattle.paraid_image.specs.Sides.{LogState};
-ghost use Rattle.paraid_recover.specs.Bearing.{EndsBorne, IsBorneAgainst, IsNamedLog};
+ghost use Rattle.paraid_recover.specs.Bearing.{EndsBorne, IsNamedLog};
+ghost use Rattle.paraid_txn.specs.Borne.{IsBorneNow};
 ghost use Rattle.paraid_recover.specs.EndOfMount.{IsMarkAtEnd, IsMarkAtMoment, KeepsDirty};
 ghost use Rattle.paraid_recover.specs.HeldMoments.{EndsHeld, IsOutAtEnd, Recovers, ShowsAtEnd};
 ghost use Rattle.paraid_recover.specs.Map.{HasMap, HasMapAtEnd, IsNarrow};
@@ -28,7 +30,7 @@ ghost use Rattle.paraid_recover.specs.Mounted.{IsFit, IsServable, IsStandingWith
 ghost use Rattle.paraid_recover.specs.Steps.{CanSettle, HasStood, KeepsPowered, MountsOn, RecoversOn};
 ghost use Rattle.paraid_txn.specs.Losses.{AreGoneSince, IsOutOfCommit, AreTwoDownBeside};
 ghost use Rattle.paraid_txn.specs.Steps.{KeepsStore};
-ghost use Rattle.paraid_txn.specs.Stores.{disks_of, epoch_of, named_of as named_by, store_out, store_rack};
+ghost use Rattle.paraid_txn.specs.Stores.{disks_of, epoch_of, named_of, store_out, store_rack};
 
 use crate::examining::examine;
 use crate::map::read_map;
@@ -59,13 +61,13 @@ fn settle<R: Rack>(
     ensures rows { length table.new ≡ length table.old }
     ensures narrow { IsNarrow (is_dirty table.new) }
     ensures kept { KeepsStore (IsOutOfCommit (λ e. (R.slot (store_rack store.old) e).power)
-        meta.now.setup.geometry.disks (named_of meta.now.out) None) store.old store.new result }
+        meta.now.setup.geometry.disks (named_out meta.now.out) None) store.old store.new result }
     ensures recovers { RecoversOn meta.now store.old store.new }
     ensures stood { IfOk result (HasStood store.new) }
     ensures given { IfOk result (λ m. (lost : Option ℕ) × (m ≡ with_mark meta.now lost)
         × ((d : ℕ) → lost ≡ Some d → (is_present (R.slot (store_rack store.new) d).power ≡ false)
         × (d < meta.now.setup.geometry.disks)) × ((d : ℕ) → lost ≡ Some d
-        → (e : ℕ) → named_of meta.now.out ≡ Some e → e ≡ d) × IsMarkAtMoment meta.now lost
+        → (e : ℕ) → named_out meta.now.out ≡ Some e → e ≡ d) × IsMarkAtMoment meta.now lost
         (R.told (store_rack store.old)) (R.told (store_rack store.new))) }
     ensures still { Ran (R.told (store_rack store.old)) (R.told (store_rack store.new))
         (EachCall WritesOnlyLogs) }
@@ -76,12 +78,12 @@ fn settle<R: Rack>(
         (R.slot (store_rack store.new)) (is_dirty table.new) (R.told (store_rack store.old))
         (R.told (store_rack store.new))) }
     // witness is borne against the log disk that the meta named out
-    ensures borne { IfOk result (λ m. IsBorneAgainst (named_of meta.now.out)
+    ensures borne { IfOk result (λ m. IsBorneNow (named_out meta.now.out)
         (R.told (store_rack store.new))) }
     // and so it is where a history was held, against the one that is named out then
     ensures marked { IfOk result (λ m. (slots x : ℕ) (said : LogState) (old : Option Trail)
         → said.meta ≡ meta.now → Recovers slots x said old (R.told (store_rack store.old))
-        → EndsBorne (IsNamedLog (named_by store.new)) slots x said old
+        → EndsBorne (IsNamedLog (named_of store.new)) slots x said old
         (R.told (store_rack store.new))) }
 {
     if let Err(two) = read_map(store, meta, table) {
@@ -98,7 +100,7 @@ fn settle<R: Rack>(
 
 // The meta that stands, with a disk that was lost since marked in memory.
 fn with_loss<R: Rack>(store: &Store<R>, meta: &Meta) -> Meta
-    requires named { named_by store.now ≡ named_of meta.now.out }
+    requires named { named_of store.now ≡ named_out meta.now.out }
     requires in_range { IsInRange meta.now }
     requires exists { meta.now.setup.geometry.disks ≤ R.slot_count (store_rack store.now) }
     requires disks { disks_of store.now ≡ meta.now.setup.geometry.disks }
@@ -124,11 +126,11 @@ fn raise<R: Rack>(
     ensures rows { length table.new ≡ length table.old }
     ensures narrow { IsNarrow (is_dirty table.new) }
     ensures kept { KeepsPowered (IsOutOfCommit (λ e. (R.slot (store_rack store.old) e).power)
-        meta.now.setup.geometry.disks (named_of meta.now.out) None) store.old store.new result }
+        meta.now.setup.geometry.disks (named_out meta.now.out) None) store.old store.new result }
     ensures recovers { RecoversOn meta.now store.old store.new }
     ensures servable { IfOk result (λ m. IsServable (R.slot_count (store_rack store.new))
         (R.slot (store_rack store.new)) (epoch_of store.new) (disks_of store.new)
-        (named_by store.new) m (length table.new)) }
+        (named_of store.new) m (length table.new)) }
     ensures split { (mid : Option Trail)
         × Ran (R.told (store_rack store.old)) mid (EachCall IsTransfer)
         × ((R.told (store_rack store.new) ≡ mid)
@@ -139,25 +141,25 @@ fn raise<R: Rack>(
         (R.told (store_rack store.new)) (EachCall (IsPowerCall (with_mark meta.now mark))))) }
     ensures ends { IfOk result (λ m. (standing : MetaType) × (lost : Option ℕ)
         × (m ≡ with_loss_of standing lost) × (standing.setup ≡ meta.now.setup) × ((d : ℕ)
-        → named_of meta.now.out ≡ Some d → named_of standing.out ≡ Some d) × (standing.version ≡ 2)
+        → named_out meta.now.out ≡ Some d → named_out standing.out ≡ Some d) × (standing.version ≡ 2)
         × ((mark : Option ℕ) × (standing ≡ with_mark meta.now mark) × IsMarkAtMoment meta.now mark
         (R.told (store_rack store.old)) (R.told (store_rack store.new)))
         × ((slots x : ℕ) (said : LogState) (old : Option Trail)
         → said.meta ≡ meta.now → Recovers slots x said old (R.told (store_rack store.old))
         → EndsHeld slots x said standing old (R.told (store_rack store.new)))
         × IsMarkAtEnd standing lost (R.told (store_rack store.new))
-        × IsStandingWithLoss (R.slot (store_rack store.new)) (named_by store.new) standing m) }
+        × IsStandingWithLoss (R.slot (store_rack store.new)) (named_of store.new) standing m) }
     ensures map { IfOk result (λ m. HasMap meta.now.setup.geometry (store_out R.slot store.old)
         (R.slot (store_rack store.new)) (is_dirty table.new) (R.told (store_rack store.old))
         (R.told (store_rack store.new))) }
-    ensures out { IfOk result (λ m. (d : ℕ) → named_of m.out ≡ Some d
-        → (named_of meta.now.out ≡ Some d)
+    ensures out { IfOk result (λ m. (d : ℕ) → named_out m.out ≡ Some d
+        → (named_out meta.now.out ≡ Some d)
         ⊎ ((R.slot (store_rack store.new) d).power ≡ Absent)) }
-    ensures borne { IfOk result (λ m. IsBorneAgainst (named_of meta.now.out)
+    ensures borne { IfOk result (λ m. IsBorneNow (named_out meta.now.out)
         (R.told (store_rack store.new))) }
     ensures marked { IfOk result (λ m. (slots x : ℕ) (said : LogState) (old : Option Trail)
         → said.meta ≡ meta.now → Recovers slots x said old (R.told (store_rack store.old))
-        → EndsBorne (IsNamedLog (named_by store.new)) slots x said old
+        → EndsBorne (IsNamedLog (named_of store.new)) slots x said old
         (R.told (store_rack store.new))) }
 {
     let standing = match settle(store, nothing, meta, table) {
@@ -207,14 +209,14 @@ fn bring_up<R: Rack>(
         (log_state standing.now.gate_open standing.now.meta batch) rack refused.rack) }
     ensures servable { IfOk result (λ it. IsServable (R.slot_count (store_rack it.store))
         (R.slot (store_rack it.store)) (epoch_of it.store) (disks_of it.store)
-        (named_by it.store) it.meta (length it.dirty)) }
+        (named_of it.store) it.meta (length it.dirty)) }
     ensures nothing { IfOk result (λ it. it.batch ≡ []) }
     ensures two { IfErr result (λ refused. (two : TwoType) × (refused.fault ≡ BothMissing two)
         × AreTwoDownBeside (IsOutOfCommit (λ e. (R.slot rack e).power)
-        standing.now.meta.setup.geometry.disks (named_of standing.now.meta.out) None)
+        standing.now.meta.setup.geometry.disks (named_out standing.now.meta.out) None)
         (R.slot rack) (R.slot refused.rack) two × AreGoneSince
         (IsOutOfCommit (λ e. (R.slot rack e).power) standing.now.meta.setup.geometry.disks
-        (named_of standing.now.meta.out) None) (R.slot rack) (R.slot refused.rack) two
+        (named_out standing.now.meta.out) None) (R.slot rack) (R.slot refused.rack) two
         × Ran (R.told rack) (R.told refused.rack) (λ start calls. EndsBySecond two calls)) }
     ensures ends { IfOk result (λ it. (stands : MetaType) × (lost : Option ℕ)
         × (it.meta ≡ with_loss_of stands lost) × (stands.version ≡ 2)
@@ -230,12 +232,12 @@ fn bring_up<R: Rack>(
         × ((slots : ℕ) → KeepsDirty slots standing.now.side
         (log_state standing.now.gate_open standing.now.meta batch) stands
         (R.told rack) (R.told (store_rack it.store)))
-        × IsStandingWithLoss (R.slot (store_rack it.store)) (named_by it.store) stands it.meta) }
+        × IsStandingWithLoss (R.slot (store_rack it.store)) (named_of it.store) stands it.meta) }
     ensures map { IfOk result (λ it. HasMapAtEnd (R.slot rack)
         (R.slot (store_rack it.store)) it.meta (is_dirty it.dirty) (R.told (store_rack it.store))) }
-    ensures borne { IfOk result (λ it. IsBorneAgainst (named_of standing.now.meta.out)
+    ensures borne { IfOk result (λ it. IsBorneNow (named_out standing.now.meta.out)
         (R.told (store_rack it.store))) }
-    ensures marked { IfOk result (λ it. (slots : ℕ) → EndsBorne (IsNamedLog (named_by it.store))
+    ensures marked { IfOk result (λ it. (slots : ℕ) → EndsBorne (IsNamedLog (named_of it.store))
         slots standing.now.side (log_state standing.now.gate_open standing.now.meta batch)
         (R.told rack) (R.told (store_rack it.store))) }
 {
@@ -281,11 +283,11 @@ pub fn mount<R: Rack>(alloc: Global, batch: Batch, rack: R) -> Result<Mounted<R>
         ≡ R.slot_count rack) }
     ensures servable { IfOk result (λ it. IsServable (R.slot_count (store_rack it.store))
         (R.slot (store_rack it.store)) (epoch_of it.store) (disks_of it.store)
-        (named_by it.store) it.meta (length it.dirty)) }
+        (named_of it.store) it.meta (length it.dirty)) }
     ensures nothing { IfOk result (λ it. it.batch ≡ []) }
     // no cause of a refusal was there, and all that is told is told of what stood then
     ensures served { IfOk result (λ it. HasMounted (R.slot_count rack) (R.slot rack)
-        (R.slot (store_rack it.store)) (named_by it.store) it.meta (is_dirty it.dirty)
+        (R.slot (store_rack it.store)) (named_of it.store) it.meta (is_dirty it.dirty)
         (R.told rack) (R.told (store_rack it.store))) }
     ensures refused { IfErr result (λ refused. IsCauseOfRefusal (R.slot_count rack)
         (R.slot rack) (R.slot refused.rack) (R.told rack) (R.told refused.rack)

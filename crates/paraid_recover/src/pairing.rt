@@ -4,7 +4,7 @@ ghost use Rattle.paraid_image.specs.Out.{named_out};
 ghost use Rattle.paraid_image.specs.Sides.{Batch as BatchValue};
 ghost use Rattle.paraid_image.specs.Sound.{IsAhead, Pairing};
 ghost use Rattle.paraid_record.specs.Range.{IsInRange, IsSetupInRange};
-ghost use Rattle.paraid_txn.specs.Resume.{log_state as said_by};
+ghost use Rattle.paraid_image.specs.Sides.{log_state};
 
 use crate::alike::{is_same_batch, is_same_meta};
 use crate::making::first_meta;
@@ -43,9 +43,9 @@ fn is_next(next: &Meta, meta: &Meta) -> bool
     requires first { IsInRange next.now }
     requires second { IsInRange meta.now }
     ensures yes { result ≡ true → (a b : BatchValue)
-        → IsAhead (said_by true next.now a) (said_by false meta.now b) }
+        → IsAhead (log_state true next.now a) (log_state false meta.now b) }
     ensures no { result ≡ false → (a b : BatchValue)
-        → IsAhead (said_by true next.now a) (said_by false meta.now b) → ⊥ }
+        → IsAhead (log_state true next.now a) (log_state false meta.now b) → ⊥ }
 {
     if next.epoch - 1 != meta.epoch {
         return false;
@@ -58,9 +58,9 @@ fn is_a_step_ahead(opened: &Meta, closed: &Meta) -> bool
     requires first { IsInRange opened.now }
     requires second { IsInRange closed.now }
     ensures yes { result ≡ true → (a b : BatchValue)
-        → Pairing (said_by true opened.now a) (said_by false closed.now b) }
+        → Pairing (log_state true opened.now a) (log_state false closed.now b) }
     ensures no { result ≡ false → (a b : BatchValue)
-        → Pairing (said_by true opened.now a) (said_by false closed.now b) → ⊥ }
+        → Pairing (log_state true opened.now a) (log_state false closed.now b) → ⊥ }
 {
     is_same_meta(opened, closed) || is_next(opened, closed)
 }
@@ -70,9 +70,9 @@ fn say_the_same(a: &Meta, first: &Batch, b: &Meta, second: &Batch) -> bool
     requires a_range { IsInRange a.now }
     requires b_range { IsInRange b.now }
     ensures yes { result ≡ true
-        → (gate : Bool) → said_by gate a.now first.now ≡ said_by gate b.now second.now }
+        → (gate : Bool) → log_state gate a.now first.now ≡ log_state gate b.now second.now }
     ensures no { result ≡ false
-        → (gate : Bool) → said_by gate a.now first.now ≢ said_by gate b.now second.now }
+        → (gate : Bool) → log_state gate a.now first.now ≢ log_state gate b.now second.now }
 {
     is_same_meta(a, b) && is_same_batch(first, second)
 }
@@ -82,10 +82,10 @@ fn say_the_same(a: &Meta, first: &Batch, b: &Meta, second: &Batch) -> bool
 pub fn fit_together(a: &Standing, first: &Batch, b: &Standing, second: &Batch) -> bool
     requires a_range { IsInRange a.now.meta }
     requires b_range { IsInRange b.now.meta }
-    ensures yes { result ≡ true → Pairing (said_by a.now.gate_open a.now.meta first.now)
-        (said_by b.now.gate_open b.now.meta second.now) }
-    ensures no { result ≡ false → Pairing (said_by a.now.gate_open a.now.meta first.now)
-        (said_by b.now.gate_open b.now.meta second.now) → ⊥ }
+    ensures yes { result ≡ true → Pairing (log_state a.now.gate_open a.now.meta first.now)
+        (log_state b.now.gate_open b.now.meta second.now) }
+    ensures no { result ≡ false → Pairing (log_state a.now.gate_open a.now.meta first.now)
+        (log_state b.now.gate_open b.now.meta second.now) → ⊥ }
 {
     if a.gate_open {
         if b.gate_open {

@@ -1,10 +1,10 @@
 //! Disks are spun up and parked as the gear asks.
 ghost use Rattle.std.specs.Prelude.{◌≡◌, ◌≢◌, ℕ, ◌<◌, ◌≤◌, false, Some};
 ghost use Rattle.paraid_rack.specs.declared.call.Power.TheVariants.{Parked, Spinning};
-ghost use Rattle.paraid_image.specs.Out.{named_out as named_of};
+ghost use Rattle.paraid_image.specs.Out.{named_out};
 ghost use Rattle.paraid_recover.specs.Powers.{ArePowered, HasPowered, HasChangedPower, is_to_spin as is_to_spin_of};
 ghost use Rattle.paraid_txn.specs.Losses.{IsSyncedAt};
-ghost use Rattle.paraid_txn.specs.Stores.{disks_of, named_of as named_by, store_rack};
+ghost use Rattle.paraid_txn.specs.Stores.{disks_of, named_of, store_rack};
 
 use paraid_base::{DiskNo, Two};
 use paraid_rack::{Power, Rack};
@@ -24,7 +24,7 @@ fn spin_up_one<R: Rack>(store: &mut Store<R>, meta: &Meta, disk: DiskNo) -> Resu
     requires low { disk < meta.now.setup.geometry.disks }
     requires parked { (R.slot (store_rack store.old) disk).power ≡ Parked }
     requires high { meta.now.gear ≤ disk }
-    requires in_use { named_of meta.now.out ≢ Some disk }
+    requires in_use { named_out meta.now.out ≢ Some disk }
     ensures { HasChangedPower R.Rack meta.now disk store.old store.new result }
 {
     if !is_to_spin(meta, disk) {
@@ -39,7 +39,7 @@ fn park_one<R: Rack>(store: &mut Store<R>, meta: &Meta, disk: DiskNo) -> Result<
     requires low { disk < meta.now.setup.geometry.disks }
     requires spinning { (R.slot (store_rack store.old) disk).power ≡ Spinning }
     requires synced { (R.slot (store_rack store.old) disk).unsynced ≡ false }
-    requires in_use { named_of meta.now.out ≢ Some disk }
+    requires in_use { named_out meta.now.out ≢ Some disk }
     ensures { HasChangedPower R.Rack meta.now disk store.old store.new result }
 {
     if is_to_spin(meta, disk) {
@@ -52,9 +52,9 @@ fn park_one<R: Rack>(store: &mut Store<R>, meta: &Meta, disk: DiskNo) -> Result<
 fn power_one<R: Rack>(store: &mut Store<R>, meta: &Meta, disk: DiskNo) -> Result<(), Lost>
     requires exists { disk < R.slot_count (store_rack store.old) }
     requires low { disk < meta.now.setup.geometry.disks }
-    requires awake { disk < meta.now.gear → named_of meta.now.out ≢ Some disk
+    requires awake { disk < meta.now.gear → named_out meta.now.out ≢ Some disk
         → (R.slot (store_rack store.old) disk).power ≢ Parked }
-    requires synced { named_of meta.now.out ≢ Some disk
+    requires synced { named_out meta.now.out ≢ Some disk
         → IsSyncedAt (R.slot (store_rack store.old)) disk }
     ensures { HasChangedPower R.Rack meta.now disk store.old store.new result }
 {
@@ -73,10 +73,10 @@ fn power_disk<R: Rack>(store: &mut Store<R>, meta: &Meta, disk: DiskNo) -> Resul
     requires exists { disk < R.slot_count (store_rack store.old) }
     requires low { disk < meta.now.setup.geometry.disks }
     requires disks { disks_of store.old ≡ meta.now.setup.geometry.disks }
-    requires named { named_by store.old ≡ named_of meta.now.out }
-    requires awake { disk < meta.now.gear → named_of meta.now.out ≢ Some disk
+    requires named { named_of store.old ≡ named_out meta.now.out }
+    requires awake { disk < meta.now.gear → named_out meta.now.out ≢ Some disk
         → (R.slot (store_rack store.old) disk).power ≢ Parked }
-    requires synced { named_of meta.now.out ≢ Some disk
+    requires synced { named_out meta.now.out ≢ Some disk
         → IsSyncedAt (R.slot (store_rack store.old)) disk }
     ensures { HasPowered R.Rack meta.now disk store.old store.new result }
 {
@@ -94,11 +94,11 @@ fn power_disk<R: Rack>(store: &mut Store<R>, meta: &Meta, disk: DiskNo) -> Resul
 pub fn power_disks<R: Rack>(store: &mut Store<R>, meta: &Meta) -> Result<(), Two>
     requires exists { meta.now.setup.geometry.disks ≤ R.slot_count (store_rack store.old) }
     requires disks { disks_of store.old ≡ meta.now.setup.geometry.disks }
-    requires named { named_by store.old ≡ named_of meta.now.out }
-    requires awake { (d : ℕ) → d < meta.now.gear → named_of meta.now.out ≢ Some d
+    requires named { named_of store.old ≡ named_out meta.now.out }
+    requires awake { (d : ℕ) → d < meta.now.gear → named_out meta.now.out ≢ Some d
         → (R.slot (store_rack store.old) d).power ≢ Parked }
     requires synced { (d : ℕ) → d < meta.now.setup.geometry.disks
-        → named_of meta.now.out ≢ Some d → IsSyncedAt (R.slot (store_rack store.old)) d }
+        → named_out meta.now.out ≢ Some d → IsSyncedAt (R.slot (store_rack store.old)) d }
     ensures { ArePowered R.Rack meta.now meta.now.setup.geometry.disks store.old store.new result }
 {
     for disk in 0..meta.setup.geometry.disks {

@@ -4,17 +4,18 @@ ghost use Rattle.std.specs.Prelude.{◌≡◌, ◌≢◌, ℕ, ◌-◌, ◌<◌,
 ghost use Rattle.paraid_rack.specs.declared.call.Power.TheVariants.{Absent};
 ghost use Rattle.paraid_rack.specs.Told.{Ran};
 ghost use Rattle.paraid_rack.specs.Trail.{Trail};
-ghost use Rattle.paraid_recover.specs.Bearing.{CanBear, EndsBorne, IsBorneAgainst, IsNamedLog, IsNewlyNamed};
+ghost use Rattle.paraid_recover.specs.Bearing.{CanBear, EndsBorne, IsNamedLog, IsNewlyNamed};
+ghost use Rattle.paraid_txn.specs.Borne.{IsBorneNow};
 ghost use Rattle.paraid_recover.specs.HeldMoments.{EndsHeld, Recovers};
 ghost use Rattle.paraid_recover.specs.Quiet.{IsInLog};
 ghost use Rattle.paraid_recover.specs.RecoveryMark.{renewed as renewed_of, to_mark, with_mark};
 ghost use Rattle.paraid_record.specs.Range.{IsInRange};
-ghost use Rattle.paraid_image.specs.Out.{named_out as named_of};
+ghost use Rattle.paraid_image.specs.Out.{named_out};
 ghost use Rattle.paraid_image.specs.Sides.{LogState};
 ghost use Rattle.paraid_recover.specs.Steps.{CanMarkOut, RecoversOn};
 ghost use Rattle.paraid_txn.specs.Losses.{StaySynced, IsOneOut, IsOutOfCommit};
 ghost use Rattle.paraid_txn.specs.Steps.{KeepsStore};
-ghost use Rattle.paraid_txn.specs.Stores.{disks_of, epoch_of, named_of as named_by, store_rack};
+ghost use Rattle.paraid_txn.specs.Stores.{disks_of, epoch_of, named_of, store_rack};
 ghost use Rattle.paraid_txn.specs.Uses.{EachCall};
 
 use crate::marking::{mark, next_marked};
@@ -26,12 +27,12 @@ use paraid_txn::{Batch, Store};
 
 /// The disk that is absent, if no disk is named out, or this one as being rebuilt.
 pub(crate) fn unmarked<R: Rack>(store: &Store<R>, meta: &Meta) -> Option<DiskNo>
-    requires named { named_by store.now ≡ named_of meta.now.out }
+    requires named { named_of store.now ≡ named_out meta.now.out }
     requires in_range { IsInRange meta.now }
     requires exists { meta.now.setup.geometry.disks ≤ R.slot_count (store_rack store.now) }
     requires disks { disks_of store.now ≡ meta.now.setup.geometry.disks }
     ensures value { result ≡ to_mark (λ d. (R.slot (store_rack store.now) d).power) meta.now }
-    ensures only { (d e : ℕ) → result ≡ Some d → named_of meta.now.out ≡ Some e → e ≡ d }
+    ensures only { (d e : ℕ) → result ≡ Some d → named_out meta.now.out ≡ Some e → e ≡ d }
     ensures absent { (d : ℕ) → result ≡ Some d
         → (R.slot (store_rack store.now) d).power ≡ Absent }
     ensures low { (d : ℕ) → result ≡ Some d → d < disks_of store.now }
@@ -52,16 +53,16 @@ fn renew<R: Rack>(store: &mut Store<R>, nothing: &Batch, meta: &Meta) -> Result<
     requires empty { nothing.now ≡ [] }
     requires can { CanMarkOut store.old meta.now }
     ensures kept { KeepsStore (IsOutOfCommit (λ e. (R.slot (store_rack store.old) e).power)
-        (disks_of store.old) (named_by store.old) None) store.old store.new result }
+        (disks_of store.old) (named_of store.old) None) store.old store.new result }
     ensures recovers { RecoversOn meta.now store.old store.new }
     ensures given { IfOk result (λ m. m ≡ renewed_of meta.now) }
     ensures epoch { IfOk result (λ m. m.epoch ≡ epoch_of store.new) }
-    ensures named { IfOk result (λ m. named_of m.out ≡ named_by store.new) }
+    ensures named { IfOk result (λ m. named_out m.out ≡ named_of store.new) }
     ensures synced { IfOk result (λ m. StaySynced (R.slot (store_rack store.old))
         (R.slot (store_rack store.new))) }
-    ensures one { IfOk result (λ m. IsOneOut (disks_of store.old) (named_by store.old)
+    ensures one { IfOk result (λ m. IsOneOut (disks_of store.old) (named_of store.old)
         (R.slot (store_rack store.old))
-        → IsOneOut (disks_of store.old) (named_of m.out) (R.slot (store_rack store.new))) }
+        → IsOneOut (disks_of store.old) (named_out m.out) (R.slot (store_rack store.new))) }
     ensures calls { Ran (R.told (store_rack store.old)) (R.told (store_rack store.new))
         (EachCall (IsInLog (disks_of store.old))) }
     ensures ends { IfOk result (λ m. (slots x : ℕ) (said : LogState) (old : Option Trail)
@@ -86,20 +87,20 @@ fn renew<R: Rack>(store: &mut Store<R>, nothing: &Batch, meta: &Meta) -> Result<
 fn mark_or_renew<R: Rack>(store: &mut Store<R>, nothing: &Batch, meta: &Meta) -> Result<Meta, Two>
     requires empty { nothing.now ≡ [] }
     requires can { CanMarkOut store.old meta.now }
-    requires witness { named_of meta.now.out ≢ Some 2 → CanBear (R.slot (store_rack store.old)) }
+    requires witness { named_out meta.now.out ≢ Some 2 → CanBear (R.slot (store_rack store.old)) }
     ensures kept { KeepsStore (IsOutOfCommit (λ e.
-        (R.slot (store_rack store.old) e).power) (disks_of store.old) (named_by store.old) (to_mark
+        (R.slot (store_rack store.old) e).power) (disks_of store.old) (named_of store.old) (to_mark
         (λ d. (R.slot (store_rack store.old) d).power) meta.now)) store.old store.new result }
     ensures recovers { RecoversOn meta.now store.old store.new }
     ensures given { IfOk result (λ m. m ≡ with_mark meta.now
         (to_mark (λ d. (R.slot (store_rack store.old) d).power) meta.now)) }
     ensures epoch { IfOk result (λ m. m.epoch ≡ epoch_of store.new) }
-    ensures named { IfOk result (λ m. named_of m.out ≡ named_by store.new) }
+    ensures named { IfOk result (λ m. named_out m.out ≡ named_of store.new) }
     ensures synced { IfOk result (λ m. StaySynced (R.slot (store_rack store.old))
         (R.slot (store_rack store.new))) }
-    ensures one { IfOk result (λ m. IsOneOut (disks_of store.old) (named_by store.old)
+    ensures one { IfOk result (λ m. IsOneOut (disks_of store.old) (named_of store.old)
         (R.slot (store_rack store.old))
-        → IsOneOut (disks_of store.old) (named_of m.out) (R.slot (store_rack store.new))) }
+        → IsOneOut (disks_of store.old) (named_out m.out) (R.slot (store_rack store.new))) }
     ensures calls { Ran (R.told (store_rack store.old)) (R.told (store_rack store.new))
         (EachCall (IsInLog (disks_of store.old))) }
     ensures ends { IfOk result (λ m. (slots x : ℕ) (said : LogState) (old : Option Trail)
@@ -108,7 +109,7 @@ fn mark_or_renew<R: Rack>(store: &mut Store<R>, nothing: &Batch, meta: &Meta) ->
     // witness is borne against a log disk that is named out then, and was not before
     ensures marked { IfOk result (λ m. (slots x : ℕ) (said : LogState) (old : Option Trail)
         → said.meta ≡ meta.now → Recovers slots x said old (R.told (store_rack store.old))
-        → EndsBorne (IsNewlyNamed (named_of meta.now.out) (named_by store.new)) slots x said old
+        → EndsBorne (IsNewlyNamed (named_out meta.now.out) (named_of store.new)) slots x said old
         (R.told (store_rack store.new))) }
 {
     let Some(disk) = unmarked(store, meta) else {
@@ -130,30 +131,30 @@ fn mark_or_renew<R: Rack>(store: &mut Store<R>, nothing: &Batch, meta: &Meta) ->
 pub fn mark_out<R: Rack>(store: &mut Store<R>, nothing: &Batch, meta: &Meta) -> Result<Meta, Two>
     requires empty { nothing.now ≡ [] }
     requires can { CanMarkOut store.old meta.now }
-    requires witness { named_of meta.now.out ≢ Some 2 → CanBear (R.slot (store_rack store.old)) }
+    requires witness { named_out meta.now.out ≢ Some 2 → CanBear (R.slot (store_rack store.old)) }
     ensures kept { KeepsStore (IsOutOfCommit (λ e.
-        (R.slot (store_rack store.old) e).power) (disks_of store.old) (named_by store.old) (to_mark
+        (R.slot (store_rack store.old) e).power) (disks_of store.old) (named_of store.old) (to_mark
         (λ d. (R.slot (store_rack store.old) d).power) meta.now)) store.old store.new result }
     ensures recovers { RecoversOn meta.now store.old store.new }
     ensures given { IfOk result (λ m. m ≡ with_mark meta.now
         (to_mark (λ d. (R.slot (store_rack store.old) d).power) meta.now)) }
     ensures epoch { IfOk result (λ m. m.epoch ≡ epoch_of store.new) }
-    ensures named { IfOk result (λ m. named_of m.out ≡ named_by store.new) }
+    ensures named { IfOk result (λ m. named_out m.out ≡ named_of store.new) }
     ensures synced { IfOk result (λ m. StaySynced (R.slot (store_rack store.old))
         (R.slot (store_rack store.new))) }
-    ensures one { IfOk result (λ m. IsOneOut (disks_of store.old) (named_by store.old)
+    ensures one { IfOk result (λ m. IsOneOut (disks_of store.old) (named_of store.old)
         (R.slot (store_rack store.old))
-        → IsOneOut (disks_of store.old) (named_of m.out) (R.slot (store_rack store.new))) }
+        → IsOneOut (disks_of store.old) (named_out m.out) (R.slot (store_rack store.new))) }
     ensures calls { Ran (R.told (store_rack store.old)) (R.told (store_rack store.new))
         (EachCall (IsInLog (disks_of store.old))) }
     ensures ends { IfOk result (λ m. (slots x : ℕ) (said : LogState) (old : Option Trail)
         → said.meta ≡ meta.now → Recovers slots x said old (R.told (store_rack store.old))
         → EndsHeld slots x said m old (R.told (store_rack store.new))) }
-    ensures borne { IfOk result (λ m. IsBorneAgainst (named_of meta.now.out)
+    ensures borne { IfOk result (λ m. IsBorneNow (named_out meta.now.out)
         (R.told (store_rack store.new))) }
     ensures marked { IfOk result (λ m. (slots x : ℕ) (said : LogState) (old : Option Trail)
         → said.meta ≡ meta.now → Recovers slots x said old (R.told (store_rack store.old))
-        → EndsBorne (IsNamedLog (named_by store.new)) slots x said old
+        → EndsBorne (IsNamedLog (named_of store.new)) slots x said old
         (R.told (store_rack store.new))) }
 {
     let stands = match mark_or_renew(store, nothing, meta) {

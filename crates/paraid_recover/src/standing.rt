@@ -7,7 +7,7 @@ ghost use Rattle.paraid_recover.specs.Said.{AreSidesFormed};
 ghost use Rattle.paraid_record.specs.declared.meta.Meta.{Meta as MetaType};
 ghost use Rattle.paraid_recover.specs.declared.hearing.Heard.TheVariants.{Formed};
 ghost use Rattle.paraid_recover.specs.HeardSides.{IsInForm};
-ghost use Rattle.paraid_txn.specs.Resume.{log_state as said_by};
+ghost use Rattle.paraid_image.specs.Sides.{log_state};
 
 use crate::mount_fault::MountFault;
 use crate::pairing::fit_together;
@@ -46,7 +46,7 @@ fn standing_by(side: DiskNo, heard: Option<Heard>) -> Option<Standing>
 // What stands by the two sides.
 fn standing_of(sides: &Sides) -> Option<Standing>
     ensures some { IfSome result (λ it. (a b : BatchValue) → IsStanding (logs_of sides.now a b)
-        it.side (said_by it.gate_open it.meta (batch_at (logs_of sides.now a b) it.side))) }
+        it.side (log_state it.gate_open it.meta (batch_at (logs_of sides.now a b) it.side))) }
     ensures none { result ≡ None → AreSidesFormed sides.now → ⊥ }
 {
     match choose(sides.first, sides.second) {
@@ -112,7 +112,7 @@ fn agreed(sides: &Sides, first: &Batch, second: &Batch) -> Result<Standing, Moun
     requires second_form { IsInForm sides.now.second second.now }
     ensures err { IfErr result (IsRefusedByLogs (logs_of sides.now first.now second.now)) }
     ensures ok { IfOk result (λ it. IsAgreed (logs_of sides.now first.now second.now) it.side
-        (said_by it.gate_open it.meta
+        (log_state it.gate_open it.meta
         (batch_at (logs_of sides.now first.now second.now) it.side))) }
 {
     if let Some(fault) = refusal_by_sides(sides) {
@@ -139,7 +139,7 @@ pub fn stand(sides: &Sides, batch: &mut Batch, other: &mut Batch) -> Result<Stan
     requires second_form { IsInForm sides.now.second other.old }
     ensures err { IfErr result (IsRefusedByLogs (logs_of sides.now batch.old other.old)) }
     ensures ok { IfOk result (λ it. IsAgreed (logs_of sides.now batch.old other.old) it.side
-        (said_by it.gate_open it.meta batch.new)) }
+        (log_state it.gate_open it.meta batch.new)) }
 {
     let standing = match agreed(sides, batch, other) {
         Ok(standing) => standing,

@@ -8,7 +8,7 @@ ghost use Rattle.paraid_recover.specs.Mounted.{IsServable};
 ghost use Rattle.paraid_session.specs.Mount.{IsMountedFromEach, IsRefusedFromEach};
 ghost use Rattle.paraid_recover.specs.FirstPoint.{IsFirstPoint};
 ghost use Rattle.paraid_recover.specs.StartRefusals.{refusal_by_fault};
-ghost use Rattle.paraid_txn.specs.Stores.{disks_of, epoch_of, named_of as named_by, store_rack};
+ghost use Rattle.paraid_txn.specs.Stores.{disks_of, epoch_of, named_of, store_rack};
 
 use crate::mount_fault::MountFault;
 use crate::mounting;
@@ -27,7 +27,7 @@ pub fn mount<R: Rack>(alloc: Global, rack: R) -> Result<Mounted<R>, MountRefused
         ≡ R.slot_count rack) }
     ensures servable { IfOk result (λ it. IsServable (R.slot_count (store_rack it.store))
         (R.slot (store_rack it.store)) (epoch_of it.store) (disks_of it.store)
-        (named_by it.store) it.meta (length it.dirty)) }
+        (named_of it.store) it.meta (length it.dirty)) }
     ensures nothing { IfOk result (λ it. it.batch ≡ []) }
     ensures later { IfOk result (λ it. (d : ℕ) → (R.slot rack d).faults
         ≤ (R.slot (store_rack it.store) d).faults) }
@@ -37,7 +37,7 @@ pub fn mount<R: Rack>(alloc: Global, rack: R) -> Result<Mounted<R>, MountRefused
     ensures refused_grows { IfErr result (λ refused. Extends (R.told rack) (R.told refused.rack)) }
     // what stands, and with it the session that begins
     ensures mounted { IfOk result (λ it. (told : HasMounted (R.slot_count rack) (R.slot rack)
-        (R.slot (store_rack it.store)) (named_by it.store) it.meta (is_dirty it.dirty)
+        (R.slot (store_rack it.store)) (named_of it.store) it.meta (is_dirty it.dirty)
         (R.told rack) (R.told (store_rack it.store)))
         × ((slots began : ℕ) → ((t : Trail) → R.told rack ≡ Some t → began ≡ moments t)
         → IsMountedFromEach slots it.meta.setup began (R.told (store_rack it.store))

@@ -2,7 +2,7 @@
 //! bears it where a meta names that log disk out.
 ghost use Rattle.std.specs.Prelude.{◌≡◌, ◌<◌, ◌≤◌, ℕ, true, Some, OnOk, IfErr, is_ok};
 ghost use Rattle.paraid_rack.specs.declared.call.Power.TheVariants.{Spinning};
-ghost use Rattle.paraid_image.specs.Out.{named_out as named_of};
+ghost use Rattle.paraid_image.specs.Out.{named_out};
 ghost use Rattle.paraid_image.specs.Sides.{is_open};
 ghost use Rattle.paraid_recover.specs.Bearing.{CanBear, HasBorne, IsNamedLog};
 ghost use Rattle.paraid_recover.specs.Witness.{IsUnwitnessed, IsWitnessed};
@@ -134,10 +134,10 @@ fn bear_once<R: Rack>(store: &mut Store<R>, disk: DiskNo) -> Result<(), Two>
 /// opened if it is closed; unless the store knows that it is open.
 pub fn bear_named<R: Rack>(store: &mut Store<R>, meta: &Meta) -> Result<(), Two>
     requires exists { 2 < R.slot_count (store_rack store.old) }
-    requires ready { (x : ℕ) → IsNamedLog (named_of meta.now.out) x
+    requires ready { (x : ℕ) → IsNamedLog (named_out meta.now.out) x
         → CanBear (R.slot (store_rack store.old)) }
-    ensures borne { HasBorne R.Rack (named_of meta.now.out) store.old store.new (is_ok result) }
-    ensures two { IfErr result (λ two. IsNamedLog (named_of meta.now.out) two.first
+    ensures borne { HasBorne R.Rack (named_out meta.now.out) store.old store.new (is_ok result) }
+    ensures two { IfErr result (λ two. IsNamedLog (named_out meta.now.out) two.first
         × (two.second ≡ 2)) }
 {
     let Some(disk) = meta.out.named() else {

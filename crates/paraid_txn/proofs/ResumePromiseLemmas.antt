@@ -13,7 +13,8 @@ use Rattle.paraid_rack.specs.Trail.{Trail, now, run}
 use Rattle.paraid_record.specs.declared.meta.Meta.{Meta}
 use Rattle.paraid_txn.specs.Commit.{IsEachImage, ImageStandsFor}
 use Rattle.paraid_image.specs.Out.{named_out}
-use Rattle.paraid_txn.specs.Resume.{IsResumable, StandsWhileResumed, LeadsResume, ImageStandsForResumed, HoldsThroughResume, AreDisksSame, EndsResumed, EndsLaid, ShutEnd, HoldsThroughShut, log_state}
+use Rattle.paraid_txn.specs.Resume.{IsResumable, StandsWhileResumed, LeadsResume, ImageStandsForResumed, HoldsThroughResume, AreDisksSame, EndsResumed, EndsLaid, ShutEnd, HoldsThroughShut}
+use Rattle.paraid_image.specs.Sides.{log_state}
 use Rattle.paraid_image.specs.Sides.{Batch, Says, is_open}
 use Rattle.paraid_txn.specs.CommitStages.{CloseStage, IsLiveLog, IsSpelled, Job, job}
 use Rattle.paraid_image.specs.Standing.{other_log}

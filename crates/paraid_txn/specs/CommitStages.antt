@@ -10,7 +10,7 @@ use Rattle.paraid_record.specs.declared.meta.Meta.{Meta}
 use Rattle.paraid_record.specs.Targets.{AreTargets, targets_bytes}
 use Rattle.paraid_txn.specs.Commit.{gone_out}
 use Rattle.paraid_image.specs.Neutral.{names_place}
-use Rattle.paraid_image.specs.Out.{IsMissing, named_out, out_disk}
+use Rattle.paraid_image.specs.Out.{IsAtMostOneMissing, IsMissing, named_out, out_disk}
 use Rattle.paraid_image.specs.Sides.{Batch, LogState, Says, Spells, closed_over, is_open, stored_block, targets}
 use Rattle.paraid_image.specs.Sound.{AreWitnessesTrue}
 use Rattle.paraid_image.specs.Batches.{batch_blocks}
@@ -94,7 +94,7 @@ IsBlock value b = b ≡ value
 
 -- what a log disk says by its open gate
 abbrev pub open_with : Job → LogState
-open_with j = record { opened = true; meta = j.meta; batch = j.batch }
+open_with j = log_state true j.meta j.batch
 
 -- a disk that is there has the power and the size with which the commit began, and a live log disk
 -- has all places of the log
@@ -264,13 +264,16 @@ pub record CloseIn (j : Job) (k : ℕ) (s : Disks) : Type 0 where
   pub synced : SyncedBut (job_named j) k s
   pub gate : job_named j ≢ Some k → IsSeen s k 0 (λ b. is_open b ≡ false)
 
+-- log disk `x` of an image is closed over what it had as the commit began
+abbrev pub IsClosedAsBegun : Job → Disks → ℕ → Type 0
+IsClosedAsBegun j i x = (is_open (i.block x 0) ≡ false) × (i.block x 1 ≡ j.start.block x 1)
+
 -- What a stop may leave before the targets are touched: each live log disk is closed as it was, or
 -- open with the batch; and where the first one is closed, so is the other.
 pub record IsEarlyImage (j : Job) (i : Disks) : Type 0 where
   pub kept : KeepsSlotsAndLogs j i
   pub sides : (x : ℕ) → IsLiveLog j x
-      → IsPresent i x → ((is_open (i.block x 0) ≡ false) × (i.block x 1 ≡ j.start.block x 1))
-      ⊎ Says i x (open_with j)
+      → IsPresent i x → IsClosedAsBegun j i x ⊎ Says i x (open_with j)
   pub in_order : IsLiveLog j j.first → IsPresent i j.first → is_open (i.block j.first 0) ≡ false
       → (y : ℕ) → IsLiveLog j y → IsPresent i y → is_open (i.block y 0) ≡ false
   pub held : (d p : ℕ) → IsPresent i d → job_map_start j ≤ p → i.block d p ≡ block_before j d p
@@ -286,33 +289,35 @@ pub record IsLateImage (j : Job) (i : Disks) : Type 0 where
   pub done : (x d p : ℕ) → IsLiveLog j x → IsPresent i x → Says i x (closed_over j.meta)
       → GetsTargets j d → IsPresent i d → job_map_start j ≤ p → i.block d p ≡ block_with_batch j d p
 
+-- what a stop may leave has the log of a log disk that is left alone as it was
+abbrev pub LeavesAside : Job → Disks → Type 0
+LeavesAside j s = (i : Disks) → IsLeftByStop s i → (y p : ℕ) → y < 2
+    → job_named j ≡ Some y → p < job_map_start j → IsPresent i y → i.block y p ≡ j.start.block y p
+
 -- what holds at every moment before the targets are touched, of all that a stop may leave there
 pub record HoldsEarly (j : Job) (s : Disks) : Type 0 where
   pub early : (i : Disks) → IsLeftByStop s i → IsEarlyImage j i
-  pub aside : (i : Disks) → IsLeftByStop s i → (y p : ℕ) → y < 2
-      → job_named j ≡ Some y → p < job_map_start j → IsPresent i y → i.block y p ≡ j.start.block y p
+  pub aside : LeavesAside j s
 
 -- what holds at every moment from the first write of a target on, of all that a stop may leave
 -- there
 pub record HoldsLate (j : Job) (s : Disks) : Type 0 where
   pub late : (i : Disks) → IsLeftByStop s i → IsLateImage j i
-  pub aside : (i : Disks) → IsLeftByStop s i → (y p : ℕ) → y < 2
-      → job_named j ≡ Some y → p < job_map_start j → IsPresent i y → i.block y p ≡ j.start.block y p
+  pub aside : LeavesAside j s
 
 -- what holds at every moment of a commit, of all that a stop may leave there, with any slots lost
 pub record HoldsWhole (j : Job) (s : Disks) : Type 0 where
   pub either : ((i : Disks) → IsLeftByStop s i → IsEarlyImage j i)
       ⊎ ((i : Disks) → IsLeftByStop s i → IsLateImage j i)
-  pub aside : (i : Disks) → IsLeftByStop s i → (y p : ℕ) → y < 2
-      → job_named j ≡ Some y → p < job_map_start j → IsPresent i y → i.block y p ≡ j.start.block y p
+  pub aside : LeavesAside j s
 
 -- A witness that an image bears is true by each meta that may stand in it: its log disk is out by
 -- both; or by the one before, and no log disk says the new one yet; or by the new one, and each
 -- says it.
 pub data IsTrueWitness (j : Job) (before : Meta) (i : Disks) (p : ℕ) : Type 0 where
   by_both : IsMissing i.power before p → IsMissing i.power j.meta p → IsTrueWitness j before i p
-  by_old : IsMissing i.power before p → ((x : ℕ) → IsLiveLog j x
-      → IsPresent i x → (is_open (i.block x 0) ≡ false) × (i.block x 1 ≡ j.start.block x 1))
+  by_old : IsMissing i.power before p
+      → ((x : ℕ) → IsLiveLog j x → IsPresent i x → IsClosedAsBegun j i x)
       → IsTrueWitness j before i p
   by_new : IsMissing i.power j.meta p → IsLateImage j i → IsTrueWitness j before i p
 
@@ -345,7 +350,7 @@ pub record FirstStage (j : Job) (before : Meta) (s : Disks) : Type 0 where
   pub stage : LogStage j 0 s
   pub setup : j.meta.setup ≡ before.setup
   pub out : (d e : ℕ) → named_out j.meta.out ≡ Some d → named_out before.out ≡ Some e → d ≡ e
-  pub single : (d e : ℕ) → IsMissing s.power before d → IsMissing s.power before e → d ≡ e
+  pub single : IsAtMostOneMissing s.power before
   pub old : BeganTrue j before
       → (p : ℕ) → p < 2 → IsWitnessClosed j s p ⊎ IsMissing s.power before p
 

@@ -13,14 +13,10 @@ use Rattle.paraid_txn.specs.Ready.{AreTargetsReady, IsLogReady}
 use Rattle.paraid_image.specs.Rest.{AreLogGatesClosed, IsAtRest, AreSynced}
 use Rattle.paraid_txn.specs.Commit.{KeepsSlots, IsEachImage, IsOneMissing, ImageStandsFor, gone_out}
 use Rattle.paraid_image.specs.Out.{named_out}
-use Rattle.paraid_image.specs.Sides.{Batch, LogState, Says, is_open, targets}
+use Rattle.paraid_image.specs.Sides.{LogState, Says, is_open, targets}
 use Rattle.paraid_image.specs.Sound.{LogOk}
-use Rattle.paraid_txn.specs.CommitStages.{AllSynced, IsBlock, IsLateImage, IsLiveLog, Job, KeepsSlotsAndLogs, SyncedBut, block_before, job_map_start, job_named, open_with}
+use Rattle.paraid_txn.specs.CommitStages.{AllSynced, IsBlock, IsLateImage, IsLiveLog, Job, KeepsSlotsAndLogs, LeavesAside, SyncedBut, block_before, job_map_start, job_named, open_with}
 use Rattle.paraid_image.specs.Standing.{Stands, other_log}
-
--- what a log disk says by its gate, its meta and its batch
-abbrev pub log_state : Bool → Meta → Batch → LogState
-log_state opened meta batch = record { opened = opened; meta = meta; batch = batch }
 
 -- Log disk `x` of the disks `s` stands and says this, its log is in order, and nothing is loose.
 pub record IsResumable (s : Disks) (x : ℕ) (said : LogState) : Type 0 where
@@ -128,8 +124,7 @@ pub record IsCatchUpImage (j : Job) (x : ℕ) (i : Disks) : Type 0 where
 pub record HoldsThroughResume (j : Job) (x : ℕ) (s : Disks) : Type 0 where
   pub either : ((i : Disks) → IsLeftByStop s i → IsCatchUpImage j x i)
       ⊎ ((i : Disks) → IsLeftByStop s i → IsLateImage j i)
-  pub aside : (i : Disks) → IsLeftByStop s i → (y p : ℕ) → y < 2
-      → job_named j ≡ Some y → p < job_map_start j → IsPresent i y → i.block y p ≡ j.start.block y p
+  pub aside : LeavesAside j s
 
 -- All but the gate and the meta of log disk `y` is as it was.
 pub record AreOthersSame (j : Job) (y : ℕ) (s : Disks) : Type 0 where

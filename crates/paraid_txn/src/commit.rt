@@ -46,8 +46,8 @@ ghost use Rattle.paraid_txn.specs.Witness.{BearsAtEnd, CannotSet, IsKnown, IsNoS
 ghost use Rattle.paraid_txn.specs.declared.bearing.Witness.{Witness as WitnessType};
 ghost use Rattle.paraid_image.specs.Batches.{names_disk};
 ghost use Rattle.paraid_txn.specs.CommitStages.{CloseStage, FirstStage, HoldsEarly, HoldsWitnessed, LastStage, IsSpelled, Job, HoldsLate, LayIn, LogStage, LogIn, MarkStage, OpenStage, SyncIn, HoldsWhole, job_gone, job, job_named};
-ghost use Rattle.paraid_txn.specs.Commit.{EndsCommitted, IsWholeOrAbsent, LeavesBorne, gone_out as gone_of};
-ghost use Rattle.paraid_image.specs.Out.{named_out as named_of, or_else};
+ghost use Rattle.paraid_txn.specs.Commit.{EndsCommitted, IsWholeOrAbsent, LeavesBorne, gone_out};
+ghost use Rattle.paraid_image.specs.Out.{named_out, or_else};
 ghost use Rattle.paraid_record.specs.declared.meta.Meta.{Meta as MetaType};
 ghost use Rattle.paraid_record.specs.Meta.{meta_bytes};
 ghost use Rattle.paraid_record.specs.Range.{IsInRange};
@@ -326,8 +326,8 @@ fn run<R: Rack>(
 ) -> Result<(), Two>
     requires log_disk { first < 2 }
     requires exists { meta.now.setup.geometry.disks ≤ R.slot_count rack.old }
-    requires log { IsLogReady (named_of meta.now.out) (R.slot rack.old) }
-    requires ready { AreTargetsReady (gone_of meta.now.out) (R.slot_count rack.old)
+    requires log { IsLogReady (named_out meta.now.out) (R.slot rack.old) }
+    requires ready { AreTargetsReady (gone_out meta.now.out) (R.slot_count rack.old)
         (R.slot rack.old) (targets batch.now) }
     requires in_range { AreTargets meta.now.setup.geometry (targets batch.now) }
     ensures leaves { SyncedPart R.Rack
@@ -364,12 +364,12 @@ fn set_if_any<R: Rack>(
     ensures leaves { SyncedPart R.Rack
         (UsesWitness meta.now) losses.old losses.new rack.old rack.new result }
     ensures told { Ran (R.told rack.old) (R.told rack.new)
-        (λ s cs. MaySetAny (R.slot rack.old) (gone_of meta.now.out) witness cs) }
+        (λ s cs. MaySetAny (R.slot rack.old) (gone_out meta.now.out) witness cs) }
     ensures known { IfOk result (λ then. IsBorneNow borne (R.told rack.old)
         → IsBorneNow then (R.told rack.new)) }
     ensures none { witness ≡ None → IfOk result (λ then. then ≡ borne) }
     ensures opens { (w : WitnessType) → witness ≡ Some w → w.opened ≡ true → IfOk result (λ then.
-        (then ≡ Some w.disk) ⊎ CannotSet (R.slot rack.old) (gone_of meta.now.out) w.disk) }
+        (then ≡ Some w.disk) ⊎ CannotSet (R.slot rack.old) (gone_out meta.now.out) w.disk) }
 {
     let Some(witness) = witness else {
         return Ok(borne);
@@ -386,7 +386,7 @@ fn bear_before<R: Rack>(
 ) -> Result<Option<DiskNo>, Two>
     requires exists { 2 < R.slot_count rack.old }
     requires absent { (d : ℕ) → out.absent ≡ Some d → is_present (R.slot rack.old d).power ≡ false }
-    requires witness { (x : ℕ) → x < 2 → out.named ≡ Some x → named_of meta.now.out ≢ Some x
+    requires witness { (x : ℕ) → x < 2 → out.named ≡ Some x → named_out meta.now.out ≢ Some x
         → CanWrite (R.slot rack.old) 2 1 }
     ensures leaves { SyncedPart R.Rack
         (UsesWitness meta.now) losses.old losses.new rack.old rack.new result }
@@ -396,7 +396,7 @@ fn bear_before<R: Rack>(
         → IsBorneNow borne (R.told rack.new)) }
     ensures borne { IfOk result (λ borne.
         KeepsBorne (R.told rack.old) (R.told rack.new) meta.now out.borne borne) }
-    ensures stays { NoneJoins out.named (named_of meta.now.out) → (x : ℕ) → out.borne ≡ Some x
+    ensures stays { NoneJoins out.named (named_out meta.now.out) → (x : ℕ) → out.borne ≡ Some x
         → IfOk result (λ borne. borne ≡ Some x) }
 {
     let witness = first_witness(out, meta.out.named());
@@ -421,7 +421,7 @@ fn bear_after<R: Rack>(
     ensures borne { OnOk result (BearsAtEnd (R.told rack.old) (R.told rack.new) meta.now borne
         losses.new.lost) }
     ensures knows { IfOk result (λ then. IsNoSecond losses.new.lost meta.now
-        → IsKnown (R.slot rack.new) (or_else losses.new.lost (named_of meta.now.out)) then) }
+        → IsKnown (R.slot rack.new) (or_else losses.new.lost (named_out meta.now.out)) then) }
 {
     let named = meta.out.named();
     if find_second(losses.lost, named).is_some() {
@@ -445,19 +445,19 @@ fn run_witnessed<R: Rack>(
 ) -> Result<Option<DiskNo>, Two>
     requires log_disk { first < 2 }
     requires exists { meta.now.setup.geometry.disks ≤ R.slot_count rack.old }
-    requires log { IsLogReady (named_of meta.now.out) (R.slot rack.old) }
-    requires ready { AreTargetsReady (gone_of meta.now.out) (R.slot_count rack.old)
+    requires log { IsLogReady (named_out meta.now.out) (R.slot rack.old) }
+    requires ready { AreTargetsReady (gone_out meta.now.out) (R.slot_count rack.old)
         (R.slot rack.old) (targets batch.now) }
     requires in_range { AreTargets meta.now.setup.geometry (targets batch.now) }
     requires absent { (d : ℕ) → out.absent ≡ Some d → is_present (R.slot rack.old d).power ≡ false }
-    requires witness { (x : ℕ) → x < 2 → out.named ≡ Some x → named_of meta.now.out ≢ Some x
+    requires witness { (x : ℕ) → x < 2 → out.named ≡ Some x → named_out meta.now.out ≢ Some x
         → CanWrite (R.slot rack.old) 2 1 }
     requires none_lost { losses.old.lost ≡ None }
     ensures leaves { SyncedPart R.Rack
         (UsesInCommit meta.now batch.now) losses.old losses.new rack.old rack.new result }
     ensures crash { (start : Disks) (before : MetaType)
         → IsSpelled (job start meta.now batch.now spelled.now list.now first)
-        → out.named ≡ named_of before.out → CrashSpecification
+        → out.named ≡ named_out before.out → CrashSpecification
         (HoldsWitnessed (job start meta.now batch.now spelled.now list.now first) before)
         (FirstStage (job start meta.now batch.now spelled.now list.now first) before)
         (LastStage (job start meta.now batch.now spelled.now list.now first) before)
@@ -467,8 +467,8 @@ fn run_witnessed<R: Rack>(
     ensures borne { OnOk result (BearsAtEnd (R.told rack.old) (R.told rack.new) meta.now out.borne
         losses.new.lost) }
     ensures knows { IfOk result (λ borne. IsNoSecond losses.new.lost meta.now
-        → IsKnown (R.slot rack.new) (or_else losses.new.lost (named_of meta.now.out)) borne) }
-    ensures once { NoneJoins out.named (named_of meta.now.out) → (x : ℕ) → x < 2
+        → IsKnown (R.slot rack.new) (or_else losses.new.lost (named_out meta.now.out)) borne) }
+    ensures once { NoneJoins out.named (named_out meta.now.out) → (x : ℕ) → x < 2
         → out.borne ≡ Some x → Ran (R.told rack.old) (R.told rack.new) (λ s cs. LeavePlace 2 x cs) }
 {
     let borne = bear_before(rack, losses, meta, out)?;
@@ -528,7 +528,7 @@ pub fn spell_meta(meta: &Meta) -> Block
 
 impl<R: Rack> Store<R> {
     ghost use Rattle.paraid_txn.specs.Steps.{KeepsStore, SurvivesLoss, TakesCommit};
-    ghost use Rattle.paraid_txn.specs.Stores.{borne_of, disks_of, epoch_of, named_of as named_by, store_rack};
+    ghost use Rattle.paraid_txn.specs.Stores.{borne_of, disks_of, epoch_of, named_of, store_rack};
 
     /// Lays a batch and the next meta over what the disks hold: whole or not at all, whatever
     /// stops it and whichever one disk is lost.
@@ -543,18 +543,18 @@ impl<R: Rack> Store<R> {
         requires can { CanCommit (epoch_of self.old) (disks_of self.old)
             (R.slot_count (store_rack self.old)) (R.slot (store_rack self.old)) batch.now meta.now }
         // Where a log disk comes in again, disk 2 can be written.
-        requires witness { (x : ℕ) → x < 2 → named_by self.old ≡ Some x
-            → named_of meta.now.out ≢ Some x → CanWrite (R.slot (store_rack self.old)) 2 1 }
+        requires witness { (x : ℕ) → x < 2 → named_of self.old ≡ Some x
+            → named_out meta.now.out ≢ Some x → CanWrite (R.slot (store_rack self.old)) 2 1 }
 
         ensures keeps { KeepsStore (IsOutOfCommit (λ e. (R.slot (store_rack self.old) e).power)
-            (disks_of self.old) (named_by self.old) (named_of meta.now.out))
+            (disks_of self.old) (named_of self.old) (named_out meta.now.out))
             self.old self.new result }
-        ensures takes { TakesCommit (named_of meta.now.out) self.old self.new result }
+        ensures takes { TakesCommit (named_out meta.now.out) self.old self.new result }
 
         // The disk that is answered is the one whose count has risen, and no other one was out.
         ensures loss { IfOk result (SurvivesLoss
             (IsOutOfCommit (λ e. (R.slot (store_rack self.old) e).power)
-            (disks_of self.old) (named_by self.old) (named_of meta.now.out))
+            (disks_of self.old) (named_of self.old) (named_out meta.now.out))
             self.old self.new) }
 
         // Which calls are made.
@@ -565,19 +565,19 @@ impl<R: Rack> Store<R> {
         // that is known; and the place of one that is known is not written.
         ensures bears_witness { IfOk result (λ lost.
             Ran (R.told (store_rack self.old)) (R.told (store_rack self.new)) (λ start calls.
-            LeavesBorne start (run start calls) (or_else lost (named_of meta.now.out)))) }
+            LeavesBorne start (run start calls) (or_else lost (named_out meta.now.out)))) }
         ensures knows { IfOk result (λ lost. IsKnown (R.slot (store_rack self.new))
-            (or_else lost (named_of meta.now.out)) (borne_of self.new)) }
-        ensures once { NoneJoins (named_by self.old) (named_of meta.now.out)
+            (or_else lost (named_out meta.now.out)) (borne_of self.new)) }
+        ensures once { NoneJoins (named_of self.old) (named_out meta.now.out)
             → (x : ℕ) → x < 2 → borne_of self.old ≡ Some x → Ran (R.told (store_rack self.old))
             (R.told (store_rack self.new)) (λ start calls. LeavePlace 2 x calls) }
 
         // At each moment the old contents or the new ones; at the end only these.
-        ensures any_moment { (before : MetaType) → named_by self.old ≡ named_of before.out
+        ensures any_moment { (before : MetaType) → named_of self.old ≡ named_out before.out
             → IsWholeOrAbsent (R.told (store_rack self.old)) (R.told (store_rack self.new)) before
             (record meta.now { epoch = epoch_of self.old + 1 }) batch.now }
         ensures committed { OnOk result ((before : MetaType)
-            → named_by self.old ≡ named_of before.out
+            → named_of self.old ≡ named_out before.out
             → EndsCommitted (R.told (store_rack self.old)) (R.told (store_rack self.new)) before
             (record meta.now { epoch = epoch_of self.old + 1 }) batch.now) }
     {

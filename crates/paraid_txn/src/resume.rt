@@ -12,13 +12,14 @@
 ghost use Rattle.std.specs.Prelude.{◌≡◌, ◌≢◌, ◌-◌, ◌<◌, ◌≤◌, true, false, length, Some, OnOk, IfErr, IfOk};
 ghost use Rattle.paraid_base.specs.Log.{batch_room};
 ghost use Rattle.paraid_record.specs.Targets.{AreTargets};
-ghost use Rattle.paraid_txn.specs.Commit.{gone_out as gone_of};
+ghost use Rattle.paraid_txn.specs.Commit.{gone_out};
 ghost use Rattle.paraid_txn.specs.CommitPart.{SyncedPart};
 ghost use Rattle.paraid_txn.specs.CrashSpecification.{CrashSpecification};
 ghost use Rattle.paraid_txn.specs.Uses.{Uses, UsesLog};
-ghost use Rattle.paraid_image.specs.Out.{named_out as named_of};
+ghost use Rattle.paraid_image.specs.Out.{named_out};
 ghost use Rattle.paraid_txn.specs.Ready.{AreTargetsReady, IsLogReady};
-ghost use Rattle.paraid_txn.specs.Resume.{CanResume, StandsWhileResumed, LeadsResume, HoldsThroughResume, AreDisksSame, EndsResumed, EndsLaid, ShutSynced, ShutEnd, HoldsThroughShut, log_state};
+ghost use Rattle.paraid_txn.specs.Resume.{CanResume, StandsWhileResumed, LeadsResume, HoldsThroughResume, AreDisksSame, EndsResumed, EndsLaid, ShutSynced, ShutEnd, HoldsThroughShut};
+ghost use Rattle.paraid_image.specs.Sides.{log_state};
 ghost use Rattle.paraid_image.specs.Sides.{is_open, targets};
 ghost use Rattle.paraid_txn.specs.CommitStages.{CloseStage, IsSpelled, Job, LayIn, job_gone, job_named};
 ghost use Rattle.paraid_image.specs.Standing.{other_log};
@@ -86,14 +87,14 @@ fn resume_open<R: Rack>(
 ) -> Result<(), Two>
     requires exists { meta.now.setup.geometry.disks ≤ R.slot_count rack.old }
     requires log_disk { side < 2 }
-    requires log { IsLogReady (named_of meta.now.out) (R.slot rack.old) }
-    requires ready { AreTargetsReady (gone_of meta.now.out) (R.slot_count rack.old)
+    requires log { IsLogReady (named_out meta.now.out) (R.slot rack.old) }
+    requires ready { AreTargetsReady (gone_out meta.now.out) (R.slot_count rack.old)
         (R.slot rack.old) (targets batch.now) }
     requires in_range { AreTargets meta.now.setup.geometry (targets batch.now) }
     ensures leaves { SyncedPart R.Rack
         (Uses meta.now batch.now) losses.old losses.new rack.old rack.new result }
-    ensures crash { (j : Job) → IsSpelled j → job_named j ≡ named_of meta.now.out
-        → job_gone j ≡ gone_of meta.now.out → j.batch ≡ batch.now → j.list ≡ list.now
+    ensures crash { (j : Job) → IsSpelled j → job_named j ≡ named_out meta.now.out
+        → job_gone j ≡ gone_out meta.now.out → j.batch ≡ batch.now → j.list ≡ list.now
         → j.spelled ≡ spelled.now → LeadsResume j side
         → CrashSpecification (HoldsThroughResume j side) (AreDisksSame j) (CloseStage j 2)
         (R.told rack.old) (R.told rack.new) result }

@@ -7,7 +7,7 @@ ghost use Rattle.paraid_rack.specs.Told.{GrowsByCall};
 ghost use Rattle.paraid_rack.specs.Trail.{Trail, now};
 ghost use Rattle.paraid_txn.specs.Borne.{IsBorneNow, IsBorneNow-prop};
 ghost use Rattle.paraid_txn.specs.Losses.{IsLostBy};
-ghost use Rattle.paraid_image.specs.Out.{first_absent as first_absent_of, named_out as named_of_out, or_else};
+ghost use Rattle.paraid_image.specs.Out.{first_absent as first_absent_of, named_out, or_else};
 
 use crate::bearing::BEARER;
 use paraid_base::{Block, DiskNo, Failed, Place, Two};
@@ -115,7 +115,7 @@ impl<R: Rack> Store<R> {
         ensures rack { store_rack result ≡ rack }
         ensures disks { disks_of result ≡ meta.now.setup.geometry.disks }
         ensures epoch { epoch_of result ≡ meta.now.epoch }
-        ensures named { named_of result ≡ named_of_out meta.now.out }
+        ensures named { named_of result ≡ named_out meta.now.out }
         ensures borne { borne_of result ≡ None }
     {
         Store {

@@ -86,11 +86,9 @@ impl<R: Rack> Store<R> {
         ensures gone { IfErr result (AreGoneSince (IsOutOfCommit (λ e.
             (R.slot (store_rack self.old) e).power) (disks_of self.old) (named_of self.old) None)
             (R.slot (store_rack self.old)) (R.slot (store_rack self.new))) }
-        ensures order { IfErr result (λ two. (only : _) → IsOnlyOut
-            (IsOutOfCommit (λ e. (R.slot (store_rack self.old) e).power)
-            (disks_of self.old) (named_of self.old) None) only
-            → Ran (R.told (store_rack self.old)) (R.told (store_rack self.new))
-            (λ start calls. TellsLosses only two calls)) }
+        ensures order { IfErr result (TellsSecondLoss (IsOutOfCommit (λ e.
+            (R.slot (store_rack self.old) e).power) (disks_of self.old) (named_of self.old) None)
+            (R.told (store_rack self.old)) (R.told (store_rack self.new))) }
         ensures calls { Ran (R.told (store_rack self.old)) (R.told (store_rack self.new))
             (EachCall (UsesSync (disks_of self.old) skip)) }
     {

@@ -6,7 +6,7 @@ ghost use Rattle.std.specs.Prelude.{◌≡◌, ◌≢◌, ℕ, ◌<◌, ◌⊎�
 ghost use Rattle.paraid_rack.specs.declared.call.Power.TheVariants.{Absent, Spinning};
 ghost use Rattle.paraid_rack.specs.Told.{Ran};
 ghost use Rattle.paraid_txn.specs.Borne.{IsBorneNow};
-ghost use Rattle.paraid_txn.specs.Commit.{gone_out as gone_of};
+ghost use Rattle.paraid_txn.specs.Commit.{gone_out};
 ghost use Rattle.paraid_txn.specs.CommitPart.{SyncedPart};
 ghost use Rattle.paraid_txn.specs.Losses.{CanWrite};
 ghost use Rattle.paraid_txn.specs.Uses.{UsesWitness};
@@ -111,7 +111,7 @@ fn write_witness<R: Rack>(
     requires unskipped { skip ≢ Some 2 }
     requires spinning { (R.slot rack.old 2).power ≡ Spinning }
     requires within { place < (R.slot rack.old 2).size }
-    ensures leaves { (m : MetaType) → gone_of m.out ≡ skip
+    ensures leaves { (m : MetaType) → gone_out m.out ≡ skip
         → SyncedPart R.Rack (UsesWitness m) losses.old losses.new rack.old rack.new result }
     ensures told { Ran (R.told rack.old) (R.told rack.new) (λ s cs.
         SetsWitness place (is_open block.now) cs) }
@@ -143,10 +143,10 @@ pub(crate) fn set_witness<R: Rack>(
     ensures leaves { SyncedPart R.Rack
         (UsesWitness meta.now) losses.old losses.new rack.old rack.new result }
     ensures told { Ran (R.told rack.old) (R.told rack.new) (λ s cs.
-        MaySetWitness (R.slot rack.old) (gone_of meta.now.out) witness.disk witness.opened cs) }
+        MaySetWitness (R.slot rack.old) (gone_out meta.now.out) witness.disk witness.opened cs) }
     ensures known { IfOk result (λ borne. IsBorneNow borne (R.told rack.new)) }
     ensures opens { witness.opened ≡ true → IfOk result (λ borne. (borne ≡ Some witness.disk)
-        ⊎ CannotSet (R.slot rack.old) (gone_of meta.now.out) witness.disk) }
+        ⊎ CannotSet (R.slot rack.old) (gone_out meta.now.out) witness.disk) }
 {
     let skip = meta.out.gone();
     let place = u32::from(witness.disk);

@@ -3,7 +3,7 @@ ghost use Rattle.std.specs.Prelude.{◌++◌, ◌≡◌, ◌≢◌, ℕ, ◌+◌
 ghost use Rattle.paraid_base.specs.Sums.{without, xor_upto};
 ghost use Rattle.paraid_rack.specs.Told.{Ran};
 ghost use Rattle.paraid_record.specs.Range.{IsInRange};
-ghost use Rattle.paraid_image.specs.Out.{first_absent, named_out as named_of, or_else, out_disk};
+ghost use Rattle.paraid_image.specs.Out.{first_absent, named_out, or_else, out_disk};
 ghost use Rattle.paraid_image.specs.Spot.{is_hard as hard_in};
 ghost use Rattle.paraid_image.specs.Sound.{AreRowsZero, AreStripesZero};
 ghost use Rattle.paraid_image.specs.Standing.{Contents};

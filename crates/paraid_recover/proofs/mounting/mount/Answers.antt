@@ -10,7 +10,8 @@ use Rattle.paraid_recover.specs.Mounted.{IsFit}
 use Rattle.paraid_recover.proofs.FailedLemmas.{calls_then, logs_calls}
 use Rattle.paraid_recover.proofs.WitnessLemmas.{examined_later, read_only_then, slots_later, stands_later, witness_later, witness_refuses, witness_slots}
 use Rattle.paraid_recover.specs.Order.{IsNotRefused}
-use Rattle.paraid_txn.specs.Resume.{CanResume, log_state}
+use Rattle.paraid_txn.specs.Resume.{CanResume}
+use Rattle.paraid_image.specs.Sides.{log_state}
 use Rattle.paraid_txn.specs.Stores.{store_rack}
 use Rattle.paraid_dirty.specs.Table.{is_dirty}
 use Rattle.paraid_recover.specs.Mount.{HasSettled}

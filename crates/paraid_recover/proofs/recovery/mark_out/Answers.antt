@@ -14,7 +14,8 @@ use Rattle.paraid_txn.specs.Losses.{AreFailedOrWell, IsOneOut, IsOutOfCommit, Is
 use Rattle.paraid_txn.specs.Losses.IsOutOfCommit.{was_named}
 use Rattle.paraid_txn.specs.Stores.{store_rack}
 use Rattle.paraid_txn.specs.Uses.{EachCall}
-use Rattle.paraid_recover.specs.Bearing.{BearsAgainst, EndsBorne, IsBorneAgainst, IsNamedLog}
+use Rattle.paraid_recover.specs.Bearing.{BearsAgainst, EndsBorne, IsNamedLog}
+use Rattle.paraid_txn.specs.Borne.{IsBorneNow}
 use Rattle.paraid_recover.specs.HeldMoments.{EndsHeld, Recovers, RecoversHeld}
 use Rattle.paraid_recover.specs.MountCalls.{OnlyMountCalls}
 use Rattle.paraid_recover.specs.Quiet.{IsInLog}
@@ -218,11 +219,11 @@ ends g c slots x said old is r =
     ]
 
 -- witness is borne against the log disk that the meta before named out
-borne : (g : Over) (c : In-Ok-bear_named g) → IsBorneAgainst (named_out c.args.meta.now.out) (g.R.Rack.told (store_rack c.bear_named.new.store))
-borne g c x named t tells =
+borne : (g : Over) (c : In-Ok-bear_named g) → IsBorneNow (named_out c.args.meta.now.out) (g.R.Rack.told (store_rack c.bear_named.new.store))
+borne g c t tells x below is =
     let new = c.bear_named.new.store in
-    borne_sure (named_out c.args.meta.now.out) (g.R.Rack.told (store_rack new)) (g.R.Rack.slot (store_rack new)) (g.met.R.Rack.agrees (store_rack new)) (synced g c x named) (c.in-Ok-bear_named.ensures.borne.borne refl)
-    x named t tells
+    borne_sure (named_out c.args.meta.now.out) (g.R.Rack.told (store_rack new)) (g.R.Rack.slot (store_rack new)) (g.met.R.Rack.agrees (store_rack new)) (synced g c x (is, below)) (c.in-Ok-bear_named.ensures.borne.borne refl)
+    t tells x below is
 
 -- and against the one that is named out then
 marked_borne : (g : Over) (c : In-Ok-bear_named g) (slots x : ℕ) (said : LogState) (old : Option Trail) → said.meta ≡ c.args.meta.now → Recovers slots x said old (g.R.Rack.told (store_rack c.args.store.now))

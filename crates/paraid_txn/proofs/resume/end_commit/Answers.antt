@@ -3,7 +3,8 @@ use Rattle.std.specs.Prelude.{◌≡◌, Bool, Some}
 use Rattle.std.proofs.Common.{refl, sym, subst}
 use Rattle.paraid_rack.specs.Disks.{Disks}
 use Rattle.paraid_rack.specs.Trail.{Trail, now}
-use Rattle.paraid_txn.specs.Resume.{StandsWhileResumed, EndsResumed, EndsLaid, log_state}
+use Rattle.paraid_txn.specs.Resume.{StandsWhileResumed, EndsResumed, EndsLaid}
+use Rattle.paraid_image.specs.Sides.{log_state}
 use Rattle.paraid_txn.specs.CommitStages.{IsSpelled, job}
 use Rattle.paraid_txn.proofs.ResumePromiseLemmas.{closed_lays, closed_resumes, closed_settles, open_lays, open_resumes, open_settles}
 use Rattle.paraid_txn.proofs.StoreLemmas.{IsStartReady, start_ready}
