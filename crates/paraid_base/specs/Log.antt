@@ -32,6 +32,10 @@ map_start g = 100
 abbrev pub map_block_place : Geometry → ℕ → ℕ
 map_block_place g j = map_start g + j
 
+-- a plan of writes has at most so many targets
+abbrev pub draft_room : ℕ
+draft_room = 80
+
 -- no log is shorter: below it each disk has log, or nothing that is looked at
 abbrev pub log_least : ℕ
 log_least = 100

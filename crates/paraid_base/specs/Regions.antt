@@ -17,6 +17,10 @@ region_size g a = if slice_index_or g.gears a false then stripe_count g.disks g.
 abbrev pub map_count : Geometry → ℕ
 map_count g = (g.rows + 511) / 512
 
+-- how many blocks the array has: each row has one for each disk but that of its parity
+abbrev pub array_blocks : Geometry → ℕ
+array_blocks g = g.rows * (g.disks - 1)
+
 -- the place of the map block of a row
 abbrev pub map_place_of : Geometry → ℕ → ℕ
 map_place_of g r = map_block_place g (r / 512)

@@ -20,7 +20,11 @@ pub record GrowsByBytes (old new : Option (List ℕ)) (piece : List ℕ) : Type 
 abbrev pub AtEnd : Option (List ℕ) → Type 0
 AtEnd left = IsSome left → told_bytes left ≡ []
 
+-- the greatest number of 64 bits, where a counter stops
+abbrev pub counter_most : ℕ
+counter_most = 18446744073709551615
+
 -- A count of faults has risen: it is greater, or it stands at the end of its type, where it can
 -- rise no more.
 pub record HasRisen (before now : ℕ) : Type 0 where
-  pub risen : (before < now) ⊎ (2 ^ 64 - 1 ≤ now)
+  pub risen : (before < now) ⊎ (counter_most ≤ now)

@@ -1,5 +1,6 @@
 //! The shape of an array: only shapes that an array may have are values.
 ghost use Rattle.std.specs.Prelude.{◌≡◌, ℕ, ◌+◌, ◌-◌, ◌*◌, ◌/◌, ◌%◌, ◌<◌, ◌≤◌, ◌↔◌, length, slice_index_or, true, false, IsTrue};
+ghost use Rattle.paraid_base.specs.Regions.{array_blocks};
 
 use crate::{MAP_START, Place};
 
@@ -96,7 +97,7 @@ impl Geometry {
 
     /// The number of blocks of the array: each row holds one for each disk but its parity disk.
     pub fn blocks(&self) -> u32
-        ensures { result ≡ self.now.rows * (self.now.disks - 1) }
+        ensures { result ≡ array_blocks self.now }
     {
         self.rows * (self.disks as u32 - 1)
     }

@@ -11,6 +11,7 @@ use Rattle.paraid_txn.specs.Stores.{disks_of, epoch_of, named_of, store_rack}
 use Rattle.paraid_core.specs.declared.changes.Change.{Change}
 use Rattle.paraid_core.specs.declared.staged.Core.{Core}
 use Rattle.paraid_core.specs.CoreInvariant.{CanServe, IsHeldWithOneMissing, AreSlotsReady, HoldsBetweenCalls}
+use Rattle.paraid_base.specs.Regions.{array_blocks}
 
 -- the rack that it owns
 abbrev pub core_rack : {R : Type 0} {g : _} → Core R g → R
@@ -50,7 +51,7 @@ copied_of core = core.copied
 
 -- the number of its blocks
 abbrev pub core_block_count : {R : Type 0} {g : _} → Core R g → ℕ
-core_block_count core = core.meta.setup.geometry.rows * (core.meta.setup.geometry.disks - 1)
+core_block_count core = array_blocks core.meta.setup.geometry
 
 -- the disk that is down: by the last commit, or by the meta
 abbrev pub core_down : {R : Type 0} {g : _} → Core R g → Option ℕ

@@ -2,7 +2,7 @@
 ghost use Rattle.std.specs.Prelude.{◌≡◌, ℕ, ◌+◌, ◌*◌, ◌^◌, ◌<◌, ◌≤◌, ◌∷◌, ◌++◌, [], length, Some, All, OnOk, if◌then◌else◌, false};
 ghost use Rattle.paraid_base.specs.declared.block.Block.{Block as BlockType};
 ghost use Rattle.paraid_base.specs.History.{History};
-ghost use Rattle.paraid_base.specs.Log.{batch_room};
+ghost use Rattle.paraid_base.specs.Log.{batch_room, draft_room};
 ghost use Rattle.paraid_base.specs.Pairs.{pairs_of};
 ghost use Rattle.paraid_dirty.specs.Table.{is_dirty};
 ghost use Rattle.paraid_plan.specs.WrittenBits.{bits_after_block, bits_after_writes};
@@ -25,7 +25,7 @@ impl<R: Rack> Core<R> {
 
     // Commits where more is staged than leaves room for so many targets.
     pub(crate) fn make_room(&mut self, targets: u8) -> Result<(), Two>
-        requires few { targets ≤ 80 }
+        requires few { targets ≤ draft_room }
         requires serving { IsCoreInService self.old }
         requires committable { CanBeCommitted self.old }
 

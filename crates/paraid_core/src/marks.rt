@@ -18,6 +18,7 @@ ghost use Rattle.paraid_rack.specs.Told.{CrashTriple, Ran};
 ghost use Rattle.paraid_record.specs.Range.{AreNextGears, allowed_spins, fill_limit};
 ghost use Rattle.paraid_core.specs.Marking.{OnlyMarks};
 ghost use Rattle.paraid_core.specs.Serving.{IsCoreInService};
+ghost use Rattle.paraid_base.specs.Told.{counter_most};
 
 use crate::staged::Core;
 use paraid_base::{DiskNo, Out, Phase};
@@ -144,7 +145,7 @@ impl<R: Rack> Core<R> {
     pub fn count_tick(&mut self)
         requires ready { IsCoreReady R.slot_count R.slot self.old }
         ensures meta { meta_of self.new ≡ record (meta_of self.old)
-            { ticks = min ((meta_of self.old).ticks + 1) 18446744073709551615 } }
+            { ticks = min ((meta_of self.old).ticks + 1) counter_most } }
         ensures marks { OnlyMarks self.old self.new }
         ensures serves { CanCoreServe R.slot self.old → CanCoreServe R.slot self.new }
         ensures stands { StandsStill R.slot_count R.told self.old self.new }

@@ -1,6 +1,7 @@
 -- The energy of the disks of an array, in millijoules
 use Rattle.std.specs.Prelude.{◌≡◌, ℕ, ◌+◌, ◌-◌, ◌*◌, ◌^◌, min}
 use Rattle.paraid_record.specs.declared.meta.Setup.{Setup}
+use Rattle.paraid_base.specs.Told.{counter_most}
 
 -- what a disk uses between two ticks, spinning and parked, what a spin-up uses, and the sum
 pub record Account : Type 0 where
@@ -26,7 +27,7 @@ pub record HasFigures (s : Setup) (account : Account) : Type 0 where
 
 -- the account with so much more used; the sum stays at the greatest number of 64 bits
 abbrev pub with_used : Account → ℕ → Account
-with_used a used = record a { total = min (a.total + used) (2 ^ 64 - 1) }
+with_used a used = record a { total = min (a.total + used) counter_most }
 
 -- the account after a tick
 abbrev pub after_tick : Account → ℕ → ℕ → Account

@@ -14,6 +14,7 @@ use Rattle.paraid_session.specs.Watch.{IsAmongDown, Watch}
 use Rattle.paraid_session.specs.Resting.{watch_at}
 use Rattle.paraid_event.specs.Marks.{ArePoweredByGear, ShowsMeta}
 use Rattle.paraid_event.specs.Service.{IsStateOf, Service}
+use Rattle.paraid_base.specs.Told.{counter_most}
 
 -- what its core stands for: these writes, of which no stop takes away the first `lo`
 abbrev pub ServiceStandsFor : Service → History → ℕ → Disks → Type 0
@@ -49,7 +50,7 @@ pub record StandsAt (told : Option Trail) (k : Service) (setup : Setup) (p : Poi
   pub powered : ArePoweredByGear p.disks.power k.meta
   pub state : IsStateOf k p.state
   pub energy : p.energy ≡ k.energy
-  pub fits : k.energy ≤ 18446744073709551615
+  pub fits : k.energy ≤ counter_most
   pub going : p.halt ≡ None
 
 -- In the middle of an event: it stands, each disk that is absent is named out, one that is named

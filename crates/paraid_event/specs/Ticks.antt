@@ -9,12 +9,13 @@ use Rattle.paraid_machine.specs.Energy.{tick_energy}
 use Rattle.paraid_moves.specs.MoveMetas.{meta_after_begin}
 use Rattle.paraid_session.specs.Turn.{Point}
 use Rattle.paraid_event.specs.Service.{IsStateOf, Service}
+use Rattle.paraid_base.specs.Told.{counter_most}
 
 -- a tick was counted, with a sample of what was served since the last one, and with so much energy
 -- used
 abbrev pub ticked : Service → ℕ → Service
 ticked k used = record k {
-  meta = record k.meta { ticks = min (k.meta.ticks + 1) 18446744073709551615 };
+  meta = record k.meta { ticks = min (k.meta.ticks + 1) counter_most };
   samples = k.samples ++ sample_of k.served ∷ [];
   served = 0;
   energy = used;
@@ -24,7 +25,7 @@ ticked k used = record k {
 pub record CountsTick (k k_then : Service) : Type 0 where
   pub is : k_then ≡ ticked k k_then.energy
   pub energy : (s : PowerState) → IsStateOf k s
-      → k_then.energy ≡ min (k.energy + tick_energy k.meta.setup s) 18446744073709551615
+      → k_then.energy ≡ min (k.energy + tick_energy k.meta.setup s) counter_most
 
 -- A tick is counted and a shift down begins, by one commit with what was staged: the tick is
 -- counted, the shift is marked, and the mark is committed.

@@ -7,6 +7,7 @@ use Rattle.paraid_core.specs.CoreInvariant.{AreCopiesSynced}
 use Rattle.paraid_machine.specs.Energy.{spin_up_energy}
 use Rattle.paraid_machine.specs.Moves.{with_spin_ups}
 use Rattle.paraid_event.specs.Service.{Service}
+use Rattle.paraid_base.specs.Told.{counter_most}
 
 -- the slots, the dirty cells, the samples and the requests are as they were
 pub record IsCountedAs (k k_then : Service) : Type 0 where
@@ -38,7 +39,7 @@ pub record EndsShiftUp (k k_then : Service) (to : ℕ) : Type 0 where
   pub counts : IsCountedAs k k_then
   pub copies_synced : AreCopiesSynced k_then.meta.setup.geometry.disks k_then.copied
   pub energy : k_then.energy
-      ≡ min (k.energy + spin_up_energy k.meta.setup k.meta.gear to) 18446744073709551615
+      ≡ min (k.energy + spin_up_energy k.meta.setup k.meta.gear to) counter_most
 
 -- All of it, by four states of a service after the first one.
 pub record BeginsUp (k committed begun opened k_then : Service) (to : ℕ) : Type 0 where

@@ -21,6 +21,7 @@ ghost use Rattle.paraid_event.specs.Service.{Service};
 ghost use Rattle.paraid_event.specs.Stands.{StandsAt};
 ghost use Rattle.paraid_event.specs.Steps.{LosesInSteps, StepsInEvent};
 ghost use Rattle.paraid_event.specs.Ticks.{IsHaltedWith};
+ghost use Rattle.paraid_base.specs.Told.{counter_most};
 
 /// A shift that is asked for, and that nothing refuses, begins by the parts of its event, whether a
 /// disk is lost in the later ones or not. A second loss in them ends the service.
@@ -31,7 +32,7 @@ pub fn an_asked_shift_begins_in_steps()
         → p.state.out ≡ No → next_higher setup.geometry p.state.gear ≡ Some to
         → AreCopiesSynced k_then.meta.setup.geometry.disks k_then.copied
         → GoesToState k_then (begun_up to p.state)
-        → k_then.energy ≡ min (k.energy + spin_up_energy setup p.state.gear to) 18446744073709551615
+        → k_then.energy ≡ min (k.energy + spin_up_energy setup p.state.gear to) counter_most
         → most ≤ 2 ^ 20
         → Ran told told_then (StepsInEvent k k_then p.history p.low most) → Ran told told_then
         (GoesOn k.slots setup p AskUp (Shift p.state.gear to) (StandsAt told_then k_then setup)) }
@@ -48,7 +49,7 @@ pub fn an_asked_shift_begins_in_steps()
         (k : Service) (setup : SetupType) (p : Point) (to most used : ℕ) (two : TwoType)
         → StandsAt told k setup p → point_wear p < worn_at → p.state.phase ≡ Steady
         → p.state.out ≡ No → next_higher setup.geometry p.state.gear ≡ Some to → (used ≡ k.energy)
-        ⊎ (used ≡ min (k.energy + spin_up_energy setup p.state.gear to) 18446744073709551615)
+        ⊎ (used ≡ min (k.energy + spin_up_energy setup p.state.gear to) counter_most)
         → most ≤ 2 ^ 20
         → Ran told told_then (LosesInSteps k p.history p.low most two) → Ran told told_then
         (GoesOn k.slots setup p AskUp (Halted (HaltTwo two)) (IsHaltedWith p (HaltTwo two) used)) }

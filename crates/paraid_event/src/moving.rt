@@ -24,6 +24,7 @@ ghost use Rattle.paraid_event.specs.Service.{Service};
 ghost use Rattle.paraid_event.specs.Stands.{StandsAt};
 ghost use Rattle.paraid_event.specs.Steps.{LosesInSteps, StepsInEvent};
 ghost use Rattle.paraid_event.specs.Ticks.{CountsTick, IsHaltedWith};
+ghost use Rattle.paraid_base.specs.Told.{counter_most};
 
 /// A tick that moves the units of a shift that it has to, and more are left, is a turn; so is one
 /// in which a disk is lost after some of them, and one with which the shift ends, whether a disk is
@@ -87,7 +88,7 @@ pub fn a_tick_begins_a_shift_up()
         → decision setup p.state.gear (state_with_tick p.state).samples ≡ DecideUp to
         → AreCopiesSynced k_then.meta.setup.geometry.disks k_then.copied
         → StartsShiftUp counted k_then to → k_then.energy
-        ≡ min (counted.energy + spin_up_energy setup p.state.gear to) 18446744073709551615
+        ≡ min (counted.energy + spin_up_energy setup p.state.gear to) counter_most
         → most ≤ 2 ^ 20 → Ran told told_then (StepsInEvent counted k_then p.history p.low most)
         → Ran told told_then (GoesOn k.slots setup p TickEvent
         (Ticked (record { gear = k_then.meta.gear; moved = 0; event = Begun to }))
@@ -97,7 +98,7 @@ pub fn a_tick_begins_a_shift_up()
         → point_wear p < worn_at → CountsTick k counted → p.state.out ≡ No → p.state.phase ≡ Steady
         → decision setup p.state.gear (state_with_tick p.state).samples ≡ DecideUp to
         → (used ≡ counted.energy)
-        ⊎ (used ≡ min (counted.energy + spin_up_energy setup p.state.gear to) 18446744073709551615)
+        ⊎ (used ≡ min (counted.energy + spin_up_energy setup p.state.gear to) counter_most)
         → most ≤ 2 ^ 20 → Ran told told_then (LosesInSteps counted p.history p.low most two)
         → Ran told told_then (GoesOn k.slots setup p TickEvent
         (Halted (HaltTwo two)) (IsHaltedWith p (HaltTwo two) used)) }

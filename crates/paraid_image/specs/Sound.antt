@@ -5,7 +5,7 @@ use Rattle.paraid_base.specs.declared.state.Out.TheVariants.{Fresh}
 use Rattle.paraid_base.specs.declared.state.Phase.TheVariants.{Up}
 use Rattle.paraid_base.specs.History.{History, after}
 use Rattle.paraid_base.specs.Log.{map_block_place}
-use Rattle.paraid_base.specs.Regions.{disk_size, hard_place_of, map_count}
+use Rattle.paraid_base.specs.Regions.{disk_size, hard_place_of, map_count, array_blocks}
 use Rattle.paraid_base.specs.Skips.{skip}
 use Rattle.paraid_base.specs.Soft.{soft_disk, soft_parity_disk, soft_stripe, stripe_count}
 use Rattle.paraid_base.specs.Sums.{xor_upto}
@@ -167,7 +167,7 @@ pub record IsWellKept (slots : ℕ) (power : ℕ → Power) (size : ℕ → ℕ)
 -- the blocks that are stood for are these
 abbrev pub AreBlocks : View → (ℕ → Block) → Type 0
 AreBlocks v held = (b : ℕ)
-    → b < v.meta.setup.geometry.rows * (v.meta.setup.geometry.disks - 1) → blocks_of v b ≡ held b
+    → b < array_blocks v.meta.setup.geometry → blocks_of v b ≡ held b
 
 -- The disks and the blocks past the log are kept well, and stand for what the first `k` writes of
 -- `h` leave.

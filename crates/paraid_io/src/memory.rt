@@ -1,6 +1,6 @@
 //! Sources and a sink in memory: they tell their bytes, and fail only as they are told to.
 ghost use Rattle.std.specs.Prelude.{◌≡◌, ◌≢◌, ◌↔◌, ℕ, ◌+◌, ◌-◌, ◌^◌, ◌<◌, ◌≤◌, ◌⊎◌, List, [], ◌++◌, length, take, drop, min, IfOk, OnOk, OnErr, IsErr, IsSome, Some, Contains, vec_len, vec_capacity};
-ghost use Rattle.paraid_base.specs.Told.{told_bytes, Gives, GrowsByBytes, AtEnd, HasRisen};
+ghost use Rattle.paraid_base.specs.Told.{told_bytes, Gives, GrowsByBytes, AtEnd, HasRisen, counter_most};
 
 use crate::plan::FaultPlan;
 use crate::{Sink, Source};
@@ -110,7 +110,7 @@ impl Source for MemSource {
 
         // A call fails exactly where its number was given.
         ensures named { IsErr result ↔ Contains (fails_in self.old) (calls_in self.old) }
-        ensures calls { calls_in self.new ≡ min (calls_in self.old + 1) (2 ^ 64 - 1) }
+        ensures calls { calls_in self.new ≡ min (calls_in self.old + 1) counter_most }
         ensures fails { fails_in self.new ≡ fails_in self.old }
     {
         self.plan.call()?;
@@ -181,7 +181,7 @@ impl Sink for MemSink {
         // A call fails exactly where its number was given or the sink is full.
         ensures named { IsErr result ↔ (Contains (fails_of self.old) (calls_to self.old)
             ⊎ (capacity_of self.old ≤ length (written_to self.old))) }
-        ensures calls { calls_to self.new ≡ min (calls_to self.old + 1) (2 ^ 64 - 1) }
+        ensures calls { calls_to self.new ≡ min (calls_to self.old + 1) counter_most }
         ensures fails { fails_of self.new ≡ fails_of self.old }
         ensures capacity { capacity_of self.new ≡ capacity_of self.old }
     {

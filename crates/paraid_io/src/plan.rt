@@ -1,6 +1,6 @@
 //! Which calls of a source or a sink in memory fail, by their numbers.
 ghost use Rattle.std.specs.Prelude.{◌≡◌, ◌↔◌, ◌+◌, ◌-◌, ◌^◌, ◌≤◌, IsTrue, IsErr, OnOk, OnErr, Contains, min};
-ghost use Rattle.paraid_base.specs.Told.{HasRisen};
+ghost use Rattle.paraid_base.specs.Told.{HasRisen, counter_most};
 
 use paraid_base::Failed;
 
@@ -29,7 +29,7 @@ impl FaultPlan {
     // Counts a call, which fails where its number was given.
     pub(crate) fn call(&mut self) -> Result<(), Failed>
         ensures named { IsErr result ↔ Contains self.old.fails.items self.old.calls }
-        ensures calls { self.new.calls ≡ min (self.old.calls + 1) (2 ^ 64 - 1) }
+        ensures calls { self.new.calls ≡ min (self.old.calls + 1) counter_most }
         ensures fails { self.new.fails ≡ self.old.fails }
         ensures ok { OnOk result (self.new.faults ≡ self.old.faults) }
         ensures later { self.old.faults ≤ self.new.faults }

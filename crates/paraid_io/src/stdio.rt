@@ -3,7 +3,7 @@
 ghost use Rattle.std.specs.Prelude.{◌≡◌, ◌+◌, ◌-◌, ◌^◌, ◌<◌, ◌≤◌, length, min, IfOk, OnErr, None};
 ghost use Rattle.std.specs.Io.{ReadsAtMost, WritesAtMost};
 ghost use Rattle.std.specs.Io.KnownBytes.{ReadConsumes, WriteAppends};
-ghost use Rattle.paraid_base.specs.Told.{HasRisen};
+ghost use Rattle.paraid_base.specs.Told.{HasRisen, counter_most};
 ghost use Rattle.paraid_io.specs.Streams.{reader_of, read_faults, writer_of, write_faults};
 
 use crate::{Sink, Source};
@@ -47,7 +47,7 @@ impl<R: Read + Drop> Source for StdSource<R> {
         ensures passes { ReadConsumes (R.remaining (reader_of self.old))
             (R.remaining (reader_of self.new)) result into.new }
         ensures once { OnErr result (read_faults self.new
-            ≡ min (read_faults self.old + 1) (2 ^ 64 - 1)) }
+            ≡ min (read_faults self.old + 1) counter_most) }
     {
         if let Ok(n) = read_once(&mut self.reader, into) {
             return Ok(n);
@@ -110,7 +110,7 @@ impl<W: Write + Drop> Sink for StdSink<W> {
         ensures passes { WriteAppends (W.contents (writer_of self.old))
             (W.contents (writer_of self.new)) result bytes.now }
         ensures once { OnErr result (write_faults self.new
-            ≡ min (write_faults self.old + 1) (2 ^ 64 - 1)) }
+            ≡ min (write_faults self.old + 1) counter_most) }
     {
         if let Ok(n) = write_once(&mut self.writer, bytes) {
             if n > 0 {

@@ -1,6 +1,7 @@
 //! The home of each block, and the parity disk of each row: left-asymmetric RAID-5.
 ghost use Rattle.std.specs.Prelude.{◌≡◌, ◌≢◌, ◌+◌, ◌-◌, ◌*◌, ◌/◌, ◌%◌, ◌<◌, IfSome, MatchOption};
 ghost use Rattle.paraid_base.specs.Cells.{parity_disk as parity_disk_of, home_row, home_disk, cell_block};
+ghost use Rattle.paraid_base.specs.Regions.{array_blocks};
 
 use crate::index::{disk_of_index, index_of_disk};
 use paraid_base::{BlockNo, DiskNo, Geometry, Row};
@@ -19,7 +20,7 @@ pub fn parity_disk(g: &Geometry, r: Row) -> DiskNo
 /// The row and the disk of block `b`: the blocks of a row fill its disks in their order, all
 /// but the parity disk.
 pub fn home(g: &Geometry, b: BlockNo) -> (Row, DiskNo)
-    requires { b < g.now.rows * (g.now.disks - 1) }
+    requires { b < array_blocks g.now }
     ensures row { result.0 ≡ home_row g.now.disks b }
     ensures disk { result.1 ≡ home_disk g.now.disks b }
 
@@ -44,7 +45,7 @@ pub fn block_at(g: &Geometry, r: Row, d: DiskNo) -> Option<BlockNo>
         (d ≡ parity_disk_of g.now.disks r)
         (λ b. (d ≢ parity_disk_of g.now.disks r) × (b ≡ cell_block g.now.disks r d)) }
 
-    ensures block_in { IfSome result (λ b. b < g.now.rows * (g.now.disks - 1)) }
+    ensures block_in { IfSome result (λ b. b < array_blocks g.now) }
 
     // `home` leads back to this cell.
     ensures back { IfSome result

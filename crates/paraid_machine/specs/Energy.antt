@@ -9,6 +9,7 @@ use Rattle.paraid_rack.specs.declared.call.Power.{Power}
 use Rattle.paraid_rack.specs.declared.call.Power.TheVariants.{Spinning, Parked, Absent}
 use Rattle.paraid_record.specs.declared.meta.Setup.{Setup}
 use Rattle.paraid_image.specs.Power.{PowerState, power_of}
+use Rattle.paraid_base.specs.Told.{counter_most}
 
 -- what a disk uses between two ticks
 abbrev pub energy_at : Setup → Option Power → ℕ
@@ -38,4 +39,4 @@ energy_of setup s answer = 0
 
 -- the sum after it, which stays at the greatest number of 64 bits
 abbrev pub energy_after : Setup → ℕ → PowerState → Answer → ℕ
-energy_after setup used s answer = min (used + energy_of setup s answer) 18446744073709551615
+energy_after setup used s answer = min (used + energy_of setup s answer) counter_most

@@ -26,6 +26,7 @@ use Rattle.paraid_base.specs.Gears.{next_higher, next_lower}
 use Rattle.paraid_record.specs.declared.meta.Setup.{Setup}
 use Rattle.paraid_image.specs.Power.{PowerState}
 use Rattle.paraid_machine.specs.Moves.{all_written, begun_down, begun_up, block_read, with_one_served, first_used_up, after_flip, after_loss, after_units, units_left, units_of_tick, units_to_rebuild, state_with_tick, without_spin_ups}
+use Rattle.paraid_base.specs.Regions.{array_blocks}
 
 -- answers, each with the state after it
 abbrev pub Outcomes : Type 0
@@ -53,7 +54,7 @@ around (Some d) s f = if_alone s.out d (around_loss d s f)
 
 -- how many blocks an array of a setup has
 abbrev pub block_count : Setup → ℕ
-block_count setup = setup.geometry.rows * (setup.geometry.disks - 1)
+block_count setup = array_blocks setup.geometry
 
 -- the blocks that a write names, in its order
 abbrev pub blocks_named : Entry → List ℕ

@@ -19,6 +19,7 @@ use Rattle.paraid_image.specs.Out.{is_out, named_out}
 use Rattle.paraid_image.specs.Power.{PowerState, phase_beside}
 use Rattle.paraid_image.specs.Spot.{rising_to}
 use Rattle.paraid_record.specs.Modes.{is_access}
+use Rattle.paraid_base.specs.Told.{counter_most}
 
 -- disk `d` is lost: it is out, there is no shift down, and nothing is filled
 abbrev pub after_loss : PowerState → ℕ → PowerState
@@ -129,7 +130,7 @@ with_one_served s = record s { served = s.served + 1 }
 -- a tick counts itself, and makes a sample of what was served since the last one
 abbrev pub state_with_tick : PowerState → PowerState
 state_with_tick s = record s {
-  ticks = min (s.ticks + 1) 18446744073709551615;
+  ticks = min (s.ticks + 1) counter_most;
   samples = s.samples ++ sample_of s.served ∷ [];
   served = 0;
 }

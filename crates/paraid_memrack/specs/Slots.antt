@@ -6,6 +6,7 @@ use Rattle.paraid_rack.specs.declared.call.Power.TheVariants.{Absent}
 use Rattle.paraid_rack.specs.Slots.{Slot}
 use Rattle.paraid_rack.specs.Trail.{Beginning}
 use Rattle.paraid_memrack.specs.declared.slot.MemSlot.{MemSlot}
+use Rattle.paraid_base.specs.Told.{counter_most}
 
 -- a slot with its blocks
 pub record FullSlot : Type 0 where
@@ -42,7 +43,7 @@ after_failure dirt v = record {
   power = Absent;
   blocks = [];
   unsynced = dirt;
-  faults = min (v.faults + 1) 18446744073709551615;
+  faults = min (v.faults + 1) counter_most;
 }
 
 -- a slot as it is at the start

@@ -5,6 +5,7 @@ ghost use Rattle.paraid_base.specs.Pairs.{pairs_of};
 ghost use Rattle.paraid_base.specs.Xor.{zero_block};
 ghost use Rattle.paraid_image.specs.Content.{blocks_of};
 ghost use Rattle.paraid_plain.specs.Views.{view_at};
+ghost use Rattle.paraid_base.specs.Regions.{array_blocks};
 
 use crate::image::Image;
 use crate::same::is_same_block;
@@ -19,7 +20,7 @@ pub(crate) fn are_blocks_held(
     writes: u64,
 ) -> bool
     ensures { IsTrue result ↔ ((b : ℕ)
-        → b < says.now.meta.setup.geometry.rows * (says.now.meta.setup.geometry.disks - 1)
+        → b < array_blocks says.now.meta.setup.geometry
         → blocks_of (view_at image.now says.now) b ≡ after (map pairs_of history.now) writes b) }
 {
     for block in 0..says.meta.setup.geometry.blocks() {

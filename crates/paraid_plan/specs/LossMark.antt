@@ -9,6 +9,7 @@ use Rattle.paraid_image.specs.Content.{blocks_of, view_by}
 use Rattle.paraid_image.specs.Out.{named_out, out_disk}
 use Rattle.paraid_image.specs.Standing.{Contents}
 use Rattle.paraid_image.specs.Mark.{meta_after_loss}
+use Rattle.paraid_base.specs.Regions.{array_blocks}
 
 -- Disk `d` is lost, whatever is left of it, and no other disk was out.
 pub record IsLostDisk (m : Meta) (power power_now : ℕ → Power)
@@ -27,5 +28,5 @@ LostKeeps = (slots : ℕ)
     → out_disk power m ≡ named_out m.out → IsWellKept slots power size (view_by m power block)
     → IsLostDisk m power power_now size size_now block block_now d
     → IsWellKept slots power_now size_now (view_by (meta_after_loss m d) power_now block_now)
-    × ((b : ℕ) → b < m.setup.geometry.rows * (m.setup.geometry.disks - 1) → blocks_of
+    × ((b : ℕ) → b < array_blocks m.setup.geometry → blocks_of
     (view_by (meta_after_loss m d) power_now block_now) b ≡ blocks_of (view_by m power block) b)

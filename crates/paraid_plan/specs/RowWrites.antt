@@ -16,6 +16,7 @@ use Rattle.paraid_record.specs.declared.meta.Meta.{Meta}
 use Rattle.paraid_image.specs.Content.{blocks_of}
 use Rattle.paraid_image.specs.Out.{named_out}
 use Rattle.paraid_image.specs.Sides.{Batch}
+use Rattle.paraid_base.specs.Regions.{array_blocks}
 
 -- whether one of the pairs names block `b`
 unfoldable pub names_block : Entry → ℕ → Bool
@@ -127,7 +128,7 @@ pub record StagesBlocks (m : Meta) (before after : Desk) (change : ℕ → Block
   pub kept : (slots : ℕ) (power : ℕ → Power) (size : ℕ → ℕ)
       → IsKeptDesk slots power size m before → IsKeptDesk slots power size m after
   pub blocks : (slots : ℕ) (power : ℕ → Power) (size : ℕ → ℕ) → IsKeptDesk slots power size m before
-      → (c : ℕ) → c < m.setup.geometry.rows * (m.setup.geometry.disks - 1)
+      → (c : ℕ) → c < array_blocks m.setup.geometry
       → blocks_of (sees m after) c ≡ change c (blocks_of (sees m before) c)
 
 -- Each block that the pairs name has the bytes of the last one that does, and each other block what

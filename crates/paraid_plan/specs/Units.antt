@@ -14,11 +14,12 @@ use Rattle.paraid_image.specs.Sides.{Batch}
 use Rattle.paraid_image.specs.Spot.{View, rising_to}
 use Rattle.paraid_image.specs.Standing.{Contents}
 use Rattle.paraid_image.specs.Value.{value}
+use Rattle.paraid_base.specs.Regions.{array_blocks}
 
 -- The disks are kept well, and hold the blocks that they held.
 pub record IsSameHeld (slots : ℕ) (power : ℕ → Power) (size : ℕ → ℕ) (v w : View) : Type 0 where
   pub kept : IsWellKept slots power size w
-  pub blocks : (b : ℕ) → b < v.meta.setup.geometry.rows * (v.meta.setup.geometry.disks - 1)
+  pub blocks : (b : ℕ) → b < array_blocks v.meta.setup.geometry
       → blocks_of w b ≡ blocks_of v b
 
 -- a dirty cell goes back to its hard place, and its bit is cleared

@@ -14,6 +14,7 @@ ghost use Rattle.paraid_record.specs.declared.meta.Meta.{Meta as MetaType};
 ghost use Rattle.paraid_image.specs.Out.{named_out as named_out_of};
 ghost use Rattle.paraid_image.specs.Spot.{is_hard as hard_in};
 ghost use Rattle.paraid_image.specs.Value.{value as value_of};
+ghost use Rattle.paraid_base.specs.Log.{draft_room};
 
 use crate::desk::{Lost, WritePlan};
 use crate::marks::{is_filled, is_written};
@@ -217,7 +218,7 @@ pub(crate) fn stage_if<P: WritePlan>(
     place: Place,
     block: &Block,
 )
-    requires room { length (P.desk plan.old).staged < 80 }
+    requires room { length (P.desk plan.old).staged < draft_room }
     ensures desk { P.desk plan.new
         ≡ with_targets (P.desk plan.old) (target_if written disk place block.now) }
     ensures room { length (P.desk plan.new).staged ≤ length (P.desk plan.old).staged + 1 }
@@ -244,7 +245,7 @@ fn stage_place<P: WritePlan>(
     requires row { r < m.now.setup.geometry.rows }
     requires disk { d < m.now.setup.geometry.disks }
     requires parked { hard ≡ false → m.now.gear ≤ d }
-    requires room { length (P.desk plan.old).staged + 2 ≤ 80 }
+    requires room { length (P.desk plan.old).staged + 2 ≤ draft_room }
     ensures desk { P.desk plan.new
         ≡ with_targets (P.desk plan.old) (place_targets m.now hard r d new.now parity_block.now) }
     ensures room { length (P.desk plan.new).staged ≤ length (P.desk plan.old).staged + 2 }
@@ -284,7 +285,7 @@ fn stage_copy<P: WritePlan>(
     requires row { r < m.now.setup.geometry.rows }
     requires disk { d < m.now.setup.geometry.disks }
     requires filled { filled ≡ filled_in m.now r d }
-    requires room { length (P.desk plan.old).staged + 2 ≤ 80 }
+    requires room { length (P.desk plan.old).staged + 2 ≤ draft_room }
     ensures desk { P.desk plan.new
         ≡ with_targets (P.desk plan.old) (copy_targets m.now filled r d new.now parity_block.now) }
     ensures room { length (P.desk plan.new).staged ≤ length (P.desk plan.old).staged + 2 }
@@ -323,7 +324,7 @@ fn write_copies<P: WritePlan>(
     requires disk { d < m.now.setup.geometry.disks }
     requires hard { hard ≡ goes_hard_in (sees m.now (P.desk plan.old)) r d }
     requires filled { filled ≡ filled_in m.now r d }
-    requires room { length (P.desk plan.old).staged + 4 ≤ 80 }
+    requires room { length (P.desk plan.old).staged + 4 ≤ draft_room }
     requires few { P.changes plan.old < 16 }
     ensures desk { OnOk result (P.tells plan.new
         → P.desk plan.new ≡ cell_desk m.now (P.desk plan.old) r d old.now new.now) }
@@ -360,7 +361,7 @@ pub fn write_cell<P: WritePlan>(
     requires in_range { IsInRange m.now }
     requires row { r < m.now.setup.geometry.rows }
     requires disk { d < m.now.setup.geometry.disks }
-    requires room { length (P.desk plan.old).staged + 4 ≤ 80 }
+    requires room { length (P.desk plan.old).staged + 4 ≤ draft_room }
     requires few { P.changes plan.old < 16 }
     ensures desk { OnOk result (P.tells plan.new
         → P.desk plan.new ≡ cell_desk m.now (P.desk plan.old) r d old.now new.now) }

@@ -1,6 +1,6 @@
 //! What a plan reads and stages.
 ghost use Rattle.std.specs.Prelude.{◌≡◌, ◌≢◌, ℕ, ◌+◌, ◌<◌, ◌≤◌, ◌⊎◌, true, length, OnOk, IfErr, Some};
-ghost use Rattle.paraid_base.specs.Log.{log_least};
+ghost use Rattle.paraid_base.specs.Log.{log_least, draft_room};
 ghost use Rattle.paraid_base.specs.Regions.{map_count, disk_size};
 ghost use Rattle.paraid_plan.specs.Desk.{Desk, with_targets, desk_with_bit, sees};
 ghost use Rattle.paraid_plan.specs.WriteTargets.{soft_count, stripe_block_now, target_if};
@@ -114,7 +114,7 @@ pub trait WritePlan {
 
     /// Stages a block.
     fn stage(&mut self, disk: DiskNo, place: Place, block: &Block)
-        requires room { length (desk self.old).staged < 80 }
+        requires room { length (desk self.old).staged < draft_room }
         ensures desk { desk self.new
             ≡ with_targets (desk self.old) (target_if true disk place block.now) }
         ensures changes { changes self.new ≡ changes self.old }

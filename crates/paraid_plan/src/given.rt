@@ -6,6 +6,7 @@ ghost use Rattle.paraid_base.specs.History.{Entry, last_of};
 ghost use Rattle.paraid_base.specs.Pairs.{pairs_of};
 ghost use Rattle.paraid_base.specs.Xor.{xor, zero_block};
 ghost use Rattle.paraid_plan.specs.RowWrites.{AreGivenBy, is_changed as changed_in, is_given, names_row, pairs_before};
+ghost use Rattle.paraid_base.specs.Regions.{array_blocks};
 
 use crate::blocks::block_of;
 use paraid_base::{Block, DiskNo, Geometry, Pairs, Row};
@@ -24,7 +25,7 @@ fn set_given(given: &mut [Option<u8>; 8], d: DiskNo, at: u8)
 // Takes one pair more, where its block lies in the row.
 fn give(g: &Geometry, pairs: &Pairs, at: u8, r: Row, given: &mut [Option<u8>; 8])
     requires at { at < pairs.now.count }
-    requires block { get_or pairs.now.blocks at 0 < g.now.rows * (g.now.disks - 1) }
+    requires block { get_or pairs.now.blocks at 0 < array_blocks g.now }
     requires before { AreGivenBy pairs.now.bytes g.now.disks
         (pairs_before pairs.now at) r given.old }
     ensures { AreGivenBy pairs.now.bytes g.now.disks (pairs_before pairs.now (at + 1)) r given.new }
@@ -39,7 +40,7 @@ fn give(g: &Geometry, pairs: &Pairs, at: u8, r: Row, given: &mut [Option<u8>; 8]
 /// The last pair that gives each cell of a row new bytes; none gives any to the row's parity.
 pub(crate) fn given_cells(g: &Geometry, pairs: &Pairs, r: Row) -> [Option<u8>; 8]
     requires blocks { All (λ (pair : ℕ × BlockType).
-        pair.0 < g.now.rows * (g.now.disks - 1)) (pairs_of pairs.now) }
+        pair.0 < array_blocks g.now) (pairs_of pairs.now) }
     ensures { AreGivenBy pairs.now.bytes g.now.disks (pairs_of pairs.now) r result }
 {
     let mut given = [None; 8];
@@ -90,7 +91,7 @@ fn either(first: bool, second: bool) -> bool
 pub(crate) fn is_row_before(g: &Geometry, pairs: &Pairs, at: usize, r: Row) -> bool
     requires at { at < pairs.now.count }
     requires blocks { All (λ (pair : ℕ × BlockType).
-        pair.0 < g.now.rows * (g.now.disks - 1)) (pairs_of pairs.now) }
+        pair.0 < array_blocks g.now) (pairs_of pairs.now) }
     ensures { result ≡ names_row g.now.disks (pairs_before pairs.now at) r }
 {
     let mut found = false;

@@ -14,6 +14,8 @@ ghost use Rattle.paraid_plan.specs.RowBits.{turns_cell_of, turns_in_new_row};
 ghost use Rattle.paraid_plan.specs.WrittenBits.{bits_after_writes};
 ghost use Rattle.paraid_record.specs.Range.{IsInRange};
 ghost use Rattle.paraid_record.specs.declared.meta.Meta.{Meta as MetaType};
+ghost use Rattle.paraid_base.specs.Regions.{array_blocks};
+ghost use Rattle.paraid_base.specs.Log.{draft_room};
 
 use crate::blocks::{block_of, keep_if, kept_or, none_kept};
 use crate::cell::{has_soft, needs_old, stage_if, write_cell};
@@ -29,7 +31,7 @@ use paraid_record::Meta;
 fn stage_map<P: WritePlan>(plan: &mut P, m: &Meta, r: Row, staged: bool)
     requires in_range { IsInRange m.now }
     requires row { r < m.now.setup.geometry.rows }
-    requires room { length (P.desk plan.old).staged + 2 ≤ 80 }
+    requires room { length (P.desk plan.old).staged + 2 ≤ draft_room }
     ensures map { StagesMap m.now (P.desk plan.old) (P.desk plan.new) (r / 512) staged }
     ensures room { length (P.desk plan.new).staged ≤ length (P.desk plan.old).staged + 2 }
     ensures changes { P.changes plan.new ≡ P.changes plan.old }
@@ -79,9 +81,9 @@ fn write_pair<P: WritePlan>(
     requires at { at < pairs.now.count }
     requires kept { HasRoom m.now old.old }
     requires block { get_or pairs.now.blocks at 0
-        < m.now.setup.geometry.rows * (m.now.setup.geometry.disks - 1) }
+        < array_blocks m.now.setup.geometry }
     requires room { length (P.desk plan.old).staged
-        + 4 * one_in_row m.now.setup.geometry.disks (get_or pairs.now.blocks at 0) r ≤ 80 }
+        + 4 * one_in_row m.now.setup.geometry.disks (get_or pairs.now.blocks at 0) r ≤ draft_room }
     requires bits { P.changes plan.old
         + one_in_row m.now.setup.geometry.disks (get_or pairs.now.blocks at 0) r ≤ 16 }
     ensures { Leaves P.WritePlan (WritesCells P.WritePlan m.now (pairs_of pairs.now)
@@ -113,9 +115,9 @@ fn write_pairs<P: WritePlan>(
     requires row { r < m.now.setup.geometry.rows }
     requires kept { HasRoom m.now old.old }
     requires blocks { All (λ (pair : ℕ × BlockType). pair.0
-        < m.now.setup.geometry.rows * (m.now.setup.geometry.disks - 1)) (pairs_of pairs.now) }
+        < array_blocks m.now.setup.geometry) (pairs_of pairs.now) }
     requires room { length (P.desk plan.old).staged
-        + 4 * count_in_row m.now.setup.geometry.disks (pairs_of pairs.now) r ≤ 80 }
+        + 4 * count_in_row m.now.setup.geometry.disks (pairs_of pairs.now) r ≤ draft_room }
     requires bits { P.changes plan.old
         + count_in_row m.now.setup.geometry.disks (pairs_of pairs.now) r ≤ 16 }
     ensures { Leaves P.WritePlan (WritesCells P.WritePlan m.now (pairs_of pairs.now)
@@ -141,11 +143,11 @@ fn write_row_in<P: WritePlan>(
     requires in_range { IsInRange m.now }
     requires row { r < m.now.setup.geometry.rows }
     requires blocks { All (λ (pair : ℕ × BlockType). pair.0
-        < m.now.setup.geometry.rows * (m.now.setup.geometry.disks - 1)) (pairs_of pairs.now) }
+        < array_blocks m.now.setup.geometry) (pairs_of pairs.now) }
     requires kept { HasRoom m.now old.old }
     requires some { 1 ≤ count_in_row m.now.setup.geometry.disks (pairs_of pairs.now) r }
     requires room { length (P.desk plan.old).staged
-        + 10 * count_in_row m.now.setup.geometry.disks (pairs_of pairs.now) r ≤ 80 }
+        + 10 * count_in_row m.now.setup.geometry.disks (pairs_of pairs.now) r ≤ draft_room }
     requires bits { P.changes plan.old
         + 2 * count_in_row m.now.setup.geometry.disks (pairs_of pairs.now) r ≤ 16 }
     ensures { Leaves P.WritePlan (WritesRow P.WritePlan m.now
@@ -172,10 +174,10 @@ fn write_row<P: WritePlan>(plan: &mut P, m: &Meta, pairs: &Pairs, r: Row) -> Res
     requires in_range { IsInRange m.now }
     requires row { r < m.now.setup.geometry.rows }
     requires blocks { All (λ (pair : ℕ × BlockType). pair.0
-        < m.now.setup.geometry.rows * (m.now.setup.geometry.disks - 1)) (pairs_of pairs.now) }
+        < array_blocks m.now.setup.geometry) (pairs_of pairs.now) }
     requires some { 1 ≤ count_in_row m.now.setup.geometry.disks (pairs_of pairs.now) r }
     requires room { length (P.desk plan.old).staged
-        + 10 * count_in_row m.now.setup.geometry.disks (pairs_of pairs.now) r ≤ 80 }
+        + 10 * count_in_row m.now.setup.geometry.disks (pairs_of pairs.now) r ≤ draft_room }
     requires bits { P.changes plan.old
         + 2 * count_in_row m.now.setup.geometry.disks (pairs_of pairs.now) r ≤ 16 }
     ensures { Leaves P.WritePlan (WritesRow P.WritePlan m.now
@@ -196,9 +198,9 @@ fn write_row_of<P: WritePlan>(plan: &mut P, m: &Meta, pairs: &Pairs, at: usize) 
     requires in_range { IsInRange m.now }
     requires at { at < pairs.now.count }
     requires blocks { All (λ (pair : ℕ × BlockType). pair.0
-        < m.now.setup.geometry.rows * (m.now.setup.geometry.disks - 1)) (pairs_of pairs.now) }
+        < array_blocks m.now.setup.geometry) (pairs_of pairs.now) }
     requires room { length (P.desk plan.old).staged
-        + 10 * count_of_new_row m.now.setup.geometry.disks pairs.now at ≤ 80 }
+        + 10 * count_of_new_row m.now.setup.geometry.disks pairs.now at ≤ draft_room }
     requires bits { P.changes plan.old
         + 2 * count_of_new_row m.now.setup.geometry.disks pairs.now at ≤ 16 }
     ensures { Leaves P.WritePlan
@@ -219,8 +221,8 @@ pub fn write_blocks<P: WritePlan>(plan: &mut P, m: &Meta, pairs: &Pairs) -> Resu
     requires serves { P.serves plan.old m.now }
     requires in_range { IsInRange m.now }
     requires blocks { All (λ (pair : ℕ × BlockType). pair.0
-        < m.now.setup.geometry.rows * (m.now.setup.geometry.disks - 1)) (pairs_of pairs.now) }
-    requires room { length (P.desk plan.old).staged + 10 * pairs.now.count ≤ 80 }
+        < array_blocks m.now.setup.geometry) (pairs_of pairs.now) }
+    requires room { length (P.desk plan.old).staged + 10 * pairs.now.count ≤ draft_room }
     requires bits { P.changes plan.old + 2 * pairs.now.count ≤ 16 }
     ensures writes { OnOk result (P.tells plan.new
         → StageAll m.now (P.desk plan.old) (P.desk plan.new) (pairs_of pairs.now)) }

@@ -11,6 +11,7 @@ use Rattle.paraid_record.specs.declared.meta.Setup.{Setup}
 use Rattle.paraid_program.specs.declared.refusal.Refusal.{Refusal}
 use Rattle.paraid_program.specs.declared.refusal.Refusal.TheVariants.{Source, Config, Format}
 use Rattle.paraid_serve.specs.Statuses.{status_already_formatted, status_config, status_disk, status_no_memory, status_source}
+use Rattle.paraid_base.specs.Regions.{array_blocks}
 
 -- no array has this geometry
 abbrev pub geometry_line : GeoFault → List ℕ
@@ -54,4 +55,4 @@ refusal_status (Format (Disk disk)) = status_disk
 -- the number of blocks of a new array
 abbrev pub formatted_line : Setup → List ℕ
 formatted_line setup =
-    codes "formatted " ++ decimal (setup.geometry.rows * (setup.geometry.disks - 1)) ++ codes "\n"
+    codes "formatted " ++ decimal (array_blocks setup.geometry) ++ codes "\n"

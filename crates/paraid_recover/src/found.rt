@@ -10,7 +10,7 @@ ghost use Rattle.paraid_recover.specs.Found.{IsEpochOf, IsGreatestOf, IsMetaOf, 
 ghost use Rattle.paraid_recover.specs.HeardSides.{HasReadLog};
 
 use crate::reads::{opens, read_place};
-use paraid_base::{Block, DiskNo, FIRST_LIST, Failed};
+use paraid_base::{BATCH_META, Block, DiskNo, FIRST_LIST, Failed, GATE, META};
 use paraid_rack::{Power, Rack};
 use paraid_record::{Meta, read_meta, read_targets};
 
@@ -25,7 +25,7 @@ fn hear_closed<R: Rack>(rack: &mut R, disk: DiskNo) -> Result<Option<Meta>, Fail
         → IsMetaOf (now t) disk meta) }
 {
     let mut block = Block::zero();
-    read_place(rack, disk, 1, &mut block)?;
+    read_place(rack, disk, META, &mut block)?;
     Ok(read_meta(&block))
 }
 
@@ -41,7 +41,7 @@ fn hear_open<R: Rack>(rack: &mut R, disk: DiskNo) -> Result<Option<Meta>, Failed
 {
     let mut block = Block::zero();
     let mut list = Block::zero();
-    read_place(rack, disk, 2, &mut block)?;
+    read_place(rack, disk, BATCH_META, &mut block)?;
     read_place(rack, disk, FIRST_LIST, &mut list)?;
     let Some(meta) = read_meta(&block) else {
         return Ok(None);
@@ -61,7 +61,7 @@ fn hear<R: Rack>(rack: &mut R, disk: DiskNo) -> Result<Option<Meta>, Failed>
         → IsMetaOf (now t) disk meta) }
 {
     let mut gate = Block::zero();
-    read_place(rack, disk, 0, &mut gate)?;
+    read_place(rack, disk, GATE, &mut gate)?;
     if opens(&gate) {
         return hear_open(rack, disk);
     }

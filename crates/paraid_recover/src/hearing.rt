@@ -9,7 +9,7 @@ ghost use Rattle.paraid_recover.specs.HeardSides.{HasReadLog, IsHeard, IsInForm}
 ghost use Rattle.paraid_image.specs.Sides.{AreBlocksLogged, is_open, stored_block, targets};
 
 use crate::reads::{opens, read_place};
-use paraid_base::{Block, DiskNo, FIRST_BODY, FIRST_LIST, Failed};
+use paraid_base::{BATCH_META, Block, DiskNo, FIRST_BODY, FIRST_LIST, Failed, GATE, META};
 use paraid_rack::Rack;
 use paraid_record::{Meta, Target, Targets, read_meta, read_targets};
 use paraid_txn::Batch;
@@ -44,7 +44,7 @@ fn hear_closed<R: Rack>(rack: &mut R, disk: DiskNo) -> Result<Heard, Failed>
     ensures form { IfOk result (λ heard. IsInForm (Some heard) []) }
 {
     let mut block = Block::zero();
-    read_place(rack, disk, 1, &mut block)?;
+    read_place(rack, disk, META, &mut block)?;
     if let Some(meta) = read_meta(&block) {
         return Ok(Heard::Formed {
             gate_open: false,
@@ -109,7 +109,7 @@ fn hear_open<R: Rack>(rack: &mut R, disk: DiskNo, batch: &mut Batch) -> Result<H
 {
     let mut block = Block::zero();
     let mut list = Block::zero();
-    read_place(rack, disk, 2, &mut block)?;
+    read_place(rack, disk, BATCH_META, &mut block)?;
     read_place(rack, disk, FIRST_LIST, &mut list)?;
     let Some(meta) = read_meta(&block) else {
         return Ok(Heard::Bad { gate_open: true });
@@ -136,7 +136,7 @@ pub fn hear<R: Rack>(rack: &mut R, disk: DiskNo, batch: &mut Batch) -> Result<He
     ensures form { IfOk result (λ heard. IsInForm (Some heard) batch.new) }
 {
     let mut gate = Block::zero();
-    read_place(rack, disk, 0, &mut gate)?;
+    read_place(rack, disk, GATE, &mut gate)?;
     if opens(&gate) {
         return hear_open(rack, disk, batch);
     }

@@ -7,7 +7,7 @@ ghost use Rattle.paraid_recover.specs.Attached.{IsMetaWritten};
 ghost use Rattle.paraid_recover.specs.Calls.{AreMetaCalls};
 ghost use Rattle.paraid_recover.specs.Between.{RanBetween};
 
-use paraid_base::{Block, DiskNo, Failed};
+use paraid_base::{Block, DiskNo, Failed, META};
 use paraid_rack::Rack;
 
 /// Writes a meta on a log disk, and syncs it.
@@ -26,7 +26,7 @@ pub fn write_log<R: Rack>(rack: &mut R, disk: DiskNo, meta: &Block) -> Result<()
     ensures risen { IfErr result (λ failed. HasRisen (R.slot rack.old disk).faults
         (R.slot rack.new disk).faults) }
 {
-    rack.write(disk, 1, meta)?;
+    rack.write(disk, META, meta)?;
     rack.sync(disk)?;
     Ok(())
 }

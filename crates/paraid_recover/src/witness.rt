@@ -10,7 +10,7 @@ ghost use Rattle.paraid_txn.specs.Losses.{CanWrite};
 ghost use Rattle.paraid_txn.specs.Stores.{store_rack};
 
 use crate::reads::{opens, read_place};
-use paraid_base::{Block, DiskNo, Two};
+use paraid_base::{Block, DiskNo, Two, WITNESS_DISK};
 use paraid_rack::{Power, Rack};
 use paraid_record::Meta;
 use paraid_txn::{Lost, Store};
@@ -27,14 +27,14 @@ pub fn heed<R: Rack>(rack: &mut R, side: DiskNo) -> Result<(), Two>
     if rack.power(other) != Power::Absent {
         return Ok(());
     }
-    if rack.power(2) != Power::Spinning {
+    if rack.power(WITNESS_DISK) != Power::Spinning {
         return Ok(());
     }
     let mut found = Block::zero();
-    let Ok(()) = read_place(rack, 2, u32::from(side), &mut found) else {
+    let Ok(()) = read_place(rack, WITNESS_DISK, u32::from(side), &mut found) else {
         return Err(Two {
             first: other,
-            second: 2,
+            second: WITNESS_DISK,
         });
     };
     if opens(&found) {
@@ -64,8 +64,8 @@ fn open_place<R: Rack>(store: &mut Store<R>, disk: DiskNo) -> Result<(), Lost>
     ensures { HasBorne R.Rack (Some disk) store.old store.new (is_ok result) }
 {
     let opened = borne();
-    match store.write_free(2, u32::from(disk), &opened) {
-        Ok(()) => store.sync(2),
+    match store.write_free(WITNESS_DISK, u32::from(disk), &opened) {
+        Ok(()) => store.sync(WITNESS_DISK),
         Err(lost) => Err(lost),
     }
 }
@@ -81,10 +81,10 @@ fn bear_there<R: Rack>(store: &mut Store<R>, disk: DiskNo) -> Result<(), Two>
 {
     let two = Two {
         first: disk,
-        second: 2,
+        second: WITNESS_DISK,
     };
     let mut stored = Block::zero();
-    let Ok(()) = store.read(2, u32::from(disk), &mut stored) else {
+    let Ok(()) = store.read(WITNESS_DISK, u32::from(disk), &mut stored) else {
         return Err(two);
     };
     if opens(&stored) {
@@ -104,7 +104,7 @@ fn bear<R: Rack>(store: &mut Store<R>, disk: DiskNo) -> Result<(), Two>
     ensures borne { HasBorne R.Rack (Some disk) store.old store.new (is_ok result) }
     ensures two { IfErr result (λ two. two ≡ record { first = disk; second = 2 }) }
 {
-    match store.power(2) {
+    match store.power(WITNESS_DISK) {
         Power::Absent => Ok(()),
         _ => bear_there(store, disk),
     }

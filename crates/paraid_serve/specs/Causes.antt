@@ -19,7 +19,7 @@ use Rattle.paraid_base.specs.declared.state.TickEvent.TheVariants.{Steady, Waiti
 use Rattle.paraid_base.specs.Gears.{next_higher, next_lower}
 use Rattle.paraid_base.specs.Log.{worn_at}
 use Rattle.paraid_base.specs.Pairs.{pairs_of}
-use Rattle.paraid_base.specs.Told.{HasRisen}
+use Rattle.paraid_base.specs.Told.{HasRisen, counter_most}
 use Rattle.paraid_gear.specs.declared.decision.Decision.{Decision}
 use Rattle.paraid_gear.specs.declared.decision.Decision.TheVariants.{Down as DecideDown, Stay, Up as DecideUp}
 use Rattle.paraid_gear.specs.Decision.{decision}
@@ -126,7 +126,7 @@ pub record Takes (x : Shown) (event : Event) : Type 0 where
 
 -- no energy was used; a sum is one of 64 bits
 abbrev pub KeepsEnergy : Shown → Shown → Type 0
-KeepsEnergy old new = old.energy ≤ 18446744073709551615 → new.energy ≡ old.energy
+KeepsEnergy old new = old.energy ≤ counter_most → new.energy ≡ old.energy
 
 -- nothing has changed but the halt
 pub record IsUnchanged (old new : Shown) : Type 0 where
@@ -137,8 +137,8 @@ pub record IsUnchanged (old new : Shown) : Type 0 where
 
 -- a tick used its own energy, and no other event used any
 abbrev pub UsesOwn : Event → Shown → Shown → Type 0
-UsesOwn event old new = old.energy ≤ 18446744073709551615 → new.energy
-    ≡ min (old.energy + own_energy old.setup (state_shown old) event) 18446744073709551615
+UsesOwn event old new = old.energy ≤ counter_most → new.energy
+    ≡ min (old.energy + own_energy old.setup (state_shown old) event) counter_most
 
 -- disk `d` has failed in the event
 abbrev pub HasFailed : Shown → Shown → ℕ → Type 0
@@ -307,7 +307,7 @@ longest (span ∷ spans) = max span (longest spans)
 -- window keeps the last ones.
 abbrev pub shown_ticked : Shown → Shown
 shown_ticked x = record x {
-  meta = record x.meta { ticks = min (x.meta.ticks + 1) 18446744073709551615 };
+  meta = record x.meta { ticks = min (x.meta.ticks + 1) counter_most };
   samples = keep_last (longest x.setup.windows) (x.samples ++ x.served ∷ []);
   served = 0;
 }

@@ -4,6 +4,7 @@ use Rattle.paraid_record.specs.declared.meta.Setup.{Setup}
 use Rattle.paraid_image.specs.Out.{named_out}
 use Rattle.paraid_session.specs.Turn.{IsMark, Point, bounds_at}
 use Rattle.paraid_session.specs.Watch.{HoldsWhileServing, Watch, down_from_out}
+use Rattle.paraid_base.specs.Told.{counter_most}
 
 -- the watch between two events
 abbrev pub watch_at : Point → Watch
@@ -18,4 +19,4 @@ watch_at p = record {
 pub record IsResting (slots : ℕ) (setup : Setup) (p : Point) : Type 0 where
   pub mark : IsMark slots setup p
   pub kept : HoldsWhileServing slots p.history p.low (bounds_at setup p p.state) (watch_at p)
-  pub energy : p.energy ≤ 18446744073709551615
+  pub energy : p.energy ≤ counter_most

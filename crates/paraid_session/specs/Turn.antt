@@ -31,6 +31,7 @@ use Rattle.paraid_machine.specs.Machine.{IsEventStep}
 use Rattle.paraid_machine.specs.Moves.{state_with_tick}
 use Rattle.paraid_session.specs.Ups.{up_count}
 use Rattle.paraid_session.specs.Watch.{Bounds, Down, Each, EndsServing, IsAllowed, HoldsWhileServing, IsServing, Watch, attach_count, before_loss, down_from_out, first_lost, watch_all, with_down}
+use Rattle.paraid_base.specs.Told.{counter_most}
 
 -- A session between two events: the disks; the writes that were accepted, and how many of them no
 -- stop takes away; the meta that stands; the state; the energy that was used; by disk the spin-ups
@@ -231,7 +232,7 @@ own_energy setup s event = 0
 
 -- the energy after an event in which a second disk is lost: a begin may have used its spin-ups
 pub data IsSecondLossEnergy (setup : Setup) (p : Point) (event : Event) (energy : ℕ) : Type 0 where
-  own : energy ≡ min (p.energy + own_energy setup p.state event) 18446744073709551615
+  own : energy ≡ min (p.energy + own_energy setup p.state event) counter_most
       → IsSecondLossEnergy setup p event energy
   begun : (answer : Answer) (new : PowerState)
       → IsUnhurt setup p event answer new → energy ≡ energy_after setup p.energy p.state answer

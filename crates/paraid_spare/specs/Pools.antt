@@ -3,6 +3,7 @@ use Rattle.std.specs.Prelude.{ℕ, ◌+◌, ◌-◌, ◌^◌, ◌<◌, ◌≤◌
 use Rattle.paraid_rack.specs.declared.call.Call.{Call}
 use Rattle.paraid_rack.specs.declared.call.Call.TheVariants.{SpinUp}
 use Rattle.paraid_spare.specs.declared.pool.Pool.{Pool}
+use Rattle.paraid_base.specs.Told.{counter_most}
 
 -- how many spares are left
 abbrev pub left_of : Pool → ℕ
@@ -42,7 +43,7 @@ slot_spin_ups (call ∷ calls) d = slot_spin_ups calls d
 -- The pool counts at least the spin-ups of these calls, for each slot. A count that has come to the
 -- end of its type counts all.
 pub record Covers (p : Pool) (calls : List Call) : Type 0 where
-  pub each : (d : ℕ) → d < 8 → min (slot_spin_ups calls d) (2 ^ 64 - 1) ≤ spins_of p d
+  pub each : (d : ℕ) → d < 8 → min (slot_spin_ups calls d) counter_most ≤ spins_of p d
 
 -- of these calls at most one spins up each disk from `lo` to `hi - 1`, and none any other disk
 pub record AreUpsOf (lo hi : ℕ) (calls : List Call) : Type 0 where

@@ -4,7 +4,7 @@ use Rattle.paraid_base.specs.declared.event.Answer.{Answer}
 use Rattle.paraid_base.specs.declared.event.Answer.TheVariants.{Flushed, Halted}
 use Rattle.paraid_base.specs.declared.event.Event.{Event}
 use Rattle.paraid_base.specs.declared.event.Event.TheVariants.{Flush}
-use Rattle.paraid_base.specs.Told.{Gives, GrowsByBytes}
+use Rattle.paraid_base.specs.Told.{Gives, GrowsByBytes, counter_most}
 use Rattle.paraid_io.specs.Lines.{lines_of, whole_lines}
 use Rattle.paraid_rack.specs.declared.call.Call.{Call}
 use Rattle.paraid_rack.specs.Trail.{Trail}
@@ -37,7 +37,7 @@ pub record Spared (span : Span)
   pub answers : AnswersTrace span.slots span.setup wait p k events all.turns text all.end stock
   -- while at most one disk is down no slot was spun up more often than its number
   pub counts : AreBesideOne all.turns → (d : ℕ) → d < 8
-      → k.spins d ≡ 0 → min (slot_spin_ups (turn_calls all.turns) d) (2 ^ 64 - 1) ≤ stock.spins d
+      → k.spins d ≡ 0 → min (slot_spin_ups (turn_calls all.turns) d) counter_most ≤ stock.spins d
 
 -- the same, and a flush at last, which is answered so
 pub record EndsSpared (span : Span) (wait : ℕ)
@@ -49,7 +49,7 @@ pub record EndsSpared (span : Span) (wait : ℕ)
   pub turns : all.turns ≡ lines.all.turns ++ turn_with Flush answer calls ∷ []
   -- with its calls too
   pub counts : AreBesideOne all.turns → (d : ℕ) → d < 8 → k.spins d ≡ 0
-      → min (slot_spin_ups (turn_calls all.turns) d) (2 ^ 64 - 1) ≤ lines.stock.spins d
+      → min (slot_spin_ups (turn_calls all.turns) d) counter_most ≤ lines.stock.spins d
 
 -- From point `p` on the lines of these bytes were answered up to one, and no line after it. This
 -- text tells the lines before it so, and a first part of what is told of it, which is not the

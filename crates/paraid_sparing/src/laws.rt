@@ -8,6 +8,7 @@ ghost use Rattle.paraid_spare.specs.Pools.{slot_spin_ups};
 ghost use Rattle.paraid_sparing.specs.Session.{fresh_stock};
 ghost use Rattle.paraid_sparing.specs.Sparing.{AnswersTrace, Stock};
 ghost use Rattle.paraid_sparing.specs.Spinning.{AreBesideOne};
+ghost use Rattle.paraid_base.specs.Told.{counter_most};
 
 /// While at most one disk is down no slot was spun up more often than the number that is told of
 /// it.
@@ -16,5 +17,5 @@ pub fn slots_count_their_spin_ups()
         (p q : Point) (events : List EventType) (turns : List Turn) (text : List ℕ) (stock : Stock)
         → AnswersTrace slots setup wait p (fresh_stock left) events turns text q stock
         → AreBesideOne turns
-        → (d : ℕ) → d < 8 → min (slot_spin_ups (turn_calls turns) d) (2 ^ 64 - 1) ≤ stock.spins d }
+        → (d : ℕ) → d < 8 → min (slot_spin_ups (turn_calls turns) d) counter_most ≤ stock.spins d }
 {}

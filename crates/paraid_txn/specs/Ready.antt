@@ -9,6 +9,7 @@ use Rattle.paraid_txn.specs.Commit.{gone_out}
 use Rattle.paraid_txn.specs.Losses.{CanWrite}
 use Rattle.paraid_image.specs.Out.{named_out}
 use Rattle.paraid_image.specs.Sides.{Batch, targets}
+use Rattle.paraid_base.specs.Told.{counter_most}
 
 -- each log disk that is not skipped spins and has all places of the log, unless it is absent
 pub record IsLogReady (skip : Option ℕ) (slot : ℕ → Slot) : Type 0 where
@@ -25,7 +26,7 @@ AreTargetsReady skip count slot ts =
 pub record CanCommit
     (last disks count : ℕ) (slot : ℕ → Slot) (batch : Batch) (m : Meta) : Type 0 where
   pub in_range : IsInRange m
-  pub epoch : last < 2 ^ 64 - 1
+  pub epoch : last < counter_most
   pub array : m.setup.geometry.disks ≡ disks
   pub each : All (IsTargetInRange m.setup.geometry) (targets batch)
   pub log : IsLogReady (named_out m.out) slot

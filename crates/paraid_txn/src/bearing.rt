@@ -3,9 +3,6 @@ ghost use Rattle.std.specs.Prelude.{◌<◌};
 
 use paraid_base::DiskNo;
 
-/// The disk that bears witness against log disks.
-pub(crate) const BEARER: DiskNo = 2;
-
 /// Which witness a commit sets, and how.
 #[derive(Clone, Copy)]
 pub(crate) struct Witness {

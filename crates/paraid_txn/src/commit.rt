@@ -59,7 +59,7 @@ use crate::calls::{put, put_synced, sync_slot};
 use crate::losses::Losses;
 use crate::store::{Store, find_absent, out_first};
 use crate::witness::{first_witness, last_witness, set_witness};
-use paraid_base::{Block, DiskNo, FIRST_BODY, FIRST_LIST, Two};
+use paraid_base::{BATCH_META, Block, DiskNo, FIRST_BODY, FIRST_LIST, GATE, META, Two};
 use paraid_rack::Rack;
 use paraid_record::{Meta, write_meta, write_targets};
 
@@ -129,7 +129,7 @@ pub fn write_log<R: Rack>(
         → CrashSpecification (HoldsEarly j) (LogStage j disk) (LogStage j (disk + 1))
         (R.told rack.old) (R.told rack.new) result }
 {
-    put(rack, losses, skip, disk, 2, meta)?;
+    put(rack, losses, skip, disk, BATCH_META, meta)?;
     put(rack, losses, skip, disk, FIRST_LIST, list)?;
     put_blocks(rack, losses, skip, disk, batch)?;
     sync_slot(rack, losses, skip, disk) // before its gate opens
@@ -264,8 +264,8 @@ fn open_gates<R: Rack>(
         (R.told rack.old) (R.told rack.new) result }
 {
     let opened = gate(true);
-    put_synced(rack, losses, skip, first, 0, &opened)?;
-    put_synced(rack, losses, skip, 1 - first, 0, &opened) // before a target is touched
+    put_synced(rack, losses, skip, first, GATE, &opened)?;
+    put_synced(rack, losses, skip, 1 - first, GATE, &opened) // before a target is touched
 }
 
 // Step 3.
@@ -307,11 +307,11 @@ pub fn finish<R: Rack>(
         → CrashSpecification (HoldsLate j) (MarkStage j 0) (CloseStage j 2)
         (R.told rack.old) (R.told rack.new) result }
 {
-    put_synced(rack, losses, skip, 0, 1, meta)?;
-    put_synced(rack, losses, skip, 1, 1, meta)?; // before a gate closes
+    put_synced(rack, losses, skip, 0, META, meta)?;
+    put_synced(rack, losses, skip, 1, META, meta)?; // before a gate closes
     let closed = gate(false);
-    put_synced(rack, losses, skip, 0, 0, &closed)?;
-    put_synced(rack, losses, skip, 1, 0, &closed)
+    put_synced(rack, losses, skip, 0, GATE, &closed)?;
+    put_synced(rack, losses, skip, 1, GATE, &closed)
 }
 
 // The five steps.

@@ -29,7 +29,7 @@ use crate::calls::{put_synced, take};
 use crate::commit::{finish, gate, lay_all, spell_meta, spell_targets, write_log};
 use crate::losses::Losses;
 use crate::store::{Store, find_absent, out_first};
-use paraid_base::{Block, DiskNo, Two};
+use paraid_base::{Block, DiskNo, GATE, META, Two};
 use paraid_rack::Rack;
 use paraid_record::Meta;
 
@@ -63,7 +63,7 @@ fn catch_up<R: Rack>(
 {
     let other = 1 - side;
     let mut found = Block::zero();
-    let read = take(rack, losses, skip, other, 0, &mut found)?;
+    let read = take(rack, losses, skip, other, GATE, &mut found)?;
     if !read {
         return Ok(());
     }
@@ -72,7 +72,7 @@ fn catch_up<R: Rack>(
     }
     write_log(rack, losses, Some(side), other, batch, list, meta)?;
     let opened = gate(true);
-    put_synced(rack, losses, Some(side), other, 0, &opened)
+    put_synced(rack, losses, Some(side), other, GATE, &opened)
 }
 
 // The log disk that stands is open: the commit is ended.
@@ -129,9 +129,9 @@ fn shut<R: Rack>(
         → CrashSpecification (HoldsThroughShut j disk) (AreDisksSame j) (ShutSynced j disk)
         (R.told rack.old) (R.told rack.new) result }
 {
-    put_synced(rack, losses, skip, disk, 1, meta)?; // before its gate closes
+    put_synced(rack, losses, skip, disk, META, meta)?; // before its gate closes
     let closed = gate(false);
-    put_synced(rack, losses, skip, disk, 0, &closed)
+    put_synced(rack, losses, skip, disk, GATE, &closed)
 }
 
 // The log disk that stands is closed: the other one is closed too, if it is live and open.
@@ -153,7 +153,7 @@ fn resume_closed<R: Rack>(
 {
     let other = 1 - side;
     let mut found = Block::zero();
-    let read = take(rack, losses, skip, other, 0, &mut found)?;
+    let read = take(rack, losses, skip, other, GATE, &mut found)?;
     if !read {
         return Ok(());
     }

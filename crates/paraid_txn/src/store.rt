@@ -9,8 +9,7 @@ ghost use Rattle.paraid_txn.specs.Borne.{IsBorneNow, IsBorneNow-prop};
 ghost use Rattle.paraid_txn.specs.Losses.{IsLostBy};
 ghost use Rattle.paraid_image.specs.Out.{first_absent as first_absent_of, named_out, or_else};
 
-use crate::bearing::BEARER;
-use paraid_base::{Block, DiskNo, Failed, Place, Two};
+use paraid_base::{Block, DiskNo, Failed, Place, Two, WITNESS_DISK};
 use paraid_rack::{Power, Rack};
 use paraid_record::Meta;
 
@@ -90,7 +89,7 @@ fn loss_of(out: Option<DiskNo>, disk: DiskNo) -> Lost
 fn borne_beside(borne: Option<DiskNo>, disk: DiskNo, place: Place) -> Option<DiskNo>
     ensures { (x : ℕ) → result ≡ Some x → (borne ≡ Some x) × ((2 ≡ disk) → x < 2 → x ≢ place) }
 {
-    if disk == BEARER && place < 2 {
+    if disk == WITNESS_DISK && place < 2 {
         return None;
     }
     borne
@@ -100,7 +99,7 @@ fn borne_beside(borne: Option<DiskNo>, disk: DiskNo, place: Place) -> Option<Dis
 fn borne_without(borne: Option<DiskNo>, disk: DiskNo) -> Option<DiskNo>
     ensures { (x : ℕ) → result ≡ Some x → (borne ≡ Some x) × (2 ≢ disk) }
 {
-    if disk == BEARER {
+    if disk == WITNESS_DISK {
         return None;
     }
     borne

@@ -15,11 +15,11 @@ ghost use Rattle.paraid_image.specs.Sides.{is_open};
 ghost use Rattle.paraid_record.specs.declared.meta.Meta.{Meta as MetaType};
 ghost use Rattle.paraid_txn.specs.Witness.{CannotSet, IsFirstWitness, IsLastWitness, MaySetWitness, SetsWitness};
 
-use crate::bearing::{BEARER, Bearing, Witness};
+use crate::bearing::{Bearing, Witness};
 use crate::calls::{put, sync_slot};
 use crate::commit::gate;
 use crate::losses::Losses;
-use paraid_base::{Block, DiskNo, Place, Two};
+use paraid_base::{Block, DiskNo, Place, Two, WITNESS_DISK};
 use paraid_rack::{Power, Rack};
 use paraid_record::Meta;
 
@@ -95,7 +95,7 @@ fn can_bear<R: Rack>(rack: &R, skip: Option<DiskNo>, place: Place) -> bool
         × (place < (R.slot rack.now 2).size) }
     ensures cannot { result ≡ false → CannotSet (R.slot rack.now) skip place }
 {
-    skip != Some(BEARER) && rack.power(BEARER) == Power::Spinning && place < rack.size(BEARER)
+    skip != Some(WITNESS_DISK) && rack.power(WITNESS_DISK) == Power::Spinning && place < rack.size(WITNESS_DISK)
 }
 
 // Writes the place of a witness and makes disk 2 keep it.
@@ -116,8 +116,8 @@ fn write_witness<R: Rack>(
     ensures told { Ran (R.told rack.old) (R.told rack.new) (λ s cs.
         SetsWitness place (is_open block.now) cs) }
 {
-    put(rack, losses, skip, BEARER, place, block)?;
-    sync_slot(rack, losses, skip, BEARER) // before a step that counts on it
+    put(rack, losses, skip, WITNESS_DISK, place, block)?;
+    sync_slot(rack, losses, skip, WITNESS_DISK) // before a step that counts on it
 }
 
 // The log disk against which witness is borne by this one, once it is set.

@@ -31,6 +31,7 @@ use Rattle.paraid_upkeep.specs.declared.fault.FailFault.{FailFault}
 use Rattle.paraid_upkeep.specs.declared.fault.FailFault.TheVariants.{NoDisk as FailNoDisk, Out as FailOut}
 use Rattle.paraid_upkeep.specs.declared.fault.ReplaceFault.{ReplaceFault}
 use Rattle.paraid_upkeep.specs.declared.fault.ReplaceFault.TheVariants.{NoDisk as ReplaceNoDisk, NoFresh as ReplaceNoFresh, NotOut as ReplaceNotOut}
+use Rattle.paraid_base.specs.Told.{counter_most}
 
 -- The event takes each point at which the core stood, with any counts, to one at which it stands
 -- then, with the energy that it has used.
@@ -63,7 +64,7 @@ CoreTicks count told windows old new report =
     → point_wear p < worn_at → CountsTick k (service_of count old samples served energy)
     → Ran (told (core_rack old)) (told (core_rack new)) (GoesOn (count (core_rack old)) setup p Tick
     (Ticked report) (StandsAt (told (core_rack new)) (service_of count new samples served
-    (min (energy + begun_energy setup p.state.gear report.event) 18446744073709551615)) setup))
+    (min (energy + begun_energy setup p.state.gear report.event) counter_most)) setup))
 
 -- A second disk is lost in it, and ends the service with the energy of the tick used.
 abbrev pub CoreTickHalts : {R : Type 0} {g : _}

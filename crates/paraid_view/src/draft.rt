@@ -7,6 +7,7 @@ ghost use Rattle.paraid_image.specs.Sides.{targets};
 ghost use Rattle.paraid_image.specs.Standing.{overlaid_block};
 ghost use Rattle.paraid_record.specs.Targets.{no_target};
 ghost use Rattle.paraid_image.specs.Batches.{batch_blocks};
+ghost use Rattle.paraid_base.specs.Log.{draft_room};
 
 use paraid_base::{Block, DiskNo, NoMemory, Place};
 use paraid_record::Target;
@@ -40,7 +41,7 @@ impl Model for Draft {
 
     ghost view = { λ d. map (λ s. (s.target, s.block)) d.drafted.items };
 
-    ghost invariant = { λ d. (length d.drafted.items ≤ 80) × (80 ≤ vec_capacity d.drafted) };
+    ghost invariant = { λ d. (length d.drafted.items ≤ draft_room) × (draft_room ≤ vec_capacity d.drafted) };
 }
 
 impl Draft {
@@ -57,14 +58,14 @@ impl Draft {
     /// The number of blocks, at most 80.
     pub fn count(&self) -> u8
         ensures value { result ≡ length self.now }
-        ensures few { result ≤ 80 }
+        ensures few { result ≤ draft_room }
     {
         self.drafted.len() as u8
     }
 
     /// Drafts one block more.
     pub fn push(&mut self, disk: DiskNo, place: Place, block: &Block)
-        requires { length self.old < 80 }
+        requires { length self.old < draft_room }
         ensures { self.new ≡ self.old ++ (record { disk = disk; place = place }, block.now) ∷ [] }
     {
         self.drafted.push_reserved(Drafted {
