@@ -15,7 +15,7 @@ use crate::staged::Core;
 use paraid_base::{Block, DiskNo, Place, Row};
 use paraid_dirty::DirtyTable;
 use paraid_layout::soft_place;
-use paraid_plan::{Lost, WritePlan};
+use paraid_plan::{PlanLost, WritePlan};
 use paraid_rack::Rack;
 use paraid_record::{Meta, Target};
 use paraid_txn::{Batch, Store};
@@ -117,7 +117,7 @@ impl<R: Rack> WritePlan for Core<R> {
 
     ghost leads = { λ a b. LeadsTo R.slot_count R.slot R.told a b };
 
-    fn value(&mut self, m: &Meta, r: Row, d: DiskNo, into: &mut Block) -> Result<(), Lost> {
+    fn value(&mut self, m: &Meta, r: Row, d: DiskNo, into: &mut Block) -> Result<(), PlanLost> {
         let out = m.out.named();
         let Err(disk) = read_value(
             &mut self.store,
@@ -133,10 +133,10 @@ impl<R: Rack> WritePlan for Core<R> {
             return Ok(());
         };
         self.failed = Some(disk);
-        Err(Lost)
+        Err(PlanLost)
     }
 
-    fn stripe(&mut self, m: &Meta, s: u32, e: DiskNo, into: &mut Block) -> Result<(), Lost> {
+    fn stripe(&mut self, m: &Meta, s: u32, e: DiskNo, into: &mut Block) -> Result<(), PlanLost> {
         let out = m.out.named();
         let Err(disk) = read_stripe(
             &mut self.store,
@@ -151,7 +151,7 @@ impl<R: Rack> WritePlan for Core<R> {
             return Ok(());
         };
         self.failed = Some(disk);
-        Err(Lost)
+        Err(PlanLost)
     }
 
     fn stored(
@@ -160,13 +160,13 @@ impl<R: Rack> WritePlan for Core<R> {
         disk: DiskNo,
         place: Place,
         into: &mut Block,
-    ) -> Result<(), Lost> {
+    ) -> Result<(), PlanLost> {
         let Err(failed) = read_laid(&mut self.store, &self.batch, &self.draft, disk, place, into)
         else {
             return Ok(());
         };
         self.failed = Some(failed);
-        Err(Lost)
+        Err(PlanLost)
     }
 
     fn is_staged(&self, disk: DiskNo, place: Place) -> bool {

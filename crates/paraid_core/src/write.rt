@@ -14,7 +14,7 @@ use crate::plan::undo;
 use crate::staged::{Core, lose};
 use crate::take::take;
 use paraid_base::{Pairs, Two};
-use paraid_plan::{Lost, write_blocks};
+use paraid_plan::{PlanLost, write_blocks};
 use paraid_rack::Rack;
 
 impl<R: Rack> Core<R> {
@@ -23,7 +23,7 @@ impl<R: Rack> Core<R> {
     ghost use Rattle.paraid_core.specs.Plans.{LeadsTo, ServesPlan, without_draft, desk_of};
 
     // Plans the write of these pairs, over all that is staged.
-    fn draft_writes(&mut self, pairs: &Pairs) -> Result<(), Lost>
+    fn draft_writes(&mut self, pairs: &Pairs) -> Result<(), PlanLost>
         requires serving { IsCoreInService self.old }
         requires blocks { All (λ (pair : ℕ × BlockType).
             pair.0 < core_block_count self.old) (pairs_of pairs.now) }

@@ -11,7 +11,7 @@ ghost use Rattle.paraid_record.specs.Range.{IsInRange};
 ghost use Rattle.paraid_image.specs.Value.{value as value_of};
 
 use crate::blocks::block_of;
-use crate::desk::{Lost, WritePlan};
+use crate::desk::{PlanLost, WritePlan};
 use paraid_base::{Block, DiskNo, Pairs, Row};
 use paraid_record::Meta;
 
@@ -109,7 +109,7 @@ pub(crate) fn read_alone<P: WritePlan>(
     r: Row,
     p: DiskNo,
     sum: &mut Block,
-) -> Result<(), Lost>
+) -> Result<(), PlanLost>
     requires serves { P.serves plan.old m.now }
     requires in_range { IsInRange m.now }
     requires row { r < m.now.setup.geometry.rows }

@@ -16,7 +16,7 @@ ghost use Rattle.paraid_image.specs.Spot.{is_hard as hard_in};
 ghost use Rattle.paraid_image.specs.Value.{value as value_of};
 ghost use Rattle.paraid_base.specs.Log.{draft_room};
 
-use crate::desk::{Lost, WritePlan};
+use crate::desk::{PlanLost, WritePlan};
 use crate::marks::{is_filled, is_written};
 use paraid_base::{Block, DiskNo, Place, Row};
 use paraid_layout::{hard_place, soft_of, soft_parity, soft_place};
@@ -120,7 +120,7 @@ fn read_parity<P: WritePlan>(
     old: &Block,
     new: &Block,
     into: &mut Block,
-) -> Result<(), Lost>
+) -> Result<(), PlanLost>
     requires serves { P.serves plan.old m.now }
     requires in_range { IsInRange m.now }
     requires row { r < m.now.setup.geometry.rows }
@@ -155,7 +155,7 @@ fn read_place<P: WritePlan>(
     old: &Block,
     new: &Block,
     into: &mut Block,
-) -> Result<(), Lost>
+) -> Result<(), PlanLost>
     requires serves { P.serves plan.old m.now }
     requires in_range { IsInRange m.now }
     requires row { r < m.now.setup.geometry.rows }
@@ -185,7 +185,7 @@ fn read_copy<P: WritePlan>(
     old: &Block,
     new: &Block,
     into: &mut Block,
-) -> Result<(), Lost>
+) -> Result<(), PlanLost>
     requires serves { P.serves plan.old m.now }
     requires in_range { IsInRange m.now }
     requires row { r < m.now.setup.geometry.rows }
@@ -317,7 +317,7 @@ fn write_copies<P: WritePlan>(
     d: DiskNo,
     old: &Block,
     new: &Block,
-) -> Result<(), Lost>
+) -> Result<(), PlanLost>
     requires serves { P.serves plan.old m.now }
     requires in_range { IsInRange m.now }
     requires row { r < m.now.setup.geometry.rows }
@@ -356,7 +356,7 @@ pub fn write_cell<P: WritePlan>(
     d: DiskNo,
     old: &Block,
     new: &Block,
-) -> Result<(), Lost>
+) -> Result<(), PlanLost>
     requires serves { P.serves plan.old m.now }
     requires in_range { IsInRange m.now }
     requires row { r < m.now.setup.geometry.rows }

@@ -17,7 +17,7 @@ use paraid_record::Meta;
 
 /// A disk was lost while the plan was made, and what is staged in it is to be dropped.
 #[derive(Clone, Copy)]
-pub struct Lost;
+pub struct PlanLost;
 
 /// A plan of at most 80 targets, over blocks that are read with all that is staged laid over.
 pub trait WritePlan {
@@ -40,7 +40,7 @@ pub trait WritePlan {
     ghost leads: { Self → Self → Type 0 };
 
     /// Reads the value of a cell.
-    fn value(&mut self, m: &Meta, r: Row, d: DiskNo, into: &mut Block) -> Result<(), Lost>
+    fn value(&mut self, m: &Meta, r: Row, d: DiskNo, into: &mut Block) -> Result<(), PlanLost>
         requires serves { serves self.old m.now }
         requires in_range { IsInRange m.now }
         requires row { r < m.now.setup.geometry.rows }
@@ -57,7 +57,7 @@ pub trait WritePlan {
         ensures leads { leads self.old self.new };
 
     /// Reads a block of a stripe of the current region, or makes it from the others.
-    fn stripe(&mut self, m: &Meta, s: u32, e: DiskNo, into: &mut Block) -> Result<(), Lost>
+    fn stripe(&mut self, m: &Meta, s: u32, e: DiskNo, into: &mut Block) -> Result<(), PlanLost>
         requires serves { serves self.old m.now }
         requires in_range { IsInRange m.now }
         requires stripe { s < soft_count m.now }
@@ -74,7 +74,7 @@ pub trait WritePlan {
         ensures leads { leads self.old self.new };
 
     /// Reads a block past the log, of a disk that is powered and not out.
-    fn stored(&mut self, m: &Meta, disk: DiskNo, place: Place, into: &mut Block) -> Result<(), Lost>
+    fn stored(&mut self, m: &Meta, disk: DiskNo, place: Place, into: &mut Block) -> Result<(), PlanLost>
         requires serves { serves self.old m.now }
         requires in_range { IsInRange m.now }
         requires disk { disk < m.now.setup.geometry.disks }

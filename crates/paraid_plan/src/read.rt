@@ -16,7 +16,7 @@ ghost use Rattle.paraid_image.specs.Value.{value as value_of};
 use crate::alone::{alone, read_alone};
 use crate::blocks::keep_if;
 use crate::cell::{needs_new, needs_old};
-use crate::desk::{Lost, WritePlan};
+use crate::desk::{PlanLost, WritePlan};
 use crate::given::{add_given, is_changed};
 use crate::rule::is_made_anew;
 use paraid_base::{Block, DiskNo, Pairs, Row};
@@ -91,7 +91,7 @@ fn read_wanted<P: WritePlan>(
     old: &mut [Option<Block>],
     into: &mut Block,
     sum: &mut Block,
-) -> Result<(), Lost>
+) -> Result<(), PlanLost>
     requires serves { P.serves plan.old m.now }
     requires in_range { IsInRange m.now }
     requires row { r < m.now.setup.geometry.rows }
@@ -132,7 +132,7 @@ fn read_cell<P: WritePlan>(
     old: &mut [Option<Block>],
     into: &mut Block,
     sum: &mut Block,
-) -> Result<(), Lost>
+) -> Result<(), PlanLost>
     requires serves { P.serves plan.old m.now }
     requires in_range { IsInRange m.now }
     requires row { r < m.now.setup.geometry.rows }
@@ -181,7 +181,7 @@ fn read_data<P: WritePlan>(
     old: &mut [Option<Block>],
     into: &mut Block,
     sum: &mut Block,
-) -> Result<(), Lost>
+) -> Result<(), PlanLost>
     requires serves { P.serves plan.old m.now }
     requires in_range { IsInRange m.now }
     requires row { r < m.now.setup.geometry.rows }
@@ -223,7 +223,7 @@ fn read_cells<P: WritePlan>(
     p: DiskNo,
     old: &mut [Option<Block>],
     sum: &mut Block,
-) -> Result<(), Lost>
+) -> Result<(), PlanLost>
     requires serves { P.serves plan.old m.now }
     requires in_range { IsInRange m.now }
     requires row { r < m.now.setup.geometry.rows }
@@ -264,7 +264,7 @@ pub(crate) fn read_row<P: WritePlan>(
     p: DiskNo,
     old: &mut [Option<Block>],
     fixed: &mut Block,
-) -> Result<(), Lost>
+) -> Result<(), PlanLost>
     requires serves { P.serves plan.old m.now }
     requires in_range { IsInRange m.now }
     requires row { r < m.now.setup.geometry.rows }

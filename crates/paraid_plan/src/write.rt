@@ -19,7 +19,7 @@ ghost use Rattle.paraid_base.specs.Log.{draft_room};
 
 use crate::blocks::{block_of, keep_if, kept_or, none_kept};
 use crate::cell::{has_soft, needs_old, stage_if, write_cell};
-use crate::desk::{Lost, WritePlan};
+use crate::desk::{PlanLost, WritePlan};
 use crate::given::{given_cells, is_row_before};
 use crate::marks::is_written;
 use crate::read::read_row;
@@ -74,7 +74,7 @@ fn write_pair<P: WritePlan>(
     at: usize,
     r: Row,
     old: &mut [Option<Block>],
-) -> Result<(), Lost>
+) -> Result<(), PlanLost>
     requires serves { P.serves plan.old m.now }
     requires in_range { IsInRange m.now }
     requires row { r < m.now.setup.geometry.rows }
@@ -109,7 +109,7 @@ fn write_pairs<P: WritePlan>(
     pairs: &Pairs,
     r: Row,
     old: &mut [Option<Block>],
-) -> Result<(), Lost>
+) -> Result<(), PlanLost>
     requires serves { P.serves plan.old m.now }
     requires in_range { IsInRange m.now }
     requires row { r < m.now.setup.geometry.rows }
@@ -138,7 +138,7 @@ fn write_row_in<P: WritePlan>(
     pairs: &Pairs,
     r: Row,
     old: &mut [Option<Block>],
-) -> Result<(), Lost>
+) -> Result<(), PlanLost>
     requires serves { P.serves plan.old m.now }
     requires in_range { IsInRange m.now }
     requires row { r < m.now.setup.geometry.rows }
@@ -169,7 +169,7 @@ fn write_row_in<P: WritePlan>(
 }
 
 // The same, with that room only where it can be needed, for it is large.
-fn write_row<P: WritePlan>(plan: &mut P, m: &Meta, pairs: &Pairs, r: Row) -> Result<(), Lost>
+fn write_row<P: WritePlan>(plan: &mut P, m: &Meta, pairs: &Pairs, r: Row) -> Result<(), PlanLost>
     requires serves { P.serves plan.old m.now }
     requires in_range { IsInRange m.now }
     requires row { r < m.now.setup.geometry.rows }
@@ -193,7 +193,7 @@ fn write_row<P: WritePlan>(plan: &mut P, m: &Meta, pairs: &Pairs, r: Row) -> Res
 }
 
 // Writes the row of one pair, unless a pair before it lies in the same row.
-fn write_row_of<P: WritePlan>(plan: &mut P, m: &Meta, pairs: &Pairs, at: usize) -> Result<(), Lost>
+fn write_row_of<P: WritePlan>(plan: &mut P, m: &Meta, pairs: &Pairs, at: usize) -> Result<(), PlanLost>
     requires serves { P.serves plan.old m.now }
     requires in_range { IsInRange m.now }
     requires at { at < pairs.now.count }
@@ -217,7 +217,7 @@ fn write_row_of<P: WritePlan>(plan: &mut P, m: &Meta, pairs: &Pairs, at: usize) 
 
 /// Writes the blocks of these pairs in one plan, row by row: at most ten targets for each pair, and
 /// at least one in all. Of several pairs that name a block the last one counts.
-pub fn write_blocks<P: WritePlan>(plan: &mut P, m: &Meta, pairs: &Pairs) -> Result<(), Lost>
+pub fn write_blocks<P: WritePlan>(plan: &mut P, m: &Meta, pairs: &Pairs) -> Result<(), PlanLost>
     requires serves { P.serves plan.old m.now }
     requires in_range { IsInRange m.now }
     requires blocks { All (λ (pair : ℕ × BlockType). pair.0

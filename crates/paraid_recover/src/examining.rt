@@ -18,7 +18,7 @@ ghost use Rattle.paraid_image.specs.Sides.{log_state};
 ghost use Rattle.paraid_txn.specs.Uses.{EachCall};
 
 use crate::mount_fault::MountFault;
-use crate::refusal::refusal_by;
+use crate::refusal::refusal_by_meta;
 use crate::standing::{Standing, stand};
 use crate::{Sides, hear_both};
 use paraid_base::DiskNo;
@@ -68,7 +68,7 @@ fn judge<R: Rack>(
         Ok(standing) => standing,
         Err(fault) => return Err(fault),
     };
-    if let Some(fault) = refusal_by(rack, &standing.meta, batch) {
+    if let Some(fault) = refusal_by_meta(rack, &standing.meta, batch) {
         return Err(fault);
     }
     Ok(standing)

@@ -74,7 +74,7 @@ pub use mount_fault::MountFault;
 pub use mounting::{MountRefused, Mounted};
 pub use powering::power_disks;
 pub use recovery::mark_out;
-pub use refusal::refusal_by;
+pub use refusal::refusal_by_meta;
 pub use side_refusals::refusal_by_sides;
 pub use sides::{Sides, hear_both, hear_if_there};
 pub use sizes::first_small;

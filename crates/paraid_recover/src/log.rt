@@ -10,8 +10,8 @@ ghost use Rattle.paraid_recover.specs.Between.{RanBetween};
 use paraid_base::{Block, DiskNo, Failed, META};
 use paraid_rack::Rack;
 
-/// Writes a meta on a log disk, and syncs it.
-pub fn write_log<R: Rack>(rack: &mut R, disk: DiskNo, meta: &Block) -> Result<(), Failed>
+/// Writes the first meta at its place on a log disk, and syncs it.
+pub fn write_first_meta<R: Rack>(rack: &mut R, disk: DiskNo, meta: &Block) -> Result<(), Failed>
     requires log_disk { disk < 2 }
     requires exists { disk < R.slot_count rack.old }
     requires spinning { (R.slot rack.old disk).power ≡ Spinning }

@@ -16,7 +16,7 @@ ghost use Rattle.paraid_recover.specs.FormatRefusals.{IsFormatRefusal};
 use crate::attach::attach_all;
 use crate::format_fault::FormatFault;
 use crate::found::greatest_epoch;
-use crate::log::write_log;
+use crate::log::write_first_meta;
 use paraid_base::{Block, DiskNo, Out, Phase};
 use paraid_rack::Rack;
 use paraid_record::{Meta, Setup, write_meta};
@@ -60,17 +60,17 @@ fn make<R: Rack>(setup: &Setup, rack: &mut R) -> Result<(), DiskNo>
     let mut block = Block::zero();
     write_meta(&first_meta(setup), &mut block);
     attach_all(rack, setup.geometry.disks(), setup.geometry.size())?;
-    let Ok(()) = write_log(rack, 0, &block) else {
+    let Ok(()) = write_first_meta(rack, 0, &block) else {
         return Err(0);
     };
-    let Ok(()) = write_log(rack, 1, &block) else {
+    let Ok(()) = write_first_meta(rack, 1, &block) else {
         return Err(1);
     };
     Ok(())
 }
 
 // Refuses a rack that belongs to an array, unless that does not matter.
-fn test<R: Rack>(force: bool, rack: &mut R) -> Result<(), FormatFault>
+fn refuse_claimed<R: Rack>(force: bool, rack: &mut R) -> Result<(), FormatFault>
     ensures slots { R.slot_count rack.new ≡ R.slot_count rack.old }
     ensures same { OnOk result (AreSameSlots (R.slot rack.old) (R.slot rack.new)) }
     ensures others { (d : ℕ) → 2 ≤ d → R.slot rack.new d ≡ R.slot rack.old d }
@@ -115,7 +115,7 @@ pub fn format<R: Rack>(setup: &Setup, force: bool, rack: &mut R) -> Result<(), F
         (R.slot_count rack.old) (R.slot rack.old) (R.slot rack.new) (R.told rack.old)
         (R.told rack.new)) }
 {
-    match test(force, rack) {
+    match refuse_claimed(force, rack) {
         Ok(()) => {}
         Err(fault) => return Err(fault),
     }

@@ -24,7 +24,7 @@ fn found_size<R: Rack>(rack: &R, disk: DiskNo) -> u32
 
 /// Why a mount is refused where this meta stands with this batch: the first cause that is there, of
 /// a disk that is too small, one that is parked and is to spin, two that are missing, and wear.
-pub fn refusal_by<R: Rack>(rack: &R, meta: &Meta, batch: &Batch) -> Option<MountFault>
+pub fn refusal_by_meta<R: Rack>(rack: &R, meta: &Meta, batch: &Batch) -> Option<MountFault>
     ensures { MatchOption result
         (IsNotRefused (R.slot_count rack.now) (R.slot rack.now) meta.now batch.now)
         (IsRefusedBy (R.slot_count rack.now) (R.slot rack.now) meta.now batch.now) }

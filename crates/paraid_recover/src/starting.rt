@@ -11,8 +11,7 @@ ghost use Rattle.paraid_recover.specs.StartRefusals.{refusal_by_fault};
 ghost use Rattle.paraid_txn.specs.Stores.{disks_of, epoch_of, named_of, store_rack};
 
 use crate::mount_fault::MountFault;
-use crate::mounting;
-use crate::mounting::{MountRefused, Mounted};
+use crate::mounting::{MountRefused, Mounted, mount_with};
 use paraid_rack::Rack;
 use paraid_txn::Batch;
 use std::alloc::Global;
@@ -56,5 +55,5 @@ pub fn mount<R: Rack>(alloc: Global, rack: R) -> Result<Mounted<R>, MountRefused
             rack,
         });
     };
-    mounting::mount(alloc, batch, rack)
+    mount_with(alloc, batch, rack)
 }

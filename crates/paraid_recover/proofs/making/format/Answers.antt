@@ -13,51 +13,51 @@ use Rattle.paraid_recover.proofs.making.format.Goals as goal
 
 pub returns-in-Err : goal.returns-in-Err
 returns-in-Err g c = record {
-  slots = c.test.ensures.slots;
+  slots = c.refuse_claimed.ensures.slots;
   fresh = tt;
-  others = λ d high. c.test.ensures.others d (let low = c.args.setup.now.geometry.disks_low in omega arith);
+  others = λ d high. c.refuse_claimed.ensures.others d (let low = c.args.setup.now.geometry.disks_low in omega arith);
   formatted = tt;
   free = tt;
-  calls = only_reads c.args.force _ _ c.test.ensures.reads;
+  calls = only_reads c.args.force _ _ c.refuse_claimed.ensures.reads;
   refused = c.in-Err.ensures.refused c.args.setup.now.geometry.disks (g.R.Rack.slot_count c.args.rack.now);
 }
 
 pub returns-in-Err-make : goal.returns-in-Err-make
 returns-in-Err-make g c = record {
-  slots = c.make.ensures.slots ∙ c.test.ensures.slots;
+  slots = c.make.ensures.slots ∙ c.refuse_claimed.ensures.slots;
   fresh = tt;
-  others = λ d high. c.make.ensures.others d high ∙ c.test.ensures.others d (let low = c.args.setup.now.geometry.disks_low in omega arith);
+  others = λ d high. c.make.ensures.others d high ∙ c.refuse_claimed.ensures.others d (let low = c.args.setup.now.geometry.disks_low in omega arith);
   formatted = tt;
   free = tt;
-  calls = reads_and_rest c.args.force _ _ c.test.ensures.reads c.in-Ok.ensures.free c.make.ensures.calls;
+  calls = reads_and_rest c.args.force _ _ c.refuse_claimed.ensures.reads c.in-Ok.ensures.free c.make.ensures.calls;
   refused = inl (subst (λ (s : Slot). HasRisen s.faults (g.R.Rack.slot c.make.new.rack c.in-Err-make.disk).faults) (c.in-Ok.ensures.same c.in-Err-make.disk) c.in-Err-make.ensures.risen);
 }
 
 pub returns-in-Ok-make : goal.returns-in-Ok-make
 returns-in-Ok-make g c = record {
-  slots = c.make.ensures.slots ∙ c.test.ensures.slots;
+  slots = c.make.ensures.slots ∙ c.refuse_claimed.ensures.slots;
   fresh = λ d low. c.in-Ok-make.ensures.fresh d low ∙ ap (fresh_slot (disk_size c.args.setup.now.geometry)) (c.in-Ok.ensures.same d);
-  others = λ d high. c.make.ensures.others d high ∙ c.test.ensures.others d (let low = c.args.setup.now.geometry.disks_low in omega arith);
+  others = λ d high. c.make.ensures.others d high ∙ c.refuse_claimed.ensures.others d (let low = c.args.setup.now.geometry.disks_low in omega arith);
   formatted =
       let becomes = λ (n : ℕ). BecomesFormatted n (first_meta c.args.setup.now) in
       led_then (λ (start s : Disks). s ≡ start) (becomes (g.R.Rack.slot_count c.args.rack.now)) (becomes (g.R.Rack.slot_count c.args.rack.now))
       (λ start mid end is made. subst (λ (u : Disks). becomes (g.R.Rack.slot_count c.args.rack.now) u end) is made) _ _ _ (quiet_now c.in-Ok.ensures.quiet)
-      (λ t tells. let m = c.in-Ok-make.ensures.formatted t tells in (m.0, m.1, subst (λ (n : ℕ). becomes n (now m.0) (now t)) c.test.ensures.slots m.2));
+      (λ t tells. let m = c.in-Ok-make.ensures.formatted t tells in (m.0, m.1, subst (λ (n : ℕ). becomes n (now m.0) (now t)) c.refuse_claimed.ensures.slots m.2));
   free = λ not t tells. let m = c.make.ensures.calls t tells in c.in-Ok.ensures.free not m.from m.was;
-  calls = reads_and_rest c.args.force _ _ c.test.ensures.reads c.in-Ok.ensures.free c.make.ensures.calls;
+  calls = reads_and_rest c.args.force _ _ c.refuse_claimed.ensures.reads c.in-Ok.ensures.free c.make.ensures.calls;
   refused = tt;
 }
 
 pub returns-then-disks-slots : goal.returns-then-disks-slots
 returns-then-disks-slots g c = record {
-  slots = c.test.ensures.slots;
+  slots = c.refuse_claimed.ensures.slots;
   fresh = tt;
-  others = λ d high. c.test.ensures.others d (let low = c.args.setup.now.geometry.disks_low in omega arith);
+  others = λ d high. c.refuse_claimed.ensures.others d (let low = c.args.setup.now.geometry.disks_low in omega arith);
   formatted = tt;
   free = tt;
-  calls = only_reads c.args.force _ _ c.test.ensures.reads;
+  calls = only_reads c.args.force _ _ c.refuse_claimed.ensures.reads;
   refused =
-      let slots : c.slots-slots.result ≡ g.R.Rack.slot_count c.args.rack.now = c.slots-slots.ensures ∙ c.test.ensures.slots in
+      let slots : c.slots-slots.result ≡ g.R.Rack.slot_count c.args.rack.now = c.slots-slots.ensures ∙ c.refuse_claimed.ensures.slots in
       let few = c.if-disks-slots.true in
       let disks = c.disks.ensures in
       inr (slots, omega (arith, slots, few, disks), reading_of c.in-Ok.ensures.quiet);

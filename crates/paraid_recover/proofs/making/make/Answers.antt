@@ -22,8 +22,8 @@ use Rattle.paraid_recover.proofs.making.make.Goals.{After-attach_all, In_ok-atta
 pub attach_all-requires : goal.attach_all-requires
 attach_all-requires g c = (let same = c.disks.ensures in let room = c.requires.room in omega arith)
 
-pub write_log-requires : goal.write_log-requires
-write_log-requires g c =
+pub write_first_meta-requires : goal.write_first_meta-requires
+write_first_meta-requires g c =
     let low = c.args.setup.now.geometry.disks_low in
     let is = c.in_ok-attach_all.ensures.fresh 0 (let same = c.disks.ensures in omega arith) in
     record {
@@ -33,13 +33,13 @@ write_log-requires g c =
       large = (let size = ap (λ (s : Slot). s.size) is ∙ c.size.ensures in let end = big (first_meta c.args.setup.now) in omega arith);
     }
 
-pub write_log-requires-2 : goal.write_log-requires-2
-write_log-requires-2 g c =
+pub write_first_meta-requires-2 : goal.write_first_meta-requires-2
+write_first_meta-requires-2 g c =
     let low = c.args.setup.now.geometry.disks_low in
-    let is = c.write_log.ensures.others 1 (λ e. omega arith) ∙ c.in_ok-attach_all.ensures.fresh 1 (let same = c.disks.ensures in omega arith) in
+    let is = c.write_first_meta.ensures.others 1 (λ e. omega arith) ∙ c.in_ok-attach_all.ensures.fresh 1 (let same = c.disks.ensures in omega arith) in
     record {
       log_disk = omega arith;
-      exists = (let more = c.write_log.ensures.slots in let slots = c.attach_all.ensures.slots in let room = c.requires.room in omega arith);
+      exists = (let more = c.write_first_meta.ensures.slots in let slots = c.attach_all.ensures.slots in let room = c.requires.room in omega arith);
       spinning = ap (λ (s : Slot). s.power) is;
       large = (let size = ap (λ (s : Slot). s.size) is ∙ c.size.ensures in let end = big (first_meta c.args.setup.now) in omega arith);
     }
@@ -69,36 +69,36 @@ returns-in_err-attach_all g c = record {
 
 pub returns-in_default : goal.returns-in_default
 returns-in_default g c = record {
-  slots = c.write_log.ensures.slots ∙ c.attach_all.ensures.slots;
+  slots = c.write_first_meta.ensures.slots ∙ c.attach_all.ensures.slots;
   fresh = tt;
-  others = λ d high. c.write_log.ensures.others d (λ is. let low = c.args.setup.now.geometry.disks_low in omega arith) ∙ c.attach_all.ensures.others d (let same = c.disks.ensures in omega arith);
+  others = λ d high. c.write_first_meta.ensures.others d (λ is. let low = c.args.setup.now.geometry.disks_low in omega arith) ∙ c.attach_all.ensures.others d (let same = c.disks.ensures in omega arith);
   formatted = tt;
-  calls = attaches_and_logs _ _ (attaches g (goal.at.returns-in_default g c).After-attach_all) c.write_log.ensures.calls;
+  calls = attaches_and_logs _ _ (attaches g (goal.at.returns-in_default g c).After-attach_all) c.write_first_meta.ensures.calls;
   risen =
-      subst (λ (s : Slot). HasRisen s.faults (g.R.Rack.slot c.write_log.new.rack 0).faults) (c.in_ok-attach_all.ensures.fresh 0 (let low = c.args.setup.now.geometry.disks_low in let same = c.disks.ensures in omega arith)) c.in_default.ensures.risen;
+      subst (λ (s : Slot). HasRisen s.faults (g.R.Rack.slot c.write_first_meta.new.rack 0).faults) (c.in_ok-attach_all.ensures.fresh 0 (let low = c.args.setup.now.geometry.disks_low in let same = c.disks.ensures in omega arith)) c.in_default.ensures.risen;
 }
 
-pub returns-in_default-write_log : goal.returns-in_default-write_log
-returns-in_default-write_log g c = record {
-  slots = c.write_log-2.ensures.slots ∙ c.write_log.ensures.slots ∙ c.attach_all.ensures.slots;
+pub returns-in_default-write_first_meta : goal.returns-in_default-write_first_meta
+returns-in_default-write_first_meta g c = record {
+  slots = c.write_first_meta-2.ensures.slots ∙ c.write_first_meta.ensures.slots ∙ c.attach_all.ensures.slots;
   fresh = tt;
-  others = λ d high. c.write_log-2.ensures.others d (λ is. let low = c.args.setup.now.geometry.disks_low in omega arith) ∙ c.write_log.ensures.others d (λ is. let low = c.args.setup.now.geometry.disks_low in omega arith) ∙ c.attach_all.ensures.others d (let same = c.disks.ensures in omega arith);
+  others = λ d high. c.write_first_meta-2.ensures.others d (λ is. let low = c.args.setup.now.geometry.disks_low in omega arith) ∙ c.write_first_meta.ensures.others d (λ is. let low = c.args.setup.now.geometry.disks_low in omega arith) ∙ c.attach_all.ensures.others d (let same = c.disks.ensures in omega arith);
   formatted = tt;
   calls =
-      attaches_and_logs _ _ (attaches g (goal.at.returns-in_default-write_log g c).After-attach_all) (logging_then c.write_log.ensures.calls c.write_log-2.ensures.calls);
+      attaches_and_logs _ _ (attaches g (goal.at.returns-in_default-write_first_meta g c).After-attach_all) (logging_then c.write_first_meta.ensures.calls c.write_first_meta-2.ensures.calls);
   risen =
-      subst (λ (s : Slot). HasRisen s.faults (g.R.Rack.slot c.write_log-2.new.rack 1).faults)
-      (c.write_log.ensures.others 1 (λ is. omega arith) ∙ c.in_ok-attach_all.ensures.fresh 1 (let low = c.args.setup.now.geometry.disks_low in let same = c.disks.ensures in omega arith)) c.in_default-write_log.ensures.risen;
+      subst (λ (s : Slot). HasRisen s.faults (g.R.Rack.slot c.write_first_meta-2.new.rack 1).faults)
+      (c.write_first_meta.ensures.others 1 (λ is. omega arith) ∙ c.in_ok-attach_all.ensures.fresh 1 (let low = c.args.setup.now.geometry.disks_low in let same = c.disks.ensures in omega arith)) c.in_default-write_first_meta.ensures.risen;
 }
 
 pub returns : goal.returns
 returns g c = record {
-  slots = c.write_log-2.ensures.slots ∙ c.write_log.ensures.slots ∙ c.attach_all.ensures.slots;
+  slots = c.write_first_meta-2.ensures.slots ∙ c.write_first_meta.ensures.slots ∙ c.attach_all.ensures.slots;
   fresh =
-      made_fresh c.args.setup.now.geometry.disks (disk_size c.args.setup.now.geometry) (g.R.Rack.slot c.args.rack.now) (g.R.Rack.slot c.attach_all.new.rack) (g.R.Rack.slot c.write_log.new.rack) (g.R.Rack.slot c.write_log-2.new.rack)
+      made_fresh c.args.setup.now.geometry.disks (disk_size c.args.setup.now.geometry) (g.R.Rack.slot c.args.rack.now) (g.R.Rack.slot c.attach_all.new.rack) (g.R.Rack.slot c.write_first_meta.new.rack) (g.R.Rack.slot c.write_first_meta-2.new.rack)
       (λ d low. c.in_ok-attach_all.ensures.fresh d (let same = c.disks.ensures in omega arith) ∙ ap (λ (z : ℕ). fresh_slot z (g.R.Rack.slot c.args.rack.now d)) c.size.ensures)
-      c.in-Ok.ensures.here c.write_log.ensures.others c.in-Ok-write_log.ensures.here c.write_log-2.ensures.others (let low = c.args.setup.now.geometry.disks_low in omega arith);
-  others = λ d high. c.write_log-2.ensures.others d (λ is. let low = c.args.setup.now.geometry.disks_low in omega arith) ∙ c.write_log.ensures.others d (λ is. let low = c.args.setup.now.geometry.disks_low in omega arith) ∙ c.attach_all.ensures.others d (let same = c.disks.ensures in omega arith);
+      c.in-Ok.ensures.here c.write_first_meta.ensures.others c.in-Ok-write_first_meta.ensures.here c.write_first_meta-2.ensures.others (let low = c.args.setup.now.geometry.disks_low in omega arith);
+  others = λ d high. c.write_first_meta-2.ensures.others d (λ is. let low = c.args.setup.now.geometry.disks_low in omega arith) ∙ c.write_first_meta.ensures.others d (λ is. let low = c.args.setup.now.geometry.disks_low in omega arith) ∙ c.attach_all.ensures.others d (let same = c.disks.ensures in omega arith);
   formatted =
       let setup = c.args.setup.now in
       let b = c.write_meta.new.into in
@@ -108,7 +108,7 @@ returns g c = record {
       (BecomesFormatted (g.R.Rack.slot_count c.args.rack.now) (first_meta setup))
       (λ start first end a logs. formatted (g.R.Rack.slot_count c.args.rack.now) setup b is range c.requires.room start first logs.0 end a logs.1 logs.2)
       _ _ _ (attached g (goal.at.returns g c).In_ok-attach_all)
-      (led_then (IsMetaWritten 0 b) (IsMetaWritten 1 b) (λ (a e : Disks). (m : Disks) × IsMetaWritten 0 b a m × IsMetaWritten 1 b m e) (λ a m e one two. (m, one, two)) _ _ _ c.in-Ok.ensures.logged c.in-Ok-write_log.ensures.logged);
-  calls = attaches_and_logs _ _ (attaches g (goal.at.returns g c).After-attach_all) (logging_then c.write_log.ensures.calls c.write_log-2.ensures.calls);
+      (led_then (IsMetaWritten 0 b) (IsMetaWritten 1 b) (λ (a e : Disks). (m : Disks) × IsMetaWritten 0 b a m × IsMetaWritten 1 b m e) (λ a m e one two. (m, one, two)) _ _ _ c.in-Ok.ensures.logged c.in-Ok-write_first_meta.ensures.logged);
+  calls = attaches_and_logs _ _ (attaches g (goal.at.returns g c).After-attach_all) (logging_then c.write_first_meta.ensures.calls c.write_first_meta-2.ensures.calls);
   risen = tt;
 }

@@ -14,8 +14,8 @@ both_ok (Err e) P Q S both p q = tt
 
 pub returns : goal.returns
 returns g c =
-    let m = c.mount.ensures in
-    let r = c.mount.result in
+    let m = c.mount_with.ensures in
+    let r = c.mount_with.result in
     record {
       slots = m.slots;
       refused_slots = m.refused_slots;

@@ -3,7 +3,7 @@ use Rattle.paraid_base.specs.Told.{HasRisen}
 use Rattle.paraid_rack.specs.Slots.{Slot}
 use Rattle.paraid_recover.proofs.LogLemmas.{logged, logging_sync, logging_then, logging_write}
 use Rattle.paraid_recover.proofs.RaisedLemmas.{handed, none_done}
-use Rattle.paraid_recover.proofs.log.write_log.Goals as goal
+use Rattle.paraid_recover.proofs.log.write_first_meta.Goals as goal
 
 pub returns-in_err-write : goal.returns-in_err-write
 returns-in_err-write g c = record {

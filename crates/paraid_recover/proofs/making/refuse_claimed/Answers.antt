@@ -7,7 +7,7 @@ use Rattle.paraid_rack.proofs.TrailsLemmas.{Ran-none}
 use Rattle.paraid_recover.proofs.ReadsLemmas.{quiet_none}
 use Rattle.paraid_recover.proofs.AttachLemmas.{ran_weaker}
 use Rattle.paraid_recover.proofs.FoundLemmas.{free_before, greatest_before}
-use Rattle.paraid_recover.proofs.making.test.Goals as goal
+use Rattle.paraid_recover.proofs.making.refuse_claimed.Goals as goal
 
 pub returns-in-Ok-None : goal.returns-in-Ok-None
 returns-in-Ok-None g c = record {

@@ -23,9 +23,9 @@ use Rattle.paraid_recover.proofs.ExaminedLemmas.{fit_examined}
 use Rattle.paraid_recover.proofs.MapServedLemmas.{map_sooner}
 use Rattle.paraid_recover.proofs.MountCallsLemmas.{reads_then}
 use Rattle.paraid_recover.proofs.MountedLemmas.{unstarted_here}
-use Rattle.paraid_recover.proofs.mounting.mount.Given.{Over}
-use Rattle.paraid_recover.proofs.mounting.mount.Goals as goal
-use Rattle.paraid_recover.proofs.mounting.mount.Goals.{In-Ok-bring_up}
+use Rattle.paraid_recover.proofs.mounting.mount_with.Given.{Over}
+use Rattle.paraid_recover.proofs.mounting.mount_with.Goals as goal
+use Rattle.paraid_recover.proofs.mounting.mount_with.Goals.{In-Ok-bring_up}
 
 pub returns-in_default : goal.returns-in_default
 returns-in_default g c = record {
