@@ -1,5 +1,5 @@
 -- Where the parts of a disk of one geometry begin
-use Rattle.std.specs.Prelude.{◌≡◌, ℕ, ◌+◌, ◌/◌, if◌then◌else◌, slice_index_or, true, false}
+use Rattle.std.specs.Prelude.{◌≡◌, ℕ, ◌+◌, ◌-◌, ◌*◌, ◌/◌, if◌then◌else◌, slice_index_or, true, false}
 use Rattle.paraid_base.specs.declared.geometry.Geometry.{Geometry}
 use Rattle.paraid_base.specs.Log.{map_block_place, map_start}
 use Rattle.paraid_base.specs.Soft.{stripe_count}

@@ -1,6 +1,5 @@
 //! The shape of an array: only shapes that an array may have are values.
 ghost use Rattle.std.specs.Prelude.{◌≡◌, ℕ, ◌+◌, ◌-◌, ◌*◌, ◌/◌, ◌%◌, ◌<◌, ◌≤◌, ◌↔◌, length, slice_index_or, true, false, IsTrue};
-ghost use Rattle.paraid_base.specs.Regions.{array_blocks};
 
 use crate::{MAP_START, Place};
 
@@ -43,7 +42,7 @@ impl Geometry {
     ghost use Rattle.paraid_base.specs.Gears.{IsGeoFault, IsGearList, AreFlagsOf};
     ghost use Rattle.paraid_base.specs.Log.{map_start as map_start_of};
     ghost use Rattle.paraid_base.specs.Soft.{stripe_count};
-    ghost use Rattle.paraid_base.specs.Regions.{IsGear, map_count, disk_size, soft_start as soft_start_of};
+    ghost use Rattle.paraid_base.specs.Regions.{IsGear, array_blocks, map_count, disk_size, soft_start as soft_start_of};
 
     /// The geometry of so many disks and rows with these gears, which ascend and end with the
     /// number of disks. An empty list of gears is refused at 0.

@@ -15,7 +15,7 @@ ghost use Rattle.paraid_record.specs.declared.meta.Setup.{Setup as SetupType};
 ghost use Rattle.paraid_core.specs.CoreInvariant.{AreCopiesSynced};
 ghost use Rattle.paraid_machine.specs.Energy.{spin_up_energy};
 ghost use Rattle.paraid_machine.specs.Moves.{begun_down, begun_up, first_used_up};
-ghost use Rattle.paraid_session.specs.Turn.{GoesOn, Point, point_wear};
+ghost use Rattle.paraid_session.specs.Turn.{GoesOn, Point, point_wear, event_room};
 ghost use Rattle.paraid_event.specs.Moving.{GoesToState};
 ghost use Rattle.paraid_event.specs.Service.{Service};
 ghost use Rattle.paraid_event.specs.Stands.{StandsAt};
@@ -33,7 +33,7 @@ pub fn an_asked_shift_begins_in_steps()
         → AreCopiesSynced k_then.meta.setup.geometry.disks k_then.copied
         → GoesToState k_then (begun_up to p.state)
         → k_then.energy ≡ min (k.energy + spin_up_energy setup p.state.gear to) counter_most
-        → most ≤ 2 ^ 20
+        → most ≤ event_room
         → Ran told told_then (StepsInEvent k k_then p.history p.low most) → Ran told told_then
         (GoesOn k.slots setup p AskUp (Shift p.state.gear to) (StandsAt told_then k_then setup)) }
     ensures down { (told told_then : Option Trail)
@@ -42,7 +42,7 @@ pub fn an_asked_shift_begins_in_steps()
         → p.state.out ≡ No → next_lower setup.geometry p.state.gear ≡ Some to
         → to < p.state.gear → first_used_up setup p.state to ≡ None
         → AreCopiesSynced k_then.meta.setup.geometry.disks k_then.copied
-        → GoesToState k_then (begun_down to p.state) → k_then.energy ≡ k.energy → most ≤ 2 ^ 20
+        → GoesToState k_then (begun_down to p.state) → k_then.energy ≡ k.energy → most ≤ event_room
         → Ran told told_then (StepsInEvent k k_then p.history p.low most) → Ran told told_then
         (GoesOn k.slots setup p AskDown (Shift p.state.gear to) (StandsAt told_then k_then setup)) }
     ensures up_loses { (told told_then : Option Trail)
@@ -50,14 +50,14 @@ pub fn an_asked_shift_begins_in_steps()
         → StandsAt told k setup p → point_wear p < worn_at → p.state.phase ≡ Steady
         → p.state.out ≡ No → next_higher setup.geometry p.state.gear ≡ Some to → (used ≡ k.energy)
         ⊎ (used ≡ min (k.energy + spin_up_energy setup p.state.gear to) counter_most)
-        → most ≤ 2 ^ 20
+        → most ≤ event_room
         → Ran told told_then (LosesInSteps k p.history p.low most two) → Ran told told_then
         (GoesOn k.slots setup p AskUp (Halted (HaltTwo two)) (IsHaltedWith p (HaltTwo two) used)) }
     ensures down_loses { (told told_then : Option Trail) (k : Service)
         (setup : SetupType) (p : Point) (to most : ℕ) (two : TwoType) → StandsAt told k setup p
         → point_wear p < worn_at → p.state.phase ≡ Steady → p.state.out ≡ No
         → next_lower setup.geometry p.state.gear ≡ Some to → first_used_up setup p.state to ≡ None
-        → most ≤ 2 ^ 20 → Ran told told_then (LosesInSteps k p.history p.low most two)
+        → most ≤ event_room → Ran told told_then (LosesInSteps k p.history p.low most two)
         → Ran told told_then (GoesOn k.slots setup p AskDown
         (Halted (HaltTwo two)) (IsHaltedWith p (HaltTwo two) k.energy)) }
 {}
@@ -71,7 +71,7 @@ pub fn a_lost_disk_hinders_an_asked_shift()
         → p.state.out ≡ No → next_higher setup.geometry p.state.gear ≡ Some to
         → AreCopiesSynced k_then.meta.setup.geometry.disks k_then.copied
         → GoesToState k_then p.state
-        → named_out k_then.meta.out ≡ Some other → k_then.energy ≡ k.energy → most ≤ 2 ^ 20
+        → named_out k_then.meta.out ≡ Some other → k_then.energy ≡ k.energy → most ≤ event_room
         → Ran told told_then (StepsInEvent k k_then p.history p.low most) → Ran told told_then
         (GoesOn k.slots setup p AskUp (IsOut other) (StandsAt told_then k_then setup)) }
     ensures down { (told told_then : Option Trail) (k k_then : Service)
@@ -80,7 +80,7 @@ pub fn a_lost_disk_hinders_an_asked_shift()
         → next_lower setup.geometry p.state.gear ≡ Some to → first_used_up setup p.state to ≡ None
         → AreCopiesSynced k_then.meta.setup.geometry.disks k_then.copied
         → GoesToState k_then p.state
-        → named_out k_then.meta.out ≡ Some other → k_then.energy ≡ k.energy → most ≤ 2 ^ 20
+        → named_out k_then.meta.out ≡ Some other → k_then.energy ≡ k.energy → most ≤ event_room
         → Ran told told_then (StepsInEvent k k_then p.history p.low most) → Ran told told_then
         (GoesOn k.slots setup p AskDown (IsOut other) (StandsAt told_then k_then setup)) }
 {}

@@ -17,7 +17,7 @@ ghost use Rattle.paraid_image.specs.Lost.{TellsLosses};
 ghost use Rattle.paraid_core.specs.Calls.{IsOneCall};
 ghost use Rattle.paraid_machine.specs.Machine.{report};
 ghost use Rattle.paraid_machine.specs.Moves.{state_with_tick, units_to_rebuild};
-ghost use Rattle.paraid_session.specs.Turn.{GoesOn, Point, point_wear};
+ghost use Rattle.paraid_session.specs.Turn.{GoesOn, Point, point_wear, event_room};
 ghost use Rattle.paraid_event.specs.RebuildEnds.{FinishesRebuild, LosesFinishing, MarksRejoined, ParksBack};
 ghost use Rattle.paraid_event.specs.RebuildTicks.{CountsRebuild};
 ghost use Rattle.paraid_event.specs.Service.{Service};
@@ -33,7 +33,7 @@ pub fn a_tick_ends_a_rebuild()
         → StandsAt told k setup p → point_wear p < worn_at → p.state.out ≡ Fresh disk rebuilt
         → CountsRebuild k counted k_then → MarksRejoined counted k_then
         → units_to_rebuild setup (state_with_tick p.state) disk rebuilt ≤ setup.rate
-        → most + 1 ≤ 2 ^ 20 → Ran told before (StepsInEvent counted j p.history p.low most)
+        → most + 1 ≤ event_room → Ran told before (StepsInEvent counted j p.history p.low most)
         → FinishesRebuild before mid j back p.history p.low disk
         → ParksBack mid told_then back k_then p.history p.low disk
         → Ran told told_then (GoesOn k.slots setup p TickEvent
@@ -64,7 +64,7 @@ pub fn a_second_loss_ends_the_last_tick_of_a_rebuild()
         (setup : SetupType) (p : Point) (disk rebuilt most : ℕ) (two : TwoType)
         → StandsAt told k setup p → point_wear p < worn_at → p.state.out ≡ Fresh disk rebuilt
         → CountsTick k counted
-        → most + 1 ≤ 2 ^ 20 → Ran told before (StepsInEvent counted j p.history p.low most)
+        → most + 1 ≤ event_room → Ran told before (StepsInEvent counted j p.history p.low most)
         → LosesFinishing before told_then j p.history p.low disk two
         → Ran told told_then (GoesOn k.slots setup p TickEvent
         (Halted (HaltTwo two)) (IsHaltedWith p (HaltTwo two) counted.energy)) }

@@ -18,7 +18,7 @@ ghost use Rattle.paraid_record.specs.declared.meta.Setup.{Setup as SetupType};
 ghost use Rattle.paraid_core.specs.CoreInvariant.{AreCopiesSynced};
 ghost use Rattle.paraid_machine.specs.Energy.{spin_up_energy};
 ghost use Rattle.paraid_machine.specs.Moves.{begun_down, first_used_up, state_with_tick, units_left, units_of_tick};
-ghost use Rattle.paraid_session.specs.Turn.{GoesOn, Point, point_wear};
+ghost use Rattle.paraid_session.specs.Turn.{GoesOn, Point, point_wear, event_room};
 ghost use Rattle.paraid_event.specs.Moving.{EndsShift, GoesToState, MovesUnits, StartsShiftUp};
 ghost use Rattle.paraid_event.specs.Service.{Service};
 ghost use Rattle.paraid_event.specs.Stands.{StandsAt};
@@ -35,7 +35,7 @@ pub fn a_tick_moves_a_shift()
         → StandsAt told k setup p → point_wear p < worn_at → CountsTick k counted
         → p.state.out ≡ No → (p.state.phase ≡ Steady → ⊥) → k_then.energy ≡ counted.energy
         → AreCopiesSynced k_then.meta.setup.geometry.disks k_then.copied
-        → most ≤ 2 ^ 20 → MovesUnits counted k_then (units_of_tick setup (state_with_tick p.state))
+        → most ≤ event_room → MovesUnits counted k_then (units_of_tick setup (state_with_tick p.state))
         → k_then.meta.out ≡ No → (units_of_tick setup
         (state_with_tick p.state) == units_left setup (state_with_tick p.state)) ≡ false
         → Ran told told_then (StepsInEvent counted k_then p.history p.low most)
@@ -49,7 +49,7 @@ pub fn a_tick_moves_a_shift()
         (k counted k_then : Service) (setup : SetupType) (p : Point) (most moved disk : ℕ)
         → StandsAt told k setup p → point_wear p < worn_at → CountsTick k counted
         → p.state.out ≡ No → (p.state.phase ≡ Steady → ⊥) → k_then.energy ≡ counted.energy
-        → AreCopiesSynced k_then.meta.setup.geometry.disks k_then.copied → most ≤ 2 ^ 20
+        → AreCopiesSynced k_then.meta.setup.geometry.disks k_then.copied → most ≤ event_room
         → MovesUnits counted k_then moved → moved ≤ units_of_tick setup (state_with_tick p.state)
         → named_out k_then.meta.out ≡ Some disk
         → Ran told told_then (StepsInEvent counted k_then p.history p.low most)
@@ -61,7 +61,7 @@ pub fn a_tick_moves_a_shift()
         → StandsAt told k setup p → point_wear p < worn_at → CountsTick k counted
         → p.state.out ≡ No → (p.state.phase ≡ Steady → ⊥) → k_then.energy ≡ counted.energy
         → AreCopiesSynced k_then.meta.setup.geometry.disks k_then.copied
-        → most ≤ 2 ^ 20 → EndsShift counted k_then (units_of_tick setup (state_with_tick p.state))
+        → most ≤ event_room → EndsShift counted k_then (units_of_tick setup (state_with_tick p.state))
         → (units_of_tick setup
         (state_with_tick p.state) == units_left setup (state_with_tick p.state)) ≡ true
         → Ran told told_then (StepsInEvent counted k_then p.history p.low most)
@@ -73,7 +73,7 @@ pub fn a_tick_moves_a_shift()
         })) (StandsAt told_then k_then setup)) }
     ensures loses { (told told_then : Option Trail) (k counted : Service) (setup : SetupType)
         (p : Point) (most : ℕ) (two : TwoType) → StandsAt told k setup p → point_wear p < worn_at
-        → CountsTick k counted → p.state.out ≡ No → (p.state.phase ≡ Steady → ⊥) → most ≤ 2 ^ 20
+        → CountsTick k counted → p.state.out ≡ No → (p.state.phase ≡ Steady → ⊥) → most ≤ event_room
         → Ran told told_then (LosesInSteps counted p.history p.low most two)
         → Ran told told_then (GoesOn k.slots setup p TickEvent (Halted (HaltTwo two))
         (IsHaltedWith p (HaltTwo two) counted.energy)) }
@@ -89,7 +89,7 @@ pub fn a_tick_begins_a_shift_up()
         → AreCopiesSynced k_then.meta.setup.geometry.disks k_then.copied
         → StartsShiftUp counted k_then to → k_then.energy
         ≡ min (counted.energy + spin_up_energy setup p.state.gear to) counter_most
-        → most ≤ 2 ^ 20 → Ran told told_then (StepsInEvent counted k_then p.history p.low most)
+        → most ≤ event_room → Ran told told_then (StepsInEvent counted k_then p.history p.low most)
         → Ran told told_then (GoesOn k.slots setup p TickEvent
         (Ticked (record { gear = k_then.meta.gear; moved = 0; event = Begun to }))
         (StandsAt told_then k_then setup)) }
@@ -99,7 +99,7 @@ pub fn a_tick_begins_a_shift_up()
         → decision setup p.state.gear (state_with_tick p.state).samples ≡ DecideUp to
         → (used ≡ counted.energy)
         ⊎ (used ≡ min (counted.energy + spin_up_energy setup p.state.gear to) counter_most)
-        → most ≤ 2 ^ 20 → Ran told told_then (LosesInSteps counted p.history p.low most two)
+        → most ≤ event_room → Ran told told_then (LosesInSteps counted p.history p.low most two)
         → Ran told told_then (GoesOn k.slots setup p TickEvent
         (Halted (HaltTwo two)) (IsHaltedWith p (HaltTwo two) used)) }
 {}
@@ -114,7 +114,7 @@ pub fn a_tick_begins_a_shift_down_in_steps()
         → AreCopiesSynced k_then.meta.setup.geometry.disks k_then.copied
         → GoesToState k_then (begun_down to (state_with_tick p.state))
         → k_then.energy ≡ counted.energy
-        → most ≤ 2 ^ 20 → Ran told told_then (StepsInEvent counted k_then p.history p.low most)
+        → most ≤ event_room → Ran told told_then (StepsInEvent counted k_then p.history p.low most)
         → Ran told told_then (GoesOn k.slots setup p TickEvent
         (Ticked (record { gear = k_then.meta.gear; moved = 0; event = Begun to }))
         (StandsAt told_then k_then setup)) }
@@ -122,7 +122,7 @@ pub fn a_tick_begins_a_shift_down_in_steps()
         (p : Point) (most to : ℕ) (two : TwoType) → StandsAt told k setup p → point_wear p < worn_at
         → CountsTick k counted → p.state.out ≡ No → p.state.phase ≡ Steady
         → decision setup p.state.gear (state_with_tick p.state).samples ≡ DecideDown to
-        → first_used_up setup (state_with_tick p.state) to ≡ None → most ≤ 2 ^ 20
+        → first_used_up setup (state_with_tick p.state) to ≡ None → most ≤ event_room
         → Ran told told_then (LosesInSteps counted p.history p.low most two)
         → Ran told told_then (GoesOn k.slots setup p TickEvent (Halted (HaltTwo two))
         (IsHaltedWith p (HaltTwo two) counted.energy)) }

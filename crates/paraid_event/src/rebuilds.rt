@@ -13,7 +13,7 @@ ghost use Rattle.paraid_rack.specs.Trail.{Trail, now};
 ghost use Rattle.paraid_record.specs.declared.meta.Setup.{Setup as SetupType};
 ghost use Rattle.paraid_machine.specs.Machine.{report};
 ghost use Rattle.paraid_machine.specs.Moves.{state_with_tick, units_to_rebuild};
-ghost use Rattle.paraid_session.specs.Turn.{GoesOn, Point, point_wear};
+ghost use Rattle.paraid_session.specs.Turn.{GoesOn, Point, point_wear, event_room};
 ghost use Rattle.paraid_event.specs.RebuildTicks.{CountsRebuild, MarksGoneAgain, MarksRebuilt};
 ghost use Rattle.paraid_event.specs.Service.{Service};
 ghost use Rattle.paraid_event.specs.Stands.{StandsAt};
@@ -28,13 +28,13 @@ pub fn a_tick_moves_units_of_a_rebuild()
         → StandsAt told k setup p → point_wear p < worn_at → p.state.out ≡ Fresh disk rebuilt
         → CountsRebuild k counted k_then → MarksRebuilt counted k_then disk (rebuilt + setup.rate)
         → setup.rate < units_to_rebuild setup (state_with_tick p.state) disk rebuilt
-        → most ≤ 2 ^ 20 → Ran told told_then (StepsInEvent counted k_then p.history p.low most)
+        → most ≤ event_room → Ran told told_then (StepsInEvent counted k_then p.history p.low most)
         → Ran told told_then (GoesOn k.slots setup p TickEvent
         (report p.state setup.rate Moving).0 (StandsAt told_then k_then setup)) }
     ensures gone { (told told_then : Option Trail) (k counted k_then : Service) (setup : SetupType)
         (p : Point) (disk rebuilt most : ℕ) → StandsAt told k setup p → point_wear p < worn_at
         → p.state.out ≡ Fresh disk rebuilt → CountsRebuild k counted k_then
-        → MarksGoneAgain counted k_then disk → most ≤ 2 ^ 20
+        → MarksGoneAgain counted k_then disk → most ≤ event_room
         → ((t : Trail) → told_then ≡ Some t → is_present ((now t).power disk) ≡ false)
         → Ran told told_then (StepsInEvent counted k_then p.history p.low most)
         → Ran told told_then (GoesOn k.slots setup p TickEvent (report p.state 0 (GoneAgain disk)).0
@@ -45,7 +45,7 @@ pub fn a_tick_moves_units_of_a_rebuild()
 pub fn a_second_loss_ends_a_tick_that_rebuilds()
     ensures { (told told_then : Option Trail) (k counted : Service) (setup : SetupType) (p : Point)
         (disk rebuilt most : ℕ) (two : TwoType) → StandsAt told k setup p → point_wear p < worn_at
-        → p.state.out ≡ Fresh disk rebuilt → CountsTick k counted → most ≤ 2 ^ 20
+        → p.state.out ≡ Fresh disk rebuilt → CountsTick k counted → most ≤ event_room
         → Ran told told_then (LosesInSteps counted p.history p.low most two)
         → Ran told told_then (GoesOn k.slots setup p TickEvent (Halted (HaltTwo two))
         (IsHaltedWith p (HaltTwo two) counted.energy)) }

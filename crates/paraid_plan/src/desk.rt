@@ -74,7 +74,13 @@ pub trait WritePlan {
         ensures leads { leads self.old self.new };
 
     /// Reads a block past the log, of a disk that is powered and not out.
-    fn stored(&mut self, m: &Meta, disk: DiskNo, place: Place, into: &mut Block) -> Result<(), PlanLost>
+    fn stored(
+        &mut self,
+        m: &Meta,
+        disk: DiskNo,
+        place: Place,
+        into: &mut Block,
+    ) -> Result<(), PlanLost>
         requires serves { serves self.old m.now }
         requires in_range { IsInRange m.now }
         requires disk { disk < m.now.setup.geometry.disks }

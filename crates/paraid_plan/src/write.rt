@@ -193,7 +193,12 @@ fn write_row<P: WritePlan>(plan: &mut P, m: &Meta, pairs: &Pairs, r: Row) -> Res
 }
 
 // Writes the row of one pair, unless a pair before it lies in the same row.
-fn write_row_of<P: WritePlan>(plan: &mut P, m: &Meta, pairs: &Pairs, at: usize) -> Result<(), PlanLost>
+fn write_row_of<P: WritePlan>(
+    plan: &mut P,
+    m: &Meta,
+    pairs: &Pairs,
+    at: usize,
+) -> Result<(), PlanLost>
     requires serves { P.serves plan.old m.now }
     requires in_range { IsInRange m.now }
     requires at { at < pairs.now.count }

@@ -277,7 +277,11 @@ fn bring_up<R: Rack>(
 /// The memory for the dirty table is taken after reads alone and before the first write, that for
 /// the batch of the second log disk before all. What was in `batch` is dropped. A disk that fails
 /// goes out; where a second one is down, the mount names both.
-pub fn mount_with<R: Rack>(alloc: Global, batch: Batch, rack: R) -> Result<Mounted<R>, MountRefused<R>>
+pub fn mount_with<R: Rack>(
+    alloc: Global,
+    batch: Batch,
+    rack: R,
+) -> Result<Mounted<R>, MountRefused<R>>
     ensures slots { IfOk result (λ it. R.slot_count (store_rack it.store) ≡ R.slot_count rack) }
     ensures refused_slots { IfErr result (λ refused. R.slot_count refused.rack
         ≡ R.slot_count rack) }

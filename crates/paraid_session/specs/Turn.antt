@@ -166,9 +166,13 @@ abbrev pub awaited_by : Answer → Option ℕ → Option ℕ
 awaited_by (Failed d) awaited = Some d
 awaited_by answer awaited = awaited
 
+-- the most commits that one event makes
+abbrev pub event_room : ℕ
+event_room = 2 ^ 20
+
 -- what bounds the metas that stand during an event
 abbrev pub bounds_at : Setup → Point → PowerState → Bounds
-bounds_at setup p s = record { setup = setup; epoch = p.meta.epoch + 2 ^ 20; ticks = s.ticks }
+bounds_at setup p s = record { setup = setup; epoch = p.meta.epoch + event_room; ticks = s.ticks }
 
 -- a tick counts itself first
 abbrev pub bounds_of : Setup → Point → Event → Bounds

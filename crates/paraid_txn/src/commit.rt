@@ -476,10 +476,10 @@ fn run_witnessed<R: Rack>(
     bear_after(rack, losses, meta, borne)
 }
 
-// The log disk whose gate opens first: one that comes in again, by who was named out and who is.
-fn opens_first(was: Option<DiskNo>, now: Option<DiskNo>) -> DiskNo
+// The log disk whose gate opens first: the one that was named out, since it may come in again.
+fn opens_first(was: Option<DiskNo>) -> DiskNo
     ensures log_disk { result < 2 }
-    ensures joins { (x : ℕ) → x < 2 → was ≡ Some x → now ≢ Some x → result ≡ x }
+    ensures joins { (x : ℕ) → x < 2 → was ≡ Some x → result ≡ x }
 {
     match was {
         Some(1) => 1,
@@ -595,7 +595,7 @@ impl<R: Rack> Store<R> {
             down: out_first(absent, self.named, named),
             lost: None,
         };
-        let first = opens_first(self.named, named);
+        let first = opens_first(self.named);
         let borne = self.borne;
         self.borne = None; // unless it ends
         let borne = run_witnessed(

@@ -95,7 +95,9 @@ fn can_bear<R: Rack>(rack: &R, skip: Option<DiskNo>, place: Place) -> bool
         × (place < (R.slot rack.now 2).size) }
     ensures cannot { result ≡ false → CannotSet (R.slot rack.now) skip place }
 {
-    skip != Some(WITNESS_DISK) && rack.power(WITNESS_DISK) == Power::Spinning && place < rack.size(WITNESS_DISK)
+    skip != Some(WITNESS_DISK)
+        && rack.power(WITNESS_DISK) == Power::Spinning
+        && place < rack.size(WITNESS_DISK)
 }
 
 // Writes the place of a witness and makes disk 2 keep it.

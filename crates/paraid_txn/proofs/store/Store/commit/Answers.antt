@@ -48,7 +48,7 @@ spelled g c start = record {
 -- a log disk that comes in again is the first
 joins : (g : Over) (c : After-run_witnessed g) (before : Meta) → c.args.self.now.named ≡ named_out before.out
     → (x : ℕ) → x < 2 → named_out before.out ≡ Some x → named_out c.args.meta.now.out ≢ Some x → c.opens_first-first.result ≡ x
-joins g c before named x low was not = c.opens_first-first.ensures.joins x low (named ∙ was) (λ e. not (sym c.named-named.ensures ∙ e))
+joins g c before named x low was not = c.opens_first-first.ensures.joins x low (named ∙ was)
 
 -- the disk that is down as it begins
 down_is : (g : Over) (c : After-run_witnessed g) → c.out_first.result
