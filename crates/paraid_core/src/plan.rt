@@ -1,8 +1,8 @@
 //! A core as that over which a write is planned: what is drafted is seen by the reads of the plan,
 //! and nothing of it is staged yet.
-ghost use Rattle.std.specs.Prelude.{◌++◌, ◌≡◌, ◌≢◌, ℕ, ◌+◌, ◌<◌, ◌≤◌, Some, Option, IfErr, IsSome, IsTrue, ◌↔◌, OnOk, length, false, []};
+ghost use Rattle.std.specs.Prelude.{◌++◌, ◌≡◌, ◌≢◌, ℕ, ◌+◌, ◌<◌, ◌≤◌, Some, Option, IfErr, IsSome, OnOk, length, false, []};
 ghost use Rattle.paraid_core.specs.Undo.{AreOfTable, undo_changes};
-ghost use Rattle.paraid_dirty.specs.Table.{table_with_bit, is_dirty};
+ghost use Rattle.paraid_dirty.specs.Table.{is_dirty};
 ghost use Rattle.paraid_image.specs.Standing.{Contents};
 ghost use Rattle.paraid_plan.specs.WriteTargets.{soft_count, stripe_block_now};
 ghost use Rattle.paraid_rack.specs.Told.{Ran};
@@ -19,14 +19,7 @@ use paraid_plan::{PlanLost, WritePlan};
 use paraid_rack::Rack;
 use paraid_record::{Meta, Target};
 use paraid_txn::{Batch, Store};
-use paraid_view::{Draft, read_laid, read_rest, read_value};
-
-// Whether this disk is out.
-fn is_at(out: Option<DiskNo>, disk: DiskNo) -> bool
-    ensures { IsTrue result ↔ (out ≡ Some disk) }
-{
-    out == Some(disk)
-}
+use paraid_view::{Draft, is_at, read_laid, read_rest, read_value};
 
 // A block of a stripe of the current region, or where it is on the disk that is out the XOR of the
 // others.
@@ -64,21 +57,6 @@ fn read_stripe<R: Rack>(
     read_laid(store, batch, draft, e, place, into)
 }
 
-// Makes a cell dirty or clean.
-fn turn(dirty: &mut DirtyTable, r: Row, d: DiskNo, bit: bool)
-    requires row { r < length dirty.old }
-    requires disk { d < 8 }
-    ensures rows { length dirty.new ≡ length dirty.old }
-    ensures cells { (q e : ℕ)
-        → is_dirty dirty.new q e ≡ table_with_bit (is_dirty dirty.old) r d bit q e }
-{
-    if bit {
-        dirty.set(r, d);
-        return;
-    }
-    dirty.clear(r, d);
-}
-
 // Makes the dirty bits what they were before the changes.
 pub(crate) fn undo(changes: &mut Changes, dirty: &mut DirtyTable)
     requires logged { AreOfTable (length dirty.old) changes.old }
@@ -87,7 +65,7 @@ pub(crate) fn undo(changes: &mut Changes, dirty: &mut DirtyTable)
     ensures none { changes.new ≡ [] }
 {
     while let Some(change) = changes.pop() {
-        turn(dirty, change.row, change.disk, change.was);
+        dirty.put(change.row, change.disk, change.was);
     }
 }
 
@@ -199,7 +177,7 @@ impl<R: Rack> WritePlan for Core<R> {
     fn set_dirty(&mut self, m: &Meta, r: Row, d: DiskNo, bit: bool) {
         let was = self.dirty.has(r, d);
         self.changes.push(r, d, was);
-        turn(&mut self.dirty, r, d, bit);
+        self.dirty.put(r, d, bit);
     }
 
     fn map_block(&mut self, j: u32, into: &mut Block) {

@@ -95,6 +95,21 @@ impl DirtyTable {
         unmark(&mut self.marks, at, word);
     }
 
+    /// Makes the cell of row `r` and disk `d` dirty or clean.
+    pub fn put(&mut self, r: Row, d: DiskNo, dirty: bool)
+        requires row { r < length self.old }
+        requires disk { d < 8 }
+        ensures rows { length self.new ≡ length self.old }
+        ensures cells { (q e : ℕ)
+            → is_dirty self.new q e ≡ table_with_bit (is_dirty self.old) r d dirty q e }
+    {
+        if dirty {
+            self.set(r, d);
+            return;
+        }
+        self.clear(r, d);
+    }
+
     /// Whether the cell of row `r` and disk `d` is dirty.
     pub fn has(&self, r: Row, d: DiskNo) -> bool
         requires row { r < length self.now }

@@ -9,10 +9,11 @@ ghost use Rattle.paraid_recover.specs.Calls.{OnlyReadsAndKeeps, OnlyReads};
 ghost use Rattle.paraid_recover.specs.Found.{IsEpochOf, IsGreatestOf, IsMetaOf, greater_of};
 ghost use Rattle.paraid_recover.specs.HeardSides.{HasReadLog};
 
-use crate::reads::{opens, read_place};
+use crate::reads::read_place;
 use paraid_base::{BATCH_META, Block, DiskNo, FIRST_LIST, Failed, GATE, META};
 use paraid_rack::{Power, Rack};
 use paraid_record::{Meta, read_meta, read_targets};
+use paraid_txn::opens;
 
 // The meta that a log disk says by a closed gate.
 fn hear_closed<R: Rack>(rack: &mut R, disk: DiskNo) -> Result<Option<Meta>, Failed>

@@ -8,11 +8,11 @@ ghost use Rattle.paraid_record.specs.Targets.{no_target, targets_of};
 ghost use Rattle.paraid_recover.specs.HeardSides.{HasReadLog, IsHeard, IsInForm};
 ghost use Rattle.paraid_image.specs.Sides.{AreBlocksLogged, is_open, stored_block, targets};
 
-use crate::reads::{opens, read_place};
+use crate::reads::read_place;
 use paraid_base::{BATCH_META, Block, DiskNo, FIRST_BODY, FIRST_LIST, Failed, GATE, META};
 use paraid_rack::Rack;
 use paraid_record::{Meta, Target, Targets, read_meta, read_targets};
-use paraid_txn::Batch;
+use paraid_txn::{Batch, opens};
 
 /// What a log disk says, with its batch beside it.
 #[derive(Clone, Copy)]

@@ -3,7 +3,7 @@ ghost use Rattle.std.specs.Prelude.{◌≡◌, ◌≢◌, ℕ, ◌+◌, ◌*◌,
 ghost use Rattle.paraid_base.specs.Log.{log_least};
 ghost use Rattle.paraid_base.specs.Regions.{map_count};
 ghost use Rattle.paraid_dirty.specs.Bits.{bit_of};
-ghost use Rattle.paraid_dirty.specs.Table.{table_with_bit, is_dirty};
+ghost use Rattle.paraid_dirty.specs.Table.{is_dirty};
 ghost use Rattle.paraid_rack.specs.declared.call.Call.TheVariants.{Read};
 ghost use Rattle.paraid_rack.specs.Told.{GrowsByCall, Ran};
 ghost use Rattle.paraid_rack.specs.declared.call.Power.TheVariants.{Spinning};
@@ -30,21 +30,6 @@ fn has_bit(byte: u8, disk: DiskNo) -> bool
     byte >> disk & 1 == 1
 }
 
-// Makes a cell dirty or clean.
-fn put_bit(table: &mut DirtyTable, row: Row, disk: DiskNo, dirty: bool)
-    requires row { row < length table.old }
-    requires disk { disk < 8 }
-    ensures rows { length table.new ≡ length table.old }
-    ensures cells { (q e : ℕ) → is_dirty table.new q e
-        ≡ table_with_bit (is_dirty table.old) row disk dirty q e }
-{
-    if dirty {
-        table.set(row, disk);
-        return;
-    }
-    table.clear(row, disk);
-}
-
 // Takes the bits of a row, if it is one of the table. Most rows have them already.
 fn take_row(table: &mut DirtyTable, row: Row, byte: u8)
     ensures rows { length table.new ≡ length table.old }
@@ -60,7 +45,7 @@ fn take_row(table: &mut DirtyTable, row: Row, byte: u8)
         return;
     }
     for disk in 0..8 {
-        put_bit(table, row, disk, has_bit(byte, disk));
+        table.put(row, disk, has_bit(byte, disk));
     }
 }
 

@@ -4,17 +4,10 @@ ghost use Rattle.paraid_base.specs.Log.{log_most};
 ghost use Rattle.paraid_rack.specs.declared.call.Power.TheVariants.{Spinning};
 ghost use Rattle.paraid_rack.specs.Trail.{Trail, now};
 ghost use Rattle.paraid_recover.specs.HeardSides.{HasReadLog};
-ghost use Rattle.paraid_image.specs.Sides.{is_open, stored_block};
+ghost use Rattle.paraid_image.specs.Sides.{stored_block};
 
 use paraid_base::{Block, DiskNo, Failed, Place};
 use paraid_rack::Rack;
-
-/// Whether a gate is open.
-pub fn opens(gate: &Block) -> bool
-    ensures { result ≡ is_open gate.now }
-{
-    gate.as_slice()[0] != 0
-}
 
 /// Reads a block of a log; a place past the size of the disk counts as zeros.
 pub fn read_place<R: Rack>(

@@ -3,17 +3,16 @@
 ghost use Rattle.std.specs.Prelude.{◌≡◌, ◌<◌, ◌≤◌, ℕ, true, Some, OnOk, IfErr, is_ok};
 ghost use Rattle.paraid_rack.specs.declared.call.Power.TheVariants.{Spinning};
 ghost use Rattle.paraid_image.specs.Out.{named_out};
-ghost use Rattle.paraid_image.specs.Sides.{is_open};
 ghost use Rattle.paraid_recover.specs.Bearing.{CanBear, HasBorne, IsNamedLog};
 ghost use Rattle.paraid_recover.specs.Witness.{IsUnwitnessed, IsWitnessed};
 ghost use Rattle.paraid_txn.specs.Losses.{CanWrite};
 ghost use Rattle.paraid_txn.specs.Stores.{store_rack};
 
-use crate::reads::{opens, read_place};
+use crate::reads::read_place;
 use paraid_base::{Block, DiskNo, Two, WITNESS_DISK};
 use paraid_rack::{Power, Rack};
 use paraid_record::Meta;
-use paraid_txn::{Lost, Store};
+use paraid_txn::{Lost, Store, gate, opens};
 
 /// Where log disk `side` stands and the other one is absent, the place of the witness against
 /// `side` on disk 2 is read: if it is open, `side` was named out and is refused.
@@ -46,15 +45,6 @@ pub fn heed<R: Rack>(rack: &mut R, side: DiskNo) -> Result<(), Two>
     Ok(())
 }
 
-// What a place holds that bears witness.
-fn borne() -> Block
-    ensures { is_open result ≡ true }
-{
-    let mut block = Block::zero();
-    block.set(0, 1);
-    block
-}
-
 // Opens the place of the witness against a log disk, and makes disk 2 keep it.
 fn open_place<R: Rack>(store: &mut Store<R>, disk: DiskNo) -> Result<(), Lost>
     requires log_disk { disk < 2 }
@@ -63,7 +53,7 @@ fn open_place<R: Rack>(store: &mut Store<R>, disk: DiskNo) -> Result<(), Lost>
     requires within { 1 < (R.slot (store_rack store.old) 2).size }
     ensures { HasBorne R.Rack (Some disk) store.old store.new (is_ok result) }
 {
-    let opened = borne();
+    let opened = gate(true);
     match store.write_free(WITNESS_DISK, u32::from(disk), &opened) {
         Ok(()) => store.sync(WITNESS_DISK),
         Err(lost) => Err(lost),

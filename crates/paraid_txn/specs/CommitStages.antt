@@ -11,7 +11,7 @@ use Rattle.paraid_record.specs.Targets.{AreTargets, targets_bytes}
 use Rattle.paraid_txn.specs.Commit.{gone_out}
 use Rattle.paraid_image.specs.Neutral.{names_place}
 use Rattle.paraid_image.specs.Out.{IsAtMostOneMissing, IsMissing, named_out, out_disk}
-use Rattle.paraid_image.specs.Sides.{Batch, LogState, Says, Spells, closed_over, is_open, stored_block, targets}
+use Rattle.paraid_image.specs.Sides.{Batch, LogState, Says, Spells, closed_over, is_open, log_state, stored_block, targets}
 use Rattle.paraid_image.specs.Sound.{AreWitnessesTrue}
 use Rattle.paraid_image.specs.Batches.{batch_blocks}
 use Rattle.paraid_image.specs.Standing.{overlaid_block, other_log}

@@ -13,7 +13,7 @@ use Rattle.paraid_txn.specs.Ready.{AreTargetsReady, IsLogReady}
 use Rattle.paraid_image.specs.Rest.{AreLogGatesClosed, IsAtRest, AreSynced}
 use Rattle.paraid_txn.specs.Commit.{KeepsSlots, IsEachImage, IsOneMissing, ImageStandsFor, gone_out}
 use Rattle.paraid_image.specs.Out.{named_out}
-use Rattle.paraid_image.specs.Sides.{LogState, Says, is_open, targets}
+use Rattle.paraid_image.specs.Sides.{Batch, LogState, Says, is_open, targets}
 use Rattle.paraid_image.specs.Sound.{LogOk}
 use Rattle.paraid_txn.specs.CommitStages.{AllSynced, IsBlock, IsLateImage, IsLiveLog, Job, KeepsSlotsAndLogs, LeavesAside, SyncedBut, block_before, job_map_start, job_named, open_with}
 use Rattle.paraid_image.specs.Standing.{Stands, other_log}

@@ -37,7 +37,7 @@ ghost use Rattle.paraid_txn.specs.CrashSpecification.{CrashSpecification};
 ghost use Rattle.paraid_txn.specs.Losses.{CanWrite, StaySynced, StaySyncedBut, IsSyncedAt, IsOutOfCommit};
 ghost use Rattle.paraid_txn.specs.Uses.{EachCall, Uses, UsesInCommit, UsesLog, UsesTarget, UsesWitness};
 ghost use Rattle.paraid_txn.specs.Ready.{AreTargetsReady, CanCommit, IsLogReady};
-ghost use Rattle.paraid_image.specs.Sides.{is_open, targets};
+ghost use Rattle.paraid_image.specs.Sides.{targets};
 ghost use Rattle.paraid_rack.specs.Disks.{Disks, is_present};
 ghost use Rattle.paraid_rack.specs.declared.call.Power.TheVariants.{Absent};
 ghost use Rattle.paraid_rack.specs.Trail.{run};
@@ -56,23 +56,13 @@ ghost use Rattle.paraid_record.specs.Targets.{AreTargets, targets_bytes};
 use crate::batch::Batch;
 use crate::bearing::{Bearing, Witness};
 use crate::calls::{put, put_synced, sync_slot};
+use crate::gates::gate;
 use crate::losses::Losses;
 use crate::store::{Store, find_absent, out_first};
 use crate::witness::{first_witness, last_witness, set_witness};
 use paraid_base::{BATCH_META, Block, DiskNo, FIRST_BODY, FIRST_LIST, GATE, META, Two};
 use paraid_rack::Rack;
 use paraid_record::{Meta, write_meta, write_targets};
-
-/// An open gate, or a closed one.
-pub fn gate(opened: bool) -> Block
-    ensures { is_open result ≡ opened }
-{
-    let mut block = Block::zero();
-    if opened {
-        block.set(0, 1);
-    }
-    block
-}
 
 // Step 1: the blocks of the batch, on one log disk.
 fn put_blocks<R: Rack>(

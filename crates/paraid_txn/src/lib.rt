@@ -10,6 +10,7 @@ mod batch;
 mod bearing;
 mod calls;
 mod commit;
+mod gates;
 pub mod laws;
 mod losses;
 mod ready;
@@ -19,5 +20,6 @@ mod sync;
 mod witness;
 
 pub use batch::{Batch, Full};
+pub use gates::{gate, opens};
 pub use resume::ResumeRefused;
 pub use store::{Lost, Store};

@@ -26,19 +26,13 @@ ghost use Rattle.paraid_image.specs.Standing.{other_log};
 
 use crate::batch::Batch;
 use crate::calls::{put_synced, take};
-use crate::commit::{finish, gate, lay_all, spell_meta, spell_targets, write_log};
+use crate::commit::{finish, lay_all, spell_meta, spell_targets, write_log};
+use crate::gates::{gate, opens};
 use crate::losses::Losses;
 use crate::store::{Store, find_absent, out_first};
 use paraid_base::{Block, DiskNo, GATE, META, Two};
 use paraid_rack::Rack;
 use paraid_record::Meta;
-
-// Whether a gate is open.
-fn opens(gate: &Block) -> bool
-    ensures { result ≡ is_open gate.now }
-{
-    gate.as_slice()[0] != 0
-}
 
 // The batch is brought to the log disk beside `side`, if that one is live and its gate is closed.
 fn catch_up<R: Rack>(

@@ -17,7 +17,7 @@ ghost use Rattle.paraid_txn.specs.Witness.{CannotSet, IsFirstWitness, IsLastWitn
 
 use crate::bearing::{Bearing, Witness};
 use crate::calls::{put, sync_slot};
-use crate::commit::gate;
+use crate::gates::gate;
 use crate::losses::Losses;
 use paraid_base::{Block, DiskNo, Place, Two, WITNESS_DISK};
 use paraid_rack::{Power, Rack};

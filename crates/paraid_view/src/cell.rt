@@ -22,8 +22,8 @@ use paraid_rack::{Power, Rack};
 use paraid_record::Meta;
 use paraid_txn::{Batch, Store};
 
-// Whether this disk is out.
-fn is_at(out: Option<DiskNo>, disk: DiskNo) -> bool
+/// Whether this disk is out.
+pub fn is_at(out: Option<DiskNo>, disk: DiskNo) -> bool
     ensures { IsTrue result ↔ (out ≡ Some disk) }
 {
     out == Some(disk)

@@ -7,6 +7,6 @@ mod draft;
 mod laid;
 mod spot;
 
-pub use cell::{read_cell, read_others, read_value};
+pub use cell::{is_at, read_cell, read_others, read_value};
 pub use draft::Draft;
 pub use laid::{read_laid, read_rest};

@@ -9,7 +9,7 @@ loop-change-preserved c =
     let at = c.loop-change.invariant in
     let parts = logged_last (length c.loop-change.dirty) c.loop-change.changes c.pop.new.self c.in-Some.change c.in-Some.ensures at.logged in
     record {
-      logged = subst (λ (n : ℕ). AreOfTable n c.pop.new.self) (sym c.turn.ensures.rows) parts.0;
-      rows = c.turn.ensures.rows ∙ at.rows;
-      bits = undone_last c.loop-change.changes c.pop.new.self c.in-Some.change (is_dirty c.loop-change.dirty) (is_dirty c.turn.new.dirty) c.in-Some.ensures c.turn.ensures.cells ∙ at.bits;
+      logged = subst (λ (n : ℕ). AreOfTable n c.pop.new.self) (sym c.put.ensures.rows) parts.0;
+      rows = c.put.ensures.rows ∙ at.rows;
+      bits = undone_last c.loop-change.changes c.pop.new.self c.in-Some.change (is_dirty c.loop-change.dirty) (is_dirty c.put.new.self) c.in-Some.ensures c.put.ensures.cells ∙ at.bits;
     }

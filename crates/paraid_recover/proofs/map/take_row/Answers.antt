@@ -8,7 +8,7 @@ use Rattle.paraid_recover.proofs.map.take_row.Goals as goal
 pub loop-disk-preserved : goal.loop-disk-preserved
 loop-disk-preserved c =
     let before = c.loop-disk.invariant in
-    let call = c.put_bit.ensures in
+    let call = c.put.ensures in
     record {
       rows = call.rows ∙ before.rows;
       here = λ d below. call.cells c.args.row d ∙ elim (cases_eq d c.loop-disk.disk) [

@@ -18,7 +18,7 @@ returns-in-Err g c =
     let at = goal.at.returns-in-Err g c in
     let call = c.in-Err.ensures in
     borne_failed g.R.Rack (Some c.args.disk) c.args.store.now c.write_free.new.self
-    (bearer_call g.R.Rack (Some c.args.disk) c.args.store.now c.write_free.new.self (λ done. Write 2 c.from.result c.borne-opened.result done)
+    (bearer_call g.R.Rack (Some c.args.disk) c.args.store.now c.write_free.new.self (λ done. Write 2 c.from.result c.gate-opened.result done)
     (record (g.R.Rack.slot (store_rack c.args.store.now) 2) { unsynced = true }) true false call.slots call.same refl refl refl call.slot call.told (refl, named g at.After-write_free) refl
     (λ s tells. (g.met.R.Rack.agrees (store_rack c.args.store.now) s tells).power 2 ∙ c.requires.spinning) (ap is_present c.requires.spinning))
 
@@ -29,7 +29,7 @@ returns-in-Ok g c =
     let o = Some c.args.disk in
     let mid = c.write_free.new.self in
     let name = named g at.After-write_free in
-    let first = bearer_call g.R.Rack o c.args.store.now mid (λ done. Write 2 c.from.result c.borne-opened.result done)
+    let first = bearer_call g.R.Rack o c.args.store.now mid (λ done. Write 2 c.from.result c.gate-opened.result done)
     (record (g.R.Rack.slot (store_rack c.args.store.now) 2) { unsynced = true }) true true call.slots call.same refl refl refl call.slot call.told (refl, name) refl
     (λ s tells. (g.met.R.Rack.agrees (store_rack c.args.store.now) s tells).power 2 ∙ c.requires.spinning) (ap is_present c.requires.spinning) in
     let spins = (first.well refl).power ∙ c.requires.spinning in
@@ -37,4 +37,4 @@ returns-in-Ok g c =
     let second = bearer_call g.R.Rack o mid c.sync.new.self (λ ok. Sync 2 ok) (record (g.R.Rack.slot (store_rack mid) 2) { unsynced = false }) (g.R.Rack.slot (store_rack mid) 2).unsynced done
     c.sync.ensures.slots c.sync.ensures.same refl refl refl c.sync.ensures.slot c.sync.ensures.told (refl, c.from.result, name) refl
     (λ s tells. (g.met.R.Rack.agrees (store_rack mid) s tells).power 2 ∙ spins) (ap is_present spins) in
-    borne_write g.R.Rack o c.args.store.now mid c.sync.new.self c.from.result c.borne-opened.result done name.0 c.borne-opened.ensures first second (λ is. ap (λ (s : Slot). s.unsynced) (c.sync.ensures.slot.done is)) call.told c.sync.ensures.told
+    borne_write g.R.Rack o c.args.store.now mid c.sync.new.self c.from.result c.gate-opened.result done name.0 c.gate-opened.ensures first second (λ is. ap (λ (s : Slot). s.unsynced) (c.sync.ensures.slot.done is)) call.told c.sync.ensures.told

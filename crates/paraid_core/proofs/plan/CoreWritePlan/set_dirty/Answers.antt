@@ -11,7 +11,7 @@ use Rattle.paraid_core.proofs.plan.CoreWritePlan.set_dirty.Goals as goal
 pub returns-clause-desk : goal.returns-clause-desk
 returns-clause-desk g c =
     let old = c.args.self.now in
-    desk_bit (overlaid_blocks old.draft (base_of (g.R.Rack.told (store_rack old.store)) old.batch)) (is_dirty old.dirty) (is_dirty c.turn.new.dirty) old.draft c.args.r c.args.d c.args.bit c.turn.ensures.cells
+    desk_bit (overlaid_blocks old.draft (base_of (g.R.Rack.told (store_rack old.store)) old.batch)) (is_dirty old.dirty) (is_dirty c.put.new.self) old.draft c.args.r c.args.d c.args.bit c.put.ensures.cells
 
 pub returns-clause-leads : goal.returns-clause-leads
 returns-clause-leads g c =
@@ -29,9 +29,9 @@ returns-clause-leads g c =
       meta = stay.meta;
       batch = stay.batch;
       copied = stay.copied;
-      rows = c.turn.ensures.rows;
-      undone_same = undone_change old.changes c.push.new.self (is_dirty old.dirty) (is_dirty c.turn.new.dirty) change c.args.bit c.push.ensures c.has-was.ensures c.turn.ensures.cells;
-      logged = λ are. logged_more _ _ old.changes c.push.new.self change c.turn.ensures.rows c.push.ensures below are;
+      rows = c.put.ensures.rows;
+      undone_same = undone_change old.changes c.push.new.self (is_dirty old.dirty) (is_dirty c.put.new.self) change c.args.bit c.push.ensures c.has-was.ensures c.put.ensures.cells;
+      logged = λ are. logged_more _ _ old.changes c.push.new.self change c.put.ensures.rows c.push.ensures below are;
       calls = stay.calls;
       off = stay.off;
       left = stay.left;
@@ -47,8 +47,8 @@ has-was-requires g c = record {
   disk = let low = c.requires.disk in let high = c.args.m.now.setup.geometry.disks_high in omega (arith, low, high);
 }
 
-pub turn-requires : goal.turn-requires
-turn-requires g c = record {
+pub put-requires : goal.put-requires
+put-requires g c = record {
   row = (subst (λ (n : ℕ). c.args.r < n) (sym c.requires.serves.rows) c.requires.row);
   disk = let low = c.requires.disk in let high = c.args.m.now.setup.geometry.disks_high in omega (arith, low, high);
 }

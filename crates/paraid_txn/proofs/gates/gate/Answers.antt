@@ -2,7 +2,7 @@ use Rattle.std.proofs.Common.{sym, ap, ◌∙◌, arith}
 use Rattle.std.proofs.lemmas.Grind.{common_steps}
 use Rattle.paraid_image.specs.Sides.{is_open}
 use Rattle.paraid_image.proofs.CallLemmas.{zeroed_closed}
-use Rattle.paraid_txn.proofs.commit.gate.Goals as goal
+use Rattle.paraid_txn.proofs.gates.gate.Goals as goal
 
 pub returns-then-opened : goal.returns-then-opened
 unfolding is_open
