@@ -4,7 +4,7 @@ ghost use Rattle.paraid_rack.specs.declared.call.Power.TheVariants.{Spinning};
 ghost use Rattle.paraid_rack.specs.Told.{Ran};
 ghost use Rattle.paraid_image.specs.Lost.{TellsLosses};
 ghost use Rattle.paraid_txn.specs.CommitPart.{CommitPart};
-ghost use Rattle.paraid_txn.specs.Losses.{AreGoneSince, StaySynced, AreFailedOrWell, IsSyncedAt, IsOneOut, IsOnlyOut, IsOutOfCommit, OnlyLosesSlots, AreTwoDownBeside};
+ghost use Rattle.paraid_txn.specs.Losses.{AreGoneSince, StaySynced, AreFailedOrWell, IsSyncedAt, IsOneOut, IsOutOfCommit, OnlyLosesSlots, AreTwoDownBeside, TellsSecondLoss};
 ghost use Rattle.paraid_txn.specs.Uses.{CanSync, EachCall, UsesSync};
 
 use crate::calls::sync_slot;
