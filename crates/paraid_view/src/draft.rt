@@ -34,6 +34,7 @@ pub struct Draft {
 
 impl Model for Draft {
     ghost use Rattle.std.specs.Prelude.{List, map, length, ◌≤◌, vec_capacity};
+    ghost use Rattle.paraid_base.specs.Log.{draft_room};
     ghost use Rattle.paraid_base.specs.declared.block.Block.{Block as BlockType};
     ghost use Rattle.paraid_record.specs.declared.targets.Target.{Target as TargetType};
 
@@ -41,7 +42,8 @@ impl Model for Draft {
 
     ghost view = { λ d. map (λ s. (s.target, s.block)) d.drafted.items };
 
-    ghost invariant = { λ d. (length d.drafted.items ≤ draft_room) × (draft_room ≤ vec_capacity d.drafted) };
+    ghost invariant = { λ d. (length d.drafted.items ≤ draft_room)
+        × (draft_room ≤ vec_capacity d.drafted) };
 }
 
 impl Draft {
