@@ -17,7 +17,7 @@ use Rattle.paraid_recover.proofs.BearerLemmas.{bearer_none, borne_sure}
 -- what is seen and synced is borne
 pub borne_now : (disk : ℕ) (told : Option Trail) (slot : ℕ → Slot) → ((t : Trail) → told ≡ Some t → Agrees (now t) slot) → IsSyncedAt slot 2
     → ((x : ℕ) → IsNamedLog (Some disk) x → (t : Trail) → told ≡ Some t → IsSeen (now t) 2 x (λ b. is_open b ≡ true)) → IsBorneNow (Some disk) told
-borne_now disk told slot agrees synced seen t tells x low is = borne_sure (Some disk) told slot agrees synced seen x (is, low) t tells
+borne_now disk = borne_sure (Some disk)
 
 module _ {R : Type 0} {l : _} (g : Ghosts R) where
   -- what the store knows is seen

@@ -238,7 +238,7 @@ marked_borne g c slots x said old is r =
             e.1,
             λ h lo was down broken held absent weak y named.
                 let same = one_named c.bear_named.new.store.named it.0 y (part.same.named ∙ sym c.in-Ok.ensures.named ∙ names g at it.0 it.1.0) named.0 in
-                subst (λ (k : ℕ). IsSure (now t) 2 k (λ b. is_open b ≡ true)) same (borne g c it.0 it.1 t tells),
+                subst (λ (k : ℕ). IsSure (now t) 2 k (λ b. is_open b ≡ true)) same (borne g c t tells it.0 it.1.1 it.1.0),
           )
       | inr none ↦ λ t tells.
           let e = c.in-Ok.ensures.marked slots x said old is r t (sym (part.still none) ∙ tells) in (
