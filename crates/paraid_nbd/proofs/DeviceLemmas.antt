@@ -1,5 +1,5 @@
 -- What calls of a device do, one after the other
-use Rattle.std.proofs.Common.{◌≡◌, ℕ, ◌+◌, ◌*◌, ◌/◌, ◌%◌, ◌<◌, ◌≤◌, List, [], ◌∷◌, ◌++◌, Option, Some, None, IsSome, length, take, drop, get_or, arith, refl, sym, ◌∙◌, ap, append_assoc, length-append, subst, zero, suc, add-one, drop-cons}
+use Rattle.std.proofs.Common.{◌≡◌, ℕ, ◌+◌, ◌*◌, ◌/◌, ◌%◌, ◌<◌, ◌≤◌, List, [], ◌∷◌, ◌++◌, Option, Some, None, IsSome, length, take, drop, get_or, arith, refl, sym, ◌∙◌, ap, append_assoc, length-append, subst, zero, suc, add-one, drop-cons, inl}
 use Rattle.std.proofs.lemmas.Bool.Decides.{nat_tests}
 use Rattle.std.proofs.lemmas.List.{append-nil, length-take-le, length-drop, take_all}
 use Rattle.paraid_base.specs.declared.block.Block.{Block}
@@ -42,7 +42,7 @@ AreBytesWritten-none h offset = record {
 -- where only reads came before a halt, nothing was written
 pub first_reads : (s : Option History) (offset : ℕ) (bytes : List ℕ) (done : Answers) → changes done ≡ [] → (s ≡ None → done ≡ []) → WrittenFirst s offset bytes done
 first_reads None offset bytes done reads quiet = quiet refl
-first_reads (Some h) offset bytes done reads quiet = ([], 0, omega arith, AreBytesWritten-none h offset, reads)
+first_reads (Some h) offset bytes done reads quiet = ([], 0, inl refl, AreBytesWritten-none h offset, reads)
 
 pub halted_call : (stands : History → Type 0) (now : Option Halt) (kept : Answers → Type 0) (s : Option History) (events : Answers) (e : Event) (halt : Halt)
     → now ≡ Some halt → kept (events ++ (e, HaltedAnswer halt) ∷ []) → HaltsHere stands now kept s events

@@ -173,17 +173,21 @@ written_more {now_kept = now_kept} {s = s} {events = events} {offset = offset} d
       kept_is = subst now_kept (append_assoc events r.new x.new) x.kept_is;
     }
 
-first_after : (s t : Option History) (offset d : ℕ) (from : List ℕ) (new done : Answers) → d ≤ length from → WritesBytes s offset (take d from) t new → changes done ≡ [] → (t ≡ None → done ≡ [])
+part_ends : (offset d count : ℕ) → d < count → (d ≡ 0) ⊎ ((offset + d) % 512 ≡ 0) → (d ≡ 0) ⊎ ((d < count) × ((offset + d) % 512 ≡ 0))
+part_ends offset d count few (inl none) = inl none
+part_ends offset d count few (inr end) = inr (few, end)
+
+first_after : (s t : Option History) (offset d : ℕ) (from : List ℕ) (new done : Answers) → d < length from → (d ≡ 0) ⊎ ((offset + d) % 512 ≡ 0) → WritesBytes s offset (take d from) t new → changes done ≡ [] → (t ≡ None → done ≡ [])
     → WrittenFirst s offset from (new ++ done)
-first_after None t offset d from new done few w reads quiet = ap (λ (x : Answers). x ++ done) w.2 ∙ quiet w.1
-first_after (Some h) t offset d from new done few w reads quiet = (w.0, d, few, w.1, changes-append new done ∙ ap (λ (x : List Event). changes new ++ x) reads ∙ append-nil (changes new) ∙ w.3)
+first_after None t offset d from new done few side w reads quiet = ap (λ (x : Answers). x ++ done) w.2 ∙ quiet w.1
+first_after (Some h) t offset d from new done few side w reads quiet = (w.0, d, part_ends offset d (length from) few side, w.1, changes-append new done ∙ ap (λ (x : List Event). changes new ++ x) reads ∙ append-nil (changes new) ∙ w.3)
 
 pub stops_after : {stands now_stands : History → Type 0} {halted now : Option Halt} {kept now_kept : Answers → Type 0} {s : Option History} {events : Answers} {offset : ℕ} (d : ℕ) (from : List ℕ)
-    (r : HasWritten stands halted kept s events offset (take d from)) → d ≤ length from → HaltsHere now_stands now now_kept r.t (events ++ r.new) → Stops now_stands now now_kept s events offset from
-stops_after {now_kept = now_kept} {s = s} {events = events} {offset = offset} d from r few x = record {
+    (r : HasWritten stands halted kept s events offset (take d from)) → d < length from → (d ≡ 0) ⊎ ((offset + d) % 512 ≡ 0) → HaltsHere now_stands now now_kept r.t (events ++ r.new) → Stops now_stands now now_kept s events offset from
+stops_after {now_kept = now_kept} {s = s} {events = events} {offset = offset} d from r few side x = record {
   now = x.now;
   done = r.new ++ x.done;
-  first = first_after s r.t offset d from r.new x.done few r.wrote x.reads x.quiet;
+  first = first_after s r.t offset d from r.new x.done few side r.wrote x.reads x.quiet;
   halting = record {
     event = x.halting.event;
     halt = x.halting.halt;

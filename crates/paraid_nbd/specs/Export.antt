@@ -1,5 +1,5 @@
 -- The bytes of a block device by its history, and what a request does with them
-use Rattle.std.specs.Prelude.{◌≡◌, ◌≢◌, ℕ, ◌+◌, ◌-◌, ◌*◌, ◌/◌, ◌%◌, ◌<◌, ◌≤◌, ◌==◌, nat_lt, nat_le, ◌&&◌, if◌then◌else◌, List, [], ◌∷◌, ◌++◌, length, take, slice_index, Option, Some, None, IsSome, IsTrue, Bool, map}
+use Rattle.std.specs.Prelude.{◌≡◌, ◌≢◌, ℕ, ◌+◌, ◌-◌, ◌*◌, ◌/◌, ◌%◌, ◌<◌, ◌≤◌, ◌⊎◌, ◌==◌, nat_lt, nat_le, ◌&&◌, if◌then◌else◌, List, [], ◌∷◌, ◌++◌, length, take, slice_index, Option, Some, None, IsSome, IsTrue, Bool, map}
 use Rattle.std.proofs.Common.{zero, suc}
 use Rattle.paraid_base.specs.declared.block.Block.{Block}
 use Rattle.paraid_base.specs.declared.event.Answer.TheVariants.{Flushed, Halted as HaltedAnswer}
@@ -95,12 +95,13 @@ pub record HaltsAtLast (kept : Answers → Type 0) (events done : Answers) : Typ
   pub halt : Halt
   pub kept_is : kept (events ++ (done ++ (event, HaltedAnswer halt) ∷ []))
 
--- What was written before a halt: the first bytes of a write, in whole blocks, or nothing after an
--- earlier halt.
+-- What was written before a halt: nothing, or the first bytes of a write, up to the end of a block
+-- and not all of them. After an earlier halt the first call gives it again.
 abbrev pub WrittenFirst : Option History → ℕ → List ℕ → Answers → Type 0
 WrittenFirst None offset bytes done = done ≡ []
 WrittenFirst (Some h) offset bytes done =
-    (writes : Entry) × (m : ℕ) × (m ≤ length bytes)
+    (writes : Entry) × (m : ℕ)
+    × ((m ≡ 0) ⊎ ((m < length bytes) × ((offset + m) % 512 ≡ 0)))
     × AreBytesWritten h offset (take m bytes) writes × (changes done ≡ write_events writes)
 
 -- P holds of each state that a device may have and each list of the events that were kept until

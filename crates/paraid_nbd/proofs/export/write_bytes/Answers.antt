@@ -35,18 +35,19 @@ returns-in_err-write_part g c =
     let n_is : done + part.length - done ≡ part.length = omega arith in
     let piece : take (done + part.length - done) (drop done c.args.from.now) ≡ take part.length (drop done c.args.from.now) = ap (λ (x : ℕ). take x (drop done c.args.from.now)) n_is in
     let within : done + part.length ≤ length c.args.from.now = omega (arith, place.length, i.within) in
+    let next = next_part c.args.offset done (length c.args.from.now) part.length place.length c.loop-done-test.true i.whole in
     record {
       size = c.in_err-write_part.ensures.size ∙ c.loop-done.invariant.size;
       told = λ t. c.loop-done.invariant.told (c.in_err-write_part.ensures.told t);
       keeps = keeps_then _ _ _ _ i.keeps e.keeps;
       serves = rw (err_from_is_err_and c.from_residual.result c.from_residual.ensures.1).1 tt;
       halts = on_err c.from_residual.result (halts_on_then _ _ _ _
-          (asked_write_halts c.args.offset done part.block part.start part.length c.args.from.now _ within piece place.block place.start (next_part c.args.offset done (length c.args.from.now) part.length place.length c.loop-done-test.true i.whole))
+          (asked_write_halts c.args.offset done part.block part.start part.length c.args.from.now _ within piece place.block place.start next)
           i.serves e.halts);
       written = rw (err_from_is_err_and c.from_residual.result c.from_residual.ensures.1).1 tt;
       stops = on_err c.from_residual.result (λ first tells s events is kept.
           let r = i.written first (e.told tells) s events is kept in
-          stops_after c.loop-done.done c.args.from.now r i.within (e.stops first tells r.t (events ++ r.new) r.now r.kept_is));
+          stops_after c.loop-done.done c.args.from.now r c.loop-done-test.true next.begins (e.stops first tells r.t (events ++ r.new) r.now r.kept_is));
     }
 
 start_side : (offset done size start : ℕ) → start ≡ (offset + done) % 512 → done < size → (done ≡ 0) ⊎ (((offset + done) % 512 ≡ 0) ⊎ (done ≡ size)) → (done ≡ 0) ⊎ (start ≡ 0)
