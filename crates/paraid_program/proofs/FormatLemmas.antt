@@ -11,7 +11,7 @@ use Rattle.paraid_program.specs.CommandCompletes.{CompletesCommand}
 use Rattle.paraid_program.specs.CommandCompletes.HindersFormat.{claimed, config, disk, few, sink_failed, source_failed}
 use Rattle.paraid_words.specs.declared.command.Command.TheVariants.{Format}
 
-module _ (rack : RackUse) (given : SourceUse) (kept : SinkUse) (status : ℕ) (heard : status ≡ 3 → HasRisen given.faults_before given.faults) (sunk : status ≡ 4 → HasRisen kept.faults_before kept.faults) where
+module _ (rack : RackUse) (given : SourceUse) (kept : SinkUse) (status : ℕ) (sunk : status ≡ 4 → HasRisen kept.faults_before kept.faults) where
   abbrev FormatComes : Bool → Type 0
   FormatComes force = CompletesCommand rack given kept status (Format force)
 
@@ -19,7 +19,7 @@ module _ (rack : RackUse) (given : SourceUse) (kept : SinkUse) (status : ℕ) (h
       → (status ≡ 4) ⊎ ((e.count ≡ length line) × (status ≡ code)) → FormatComes force
   format_by force code line outcome e (inl four) = hindered (sink_failed four (sunk four))
   format_by force code line (made setup configured is) e (inr all) = whole all.1 (record { setup = setup; configured = configured; made = is; told = told_whole kept _ _ status e all.0 })
-  format_by force code line (for_source unread untouched) e (inr all) = hindered (source_failed all.1 (heard all.1))
+  format_by force code line (for_source unread untouched) e (inr all) = hindered (source_failed all.1 unread)
   format_by force code line (for_memory unread untouched) e (inr all) = no_memory all.1 untouched
   format_by force code line (for_config fault other unread untouched) e (inr all) = hindered (config all.1 fault other unread)
   format_by force code line (for_claim setup epoch configured unmade) e (inr all) = hindered (claimed all.1 unmade.cause.0 epoch unmade.cause.2)

@@ -10,7 +10,7 @@ use Rattle.paraid_program.specs.Counts.{check_line}
 use Rattle.paraid_program.specs.Lines.{formatted_line}
 use Rattle.paraid_program.specs.Outcome.{IsArrayMade, IsUntouched}
 use Rattle.paraid_program.specs.Reading.{IsConfigured, IsUnread}
-use Rattle.paraid_program.specs.declared.refusal.Refusal.TheVariants.{Config}
+use Rattle.paraid_program.specs.declared.refusal.Refusal.TheVariants.{Config, Source}
 use Rattle.paraid_rack.specs.Calls.{AreReads}
 use Rattle.paraid_rack.specs.Told.{Ran}
 use Rattle.paraid_scrub.specs.Counts.{no_faults}
@@ -39,8 +39,8 @@ pub record IsFormatWhole
 pub data HindersFormat (force : Bool)
     (rack : RackUse) (source : SourceUse) (sink : SinkUse) (status : ℕ) : Type 0 where
   -- the source has failed
-  source_failed : status ≡ status_source
-      → HasRisen source.faults_before source.faults → HindersFormat force rack source sink status
+  source_failed : status ≡ status_source → IsUnread source Source
+      → HindersFormat force rack source sink status
   -- the sink has failed
   sink_failed : status ≡ status_sink
       → HasRisen sink.faults_before sink.faults → HindersFormat force rack source sink status

@@ -1,5 +1,5 @@
 -- What was taken of a source for a configuration.
-use Rattle.std.specs.Prelude.{ℕ, ◌<◌, ◌≤◌, List, length, Option}
+use Rattle.std.specs.Prelude.{ℕ, ◌+◌, ◌<◌, ◌≤◌, List, length, Option}
 use Rattle.paraid_base.specs.Told.{AtEnd, Gives, HasRisen}
 use Rattle.paraid_config.specs.Config.{IsConfigurationOf, IsConfigRefusal}
 use Rattle.paraid_config.specs.declared.fault.ConfigFault.{ConfigFault}
@@ -16,16 +16,28 @@ pub record IsConfigured (source : SourceUse) (setup : Setup) : Type 0 where
   pub end : AtEnd source.left
   pub says : IsConfigurationOf bytes setup
 
--- Why these bytes are no configuration: they are more than one may have; or they are all that the
--- source had, and they are refused. Memory may be wanted as long as they are few.
+-- the most bytes that a configuration may have
+abbrev pub most_config : ℕ
+most_config = 65536
+
+-- the most bytes of a source that are asked for at a time
+abbrev pub most_asked : ℕ
+most_asked = 4096
+
+-- Why these bytes are no configuration: they are more than one may have, by no more than the piece
+-- that showed it; or they are all that the source had, and they are refused. Memory may be wanted as
+-- long as they are few.
 abbrev pub IsMisread : List ℕ → Option (List ℕ) → ConfigFault → Type 0
-IsMisread bytes after Long = 65536 < length bytes
-IsMisread bytes after NoMemory = length bytes ≤ 65536
+IsMisread bytes after Long =
+    (most_config < length bytes) × (length bytes ≤ most_config + most_asked)
+IsMisread bytes after NoMemory = length bytes ≤ most_config
 IsMisread bytes after fault = AtEnd after × IsConfigRefusal bytes fault
 
--- why nothing was read from these bytes
+-- Why no setup was read from these bytes. After more than a configuration may have, the source is
+-- not asked again, and so it cannot fail.
 abbrev pub IsReadCause : List ℕ → SourceUse → Refusal → Type 0
-IsReadCause bytes source Source = HasRisen source.faults_before source.faults
+IsReadCause bytes source Source =
+    HasRisen source.faults_before source.faults × (length bytes ≤ most_config)
 IsReadCause bytes source (Config fault) = IsMisread bytes source.left fault
 IsReadCause bytes source (Format fault) = ⊥
 

@@ -2,7 +2,7 @@
 ghost use Rattle.std.specs.Prelude.{◌≡◌, ◌≢◌, ◌≤◌, length, IfOk, IfErr, OnOk};
 ghost use Rattle.paraid_base.specs.Told.{AtEnd, Gives};
 ghost use Rattle.paraid_record.specs.Range.{IsSetupInRange};
-ghost use Rattle.paraid_program.specs.Reading.{IsConfigured, IsUnread};
+ghost use Rattle.paraid_program.specs.Reading.{IsConfigured, IsUnread, most_config};
 ghost use Rattle.paraid_serve.specs.Streams.{source_use};
 
 use crate::Refusal;
@@ -23,7 +23,7 @@ pub fn read_all<S: Source>(alloc: Global, source: &mut S) -> Result<Vec<u8>, Ref
     ensures all { IfOk result (λ bytes. Gives (S.left source.old) (S.left source.new)
         bytes.items) }
     ensures end { OnOk result (AtEnd (S.left source.new)) }
-    ensures short { IfOk result (λ bytes. length bytes.items ≤ 65536) }
+    ensures short { IfOk result (λ bytes. length bytes.items ≤ most_config) }
     ensures unread { IfErr result (IsUnread
         (source_use S.left S.faults source.old source.new)) }
     ensures later { S.faults source.old ≤ S.faults source.new }

@@ -41,7 +41,7 @@ returns-in-Err g c = record {
   ];
   source = λ three. elim c.last-in-Err.ensures.ends.whole [
     | inl failed ↦ absurd (omega (arith, three, failed))
-    | inr told ↦ (rw ((status_is c.in-Err.refusal).source (sym (told.1 ∙ c.refusal_status.ensures) ∙ three)) at c.in-Err.ensures.refused).0.cause
+    | inr told ↦ (rw ((status_is c.in-Err.refusal).source (sym (told.1 ∙ c.refusal_status.ensures) ∙ three)) at c.in-Err.ensures.refused).0.cause.0
   ];
   sink = λ four. (c.last-in-Err.ensures.cause (λ e. (status_is c.in-Err.refusal).not_sink (sym (e ∙ c.refusal_status.ensures) ∙ four))).1;
   unhurt = record {

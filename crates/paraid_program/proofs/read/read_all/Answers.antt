@@ -12,11 +12,12 @@ returns-then-count-len g c = record {
       let i = c.loop-count.invariant in
       let e = c.in-Ok.ensures in
       let within : c.in-Ok.count ≤ length c.read_some.new.into = omega (arith, e.within, c.read_some.auto.into) in
+      let part : length c.read_some.new.into ≤ 4096 = omega (arith, c.read_some.auto.into) in
       let many : 65536 - length c.loop-count.bytes.items < c.in-Ok.count = omega (arith, c.if-count-len.true, c.len.ensures, c.loop-count.bytes.ok.0) in
       record {
         bytes = c.loop-count.bytes.items ++ take c.in-Ok.count c.read_some.new.into;
         given = Gives-then _ _ _ _ _ i.given e.gives;
-        cause = too_long c.loop-count.bytes.items c.read_some.new.into c.in-Ok.count within many;
+        cause = too_long c.loop-count.bytes.items c.read_some.new.into c.in-Ok.count i.short part within many;
       };
   later = search rules;
   still = λ n. c.in-Ok.ensures.still ∙ c.loop-count.invariant.still;

@@ -14,7 +14,7 @@ returns-in-Ok g c = record {
       record {
         bytes = c.in-Ok.bytes.items;
         given = e.all;
-        cause = IsMisread-refused c.in-Ok.bytes.items _ fault e.end (subst (λ (bytes : List ℕ). IsConfigRefusal bytes fault) c.deref.ensures.value c.in-Err-read_config.ensures.err);
+        cause = IsMisread-refused c.in-Ok.bytes.items _ fault e.short e.end (subst (λ (bytes : List ℕ). IsConfigRefusal bytes fault) c.deref.ensures.value c.in-Err-read_config.ensures.err);
       };
   later = search rules;
   still = λ n. c.in-Ok.ensures.still (λ is. ok_not_err is);

@@ -131,7 +131,7 @@ returns-in-Some-Check-clause-source g c three = absurd (check_not_read _ c.check
 
 pub returns-in-Some-Format-clause-complete : goal.returns-in-Some-Format-clause-complete
 returns-in-Some-Format-clause-complete g c = does_it _ _ c.read_words.ensures.exact _ (Format c.in-Some-Format.force) (format_is g (goal.at.returns-in-Some-Format-clause-complete g c).In-Some-Format)
-    (format_comes _ _ _ _ c.format_array-status.ensures.source c.format_array-status.ensures.sink c.in-Some-Format.force c.format_array-status.ensures.formats)
+    (format_comes _ _ _ _ c.format_array-status.ensures.sink c.in-Some-Format.force c.format_array-status.ensures.formats)
 
 pub returns-in-Some-Run-clause-complete : goal.returns-in-Some-Run-clause-complete
 returns-in-Some-Run-clause-complete g c = does_it _ _ c.read_words.ensures.exact _ Run (run_is g (goal.at.returns-in-Some-Run-clause-complete g c).In-Some-Run)
