@@ -36,8 +36,8 @@ fn open<F: Files<File = File>>(files: &F, name: &str) -> Found {
     }
 }
 
-/// What stands under a name of which this is told instead: nothing, or a link that leads nowhere,
-/// as to a drive that is not mounted.
+// What stands under a name of which this is told instead: nothing, or a link that leads nowhere,
+// as to a drive that is not mounted.
 fn find_unseen<F: Files<File = File>>(files: &F, name: &str, error: io::Error) -> Found {
     match fs::symlink_metadata(files, name) {
         Err(other) if other.kind() == io::ErrorKind::NotFound => Found::Nothing,
@@ -65,8 +65,8 @@ const OF_DEVICE: [Option<i32>; 7] = [
     Some(123),
 ];
 
-/// Whether the device cannot read what is there. All other errors of an opening are of rights, of
-/// the number of open files, or of the way to it.
+// Whether the device cannot read what is there. All other errors of an opening are of rights, of
+// the number of open files, or of the way to it.
 fn is_of_device(error: &io::Error) -> bool {
     OF_DEVICE.contains(&error.raw_os_error())
 }

@@ -49,7 +49,7 @@ fn foreign_in(label: &Label, identity: &Identity) -> Option<Obstacle> {
     }
 }
 
-/// A damaged label is the array's where its number stands in it. Else the file has none.
+// A damaged label is the array's where its number stands in it. Else the file has none.
 fn torn_in(file: &File, size: u32, identity: &Identity) -> io::Result<Option<Obstacle>> {
     if is_torn_of(file, size, &identity.array)? {
         Ok(None)
@@ -96,8 +96,8 @@ const PIECE: u32 = 128;
 
 static ZEROS: [u8; PIECE as usize * BLOCK_SIZE] = [0; PIECE as usize * BLOCK_SIZE];
 
-/// Writes each block, so that no later write of one needs room that a full file system does not
-/// have.
+// Writes each block, so that no later write of one needs room that a full file system does not
+// have.
 fn fill_image(file: &File, size: u32) -> io::Result<()> {
     for piece in 0..size / PIECE {
         file.write_all_at(&ZEROS, offset(piece * PIECE))?;
@@ -122,7 +122,7 @@ pub(crate) fn holds_data(file: &File) -> io::Result<bool> {
     Ok(has_bytes(file, 0, end)? || has_bytes(file, length - end, end)?)
 }
 
-/// Whether one of so many bytes from a place on is not zero.
+// Whether one of so many bytes from a place on is not zero.
 fn has_bytes(file: &File, from: u64, count: u64) -> io::Result<bool>
     requires { from + count < 2 ^ 64 }
 {

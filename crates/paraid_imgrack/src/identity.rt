@@ -95,7 +95,7 @@ impl Identity {
         Some(identity)
     }
 
-    /// Takes over what the label of a slot says, if it is of the array.
+    // Takes over what the label of a slot says, if it is of the array.
     fn learn_from(&mut self, labels: &Labels, slot: usize)
         requires { slot < 8 }
         ensures same { known_array (Some self.new) ≡ known_array (Some self.old) }
@@ -110,7 +110,7 @@ impl Identity {
         }
     }
 
-    /// Takes over what a label of the array says.
+    // Takes over what a label of the array says.
     fn learn(&mut self, label: &Label, slot: usize)
         ensures same { known_array (Some self.new) ≡ known_array (Some self.old) }
         ensures kept { IsNoLess self.old self.new }
@@ -125,7 +125,7 @@ impl Identity {
         }
     }
 
-    /// Whether a label is of this slot and of this array.
+    // Whether a label is of this slot and of this array.
     fn is_right(&self, label: &Label, slot: DiskNo) -> bool
         ensures slot { result ≡ true → label.now.disk ≡ slot }
         ensures right { slot < self.now.disks
@@ -169,7 +169,7 @@ impl Identity {
         }
     }
 
-    /// Why an image without a label does not belong into a slot: the disk is known to have had one.
+    // Why an image without a label does not belong into a slot: the disk is known to have had one.
     fn bare_misfit(&self, slot: DiskNo) -> Option<Misfit>
         ensures { SuitsBare self.now slot result }
     {
@@ -231,7 +231,7 @@ impl Identity {
         None
     }
 
-    /// Whether one of the images that were seen is of a time before this label of a slot.
+    // Whether one of the images that were seen is of a time before this label of a slot.
     fn is_past_one(&self, label: &Label, slot: DiskNo) -> bool
         ensures one { result ≡ true → (e : ℕ) × ((e < 8) × IsBehind self.now label.now slot e) }
         ensures none { result ≡ false → (e : ℕ) → e < 8 → IsBehind self.now label.now slot e → ⊥ }
@@ -244,9 +244,9 @@ impl Identity {
         false
     }
 
-    /// Whether the image of a disk was seen, and is of a time before this label of a slot: it is
-    /// older than the label knows it; or it is to have heard how new this image is, by the label,
-    /// and none has.
+    // Whether the image of a disk was seen, and is of a time before this label of a slot: it is
+    // older than the label knows it; or it is to have heard how new this image is, by the label,
+    // and none has.
     fn is_behind(&self, label: &Label, slot: DiskNo, disk: usize) -> bool
         requires { disk < 8 }
         ensures yes { result ≡ true → IsBehind self.now label.now slot disk }
@@ -256,8 +256,8 @@ impl Identity {
             && (self.seen[disk] < label.known[disk] || self.is_unheard(label, slot, disk))
     }
 
-    /// Whether no label knows this image to be as new as this one says that the image of a disk has
-    /// heard.
+    // Whether no label knows this image to be as new as this one says that the image of a disk has
+    // heard.
     fn is_unheard(&self, label: &Label, slot: DiskNo, disk: usize) -> bool
         requires { disk < 8 }
         ensures yes { result ≡ true → IsUnheardOf self.now label.now slot disk }
@@ -304,7 +304,7 @@ impl Identity {
     }
 }
 
-/// What is known of the image of a slot.
+// What is known of the image of a slot.
 fn known_in(known: &[u64; 8], slot: DiskNo) -> u64
     ensures known { slot < 8 → result ≡ slice_index known.now slot }
     ensures none { 8 ≤ slot → result ≡ 0 }
@@ -312,7 +312,7 @@ fn known_in(known: &[u64; 8], slot: DiskNo) -> u64
     if slot < 8 { known[slot as usize] } else { 0 }
 }
 
-/// The image of a disk is at least so new.
+// The image of a disk is at least so new.
 fn raise_known(known: &mut [u64; 8], disk: usize, generation: u64)
     requires { disk < 8 }
     ensures here { generation ≤ slice_index known.new disk }
@@ -321,11 +321,11 @@ fn raise_known(known: &mut [u64; 8], disk: usize, generation: u64)
     known[disk] = known[disk].max(generation);
 }
 
-/// A label of the array that the images are of: the first one, where no image of its array's slots
-/// is of another array; else the first of the array that most are of.
-///
-/// So a new array is told from images of an older, wider one, which stand in slots past its own. A
-/// label in a slot past those of its array names none.
+// A label of the array that the images are of: the first one, where no image of its array's slots
+// is of another array; else the first of the array that most are of.
+//
+// So a new array is told from images of an older, wider one, which stand in slots past its own. A
+// label in a slot past those of its array names none.
 fn named(labels: &Labels) -> Option<Label>
     ensures none { IfNone result (AreUnnamed (label_in labels.now)) }
     ensures one { IfSome result (IsAmong (label_in labels.now)) }
@@ -341,7 +341,7 @@ fn named(labels: &Labels) -> Option<Label>
     Some(most)
 }
 
-/// The label of a slot, if more images are of its array than of that of this one, or else this one.
+// The label of a slot, if more images are of its array than of that of this one, or else this one.
 fn commoner(labels: &Labels, most: Label, slot: usize) -> Label
     requires slot { slot < 8 }
     requires one { IsAmong (label_in labels.now) most }
@@ -357,7 +357,7 @@ fn commoner(labels: &Labels, most: Label, slot: usize) -> Label
     }
 }
 
-/// Whether a slot is one of the array that a label names.
+// Whether a slot is one of the array that a label names.
 fn is_within(slot: usize, label: &Label) -> bool
     ensures { result ≡ false → label.now.disks ≤ slot }
 {
@@ -376,7 +376,7 @@ fn first(labels: &Labels) -> Option<Label>
     None
 }
 
-/// The label of a slot, if that is one of its array.
+// The label of a slot, if that is one of its array.
 fn named_in(labels: &Labels, slot: usize) -> Option<Label>
     requires { slot < 8 }
     ensures none { IfNone result (IfSome (label_in labels.now slot) (λ l. l.disks ≤ slot)) }
@@ -390,7 +390,7 @@ fn named_in(labels: &Labels, slot: usize) -> Option<Label>
     }
 }
 
-/// Whether the images in the slots of a label's array are all of that one.
+// Whether the images in the slots of a label's array are all of that one.
 fn is_whole(labels: &Labels, named: &Label) -> bool {
     for slot in 0..8 {
         if let Some(label) = labels[slot]
@@ -403,7 +403,7 @@ fn is_whole(labels: &Labels, named: &Label) -> bool {
     true
 }
 
-/// How many images in the slots of a label's array are of it.
+// How many images in the slots of a label's array are of it.
 fn count(labels: &Labels, named: &Label) -> u8 {
     let mut count: u8 = 0;
     for slot in 0..8 {

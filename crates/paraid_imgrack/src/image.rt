@@ -114,7 +114,7 @@ impl Image {
         }
     }
 
-    /// No disk, and what hinders work on it, or why it is lost where its device has failed.
+    // No disk, and what hinders work on it, or why it is lost where its device has failed.
     fn absent(names: Names, hindrance: Option<Hindrance>, cause: Option<io::Error>) -> Image
         ensures { IsLoaded (image_slot result) }
     {
@@ -294,7 +294,7 @@ impl Image {
         }
     }
 
-    /// Reads the label of a parked image, and gives it the one of this generation if it fits.
+    // Reads the label of a parked image, and gives it the one of this generation if it fits.
     fn look<F: Files<File = File>>(
         &mut self,
         files: &F,
@@ -322,7 +322,7 @@ impl Image {
         }
     }
 
-    /// A synced disk gets this power.
+    // A synced disk gets this power.
     fn switch<F: Files<File = File>>(&mut self, files: &F, power: Power) -> Result<(), Failed>
         requires present { power ≢ Absent }
         requires synced { (image_slot self.old).unsynced ≡ false }
@@ -384,7 +384,7 @@ impl Image {
         Ok(())
     }
 
-    /// There is no disk from now on, and why is kept, unless a call has failed before.
+    // There is no disk from now on, and why is kept, unless a call has failed before.
     fn fail_by<F: Files<File = File>>(&mut self, files: &F, error: io::Error) -> Failed
         ensures slot { IsFailedSlot (image_slot self.old) (image_slot self.new) }
         ensures why { IsSome self.new.cause }
@@ -393,7 +393,7 @@ impl Image {
         self.fail(files)
     }
 
-    /// There is no disk from now on, and one more fault.
+    // There is no disk from now on, and one more fault.
     fn fail<F: Files<File = File>>(&mut self, files: &F) -> Failed
         ensures slot { IsFailedSlot (image_slot self.old) (image_slot self.new) }
         ensures misfit { self.new.misfit ≡ self.old.misfit }
@@ -415,12 +415,12 @@ pub(crate) fn offset(place: Place) -> u64
     place as u64 * BLOCK_SIZE as u64
 }
 
-/// An error of an image that is not open.
+// An error of an image that is not open.
 fn not_open() -> io::Error {
     io::Error::from(io::ErrorKind::NotFound)
 }
 
-/// The error of an attach that would write over a file of other data.
+// The error of an attach that would write over a file of other data.
 fn other_data() -> io::Error {
     io::Error::new(
         io::ErrorKind::AlreadyExists,
@@ -428,7 +428,7 @@ fn other_data() -> io::Error {
     )
 }
 
-/// The error of an attach whose image gets no label: the others know one of the old image.
+// The error of an attach whose image gets no label: the others know one of the old image.
 fn no_room_for_label() -> io::Error {
     io::Error::new(io::ErrorKind::StorageFull, "no room for its label")
 }
@@ -459,9 +459,9 @@ fn open_image<F: Files<File = File>>(files: &F, name: &str) -> Opened {
     }
 }
 
-/// Opens an image at a load. What a process that was killed has written may be in the system's
-/// memory alone, so the disk takes it before anything is read. Where it does not, the sidecar says
-/// that the disk has failed: writes may be lost, and the system tells it once.
+// Opens an image at a load. What a process that was killed has written may be in the system's
+// memory alone, so the disk takes it before anything is read. Where it does not, the sidecar says
+// that the disk has failed: writes may be lost, and the system tells it once.
 fn open_kept<F: Files<File = File>>(files: &F, names: &Names, power: Power) -> Opened {
     match open_image(files, names.image.as_str()) {
         Opened::Image(file, size) if power == Power::Spinning => match file.sync_data() {
@@ -482,8 +482,8 @@ pub(crate) fn whole_blocks(length: u64) -> u32
     (length / BLOCK_SIZE as u64).min(u32::MAX as u64) as u32
 }
 
-/// A fresh image of zeros, with its label where its array is known. Until both are on the disk, the
-/// sidecar tells of no disk: an image without a label is refused where the others know of one.
+// A fresh image of zeros, with its label where its array is known. Until both are on the disk, the
+// sidecar tells of no disk: an image without a label is refused where the others know of one.
 fn make_image<F: Files<File = File>>(
     files: &F,
     names: &Names,
@@ -506,7 +506,7 @@ fn make_image<F: Files<File = File>>(
     Ok(file)
 }
 
-/// Gives a new image its label, where its array is known: it is newer than all others.
+// Gives a new image its label, where its array is known: it is newer than all others.
 fn label_new(
     file: &Option<File>,
     size: u32,
@@ -526,7 +526,7 @@ fn label_new(
     }
 }
 
-/// In a slot of the array an image that can have no label is an error.
+// In a slot of the array an image that can have no label is an error.
 fn label_newest(
     file: &Option<File>,
     size: u32,
@@ -547,7 +547,7 @@ fn label_newest(
     }
 }
 
-/// The bytes come straight into the block. After an error they are any.
+// The bytes come straight into the block. After an error they are any.
 fn read_block(file: &Option<File>, place: Place, into: &mut Block) -> io::Result<()> {
     let Some(file) = file else {
         return Err(not_open());
@@ -558,7 +558,7 @@ fn read_block(file: &Option<File>, place: Place, into: &mut Block) -> io::Result
     read
 }
 
-/// The same array, which as a value is known to hold 512 numbers below 256. No code comes of it.
+// The same array, which as a value is known to hold 512 numbers below 256. No code comes of it.
 fn as_bytes(bytes: [u8; BLOCK_SIZE]) -> [u8; BLOCK_SIZE]
     ensures same { result ≡ bytes }
     ensures whole { length result ≡ 512 }
@@ -567,8 +567,8 @@ fn as_bytes(bytes: [u8; BLOCK_SIZE]) -> [u8; BLOCK_SIZE]
     bytes
 }
 
-/// Reads a block by one call, where one does. The library goes on after an interrupted or a short
-/// one.
+// Reads a block by one call, where one does. The library goes on after an interrupted or a short
+// one.
 fn read_whole(file: &File, bytes: &mut [u8; BLOCK_SIZE], at: u64) -> io::Result<()> {
     match file.read_at(bytes, at) {
         Ok(BLOCK_SIZE) => Ok(()),
@@ -578,8 +578,8 @@ fn read_whole(file: &File, bytes: &mut [u8; BLOCK_SIZE], at: u64) -> io::Result<
     }
 }
 
-/// Writes all bytes by one call, where one does. The library goes on after an interrupted or a
-/// short one.
+// Writes all bytes by one call, where one does. The library goes on after an interrupted or a
+// short one.
 fn write_whole(file: &File, bytes: &[u8], at: u64) -> io::Result<()> {
     match file.write_at(bytes, at) {
         Ok(written) if written == bytes.len() => Ok(()),
@@ -621,8 +621,8 @@ fn label_in(tail: &Tail) -> Option<Label>
     }
 }
 
-/// Writes a label where one can stand, and syncs the image. Where there is no room for it, it is
-/// left out.
+// Writes a label where one can stand, and syncs the image. Where there is no room for it, it is
+// left out.
 fn put_label(file: &Option<File>, size: u32, tail: &Tail, label: &Label) -> io::Result<bool>
     ensures { IfOk result (λ given. given ≡ true → (tail.now ≢ Other) × (tail.now ≢ Odd)) }
 {
@@ -642,8 +642,8 @@ fn put_label(file: &Option<File>, size: u32, tail: &Tail, label: &Label) -> io::
     Ok(true)
 }
 
-/// Gives an image the label of this generation, where it can have one, and says whether it has it
-/// now. Its error is one of the device.
+// Gives an image the label of this generation, where it can have one, and says whether it has it
+// now. Its error is one of the device.
 fn mark_image(
     file: &Option<File>,
     size: u32,
@@ -667,21 +667,25 @@ fn mark_image(
 /// With this a meta begins.
 const MAGIC: &[u8; 8] = b"PARAIDAR";
 
-/// The number of disks that a meta at this place says, if one is there.
+/// Where a meta says the number of its disks: after the text and the version.
+const META_DISKS_AT: usize = 10;
+
+// The number of disks that a meta at this place says, if one is there.
 fn disks_at(file: &File, size: u32, place: Place) -> io::Result<Option<u8>> {
     if size <= place {
         return Ok(None);
     }
     let mut meta = [0; BLOCK_SIZE];
     file.read_exact_at(&mut meta, offset(place))?;
-    if meta[..8] == MAGIC[..] && 3 <= meta[10] && meta[10] <= 8 {
-        return Ok(Some(meta[10]));
+    let disks = meta[META_DISKS_AT];
+    if meta[..8] == MAGIC[..] && 3 <= disks && disks <= 8 {
+        return Ok(Some(disks));
     }
     Ok(None)
 }
 
-/// Whether an image has the label of an array, or a log, or other data, or may have them since it
-/// cannot be read.
+// Whether an image has the label of an array, or a log, or other data, or may have them since it
+// cannot be read.
 fn claim_of(file: &Option<File>) -> Option<Claim> {
     let file = file.as_ref()?;
     match is_of_array(file) {

@@ -70,7 +70,7 @@ impl Label {
         }
     }
 
-    /// What stands in the places of the numbers.
+    // What stands in the places of the numbers.
     fn fields(text: &[u8; LABEL_SIZE]) -> Label {
         let mut known = [0; 8];
         for disk in 0..8 {
@@ -98,7 +98,7 @@ pub fn names_array(text: &[u8; LABEL_SIZE], array: &[u8; 16]) -> bool {
 
 const DIGITS: [u8; 16] = *b"0123456789abcdef";
 
-/// Two digits to the base 16 for each byte.
+// Two digits to the base 16 for each byte.
 fn put_bytes(text: &mut [u8; LABEL_SIZE], at: usize, bytes: &[u8])
     requires { at + 2 * length bytes.now ≤ 384 }
 {
@@ -107,7 +107,7 @@ fn put_bytes(text: &mut [u8; LABEL_SIZE], at: usize, bytes: &[u8])
     }
 }
 
-/// Two digits to the base 16.
+// Two digits to the base 16.
 fn put_hex(text: &mut [u8; LABEL_SIZE], at: usize, byte: u8)
     requires { at + 2 ≤ 384 }
 {
@@ -115,7 +115,7 @@ fn put_hex(text: &mut [u8; LABEL_SIZE], at: usize, byte: u8)
     text[at + 1] = DIGITS[(byte % 16) as usize];
 }
 
-/// Twenty decimal digits, in the place of twenty zeros.
+// Twenty decimal digits, in the place of twenty zeros.
 fn put_number(text: &mut [u8; LABEL_SIZE], at: usize, number: u64)
     requires { at + 20 ≤ 384 }
 {
@@ -129,7 +129,7 @@ fn put_number(text: &mut [u8; LABEL_SIZE], at: usize, number: u64)
     }
 }
 
-/// The value of a digit; of another byte, any.
+// The value of a digit; of another byte, any.
 fn digit(byte: u8) -> u8 {
     if byte >= b'a' {
         (byte - b'a').wrapping_add(10)
@@ -138,7 +138,7 @@ fn digit(byte: u8) -> u8 {
     }
 }
 
-/// The number of the array.
+// The number of the array.
 fn array_at(text: &[u8; LABEL_SIZE]) -> [u8; 16] {
     let mut array = [0; 16];
     for at in 0..16 {
@@ -167,7 +167,7 @@ fn number_at(text: &[u8; LABEL_SIZE], at: usize) -> u64
     number
 }
 
-/// The sum by FNV-1a, which a text that was cut short or overwritten in part does not have.
+// The sum by FNV-1a, which a text that was cut short or overwritten in part does not have.
 fn sum(text: &[u8; LABEL_SIZE]) -> u64 {
     let mut sum: u64 = 0xcbf2_9ce4_8422_2325;
     for at in 0..SUMMED {

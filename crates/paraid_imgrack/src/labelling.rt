@@ -13,7 +13,7 @@ use paraid_rack::Power;
 use std::fs::{self, File, Files};
 use std::io::{self, Read};
 
-/// Sixteen bytes that nobody has drawn before.
+// Sixteen bytes that nobody has drawn before.
 fn draw<F: Files<File = File>>(files: &F) -> Option<[u8; 16]> {
     let mut number = [0; 16];
     let Ok(mut file) = fs::open(files, "/dev/urandom") else {
@@ -121,8 +121,8 @@ impl<F: Files<File = File> + Drop> ImageRack<F> {
         }
     }
 
-    /// Gives the images that spin a new generation, and says what is known from then on. Each hears
-    /// of those that have got it before.
+    // Gives the images that spin a new generation, and says what is known from then on. Each hears
+    // of those that have got it before.
     fn mark_images(&mut self, identity: Identity) -> Identity
         ensures slots { map image_slot self.new.images.items
             ≡ map image_slot self.old.images.items }
@@ -142,7 +142,7 @@ impl<F: Files<File = File> + Drop> ImageRack<F> {
         next
     }
 
-    /// Whether the image in a slot of the array has the label of this generation from now on.
+    // Whether the image in a slot of the array has the label of this generation from now on.
     fn mark_image(&mut self, disk: usize, identity: &Identity, is_heard: bool) -> bool
         ensures { map image_slot self.new.images.items ≡ map image_slot self.old.images.items }
     {
@@ -164,9 +164,9 @@ impl<F: Files<File = File> + Drop> ImageRack<F> {
         }
     }
 
-    /// Makes the news known to the images that have a label of this generation. Each is told what
-    /// the others know of itself only as long as none was missed: so none says that it is known to
-    /// be newer than it is.
+    // Makes the news known to the images that have a label of this generation. Each is told what
+    // the others know of itself only as long as none was missed: so none says that it is known to
+    // be newer than it is.
     fn tell(&mut self, identity: Identity)
         ensures slots { map image_slot self.new.images.items
             ≡ map image_slot self.old.images.items }
@@ -181,7 +181,7 @@ impl<F: Files<File = File> + Drop> ImageRack<F> {
         self.identity = Some(told);
     }
 
-    /// Whether an image of the array that has a label could not be given one of this generation.
+    // Whether an image of the array that has a label could not be given one of this generation.
     fn misses_one(&self, identity: &Identity) -> bool {
         for disk in 0..self.images.len() {
             if disk < identity.disks as usize && self.misses(disk, identity) {
@@ -199,7 +199,7 @@ impl<F: Files<File = File> + Drop> ImageRack<F> {
             && self.images[disk].power == Power::Spinning
     }
 
-    /// Whether the image in a slot has heard the news, if there are any and it can be told.
+    // Whether the image in a slot has heard the news, if there are any and it can be told.
     fn mark_again(&mut self, disk: usize, identity: &Identity, is_heard: bool) -> bool
         requires { disk < length self.old.images.items }
         ensures { map image_slot self.new.images.items ≡ map image_slot self.old.images.items }
@@ -232,8 +232,8 @@ impl<F: Files<File = File> + Drop> ImageRack<F> {
         labels[disk] = self.images[disk].read_label();
     }
 
-    /// The array that the images are of, by their labels. One without labels gets a number, where
-    /// all of its disks that are there spin, so that none of them has a label that was not read.
+    // The array that the images are of, by their labels. One without labels gets a number, where
+    // all of its disks that are there spin, so that none of them has a label that was not read.
     fn identify(&self, labels: &Labels) -> Option<Identity>
         ensures { Names (label_in labels.now) result }
     {
@@ -247,7 +247,7 @@ impl<F: Files<File = File> + Drop> ImageRack<F> {
         Some(Identity::new(draw(&self.files)?, disks))
     }
 
-    /// Whether one of the first disks is parked.
+    // Whether one of the first disks is parked.
     fn parks_below(&self, disks: u8) -> bool {
         for disk in 0..self.images.len() {
             if disk < disks as usize && self.images[disk].power == Power::Parked {
@@ -257,7 +257,7 @@ impl<F: Files<File = File> + Drop> ImageRack<F> {
         false
     }
 
-    /// The number of disks that the first log disk with a log says.
+    // The number of disks that the first log disk with a log says.
     fn disks_by_log(&self) -> Option<u8> {
         for disk in 0..self.images.len() {
             if disk < 2
@@ -269,8 +269,8 @@ impl<F: Files<File = File> + Drop> ImageRack<F> {
         None
     }
 
-    /// Whether each label is one of its slot, and no image is bare where its slot is known. Why one
-    /// is not as it should be is kept with its image.
+    // Whether each label is one of its slot, and no image is bare where its slot is known. Why one
+    // is not as it should be is kept with its image.
     fn fits(&mut self, identity: &Identity) -> bool
         ensures look { IsLook self.old.images.items self.new.images.items }
         ensures tails { map image_tail self.new.images.items

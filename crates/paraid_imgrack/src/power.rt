@@ -79,7 +79,7 @@ impl Names {
         }
     }
 
-    /// Replaces the sidecar by one of this power.
+    // Replaces the sidecar by one of this power.
     fn replace<F: Files<File = File>>(&self, files: &F, power: Power) -> io::Result<()> {
         write_new(files, self.next.as_str(), text(power))?;
         fs::rename(files, self.next.as_str(), self.sidecar.as_str())?;
@@ -94,14 +94,14 @@ impl Names {
     }
 }
 
-/// Makes a file of this text. When it returns, the disk has it.
+// Makes a file of this text. When it returns, the disk has it.
 fn write_new<F: Files<File = File>>(files: &F, name: &str, text: &str) -> io::Result<()> {
     let mut file = fs::create(files, name)?;
     file.write_all(text.as_bytes())?;
     file.sync_all()
 }
 
-/// The text of a sidecar, which is the power's word on a line.
+// The text of a sidecar, which is the power's word on a line.
 fn text(power: Power) -> &'static str
     ensures { trim_end result.now ≡ power_word power }
 {
@@ -112,7 +112,7 @@ fn text(power: Power) -> &'static str
     }
 }
 
-/// The text as it is written over another one, of which nothing is to be left.
+// The text as it is written over another one, of which nothing is to be left.
 fn wide_text(power: Power) -> &'static str
     ensures { trim_end result.now ≡ power_word power }
 {
@@ -123,8 +123,8 @@ fn wide_text(power: Power) -> &'static str
     }
 }
 
-/// The power that a text tells, which is `Absent` where no word is known. White space at the end
-/// does not count.
+// The power that a text tells, which is `Absent` where no word is known. White space at the end
+// does not count.
 fn power_of(text: &[u8]) -> Power
     ensures spinning { (result ≡ Power.Spinning) ↔ (trim_end text.now ≡ power_word Power.Spinning) }
     ensures parked { (result ≡ Power.Parked) ↔ (trim_end text.now ≡ power_word Power.Parked) }
@@ -139,7 +139,7 @@ fn power_of(text: &[u8]) -> Power
     }
 }
 
-/// The power that an open sidecar tells. One that was written over is on the disk from then on.
+// The power that an open sidecar tells. One that was written over is on the disk from then on.
 fn power_in(file: &File) -> io::Result<Power> {
     file.sync_data()?;
     let length = file.metadata()?.len();
@@ -168,7 +168,7 @@ pub(crate) fn keep_sidecars<F: Files<File = File>>(files: &F) {
     let _ = sync_folder(files);
 }
 
-/// When it returns, the names of the folder are on the disk.
+// When it returns, the names of the folder are on the disk.
 fn sync_folder<F: Files<File = File>>(files: &F) -> io::Result<()> {
     fs::open(files, ".")?.sync_all()
 }

@@ -107,7 +107,7 @@ impl<F: Files<File = File> + Drop> ImageRack<F> {
         self.images[disk].hinders_attach(&self.files)
     }
 
-    /// Too few files more may be open: a sidecar could not be stored, and its disk would be lost.
+    // Too few files more may be open: a sidecar could not be stored, and its disk would be lost.
     fn crowd(&self, count: u8) -> Option<(DiskNo, Hindrance)>
         ensures { IfSome result (λ found. found ≡ (0, Crowded)) }
     {

@@ -21,7 +21,7 @@ pub(crate) enum Tail {
     Odd,
 }
 
-/// Where the blocks of an image end, in bytes.
+// Where the blocks of an image end, in bytes.
 fn end(size: u32) -> u64
     ensures { result ≡ size * 512 }
 {
