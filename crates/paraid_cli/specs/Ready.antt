@@ -2,16 +2,17 @@
 use Rattle.std.specs.Prelude.{◌≡◌, List, length, false, true}
 use Rattle.paraid_imgrack.specs.declared.image.Image.{Image}
 use Rattle.paraid_imgrack.specs.declared.rack.ImageRack.{ImageRack}
-use Rattle.paraid_imgrack.specs.Looks.{images_of, IsFitting, IsUnhindered, IsAsOpened}
+use Rattle.paraid_imgrack.specs.Looks.{images_of, HasNoMisfits, IsFitting, IsUnhindered, IsAsOpened}
 use Rattle.paraid_words.specs.declared.command.Command.{Command}
 use Rattle.paraid_words.specs.declared.command.Command.TheVariants.{Format, Run, Spare, Status, Check, Gen, Nbd, Vol, Plan}
 
--- all slots are there and look as their images were opened, and each disk that is there can be
--- served
+-- all slots are there and look as their images were opened, each disk that is there can be served,
+-- and no image was found not to belong into its slot
 pub record IsWhole {F : Type 0} (rack : ImageRack F) : Type 0 where
   pub slots : length (images_of rack) ≡ 8
   pub opened : IsAsOpened rack
   pub unhindered : IsUnhindered rack
+  pub fresh : HasNoMisfits rack
 
 -- The rack is whole, and each image is one of its slot.
 pub record IsSound {F : Type 0} (rack : ImageRack F) : Type 0 where

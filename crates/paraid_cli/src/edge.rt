@@ -1,11 +1,11 @@
 //! What stands between the program and the system: no stream may become an image, one command works
 //! in a folder, and images that are there and do not belong or cannot be opened are not taken for
 //! lost ones.
-ghost use Rattle.std.specs.Prelude.{◌≡◌, ◌⊎◌, ◌<◌, ℕ, None, IfNone, map, string_bytes};
+ghost use Rattle.std.specs.Prelude.{◌≡◌, ◌⊎◌, ◌<◌, ℕ, None, IfNone, IfSome, IsSome, map, string_bytes};
 ghost use Rattle.paraid_cli.specs.CommandEnd.{EndsAsked, EndsUnasked, IsOwnStatus, UsesProgram};
 ghost use Rattle.paraid_cli.specs.Ready.{IsReady, IsSound, IsWhole};
-ghost use Rattle.paraid_imgrack.specs.Images.{misfit_at};
-ghost use Rattle.paraid_imgrack.specs.Looks.{images_of, IsUnhindered};
+ghost use Rattle.paraid_imgrack.specs.Images.{misfit_at, IsFirstMisfit};
+ghost use Rattle.paraid_imgrack.specs.Looks.{images_of, HasTrueMisfits, IsUnhindered};
 ghost use Rattle.paraid_serve.specs.Statuses.{status_sink};
 ghost use Rattle.paraid_words.specs.Words.{AskFor};
 ghost use Rattle.paraid_words.specs.declared.command.Command.{Command as CommandType};
@@ -127,17 +127,17 @@ fn end<H: Host>(rt: &H, command: &Command, line: &str, status: u8) -> u8
 fn work_nowhere<H: Host>(rt: &H, command: &Command) -> u8
     ensures { IsOwnStatus result }
 {
-    let hindrance = match ImageRack::load(rt, rt.alloc(), MOST_SLOTS) {
-        Ok(rack) => rack.hindrance(),
-        Err(_) => return status::NO_MEMORY,
+    let Ok(rack) = ImageRack::load(rt, rt.alloc(), MOST_SLOTS) else {
+        return status::NO_MEMORY;
     };
-    match hindrance {
-        Some((disk, hindrance)) => tell_hindrance(rt, command, disk, hindrance),
-        None => {
-            let _ = eprintln!(rt; "paraid: this folder cannot be opened");
-            status::BUSY
-        }
+    if let Some((disk, hindrance)) = rack.hindrance() {
+        return tell_hindrance(rt, command, disk, hindrance);
     }
+    if rack.is_crowded() {
+        return tell_crowd(rt, command);
+    }
+    let _ = eprintln!(rt; "paraid: this folder cannot be opened");
+    status::BUSY
 }
 
 fn work_there<'a, H: Host, P: Program<&'a H>>(
@@ -155,6 +155,9 @@ fn work_there<'a, H: Host, P: Program<&'a H>>(
     };
     if let Some((disk, hindrance)) = hindrance_of(&rack, command) {
         return Answered::unused(program, tell_hindrance(rt, command, disk, hindrance));
+    }
+    if is_crowded(&rack, command) {
+        return Answered::unused(program, tell_crowd(rt, command));
     }
     if let Some(disk) = refused(rt, &program, &mut rack, command) {
         return Answered::unused(program, refuse(rt, command, disk));
@@ -205,6 +208,14 @@ fn hindrance_of<H: Host>(rack: &ImageRack<&H>, command: &Command) -> Option<(u8,
     }
 }
 
+/// Whether too few files more may be open for the command.
+fn is_crowded<H: Host>(rack: &ImageRack<&H>, command: &Command) -> bool {
+    match command {
+        Command::Format { .. } => rack.crowds_attach(),
+        _ => rack.is_crowded(),
+    }
+}
+
 fn tell_hindrance<H: Host>(rt: &H, command: &Command, disk: u8, hindrance: Hindrance) -> u8
     ensures { IsOwnStatus result }
 {
@@ -214,10 +225,6 @@ fn tell_hindrance<H: Host>(rt: &H, command: &Command, disk: u8, hindrance: Hindr
                 "paraid: disk-{disk}.img is in use: by another command, or as another disk"
             );
             status::BUSY
-        }
-        Hindrance::Crowded => {
-            let _ = eprintln!(rt; "paraid: too few files more may be open: see `ulimit -n`");
-            refuse(rt, command, disk)
         }
         Hindrance::ImageShut(cause) => {
             let _ = eprintln!(rt; "paraid: disk-{disk}.img is there and cannot be opened: {cause}");
@@ -230,6 +237,14 @@ fn tell_hindrance<H: Host>(rt: &H, command: &Command, disk: u8, hindrance: Hindr
             refuse(rt, command, disk)
         }
     }
+}
+
+/// A disk is named with it, as with each refusal: the first.
+fn tell_crowd<H: Host>(rt: &H, command: &Command) -> u8
+    ensures { IsOwnStatus result }
+{
+    let _ = eprintln!(rt; "paraid: too few files more may be open: see `ulimit -n`");
+    refuse(rt, command, 0)
 }
 
 /// The first image for which the command is refused. Why is told.
@@ -277,7 +292,9 @@ fn claimed<'a, H: Host, P: Program<&'a H>>(
 /// The first image that does not belong into its slot.
 fn unfit<H: Host>(rt: &H, rack: &mut ImageRack<&H>) -> Option<u8>
     requires { IsWhole rack.old }
-    ensures { IfNone result (IsSound rack.new) }
+    ensures none { IfNone result (IsSound rack.new) }
+    ensures first { IfSome result (IsFirstMisfit (images_of rack.new)) }
+    ensures misfits { HasTrueMisfits rack.new }
 {
     if rack.has_fitting_images() {
         return None;
@@ -287,7 +304,8 @@ fn unfit<H: Host>(rt: &H, rack: &mut ImageRack<&H>) -> Option<u8>
 
 /// Tells which images do not belong into their slots, and gives the first.
 fn tell_misfits<H: Host>(rt: &H, rack: &ImageRack<&H>) -> Option<u8>
-    ensures { IfNone result ((d : ℕ) → d < 8 → misfit_at (images_of rack.now) d ≡ None) }
+    ensures none { IfNone result ((d : ℕ) → d < 8 → misfit_at (images_of rack.now) d ≡ None) }
+    ensures first { IfSome result (IsFirstMisfit (images_of rack.now)) }
 {
     let mut first = None;
     for disk in 0..MOST_SLOTS {
@@ -297,7 +315,9 @@ fn tell_misfits<H: Host>(rt: &H, rack: &ImageRack<&H>) -> Option<u8>
 }
 
 fn tell_misfit<H: Host>(rt: &H, rack: &ImageRack<&H>, disk: u8) -> Option<u8>
-    ensures { IfNone result (misfit_at (images_of rack.now) disk ≡ None) }
+    ensures none { IfNone result (misfit_at (images_of rack.now) disk ≡ None) }
+    ensures some { IfSome result (λ told. (told ≡ disk)
+        × IsSome (misfit_at (images_of rack.now) disk)) }
 {
     let misfit = rack.misfit(disk)?;
     let _ = eprintln!(rt; "paraid: disk-{disk}.img {misfit}");

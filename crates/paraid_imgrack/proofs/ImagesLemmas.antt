@@ -1,12 +1,12 @@
 -- The slots of a list of images, and what a call on one of them does.
-use Rattle.std.proofs.Common.{◌≡◌, ◌≢◌, ℕ, ◌<◌, ◌≤◌, Bool, List, [], ◌∷◌, ◌++◌, ◌+◌, length, refl, map, get_or, set, sym, ◌∙◌, ap, subst, arith, inl, inr}
+use Rattle.std.proofs.Common.{◌≡◌, ◌≢◌, ℕ, ◌<◌, ◌≤◌, Bool, None, List, [], ◌∷◌, ◌++◌, ◌+◌, length, refl, map, get_or, set, sym, ◌∙◌, ap, subst, arith, inl, inr}
 use Rattle.std.proofs.Math.Seq.{get_or-append_seam}
 use Rattle.std.proofs.lemmas.Bool.{cases_lt}
 use Rattle.std.proofs.lemmas.List.{map-set, map-append, length-append, get_or_append_left, get_or-set_same, get_or-set_other, length-map, get_or-map}
 use Rattle.paraid_base.specs.Told.{HasRisen}
 use Rattle.paraid_rack.specs.Slots.{ChangesOneSlot, Slot, vacant_slot}
 use Rattle.paraid_imgrack.specs.declared.image.Image.{Image}
-use Rattle.paraid_imgrack.specs.Images.{image_slot, image_slot_at, IsLoaded, Becomes}
+use Rattle.paraid_imgrack.specs.Images.{image_misfit, image_slot, image_slot_at, misfit_at, IsLoaded, Becomes}
 
 -- the slot of an image in its place
 pub image_slot_at-get_or : (images : List Image) (d : ℕ) (i : Image) → d < length images → i ≡ get_or images d i → image_slot_at images d ≡ image_slot i
@@ -61,23 +61,30 @@ touched_after before images d y x leaves dirt ok same within is call =
 pub record AreLoaded (images : List Image) (n : ℕ) : Type 0 where
   pub number : length images ≡ n
   pub loaded : (d : ℕ) → d < n → IsLoaded (image_slot_at images d)
+  pub fresh : (d : ℕ) → d < n → misfit_at images d ≡ None
 
 pub AreLoaded-none : (images : List Image) → images ≡ [] → AreLoaded images 0
-AreLoaded-none images e = record { number = rw e refl; loaded = λ d below. absurd (omega (arith, below)) }
+AreLoaded-none images e = record { number = rw e refl; loaded = λ d below. absurd (omega (arith, below)); fresh = λ d below. absurd (omega (arith, below)) }
 
-pub AreLoaded-push : (images : List Image) (x : Image) (n : ℕ) → AreLoaded images n → IsLoaded (image_slot x) → AreLoaded (images ++ x ∷ []) (n + 1)
-AreLoaded-push images x n h is = record {
+-- what is told of an image that was added at the end, and of those before it
+module _ {B : Type 0} (f : Image → B) (none : B) (images : List Image) (x : Image) where
+  at_before : (d : ℕ) → d < length images → get_or (map f (images ++ x ∷ [])) d none ≡ get_or (map f images) d none
+  at_before d below = rw (map-append f images (x ∷ [])) (get_or_append_left (map f images) (f x ∷ []) none d (rw (length-map images f) below))
+
+  at_end : (d : ℕ) → d ≡ length images → get_or (map f (images ++ x ∷ [])) d none ≡ f x
+  at_end d e =
+      let last : d ≡ length (map f images) = e ∙ sym (length-map images f) in
+      rw (map-append f images (x ∷ []), last) (get_or-append_seam (map f images) (f x) [] none)
+
+pub AreLoaded-push : (images : List Image) (x : Image) (n : ℕ) → AreLoaded images n → IsLoaded (image_slot x) → image_misfit x ≡ None → AreLoaded (images ++ x ∷ []) (n + 1)
+AreLoaded-push images x n h is unjudged = record {
   number = length-append images (x ∷ []) ∙ ap (λ (k : ℕ). k + 1) h.number;
   loaded = λ d below. elim (cases_lt d n) [
-    | inl before ↦ rw (at_before d (omega (arith, before, h.number))) (h.loaded d before)
-    | inr past ↦ rw (at_end d (omega (arith, past, below, h.number))) is
+    | inl before ↦ rw (at_before image_slot vacant_slot images x d (omega (arith, before, h.number))) (h.loaded d before)
+    | inr past ↦ rw (at_end image_slot vacant_slot images x d (omega (arith, past, below, h.number))) is
+  ];
+  fresh = λ d below. elim (cases_lt d n) [
+    | inl before ↦ at_before image_misfit None images x d (omega (arith, before, h.number)) ∙ h.fresh d before
+    | inr past ↦ at_end image_misfit None images x d (omega (arith, past, below, h.number)) ∙ unjudged
   ];
 }
-  where
-    at_before : (d : ℕ) → d < length images → image_slot_at (images ++ x ∷ []) d ≡ image_slot_at images d
-    at_before d below = rw (map-append image_slot images (x ∷ [])) (get_or_append_left (map image_slot images) (image_slot x ∷ []) vacant_slot d (rw (length-map images image_slot) below))
-
-    at_end : (d : ℕ) → d ≡ length images → image_slot_at (images ++ x ∷ []) d ≡ image_slot x
-    at_end d e =
-        let last : d ≡ length (map image_slot images) = e ∙ sym (length-map images image_slot) in
-        rw (map-append image_slot images (x ∷ []), last) (get_or-append_seam (map image_slot images) (image_slot x) [] vacant_slot)

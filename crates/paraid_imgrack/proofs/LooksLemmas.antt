@@ -1,12 +1,13 @@
 -- What a walk over the images finds of their labels and of what hinders them.
 use Rattle.std.proofs.Common.{◌≡◌, ◌≢◌, ℕ, ◌<◌, ◌≤◌, ◌+◌, ◌⊎◌, Bool, true, false, ◌&&◌, List, [], ◌∷◌, length, Option, None, Some, IfSome, IsSome, IsSomeAnd, unwrap_or, refl, map, get_or, set, slice_index, sym, ◌∙◌, ap, subst, arith, inl, inr, zero, suc}
-use Rattle.std.proofs.lemmas.Bool.{cases_lt, false≢true}
-use Rattle.std.proofs.lemmas.List.{get_or-set_other, get_or-set_same, length-map, map-set}
+use Rattle.std.proofs.lemmas.Bool.{cases_eq, cases_lt, false≢true}
+use Rattle.std.proofs.lemmas.List.{get_or-map, get_or-set_other, get_or-set_same, length-map, map-set}
 use Rattle.paraid_base.specs.Told.{HasRisen}
 use Rattle.paraid_imgrack.specs.declared.identity.Identity.{Identity}
+use Rattle.paraid_imgrack.specs.declared.identity.Misfit.{Misfit}
 use Rattle.paraid_imgrack.specs.declared.image.Image.{Image}
-use Rattle.paraid_imgrack.specs.Images.{Fit, IsLook, image_label, image_misfit, image_tail, label_at, misfit_at, tail_at}
-use Rattle.paraid_imgrack.specs.Labels.{AreUnnamed, FitsTail, IsLearned, IsNamed, IsNoLess, IsTakenOver, Names, IsAmong, known_array, label_in, label_of}
+use Rattle.paraid_imgrack.specs.Images.{AreTrueMisfits, Fit, IsLook, image_label, image_misfit, image_tail, label_at, misfit_at, tail_at}
+use Rattle.paraid_imgrack.specs.Labels.{AreUnnamed, FitsTail, IsLearned, IsNamed, IsNoLess, IsTakenOver, Names, IsAmong, SuitsTail, known_array, label_in, label_of}
 use Rattle.paraid_imgrack.specs.declared.label.Label.{Label}
 use Rattle.paraid_imgrack.specs.declared.tail.Tail.{Tail}
 use Rattle.paraid_imgrack.specs.declared.tail.Tail.TheVariants.{Other}
@@ -65,49 +66,91 @@ FitBelow-whole images i n all fit d within = elim (cases_lt d n) [
 pub misfit_kept : (old new : List Image) → map image_misfit new ≡ map image_misfit old → (d : ℕ) × IsSome (misfit_at old d) → (d : ℕ) × IsSome (misfit_at new d)
 misfit_kept old new same (d, is) = (d, subst (λ (misfits : List (Option _)). IsSome (get_or misfits d None)) (sym same) is)
 
+some_if : {A : Type 0} (P : A → Type 0) (o : Option A) → IsSomeAnd o P → IsSome o × IfSome o P
+some_if P None is = absurd is
+some_if P (Some x) is = (refl, is)
+
+-- where no misfit is kept, each that is kept is true
+pub AreTrueMisfits-none : (images : List Image) (known : Option Identity) → ((d : ℕ) → misfit_at images d ≡ None) → AreTrueMisfits images known
+AreTrueMisfits-none images known none d = subst (λ (o : Option Misfit). IfSome o (λ m. IsSomeAnd known (λ i. (d < i.disks) × SuitsTail i (tail_at images d) d (Some m)))) (sym (none d)) tt
+
+-- of a slot whose misfit and tail are as they were
+true_kept : (old new : List Image) (i : Identity) (d : ℕ) → map image_tail new ≡ map image_tail old → misfit_at new d ≡ misfit_at old d
+    → IfSome (misfit_at old d) (λ m. (d < i.disks) × SuitsTail i (tail_at old d) d (Some m))
+    → IfSome (misfit_at new d) (λ m. (d < i.disks) × SuitsTail i (tail_at new d) d (Some m))
+true_kept old new i d tails same was =
+    subst (λ (o : Option Misfit). IfSome o (λ m. (d < i.disks) × SuitsTail i (tail_at new d) d (Some m))) (sym same)
+    (subst (λ (l : List Tail). IfSome (misfit_at old d) (λ m. (d < i.disks) × SuitsTail i (get_or l d Other) d (Some m))) (sym tails) was)
+
+AreTrueMisfits-same : (old new : List Image) (i : Identity) → map image_tail new ≡ map image_tail old → map image_misfit new ≡ map image_misfit old
+    → AreTrueMisfits old (Some i) → AreTrueMisfits new (Some i)
+AreTrueMisfits-same old new i tails same was d = true_kept old new i d tails (ap (λ (l : List (Option Misfit)). get_or l d None) same) (was d)
+
+-- one slot has got a misfit, which is true
+AreTrueMisfits-one : (old new : List Image) (i : Identity) (n : ℕ) → map image_tail new ≡ map image_tail old
+    → IfSome (misfit_at new n) (λ m. (n < i.disks) × SuitsTail i (tail_at new n) n (Some m))
+    → ((e : ℕ) → e ≢ n → misfit_at new e ≡ misfit_at old e) → AreTrueMisfits old (Some i) → AreTrueMisfits new (Some i)
+AreTrueMisfits-one old new i n tails here others was d = elim (cases_eq d n) [
+  | inl is ↦ subst (λ (k : ℕ). IfSome (misfit_at new k) (λ m. (k < i.disks) × SuitsTail i (tail_at new k) k (Some m))) (sym is) here
+  | inr not ↦ true_kept old new i d tails (others d not) (was d)
+]
+
 -- what a walk knows that asks each image whether it fits
 pub record FitsSoFar (start now : List Image) (i : Identity) (n : ℕ) (fits : Bool) : Type 0 where
   pub look : IsLook start now
   pub tails : map image_tail now ≡ map image_tail start
   pub fit : fits ≡ true → FitBelow now i n
+  pub same : fits ≡ true → map image_misfit now ≡ map image_misfit start
   pub misfit : fits ≡ false → (d : ℕ) × IsSome (misfit_at now d)
+  pub misfits : AreTrueMisfits start (Some i) → AreTrueMisfits now (Some i)
 
 pub FitsSoFar-none : (start : List Image) (i : Identity) → FitsSoFar start start i 0 true
 FitsSoFar-none start i = record {
   look = record { slots = refl; hindrances = refl };
   tails = refl;
   fit = λ _ d below. absurd (omega (arith, below));
+  same = λ _. refl;
   misfit = λ e. absurd (false≢true (sym e));
+  misfits = λ was. was;
 }
 
 pub FitsSoFar-next : (start old new : List Image) (i : Identity) (n : ℕ) (fits result : Bool) → FitsSoFar start old i n fits → IsLook old new
     → map image_tail new ≡ map image_tail old
     → (result ≡ true → n < i.disks → FitsTail i (tail_at new n) n)
     → (result ≡ true → map image_misfit new ≡ map image_misfit old)
-    → (result ≡ false → IsSome (misfit_at new n)) → FitsSoFar start new i (n + 1) (fits && result)
-FitsSoFar-next start old new i n true true so look tails fit same misfit = record {
+    → (result ≡ false → IsSomeAnd (misfit_at new n) (λ m. (n < i.disks) × SuitsTail i (tail_at new n) n (Some m)))
+    → ((e : ℕ) → e ≢ n → misfit_at new e ≡ misfit_at old e) → FitsSoFar start new i (n + 1) (fits && result)
+FitsSoFar-next start old new i n true true so look tails fit same misfit others = record {
   look = IsLook-then start old new so.look look;
   tails = tails ∙ so.tails;
   fit = λ _. FitBelow-next old new i n tails (so.fit refl) (fit refl);
+  same = λ _. same refl ∙ so.same refl;
   misfit = λ e. absurd (false≢true (sym e));
+  misfits = λ was. AreTrueMisfits-same old new i tails (same refl) (so.misfits was);
 }
-FitsSoFar-next start old new i n false true so look tails fit same misfit = record {
+FitsSoFar-next start old new i n false true so look tails fit same misfit others = record {
   look = IsLook-then start old new so.look look;
   tails = tails ∙ so.tails;
   fit = λ e. absurd (false≢true e);
+  same = λ e. absurd (false≢true e);
   misfit = λ _. misfit_kept old new (same refl) (so.misfit refl);
+  misfits = λ was. AreTrueMisfits-same old new i tails (same refl) (so.misfits was);
 }
-FitsSoFar-next start old new i n true false so look tails fit same misfit = record {
+FitsSoFar-next start old new i n true false so look tails fit same misfit others = record {
   look = IsLook-then start old new so.look look;
   tails = tails ∙ so.tails;
   fit = λ e. absurd (false≢true e);
-  misfit = λ _. (n, misfit refl);
+  same = λ e. absurd (false≢true e);
+  misfit = λ _. (n, (some_if (λ m. (n < i.disks) × SuitsTail i (tail_at new n) n (Some m)) (misfit_at new n) (misfit refl)).0);
+  misfits = λ was. AreTrueMisfits-one old new i n tails (some_if (λ m. (n < i.disks) × SuitsTail i (tail_at new n) n (Some m)) (misfit_at new n) (misfit refl)).1 others (so.misfits was);
 }
-FitsSoFar-next start old new i n false false so look tails fit same misfit = record {
+FitsSoFar-next start old new i n false false so look tails fit same misfit others = record {
   look = IsLook-then start old new so.look look;
   tails = tails ∙ so.tails;
   fit = λ e. absurd (false≢true e);
-  misfit = λ _. (n, misfit refl);
+  same = λ e. absurd (false≢true e);
+  misfit = λ _. (n, (some_if (λ m. (n < i.disks) × SuitsTail i (tail_at new n) n (Some m)) (misfit_at new n) (misfit refl)).0);
+  misfits = λ was. AreTrueMisfits-one old new i n tails (some_if (λ m. (n < i.disks) × SuitsTail i (tail_at new n) n (Some m)) (misfit_at new n) (misfit refl)).1 others (so.misfits was);
 }
 
 -- one slot more of which nothing is told
@@ -190,3 +233,41 @@ IsFitting-by labels read now i known names is same known_is fit =
       | inr named ↦ inr (subst (λ (o : Option Identity). IsSomeAnd o (λ j. IsNamed (label_at now) j × (IsLearned (label_at now) j × Fit now j))) (sym known_is)
           (named_by (label_in labels) (label_at now) i at named.0, (learned_by (label_in labels) (label_at now) i at named.1, fit)))
     ]
+
+-- what was read names the array, or no label names one
+pub Names-by : (labels : List (Option Label)) (read now : List Image) (i : Identity) (known : Option Identity) → Names (label_in labels) (Some i)
+    → ((d : ℕ) → d < 8 → label_in labels d ≡ label_at read d) → map image_tail now ≡ map image_tail read → known ≡ Some i → Names (label_at now) known
+Names-by labels read now i known names is same known_is =
+    let at : (d : ℕ) → d < 8 → label_in labels d ≡ label_at now d = (λ d below. is d below ∙ sym (ap (λ (l : List Tail). label_of (get_or l d Other)) same)) in
+    elim names [
+      | inl none ↦ inl (unnamed_by (label_in labels) (label_at now) at none)
+      | inr named ↦ inr (subst (λ (o : Option Identity). IsSomeAnd o (λ j. IsNamed (label_at now) j × IsLearned (label_at now) j)) (sym known_is)
+          (named_by (label_in labels) (label_at now) i at named.0, learned_by (label_in labels) (label_at now) i at named.1))
+    ]
+
+pub Names-none : (labels : List (Option Label)) (images : List Image) (known : Option Identity) → Names (label_in labels) None
+    → ((d : ℕ) → d < 8 → label_in labels d ≡ label_at images d) → Names (label_at images) known
+Names-none labels images known names is = elim names [
+  | inl none ↦ inl (unnamed_by (label_in labels) (label_at images) is none)
+  | inr never ↦ absurd never
+]
+
+-- where no misfit was kept before the walk
+pub AreTrueMisfits-by : (start read now : List Image) (i : Identity) (known : Option Identity) → map image_misfit read ≡ map image_misfit start → known ≡ Some i
+    → (AreTrueMisfits read (Some i) → AreTrueMisfits now (Some i)) → ((d : ℕ) → misfit_at start d ≡ None) → AreTrueMisfits now known
+AreTrueMisfits-by start read now i known same known_is walk none = subst (λ (o : Option Identity). AreTrueMisfits now o) (sym known_is)
+    (walk (AreTrueMisfits-none read (Some i) (λ d. ap (λ (l : List (Option Misfit)). get_or l d None) same ∙ none d)))
+
+pub misfit-set_other : (images : List Image) (d : ℕ) (x : Image) (e : ℕ) → e ≢ d → misfit_at (set images d x) e ≡ misfit_at images e
+misfit-set_other images d x e not = ap (λ (l : List (Option Misfit)). get_or l e None) (map-set image_misfit images d x) ∙ get_or-set_other (map image_misfit images) d e (image_misfit x) None not
+
+-- a misfit that was put into a slot, and is true by what was read there
+pub misfit_here : (images : List Image) (d : ℕ) (y x : Image) (tail : Tail) (i : Identity) (m : Misfit) → d < length images → y ≡ get_or images d y
+    → map image_tail (set images d x) ≡ map image_tail images → image_misfit x ≡ Some m → tail ≡ image_tail y → d < i.disks → SuitsTail i tail d (Some m)
+    → IsSomeAnd (misfit_at (set images d x) d) (λ n. (d < i.disks) × SuitsTail i (tail_at (set images d x) d) d (Some n))
+misfit_here images d y x tail i m within is tails told read below suits =
+    let at : tail_at (set images d x) d ≡ tail = ap (λ (l : List Tail). get_or l d Other) tails ∙ get_or-map image_tail images d y Other within ∙ ap image_tail (sym is) ∙ sym read in
+    let here : misfit_at (set images d x) d ≡ Some m = ap (λ (l : List (Option Misfit)). get_or l d None) (map-set image_misfit images d x)
+    ∙ get_or-set_same (map image_misfit images) d (image_misfit x) None (rw (length-map images image_misfit) within) ∙ told in
+    subst (λ (o : Option Misfit). IsSomeAnd o (λ n. (d < i.disks) × SuitsTail i (tail_at (set images d x) d) d (Some n))) (sym here)
+    (below, subst (λ (t : Tail). SuitsTail i t d (Some m)) (sym at) suits)

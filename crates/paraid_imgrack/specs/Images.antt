@@ -1,17 +1,16 @@
 -- What is always told of a slot, as its image has it.
-use Rattle.std.specs.Prelude.{◌≡◌, ◌≤◌, ◌<◌, ◌⊎◌, ℕ, Bool, true, false, List, Option, None, Some, map, get_or}
+use Rattle.std.specs.Prelude.{◌≡◌, ◌≤◌, ◌<◌, ℕ, Bool, true, false, List, Option, None, Some, map, get_or, IfSome, IsSome, IsSomeAnd}
 use Rattle.paraid_base.specs.Told.{HasRisen}
 use Rattle.paraid_rack.specs.declared.call.Power.TheVariants.{Spinning, Absent}
 use Rattle.paraid_rack.specs.Slots.{Slot, vacant_slot}
 use Rattle.paraid_imgrack.specs.declared.identity.Identity.{Identity}
 use Rattle.paraid_imgrack.specs.declared.identity.Misfit.{Misfit}
 use Rattle.paraid_imgrack.specs.declared.image.Hindrance.{Hindrance}
-use Rattle.paraid_imgrack.specs.declared.image.Hindrance.TheVariants.{Crowded}
 use Rattle.paraid_imgrack.specs.declared.image.Image.{Image}
 use Rattle.paraid_imgrack.specs.declared.label.Label.{Label}
 use Rattle.paraid_imgrack.specs.declared.tail.Tail.{Tail}
 use Rattle.paraid_imgrack.specs.declared.tail.Tail.TheVariants.{Other}
-use Rattle.paraid_imgrack.specs.Labels.{FitsTail, label_of, read_tail_of}
+use Rattle.paraid_imgrack.specs.Labels.{FitsTail, SuitsTail, label_of, read_tail_of}
 
 -- what is told of an image
 abbrev pub image_slot : Image → Slot
@@ -86,13 +85,23 @@ misfit_at images d = get_or (map image_misfit images) d None
 abbrev pub Fit : List Image → Identity → Type 0
 Fit images i = (d : ℕ) → d < i.disks → FitsTail i (tail_at images d) d
 
+-- Each misfit that is kept is one of a slot of the array, by what was read of its image. None is
+-- kept where no array is known.
+abbrev pub AreTrueMisfits : List Image → Option Identity → Type 0
+AreTrueMisfits images known = (d : ℕ) → IfSome (misfit_at images d) (λ m.
+    IsSomeAnd known (λ i. (d < i.disks) × SuitsTail i (tail_at images d) d (Some m)))
+
+-- the first image that was found not to belong into its slot
+pub record IsFirstMisfit (images : List Image) (d : ℕ) : Type 0 where
+  pub some : IsSome (misfit_at images d)
+  pub before : (e : ℕ) → e < d → misfit_at images e ≡ None
+
 -- A look at labels changes neither slots nor what hinders.
 pub record IsLook (old new : List Image) : Type 0 where
   pub slots : map image_slot new ≡ map image_slot old
   pub hindrances : map image_hindrance new ≡ map image_hindrance old
 
--- The first disk that is hindered, and why; or none is, and too few files may be open.
+-- The first disk that is hindered, and why.
 abbrev pub FirstHindrance : List Image → ℕ → Hindrance → Type 0
 FirstHindrance images d h =
-    ((hindrance_at images d ≡ Some h) × ((e : ℕ) → e < d → hindrance_at images e ≡ None))
-    ⊎ (((e : ℕ) → hindrance_at images e ≡ None) × ((d ≡ 0) × (h ≡ Crowded)))
+    (hindrance_at images d ≡ Some h) × ((e : ℕ) → e < d → hindrance_at images e ≡ None)

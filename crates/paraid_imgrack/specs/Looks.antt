@@ -2,8 +2,8 @@
 use Rattle.std.specs.Prelude.{◌≡◌, ◌<◌, ◌⊎◌, ℕ, List, None, IsSomeAnd, length}
 use Rattle.paraid_imgrack.specs.declared.image.Image.{Image}
 use Rattle.paraid_imgrack.specs.declared.rack.ImageRack.{ImageRack}
-use Rattle.paraid_imgrack.specs.Images.{IsLoaded, Fit, hindrance_at, image_slot_at, label_at}
-use Rattle.paraid_imgrack.specs.Labels.{AreUnnamed, IsLearned, IsNamed}
+use Rattle.paraid_imgrack.specs.Images.{IsLoaded, Fit, AreTrueMisfits, hindrance_at, image_slot_at, label_at, misfit_at}
+use Rattle.paraid_imgrack.specs.Labels.{AreUnnamed, IsLearned, IsNamed, Names}
 
 -- the images of a rack
 abbrev pub images_of : {F : Type 0} → ImageRack F → List Image
@@ -17,6 +17,16 @@ IsAsOpened rack = (d : ℕ)
 -- each disk that is there can be served
 abbrev pub IsUnhindered : {F : Type 0} → ImageRack F → Type 0
 IsUnhindered rack = (d : ℕ) → hindrance_at rack.images.items d ≡ None
+
+-- no image was found not to belong into its slot
+abbrev pub HasNoMisfits : {F : Type 0} → ImageRack F → Type 0
+HasNoMisfits rack = (d : ℕ) → misfit_at rack.images.items d ≡ None
+
+-- The array is the one that the labels which were read name, where one does; and each misfit that is
+-- kept is one of a slot of it, by what was read of its image.
+pub record HasTrueMisfits {F : Type 0} (rack : ImageRack F) : Type 0 where
+  pub names : Names (label_at rack.images.items) rack.identity
+  pub misfits : AreTrueMisfits rack.images.items rack.identity
 
 -- One of the labels that were read names the array, what those of the array know is learned, each
 -- that was read in a slot of it is one of its slot, and no image that was read in a known slot of

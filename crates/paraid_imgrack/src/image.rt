@@ -29,8 +29,6 @@ pub enum Hindrance {
     SidecarShut(io::Error),
     /// Another process works with its image, or it is the image of a second disk too.
     Busy,
-    /// This process may open too few files more.
-    Crowded,
 }
 
 /// What would be lost by a new array.
@@ -72,7 +70,7 @@ pub(crate) struct Image {
 
 impl Image {
     ghost use Rattle.std.specs.Prelude.{is_ok};
-    ghost use Rattle.paraid_imgrack.specs.Images.{image_hindrance, image_label, image_slot, image_tail, IsLoaded, IsFailedSlot, Becomes};
+    ghost use Rattle.paraid_imgrack.specs.Images.{image_hindrance, image_label, image_misfit, image_slot, image_tail, IsLoaded, IsFailedSlot, Becomes};
 
     /// The disk as its files tell it.
     ///
@@ -82,7 +80,8 @@ impl Image {
         alloc: Global,
         disk: DiskNo,
     ) -> Result<Image, NoMemory>
-        ensures { IfOk result (λ image. IsLoaded (image_slot image)) }
+        ensures loaded { IfOk result (λ image. IsLoaded (image_slot image)) }
+        ensures fresh { IfOk result (λ image. image_misfit image ≡ None) }
     {
         let names = Names::new(alloc, disk)?;
         let (power, cause) = match names.load(files) {
@@ -116,7 +115,8 @@ impl Image {
 
     // No disk, and what hinders work on it, or why it is lost where its device has failed.
     fn absent(names: Names, hindrance: Option<Hindrance>, cause: Option<io::Error>) -> Image
-        ensures { IsLoaded (image_slot result) }
+        ensures loaded { IsLoaded (image_slot result) }
+        ensures fresh { image_misfit result ≡ None }
     {
         Image {
             names,
@@ -138,6 +138,7 @@ impl Image {
     pub(crate) fn read_label(&mut self) -> Option<Label>
         ensures slot { image_slot self.new ≡ image_slot self.old }
         ensures hindrance { image_hindrance self.new ≡ image_hindrance self.old }
+        ensures misfit { image_misfit self.new ≡ image_misfit self.old }
         ensures kept { result ≡ image_label self.new }
     {
         if self.power != Power::Spinning {
@@ -205,7 +206,7 @@ impl Image {
 
     /// What hinders that the disk is attached anew, also where it has failed.
     pub(crate) fn hinders_attach<F: Files<File = File>>(&self, files: &F) -> Option<Hindrance>
-        ensures { result ≡ None → image_hindrance self.now ≡ None }
+        ensures { IfSome (image_hindrance self.now) (λ hindrance. result ≡ Some hindrance) }
     {
         if self.hindrance.is_some() || self.file.is_some() {
             return self.hindrance;

@@ -1,9 +1,9 @@
 //! The labels of all images: they are read before the first call, and each load gives them a new
 //! generation, and so does each disk that is attached.
-ghost use Rattle.std.specs.Prelude.{◌≡◌, ◌≢◌, ◌<◌, ℕ, map, true, false, length, Some, IfSome, IsSome};
-ghost use Rattle.paraid_imgrack.specs.Images.{Fit, image_misfit, image_slot, image_tail, label_at, misfit_at, tail_at, IsLook, IsTold};
-ghost use Rattle.paraid_imgrack.specs.Labels.{FitsTail, Names, known_array, label_in};
-ghost use Rattle.paraid_imgrack.specs.Looks.{IsFitting};
+ghost use Rattle.std.specs.Prelude.{◌≡◌, ◌≢◌, ◌<◌, ℕ, map, true, false, length, Some, IfSome, IsSome, IsSomeAnd};
+ghost use Rattle.paraid_imgrack.specs.Images.{AreTrueMisfits, Fit, image_misfit, image_slot, image_tail, label_at, misfit_at, tail_at, IsLook, IsTold};
+ghost use Rattle.paraid_imgrack.specs.Labels.{FitsTail, Names, SuitsTail, known_array, label_in};
+ghost use Rattle.paraid_imgrack.specs.Looks.{HasNoMisfits, HasTrueMisfits, IsFitting};
 
 use crate::identity::{Identity, Labels, Misfit};
 use crate::image::Claim;
@@ -42,7 +42,10 @@ impl<F: Files<File = File> + Drop> ImageRack<F> {
     pub fn has_fitting_images(&mut self) -> bool
         ensures look { IsLook self.old.images.items self.new.images.items }
         ensures fits { result ≡ true → IsFitting self.new }
+        ensures same { result ≡ true
+            → map image_misfit self.new.images.items ≡ map image_misfit self.old.images.items }
         ensures misfit { result ≡ false → (d : ℕ) × IsSome (misfit_at self.new.images.items d) }
+        ensures misfits { HasNoMisfits self.old → HasTrueMisfits self.new }
     {
         let labels = self.read_labels();
         let Some(identity) = self.identify(&labels) else {
@@ -212,6 +215,8 @@ impl<F: Files<File = File> + Drop> ImageRack<F> {
 
     fn read_labels(&mut self) -> Labels
         ensures look { IsLook self.old.images.items self.new.images.items }
+        ensures misfits { map image_misfit self.new.images.items
+            ≡ map image_misfit self.old.images.items }
         ensures labels { (d : ℕ) → d < 8 → label_in result d ≡ label_at self.new.images.items d }
     {
         let mut labels = [None; 8];
@@ -224,6 +229,8 @@ impl<F: Files<File = File> + Drop> ImageRack<F> {
     fn read_label(&mut self, disk: usize, labels: &mut Labels)
         requires { disk < length self.old.images.items }
         ensures look { IsLook self.old.images.items self.new.images.items }
+        ensures misfits { map image_misfit self.new.images.items
+            ≡ map image_misfit self.old.images.items }
         ensures here { label_in labels.new disk ≡ label_at self.new.images.items disk }
         ensures others { (e : ℕ) → e ≢ disk → label_in labels.new e ≡ label_in labels.old e }
         ensures kept { (e : ℕ) → e ≢ disk
@@ -277,7 +284,11 @@ impl<F: Files<File = File> + Drop> ImageRack<F> {
             ≡ map image_tail self.old.images.items }
         ensures known { self.new.identity ≡ self.old.identity }
         ensures fits { result ≡ true → Fit self.new.images.items identity.now }
+        ensures same { result ≡ true
+            → map image_misfit self.new.images.items ≡ map image_misfit self.old.images.items }
         ensures misfit { result ≡ false → (d : ℕ) × IsSome (misfit_at self.new.images.items d) }
+        ensures misfits { AreTrueMisfits self.old.images.items (Some identity.now)
+            → AreTrueMisfits self.new.images.items (Some identity.now) }
     {
         let mut fits = true;
         for disk in 0..self.images.len() {
@@ -296,7 +307,11 @@ impl<F: Files<File = File> + Drop> ImageRack<F> {
             → FitsTail identity.now (tail_at self.new.images.items disk) disk }
         ensures same { result ≡ true
             → map image_misfit self.new.images.items ≡ map image_misfit self.old.images.items }
-        ensures misfit { result ≡ false → IsSome (misfit_at self.new.images.items disk) }
+        ensures misfit { result ≡ false → IsSomeAnd (misfit_at self.new.images.items disk)
+            (λ misfit. (disk < identity.now.disks) × SuitsTail identity.now
+            (tail_at self.new.images.items disk) disk (Some misfit)) }
+        ensures others { (e : ℕ) → e ≢ disk
+            → misfit_at self.new.images.items e ≡ misfit_at self.old.images.items e }
     {
         match identity.misfit_of(&self.images[disk].tail(), disk as u8) {
             Some(misfit) => {

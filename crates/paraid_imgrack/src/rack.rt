@@ -31,8 +31,7 @@ pub struct ImageRack<F> {
 impl<F: Files<File = File> + Drop> ImageRack<F> {
     ghost use Rattle.std.specs.Prelude.{◌<◌, IfOk, IfNone, IfSome, None};
     ghost use Rattle.paraid_imgrack.specs.Images.{IsLoaded, FirstHindrance, hindrance_at};
-    ghost use Rattle.paraid_imgrack.specs.Looks.{IsUnhindered, IsAsOpened};
-    ghost use Rattle.paraid_imgrack.specs.declared.image.Hindrance.TheVariants.{Crowded};
+    ghost use Rattle.paraid_imgrack.specs.Looks.{HasNoMisfits, IsUnhindered, IsAsOpened};
 
     /// The rack of the disks 0 to `slots - 1`, as their files tell them.
     ///
@@ -45,6 +44,7 @@ impl<F: Files<File = File> + Drop> ImageRack<F> {
         ensures loaded { IfOk result (λ rack. (d : ℕ) → d < slots
             → IsLoaded (⟦<ImageRack<F> as Rack>⟧.slot rack d)) }
         ensures opened { IfOk result IsAsOpened }
+        ensures fresh { IfOk result HasNoMisfits }
     {
         let Ok(mut images) = Vec::with_capacity(alloc, slots as usize) else {
             return Err(NoMemory);
@@ -74,23 +74,24 @@ impl<F: Files<File = File> + Drop> ImageRack<F> {
                 return Some((disk as u8, hindrance));
             }
         }
-        self.crowd(SPARE)
+        None
     }
 
     /// The same before disks are attached anew, so also of the image of a disk that has failed.
     pub fn hinders_attach(&self) -> Option<(DiskNo, Hindrance)>
-        ensures { IfNone result (IsUnhindered self.now) }
+        ensures none { IfNone result (IsUnhindered self.now) }
+        ensures within { IfSome result (λ found. found.0 < length self.now.images.items) }
+        ensures first { IfSome result (λ found. (e : ℕ) → e < found.0
+            → hindrance_at self.now.images.items e ≡ None) }
+        ensures kept { IfSome result (λ found. IfSome (hindrance_at self.now.images.items found.0)
+            (λ hindrance. found.1 ≡ hindrance)) }
     {
-        let mut absent: u8 = 0;
         for disk in 0..self.images.len() {
             if let Some(hindrance) = self.hinders_attach_in(disk) {
                 return Some((disk as u8, hindrance));
             }
-            if self.images[disk].power == Power::Absent {
-                absent = absent.saturating_add(1);
-            }
         }
-        self.crowd(absent.saturating_add(SPARE))
+        None
     }
 
     fn hindrance_in(&self, disk: usize) -> Option<Hindrance>
@@ -102,20 +103,31 @@ impl<F: Files<File = File> + Drop> ImageRack<F> {
 
     fn hinders_attach_in(&self, disk: usize) -> Option<Hindrance>
         requires { disk < length self.now.images.items }
-        ensures { result ≡ None → hindrance_at self.now.images.items disk ≡ None }
+        ensures { IfSome (hindrance_at self.now.images.items disk)
+            (λ hindrance. result ≡ Some hindrance) }
     {
         self.images[disk].hinders_attach(&self.files)
     }
 
-    // Too few files more may be open: a sidecar could not be stored, and its disk would be lost.
-    fn crowd(&self, count: u8) -> Option<(DiskNo, Hindrance)>
-        ensures { IfSome result (λ found. found ≡ (0, Crowded)) }
-    {
-        if has_descriptors(&self.files, count) {
-            None
-        } else {
-            Some((0, Hindrance::Crowded))
+    /// Whether this process may open too few files more: a sidecar could not be stored, and its
+    /// disk would be lost.
+    pub fn is_crowded(&self) -> bool {
+        !has_descriptors(&self.files, SPARE)
+    }
+
+    /// The same before disks are attached anew: each that is absent opens its image then.
+    pub fn crowds_attach(&self) -> bool {
+        !has_descriptors(&self.files, self.count_absent().saturating_add(SPARE))
+    }
+
+    fn count_absent(&self) -> u8 {
+        let mut count: u8 = 0;
+        for disk in 0..self.images.len() {
+            if self.images[disk].power == Power::Absent {
+                count = count.saturating_add(1);
+            }
         }
+        count
     }
 }
 
