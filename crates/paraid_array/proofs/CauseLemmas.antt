@@ -1,6 +1,6 @@
 -- Why an array answers an event so, by the clauses of its core.
 use Rattle.std.proofs.Common.{◌≡◌, ◌≢◌, ℕ, ◌+◌, ◌<◌, ◌≤◌, ◌⊎◌, true, false, Bool, List, [], ◌∷◌, Option, Some, None, Result, Err, Ok, refl, sym, ap, ◌∙◌, subst, inl, inr, arith, min, if◌then◌else◌}
-use Rattle.std.specs.Prelude.{All, IfSome, max, nat_le, nat_lt, slice_index, ◌==◌}
+use Rattle.std.specs.Prelude.{All, IfSome, length, max, nat_le, nat_lt, slice_index, ◌==◌}
 use Rattle.std.proofs.lemmas.Bool.Decides.{nat_tests}
 use Rattle.std.proofs.lemmas.List.Elements.{All-head, All-tail}
 use Rattle.paraid_base.specs.History.{Entry}
@@ -8,7 +8,7 @@ use Rattle.paraid_base.specs.declared.block.Block.{Block}
 use Rattle.paraid_base.specs.declared.event.Answer.{Answer}
 use Rattle.paraid_base.specs.declared.event.Answer.TheVariants.{Failed, Halted, NoBlock, NoDisk, NoFresh as NoFreshAnswer, NotOut, Out as IsOut, Replaced, State as IsState}
 use Rattle.paraid_base.specs.declared.event.Event.{Event}
-use Rattle.paraid_base.specs.declared.event.Event.TheVariants.{Down as DownEvent, Fail, Replace, Up as UpEvent}
+use Rattle.paraid_base.specs.declared.event.Event.TheVariants.{Down as DownEvent, Fail, Read, Replace, Up as UpEvent}
 use Rattle.paraid_base.specs.declared.fault.Halt.{Halt}
 use Rattle.paraid_base.specs.declared.fault.Halt.TheVariants.{Two as HaltTwo, Worn}
 use Rattle.paraid_base.specs.declared.fault.Two.{Two}
@@ -17,7 +17,8 @@ use Rattle.paraid_base.specs.declared.state.Out.TheVariants.{Fresh, Gone, No}
 use Rattle.paraid_base.specs.declared.state.Phase.{Phase}
 use Rattle.paraid_base.specs.declared.state.Status.{Status}
 use Rattle.paraid_base.specs.declared.state.Phase.TheVariants.{Down as DownPhase, Steady, Up as UpPhase}
-use Rattle.paraid_base.specs.Log.{worn_at}
+use Rattle.paraid_base.specs.Cells.{home_disk, home_row}
+use Rattle.paraid_base.specs.Log.{batch_room, worn_at}
 use Rattle.paraid_base.specs.Told.{HasRisen}
 use Rattle.paraid_image.specs.Out.{is_out, named_out}
 use Rattle.paraid_machine.specs.Machine.{blocks_named, first_missing, out_refusal}
@@ -25,8 +26,10 @@ use Rattle.paraid_rack.specs.Slots.{Slot}
 use Rattle.paraid_record.specs.declared.meta.Meta.{Meta}
 use Rattle.paraid_record.specs.declared.meta.Setup.{Setup}
 use Rattle.paraid_dirty.specs.Table.{is_dirty}
+use Rattle.paraid_core.specs.Cleaning.{is_cleaned, read_commits_first}
 use Rattle.paraid_core.specs.Cores.{core_rack}
 use Rattle.paraid_core.specs.Lost.{MarksLost}
+use Rattle.paraid_core.specs.Room.{commits_first}
 use Rattle.paraid_core.specs.Steps.{IsMarkedFrom}
 use Rattle.paraid_image.specs.Mark.{meta_after_loss, meta_with_lost}
 use Rattle.paraid_moves.specs.MoveMetas.{meta_after_begin}
@@ -108,6 +111,20 @@ commits_by x y count most under is = record { later = low x.meta.epoch y.meta.ep
 pub commits_once : (x y : Shown) (first : Bool) → y.meta.epoch ≡ x.meta.epoch + (if first then 1 else 0) → CommitsFew x y 1
 commits_once x y true is = commits_by x y 1 1 (omega arith) is
 commits_once x y false is = commits_by x y 0 1 (omega arith) is
+
+-- a read commits once at most, and only where it cleans its cell: no more is staged than there is room for
+pub commits_to_clean : {R : Type 0} {g : _} (slot : R → ℕ → Slot) (a : Array R g) (y : Shown) (block : ℕ) → a.core.meta.setup ≡ a.setup → length a.core.batch ≤ batch_room
+    → y.meta.epoch ≡ a.core.meta.epoch + (if read_commits_first a.core.meta a.core.dirty a.core.batch block then 1 else 0) → CommitsFew (shown_of_array slot a) y (most_commits (shown_of_array slot a) (Read block))
+commits_to_clean slot a y block same few is =
+    subst (λ (z : Setup). CommitsFew (shown_of_array slot a) y (most_commits (record (shown_of_array slot a) { setup = z }) (Read block))) same
+    (by (is_cleaned a.core.meta a.core.dirty (home_row a.core.meta.setup.geometry.disks block) (home_disk a.core.meta.setup.geometry.disks block)) is)
+  where
+    not_full : (n : ℕ) → n ≤ 96 → nat_lt 96 n ≡ false
+    not_full n low = grind (arith, nat_tests)
+
+    by : (cleans : Bool) → y.meta.epoch ≡ a.core.meta.epoch + (if commits_first a.core.batch (if cleans then 3 else 0) then 1 else 0) → CommitsFew (shown_of_array slot a) y (if cleans then 1 else 0)
+    by true e = commits_once (shown_of_array slot a) y (commits_first a.core.batch 3) e
+    by false e = commits_by (shown_of_array slot a) y 0 0 (omega arith) (e ∙ ap (λ (b : Bool). a.core.meta.epoch + (if b then 1 else 0)) (not_full (length a.core.batch) few))
 
 module _ {R : Type 0} {g : _} {count : R → ℕ} (slot : R → ℕ → Slot) (a : Array R g) where
   -- with no call

@@ -151,6 +151,12 @@ impl<R: Rack> Core<R> {
             (home_disk (meta_of self.old).setup.geometry.disks block) ≡ false → (batch_of self.new
             ≡ batch_of self.old) × (core_table self.new ≡ core_table self.old)) }
 
+        // No more is ever staged; so a read that cleans nothing commits nothing.
+        ensures few { length (batch_of self.old) ≤ batch_room }
+        ensures staged { OnOk result (length (batch_of self.new)
+            ≤ (if read_commits_first (meta_of self.old) (core_table self.old) (batch_of self.old)
+            block then 0 else length (batch_of self.old)) + 3) }
+
         ensures stands { OnOk result ((h : History) (lo : ℕ)
             → Ran (R.told (core_rack self.old)) (R.told (core_rack self.new)) (CrashTriple
             (IsCoreHeld R.slot_count self.old h lo) (CoreStandsFor R.slot_count self.old h lo)

@@ -32,6 +32,7 @@ impl<R: Rack> Core<R> {
         ensures cells { KeepsCells self.old self.new result }
         ensures commits { MayCommit
             (commits_first (batch_of self.old) targets) self.old self.new result }
+        ensures few { length (batch_of self.old) ≤ batch_room }
         ensures room { OnOk result (length (batch_of self.new) + targets ≤ batch_room) }
         ensures staged { OnOk result (length (batch_of self.new) ≤ (if commits_first
             (batch_of self.old) targets then 0 else length (batch_of self.old))) }

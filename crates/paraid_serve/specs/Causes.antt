@@ -1,6 +1,6 @@
 -- Why an array answers an event so, whatever its rack holds: by its meta before and after, and by
 -- the counts of its slots.
-use Rattle.std.specs.Prelude.{◌≡◌, ◌≢◌, ℕ, ◌+◌, ◌<◌, ◌≤◌, ◌⊎◌, ◌&&◌, nat_le, nat_lt, max, min, Bool, true, List, [], ◌∷◌, ◌++◌, Option, Some, None, slice_index, if◌then◌else◌}
+use Rattle.std.specs.Prelude.{◌≡◌, ◌≢◌, ℕ, ◌+◌, ◌<◌, ◌≤◌, ◌⊎◌, ◌&&◌, not, nat_le, nat_lt, max, min, Bool, true, List, [], ◌∷◌, ◌++◌, Option, Some, None, slice_index, if◌then◌else◌}
 use Rattle.circular_buffer.specs.Buffer.{keep_last}
 use Rattle.paraid_base.specs.declared.event.Answer.{Answer}
 use Rattle.paraid_base.specs.declared.event.Answer.TheVariants.{Value, NoBlock, Wrote, Flushed, Ticked, Shift, Top, Lowest, Failed, Replaced, NoDisk, Out as IsOut, NotOut, NoFresh, State as IsState, Energy as EnergyUsed, Bad as IsBad, Halted}
@@ -16,9 +16,11 @@ use Rattle.paraid_base.specs.declared.state.Phase.{Phase}
 use Rattle.paraid_base.specs.declared.state.Phase.TheVariants.{Steady as IsSteady, Down as IsDown, Up as IsUp}
 use Rattle.paraid_base.specs.declared.state.TickEvent.{TickEvent}
 use Rattle.paraid_base.specs.declared.state.TickEvent.TheVariants.{Steady, Waiting, Moving, Flipped, Begun, Rebuilt, Gone as GoneAgain, Lost, Ration}
+use Rattle.paraid_base.specs.Cells.{home_disk, home_row}
 use Rattle.paraid_base.specs.Gears.{next_higher, next_lower}
 use Rattle.paraid_base.specs.Log.{worn_at}
 use Rattle.paraid_base.specs.Pairs.{pairs_of}
+use Rattle.paraid_base.specs.States.{has_out, rising_to}
 use Rattle.paraid_base.specs.Told.{HasRisen, counter_most}
 use Rattle.paraid_gear.specs.declared.decision.Decision.{Decision}
 use Rattle.paraid_gear.specs.declared.decision.Decision.TheVariants.{Down as DecideDown, Stay, Up as DecideUp}
@@ -34,6 +36,7 @@ use Rattle.paraid_machine.specs.Moves.{after_flip, after_loss, after_units, all_
 use Rattle.paraid_rack.specs.Slots.{Slot}
 use Rattle.paraid_record.specs.declared.meta.Meta.{Meta}
 use Rattle.paraid_record.specs.declared.meta.Setup.{Setup}
+use Rattle.paraid_record.specs.Modes.{is_access}
 use Rattle.paraid_session.specs.Faults.{HaveNotFallen}
 use Rattle.paraid_session.specs.Powers.{AreAllSynced, FitsSlots}
 use Rattle.paraid_session.specs.Turn.{halt_told, may_halt, own_energy}
@@ -425,10 +428,20 @@ abbrev pub gear_after : Option Halt → Shown → Shown → ℕ
 gear_after None old new = new.meta.gear
 gear_after (Some halt) old new = old.gear
 
--- The most commits that an event makes: a request or a flush one; a tick three, and one for each
--- unit that it may move; and what is asked of shifts and disks two.
+-- In access mode, in a shift up with no disk out, the cell of this block is dirty and on a disk that
+-- comes up: a read of the block cleans it.
+abbrev pub read_cleans : Shown → ℕ → Bool
+read_cleans x b =
+    let n = x.setup.geometry.disks in
+    is_access x.setup.mode && not
+    (has_out x.meta.out) && nat_le x.meta.gear (home_disk n b) && nat_lt (home_disk n b)
+    (rising_to x.meta.phase) && x.dirty (home_row n b) (home_disk n b)
+
+-- The most commits that an event makes: a read that cleans a cell one, and every other read none; a
+-- write or a flush one; a tick three, and one for each unit that it may move; and what is asked of
+-- shifts and disks two.
 abbrev pub most_commits : Shown → Event → ℕ
-most_commits x (Read block) = 1
+most_commits x (Read block) = if read_cleans x block then 1 else 0
 most_commits x (Write pairs) = 1
 most_commits x Flush = 1
 most_commits x Tick = units_of_tick x.setup (state_shown (shown_ticked x)) + 3

@@ -5,7 +5,7 @@ use Rattle.paraid_base.specs.declared.event.Event.TheVariants.{Read}
 use Rattle.paraid_base.specs.declared.event.Answer.TheVariants.{Value}
 use Rattle.paraid_array.specs.Arrays.{shown_of_array}
 use Rattle.paraid_upkeep.proofs.ServiceLemmas.{fits_then}
-use Rattle.paraid_array.proofs.CauseLemmas.{accepted, commits_once, done_cause, one_there, plus_none, takes, two_cause}
+use Rattle.paraid_array.proofs.CauseLemmas.{accepted, commits_to_clean, done_cause, one_there, plus_none, takes, two_cause}
 use Rattle.paraid_record.specs.declared.meta.Setup.{Setup}
 use Rattle.paraid_machine.specs.Machine.{block_count}
 use Rattle.paraid_array.specs.Lasting.{halt_of_end}
@@ -71,7 +71,7 @@ returns-in-Ok g c = record {
       accepted (shown_of_array g.R.Rack.slot c.args.self.now) _ 0 c.in-Ok.ensures.commits.stays.losses.marks (c.in-Ok.ensures.writes ∙ plus_none c.args.self.now.core.meta.writes) refl,
       seen_read g.R.Rack.slot_count g.R.Rack.slot c.args.self.now c.read.new.self 0 (sample_of c.one_more-self.result) c.in-Ok.ensures.commits.stays.setup (c.args.self.now.serving c.requires.going).same_setup c.args.block c.in-Ok.ensures.bits,
     )
-        (commits_once (shown_of_array g.R.Rack.slot c.args.self.now) _ (read_commits_first c.args.self.now.core.meta c.args.self.now.core.dirty c.args.self.now.core.batch c.args.block) c.in-Ok.ensures.commits.epoch)
+        (commits_to_clean g.R.Rack.slot c.args.self.now _ c.args.block (c.args.self.now.serving c.requires.going).same_setup c.read.ensures.few c.in-Ok.ensures.commits.epoch)
         (fits_then g.R.Rack.slot_count g.R.Rack.slot c.args.self.now.core c.read.new.self c.in-Ok.ensures.commits.stays.losses.marks c.in-Ok.ensures.commits.stays.setup (c.args.self.now.serving c.requires.going).fits)
         (let q = (c.args.self.now.serving c.requires.going).serving in
         all_synced g.R.Rack.slot c.read.new.self (copies_kept c.args.self.now.core c.read.new.self c.in-Ok.ensures.commits.stays.setup c.read.ensures.commits.stays.copied q.copies_synced) (c.in-Ok.ensures.commits.unsynced q.unsynced));

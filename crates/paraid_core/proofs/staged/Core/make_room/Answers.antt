@@ -68,6 +68,7 @@ returns-then-count-targets g c = record {
         ended (IsCoreHeld g.R.Rack.slot_count old h lo) (CoreStandsFor g.R.Rack.slot_count old h lo) (CoreStandsFor g.R.Rack.slot_count old h lo) _ _
         (keeps_still (g.R.Rack.slot_count (store_rack old.store)) (named_of old.store) old.meta old.dirty old.batch old.copied h lo (or_else (named_of old.store) (named_out old.meta.out)) (g.R.Rack.told (store_rack old.store)) (knows_named (named_of old.store) (named_out old.meta.out)));
   };
+  few = let value = c.count.ensures.value in let few = c.count.ensures.few in omega (arith, value, few);
   room = let value = c.count.ensures.value in let low = c.if-count-targets.true in let few = c.requires.few in omega (arith, value, low, few);
   staged =
       let old = c.args.self.now in
@@ -127,6 +128,7 @@ returns g c = record {
         subst (λ (b : Bool). named_of c.commit.new.self.store ≡ (if b then named_out old.meta.out else named_of old.store)) (sym (first_true old.batch c.args.targets (omega arith))) was_so) c.commit.ensures.meta.named;
     moments = c.commit.ensures.held.moments;
   };
+  few = let value = c.count.ensures.value in let few = c.count.ensures.few in omega (arith, value, few);
   room = on_ok_weaker c.commit.result (λ was_so. subst (λ (b : Batch). length b + c.args.targets ≤ batch_room) (sym was_so) (let few = c.requires.few in omega (arith, few))) c.commit.ensures.nothing;
   staged = on_ok_weaker c.commit.result (λ was_so. let old = c.args.self.now in
       subst (λ (b : Batch). length b ≤ (if commits_first old.batch c.args.targets then 0 else length old.batch)) (sym was_so) (omega arith)) c.commit.ensures.nothing;

@@ -37,7 +37,15 @@ use Rattle.paraid_core.proofs.staged.Core.read.Given.{Over}
 use Rattle.paraid_core.proofs.UnsyncedLemmas.{gone_lost, unsynced_kept, unsynced_same}
 use Rattle.paraid_core.proofs.staged.Core.read.Goals as goal
 use Rattle.paraid_core.proofs.ErrLemmas.{none_done}
+use Rattle.std.proofs.lemmas.Bool.{false≢true}
 use Rattle.paraid_core.proofs.staged.Core.read.Goals.{After-clean_in_room}
+
+-- what is staged then: what was, or nothing after a commit, and what the cell takes
+staged_by : (a b : Bool) (was mid read now room : ℕ) → a ≡ b → mid ≤ (if a then 0 else was) → read ≡ mid → now ≤ read + room → room ≤ 3 → now ≤ (if b then 0 else was) + 3
+staged_by true true was mid read now room is first same taken few = omega (arith, first, same, taken, few)
+staged_by false false was mid read now room is first same taken few = omega (arith, first, same, taken, few)
+staged_by true false was mid read now room is first same taken few = absurd (false≢true (sym is))
+staged_by false true was mid read now room is first same taken few = absurd (false≢true is)
 
 module _ (g : Over) (c : After-clean_in_room g) where
   rack_is : core_rack c.clean_in_room.new.self ≡ core_rack c.read_only.new.self
@@ -128,6 +136,8 @@ returns-in_err-make_room g c = record {
   cleaned = none_done _ c.from_residual.result _ c.from_residual.ensures.1;
   bits = none_done _ c.from_residual.result _ c.from_residual.ensures.1;
   nothing = none_done _ c.from_residual.result _ c.from_residual.ensures.1;
+  few = c.make_room.ensures.few;
+  staged = none_done _ c.from_residual.result _ c.from_residual.ensures.1;
   stands = none_done _ c.from_residual.result _ c.from_residual.ensures.1;
   value = none_done _ c.from_residual.result _ c.from_residual.ensures.1;
 }
@@ -189,6 +199,8 @@ returns-in_err-read_only g c = record {
   cleaned = none_done _ c.from_residual-in_err-read_only.result _ c.from_residual-in_err-read_only.ensures.1;
   bits = none_done _ c.from_residual-in_err-read_only.result _ c.from_residual-in_err-read_only.ensures.1;
   nothing = none_done _ c.from_residual-in_err-read_only.result _ c.from_residual-in_err-read_only.ensures.1;
+  few = c.make_room.ensures.few;
+  staged = none_done _ c.from_residual-in_err-read_only.result _ c.from_residual-in_err-read_only.ensures.1;
   stands = none_done _ c.from_residual-in_err-read_only.result _ c.from_residual-in_err-read_only.ensures.1;
   value = none_done _ c.from_residual-in_err-read_only.result _ c.from_residual-in_err-read_only.ensures.1;
 }
@@ -287,6 +299,9 @@ returns g c = record {
       let first = c.in_ok-make_room.ensures.nothing none in
       let last = c.clean_in_room.ensures.nothing (omega arith) in
       (last.0 ∙ c.in_ok-read_only.ensures.reads.batch ∙ first.0, last.1 ∙ c.in_ok-read_only.ensures.reads.cells.table ∙ first.1);
+  few = c.make_room.ensures.few;
+  staged =
+      staged_by _ _ _ _ _ _ _ (first_is g c) c.in_ok-make_room.ensures.staged (ap length c.in_ok-read_only.ensures.reads.batch) c.clean_in_room.ensures.staged c.cleaning-room.ensures.few;
   stands = stands_then g c;
   value = λ h lo t tells a some.
       let old = c.args.self.now in
