@@ -1,6 +1,6 @@
 -- Why an array answers an event so, by the clauses of its core.
 use Rattle.std.proofs.Common.{◌≡◌, ◌≢◌, ℕ, ◌+◌, ◌<◌, ◌≤◌, ◌⊎◌, true, false, Bool, List, [], ◌∷◌, Option, Some, None, Result, Err, Ok, refl, sym, ap, ◌∙◌, subst, inl, inr, arith, min, if◌then◌else◌}
-use Rattle.std.specs.Prelude.{All, IfSome, length, max, nat_le, nat_lt, slice_index, ◌==◌}
+use Rattle.std.specs.Prelude.{All, IfSome, ◌&&◌, length, max, nat_le, nat_lt, slice_index, ◌==◌}
 use Rattle.std.proofs.lemmas.Bool.Decides.{nat_tests}
 use Rattle.std.proofs.lemmas.List.Elements.{All-head, All-tail}
 use Rattle.paraid_base.specs.History.{Entry}
@@ -21,6 +21,7 @@ use Rattle.paraid_base.specs.Cells.{home_disk, home_row}
 use Rattle.paraid_base.specs.Log.{batch_room, worn_at}
 use Rattle.paraid_base.specs.Told.{HasRisen}
 use Rattle.paraid_image.specs.Out.{is_out, named_out}
+use Rattle.paraid_image.specs.Sides.{Batch}
 use Rattle.paraid_machine.specs.Machine.{blocks_named, first_missing, out_refusal}
 use Rattle.paraid_rack.specs.Slots.{Slot}
 use Rattle.paraid_record.specs.declared.meta.Meta.{Meta}
@@ -35,7 +36,7 @@ use Rattle.paraid_image.specs.Mark.{meta_after_loss, meta_with_lost}
 use Rattle.paraid_moves.specs.MoveMetas.{meta_after_begin}
 use Rattle.paraid_rebuild.specs.Replacing.{IsReplacedFrom}
 use Rattle.paraid_core.specs.declared.staged.Core.{Core}
-use Rattle.paraid_serve.specs.Causes.{Accepts, Begins, CommitsFew, Counts, Does, DoesShift, HasCause, HasCounted, IsUnchanged, KeepsEnergy, Replaces, Shown, Takes, UsesOwn, down_refusal, gear_after, missing_answer, most_commits, quiet_answer, spins_up, state_shown, up_refusal, wear_shown}
+use Rattle.paraid_serve.specs.Causes.{Accepts, Begins, CommitsFew, Counts, Does, DoesShift, HasCause, HasCounted, IsUnchanged, KeepsEnergy, Replaces, Shown, Takes, UsesOwn, down_refusal, gear_after, missing_answer, StagesFew, lacks_room, most_commits, quiet_answer, read_cleans, spins_up, state_shown, up_refusal, wear_shown}
 use Rattle.paraid_serve.specs.Causes.HasReason.{done as reason_done, quiet as reason_quiet, two as reason_two, worn as reason_worn}
 use Rattle.paraid_serve.specs.Lost.{HaltsByTwoLost}
 use Rattle.paraid_serve.proofs.OwedLemmas.{no_halt_done, no_halt_quiet}
@@ -81,7 +82,7 @@ pub takes_question : (x : Shown) (event : Event) → x.halt ≡ None → may_hal
 takes_question x event going not = record { going = going; fit = λ asked. let z : true ≡ false = sym asked ∙ not in cc }
 
 pub unchanged : (x : Shown) → IsUnchanged x x
-unchanged x = record { meta = refl; dirty = refl; slot = refl; energy = λ fits. refl }
+unchanged x = record { meta = refl; dirty = refl; staged = refl; slot = refl; energy = λ fits. refl }
 
 -- the gear that is told where no halt is
 told_gear : (x y : Shown) (answer : Answer) → y.halt ≡ halt_told answer → (y.halt ≡ None → y.gear ≡ y.meta.gear) → halt_told answer ≡ None → y.gear ≡ gear_after (halt_told answer) x y
@@ -107,24 +108,46 @@ commits_by x y count most under is = record { later = low x.meta.epoch y.meta.ep
     high : (e n : ℕ) → n ≡ e + count → n ≤ e + most
     high e n same = omega (arith, under)
 
--- a request or a flush commits once at most
-pub commits_once : (x y : Shown) (first : Bool) → y.meta.epoch ≡ x.meta.epoch + (if first then 1 else 0) → CommitsFew x y 1
+-- a request that commits first, or not
+pub commits_once : (x y : Shown) (first : Bool) → y.meta.epoch ≡ x.meta.epoch + (if first then 1 else 0) → CommitsFew x y (if first then 1 else 0)
 commits_once x y true is = commits_by x y 1 1 (omega arith) is
-commits_once x y false is = commits_by x y 0 1 (omega arith) is
+commits_once x y false is = commits_by x y 0 0 (omega arith) is
 
--- a read commits once at most, and only where it cleans its cell: no more is staged than there is room for
+-- a flush of what is staged
+pub commits_staged : (x y : Shown) (batch : Batch) → x.staged ≡ length batch → batch ≢ [] → y.meta.epoch ≡ x.meta.epoch + 1 → CommitsFew x y (min x.staged 1)
+commits_staged x y batch staged some is = commits_by x y 1 (min x.staged 1) (subst (λ (n : ℕ). 1 ≤ min n 1) (sym staged) (any batch some)) is
+  where
+    any : (b : Batch) → b ≢ [] → 1 ≤ min (length b) 1
+    any [] never = absurd (never refl)
+    any (member ∷ rest) never = grind (arith)
+
+-- no more is staged than there is room for
+not_full : (n : ℕ) → n ≤ 96 → nat_lt 96 n ≡ false
+not_full n low = grind (arith, nat_tests)
+
+-- a read commits once at most, and only where it cleans its cell
 pub commits_to_clean : {R : Type 0} {g : _} (slot : R → ℕ → Slot) (a : Array R g) (y : Shown) (block : ℕ) → a.core.meta.setup ≡ a.setup → length a.core.batch ≤ batch_room
     → y.meta.epoch ≡ a.core.meta.epoch + (if read_commits_first a.core.meta a.core.dirty a.core.batch block then 1 else 0) → CommitsFew (shown_of_array slot a) y (most_commits (shown_of_array slot a) (Read block))
 commits_to_clean slot a y block same few is =
     subst (λ (z : Setup). CommitsFew (shown_of_array slot a) y (most_commits (record (shown_of_array slot a) { setup = z }) (Read block))) same
     (by (is_cleaned a.core.meta a.core.dirty (home_row a.core.meta.setup.geometry.disks block) (home_disk a.core.meta.setup.geometry.disks block)) is)
   where
-    not_full : (n : ℕ) → n ≤ 96 → nat_lt 96 n ≡ false
-    not_full n low = grind (arith, nat_tests)
-
-    by : (cleans : Bool) → y.meta.epoch ≡ a.core.meta.epoch + (if commits_first a.core.batch (if cleans then 3 else 0) then 1 else 0) → CommitsFew (shown_of_array slot a) y (if cleans then 1 else 0)
+    by : (cleans : Bool) → y.meta.epoch ≡ a.core.meta.epoch + (if commits_first a.core.batch (if cleans then 3 else 0) then 1 else 0) → CommitsFew (shown_of_array slot a) y (if cleans && lacks_room (shown_of_array slot a) 3 then 1 else 0)
     by true e = commits_once (shown_of_array slot a) y (commits_first a.core.batch 3) e
     by false e = commits_by (shown_of_array slot a) y 0 0 (omega arith) (e ∙ ap (λ (b : Bool). a.core.meta.epoch + (if b then 1 else 0)) (not_full (length a.core.batch) few))
+
+-- what it leaves staged
+pub stages_to_clean : {R : Type 0} {g : _} (slot : R → ℕ → Slot) (a : Array R g) (now : ℕ) (block : ℕ) → a.core.meta.setup ≡ a.setup → length a.core.batch ≤ batch_room
+    → now ≤ (if read_commits_first a.core.meta a.core.dirty a.core.batch block then 0 else length a.core.batch) + 3
+    → (is_cleaned a.core.meta a.core.dirty (home_row a.core.meta.setup.geometry.disks block) (home_disk a.core.meta.setup.geometry.disks block) ≡ false → now ≡ length a.core.batch)
+    → StagesFew (shown_of_array slot a) (record (shown_of_array slot a) { staged = now }) (if read_cleans (shown_of_array slot a) block then 3 else 0)
+stages_to_clean slot a now block same few most still =
+    subst (λ (z : Setup). StagesFew (shown_of_array slot a) (record (shown_of_array slot a) { staged = now }) (if read_cleans (record (shown_of_array slot a) { setup = z }) block then 3 else 0)) same
+    (by (is_cleaned a.core.meta a.core.dirty (home_row a.core.meta.setup.geometry.disks block) (home_disk a.core.meta.setup.geometry.disks block)) most still)
+  where
+    by : (cleans : Bool) → now ≤ (if commits_first a.core.batch (if cleans then 3 else 0) then 0 else length a.core.batch) + 3 → (cleans ≡ false → now ≡ length a.core.batch) → StagesFew (shown_of_array slot a) (record (shown_of_array slot a) { staged = now }) (if cleans then 3 else 0)
+    by true m s = m
+    by false m s = subst (λ (b : Bool). now ≤ (if b then 0 else length a.core.batch) + 0) (sym (not_full (length a.core.batch) few)) (subst (λ (n : ℕ). n ≤ length a.core.batch + 0) (sym (s refl)) (omega arith))
 
 module _ {R : Type 0} {g : _} {count : R → ℕ} (slot : R → ℕ → Slot) (a : Array R g) where
   -- with no call
@@ -219,7 +242,7 @@ accepts_none x = record {
 
 -- what is seen of an array over this core, with so much energy used, with these samples and so many requests
 abbrev pub shown_with : {R : Type 0} {g : _} → (R → ℕ → Slot) → Setup → Core R g → ℕ → List ℕ → ℕ → Option Ended → Shown
-shown_with slot setup core sum samples served ended = record { setup = setup; meta = core.meta; dirty = is_dirty core.dirty; slot = slot (core_rack core); gear = gear_of_end ended core.meta.gear; energy = sum; samples = samples; served = served; halt = halt_of_end ended }
+shown_with slot setup core sum samples served ended = record { setup = setup; meta = core.meta; dirty = is_dirty core.dirty; staged = length core.batch; slot = slot (core_rack core); gear = gear_of_end ended core.meta.gear; energy = sum; samples = samples; served = served; halt = halt_of_end ended }
 
 -- with the core as it was nothing has changed
 module _ {R : Type 0} {g : _} (slot : R → ℕ → Slot) (a : Array R g) (new : Core R g) (sum : ℕ) (same : new ≡ a.core) (energy : KeepsEnergy (shown_of_array slot a) (shown_with slot a.setup new sum (samples_held a.windows) (sample_of a.served) a.ended)) where
@@ -227,6 +250,7 @@ module _ {R : Type 0} {g : _} (slot : R → ℕ → Slot) (a : Array R g) (new :
   unchanged_core = record {
     meta = ap (λ (c : Core R g). c.meta) same;
     dirty = ap (λ (c : Core R g). is_dirty c.dirty) same;
+    staged = ap (λ (c : Core R g). length c.batch) same;
     slot = ap (λ (c : Core R g). slot (core_rack c)) same;
     energy = energy;
   }

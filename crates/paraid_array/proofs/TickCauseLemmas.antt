@@ -1,6 +1,6 @@
 -- Why a tick of an array is answered so, by the clauses of its core.
 use Rattle.std.proofs.Common.{◌≡◌, ◌≢◌, ℕ, ◌+◌, ◌<◌, ◌≤◌, ◌⊎◌, Bool, List, Option, Some, None, Result, Err, Ok, refl, sym, ap, ◌∙◌, subst, inl, inr, arith, min}
-use Rattle.std.specs.Prelude.{slice_index}
+use Rattle.std.specs.Prelude.{length, slice_index}
 use Rattle.paraid_base.specs.declared.event.Answer.TheVariants.{Ticked}
 use Rattle.paraid_base.specs.declared.fault.Two.{Two}
 use Rattle.paraid_base.specs.declared.state.GearReport.{GearReport}
@@ -18,6 +18,7 @@ use Rattle.paraid_rack.specs.Slots.{Slot}
 use Rattle.paraid_record.specs.declared.meta.Meta.{Meta}
 use Rattle.paraid_record.specs.declared.meta.Setup.{Setup}
 use Rattle.paraid_dirty.specs.Table.{is_dirty}
+use Rattle.paraid_image.specs.Sides.{Batch}
 use Rattle.paraid_image.specs.Out.{named_out, or_else}
 use Rattle.paraid_image.specs.Power.{PowerState}
 use Rattle.paraid_moves.specs.MoveMetas.{meta_after_begin}
@@ -106,11 +107,12 @@ module _ {R : Type 0} {g : _} (slots : R → ℕ) (slot : R → ℕ → Slot) (a
   }
 
   -- where it is left as it was, so is what is seen of it
-  pub idle_core : mid.store ≡ a.core.store → (new : Core R g) → new ≡ mid → (new.meta ≡ with_tick a.core.meta) × (new.dirty ≡ a.core.dirty) × (slot (core_rack new) ≡ slot (core_rack a.core))
-  idle_core store new same = (
+  pub idle_core : mid.store ≡ a.core.store → mid.batch ≡ a.core.batch → (new : Core R g) → new ≡ mid → (new.meta ≡ with_tick a.core.meta) × (new.dirty ≡ a.core.dirty) × (slot (core_rack new) ≡ slot (core_rack a.core)) × (length new.batch ≡ length a.core.batch)
+  idle_core store batch new same = (
     ap (λ (z : Core R g). z.meta) same ∙ meta,
     ap (λ (z : Core R g). z.dirty) same ∙ table,
     ap (λ (z : Core R g). slot (store_rack z.store)) same ∙ ap (λ (y : Store R g). slot (store_rack y)) store,
+    ap (λ (z : Core R g). length z.batch) same ∙ ap (λ (b : Batch). length b) batch,
   )
 
 -- A tick, by the clauses of what it does after it has counted itself.
@@ -230,10 +232,10 @@ module _ {R : Type 0} {g : _} (slots : R → ℕ) (slot : R → ℕ → Slot) (a
       by (Some d) tells = (tells, idle (subst IsIdleTick (sym tells) tt))
 
   abbrev IsIdleCore : Type 0
-  IsIdleCore = (new.meta ≡ with_tick a.core.meta) × (new.dirty ≡ a.core.dirty) × (slot (core_rack new) ≡ slot (core_rack a.core))
+  IsIdleCore = (new.meta ≡ with_tick a.core.meta) × (new.dirty ≡ a.core.dirty) × (slot (core_rack new) ≡ slot (core_rack a.core)) × (length new.batch ≡ length a.core.batch)
 
   idle_is : IsIdleCore → IsAsBefore before after
-  idle_is same = record { meta = same.0; dirty = ap is_dirty same.1; slot = same.2 }
+  idle_is same = record { meta = same.0; dirty = ap is_dirty same.1; slot = same.2; staged = same.3 }
 
   shifts_by : (phase : Phase) → a.core.meta.phase ≡ phase → named_out a.core.meta.out ≡ None → (a.core.meta.phase ≢ Steady → MovesOn before after count event)
       → (a.core.meta.phase ≡ Steady → (count ≡ 0) × TellsRest (with_tick a.core.meta) new.meta event × TellsDecision a.setup (state_shown before) asked_for event)
@@ -243,19 +245,19 @@ module _ {R : Type 0} {g : _} (slots : R → ℕ) (slot : R → ℕ → Slot) (a
   shifts_by (UpPhase to) is none moves rests idle table = moves (λ z. let y : Steady ≡ UpPhase to = sym z ∙ is in cc)
 
   pub ticks_by : (out : Out) → a.core.meta.out ≡ out
-      → ((d : ℕ) → a.core.meta.out ≡ Gone d → (count ≡ 0) × (event ≡ Waiting) × (new.meta ≡ with_tick a.core.meta) × (new.dirty ≡ a.core.dirty) × (slot (core_rack new) ≡ slot (core_rack a.core)))
+      → ((d : ℕ) → a.core.meta.out ≡ Gone d → (count ≡ 0) × (event ≡ Waiting) × (new.meta ≡ with_tick a.core.meta) × (new.dirty ≡ a.core.dirty) × (slot (core_rack new) ≡ slot (core_rack a.core)) × (length new.batch ≡ length a.core.batch))
       → ((d u : ℕ) → a.core.meta.out ≡ Fresh d u → TellsRebuild (with_tick a.core.meta) new.meta d u count event)
       → ((d u : ℕ) → a.core.meta.out ≡ Fresh d u → new.dirty ≡ a.core.dirty)
       → ((d u : ℕ) → a.core.meta.out ≡ Fresh d u → event ≡ GoneAgain d → HasRisen (slot (core_rack a.core) d).faults (slot (core_rack new) d).faults)
       → new.meta.setup ≡ a.core.meta.setup → new.meta.version ≡ a.core.meta.version → new.meta.writes ≡ a.core.meta.writes
       → (a.core.meta.out ≡ No → a.core.meta.phase ≢ Steady → TellsMove a.setup (state_shown (shown_ticked (shown_of_array slot a))) (service_of slots new (shown_ticked (shown_of_array slot a)).samples 0 0) count event)
       → (a.core.meta.out ≡ No → a.core.meta.phase ≡ Steady → (count ≡ 0) × TellsRest (with_tick a.core.meta) new.meta event × TellsDecision a.setup (state_shown (shown_ticked (shown_of_array slot a))) (decision_shown (shown_ticked (shown_of_array slot a))) event)
-      → (a.core.meta.out ≡ No → a.core.meta.phase ≡ Steady → IsIdleTick event → (new.meta ≡ with_tick a.core.meta) × (new.dirty ≡ a.core.dirty) × (slot (core_rack new) ≡ slot (core_rack a.core)))
+      → (a.core.meta.out ≡ No → a.core.meta.phase ≡ Steady → IsIdleTick event → (new.meta ≡ with_tick a.core.meta) × (new.dirty ≡ a.core.dirty) × (slot (core_rack new) ≡ slot (core_rack a.core)) × (length new.batch ≡ length a.core.batch))
       → (a.core.meta.out ≡ No → a.core.meta.phase ≡ Steady → new.dirty ≡ a.core.dirty)
       → TicksBy out (shown_ticked (shown_of_array slot a)) (shown_with slot a.setup new sum kept 0 a.ended) count event
   ticks_by No is waits rebuilds cells gone setup version writes moves rests idle table =
       shifts_by a.core.meta.phase refl (ap named_out is) (λ shifts. moves_by setup version writes (ap named_out is) event (moves is shifts)) (rests is) (idle is) (table is)
-  ticks_by (Gone d) is waits rebuilds cells gone setup version writes moves rests idle table = let w = waits d is in (w.0, w.1, idle_is (w.2, w.3, w.4))
+  ticks_by (Gone d) is waits rebuilds cells gone setup version writes moves rests idle table = let w = waits d is in (w.0, w.1, idle_is (w.2, w.3, w.4, w.5))
   ticks_by (Fresh d u) is waits rebuilds cells gone setup version writes moves rests idle table = rebuild_by d u event refl (rebuilds d u is) (cells d u is) (gone d u is)
 
 -- what it uses

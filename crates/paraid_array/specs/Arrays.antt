@@ -1,5 +1,5 @@
 -- What contracts see of an array, and where it stands in a session.
-use Rattle.std.specs.Prelude.{◌≡◌, ℕ, ◌<◌, Bool, List, [], Option, Some, None}
+use Rattle.std.specs.Prelude.{◌≡◌, ℕ, ◌<◌, Bool, List, [], length, Option, Some, None}
 use Rattle.paraid_base.specs.declared.event.Answer.{Answer}
 use Rattle.paraid_base.specs.declared.event.Event.{Event}
 use Rattle.paraid_base.specs.declared.fault.Halt.{Halt}
@@ -86,6 +86,7 @@ shown_of_array slot array = record {
   setup = array.setup;
   meta = array.core.meta;
   dirty = is_dirty array.core.dirty;
+  staged = length array.core.batch;
   slot = slot (core_rack array.core);
   gear = gear_of_end array.ended array.core.meta.gear;
   energy = array.ledger.total;

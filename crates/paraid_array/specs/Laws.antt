@@ -1,10 +1,11 @@
 -- What an array keeps at any time, as its events are asked to.
-use Rattle.std.specs.Prelude.{◌≡◌, ℕ, ◌<◌, Bool, true, false, List, [], Option, Some, None}
+use Rattle.std.specs.Prelude.{◌≡◌, ℕ, ◌<◌, Bool, true, false, List, [], length, Option, Some, None}
 use Rattle.std.proofs.Common.{refl, sym, ap, ◌∙◌, subst}
 use Rattle.paraid_rack.specs.Slots.{Slot}
 use Rattle.paraid_rack.specs.Trail.{Trail}
 use Rattle.paraid_record.specs.declared.meta.Setup.{Setup}
 use Rattle.paraid_image.specs.Out.{named_out}
+use Rattle.paraid_image.specs.Sides.{Batch}
 use Rattle.paraid_txn.specs.Stores.{store_rack}
 use Rattle.paraid_core.specs.declared.staged.Core.{Core}
 use Rattle.paraid_core.specs.CoreInvariant.{AreCopiesSynced}
@@ -16,7 +17,7 @@ use Rattle.paraid_session.specs.Powers.{AreAllSynced, FitsSlots}
 use Rattle.paraid_session.specs.Turn.{Point}
 use Rattle.paraid_array.specs.declared.array.Array.{Array}
 use Rattle.paraid_array.specs.declared.ended.Ended.{Ended}
-use Rattle.paraid_array.specs.Arrays.{ArrayStandsAt, dirty_of_array, samples_of_array, served_of_array, shown_of_array, slot_of_array}
+use Rattle.paraid_array.specs.Arrays.{ArrayStandsAt, HasNothingStaged, dirty_of_array, samples_of_array, served_of_array, shown_of_array, slot_of_array}
 use Rattle.paraid_array.specs.Lasting.{IsArrayServing, gear_of_end, halt_of_end}
 
 -- a point at which it stands tells its halt
@@ -67,13 +68,15 @@ shown_as slot a fits synced = record {
   synced = synced;
 }
 
--- what is seen of it with another setup, energy, halt, samples and number of requests
+-- what is seen of it with another setup, energy, halt, samples, number of requests, gear and number
+-- of targets that are staged
 abbrev shown_but : {R : Type 0} {g : _}
-    → (R → ℕ → Slot) → Array R g → Setup → ℕ → Option Halt → List ℕ → ℕ → ℕ → Shown
-shown_but slot a z n h l k gear = record {
+    → (R → ℕ → Slot) → Array R g → Setup → ℕ → Option Halt → List ℕ → ℕ → ℕ → ℕ → Shown
+shown_but slot a z n h l k gear staged = record {
   setup = z;
   meta = a.core.meta;
   dirty = dirty_of_array a;
+  staged = staged;
   slot = slot_of_array slot a;
   gear = gear;
   energy = n;
@@ -82,15 +85,16 @@ shown_but slot a z n h l k gear = record {
   halt = h;
 }
 
--- what is seen of an array as it begins: its own setup, no energy used, no sample, no request and
--- no halt
+-- what is seen of an array as it begins: its own setup, nothing staged, no energy used, no sample,
+-- no request and no halt
 pub begins_as : {R : Type 0} {g : _} (slot : R → ℕ → Slot) (a : Array R g)
     → a.setup ≡ a.core.meta.setup
     → a.ledger.total ≡ 0 → halt_of_end a.ended ≡ None → samples_of_array a ≡ []
-    → served_of_array a ≡ 0 → shown_of_array slot a ≡ record {
+    → served_of_array a ≡ 0 → HasNothingStaged a → shown_of_array slot a ≡ record {
       setup = a.core.meta.setup;
       meta = a.core.meta;
       dirty = dirty_of_array a;
+      staged = 0;
       slot = slot_of_array slot a;
       gear = a.core.meta.gear;
       energy = 0;
@@ -98,19 +102,21 @@ pub begins_as : {R : Type 0} {g : _} (slot : R → ℕ → Slot) (a : Array R g)
       served = 0;
       halt = None;
     }
-begins_as slot a setup energy going samples served =
-    ap (λ (x : Setup). shown_but slot a x a.ledger.total (halt_of_end a.ended)
-    (samples_of_array a) (served_of_array a) (gear_of_end a.ended a.core.meta.gear)) setup
-    ∙ ap (λ (x : ℕ). shown_but slot a a.core.meta.setup x (halt_of_end a.ended)
-    (samples_of_array a) (served_of_array a) (gear_of_end a.ended a.core.meta.gear)) energy
-    ∙ ap (λ (x : Option Halt). shown_but slot a a.core.meta.setup 0 x
-    (samples_of_array a) (served_of_array a) (gear_of_end a.ended a.core.meta.gear)) going
+begins_as slot a setup energy going samples served nothing =
+    ap (λ (x : Setup). shown_but slot a x a.ledger.total (halt_of_end a.ended) (samples_of_array a)
+    (served_of_array a) (gear_of_end a.ended a.core.meta.gear) (length a.core.batch)) setup
+    ∙ ap (λ (x : ℕ). shown_but slot a a.core.meta.setup x (halt_of_end a.ended) (samples_of_array a)
+    (served_of_array a) (gear_of_end a.ended a.core.meta.gear) (length a.core.batch)) energy
+    ∙ ap (λ (x : Option Halt). shown_but slot a a.core.meta.setup 0 x (samples_of_array a)
+    (served_of_array a) (gear_of_end a.ended a.core.meta.gear) (length a.core.batch)) going
     ∙ ap (λ (x : List ℕ). shown_but slot a a.core.meta.setup 0 None x
-    (served_of_array a) (gear_of_end a.ended a.core.meta.gear)) samples
+    (served_of_array a) (gear_of_end a.ended a.core.meta.gear) (length a.core.batch)) samples
     ∙ ap (λ (x : ℕ). shown_but slot a a.core.meta.setup 0 None
-    [] x (gear_of_end a.ended a.core.meta.gear)) served
-    ∙ ap (λ (x : ℕ). shown_but slot a a.core.meta.setup 0 None [] 0 x)
+    [] x (gear_of_end a.ended a.core.meta.gear) (length a.core.batch)) served
+    ∙ ap (λ (x : ℕ). shown_but slot a a.core.meta.setup 0 None [] 0 x (length a.core.batch))
     (gear_going a.ended a.core.meta.gear going)
+    ∙ ap (λ (x : Batch). shown_but slot a a.core.meta.setup 0 None [] 0 a.core.meta.gear (length x))
+    nothing
 
 -- a disk of one that serves is absent only where it is out
 pub absent_out : {R : Type 0} {g : _}

@@ -24,6 +24,7 @@ impl<R: Rack> Array<R> {
     // Commits all that is staged, and counts what is false.
     fn commit_and_check(&mut self) -> Result<CheckReport, Halt>
         requires going { end_of_array self.old ≡ None }
+        requires some { batch_of (core_of_array self.old) ≢ [] }
         requires epoch { (meta_of (core_of_array self.old)).epoch < worn_at }
         requires writes { (meta_of (core_of_array self.old)).writes < worn_at }
         ensures answers { AnswersEvent R.slot_count R.slot R.told self.old self.new FlushEvent

@@ -1,5 +1,5 @@
 //! A flush of an array.
-ghost use Rattle.std.specs.Prelude.{◌≡◌, ℕ, ◌<◌, true, [], None, Option, Some};
+ghost use Rattle.std.specs.Prelude.{◌≡◌, ◌≢◌, ℕ, ◌<◌, true, [], None, Option, Some};
 ghost use Rattle.paraid_base.specs.BlockAnswers.{answer_to_flush};
 ghost use Rattle.paraid_base.specs.Log.{worn_at};
 ghost use Rattle.paraid_base.specs.declared.event.Event.TheVariants.{Flush as FlushEvent};
@@ -24,6 +24,7 @@ impl<R: Rack> Array<R> {
     // Commits all that is staged.
     fn commit_all(&mut self) -> Result<u64, Halt>
         requires going { end_of_array self.old ≡ None }
+        requires some { batch_of (core_of_array self.old) ≢ [] }
         requires epoch { (meta_of (core_of_array self.old)).epoch < worn_at }
         requires writes { (meta_of (core_of_array self.old)).writes < worn_at }
         ensures answers { AnswersEvent R.slot_count R.slot R.told self.old self.new FlushEvent

@@ -57,12 +57,14 @@ pub record ServedArray : Type 0 where
   pub dirty : ℕ → ℕ → Bool
   pub slot : ℕ → Slot
 
--- what is seen of it as its service begins: no energy was used, and nothing was counted
+-- what is seen of it as its service begins: nothing is staged, no energy was used, and nothing was
+-- counted
 abbrev pub shown_served : ServedArray → Shown
 shown_served array = record {
   setup = array.meta.setup;
   meta = array.meta;
   dirty = array.dirty;
+  staged = 0;
   slot = array.slot;
   gear = array.meta.gear;
   energy = 0;

@@ -1,7 +1,8 @@
 -- An event in which no disk fails has one answer, by its causes.
-use Rattle.std.proofs.Common.{◌≡◌, ℕ, ◌+◌, ◌<◌, ◌≤◌, true, false, List, Option, Some, None, refl, sym, ap, ◌∙◌, subst, arith}
+use Rattle.std.proofs.Common.{◌≡◌, ℕ, ◌+◌, ◌<◌, ◌≤◌, true, false, Option, Some, None, refl, sym, ap, ◌∙◌, subst, arith}
 use Rattle.paraid_base.specs.declared.block.Block.{Block}
 use Rattle.paraid_base.specs.declared.event.Answer.{Answer}
+use Rattle.paraid_base.specs.declared.pairs.Pairs.{Pairs}
 use Rattle.paraid_base.specs.declared.event.Answer.TheVariants.{Value, NoBlock, Wrote, Flushed, Ticked, Shift, Top, Lowest, Shifting, Failed, Replaced, NoDisk, Out as IsOut, NotOut, NoFresh, Ration as RationUsed, State as IsState, Energy as EnergyUsed, Bad as IsBad, Halted}
 use Rattle.paraid_base.specs.declared.event.Event.{Event}
 use Rattle.paraid_base.specs.declared.event.Event.TheVariants.{Read, Write, Flush, Tick, Up, Down, Fail, Replace, State as AskState, Energy as AskEnergy, Bad}
@@ -15,12 +16,10 @@ use Rattle.paraid_base.specs.declared.state.Phase.TheVariants.{Steady as IsStead
 use Rattle.paraid_base.specs.declared.state.TickEvent.{TickEvent}
 use Rattle.paraid_base.specs.declared.state.TickEvent.TheVariants.{Steady, Waiting, Moving, Flipped, Begun, Rebuilt, Gone as GoneAgain, Lost, Ration}
 use Rattle.paraid_base.specs.Log.{worn_at}
-use Rattle.paraid_base.specs.Pairs.{pairs_of}
 use Rattle.paraid_gear.specs.declared.decision.Decision.{Decision}
 use Rattle.paraid_gear.specs.declared.decision.Decision.TheVariants.{Down as DecideDown, Stay, Up as DecideUp}
 use Rattle.paraid_image.specs.Power.{PowerState}
 use Rattle.paraid_image.specs.Mark.{meta_with_lost}
-use Rattle.paraid_machine.specs.Machine.{blocks_named}
 use Rattle.paraid_machine.specs.Moves.{after_flip, after_units, first_used_up, units_left, units_of_tick, units_to_rebuild}
 use Rattle.paraid_record.specs.declared.meta.Meta.{Meta}
 use Rattle.paraid_session.specs.Turn.{may_halt}
@@ -51,27 +50,27 @@ read_form block old new (EnergyUsed total) d = absurd d
 read_form block old new IsBad d = absurd d
 read_form block old new (Halted halt) d = absurd d
 
-write_form : (blocks : List ℕ) (old new : Shown) (answer : Answer) → DoesWrite blocks old new answer → answer ≡ Wrote (old.meta.writes + 1)
-write_form blocks old new (Value b bytes) d = absurd d
-write_form blocks old new (NoBlock b) d = absurd d
-write_form blocks old new (Wrote n) d = ap Wrote d.0
-write_form blocks old new (Flushed n) d = absurd d
-write_form blocks old new (Ticked report) d = absurd d
-write_form blocks old new (Shift gear to) d = absurd d
-write_form blocks old new Top d = absurd d
-write_form blocks old new Lowest d = absurd d
-write_form blocks old new (Shifting to) d = absurd d
-write_form blocks old new (Failed x) d = absurd d
-write_form blocks old new (Replaced x) d = absurd d
-write_form blocks old new (NoDisk x) d = absurd d
-write_form blocks old new (IsOut x) d = absurd d
-write_form blocks old new (NotOut x) d = absurd d
-write_form blocks old new (NoFresh x) d = absurd d
-write_form blocks old new (RationUsed x) d = absurd d
-write_form blocks old new (IsState status disks) d = absurd d
-write_form blocks old new (EnergyUsed total) d = absurd d
-write_form blocks old new IsBad d = absurd d
-write_form blocks old new (Halted halt) d = absurd d
+write_form : (pairs : Pairs) (old new : Shown) (answer : Answer) → DoesWrite pairs old new answer → answer ≡ Wrote (old.meta.writes + 1)
+write_form pairs old new (Value b bytes) d = absurd d
+write_form pairs old new (NoBlock b) d = absurd d
+write_form pairs old new (Wrote n) d = ap Wrote d.0
+write_form pairs old new (Flushed n) d = absurd d
+write_form pairs old new (Ticked report) d = absurd d
+write_form pairs old new (Shift gear to) d = absurd d
+write_form pairs old new Top d = absurd d
+write_form pairs old new Lowest d = absurd d
+write_form pairs old new (Shifting to) d = absurd d
+write_form pairs old new (Failed x) d = absurd d
+write_form pairs old new (Replaced x) d = absurd d
+write_form pairs old new (NoDisk x) d = absurd d
+write_form pairs old new (IsOut x) d = absurd d
+write_form pairs old new (NotOut x) d = absurd d
+write_form pairs old new (NoFresh x) d = absurd d
+write_form pairs old new (RationUsed x) d = absurd d
+write_form pairs old new (IsState status disks) d = absurd d
+write_form pairs old new (EnergyUsed total) d = absurd d
+write_form pairs old new IsBad d = absurd d
+write_form pairs old new (Halted halt) d = absurd d
 
 flush_form : (old new : Shown) (answer : Answer) → DoesFlush old new answer → answer ≡ Flushed old.meta.writes
 flush_form old new (Value b bytes) d = absurd d
@@ -328,7 +327,7 @@ module _ (old x y : Shown) (none_x : NoneFails old x) (none_y : NoneFails old y)
       let s = read_form block old x a p in
       let t = read_form block old y b q in
       subst (λ (z : Answer). AreAlike z b) (sym s.1) (subst (λ (z : Answer). AreAlike (Value block s.0) z) (sym t.1) refl)
-  does_same (Write pairs) a b p q = alike_same a b (write_form (blocks_named (pairs_of pairs)) old x a p ∙ sym (write_form (blocks_named (pairs_of pairs)) old y b q))
+  does_same (Write pairs) a b p q = alike_same a b (write_form pairs old x a p ∙ sym (write_form pairs old y b q))
   does_same Flush a b p q = alike_same a b (flush_form old x a p ∙ sym (flush_form old y b q))
   does_same Tick a b p q =
       let s = tick_form old x a p in

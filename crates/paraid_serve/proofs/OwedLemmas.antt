@@ -1,10 +1,10 @@
 -- What an array owes of an answer beside its cause follows from the cause: the answer is of the event's kind, tells no more than
 -- eight disks, and tells a halt only where the array has halted by it.
 use Rattle.std.specs.Prelude.{nat_lt}
-use Rattle.std.proofs.Common.{◌≡◌, ◌≢◌, ℕ, ◌==◌, true, false, Bool, List, [], ◌∷◌, Option, Some, None, refl, sym, ap, ◌∙◌, subst, arith, if◌then◌else◌}
+use Rattle.std.proofs.Common.{◌≡◌, ◌≢◌, ℕ, ◌==◌, true, false, Bool, [], ◌∷◌, Option, Some, None, refl, sym, ap, ◌∙◌, subst, arith, if◌then◌else◌}
 use Rattle.std.proofs.lemmas.Bool.Decides.{nat_tests}
-use Rattle.paraid_base.specs.Pairs.{pairs_of}
 use Rattle.paraid_base.specs.declared.event.Answer.{Answer}
+use Rattle.paraid_base.specs.declared.pairs.Pairs.{Pairs}
 use Rattle.paraid_base.specs.declared.event.Answer.TheVariants.{Value, NoBlock, Wrote, Flushed, Ticked, Shift, Top, Lowest, Shifting, Failed, Replaced, NoDisk, Out as IsOut, NotOut, NoFresh, Ration as RationUsed, State as IsState, Energy as EnergyUsed, Bad as IsBad, Halted}
 use Rattle.paraid_base.specs.declared.event.Event.{Event}
 use Rattle.paraid_base.specs.declared.event.Event.TheVariants.{Read, Write, Flush, Tick, Up, Down, Fail, Replace, State as AskState, Energy as AskEnergy, Bad}
@@ -17,7 +17,7 @@ use Rattle.paraid_base.specs.declared.state.Phase.{Phase}
 use Rattle.paraid_base.specs.declared.state.Phase.TheVariants.{Steady as IsSteady, Down as IsDown, Up as IsUp}
 use Rattle.paraid_base.specs.Gears.{next_higher, next_lower}
 use Rattle.paraid_image.specs.Out.{is_out, named_out}
-use Rattle.paraid_machine.specs.Machine.{block_count, blocks_named, first_missing, out_refusal, ration_refusal, refusal_else, shift_refusal}
+use Rattle.paraid_machine.specs.Machine.{block_count, first_missing, out_refusal, ration_refusal, refusal_else, shift_refusal}
 use Rattle.paraid_machine.specs.Moves.{first_used_up}
 use Rattle.paraid_rack.specs.Slots.{Slot}
 use Rattle.paraid_session.specs.Faults.{HaveNotFallen}
@@ -59,27 +59,27 @@ read_tells block old new (EnergyUsed total) d = absurd d
 read_tells block old new IsBad d = absurd d
 read_tells block old new (Halted halt) d = absurd d
 
-write_tells : (blocks : List ℕ) (old new : Shown) (answer : Answer) → DoesWrite blocks old new answer → Tells (is_write_answer answer) answer
-write_tells blocks old new (Value b bytes) d = absurd d
-write_tells blocks old new (NoBlock b) d = absurd d
-write_tells blocks old new (Wrote n) d = (refl, refl, tt)
-write_tells blocks old new (Flushed n) d = absurd d
-write_tells blocks old new (Ticked report) d = absurd d
-write_tells blocks old new (Shift gear to) d = absurd d
-write_tells blocks old new Top d = absurd d
-write_tells blocks old new Lowest d = absurd d
-write_tells blocks old new (Shifting to) d = absurd d
-write_tells blocks old new (Failed x) d = absurd d
-write_tells blocks old new (Replaced x) d = absurd d
-write_tells blocks old new (NoDisk x) d = absurd d
-write_tells blocks old new (IsOut x) d = absurd d
-write_tells blocks old new (NotOut x) d = absurd d
-write_tells blocks old new (NoFresh x) d = absurd d
-write_tells blocks old new (RationUsed x) d = absurd d
-write_tells blocks old new (IsState status disks) d = absurd d
-write_tells blocks old new (EnergyUsed total) d = absurd d
-write_tells blocks old new IsBad d = absurd d
-write_tells blocks old new (Halted halt) d = absurd d
+write_tells : (pairs : Pairs) (old new : Shown) (answer : Answer) → DoesWrite pairs old new answer → Tells (is_write_answer answer) answer
+write_tells pairs old new (Value b bytes) d = absurd d
+write_tells pairs old new (NoBlock b) d = absurd d
+write_tells pairs old new (Wrote n) d = (refl, refl, tt)
+write_tells pairs old new (Flushed n) d = absurd d
+write_tells pairs old new (Ticked report) d = absurd d
+write_tells pairs old new (Shift gear to) d = absurd d
+write_tells pairs old new Top d = absurd d
+write_tells pairs old new Lowest d = absurd d
+write_tells pairs old new (Shifting to) d = absurd d
+write_tells pairs old new (Failed x) d = absurd d
+write_tells pairs old new (Replaced x) d = absurd d
+write_tells pairs old new (NoDisk x) d = absurd d
+write_tells pairs old new (IsOut x) d = absurd d
+write_tells pairs old new (NotOut x) d = absurd d
+write_tells pairs old new (NoFresh x) d = absurd d
+write_tells pairs old new (RationUsed x) d = absurd d
+write_tells pairs old new (IsState status disks) d = absurd d
+write_tells pairs old new (EnergyUsed total) d = absurd d
+write_tells pairs old new IsBad d = absurd d
+write_tells pairs old new (Halted halt) d = absurd d
 
 flush_tells : (old new : Shown) (answer : Answer) → DoesFlush old new answer → Tells (is_flush_answer answer) answer
 flush_tells old new (Value b bytes) d = absurd d
@@ -215,7 +215,7 @@ replace_tells disk old new (Halted halt) d = absurd d
 
 does_tells : (old new : Shown) (event : Event) (answer : Answer) → Does old event answer new → Tells (is_answer_to event answer) answer
 does_tells old new (Read block) answer d = read_tells block old new answer d
-does_tells old new (Write pairs) answer d = write_tells (blocks_named (pairs_of pairs)) old new answer d
+does_tells old new (Write pairs) answer d = write_tells pairs old new answer d
 does_tells old new Flush answer d = flush_tells old new answer d
 does_tells old new Tick answer d = tick_tells old new answer d
 does_tells old new Up answer d = up_tells _ _ old new answer d

@@ -1,6 +1,6 @@
 -- Why an array answers an event so, whatever its rack holds: by its meta before and after, and by
 -- the counts of its slots.
-use Rattle.std.specs.Prelude.{◌≡◌, ◌≢◌, ℕ, ◌+◌, ◌<◌, ◌≤◌, ◌⊎◌, ◌&&◌, not, nat_le, nat_lt, max, min, Bool, true, List, [], ◌∷◌, ◌++◌, Option, Some, None, slice_index, if◌then◌else◌}
+use Rattle.std.specs.Prelude.{◌≡◌, ◌≢◌, ℕ, ◌+◌, ◌-◌, ◌*◌, ◌<◌, ◌≤◌, ◌⊎◌, ◌&&◌, not, nat_le, nat_lt, max, min, Bool, true, List, [], ◌∷◌, ◌++◌, Option, Some, None, slice_index, if◌then◌else◌}
 use Rattle.circular_buffer.specs.Buffer.{keep_last}
 use Rattle.paraid_base.specs.declared.event.Answer.{Answer}
 use Rattle.paraid_base.specs.declared.event.Answer.TheVariants.{Value, NoBlock, Wrote, Flushed, Ticked, Shift, Top, Lowest, Failed, Replaced, NoDisk, Out as IsOut, NotOut, NoFresh, State as IsState, Energy as EnergyUsed, Bad as IsBad, Halted}
@@ -18,7 +18,8 @@ use Rattle.paraid_base.specs.declared.state.TickEvent.{TickEvent}
 use Rattle.paraid_base.specs.declared.state.TickEvent.TheVariants.{Steady, Waiting, Moving, Flipped, Begun, Rebuilt, Gone as GoneAgain, Lost, Ration}
 use Rattle.paraid_base.specs.Cells.{home_disk, home_row}
 use Rattle.paraid_base.specs.Gears.{next_higher, next_lower}
-use Rattle.paraid_base.specs.Log.{worn_at}
+use Rattle.paraid_base.specs.declared.pairs.Pairs.{Pairs}
+use Rattle.paraid_base.specs.Log.{batch_room, worn_at}
 use Rattle.paraid_base.specs.Pairs.{pairs_of}
 use Rattle.paraid_base.specs.States.{has_out, rising_to}
 use Rattle.paraid_base.specs.Told.{HasRisen, counter_most}
@@ -44,13 +45,14 @@ use Rattle.paraid_serve.specs.Lost.{AreTwoLost}
 
 -- What is seen of an array: what it is configured to be; the meta in memory under which it serves,
 -- and its dirty cells (what a mount found, as it begins; after it, no part of this says what a disk
--- holds); the slots of its rack; the gear that it tells; the energy that it has used; the last
--- samples, as many as its longest window has; the requests since the last tick, no more than a
--- sample may have; and the halt that has come.
+-- holds); how many targets are staged; the slots of its rack; the gear that it tells; the energy
+-- that it has used; the last samples, as many as its longest window has; the requests since the
+-- last tick, no more than a sample may have; and the halt that has come.
 pub record Shown : Type 0 where
   pub setup : Setup
   pub meta : Meta
   pub dirty : ℕ → ℕ → Bool
+  pub staged : ℕ
   pub slot : ℕ → Slot
   pub gear : ℕ
   pub energy : ℕ
@@ -135,6 +137,7 @@ KeepsEnergy old new = old.energy ≤ counter_most → new.energy ≡ old.energy
 pub record IsUnchanged (old new : Shown) : Type 0 where
   pub meta : new.meta ≡ old.meta
   pub dirty : new.dirty ≡ old.dirty
+  pub staged : new.staged ≡ old.staged
   pub slot : new.slot ≡ old.slot
   pub energy : KeepsEnergy old new
 
@@ -221,24 +224,49 @@ pub record Replaces (old new : Shown) (d : ℕ) (state : Out) : Type 0 where
   pub others : (e : ℕ) → e ≢ d → slice_index new.meta.spins e ≡ slice_index old.meta.spins e
   pub dirty : new.dirty ≡ old.dirty
 
--- a read gives the bytes of the block that was asked for, and accepts no write; it may clean the
--- block's cell
+-- In access mode, in a shift up with no disk out, the cell of this block is dirty and on a disk that
+-- comes up: a read of the block cleans it.
+abbrev pub read_cleans : Shown → ℕ → Bool
+read_cleans x b =
+    let n = x.setup.geometry.disks in
+    is_access x.setup.mode && not
+    (has_out x.meta.out) && nat_le x.meta.gear (home_disk n b) && nat_lt (home_disk n b)
+    (rising_to x.meta.phase) && x.dirty (home_row n b) (home_disk n b)
+
+-- beside what is staged there is no room for so many targets more
+abbrev pub lacks_room : Shown → ℕ → Bool
+lacks_room x targets = nat_lt (batch_room - targets) x.staged
+
+-- No more is staged then than before, and so many targets; what had left no room for these was
+-- committed first.
+abbrev pub StagesFew : Shown → Shown → ℕ → Type 0
+StagesFew old new targets =
+    new.staged ≤ (if lacks_room old targets then 0 else old.staged) + targets
+
+-- A read gives the bytes of the block that was asked for, and accepts no write. It may clean the
+-- block's cell: then it stages three targets, the cell in its hard place and the map on both log
+-- disks.
 abbrev pub DoesRead : ℕ → Shown → Shown → Answer → Type 0
 DoesRead block old new (Value b bytes) =
     (b ≡ block) × Accepts old new 0 × ChangesCells (block_read old.setup block) old new
+    × StagesFew old new (if read_cleans old block then 3 else 0)
 DoesRead block old new answer = ⊥
 
--- a write of these blocks gives its number, the next one, and is accepted
-abbrev pub DoesWrite : List ℕ → Shown → Shown → Answer → Type 0
-DoesWrite blocks old new (Wrote number) =
-    (number ≡ old.meta.writes + 1)
-    × Accepts old new 1 × ChangesCells (all_written old.setup.geometry.disks blocks) old new
-DoesWrite blocks old new answer = ⊥
+-- a write of these pairs gives its number, the next one, and is accepted; it stages ten targets for
+-- each pair at most
+abbrev pub DoesWrite : Pairs → Shown → Shown → Answer → Type 0
+DoesWrite pairs old new (Wrote number) =
+    (number ≡ old.meta.writes + 1) × Accepts old new 1
+    × ChangesCells
+    (all_written old.setup.geometry.disks (blocks_named (pairs_of pairs))) old new
+    × StagesFew old new (10 * pairs.count)
+DoesWrite pairs old new answer = ⊥
 
--- a flush gives the number of writes, and accepts none
+-- a flush gives the number of writes, accepts none, and leaves nothing staged
 abbrev pub DoesFlush : Shown → Shown → Answer → Type 0
 DoesFlush old new (Flushed writes) =
-    (writes ≡ old.meta.writes) × Accepts old new 0 × (new.dirty ≡ old.dirty)
+    (writes ≡ old.meta.writes)
+    × Accepts old new 0 × (new.dirty ≡ old.dirty) × (new.staged ≡ 0)
 DoesFlush old new answer = ⊥
 
 -- a shift begins to this next gear, or a disk is lost with what was staged
@@ -334,6 +362,7 @@ Counts answer old new = HasCounted new old.samples old.served
 pub record IsAsBefore (old new : Shown) : Type 0 where
   pub meta : new.meta ≡ old.meta
   pub dirty : new.dirty ≡ old.dirty
+  pub staged : new.staged ≡ old.staged
   pub slot : new.slot ≡ old.slot
 
 -- A shift down that is asked for begins, unless it would park a disk that has used up its
@@ -387,7 +416,7 @@ DoesTick old new answer = ⊥
 -- what the array does for an event that is not answered quietly
 abbrev pub Does : Shown → Event → Answer → Shown → Type 0
 Does old (Read block) answer new = DoesRead block old new answer
-Does old (Write pairs) answer new = DoesWrite (blocks_named (pairs_of pairs)) old new answer
+Does old (Write pairs) answer new = DoesWrite pairs old new answer
 Does old Flush answer new = DoesFlush old new answer
 Does old Tick answer new = DoesTick old new answer
 Does old Up answer new = DoesShift (next_higher old.setup.geometry old.meta.gear) (λ to.
@@ -428,22 +457,14 @@ abbrev pub gear_after : Option Halt → Shown → Shown → ℕ
 gear_after None old new = new.meta.gear
 gear_after (Some halt) old new = old.gear
 
--- In access mode, in a shift up with no disk out, the cell of this block is dirty and on a disk that
--- comes up: a read of the block cleans it.
-abbrev pub read_cleans : Shown → ℕ → Bool
-read_cleans x b =
-    let n = x.setup.geometry.disks in
-    is_access x.setup.mode && not
-    (has_out x.meta.out) && nat_le x.meta.gear (home_disk n b) && nat_lt (home_disk n b)
-    (rising_to x.meta.phase) && x.dirty (home_row n b) (home_disk n b)
-
--- The most commits that an event makes: a read that cleans a cell one, and every other read none; a
--- write or a flush one; a tick three, and one for each unit that it may move; and what is asked of
+-- The most commits that an event makes. A write, or a read that cleans a cell, makes one where what
+-- is staged leaves no room for its targets, and any other read or write none; a flush one where
+-- anything is staged; a tick three, and one for each unit that it may move; and what is asked of
 -- shifts and disks two.
 abbrev pub most_commits : Shown → Event → ℕ
-most_commits x (Read block) = if read_cleans x block then 1 else 0
-most_commits x (Write pairs) = 1
-most_commits x Flush = 1
+most_commits x (Read block) = if read_cleans x block && lacks_room x 3 then 1 else 0
+most_commits x (Write pairs) = if lacks_room x (10 * pairs.count) then 1 else 0
+most_commits x Flush = min x.staged 1
 most_commits x Tick = units_of_tick x.setup (state_shown (shown_ticked x)) + 3
 most_commits x Up = 2
 most_commits x Down = 2

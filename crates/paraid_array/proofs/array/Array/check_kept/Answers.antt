@@ -21,6 +21,8 @@ use Rattle.paraid_array.proofs.CoreLemmas.{serving_then}
 use Rattle.paraid_array.proofs.StandLemmas.{end_by, told_before}
 use Rattle.paraid_array.proofs.LossLemmas.{going_wear, two_lost, ended_not_none, two_wear}
 use Rattle.paraid_image.specs.Out.{named_out}
+use Rattle.paraid_image.specs.Sides.{Batch}
+use Rattle.std.specs.Prelude.{length, min}
 use Rattle.paraid_txn.specs.Stores.{named_of, store_rack}
 use Rattle.paraid_session.proofs.FaultLemmas.{no_fall_counts}
 use Rattle.paraid_upkeep.proofs.ToldLemmas.{extends_core}
@@ -58,8 +60,8 @@ returns-in-Ok g c = record {
     grows = extends_core g.R.Rack.told c.args.self.now.core c.check.new.core _ c.check.ensures.leaves.calls;
     slots = refl;
     cause = done_cause (shown_of_array g.R.Rack.slot c.args.self.now) _ Flush (takes (shown_of_array g.R.Rack.slot c.args.self.now) Flush (ap halt_of_end c.requires.going) c.requires.epoch c.requires.writes) refl refl (no_fall_counts (g.R.Rack.slot (store_rack c.args.self.now.core.store)) (g.R.Rack.slot (store_rack c.check.new.core.store)) c.check.ensures.leaves.spared.no_fall) (Flushed c.args.self.now.core.meta.writes) (ap halt_of_end c.requires.going) (gear_going c.args.self.now.ended _) (record { samples = refl; served = refl })
-        (refl, accepted (shown_of_array g.R.Rack.slot c.args.self.now) _ 0 c.in-Ok.ensures.serves.marks (c.in-Ok.ensures.serves.writes ∙ plus_none c.args.self.now.core.meta.writes) refl, ap is_dirty c.in-Ok.ensures.serves.table)
-        (commits_none (shown_of_array g.R.Rack.slot c.args.self.now) _ 1 c.in-Ok.ensures.serves.epoch)
+        (refl, accepted (shown_of_array g.R.Rack.slot c.args.self.now) _ 0 c.in-Ok.ensures.serves.marks (c.in-Ok.ensures.serves.writes ∙ plus_none c.args.self.now.core.meta.writes) refl, ap is_dirty c.in-Ok.ensures.serves.table, ap (λ (b : Batch). length b) (c.in-Ok.ensures.serves.batch ∙ c.requires.nothing))
+        (commits_none (shown_of_array g.R.Rack.slot c.args.self.now) _ (min (length c.args.self.now.core.batch) 1) c.in-Ok.ensures.serves.epoch)
         (fits_then g.R.Rack.slot_count g.R.Rack.slot c.args.self.now.core c.check.new.core c.in-Ok.ensures.serves.marks c.in-Ok.ensures.serves.setup (c.args.self.now.serving c.requires.going).fits)
         (let q = (c.args.self.now.serving c.requires.going).serving in
         all_synced g.R.Rack.slot c.check.new.core (copies_kept c.args.self.now.core c.check.new.core c.in-Ok.ensures.serves.setup c.check.ensures.leaves.copied q.copies_synced) (c.in-Ok.ensures.serves.unsynced q.unsynced));

@@ -11,7 +11,7 @@ pub check_kept-requires : goal.check_kept-requires
 check_kept-requires g c = record { going = c.requires.going; epoch = c.requires.epoch; writes = c.requires.writes; nothing = c.if-is_kept.ensures.nothing refl }
 
 pub commit_and_check-requires : goal.commit_and_check-requires
-commit_and_check-requires g c = record { going = c.requires.going; epoch = c.requires.epoch; writes = c.requires.writes }
+commit_and_check-requires g c = record { going = c.requires.going; some = λ nothing. false≢true (c.if-is_kept.ensures.kept nothing); epoch = c.requires.epoch; writes = c.requires.writes }
 
 pub returns-then-is_kept : goal.returns-then-is_kept
 returns-then-is_kept g c = record {

@@ -4,7 +4,7 @@ use Rattle.paraid_base.specs.declared.event.Event.TheVariants.{Flush}
 use Rattle.paraid_base.specs.declared.event.Answer.TheVariants.{Flushed}
 use Rattle.paraid_array.specs.Arrays.{shown_of_array}
 use Rattle.paraid_upkeep.proofs.ServiceLemmas.{fits_then}
-use Rattle.paraid_array.proofs.CauseLemmas.{accepted, commits_once, done_cause, plus_none, takes, two_cause}
+use Rattle.paraid_array.proofs.CauseLemmas.{accepted, commits_staged, done_cause, plus_none, takes, two_cause}
 use Rattle.paraid_array.specs.Lasting.{halt_of_end}
 use Rattle.std.proofs.Common.{refl, ap, ◌∙◌, Some, true, arith, sym}
 use Rattle.paraid_base.specs.declared.fault.Halt.TheVariants.{Two as HaltTwo}
@@ -17,6 +17,8 @@ use Rattle.paraid_array.proofs.FlushLemmas.{flush_lost, flush_on}
 use Rattle.paraid_array.proofs.StandLemmas.{end_by}
 use Rattle.paraid_array.proofs.LossLemmas.{going_wear, two_lost, ended_not_none, two_wear}
 use Rattle.paraid_image.specs.Out.{named_out}
+use Rattle.paraid_image.specs.Sides.{Batch}
+use Rattle.std.specs.Prelude.{length}
 use Rattle.paraid_txn.specs.Stores.{named_of, store_rack}
 use Rattle.paraid_session.proofs.FaultLemmas.{no_fall_counts}
 use Rattle.paraid_upkeep.proofs.ToldLemmas.{extends_core}
@@ -60,8 +62,8 @@ returns-in-Ok g c = record {
     grows = extends_core g.R.Rack.told c.args.self.now.core c.commit.new.self _ c.commit.ensures.brings.calls;
     slots = refl;
     cause = done_cause (shown_of_array g.R.Rack.slot c.args.self.now) _ Flush (takes (shown_of_array g.R.Rack.slot c.args.self.now) Flush (ap halt_of_end c.requires.going) c.requires.epoch c.requires.writes) refl refl (no_fall_counts (g.R.Rack.slot (store_rack c.args.self.now.core.store)) (g.R.Rack.slot (store_rack c.commit.new.self.store)) c.commit.ensures.stays.losses.spared.no_fall) (Flushed c.meta-2.result.now.writes) (ap halt_of_end c.requires.going) (gear_going c.args.self.now.ended _) (record { samples = refl; served = refl })
-        (ap (λ (m : Meta). m.writes) c.meta-2.ensures, accepted (shown_of_array g.R.Rack.slot c.args.self.now) _ 0 c.in-Ok.ensures.stays.losses.marks (c.in-Ok.ensures.cells.writes ∙ plus_none c.args.self.now.core.meta.writes) refl, ap is_dirty c.commit.ensures.cells.table)
-        (commits_once (shown_of_array g.R.Rack.slot c.args.self.now) _ true c.in-Ok.ensures.meta.epoch)
+        (ap (λ (m : Meta). m.writes) c.meta-2.ensures, accepted (shown_of_array g.R.Rack.slot c.args.self.now) _ 0 c.in-Ok.ensures.stays.losses.marks (c.in-Ok.ensures.cells.writes ∙ plus_none c.args.self.now.core.meta.writes) refl, ap is_dirty c.commit.ensures.cells.table, ap (λ (b : Batch). length b) c.in-Ok.ensures.nothing)
+        (commits_staged (shown_of_array g.R.Rack.slot c.args.self.now) _ c.args.self.now.core.batch refl c.requires.some c.in-Ok.ensures.meta.epoch)
         (fits_then g.R.Rack.slot_count g.R.Rack.slot c.args.self.now.core c.commit.new.self c.in-Ok.ensures.stays.losses.marks c.in-Ok.ensures.stays.setup (c.args.self.now.serving c.requires.going).fits)
         (let q = (c.args.self.now.serving c.requires.going).serving in
         all_synced g.R.Rack.slot c.commit.new.self (copies_kept c.args.self.now.core c.commit.new.self c.in-Ok.ensures.stays.setup c.commit.ensures.stays.copied q.copies_synced) (c.in-Ok.ensures.unsynced q.unsynced));

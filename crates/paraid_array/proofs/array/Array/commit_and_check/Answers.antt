@@ -5,7 +5,7 @@ use Rattle.paraid_base.specs.declared.event.Event.TheVariants.{Flush}
 use Rattle.paraid_base.specs.declared.event.Answer.TheVariants.{Flushed}
 use Rattle.paraid_array.specs.Arrays.{shown_of_array}
 use Rattle.paraid_upkeep.proofs.ServiceLemmas.{fits_then}
-use Rattle.paraid_array.proofs.CauseLemmas.{accepted, commits_once, done_cause, plus_none, takes, two_cause}
+use Rattle.paraid_array.proofs.CauseLemmas.{accepted, commits_staged, done_cause, plus_none, takes, two_cause}
 use Rattle.paraid_array.specs.Lasting.{halt_of_end}
 use Rattle.std.proofs.Common.{◌≡◌, refl, Some, true, arith}
 use Rattle.paraid_base.specs.declared.fault.Halt.TheVariants.{Two as HaltTwo}
@@ -20,6 +20,8 @@ use Rattle.paraid_array.proofs.FlushLemmas.{flush_lost, flush_on}
 use Rattle.paraid_array.proofs.StandLemmas.{end_by, told_before}
 use Rattle.paraid_array.proofs.LossLemmas.{going_wear, two_lost, ended_not_none, two_wear}
 use Rattle.paraid_image.specs.Out.{named_out}
+use Rattle.paraid_image.specs.Sides.{Batch}
+use Rattle.std.specs.Prelude.{length}
 use Rattle.paraid_txn.specs.Stores.{named_of, store_rack}
 use Rattle.paraid_session.proofs.FaultLemmas.{no_fall_counts}
 use Rattle.paraid_upkeep.proofs.ToldLemmas.{extends_core}
@@ -66,8 +68,8 @@ returns-in-Ok g c = record {
     grows = extends_core g.R.Rack.told c.args.self.now.core c.commit_and_count.new.core _ c.commit_and_count.ensures.calls;
     slots = refl;
     cause = done_cause (shown_of_array g.R.Rack.slot c.args.self.now) _ Flush (takes (shown_of_array g.R.Rack.slot c.args.self.now) Flush (ap halt_of_end c.requires.going) c.requires.epoch c.requires.writes) refl refl (no_fall_counts (g.R.Rack.slot (store_rack c.args.self.now.core.store)) (g.R.Rack.slot (store_rack c.commit_and_count.new.core.store)) c.commit_and_count.ensures.rack.no_fall) (Flushed c.args.self.now.core.meta.writes) (ap halt_of_end c.requires.going) (gear_going c.args.self.now.ended _) (record { samples = refl; served = refl })
-        (refl, accepted (shown_of_array g.R.Rack.slot c.args.self.now) _ 0 c.in-Ok.ensures.leaves.marks (c.in-Ok.ensures.leaves.writes ∙ plus_none c.args.self.now.core.meta.writes) refl, ap is_dirty c.in-Ok.ensures.leaves.table)
-        (commits_once (shown_of_array g.R.Rack.slot c.args.self.now) _ true c.in-Ok.ensures.leaves.epoch)
+        (refl, accepted (shown_of_array g.R.Rack.slot c.args.self.now) _ 0 c.in-Ok.ensures.leaves.marks (c.in-Ok.ensures.leaves.writes ∙ plus_none c.args.self.now.core.meta.writes) refl, ap is_dirty c.in-Ok.ensures.leaves.table, ap (λ (b : Batch). length b) c.in-Ok.ensures.leaves.nothing)
+        (commits_staged (shown_of_array g.R.Rack.slot c.args.self.now) _ c.args.self.now.core.batch refl c.requires.some c.in-Ok.ensures.leaves.epoch)
         (fits_then g.R.Rack.slot_count g.R.Rack.slot c.args.self.now.core c.commit_and_count.new.core c.in-Ok.ensures.leaves.marks c.in-Ok.ensures.leaves.setup (c.args.self.now.serving c.requires.going).fits)
         (let q = (c.args.self.now.serving c.requires.going).serving in
         all_synced g.R.Rack.slot c.commit_and_count.new.core (copies_kept c.args.self.now.core c.commit_and_count.new.core c.in-Ok.ensures.leaves.setup c.commit_and_count.ensures.copied q.copies_synced) (c.in-Ok.ensures.leaves.unsynced q.unsynced));

@@ -2,7 +2,9 @@ use Rattle.paraid_array.specs.Laws.{all_synced, gear_going}
 use Rattle.paraid_session.proofs.FaultLemmas.{same_counts}
 use Rattle.paraid_array.specs.Arrays.{shown_of_array}
 use Rattle.paraid_array.proofs.CauseLemmas.{accepts_none, commits_none, done_cause, takes}
-use Rattle.std.proofs.Common.{refl, ap}
+use Rattle.std.proofs.Common.{refl, ap, min}
+use Rattle.std.specs.Prelude.{length}
+use Rattle.paraid_image.specs.Sides.{Batch}
 use Rattle.std.proofs.lemmas.Bool.{false≢true}
 use Rattle.paraid_base.specs.declared.event.Answer.TheVariants.{Flushed}
 use Rattle.paraid_base.specs.declared.event.Event.TheVariants.{Flush}
@@ -31,14 +33,14 @@ returns-then-is_kept g c =
           quiet_answers g.R.Rack.slot_count g.R.Rack.slot g.R.Rack.told a Flush (Flushed c.meta.result.now.writes)
           (flush_kept g.R.Rack.slot_count g.R.Rack.slot g.R.Rack.told g.met.R.Rack.agrees a going fit.0 fit.1 (a.serving going).serving.ready (a.serving going).serving.copies_synced (c.if-is_kept.ensures.nothing refl) _ (ap (λ (m : Meta). m.writes) c.meta.ensures))
           (let x = shown_of_array g.R.Rack.slot a in
-          done_cause x x Flush (takes x Flush c.requires.going fit.0 fit.1) refl refl (same_counts x.slot) (Flushed c.meta.result.now.writes) c.requires.going (gear_going a.ended a.core.meta.gear) (record { samples = refl; served = refl }) (ap (λ (m : Meta). m.writes) c.meta.ensures, accepts_none x, refl) (commits_none x x 1 refl) (a.serving going).fits
+          done_cause x x Flush (takes x Flush c.requires.going fit.0 fit.1) refl refl (same_counts x.slot) (Flushed c.meta.result.now.writes) c.requires.going (gear_going a.ended a.core.meta.gear) (record { samples = refl; served = refl }) (ap (λ (m : Meta). m.writes) c.meta.ensures, accepts_none x, refl, ap (λ (b : Batch). length b) (c.if-is_kept.ensures.nothing refl)) (commits_none x x (min x.staged 1) refl) (a.serving going).fits
           (all_synced g.R.Rack.slot a.core (a.serving going).serving.copies_synced (a.serving going).serving.unsynced));
     }
 
 pub commit_all-requires : goal.commit_all-requires
 commit_all-requires g c =
     let fit = c.in_default.ensures.fit in
-    record { going = none_ended c.args.self.now.ended c.requires.going; epoch = fit.0; writes = fit.1 }
+    record { going = none_ended c.args.self.now.ended c.requires.going; some = λ nothing. false≢true (c.if-is_kept.ensures.kept nothing); epoch = fit.0; writes = fit.1 }
 
 pub returns : goal.returns
 returns g c = record { idle = λ nothing. absurd (false≢true (c.if-is_kept.ensures.kept nothing)); answers = c.commit_all.ensures.answers }

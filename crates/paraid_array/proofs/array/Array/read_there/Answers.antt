@@ -5,7 +5,7 @@ use Rattle.paraid_base.specs.declared.event.Event.TheVariants.{Read}
 use Rattle.paraid_base.specs.declared.event.Answer.TheVariants.{Value}
 use Rattle.paraid_array.specs.Arrays.{shown_of_array}
 use Rattle.paraid_upkeep.proofs.ServiceLemmas.{fits_then}
-use Rattle.paraid_array.proofs.CauseLemmas.{accepted, commits_to_clean, done_cause, one_there, plus_none, takes, two_cause}
+use Rattle.paraid_array.proofs.CauseLemmas.{accepted, commits_to_clean, done_cause, one_there, plus_none, stages_to_clean, takes, two_cause}
 use Rattle.paraid_record.specs.declared.meta.Setup.{Setup}
 use Rattle.paraid_machine.specs.Machine.{block_count}
 use Rattle.paraid_array.specs.Lasting.{halt_of_end}
@@ -20,6 +20,8 @@ use Rattle.paraid_array.proofs.RequestLemmas.{read_lost, read_on, seen_read}
 use Rattle.paraid_array.proofs.StandLemmas.{end_by}
 use Rattle.paraid_array.proofs.LossLemmas.{going_wear, two_lost, ended_not_none, two_wear}
 use Rattle.paraid_image.specs.Out.{named_out}
+use Rattle.paraid_image.specs.Sides.{Batch}
+use Rattle.std.specs.Prelude.{length}
 use Rattle.paraid_txn.specs.Stores.{named_of, store_rack}
 use Rattle.paraid_session.proofs.FaultLemmas.{no_fall_counts}
 use Rattle.paraid_upkeep.proofs.ToldLemmas.{extends_core}
@@ -70,6 +72,7 @@ returns-in-Ok g c = record {
       refl,
       accepted (shown_of_array g.R.Rack.slot c.args.self.now) _ 0 c.in-Ok.ensures.commits.stays.losses.marks (c.in-Ok.ensures.writes ∙ plus_none c.args.self.now.core.meta.writes) refl,
       seen_read g.R.Rack.slot_count g.R.Rack.slot c.args.self.now c.read.new.self 0 (sample_of c.one_more-self.result) c.in-Ok.ensures.commits.stays.setup (c.args.self.now.serving c.requires.going).same_setup c.args.block c.in-Ok.ensures.bits,
+      stages_to_clean g.R.Rack.slot c.args.self.now _ c.args.block (c.args.self.now.serving c.requires.going).same_setup c.read.ensures.few c.in-Ok.ensures.staged (λ kept. ap (λ (b : Batch). length b) (c.in-Ok.ensures.nothing kept).0),
     )
         (commits_to_clean g.R.Rack.slot c.args.self.now _ c.args.block (c.args.self.now.serving c.requires.going).same_setup c.read.ensures.few c.in-Ok.ensures.commits.epoch)
         (fits_then g.R.Rack.slot_count g.R.Rack.slot c.args.self.now.core c.read.new.self c.in-Ok.ensures.commits.stays.losses.marks c.in-Ok.ensures.commits.stays.setup (c.args.self.now.serving c.requires.going).fits)

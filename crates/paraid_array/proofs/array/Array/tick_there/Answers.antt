@@ -109,7 +109,7 @@ returns-in-Ok g c = record {
         let windows : HoldLastSamples c.push.new.self (shown_ticked (shown_of_array g.R.Rack.slot c.args.self.now)).samples = subst (HoldLastSamples c.push.new.self) held (held_own c.push.new.self (samples_held a.windows ++ sample_of a.served ∷ []) pushed) in
         let ticked : PowerState = state_shown (shown_ticked (shown_of_array g.R.Rack.slot c.args.self.now)) in
         let setup : mid.meta.setup ≡ a.setup = ap (λ (m : Meta). m.setup) t.meta ∙ q.same_setup in
-        let idle = idle_core g.R.Rack.slot_count g.R.Rack.slot a mid t.meta t.marks.staged.table t.marks.store new in
+        let idle = idle_core g.R.Rack.slot_count g.R.Rack.slot a mid t.meta t.marks.staged.table t.marks.store t.marks.staged.batch new in
         done_cause (shown_of_array g.R.Rack.slot c.args.self.now) _ Tick (takes (shown_of_array g.R.Rack.slot c.args.self.now) Tick (ap halt_of_end c.requires.going) c.requires.epoch c.requires.writes) refl refl
         (let new = g.R.Rack.slot (store_rack c.advance.new.core.store) in
         no_fall_counts (g.R.Rack.slot (store_rack c.args.self.now.core.store)) new (subst (λ (s : Store _ _). (d : ℕ) → (g.R.Rack.slot (store_rack s) d).faults ≤ (new d).faults) c.count_tick.ensures.marks.store c.advance.ensures.calls.no_fall))
@@ -131,7 +131,7 @@ returns-in-Ok g c = record {
               (subst (λ (y : Store _ _). named_out a.core.meta.out ≡ None → (d : ℕ) → named_out new.meta.out ≡ Some d → HasRisen (g.R.Rack.slot (store_rack y) d).faults (g.R.Rack.slot (store_rack new.store) d).faults) t.marks.store
               (λ none. fails_newly (g.R.Rack.slot (store_rack mid.store)) (g.R.Rack.slot (store_rack new.store)) (named_out mid.meta.out) (named_out new.meta.out) (named_of mid.store) (named_of new.store) (t.serves q.serving.serves).stays done.serves.serving.serves.stays done.serves.leaves.down (ap named_out out ∙ none)))
               a.core.meta.out refl
-              (λ d is. let w = done.waits d (out ∙ is) in let same = idle w.1 in (ok_moved c.in-Ok.moved c.in-Ok.event w.0, ok_event c.in-Ok.moved c.in-Ok.event w.0, same.0, same.1, same.2))
+              (λ d is. let w = done.waits d (out ∙ is) in let same = idle w.1 in (ok_moved c.in-Ok.moved c.in-Ok.event w.0, ok_event c.in-Ok.moved c.in-Ok.event w.0, same.0, same.1, same.2, same.3))
               (λ d u is. subst (λ (m : Meta). TellsRebuild m new.meta d u c.in-Ok.moved c.in-Ok.event) t.meta (done.rebuilds.rebuilds d u (out ∙ is)))
               (λ d u is. done.rebuilds.table d u (out ∙ is) ∙ t.marks.staged.table)
               (λ d u is gone. subst (λ (y : Store _ _). HasRisen (g.R.Rack.slot (store_rack y) d).faults (g.R.Rack.slot (store_rack new.store) d).faults) t.marks.store (done.rebuilds.failed d u (out ∙ is) gone))

@@ -21,7 +21,7 @@ returns g c = record {
         (ap (λ (m : Meta). Some (end_by (Worn c.args.count) m.gear)) c.meta.ensures);
     grows = extends_none _;
     slots = refl;
-    cause = worn_cause (shown_of_array g.R.Rack.slot c.args.self.now) _ event c.args.count c.requires.going asked c.requires.many c.requires.is (record { meta = refl; dirty = refl; slot = refl; energy = λ fits. refl }) refl refl (ap (λ (m : Meta). m.gear) c.meta.ensures ∙ sym (gear_going c.args.self.now.ended _ c.requires.going)) (same_counts (g.R.Rack.slot (store_rack c.args.self.now.core.store)));
+    cause = worn_cause (shown_of_array g.R.Rack.slot c.args.self.now) _ event c.args.count c.requires.going asked c.requires.many c.requires.is (record { meta = refl; dirty = refl; staged = refl; slot = refl; energy = λ fits. refl }) refl refl (ap (λ (m : Meta). m.gear) c.meta.ensures ∙ sym (gear_going c.args.self.now.ended _ c.requires.going)) (same_counts (g.R.Rack.slot (store_rack c.args.self.now.core.store)));
   };
 }
 

@@ -73,6 +73,7 @@ returns-in-Ok g c = record {
       ap (λ (m : Meta). m.writes + 1) c.meta-2.ensures,
       accepted (shown_of_array g.R.Rack.slot c.args.self.now) _ 1 c.in-Ok.ensures.commits.stays.losses.marks c.in-Ok.ensures.writes refl,
       seen_write g.R.Rack.slot_count g.R.Rack.slot c.args.self.now c.write_many.new.self 0 (sample_of c.one_more-self.result) c.in-Ok.ensures.commits.stays.setup (c.args.self.now.serving c.requires.going).same_setup c.args.pairs.now c.in-Ok.ensures.bits,
+      c.in-Ok.ensures.staged,
     )
         (commits_once (shown_of_array g.R.Rack.slot c.args.self.now) _ (commits_first c.args.self.now.core.batch (10 * c.args.pairs.now.count)) c.in-Ok.ensures.commits.epoch)
         (fits_then g.R.Rack.slot_count g.R.Rack.slot c.args.self.now.core c.write_many.new.self c.in-Ok.ensures.commits.stays.losses.marks c.in-Ok.ensures.commits.stays.setup (c.args.self.now.serving c.requires.going).fits)

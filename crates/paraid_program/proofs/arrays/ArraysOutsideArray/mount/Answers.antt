@@ -12,4 +12,4 @@ returns-in-Ok-clause-served g c =
     record { epoch = _; disks = _; named = _; rows = _; servable = it.servable; mounted = it.mounted; session = it.session }
 
 pub returns-in-Ok-clause-shown : goal.returns-in-Ok-clause-shown
-returns-in-Ok-clause-shown g c = begins_as g.R.Rack.slot c.in-Ok.array c.in-Ok.ensures.setup c.in-Ok.ensures.counts.energy c.in-Ok.ensures.going c.in-Ok.ensures.counts.samples c.in-Ok.ensures.counts.requests
+returns-in-Ok-clause-shown g c = begins_as g.R.Rack.slot c.in-Ok.array c.in-Ok.ensures.setup c.in-Ok.ensures.counts.energy c.in-Ok.ensures.going c.in-Ok.ensures.counts.samples c.in-Ok.ensures.counts.requests c.in-Ok.ensures.nothing
