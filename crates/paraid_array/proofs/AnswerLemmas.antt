@@ -7,8 +7,8 @@ use Rattle.paraid_machine.specs.Energy.{energy_of}
 use Rattle.paraid_record.specs.declared.meta.Meta.{Meta}
 use Rattle.paraid_record.specs.declared.meta.Setup.{Setup}
 use Rattle.paraid_session.specs.Turn.{halt_told}
-use Rattle.paraid_upkeep.specs.declared.asked.Asked.{Asked}
-use Rattle.paraid_upkeep.specs.declared.asked.Asked.TheVariants.{Begun, Refused}
+use Rattle.paraid_upkeep.specs.declared.asked.ShiftOutcome.{ShiftOutcome}
+use Rattle.paraid_upkeep.specs.declared.asked.ShiftOutcome.TheVariants.{Begun, Refused}
 use Rattle.paraid_upkeep.specs.declared.fault.FailFault.{FailFault}
 use Rattle.paraid_upkeep.specs.declared.fault.FailFault.TheVariants.{NoDisk as FailNoDisk, Out as FailOut}
 use Rattle.paraid_upkeep.specs.declared.fault.ReplaceFault.{ReplaceFault}
@@ -48,7 +48,7 @@ replace_uses setup s d (Some (NotOut e)) = refl
 replace_uses setup s d (Some (NoFresh e)) = refl
 
 -- a shift that is asked for
-pub asked_uses : (setup : Setup) (s : PowerState) (gear : ℕ) (x : Asked) → energy_of setup s (asked_answer gear x) ≡ asked_energy setup gear x
+pub asked_uses : (setup : Setup) (s : PowerState) (gear : ℕ) (x : ShiftOutcome) → energy_of setup s (asked_answer gear x) ≡ asked_energy setup gear x
 asked_uses setup s gear (Begun to) = refl
 asked_uses setup s gear (Refused Top) = refl
 asked_uses setup s gear (Refused Lowest) = refl

@@ -41,13 +41,13 @@ use Rattle.paraid_serve.specs.Causes.HasReason.{done as reason_done, quiet as re
 use Rattle.paraid_serve.specs.Lost.{HaltsByTwoLost}
 use Rattle.paraid_serve.proofs.OwedLemmas.{no_halt_done, no_halt_quiet}
 use Rattle.paraid_array.specs.Laws.{all_synced, gear_going}
-use Rattle.paraid_array.specs.declared.ended.Ended.{Ended}
+use Rattle.paraid_array.specs.declared.ended.HaltedAt.{HaltedAt}
 use Rattle.paraid_upkeep.specs.DiskRefusals.{HasMarkedTaken, IsFailRefused, IsReplaceRefused}
 use Rattle.paraid_upkeep.specs.Directions.{HasMarkedShift, IsRefusedTo, MayGo, asked_event}
 use Rattle.paraid_upkeep.specs.Refusals.{HasBegunOrLost, HasMarkedDown, HasMarkedUp, IsDownRefused, IsShiftStateOf, IsUpRefused, MayGoDown, MayGoUp, fault_answer}
 use Rattle.paraid_upkeep.specs.Turns.{asked_answer, fail_answer, replace_answer}
-use Rattle.paraid_upkeep.specs.declared.asked.Asked.{Asked}
-use Rattle.paraid_upkeep.specs.declared.asked.Asked.TheVariants.{Begun, Refused}
+use Rattle.paraid_upkeep.specs.declared.asked.ShiftOutcome.{ShiftOutcome}
+use Rattle.paraid_upkeep.specs.declared.asked.ShiftOutcome.TheVariants.{Begun, Refused}
 use Rattle.paraid_upkeep.specs.declared.asked.Direction.{Direction}
 use Rattle.paraid_upkeep.specs.declared.asked.Direction.TheVariants.{Down as Downward, Up as Upward}
 use Rattle.paraid_upkeep.specs.declared.fault.ShiftFault.{ShiftFault}
@@ -241,7 +241,7 @@ accepts_none x = record {
 }
 
 -- what is seen of an array over this core, with so much energy used, with these samples and so many requests
-abbrev pub shown_with : {R : Type 0} {g : _} → (R → ℕ → Slot) → Setup → Core R g → ℕ → List ℕ → ℕ → Option Ended → Shown
+abbrev pub shown_with : {R : Type 0} {g : _} → (R → ℕ → Slot) → Setup → Core R g → ℕ → List ℕ → ℕ → Option HaltedAt → Shown
 shown_with slot setup core sum samples served ended = record { setup = setup; meta = core.meta; dirty = is_dirty core.dirty; staged = length core.batch; slot = slot (core_rack core); gear = gear_of_end ended core.meta.gear; energy = sum; samples = samples; served = served; halt = halt_of_end ended }
 
 -- with the core as it was nothing has changed
@@ -433,7 +433,7 @@ raised_by gear to d now was raised others = by (nat_le gear d) (nat_lt d to) ref
     by false true e f = rw e (others (inl (grind (e, arith, nat_tests))) ∙ plus_none was)
     by false false e f = rw e (others (inl (grind (e, arith, nat_tests))) ∙ plus_none was)
 
-same_asked : (x : Asked) (f : ShiftFault) → ◌≡◌ {A = Result Asked Two} (Ok x) (Ok (Refused f)) → x ≡ Refused f
+same_asked : (x : ShiftOutcome) (f : ShiftFault) → ◌≡◌ {A = Result ShiftOutcome Two} (Ok x) (Ok (Refused f)) → x ≡ Refused f
 same_asked x f is = cc
 
 fault_going : (f : ShiftFault) → halt_told (fault_answer f) ≡ None
@@ -443,7 +443,7 @@ fault_going (Shifting to) = refl
 fault_going (ShiftOut d) = refl
 fault_going (Ration d) = refl
 
-pub asked_going : (gear : ℕ) (x : Asked) → halt_told (asked_answer gear x) ≡ None
+pub asked_going : (gear : ℕ) (x : ShiftOutcome) → halt_told (asked_answer gear x) ≡ None
 asked_going gear (Begun to) = refl
 asked_going gear (Refused f) = fault_going f
 
@@ -455,13 +455,13 @@ fault_counts (Shifting to) x y same = same
 fault_counts (ShiftOut d) x y same = same
 fault_counts (Ration d) x y same = same
 
-asked_counts : (gear : ℕ) (asked : Asked) (x y : Shown) → HasCounted y x.samples x.served → Counts (asked_answer gear asked) x y
+asked_counts : (gear : ℕ) (asked : ShiftOutcome) (x y : Shown) → HasCounted y x.samples x.served → Counts (asked_answer gear asked) x y
 asked_counts gear (Begun to) x y same = same
 asked_counts gear (Refused f) x y same = fault_counts f x y same
 
 -- a shift that is asked for, by the clauses of its call
 module _ {R : Type 0} {g : _} (slot : R → ℕ → Slot) (a : Array R g) (new : Core R g) (sum : ℕ) (same_setup : a.core.meta.setup ≡ a.setup) (going : halt_of_end a.ended ≡ None)
-    (later : HaveNotFallen (slot (core_rack a.core)) (slot (core_rack new))) (writes : new.meta.writes ≡ a.core.meta.writes) (x : Asked)
+    (later : HaveNotFallen (slot (core_rack a.core)) (slot (core_rack new))) (writes : new.meta.writes ≡ a.core.meta.writes) (x : ShiftOutcome)
     (energy : sum ≡ min (a.ledger.total + asked_energy a.setup a.core.meta.gear x) 18446744073709551615)
     (failed : named_out a.core.meta.out ≡ None → (d : ℕ) → named_out new.meta.out ≡ Some d → HasRisen (slot (core_rack a.core) d).faults (slot (core_rack new) d).faults)
     (table : new.dirty ≡ a.core.dirty) (commits : CommitsFew (shown_of_array slot a) (shown_with slot a.setup new sum (samples_held a.windows) (sample_of a.served) a.ended) 2) (powered : FitsSlots (slot (core_rack new)) new.meta) (synced : AreAllSynced new.meta (slot (core_rack new))) where
@@ -489,11 +489,11 @@ module _ {R : Type 0} {g : _} (slot : R → ℕ → Slot) (a : Array R g) (new :
     dirty = ap is_dirty table;
   }
 
-  begun_does : (next : Option ℕ) (B : ℕ → Type 0) (to : ℕ) → next ≡ Some to → named_out a.core.meta.out ≡ None → (y : Asked) → x ≡ y → HasBegunOrLost new.meta to y
+  begun_does : (next : Option ℕ) (B : ℕ → Type 0) (to : ℕ) → next ≡ Some to → named_out a.core.meta.out ≡ None → (y : ShiftOutcome) → x ≡ y → HasBegunOrLost new.meta to y
       → ((t : ℕ) → y ≡ Begun t → B t) → ((f : ShiftFault) → y ≡ Refused f → (e : ℕ) × IsMarkedFrom (record a.core.meta { epoch = e }) new.meta)
       → DoesShift next B (shown_of_array slot a) (shown_with slot a.setup new sum (samples_held a.windows) (sample_of a.served) a.ended) (asked_answer a.core.meta.gear y)
   begun_does next B to is none (Begun t) same why begun stopped =
-      (begun t refl, refl, is ∙ ap (λ (n : ℕ). Some n) (sym why), writes, energy ∙ ap (λ (z : Asked). min (a.ledger.total + asked_energy a.setup a.core.meta.gear z) 18446744073709551615) same)
+      (begun t refl, refl, is ∙ ap (λ (n : ℕ). Some n) (sym why), writes, energy ∙ ap (λ (z : ShiftOutcome). min (a.ledger.total + asked_energy a.setup a.core.meta.gear z) 18446744073709551615) same)
   begun_does next B to is none (Refused f) same why begun stopped =
       let marked = stopped f refl in
       subst (λ (z : ShiftFault). DoesShift next B (shown_of_array slot a) (shown_with slot a.setup new sum (samples_held a.windows) (sample_of a.served) a.ended) (fault_answer z)) (sym why.1)
@@ -524,7 +524,7 @@ module _ {R : Type 0} {g : _} (slot : R → ℕ → Slot) (a : Array R g) (new :
   down_stops : HasMarkedDown a.core.meta new.meta x → (f : ShiftFault) → x ≡ Refused f → (e : ℕ) × IsMarkedFrom (record a.core.meta { epoch = e }) new.meta
   down_stops marks f is = subst (HasMarkedDown a.core.meta new.meta) is marks
 
-  up_cause : Takes (shown_of_array slot a) UpEvent → ((f : ShiftFault) (s : PowerState) → IsShiftStateOf a.core.meta s → IsUpRefused a.core.meta.setup s f → ◌≡◌ {A = Result Asked Two} (Ok x) (Ok (Refused f)) × (new ≡ a.core))
+  up_cause : Takes (shown_of_array slot a) UpEvent → ((f : ShiftFault) (s : PowerState) → IsShiftStateOf a.core.meta s → IsUpRefused a.core.meta.setup s f → ◌≡◌ {A = Result ShiftOutcome Two} (Ok x) (Ok (Refused f)) × (new ≡ a.core))
       → ((to : ℕ) (s : PowerState) → IsShiftStateOf a.core.meta s → MayGoUp a.core.meta.setup s to → HasBegunOrLost new.meta to x) → HasMarkedUp a.core.meta new.meta x → HasCause (shown_of_array slot a) UpEvent (asked_answer a.core.meta.gear x) (shown_with slot a.setup new sum (samples_held a.windows) (sample_of a.served) a.ended)
   up_cause takes refused begins marks =
       let s : PowerState = state_shown (shown_of_array slot a) in
@@ -540,7 +540,7 @@ module _ {R : Type 0} {g : _} (slot : R → ℕ → Slot) (a : Array R g) (new :
             (up_begins (no_out a.core.meta.out goes.1.at_ease.whole) marks) (up_stops marks)) commits powered synced
       ]
 
-  down_cause : Takes (shown_of_array slot a) DownEvent → ((f : ShiftFault) (s : PowerState) → IsShiftStateOf a.core.meta s → IsDownRefused a.core.meta.setup s f → ◌≡◌ {A = Result Asked Two} (Ok x) (Ok (Refused f)) × (new ≡ a.core))
+  down_cause : Takes (shown_of_array slot a) DownEvent → ((f : ShiftFault) (s : PowerState) → IsShiftStateOf a.core.meta s → IsDownRefused a.core.meta.setup s f → ◌≡◌ {A = Result ShiftOutcome Two} (Ok x) (Ok (Refused f)) × (new ≡ a.core))
       → ((to : ℕ) (s : PowerState) → IsShiftStateOf a.core.meta s → MayGoDown a.core.meta.setup s to → HasBegunOrLost new.meta to x) → HasMarkedDown a.core.meta new.meta x → HasCause (shown_of_array slot a) DownEvent (asked_answer a.core.meta.gear x) (shown_with slot a.setup new sum (samples_held a.windows) (sample_of a.served) a.ended)
   down_cause takes refused begins marks =
       let s : PowerState = state_shown (shown_of_array slot a) in
@@ -557,7 +557,7 @@ module _ {R : Type 0} {g : _} (slot : R → ℕ → Slot) (a : Array R g) (new :
       ]
 
   -- by the direction of the shift
-  pub asked_cause : (direction : Direction) → Takes (shown_of_array slot a) (asked_event direction) → ((f : ShiftFault) (s : PowerState) → IsShiftStateOf a.core.meta s → IsRefusedTo direction a.core.meta.setup s f → ◌≡◌ {A = Result Asked Two} (Ok x) (Ok (Refused f)) × (new ≡ a.core))
+  pub asked_cause : (direction : Direction) → Takes (shown_of_array slot a) (asked_event direction) → ((f : ShiftFault) (s : PowerState) → IsShiftStateOf a.core.meta s → IsRefusedTo direction a.core.meta.setup s f → ◌≡◌ {A = Result ShiftOutcome Two} (Ok x) (Ok (Refused f)) × (new ≡ a.core))
       → ((to : ℕ) (s : PowerState) → IsShiftStateOf a.core.meta s → MayGo direction a.core.meta.setup s to → HasBegunOrLost new.meta to x) → HasMarkedShift direction a.core.meta new.meta x
       → HasCause (shown_of_array slot a) (asked_event direction) (asked_answer a.core.meta.gear x) (shown_with slot a.setup new sum (samples_held a.windows) (sample_of a.served) a.ended)
   asked_cause Upward takes refused begins marks = up_cause takes refused begins marks
@@ -575,7 +575,7 @@ below_or d n = by (nat_lt d n) refl
 
 -- where two disks were lost, the event was not one for which nothing is done
 module _ {R : Type 0} {g : _} (slot : R → ℕ → Slot) (a : Array R g) (same_setup : a.core.meta.setup ≡ a.setup) (two : Two) where
-  up_busy : (B : ShiftFault → Type 0) → ((f : ShiftFault) (s : PowerState) → IsShiftStateOf a.core.meta s → IsUpRefused a.core.meta.setup s f → ◌≡◌ {A = Result Asked Two} (Err two) (Ok (Refused f)) × B f)
+  up_busy : (B : ShiftFault → Type 0) → ((f : ShiftFault) (s : PowerState) → IsShiftStateOf a.core.meta s → IsUpRefused a.core.meta.setup s f → ◌≡◌ {A = Result ShiftOutcome Two} (Err two) (Ok (Refused f)) × B f)
       → quiet_answer (shown_of_array slot a) UpEvent ≡ None
   up_busy B refused =
       let s : PowerState = state_shown (shown_of_array slot a) in
@@ -584,7 +584,7 @@ module _ {R : Type 0} {g : _} (slot : R → ℕ → Slot) (a : Array R g) (same_
         | inr goes ↦ goes.2
       ]
 
-  down_busy : (B : ShiftFault → Type 0) → ((f : ShiftFault) (s : PowerState) → IsShiftStateOf a.core.meta s → IsDownRefused a.core.meta.setup s f → ◌≡◌ {A = Result Asked Two} (Err two) (Ok (Refused f)) × B f)
+  down_busy : (B : ShiftFault → Type 0) → ((f : ShiftFault) (s : PowerState) → IsShiftStateOf a.core.meta s → IsDownRefused a.core.meta.setup s f → ◌≡◌ {A = Result ShiftOutcome Two} (Err two) (Ok (Refused f)) × B f)
       → quiet_answer (shown_of_array slot a) DownEvent ≡ None
   down_busy B refused =
       let s : PowerState = state_shown (shown_of_array slot a) in
@@ -593,7 +593,7 @@ module _ {R : Type 0} {g : _} (slot : R → ℕ → Slot) (a : Array R g) (same_
         | inr goes ↦ goes.2
       ]
 
-  pub asked_busy : (direction : Direction) (B : ShiftFault → Type 0) → ((f : ShiftFault) (s : PowerState) → IsShiftStateOf a.core.meta s → IsRefusedTo direction a.core.meta.setup s f → ◌≡◌ {A = Result Asked Two} (Err two) (Ok (Refused f)) × B f)
+  pub asked_busy : (direction : Direction) (B : ShiftFault → Type 0) → ((f : ShiftFault) (s : PowerState) → IsShiftStateOf a.core.meta s → IsRefusedTo direction a.core.meta.setup s f → ◌≡◌ {A = Result ShiftOutcome Two} (Err two) (Ok (Refused f)) × B f)
       → quiet_answer (shown_of_array slot a) (asked_event direction) ≡ None
   asked_busy Upward B refused = up_busy B refused
   asked_busy Downward B refused = down_busy B refused

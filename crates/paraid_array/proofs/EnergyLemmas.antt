@@ -11,8 +11,8 @@ use Rattle.paraid_rack.specs.declared.call.Power.{Power}
 use Rattle.paraid_rack.specs.declared.call.Power.TheVariants.{Absent, Parked, Spinning}
 use Rattle.paraid_record.specs.declared.meta.Meta.{Meta}
 use Rattle.paraid_record.specs.declared.meta.Setup.{Setup}
-use Rattle.paraid_upkeep.specs.declared.asked.Asked.{Asked}
-use Rattle.paraid_upkeep.specs.declared.asked.Asked.TheVariants.{Begun as AskedBegun, Refused}
+use Rattle.paraid_upkeep.specs.declared.asked.ShiftOutcome.{ShiftOutcome}
+use Rattle.paraid_upkeep.specs.declared.asked.ShiftOutcome.TheVariants.{Begun as AskedBegun, Refused}
 use Rattle.paraid_upkeep.specs.Turns.{asked_answer}
 use Rattle.paraid_array.specs.Used.{asked_energy, asked_spin_ups, begun_spin_ups, disks_with, one_with, power_by}
 use Rattle.paraid_array.proofs.AnswerLemmas.{asked_uses}
@@ -40,7 +40,7 @@ module _ (setup : Setup) where
   begun_uses gear (Begun to) = refl
   begun_uses gear event = omega arith
 
-  asked_use : (gear : ℕ) (x : Asked) → setup.spinup_mj * asked_spin_ups gear x ≡ asked_energy setup gear x
+  asked_use : (gear : ℕ) (x : ShiftOutcome) → setup.spinup_mj * asked_spin_ups gear x ≡ asked_energy setup gear x
   asked_use gear (AskedBegun to) = refl
   asked_use gear (Refused fault) = omega arith
 
@@ -53,7 +53,7 @@ module _ (setup : Setup) where
       → new.total ≡ min (old.total + begun_energy setup gear event) 18446744073709551615
   begun_total old new gear event has is = spun_up_total old new (begun_spin_ups gear event) (begun_energy setup gear event) has is (begun_uses gear event)
 
-  pub asked_total : (old new : Account) (gear : ℕ) (x : Asked) → HasFigures setup old → new ≡ after_spin_ups old (asked_spin_ups gear x)
+  pub asked_total : (old new : Account) (gear : ℕ) (x : ShiftOutcome) → HasFigures setup old → new ≡ after_spin_ups old (asked_spin_ups gear x)
       → new.total ≡ min (old.total + asked_energy setup gear x) 18446744073709551615
   asked_total old new gear x has is = spun_up_total old new (asked_spin_ups gear x) (asked_energy setup gear x) has is (asked_use gear x)
 
@@ -73,5 +73,5 @@ uses_none setup used s answer none fits = rw none (by used fits)
     by n l = grind (arith)
 
 -- a shift that is asked for uses its spin-ups
-pub asked_used : (setup : Setup) (used : ℕ) (s : PowerState) (gear : ℕ) (x : Asked) → min (used + asked_energy setup gear x) 18446744073709551615 ≡ energy_after setup used s (asked_answer gear x)
+pub asked_used : (setup : Setup) (used : ℕ) (s : PowerState) (gear : ℕ) (x : ShiftOutcome) → min (used + asked_energy setup gear x) 18446744073709551615 ≡ energy_after setup used s (asked_answer gear x)
 asked_used setup used s gear x = ap (λ (n : ℕ). min (used + n) 18446744073709551615) (sym (asked_uses setup s gear x))

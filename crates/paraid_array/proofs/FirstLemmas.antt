@@ -6,7 +6,7 @@ use Rattle.paraid_session.specs.Turn.{Point}
 use Rattle.paraid_event.specs.Service.{service_of}
 use Rattle.paraid_event.specs.Stands.{StandsAt}
 use Rattle.paraid_array.specs.declared.array.Array.{Array}
-use Rattle.paraid_array.specs.declared.ended.Ended.{Ended}
+use Rattle.paraid_array.specs.declared.ended.HaltedAt.{HaltedAt}
 use Rattle.paraid_array.specs.Arrays.{ArrayStandsAt, told_of_array}
 use Rattle.paraid_array.specs.Lasting.{halt_of_end}
 use Rattle.paraid_array.proofs.StandLemmas.{none_ended, none_some}
@@ -30,7 +30,7 @@ module _ {R : Type 0} {g : _} (count : R → ℕ) (told : R → Option Trail) (a
   pub energy_at : (p : Point) → ArrayStandsAt count told a p → a.ledger.total ≡ p.energy
   energy_at p at = by a.ended refl
     where
-      by : (o : Option Ended) → a.ended ≡ o → a.ledger.total ≡ p.energy
+      by : (o : Option HaltedAt) → a.ended ≡ o → a.ledger.total ≡ p.energy
       by None e = sym (at.serves e).stands.energy
       by (Some x) e = sym (at.halted x e).energy
 
@@ -38,7 +38,7 @@ module _ {R : Type 0} {g : _} (count : R → ℕ) (told : R → Option Trail) (a
   writes_at going p at = (at.serves (none_ended a.ended going)).stands.stands.keeps.writes
 
   -- the gear, after a halt that before it
-  pub gear_at : (p : Point) → ArrayStandsAt count told a p → (o : Option Ended) → a.ended ≡ o → (gear : ℕ)
-      → ((e : Ended) → o ≡ Some e → gear ≡ e.gear) → (o ≡ None → gear ≡ a.core.meta.gear) → gear ≡ p.state.gear
+  pub gear_at : (p : Point) → ArrayStandsAt count told a p → (o : Option HaltedAt) → a.ended ≡ o → (gear : ℕ)
+      → ((e : HaltedAt) → o ≡ Some e → gear ≡ e.gear) → (o ≡ None → gear ≡ a.core.meta.gear) → gear ≡ p.state.gear
   gear_at p at None is gear some none = none refl ∙ sym (at.serves is).stands.state.gear
   gear_at p at (Some e) is gear some none = some e refl ∙ sym (at.halted e is).gear

@@ -16,7 +16,7 @@ use Rattle.paraid_serve.specs.Lost.IsDownBy.{has_failed, is_taken_out, was_out}
 use Rattle.paraid_trace.specs.Asked.{event_with}
 use Rattle.paraid_trace.specs.declared.asked.Asked.{Asked}
 use Rattle.paraid_txn.specs.Losses.{AreTwoDown, AreTwoDownBeside}
-use Rattle.paraid_array.specs.declared.ended.Ended.{Ended}
+use Rattle.paraid_array.specs.declared.ended.HaltedAt.{HaltedAt}
 use Rattle.paraid_array.specs.Lasting.{TellsItsWear, halt_of_end}
 
 -- two that were lost are told so
@@ -34,12 +34,12 @@ pub worn_lost : (down : Option ℕ) (event : Event) (old new : ℕ → Slot) (co
 worn_lost down event old new count y is = let z : Some (Worn count) ≡ Some (HaltTwo y) = is in absurd cc
 
 -- what serves still tells no halt
-pub going_lost : (down : Option ℕ) (event : Event) (old new : ℕ → Slot) (o : Option Ended) → o ≡ None → HaltsByTwoLost down event old new (halt_of_end o)
-going_lost down event old new o going = subst (λ (z : Option Ended). HaltsByTwoLost down event old new (halt_of_end z)) (sym going) (none_lost down event old new)
+pub going_lost : (down : Option ℕ) (event : Event) (old new : ℕ → Slot) (o : Option HaltedAt) → o ≡ None → HaltsByTwoLost down event old new (halt_of_end o)
+going_lost down event old new o going = subst (λ (z : Option HaltedAt). HaltsByTwoLost down event old new (halt_of_end z)) (sym going) (none_lost down event old new)
 
 -- nor wear
-pub going_wear : (m : Meta) (o : Option Ended) → o ≡ None → TellsItsWear m (halt_of_end o)
-going_wear m o going = subst (λ (z : Option Ended). TellsItsWear m (halt_of_end z)) (sym going) (λ count is. let z : None ≡ Some (Worn count) = is in absurd cc)
+pub going_wear : (m : Meta) (o : Option HaltedAt) → o ≡ None → TellsItsWear m (halt_of_end o)
+going_wear m o going = subst (λ (z : Option HaltedAt). TellsItsWear m (halt_of_end z)) (sym going) (λ count is. let z : None ≡ Some (Worn count) = is in absurd cc)
 
 -- and two lost disks tell none
 pub two_wear : (m : Meta) (x : Two) → TellsItsWear m (Some (HaltTwo x))
@@ -53,7 +53,7 @@ worn_wear m count many made n is =
     (subst (λ (x : ℕ). worn_at ≤ x) same many, sym same ∙ made)
 
 -- what has ended does not go on
-pub ended_not_none : {A : Type 0} (ended : Ended) → Some ended ≡ None → A
+pub ended_not_none : {A : Type 0} (ended : HaltedAt) → Some ended ≡ None → A
 ended_not_none ended is = let z : Some ended ≡ None = is in absurd cc
 
 -- the disk that is down by the last commit or the meta is out by the meta

@@ -23,11 +23,11 @@ use Rattle.paraid_event.specs.Service.{Service, service_of}
 use Rattle.paraid_event.specs.Stands.{StandsAt}
 use Rattle.paraid_event.proofs.QuietLemmas.{worn_turn}
 use Rattle.paraid_array.specs.declared.array.Array.{Array}
-use Rattle.paraid_array.specs.declared.ended.Ended.{Ended}
+use Rattle.paraid_array.specs.declared.ended.HaltedAt.{HaltedAt}
 use Rattle.paraid_array.specs.Arrays.{ArrayStandsAt, GoesOnByEvent, HasEndedAt, told_of_array}
 use Rattle.paraid_array.specs.Lasting.{halt_of_end}
 
-pub none_ended : (o : Option Ended) → halt_of_end o ≡ None → o ≡ None
+pub none_ended : (o : Option HaltedAt) → halt_of_end o ≡ None → o ≡ None
 none_ended None e = refl
 none_ended (Some x) e = let z : Some x.halt ≡ None = e in cc
 
@@ -98,7 +98,7 @@ module _ {R : Type 0} {g : _} (count : R → ℕ) (told : R → Option Trail) wh
       (λ p samples requests at. law p samples requests at (wear_fits (told_of_array told a) (service_of count a.core samples requests a.ledger.total) a.setup p at epoch writes))
 
   -- An event that ended the service.
-  pub ended_on : (a b : Array R g) (p : Point) (event : Event) (answer : Answer) (ended : Ended) (P : Point → Type 0)
+  pub ended_on : (a b : Array R g) (p : Point) (event : Event) (answer : Answer) (ended : HaltedAt) (P : Point → Type 0)
       → b.ended ≡ Some ended → ((q : Point) → P q → HasEndedAt ended b.ledger.total q)
       → Ran (told_of_array told a) (told_of_array told b) (GoesOn (count (core_rack a.core)) a.setup p event answer P)
       → Ran (told_of_array told a) (told_of_array told b) (GoesOn (count (core_rack a.core)) a.setup p event answer (ArrayStandsAt count told b))
@@ -114,12 +114,12 @@ module _ {R : Type 0} {g : _} (count : R → ℕ) (told : R → Option Trail) wh
           r.holds.1,
           record {
             serves = λ none. none_some b.ended ended none is;
-            halted = λ e some. let same : Some ended ≡ Some e = sym is ∙ some in let one : ended ≡ e = cc in subst (λ (x : Ended). HasEndedAt x b.ledger.total r.holds.0) one (ends r.holds.0 r.holds.2);
+            halted = λ e some. let same : Some ended ≡ Some e = sym is ∙ some in let one : ended ≡ e = cc in subst (λ (x : HaltedAt). HasEndedAt x b.ledger.total r.holds.0) one (ends r.holds.0 r.holds.2);
           },
         );
       }
 
-abbrev pub end_by : Halt → ℕ → Ended
+abbrev pub end_by : Halt → ℕ → HaltedAt
 end_by halt gear = record { halt = halt; gear = gear }
 
 -- An array that takes no more ends its service.

@@ -19,7 +19,7 @@ use Rattle.paraid_event.specs.Counts.{with_counts_of}
 use Rattle.paraid_event.specs.Service.{IsStateOf, service_of}
 use Rattle.paraid_event.specs.Stands.{StandsAt}
 use Rattle.paraid_array.specs.declared.array.Array.{Array}
-use Rattle.paraid_array.specs.declared.ended.Ended.{Ended}
+use Rattle.paraid_array.specs.declared.ended.HaltedAt.{HaltedAt}
 use Rattle.paraid_array.specs.Lasting.{gear_of_end, halt_of_end, samples_held}
 
 -- its core
@@ -55,7 +55,7 @@ abbrev pub HasNothingStaged : {R : Type 0} {g : _} → Array R g → Type 0
 HasNothingStaged array = array.core.batch ≡ []
 
 -- what has ended its service
-abbrev pub end_of_array : {R : Type 0} {g : _} → Array R g → Option Ended
+abbrev pub end_of_array : {R : Type 0} {g : _} → Array R g → Option HaltedAt
 end_of_array array = array.ended
 
 -- the halt that has ended its service
@@ -108,7 +108,7 @@ pub record ServesAt {R : Type 0}
       (service_of count array.core samples requests array.ledger.total) array.setup p
 
 -- Its service has ended: the point tells the halt, the gear before it, and so much energy.
-pub record HasEndedAt (ended : Ended) (used : ℕ) (p : Point) : Type 0 where
+pub record HasEndedAt (ended : HaltedAt) (used : ℕ) (p : Point) : Type 0 where
   pub halt : p.halt ≡ Some ended.halt
   pub gear : p.state.gear ≡ ended.gear
   pub energy : p.energy ≡ used
@@ -117,7 +117,7 @@ pub record HasEndedAt (ended : Ended) (used : ℕ) (p : Point) : Type 0 where
 pub record ArrayStandsAt {R : Type 0}
     {g : _} (count : R → ℕ) (told : R → Option Trail) (array : Array R g) (p : Point) : Type 0 where
   pub serves : array.ended ≡ None → ServesAt count told array p
-  pub halted : (ended : Ended) → array.ended ≡ Some ended → HasEndedAt ended array.ledger.total p
+  pub halted : (ended : HaltedAt) → array.ended ≡ Some ended → HasEndedAt ended array.ledger.total p
 
 -- An event takes each point at which the array stood to one at which it stands then.
 abbrev pub GoesOnByEvent : {R : Type 0} {g : _}

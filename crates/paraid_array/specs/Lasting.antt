@@ -15,7 +15,7 @@ use Rattle.paraid_txn.specs.Stores.{named_of, store_rack}
 use Rattle.paraid_core.specs.declared.staged.Core.{Core}
 use Rattle.paraid_core.specs.Units.{IsRebuilding}
 use Rattle.paraid_shift.specs.Serving.{IsCoreServing}
-use Rattle.paraid_array.specs.declared.ended.Ended.{Ended}
+use Rattle.paraid_array.specs.declared.ended.HaltedAt.{HaltedAt}
 
 -- Its core can serve, with this setup and over so many slots; the disk that is out is absent unless
 -- the last commit names it, and one that is being rebuilt is named and spins; each disk that is not
@@ -33,12 +33,12 @@ pub record IsArrayServing {R : Type 0} {g : _} (count : R → ℕ) (slot : R →
   pub same_slots : count (store_rack core.store) ≡ slots
 
 -- the halt by which the service has ended, or none
-abbrev pub halt_of_end : Option Ended → Option Halt
+abbrev pub halt_of_end : Option HaltedAt → Option Halt
 halt_of_end None = None
 halt_of_end (Some ended) = Some ended.halt
 
 -- the gear that is told: this one, or after a halt the one before it
-abbrev pub gear_of_end : Option Ended → ℕ → ℕ
+abbrev pub gear_of_end : Option HaltedAt → ℕ → ℕ
 gear_of_end None now = now
 gear_of_end (Some ended) now = ended.gear
 

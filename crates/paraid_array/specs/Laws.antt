@@ -16,7 +16,7 @@ use Rattle.paraid_serve.specs.Calls.{IsAbsentOut, IsNotDouble}
 use Rattle.paraid_session.specs.Powers.{AreAllSynced, FitsSlots}
 use Rattle.paraid_session.specs.Turn.{Point}
 use Rattle.paraid_array.specs.declared.array.Array.{Array}
-use Rattle.paraid_array.specs.declared.ended.Ended.{Ended}
+use Rattle.paraid_array.specs.declared.ended.HaltedAt.{HaltedAt}
 use Rattle.paraid_array.specs.Arrays.{ArrayStandsAt, HasNothingStaged, dirty_of_array, samples_of_array, served_of_array, shown_of_array, slot_of_array}
 use Rattle.paraid_array.specs.Lasting.{IsArrayServing, gear_of_end, halt_of_end}
 
@@ -26,17 +26,17 @@ pub halt_at : {R : Type 0} {g : _}
     → ArrayStandsAt count told a p → p.halt ≡ halt_of_end a.ended
 halt_at count told a p at = by a.ended refl
   where
-    by : (o : Option Ended) → a.ended ≡ o → p.halt ≡ halt_of_end a.ended
+    by : (o : Option HaltedAt) → a.ended ≡ o → p.halt ≡ halt_of_end a.ended
     by None e = (at.serves e).stands.going ∙ sym (ap halt_of_end e)
     by (Some ended) e = (at.halted ended e).halt ∙ sym (ap halt_of_end e)
 
 -- what has not ended has no halt
-pub going_end : (o : Option Ended) → halt_of_end o ≡ None → o ≡ None
+pub going_end : (o : Option HaltedAt) → halt_of_end o ≡ None → o ≡ None
 going_end None e = refl
 going_end (Some ended) e = let z : Some ended.halt ≡ None = e in cc
 
 -- while it has not halted it tells this gear
-pub gear_going : (o : Option Ended) (now : ℕ) → halt_of_end o ≡ None → gear_of_end o now ≡ now
+pub gear_going : (o : Option HaltedAt) (now : ℕ) → halt_of_end o ≡ None → gear_of_end o now ≡ now
 gear_going None now e = refl
 gear_going (Some ended) now e = let z : Some ended.halt ≡ None = e in absurd cc
 

@@ -9,8 +9,8 @@ use Rattle.paraid_record.specs.declared.meta.Meta.{Meta}
 use Rattle.paraid_record.specs.declared.meta.Setup.{Setup}
 use Rattle.paraid_image.specs.Power.{power_beside, power_by_gear}
 use Rattle.paraid_machine.specs.Energy.{spin_up_energy}
-use Rattle.paraid_upkeep.specs.declared.asked.Asked.{Asked}
-use Rattle.paraid_upkeep.specs.declared.asked.Asked.TheVariants.{Begun, Refused}
+use Rattle.paraid_upkeep.specs.declared.asked.ShiftOutcome.{ShiftOutcome}
+use Rattle.paraid_upkeep.specs.declared.asked.ShiftOutcome.TheVariants.{Begun, Refused}
 
 -- how disk `d` is powered by this meta, unless it is gone
 abbrev pub power_by : Meta → ℕ → Option Power
@@ -33,11 +33,11 @@ begun_spin_ups gear (TickBegun to) = to - gear
 begun_spin_ups gear event = 0
 
 -- how many disks a shift spins up that was asked for in this gear
-abbrev pub asked_spin_ups : ℕ → Asked → ℕ
+abbrev pub asked_spin_ups : ℕ → ShiftOutcome → ℕ
 asked_spin_ups gear (Begun to) = to - gear
 asked_spin_ups gear (Refused fault) = 0
 
 -- what they use
-abbrev pub asked_energy : Setup → ℕ → Asked → ℕ
+abbrev pub asked_energy : Setup → ℕ → ShiftOutcome → ℕ
 asked_energy setup gear (Begun to) = spin_up_energy setup gear to
 asked_energy setup gear (Refused fault) = 0

@@ -6,7 +6,7 @@ ghost use Rattle.paraid_gear.specs.ThreeWindows.{HoldLastSamples, lengths_of};
 ghost use Rattle.paraid_array.specs.Lasting.{IsArrayServing, TellsItsWear, halt_of_end, samples_held};
 ghost use Rattle.paraid_array.specs.Props.{HasFigures-prop, HoldLastSamples-prop, IsArrayServing-prop, TellsItsWear-prop, while_prop};
 
-use crate::ended::Ended;
+use crate::ended::HaltedAt;
 use paraid_core::Core;
 use paraid_energy::Ledger;
 use paraid_gear::Windows;
@@ -26,7 +26,7 @@ pub struct Array<R: Rack> {
     pub(crate) served: u32,
     // the energy since the mount
     pub(crate) ledger: Ledger,
-    pub(crate) ended: Option<Ended>,
+    pub(crate) ended: Option<HaltedAt>,
     ghost serving: { ended ≡ None
         → IsArrayServing R.slot_count R.slot core (lengths_of windows) setup slots } by { while_prop
             (IsArrayServing-prop R.slot_count R.slot core (lengths_of windows) setup slots) },

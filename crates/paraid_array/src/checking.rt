@@ -12,7 +12,7 @@ ghost use Rattle.paraid_session.specs.Turn.{GoesOn, Point};
 
 use crate::Array;
 use crate::counting::commit_and_count;
-use crate::ended::Ended;
+use crate::ended::HaltedAt;
 use paraid_base::Halt;
 use paraid_rack::Rack;
 use paraid_scrub::{CheckReport, check};
@@ -39,7 +39,7 @@ impl<R: Rack> Array<R> {
             Ok(report) => Ok(report),
             Err(two) => {
                 let halt = Halt::Two(two);
-                self.ended = Some(Ended { halt, gear });
+                self.ended = Some(HaltedAt { halt, gear });
                 Err(halt)
             }
         }
@@ -65,7 +65,7 @@ impl<R: Rack> Array<R> {
             Ok(checked) => Ok(checked.report),
             Err(two) => {
                 let halt = Halt::Two(two);
-                self.ended = Some(Ended { halt, gear });
+                self.ended = Some(HaltedAt { halt, gear });
                 Err(halt)
             }
         }

@@ -7,7 +7,7 @@ ghost use Rattle.paraid_core.specs.Cores.{meta_of};
 ghost use Rattle.paraid_trace.specs.Answered.{answer_of};
 
 use crate::Array;
-use crate::ended::Ended;
+use crate::ended::HaltedAt;
 use paraid_base::{DiskNo, Halt};
 use paraid_rack::Rack;
 use paraid_trace::Brief;
@@ -52,7 +52,7 @@ impl<R: Rack> Array<R> {
             Ok(refusal) => fail_told(disk, refusal),
             Err(two) => {
                 let halt = Halt::Two(two);
-                self.ended = Some(Ended { halt, gear });
+                self.ended = Some(HaltedAt { halt, gear });
                 Brief::Halted(halt)
             }
         }
@@ -71,7 +71,7 @@ impl<R: Rack> Array<R> {
             Ok(refusal) => replace_told(disk, refusal),
             Err(two) => {
                 let halt = Halt::Two(two);
-                self.ended = Some(Ended { halt, gear });
+                self.ended = Some(HaltedAt { halt, gear });
                 Brief::Halted(halt)
             }
         }

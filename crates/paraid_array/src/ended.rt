@@ -4,7 +4,7 @@ use paraid_base::Halt;
 
 /// What ended the service of an array, and its gear before that event.
 #[derive(Clone, Copy)]
-pub struct Ended {
+pub struct HaltedAt {
     pub halt: Halt,
     pub gear: u8,
 }

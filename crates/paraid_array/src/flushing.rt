@@ -6,7 +6,7 @@ ghost use Rattle.paraid_base.specs.declared.event.Event.TheVariants.{Flush as Fl
 ghost use Rattle.paraid_core.specs.Cores.{batch_of, meta_of};
 
 use crate::Array;
-use crate::ended::Ended;
+use crate::ended::HaltedAt;
 use paraid_base::Halt;
 use paraid_rack::Rack;
 
@@ -36,7 +36,7 @@ impl<R: Rack> Array<R> {
             Ok(()) => Ok(writes),
             Err(two) => {
                 let halt = Halt::Two(two);
-                self.ended = Some(Ended { halt, gear });
+                self.ended = Some(HaltedAt { halt, gear });
                 Err(halt)
             }
         }

@@ -18,5 +18,5 @@ mod shifting;
 mod ticking;
 
 pub use array::Array;
-pub use ended::Ended;
+pub use ended::HaltedAt;
 pub use mounting::mount_array;

@@ -11,7 +11,7 @@ ghost use Rattle.paraid_trace.specs.Answered.{answer_of, answer_with};
 ghost use Rattle.paraid_core.specs.Cores.{meta_of};
 
 use crate::Array;
-use crate::ended::Ended;
+use crate::ended::HaltedAt;
 use paraid_base::{Halt, Status, WORN_AT};
 use paraid_rack::Rack;
 use paraid_trace::{Answered, Beside, Brief};
@@ -135,7 +135,7 @@ impl<R: Rack> Array<R> {
     {
         let gear = self.core.meta().gear;
         let halt = Halt::Worn { count };
-        self.ended = Some(Ended { halt, gear });
+        self.ended = Some(HaltedAt { halt, gear });
         halt
     }
 }

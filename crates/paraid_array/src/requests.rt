@@ -10,7 +10,7 @@ ghost use Rattle.paraid_machine.specs.Machine.{block_count};
 ghost use Rattle.paraid_trace.specs.Answered.{answer_of, answer_with};
 
 use crate::Array;
-use crate::ended::Ended;
+use crate::ended::HaltedAt;
 use paraid_base::{BlockNo, Halt, Pairs};
 use paraid_gear::GREATEST_SAMPLE;
 use paraid_rack::Rack;
@@ -48,7 +48,7 @@ impl<R: Rack> Array<R> {
             }
             Err(two) => {
                 let halt = Halt::Two(two);
-                self.ended = Some(Ended { halt, gear });
+                self.ended = Some(HaltedAt { halt, gear });
                 Answered::Brief(Brief::Halted(halt))
             }
         }
@@ -73,7 +73,7 @@ impl<R: Rack> Array<R> {
             }
             Err(two) => {
                 let halt = Halt::Two(two);
-                self.ended = Some(Ended { halt, gear });
+                self.ended = Some(HaltedAt { halt, gear });
                 Brief::Halted(halt)
             }
         }

@@ -8,33 +8,33 @@ ghost use Rattle.paraid_array.specs.Used.{asked_spin_ups};
 ghost use Rattle.paraid_trace.specs.Answered.{answer_of};
 
 use crate::Array;
-use crate::ended::Ended;
+use crate::ended::HaltedAt;
 use paraid_base::Halt;
 use paraid_rack::Rack;
 use paraid_trace::Brief;
-use paraid_upkeep::{Asked, Direction, ShiftFault, ask_shift};
+use paraid_upkeep::{Direction, ShiftFault, ShiftOutcome, ask_shift};
 
 // What is told of a shift that was asked for.
-fn asked_told(gear: u8, asked: Asked) -> Brief
+fn asked_told(gear: u8, asked: ShiftOutcome) -> Brief
     ensures { answer_of result ≡ asked_answer gear asked }
 {
     match asked {
-        Asked::Begun { to } => Brief::Shift { gear, to },
-        Asked::Refused(ShiftFault::Top) => Brief::Top,
-        Asked::Refused(ShiftFault::Lowest) => Brief::Lowest,
-        Asked::Refused(ShiftFault::Shifting { to }) => Brief::Shifting { to },
-        Asked::Refused(ShiftFault::Out { disk }) => Brief::Out { disk },
-        Asked::Refused(ShiftFault::Ration { disk }) => Brief::Ration { disk },
+        ShiftOutcome::Begun { to } => Brief::Shift { gear, to },
+        ShiftOutcome::Refused(ShiftFault::Top) => Brief::Top,
+        ShiftOutcome::Refused(ShiftFault::Lowest) => Brief::Lowest,
+        ShiftOutcome::Refused(ShiftFault::Shifting { to }) => Brief::Shifting { to },
+        ShiftOutcome::Refused(ShiftFault::Out { disk }) => Brief::Out { disk },
+        ShiftOutcome::Refused(ShiftFault::Ration { disk }) => Brief::Ration { disk },
     }
 }
 
 // How many disks it spins up.
-fn spin_ups_asked(gear: u8, asked: Asked) -> u8
+fn spin_ups_asked(gear: u8, asked: ShiftOutcome) -> u8
     ensures { result ≡ asked_spin_ups gear asked }
 {
     match asked {
-        Asked::Begun { to } => to.saturating_sub(gear),
-        Asked::Refused(_) => 0,
+        ShiftOutcome::Begun { to } => to.saturating_sub(gear),
+        ShiftOutcome::Refused(_) => 0,
     }
 }
 
@@ -57,7 +57,7 @@ impl<R: Rack> Array<R> {
             }
             Err(two) => {
                 let halt = Halt::Two(two);
-                self.ended = Some(Ended { halt, gear });
+                self.ended = Some(HaltedAt { halt, gear });
                 Brief::Halted(halt)
             }
         }

@@ -6,7 +6,7 @@ ghost use Rattle.paraid_core.specs.Cores.{meta_of};
 ghost use Rattle.paraid_trace.specs.Answered.{answer_of};
 
 use crate::Array;
-use crate::ended::Ended;
+use crate::ended::HaltedAt;
 use crate::energy::{count_disks, spin_ups_begun};
 use paraid_base::{GearReport, Halt};
 use paraid_rack::Rack;
@@ -41,7 +41,7 @@ impl<R: Rack> Array<R> {
             }
             Err(two) => {
                 let halt = Halt::Two(two);
-                self.ended = Some(Ended { halt, gear });
+                self.ended = Some(HaltedAt { halt, gear });
                 Brief::Halted(halt)
             }
         }

@@ -10,10 +10,10 @@ ghost use Rattle.paraid_serve.specs.Statuses.{status_sink};
 ghost use Rattle.paraid_words.specs.Words.{AskFor};
 ghost use Rattle.paraid_words.specs.declared.command.Command.{Command as CommandType};
 
-use crate::program::{Answered, Program};
+use crate::program::{EdgeEnd, Program};
 use crate::served::Sealed;
 use paraid_imgrack::{Claim, Closed, Hindrance, ImageRack};
-use paraid_program::Ended;
+use paraid_program::ProgramEnd;
 use paraid_rack::MOST_SLOTS;
 use paraid_serve::status;
 use paraid_words::{Command, read_words};
@@ -59,7 +59,7 @@ pub(crate) fn answer_words<'a, H: Host, P: Program<&'a H>>(
     rt: &'a H,
     program: P,
     words: &Vec<String>,
-) -> Answered<P>
+) -> EdgeEnd<P>
     ensures asked { EndsAsked program result.left (P.free program) (P.ended program)
         (map string_bytes words.now.items) result.status }
     ensures unasked { EndsUnasked program result.left (P.told program)
@@ -68,8 +68,8 @@ pub(crate) fn answer_words<'a, H: Host, P: Program<&'a H>>(
     match read_words(words) {
         Some(command) => work(rt, program, words, &command),
         None => match program.tell(rt, words) {
-            Ok(status) => Answered { status, left: None },
-            Err(program) => Answered::unused(program, status::NO_MEMORY),
+            Ok(status) => EdgeEnd { status, left: None },
+            Err(program) => EdgeEnd::unused(program, status::NO_MEMORY),
         },
     }
 }
@@ -80,23 +80,23 @@ fn work<'a, H: Host, P: Program<&'a H>>(
     program: P,
     words: &Vec<String>,
     command: &Command,
-) -> Answered<P>
+) -> EdgeEnd<P>
     requires { (c : CommandType) → AskFor c (map string_bytes words.now.items) → c ≡ command.now }
     ensures { EndsAsked program result.left (P.free program) (P.ended program)
         (map string_bytes words.now.items) result.status }
 {
     let Ok(folder) = Folder::open(rt) else {
-        return Answered::unused(program, work_nowhere(rt, command));
+        return EdgeEnd::unused(program, work_nowhere(rt, command));
     };
     if folder.stands_for(1) {
-        return Answered::unused(program, status::SINK);
+        return EdgeEnd::unused(program, status::SINK);
     }
     if folder.stands_for(0) && reads_input(command) {
-        return Answered::unused(program, end(rt, command, "source", status::SOURCE));
+        return EdgeEnd::unused(program, end(rt, command, "source", status::SOURCE));
     }
     if folder.first.try_lock().is_err() {
         let _ = eprintln!(rt; "paraid: another command works in this folder");
-        return Answered::unused(program, status::BUSY);
+        return EdgeEnd::unused(program, status::BUSY);
     }
     work_there(rt, program, words, command)
 }
@@ -145,22 +145,22 @@ fn work_there<'a, H: Host, P: Program<&'a H>>(
     program: P,
     words: &Vec<String>,
     command: &Command,
-) -> Answered<P>
+) -> EdgeEnd<P>
     requires { (c : CommandType) → AskFor c (map string_bytes words.now.items) → c ≡ command.now }
     ensures { EndsAsked program result.left (P.free program) (P.ended program)
         (map string_bytes words.now.items) result.status }
 {
     let Ok(mut rack) = ImageRack::load(rt, rt.alloc(), MOST_SLOTS) else {
-        return Answered::unused(program, status::NO_MEMORY);
+        return EdgeEnd::unused(program, status::NO_MEMORY);
     };
     if let Some((disk, hindrance)) = hindrance_of(&rack, command) {
-        return Answered::unused(program, tell_hindrance(rt, command, disk, hindrance));
+        return EdgeEnd::unused(program, tell_hindrance(rt, command, disk, hindrance));
     }
     if is_crowded(&rack, command) {
-        return Answered::unused(program, tell_crowd(rt, command));
+        return EdgeEnd::unused(program, tell_crowd(rt, command));
     }
     if let Some(disk) = refused(rt, &program, &mut rack, command) {
-        return Answered::unused(program, refuse(rt, command, disk));
+        return EdgeEnd::unused(program, refuse(rt, command, disk));
     }
     hand_over(rt, program, words, command, Sealed::new(rack))
 }
@@ -172,7 +172,7 @@ fn hand_over<'a, H: Host, P: Program<&'a H>>(
     words: &Vec<String>,
     command: &Command,
     rack: Sealed<ImageRack<&'a H>>,
-) -> Answered<P>
+) -> EdgeEnd<P>
     requires { (c : CommandType) → AskFor c (map string_bytes words.now.items)
         → IsReady (P.free program) c rack.inside }
     ensures { (c : CommandType) → AskFor c (map string_bytes words.now.items)
@@ -180,11 +180,11 @@ fn hand_over<'a, H: Host, P: Program<&'a H>>(
         (P.ended program rack.entry.inside c result.status) }
 {
     match program.serve(words, rack) {
-        Ok(Ended { status, rack }) => {
+        Ok(ProgramEnd { status, rack }) => {
             end_images(rt, command, status, rack);
-            Answered { status, left: None }
+            EdgeEnd { status, left: None }
         }
-        Err(program) => Answered::unused(program, status::NO_MEMORY),
+        Err(program) => EdgeEnd::unused(program, status::NO_MEMORY),
     }
 }
 

@@ -14,7 +14,7 @@ ghost use Rattle.paraid_words.specs.declared.command.Command.{Command as Command
 use crate::served::Sealed;
 use paraid_base::DiskNo;
 use paraid_imgrack::{Claim, Closed, ImageRack};
-use paraid_program::Ended;
+use paraid_program::ProgramEnd;
 
 /// The program over image files. It comes back only where there was no memory and it has done
 /// nothing.
@@ -46,7 +46,7 @@ pub(crate) trait Program<F>: Sized {
         self,
         words: &Vec<String>,
         rack: Sealed<ImageRack<F>>,
-    ) -> Result<Ended<Closed<F>>, Self>
+    ) -> Result<ProgramEnd<Closed<F>>, Self>
         requires { (c : CommandType) → AskFor c (map string_bytes words.now.items)
             → IsReady (free self) c rack.inside }
         ensures status { IfOk result (λ end. (c : CommandType)
@@ -56,18 +56,18 @@ pub(crate) trait Program<F>: Sized {
 
 /// How the words were answered.
 #[derive(Drop)]
-pub(crate) struct Answered<P> {
+pub(crate) struct EdgeEnd<P> {
     pub(crate) status: u8,
     /// The program, if the status is not one that it gave.
     pub(crate) left: Option<P>,
 }
 
-impl<P> Answered<P> {
+impl<P> EdgeEnd<P> {
     /// By the edge alone.
-    pub(crate) fn unused(program: P, status: u8) -> Answered<P>
+    pub(crate) fn unused(program: P, status: u8) -> EdgeEnd<P>
         ensures { result ≡ record { status = status; left = Some program } }
     {
-        Answered {
+        EdgeEnd {
             status,
             left: Some(program),
         }

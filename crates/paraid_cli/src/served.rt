@@ -17,7 +17,7 @@ ghost use Rattle.paraid_words.specs.declared.command.Command.{Command as Command
 use paraid_gather::{BulkRack, Finished, Gathered, Noted};
 use paraid_imgrack::{Closed, ImageRack};
 use paraid_io::{Sink, Source};
-use paraid_program::{Ended, paraid};
+use paraid_program::{ProgramEnd, paraid};
 use std::alloc::Global;
 use std::fs::{File, Files};
 
@@ -52,7 +52,7 @@ impl<F: Files<File = File> + Drop> Shut<ImageRack<F>> {
 /// What a command has left: its status, the streams, the rack, in which all is written, and the
 /// log.
 #[derive(Drop)]
-pub(crate) struct Served<S, K, R, L> {
+pub(crate) struct GatheredEnd<S, K, R, L> {
     pub(crate) status: u8,
     pub(crate) source: Shut<S>,
     pub(crate) sink: Shut<K>,
@@ -70,7 +70,7 @@ pub(crate) fn serve_gathered<S: Source + Drop, K: Sink + Drop, R: BulkRack + Dro
     sink: Sealed<K>,
     rack: Sealed<R>,
     log: L,
-) -> Result<Served<S, K, R, L>, (Sealed<S>, Sealed<K>)>
+) -> Result<GatheredEnd<S, K, R, L>, (Sealed<S>, Sealed<K>)>
     requires begun { (t : Trail) → L.noted log ≡ Some t → R.told rack.inside ≡ Some t }
     ensures told { IfOk result (λ served. (c : CommandType)
         → AskFor c (map string_bytes words.now.items)
@@ -99,9 +99,9 @@ pub(crate) fn serve_gathered<S: Source + Drop, K: Sink + Drop, R: BulkRack + Dro
     };
     let Sealed { inside: mut source } = source;
     let Sealed { inside: mut sink } = sink;
-    let Ended { status, rack } = paraid(alloc, words, &mut source, &mut sink, gathered);
+    let ProgramEnd { status, rack } = paraid(alloc, words, &mut source, &mut sink, gathered);
     let Finished { rack, log } = rack.finish();
-    Ok(Served {
+    Ok(GatheredEnd {
         status,
         source: Shut { inside: source },
         sink: Shut { inside: sink },

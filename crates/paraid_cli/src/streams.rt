@@ -7,12 +7,12 @@ ghost use Rattle.paraid_words.specs.declared.command.Command.{Command as Command
 
 use crate::logs::hold_array;
 use crate::program::Program;
-use crate::served::{Sealed, Served, serve_gathered};
+use crate::served::{GatheredEnd, Sealed, serve_gathered};
 use paraid_base::DiskNo;
 use paraid_gather::Unnoted;
 use paraid_imgrack::{Claim, Closed, ImageRack};
 use paraid_io::{Sink, Source};
-use paraid_program::Ended;
+use paraid_program::ProgramEnd;
 use std::alloc::Global;
 use std::fs::{File, Files};
 
@@ -55,7 +55,7 @@ impl<F: Files<File = File> + Drop, S: Source + Drop, K: Sink + Drop> Program<F> 
         };
         match serve_gathered(alloc, words, source, sink, Sealed::new(rack), Unnoted) {
             Ok(
-                Served {
+                GatheredEnd {
                     status,
                     source: _source,
                     sink: _sink,
@@ -83,7 +83,7 @@ impl<F: Files<File = File> + Drop, S: Source + Drop, K: Sink + Drop> Program<F> 
         self,
         words: &Vec<String>,
         rack: Sealed<ImageRack<F>>,
-    ) -> Result<Ended<Closed<F>>, Self>
+    ) -> Result<ProgramEnd<Closed<F>>, Self>
         ensures status { IfOk result (λ end. (c : CommandType)
             → AskFor c (map string_bytes words.now.items)
             → EndsOverImages (source_use S.left S.faults self.source.inside) (sink_use
@@ -97,14 +97,14 @@ impl<F: Files<File = File> + Drop, S: Source + Drop, K: Sink + Drop> Program<F> 
         } = self;
         match serve_gathered(alloc, words, source, sink, rack, Unnoted) {
             Ok(
-                Served {
+                GatheredEnd {
                     status,
                     source: _source,
                     sink: _sink,
                     rack,
                     log: Unnoted,
                 },
-            ) => Ok(Ended {
+            ) => Ok(ProgramEnd {
                 status,
                 rack: rack.close(),
             }),

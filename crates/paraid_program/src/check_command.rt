@@ -16,7 +16,7 @@ ghost use Rattle.paraid_serve.specs.Statuses.{IsOneOf, status_done, status_found
 
 use crate::counts_text::{check_status, check_text};
 use crate::fault_text::tell_refusal;
-use crate::outside::{Ended, Outside};
+use crate::outside::{Outside, ProgramEnd};
 use paraid_io::Sink;
 use paraid_rack::Rack;
 use paraid_recover::MountRefused;
@@ -70,7 +70,7 @@ pub fn check<K: Sink, R: Rack, A: Serves, O: Outside<R, A>>(
     outside: &O,
     sink: &mut K,
     rack: R,
-) -> Ended<R>
+) -> ProgramEnd<R>
     ensures run { MountsAndThen (rack_use R.slot_count R.slot R.told rack result.rack)
         (sink_use K.written K.faults sink.old sink.new) result.status (Unit {0})
         (ChecksArray (rack_use R.slot_count R.slot R.told rack result.rack)
@@ -83,12 +83,12 @@ pub fn check<K: Sink, R: Rack, A: Serves, O: Outside<R, A>>(
     match outside.mount(rack) {
         Ok(mut array) => {
             let status = tell_counts::<K, R, A, O>(outside, sink, &mut array);
-            Ended {
+            ProgramEnd {
                 status,
                 rack: outside.unmount(array),
             }
         }
-        Err(MountRefused { fault, rack }) => Ended {
+        Err(MountRefused { fault, rack }) => ProgramEnd {
             status: tell_refusal(sink, fault),
             rack,
         },

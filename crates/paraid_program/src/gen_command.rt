@@ -9,7 +9,7 @@ ghost use Rattle.paraid_serve.specs.Statuses.{IsOneOf, status_sink};
 
 use crate::fault_text::tell_refusal;
 use crate::generated_lines::serve_generated_mounted;
-use crate::outside::{Ended, Outside};
+use crate::outside::{Outside, ProgramEnd};
 use paraid_io::Sink;
 use paraid_rack::Rack;
 use paraid_recover::MountRefused;
@@ -22,7 +22,7 @@ pub fn generate<K: Sink, R: Rack, A: Serves, O: Outside<R, A>>(
     rack: R,
     number: u32,
     lines: u32,
-) -> Ended<R>
+) -> ProgramEnd<R>
     requires few { lines ≤ 1000000 }
     ensures run { MountsAndThen (rack_use R.slot_count R.slot R.told rack result.rack)
         (sink_use K.written K.faults sink.old sink.new) result.status (Unit {0}) (ServesGenerated
@@ -39,12 +39,12 @@ pub fn generate<K: Sink, R: Rack, A: Serves, O: Outside<R, A>>(
     match outside.mount(rack) {
         Ok(mut array) => {
             let status = serve_generated_mounted(sink, &mut array, number, lines);
-            Ended {
+            ProgramEnd {
                 status,
                 rack: outside.unmount(array),
             }
         }
-        Err(MountRefused { fault, rack }) => Ended {
+        Err(MountRefused { fault, rack }) => ProgramEnd {
             status: tell_refusal(sink, fault),
             rack,
         },

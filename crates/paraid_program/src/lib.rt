@@ -41,7 +41,7 @@ pub use format_command::format_array;
 pub use format_text::{config_text, refusal_status, refusal_text};
 pub use generated_lines::{serve_generated, serve_generated_mounted};
 pub use laws::a_mounted_array_is_told_as_its_first_point;
-pub use outside::Ended;
+pub use outside::ProgramEnd;
 pub use plan_command::show_plan;
 pub use read::{read_all, read_setup};
 pub use refusal::Refusal;

@@ -8,12 +8,12 @@ ghost use Rattle.paraid_program.specs.Statuses.{nbd_statuses};
 ghost use Rattle.paraid_serve.specs.Statuses.{IsOneOf, status_sink, status_source};
 
 use crate::fault_text::mount_fault_status;
-use crate::outside::{Ended, Outside};
+use crate::outside::{Outside, ProgramEnd};
 use paraid_io::{Sink, Source};
 use paraid_rack::Rack;
 use paraid_recover::MountRefused;
 use paraid_serve::Serves;
-use paraid_service::{Served, serve_client};
+use paraid_service::{ServiceEnd, serve_client};
 use std::alloc::Global;
 
 /// Mounts and serves one client of the network block service.
@@ -23,7 +23,7 @@ pub fn nbd<S: Source, K: Sink, R: Rack, A: Serves, O: Outside<R, A>>(
     source: &mut S,
     sink: &mut K,
     rack: R,
-) -> Ended<R>
+) -> ProgramEnd<R>
     ensures nbd { ServesNbdOrNot (rack_use R.slot_count R.slot R.told rack result.rack)
         (source_use S.left S.faults source.old source.new)
         (sink_use K.written K.faults sink.old sink.new) result.status }
@@ -37,13 +37,13 @@ pub fn nbd<S: Source, K: Sink, R: Rack, A: Serves, O: Outside<R, A>>(
 {
     match outside.mount(rack) {
         Ok(array) => {
-            let Served { status, array } = serve_client(alloc, source, sink, array);
-            Ended {
+            let ServiceEnd { status, array } = serve_client(alloc, source, sink, array);
+            ProgramEnd {
                 status,
                 rack: outside.unmount(array),
             }
         }
-        Err(MountRefused { fault, rack }) => Ended {
+        Err(MountRefused { fault, rack }) => ProgramEnd {
             status: mount_fault_status(fault),
             rack,
         },

@@ -22,7 +22,7 @@ use paraid_scrub::CheckReport;
 use paraid_serve::Serves;
 
 /// How a call of the program ended: the status, and the rack with its list of calls extended.
-pub struct Ended<R> {
+pub struct ProgramEnd<R> {
     pub status: u8,
     pub rack: R,
 }

@@ -10,7 +10,7 @@ ghost use Rattle.paraid_program.specs.Statuses.{plan_statuses, planned_statuses}
 ghost use Rattle.paraid_serve.specs.Statuses.{IsOneOf, status_done, status_sink, status_source};
 
 use crate::fault_text::tell_refusal;
-use crate::outside::Ended;
+use crate::outside::ProgramEnd;
 use paraid_io::{Sink, Source, write_all};
 use paraid_planning::{Unplanned, plan_demand, unplanned_text};
 use paraid_rack::Rack;
@@ -91,7 +91,7 @@ pub fn show_plan<S: Source, K: Sink, R: Rack>(
     sink: &mut K,
     rack: R,
     ups: u16,
-) -> Ended<R>
+) -> ProgramEnd<R>
     requires few { ups ≤ 256 }
     ensures plans { PlanOutcome (rack_use R.slot_count R.slot R.told rack result.rack)
         (source_use S.left S.faults source.old source.new)
@@ -108,12 +108,12 @@ pub fn show_plan<S: Source, K: Sink, R: Rack>(
     match mount(alloc, rack) {
         Ok(Mounted { store, meta, .. }) => {
             let status = tell_plan(alloc, source, sink, &meta, ups);
-            Ended {
+            ProgramEnd {
                 status,
                 rack: store.close(),
             }
         }
-        Err(MountRefused { fault, rack }) => Ended {
+        Err(MountRefused { fault, rack }) => ProgramEnd {
             status: tell_refusal(sink, fault),
             rack,
         },

@@ -8,7 +8,7 @@ ghost use Rattle.paraid_program.specs.Statuses.{run_statuses};
 ghost use Rattle.paraid_serve.specs.Statuses.{IsOneOf, status_done, status_sink, status_source};
 
 use crate::fault_text::tell_refusal;
-use crate::outside::{Ended, Outside};
+use crate::outside::{Outside, ProgramEnd};
 use paraid_io::{Sink, Source};
 use paraid_rack::Rack;
 use paraid_recover::MountRefused;
@@ -21,7 +21,7 @@ pub fn run<S: Source, K: Sink, R: Rack, A: Serves, O: Outside<R, A>>(
     source: &mut S,
     sink: &mut K,
     rack: R,
-) -> Ended<R>
+) -> ProgramEnd<R>
     ensures run { MountsAndThen (rack_use R.slot_count R.slot R.told rack result.rack)
         (sink_use K.written K.faults sink.old sink.new) result.status
         (IsUnheard (source_use S.left S.faults source.old source.new))
@@ -40,12 +40,12 @@ pub fn run<S: Source, K: Sink, R: Rack, A: Serves, O: Outside<R, A>>(
     match outside.mount(rack) {
         Ok(mut array) => {
             let status = serve_mounted(source, sink, &mut array);
-            Ended {
+            ProgramEnd {
                 status,
                 rack: outside.unmount(array),
             }
         }
-        Err(MountRefused { fault, rack }) => Ended {
+        Err(MountRefused { fault, rack }) => ProgramEnd {
             status: tell_refusal(sink, fault),
             rack,
         },

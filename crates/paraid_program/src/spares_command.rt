@@ -10,7 +10,7 @@ ghost use Rattle.paraid_serve.specs.Statuses.{IsOneOf, status_done, status_sink,
 ghost use Rattle.paraid_sparing.specs.Session.{fresh_stock};
 
 use crate::fault_text::tell_refusal;
-use crate::outside::{Ended, Outside};
+use crate::outside::{Outside, ProgramEnd};
 use paraid_io::{Sink, Source};
 use paraid_rack::Rack;
 use paraid_recover::MountRefused;
@@ -25,7 +25,7 @@ pub fn run_with_spares<S: Source, K: Sink, R: Rack, A: Serves, O: Outside<R, A>>
     rack: R,
     stock: u8,
     wait: u32,
-) -> Ended<R>
+) -> ProgramEnd<R>
     ensures run { MountsAndThen (rack_use R.slot_count R.slot R.told rack result.rack)
         (sink_use K.written K.faults sink.old sink.new) result.status
         (IsUnheard (source_use S.left S.faults source.old source.new))
@@ -45,12 +45,12 @@ pub fn run_with_spares<S: Source, K: Sink, R: Rack, A: Serves, O: Outside<R, A>>
     match outside.mount(rack) {
         Ok(mut array) => {
             let status = serve_spared(source, sink, &mut array, stock, wait);
-            Ended {
+            ProgramEnd {
                 status,
                 rack: outside.unmount(array),
             }
         }
-        Err(MountRefused { fault, rack }) => Ended {
+        Err(MountRefused { fault, rack }) => ProgramEnd {
             status: tell_refusal(sink, fault),
             rack,
         },

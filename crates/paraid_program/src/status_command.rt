@@ -10,7 +10,7 @@ ghost use Rattle.paraid_serve.specs.Statuses.{IsOneOf, status_sink};
 
 use crate::array_state::tell_state;
 use crate::fault_text::tell_refusal;
-use crate::outside::Ended;
+use crate::outside::ProgramEnd;
 use paraid_io::Sink;
 use paraid_rack::Rack;
 use paraid_recover::{MountRefused, Mounted, mount};
@@ -20,7 +20,7 @@ use std::alloc::Global;
 ///
 /// The statuses are 0, the state was told; 4, the sink has failed; 5, two disks are down; 6, the
 /// disks in the slots make no array; 7, there was no memory; and 12, the array takes no more.
-pub fn show_state<K: Sink, R: Rack>(alloc: Global, sink: &mut K, rack: R) -> Ended<R>
+pub fn show_state<K: Sink, R: Rack>(alloc: Global, sink: &mut K, rack: R) -> ProgramEnd<R>
     ensures shows { Shows (rack_use R.slot_count R.slot R.told rack result.rack)
         (sink_use K.written K.faults sink.old sink.new) result.status }
     ensures slots { R.slot_count result.rack ≡ R.slot_count rack }
@@ -38,12 +38,12 @@ pub fn show_state<K: Sink, R: Rack>(alloc: Global, sink: &mut K, rack: R) -> End
             },
         ) => {
             let status = tell_state(sink, &meta, &dirty);
-            Ended {
+            ProgramEnd {
                 status,
                 rack: store.close(),
             }
         }
-        Err(MountRefused { fault, rack }) => Ended {
+        Err(MountRefused { fault, rack }) => ProgramEnd {
             status: tell_refusal(sink, fault),
             rack,
         },

@@ -15,7 +15,7 @@ use crate::check_command::check;
 use crate::format_command::format_array;
 use crate::gen_command::generate;
 use crate::nbd_command::nbd;
-use crate::outside::Ended;
+use crate::outside::ProgramEnd;
 use crate::plan_command::show_plan;
 use crate::run_command::run;
 use crate::spares_command::run_with_spares;
@@ -57,7 +57,7 @@ pub fn paraid<S: Source, K: Sink, R: Rack>(
     source: &mut S,
     sink: &mut K,
     rack: R,
-) -> Ended<R>
+) -> ProgramEnd<R>
     ensures does { (c : CommandType) → AskFor c (map string_bytes words.now.items)
         → DoesCommand (rack_use R.slot_count R.slot R.told rack result.rack)
         (source_use S.left S.faults source.old source.new)
@@ -96,7 +96,7 @@ pub fn paraid<S: Source, K: Sink, R: Rack>(
         Some(Command::Format { force }) => {
             let mut rack = rack;
             let status = format_array(alloc, force, source, sink, &mut rack);
-            Ended { status, rack }
+            ProgramEnd { status, rack }
         }
         Some(Command::Run) => run::<S, K, R, Array<R>, Arrays>(&arrays, source, sink, rack),
         Some(Command::Spare { stock, wait }) => {
@@ -112,7 +112,7 @@ pub fn paraid<S: Source, K: Sink, R: Rack>(
             answer_volumes::<S, K, R, Array<R>, Arrays>(&arrays, source, sink, rack)
         }
         Some(Command::Plan { ups }) => show_plan(alloc, source, sink, rack, ups),
-        None => Ended {
+        None => ProgramEnd {
             status: last(
                 sink,
                 b"usage: paraid format [--force] | run | status | check | gen --number N --lines L | nbd | run --spares N [--wait W] | vol | plan --ups U\n",

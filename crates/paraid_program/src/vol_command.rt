@@ -9,12 +9,12 @@ ghost use Rattle.paraid_program.specs.Statuses.{run_statuses};
 ghost use Rattle.paraid_serve.specs.Statuses.{IsOneOf, status_done, status_sink, status_source};
 
 use crate::fault_text::tell_refusal;
-use crate::outside::{Ended, Outside};
+use crate::outside::{Outside, ProgramEnd};
 use paraid_io::{Sink, Source};
 use paraid_rack::Rack;
 use paraid_recover::MountRefused;
 use paraid_serve::Serves;
-use paraid_service::{Served, serve_volumes};
+use paraid_service::{ServiceEnd, serve_volumes};
 
 /// Mounts and answers each line about volumes.
 pub fn answer_volumes<S: Source, K: Sink, R: Rack, A: Serves, O: Outside<R, A>>(
@@ -22,7 +22,7 @@ pub fn answer_volumes<S: Source, K: Sink, R: Rack, A: Serves, O: Outside<R, A>>(
     source: &mut S,
     sink: &mut K,
     rack: R,
-) -> Ended<R>
+) -> ProgramEnd<R>
     ensures run { MountsAndThen (rack_use R.slot_count R.slot R.told rack result.rack)
         (sink_use K.written K.faults sink.old sink.new) result.status
         (IsUnheard (source_use S.left S.faults source.old source.new))
@@ -40,13 +40,13 @@ pub fn answer_volumes<S: Source, K: Sink, R: Rack, A: Serves, O: Outside<R, A>>(
 {
     match outside.mount(rack) {
         Ok(array) => {
-            let Served { status, array } = serve_volumes(source, sink, array);
-            Ended {
+            let ServiceEnd { status, array } = serve_volumes(source, sink, array);
+            ProgramEnd {
                 status,
                 rack: outside.unmount(array),
             }
         }
-        Err(MountRefused { fault, rack }) => Ended {
+        Err(MountRefused { fault, rack }) => ProgramEnd {
             status: tell_refusal(sink, fault),
             rack,
         },

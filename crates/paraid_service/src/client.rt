@@ -23,7 +23,7 @@ use paraid_serve::{Serves, status};
 use std::alloc::Global;
 
 /// How the service of a client ended, and the array.
-pub struct Served<A> {
+pub struct ServiceEnd<A> {
     pub status: u8,
     pub array: A,
 }
@@ -64,7 +64,7 @@ pub fn serve_client<S: Source, K: Sink, A: Serves>(
     source: &mut S,
     sink: &mut K,
     array: A,
-) -> Served<A>
+) -> ServiceEnd<A>
     requires going { A.halted array ≡ None }
     ensures headline { (began : ℕ) → IsMountedFromEach (A.slots array) (A.setup array) began
         (A.told array) (A.stands array)
@@ -92,7 +92,7 @@ pub fn serve_client<S: Source, K: Sink, A: Serves>(
     let mut device = Device::new(array);
     let end = serve_nbd(alloc, &mut device, source, sink);
     let status = end_client(&mut device, end);
-    Served {
+    ServiceEnd {
         status,
         array: device.close(),
     }

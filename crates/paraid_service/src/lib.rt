@@ -14,7 +14,7 @@ mod run;
 mod session;
 mod shelf;
 
-pub use client::{Served, serve_client};
+pub use client::{ServiceEnd, serve_client};
 pub use held::serve_held;
 pub use laws::{a_flush_is_kept_at_each_later_point, a_stop_leaves_each_call_before_a_flush};
 pub use lines::{create_named, delete_named, flush_volumes, read_named, write_named};

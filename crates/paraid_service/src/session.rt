@@ -14,7 +14,7 @@ ghost use Rattle.paraid_service.specs.Shelves.{device_in};
 ghost use Rattle.paraid_service.specs.VolumeSessions.{VolumesHeadline, VolumesRun};
 ghost use Rattle.paraid_session.specs.Mount.{IsMountedFromEach};
 
-use crate::client::Served;
+use crate::client::ServiceEnd;
 use crate::run::{LinesEnd, serve_lines};
 use crate::shelf::Shelf;
 use paraid_blocks::Blocks;
@@ -41,7 +41,7 @@ pub fn serve_volumes<S: Source, K: Sink, A: Serves>(
     source: &mut S,
     sink: &mut K,
     array: A,
-) -> Served<A>
+) -> ServiceEnd<A>
     requires going { A.halted array ≡ None }
     ensures run { VolumesRun (A.shown array) (A.shown result.array)
         (span_of (A.slots array) (A.setup array) (A.told array) (A.told result.array))
@@ -71,7 +71,7 @@ pub fn serve_volumes<S: Source, K: Sink, A: Serves>(
     let mut text = Text::new();
     mount_text(&mut text, array.writes(), array.gear());
     let Ok(()) = write_all(sink, text.as_slice()) else {
-        return Served {
+        return ServiceEnd {
             status: status::SINK,
             array,
         };
@@ -80,7 +80,7 @@ pub fn serve_volumes<S: Source, K: Sink, A: Serves>(
     let end = run.end;
     let mut device = run.shelved.shelf.finish();
     let status = end_session(&mut device, end, sink);
-    Served {
+    ServiceEnd {
         status,
         array: device.close(),
     }

@@ -45,7 +45,7 @@ use Rattle.paraid_upkeep.specs.Directions.{HasBegun, HasMarkedShift, IsNextTo, I
 use Rattle.paraid_upkeep.specs.Refusals.{IsShiftStateOf, MayGoDown, MayGoUp, fault_answer}
 use Rattle.paraid_upkeep.specs.Service.{IsOutKnown}
 use Rattle.paraid_upkeep.specs.Turns.{CoreGoesOn, CoreHalts}
-use Rattle.paraid_upkeep.specs.declared.asked.Asked.TheVariants.{Begun, Refused}
+use Rattle.paraid_upkeep.specs.declared.asked.ShiftOutcome.TheVariants.{Begun, Refused}
 use Rattle.paraid_upkeep.specs.declared.asked.Direction.{Direction}
 use Rattle.paraid_upkeep.specs.declared.asked.Direction.TheVariants.{Down as Downward, Up as Upward}
 use Rattle.paraid_upkeep.specs.declared.fault.ShiftFault.{ShiftFault}

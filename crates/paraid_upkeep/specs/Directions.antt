@@ -10,7 +10,7 @@ use Rattle.paraid_image.specs.Power.{PowerState}
 use Rattle.paraid_moves.specs.MoveMetas.{meta_after_begin}
 use Rattle.paraid_core.specs.Steps.{IsMarkedFrom}
 use Rattle.paraid_shift.specs.Serving.{HasBegunUp}
-use Rattle.paraid_upkeep.specs.declared.asked.Asked.{Asked}
+use Rattle.paraid_upkeep.specs.declared.asked.ShiftOutcome.{ShiftOutcome}
 use Rattle.paraid_upkeep.specs.declared.asked.Direction.{Direction}
 use Rattle.paraid_upkeep.specs.declared.asked.Direction.TheVariants.{Down, Up}
 use Rattle.paraid_upkeep.specs.declared.fault.ShiftFault.{ShiftFault}
@@ -45,6 +45,6 @@ HasBegun Down m m_then to =
     IsMarkedFrom (record (meta_after_begin m (PhaseDown to) m.spins) { epoch = m.epoch + 1 }) m_then
 
 -- what a shift in this direction that was asked for has left of the meta, so many commits later
-abbrev pub HasMarkedShift : Direction → Meta → Meta → Asked → Type 0
+abbrev pub HasMarkedShift : Direction → Meta → Meta → ShiftOutcome → Type 0
 HasMarkedShift Up m m_then asked = HasMarkedUp m m_then asked
 HasMarkedShift Down m m_then asked = HasMarkedDown m m_then asked

@@ -16,8 +16,8 @@ use Rattle.paraid_machine.specs.Moves.{first_used_up}
 use Rattle.paraid_moves.specs.MoveMetas.{meta_after_begin}
 use Rattle.paraid_core.specs.Steps.{IsMarkedFrom}
 use Rattle.paraid_shift.specs.Serving.{HasBegunUp}
-use Rattle.paraid_upkeep.specs.declared.asked.Asked.{Asked}
-use Rattle.paraid_upkeep.specs.declared.asked.Asked.TheVariants.{Begun, Refused}
+use Rattle.paraid_upkeep.specs.declared.asked.ShiftOutcome.{ShiftOutcome}
+use Rattle.paraid_upkeep.specs.declared.asked.ShiftOutcome.TheVariants.{Begun, Refused}
 use Rattle.paraid_upkeep.specs.declared.fault.ShiftFault.{ShiftFault}
 use Rattle.paraid_upkeep.specs.declared.fault.ShiftFault.TheVariants.{Lowest, Out, Ration, Shifting, Top}
 
@@ -84,7 +84,7 @@ IsUpRefused setup s (Out d) = (next : ℕ)
 IsUpRefused setup s (Ration d) = ⊥
 
 -- A shift to gear `to` has begun; or it was refused, since a disk is out by the meta after it.
-abbrev pub HasBegunOrLost : Meta → ℕ → Asked → Type 0
+abbrev pub HasBegunOrLost : Meta → ℕ → ShiftOutcome → Type 0
 HasBegunOrLost m_then to (Begun gear) = gear ≡ to
 HasBegunOrLost m_then to (Refused fault) =
     (d : ℕ) × (fault ≡ Out d) × (named_out m_then.out ≡ Some d)
@@ -92,13 +92,13 @@ HasBegunOrLost m_then to (Refused fault) =
 -- What a shift up that was asked for has left of the meta, so many commits later: where it has
 -- begun its marks and the spin-ups of the disks that come up, and else the marks of a disk that was
 -- lost with what was staged.
-abbrev pub HasMarkedUp : Meta → Meta → Asked → Type 0
+abbrev pub HasMarkedUp : Meta → Meta → ShiftOutcome → Type 0
 HasMarkedUp m m_then (Begun to) = (epoch : ℕ) × HasBegunUp (record m { epoch = epoch }) m_then to
 HasMarkedUp m m_then (Refused fault) =
     (epoch : ℕ) × IsMarkedFrom (record m { epoch = epoch }) m_then
 
 -- the same of a shift down, which spins up no disk
-abbrev pub HasMarkedDown : Meta → Meta → Asked → Type 0
+abbrev pub HasMarkedDown : Meta → Meta → ShiftOutcome → Type 0
 HasMarkedDown m m_then (Begun to) = (epoch : ℕ)
     × IsMarkedFrom (record (meta_after_begin m (Down to) m.spins) { epoch = epoch }) m_then
 HasMarkedDown m m_then (Refused fault) =

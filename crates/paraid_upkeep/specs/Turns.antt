@@ -25,8 +25,8 @@ use Rattle.paraid_event.specs.Service.{Service, service_of}
 use Rattle.paraid_event.specs.Stands.{ServiceStandsFor, StandsAt}
 use Rattle.paraid_event.specs.Ticks.{CountsTick, IsHaltedWith}
 use Rattle.paraid_upkeep.specs.Refusals.{fault_answer}
-use Rattle.paraid_upkeep.specs.declared.asked.Asked.{Asked}
-use Rattle.paraid_upkeep.specs.declared.asked.Asked.TheVariants.{Begun, Refused}
+use Rattle.paraid_upkeep.specs.declared.asked.ShiftOutcome.{ShiftOutcome}
+use Rattle.paraid_upkeep.specs.declared.asked.ShiftOutcome.TheVariants.{Begun, Refused}
 use Rattle.paraid_upkeep.specs.declared.fault.FailFault.{FailFault}
 use Rattle.paraid_upkeep.specs.declared.fault.FailFault.TheVariants.{NoDisk as FailNoDisk, Out as FailOut}
 use Rattle.paraid_upkeep.specs.declared.fault.ReplaceFault.{ReplaceFault}
@@ -90,7 +90,7 @@ replace_answer d (Some (ReplaceNotOut e)) = NotOut e
 replace_answer d (Some (ReplaceNoFresh e)) = NoFresh e
 
 -- the answer that tells that a shift from this gear has begun, or why not
-abbrev pub asked_answer : ℕ → Asked → Answer
+abbrev pub asked_answer : ℕ → ShiftOutcome → Answer
 asked_answer gear (Begun to) = Shift gear to
 asked_answer gear (Refused fault) = fault_answer fault
 

@@ -5,7 +5,7 @@ ghost use Rattle.paraid_base.specs.declared.state.Phase.TheVariants.{Steady};
 ghost use Rattle.paraid_base.specs.Log.{worn_at};
 ghost use Rattle.paraid_core.specs.Cores.{core_down, core_rack, core_table, meta_of};
 ghost use Rattle.paraid_upkeep.specs.declared.fault.ShiftFault.{ShiftFault as ShiftFaultType};
-ghost use Rattle.paraid_upkeep.specs.declared.asked.Asked.TheVariants.{Refused};
+ghost use Rattle.paraid_upkeep.specs.declared.asked.ShiftOutcome.TheVariants.{Refused};
 ghost use Rattle.paraid_upkeep.specs.Events.{CommitsAtMost};
 ghost use Rattle.paraid_upkeep.specs.Directions.{HasBegun, HasMarkedShift, IsNextTo, IsRefusedTo, MayGo, asked_event};
 ghost use Rattle.paraid_upkeep.specs.Refusals.{HasBegunOrLost, IsShiftStateOf};
@@ -37,7 +37,7 @@ pub enum Direction {
 
 /// What came of a shift that was asked for.
 #[derive(Clone, Copy)]
-pub enum Asked {
+pub enum ShiftOutcome {
     /// It has begun.
     Begun { to: u8 },
     /// It has not.
@@ -80,7 +80,7 @@ fn begin_shift<R: Rack>(core: &mut Core<R>, direction: Direction, to: u8) -> Res
 
 /// Begins a shift to the next gear in this direction, unless it is refused. What is staged is
 /// committed first; a disk that is lost in that refuses it too.
-pub fn ask_shift<R: Rack>(core: &mut Core<R>, direction: Direction) -> Result<Asked, Two>
+pub fn ask_shift<R: Rack>(core: &mut Core<R>, direction: Direction) -> Result<ShiftOutcome, Two>
     requires serving { IsCoreServing R.slot_count R.slot core.old }
     requires epoch { (meta_of core.old).epoch < worn_at }
     ensures serves { OnOk result (StaysServing R.slot_count R.slot core.old core.new) }
@@ -109,14 +109,14 @@ pub fn ask_shift<R: Rack>(core: &mut Core<R>, direction: Direction) -> Result<As
         (R.slot (core_rack core.old)) (R.slot (core_rack core.new))) }
 {
     if let Err(fault) = gear_to(core.meta(), direction) {
-        return Ok(Asked::Refused(fault));
+        return Ok(ShiftOutcome::Refused(fault));
     }
     commit_staged(core)?;
     match gear_to(core.meta(), direction) {
         Ok(to) => {
             begin_shift(core, direction, to)?;
-            Ok(Asked::Begun { to })
+            Ok(ShiftOutcome::Begun { to })
         }
-        Err(fault) => Ok(Asked::Refused(fault)),
+        Err(fault) => Ok(ShiftOutcome::Refused(fault)),
     }
 }

@@ -13,7 +13,7 @@ mod rebuilding;
 mod replacing;
 mod shifts;
 
-pub use asked::{Asked, Direction, ask_shift};
+pub use asked::{Direction, ShiftOutcome, ask_shift};
 pub use failing::take_out;
 pub use fault::{FailFault, ReplaceFault, ShiftFault};
 pub use laws::a_shift_is_answered_by_the_machine;

@@ -10,7 +10,7 @@ ghost use Rattle.tests_lives.specs.Life.{RunAnswers, IsLife, is_done_or_on};
 use paraid_base::DiskNo;
 use paraid_io::{MemSink, MemSource};
 use paraid_memrack::{MemRack, Planned};
-use paraid_program::{Ended, paraid};
+use paraid_program::{ProgramEnd, paraid};
 use paraid_rack::Call;
 use std::alloc::Global;
 
@@ -41,7 +41,7 @@ fn new_array(alloc: Global, rack: MemRack) -> Option<MemRack>
     let bytes = CONFIGURATION.to_vec(alloc).ok()?;
     let mut source = MemSource::new(bytes, Vec::new(alloc));
     let mut sink = MemSink::new(alloc, 4_096, Vec::new(alloc)).ok()?;
-    let Ended { status, rack } = paraid(alloc, &words, &mut source, &mut sink, rack);
+    let ProgramEnd { status, rack } = paraid(alloc, &words, &mut source, &mut sink, rack);
     if status != 0 {
         return None;
     }
@@ -64,7 +64,7 @@ fn run_trace(alloc: Global, lines: &[u8], rack: MemRack) -> Option<Left>
     let bytes = lines.to_vec(alloc).ok()?;
     let mut source = MemSource::new(bytes, Vec::new(alloc));
     let mut sink = MemSink::new(alloc, 65_536, Vec::new(alloc)).ok()?;
-    let Ended {
+    let ProgramEnd {
         status,
         rack: disks,
     } = paraid(alloc, &words, &mut source, &mut sink, rack);

@@ -7,7 +7,7 @@ use paraid_base::{DiskNo, Failed};
 use paraid_gather::{Finished, Gathered};
 use paraid_io::{MemSink, MemSource, Source};
 use paraid_memrack::{MemRack, Pick, Planned};
-use paraid_program::{Ended, paraid};
+use paraid_program::{ProgramEnd, paraid};
 use std::alloc::Global;
 
 /// The number of a call that no run here has. So many calls of a run are listed.
@@ -143,15 +143,15 @@ fn gathered(
     source: &mut Pieces,
     sink: &mut MemSink,
     disks: MemRack,
-) -> Option<Ended<MemRack>> {
+) -> Option<ProgramEnd<MemRack>> {
     if disks.calls() != 0 {
         return None;
     }
     let log = disks.list(alloc).ok()?;
     let rack = Gathered::new(alloc, disks, log).ok()?;
-    let Ended { status, rack } = paraid(alloc, words, source, sink, rack);
+    let ProgramEnd { status, rack } = paraid(alloc, words, source, sink, rack);
     let Finished { rack, log: _calls } = rack.finish();
-    Some(Ended { status, rack })
+    Some(ProgramEnd { status, rack })
 }
 
 // The program over these disks.
@@ -162,7 +162,7 @@ fn called(
     sink: &mut MemSink,
     disks: MemRack,
     gathers: bool,
-) -> Option<Ended<MemRack>> {
+) -> Option<ProgramEnd<MemRack>> {
     if gathers {
         return gathered(alloc, words, source, sink, disks);
     }
@@ -181,7 +181,7 @@ fn ran_on(
     let list = list_of(alloc, words)?;
     let mut source = source_of(alloc, input, conditions)?;
     let mut sink = sink_of(alloc, conditions.sink)?;
-    let Ended {
+    let ProgramEnd {
         status,
         rack: disks,
     } = called(

@@ -7,7 +7,7 @@ use Rattle.paraid_image.specs.Power.{PowerState}
 use Rattle.paraid_upkeep.specs.Directions.{IsNextTo, IsRefusedTo, MayGo}
 use Rattle.paraid_upkeep.specs.Refusals.{IsShiftStateOf}
 use Rattle.paraid_upkeep.specs.declared.fault.ShiftFault.{ShiftFault}
-use Rattle.paraid_upkeep.specs.declared.asked.Asked.TheVariants.{Refused}
+use Rattle.paraid_upkeep.specs.declared.asked.ShiftOutcome.TheVariants.{Refused}
 use Rattle.paraid_upkeep.proofs.AskedLemmas.{asked_begun, asked_halts, asked_lost, asked_marked, asked_same, asked_stays, asked_stopped, begun_epoch, begun_known, core_loses_then, known_marked, marked_lost, may_not, refused_same}
 use Rattle.paraid_txn.specs.Stores.{store_rack}
 use Rattle.paraid_core.proofs.AfterLemmas.{handed}
