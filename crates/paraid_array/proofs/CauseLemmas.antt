@@ -122,8 +122,8 @@ commits_staged x y batch staged some is = commits_by x y 1 (min x.staged 1) (sub
     any (member ∷ rest) never = grind (arith)
 
 -- no more is staged than there is room for
-not_full : (n : ℕ) → n ≤ 96 → nat_lt 96 n ≡ false
-not_full n low = grind (arith, nat_tests)
+not_full : (room n : ℕ) → n ≤ room → nat_lt room n ≡ false
+not_full room n low = grind (arith, nat_tests)
 
 -- a read commits once at most, and only where it cleans its cell
 pub commits_to_clean : {R : Type 0} {g : _} (slot : R → ℕ → Slot) (a : Array R g) (y : Shown) (block : ℕ) → a.core.meta.setup ≡ a.setup → length a.core.batch ≤ batch_room
@@ -134,7 +134,7 @@ commits_to_clean slot a y block same few is =
   where
     by : (cleans : Bool) → y.meta.epoch ≡ a.core.meta.epoch + (if commits_first a.core.batch (if cleans then 3 else 0) then 1 else 0) → CommitsFew (shown_of_array slot a) y (if cleans && lacks_room (shown_of_array slot a) 3 then 1 else 0)
     by true e = commits_once (shown_of_array slot a) y (commits_first a.core.batch 3) e
-    by false e = commits_by (shown_of_array slot a) y 0 0 (omega arith) (e ∙ ap (λ (b : Bool). a.core.meta.epoch + (if b then 1 else 0)) (not_full (length a.core.batch) few))
+    by false e = commits_by (shown_of_array slot a) y 0 0 (omega arith) (e ∙ ap (λ (b : Bool). a.core.meta.epoch + (if b then 1 else 0)) (not_full batch_room (length a.core.batch) few))
 
 -- what it leaves staged
 pub stages_to_clean : {R : Type 0} {g : _} (slot : R → ℕ → Slot) (a : Array R g) (now : ℕ) (block : ℕ) → a.core.meta.setup ≡ a.setup → length a.core.batch ≤ batch_room
@@ -147,7 +147,7 @@ stages_to_clean slot a now block same few most still =
   where
     by : (cleans : Bool) → now ≤ (if commits_first a.core.batch (if cleans then 3 else 0) then 0 else length a.core.batch) + 3 → (cleans ≡ false → now ≡ length a.core.batch) → StagesFew (shown_of_array slot a) (record (shown_of_array slot a) { staged = now }) (if cleans then 3 else 0)
     by true m s = m
-    by false m s = subst (λ (b : Bool). now ≤ (if b then 0 else length a.core.batch) + 0) (sym (not_full (length a.core.batch) few)) (subst (λ (n : ℕ). n ≤ length a.core.batch + 0) (sym (s refl)) (omega arith))
+    by false m s = subst (λ (b : Bool). now ≤ (if b then 0 else length a.core.batch) + 0) (sym (not_full batch_room (length a.core.batch) few)) (subst (λ (n : ℕ). n ≤ length a.core.batch + 0) (sym (s refl)) (omega arith))
 
 module _ {R : Type 0} {g : _} {count : R → ℕ} (slot : R → ℕ → Slot) (a : Array R g) where
   -- with no call
