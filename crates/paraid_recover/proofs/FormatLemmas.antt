@@ -1,5 +1,4 @@
 -- The disks of a new array.
-use Rattle.paraid_rack.specs.Calls.{AreReads}
 use Rattle.std.specs.Prelude.{◌≡◌, ◌≢◌, ℕ, ◌≤◌, ◌<◌, true, false, Bool, List, [], Option}
 use Rattle.std.proofs.Common.{zero, suc, refl, sym, ◌∙◌, ap, subst, arith, inl, inr}
 use Rattle.std.proofs.lemmas.Bool.{cases_eq, cases_lt}
@@ -14,7 +13,7 @@ use Rattle.paraid_record.specs.Range.{IsInRange}
 use Rattle.paraid_image.specs.Formatted.{IsFormatted}
 use Rattle.paraid_image.specs.Sides.{is_open}
 use Rattle.paraid_recover.specs.Attached.{AreFreshDisks, BecomesFormatted, IsMetaWritten, fresh_slot}
-use Rattle.paraid_recover.specs.Calls.{AreAttaches, AreFormatCalls, AreMetaCalls, AreMakingCalls}
+use Rattle.paraid_recover.specs.Calls.{AreAttaches, AreFormatCalls, AreHeadReads, AreMakingCalls, AreMetaCalls, OnlyHeadReads}
 use Rattle.paraid_recover.specs.First.{first_meta}
 use Rattle.paraid_recover.specs.Between.{RanBetween}
 use Rattle.paraid_recover.specs.Found.{IsUnclaimed}
@@ -93,25 +92,28 @@ module _ (slots : ℕ) (setup : Setup) (b : Block) (is : b.bytes ≡ meta_bytes 
 module _ (count size : ℕ) {old new : Option Trail} where
   pub only_attaches : Ran old new (λ start calls. AreAttaches size 0 count calls) → Ran old new (λ start calls. AreMakingCalls count size calls)
   only_attaches = ran_weaker (λ start calls. AreAttaches size 0 count calls) (λ start calls. AreMakingCalls count size calls)
-      (λ s cs are. record { attaches = cs; writes = []; is = sym (append-nil cs); first = are; second = tt }) old new
+      (λ s cs are. record { attaches = cs; writes = []; is = sym (append-nil cs); first = are; second = omega arith }) old new
 
 pub attaches_and_logs : (count size : ℕ) {old mid new : Option Trail} → Ran old mid (λ start calls. AreAttaches size 0 count calls)
-    → Ran mid new (λ start calls. AreMetaCalls calls) → Ran old new (λ start calls. AreMakingCalls count size calls)
+    → Ran mid new (λ start calls. AreMetaCalls 0 4 calls) → Ran old new (λ start calls. AreMakingCalls count size calls)
 attaches_and_logs count size {old} {mid} {new} =
-    ran_then (λ start calls. AreAttaches size 0 count calls) (λ start calls. AreMetaCalls calls) (λ start calls. AreMakingCalls count size calls)
+    ran_then (λ start calls. AreAttaches size 0 count calls) (λ start calls. AreMetaCalls 0 4 calls) (λ start calls. AreMakingCalls count size calls)
     (λ s cs ds are logs. record { attaches = cs; writes = ds; is = refl; first = are; second = logs }) old mid new
 
-pub only_reads : (force : Bool) (count size : ℕ) {old new : Option Trail} → Ran old new (λ start calls. AreReads calls × (force ≡ true → calls ≡ []))
+pub heads_alone : {force : Bool} {old new : Option Trail} → Ran old new (λ start calls. AreHeadReads calls × (force ≡ true → calls ≡ [])) → OnlyHeadReads old new
+heads_alone {force} {old} {new} = ran_weaker (λ start calls. AreHeadReads calls × (force ≡ true → calls ≡ [])) (λ start calls. AreHeadReads calls) (λ s cs are. are.0) old new
+
+pub only_reads : (force : Bool) (count size : ℕ) {old new : Option Trail} → Ran old new (λ start calls. AreHeadReads calls × (force ≡ true → calls ≡ []))
     → Ran old new (λ start calls. AreFormatCalls force count size start calls)
 only_reads force count size {old} {new} =
-    ran_weaker (λ start calls. AreReads calls × (force ≡ true → calls ≡ [])) (λ start calls. AreFormatCalls force count size start calls)
+    ran_weaker (λ start calls. AreHeadReads calls × (force ≡ true → calls ≡ [])) (λ start calls. AreFormatCalls force count size start calls)
     (λ s cs are. record { reads = cs; rest = []; is = sym (append-nil cs); are_reads = are.0; forced = are.1; makes = inl refl }) old new
 
 -- reads after which the array can be made
 ReadsFree : Bool → Disks → List Call → Type 0
-ReadsFree force start calls = AreReads calls × (force ≡ true → calls ≡ []) × (force ≡ false → IsUnclaimed start)
+ReadsFree force start calls = AreHeadReads calls × (force ≡ true → calls ≡ []) × (force ≡ false → IsUnclaimed start)
 
-reads_free : (force : Bool) {old new : Option Trail} → Ran old new (λ start calls. AreReads calls × (force ≡ true → calls ≡ []))
+reads_free : (force : Bool) {old new : Option Trail} → Ran old new (λ start calls. AreHeadReads calls × (force ≡ true → calls ≡ []))
     → (force ≡ false → RanBetween old new (λ start s. IsUnclaimed start)) → Ran old new (ReadsFree force)
 unfolding ReadsFree
 reads_free force {old} {new} ran free t tells =
@@ -124,7 +126,7 @@ reads_free force {old} {new} ran free t tells =
       holds = (r.holds.0, r.holds.1, λ not. let m = free not t tells in subst (λ (u : Trail). IsUnclaimed (now u)) (same_trail old m.0 r.from m.1 r.was) m.2);
     }
 
-pub reads_and_rest : (force : Bool) (count size : ℕ) {old mid new : Option Trail} → Ran old mid (λ start calls. AreReads calls × (force ≡ true → calls ≡ []))
+pub reads_and_rest : (force : Bool) (count size : ℕ) {old mid new : Option Trail} → Ran old mid (λ start calls. AreHeadReads calls × (force ≡ true → calls ≡ []))
     → (force ≡ false → RanBetween old mid (λ start s. IsUnclaimed start))
     → Ran mid new (λ start calls. AreMakingCalls count size calls) → Ran old new (λ start calls. AreFormatCalls force count size start calls)
 unfolding ReadsFree

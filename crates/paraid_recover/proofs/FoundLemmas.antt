@@ -1,5 +1,4 @@
 -- Whether a log disk belongs to an array, by the blocks that were read of it.
-use Rattle.paraid_rack.specs.Calls.{AreReads}
 use Rattle.std.specs.Prelude.{◌≡◌, ◌≢◌, ℕ, ◌<◌, Bool, true, false, List, Option, Some, None, IfSome, IfNone, max}
 use Rattle.std.proofs.Common.{zero, suc, sym, ◌∙◌, ap, subst, arith, inl, inr, ◌⊎◌}
 use Rattle.std.proofs.Math.Nat.{le-max_left, le-max_right, max-eq_left, max-eq_right}
@@ -15,9 +14,7 @@ use Rattle.paraid_record.specs.Range.{IsInRange}
 use Rattle.paraid_record.specs.Targets.{AreTargets, targets_bytes}
 use Rattle.paraid_record.proofs.OneSpelling.{meta_bytes-cancel}
 use Rattle.paraid_image.specs.Sides.{Spells, is_open, stored_block}
-use Rattle.paraid_rack.specs.Told.{Ran}
 use Rattle.paraid_rack.specs.Trail.{Trail, now}
-use Rattle.paraid_rack.proofs.TrailsLemmas.{now-extend}
 use Rattle.paraid_recover.specs.Calls.{OnlyReadsAndKeeps}
 use Rattle.paraid_recover.specs.Between.{RanBetween}
 use Rattle.paraid_recover.proofs.ReadsLemmas.{quiet_now}
@@ -130,13 +127,6 @@ there_below count slot are d spins = elim (cases_lt d count) [
 ]
 
 -- what was heard is so of the disks before the reads
-pub greatest_before : {old new : Option Trail} (e : ℕ) → OnlyReadsAndKeeps old new → ((t : Trail) → new ≡ Some t → IsGreatest (now t) e)
-    → Ran old new (λ start calls. AreReads calls × IsGreatest start e)
-greatest_before e quiet heard t tells =
-    let r = quiet t tells in
-    let same : now t ≡ now r.from = ap now r.is ∙ now-extend r.from r.calls ∙ r.holds.1 in
-    record { from = r.from; was = r.was; calls = r.calls; is = r.is; holds = (r.holds.0, subst (λ (s : Disks). IsGreatest s e) same (heard t tells)) }
-
 pub free_before : {old new : Option Trail} → OnlyReadsAndKeeps old new → ((t : Trail) → new ≡ Some t → IsUnclaimed (now t)) → RanBetween old new (λ start s. IsUnclaimed start)
 free_before quiet heard t tells =
     let u = quiet_now quiet t tells in

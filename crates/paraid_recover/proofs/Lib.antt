@@ -54,6 +54,7 @@ pub mod GoneLemmas
 pub mod SecondLossLemmas
 mod RaisedLemmas
 mod LogReadsLemmas
+mod HeadLemmas
 mod SyncedLemmas
 pub mod CallsLemmas
 pub mod DownLemmas

@@ -21,6 +21,7 @@ pub fn attach_all<R: Rack>(rack: &mut R, count: u8, size: u32) -> Result<(), Dis
         (AreFreshDisks count size)) }
     ensures calls { Ran (R.told rack.old) (R.told rack.new) (λ start calls.
         AreAttaches size 0 count calls) }
+    ensures low { IfErr result (λ d. d < count) }
     ensures risen { IfErr result (λ d. HasRisen (R.slot rack.old d).faults
         (R.slot rack.new d).faults) }
 {

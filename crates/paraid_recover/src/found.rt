@@ -1,11 +1,12 @@
 //! What the log disks say of an array that is there already.
 ghost use Rattle.paraid_rack.specs.Slots.{AreSameSlots};
-ghost use Rattle.std.specs.Prelude.{◌≡◌, ◌<◌, ◌≤◌, ℕ, true, false, Some, OnOk, IfErr, IfOk, is_ok};
+ghost use Rattle.std.specs.Prelude.{◌≡◌, ◌≢◌, ◌<◌, ◌≤◌, ℕ, true, false, Some, OnOk, IfErr, IfOk, is_ok};
 ghost use Rattle.paraid_rack.specs.declared.call.Power.TheVariants.{Spinning};
+ghost use Rattle.paraid_rack.specs.Told.{Ran};
 ghost use Rattle.paraid_rack.specs.Trail.{Trail, now};
 ghost use Rattle.paraid_base.specs.Told.{HasRisen};
 ghost use Rattle.paraid_image.specs.Sides.{is_open, stored_block};
-ghost use Rattle.paraid_recover.specs.Calls.{OnlyReadsAndKeeps, OnlyReads};
+ghost use Rattle.paraid_recover.specs.Calls.{AreHeadReadsOf, OnlyHeadReads, OnlyReadsAndKeeps};
 ghost use Rattle.paraid_recover.specs.Found.{IsEpochOf, IsGreatestOf, IsMetaOf, greater_of};
 ghost use Rattle.paraid_recover.specs.HeardSides.{HasReadLog};
 
@@ -22,6 +23,7 @@ fn hear_closed<R: Rack>(rack: &mut R, disk: DiskNo) -> Result<Option<Meta>, Fail
     requires shut { (t : Trail)
         → R.told rack.old ≡ Some t → is_open (stored_block (now t) disk 0) ≡ false }
     ensures reads { HasReadLog R.Rack disk 1 rack.old rack.new (is_ok result) }
+    ensures head { Ran (R.told rack.old) (R.told rack.new) (AreHeadReadsOf disk 1) }
     ensures heard { IfOk result (λ meta. (t : Trail) → R.told rack.new ≡ Some t
         → IsMetaOf (now t) disk meta) }
 {
@@ -37,6 +39,7 @@ fn hear_open<R: Rack>(rack: &mut R, disk: DiskNo) -> Result<Option<Meta>, Failed
     requires opened { (t : Trail)
         → R.told rack.old ≡ Some t → is_open (stored_block (now t) disk 0) ≡ true }
     ensures reads { HasReadLog R.Rack disk 2 rack.old rack.new (is_ok result) }
+    ensures head { Ran (R.told rack.old) (R.told rack.new) (AreHeadReadsOf disk 2) }
     ensures heard { IfOk result (λ meta. (t : Trail) → R.told rack.new ≡ Some t
         → IsMetaOf (now t) disk meta) }
 {
@@ -58,6 +61,7 @@ fn hear<R: Rack>(rack: &mut R, disk: DiskNo) -> Result<Option<Meta>, Failed>
     requires exists { disk < R.slot_count rack.old }
     requires spinning { (R.slot rack.old disk).power ≡ Spinning }
     ensures reads { HasReadLog R.Rack disk 3 rack.old rack.new (is_ok result) }
+    ensures head { Ran (R.told rack.old) (R.told rack.new) (AreHeadReadsOf disk 3) }
     ensures heard { IfOk result (λ meta. (t : Trail) → R.told rack.new ≡ Some t
         → IsMetaOf (now t) disk meta) }
 {
@@ -83,6 +87,7 @@ fn lacks_log<R: Rack>(rack: &R, disk: DiskNo) -> bool
 fn epoch_of<R: Rack>(rack: &mut R, disk: DiskNo) -> Result<Option<u64>, Failed>
     requires log_disk { disk < 2 }
     ensures reads { HasReadLog R.Rack disk 3 rack.old rack.new (is_ok result) }
+    ensures head { Ran (R.told rack.old) (R.told rack.new) (AreHeadReadsOf disk 3) }
     ensures heard { IfOk result (λ epoch. (t : Trail) → R.told rack.new ≡ Some t
         → IsEpochOf (now t) disk epoch) }
 {
@@ -112,10 +117,13 @@ pub fn greatest_epoch<R: Rack>(rack: &mut R) -> Result<Option<u64>, DiskNo>
     ensures slots { R.slot_count rack.new ≡ R.slot_count rack.old }
     ensures same { OnOk result (AreSameSlots (R.slot rack.old) (R.slot rack.new)) }
     ensures others { (d : ℕ) → 2 ≤ d → R.slot rack.new d ≡ R.slot rack.old d }
-    ensures reads { OnlyReads (R.told rack.old) (R.told rack.new) }
+    ensures reads { OnlyHeadReads (R.told rack.old) (R.told rack.new) }
     ensures quiet { OnOk result (OnlyReadsAndKeeps (R.told rack.old) (R.told rack.new)) }
     ensures heard { IfOk result (λ epoch. (t : Trail) → R.told rack.new ≡ Some t
         → IsGreatestOf (now t) epoch) }
+    ensures log_disk { IfErr result (λ failed. failed < 2) }
+    ensures alone { IfErr result (λ failed. (d : ℕ) → d ≢ failed
+        → R.slot rack.new d ≡ R.slot rack.old d) }
     ensures risen { IfErr result (λ d. HasRisen (R.slot rack.old d).faults
         (R.slot rack.new d).faults) }
 {

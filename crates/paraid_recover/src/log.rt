@@ -1,5 +1,5 @@
 //! The first meta, on both log disks.
-ghost use Rattle.std.specs.Prelude.{◌≡◌, ◌≢◌, ◌<◌, ◌≤◌, ℕ, false, OnOk, IfErr};
+ghost use Rattle.std.specs.Prelude.{◌≡◌, ◌≢◌, ◌+◌, ◌*◌, ◌<◌, ◌≤◌, ℕ, false, OnOk, IfErr};
 ghost use Rattle.paraid_base.specs.Told.{HasRisen};
 ghost use Rattle.paraid_rack.specs.declared.call.Power.TheVariants.{Spinning};
 ghost use Rattle.paraid_rack.specs.Told.{Ran};
@@ -22,7 +22,8 @@ pub fn write_first_meta<R: Rack>(rack: &mut R, disk: DiskNo, meta: &Block) -> Re
     ensures others { (d : ℕ) → d ≢ disk → R.slot rack.new d ≡ R.slot rack.old d }
     ensures logged { OnOk result (RanBetween (R.told rack.old) (R.told rack.new)
         (IsMetaWritten disk meta.now)) }
-    ensures calls { Ran (R.told rack.old) (R.told rack.new) (λ start calls. AreMetaCalls calls) }
+    ensures calls { Ran (R.told rack.old) (R.told rack.new) (λ start calls.
+        AreMetaCalls (2 * disk) (2 * disk + 2) calls) }
     ensures risen { IfErr result (λ failed. HasRisen (R.slot rack.old disk).faults
         (R.slot rack.new disk).faults) }
 {

@@ -1,13 +1,12 @@
 //! A new array of the disks of a rack.
 ghost use Rattle.paraid_rack.specs.Slots.{AreSameSlots};
-ghost use Rattle.paraid_rack.specs.Calls.{AreReads};
 ghost use Rattle.std.specs.Prelude.{◌≡◌, ◌<◌, ◌≤◌, ℕ, true, false, [], OnOk, IfErr};
 ghost use Rattle.paraid_base.specs.Regions.{disk_size};
 ghost use Rattle.paraid_base.specs.Told.{HasRisen};
 ghost use Rattle.paraid_rack.specs.Told.{Ran};
 ghost use Rattle.paraid_record.specs.Range.{IsInRange, IsSetupInRange};
 ghost use Rattle.paraid_recover.specs.Attached.{BecomesFormatted, fresh_slot};
-ghost use Rattle.paraid_recover.specs.Calls.{AreFormatCalls, AreMakingCalls, OnlyReadsAndKeeps};
+ghost use Rattle.paraid_recover.specs.Calls.{AreFormatCalls, AreHeadReads, AreMakingCalls, OnlyReadsAndKeeps};
 ghost use Rattle.paraid_recover.specs.First.{first_meta as first_meta_of};
 ghost use Rattle.paraid_recover.specs.Found.{IsUnclaimed};
 ghost use Rattle.paraid_recover.specs.Between.{RanBetween};
@@ -54,6 +53,7 @@ fn make<R: Rack>(setup: &Setup, rack: &mut R) -> Result<(), DiskNo>
         (BecomesFormatted (R.slot_count rack.old) (first_meta_of setup.now))) }
     ensures calls { Ran (R.told rack.old) (R.told rack.new) (λ start calls.
         AreMakingCalls setup.now.geometry.disks (disk_size setup.now.geometry) calls) }
+    ensures low { IfErr result (λ d. d < setup.now.geometry.disks) }
     ensures risen { IfErr result (λ d. HasRisen (R.slot rack.old d).faults
         (R.slot rack.new d).faults) }
 {
@@ -75,7 +75,7 @@ fn refuse_claimed<R: Rack>(force: bool, rack: &mut R) -> Result<(), FormatFault>
     ensures same { OnOk result (AreSameSlots (R.slot rack.old) (R.slot rack.new)) }
     ensures others { (d : ℕ) → 2 ≤ d → R.slot rack.new d ≡ R.slot rack.old d }
     ensures reads { Ran (R.told rack.old) (R.told rack.new) (λ start calls.
-        AreReads calls × (force ≡ true → calls ≡ [])) }
+        AreHeadReads calls × (force ≡ true → calls ≡ [])) }
     ensures quiet { OnOk result (OnlyReadsAndKeeps (R.told rack.old) (R.told rack.new)) }
     ensures free { OnOk result (force ≡ false → RanBetween (R.told rack.old) (R.told rack.new)
         (λ start s. IsUnclaimed start)) }

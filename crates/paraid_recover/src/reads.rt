@@ -3,6 +3,8 @@ ghost use Rattle.std.specs.Prelude.{◌≡◌, ℕ, ◌<◌, Some, OnOk, is_ok};
 ghost use Rattle.paraid_base.specs.Log.{log_most};
 ghost use Rattle.paraid_rack.specs.declared.call.Power.TheVariants.{Spinning};
 ghost use Rattle.paraid_rack.specs.Trail.{Trail, now};
+ghost use Rattle.paraid_rack.specs.Told.{Ran};
+ghost use Rattle.paraid_recover.specs.Calls.{AreHeadReadsOf};
 ghost use Rattle.paraid_recover.specs.HeardSides.{HasReadLog};
 ghost use Rattle.paraid_image.specs.Sides.{stored_block};
 
@@ -20,6 +22,7 @@ pub fn read_place<R: Rack>(
     requires spinning { (R.slot rack.old disk).power ≡ Spinning }
     requires low { place < log_most }
     ensures reads { HasReadLog R.Rack disk 1 rack.old rack.new (is_ok result) }
+    ensures head { place < 4 → Ran (R.told rack.old) (R.told rack.new) (AreHeadReadsOf disk 1) }
     ensures block { OnOk result ((t : Trail) → R.told rack.new ≡ Some t
         → into.new ≡ stored_block (now t) disk place) }
 {

@@ -45,6 +45,7 @@ returns-in_default g c = record {
       c.attach.ensures.slot.others d (λ is. absurd (omega arith)) ∙ c.loop-disk.invariant.others d (omega arith);
   attached = search rules;
   calls = more_attaches c.args.size c.loop-disk.disk c.args.count _ _ _ _ c.loop-disk-test.true c.loop-disk.invariant.calls c.in_default.ensures.told;
+  low = c.loop-disk-test.true;
   risen =
       subst (λ (s : Slot). HasRisen s.faults (g.R.Rack.slot c.attach.new.self c.loop-disk.disk).faults) (c.loop-disk.invariant.others c.loop-disk.disk (omega arith))
       (c.in_default.ensures.slot.risen refl);
@@ -57,5 +58,6 @@ returns g c = record {
   others = λ d high. c.loop-disk.invariant.others d (omega arith);
   attached = subst (λ (n : ℕ). RanBetween (g.R.Rack.told c.args.rack.now) (g.R.Rack.told c.loop-disk.rack) (AreFreshDisks n c.args.size)) (omega arith) c.loop-disk.invariant.attached;
   calls = subst (λ (n : ℕ). Ran (g.R.Rack.told c.args.rack.now) (g.R.Rack.told c.loop-disk.rack) (λ start calls. AreAttaches c.args.size 0 n calls)) (omega arith) c.loop-disk.invariant.calls;
+  low = tt;
   risen = search rules;
 }

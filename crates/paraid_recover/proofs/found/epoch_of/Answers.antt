@@ -6,6 +6,7 @@ use Rattle.paraid_rack.specs.Trail.{now}
 use Rattle.paraid_record.specs.declared.meta.Meta.{Meta}
 use Rattle.paraid_recover.specs.Found.{IsMetaOf}
 use Rattle.paraid_recover.proofs.FoundLemmas.{there_below}
+use Rattle.paraid_recover.proofs.HeadLemmas.{head_none}
 use Rattle.paraid_recover.proofs.LogReadsLemmas.{log_none, log_raised}
 use Rattle.paraid_recover.proofs.RaisedLemmas.{none_done_if}
 use Rattle.paraid_recover.proofs.found.epoch_of.Goals as goal
@@ -16,6 +17,7 @@ hear-requires g c = let no = c.lacks_log.ensures.no c.if-lacks_log.false in reco
 pub returns-then-lacks_log : goal.returns-then-lacks_log
 returns-then-lacks_log g c = record {
   reads = log_none g.R.Rack c.args.disk 3 c.args.rack.now;
+  head = head_none c.args.disk 3 (g.R.Rack.told c.args.rack.now);
   heard = λ t tells m f.
       let a = g.met.R.Rack.agrees _ t tells in
       let spins : (g.R.Rack.slot c.args.rack.now c.args.disk).power ≡ Spinning = sym (a.power c.args.disk) ∙ f.spinning in
@@ -26,18 +28,21 @@ returns-then-lacks_log g c = record {
 pub returns-in_err-meta : goal.returns-in_err-meta
 returns-in_err-meta g c = record {
   reads = log_raised g.R.Rack c.args.disk 3 c.args.rack.now c.hear.new.rack c.from_residual.result _ c.from_residual.ensures.1 c.in_err-meta.ensures.reads;
+  head = c.hear.ensures.head;
   heard = none_done_if _ c.from_residual.result _ c.from_residual.ensures.1;
 }
 
 pub returns-in_default : goal.returns-in_default
 returns-in_default g c = record {
   reads = c.in_ok-meta.ensures.reads;
+  head = c.hear.ensures.head;
   heard = λ t tells m f. subst (λ (o : Option Meta). IsMetaOf (now t) c.args.disk o) c.in_default.is (c.in_ok-meta.ensures.heard t tells) m f.formed;
 }
 
 pub returns : goal.returns
 returns g c = record {
   reads = c.in_ok-meta.ensures.reads;
+  head = c.hear.ensures.head;
   heard = λ t tells.
       let a = g.met.R.Rack.agrees _ t tells in
       let no = c.lacks_log.ensures.no c.if-lacks_log.false in

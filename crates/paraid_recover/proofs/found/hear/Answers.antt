@@ -4,6 +4,7 @@ use Rattle.std.specs.Prelude.{is_ok}
 use Rattle.std.proofs.Common.{arith, refl, sym, ◌∙◌, ap}
 use Rattle.paraid_rack.specs.Slots.{Slot}
 use Rattle.paraid_image.specs.Sides.{is_open}
+use Rattle.paraid_recover.proofs.HeadLemmas.{head_fits, head_then}
 use Rattle.paraid_recover.proofs.LogReadsLemmas.{log_fits, log_raised, log_then}
 use Rattle.paraid_recover.proofs.RaisedLemmas.{none_done_if}
 use Rattle.paraid_recover.proofs.found.hear.Goals as goal
@@ -35,17 +36,20 @@ returns-in_err-read_place g c =
     let raised = c.from_residual.ensures.1 in
     record {
       reads = log_raised g.R.Rack c.args.disk 3 c.args.rack.now c.read_place.new.rack r _ raised (log_fits g.R.Rack c.args.disk 1 3 (omega arith) c.args.rack.now c.read_place.new.rack false c.in_err-read_place.ensures.reads);
+      head = head_fits c.args.disk 1 3 (omega arith) (c.read_place.ensures.head (omega arith));
       heard = none_done_if _ r _ raised;
     }
 
 pub returns-then-opens : goal.returns-then-opens
 returns-then-opens g c = record {
   reads = log_then g.R.Rack c.args.disk 1 2 3 (omega arith) c.args.rack.now c.read_place.new.rack c.hear_open.new.rack (is_ok c.hear_open.result) c.in_ok-read_place.ensures.reads c.hear_open.ensures.reads;
+  head = head_then c.args.disk 1 2 3 (omega arith) (c.read_place.ensures.head (omega arith)) c.hear_open.ensures.head;
   heard = c.hear_open.ensures.heard;
 }
 
 pub returns : goal.returns
 returns g c = record {
   reads = log_then g.R.Rack c.args.disk 1 1 3 (omega arith) c.args.rack.now c.read_place.new.rack c.hear_closed.new.rack (is_ok c.hear_closed.result) c.in_ok-read_place.ensures.reads c.hear_closed.ensures.reads;
+  head = head_then c.args.disk 1 1 3 (omega arith) (c.read_place.ensures.head (omega arith)) c.hear_closed.ensures.head;
   heard = c.hear_closed.ensures.heard;
 }

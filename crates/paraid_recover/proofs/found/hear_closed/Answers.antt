@@ -15,12 +15,14 @@ read_place-requires g c = record { exists = c.requires.exists; spinning = c.requ
 pub returns-in_err-read_place : goal.returns-in_err-read_place
 returns-in_err-read_place g c = record {
   reads = log_raised g.R.Rack c.args.disk 1 c.args.rack.now c.read_place.new.rack c.from_residual.result _ c.from_residual.ensures.1 c.in_err-read_place.ensures.reads;
+  head = c.read_place.ensures.head (omega arith);
   heard = none_done_if _ c.from_residual.result _ c.from_residual.ensures.1;
 }
 
 pub returns : goal.returns
 returns g c = record {
   reads = c.in_ok-read_place.ensures.reads;
+  head = c.read_place.ensures.head (omega arith);
   heard = λ t tells.
       let u = unchanged_now (c.in_ok-read_place.ensures.reads.unchanged (refl {a = true})) t tells in
       let shut : is_open (stored_block (now t) c.args.disk 0) ≡ false = ap (λ (s : Disks). is_open (stored_block s c.args.disk 0)) u.2 ∙ c.requires.shut u.0 u.1 in

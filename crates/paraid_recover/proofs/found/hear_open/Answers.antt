@@ -8,6 +8,7 @@ use Rattle.paraid_image.specs.Sides.{is_open, stored_block}
 use Rattle.paraid_record.specs.Targets.{targets_of}
 use Rattle.paraid_recover.specs.HeardSides.{HasReadLog}
 use Rattle.paraid_recover.proofs.FoundLemmas.{open_meta, open_no_list, open_no_meta}
+use Rattle.paraid_recover.proofs.HeadLemmas.{head_fits, head_then}
 use Rattle.paraid_recover.proofs.LogReadsLemmas.{log_fits, log_raised, log_then}
 use Rattle.paraid_recover.proofs.RaisedLemmas.{none_done_if}
 use Rattle.paraid_recover.proofs.UnchangedLemmas.{carried, unchanged_now}
@@ -44,6 +45,7 @@ returns-in_err-read_place g c =
     let raised = c.from_residual.ensures.1 in
     record {
       reads = log_raised g.R.Rack c.args.disk 2 c.args.rack.now c.read_place.new.rack r _ raised (log_fits g.R.Rack c.args.disk 1 2 (omega arith) c.args.rack.now c.read_place.new.rack false c.in_err-read_place.ensures.reads);
+      head = head_fits c.args.disk 1 2 (omega arith) (c.read_place.ensures.head (omega arith));
       heard = none_done_if _ r _ raised;
     }
 
@@ -54,6 +56,7 @@ returns-in_err-read_place-2 g c =
     record {
       reads = log_raised g.R.Rack c.args.disk 2 c.args.rack.now c.read_place-2.new.rack r _ raised
           (log_then g.R.Rack c.args.disk 1 1 2 (omega arith) c.args.rack.now c.read_place.new.rack c.read_place-2.new.rack false c.in_ok-read_place.ensures.reads c.in_err-read_place-2.ensures.reads);
+      head = head_then c.args.disk 1 1 2 (omega arith) (c.read_place.ensures.head (omega arith)) (c.read_place-2.ensures.head (omega arith));
       heard = none_done_if _ r _ raised;
     }
 
@@ -62,6 +65,7 @@ returns-in_default g c =
     let at = (goal.at.returns-in_default g c).In_ok-read_place-2 in
     record {
       reads = both g at;
+      head = head_then c.args.disk 1 1 2 (omega arith) (c.read_place.ensures.head (omega arith)) (c.read_place-2.ensures.head (omega arith));
       heard = λ t tells. open_no_meta (now t) c.args.disk c.read_place.new.into (opened g at t tells) (first g at t tells) c.in_default.ensures.none;
     }
 
@@ -70,6 +74,7 @@ returns-in_default-read_targets g c =
     let at = (goal.at.returns-in_default-read_targets g c).In_ok-read_place-2 in
     record {
       reads = both g at;
+      head = head_then c.args.disk 1 1 2 (omega arith) (c.read_place.ensures.head (omega arith)) (c.read_place-2.ensures.head (omega arith));
       heard = λ t tells.
           open_no_list (now t) c.args.disk c.read_place.new.into c.read_place-2.new.into c.in-Some.meta (opened g at t tells) (first g at t tells)
           c.in-Some.ensures.some (c.in_ok-read_place-2.ensures.block t tells) c.in_default-read_targets.ensures.none;
@@ -80,6 +85,7 @@ returns g c =
     let at = (goal.at.returns g c).In_ok-read_place-2 in
     record {
       reads = both g at;
+      head = head_then c.args.disk 1 1 2 (omega arith) (c.read_place.ensures.head (omega arith)) (c.read_place-2.ensures.head (omega arith));
       heard = λ t tells.
           open_meta (now t) c.args.disk c.read_place.new.into c.read_place-2.new.into c.in-Some.meta (targets_of c.in-Some-read_targets._targets) (opened g at t tells) (first g at t tells)
           c.in-Some.ensures.some (c.in_ok-read_place-2.ensures.block t tells) c.in-Some-read_targets.ensures.some;

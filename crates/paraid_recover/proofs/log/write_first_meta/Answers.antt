@@ -1,4 +1,4 @@
-use Rattle.std.proofs.Common.{false, ap, refl, subst, ◌∙◌}
+use Rattle.std.proofs.Common.{false, ap, arith, refl, subst, ◌∙◌, ◌+◌, ◌*◌}
 use Rattle.paraid_base.specs.Told.{HasRisen}
 use Rattle.paraid_rack.specs.Slots.{Slot}
 use Rattle.paraid_recover.proofs.LogLemmas.{logged, logging_sync, logging_then, logging_write}
@@ -11,7 +11,7 @@ returns-in_err-write g c = record {
   here = none_done _ c.from_residual.result _ c.from_residual.ensures.1;
   others = c.write.ensures.slot.others;
   logged = none_done _ c.from_residual.result _ c.from_residual.ensures.1;
-  calls = logging_write c.requires.log_disk c.in_err-write.ensures.told;
+  calls = logging_write (2 * c.args.disk + 2) (omega arith) c.requires.log_disk c.in_err-write.ensures.told;
   risen = handed (λ e. HasRisen (g.R.Rack.slot c.args.rack.now c.args.disk).faults (g.R.Rack.slot c.write.new.self c.args.disk).faults) c.from_residual.result _ c.from_residual.ensures.1 (c.in_err-write.ensures.slot.risen refl);
 }
 
@@ -21,7 +21,7 @@ returns-in_err-sync g c = record {
   here = none_done _ c.from_residual-in_err-sync.result _ c.from_residual-in_err-sync.ensures.1;
   others = λ d not. c.sync.ensures.slot.others d not ∙ c.write.ensures.slot.others d not;
   logged = none_done _ c.from_residual-in_err-sync.result _ c.from_residual-in_err-sync.ensures.1;
-  calls = logging_then (logging_write c.requires.log_disk c.in_ok-write.ensures.told) (logging_sync c.requires.log_disk c.in_err-sync.ensures.told);
+  calls = logging_then (2 * c.args.disk) (2 * c.args.disk + 1) (2 * c.args.disk + 2) (logging_write (2 * c.args.disk + 1) (omega arith) c.requires.log_disk c.in_ok-write.ensures.told) (logging_sync c.requires.log_disk c.in_err-sync.ensures.told);
   risen = handed (λ e. HasRisen (g.R.Rack.slot c.args.rack.now c.args.disk).faults (g.R.Rack.slot c.sync.new.self c.args.disk).faults) c.from_residual-in_err-sync.result _ c.from_residual-in_err-sync.ensures.1
       (subst (λ (s : Slot). HasRisen s.faults (g.R.Rack.slot c.sync.new.self c.args.disk).faults) (c.in_ok-write.ensures.slot.done refl) (c.in_err-sync.ensures.slot.risen refl));
 }
@@ -32,6 +32,6 @@ returns g c = record {
   here = c.in_ok-sync.ensures.slot.done refl ∙ ap (λ (s : Slot). record s { unsynced = false }) (c.in_ok-write.ensures.slot.done refl);
   others = λ d not. c.sync.ensures.slot.others d not ∙ c.write.ensures.slot.others d not;
   logged = logged c.args.disk c.args.meta.now _ _ _ c.in_ok-write.ensures.told c.in_ok-sync.ensures.told;
-  calls = logging_then (logging_write c.requires.log_disk c.in_ok-write.ensures.told) (logging_sync c.requires.log_disk c.in_ok-sync.ensures.told);
+  calls = logging_then (2 * c.args.disk) (2 * c.args.disk + 1) (2 * c.args.disk + 2) (logging_write (2 * c.args.disk + 1) (omega arith) c.requires.log_disk c.in_ok-write.ensures.told) (logging_sync c.requires.log_disk c.in_ok-sync.ensures.told);
   risen = tt;
 }

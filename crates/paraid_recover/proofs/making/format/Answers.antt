@@ -1,4 +1,4 @@
-use Rattle.std.proofs.Common.{ap, subst, ◌≡◌, ℕ, ◌∙◌, arith, inl, inr}
+use Rattle.std.proofs.Common.{ap, subst, ◌≡◌, ℕ, ◌∙◌, arith}
 use Rattle.paraid_base.specs.Regions.{disk_size}
 use Rattle.paraid_base.specs.Told.{HasRisen}
 use Rattle.paraid_rack.specs.Slots.{Slot}
@@ -6,9 +6,10 @@ use Rattle.paraid_rack.specs.Disks.{Disks}
 use Rattle.paraid_rack.specs.Trail.{now}
 use Rattle.paraid_recover.specs.Attached.{BecomesFormatted, fresh_slot}
 use Rattle.paraid_recover.specs.First.{first_meta}
+use Rattle.paraid_recover.specs.FormatRefusals.IsDiskRefused.{missing, unmade}
 use Rattle.paraid_recover.proofs.AttachLemmas.{led_then}
-use Rattle.paraid_recover.proofs.FormatLemmas.{only_reads, reads_and_rest}
-use Rattle.paraid_recover.proofs.ReadsLemmas.{quiet_now, reading_of}
+use Rattle.paraid_recover.proofs.FormatLemmas.{heads_alone, only_reads, reads_and_rest}
+use Rattle.paraid_recover.proofs.ReadsLemmas.{quiet_now}
 use Rattle.paraid_recover.proofs.making.format.Goals as goal
 
 pub returns-in-Err : goal.returns-in-Err
@@ -30,7 +31,12 @@ returns-in-Err-make g c = record {
   formatted = tt;
   free = tt;
   calls = reads_and_rest c.args.force _ _ c.refuse_claimed.ensures.reads c.in-Ok.ensures.free c.make.ensures.calls;
-  refused = inl (subst (λ (s : Slot). HasRisen s.faults (g.R.Rack.slot c.make.new.rack c.in-Err-make.disk).faults) (c.in-Ok.ensures.same c.in-Err-make.disk) c.in-Err-make.ensures.risen);
+  refused =
+      let few = c.if-disks-slots.false in
+      let disks = c.disks.ensures in
+      let slots : c.slots-slots.result ≡ g.R.Rack.slot_count c.args.rack.now = c.slots-slots.ensures ∙ c.refuse_claimed.ensures.slots in
+      unmade (λ not t tells. let m = c.make.ensures.calls t tells in c.in-Ok.ensures.free not m.from m.was) (omega (arith, slots, few, disks)) c.in-Err-make.ensures.low
+      (subst (λ (s : Slot). HasRisen s.faults (g.R.Rack.slot c.make.new.rack c.in-Err-make.disk).faults) (c.in-Ok.ensures.same c.in-Err-make.disk) c.in-Err-make.ensures.risen);
 }
 
 pub returns-in-Ok-make : goal.returns-in-Ok-make
@@ -60,5 +66,5 @@ returns-then-disks-slots g c = record {
       let slots : c.slots-slots.result ≡ g.R.Rack.slot_count c.args.rack.now = c.slots-slots.ensures ∙ c.refuse_claimed.ensures.slots in
       let few = c.if-disks-slots.true in
       let disks = c.disks.ensures in
-      inr (slots, omega (arith, slots, few, disks), reading_of c.in-Ok.ensures.quiet);
+      missing c.in-Ok.ensures.free (omega (arith, slots, few, disks)) slots c.in-Ok.ensures.same (heads_alone c.refuse_claimed.ensures.reads);
 }

@@ -1,4 +1,4 @@
-use Rattle.std.proofs.Common.{◌∙◌, ap, arith, subst, ◌≡◌, ℕ}
+use Rattle.std.proofs.Common.{◌∙◌, ap, arith, subst, ◌≡◌, ◌<◌, ℕ}
 use Rattle.paraid_base.specs.Regions.{disk_size}
 use Rattle.paraid_rack.specs.Disks.{Disks}
 use Rattle.paraid_rack.specs.Told.{Ran}
@@ -14,7 +14,7 @@ use Rattle.paraid_recover.proofs.RaisedLemmas.{handed, none_done}
 use Rattle.paraid_recover.proofs.AttachLemmas.{led_then}
 use Rattle.paraid_recover.proofs.FitLemmas.{big}
 use Rattle.paraid_recover.proofs.FormatLemmas.{attaches_and_logs, formatted, made_fresh, only_attaches}
-use Rattle.paraid_recover.proofs.LogLemmas.{logging_then}
+use Rattle.paraid_recover.proofs.LogLemmas.{logging_then, logging_within}
 use Rattle.paraid_recover.proofs.making.make.Given.{Over}
 use Rattle.paraid_recover.proofs.making.make.Goals as goal
 use Rattle.paraid_recover.proofs.making.make.Goals.{After-attach_all, In_ok-attach_all}
@@ -64,6 +64,7 @@ returns-in_err-attach_all g c = record {
   others = λ d high. c.attach_all.ensures.others d (let same = c.disks.ensures in omega arith);
   formatted = none_done _ c.from_residual.result _ c.from_residual.ensures.1;
   calls = only_attaches _ _ (attaches g (goal.at.returns-in_err-attach_all g c).After-attach_all);
+  low = handed (λ d. d < c.args.setup.now.geometry.disks) c.from_residual.result _ c.from_residual.ensures.1 (let low = c.in_err-attach_all.ensures.low in let same = c.disks.ensures in omega arith);
   risen = handed (λ d. HasRisen (g.R.Rack.slot c.args.rack.now d).faults (g.R.Rack.slot c.attach_all.new.rack d).faults) c.from_residual.result _ c.from_residual.ensures.1 c.in_err-attach_all.ensures.risen;
 }
 
@@ -73,7 +74,8 @@ returns-in_default g c = record {
   fresh = tt;
   others = λ d high. c.write_first_meta.ensures.others d (λ is. let low = c.args.setup.now.geometry.disks_low in omega arith) ∙ c.attach_all.ensures.others d (let same = c.disks.ensures in omega arith);
   formatted = tt;
-  calls = attaches_and_logs _ _ (attaches g (goal.at.returns-in_default g c).After-attach_all) c.write_first_meta.ensures.calls;
+  calls = attaches_and_logs _ _ (attaches g (goal.at.returns-in_default g c).After-attach_all) (logging_within 0 2 4 (omega arith) c.write_first_meta.ensures.calls);
+  low = let low = c.args.setup.now.geometry.disks_low in omega arith;
   risen =
       subst (λ (s : Slot). HasRisen s.faults (g.R.Rack.slot c.write_first_meta.new.rack 0).faults) (c.in_ok-attach_all.ensures.fresh 0 (let low = c.args.setup.now.geometry.disks_low in let same = c.disks.ensures in omega arith)) c.in_default.ensures.risen;
 }
@@ -85,7 +87,8 @@ returns-in_default-write_first_meta g c = record {
   others = λ d high. c.write_first_meta-2.ensures.others d (λ is. let low = c.args.setup.now.geometry.disks_low in omega arith) ∙ c.write_first_meta.ensures.others d (λ is. let low = c.args.setup.now.geometry.disks_low in omega arith) ∙ c.attach_all.ensures.others d (let same = c.disks.ensures in omega arith);
   formatted = tt;
   calls =
-      attaches_and_logs _ _ (attaches g (goal.at.returns-in_default-write_first_meta g c).After-attach_all) (logging_then c.write_first_meta.ensures.calls c.write_first_meta-2.ensures.calls);
+      attaches_and_logs _ _ (attaches g (goal.at.returns-in_default-write_first_meta g c).After-attach_all) (logging_then 0 2 4 c.write_first_meta.ensures.calls c.write_first_meta-2.ensures.calls);
+  low = let low = c.args.setup.now.geometry.disks_low in omega arith;
   risen =
       subst (λ (s : Slot). HasRisen s.faults (g.R.Rack.slot c.write_first_meta-2.new.rack 1).faults)
       (c.write_first_meta.ensures.others 1 (λ is. omega arith) ∙ c.in_ok-attach_all.ensures.fresh 1 (let low = c.args.setup.now.geometry.disks_low in let same = c.disks.ensures in omega arith)) c.in_default-write_first_meta.ensures.risen;
@@ -109,6 +112,7 @@ returns g c = record {
       (λ start first end a logs. formatted (g.R.Rack.slot_count c.args.rack.now) setup b is range c.requires.room start first logs.0 end a logs.1 logs.2)
       _ _ _ (attached g (goal.at.returns g c).In_ok-attach_all)
       (led_then (IsMetaWritten 0 b) (IsMetaWritten 1 b) (λ (a e : Disks). (m : Disks) × IsMetaWritten 0 b a m × IsMetaWritten 1 b m e) (λ a m e one two. (m, one, two)) _ _ _ c.in-Ok.ensures.logged c.in-Ok-write_first_meta.ensures.logged);
-  calls = attaches_and_logs _ _ (attaches g (goal.at.returns g c).After-attach_all) (logging_then c.write_first_meta.ensures.calls c.write_first_meta-2.ensures.calls);
+  calls = attaches_and_logs _ _ (attaches g (goal.at.returns g c).After-attach_all) (logging_then 0 2 4 c.write_first_meta.ensures.calls c.write_first_meta-2.ensures.calls);
+  low = tt;
   risen = tt;
 }

@@ -2,6 +2,7 @@ use Rattle.std.proofs.Common.{sym, ◌∙◌, ap, arith, ◌≤◌}
 use Rattle.std.specs.Prelude.{is_ok}
 use Rattle.paraid_rack.specs.Disks.{is_present}
 use Rattle.paraid_rack.specs.Trail.{now}
+use Rattle.paraid_recover.proofs.HeadLemmas.{head_none, head_read}
 use Rattle.paraid_recover.proofs.LogReadsLemmas.{log_none, log_read}
 use Rattle.paraid_recover.proofs.UnchangedLemmas.{ok_block, stored_past}
 use Rattle.paraid_recover.proofs.reads.read_place.Goals as goal
@@ -9,6 +10,7 @@ use Rattle.paraid_recover.proofs.reads.read_place.Goals as goal
 pub returns-then-place-size : goal.returns-then-place-size
 returns-then-place-size g c = record {
   reads = log_none g.R.Rack c.args.disk 1 c.args.rack.now;
+  head = λ low. head_none c.args.disk 1 (g.R.Rack.told c.args.rack.now);
   block = λ t tells.
       let at = (g.met.R.Rack.agrees _ t tells).size c.args.disk in
       let size = c.size.ensures in
@@ -24,6 +26,7 @@ pub returns : goal.returns
 returns g c = record {
   reads = log_read g.R.Rack c.args.disk c.args.place c.args.rack.now c.read.new.self (is_ok c.read.result) c.requires.low c.read.ensures.slots c.read.ensures.slot c.read.ensures.told
       (λ s is. (g.met.R.Rack.agrees _ s is).power c.args.disk ∙ c.requires.spinning);
+  head = λ low. head_read low c.read.ensures.told;
   block = ok_block _ c.read.result c.read.ensures.told c.read.ensures.bytes (λ s is.
       let a = g.met.R.Rack.agrees _ s is in
       let at = a.size c.args.disk in
