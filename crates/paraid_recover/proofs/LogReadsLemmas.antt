@@ -17,7 +17,7 @@ use Rattle.paraid_rack.specs.Trail.{Trail, now, run}
 use Rattle.paraid_rack.proofs.TrailsLemmas.{Ran-call, Ran-none, now-extend}
 use Rattle.paraid_record.specs.Targets.{AreTargets}
 use Rattle.paraid_txn.specs.Uses.{EachCall}
-use Rattle.paraid_recover.specs.Calls.{OnlyReads, OnlyReadsAndKeeps}
+use Rattle.paraid_recover.specs.Calls.{OnlyReadsAndKeeps}
 use Rattle.paraid_recover.specs.HeardSides.{HasReadLog, IsUnchanged, ReadsLog}
 use Rattle.paraid_recover.proofs.FailedLemmas.{calls_then, failed_after, most_fits, most_none, most_read, most_then}
 use Rattle.paraid_recover.proofs.UnchangedLemmas.{losing_read, losing_then, unchanged_none, unchanged_now, unchanged_read, unchanged_then}
@@ -92,11 +92,6 @@ are_reads x s (Sync d ok ∷ cs) each = absurd each.1
 are_reads x s (Park d ok ∷ cs) each = absurd each.1
 are_reads x s (SpinUp d ok ∷ cs) each = absurd each.1
 are_reads x s (Attach d size ok ∷ cs) each = absurd each.1
-
-pub reads_of : {old new : Option Trail} (x : ℕ) → Ran old new (EachCall (ReadsLog x)) → OnlyReads old new
-reads_of x calls t tells =
-    let r = calls t tells in
-    record { from = r.from; was = r.was; calls = r.calls; is = r.is; holds = are_reads x (now r.from) r.calls r.holds }
 
 -- and leave the disks as they are
 pub quiet_of : {old new : Option Trail} (x : ℕ) → Ran old new (EachCall (ReadsLog x)) → IsUnchanged old new → OnlyReadsAndKeeps old new
