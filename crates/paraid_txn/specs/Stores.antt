@@ -1,5 +1,5 @@
 -- What contracts see of a store.
-use Rattle.std.specs.Prelude.{◌≡◌, ℕ, Option}
+use Rattle.std.specs.Prelude.{◌≡◌, ℕ, ◌<◌, Option, Some}
 use Rattle.paraid_rack.specs.Slots.{Slot}
 use Rattle.paraid_txn.specs.declared.store.Store.{Store}
 use Rattle.paraid_image.specs.Out.{first_absent, or_else}
@@ -34,3 +34,7 @@ pub record IsSameStore {R : Type 0} {g : _} (old new : Store R g) : Type 0 where
   pub disks : new.disks ≡ old.disks
   pub epoch : new.epoch ≡ old.epoch
   pub named : new.named ≡ old.named
+
+-- the new one knows each witness that the old one knew to be borne
+abbrev pub Remembers : {R : Type 0} {g : _} → Store R g → Store R g → Type 0
+Remembers old new = (x : ℕ) → x < 2 → borne_of old ≡ Some x → borne_of new ≡ Some x

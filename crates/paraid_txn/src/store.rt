@@ -87,7 +87,9 @@ fn loss_of(out: Option<DiskNo>, disk: DiskNo) -> Lost
 
 // The witness that is borne where this place is written: none, if that is the place of one.
 fn borne_beside(borne: Option<DiskNo>, disk: DiskNo, place: Place) -> Option<DiskNo>
-    ensures { (x : ℕ) → result ≡ Some x → (borne ≡ Some x) × ((2 ≡ disk) → x < 2 → x ≢ place) }
+    ensures known { (x : ℕ) → result ≡ Some x
+        → (borne ≡ Some x) × ((2 ≡ disk) → x < 2 → x ≢ place) }
+    ensures kept { (disk ≡ 2 → 2 ≤ place) → result ≡ borne }
 {
     if disk == WITNESS_DISK && place < 2 {
         return None;
@@ -97,7 +99,8 @@ fn borne_beside(borne: Option<DiskNo>, disk: DiskNo, place: Place) -> Option<Dis
 
 // The witness that is borne where this disk is a fresh one: none, if that disk bore it.
 fn borne_without(borne: Option<DiskNo>, disk: DiskNo) -> Option<DiskNo>
-    ensures { (x : ℕ) → result ≡ Some x → (borne ≡ Some x) × (2 ≢ disk) }
+    ensures known { (x : ℕ) → result ≡ Some x → (borne ≡ Some x) × (2 ≢ disk) }
+    ensures kept { disk ≢ 2 → result ≡ borne }
 {
     if disk == WITNESS_DISK {
         return None;
@@ -106,7 +109,7 @@ fn borne_without(borne: Option<DiskNo>, disk: DiskNo) -> Option<DiskNo>
 }
 
 impl<R: Rack> Store<R> {
-    ghost use Rattle.paraid_txn.specs.Stores.{IsSameStore, borne_of, disks_of, epoch_of, named_of, store_out, store_rack};
+    ghost use Rattle.paraid_txn.specs.Stores.{IsSameStore, Remembers, borne_of, disks_of, epoch_of, named_of, store_out, store_rack};
 
     /// Takes over a rack whose last meta is this one. It makes no call of the rack.
     pub fn adopt(rack: R, meta: &Meta) -> Store<R>
@@ -138,7 +141,8 @@ impl<R: Rack> Store<R> {
 
     /// Whether it knows that disk 2 bears witness against this disk.
     pub fn knows_borne(&self, disk: DiskNo) -> bool
-        ensures { result ≡ true → IsBorneNow (Some disk) (R.told (store_rack self.now)) }
+        ensures known { result ≡ true → IsBorneNow (Some disk) (R.told (store_rack self.now)) }
+        ensures yes { borne_of self.now ≡ Some disk → result ≡ true }
     {
         self.borne == Some(disk)
     }
@@ -190,6 +194,7 @@ impl<R: Rack> Store<R> {
         requires within { place < (R.slot (store_rack self.old) disk).size }
         ensures slots { R.slot_count (store_rack self.new) ≡ R.slot_count (store_rack self.old) }
         ensures same { IsSameStore self.old self.new }
+        ensures remembers { Remembers self.old self.new }
         ensures slot { ChangesOneSlot (R.slot (store_rack self.old))
             (R.slot (store_rack self.new)) disk (R.slot (store_rack self.old) disk)
             (R.slot (store_rack self.old) disk).unsynced (is_ok result) }
@@ -213,6 +218,7 @@ impl<R: Rack> Store<R> {
         requires spinning { (R.slot (store_rack self.old) disk).power ≡ Spinning }
         ensures slots { R.slot_count (store_rack self.new) ≡ R.slot_count (store_rack self.old) }
         ensures same { IsSameStore self.old self.new }
+        ensures remembers { Remembers self.old self.new }
         ensures slot { ChangesOneSlot (R.slot (store_rack self.old)) (R.slot (store_rack self.new))
             disk (record (R.slot (store_rack self.old) disk) { unsynced = false })
             (R.slot (store_rack self.old) disk).unsynced (is_ok result) }
@@ -236,6 +242,7 @@ impl<R: Rack> Store<R> {
         requires within { place < (R.slot (store_rack self.old) disk).size }
         ensures slots { R.slot_count (store_rack self.new) ≡ R.slot_count (store_rack self.old) }
         ensures same { IsSameStore self.old self.new }
+        ensures remembers { (disk ≡ 2 → 2 ≤ place) → Remembers self.old self.new }
         ensures slot { ChangesOneSlot
             (R.slot (store_rack self.old)) (R.slot (store_rack self.new)) disk
             (record (R.slot (store_rack self.old) disk) { unsynced = true }) true (is_ok result) }
@@ -259,6 +266,7 @@ impl<R: Rack> Store<R> {
         requires synced { (R.slot (store_rack self.old) disk).unsynced ≡ false }
         ensures slots { R.slot_count (store_rack self.new) ≡ R.slot_count (store_rack self.old) }
         ensures same { IsSameStore self.old self.new }
+        ensures remembers { Remembers self.old self.new }
         ensures slot { ChangesOneSlot
             (R.slot (store_rack self.old)) (R.slot (store_rack self.new)) disk
             (record (R.slot (store_rack self.old) disk) { power = Parked }) false (is_ok result) }
@@ -280,6 +288,7 @@ impl<R: Rack> Store<R> {
         requires parked { (R.slot (store_rack self.old) disk).power ≡ Parked }
         ensures slots { R.slot_count (store_rack self.new) ≡ R.slot_count (store_rack self.old) }
         ensures same { IsSameStore self.old self.new }
+        ensures remembers { Remembers self.old self.new }
         ensures slot { ChangesOneSlot
             (R.slot (store_rack self.old)) (R.slot (store_rack self.new)) disk
             (record (R.slot (store_rack self.old) disk) { power = Spinning }) false (is_ok result) }
@@ -300,6 +309,7 @@ impl<R: Rack> Store<R> {
         requires exists { disk < R.slot_count (store_rack self.old) }
         ensures slots { R.slot_count (store_rack self.new) ≡ R.slot_count (store_rack self.old) }
         ensures same { IsSameStore self.old self.new }
+        ensures remembers { disk ≢ 2 → Remembers self.old self.new }
         ensures slot { ChangesOneSlot (R.slot (store_rack self.old)) (R.slot (store_rack self.new))
             disk (record (R.slot (store_rack self.old) disk) {
               power = Spinning;

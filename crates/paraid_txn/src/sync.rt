@@ -59,7 +59,7 @@ fn sync_each<R: Rack>(
 }
 
 impl<R: Rack> Store<R> {
-    ghost use Rattle.paraid_txn.specs.Stores.{IsSameStore, disks_of, named_of, store_rack};
+    ghost use Rattle.paraid_txn.specs.Stores.{IsSameStore, Remembers, disks_of, named_of, store_rack};
 
     /// Makes each disk that spins keep all that was written, but for one that is skipped.
     ///
@@ -69,6 +69,7 @@ impl<R: Rack> Store<R> {
         requires { CanSync (disks_of self.old) skip (R.slot (store_rack self.old)) }
         ensures slots { R.slot_count (store_rack self.new) ≡ R.slot_count (store_rack self.old) }
         ensures same { IsSameStore self.old self.new }
+        ensures remembers { Remembers self.old self.new }
         ensures powers { OnlyLosesSlots
             (R.slot (store_rack self.old)) (R.slot (store_rack self.new)) }
         ensures each { AreFailedOrWell

@@ -29,6 +29,7 @@ pub returns : goal.returns
 returns g c = record {
   slots = search rules;
   same = search rules;
+  remembers = λ x low is. is;
   powers =
       let lasts = c.sync_each.ensures.part.lasts in
       record { power = lasts.power; size = lasts.size; no_fall = lasts.no_fall };
