@@ -33,7 +33,7 @@ use Rattle.paraid_txn.specs.Losses.IsOutOfCommit.{was_named}
 use Rattle.paraid_txn.specs.Stores.{IsSameStore, store_rack}
 use Rattle.paraid_txn.specs.Uses.{EachCall}
 use Rattle.paraid_view.proofs.TwoLemmas.{spared_then}
-use Rattle.paraid_recover.specs.Bearing.{BearsAgainst, CanBear, EndsBorne, HasBorne, IsNamedLog, IsNewlyNamed, IsOnBearer}
+use Rattle.paraid_recover.specs.Bearing.{BearsAgainst, CanBear, EndsBorne, HasBorne, IsNamedLog, IsNewlyNamed, IsOnBearer, LeavesOpen}
 use Rattle.paraid_txn.specs.Borne.{IsBorneNow}
 use Rattle.paraid_recover.specs.HeldMoments.{EndsHeld, Recovers}
 use Rattle.paraid_recover.specs.RecoveryMark.{renewed}
@@ -46,6 +46,7 @@ use Rattle.paraid_recover.specs.Quiet.{IsInLog}
 use Rattle.paraid_recover.proofs.BearingLemmas.{of_bearer}
 use Rattle.paraid_recover.proofs.FitLemmas.{big, gone_named, spinning_if}
 use Rattle.paraid_recover.proofs.MountCallsLemmas.{calls_milder, calls_then}
+use Rattle.paraid_recover.proofs.OpenLemmas.{open_none, open_read, open_shut}
 use Rattle.paraid_recover.proofs.SyncedLemmas.{nothing_lost}
 use Rattle.paraid_recover.proofs.TurnsLemmas.{absent_stays}
 
@@ -152,14 +153,15 @@ module _ {R : Type 0} {l : _} (g : Ghosts R) (o : Option ℕ) where
     part = bearer_none s;
     synced = λ is was. was;
     borne = λ is x named t tells. record { holds = λ here. absurd (false≢true (sym (ap is_present ((agrees t tells).power 2 ∙ gone)) ∙ here)) };
+    kept = open_none o (g.told (store_rack s));
   }
 
-  pub borne_failed : (old new : Store R l) → IsOnBearer g o old new false → HasBorne g o old new false
-  borne_failed old new part = record { part = part; synced = λ is. absurd (true≢false (sym is)); borne = λ is. absurd (true≢false (sym is)) }
+  pub borne_failed : (old new : Store R l) → IsOnBearer g o old new false → Ran (g.told (store_rack old)) (g.told (store_rack new)) (LeavesOpen o) → HasBorne g o old new false
+  borne_failed old new part kept = record { part = part; synced = λ is. absurd (true≢false (sym is)); borne = λ is. absurd (true≢false (sym is)); kept = kept }
 
   -- no log disk is named
   pub borne_none : (s : Store R l) → ((x : ℕ) → IsNamedLog o x → ⊥) → HasBorne g o s s true
-  borne_none s none = record { part = bearer_none s; synced = λ is was. was; borne = λ is x named. absurd (none x named) }
+  borne_none s none = record { part = bearer_none s; synced = λ is was. was; borne = λ is x named. absurd (none x named); kept = open_none o (g.told (store_rack s)) }
 
   -- the place was read, and is open
   pub borne_read : (old new : Store R l) (y : ℕ) (b : Block) → o ≡ Some y → IsOnBearer g o old new true → (g.slot (store_rack new) 2).unsynced ≡ (g.slot (store_rack old) 2).unsynced
@@ -175,13 +177,22 @@ module _ {R : Type 0} {l : _} (g : Ghosts R) (o : Option ℕ) where
           let block : (now t).block 2 y ≡ (now it.0).block 2 y = ap (λ (s : Disks). s.block 2 y) (ap now it.2 ∙ now-extend it.0 (Read 2 y true ∷ [])) ∙ ap (λ (f : ℕ → ℕ → Block). f 2 y) (read_block-same (now it.0) 2 y true) in
           subst (λ (k : ℕ). is_open ((now t).block 2 k) ≡ true) same (ap is_open (block ∙ sym (bytes it.0 it.1)) ∙ opened);
     };
+    kept = open_read o (g.told (store_rack old)) (g.told (store_rack new)) y true grows;
   }
+
+  -- a place that is closed is so of the log disk that is named
+  pub shut_named : (old : Store R l) (y : ℕ) → o ≡ Some y → ((s : Trail) → g.told (store_rack old) ≡ Some s → is_open ((now s).block 2 y) ≡ false)
+      → (s : Trail) → g.told (store_rack old) ≡ Some s → (x : ℕ) → IsNamedLog o x → is_open ((now s).block 2 x) ≡ false
+  shut_named old y is shut s tells x named =
+      let same : y ≡ x = (let z : Some y ≡ Some x = sym is ∙ named.0 in cc) in
+      subst (λ (k : ℕ). is_open ((now s).block 2 k) ≡ false) same (shut s tells)
 
   -- it was written and synced
   pub borne_write : (old mid new : Store R l) (y : ℕ) (b : Block) (done : Bool) → o ≡ Some y → is_open b ≡ true → IsOnBearer g o old mid true → IsOnBearer g o mid new done
       → (done ≡ true → (g.slot (store_rack new) 2).unsynced ≡ false)
-      → GrowsByCall (g.told (store_rack old)) (g.told (store_rack mid)) (Write 2 y b true) → GrowsByCall (g.told (store_rack mid)) (g.told (store_rack new)) (Sync 2 done) → HasBorne g o old new done
-  borne_write old mid new y b done is opened first second clean wrote synced = record {
+      → GrowsByCall (g.told (store_rack old)) (g.told (store_rack mid)) (Write 2 y b true) → GrowsByCall (g.told (store_rack mid)) (g.told (store_rack new)) (Sync 2 done)
+      → ((s : Trail) → g.told (store_rack old) ≡ Some s → is_open ((now s).block 2 y) ≡ false) → HasBorne g o old new done
+  borne_write old mid new y b done is opened first second clean wrote synced shut = record {
     part = bearer_then old mid new done first second;
     synced = λ d was. clean d;
     borne = λ d x named t tells.
@@ -194,11 +205,20 @@ module _ {R : Type 0} {l : _} (g : Ghosts R) (o : Option ℕ) where
         subst (λ (k : ℕ). IsSeen (now t) 2 k (λ k. is_open k ≡ true)) same
         (subst (λ (s : Disks). IsSeen s 2 y (λ k. is_open k ≡ true)) (sym (ap now it.2 ∙ now-extend it.0 (Sync 2 done ∷ [])))
         ((synced_step (now it.0) 2 done).seen 2 y (λ k. is_open k ≡ true) seen));
+    kept = open_shut o (g.told (store_rack old)) (g.told (store_rack new)) (EachCall (BearsAgainst o)) (bearer_then old mid new done first second).calls (shut_named old y is shut);
   }
 
   -- by the same name
-  pub borne_then : (old mid new : Store R l) (done : Bool) → IsOnBearer g o old mid true → ((g.slot (store_rack old) 2).unsynced ≡ false → (g.slot (store_rack mid) 2).unsynced ≡ false) → HasBorne g o mid new done → HasBorne g o old new done
-  borne_then old mid new done first clean second = record { part = bearer_then old mid new done first second.part; synced = λ d was. second.synced d (clean was); borne = second.borne }
+  pub borne_then : (old mid new : Store R l) (y : ℕ) (done : Bool) → o ≡ Some y → IsOnBearer g o old mid true → ((g.slot (store_rack old) 2).unsynced ≡ false → (g.slot (store_rack mid) 2).unsynced ≡ false) → HasBorne g o mid new done
+      → ((s : Trail) → g.told (store_rack old) ≡ Some s → is_open ((now s).block 2 y) ≡ false) → HasBorne g o old new done
+  borne_then old mid new y done is first clean second shut =
+      let part = bearer_then old mid new done first second.part in
+      record {
+        part = part;
+        synced = λ d was. second.synced d (clean was);
+        borne = second.borne;
+        kept = open_shut o (g.told (store_rack old)) (g.told (store_rack new)) (EachCall (BearsAgainst o)) part.calls (shut_named old y is shut);
+      }
 
 -- these are calls of a mount on the log of disk 2
 in_log_by : (o : Option ℕ) (n : ℕ) (c : Call) → 3 ≤ n → BearsAgainst o c → IsInLog n c

@@ -38,6 +38,7 @@ pub mod FitLemmas
 pub mod OneMarkedLemmas
 pub mod TurnsLemmas
 pub mod BearingLemmas
+pub mod OpenLemmas
 pub mod BearerLemmas
 pub mod NotedLemmas
 pub mod PowersLemmas

@@ -13,6 +13,7 @@ use Rattle.paraid_txn.specs.Stores.{IsSameStore, store_rack}
 use Rattle.paraid_txn.specs.declared.store.Store.{Store}
 use Rattle.paraid_recover.specs.Bearing.{HasBorne, IsNamedLog, IsOnBearer}
 use Rattle.paraid_recover.proofs.BearerLemmas.{bearer_none, borne_sure}
+use Rattle.paraid_recover.proofs.OpenLemmas.{open_none}
 
 -- what is seen and synced is borne
 pub borne_now : (disk : ℕ) (told : Option Trail) (slot : ℕ → Slot) → ((t : Trail) → told ≡ Some t → Agrees (now t) slot) → IsSyncedAt slot 2
@@ -26,6 +27,7 @@ module _ {R : Type 0} {l : _} (g : Ghosts R) where
     part = bearer_none g (Some disk) s;
     synced = λ is was. was;
     borne = λ is x named t tells. seen_sure (known t tells x named.1 named.0);
+    kept = open_none (Some disk) (g.told (store_rack s));
   }
 
   -- what is noted changes no slot
@@ -45,4 +47,4 @@ module _ {R : Type 0} {l : _} (g : Ghosts R) where
     }
 
     pub borne_noted : (done : Bool) → HasBorne g o old mid done → HasBorne g o old new done
-    borne_noted done it = record { part = part_noted done it.part; synced = rw rack it.synced; borne = rw rack it.borne }
+    borne_noted done it = record { part = part_noted done it.part; synced = rw rack it.synced; borne = rw rack it.borne; kept = rw rack it.kept }

@@ -1,23 +1,27 @@
 -- A mount bears witness against a log disk that was named out.
-use Rattle.std.specs.Prelude.{◌≡◌, ◌≢◌, ℕ, ◌<◌, Bool, true, false, Option, Some, None, if◌then◌else◌}
+use Rattle.std.specs.Prelude.{◌≡◌, ◌≢◌, ℕ, ◌<◌, Bool, true, false, List, Option, Some, None, if◌then◌else◌}
 use Rattle.paraid_base.specs.History.{History}
 use Rattle.paraid_base.specs.Told.{HasRisen}
 use Rattle.paraid_rack.specs.declared.call.Call.{Call}
 use Rattle.paraid_rack.specs.declared.call.Call.TheVariants.{Read, Write, Sync, Park, SpinUp, Attach}
 use Rattle.paraid_rack.specs.declared.rack.Rack.{Ghosts}
 use Rattle.paraid_rack.specs.Atoms.{IsSeen, IsSure}
+use Rattle.paraid_rack.specs.Disks.{Disks}
 use Rattle.paraid_rack.specs.Slots.{Slot}
 use Rattle.paraid_rack.specs.Told.{Ran}
 use Rattle.paraid_rack.specs.Trail.{Trail, moments, now}
+use Rattle.paraid_record.specs.declared.meta.Meta.{Meta}
 use Rattle.paraid_image.specs.HeldAt.{IsHeld}
 use Rattle.paraid_image.specs.Lost.{EndsByLoss}
 use Rattle.paraid_image.specs.Out.{IsWeak}
 use Rattle.paraid_image.specs.Sides.{LogState, is_open}
 use Rattle.paraid_txn.specs.declared.store.Store.{Store}
 use Rattle.paraid_txn.specs.Losses.{CanWrite, IsGoneSince, IsSyncedAt, IsWell, OnlyLosesSlots}
+use Rattle.paraid_txn.specs.Commit.{gone_out}
 use Rattle.paraid_txn.specs.Stores.{IsSameStore, store_rack}
 use Rattle.paraid_txn.specs.Resume.{IsResumable}
 use Rattle.paraid_txn.specs.Uses.{EachCall}
+use Rattle.paraid_txn.specs.Witness.{LeavePlace}
 use Rattle.paraid_recover.specs.HeldMoments.{IsAbsentSince}
 
 -- this is a log disk, and it is named
@@ -54,7 +58,18 @@ pub record IsOnBearer {R : Type 0}
   -- none, where no log disk is named
   pub still : ((x : ℕ) → IsNamedLog named x → ⊥) → g.told (store_rack new) ≡ g.told (store_rack old)
 
--- Witness is borne then: it is seen, and what was synced is so.
+-- the place of the witness against the log disk that is named is not written by these calls, where
+-- it is open as they begin
+abbrev pub LeavesOpen : Option ℕ → Disks → List Call → Type 0
+LeavesOpen named s cs =
+    (x : ℕ) → IsNamedLog named x → is_open (s.block 2 x) ≡ true → LeavePlace 2 x cs
+
+-- A witness against the log disk that a meta of version 2 says is gone is not borne again: its place
+-- is not written by the calls between these records, where it is open as they begin.
+abbrev pub BearsOnce : Meta → Option Trail → Option Trail → Type 0
+BearsOnce m old new = m.version ≡ 2 → Ran old new (LeavesOpen (gone_out m.out))
+
+-- Witness is borne then: it is seen, and what was synced is so. One that is borne is not borne again.
 pub record HasBorne {R : Type 0}
     {l : _} (g : Ghosts R) (named : Option ℕ) (old new : Store R l) (done : Bool) : Type 0 where
   pub part : IsOnBearer g named old new done
@@ -62,6 +77,7 @@ pub record HasBorne {R : Type 0}
       → (g.slot (store_rack old) 2).unsynced ≡ false → (g.slot (store_rack new) 2).unsynced ≡ false
   pub borne : done ≡ true → (x : ℕ) → IsNamedLog named x
       → (t : Trail) → g.told (store_rack new) ≡ Some t → IsSeen (now t) 2 x (λ b. is_open b ≡ true)
+  pub kept : Ran (g.told (store_rack old)) (g.told (store_rack new)) (LeavesOpen named)
 
 -- disk 2 can be written where the witnesses are, unless it is absent; and it is synced
 pub record CanBear (slot : ℕ → Slot) : Type 0 where

@@ -11,7 +11,7 @@ use Rattle.paraid_image.specs.Sides.{LogState, is_open, stored_block}
 use Rattle.paraid_image.specs.Standing.{Stands, other_log}
 use Rattle.paraid_recover.specs.declared.mount_fault.MountFault.{MountFault}
 use Rattle.paraid_recover.specs.declared.mount_fault.MountFault.TheVariants.{NoMemory, Two as BothMissing}
-use Rattle.paraid_recover.specs.Bearing.{EndsBorne, IsNamedLog}
+use Rattle.paraid_recover.specs.Bearing.{BearsOnce, EndsBorne, IsNamedLog}
 use Rattle.paraid_txn.specs.Borne.{IsBorneNow}
 use Rattle.paraid_recover.specs.Examined.{IsExamined, IsRefused}
 use Rattle.paraid_recover.specs.HeardSides.{IsOneLost, IsReadLosing, IsReadOnly, ReadsLogs}
@@ -42,6 +42,8 @@ pub record HasRecovered (side : ℕ) (said : LogState) (old new : Option Trail) 
   pub metas : StandsThroughMount side said read new
   -- Held or not, past the log each block is as it was, or is of the batch that was ended.
   pub far : ChangesByBatch said.batch old new
+  -- and a witness that is borne against a log disk that is gone is not borne again
+  pub once : BearsOnce said.meta old new
 
 -- At its end the disks are at rest under the meta that stands, of version 2, which is this one, but
 -- for a disk that was lost since the last commit; and hold the writes that it counts. These are

@@ -19,6 +19,7 @@ use Rattle.paraid_txn.specs.Ready.{IsLogReady}
 use Rattle.paraid_txn.specs.Stores.{disks_of, epoch_of, named_of, store_rack}
 use Rattle.paraid_txn.specs.Uses.{EachCall, UsesLog}
 use Rattle.paraid_recover.specs.declared.hearing.Heard.{Heard}
+use Rattle.paraid_recover.specs.Bearing.{BearsOnce}
 use Rattle.paraid_recover.specs.HeardSides.{AtMost, IsHeardAt, IsHeardBy, IsInForm, ReadsLogs}
 use Rattle.paraid_recover.specs.HeldMoments.{Recovers, RecoversHeld}
 use Rattle.paraid_recover.specs.Map.{ChangesByBatch, IsNarrow, KeepsFar}
@@ -67,7 +68,7 @@ pub record KeepsPowered {R A : Type 0}
   pub far : KeepsFar (g.told (store_rack old)) (g.told (store_rack new))
 
 -- Each call is one that a mount may make. What was recovered is held at each moment, and its meta
--- stands, or one that a mount makes of it.
+-- stands, or one that a mount makes of it. A witness that is borne is not borne again.
 pub record RecoversOn {R : Type 0} {g : Ghosts R} (m : Meta) (old new : Store R g) : Type 0 where
   pub allowed : OnlyMountCalls m (g.told (store_rack old)) (g.told (store_rack new))
   pub holds : (slots x : ℕ) (said : LogState) (first : Option Trail)
@@ -77,6 +78,7 @@ pub record RecoversOn {R : Type 0} {g : Ghosts R} (m : Meta) (old new : Store R 
       → said.meta ≡ m → Recovers slots x said first (g.told (store_rack old))
       → StandsInMoments slots x said first (g.told (store_rack old))
       → StandsInMoments slots x said first (g.told (store_rack new))
+  pub once : BearsOnce m (g.told (store_rack old)) (g.told (store_rack new))
 
 -- Where a disk was marked by a commit, the store names it alone, in the next epoch, and nothing
 -- became unsynced.
@@ -97,7 +99,8 @@ pub record HasStood {R : Type 0} {g : Ghosts R} (store : Store R g) (m : Meta) :
   pub synced : AreAllSynced m (g.slot (store_rack store))
 
 -- The same from the rack whose log disk `x` stood and said this: it has as many slots as before,
--- and no count of faults falls. Past the log each block is as it was, or is of the batch.
+-- and no count of faults falls. Past the log each block is as it was, or is of the batch. A witness
+-- that is borne is not borne again.
 pub record MountsOn
     {R : Type 0} (g : Ghosts R) (x : ℕ) (said : LogState) (old new : R) : Type 0 where
   pub slots : g.slot_count new ≡ g.slot_count old
@@ -106,6 +109,7 @@ pub record MountsOn
   pub metas : StandsThroughMount x said (g.told old) (g.told new)
   pub holds : (slots : ℕ) → RecoversHeld slots x said (g.told old) (g.told new)
   pub far : ChangesByBatch said.batch (g.told old) (g.told new)
+  pub once : BearsOnce said.meta (g.told old) (g.told new)
 
 -- This was heard of the log disk, or nothing where it is absent; it is in form.
 pub record HasHeard {R : Type 0}

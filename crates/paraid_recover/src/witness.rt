@@ -1,12 +1,14 @@
 //! The witness on disk 2 against a log disk: a mount heeds it where that log disk stands alone, and
 //! bears it where a meta names that log disk out.
-ghost use Rattle.std.specs.Prelude.{◌≡◌, ◌<◌, ◌≤◌, ℕ, true, Some, OnOk, IfErr, is_ok};
+ghost use Rattle.std.specs.Prelude.{◌≡◌, ◌<◌, ◌≤◌, ℕ, true, false, Some, OnOk, IfErr, is_ok};
 ghost use Rattle.paraid_rack.specs.declared.call.Power.TheVariants.{Spinning};
+ghost use Rattle.paraid_rack.specs.Trail.{Trail, now};
 ghost use Rattle.paraid_image.specs.Out.{named_out};
+ghost use Rattle.paraid_image.specs.Sides.{is_open};
 ghost use Rattle.paraid_recover.specs.Bearing.{CanBear, HasBorne, IsNamedLog};
 ghost use Rattle.paraid_recover.specs.Witness.{IsUnwitnessed, IsWitnessed};
 ghost use Rattle.paraid_txn.specs.Losses.{CanWrite};
-ghost use Rattle.paraid_txn.specs.Stores.{store_rack};
+ghost use Rattle.paraid_txn.specs.Stores.{borne_of, store_rack};
 
 use crate::reads::read_place;
 use paraid_base::{Block, DiskNo, Two, WITNESS_DISK};
@@ -45,12 +47,14 @@ pub fn heed<R: Rack>(rack: &mut R, side: DiskNo) -> Result<(), Two>
     Ok(())
 }
 
-// Opens the place of the witness against a log disk, and makes disk 2 keep it.
+// Opens the place of the witness against a log disk, which is closed, and makes disk 2 keep it.
 fn open_place<R: Rack>(store: &mut Store<R>, disk: DiskNo) -> Result<(), Lost>
     requires log_disk { disk < 2 }
     requires exists { 2 < R.slot_count (store_rack store.old) }
     requires spinning { (R.slot (store_rack store.old) 2).power ≡ Spinning }
     requires within { 1 < (R.slot (store_rack store.old) 2).size }
+    requires closed { (t : Trail) → R.told (store_rack store.old) ≡ Some t
+        → is_open ((now t).block 2 disk) ≡ false }
     ensures { HasBorne R.Rack (Some disk) store.old store.new (is_ok result) }
 {
     let opened = gate(true);
@@ -107,6 +111,8 @@ fn bear_once<R: Rack>(store: &mut Store<R>, disk: DiskNo) -> Result<(), Two>
     requires ready { CanBear (R.slot (store_rack store.old)) }
     ensures borne { HasBorne R.Rack (Some disk) store.old store.new (is_ok result) }
     ensures two { IfErr result (λ two. two ≡ record { first = disk; second = 2 }) }
+    ensures known { borne_of store.old ≡ Some disk
+        → R.told (store_rack store.new) ≡ R.told (store_rack store.old) }
 {
     if store.knows_borne(disk) {
         return Ok(());
@@ -129,6 +135,9 @@ pub fn bear_named<R: Rack>(store: &mut Store<R>, meta: &Meta) -> Result<(), Two>
     ensures borne { HasBorne R.Rack (named_out meta.now.out) store.old store.new (is_ok result) }
     ensures two { IfErr result (λ two. IsNamedLog (named_out meta.now.out) two.first
         × (two.second ≡ 2)) }
+    // no call, where the store knows that it is open
+    ensures known { (x : ℕ) → IsNamedLog (named_out meta.now.out) x → borne_of store.old ≡ Some x
+        → R.told (store_rack store.new) ≡ R.told (store_rack store.old) }
 {
     let Some(disk) = meta.out.named() else {
         return Ok(());

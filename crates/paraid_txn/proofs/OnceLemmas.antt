@@ -20,7 +20,7 @@ use Rattle.paraid_txn.proofs.BorneLemmas.{no_disk}
 use Rattle.paraid_txn.proofs.CommitPartLemmas.{ran_milder}
 use Rattle.paraid_txn.proofs.WitnessLemmas.{apart as uses_apart}
 
-leave_both : (d p : ℕ) (cs ds : List Call) → LeavePlace d p cs → LeavePlace d p ds → LeavePlace d p (cs ++ ds)
+pub leave_both : (d p : ℕ) (cs ds : List Call) → LeavePlace d p cs → LeavePlace d p ds → LeavePlace d p (cs ++ ds)
 leave_both d p [] ds first second = second
 leave_both d p (c ∷ cs) ds first second = (first.0, leave_both d p cs ds first.1 second)
 
@@ -43,7 +43,7 @@ pub once_before : (m : Meta) (was borne : Option ℕ) (x : ℕ) → NoneJoins wa
 once_before m was borne x joins known ran = ran_milder _ _ (before_leaves m was borne x joins known) ran
 
 -- in them
-steps_leave : (m : Meta) (batch : Batch) → All (IsTargetInRange m.setup.geometry) (targets batch) → (x : ℕ) → x < 2 → (s : Disks) (cs : List Call)
+pub steps_leave : (m : Meta) (batch : Batch) → All (IsTargetInRange m.setup.geometry) (targets batch) → (x : ℕ) → x < 2 → (s : Disks) (cs : List Call)
     → EachCall (Uses m batch) s cs → LeavePlace 2 x cs
 steps_leave m batch past x low s [] each = tt
 steps_leave m batch past x low s (Read d p done ∷ cs) each = (tt, steps_leave m batch past x low (step (Read d p done) s) cs each.2)

@@ -6,6 +6,7 @@ use Rattle.paraid_rack.specs.Told.{Ran}
 use Rattle.paraid_rack.specs.Trail.{Trail, now}
 use Rattle.paraid_record.specs.declared.meta.Meta.{Meta}
 use Rattle.paraid_record.specs.declared.meta.Setup.{Setup}
+use Rattle.paraid_base.specs.States.{gone_out}
 use Rattle.paraid_base.specs.declared.fault.Two.{Two}
 use Rattle.paraid_image.specs.Lost.{EndsBySecond}
 use Rattle.paraid_image.specs.Out.{IsMissing, first_absent, named_out, or_else, out_disk}
@@ -16,6 +17,7 @@ use Rattle.paraid_image.specs.Sides.{log_state}
 use Rattle.paraid_dirty.specs.Table.{is_dirty}
 use Rattle.paraid_txn.specs.Losses.{AreGoneSince, AreTwoDownBeside, IsOutOfCommit, TellsSecondLoss}
 use Rattle.paraid_txn.specs.Stores.{store_out, store_rack}
+use Rattle.paraid_recover.specs.Bearing.{BearsOnce}
 use Rattle.paraid_recover.specs.HeldMoments.{Recovers, RecoversHeld}
 use Rattle.paraid_recover.specs.MountCalls.{OnlyMountCalls}
 use Rattle.paraid_recover.specs.Mounted.{IsFit}
@@ -31,6 +33,7 @@ use Rattle.paraid_recover.proofs.MountCallsLemmas.{mount_then, resume_calls}
 use Rattle.paraid_recover.specs.StandingMetas.{StandsThroughMount}
 use Rattle.paraid_recover.proofs.SecondLossLemmas.{out_more, still_tells, tells_end, tells_same}
 use Rattle.paraid_recover.proofs.RecoverLemmas.{grows, resumes_held}
+use Rattle.paraid_recover.proofs.OpenLemmas.{once_resumed, open_resumed}
 use Rattle.paraid_recover.proofs.ResumeMetasLemmas.{resumed_metas}
 use Rattle.paraid_recover.proofs.StillLemmas.{commit_still, still_then}
 use Rattle.paraid_recover.proofs.mounting.bring_up.Given.{Over}
@@ -130,6 +133,12 @@ all_far g c =
     let told_1 = g.R.Rack.told (store_rack c.in-Ok.store) in
     far_after c.args.batch old told_1 (g.R.Rack.told (store_rack c.raise.new.store)) (batch_ran c.args.standing.now.meta c.args.batch old told_1 c.in-Ok.ensures.resumes.on.calls) c.raise.ensures.kept.far
 
+-- a witness that is borne is not borne again
+all_once : (g : Over) (c : After-raise g) → BearsOnce c.args.standing.now.meta (g.R.Rack.told c.args.rack) (g.R.Rack.told (store_rack c.raise.new.store))
+all_once g c =
+    once_resumed c.args.standing.now.meta c.args.batch (g.R.Rack.told c.args.rack) (g.R.Rack.told (store_rack c.in-Ok.store)) (g.R.Rack.told (store_rack c.raise.new.store))
+    c.requires.can.each c.in-Ok.ensures.resumes.on.calls c.raise.ensures.recovers.once
+
 pub returns-in-Err : goal.returns-in-Err
 returns-in-Err g c = record {
   mounts = tt;
@@ -151,6 +160,9 @@ returns-in-Err g c = record {
         let at = (goal.at.returns-in-Err g c).After-resume in
         resumes_held slots c.args.standing.now.side (said g at) (g.R.Rack.told c.args.rack) (g.R.Rack.told c.in-Err.refused.rack) c.in-Err.ensures.refused.on.any_moment;
     far = batch_ran c.args.standing.now.meta c.args.batch (g.R.Rack.told c.args.rack) (g.R.Rack.told c.in-Err.refused.rack) c.in-Err.ensures.refused.on.calls;
+    once = λ two.
+        let m = c.args.standing.now.meta in
+        open_resumed m c.args.batch c.requires.can.each (gone_out m.out) (g.R.Rack.told c.args.rack) (g.R.Rack.told c.in-Err.refused.rack) c.in-Err.ensures.refused.on.calls;
   };
   servable = tt;
   nothing = tt;
@@ -213,6 +225,8 @@ returns-in-Err-raise g c = record {
         (c.raise.ensures.recovers.holds slots c.args.standing.now.side s (g.R.Rack.told c.args.rack) refl (resumed g at slots));
     far =
         subst (λ (r : _). ChangesByBatch c.args.batch (g.R.Rack.told c.args.rack) (g.R.Rack.told r)) (sym c.close.ensures) (all_far g (goal.at.returns-in-Err-raise g c).After-raise);
+    once =
+        subst (λ (r : _). BearsOnce c.args.standing.now.meta (g.R.Rack.told c.args.rack) (g.R.Rack.told r)) (sym c.close.ensures) (all_once g (goal.at.returns-in-Err-raise g c).After-raise);
   };
   servable = tt;
   nothing = tt;
@@ -248,6 +262,7 @@ returns-in-Ok-raise g c = record {
         let at = (goal.at.returns-in-Ok-raise g c).After-raise in
         c.raise.ensures.recovers.holds slots c.args.standing.now.side (log_state c.args.standing.now.gate_open c.args.standing.now.meta c.args.batch) (g.R.Rack.told c.args.rack) refl (resumed g at slots);
     far = all_far g (goal.at.returns-in-Ok-raise g c).After-raise;
+    once = all_once g (goal.at.returns-in-Ok-raise g c).After-raise;
   };
   refused = tt;
   servable = c.in-Ok-raise.ensures.servable;

@@ -23,6 +23,7 @@ use Rattle.paraid_recover.proofs.ExaminedLemmas.{fit_examined}
 use Rattle.paraid_recover.proofs.MapServedLemmas.{map_sooner}
 use Rattle.paraid_recover.proofs.MountCallsLemmas.{reads_then}
 use Rattle.paraid_recover.proofs.MountedLemmas.{unstarted_here}
+use Rattle.paraid_recover.proofs.OpenLemmas.{once_reads}
 use Rattle.paraid_recover.proofs.mounting.mount_with.Given.{Over}
 use Rattle.paraid_recover.proofs.mounting.mount_with.Goals as goal
 use Rattle.paraid_recover.proofs.mounting.mount_with.Goals.{In-Ok-bring_up}
@@ -122,6 +123,7 @@ settled g c =
         metas = c.in-Ok-bring_up.ensures.mounts.metas;
         far = far_before c.examine.new.batch (g.R.Rack.told c.args.rack) (g.R.Rack.told c.heed.new.rack) (g.R.Rack.told (store_rack c.in-Ok-bring_up.mounted.store))
             (far_ran ReadsLogs _ _ reads_far (calls_then ReadsLogs c.examine.ensures.calls (logs_calls (omega arith) c.in_default-heed.ensures.ok.reads.calls))) c.in-Ok-bring_up.ensures.mounts.far;
+        once = once_reads s.meta (g.R.Rack.told c.args.rack) (g.R.Rack.told c.heed.new.rack) (g.R.Rack.told (store_rack c.in-Ok-bring_up.mounted.store)) (calls_then ReadsLogs c.examine.ensures.calls (logs_calls (omega arith) c.in_default-heed.ensures.ok.reads.calls)) c.in-Ok-bring_up.ensures.mounts.once;
       };
       standing = ends.0;
       lost = ends.1;
@@ -186,6 +188,7 @@ returns g c = record {
         metas = c.in-Err-bring_up.ensures.refused.metas;
         far = far_before c.examine.new.batch (g.R.Rack.told c.args.rack) (g.R.Rack.told c.heed.new.rack) (g.R.Rack.told c.in-Err-bring_up.refused.rack)
             (far_ran ReadsLogs _ _ reads_far (calls_then ReadsLogs c.examine.ensures.calls (logs_calls (omega arith) c.in_default-heed.ensures.ok.reads.calls))) c.in-Err-bring_up.ensures.refused.far;
+        once = once_reads s.meta (g.R.Rack.told c.args.rack) (g.R.Rack.told c.heed.new.rack) (g.R.Rack.told c.in-Err-bring_up.refused.rack) (calls_then ReadsLogs c.examine.ensures.calls (logs_calls (omega arith) c.in_default-heed.ensures.ok.reads.calls)) c.in-Err-bring_up.ensures.refused.once;
       })
       (g.met.R.Rack.agrees c.heed.new.rack) (examined_later _ _ _ _ _ _ _ _ (c.in_default-heed.ensures.ok.reads.same refl) (c.in_default-heed.ensures.ok.reads.unchanged refl) c.in-Ok-examine.ensures.ok) two.1 two.2 two.3 two.4;
   refused_later = λ d. let a = c.examine.ensures.powers.no_fall d in let same = ap (λ (k : Slot). k.faults) (c.in_default-heed.ensures.ok.reads.same refl d) in let b = c.in-Err-bring_up.ensures.refused.later d in omega arith;

@@ -1,5 +1,6 @@
 use Rattle.std.specs.Prelude.{◌≡◌, ℕ, ◌≤◌, ◌⊎◌, Bool, true, false, length, Option, None}
 use Rattle.std.proofs.Common.{ap, arith, inl, inr, refl, subst, sym, ◌∙◌}
+use Rattle.paraid_base.specs.States.{gone_out}
 use Rattle.paraid_base.specs.Told.{HasRisen}
 use Rattle.paraid_base.proofs.ToldLemmas.{HasRisen-later, HasRisen-sooner}
 use Rattle.paraid_rack.specs.declared.call.Power.TheVariants.{Absent}
@@ -18,7 +19,7 @@ use Rattle.paraid_image.specs.Sides.{LogState}
 use Rattle.paraid_txn.specs.Losses.{AreGoneSince, IsOneOut, IsOutOfCommit, IsWell, AreTwoDownBeside, TellsSecondLoss}
 use Rattle.paraid_txn.specs.Uses.{EachCall}
 use Rattle.paraid_txn.specs.Stores.{store_out, store_rack}
-use Rattle.paraid_recover.specs.Bearing.{EndsBorne, IsNamedLog}
+use Rattle.paraid_recover.specs.Bearing.{BearsOnce, EndsBorne, IsNamedLog}
 use Rattle.paraid_recover.specs.HeldMoments.{EndsHeld, IsOutAtEnd, Recovers, RecoversHeld}
 use Rattle.paraid_recover.specs.MountCalls.{OnlyMountCalls}
 use Rattle.paraid_recover.specs.RecoveryMark.{to_mark, with_mark}
@@ -27,6 +28,7 @@ use Rattle.paraid_dirty.specs.Table.{is_dirty}
 use Rattle.paraid_recover.specs.Powers.{IsPowerCall, IsPowerChanged}
 use Rattle.paraid_recover.proofs.BearerLemmas.{borne_turned, marked_turned}
 use Rattle.paraid_recover.proofs.FarLemmas.{far_ran, far_then, logs_far, map_on, turn_far}
+use Rattle.paraid_recover.proofs.OpenLemmas.{once_then, open_turns}
 use Rattle.paraid_recover.proofs.StillLemmas.{logs_still}
 use Rattle.paraid_recover.specs.Map.{KeepsFar}
 use Rattle.paraid_recover.specs.Quiet.{WritesOnlyLogs}
@@ -108,6 +110,15 @@ powers g c =
       subst (λ (m : Meta). Ran told_1 (g.R.Rack.told (store_rack c.power_disks.new.store)) (EachCall (IsPowerCall m))) given.1 c.power_disks.ensures.calls,
     )
 
+-- a witness that is borne is not borne again
+once : (g : Over) (c : After-power_disks g) → BearsOnce c.args.meta.now (g.R.Rack.told (store_rack c.args.store.now)) (g.R.Rack.told (store_rack c.power_disks.new.store))
+once g c =
+    let m = c.args.meta.now in
+    let told_1 = g.R.Rack.told (store_rack c.settle.new.store) in
+    let told_2 = g.R.Rack.told (store_rack c.power_disks.new.store) in
+    once_then m (g.R.Rack.told (store_rack c.args.store.now)) told_1 told_2 c.settle.ensures.recovers.once
+    (λ two. open_turns c.in-Ok.standing (gone_out m.out) told_1 told_2 c.power_disks.ensures.calls)
+
 -- the slots once the disks are powered
 later : (g : Over) (c : After-power_disks g) (d : ℕ) → (g.R.Rack.slot (store_rack c.args.store.now) d).faults ≤ (g.R.Rack.slot (store_rack c.power_disks.new.store) d).faults
 later g c d = let first = c.settle.ensures.kept.powers.no_fall d in let second = (c.power_disks.ensures.turned d).later in omega arith
@@ -179,6 +190,7 @@ returns-in-Err g c = record {
     allowed = c.settle.ensures.recovers.allowed;
     holds = c.settle.ensures.recovers.holds;
     metas = c.settle.ensures.recovers.metas;
+    once = c.settle.ensures.recovers.once;
   };
   split = (g.R.Rack.told (store_rack c.settle.new.store), logs_still _ _ c.settle.ensures.still, inl refl);
   ends = tt;
@@ -253,6 +265,7 @@ returns-in-Err-power_disks g c = record {
     allowed = allowed g (goal.at.returns-in-Err-power_disks g c).After-power_disks;
     holds = holds g (goal.at.returns-in-Err-power_disks g c).After-power_disks;
     metas = metas g (goal.at.returns-in-Err-power_disks g c).After-power_disks;
+    once = once g (goal.at.returns-in-Err-power_disks g c).After-power_disks;
   };
   split =
       (g.R.Rack.told (store_rack c.settle.new.store), logs_still _ _ c.settle.ensures.still, inr (powers g (goal.at.returns-in-Err-power_disks g c).After-power_disks));
@@ -297,6 +310,7 @@ returns g c = record {
     allowed = allowed g (goal.at.returns g c).After-power_disks;
     holds = holds g (goal.at.returns g c).After-power_disks;
     metas = metas g (goal.at.returns g c).After-power_disks;
+    once = once g (goal.at.returns g c).After-power_disks;
   };
   split = (g.R.Rack.told (store_rack c.settle.new.store), logs_still _ _ c.settle.ensures.still, inr (powers g (goal.at.returns g c).After-power_disks));
   ends =

@@ -12,6 +12,7 @@ use Rattle.paraid_txn.specs.Losses.{AreFailedOrWell, AreGoneSince, IsOneOut, IsO
 use Rattle.paraid_txn.specs.Stores.{store_out, store_rack}
 use Rattle.paraid_txn.specs.Uses.{EachCall}
 use Rattle.paraid_view.proofs.TwoLemmas.{left_spared}
+use Rattle.paraid_recover.specs.Bearing.{BearsOnce}
 use Rattle.paraid_recover.specs.EndOfMount.{IsMarkAtMoment}
 use Rattle.paraid_recover.specs.HeldMoments.{Recovers}
 use Rattle.paraid_session.specs.Powers.{AreAllSynced}
@@ -27,6 +28,7 @@ use Rattle.paraid_recover.proofs.FarLemmas.{far_ran, log_far, map_on, map_read, 
 use Rattle.paraid_recover.proofs.FitLemmas.{can_sync, log_ready, each_then, fit_stays, fit_with_mark, map_ready, marked_absent, marks, one_read, quiet_reads, quiet_syncs, spared_both, two_by_out, two_at, two_sooner}
 use Rattle.paraid_recover.proofs.GoneLemmas.{gone_beside, gone_sooner, none_comes, out_by_name, out_unmarked, stays_absent}
 use Rattle.paraid_recover.proofs.MountCallsLemmas.{map_calls, mount_then, sync_calls}
+use Rattle.paraid_recover.proofs.OpenLemmas.{once_then, open_quiet}
 use Rattle.paraid_recover.proofs.RenewLemmas.{version_marked}
 use Rattle.paraid_recover.specs.StandingMetas.{StandsInMoments}
 use Rattle.paraid_recover.proofs.SecondLossLemmas.{out_more, still_tells, tells_out, tells_same}
@@ -196,6 +198,26 @@ synced_metas g c slots x said old is r metas =
     (quiet_recovers slots x said old told_0 told_1 (subst (λ (n : ℕ). Ran told_0 told_1 (EachCall (IsReadOrSync n))) n_is reads) r)
     (read_metas g (goal.at.After-sync_all g c).After-read_map slots x said old is reads r metas)
 
+-- no witness is borne in them
+read_once : (g : Over) (c : After-read_map g) → Ran (g.R.Rack.told (store_rack c.args.store.now)) (g.R.Rack.told (store_rack c.read_map.new.store)) (EachCall (IsReadOrSync c.args.store.now.disks))
+    → BearsOnce c.args.meta.now (g.R.Rack.told (store_rack c.args.store.now)) (g.R.Rack.told (store_rack c.read_map.new.store))
+read_once g c reads two = open_quiet c.args.store.now.disks (gone_out c.args.meta.now.out) (g.R.Rack.told (store_rack c.args.store.now)) (g.R.Rack.told (store_rack c.read_map.new.store)) reads
+
+sync_once : (g : Over) (c : After-sync_all g) → BearsOnce c.args.meta.now (g.R.Rack.told (store_rack c.args.store.now)) (g.R.Rack.told (store_rack c.sync_all.new.self))
+sync_once g c =
+    let m = c.args.meta.now in
+    let n = c.read_map.new.store.disks in
+    let told_0 = g.R.Rack.told (store_rack c.args.store.now) in
+    let told_1 = g.R.Rack.told (store_rack c.read_map.new.store) in
+    let told_2 = g.R.Rack.told (store_rack c.sync_all.new.self) in
+    once_then m told_0 told_1 told_2 (read_once g (goal.at.After-sync_all g c).After-read_map (quiet_reads c.args.store.now.disks told_0 told_1 c.in_default.ensures.read.calls))
+    (λ two. open_quiet n (gone_out m.out) told_1 told_2 (quiet_syncs n _ told_1 told_2 c.sync_all.ensures.calls))
+
+all_once : (g : Over) (c : After-mark_out g) → BearsOnce c.args.meta.now (g.R.Rack.told (store_rack c.args.store.now)) (g.R.Rack.told (store_rack c.mark_out.new.store))
+all_once g c =
+    once_then c.args.meta.now (g.R.Rack.told (store_rack c.args.store.now)) (g.R.Rack.told (store_rack c.sync_all.new.self)) (g.R.Rack.told (store_rack c.mark_out.new.store))
+    (sync_once g (goal.at.After-mark_out g c).After-sync_all) c.mark_out.ensures.recovers.once
+
 -- there are only reads, syncs and writes of logs
 map_still : (g : Over) (c : After-read_map g) → Ran (g.R.Rack.told (store_rack c.args.store.now)) (g.R.Rack.told (store_rack c.read_map.new.store)) (EachCall (IsReadOrSync c.args.store.now.disks))
     → Ran (g.R.Rack.told (store_rack c.args.store.now)) (g.R.Rack.told (store_rack c.read_map.new.store)) (EachCall WritesOnlyLogs)
@@ -319,6 +341,7 @@ returns-in-Ok g c = record {
     metas = λ slots x said old is r metas.
         let at = (goal.at.returns-in-Ok g c).After-sync_all in
         c.mark_out.ensures.recovers.metas slots x said old is (synced_recovers g at slots x said old is r) (synced_metas g at slots x said old is r metas);
+    once = all_once g (goal.at.returns-in-Ok g c).After-mark_out;
   };
   ends = λ slots x said old is r.
       c.in-Ok.ensures.ends slots x said old is (synced_recovers g (goal.at.returns-in-Ok g c).After-sync_all slots x said old is r);
@@ -385,6 +408,7 @@ returns-in-Err-mark_out g c = record {
     metas = λ slots x said old is r metas.
         let at = (goal.at.returns-in-Err-mark_out g c).After-sync_all in
         c.mark_out.ensures.recovers.metas slots x said old is (synced_recovers g at slots x said old is r) (synced_metas g at slots x said old is r metas);
+    once = all_once g (goal.at.returns-in-Err-mark_out g c).After-mark_out;
   };
   ends = tt;
   map = tt;
@@ -429,6 +453,7 @@ returns-in-Err-sync_all g c = record {
     holds = λ slots x said old is r.
         (synced_recovers g (goal.at.returns-in-Err-sync_all g c).After-sync_all slots x said old is r).holds;
     metas = synced_metas g (goal.at.returns-in-Err-sync_all g c).After-sync_all;
+    once = sync_once g (goal.at.returns-in-Err-sync_all g c).After-sync_all;
   };
   ends = tt;
   map = tt;
@@ -471,6 +496,7 @@ returns-in-Err g c = record {
         (subst (λ (n : ℕ). Ran (g.R.Rack.told (store_rack c.args.store.now)) (g.R.Rack.told (store_rack c.read_map.new.store)) (EachCall (IsReadOrSync n))) n_is (quiet_reads c.args.store.now.disks _ _ c.in-Err.ensures.two.calls)) r).holds;
     metas = λ slots x said old is r metas.
         read_metas g (goal.at.returns-in-Err g c).After-read_map slots x said old is (quiet_reads c.args.store.now.disks _ _ c.in-Err.ensures.two.calls) r metas;
+    once = read_once g (goal.at.returns-in-Err g c).After-read_map (quiet_reads c.args.store.now.disks _ _ c.in-Err.ensures.two.calls);
   };
   ends = tt;
   map = tt;

@@ -1,5 +1,6 @@
 use Rattle.std.specs.Prelude.{◌≡◌, ℕ, ◌+◌, ◌<◌, false, [], None, Some, All, IfErr, IfOk, Option}
 use Rattle.std.proofs.Common.{arith, ap, inr, refl, sym, subst, ◌∙◌}
+use Rattle.paraid_base.specs.States.{gone_out}
 use Rattle.paraid_rack.specs.Disks.{Disks, is_present}
 use Rattle.paraid_rack.specs.Trail.{Trail, now}
 use Rattle.paraid_record.specs.declared.meta.Meta.{Meta}
@@ -19,6 +20,7 @@ use Rattle.paraid_recover.specs.Quiet.{IsInLog}
 use Rattle.paraid_recover.specs.RecoveryMark.{to_mark}
 use Rattle.paraid_recover.proofs.RaisedLemmas.{none_done_if}
 use Rattle.paraid_recover.proofs.OneMarkedLemmas.{in_log}
+use Rattle.paraid_recover.proofs.OpenLemmas.{none_marked, open_never}
 use Rattle.paraid_recover.specs.HeldMoments.{EndsHeld, KeepsHeld, Recovers, RecoversHeld}
 use Rattle.paraid_recover.specs.MountCalls.{OnlyMountCalls}
 use Rattle.paraid_recover.specs.RecoveryMark.{of_version_two, with_mark}
@@ -26,7 +28,7 @@ use Rattle.paraid_recover.proofs.MountCallsLemmas.{mark_calls}
 use Rattle.paraid_recover.specs.StandingMetas.{StandsInMoments}
 use Rattle.paraid_recover.proofs.CommitMetasLemmas.{committed_metas}
 use Rattle.paraid_txn.specs.Stores.{store_rack}
-use Rattle.paraid_recover.specs.Bearing.{EndsBorne, IsNewlyNamed}
+use Rattle.paraid_recover.specs.Bearing.{BearsOnce, EndsBorne, IsNewlyNamed}
 use Rattle.paraid_recover.proofs.BearerLemmas.{can_told, none_newly}
 use Rattle.paraid_recover.proofs.EndsLemmas.{borne_marked, ends_marked, then_marked}
 use Rattle.paraid_recover.proofs.RecoverLemmas.{none_ready}
@@ -113,6 +115,13 @@ metas g c slots x said old is recovers before =
     (next_marked said.meta d (λ e names. c.unmarked.ensures.only d e c.in-Some.is (ap (λ (m : Meta). named_out m.out) (sym is) ∙ names)))
     before recovers.ends (subst (λ (m : Meta). IsWholeOrAbsent mid new m (after m) []) (sym is) c.mark.ensures.moments)
 
+-- where a disk is gone, none is marked
+once : (g : Over) (c : After-mark g) → BearsOnce c.args.meta.now (g.R.Rack.told c.args.store.now.rack) (g.R.Rack.told c.mark.new.store.rack)
+once g c two =
+    let m = c.args.meta.now in
+    open_never (gone_out m.out) (g.R.Rack.told c.args.store.now.rack) (g.R.Rack.told c.mark.new.store.rack) (EachCall (IsInLog c.args.store.now.disks)) (log_calls g c)
+    (none_marked m (λ e. (g.R.Rack.slot c.args.store.now.rack e).power) c.in-Some.disk (sym c.unmarked.ensures.value ∙ c.in-Some.is))
+
 pub returns-in_err-mark : goal.returns-in_err-mark
 returns-in_err-mark g c = record {
   kept = record {
@@ -143,6 +152,7 @@ returns-in_err-mark g c = record {
     allowed = allowed g (goal.at.returns-in_err-mark g c).After-mark;
     holds = holds g (goal.at.returns-in_err-mark g c).After-mark;
     metas = metas g (goal.at.returns-in_err-mark g c).After-mark;
+    once = once g (goal.at.returns-in_err-mark g c).After-mark;
   };
   ends = none_done_if _ c.from_residual.result _ c.from_residual.ensures.1;
   marked = none_done_if _ c.from_residual.result _ c.from_residual.ensures.1;
@@ -176,6 +186,7 @@ returns g c = record {
     allowed = allowed g (goal.at.returns g c).After-mark;
     holds = holds g (goal.at.returns g c).After-mark;
     metas = metas g (goal.at.returns g c).After-mark;
+    once = once g (goal.at.returns g c).After-mark;
   };
   ends = λ slots x said old is recovers.
       let at = goal.at.returns g c in
@@ -250,6 +261,7 @@ returns-in_default g c =
         allowed = c.renew.ensures.recovers.allowed;
         holds = c.renew.ensures.recovers.holds;
         metas = c.renew.ensures.recovers.metas;
+        once = c.renew.ensures.recovers.once;
       };
       ends = c.renew.ensures.ends;
       marked = none_newly c.renew.result m c.renew.new.store.named (g.R.Rack.told c.args.store.now.rack) (g.R.Rack.told c.renew.new.store.rack) c.renew.ensures.given c.renew.ensures.named c.renew.ensures.ends;

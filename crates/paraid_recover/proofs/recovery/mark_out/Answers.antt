@@ -14,7 +14,7 @@ use Rattle.paraid_txn.specs.Losses.{AreFailedOrWell, IsOneOut, IsOutOfCommit, Is
 use Rattle.paraid_txn.specs.Losses.IsOutOfCommit.{was_named}
 use Rattle.paraid_txn.specs.Stores.{store_rack}
 use Rattle.paraid_txn.specs.Uses.{EachCall}
-use Rattle.paraid_recover.specs.Bearing.{BearsAgainst, EndsBorne, IsNamedLog}
+use Rattle.paraid_recover.specs.Bearing.{BearsAgainst, BearsOnce, EndsBorne, IsNamedLog}
 use Rattle.paraid_txn.specs.Borne.{IsBorneNow}
 use Rattle.paraid_recover.specs.HeldMoments.{EndsHeld, Recovers, RecoversHeld}
 use Rattle.paraid_recover.specs.MountCalls.{OnlyMountCalls}
@@ -27,6 +27,7 @@ use Rattle.paraid_recover.proofs.BearingLemmas.{bearing_ends, bearing_holds, bea
 use Rattle.paraid_recover.proofs.FitLemmas.{each_then, marks, spared_both}
 use Rattle.paraid_recover.proofs.MountCallsLemmas.{calls_then, mount_then}
 use Rattle.paraid_recover.proofs.GoneLemmas.{out_unmarked}
+use Rattle.paraid_recover.proofs.OpenLemmas.{once_then, open_named}
 use Rattle.paraid_recover.proofs.SecondLossLemmas.{one_fewer, out_more, still_tells, tells_same, tells_second}
 use Rattle.paraid_recover.proofs.StillLemmas.{log_logs, logs_still}
 use Rattle.paraid_recover.proofs.ServableLemmas.{disks_marked, names_stay}
@@ -72,6 +73,7 @@ returns-in-Err g c = record {
     allowed = c.mark_or_renew.ensures.recovers.allowed;
     holds = c.mark_or_renew.ensures.recovers.holds;
     metas = c.mark_or_renew.ensures.recovers.metas;
+    once = c.mark_or_renew.ensures.recovers.once;
   };
   ends = tt;
   borne = tt;
@@ -142,6 +144,12 @@ metas g c slots x said old is r before =
     (c.mark_or_renew.ensures.recovers.holds slots x said old is r) (c.in-Ok.ensures.ends slots x said old is r)
     (λ s i. marked (mark g c) (c.in-Ok.ensures.given ∙ ap (λ (m : Meta). with_mark m (mark g c)) (sym is))) (c.mark_or_renew.ensures.recovers.metas slots x said old is r before)
 
+-- a witness that is borne is not borne again
+once : (g : Over) (c : After-bear_named g) → BearsOnce c.args.meta.now (told_0 g c) (told_2 g c)
+once g c =
+    let m = c.args.meta.now in
+    once_then m (told_0 g c) (told_1 g c) (told_2 g c) c.mark_or_renew.ensures.recovers.once (λ two. open_named m (told_1 g c) (told_2 g c) c.bear_named.ensures.borne.kept)
+
 -- the log disk that the meta named out is down, and disk 2 fails
 tells : (g : Over) (c : After-bear_named g) (two : Two) → IsNamedLog (named_out c.args.meta.now.out) two.first × (two.second ≡ 2) → Ran (told_1 g c) (told_2 g c) (λ s cs. EndsByLoss (Some 2) cs)
     → TellsSecondLoss (IsOutOfCommit (λ e. (slot_0 g c e).power) c.args.store.now.disks c.args.store.now.named (mark g c)) (told_0 g c) (told_2 g c) two
@@ -193,6 +201,7 @@ returns-in-Err-bear_named g c =
         allowed = allowed g at;
         holds = holds g at;
         metas = metas g at;
+        once = once g at;
       };
       ends = tt;
       borne = tt;
@@ -277,6 +286,7 @@ returns-in-Ok-bear_named g c =
         allowed = allowed g at;
         holds = holds g at;
         metas = metas g at;
+        once = once g at;
       };
       ends = ends g ok;
       borne = borne g ok;

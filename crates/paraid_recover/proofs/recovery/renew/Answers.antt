@@ -1,6 +1,7 @@
 use Rattle.std.specs.Prelude.{◌≡◌, ◌≢◌, ◌+◌, ℕ, [], Option, Some, None}
 use Rattle.std.proofs.Common.{ap, arith, inl, refl, subst, sym, ◌∙◌}
 use Rattle.std.proofs.lemmas.Bool.Decides.{nat_tests}
+use Rattle.paraid_base.specs.States.{gone_out}
 use Rattle.paraid_rack.specs.Told.{Ran}
 use Rattle.paraid_rack.specs.Trail.{Trail}
 use Rattle.paraid_record.specs.declared.meta.Meta.{Meta}
@@ -23,6 +24,7 @@ use Rattle.paraid_recover.proofs.FitLemmas.{two_named}
 use Rattle.paraid_recover.proofs.GoneLemmas.{gone_beside, out_named_twice}
 use Rattle.paraid_recover.proofs.MountCallsLemmas.{no_calls, renew_calls}
 use Rattle.paraid_recover.proofs.OneMarkedLemmas.{in_log}
+use Rattle.paraid_recover.proofs.OpenLemmas.{open_none}
 use Rattle.paraid_recover.specs.StandingMetas.{StandsInMoments}
 use Rattle.paraid_recover.proofs.CommitMetasLemmas.{committed_metas}
 use Rattle.paraid_recover.proofs.RenewLemmas.{after, next_renewed, one_kept, renew_ends, renew_recovers, renewed_one}
@@ -83,6 +85,7 @@ returns-then-meta-ne1 g c = record {
     allowed = no_calls c.args.meta.now (g.R.Rack.told c.args.store.now.rack);
     holds = λ slots x said old is recovers. recovers.holds;
     metas = λ slots x said old is recovers before. before;
+    once = λ two. open_none (gone_out c.args.meta.now.out) (g.R.Rack.told c.args.store.now.rack);
   };
   ends = λ slots x said old is recovers.
       subst (λ (m : Meta). EndsHeld slots x said m old (g.R.Rack.told c.args.store.now.rack)) is recovers.ends;
@@ -142,6 +145,10 @@ returns-in_err-commit g c = record {
         let not = c.if-meta-ne1.false in
         let one : c.args.meta.now.version ≡ 1 = grind (arith, nat_tests, not) in
         metas g (goal.at.returns-in_err-commit g c).After-commit one;
+    once = λ two.
+        let not = c.if-meta-ne1.false in
+        let one : c.args.meta.now.version ≡ 1 = grind (arith, nat_tests, not) in
+        absurd (omega arith);
   };
   ends = none_done_if _ c.from_residual.result _ c.from_residual.ensures.1;
 }
@@ -181,6 +188,10 @@ returns g c = record {
         let not = c.if-meta-ne1.false in
         let one : c.args.meta.now.version ≡ 1 = grind (arith, nat_tests, not) in
         metas g (goal.at.returns g c).After-commit one;
+    once = λ two.
+        let not = c.if-meta-ne1.false in
+        let one : c.args.meta.now.version ≡ 1 = grind (arith, nat_tests, not) in
+        absurd (omega arith);
   };
   ends = λ slots x said old is recovers.
       let at = (goal.at.returns g c).After-commit in

@@ -1,5 +1,5 @@
 use Rattle.std.specs.Prelude.{◌≡◌, ℕ, Option, Some, None, is_ok}
-use Rattle.std.proofs.Common.{arith, subst, sym, ◌∙◌}
+use Rattle.std.proofs.Common.{arith, refl, subst, sym, ◌∙◌}
 use Rattle.paraid_image.specs.Out.{named_out}
 use Rattle.paraid_recover.specs.Bearing.{HasBorne}
 use Rattle.paraid_recover.proofs.BearerLemmas.{borne_none, named_two}
@@ -9,6 +9,7 @@ pub returns-in_default : goal.returns-in_default
 returns-in_default g c = record {
   borne = borne_none g.R.Rack (named_out c.args.meta.now.out) c.args.store.now (λ x named. let z : None ≡ Some x = sym c.in_default.is ∙ c.named.ensures ∙ named.0 in cc);
   two = tt;
+  known = λ x named borne. refl;
 }
 
 pub returns-then-disk-ge2 : goal.returns-then-disk-ge2
@@ -20,6 +21,7 @@ returns-then-disk-ge2 g c = record {
       let high = c.if-disk-ge2.true in
       omega arith);
   two = tt;
+  known = λ x named borne. refl;
 }
 
 pub bear_once-requires : goal.bear_once-requires
@@ -37,4 +39,5 @@ returns g c =
     record {
       borne = subst (λ (o : Option ℕ). HasBorne g.R.Rack o c.args.store.now c.bear_once.new.store (is_ok c.bear_once.result)) is c.bear_once.ensures.borne;
       two = named_two (named_out c.args.meta.now.out) c.in-Some.disk c.bear_once.result (sym is, omega arith) c.bear_once.ensures.two;
+      known = λ x named borne. c.bear_once.ensures.known (borne ∙ sym named.0 ∙ sym is);
     }

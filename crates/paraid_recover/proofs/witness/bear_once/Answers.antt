@@ -1,5 +1,6 @@
 use Rattle.std.specs.Prelude.{Some}
-use Rattle.std.proofs.Common.{refl}
+use Rattle.std.proofs.Common.{refl, sym, ◌∙◌}
+use Rattle.std.proofs.lemmas.Bool.{true≢false}
 use Rattle.paraid_txn.specs.Stores.{store_rack}
 use Rattle.paraid_recover.proofs.BearerLemmas.{bearer_clean}
 use Rattle.paraid_recover.proofs.NotedLemmas.{borne_known, borne_noted, borne_now}
@@ -18,15 +19,21 @@ note_borne-requires g c =
 
 pub returns-then-knows_borne : goal.returns-then-knows_borne
 returns-then-knows_borne g c = record {
-  borne = borne_known g.R.Rack c.args.disk c.args.store.now (c.knows_borne.ensures c.if-knows_borne.true);
+  borne = borne_known g.R.Rack c.args.disk c.args.store.now (c.knows_borne.ensures.known c.if-knows_borne.true);
   two = tt;
+  known = λ is. refl;
 }
 
 pub returns-in-Ok : goal.returns-in-Ok
 returns-in-Ok g c = record {
   borne = borne_noted g.R.Rack (Some c.args.disk) c.args.store.now c.bear.new.store c.note_borne.new.self c.note_borne.ensures.rack c.note_borne.ensures.same _ c.in-Ok.ensures.borne;
   two = tt;
+  known = λ is. absurd (true≢false (sym (c.knows_borne.ensures.yes is) ∙ c.if-knows_borne.false));
 }
 
 pub returns-in-Err : goal.returns-in-Err
-returns-in-Err g c = record { borne = c.in-Err.ensures.borne; two = c.in-Err.ensures.two }
+returns-in-Err g c = record {
+  borne = c.in-Err.ensures.borne;
+  two = c.in-Err.ensures.two;
+  known = λ is. absurd (true≢false (sym (c.knows_borne.ensures.yes is) ∙ c.if-knows_borne.false));
+}
