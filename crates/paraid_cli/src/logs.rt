@@ -2,7 +2,7 @@
 ghost use Rattle.std.specs.Prelude.{◌≡◌, ◌⊎◌, ℕ, IsFalse, IsTrue, Some};
 ghost use Rattle.paraid_base.specs.Told.{HasRisen};
 ghost use Rattle.paraid_rack.specs.Trail.{Trail, now};
-ghost use Rattle.paraid_recover.specs.Calls.{OnlyReads};
+ghost use Rattle.paraid_recover.specs.Calls.{OnlyHeadReads};
 ghost use Rattle.paraid_recover.specs.Found.{IsGreatest, IsUnclaimed};
 
 use paraid_rack::Rack;
@@ -11,7 +11,7 @@ use paraid_recover::greatest_epoch;
 /// Whether a log disk says that it belongs to an array. Where one failed, the format finds out.
 pub(crate) fn hold_array<R: Rack>(rack: &mut R) -> bool
     ensures slots { R.slot_count rack.new ≡ R.slot_count rack.old }
-    ensures reads { OnlyReads (R.told rack.old) (R.told rack.new) }
+    ensures reads { OnlyHeadReads (R.told rack.old) (R.told rack.new) }
     ensures held { IsTrue result → (t : Trail) → R.told rack.new ≡ Some t
         → (epoch : ℕ) × IsGreatest (now t) epoch }
     ensures free { IsFalse result → (t : Trail) → R.told rack.new ≡ Some t → IsUnclaimed (now t)

@@ -8,7 +8,7 @@ use Rattle.paraid_serve.specs.Uses.{RackUse, SinkUse, SourceUse}
 use Rattle.paraid_program.specs.Complete.Completes.{hindered, no_memory, whole}
 use Rattle.paraid_program.proofs.CompleteLemmas.{told_whole}
 use Rattle.paraid_program.specs.CommandCompletes.{CompletesCommand}
-use Rattle.paraid_program.specs.CommandCompletes.HindersFormat.{claimed, config, disk, few, sink_failed, source_failed}
+use Rattle.paraid_program.specs.CommandCompletes.HindersFormat.{claimed, config, disk, sink_failed, source_failed}
 use Rattle.paraid_words.specs.declared.command.Command.TheVariants.{Format}
 
 module _ (rack : RackUse) (given : SourceUse) (kept : SinkUse) (status : ℕ) (sunk : status ≡ 4 → HasRisen kept.faults_before kept.faults) where
@@ -23,10 +23,7 @@ module _ (rack : RackUse) (given : SourceUse) (kept : SinkUse) (status : ℕ) (s
   format_by force code line (for_memory unread untouched) e (inr all) = no_memory all.1 untouched
   format_by force code line (for_config fault other unread untouched) e (inr all) = hindered (config all.1 fault other unread)
   format_by force code line (for_claim setup epoch configured unmade) e (inr all) = hindered (claimed all.1 unmade.cause.0 epoch unmade.cause.2)
-  format_by force code line (for_disk setup d configured unmade) e (inr all) = elim unmade.cause [
-    | inl risen ↦ hindered (disk all.1 d risen)
-    | inr missing ↦ hindered (few all.1 setup configured missing.1)
-  ]
+  format_by force code line (for_disk setup d configured unmade) e (inr all) = hindered (disk all.1 setup d configured unmade.cause)
 
   -- A format.
   pub format_comes : (force : Bool) → Formats force rack given kept status → FormatComes force

@@ -1,17 +1,18 @@
 -- How each command comes out: all is done, or one of a few causes is told.
-use Rattle.std.specs.Prelude.{◌≡◌, ◌≢◌, ℕ, ◌<◌, ◌⊎◌, Bool, false, List}
+use Rattle.std.specs.Prelude.{◌≡◌, ◌≢◌, ℕ, ◌⊎◌, Bool, false, List}
 use Rattle.paraid_base.specs.Told.{AtEnd, HasRisen}
 use Rattle.paraid_config.specs.declared.fault.ConfigFault.{ConfigFault}
 use Rattle.paraid_config.specs.declared.fault.ConfigFault.TheVariants.{NoMemory}
 use Rattle.paraid_planning.specs.Planned.{plan_lines}
 use Rattle.paraid_record.specs.declared.meta.Meta.{Meta}
+use Rattle.paraid_recover.specs.Calls.{AreHeadReads}
+use Rattle.paraid_recover.specs.FormatRefusals.{IsDiskRefused}
 use Rattle.paraid_recover.specs.Found.{IsGreatest}
 use Rattle.paraid_program.specs.Counts.{check_line}
 use Rattle.paraid_program.specs.Lines.{formatted_line}
 use Rattle.paraid_program.specs.Outcome.{IsArrayMade, IsUntouched}
 use Rattle.paraid_program.specs.Reading.{IsConfigured, IsUnread}
 use Rattle.paraid_program.specs.declared.refusal.Refusal.TheVariants.{Config, Source}
-use Rattle.paraid_rack.specs.Calls.{AreReads}
 use Rattle.paraid_rack.specs.Told.{Ran}
 use Rattle.paraid_scrub.specs.Counts.{no_faults}
 use Rattle.paraid_serve.specs.Ending.{end_line}
@@ -49,14 +50,13 @@ pub data HindersFormat (force : Bool)
       → IsUnread source (Config fault) → HindersFormat force rack source sink status
   -- it was not forced, and a log disk belonged to an array
   claimed : status ≡ status_already_formatted → force ≡ false → (epoch : ℕ)
-      → Ran rack.before rack.after (λ start calls. AreReads calls × IsGreatest start epoch)
+      → Ran rack.before rack.after (λ start calls. AreHeadReads calls × IsGreatest start epoch)
       → HindersFormat force rack source sink status
-  -- a disk has failed
-  disk : status ≡ status_disk → (d : ℕ) → HasRisen (rack.old d).faults (rack.new d).faults
-      → HindersFormat force rack source sink status
-  -- the rack has fewer slots than the array has disks
-  few : status ≡ status_disk → (setup : Setup) → IsConfigured source setup
-      → rack.slots < setup.geometry.disks → HindersFormat force rack source sink status
+  -- A log disk has failed in the test, or a disk of the array in its making; or the rack has fewer
+  -- slots than the array has disks.
+  disk : status ≡ status_disk → (setup : Setup) (d : ℕ) → IsConfigured source setup
+      → IsDiskRefused force setup.geometry.disks rack.slots rack.old rack.new rack.before rack.after
+      d → HindersFormat force rack source sink status
 
 -- How a command comes out. A format does so whatever the rack held, and the others where it told
 -- its calls and held a history.

@@ -80,13 +80,13 @@ pub data FormatOutcome (force : Bool) (rack : RackUse) (source : SourceUse) : �
       → FormatOutcome force rack source status_no_memory (codes "nomemory\n")
   config : (fault : ConfigFault) → fault ≢ NoMemory → IsUnread source (Config fault)
       → IsUntouched rack → FormatOutcome force rack source status_config (config_line fault)
-  -- a log disk belongs to an array, and only reads were made
+  -- a log disk belongs to an array, and only heads of logs were read
   already : (setup : Setup) (epoch : ℕ)
       → IsConfigured source setup → IsArrayUnmade force rack setup (AlreadyFormatted epoch)
       → FormatOutcome force rack source status_already_formatted
       (codes "already " ++ decimal epoch ++ codes "\n")
-  -- the disk has failed; or it is the number of slots, the array needs more, and only reads were
-  -- made
+  -- a log disk has failed in the test, or a disk of the array in its making; or it is the number of
+  -- slots, the array needs more, and at most heads of logs were read
   disk : (setup : Setup) (d : ℕ)
       → IsConfigured source setup → IsArrayUnmade force rack setup (Disk d)
       → FormatOutcome force rack source status_disk (codes "disk " ++ decimal d ++ codes "\n")
