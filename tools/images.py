@@ -30,7 +30,7 @@ AWAY = ("absent", "shut")
 OF_DEVICE = (errno.EIO, errno.ENXIO, errno.ENODEV, errno.EBADMSG, errno.EUCLEAN, errno.EREMOTEIO, errno.ENOMEDIUM)
 # The options of a file system that takes no writes; newer kernels say the second one of ext4 after an error.
 READ_ONLY = frozenset(("ro", "emergency_ro"))
-TAKES_NO_WRITES = "a file of disk {} takes no writes: it is immutable, or its file system is read-only"
+TAKES_NO_WRITES = "a file of disk {} takes no writes: it is immutable or append-only, or its file system is read-only"
 
 
 class Geometry:
@@ -345,13 +345,28 @@ class Folder:
 
 
 def is_fixed(name):
-    """Whether a file takes no writes, whoever asks, though its mount does: it is immutable, or in a subvolume
-    of btrfs that is read-only. Where only this user may not write, others may."""
+    """Whether a file takes no writes in its place, whoever asks, though its mount does: it is immutable or
+    append-only, or in a subvolume of btrfs that is read-only. Where only this user may not write, others may."""
+    if is_append_only(name):
+        return True
     if os.access(name, os.W_OK) or os.statvfs(name).f_flag & os.ST_RDONLY:
         return False
     # (os.access does not say why)
     library = ctypes.CDLL(None, use_errno=True)
     return library.access(os.fsencode(name), os.W_OK) != 0 and ctypes.get_errno() in (errno.EPERM, errno.EROFS)
+
+
+AT_FDCWD, STATX_ATTR_APPEND = -100, 0x20
+STATX = struct.Struct("=8xQ240x")
+
+
+def is_append_only(name):
+    """Whether a file can only grow. It is not opened for that: os.access says that it may be written."""
+    library = ctypes.CDLL(None)
+    if not hasattr(library, "statx"):
+        return False
+    told = ctypes.create_string_buffer(STATX.size)
+    return library.statx(AT_FDCWD, os.fsencode(name), 0, 0, told) == 0 and bool(STATX.unpack(told.raw)[0] & STATX_ATTR_APPEND)
 
 
 def read_only_devices(mounts="/proc/self/mountinfo"):
