@@ -556,15 +556,15 @@ def named_by(labels):
 
 
 def misfits_of(labels):
-    """The images that do not belong into their slots, by slots: (`foreign`, `moved`, `old` or `bare`, and why).
-    A mount refuses each of them."""
+    """The images that do not belong into their slots, by slots: (`foreign`, `moved`, `old`, `new` or `bare`, and
+    why). A mount refuses each of them."""
     named, found = named_by(labels), {}
     if named is None:
         return found
-    right = [label for slot, label in enumerate(labels)
-             if label and slot < named.disks and label.disk == slot and label.array == named.array]
+    right = {slot: label for slot, label in enumerate(labels)
+             if label and slot < named.disks and label.disk == slot and label.array == named.array}
     for slot, label in enumerate(labels[: named.disks]):
-        known = max((other.known[slot] for other in right), default=0)
+        known = max((other.known[slot] for other in right.values()), default=0)
         if label is BARE and known > 0:
             found[slot] = "bare", f"has no label, where the others know generation {known}"
         elif not label:
@@ -576,7 +576,30 @@ def misfits_of(labels):
         elif label.generation < known:
             found[slot] = "old", (f"is an old copy: its label has generation {label.generation},"
                                   f" where the others know {known}")
+    # (beside an old copy each other image is newer: the old one alone is named)
+    return dict(sorted({**newer_in({slot: label for slot, label in right.items() if slot not in found}), **found}.items()))
+
+
+def newer_in(labels):
+    """The images of a later time than another one, by slots, in the form of `misfits_of`. Its own label says of such
+    a one that all who spun then were told its generation. It knows the other one from then or from later, and that one
+    was not told."""
+    found = {}
+    for slot, label in labels.items():
+        known = [other.known[slot] for disk, other in labels.items() if other.known[slot] < label.known[slot] <= label.known[disk]]
+        if known:
+            found[slot] = "new", f"is newer than the others: its label has generation {label.generation}, where they know {max(known)}"
     return found
+
+
+def stayed_behind(labels):
+    """The images beside which most of the others are old copies: where those came from one backup, it is these that were
+    not brought back."""
+    found = misfits_of(labels)
+    old = {slot: labels[slot] for slot, (kind, _) in found.items() if kind == "old"}
+    knowing = [disk for disk, label in enumerate(labels) if label and disk not in found
+               and any(label.array == it.array and label.known[slot] > it.generation for slot, it in old.items())]
+    return knowing if len(knowing) < len(old) else []
 
 
 def dirty_bytes(folder, meta, batch, power):
