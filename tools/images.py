@@ -295,6 +295,18 @@ class Folder:
         word = text.rstrip(b" \t\n\f\r") if len(text) <= LONGEST_WORD else b""
         return word.decode() if word in (b"spinning", b"parked") else "absent"
 
+    def has_failed(self, disk):
+        """Whether the sidecar of a disk says so."""
+        sidecar = os.path.join(self.path, f"disk-{disk}.power")
+        if found(sidecar) != "file":
+            return False
+        with open(sidecar, "rb") as file:
+            return file.read(LONGEST_WORD).strip() == b"failed"
+
+    def has_labels(self):
+        """Whether a label tells that an array is here. Those of lost disks count, and no parked image is opened."""
+        return any(self.label(disk) for disk in range(MOST_DISKS) if self.power(disk) != "parked")
+
     def is_read_only(self, disk, devices):
         """Whether the image or the sidecar of a disk lies on one of these devices, or takes no writes itself."""
         names = self.image(disk), os.path.join(self.path, f"disk-{disk}.power")
