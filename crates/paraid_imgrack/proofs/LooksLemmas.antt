@@ -5,9 +5,10 @@ use Rattle.std.proofs.lemmas.List.{get_or-map, get_or-set_other, get_or-set_same
 use Rattle.paraid_base.specs.Told.{HasRisen}
 use Rattle.paraid_imgrack.specs.declared.identity.Identity.{Identity}
 use Rattle.paraid_imgrack.specs.declared.identity.Misfit.{Misfit}
+use Rattle.paraid_imgrack.specs.declared.identity.Misfit.TheVariants.{Moved, Foreign, Old, New, Bare}
 use Rattle.paraid_imgrack.specs.declared.image.Image.{Image}
 use Rattle.paraid_imgrack.specs.Images.{AreTrueMisfits, Fit, IsLook, image_label, image_misfit, image_tail, label_at, misfit_at, tail_at}
-use Rattle.paraid_imgrack.specs.Labels.{AreUnnamed, FitsTail, IsLearned, IsNamed, IsNoLess, IsTakenOver, Names, IsAmong, SuitsTail, known_array, label_in, label_of}
+use Rattle.paraid_imgrack.specs.Labels.{AreUnnamed, IsLearned, IsNamed, IsNoLess, IsTakenOver, Names, IsAmong, IsApart, Knows, SuitsBeside, SuitsOthers, known_array, label_in, label_of}
 use Rattle.paraid_imgrack.specs.declared.label.Label.{Label}
 use Rattle.paraid_imgrack.specs.declared.tail.Tail.{Tail}
 use Rattle.paraid_imgrack.specs.declared.tail.Tail.TheVariants.{Other}
@@ -47,20 +48,20 @@ pub IsLook-then : (a b c : List Image) → IsLook a b → IsLook b c → IsLook 
 IsLook-then a b c first second = record { slots = second.slots ∙ first.slots; hindrances = second.hindrances ∙ first.hindrances }
 
 -- the images that were read in the first slots of the array belong there
-abbrev pub FitBelow : List Image → Identity → ℕ → Type 0
-FitBelow images i n = (d : ℕ) → d < n → d < i.disks → FitsTail i (tail_at images d) d
+abbrev pub FitBelow : (ℕ → Option Label) → List Image → Identity → ℕ → Type 0
+FitBelow labels images i n = (d : ℕ) → d < n → d < i.disks → SuitsBeside i labels (tail_at images d) d None
 
-pub FitBelow-next : (old new : List Image) (i : Identity) (n : ℕ) → map image_tail new ≡ map image_tail old → FitBelow old i n
-    → (n < i.disks → FitsTail i (tail_at new n) n) → FitBelow new i (n + 1)
-FitBelow-next old new i n same fit at d below within = elim (cases_lt d n) [
-  | inl before ↦ subst (λ (tails : List Tail). FitsTail i (get_or tails d Other) d) (sym same) (fit d before within)
-  | inr past ↦ let is : d ≡ n = omega (arith, below, past) in subst (λ (k : ℕ). k < i.disks → FitsTail i (tail_at new k) k) (sym is) at within
+pub FitBelow-next : (labels : ℕ → Option Label) (old new : List Image) (i : Identity) (n : ℕ) → map image_tail new ≡ map image_tail old → FitBelow labels old i n
+    → (n < i.disks → SuitsBeside i labels (tail_at new n) n None) → FitBelow labels new i (n + 1)
+FitBelow-next labels old new i n same fit at d below within = elim (cases_lt d n) [
+  | inl before ↦ subst (λ (tails : List Tail). SuitsBeside i labels (get_or tails d Other) d None) (sym same) (fit d before within)
+  | inr past ↦ let is : d ≡ n = omega (arith, below, past) in subst (λ (k : ℕ). k < i.disks → SuitsBeside i labels (tail_at new k) k None) (sym is) at within
 ]
 
-pub FitBelow-whole : (images : List Image) (i : Identity) (n : ℕ) → length images ≤ n → FitBelow images i n → Fit images i
-FitBelow-whole images i n all fit d within = elim (cases_lt d n) [
+pub FitBelow-whole : (labels : ℕ → Option Label) (images : List Image) (i : Identity) (n : ℕ) → length images ≤ n → FitBelow labels images i n → Fit labels images i
+FitBelow-whole labels images i n all fit d within = elim (cases_lt d n) [
   | inl below ↦ fit d below within
-  | inr past ↦ subst (λ (tail : Tail). FitsTail i tail d) (sym (tail_past images d (omega (arith, past, all)))) refl
+  | inr past ↦ subst (λ (tail : Tail). SuitsBeside i labels tail d None) (sym (tail_past images d (omega (arith, past, all)))) (refl, tt)
 ]
 
 pub misfit_kept : (old new : List Image) → map image_misfit new ≡ map image_misfit old → (d : ℕ) × IsSome (misfit_at old d) → (d : ℕ) × IsSome (misfit_at new d)
@@ -71,41 +72,41 @@ some_if P None is = absurd is
 some_if P (Some x) is = (refl, is)
 
 -- where no misfit is kept, each that is kept is true
-pub AreTrueMisfits-none : (images : List Image) (known : Option Identity) → ((d : ℕ) → misfit_at images d ≡ None) → AreTrueMisfits images known
-AreTrueMisfits-none images known none d = subst (λ (o : Option Misfit). IfSome o (λ m. IsSomeAnd known (λ i. (d < i.disks) × SuitsTail i (tail_at images d) d (Some m)))) (sym (none d)) tt
+pub AreTrueMisfits-none : (labels : ℕ → Option Label) (images : List Image) (known : Option Identity) → ((d : ℕ) → misfit_at images d ≡ None) → AreTrueMisfits labels images known
+AreTrueMisfits-none labels images known none d = subst (λ (o : Option Misfit). IfSome o (λ m. IsSomeAnd known (λ i. (d < i.disks) × SuitsBeside i labels (tail_at images d) d (Some m)))) (sym (none d)) tt
 
 -- of a slot whose misfit and tail are as they were
-true_kept : (old new : List Image) (i : Identity) (d : ℕ) → map image_tail new ≡ map image_tail old → misfit_at new d ≡ misfit_at old d
-    → IfSome (misfit_at old d) (λ m. (d < i.disks) × SuitsTail i (tail_at old d) d (Some m))
-    → IfSome (misfit_at new d) (λ m. (d < i.disks) × SuitsTail i (tail_at new d) d (Some m))
-true_kept old new i d tails same was =
-    subst (λ (o : Option Misfit). IfSome o (λ m. (d < i.disks) × SuitsTail i (tail_at new d) d (Some m))) (sym same)
-    (subst (λ (l : List Tail). IfSome (misfit_at old d) (λ m. (d < i.disks) × SuitsTail i (get_or l d Other) d (Some m))) (sym tails) was)
+true_kept : (labels : ℕ → Option Label) (old new : List Image) (i : Identity) (d : ℕ) → map image_tail new ≡ map image_tail old → misfit_at new d ≡ misfit_at old d
+    → IfSome (misfit_at old d) (λ m. (d < i.disks) × SuitsBeside i labels (tail_at old d) d (Some m))
+    → IfSome (misfit_at new d) (λ m. (d < i.disks) × SuitsBeside i labels (tail_at new d) d (Some m))
+true_kept labels old new i d tails same was =
+    subst (λ (o : Option Misfit). IfSome o (λ m. (d < i.disks) × SuitsBeside i labels (tail_at new d) d (Some m))) (sym same)
+    (subst (λ (l : List Tail). IfSome (misfit_at old d) (λ m. (d < i.disks) × SuitsBeside i labels (get_or l d Other) d (Some m))) (sym tails) was)
 
-AreTrueMisfits-same : (old new : List Image) (i : Identity) → map image_tail new ≡ map image_tail old → map image_misfit new ≡ map image_misfit old
-    → AreTrueMisfits old (Some i) → AreTrueMisfits new (Some i)
-AreTrueMisfits-same old new i tails same was d = true_kept old new i d tails (ap (λ (l : List (Option Misfit)). get_or l d None) same) (was d)
+AreTrueMisfits-same : (labels : ℕ → Option Label) (old new : List Image) (i : Identity) → map image_tail new ≡ map image_tail old → map image_misfit new ≡ map image_misfit old
+    → AreTrueMisfits labels old (Some i) → AreTrueMisfits labels new (Some i)
+AreTrueMisfits-same labels old new i tails same was d = true_kept labels old new i d tails (ap (λ (l : List (Option Misfit)). get_or l d None) same) (was d)
 
 -- one slot has got a misfit, which is true
-AreTrueMisfits-one : (old new : List Image) (i : Identity) (n : ℕ) → map image_tail new ≡ map image_tail old
-    → IfSome (misfit_at new n) (λ m. (n < i.disks) × SuitsTail i (tail_at new n) n (Some m))
-    → ((e : ℕ) → e ≢ n → misfit_at new e ≡ misfit_at old e) → AreTrueMisfits old (Some i) → AreTrueMisfits new (Some i)
-AreTrueMisfits-one old new i n tails here others was d = elim (cases_eq d n) [
-  | inl is ↦ subst (λ (k : ℕ). IfSome (misfit_at new k) (λ m. (k < i.disks) × SuitsTail i (tail_at new k) k (Some m))) (sym is) here
-  | inr not ↦ true_kept old new i d tails (others d not) (was d)
+AreTrueMisfits-one : (labels : ℕ → Option Label) (old new : List Image) (i : Identity) (n : ℕ) → map image_tail new ≡ map image_tail old
+    → IfSome (misfit_at new n) (λ m. (n < i.disks) × SuitsBeside i labels (tail_at new n) n (Some m))
+    → ((e : ℕ) → e ≢ n → misfit_at new e ≡ misfit_at old e) → AreTrueMisfits labels old (Some i) → AreTrueMisfits labels new (Some i)
+AreTrueMisfits-one labels old new i n tails here others was d = elim (cases_eq d n) [
+  | inl is ↦ subst (λ (k : ℕ). IfSome (misfit_at new k) (λ m. (k < i.disks) × SuitsBeside i labels (tail_at new k) k (Some m))) (sym is) here
+  | inr not ↦ true_kept labels old new i d tails (others d not) (was d)
 ]
 
 -- what a walk knows that asks each image whether it fits
-pub record FitsSoFar (start now : List Image) (i : Identity) (n : ℕ) (fits : Bool) : Type 0 where
+pub record FitsSoFar (labels : ℕ → Option Label) (start now : List Image) (i : Identity) (n : ℕ) (fits : Bool) : Type 0 where
   pub look : IsLook start now
   pub tails : map image_tail now ≡ map image_tail start
-  pub fit : fits ≡ true → FitBelow now i n
+  pub fit : fits ≡ true → FitBelow labels now i n
   pub same : fits ≡ true → map image_misfit now ≡ map image_misfit start
   pub misfit : fits ≡ false → (d : ℕ) × IsSome (misfit_at now d)
-  pub misfits : AreTrueMisfits start (Some i) → AreTrueMisfits now (Some i)
+  pub misfits : AreTrueMisfits labels start (Some i) → AreTrueMisfits labels now (Some i)
 
-pub FitsSoFar-none : (start : List Image) (i : Identity) → FitsSoFar start start i 0 true
-FitsSoFar-none start i = record {
+pub FitsSoFar-none : (labels : ℕ → Option Label) (start : List Image) (i : Identity) → FitsSoFar labels start start i 0 true
+FitsSoFar-none labels start i = record {
   look = record { slots = refl; hindrances = refl };
   tails = refl;
   fit = λ _ d below. absurd (omega (arith, below));
@@ -114,43 +115,43 @@ FitsSoFar-none start i = record {
   misfits = λ was. was;
 }
 
-pub FitsSoFar-next : (start old new : List Image) (i : Identity) (n : ℕ) (fits result : Bool) → FitsSoFar start old i n fits → IsLook old new
+pub FitsSoFar-next : (labels : ℕ → Option Label) (start old new : List Image) (i : Identity) (n : ℕ) (fits result : Bool) → FitsSoFar labels start old i n fits → IsLook old new
     → map image_tail new ≡ map image_tail old
-    → (result ≡ true → n < i.disks → FitsTail i (tail_at new n) n)
+    → (result ≡ true → n < i.disks → SuitsBeside i labels (tail_at new n) n None)
     → (result ≡ true → map image_misfit new ≡ map image_misfit old)
-    → (result ≡ false → IsSomeAnd (misfit_at new n) (λ m. (n < i.disks) × SuitsTail i (tail_at new n) n (Some m)))
-    → ((e : ℕ) → e ≢ n → misfit_at new e ≡ misfit_at old e) → FitsSoFar start new i (n + 1) (fits && result)
-FitsSoFar-next start old new i n true true so look tails fit same misfit others = record {
+    → (result ≡ false → IsSomeAnd (misfit_at new n) (λ m. (n < i.disks) × SuitsBeside i labels (tail_at new n) n (Some m)))
+    → ((e : ℕ) → e ≢ n → misfit_at new e ≡ misfit_at old e) → FitsSoFar labels start new i (n + 1) (fits && result)
+FitsSoFar-next labels start old new i n true true so look tails fit same misfit others = record {
   look = IsLook-then start old new so.look look;
   tails = tails ∙ so.tails;
-  fit = λ _. FitBelow-next old new i n tails (so.fit refl) (fit refl);
+  fit = λ _. FitBelow-next labels old new i n tails (so.fit refl) (fit refl);
   same = λ _. same refl ∙ so.same refl;
   misfit = λ e. absurd (false≢true (sym e));
-  misfits = λ was. AreTrueMisfits-same old new i tails (same refl) (so.misfits was);
+  misfits = λ was. AreTrueMisfits-same labels old new i tails (same refl) (so.misfits was);
 }
-FitsSoFar-next start old new i n false true so look tails fit same misfit others = record {
+FitsSoFar-next labels start old new i n false true so look tails fit same misfit others = record {
   look = IsLook-then start old new so.look look;
   tails = tails ∙ so.tails;
   fit = λ e. absurd (false≢true e);
   same = λ e. absurd (false≢true e);
   misfit = λ _. misfit_kept old new (same refl) (so.misfit refl);
-  misfits = λ was. AreTrueMisfits-same old new i tails (same refl) (so.misfits was);
+  misfits = λ was. AreTrueMisfits-same labels old new i tails (same refl) (so.misfits was);
 }
-FitsSoFar-next start old new i n true false so look tails fit same misfit others = record {
+FitsSoFar-next labels start old new i n true false so look tails fit same misfit others = record {
   look = IsLook-then start old new so.look look;
   tails = tails ∙ so.tails;
   fit = λ e. absurd (false≢true e);
   same = λ e. absurd (false≢true e);
-  misfit = λ _. (n, (some_if (λ m. (n < i.disks) × SuitsTail i (tail_at new n) n (Some m)) (misfit_at new n) (misfit refl)).0);
-  misfits = λ was. AreTrueMisfits-one old new i n tails (some_if (λ m. (n < i.disks) × SuitsTail i (tail_at new n) n (Some m)) (misfit_at new n) (misfit refl)).1 others (so.misfits was);
+  misfit = λ _. (n, (some_if (λ m. (n < i.disks) × SuitsBeside i labels (tail_at new n) n (Some m)) (misfit_at new n) (misfit refl)).0);
+  misfits = λ was. AreTrueMisfits-one labels old new i n tails (some_if (λ m. (n < i.disks) × SuitsBeside i labels (tail_at new n) n (Some m)) (misfit_at new n) (misfit refl)).1 others (so.misfits was);
 }
-FitsSoFar-next start old new i n false false so look tails fit same misfit others = record {
+FitsSoFar-next labels start old new i n false false so look tails fit same misfit others = record {
   look = IsLook-then start old new so.look look;
   tails = tails ∙ so.tails;
   fit = λ e. absurd (false≢true e);
   same = λ e. absurd (false≢true e);
-  misfit = λ _. (n, (some_if (λ m. (n < i.disks) × SuitsTail i (tail_at new n) n (Some m)) (misfit_at new n) (misfit refl)).0);
-  misfits = λ was. AreTrueMisfits-one old new i n tails (some_if (λ m. (n < i.disks) × SuitsTail i (tail_at new n) n (Some m)) (misfit_at new n) (misfit refl)).1 others (so.misfits was);
+  misfit = λ _. (n, (some_if (λ m. (n < i.disks) × SuitsBeside i labels (tail_at new n) n (Some m)) (misfit_at new n) (misfit refl)).0);
+  misfits = λ was. AreTrueMisfits-one labels old new i n tails (some_if (λ m. (n < i.disks) × SuitsBeside i labels (tail_at new n) n (Some m)) (misfit_at new n) (misfit refl)).1 others (so.misfits was);
 }
 
 -- one slot more of which nothing is told
@@ -222,16 +223,59 @@ LearnedBelow-next labels old new n same kept at learned d below = elim (cases_lt
       subst (λ (k : ℕ). IfSome (labels k) (λ l. k < new.disks → l.disk ≡ k → l.array ≡ new.array → IsTakenOver new l)) (sym is) (owed_new (labels n) old new n same at)
 ]
 
+apart_by : (at by : ℕ → Option Label) (i : Identity) (l : Label) (d e : ℕ) → at e ≡ by e → IsApart i at l d e → IsApart i by l d e
+apart_by at by i l d e same is = subst (λ (o : Option Label). IsApart i (λ _. o) l d e) same is
+
+knows_by : (at by : ℕ → Option Label) (e d known : ℕ) → at e ≡ by e → Knows at e d known → Knows by e d known
+knows_by at by e d known same is = subst (λ (o : Option Label). Knows (λ _. o) e d known) same is
+
+others_by : (at by : ℕ → Option Label) (i : Identity) (l : Label) (d : ℕ) (m : Misfit) → ((e : ℕ) → e < 8 → at e ≡ by e) → SuitsOthers i at l d (Some m) → SuitsOthers i by l d (Some m)
+others_by at by i l d Foreign is so = absurd so
+others_by at by i l d (Moved disk) is so = absurd so
+others_by at by i l d (Old generation known) is so = absurd so
+others_by at by i l d (New generation known) is (told, (e, (below, (apart, knows)))) =
+    (told, (e, (below, (apart_by at by i l d e (is e below) apart, knows_by at by e d known (is e below) knows))))
+others_by at by i l d (Bare known) is so = absurd so
+
+none_by : (at by : ℕ → Option Label) (i : Identity) (o : Option Label) (d : ℕ) → ((e : ℕ) → e < 8 → at e ≡ by e)
+    → IfSome o (λ l. SuitsOthers i at l d None) → IfSome o (λ l. SuitsOthers i by l d None)
+none_by at by i None d is so = tt
+none_by at by i (Some l) d is so = λ e below apart. so e below (apart_by by at i l d e (sym (is e below)) apart)
+
+one_by : (at by : ℕ → Option Label) (i : Identity) (o : Option Label) (d : ℕ) (m : Misfit) → ((e : ℕ) → e < 8 → at e ≡ by e)
+    → IsSomeAnd o (λ l. SuitsOthers i at l d (Some m)) → IsSomeAnd o (λ l. SuitsOthers i by l d (Some m))
+one_by at by i None d m is so = absurd so
+one_by at by i (Some l) d m is so = others_by at by i l d m is so
+
+-- what is said of an image beside these labels is so beside equal ones
+suits_by : (at by : ℕ → Option Label) (i : Identity) (tail : Tail) (d : ℕ) (o : Option Misfit) → ((e : ℕ) → e < 8 → at e ≡ by e)
+    → SuitsBeside i at tail d o → SuitsBeside i by tail d o
+suits_by at by i tail d None is so = (so.0, none_by at by i (label_of tail) d is so.1)
+suits_by at by i tail d (Some m) is so = elim so [
+  | inl alone ↦ inl alone
+  | inr beside ↦ inr (beside.0, one_by at by i (label_of tail) d m is beside.1)
+]
+
+true_by : (at by : ℕ → Option Label) (i : Identity) (tail : Tail) (d : ℕ) (o : Option Misfit) → ((e : ℕ) → e < 8 → at e ≡ by e)
+    → IfSome o (λ m. (d < i.disks) × SuitsBeside i at tail d (Some m)) → IfSome o (λ m. (d < i.disks) × SuitsBeside i by tail d (Some m))
+true_by at by i tail d None is so = tt
+true_by at by i tail d (Some m) is so = (so.0, suits_by at by i tail d (Some m) is so.1)
+
 -- what was read names the array, what its labels know is known, and each label fits
 pub IsFitting-by : (labels : List (Option Label)) (read now : List Image) (i : Identity) (known : Option Identity) → Names (label_in labels) (Some i)
-    → ((d : ℕ) → d < 8 → label_in labels d ≡ label_at read d) → map image_tail now ≡ map image_tail read → known ≡ Some i → Fit now i
-    → AreUnnamed (label_at now) ⊎ IsSomeAnd known (λ j. IsNamed (label_at now) j × (IsLearned (label_at now) j × Fit now j))
+    → ((d : ℕ) → d < 8 → label_in labels d ≡ label_at read d) → map image_tail now ≡ map image_tail read → known ≡ Some i → Fit (label_in labels) now i
+    → AreUnnamed (label_at now) ⊎ IsSomeAnd known (λ j. IsNamed (label_at now) j × (IsLearned (label_at now) j × Fit (label_at now) now j))
 IsFitting-by labels read now i known names is same known_is fit =
     let at : (d : ℕ) → d < 8 → label_in labels d ≡ label_at now d = (λ d below. is d below ∙ sym (ap (λ (l : List Tail). label_of (get_or l d Other)) same)) in
     elim names [
       | inl none ↦ inl (unnamed_by (label_in labels) (label_at now) at none)
-      | inr named ↦ inr (subst (λ (o : Option Identity). IsSomeAnd o (λ j. IsNamed (label_at now) j × (IsLearned (label_at now) j × Fit now j))) (sym known_is)
-          (named_by (label_in labels) (label_at now) i at named.0, (learned_by (label_in labels) (label_at now) i at named.1, fit)))
+      | inr named ↦ inr (subst (λ (o : Option Identity). IsSomeAnd o (λ j. IsNamed (label_at now) j × (IsLearned (label_at now) j × Fit (label_at now) now j))) (sym known_is) (
+        named_by (label_in labels) (label_at now) i at named.0,
+        (
+          learned_by (label_in labels) (label_at now) i at named.1,
+          λ d within. suits_by (label_in labels) (label_at now) i (tail_at now d) d None at (fit d within),
+        ),
+      ))
     ]
 
 -- what was read names the array, or no label names one
@@ -253,21 +297,25 @@ Names-none labels images known names is = elim names [
 ]
 
 -- where no misfit was kept before the walk
-pub AreTrueMisfits-by : (start read now : List Image) (i : Identity) (known : Option Identity) → map image_misfit read ≡ map image_misfit start → known ≡ Some i
-    → (AreTrueMisfits read (Some i) → AreTrueMisfits now (Some i)) → ((d : ℕ) → misfit_at start d ≡ None) → AreTrueMisfits now known
-AreTrueMisfits-by start read now i known same known_is walk none = subst (λ (o : Option Identity). AreTrueMisfits now o) (sym known_is)
-    (walk (AreTrueMisfits-none read (Some i) (λ d. ap (λ (l : List (Option Misfit)). get_or l d None) same ∙ none d)))
+pub AreTrueMisfits-by : (labels : List (Option Label)) (start read now : List Image) (i : Identity) (known : Option Identity) → map image_misfit read ≡ map image_misfit start
+    → ((d : ℕ) → d < 8 → label_in labels d ≡ label_at read d) → map image_tail now ≡ map image_tail read → known ≡ Some i
+    → (AreTrueMisfits (label_in labels) read (Some i) → AreTrueMisfits (label_in labels) now (Some i)) → ((d : ℕ) → misfit_at start d ≡ None) → AreTrueMisfits (label_at now) now known
+AreTrueMisfits-by labels start read now i known same is tails known_is walk none =
+    let at : (d : ℕ) → d < 8 → label_in labels d ≡ label_at now d = (λ d below. is d below ∙ sym (ap (λ (l : List Tail). label_of (get_or l d Other)) tails)) in
+    let walked : AreTrueMisfits (label_in labels) now (Some i) = walk (AreTrueMisfits-none (label_in labels) read (Some i) (λ d. ap (λ (l : List (Option Misfit)). get_or l d None) same ∙ none d)) in
+    subst (λ (o : Option Identity). AreTrueMisfits (label_at now) now o) (sym known_is)
+    (λ d. true_by (label_in labels) (label_at now) i (tail_at now d) d (misfit_at now d) at (walked d))
 
 pub misfit-set_other : (images : List Image) (d : ℕ) (x : Image) (e : ℕ) → e ≢ d → misfit_at (set images d x) e ≡ misfit_at images e
 misfit-set_other images d x e not = ap (λ (l : List (Option Misfit)). get_or l e None) (map-set image_misfit images d x) ∙ get_or-set_other (map image_misfit images) d e (image_misfit x) None not
 
 -- a misfit that was put into a slot, and is true by what was read there
-pub misfit_here : (images : List Image) (d : ℕ) (y x : Image) (tail : Tail) (i : Identity) (m : Misfit) → d < length images → y ≡ get_or images d y
-    → map image_tail (set images d x) ≡ map image_tail images → image_misfit x ≡ Some m → tail ≡ image_tail y → d < i.disks → SuitsTail i tail d (Some m)
-    → IsSomeAnd (misfit_at (set images d x) d) (λ n. (d < i.disks) × SuitsTail i (tail_at (set images d x) d) d (Some n))
-misfit_here images d y x tail i m within is tails told read below suits =
+pub misfit_here : (labels : ℕ → Option Label) (images : List Image) (d : ℕ) (y x : Image) (tail : Tail) (i : Identity) (m : Misfit) → d < length images → y ≡ get_or images d y
+    → map image_tail (set images d x) ≡ map image_tail images → image_misfit x ≡ Some m → tail ≡ image_tail y → d < i.disks → SuitsBeside i labels tail d (Some m)
+    → IsSomeAnd (misfit_at (set images d x) d) (λ n. (d < i.disks) × SuitsBeside i labels (tail_at (set images d x) d) d (Some n))
+misfit_here labels images d y x tail i m within is tails told read below suits =
     let at : tail_at (set images d x) d ≡ tail = ap (λ (l : List Tail). get_or l d Other) tails ∙ get_or-map image_tail images d y Other within ∙ ap image_tail (sym is) ∙ sym read in
     let here : misfit_at (set images d x) d ≡ Some m = ap (λ (l : List (Option Misfit)). get_or l d None) (map-set image_misfit images d x)
     ∙ get_or-set_same (map image_misfit images) d (image_misfit x) None (rw (length-map images image_misfit) within) ∙ told in
-    subst (λ (o : Option Misfit). IsSomeAnd o (λ n. (d < i.disks) × SuitsTail i (tail_at (set images d x) d) d (Some n))) (sym here)
-    (below, subst (λ (t : Tail). SuitsTail i t d (Some m)) (sym at) suits)
+    subst (λ (o : Option Misfit). IsSomeAnd o (λ n. (d < i.disks) × SuitsBeside i labels (tail_at (set images d x) d) d (Some n))) (sym here)
+    (below, subst (λ (t : Tail). SuitsBeside i labels t d (Some m)) (sym at) suits)

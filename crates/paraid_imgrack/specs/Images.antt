@@ -10,7 +10,7 @@ use Rattle.paraid_imgrack.specs.declared.image.Image.{Image}
 use Rattle.paraid_imgrack.specs.declared.label.Label.{Label}
 use Rattle.paraid_imgrack.specs.declared.tail.Tail.{Tail}
 use Rattle.paraid_imgrack.specs.declared.tail.Tail.TheVariants.{Other}
-use Rattle.paraid_imgrack.specs.Labels.{FitsTail, SuitsTail, label_of, read_tail_of}
+use Rattle.paraid_imgrack.specs.Labels.{SuitsBeside, label_of, read_tail_of}
 
 -- what is told of an image
 abbrev pub image_slot : Image → Slot
@@ -80,16 +80,16 @@ hindrance_at images d = get_or (map image_hindrance images) d None
 abbrev pub misfit_at : List Image → ℕ → Option Misfit
 misfit_at images d = get_or (map image_misfit images) d None
 
--- each label that was read in a slot of the array is one of its slot, and no image that was read is
--- bare where its slot is known
-abbrev pub Fit : List Image → Identity → Type 0
-Fit images i = (d : ℕ) → d < i.disks → FitsTail i (tail_at images d) d
+-- Each label that was read in a slot of the array is one of its slot, and none of these labels is
+-- of another time; and no image that was read is bare where its slot is known.
+abbrev pub Fit : (ℕ → Option Label) → List Image → Identity → Type 0
+Fit labels images i = (d : ℕ) → d < i.disks → SuitsBeside i labels (tail_at images d) d None
 
--- Each misfit that is kept is one of a slot of the array, by what was read of its image. None is
--- kept where no array is known.
-abbrev pub AreTrueMisfits : List Image → Option Identity → Type 0
-AreTrueMisfits images known = (d : ℕ) → IfSome (misfit_at images d) (λ m.
-    IsSomeAnd known (λ i. (d < i.disks) × SuitsTail i (tail_at images d) d (Some m)))
+-- Each misfit that is kept is one of a slot of the array, by what was read of its image and by
+-- these labels. None is kept where no array is known.
+abbrev pub AreTrueMisfits : (ℕ → Option Label) → List Image → Option Identity → Type 0
+AreTrueMisfits labels images known = (d : ℕ) → IfSome (misfit_at images d) (λ m.
+    IsSomeAnd known (λ i. (d < i.disks) × SuitsBeside i labels (tail_at images d) d (Some m)))
 
 -- the first image that was found not to belong into its slot
 pub record IsFirstMisfit (images : List Image) (d : ℕ) : Type 0 where

@@ -15,6 +15,14 @@ use Rattle.paraid_rack.specs.declared.call.Power.TheVariants.{Spinning, Parked, 
 abbrev pub known_array : Option Identity → Option (List ℕ × ℕ)
 known_array known = option_map (λ (i : Identity). (i.array, i.disks)) known
 
+-- the label behind the blocks
+abbrev pub label_of : Tail → Option Label
+label_of Blank = None
+label_of Torn = None
+label_of (HasLabel l) = Some l
+label_of Other = None
+label_of Odd = None
+
 -- An image with this label belongs into this slot: it is of the array and of the slot, and no older
 -- than it is known to be.
 pub record FitsSlot (i : Identity) (l : Label) (slot : ℕ) : Type 0 where
@@ -39,6 +47,35 @@ pub record IsUnheardOf (i : Identity) (l : Label) (slot e : ℕ) : Type 0 where
   pub low : slot < 8
   pub less : slice_index i.known slot < slice_index l.known slot
   pub heard : slice_index l.known slot ≤ slice_index l.known e
+
+-- Label l of a slot says that the others were told its generation, and that disk e was of it by
+-- then; and label m of disk e does not know it: the two images are of different times. A disk past
+-- the slot is told after this label is written, so it counts only where it got a later one since.
+pub record IsOfAnotherTime (l m : Label) (slot e : ℕ) : Type 0 where
+  pub low : slot < 8
+  pub told : slice_index l.known slot ≡ l.generation
+  pub less : slice_index m.known slot < slice_index l.known slot
+  pub heard : slice_index l.known slot ≤ slice_index l.known e
+  pub after : (e < slot) ⊎ (slice_index l.known e < m.generation)
+
+-- The label of disk e is one of the array, and of another time than this label of a slot.
+abbrev pub IsApart : Identity → (ℕ → Option Label) → Label → ℕ → ℕ → Type 0
+IsApart i labels l slot e = IsSomeAnd (labels e) (λ m. (e < i.disks)
+    × ((m.disk ≡ e) × ((m.array ≡ i.array) × IsOfAnotherTime l m slot e)))
+
+-- what the label of disk e knows of a slot
+abbrev pub Knows : (ℕ → Option Label) → ℕ → ℕ → ℕ → Type 0
+Knows labels e slot known = IsSomeAnd (labels e) (λ m. known ≡ slice_index m.known slot)
+
+-- that no label is of another time than this one of a slot, or what one that is knows of it
+abbrev pub SuitsOthers : Identity → (ℕ → Option Label) → Label → ℕ → Option Misfit → Type 0
+SuitsOthers i labels l slot None = (e : ℕ) → e < 8 → IsApart i labels l slot e → ⊥
+SuitsOthers i labels l slot (Some Foreign) = ⊥
+SuitsOthers i labels l slot (Some (Moved disk)) = ⊥
+SuitsOthers i labels l slot (Some (Old generation known)) = ⊥
+SuitsOthers i labels l slot (Some (New generation known)) = (generation ≡ l.generation)
+    × ((e : ℕ) × ((e < 8) × (IsApart i labels l slot e × Knows labels e slot known)))
+SuitsOthers i labels l slot (Some (Bare known)) = ⊥
 
 -- The image of disk e was seen, and is of a time before this label of a slot.
 pub record IsBehind (i : Identity) (l : Label) (slot e : ℕ) : Type 0 where
@@ -100,6 +137,15 @@ SuitsTailLate i Other slot misfit = misfit ≡ None
 abbrev pub FitsTail : Identity → Tail → ℕ → Type 0
 FitsTail i tail slot = SuitsTail i tail slot None
 
+-- That an image with this tail belongs into this slot beside the others, whose labels these are;
+-- or why it does not, by itself or by another one's label.
+abbrev pub SuitsBeside : Identity → (ℕ → Option Label) → Tail → ℕ → Option Misfit → Type 0
+SuitsBeside i labels tail slot None =
+    FitsTail i tail slot × IfSome (label_of tail) (λ l. SuitsOthers i labels l slot None)
+SuitsBeside i labels tail slot (Some misfit) = SuitsTail i tail slot (Some misfit)
+    ⊎ (FitsTail i tail slot
+    × IsSomeAnd (label_of tail) (λ l. SuitsOthers i labels l slot (Some misfit)))
+
 -- An image with this tail that was parked until now belongs into this slot: its label fits, and no
 -- image that was seen is of a time before it; or it is bare and nothing is known of the slot; or
 -- its tail says nothing.
@@ -113,14 +159,6 @@ pub record IsLabelOf (i : Identity) (disk : ℕ) (l : Label) : Type 0 where
   pub disks : l.disks ≡ i.disks
   pub generation : l.generation ≡ i.generation
   pub known : (e : ℕ) → e ≢ disk → slice_index l.known e ≡ slice_index i.known e
-
--- the label behind the blocks
-abbrev pub label_of : Tail → Option Label
-label_of Blank = None
-label_of Torn = None
-label_of (HasLabel l) = Some l
-label_of Other = None
-label_of Odd = None
 
 -- what was read behind the blocks of an image with this power: of one that does not spin nothing,
 -- so its tail says nothing

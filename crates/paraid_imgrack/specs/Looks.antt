@@ -23,15 +23,15 @@ abbrev pub HasNoMisfits : {F : Type 0} → ImageRack F → Type 0
 HasNoMisfits rack = (d : ℕ) → misfit_at rack.images.items d ≡ None
 
 -- The array is the one that the labels which were read name, where one does; and each misfit that is
--- kept is one of a slot of it, by what was read of its image.
+-- kept is one of a slot of it, by what was read of its image and of the others.
 pub record HasTrueMisfits {F : Type 0} (rack : ImageRack F) : Type 0 where
   pub names : Names (label_at rack.images.items) rack.identity
-  pub misfits : AreTrueMisfits rack.images.items rack.identity
+  pub misfits : AreTrueMisfits (label_at rack.images.items) rack.images.items rack.identity
 
 -- One of the labels that were read names the array, what those of the array know is learned, each
--- that was read in a slot of it is one of its slot, and no image that was read in a known slot of
--- it is bare; or none names an array.
+-- that was read in a slot of it is one of its slot, no two of them are of different times, and no
+-- image that was read in a known slot of it is bare; or none names an array.
 abbrev pub IsFitting : {F : Type 0} → ImageRack F → Type 0
 IsFitting rack = AreUnnamed (label_at rack.images.items)
     ⊎ IsSomeAnd rack.identity (λ i. IsNamed (label_at rack.images.items) i
-    × (IsLearned (label_at rack.images.items) i × Fit rack.images.items i))
+    × (IsLearned (label_at rack.images.items) i × Fit (label_at rack.images.items) rack.images.items i))

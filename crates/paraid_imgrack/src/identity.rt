@@ -1,7 +1,7 @@
 //! Which array the labels of some images name, and which images do not belong into their slots.
 ghost use Rattle.std.specs.Prelude.{◌≡◌, ◌<◌, ◌≤◌, ℕ, true, false, slice_index, Some, IfSome, IfNone};
 ghost use Rattle.paraid_base.specs.Told.{HasRisen};
-ghost use Rattle.paraid_imgrack.specs.Labels.{AreUnnamed, IsBehind, IsLabelOf, IsLearned, IsNamed, IsNoLess, IsAmong, IsTakenOver, IsUnheardOf, Suits, SuitsBare, SuitsLate, SuitsTail, SuitsTailLate, known_array, label_in};
+ghost use Rattle.paraid_imgrack.specs.Labels.{AreUnnamed, IsBehind, IsLabelOf, IsLearned, IsNamed, IsNoLess, IsAmong, IsApart, IsOfAnotherTime, IsTakenOver, IsUnheardOf, Knows, Suits, SuitsBare, SuitsBeside, SuitsLate, SuitsOthers, SuitsTail, SuitsTailLate, known_array, label_in};
 
 use crate::label::Label;
 use crate::tail::Tail;
@@ -127,7 +127,9 @@ impl Identity {
 
     // Whether a label is of this slot and of this array.
     fn is_right(&self, label: &Label, slot: DiskNo) -> bool
+        ensures within { result ≡ true → slot < self.now.disks }
         ensures slot { result ≡ true → label.now.disk ≡ slot }
+        ensures array { result ≡ true → label.now.array ≡ self.now.array }
         ensures right { slot < self.now.disks
             → label.now.disk ≡ slot → label.now.array ≡ self.now.array → result ≡ true }
     {
@@ -196,6 +198,54 @@ impl Identity {
                 generation: label.generation,
                 known,
             });
+        }
+        None
+    }
+
+    /// The same of an image that spins at an opening, beside the others that do, whose labels these
+    /// are: it may also be of another time than one of them.
+    pub(crate) fn misfit_beside(&self, labels: &Labels, tail: &Tail, slot: DiskNo) -> Option<Misfit>
+        ensures read { slot < self.now.disks
+            → SuitsBeside self.now (label_in labels.now) tail.now slot result }
+        ensures none { IfSome result (λ _. slot < self.now.disks) }
+    {
+        if let Some(misfit) = self.misfit_of(tail, slot) {
+            return Some(misfit);
+        }
+        match tail {
+            Tail::Label(label) if slot < self.disks => self.new_misfit(labels, label, slot),
+            _ => None,
+        }
+    }
+
+    // Whether one of the labels does not know this one of a slot, though it is to have heard of it.
+    fn new_misfit(&self, labels: &Labels, label: &Label, slot: DiskNo) -> Option<Misfit>
+        ensures { SuitsOthers self.now (label_in labels.now) label.now slot result }
+    {
+        for disk in 0..8 {
+            if let Some(known) = self.apart(labels, label, slot, disk) {
+                return Some(Misfit::New {
+                    generation: label.generation,
+                    known,
+                });
+            }
+        }
+        None
+    }
+
+    // What the label of a disk knows of a slot, where it is of another time than this label of the
+    // slot.
+    fn apart(&self, labels: &Labels, label: &Label, slot: DiskNo, disk: usize) -> Option<u64>
+        requires { disk < 8 }
+        ensures some { IfSome result (λ known.
+            IsApart self.now (label_in labels.now) label.now slot disk
+            × Knows (label_in labels.now) disk slot known) }
+        ensures none { IfNone result
+            (IsApart self.now (label_in labels.now) label.now slot disk → ⊥) }
+    {
+        let other = labels[disk]?;
+        if self.is_right(&other, disk as u8) && is_of_another_time(label, &other, slot, disk) {
+            return Some(known_in(&other.known, slot));
         }
         None
     }
@@ -310,6 +360,21 @@ fn known_in(known: &[u64; 8], slot: DiskNo) -> u64
     ensures none { 8 ≤ slot → result ≡ 0 }
 {
     if slot < 8 { known[slot as usize] } else { 0 }
+}
+
+// Whether a label of a slot says that all others were told of it, and that of a disk, which was
+// then of that generation, does not know it.
+fn is_of_another_time(label: &Label, other: &Label, slot: DiskNo, disk: usize) -> bool
+    requires { disk < 8 }
+    ensures yes { result ≡ true → IsOfAnotherTime label.now other.now slot disk }
+    ensures no { result ≡ false → IsOfAnotherTime label.now other.now slot disk → ⊥ }
+{
+    let own = known_in(&label.known, slot);
+    let heard = label.known[disk];
+    own == label.generation
+        && known_in(&other.known, slot) < own
+        && own <= heard
+        && (disk < slot as usize || heard < other.generation)
 }
 
 // The image of a disk is at least so new.

@@ -1,8 +1,8 @@
 //! The labels of all images: they are read before the first call, and each load gives them a new
 //! generation, and so does each disk that is attached.
-ghost use Rattle.std.specs.Prelude.{◌≡◌, ◌≢◌, ◌<◌, ℕ, map, true, false, length, Some, IfSome, IsSome, IsSomeAnd};
+ghost use Rattle.std.specs.Prelude.{◌≡◌, ◌≢◌, ◌<◌, ℕ, map, true, false, length, None, Some, IfSome, IsSome, IsSomeAnd};
 ghost use Rattle.paraid_imgrack.specs.Images.{AreTrueMisfits, Fit, image_misfit, image_slot, image_tail, label_at, misfit_at, tail_at, IsLook, IsTold};
-ghost use Rattle.paraid_imgrack.specs.Labels.{FitsTail, Names, SuitsTail, known_array, label_in};
+ghost use Rattle.paraid_imgrack.specs.Labels.{Names, SuitsBeside, known_array, label_in};
 ghost use Rattle.paraid_imgrack.specs.Looks.{HasNoMisfits, HasTrueMisfits, IsFitting};
 
 use crate::identity::{Identity, Labels, Misfit};
@@ -52,7 +52,7 @@ impl<F: Files<File = File> + Drop> ImageRack<F> {
             return true;
         };
         self.identity = Some(identity);
-        self.fits(&identity)
+        self.fits(&labels, &identity)
     }
 
     /// Why the image in a slot does not belong there, where one was read.
@@ -202,7 +202,8 @@ impl<F: Files<File = File> + Drop> ImageRack<F> {
             && self.images[disk].power == Power::Spinning
     }
 
-    // Whether the image in a slot has heard the news, if there are any and it can be told.
+    // Whether the image in a slot has heard the news, if there are any and it is to be told. One that
+    // has failed since it was marked has not: it may come back by another hand.
     fn mark_again(&mut self, disk: usize, identity: &Identity, is_heard: bool) -> bool
         requires { disk < length self.old.images.items }
         ensures { map image_slot self.new.images.items ≡ map image_slot self.old.images.items }
@@ -210,7 +211,7 @@ impl<F: Files<File = File> + Drop> ImageRack<F> {
         if !identity.has_news || !identity.is_marked(disk) {
             return true;
         }
-        self.mark_image(disk, identity, is_heard) || self.images[disk].power != Power::Spinning
+        self.mark_image(disk, identity, is_heard) || self.images[disk].power == Power::Parked
     }
 
     fn read_labels(&mut self) -> Labels
@@ -276,44 +277,46 @@ impl<F: Files<File = File> + Drop> ImageRack<F> {
         None
     }
 
-    // Whether each label is one of its slot, and no image is bare where its slot is known. Why one
-    // is not as it should be is kept with its image.
-    fn fits(&mut self, identity: &Identity) -> bool
+    // Whether each label is one of its slot, none is of another time than these, and no image is
+    // bare where its slot is known. Why one is not as it should be is kept with its image.
+    fn fits(&mut self, labels: &Labels, identity: &Identity) -> bool
         ensures look { IsLook self.old.images.items self.new.images.items }
         ensures tails { map image_tail self.new.images.items
             ≡ map image_tail self.old.images.items }
         ensures known { self.new.identity ≡ self.old.identity }
-        ensures fits { result ≡ true → Fit self.new.images.items identity.now }
+        ensures fits { result ≡ true
+            → Fit (label_in labels.now) self.new.images.items identity.now }
         ensures same { result ≡ true
             → map image_misfit self.new.images.items ≡ map image_misfit self.old.images.items }
         ensures misfit { result ≡ false → (d : ℕ) × IsSome (misfit_at self.new.images.items d) }
-        ensures misfits { AreTrueMisfits self.old.images.items (Some identity.now)
-            → AreTrueMisfits self.new.images.items (Some identity.now) }
+        ensures misfits { AreTrueMisfits (label_in labels.now) self.old.images.items (Some identity.now)
+            → AreTrueMisfits (label_in labels.now) self.new.images.items (Some identity.now) }
     {
         let mut fits = true;
         for disk in 0..self.images.len() {
-            fits &= self.fits_slot(disk, identity);
+            fits &= self.fits_slot(disk, labels, identity);
         }
         fits
     }
 
-    fn fits_slot(&mut self, disk: usize, identity: &Identity) -> bool
+    fn fits_slot(&mut self, disk: usize, labels: &Labels, identity: &Identity) -> bool
         requires { disk < length self.old.images.items }
         ensures look { IsLook self.old.images.items self.new.images.items }
         ensures tails { map image_tail self.new.images.items
             ≡ map image_tail self.old.images.items }
         ensures known { self.new.identity ≡ self.old.identity }
         ensures fits { result ≡ true → disk < identity.now.disks
-            → FitsTail identity.now (tail_at self.new.images.items disk) disk }
+            → SuitsBeside identity.now (label_in labels.now)
+            (tail_at self.new.images.items disk) disk None }
         ensures same { result ≡ true
             → map image_misfit self.new.images.items ≡ map image_misfit self.old.images.items }
         ensures misfit { result ≡ false → IsSomeAnd (misfit_at self.new.images.items disk)
-            (λ misfit. (disk < identity.now.disks) × SuitsTail identity.now
-            (tail_at self.new.images.items disk) disk (Some misfit)) }
+            (λ misfit. (disk < identity.now.disks) × SuitsBeside identity.now
+            (label_in labels.now) (tail_at self.new.images.items disk) disk (Some misfit)) }
         ensures others { (e : ℕ) → e ≢ disk
             → misfit_at self.new.images.items e ≡ misfit_at self.old.images.items e }
     {
-        match identity.misfit_of(&self.images[disk].tail(), disk as u8) {
+        match identity.misfit_beside(labels, &self.images[disk].tail(), disk as u8) {
             Some(misfit) => {
                 self.images[disk].misfit = Some(misfit);
                 false

@@ -9,6 +9,6 @@ pub returns-clause-misfits : goal.returns-clause-misfits
 returns-clause-misfits g c none = record {
   names = Names-by c.read_labels-labels.result c.read_labels-labels.new.self.images.items c.fits.new.self.images.items c.in-Some.identity c.fits.new.self.identity
       c.in-Some.ensures c.read_labels-labels.ensures.labels c.fits.ensures.tails c.fits.ensures.known;
-  misfits = AreTrueMisfits-by c.args.self.now.images.items c.read_labels-labels.new.self.images.items c.fits.new.self.images.items c.in-Some.identity c.fits.new.self.identity
-      c.read_labels-labels.ensures.misfits c.fits.ensures.known c.fits.ensures.misfits none;
+  misfits = AreTrueMisfits-by c.read_labels-labels.result c.args.self.now.images.items c.read_labels-labels.new.self.images.items c.fits.new.self.images.items c.in-Some.identity c.fits.new.self.identity
+      c.read_labels-labels.ensures.misfits c.read_labels-labels.ensures.labels c.fits.ensures.tails c.fits.ensures.known c.fits.ensures.misfits none;
 }
