@@ -73,6 +73,10 @@ enum Deed {
     Strip,
     /// So it is, and the other labels say that nothing is known of disk 1.
     Forget,
+    /// The label of disk 0 says that nothing is known of disk 1.
+    Doubt,
+    /// Disk 0 fails in a command that then spins up disk 1, and another hand says that it spins.
+    Lose,
     /// One command makes three disks of four blocks, with labels.
     Format,
     /// One finds that disk 1 is not spun up, since it is of another array.
@@ -84,8 +88,8 @@ enum Deed {
 }
 
 use Deed::{
-    Copy, Forget, Format, Load, Look, Park, Refuse, RefuseBare, Rename, Replace, Restore, Spare,
-    Strip, Swap, Wake,
+    Copy, Doubt, Forget, Format, Load, Look, Lose, Park, Refuse, RefuseBare, Rename, Replace,
+    Restore, Spare, Strip, Swap, Wake,
 };
 
 /// A deed, and the number of what a rack then finds.
@@ -107,6 +111,8 @@ const STRIPPED: u8 = 5;
 
 const STRIPPED_AGAIN: u8 = 6;
 
+const DOUBTED: u8 = 7;
+
 /// The image of disk 1 has an older generation than the others know.
 fn old(generation: u64, known: u64) -> [Option<Misfit>; 3] {
     [None, Some(Misfit::Old { generation, known }), None]
@@ -115,6 +121,12 @@ fn old(generation: u64, known: u64) -> [Option<Misfit>; 3] {
 /// The image of disk 1 has no label, where the others know one.
 fn unlabelled(known: u64) -> [Option<Misfit>; 3] {
     [None, Some(Misfit::Bare { known }), None]
+}
+
+/// The image of disk 1 was told to the others, and one of them does not know it.
+fn newer(generation: u64) -> [Option<Misfit>; 3] {
+    let known = 0;
+    [None, Some(Misfit::New { generation, known }), None]
 }
 
 /// Why each image does not belong into its slot.
@@ -130,6 +142,7 @@ fn misfits(number: u8) -> [Option<Misfit>; 3] {
         WOKEN => old(6, 7),
         STRIPPED => unlabelled(4),
         STRIPPED_AGAIN => unlabelled(2),
+        DOUBTED => newer(4),
         _ => [None; 3],
     }
 }
@@ -169,6 +182,9 @@ const PARKED: [Row; 2] = [(Park, FIT), (Strip, FIT)];
 /// An image without a label is taken where nothing is known of it, and gets one.
 const FORGOTTEN: [Row; 3] = [(Forget, FIT), (Load, FIT), (Strip, STRIPPED_AGAIN)];
 
+/// An image is not taken where the label of another one, which is to have heard of it, has not.
+const UNHEARD: [Row; 4] = [(Park, FIT), (Lose, FIT), (Load, FIT), (Doubt, DOUBTED)];
+
 const SPARE: &str = "disk-1.copy";
 
 fn swap<H: Files>(host: &H, one: &str, other: &str) -> bool {
@@ -200,6 +216,15 @@ fn wake<F: Files<File = File> + Drop>(rack: &mut ImageRack<F>) -> bool {
         && is_called(rack, 0, Step::Sync)
         && is_called(rack, 1, Step::SpinUp)
         && is_called(rack, 0, Step::Sync)
+}
+
+/// Disk 0 fails after it got its label, and then disk 1 is spun up.
+fn wake_after_loss<F: Files<File = File> + Drop>(rack: &mut ImageRack<F>) -> bool {
+    rack.has_fitting_images()
+        && is_called(rack, 0, Step::Sync)
+        && !is_called(rack, 0, Step::Read(4, 0))
+        && is_called(rack, 1, Step::SpinUp)
+        && is_called(rack, 2, Step::Sync)
 }
 
 /// Attaches disk 1 anew.
@@ -258,6 +283,7 @@ fn use_rack<H: Files, F: Files<File = File> + Drop>(
         Load => use_all(rack, false),
         Park => use_all(rack, true),
         Wake => wake(rack),
+        Lose => wake_after_loss(rack),
         Replace => use_all(rack, false) && copy(host) && attach_one(rack),
         Format => format(rack),
         Refuse => refuses_late(rack, Misfit::Foreign),
@@ -312,6 +338,8 @@ fn act<H: Files<File = File> + AllocGlobal + Abort>(host: &H, deed: Deed) -> boo
         Restore => swap(host, image(1), SPARE),
         Rename => relabel(host, 1, true),
         Strip => strip(host),
+        Doubt => relabel(host, 0, false),
+        Lose => use_disks(host, deed) && make_file(host, "disk-0.power", b"spinning"),
         Forget => relabel(host, 0, false) && relabel(host, 2, false) && strip(host),
         Spare => spares(host),
         Load | Park | Wake | Replace | Format | Refuse | RefuseBare => use_disks(host, deed),
@@ -364,4 +392,6 @@ pub(crate) fn walk<H: Files<File = File> + AllocGlobal + Abort>(host: &H) {
     assert!(host; act(host, Spare));
     assert!(host; act(host, Format));
     assert_met(host, &FORGOTTEN);
+    assert!(host; act(host, Format));
+    assert_met(host, &UNHEARD);
 }
