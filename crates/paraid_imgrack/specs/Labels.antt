@@ -58,10 +58,11 @@ pub record IsOfAnotherTime (l m : Label) (slot e : ℕ) : Type 0 where
   pub heard : slice_index l.known slot ≤ slice_index l.known e
   pub after : (e < slot) ⊎ (slice_index l.known e < m.generation)
 
--- The label of disk e is one of the array, and of another time than this label of a slot.
+-- The image of disk e, by its label, belongs into its slot of the array as far as it is known, and
+-- is of another time than this label of a slot.
 abbrev pub IsApart : Identity → (ℕ → Option Label) → Label → ℕ → ℕ → Type 0
-IsApart i labels l slot e = IsSomeAnd (labels e) (λ m. (e < i.disks)
-    × ((m.disk ≡ e) × ((m.array ≡ i.array) × IsOfAnotherTime l m slot e)))
+IsApart i labels l slot e = IsSomeAnd (labels e)
+    (λ m. (e < i.disks) × (FitsSlot i m e × IsOfAnotherTime l m slot e))
 
 -- what the label of disk e knows of a slot
 abbrev pub Knows : (ℕ → Option Label) → ℕ → ℕ → ℕ → Type 0

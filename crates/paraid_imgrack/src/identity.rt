@@ -1,7 +1,7 @@
 //! Which array the labels of some images name, and which images do not belong into their slots.
 ghost use Rattle.std.specs.Prelude.{◌≡◌, ◌<◌, ◌≤◌, ℕ, true, false, slice_index, Some, IfSome, IfNone};
 ghost use Rattle.paraid_base.specs.Told.{HasRisen};
-ghost use Rattle.paraid_imgrack.specs.Labels.{AreUnnamed, IsBehind, IsLabelOf, IsLearned, IsNamed, IsNoLess, IsAmong, IsApart, IsOfAnotherTime, IsTakenOver, IsUnheardOf, Knows, Suits, SuitsBare, SuitsBeside, SuitsLate, SuitsOthers, SuitsTail, SuitsTailLate, known_array, label_in};
+ghost use Rattle.paraid_imgrack.specs.Labels.{AreUnnamed, FitsSlot, IsBehind, IsLabelOf, IsLearned, IsNamed, IsNoLess, IsAmong, IsApart, IsOfAnotherTime, IsTakenOver, IsUnheardOf, Knows, Suits, SuitsBare, SuitsBeside, SuitsLate, SuitsOthers, SuitsTail, SuitsTailLate, known_array, label_in};
 
 use crate::label::Label;
 use crate::tail::Tail;
@@ -127,9 +127,7 @@ impl Identity {
 
     // Whether a label is of this slot and of this array.
     fn is_right(&self, label: &Label, slot: DiskNo) -> bool
-        ensures within { result ≡ true → slot < self.now.disks }
         ensures slot { result ≡ true → label.now.disk ≡ slot }
-        ensures array { result ≡ true → label.now.array ≡ self.now.array }
         ensures right { slot < self.now.disks
             → label.now.disk ≡ slot → label.now.array ≡ self.now.array → result ≡ true }
     {
@@ -233,8 +231,23 @@ impl Identity {
         None
     }
 
-    // What the label of a disk knows of a slot, where it is of another time than this label of the
-    // slot.
+    // Whether a slot is one of the array, and an image with this label belongs there as far as it
+    // is known.
+    fn has_fitting(&self, label: &Label, slot: DiskNo) -> bool
+        requires { slot < 8 }
+        ensures within { result ≡ true → slot < self.now.disks }
+        ensures yes { result ≡ true → FitsSlot self.now label.now slot }
+        ensures no { result ≡ false → slot < self.now.disks
+            → FitsSlot self.now label.now slot → ⊥ }
+    {
+        slot < self.disks
+            && label.disk == slot
+            && label.array == self.array
+            && known_in(&self.known, slot) <= label.generation
+    }
+
+    // What the label of a disk that fits knows of a slot, where it is of another time than this
+    // label of the slot.
     fn apart(&self, labels: &Labels, label: &Label, slot: DiskNo, disk: usize) -> Option<u64>
         requires { disk < 8 }
         ensures some { IfSome result (λ known.
@@ -244,7 +257,7 @@ impl Identity {
             (IsApart self.now (label_in labels.now) label.now slot disk → ⊥) }
     {
         let other = labels[disk]?;
-        if self.is_right(&other, disk as u8) && is_of_another_time(label, &other, slot, disk) {
+        if self.has_fitting(&other, disk as u8) && is_of_another_time(label, &other, slot, disk) {
             return Some(known_in(&other.known, slot));
         }
         None
