@@ -593,14 +593,19 @@ def misfits_of(labels):
 
 
 def newer_in(labels):
-    """The images of a later time than another one, by slots, in the form of `misfits_of`. Its own label says of such
-    a one that all who spun then were told its generation. It knows the other one from then or from later, and that one
-    was not told."""
+    """The images of a later time than another one, by slots, in the form of `misfits_of`, by the program's rule. Its
+    own label says of such a one that all who spun then were told its generation. It knows the other one from then, and
+    that one does not know it. A disk past the slot is told after this label is written, or was parked: so it counts
+    only where it got a later label since."""
     found = {}
     for slot, label in labels.items():
-        known = [other.known[slot] for disk, other in labels.items() if other.known[slot] < label.known[slot] <= label.known[disk]]
-        if known:
-            found[slot] = "new", f"is newer than the others: its label has generation {label.generation}, where they know {max(known)}"
+        own = label.known[slot]
+        for disk, other in labels.items():
+            heard = label.known[disk]
+            if own == label.generation and other.known[slot] < own <= heard and (disk < slot or heard < other.generation):
+                found[slot] = "new", (f"is newer than the others: its label has generation {label.generation}, "
+                                      f"where they know {other.known[slot]}")
+                break
     return found
 
 
