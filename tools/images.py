@@ -593,10 +593,10 @@ def misfits_of(labels):
 
 
 def newer_in(labels):
-    """The images of a later time than another one, by slots, in the form of `misfits_of`, by the program's rule. Its
-    own label says of such a one that all who spun then were told its generation. It knows the other one from then, and
-    that one does not know it. A disk past the slot is told after this label is written, or was parked: so it counts
-    only where it got a later label since."""
+    """The images of a later time than another one, by slots, in the form of `misfits_of`, by the program's rule. The
+    label of such an image says that the others were told its generation, and that the other one had it, or a later
+    one, by then; and the other one does not know it. A disk past the slot is told after this label is written: so it
+    counts only where its label is of a later generation than this one knows."""
     found = {}
     for slot, label in labels.items():
         own = label.known[slot]

@@ -239,7 +239,7 @@ fn tell_hindrance<H: Host>(rt: &H, command: &Command, disk: u8, hindrance: Hindr
     }
 }
 
-/// A disk is named with it, as with each refusal: the first.
+/// Disk 0 is named with it, since each refusal names a disk.
 fn tell_crowd<H: Host>(rt: &H, command: &Command) -> u8
     ensures { IsOwnStatus result }
 {

@@ -11,7 +11,7 @@ use crate::identity::{Identity, Misfit};
 use crate::label::Label;
 use crate::power::Names;
 use crate::tail::{Tail, read_tail, write_label};
-use paraid_base::{BLOCK_SIZE, Block, DiskNo, Failed, NoMemory, Place};
+use paraid_base::{BATCH_META, BLOCK_SIZE, Block, DiskNo, Failed, META, NoMemory, Place};
 use paraid_rack::Power;
 use std::alloc::Global;
 use std::fs::{File, Files, OpenOptions};
@@ -58,7 +58,7 @@ pub(crate) struct Image {
     /// What hinders all work on the disk, where its files were looked at.
     pub(crate) hindrance: Option<Hindrance>,
     tail: Tail,
-    /// Why the disk was not spun up, or not attached.
+    /// Why the image does not belong into its slot, or the disk was not spun up or attached.
     pub(crate) misfit: Option<Misfit>,
     /// The error of the first call that failed, since the disk was last to be attached.
     pub(crate) cause: Option<io::Error>,
@@ -189,7 +189,7 @@ impl Image {
             return None;
         }
         let file = self.file.as_ref()?;
-        disks_at(file, self.size, 1).unwrap_or(None)
+        disks_at(file, self.size, META).unwrap_or(None)
     }
 
     /// What a new array would write over.
@@ -709,5 +709,5 @@ fn is_of_array(file: &File) -> io::Result<bool> {
     if let Tail::Label(_) = read_tail(file, size)? {
         return Ok(true);
     }
-    Ok(disks_at(file, size, 1)?.is_some() || disks_at(file, size, 2)?.is_some())
+    Ok(disks_at(file, size, META)?.is_some() || disks_at(file, size, BATCH_META)?.is_some())
 }

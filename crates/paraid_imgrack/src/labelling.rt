@@ -89,7 +89,8 @@ impl<F: Files<File = File> + Drop> ImageRack<F> {
     /// that is spun up in between, which has its label by then, the others know it from the next
     /// sync on.
     ///
-    /// So no label knows more than what the disks keep, and a stop between two leaves none refused.
+    /// So no label knows more than what the disks keep, and a stop between two leaves none refused,
+    /// but in a case that the README names.
     pub(crate) fn renew_labels(&mut self)
         ensures slots { map image_slot self.new.images.items
             ≡ map image_slot self.old.images.items }

@@ -9,7 +9,7 @@ ghost use Rattle.paraid_plain.specs.Statements.{batch_in, said_of, side_in};
 
 use crate::image::Image;
 use crate::statement::{Side, Statement};
-use paraid_base::{BATCH_ROOM, DiskNo, FIRST_LIST};
+use paraid_base::{BATCH_META, BATCH_ROOM, DiskNo, FIRST_LIST, GATE, META};
 use paraid_parity::is_zero;
 use paraid_record::{Meta, Target, Targets, read_meta, read_targets};
 
@@ -49,14 +49,14 @@ fn is_blank(image: &Image, disk: DiskNo) -> bool
     ensures { IsTrue result ↔ ((is_open (stored_block (disks_in image.now) disk 0) ≡ false)
         × (stored_block (disks_in image.now) disk 1 ≡ zero_block)) }
 {
-    !is_gate_open(image, disk) && is_zero(&image.stored(disk, 1))
+    !is_gate_open(image, disk) && is_zero(&image.stored(disk, META))
 }
 
 /// Whether the gate of a log disk is open.
 pub(crate) fn is_gate_open(image: &Image, disk: DiskNo) -> bool
     ensures { result ≡ is_open (stored_block (disks_in image.now) disk 0) }
 {
-    image.stored(disk, 0).bytes[0] != 0
+    image.stored(disk, GATE).bytes[0] != 0
 }
 
 fn closed_statement(image: &Image, disk: DiskNo) -> Option<Statement>
@@ -68,7 +68,7 @@ fn closed_statement(image: &Image, disk: DiskNo) -> Option<Statement>
     ensures none { IfNone result ((m : MetaType) (batch : Batch)
         → SaysClosed (stored_block (disks_in image.now) disk) m batch → ⊥) }
 {
-    let meta = read_meta(&image.stored(disk, 1))?;
+    let meta = read_meta(&image.stored(disk, META))?;
     Some(Statement {
         disk,
         opened: false,
@@ -86,7 +86,7 @@ fn open_statement(image: &Image, disk: DiskNo) -> Option<Statement>
     ensures none { IfNone result ((m : MetaType) (batch : Batch)
         → SaysOpen (stored_block (disks_in image.now) disk) m batch → ⊥) }
 {
-    let meta = read_meta(&image.stored(disk, 2))?;
+    let meta = read_meta(&image.stored(disk, BATCH_META))?;
     let targets = read_targets(&image.stored(disk, FIRST_LIST), &meta.setup.geometry)?;
     Some(Statement {
         disk,

@@ -1,5 +1,5 @@
 //! The value of a cell, and what a block of the array holds.
-ghost use Rattle.std.specs.Prelude.{◌≡◌, ◌-◌, ◌*◌, ◌<◌, ◌≤◌};
+ghost use Rattle.std.specs.Prelude.{◌≡◌, ◌<◌, ◌≤◌};
 ghost use Rattle.paraid_base.specs.Regions.{IsGear, hard_place_of, array_blocks};
 ghost use Rattle.paraid_base.specs.Soft.{stripe_count};
 ghost use Rattle.paraid_image.specs.Content.{blocks_of, view_of};
@@ -30,8 +30,7 @@ pub fn value_of(image: &Image, says: &Statement, row: Row, disk: DiskNo) -> Bloc
 /// What a block of the array holds, by what a log disk says.
 #[tactic(auto, unfolding(crate::specs::Views::block_at, crate::specs::Views::out_at, crate::specs::Views::dirty_at))]
 pub fn block_of(image: &Image, says: &Statement, block: BlockNo) -> Block
-    requires { block
-        < array_blocks says.now.meta.setup.geometry }
+    requires { block < array_blocks says.now.meta.setup.geometry }
     ensures { result
         ≡ blocks_of (view_of (disks_in image.now) (said_of image.now says.now)) block }
 {
@@ -39,8 +38,7 @@ pub fn block_of(image: &Image, says: &Statement, block: BlockNo) -> Block
 }
 
 pub(crate) fn home_value(image: &Image, says: &Statement, block: BlockNo) -> Block
-    requires { block
-        < array_blocks says.now.meta.setup.geometry }
+    requires { block < array_blocks says.now.meta.setup.geometry }
     ensures { result ≡ blocks_of (view_at image.now says.now) block }
 {
     let (row, disk) = home(&says.meta.setup.geometry, block);

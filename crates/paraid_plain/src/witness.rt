@@ -9,7 +9,7 @@ ghost use Rattle.paraid_plain.specs.Views.{out_at};
 use crate::image::Image;
 use crate::statement::Statement;
 use crate::view::is_out_disk;
-use paraid_base::{DiskNo, Place};
+use paraid_base::{DiskNo, Place, WITNESS_DISK};
 
 /// No log disk that is in has a witness against it.
 pub(crate) fn are_witnesses_true(image: &Image, says: &Statement) -> bool
@@ -30,5 +30,5 @@ fn is_witness_true(image: &Image, says: &Statement, disk: DiskNo) -> bool
 fn has_witness(image: &Image, disk: DiskNo) -> bool
     ensures { result ≡ is_open (stored_block (disks_in image.now) 2 disk) }
 {
-    image.stored(2, disk as Place).bytes[0] != 0
+    image.stored(WITNESS_DISK, disk as Place).bytes[0] != 0
 }

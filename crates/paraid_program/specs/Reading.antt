@@ -25,8 +25,8 @@ abbrev pub most_asked : ℕ
 most_asked = 4096
 
 -- Why these bytes are no configuration: they are more than one may have, by no more than the piece
--- that showed it; or they are all that the source had, and they are refused. Memory may be wanted as
--- long as they are few.
+-- that showed it; or memory was wanted, and they are no more than it may have; or they are all that
+-- the source had, and they are refused.
 abbrev pub IsMisread : List ℕ → Option (List ℕ) → ConfigFault → Type 0
 IsMisread bytes after Long =
     (most_config < length bytes) × (length bytes ≤ most_config + most_asked)

@@ -224,21 +224,21 @@ pub record Replaces (old new : Shown) (d : ℕ) (state : Out) : Type 0 where
   pub others : (e : ℕ) → e ≢ d → slice_index new.meta.spins e ≡ slice_index old.meta.spins e
   pub dirty : new.dirty ≡ old.dirty
 
--- In access mode, in a shift up with no disk out, the cell of this block is dirty and on a disk that
--- comes up: a read of the block cleans it.
+-- whether a read of this block cleans its cell: in access mode, in a shift up with no disk out, the
+-- cell is dirty and on a disk that comes up
 abbrev pub read_cleans : Shown → ℕ → Bool
 read_cleans x b =
     let n = x.setup.geometry.disks in
-    is_access x.setup.mode && not
-    (has_out x.meta.out) && nat_le x.meta.gear (home_disk n b) && nat_lt (home_disk n b)
-    (rising_to x.meta.phase) && x.dirty (home_row n b) (home_disk n b)
+    is_access x.setup.mode && not (has_out x.meta.out)
+    && nat_le x.meta.gear (home_disk n b) && nat_lt (home_disk n b) (rising_to x.meta.phase)
+    && x.dirty (home_row n b) (home_disk n b)
 
 -- beside what is staged there is no room for so many targets more
 abbrev pub lacks_room : Shown → ℕ → Bool
 lacks_room x targets = nat_lt (batch_room - targets) x.staged
 
--- No more is staged then than before, and so many targets; what had left no room for these was
--- committed first.
+-- At most so many targets more are staged than before; or so many in all, where what was staged left
+-- no room for them and was committed first.
 abbrev pub StagesFew : Shown → Shown → ℕ → Type 0
 StagesFew old new targets =
     new.staged ≤ (if lacks_room old targets then 0 else old.staged) + targets
@@ -257,8 +257,7 @@ DoesRead block old new answer = ⊥
 abbrev pub DoesWrite : Pairs → Shown → Shown → Answer → Type 0
 DoesWrite pairs old new (Wrote number) =
     (number ≡ old.meta.writes + 1) × Accepts old new 1
-    × ChangesCells
-    (all_written old.setup.geometry.disks (blocks_named (pairs_of pairs))) old new
+    × ChangesCells (all_written old.setup.geometry.disks (blocks_named (pairs_of pairs))) old new
     × StagesFew old new (10 * pairs.count)
 DoesWrite pairs old new answer = ⊥
 
@@ -457,10 +456,10 @@ abbrev pub gear_after : Option Halt → Shown → Shown → ℕ
 gear_after None old new = new.meta.gear
 gear_after (Some halt) old new = old.gear
 
--- The most commits that an event makes. A write, or a read that cleans a cell, makes one where what
--- is staged leaves no room for its targets, and any other read or write none; a flush one where
--- anything is staged; a tick three, and one for each unit that it may move; and what is asked of
--- shifts and disks two.
+-- The most commits that an event makes. A write makes one where what is staged leaves no room for
+-- ten targets for each of its pairs, a read that cleans a cell where it leaves none for three, and
+-- any other read or write none; a flush one where anything is staged; a tick three, and one for each
+-- unit that it may move; and what is asked of shifts and disks two.
 abbrev pub most_commits : Shown → Event → ℕ
 most_commits x (Read block) = if read_cleans x block && lacks_room x 3 then 1 else 0
 most_commits x (Write pairs) = if lacks_room x (10 * pairs.count) then 1 else 0

@@ -75,7 +75,8 @@ enum Deed {
     Forget,
     /// The label of disk 0 says that nothing is known of disk 1.
     Doubt,
-    /// Disk 0 fails in a command that then spins up disk 1, and another hand says that it spins.
+    /// Disk 0 fails in a command that then spins up disk 1. Its sidecar is then set to spinning by
+    /// hand.
     Lose,
     /// One command makes three disks of four blocks, with labels.
     Format,
@@ -182,7 +183,7 @@ const PARKED: [Row; 2] = [(Park, FIT), (Strip, FIT)];
 /// An image without a label is taken where nothing is known of it, and gets one.
 const FORGOTTEN: [Row; 3] = [(Forget, FIT), (Load, FIT), (Strip, STRIPPED_AGAIN)];
 
-/// An image is not taken where the label of another one, which is to have heard of it, has not.
+/// An image is not taken where the label of another one does not know it, though that one was told.
 const UNHEARD: [Row; 4] = [(Park, FIT), (Lose, FIT), (Load, FIT), (Doubt, DOUBTED)];
 
 const SPARE: &str = "disk-1.copy";
