@@ -39,7 +39,7 @@ pub struct Array<R: Rack> {
 }
 
 impl<R: Rack> Array<R> {
-    ghost use Rattle.std.specs.Prelude.{ℕ, [], length};
+    ghost use Rattle.std.specs.Prelude.{[], length};
     ghost use Rattle.paraid_core.specs.Cores.{meta_of};
     ghost use Rattle.paraid_event.specs.Service.{service_of};
     ghost use Rattle.paraid_event.specs.Stands.{StandsAt};

@@ -1,5 +1,5 @@
 //! A commit of all that is staged, and a count of what is false after it.
-ghost use Rattle.std.specs.Prelude.{◌≡◌, ◌≢◌, ℕ, ◌<◌, true, length, Some, OnOk, IfOk, IsSome};
+ghost use Rattle.std.specs.Prelude.{◌≡◌, ◌≢◌, ℕ, true, length, Some, OnOk, IfOk, IsSome};
 ghost use Rattle.paraid_base.specs.History.{History};
 ghost use Rattle.paraid_core.specs.Calls.{CommitsWhole, MakesTransferCalls};
 ghost use Rattle.paraid_core.specs.Cores.{CoreStandsFor, IsCoreHeld, copied_of, core_rack, meta_of};

@@ -1,5 +1,5 @@
 //! Disks of an array that are taken out and replaced.
-ghost use Rattle.std.specs.Prelude.{◌≡◌, ◌<◌, true, None, IfSome};
+ghost use Rattle.std.specs.Prelude.{◌≡◌, ◌<◌, None};
 ghost use Rattle.paraid_upkeep.specs.Turns.{fail_answer, replace_answer};
 ghost use Rattle.paraid_base.specs.declared.event.Event.TheVariants.{Fail as FailEvent, Replace as ReplaceEvent};
 ghost use Rattle.paraid_base.specs.Log.{worn_at};

@@ -1,5 +1,5 @@
 //! Questions, and events that are refused with no call of the rack.
-ghost use Rattle.std.specs.Prelude.{◌≡◌, ◌≢◌, ◌*◌, ◌-◌, ◌<◌, ◌≤◌, max, true, length, None, Some, IfNone, IfSome};
+ghost use Rattle.std.specs.Prelude.{◌≡◌, ◌<◌, ◌≤◌, max, true, length, None, Some, IfNone, IfSome};
 ghost use Rattle.paraid_base.specs.declared.event.Answer.TheVariants.{Halted};
 ghost use Rattle.paraid_base.specs.declared.event.Event.{Event as EventType};
 ghost use Rattle.paraid_base.specs.declared.event.Event.TheVariants.{Energy as AskEnergy, State as AskState};

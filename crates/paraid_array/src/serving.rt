@@ -1,5 +1,5 @@
 //! An array answers each event of a session.
-ghost use Rattle.std.specs.Prelude.{◌≡◌, ◌≢◌, true, None};
+ghost use Rattle.std.specs.Prelude.{◌≡◌, ◌≢◌, None};
 ghost use Rattle.paraid_base.specs.declared.event.Event.TheVariants.{Bad as BadEvent, Flush as FlushEvent};
 ghost use Rattle.paraid_trace.specs.Answered.{answer_of, answer_with};
 ghost use Rattle.paraid_trace.specs.Asked.{event_with};

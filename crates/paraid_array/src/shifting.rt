@@ -1,5 +1,5 @@
 //! Shifts of an array that are asked for.
-ghost use Rattle.std.specs.Prelude.{◌≡◌, ◌<◌, true, None};
+ghost use Rattle.std.specs.Prelude.{◌≡◌, ◌<◌, None};
 ghost use Rattle.paraid_upkeep.specs.Directions.{asked_event};
 ghost use Rattle.paraid_upkeep.specs.Turns.{asked_answer};
 ghost use Rattle.paraid_base.specs.Log.{worn_at};

@@ -28,6 +28,10 @@ body_place k = 4 + k
 abbrev pub map_start : Geometry → ℕ
 map_start g = 100
 
+-- the last place of the log
+abbrev pub log_last : ℕ
+log_last = 99
+
 -- the place of block `j` of the dirty map
 abbrev pub map_block_place : Geometry → ℕ → ℕ
 map_block_place g j = map_start g + j

@@ -20,6 +20,10 @@ pub record GrowsByBytes (old new : Option (List ℕ)) (piece : List ℕ) : Type 
 abbrev pub AtEnd : Option (List ℕ) → Type 0
 AtEnd left = IsSome left → told_bytes left ≡ []
 
+-- no more bytes than so many are taken of a stream
+abbrev pub stream_most : ℕ
+stream_most = 2 ^ 40
+
 -- the greatest number of 64 bits, where a counter stops
 abbrev pub counter_most : ℕ
 counter_most = 18446744073709551615

@@ -20,7 +20,8 @@ pub use fault::{BlockFault, Failed, Halt, NoMemory, Two};
 pub use geometry::{GeoFault, Geometry};
 pub use laws::{log_lies_before_map, pairs_decide_a_value};
 pub use log::{
-    BATCH_META, BATCH_ROOM, FIRST_BODY, FIRST_LIST, GATE, MAP_START, META, WITNESS_DISK, WORN_AT,
+    BATCH_META, BATCH_ROOM, FIRST_BODY, FIRST_LIST, GATE, LOG_LAST, MAP_START, META, WITNESS_DISK,
+    WORN_AT,
 };
 pub use pairs::Pairs;
 pub use state::{GearReport, Out, Phase, Status, TickEvent};

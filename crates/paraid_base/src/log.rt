@@ -22,6 +22,9 @@ pub const BATCH_ROOM: usize = 96;
 /// The first place past the log, where the dirty map starts.
 pub const MAP_START: Place = 100;
 
+/// The last place of the log.
+pub const LOG_LAST: Place = MAP_START - 1;
+
 /// The disk that bears witness against log disks, at the places 0 and 1.
 pub const WITNESS_DISK: DiskNo = 2;
 

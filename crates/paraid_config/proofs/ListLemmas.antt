@@ -1,7 +1,6 @@
 -- How far a list of a document was read, and what the rest of it adds
-use Rattle.std.proofs.Common.{◌≡◌, ℕ, ◌<◌, ◌≤◌, ◌+◌, ◌-◌, ℤ, pos, List, [], ◌∷◌, ◌++◌, All, length, get_or, take, drop, map, Option, Some, None, option_map, refl, sym, ap, subst, ◌∙◌, append_assoc, arith, replicate}
+use Rattle.std.proofs.Common.{◌≡◌, ℕ, ◌<◌, ◌≤◌, ◌+◌, ◌-◌, ℤ, pos, List, [], ◌∷◌, ◌++◌, All, length, get_or, take, drop, map, Option, Some, None, option_map, refl, sym, ap, subst, ◌∙◌, append_assoc, arith, replicate, w8, w16, w64, Fits, SFits, to_z, of_z}
 use Rattle.std.specs.Prelude.{Result, OnOk, IfErr}
-use Rattle.std.proofs.Common.{w8, w16, w64, Fits, SFits, to_z, of_z}
 use Rattle.std.proofs.lemmas.Int.{to_z-of_z}
 use Rattle.std.proofs.lemmas.List.{append-nil, drop_all, drop_more, take_all, take_more, map-append}
 use Rattle.paraid_config.specs.declared.fault.ConfigFault.{ConfigFault}

@@ -1,6 +1,6 @@
 //! The setup that a table says.
 
-ghost use Rattle.std.specs.Prelude.{◌≡◌, ◌≤◌, None, IfOk, IfErr, OnOk};
+ghost use Rattle.std.specs.Prelude.{◌≡◌, None, IfOk, IfErr, OnOk};
 ghost use Rattle.toml.specs.View.{table_view};
 ghost use Rattle.paraid_record.specs.Range.{IsSetupInRange};
 ghost use Rattle.paraid_config.specs.Config.{document_fault, IsDocumentFault, IsSetupOf};

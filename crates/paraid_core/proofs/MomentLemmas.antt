@@ -17,11 +17,10 @@ use Rattle.paraid_image.specs.LostDisk.{IsLoss}
 use Rattle.paraid_image.specs.Out.{IsMissing, named_out, out_disk}
 use Rattle.paraid_image.proofs.FailedCallLemmas.{failed_is_loss}
 use Rattle.paraid_image.specs.Standing.{Contents}
-use Rattle.paraid_image.proofs.OutLemmas.{missing_is_out}
+use Rattle.paraid_image.proofs.OutLemmas.{missing_is_out, out_missing}
 use Rattle.paraid_image.proofs.CallLemmas.{out_named}
 use Rattle.paraid_moves.specs.Copying.{HoldsWithCopies, IsCopyImage, without_disk}
 use Rattle.paraid_moves.proofs.RunLemmas.{copies_held, copies_lost, copies_read}
-use Rattle.paraid_image.proofs.OutLemmas.{out_missing}
 use Rattle.paraid_view.specs.Reads.{AreArrayReads}
 use Rattle.paraid_core.specs.CoreInvariant.{IsHeldWithOneMissing}
 

@@ -1,6 +1,6 @@
 //! The dirty bits that a plan has set, with what they were before: so that a plan which is not
 //! completed can be undone.
-ghost use Rattle.std.specs.Prelude.{◌≡◌, ℕ, ◌+◌, ◌<◌, ◌≤◌, ◌∷◌, ◌++◌, [], length, IfOk, MatchOption};
+ghost use Rattle.std.specs.Prelude.{◌≡◌, ◌<◌, ◌≤◌, ◌∷◌, ◌++◌, [], length, IfOk, MatchOption};
 
 use paraid_base::{DiskNo, NoMemory, Row};
 use std::alloc::Global;

@@ -1,5 +1,5 @@
 //! The blocks of a stripe of the region of the new gear, read by the values of its cells.
-ghost use Rattle.std.specs.Prelude.{◌≡◌, ◌≢◌, ℕ, ◌+◌, ◌-◌, ◌<◌, ◌++◌, None, OnOk, IfErr, IsSome};
+ghost use Rattle.std.specs.Prelude.{◌≡◌, ◌≢◌, ℕ, ◌+◌, ◌<◌, ◌++◌, None, OnOk, IfErr, IsSome};
 ghost use Rattle.paraid_base.specs.Soft.{soft_parity_disk};
 ghost use Rattle.paraid_base.specs.Sums.{without, xor_upto};
 ghost use Rattle.paraid_core.specs.Fills.{member};

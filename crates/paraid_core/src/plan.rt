@@ -1,6 +1,6 @@
 //! A core as that over which a write is planned: what is drafted is seen by the reads of the plan,
 //! and nothing of it is staged yet.
-ghost use Rattle.std.specs.Prelude.{◌++◌, ◌≡◌, ◌≢◌, ℕ, ◌+◌, ◌<◌, ◌≤◌, Some, Option, IfErr, IsSome, OnOk, length, false, []};
+ghost use Rattle.std.specs.Prelude.{◌++◌, ◌≡◌, ◌≢◌, ◌<◌, Some, Option, IfErr, IsSome, OnOk, length, false, []};
 ghost use Rattle.paraid_core.specs.Undo.{AreOfTable, undo_changes};
 ghost use Rattle.paraid_dirty.specs.Table.{is_dirty};
 ghost use Rattle.paraid_image.specs.Standing.{Contents};

@@ -4,9 +4,8 @@ ghost use Rattle.std.specs.Prelude.{◌≡◌, ◌≢◌, ℕ, ◌<◌, [], leng
 ghost use Rattle.paraid_base.specs.History.{History, after_all as held_by};
 ghost use Rattle.paraid_rack.specs.Trail.{Trail, now};
 ghost use Rattle.paraid_txn.specs.Losses.{StaySynced};
-ghost use Rattle.paraid_core.specs.Steps.{AreUnsyncedCopied};
+ghost use Rattle.paraid_core.specs.Steps.{AreUnsyncedCopied, IsPutOut};
 ghost use Rattle.paraid_core.specs.Replaced.{HaveComeUp};
-ghost use Rattle.paraid_core.specs.Steps.{IsPutOut};
 ghost use Rattle.paraid_core.specs.CoreInvariant.{AreCopiesSynced, lost_in};
 ghost use Rattle.paraid_image.specs.Out.{named_out as named_out_of};
 ghost use Rattle.paraid_image.specs.Mark.{meta_with_lost};

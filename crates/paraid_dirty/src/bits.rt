@@ -1,6 +1,6 @@
 //! Bits in words of 64, the lowest first.
 
-ghost use Rattle.std.specs.Prelude.{◌≡◌, ◌≢◌, ℕ, ◌+◌, ◌-◌, ◌*◌, ◌/◌, ◌%◌, ◌^◌, ◌<◌, ◌≤◌, ◌==◌, length, slice_index, true, false, if◌then◌else◌, IfSome, IfNone};
+ghost use Rattle.std.specs.Prelude.{◌≡◌, ◌≢◌, ℕ, ◌/◌, ◌<◌, ◌≤◌, ◌==◌, length, slice_index, true, false, if◌then◌else◌, IfSome, IfNone};
 ghost use Rattle.paraid_dirty.specs.Bits.{bit_of, bit_in, AreClear, IsFirstBit};
 
 /// The first bit of a word that is set, at or after `from`.

@@ -1,6 +1,6 @@
 //! Searches the bits of some disks in words of eight rows.
 
-ghost use Rattle.std.specs.Prelude.{◌≡◌, ℕ, ◌+◌, ◌-◌, ◌*◌, ◌/◌, ◌^◌, ◌<◌, ◌≤◌, length, slice_index, false, IfSome, IfNone};
+ghost use Rattle.std.specs.Prelude.{◌≡◌, ℕ, ◌-◌, ◌*◌, ◌^◌, ◌<◌, ◌≤◌, length, slice_index, false, IfSome, IfNone};
 ghost use Rattle.paraid_dirty.specs.Bits.{bit_in, on_disks, AreClear, IsFirstBit};
 
 use crate::bits::first_bit;

@@ -1,8 +1,7 @@
 //! The dirty table: bits in words of eight rows, with a mark for each word that may have one set.
-ghost use Rattle.std.specs.Prelude.{◌≡◌, ◌⊎◌, ℕ, ◌+◌, ◌*◌, ◌/◌, ◌%◌, ◌<◌, ◌≤◌, ◌-◌, ◌^◌, ◌==◌, length, true, false, slice_index, IfOk, IfSome, IfNone};
-ghost use Rattle.paraid_base.specs.Sums.{sum_before};
-ghost use Rattle.paraid_dirty.specs.Bits.{bit_of, bit_in, AreClear, IsFirstBit};
-ghost use Rattle.paraid_dirty.specs.Table.{is_dirty, table_with_bit, dirty_count, row_bits, IsClean, IsCleanFrom, IsFirstDirty, IsFirstFrom, ShowsBits};
+ghost use Rattle.std.specs.Prelude.{◌≡◌, ◌⊎◌, ℕ, ◌+◌, ◌*◌, ◌/◌, ◌<◌, ◌≤◌, length, true, false, slice_index, IfOk, IfSome, IfNone};
+ghost use Rattle.paraid_dirty.specs.Bits.{bit_of, bit_in};
+ghost use Rattle.paraid_dirty.specs.Table.{is_dirty, table_with_bit, dirty_count, IsClean, IsCleanFrom, IsFirstDirty, IsFirstFrom, ShowsBits};
 
 use crate::bits::{clear_bit, has_bit, set_bit};
 use crate::search::{first_on_disks, pattern};

@@ -1,6 +1,6 @@
 -- The tick with which a rebuild ends.
 use Rattle.std.proofs.Common.{◌≡◌, ℕ, ◌+◌, ◌^◌, ◌<◌, ◌≤◌, Bool, true, false, List, [], ◌∷◌, Option, Some, None, refl, sym, ap, ◌∙◌, inl, inr, subst, arith, min, if◌then◌else◌}
-use Rattle.std.specs.Prelude.{◌==◌, Contains}
+use Rattle.std.specs.Prelude.{◌==◌, Contains, slice_index}
 use Rattle.std.proofs.lemmas.Bool.{false≢true}
 use Rattle.std.proofs.lemmas.List.{append-nil}
 use Rattle.paraid_base.specs.declared.event.Answer.{Answer}
@@ -29,12 +29,10 @@ use Rattle.paraid_event.proofs.ApartLemmas.{gone_not_fresh, no_one, tick_not_bad
 use Rattle.paraid_event.specs.RebuildEnds.{MarksRejoined}
 use Rattle.paraid_event.specs.RebuildTicks.{CountsRebuild}
 use Rattle.paraid_session.specs.Ups.{up_count}
-use Rattle.std.specs.Prelude.{slice_index}
-use Rattle.paraid_event.specs.Steps.{made_by}
+use Rattle.paraid_event.specs.Steps.{made_by, AreStepCalls}
 use Rattle.paraid_event.proofs.UsedLemmas.{counted_made}
 use Rattle.paraid_event.specs.Service.{IsStateOf, Service}
 use Rattle.paraid_event.specs.Stands.{IsMidway, StandsAt, StandsIn}
-use Rattle.paraid_event.specs.Steps.{AreStepCalls}
 use Rattle.paraid_event.specs.Ticks.{CountsTick}
 use Rattle.paraid_event.proofs.EndLemmas.{fails_split, only_serving}
 use Rattle.paraid_event.proofs.ParkBackLemmas.{IsEnded}

@@ -1,6 +1,6 @@
 -- A tick that moves units of a rebuild.
 use Rattle.std.proofs.Common.{◌≡◌, ℕ, ◌+◌, ◌^◌, ◌<◌, ◌≤◌, Bool, true, false, List, [], ◌∷◌, Option, Some, None, refl, sym, ap, ◌∙◌, inl, inr, subst, arith, min, if◌then◌else◌}
-use Rattle.std.specs.Prelude.{◌==◌, Contains}
+use Rattle.std.specs.Prelude.{◌==◌, Contains, slice_index}
 use Rattle.std.proofs.lemmas.Bool.{cases_eq, false≢true}
 use Rattle.std.proofs.lemmas.Bool.Decides.{nat_tests}
 use Rattle.std.proofs.lemmas.List.{append-nil}
@@ -46,7 +46,6 @@ use Rattle.paraid_recover.proofs.DownLemmas.{watched_disks}
 use Rattle.paraid_event.proofs.ApartLemmas.{gone_not_fresh, tick_not_bad}
 use Rattle.paraid_event.specs.Lost.{TellsTwo}
 use Rattle.paraid_event.specs.RebuildTicks.{CountsRebuild, MarksGoneAgain, MarksRebuilt}
-use Rattle.std.specs.Prelude.{slice_index}
 use Rattle.paraid_event.proofs.UpLemmas.{made_most}
 use Rattle.paraid_event.proofs.UsedLemmas.{counted_made}
 use Rattle.paraid_event.specs.Service.{IsStateOf, Service}

@@ -37,11 +37,10 @@ use Rattle.paraid_recover.proofs.DownLemmas.{watched_disks}
 use Rattle.paraid_event.proofs.ApartLemmas.{none_not_gone}
 use Rattle.paraid_event.specs.Lost.{TellsTwo}
 use Rattle.std.specs.Prelude.{slice_index}
-use Rattle.paraid_event.specs.Steps.{made_by}
+use Rattle.paraid_event.specs.Steps.{made_by, AreStepCalls, GoesInSteps, IsOnly, IsUnderway}
 use Rattle.paraid_event.proofs.UpLemmas.{made_most}
 use Rattle.paraid_event.specs.Service.{IsStateOf, Service}
 use Rattle.paraid_event.specs.Stands.{StandsAt, StandsIn}
-use Rattle.paraid_event.specs.Steps.{AreStepCalls, GoesInSteps, IsOnly, IsUnderway}
 use Rattle.paraid_event.specs.Ticks.{IsHaltedWith}
 use Rattle.paraid_event.proofs.EndLemmas.{only_from, only_is, only_serving}
 use Rattle.paraid_event.proofs.LastCallLemmas.{ends_event}

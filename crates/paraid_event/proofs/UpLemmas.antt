@@ -12,7 +12,7 @@ use Rattle.paraid_rack.specs.declared.call.Power.{Power}
 use Rattle.paraid_rack.specs.declared.call.Power.TheVariants.{Absent, Parked, Spinning}
 use Rattle.paraid_rack.specs.Disks.{Disks, is_parked, is_present, power_after, step}
 use Rattle.paraid_rack.specs.Lawful.{IsLawful}
-use Rattle.paraid_rack.specs.Trail.{run}
+use Rattle.paraid_rack.specs.Trail.{run, Trail}
 use Rattle.paraid_rack.proofs.AtomsLemmas.{with_at_other, with_at_same}
 use Rattle.paraid_record.specs.declared.meta.Meta.{Meta}
 use Rattle.paraid_record.specs.declared.meta.Setup.{Setup}
@@ -21,7 +21,6 @@ use Rattle.paraid_core.specs.Calls.{IsTransferCall}
 use Rattle.paraid_recover.specs.Powers.{IsPowerCall}
 use Rattle.paraid_session.specs.Ups.{up_count, ups_by}
 use Rattle.paraid_txn.specs.Uses.{EachCall}
-use Rattle.paraid_rack.specs.Trail.{Trail}
 use Rattle.paraid_rack.specs.Calls.{IsTransfer}
 use Rattle.paraid_session.specs.Turn.{Point}
 use Rattle.paraid_event.specs.Marks.{ArePoweredByGear}

@@ -1,5 +1,5 @@
 //! That a shift which is asked for begins, by the parts of its event.
-ghost use Rattle.std.specs.Prelude.{◌≡◌, ℕ, ◌+◌, ◌^◌, ◌<◌, ◌≤◌, ◌⊎◌, min, None, Option, Some};
+ghost use Rattle.std.specs.Prelude.{◌≡◌, ℕ, ◌+◌, ◌<◌, ◌≤◌, ◌⊎◌, min, None, Option, Some};
 ghost use Rattle.paraid_base.specs.declared.event.Answer.TheVariants.{Halted, Out as IsOut, Shift};
 ghost use Rattle.paraid_base.specs.declared.event.Event.TheVariants.{Down as AskDown, Up as AskUp};
 ghost use Rattle.paraid_base.specs.declared.fault.Halt.TheVariants.{Two as HaltTwo};

@@ -1,5 +1,5 @@
 //! That the tick with which a rebuild ends is an event of a session.
-ghost use Rattle.std.specs.Prelude.{◌≡◌, ℕ, ◌+◌, ◌^◌, ◌<◌, ◌≤◌, None, Option, Some};
+ghost use Rattle.std.specs.Prelude.{◌≡◌, ℕ, ◌+◌, ◌<◌, ◌≤◌, None, Option, Some};
 ghost use Rattle.paraid_base.specs.declared.event.Answer.TheVariants.{Halted};
 ghost use Rattle.paraid_base.specs.declared.event.Event.TheVariants.{Tick as TickEvent};
 ghost use Rattle.paraid_base.specs.declared.fault.Halt.TheVariants.{Two as HaltTwo};

@@ -1,5 +1,5 @@
 //! That a second loss ends a session.
-ghost use Rattle.std.specs.Prelude.{◌≡◌, ℕ, ◌<◌, All, Option};
+ghost use Rattle.std.specs.Prelude.{ℕ, ◌<◌, All, Option};
 ghost use Rattle.paraid_base.specs.declared.block.Block.{Block as BlockType};
 ghost use Rattle.paraid_base.specs.declared.event.Answer.TheVariants.{Halted};
 ghost use Rattle.paraid_base.specs.declared.event.Event.TheVariants.{Flush as FlushEvent, Read as ReadEvent, Write as WriteEvent};

@@ -1,6 +1,6 @@
 //! That a tick of a shift is an event of a session: one that moves units, one that ends the shift,
 //! one in which a disk is lost, and one that begins a shift up.
-ghost use Rattle.std.specs.Prelude.{◌≡◌, ◌==◌, ℕ, ◌+◌, ◌^◌, ◌<◌, ◌≤◌, ◌⊎◌, true, false, min, None, Option, Some};
+ghost use Rattle.std.specs.Prelude.{◌≡◌, ◌==◌, ℕ, ◌+◌, ◌<◌, ◌≤◌, ◌⊎◌, true, false, min, None, Option, Some};
 ghost use Rattle.paraid_base.specs.declared.event.Answer.TheVariants.{Halted, Ticked};
 ghost use Rattle.paraid_base.specs.declared.event.Event.TheVariants.{Tick as TickEvent};
 ghost use Rattle.paraid_base.specs.declared.fault.Halt.TheVariants.{Two as HaltTwo};
@@ -35,7 +35,8 @@ pub fn a_tick_moves_a_shift()
         → StandsAt told k setup p → point_wear p < worn_at → CountsTick k counted
         → p.state.out ≡ No → (p.state.phase ≡ Steady → ⊥) → k_then.energy ≡ counted.energy
         → AreCopiesSynced k_then.meta.setup.geometry.disks k_then.copied
-        → most ≤ event_room → MovesUnits counted k_then (units_of_tick setup (state_with_tick p.state))
+        → most ≤ event_room
+        → MovesUnits counted k_then (units_of_tick setup (state_with_tick p.state))
         → k_then.meta.out ≡ No → (units_of_tick setup
         (state_with_tick p.state) == units_left setup (state_with_tick p.state)) ≡ false
         → Ran told told_then (StepsInEvent counted k_then p.history p.low most)
@@ -61,7 +62,8 @@ pub fn a_tick_moves_a_shift()
         → StandsAt told k setup p → point_wear p < worn_at → CountsTick k counted
         → p.state.out ≡ No → (p.state.phase ≡ Steady → ⊥) → k_then.energy ≡ counted.energy
         → AreCopiesSynced k_then.meta.setup.geometry.disks k_then.copied
-        → most ≤ event_room → EndsShift counted k_then (units_of_tick setup (state_with_tick p.state))
+        → most ≤ event_room
+        → EndsShift counted k_then (units_of_tick setup (state_with_tick p.state))
         → (units_of_tick setup
         (state_with_tick p.state) == units_left setup (state_with_tick p.state)) ≡ true
         → Ran told told_then (StepsInEvent counted k_then p.history p.low most)

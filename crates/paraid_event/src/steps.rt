@@ -1,5 +1,5 @@
 //! That parts of an event follow each other: copies, marks, commits, and disks that are powered.
-ghost use Rattle.std.specs.Prelude.{◌≡◌, ℕ, ◌+◌, ◌<◌, ◌≤◌, Option, Some};
+ghost use Rattle.std.specs.Prelude.{◌≡◌, ℕ, ◌+◌, ◌≤◌, Option};
 ghost use Rattle.paraid_base.specs.declared.fault.Two.{Two as TwoType};
 ghost use Rattle.paraid_base.specs.History.{History};
 ghost use Rattle.paraid_base.specs.States.{gone_out};

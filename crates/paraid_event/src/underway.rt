@@ -1,5 +1,5 @@
 //! That an event is underway from a point at which an array stands.
-ghost use Rattle.std.specs.Prelude.{◌≡◌, ℕ, ◌<◌, Option};
+ghost use Rattle.std.specs.Prelude.{◌<◌, Option};
 ghost use Rattle.paraid_base.specs.Log.{worn_at};
 ghost use Rattle.paraid_rack.specs.Trail.{Trail};
 ghost use Rattle.paraid_record.specs.declared.meta.Setup.{Setup as SetupType};

@@ -2,12 +2,11 @@
 use Rattle.std.proofs.Common.{◌≡◌, ℕ, ◌<◌, ◌≤◌, ◌+◌, ◌-◌, ◌*◌, ◌++◌, refl, suc, List, [], ◌∷◌, length, sum, sum_by, All, get_or, drop, slice_get, Some, Option, unwrap_or, arith, sym, ◌∙◌, ap, inl, inr}
 use Rattle.std.proofs.lemmas.Bool.{cases_lt}
 use Rattle.std.proofs.lemmas.List.{map-id, length-append, length-drop}
-use Rattle.std.proofs.lemmas.List.Sums.{sum_by-le, sum_by-cons, sum-map}
+use Rattle.std.proofs.lemmas.List.Sums.{sum_by-le, sum_by-cons, sum-map, sum_by-append}
 use Rattle.std.proofs.lemmas.Nat.{mul-le}
-use Rattle.std.proofs.lemmas.List.Sums.{sum_by-append}
 use Rattle.std.proofs.lemmas.List.Elements.{All-append}
 use Rattle.circular_buffer.specs.Buffer.{keep_last}
-use Rattle.paraid_gear.specs.Window.{sum_squares, AreSums}
+use Rattle.paraid_gear.specs.Window.{sum_squares, AreSums, sample_most}
 
 -- no sum of 1,024 numbers is above 1,024 times their bound
 pub sum_by_small : (f : ℕ → ℕ) (top : ℕ) (xs : List ℕ) → length xs ≤ 1024 → All (λ x. f x ≤ top) xs → sum_by f xs ≤ 1024 * top
@@ -60,21 +59,21 @@ pub sums-none : AreSums [] 0 0
 sums-none = record { small = λ k d inside. absurd (omega arith); total_is = refl; squares_is = refl }
 
 -- the sums of at most 1,024 samples are small
-pub sums-small : (xs : List ℕ) (total squares : ℕ) → AreSums xs total squares → length xs ≤ 1024 → (total ≤ 1024 * 1048576) × (squares ≤ 1024 * 1099511627776)
+pub sums-small : (xs : List ℕ) (total squares : ℕ) → AreSums xs total squares → length xs ≤ 1024 → (total ≤ 1024 * sample_most) × (squares ≤ 1024 * 1099511627776)
 sums-small xs total squares sums short = (
-  omega (arith, sums.total_is, sum-sum_by xs, sum_by_small (λ x. x) 1048576 xs short sums.small),
+  omega (arith, sums.total_is, sum-sum_by xs, sum_by_small (λ x. x) sample_most xs short sums.small),
   omega (
     arith,
     sums.squares_is,
     sum_by_small (λ x. x * x) 1099511627776 xs short
-        (λ k d inside. let x = get_or xs k d in let low : x ≤ 1048576 = sums.small k d inside in mul-le x x 1048576 1048576 low low),
+        (λ k d inside. let x = get_or xs k d in let low : x ≤ sample_most = sums.small k d inside in mul-le x x sample_most sample_most low low),
   ),
 )
 
 -- one more sample
-pub sums-more : (xs : List ℕ) (x total squares : ℕ) → AreSums xs total squares → x ≤ 1048576 → AreSums (xs ++ x ∷ []) (total + x) (squares + x * x)
+pub sums-more : (xs : List ℕ) (x total squares : ℕ) → AreSums xs total squares → x ≤ sample_most → AreSums (xs ++ x ∷ []) (total + x) (squares + x * x)
 sums-more xs x total squares sums low = record {
-  small = All-append (λ y. y ≤ 1048576) xs (x ∷ []) sums.small (λ k d inside. elim (cases_lt k 1) [
+  small = All-append (λ y. y ≤ sample_most) xs (x ∷ []) sums.small (λ k d inside. elim (cases_lt k 1) [
     | inl first ↦ (let zero_k : k ≡ 0 = omega arith in rw zero_k low)
     | inr past ↦ absurd (omega arith)
   ]);

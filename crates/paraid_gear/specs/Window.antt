@@ -19,9 +19,13 @@ pub record HoldsLast (window : SampleWindow) (samples : List ℕ) : Type 0 where
 abbrev pub sum_squares : List ℕ → ℕ
 sum_squares = sum_by (λ x. x * x)
 
+-- no sample is greater
+abbrev pub sample_most : ℕ
+sample_most = 1048576
+
 -- the sum of small samples, and that of their squares
 pub record AreSums (samples : List ℕ) (total squares : ℕ) : Type 0 where
-  pub small : All (λ x. x ≤ 1048576) samples
+  pub small : All (λ x. x ≤ sample_most) samples
   pub total_is : total ≡ sum samples
   pub squares_is : squares ≡ sum_squares samples
 

@@ -1,8 +1,8 @@
 //! One window: the last samples, as many as it is long.
 
-ghost use Rattle.std.specs.Prelude.{◌≡◌, ◌-◌, ◌*◌, ◌^◌, ◌<◌, ◌≤◌, [], ◌∷◌, ◌++◌, length, sum, IfOk};
+ghost use Rattle.std.specs.Prelude.{◌≡◌, ◌-◌, ◌^◌, ◌<◌, ◌≤◌, [], ◌∷◌, ◌++◌, length, sum, IfOk};
 ghost use Rattle.circular_buffer.specs.Buffer.{keep_last};
-ghost use Rattle.paraid_gear.specs.Window.{sample_window, sum_squares, is_full as is_full_at, is_busy as is_busy_at, is_low_and_even as is_quiet_at};
+ghost use Rattle.paraid_gear.specs.Window.{sample_window, sum_squares, is_full as is_full_at, is_busy as is_busy_at, is_low_and_even as is_quiet_at, sample_most};
 
 use circular_buffer::HeapCircularBuffer;
 use paraid_base::NoMemory;
@@ -63,7 +63,7 @@ impl Window {
 
     /// Takes in a sample. A window that is full gives up its oldest; one of length 0 stays empty.
     pub fn push(&mut self, sample: u32)
-        requires { sample ≤ 1048576 }
+        requires { sample ≤ sample_most }
         ensures { self.new ≡ sample_window self.old.span
             (keep_last self.old.span (self.old.samples ++ sample ∷ [])) }
     {

@@ -69,7 +69,7 @@ initial_state i said = state_by i.power said.meta (view_of i said).dirty
 abbrev pub spins_by_gear : ℕ → Phase → ℕ → Bool
 spins_by_gear gear phase d = nat_lt d gear || nat_lt d (rising_to phase)
 
--- the others are parked
+-- how the gear powers a disk that is not out: it spins if it is to, and else is parked
 abbrev pub power_by_gear : ℕ → Phase → ℕ → Power
 power_by_gear gear phase d = if spins_by_gear gear phase d then Spinning else Parked
 

@@ -53,7 +53,7 @@ pub record LogState : Type 0 where
   pub meta : Meta
   pub batch : Batch
 
--- that by its three parts
+-- what a log disk says, by its gate, its meta and its batch
 abbrev pub log_state : Bool → Meta → Batch → LogState
 log_state opened meta batch = record { opened = opened; meta = meta; batch = batch }
 

@@ -22,8 +22,8 @@ IsUnhindered rack = (d : ℕ) → hindrance_at rack.images.items d ≡ None
 abbrev pub HasNoMisfits : {F : Type 0} → ImageRack F → Type 0
 HasNoMisfits rack = (d : ℕ) → misfit_at rack.images.items d ≡ None
 
--- The array is the one that the labels which were read name, where one does; and each misfit that is
--- kept is one of a slot of it, by what was read of its image and of the others.
+-- The array is the one that the labels which were read name, where one does; and each misfit that
+-- is kept is one of a slot of it, by what was read of its image and of the others.
 pub record HasTrueMisfits {F : Type 0} (rack : ImageRack F) : Type 0 where
   pub names : Names (label_at rack.images.items) rack.identity
   pub misfits : AreTrueMisfits (label_at rack.images.items) rack.images.items rack.identity
@@ -34,4 +34,5 @@ pub record HasTrueMisfits {F : Type 0} (rack : ImageRack F) : Type 0 where
 abbrev pub IsFitting : {F : Type 0} → ImageRack F → Type 0
 IsFitting rack = AreUnnamed (label_at rack.images.items)
     ⊎ IsSomeAnd rack.identity (λ i. IsNamed (label_at rack.images.items) i
-    × (IsLearned (label_at rack.images.items) i × Fit (label_at rack.images.items) rack.images.items i))
+    × (IsLearned (label_at rack.images.items) i
+    × Fit (label_at rack.images.items) rack.images.items i))

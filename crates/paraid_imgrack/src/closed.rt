@@ -1,5 +1,4 @@
 //! A rack that serves no more. Nothing can be read or written, attached, parked or spun up.
-ghost use Rattle.std.specs.Prelude.{◌≡◌};
 
 use crate::rack::ImageRack;
 use std::fs::{File, Files};

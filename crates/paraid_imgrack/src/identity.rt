@@ -200,8 +200,8 @@ impl Identity {
         None
     }
 
-    /// Why the image of a slot that spins at an opening does not belong there, beside the others that
-    /// do, whose labels these are: it may also be of another time than one of them.
+    /// Why the image of a slot that spins at an opening does not belong there, beside the others
+    /// that do, whose labels these are: it may also be of another time than one of them.
     pub(crate) fn misfit_beside(&self, labels: &Labels, tail: &Tail, slot: DiskNo) -> Option<Misfit>
         ensures read { slot < self.now.disks
             → SuitsBeside self.now (label_in labels.now) tail.now slot result }
@@ -263,8 +263,8 @@ impl Identity {
         None
     }
 
-    /// Why an image with this tail that was parked until now does not belong into a slot: it may also
-    /// be newer than the others know it.
+    /// Why an image with this tail that was parked until now does not belong into a slot: it may
+    /// also be newer than the others know it.
     pub(crate) fn late_misfit_of(&self, tail: &Tail, slot: DiskNo) -> Option<Misfit>
         ensures read { slot < self.now.disks → SuitsTailLate self.now tail.now slot result }
         ensures none { IfSome result (λ _. slot < self.now.disks) }

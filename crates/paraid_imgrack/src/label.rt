@@ -1,5 +1,5 @@
 //! The label of an image: a text of one form, which says what image it is and how new.
-ghost use Rattle.std.specs.Prelude.{◌≡◌, ◌≤◌, ◌+◌, ◌*◌, ℕ, length};
+ghost use Rattle.std.specs.Prelude.{◌≤◌, ◌+◌, ◌*◌, length};
 
 use paraid_base::DiskNo;
 

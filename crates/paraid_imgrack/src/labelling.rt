@@ -203,8 +203,8 @@ impl<F: Files<File = File> + Drop> ImageRack<F> {
             && self.images[disk].power == Power::Spinning
     }
 
-    // Whether the image in a slot has heard the news, if there are any and it is to be told. One that
-    // has failed since it was marked has not: it may come back by another hand.
+    // Whether the image in a slot has heard the news, if there are any and it is to be told. One
+    // that has failed since it was marked has not: it may come back by another hand.
     fn mark_again(&mut self, disk: usize, identity: &Identity, is_heard: bool) -> bool
         requires { disk < length self.old.images.items }
         ensures { map image_slot self.new.images.items ≡ map image_slot self.old.images.items }
@@ -290,7 +290,8 @@ impl<F: Files<File = File> + Drop> ImageRack<F> {
         ensures same { result ≡ true
             → map image_misfit self.new.images.items ≡ map image_misfit self.old.images.items }
         ensures misfit { result ≡ false → (d : ℕ) × IsSome (misfit_at self.new.images.items d) }
-        ensures misfits { AreTrueMisfits (label_in labels.now) self.old.images.items (Some identity.now)
+        ensures misfits { AreTrueMisfits (label_in labels.now) self.old.images.items
+            (Some identity.now)
             → AreTrueMisfits (label_in labels.now) self.new.images.items (Some identity.now) }
     {
         let mut fits = true;

@@ -4,7 +4,7 @@ use Rattle.std.proofs.Math.Seq.{take-append_seam}
 use Rattle.std.proofs.lemmas.List.{append_assoc, append-nil, nil_from_length}
 use Rattle.std.proofs.lemmas.Bool.Decides.{nat_tests}
 use Rattle.std.proofs.lemmas.Bool.{cases_lt, cases_eq, false≢true}
-use Rattle.paraid_base.specs.Told.{Gives, AtEnd}
+use Rattle.paraid_base.specs.Told.{Gives, AtEnd, stream_most}
 use Rattle.paraid_io.specs.declared.line.Line.{Line}
 use Rattle.paraid_io.specs.declared.line.Line.TheVariants.{Whole, Long, End}
 use Rattle.paraid_io.specs.declared.line.LineFault.{LineFault}
@@ -23,14 +23,14 @@ pub record Midway (before now : Option (List ℕ)) (old at : Reading) (dropped :
   pub many : length gone ≡ dropped
   pub long : 0 < dropped → 1100 < dropped
   pub taken : at.taken ≡ old.taken + length got
-  pub limit : at.taken ≤ 2 ^ 40
+  pub limit : at.taken ≤ stream_most
   pub held : length gone + length at.rest ≤ at.taken
   pub fault : at.fault ≡ None
   pub ended_before : IsTrue old.ended → got ≡ []
   pub stays_ended : IsTrue old.ended → IsTrue at.ended
-  pub ended_now : IsTrue at.ended → old.ended ≡ false → AtEnd now × (at.taken < 2 ^ 40)
+  pub ended_now : IsTrue at.ended → old.ended ≡ false → AtEnd now × (at.taken < stream_most)
 
-pub midway_start : (before : Option (List ℕ)) (old : Reading) → old.fault ≡ None → length old.rest ≤ old.taken → old.taken ≤ 2 ^ 40 → Midway before before old old 0
+pub midway_start : (before : Option (List ℕ)) (old : Reading) → old.fault ≡ None → length old.rest ≤ old.taken → old.taken ≤ stream_most → Midway before before old old 0
 midway_start before old none held limit = record {
   got = [];
   gone = [];
@@ -75,7 +75,7 @@ was_not_ended {before} {now} {old} {at} {dropped} m e =
     both old.ended m.stays_ended
 
 -- more bytes came, or the end
-pub midway_more : {before now after : Option (List ℕ)} {old at new : Reading} {dropped n : ℕ} → Midway before now old at dropped → at.ended ≡ false → at.taken < 2 ^ 40
+pub midway_more : {before now after : Option (List ℕ)} {old at new : Reading} {dropped n : ℕ} → Midway before now old at dropped → at.ended ≡ false → at.taken < stream_most
     → ReaderTakes now after at new n → new.ended ≡ (n == 0) → new.fault ≡ at.fault → Midway before after old new dropped
 midway_more {before} {now} {after} {old} {at} {new} {dropped} {n} m unended short t ended fault = record {
   got = m.got ++ t.got;
@@ -205,7 +205,7 @@ pub scanned_plain : {before after : Option (List ℕ)} {old new : Reading} {n : 
 scanned_plain {before} {after} {old} {new} {n} t plain = rw t.held (subst NoNewline (sym (take-append_seam old.rest t.got)) plain)
 
 -- the source is called only where the answer was not known without it
-pub needs_a_call : {before now : Option (List ℕ)} {old at : Reading} {d : ℕ} → Midway before now old at d → at.ended ≡ false → NoNewline at.rest → at.taken < 2 ^ 40
+pub needs_a_call : {before now : Option (List ℕ)} {old at : Reading} {d : ℕ} → Midway before now old at d → at.ended ≡ false → NoNewline at.rest → at.taken < stream_most
     → NeedsNoCall old → ⊥
 needs_a_call {before} {now} {old} {at} {d} m unended plain short none =
     let input : NoNewline (old.rest ++ m.got) = subst NoNewline (sym m.input) (NoNewline-append m.gone at.rest m.plain plain) in

@@ -4,7 +4,7 @@ use Rattle.paraid_io.specs.declared.line.Line.{Line}
 use Rattle.paraid_io.specs.declared.line.Line.TheVariants.{Whole, Long, End}
 use Rattle.paraid_io.specs.declared.line.LineFault.{LineFault}
 use Rattle.paraid_io.specs.declared.line.LineFault.TheVariants.{Source, TooLong}
-use Rattle.paraid_base.specs.Told.{Gives, AtEnd, HasRisen}
+use Rattle.paraid_base.specs.Told.{Gives, AtEnd, HasRisen, stream_most}
 use Rattle.paraid_io.specs.Lines.{NoNewline, lines_of, whole_lines}
 
 -- what is seen of a reader: the bytes in no line yet, the last line, the bytes taken, whether the
@@ -32,7 +32,7 @@ pub record ReaderTakes (before after : Option (List ℕ)) (old new : Reading) (n
   pub given : Gives before after got
   pub held : new.rest ≡ old.rest ++ got
   pub taken : new.taken ≡ old.taken + n
-  pub limit : new.taken ≤ 2 ^ 40
+  pub limit : new.taken ≤ stream_most
   pub end : n ≡ 0 → AtEnd after
 
 -- The bytes that are in no line yet begin with this line, whatever follows them, and what the
@@ -63,13 +63,13 @@ IsAnswer (Err fault) input new = NoNewline input × (new.fault ≡ Some fault) �
 -- a fault comes only here: a count has risen, or all that may be taken was taken
 abbrev pub HasCause : Result Line LineFault → Reading → ℕ → ℕ → Type 0
 HasCause (Ok line) new before now = new.fault ≡ None
-HasCause (Err Source) new before now = HasRisen before now × (new.taken < 2 ^ 40)
-HasCause (Err (TooLong bytes)) new before now = (bytes ≡ 2 ^ 40) × (new.taken ≡ 2 ^ 40)
+HasCause (Err Source) new before now = HasRisen before now × (new.taken < stream_most)
+HasCause (Err (TooLong bytes)) new before now = (bytes ≡ stream_most) × (new.taken ≡ stream_most)
 
 -- The next line or fault is known with no call of the source: its end was given, a whole line is
 -- held, or all that may be taken was taken.
 abbrev pub NeedsNoCall : Reading → Type 0
-NeedsNoCall r = IsTrue r.ended ⊎ (whole_lines r.rest ≢ []) ⊎ (r.taken ≡ 2 ^ 40)
+NeedsNoCall r = IsTrue r.ended ⊎ (whole_lines r.rest ≢ []) ⊎ (r.taken ≡ stream_most)
 
 -- One call of a reader that has met no fault: these bytes were taken.
 pub record ReaderStep (before after : Option (List ℕ)) (old new : Reading)
@@ -77,10 +77,10 @@ pub record ReaderStep (before after : Option (List ℕ)) (old new : Reading)
   pub got : List ℕ
   pub given : Gives before after got
   pub taken : new.taken ≡ old.taken + length got
-  pub limit : new.taken ≤ 2 ^ 40
+  pub limit : new.taken ≤ stream_most
   pub held : length new.rest ≤ new.taken
   pub answer : IsAnswer result (old.rest ++ got) new
   -- after the end nothing more is taken, and the end comes only where nothing is left
   pub ended_before : IsTrue old.ended → got ≡ []
   pub stays_ended : IsTrue old.ended → IsTrue new.ended
-  pub ended_now : IsTrue new.ended → old.ended ≡ false → AtEnd after × (new.taken < 2 ^ 40)
+  pub ended_now : IsTrue new.ended → old.ended ≡ false → AtEnd after × (new.taken < stream_most)

@@ -1,6 +1,6 @@
 //! Sources and a sink in memory: they tell their bytes, and fail only as they are told to.
-ghost use Rattle.std.specs.Prelude.{◌≡◌, ◌≢◌, ◌↔◌, ℕ, ◌+◌, ◌-◌, ◌^◌, ◌<◌, ◌≤◌, ◌⊎◌, List, [], ◌++◌, length, take, drop, min, IfOk, OnOk, OnErr, IsErr, IsSome, Some, Contains, vec_len, vec_capacity};
-ghost use Rattle.paraid_base.specs.Told.{told_bytes, Gives, GrowsByBytes, AtEnd, HasRisen, counter_most};
+ghost use Rattle.std.specs.Prelude.{◌≡◌, ◌≢◌, ◌↔◌, ◌+◌, ◌<◌, ◌≤◌, ◌⊎◌, [], ◌++◌, length, take, min, IfOk, OnErr, IsErr, Some, Contains, vec_len, vec_capacity};
+ghost use Rattle.paraid_base.specs.Told.{Gives, GrowsByBytes, AtEnd, HasRisen, counter_most};
 
 use crate::plan::FaultPlan;
 use crate::{Sink, Source};

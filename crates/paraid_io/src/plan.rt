@@ -1,5 +1,5 @@
 //! Which calls of a source or a sink in memory fail, by their numbers.
-ghost use Rattle.std.specs.Prelude.{◌≡◌, ◌↔◌, ◌+◌, ◌-◌, ◌^◌, ◌≤◌, IsTrue, IsErr, OnOk, OnErr, Contains, min};
+ghost use Rattle.std.specs.Prelude.{◌≡◌, ◌↔◌, ◌+◌, ◌≤◌, IsTrue, IsErr, OnOk, OnErr, Contains, min};
 ghost use Rattle.paraid_base.specs.Told.{HasRisen, counter_most};
 
 use paraid_base::Failed;

@@ -1,6 +1,6 @@
 //! Lines are read from a source through a buffer of fixed size.
-ghost use Rattle.std.specs.Prelude.{◌≡◌, ◌≢◌, ℕ, ◌+◌, ◌-◌, ◌^◌, ◌<◌, ◌≤◌, List, [], ◌∷◌, ◌++◌, length, take, drop, MatchOption, IfSome, IfNone, IfOk, OnErr, ◌==◌, ◌↔◌, IsTrue};
-ghost use Rattle.paraid_base.specs.Told.{Gives, HasRisen};
+ghost use Rattle.std.specs.Prelude.{◌≡◌, ◌≢◌, ◌+◌, ◌-◌, ◌^◌, ◌<◌, ◌≤◌, [], ◌∷◌, ◌++◌, length, take, drop, IfSome, IfNone, IfOk, OnErr, ◌==◌};
+ghost use Rattle.paraid_base.specs.Told.{Gives, HasRisen, stream_most};
 ghost use Rattle.paraid_io.specs.Lines.{NoNewline};
 ghost use Rattle.paraid_io.specs.Reading.{Reading, fresh_reader, ReaderTakes, ReaderStep, HasCause, NeedsNoCall};
 
@@ -45,7 +45,7 @@ impl Model for LineReader {
 
     ghost invariant = { λ r. (r.start ≤ r.end) × (r.end ≤ 8192)
         × (r.line_start + r.line_length ≤ 8192) × (r.end - r.start ≤ r.taken)
-        × (r.taken ≤ 2 ^ 40) × (length r.buffer ≡ 8192) };
+        × (r.taken ≤ stream_most) × (length r.buffer ≡ 8192) };
 }
 
 impl LineReader {
@@ -58,7 +58,7 @@ impl LineReader {
 
     /// A reader as if it had taken so many bytes before.
     pub fn with_taken(taken: u64) -> Self
-        requires { taken ≤ 2 ^ 40 }
+        requires { taken ≤ stream_most }
         ensures { result ≡ fresh_reader taken }
     {
         LineReader {
@@ -114,7 +114,7 @@ impl LineReader {
     fn fill<S: Source>(&mut self, source: &mut S) -> Result<usize, Failed>
         requires held { length self.old.rest ≤ 1100 }
         requires plain { NoNewline self.old.rest }
-        requires room { self.old.taken < 2 ^ 40 }
+        requires room { self.old.taken < stream_most }
         ensures got { IfOk result (λ n. ReaderTakes (S.left source.old) (S.left source.new)
             self.old self.new n) }
         ensures keeps { OnErr result (Gives (S.left source.old) (S.left source.new) []
@@ -156,7 +156,7 @@ impl LineReader {
 
     // How many more bytes may be taken.
     fn room(&self) -> u64
-        ensures { result + self.now.taken ≡ 2 ^ 40 }
+        ensures { result + self.now.taken ≡ stream_most }
     {
         MAX_TAKEN - self.taken
     }
@@ -165,7 +165,7 @@ impl LineReader {
     fn fault(&self) -> Option<LineFault>
         ensures value { result ≡ self.now.fault }
         ensures held { length self.now.rest ≤ self.now.taken }
-        ensures limit { self.now.taken ≤ 2 ^ 40 }
+        ensures limit { self.now.taken ≤ stream_most }
     {
         self.fault
     }
@@ -183,7 +183,7 @@ impl LineReader {
     fn read_line<S: Source>(&mut self, source: &mut S) -> Result<Line, LineFault>
         requires well { self.old.fault ≡ None }
         requires held { length self.old.rest ≤ self.old.taken }
-        requires limit { self.old.taken ≤ 2 ^ 40 }
+        requires limit { self.old.taken ≤ stream_most }
         ensures step { ReaderStep (S.left source.old) (S.left source.new) self.old self.new result }
         ensures cause { HasCause result self.new (S.faults source.old) (S.faults source.new) }
         ensures quiet { NeedsNoCall self.old → source.new ≡ source.old }

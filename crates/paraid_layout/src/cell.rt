@@ -1,5 +1,5 @@
 //! The home of each block, and the parity disk of each row: left-asymmetric RAID-5.
-ghost use Rattle.std.specs.Prelude.{◌≡◌, ◌≢◌, ◌+◌, ◌-◌, ◌*◌, ◌/◌, ◌%◌, ◌<◌, IfSome, MatchOption};
+ghost use Rattle.std.specs.Prelude.{◌≡◌, ◌≢◌, ◌<◌, IfSome, MatchOption};
 ghost use Rattle.paraid_base.specs.Cells.{parity_disk as parity_disk_of, home_row, home_disk, cell_block};
 ghost use Rattle.paraid_base.specs.Regions.{array_blocks};
 

@@ -1,5 +1,5 @@
 //! The disks other than one, numbered from 0 in their order.
-ghost use Rattle.std.specs.Prelude.{◌≡◌, ◌≢◌, ◌+◌, ◌-◌, ◌<◌};
+ghost use Rattle.std.specs.Prelude.{◌≡◌, ◌≢◌, ◌-◌, ◌<◌};
 ghost use Rattle.paraid_base.specs.Skips.{index_among as index_among_of, skip};
 
 use paraid_base::DiskNo;

@@ -1,5 +1,5 @@
 //! The soft stripes of a gear: where the cells of its parked disks have their copies.
-ghost use Rattle.std.specs.Prelude.{◌≡◌, ◌≢◌, ◌+◌, ◌-◌, ◌*◌, ◌/◌, ◌%◌, ◌<◌, ◌≤◌, IfSome, MatchOption};
+ghost use Rattle.std.specs.Prelude.{◌≡◌, ◌≢◌, ◌-◌, ◌*◌, ◌<◌, ◌≤◌, IfSome, MatchOption};
 ghost use Rattle.paraid_base.specs.Regions.{IsGear};
 ghost use Rattle.paraid_base.specs.Skips.{index_among, skip};
 ghost use Rattle.paraid_base.specs.Soft.{number_at, row_of_number, disk_of_number, soft_stripe, soft_index, soft_disk, soft_parity_disk, stripe_count};

@@ -1,7 +1,7 @@
 //! The machine of an array: what it answers to each event, and the state after it.
 #![tactic(auto)]
 
-ghost use Rattle.std.specs.Prelude.{◌≡◌, ℕ, None};
+ghost use Rattle.std.specs.Prelude.{ℕ, None};
 ghost use Rattle.paraid_record.specs.declared.meta.Setup.{Setup as SetupType};
 ghost use Rattle.paraid_base.specs.History.{History};
 ghost use Rattle.paraid_base.specs.declared.event.Answer.TheVariants.{Bad as IsBad};

@@ -1,8 +1,8 @@
 //! What a rack in memory tells, and which of its calls are to fail.
-ghost use Rattle.std.specs.Prelude.{◌≡◌, ℕ, ◌<◌, ◌≤◌, ◌^◌, List, [], length, map, slice_index, slice_set, true, vec_capacity, IfOk};
+ghost use Rattle.std.specs.Prelude.{◌≡◌, ◌<◌, ◌≤◌, ◌^◌, [], length, map, slice_set, true, vec_capacity, IfOk};
 ghost use Rattle.paraid_rack.specs.declared.call.Power.TheVariants.{Absent};
 ghost use Rattle.std.specs.List.{list_any};
-ghost use Rattle.paraid_memrack.specs.CallPlan.{names_call, count_on, is_planned, listed_after, has_room_for_call};
+ghost use Rattle.paraid_memrack.specs.CallPlan.{names_call, is_planned, listed_after, has_room_for_call};
 ghost use Rattle.paraid_rack.specs.Calls.{disk_of};
 ghost use Rattle.paraid_memrack.specs.Counted.{IsCounted, AreOnSlots};
 

@@ -1,6 +1,6 @@
 //! The rack in memory, and what each call makes of its slots, its log and its record.
-ghost use Rattle.std.specs.Prelude.{◌≡◌, ◌≢◌, ℕ, ◌<◌, ◌≤◌, ◌^◌, length, true, false, not, Option, Some, [], OnOk, IfOk, IfSome, is_ok, replicate, map, slice_get, slice_set, IsSome, IsTrue};
-ghost use Rattle.paraid_rack.specs.Slots.{Slot, ChangesOneSlot, AreSlots, Agrees};
+ghost use Rattle.std.specs.Prelude.{◌≡◌, ◌≢◌, ℕ, ◌<◌, ◌≤◌, ◌^◌, length, true, false, not, Option, Some, [], OnOk, IfOk, IfSome, is_ok, replicate, map, slice_get, slice_set, IsSome};
+ghost use Rattle.paraid_rack.specs.Slots.{Slot, ChangesOneSlot, AreSlots};
 ghost use Rattle.paraid_rack.specs.declared.call.Power.TheVariants.{Absent};
 ghost use Rattle.paraid_rack.specs.Trail.{Trail, now};
 ghost use Rattle.paraid_rack.specs.Told.{GrowsByCall};

@@ -1,6 +1,5 @@
 //! The slots of a rack in memory, and what each call makes of one.
-ghost use Rattle.std.specs.Prelude.{◌≡◌, ℕ, ◌<◌, ◌≤◌, ◌+◌, ◌^◌, ◌-◌, true, false, length, map, slice_set, min, replicate, IfOk, []};
-ghost use Rattle.paraid_base.specs.Xor.{zero_block};
+ghost use Rattle.std.specs.Prelude.{◌≡◌, ℕ, ◌<◌, ◌≤◌, true, false, length, map, slice_set, IfOk, []};
 ghost use Rattle.paraid_rack.specs.declared.call.Power.TheVariants.{Absent, Spinning};
 ghost use Rattle.paraid_memrack.specs.Slots.{SetsSlot, full_slot, full_slot_at, full_slot_from, no_slot, after_failure};
 ghost use Rattle.paraid_memrack.specs.Tells.{beginning_of};

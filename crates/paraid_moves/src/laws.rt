@@ -12,7 +12,7 @@ ghost use Rattle.paraid_base.specs.Regions.{disk_size, map_count};
 ghost use Rattle.paraid_base.specs.Soft.{stripe_count};
 ghost use Rattle.paraid_rack.specs.declared.call.Power.{Power as PowerType};
 ghost use Rattle.paraid_rack.specs.declared.call.Power.TheVariants.{Spinning, Parked};
-ghost use Rattle.paraid_rack.specs.Disks.{Disks, is_present};
+ghost use Rattle.paraid_rack.specs.Disks.{is_present};
 ghost use Rattle.paraid_record.specs.declared.meta.Meta.{Meta as MetaType};
 ghost use Rattle.paraid_record.specs.Codes.{phase_to};
 ghost use Rattle.paraid_record.specs.Range.{AreCountersInRange, AreNextGears, IsInRange, IsVersionInRange, allowed_spins, fill_limit, has_out, rebuild_units};

@@ -1,14 +1,14 @@
 -- How what is taken adds up over calls
-use Rattle.std.specs.Prelude.{Err, Ok, Result}
+use Rattle.std.specs.Prelude.{Err, Ok, Result, replicate}
 use Rattle.std.proofs.Common.{◌≡◌, ◌≢◌, ℕ, ◌+◌, ◌-◌, ◌^◌, ◌<◌, ◌≤◌, List, [], ◌++◌, Option, length, take, drop, arith, sym, ◌∙◌, ap, length-append, subst}
 use Rattle.std.proofs.Math.Seq.{take-append-add}
 use Rattle.std.proofs.lemmas.List.{length-replicate, length-take-le, take-append-le, length-drop}
-use Rattle.std.specs.Prelude.{replicate}
 use borrow.Rule.Slice.PartMut.{put_mid}
 use Rattle.paraid_base.proofs.ToldLemmas.{Gives-none, Gives-then, HasRisen-sooner}
 use Rattle.paraid_nbd.specs.declared.ending.NbdEnd.{NbdEnd}
 use Rattle.paraid_nbd.specs.declared.ending.NbdEnd.TheVariants.{Done, Aborted, Closed, Protocol, TooLong, Source, Sink, NoMemory}
 use Rattle.paraid_nbd.specs.Taking.{Takes, Lacks, IsCut}
+use Rattle.paraid_base.specs.Told.{stream_most}
 
 pub later_then : (a b c : ℕ) → a ≤ b → b ≤ c → a ≤ c
 later_then a b c l k = omega arith
@@ -42,7 +42,7 @@ Takes-then {a} {b} {c} {i} {j} {k} {p} {q} t u = record {
 }
 
 -- what may still be taken falls
-pub room_falls : {a b : Option (List ℕ)} {i j : ℕ} {p : List ℕ} → Takes a b i j p → 0 < length p → j ≤ 2 ^ 40 → 2 ^ 40 - j < 2 ^ 40 - i
+pub room_falls : {a b : Option (List ℕ)} {i j : ℕ} {p : List ℕ} → Takes a b i j p → 0 < length p → j ≤ stream_most → stream_most - j < stream_most - i
 room_falls t some limit = omega (arith, t.count, some, limit)
 
 pub IsCut-sooner : (e : NbdEnd) (after : Option (List ℕ)) (taken f g h : ℕ) → f ≤ g → IsCut e after taken g h → IsCut e after taken f h

@@ -1,6 +1,6 @@
 -- What was taken from a source, and why no more came
 use Rattle.std.specs.Prelude.{◌≡◌, ℕ, ◌+◌, ◌<◌, ◌^◌, List, length, Option}
-use Rattle.paraid_base.specs.Told.{Gives, AtEnd, HasRisen}
+use Rattle.paraid_base.specs.Told.{Gives, AtEnd, HasRisen, stream_most}
 use Rattle.paraid_nbd.specs.declared.ending.NbdEnd.{NbdEnd}
 use Rattle.paraid_nbd.specs.declared.ending.NbdEnd.TheVariants.{Done, Aborted, Closed, Protocol, TooLong, Source, Sink, NoMemory}
 
@@ -11,9 +11,9 @@ pub record Takes (before after : Option (List ℕ)) (old new : ℕ) (got : List 
 
 -- no more bytes come: the source gave its end, all that may be taken was taken, or a call failed
 abbrev pub IsCut : NbdEnd → Option (List ℕ) → ℕ → ℕ → ℕ → Type 0
-IsCut Closed after taken faults now = AtEnd after × (taken < 2 ^ 40)
-IsCut (TooLong bytes) after taken faults now = (bytes ≡ 2 ^ 40) × (taken ≡ 2 ^ 40)
-IsCut Source after taken faults now = HasRisen faults now × (taken < 2 ^ 40)
+IsCut Closed after taken faults now = AtEnd after × (taken < stream_most)
+IsCut (TooLong bytes) after taken faults now = (bytes ≡ stream_most) × (taken ≡ stream_most)
+IsCut Source after taken faults now = HasRisen faults now × (taken < stream_most)
 IsCut Done after taken faults now = ⊥
 IsCut Aborted after taken faults now = ⊥
 IsCut (Protocol at) after taken faults now = ⊥

@@ -1,10 +1,9 @@
 //! The bytes of a block device, read and written at any place.
-ghost use Rattle.std.specs.Prelude.{◌≡◌, ◌*◌, ◌+◌, ◌-◌, ◌/◌, ◌%◌, ◌^◌, ◌<◌, ◌≤◌, ℕ, [], length, min, slice_index, OnOk, OnErr, IsTrue};
-ghost use Rattle.paraid_base.specs.History.{History, after_all};
+ghost use Rattle.std.specs.Prelude.{◌≡◌, ◌*◌, ◌+◌, ◌-◌, ◌/◌, ◌%◌, ◌^◌, ◌<◌, ◌≤◌, ℕ, length, min, slice_index, OnOk, OnErr, IsTrue};
+ghost use Rattle.paraid_base.specs.History.{History};
 ghost use Rattle.paraid_base.specs.declared.event.Event.TheVariants.{Read, Write};
 ghost use Rattle.paraid_base.specs.Pairs.{single_pair};
-ghost use Rattle.paraid_nbd.specs.Asked.{KeepsBy, IsOneRead, IsOneWrite, IsRestRead, IsPartWritten, AreBytesRead, ArePartsWritten};
-ghost use Rattle.paraid_nbd.specs.Asked.{KeepsHalted, HaltsAtOnce, IsRestHalted, IsPartHalted, IsReadHalted, IsWriteHalted};
+ghost use Rattle.paraid_nbd.specs.Asked.{KeepsBy, IsOneRead, IsOneWrite, IsRestRead, IsPartWritten, AreBytesRead, ArePartsWritten, KeepsHalted, HaltsAtOnce, IsRestHalted, IsPartHalted, IsReadHalted, IsWriteHalted};
 ghost use Rattle.paraid_nbd.specs.Export.{ForEachState, KeepsOn, HaltsHere, blocks_joined, export_bytes, HasRead, HasBytes, HasRest, HasBlock, HasPart, HasWritten, Stops};
 
 use paraid_base::{BLOCK_SIZE, Block, BlockFault, BlockNo, Halt};

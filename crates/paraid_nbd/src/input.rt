@@ -1,11 +1,9 @@
 //! Takes the bytes that a source gives, and counts them.
-ghost use Rattle.std.specs.Prelude.{◌≡◌, ◌≢◌, ◌≤◌, ◌^◌, ◌<◌, ℕ, List, length, take, IfOk, IfErr, OnOk};
+ghost use Rattle.std.specs.Prelude.{◌≡◌, ◌≢◌, ◌≤◌, ◌<◌, ℕ, List, length, take, IfOk, IfErr, OnOk};
+ghost use Rattle.paraid_base.specs.Told.{stream_most};
 
 use crate::NbdEnd;
-use paraid_io::Source;
-
-/// How many bytes are taken at most, 2^40.
-pub(crate) const MAX_TAKEN: u64 = 1 << 40;
+use paraid_io::{MAX_TAKEN, Source};
 
 /// How many bytes are let go at a time.
 const PIECE: u32 = 4096;
@@ -14,7 +12,7 @@ const PIECE: u32 = 4096;
 #[derive(Drop)]
 pub(crate) struct Input {
     pub(crate) taken: u64,
-    ghost limit: { taken ≤ 2 ^ 40 },
+    ghost limit: { taken ≤ stream_most },
 }
 
 impl Input {

@@ -1,5 +1,5 @@
 //! The options that a client asks for before it reads and writes.
-ghost use Rattle.std.specs.Prelude.{◌≡◌, ◌≢◌, ◌↔◌, ◌+◌, ◌≤◌, ◌<◌, ◌++◌, ℕ, List, length, take, IfOk, IfErr, OnOk, IsTrue, [], if◌then◌else◌, replicate};
+ghost use Rattle.std.specs.Prelude.{◌≡◌, ◌≢◌, ◌↔◌, ◌+◌, ◌≤◌, ◌++◌, ℕ, List, length, IfOk, IfErr, OnOk, IsTrue, [], if◌then◌else◌, replicate};
 ghost use Rattle.paraid_base.specs.Told.{GrowsByBytes};
 ghost use Rattle.paraid_nbd.specs.Handshake.{greeting, IsUnsent, TakesFlags, StopsFlags, TakesOption, StopsOption, TakesChoice, StopsChoice, AnswersOption, EndsOption, BeginsTransmission, EndsEarly};
 ghost use Rattle.paraid_nbd.specs.Numbers.{number_bytes};

@@ -1,9 +1,9 @@
 //! The service: the options, and then one request after the other.
-ghost use Rattle.std.specs.Prelude.{◌≡◌, ◌≢◌, ◌*◌, ◌+◌, ◌^◌, ◌≤◌, ◌<◌, ◌++◌, ℕ, List, [], length, take, min, IfOk, IfErr, OnOk, IsTrue};
+ghost use Rattle.std.specs.Prelude.{◌≡◌, ◌≢◌, ◌*◌, ◌^◌, ◌≤◌, ◌<◌, ◌++◌, ℕ, List, length, min, IfOk, IfErr, OnOk, IsTrue};
 ghost use Rattle.paraid_nbd.specs.Asked.{KeepsBy};
 ghost use Rattle.paraid_nbd.specs.Errors.{ComesBy};
 ghost use Rattle.paraid_nbd.specs.Export.{ForEachState, KeepsOn};
-ghost use Rattle.paraid_nbd.specs.Requests.{IsRequestMagic, content_length, outcome_of, reply_head};
+ghost use Rattle.paraid_nbd.specs.Requests.{IsRequestMagic, content_length, outcome_of};
 ghost use Rattle.paraid_nbd.specs.Performing.{Fills, Performs, TakesContent, said_with};
 ghost use Rattle.paraid_nbd.specs.Service.{EndsRequest, Serves, Service, StopsRequest, TakesHead, Transmits};
 ghost use Rattle.paraid_nbd.specs.Taking.{Lacks, Takes};

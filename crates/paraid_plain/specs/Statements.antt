@@ -5,8 +5,7 @@ use Rattle.paraid_base.specs.declared.block.Block.{Block}
 use Rattle.paraid_base.specs.Log.{body_place}
 use Rattle.paraid_record.specs.declared.targets.Target.{Target}
 use Rattle.paraid_record.specs.Targets.{targets_of}
-use Rattle.paraid_image.specs.Sides.{Batch, LogState, stored_block}
-use Rattle.paraid_image.specs.Sides.{Side as SideOf}
+use Rattle.paraid_image.specs.Sides.{Batch, LogState, stored_block, Side as SideOf}
 use Rattle.paraid_image.specs.Sides.Side.{absent, blank, bad, formed}
 use Rattle.paraid_plain.specs.declared.image.Image.{Image}
 use Rattle.paraid_plain.specs.declared.statement.Side.{Side}

@@ -1,5 +1,5 @@
 //! The stripes of the new gear below the fill mark are filled, while no disk is out.
-ghost use Rattle.std.specs.Prelude.{◌≡◌, ℕ, ◌-◌, ◌<◌, ◌≤◌, ◌↔◌, IsTrue};
+ghost use Rattle.std.specs.Prelude.{ℕ, ◌-◌, ◌<◌, ◌≤◌, ◌↔◌, IsTrue};
 ghost use Rattle.paraid_base.specs.Regions.{IsGear};
 ghost use Rattle.paraid_base.specs.Soft.{stripe_count};
 ghost use Rattle.paraid_image.specs.Sound.{AreFilled, IsFilled};

@@ -1,5 +1,5 @@
 //! The blocks of the array hold what the first writes of a history leave.
-ghost use Rattle.std.specs.Prelude.{◌≡◌, ℕ, ◌-◌, ◌<◌, ◌==◌, ◌↔◌, IsTrue, map, take, List};
+ghost use Rattle.std.specs.Prelude.{◌≡◌, ℕ, ◌<◌, ◌↔◌, IsTrue, map};
 ghost use Rattle.paraid_base.specs.History.{after, joined_entries, last_of as last_in};
 ghost use Rattle.paraid_base.specs.Pairs.{pairs_of};
 ghost use Rattle.paraid_base.specs.Xor.{zero_block};

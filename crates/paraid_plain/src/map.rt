@@ -1,5 +1,5 @@
 //! The two dirty maps agree, and each dirty bit is of a cell of a disk from the gear on.
-ghost use Rattle.std.specs.Prelude.{◌≡◌, ◌≢◌, ℕ, ◌+◌, ◌*◌, ◌<◌, ◌↔◌, Some, true, IsTrue};
+ghost use Rattle.std.specs.Prelude.{◌≡◌, ◌≢◌, ℕ, ◌*◌, ◌<◌, ◌↔◌, Some, true, IsTrue};
 ghost use Rattle.paraid_base.specs.Log.{map_block_place};
 ghost use Rattle.paraid_base.specs.Regions.{map_count};
 ghost use Rattle.paraid_image.specs.Sound.{IsMap};

@@ -1,7 +1,6 @@
 //! Whether what two log disks say fits together: it is the same, or one is a step ahead.
-ghost use Rattle.std.specs.Prelude.{◌≡◌, ◌+◌, ◌<◌, ◌↔◌, Some, true, false, IsTrue};
+ghost use Rattle.std.specs.Prelude.{◌≡◌, ◌<◌, ◌↔◌, Some, true, false, IsTrue};
 ghost use Rattle.paraid_base.specs.Log.{batch_room};
-ghost use Rattle.paraid_image.specs.Sides.{stored_block};
 ghost use Rattle.paraid_image.specs.Sound.{IsAhead, IsBatchInPlace, Pairing};
 ghost use Rattle.paraid_plain.specs.LogParts.{AreOutAlike, IsSameTarget};
 ghost use Rattle.paraid_plain.specs.Statements.{batch_in, said_of};

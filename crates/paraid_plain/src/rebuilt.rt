@@ -1,6 +1,6 @@
 //! The units of the disk that is being rebuilt store what they should: the rows, the stripes, and
 //! the blocks of the dirty map.
-ghost use Rattle.std.specs.Prelude.{◌≡◌, ℕ, ◌+◌, ◌<◌, ◌≤◌, ◌↔◌, IsTrue, nat_lt, if◌then◌else◌};
+ghost use Rattle.std.specs.Prelude.{◌≡◌, ℕ, ◌<◌, ◌≤◌, ◌↔◌, IsTrue, nat_lt, if◌then◌else◌};
 ghost use Rattle.paraid_base.specs.Regions.{map_count};
 ghost use Rattle.paraid_base.specs.Soft.{stripe_count};
 ghost use Rattle.paraid_image.specs.Sound.{AreRebuilt, stripes_on};

@@ -1,5 +1,5 @@
 //! Which log disk stands.
-ghost use Rattle.std.specs.Prelude.{◌≡◌, ℕ, ◌<◌, ◌-◌, IfSome, IfNone, IsSomeAnd};
+ghost use Rattle.std.specs.Prelude.{◌≡◌, ℕ, ◌<◌, IfSome, IfNone, IsSomeAnd};
 ghost use Rattle.paraid_image.specs.Sides.{LogState};
 ghost use Rattle.paraid_image.specs.Standing.{Stands, is_first as goes_first, stands_before as is_before};
 ghost use Rattle.paraid_plain.specs.declared.image.Image.{Image as ImageType};

@@ -1,5 +1,5 @@
 //! What an image holds past the log, under what a log disk says of it.
-ghost use Rattle.std.specs.Prelude.{◌≡◌, ◌+◌, ◌<◌, ◌==◌, ◌&&◌, None, Some, Option, if◌then◌else◌};
+ghost use Rattle.std.specs.Prelude.{◌≡◌, ◌<◌, ◌==◌, ◌&&◌, None, Some, Option, if◌then◌else◌};
 ghost use Rattle.paraid_rack.specs.Disks.{is_present};
 ghost use Rattle.paraid_image.specs.Out.{first_absent as first_absent_of, is_out, or_else};
 ghost use Rattle.paraid_image.specs.Sides.{stored_block};

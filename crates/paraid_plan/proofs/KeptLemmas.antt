@@ -13,7 +13,7 @@ use Rattle.paraid_base.specs.Xor.{zero_block}
 use Rattle.paraid_base.proofs.SkipsLemmas.{skip_below}
 use Rattle.paraid_base.proofs.SoftLemmas.{soft_disk_below, soft_stripe_below}
 use Rattle.paraid_base.proofs.SumsLemmas.{lost_member, others_same, xor_upto_same}
-use Rattle.paraid_image.specs.Sound.{IsWellKept}
+use Rattle.paraid_image.specs.Sound.{IsWellKept, AreDisks, AreRebuilt, IsFilled, IsFresh}
 use Rattle.paraid_plan.specs.WriteTargets.{soft_count, stripe_block_now}
 use Rattle.paraid_plan.specs.StoredCells.{AreBits, StoresCells, hard_at}
 use Rattle.paraid_plan.specs.StoredCells.IsUnitKept.{there, rebuilt}
@@ -24,7 +24,6 @@ use Rattle.paraid_rack.specs.declared.call.Power.{Power}
 use Rattle.paraid_record.specs.Codes.{phase_to}
 use Rattle.paraid_record.specs.Range.{IsInRange}
 use Rattle.paraid_image.specs.Out.{is_out, named_out}
-use Rattle.paraid_image.specs.Sound.{AreDisks, AreRebuilt, IsFilled, IsFresh}
 use Rattle.paraid_image.specs.Spot.{View, is_hard, rising_to}
 use Rattle.paraid_image.specs.Standing.{other_log}
 use Rattle.paraid_image.specs.Value.{reconstructed_value, soft_value, stored_value, stripe, value}

@@ -11,7 +11,7 @@ use Rattle.paraid_base.specs.Cells.{home_disk, home_row}
 use Rattle.paraid_base.specs.Log.{map_block_place}
 use Rattle.paraid_base.specs.Regions.{hard_place_of, map_count, soft_place_of}
 use Rattle.paraid_base.proofs.CellsLemmas.{home_disk_below, home_row_below}
-use Rattle.paraid_image.specs.Sound.{IsWellKept}
+use Rattle.paraid_image.specs.Sound.{IsWellKept, AreDisks, IsFresh}
 use Rattle.paraid_plan.specs.LossMark.{IsLostDisk, LostKeeps}
 use Rattle.paraid_base.proofs.StatesLemmas.{rising_to-beside, up_before}
 use Rattle.paraid_plan.specs.WriteTargets.{soft_count}
@@ -27,7 +27,6 @@ use Rattle.paraid_record.specs.declared.meta.Meta.{Meta}
 use Rattle.paraid_record.specs.Range.{IsInRange}
 use Rattle.paraid_image.specs.Content.{blocks_of, view_by}
 use Rattle.paraid_image.specs.Out.{named_out, out_disk}
-use Rattle.paraid_image.specs.Sound.{AreDisks, IsFresh}
 use Rattle.paraid_image.specs.Spot.{View, map_disk}
 use Rattle.paraid_image.specs.Standing.{Contents}
 use Rattle.paraid_image.specs.Value.{value}

@@ -11,7 +11,7 @@ use Rattle.paraid_base.specs.Regions.{disk_size, hard_place_of, map_count, soft_
 use Rattle.paraid_base.specs.Sums.{xor_upto}
 use Rattle.paraid_base.specs.Xor.{zero_block}
 use Rattle.paraid_base.proofs.RegionsLemmas.{hard_place_below, soft_place_below}
-use Rattle.paraid_image.specs.Sound.{IsWellKept}
+use Rattle.paraid_image.specs.Sound.{IsWellKept, AreDisks}
 use Rattle.paraid_plan.specs.WriteTargets.{overlaid_blocks, map_targets, soft_count}
 use Rattle.paraid_dirty.specs.Table.{ShowsBits}
 use Rattle.paraid_plan.specs.StoredCells.{AreBits, IsUnitKept, Lies, StoresCells, hard_at}
@@ -26,7 +26,6 @@ use Rattle.paraid_record.specs.declared.meta.Meta.{Meta}
 use Rattle.paraid_record.specs.Codes.{phase_to}
 use Rattle.paraid_record.specs.Range.{IsInRange}
 use Rattle.paraid_image.specs.Out.{named_out}
-use Rattle.paraid_image.specs.Sound.{AreDisks}
 use Rattle.paraid_image.specs.Spot.{View, map_bit, map_disk}
 use Rattle.paraid_image.specs.Standing.{Contents}
 use Rattle.paraid_image.specs.Value.{value}

@@ -1,10 +1,9 @@
 -- What is kept well does not depend on the number of writes.
 use Rattle.std.specs.Prelude.{◌≡◌, ℕ}
 use Rattle.std.proofs.Common.{refl}
-use Rattle.paraid_image.specs.Sound.{IsWellKept}
+use Rattle.paraid_image.specs.Sound.{IsWellKept, AreRebuilt, IsFilled, IsFresh}
 use Rattle.paraid_rack.specs.declared.call.Power.{Power}
 use Rattle.paraid_record.specs.Codes.{phase_to}
-use Rattle.paraid_image.specs.Sound.{AreRebuilt, IsFilled, IsFresh}
 use Rattle.paraid_image.specs.Spot.{View, is_hard}
 use Rattle.paraid_image.specs.Value.{reconstructed_value, soft_value, stored_value, value}
 

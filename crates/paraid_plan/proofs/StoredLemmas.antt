@@ -12,7 +12,7 @@ use Rattle.paraid_base.specs.Sums.{xor_upto}
 use Rattle.paraid_base.specs.Xor.{xor, zero_block}
 use Rattle.paraid_base.proofs.SumsLemmas.{others_same, whole_from_others, xor_upto_same}
 use Rattle.paraid_base.proofs.XorLemmas.{xor_self}
-use Rattle.paraid_image.specs.Sound.{IsWellKept}
+use Rattle.paraid_image.specs.Sound.{IsWellKept, stripes_on}
 use Rattle.paraid_plan.specs.WriteTargets.{soft_count, stripe_block_now}
 use Rattle.paraid_plan.specs.StoredCells.{IsUnitKept, StoresCells, hard_at}
 use Rattle.paraid_plan.specs.StoredCells.IsUnitKept.{there, rebuilt}
@@ -21,7 +21,6 @@ use Rattle.paraid_rack.specs.declared.call.Power.{Power}
 use Rattle.paraid_record.specs.Codes.{phase_to}
 use Rattle.paraid_record.specs.Range.{IsInRange}
 use Rattle.paraid_image.specs.Out.{is_out, named_out}
-use Rattle.paraid_image.specs.Sound.{stripes_on}
 use Rattle.paraid_image.specs.Spot.{View, is_hard, map_disk}
 use Rattle.paraid_image.specs.Standing.{other_log}
 use Rattle.paraid_image.specs.Value.{soft_value, stored_value, stripe, stripe_rest, value}

@@ -13,10 +13,9 @@ use Rattle.paraid_base.specs.Sums.{xor_upto}
 use Rattle.paraid_base.specs.Xor.{zero_block}
 use Rattle.paraid_base.proofs.CellsLemmas.{home_disk_below, home_row_below}
 use Rattle.paraid_base.proofs.SumsLemmas.{xor_upto_same}
-use Rattle.paraid_dirty.specs.Table.{table_with_bit}
+use Rattle.paraid_dirty.specs.Table.{table_with_bit, ShowsBits}
 use Rattle.paraid_image.specs.Sound.{IsWellKept}
 use Rattle.paraid_plan.specs.WriteTargets.{cell_targets, goes_hard, hard_targets, is_filled, overlaid_blocks, map_targets, view_with_cell}
-use Rattle.paraid_dirty.specs.Table.{ShowsBits}
 use Rattle.paraid_plan.specs.StoredCells.{AreBits, IsUnitKept, StoresCells}
 use Rattle.paraid_plan.specs.Units.{IsSameHeld, SyncKeeps, sync_targets}
 use Rattle.paraid_plan.proofs.CellLemmas.{bits_changed, cell_stored, goes_parked}

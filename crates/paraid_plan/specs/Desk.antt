@@ -3,9 +3,8 @@ use Rattle.std.specs.Prelude.{◌≡◌, ℕ, ◌+◌, ◌*◌, ◌<◌, Bool, t
 use Rattle.paraid_base.specs.declared.block.Block.{Block}
 use Rattle.paraid_base.specs.Regions.{hard_place_of, map_count, soft_place_of}
 use Rattle.paraid_base.specs.Soft.{soft_disk, soft_parity_disk, soft_stripe}
-use Rattle.paraid_dirty.specs.Table.{table_with_bit}
+use Rattle.paraid_dirty.specs.Table.{table_with_bit, ShowsBits}
 use Rattle.paraid_plan.specs.WriteTargets.{cell_targets, goes_hard, is_written, overlaid_blocks, map_targets, target_if}
-use Rattle.paraid_dirty.specs.Table.{ShowsBits}
 use Rattle.paraid_image.specs.Sound.{IsWellKept}
 use Rattle.paraid_rack.specs.declared.call.Power.{Power}
 use Rattle.paraid_record.specs.declared.meta.Meta.{Meta}

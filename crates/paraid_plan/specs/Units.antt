@@ -1,10 +1,9 @@
 -- What a cell stages that goes back to its hard place.
 use Rattle.std.specs.Prelude.{◌≡◌, ◌≢◌, ℕ, ◌-◌, ◌*◌, ◌/◌, ◌<◌, false, Some, ◌++◌}
 use Rattle.paraid_base.specs.declared.block.Block.{Block}
-use Rattle.paraid_dirty.specs.Table.{table_with_bit}
+use Rattle.paraid_dirty.specs.Table.{table_with_bit, ShowsBits}
 use Rattle.paraid_image.specs.Sound.{IsWellKept}
 use Rattle.paraid_plan.specs.WriteTargets.{hard_targets, overlaid_blocks, map_targets}
-use Rattle.paraid_dirty.specs.Table.{ShowsBits}
 use Rattle.paraid_rack.specs.declared.call.Power.{Power}
 use Rattle.paraid_record.specs.declared.meta.Meta.{Meta}
 use Rattle.paraid_record.specs.Range.{IsInRange}

@@ -4,7 +4,7 @@
 ghost use Rattle.std.specs.Prelude.{◌≡◌, ◌≢◌, ℕ, ◌<◌, ◌≤◌, true, false, get_or, Some, None, OnOk, IfSome};
 ghost use Rattle.paraid_base.specs.Xor.{xor, zero_block};
 ghost use Rattle.paraid_plan.specs.Alone.{IsWrittenAlone};
-ghost use Rattle.paraid_plan.specs.Desk.{Desk, sees};
+ghost use Rattle.paraid_plan.specs.Desk.{sees};
 ghost use Rattle.paraid_plan.specs.Leaves.{Leaves, StaysAsWas};
 ghost use Rattle.paraid_plan.specs.WriteTargets.{needs_new as needs_new_in};
 ghost use Rattle.paraid_record.specs.Range.{IsInRange};

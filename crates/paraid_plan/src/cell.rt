@@ -1,9 +1,9 @@
 //! The write of one cell: to its place or its copy, and to its copy in the region that is filled.
-ghost use Rattle.std.specs.Prelude.{◌≡◌, ◌≢◌, ℕ, ◌+◌, ◌<◌, ◌≤◌, true, false, length, OnOk, IfErr, Some};
-ghost use Rattle.paraid_base.specs.Soft.{soft_disk, soft_parity_disk, soft_stripe};
+ghost use Rattle.std.specs.Prelude.{◌≡◌, ◌+◌, ◌<◌, ◌≤◌, true, false, length, OnOk, IfErr};
+ghost use Rattle.paraid_base.specs.Soft.{soft_parity_disk, soft_stripe};
 ghost use Rattle.paraid_base.specs.Regions.{soft_place_of};
 ghost use Rattle.paraid_base.specs.Xor.{xor};
-ghost use Rattle.paraid_plan.specs.Desk.{Desk, with_targets, desk_with_bit, sees, place_targets, copy_targets, cell_desk};
+ghost use Rattle.paraid_plan.specs.Desk.{with_targets, sees, place_targets, copy_targets, cell_desk};
 ghost use Rattle.paraid_plan.specs.Leaves.{Leaves, StaysAsWas};
 ghost use Rattle.paraid_plan.specs.RowWrites.{has_soft as has_soft_in};
 ghost use Rattle.paraid_plan.specs.WriteTargets.{stripe_block_now, target_if, goes_hard as goes_hard_in, is_written as written_in, is_filled as filled_in, needs_new as needs_new_in, needs_old as needs_old_in};
@@ -11,9 +11,7 @@ ghost use Rattle.paraid_plan.specs.WrittenBits.{bits_after_cell};
 ghost use Rattle.paraid_record.specs.Codes.{phase_to as phase_to_of};
 ghost use Rattle.paraid_record.specs.Range.{IsInRange};
 ghost use Rattle.paraid_record.specs.declared.meta.Meta.{Meta as MetaType};
-ghost use Rattle.paraid_image.specs.Out.{named_out as named_out_of};
 ghost use Rattle.paraid_image.specs.Spot.{is_hard as hard_in};
-ghost use Rattle.paraid_image.specs.Value.{value as value_of};
 ghost use Rattle.paraid_base.specs.Log.{draft_room};
 
 use crate::desk::{PlanLost, WritePlan};

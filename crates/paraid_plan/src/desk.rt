@@ -1,7 +1,7 @@
 //! What a plan reads and stages.
 ghost use Rattle.std.specs.Prelude.{◌≡◌, ◌≢◌, ℕ, ◌+◌, ◌<◌, ◌≤◌, ◌⊎◌, true, length, OnOk, IfErr, Some};
 ghost use Rattle.paraid_base.specs.Log.{log_least, draft_room};
-ghost use Rattle.paraid_base.specs.Regions.{map_count, disk_size};
+ghost use Rattle.paraid_base.specs.Regions.{disk_size};
 ghost use Rattle.paraid_plan.specs.Desk.{Desk, with_targets, desk_with_bit, sees};
 ghost use Rattle.paraid_plan.specs.WriteTargets.{soft_count, stripe_block_now, target_if};
 ghost use Rattle.paraid_dirty.specs.Bits.{bit_of};

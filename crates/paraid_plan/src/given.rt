@@ -1,5 +1,5 @@
 //! Which cells of a row the pairs of a write give new bytes.
-ghost use Rattle.std.specs.Prelude.{◌≡◌, ◌≢◌, ℕ, ◌<◌, ◌+◌, ◌-◌, ◌*◌, ◌||◌, List, Some, None, get_or, All, if◌then◌else◌};
+ghost use Rattle.std.specs.Prelude.{◌≡◌, ◌≢◌, ℕ, ◌<◌, ◌+◌, ◌||◌, List, Some, None, get_or, All, if◌then◌else◌};
 ghost use Rattle.paraid_base.specs.declared.block.Block.{Block as BlockType};
 ghost use Rattle.paraid_base.specs.Cells.{cell_block, parity_disk as parity_disk_of};
 ghost use Rattle.paraid_base.specs.History.{Entry, last_of};

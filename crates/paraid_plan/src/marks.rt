@@ -1,5 +1,5 @@
 //! What the meta says of a place.
-ghost use Rattle.std.specs.Prelude.{◌≡◌, ℕ, ◌+◌, ◌<◌, ◌≤◌};
+ghost use Rattle.std.specs.Prelude.{◌≡◌, ◌<◌};
 ghost use Rattle.paraid_plan.specs.WriteTargets.{is_written as written_in, is_filled as filled_in};
 ghost use Rattle.paraid_record.specs.Range.{IsInRange};
 

@@ -6,7 +6,7 @@ ghost use Rattle.paraid_base.specs.Cells.{parity_disk as parity_disk_of};
 ghost use Rattle.paraid_base.specs.Pairs.{pairs_of};
 ghost use Rattle.paraid_base.specs.Sums.{without, xor_upto};
 ghost use Rattle.paraid_base.specs.Xor.{xor, zero_block};
-ghost use Rattle.paraid_plan.specs.Desk.{Desk, sees};
+ghost use Rattle.paraid_plan.specs.Desk.{sees};
 ghost use Rattle.paraid_plan.specs.Leaves.{Leaves, StaysAsWas};
 ghost use Rattle.paraid_plan.specs.RowWrites.{AreGivenBy, AreOldRead, HasRoom, IsOldOf, is_changed as changed_in, new_parity, parity_part};
 ghost use Rattle.paraid_plan.specs.WriteTargets.{needs_new as needs_new_in, needs_old as needs_old_in};

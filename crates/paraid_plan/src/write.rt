@@ -1,13 +1,13 @@
 //! The write of up to eight blocks, in any gear and phase and whichever disk is out: row by row,
 //! each with one new parity, and at most ten targets for each block.
-ghost use Rattle.std.specs.Prelude.{◌≡◌, ◌≢◌, ℕ, ◌+◌, ◌-◌, ◌*◌, ◌/◌, ◌<◌, ◌≤◌, ◌==◌, ◌&&◌, ◌∷◌, [], true, false, length, get_or, All, OnOk, IfErr, if◌then◌else◌};
+ghost use Rattle.std.specs.Prelude.{◌≡◌, ℕ, ◌+◌, ◌*◌, ◌/◌, ◌<◌, ◌≤◌, ◌==◌, ◌&&◌, ◌∷◌, [], false, length, get_or, All, OnOk, IfErr, if◌then◌else◌};
 ghost use Rattle.paraid_base.specs.declared.block.Block.{Block as BlockType};
 ghost use Rattle.paraid_base.specs.Cells.{home_row};
 ghost use Rattle.paraid_base.specs.History.{last_of};
 ghost use Rattle.paraid_base.specs.Pairs.{pairs_of};
 ghost use Rattle.paraid_base.specs.Xor.{zero_block};
 ghost use Rattle.paraid_dirty.specs.Bits.{bit_of};
-ghost use Rattle.paraid_plan.specs.Desk.{Desk, StagesMap};
+ghost use Rattle.paraid_plan.specs.Desk.{StagesMap};
 ghost use Rattle.paraid_plan.specs.Leaves.{Leaves, WritesCells, WritesRow};
 ghost use Rattle.paraid_plan.specs.RowWrites.{HasRoom, StageAll, count_in_row, count_of_new_row, one_in_row, row_change};
 ghost use Rattle.paraid_plan.specs.RowBits.{turns_cell_of, turns_in_new_row};

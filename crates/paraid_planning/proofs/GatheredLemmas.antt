@@ -3,7 +3,7 @@ use Rattle.std.proofs.Common.{◌≡◌, ℕ, ◌+◌, ◌-◌, ◌^◌, ◌<◌
 use Rattle.std.proofs.Math.ListN.{get_or-append}
 use Rattle.std.proofs.lemmas.Bool.{cases_Bool, cases_lt, false≢true}
 use Rattle.std.proofs.lemmas.List.{append_assoc, append-nil, get_or_at, map_push}
-use Rattle.paraid_base.specs.Told.{AtEnd, Gives, HasRisen, told_bytes}
+use Rattle.paraid_base.specs.Told.{AtEnd, Gives, HasRisen, told_bytes, stream_most}
 use Rattle.paraid_base.proofs.ToldLemmas.{Gives-none, Gives-then}
 use Rattle.paraid_io.specs.declared.line.LineFault.{LineFault}
 use Rattle.paraid_io.specs.Lines.{lines_of, whole_lines}
@@ -14,6 +14,7 @@ use Rattle.paraid_planning.specs.Heard.{HearsNumber}
 use Rattle.paraid_planning.specs.declared.hear.Spoken.{Spoken}
 use Rattle.paraid_planning.specs.declared.hear.Spoken.TheVariants.{Number, Other, End}
 use Rattle.paraid_planning.specs.declared.unplanned.Unplanned.TheVariants.{Source, TooLong, NoMemory, Demand}
+use Rattle.paraid_schedule.specs.Schedule.{demand_most}
 
 -- These numbers were read.
 pub record Gathered (before left : Option (List ℕ)) (reader : Reading) (numbers : List ℕ) : Type 0 where
@@ -25,7 +26,7 @@ pub record Gathered (before left : Option (List ℕ)) (reader : Reading) (number
   pub at_end : IsTrue reader.ended → AtEnd left
   pub fault : reader.fault ≡ None
   pub count : reader.taken ≡ length bytes
-  pub limit : reader.taken ≤ 2 ^ 40
+  pub limit : reader.taken ≤ stream_most
   pub are : AreFewAndSmall numbers
   -- no number was read of no bytes
   pub some : numbers ≡ [] → reader.rest ≡ bytes
@@ -62,12 +63,12 @@ lines_more bytes got rest more lines ls line f before cut =
     ap f (append_assoc bytes got more) ∙ before ∙ ap (λ x. lines ++ f x) (sym (append_assoc rest got more)) ∙ ap (λ x. lines ++ x) cut ∙ sym (append_assoc lines (line ∷ []) ls)
 
 -- one number more
-few_more : (numbers : List ℕ) (n : ℕ) → AreFewAndSmall numbers → length numbers < 1024 → n ≤ 1048576 → AreFewAndSmall (numbers ++ n ∷ [])
+few_more : (numbers : List ℕ) (n : ℕ) → AreFewAndSmall numbers → length numbers < 1024 → n ≤ demand_most → AreFewAndSmall (numbers ++ n ∷ [])
 few_more numbers n are room small = record {
   few = omega (arith, length-append numbers (n ∷ []), room);
   small = λ t low. elim (cases_lt t (length numbers)) [
-    | inl early ↦ subst (λ (k : ℕ). k ≤ 1048576) (sym (get_or-append numbers (n ∷ []) 0 t early)) (are.small t early)
-    | inr late ↦ subst (λ (k : ℕ). k ≤ 1048576) (sym (get_or_at numbers n [] 0 t (omega (arith, length-append numbers (n ∷ []), low, late)))) small
+    | inl early ↦ subst (λ (k : ℕ). k ≤ demand_most) (sym (get_or-append numbers (n ∷ []) 0 t early)) (are.small t early)
+    | inr late ↦ subst (λ (k : ℕ). k ≤ demand_most) (sym (get_or_at numbers n [] 0 t (omega (arith, length-append numbers (n ∷ []), low, late)))) small
   ];
 }
 
@@ -98,7 +99,7 @@ module _ {before left after : Option (List ℕ)} {old new : Reading} {numbers : 
 
   pub gathered_more : {k : ℕ} → (h : HearsNumber left after old new (Ok (Number k))) → new.fault ≡ None → length numbers < 1024 → Gathered before after new (numbers ++ k ∷ [])
   gathered_more {k} h fault room =
-      let small : k ≤ 1048576 = h.says.0 in
+      let small : k ≤ demand_most = h.says.0 in
       let n : IsNextLine (old.rest ++ h.got) (decimal k) new = h.says.1 in
       let pushed = map_push decimal numbers k in
       record {
@@ -153,7 +154,7 @@ module _ {before left after : Option (List ℕ)} {old new : Reading} {numbers : 
   pub source_failed : {fault : LineFault} (faults faults_now : ℕ) → (h : HearsNumber left after old new (Err fault)) → HasRisen faults faults_now → IsUnplanned before after faults faults_now Source
   source_failed {fault} faults faults_now h risen = record { bytes = s.bytes ++ h.got; given = all_given h; is = (risen, fault_lines h) }
 
-  pub took_all : {fault : LineFault} (faults faults_now : ℕ) → (h : HearsNumber left after old new (Err fault)) → new.taken ≡ 2 ^ 40 → IsUnplanned before after faults faults_now TooLong
+  pub took_all : {fault : LineFault} (faults faults_now : ℕ) → (h : HearsNumber left after old new (Err fault)) → new.taken ≡ stream_most → IsUnplanned before after faults faults_now TooLong
   took_all {fault} faults faults_now h full = record {
     bytes = s.bytes ++ h.got;
     given = all_given h;
@@ -180,7 +181,7 @@ module _ {before left after : Option (List ℕ)} {old new : Reading} {numbers : 
   }
 
   -- a number that is taken leaves less to take
-  pub less_to_take : {k : ℕ} → HearsNumber left after old new (Ok (Number k)) → (2 ^ 40 - new.taken) + length new.rest < (2 ^ 40 - old.taken) + length old.rest
+  pub less_to_take : {k : ℕ} → HearsNumber left after old new (Ok (Number k)) → (stream_most - new.taken) + length new.rest < (stream_most - old.taken) + length old.rest
   less_to_take {k} h =
       let shorter = h.says.1.shorter in
       let size = length-append old.rest h.got in

@@ -3,7 +3,7 @@ use Rattle.std.proofs.Common.{◌≡◌, ◌≢◌, ℕ, ◌^◌, ◌<◌, ◌�
 use Rattle.std.proofs.lemmas.Bool.{false≢true}
 use Rattle.std.proofs.lemmas.Fmt.{length-decimal-le}
 use Rattle.std.proofs.lemmas.List.{append_assoc, append-nil}
-use Rattle.paraid_base.specs.Told.{HasRisen}
+use Rattle.paraid_base.specs.Told.{HasRisen, stream_most}
 use Rattle.paraid_io.specs.Lines.{lines_of, whole_lines, NoNewline}
 use Rattle.paraid_io.specs.Reading.{CutsOff, HasCause, IsNextLine, ReaderStep, Reading}
 use Rattle.paraid_io.specs.declared.line.Line.{Line}
@@ -17,13 +17,14 @@ use Rattle.paraid_planning.specs.Demand.{IsNoNumber}
 use Rattle.paraid_planning.specs.Heard.{HearsNumber, IsSpoken}
 use Rattle.paraid_planning.specs.declared.hear.Spoken.{Spoken}
 use Rattle.paraid_planning.specs.declared.hear.Spoken.TheVariants.{Number, Other, End}
+use Rattle.paraid_schedule.specs.Schedule.{demand_most}
 
 -- ---- numbers
 
 pub printed : (line : List ℕ) (o : Option ℕ) (n : ℕ) → o ≡ number_of line → o ≡ Some n → line ≡ decimal n
 printed line o n read is = (IsNumber-number_of line n (sym read ∙ is)).printed
 
-read_back : (line : List ℕ) (k : ℕ) → k ≤ 1048576 → line ≡ decimal k → number_of line ≡ Some k
+read_back : (line : List ℕ) (k : ℕ) → k ≤ demand_most → line ≡ decimal k → number_of line ≡ Some k
 read_back line k small is = number_of-IsNumber line k (record { below = omega (arith, small); printed = is })
 
 same_number : (n k : ℕ) → Some n ≡ Some k → n ≡ k
@@ -32,7 +33,7 @@ same_number n k e = cc
 no_number : (k : ℕ) → None ≡ Some k → ⊥
 no_number k e = cc
 
-pub too_large : (line : List ℕ) (o : Option ℕ) (n : ℕ) → o ≡ number_of line → o ≡ Some n → 1048576 < n → IsNoNumber line
+pub too_large : (line : List ℕ) (o : Option ℕ) (n : ℕ) → o ≡ number_of line → o ≡ Some n → demand_most < n → IsNoNumber line
 too_large line o n read is large k small e =
     let same = same_number n k (sym is ∙ read ∙ read_back line k small e) in
     omega (arith, same, large, small)
@@ -89,7 +90,7 @@ heard_from {before} {left} {old} {new} {r} s e says = record {
 }
 
 module _ {before left : Option (List ℕ)} {old new : Reading} where
-  pub heard_number : {n : ℕ} (k : ℕ) → ReaderStep before left old new (Ok (Whole n)) → k ≤ 1048576 → new.line ≡ decimal k → HearsNumber before left old new (Ok (Number k))
+  pub heard_number : {n : ℕ} (k : ℕ) → ReaderStep before left old new (Ok (Whole n)) → k ≤ demand_most → new.line ≡ decimal k → HearsNumber before left old new (Ok (Number k))
   heard_number {n} k s small is = heard_from s (Ok (Number k)) (small, takes_line (old.rest ++ s.got) (decimal k) new (rw is at s.answer.0))
 
   pub heard_other : {n : ℕ} → ReaderStep before left old new (Ok (Whole n)) → IsNoNumber new.line → HearsNumber before left old new (Ok Other)
@@ -112,6 +113,6 @@ module _ {A : Type 0} where
   risen_by Source new before now cause is = cause.0
   risen_by (TooLong n) new before now cause is = cc
 
-  pub taken_by : (fault : LineFault) (new : Reading) (before now n : ℕ) → HasCause (Err fault) new before now → ◌≡◌ {A = Result A LineFault} (Err fault) (Err (TooLong n)) → new.taken ≡ 2 ^ 40
+  pub taken_by : (fault : LineFault) (new : Reading) (before now n : ℕ) → HasCause (Err fault) new before now → ◌≡◌ {A = Result A LineFault} (Err fault) (Err (TooLong n)) → new.taken ≡ stream_most
   taken_by Source new before now n cause is = cc
   taken_by (TooLong m) new before now n cause is = cause.1

@@ -1,8 +1,8 @@
 -- Which bytes say a demand, and which line of others is the first that does not.
 use Rattle.std.specs.Prelude.{◌≡◌, ◌≢◌, ◌⊎◌, ℕ, ◌≤◌, ◌<◌, ◌^◌, Bool, List, [], ◌∷◌, ◌++◌, length, map, slice_index, decimal, IsTrue, Option}
-use Rattle.paraid_base.specs.Told.{AtEnd, Gives, HasRisen}
+use Rattle.paraid_base.specs.Told.{AtEnd, Gives, HasRisen, stream_most}
 use Rattle.paraid_io.specs.Lines.{lines_of, whole_lines}
-use Rattle.paraid_schedule.specs.Schedule.{IsDemand}
+use Rattle.paraid_schedule.specs.Schedule.{IsDemand, demand_most}
 use Rattle.paraid_planning.specs.declared.unplanned.Unplanned.{Unplanned}
 use Rattle.paraid_planning.specs.declared.unplanned.Unplanned.TheVariants.{Source, TooLong, NoMemory, Demand}
 
@@ -14,11 +14,11 @@ pub record SaysDemand (bytes demand : List ℕ) : Type 0 where
 -- at most 1,024 numbers of at most 1,048,576
 pub record AreFewAndSmall (numbers : List ℕ) : Type 0 where
   pub few : length numbers ≤ 1024
-  pub small : (t : ℕ) → t < length numbers → slice_index numbers t ≤ 1048576
+  pub small : (t : ℕ) → t < length numbers → slice_index numbers t ≤ demand_most
 
 -- a line that is no number of at most 1,048,576
 abbrev pub IsNoNumber : List ℕ → Type 0
-IsNoNumber line = (number : ℕ) → number ≤ 1048576 → line ≢ decimal number
+IsNoNumber line = (number : ℕ) → number ≤ demand_most → line ≢ decimal number
 
 -- Whatever follows these bytes, the first lines are these. Where the source gave its end, nothing
 -- follows.
@@ -46,7 +46,7 @@ pub record BeginsDemand (bytes : List ℕ) : Type 0 where
 -- why no demand was read of these bytes
 abbrev pub IsCause : List ℕ → Option (List ℕ) → ℕ → ℕ → Unplanned → Type 0
 IsCause bytes left faults faults_now Source = HasRisen faults faults_now × BeginsDemand bytes
-IsCause bytes left faults faults_now TooLong = (length bytes ≡ 2 ^ 40) × BeginsDemand bytes
+IsCause bytes left faults faults_now TooLong = (length bytes ≡ stream_most) × BeginsDemand bytes
 IsCause bytes left faults faults_now NoMemory = Unit {0}
 IsCause bytes left faults faults_now (Demand at) = FirstMiss bytes left at
 

@@ -1,14 +1,13 @@
 //! The next line of a demand.
-ghost use Rattle.std.specs.Prelude.{◌≡◌, ◌≢◌, ◌≤◌, ◌^◌, ℕ, None, OnOk, IsErrOf, IfSome, IfNone, decimal};
-ghost use Rattle.paraid_base.specs.Told.{HasRisen};
+ghost use Rattle.std.specs.Prelude.{◌≡◌, ◌≢◌, ◌≤◌, ℕ, None, OnOk, IsErrOf, IfSome, IfNone, decimal};
+ghost use Rattle.paraid_base.specs.Told.{HasRisen, stream_most};
 ghost use Rattle.paraid_planning.specs.Demand.{IsNoNumber};
 ghost use Rattle.paraid_planning.specs.Heard.{HearsNumber};
+ghost use Rattle.paraid_schedule.specs.Schedule.{demand_most};
 
 use paraid_io::{Line, LineFault, LineReader, Source};
+use paraid_schedule::MOST_REQUESTS;
 use paraid_trace::number;
-
-/// The most requests of a period.
-const MOST_REQUESTS: u32 = 1_048_576;
 
 /// What a line of a demand says.
 #[derive(Clone, Copy)]
@@ -23,7 +22,7 @@ pub enum Spoken {
 
 // The number that a line says, if it may stand in a demand.
 fn small_number(line: &[u8]) -> Option<u32>
-    ensures some { IfSome result (λ n. (n ≤ 1048576) × (line.now ≡ decimal n)) }
+    ensures some { IfSome result (λ n. (n ≤ demand_most) × (line.now ≡ decimal n)) }
     ensures none { IfNone result (IsNoNumber line.now) }
 {
     match number(line) {
@@ -43,7 +42,7 @@ pub(crate) fn hear<S: Source>(reader: &mut LineReader, source: &mut S) -> Result
     ensures cause { IsErrOf result LineFault.Source
         → HasRisen (S.faults source.old) (S.faults source.new) }
     ensures too_long { (n : ℕ) → IsErrOf result (LineFault.TooLong n)
-        → reader.new.taken ≡ 2 ^ 40 }
+        → reader.new.taken ≡ stream_most }
 {
     match reader.next(source) {
         Ok(Line::Whole { .. }) => match small_number(reader.line()) {

@@ -1,5 +1,5 @@
 //! The lines of a plan, and the line that tells why there is none.
-ghost use Rattle.std.specs.Prelude.{◌≡◌, [], ◌++◌, ◌≤◌, length, codes, decimal, IfOk, OnOk};
+ghost use Rattle.std.specs.Prelude.{◌≡◌, [], ◌++◌, ◌≤◌, length, decimal, IfOk, OnOk};
 ghost use Rattle.paraid_planning.specs.Planned.{plan_lines, unplanned_line};
 ghost use Rattle.paraid_trace.specs.StateTexts.{numbers_text};
 

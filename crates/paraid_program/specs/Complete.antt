@@ -3,7 +3,7 @@
 use Rattle.std.specs.Prelude.{◌≡◌, ℕ, ◌^◌, List, [], ◌∷◌, ◌++◌, length, Option, Some}
 use Rattle.paraid_base.specs.declared.fault.Two.{Two}
 use Rattle.paraid_base.specs.History.{History}
-use Rattle.paraid_base.specs.Told.{AtEnd, Gives, GrowsByBytes, HasRisen}
+use Rattle.paraid_base.specs.Told.{AtEnd, Gives, GrowsByBytes, HasRisen, stream_most}
 use Rattle.paraid_serve.specs.Ending.{end_line}
 use Rattle.paraid_image.specs.RunStart.{IsRunStart}
 use Rattle.paraid_image.specs.Sides.{LogState}
@@ -95,7 +95,7 @@ pub data HindersRun {rack : RackUse}
   -- 2^40 bytes were taken
   too_long : status ≡ status_too_long
       → (bytes : List ℕ) → Gives source.left_before source.left bytes
-      → length bytes ≡ 2 ^ 40 → HindersRun h source sink status
+      → length bytes ≡ stream_most → HindersRun h source sink status
   other : Hinders h sink status → HindersRun h source sink status
 
 -- How a command comes out: all was done; or there was no memory; or something hindered it, and the

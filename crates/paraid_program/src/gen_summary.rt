@@ -1,6 +1,5 @@
 //! The two lines that sum up generated lines and their answers.
 ghost use Rattle.std.specs.Prelude.{◌≡◌, ◌≤◌, [], ◌++◌, length, codes, decimal};
-ghost use Rattle.paraid_program.specs.declared.tally.Tally.{Tally as TallyType};
 ghost use Rattle.paraid_program.specs.GenEvents.{lines_line, summary};
 
 use crate::tally::Tally;

@@ -1,5 +1,5 @@
 //! The allowance of spin-ups by so many ticks, and whether disks may be parked by it.
-ghost use Rattle.std.specs.Prelude.{◌≡◌, ℕ, ◌<◌, ◌≤◌, slice_index, OnOk, IfErr};
+ghost use Rattle.std.specs.Prelude.{◌≡◌, ◌≤◌, OnOk, IfErr};
 ghost use Rattle.paraid_ration.specs.Ration.{IsWithinAllowance, IsFirstUsedUp, allowance as allowed_after};
 
 use paraid_base::DiskNo;

@@ -1,5 +1,5 @@
 //! Units of the disk that is rebuilt are copied past the log and made to last.
-ghost use Rattle.std.specs.Prelude.{◌≡◌, ℕ, ◌<◌, ◌≤◌, [], true, false, Ok, OnOk, IfErr};
+ghost use Rattle.std.specs.Prelude.{◌≡◌, ℕ, ◌≤◌, [], true, false, Ok, OnOk, IfErr};
 ghost use Rattle.paraid_base.specs.History.{History};
 ghost use Rattle.paraid_base.specs.States.{named_out, rebuilt_count};
 ghost use Rattle.paraid_core.specs.Calls.{MakesDataCalls};

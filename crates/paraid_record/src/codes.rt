@@ -1,6 +1,6 @@
 //! The numbers that stand for modes, phases and disks that are out, in both directions.
 
-ghost use Rattle.std.specs.Prelude.{◌≡◌, ℕ, ◌<◌, ◌≤◌, length, slice_index, Some};
+ghost use Rattle.std.specs.Prelude.{◌≡◌, ℕ, length, Some};
 ghost use Rattle.paraid_base.specs.declared.geometry.Geometry.{Geometry as GeometryType};
 ghost use Rattle.paraid_base.specs.declared.state.Phase.{Phase as PhaseType};
 ghost use Rattle.paraid_base.specs.declared.state.Out.{Out as OutType};

@@ -1,7 +1,7 @@
 //! Writes fields one after the other into a block whose rest is zeros.
 
 ghost use Rattle.std.specs.Prelude.{◌≡◌, ℕ, ◌+◌, ◌-◌, ◌≤◌, List, [], ◌++◌, length, take, drop, replicate};
-ghost use Rattle.paraid_record.specs.Spelling.{big_endian, zero_filled, shorts};
+ghost use Rattle.paraid_record.specs.Spelling.{big_endian, zero_filled};
 
 use byteorder::{BigEndian, ByteOrder};
 use paraid_base::Block;

@@ -1,6 +1,6 @@
 //! Tells whether a setup and a meta are in range.
 
-ghost use Rattle.std.specs.Prelude.{◌≡◌, ℕ, ◌+◌, ◌<◌, ◌≤◌, ◌↔◌, IsTrue, length, slice_index, slice_index_or, true, false};
+ghost use Rattle.std.specs.Prelude.{◌≡◌, ℕ, ◌<◌, ◌≤◌, ◌↔◌, IsTrue, true, false};
 ghost use Rattle.paraid_base.specs.Regions.{IsGear};
 ghost use Rattle.paraid_record.specs.Range.{AreCountersInRange, AreNextGears, AreWindows, IsInRange, IsOutInRange, IsPhaseInRange, IsSetupInRange, IsSpinCount, IsShiftInRange, IsVersionInRange, Within, allowed_spins, fill_limit as limit_of_fill, first_parked as parked_from, rebuild_units as units_of_rebuild};
 

@@ -3,7 +3,7 @@
 //! What was read is spelled again and compared with the block, so that a block is read only if it
 //! is the spelling of a meta in range.
 
-ghost use Rattle.std.specs.Prelude.{◌≡◌, ◌≢◌, ℕ, ◌+◌, ◌*◌, ◌≤◌, ◌<◌, ◌↔◌, ◌++◌, List, length, slice_index, Some, None, IfSome, IfNone, IsTrue};
+ghost use Rattle.std.specs.Prelude.{◌≡◌, ◌≢◌, ℕ, ◌+◌, ◌≤◌, ◌<◌, ◌↔◌, ◌++◌, List, length, Some, None, IfSome, IfNone, IsTrue};
 ghost use Rattle.paraid_base.specs.declared.geometry.Geometry.{Geometry as GeometryType};
 ghost use Rattle.paraid_record.specs.declared.meta.Meta.{Meta as MetaType};
 ghost use Rattle.paraid_record.specs.declared.meta.Setup.{Setup as SetupType};

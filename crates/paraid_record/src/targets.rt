@@ -1,11 +1,11 @@
 //! The list of targets of a batch: which blocks it writes, on which disks and places.
 
-ghost use Rattle.std.specs.Prelude.{◌≡◌, ◌≢◌, ℕ, ◌+◌, ◌*◌, ◌<◌, ◌≤◌, ◌↔◌, ◌++◌, List, [], length, All, AllPairs, Contains, IfSome, IfNone, IsSomeAnd, IsTrue};
+ghost use Rattle.std.specs.Prelude.{◌≡◌, ◌≢◌, ℕ, ◌+◌, ◌*◌, ◌≤◌, ◌↔◌, ◌++◌, List, length, All, AllPairs, Contains, IfSome, IfNone, IsSomeAnd, IsTrue};
 ghost use Rattle.paraid_base.specs.Log.{batch_room};
 ghost use Rattle.paraid_base.specs.Regions.{disk_size};
 ghost use Rattle.paraid_record.specs.declared.targets.Target.{Target as TargetType};
 ghost use Rattle.paraid_record.specs.Spelling.{big_endian};
-ghost use Rattle.paraid_record.specs.Targets.{AreRestUnused, AreTargets, IsTargetInRange, FitsBytes, places_bytes, targets_bytes, targets_of, no_target};
+ghost use Rattle.paraid_record.specs.Targets.{AreRestUnused, AreTargets, IsTargetInRange, FitsBytes, places_bytes, targets_bytes, targets_of};
 
 use crate::pen::Pen;
 use crate::reader::Reader;

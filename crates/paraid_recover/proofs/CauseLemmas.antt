@@ -1,7 +1,7 @@
 -- A mount is refused by one cause.
 use Rattle.std.specs.Prelude.{◌≡◌, ◌⊎◌, ℕ, ◌<◌, Bool, true, false, Option, Some, None}
 use Rattle.std.proofs.Common.{refl, sym, ◌∙◌, ap, subst, arith, inl, inr}
-use Rattle.std.proofs.lemmas.Bool.{false≢true, true≢false}
+use Rattle.std.proofs.lemmas.Bool.{false≢true, true≢false, cases_lt}
 use Rattle.paraid_base.specs.declared.fault.Two.{Two}
 use Rattle.paraid_rack.specs.Slots.{Slot}
 use Rattle.paraid_rack.specs.Trail.{Trail}
@@ -13,21 +13,16 @@ use Rattle.paraid_image.specs.Sides.{Batch, LogState}
 use Rattle.paraid_image.specs.Standing.{other_log}
 use Rattle.paraid_recover.specs.declared.mount_fault.MountFault.{MountFault}
 use Rattle.paraid_recover.specs.declared.mount_fault.MountFault.TheVariants.{NotFormatted, BadLog, BadMeta, Size, Power, Two as BothMissing, Worn, NoMemory}
-use Rattle.paraid_recover.specs.Examined.{AreHeard, IsRefused, IsRefusedAsHeard, IsRefusedByLogs, IsRefusedBySlots, Logs, unpaired_fault}
+use Rattle.paraid_recover.specs.Examined.{AreHeard, IsRefused, IsRefusedAsHeard, IsRefusedByLogs, IsRefusedBySlots, Logs, unpaired_fault, is_log_parked}
 use Rattle.paraid_recover.specs.Examined.IsRefused.{by_slots, by_loss, as_heard}
 use Rattle.paraid_recover.specs.Examined.IsRefusedAsHeard.{by_logs, by_meta}
 use Rattle.paraid_recover.specs.Examined.IsRefusedByLogs.{by_sides, by_itself, unpaired}
 use Rattle.paraid_recover.specs.Examined.IsRefusedBySlots.{asleep, few}
-use Rattle.paraid_recover.specs.Order.{IsRefusedBy}
-use Rattle.paraid_recover.specs.Refusals.{AreMissing, IsLeastDisk, is_lacking}
-use Rattle.paraid_recover.specs.Said.{IsRefusedBySides}
+use Rattle.paraid_recover.specs.Order.{IsRefusedBy, AreAwake, AreEnough, AreSlotsLarge, size_found}
+use Rattle.paraid_recover.specs.Refusals.{AreMissing, IsLeastDisk, is_lacking, is_asleep, is_small}
+use Rattle.paraid_recover.specs.Said.{IsRefusedBySides, IsLeastAtFault}
 use Rattle.paraid_recover.proofs.ServedLemmas.{agreed_in_range}
-use Rattle.std.proofs.lemmas.Bool.{cases_lt}
 use Rattle.paraid_base.specs.Regions.{disk_size}
-use Rattle.paraid_recover.specs.Examined.{is_log_parked}
-use Rattle.paraid_recover.specs.Order.{AreAwake, AreEnough, AreSlotsLarge, size_found}
-use Rattle.paraid_recover.specs.Refusals.{is_asleep, is_small}
-use Rattle.paraid_recover.specs.Said.{IsLeastAtFault}
 use Rattle.paraid_recover.proofs.ExactLemmas.{AreAlike, alike, double, is_out-some, lacking_is, logs_or_agreed, loss_or_one, same_pair, same_standing, sides_or_formed, slots_or_readable}
 
 unique_least : (is : ℕ → Bool) (n d e : ℕ) → IsLeastDisk is n d → IsLeastDisk is n e → d ≡ e

@@ -13,13 +13,12 @@ use Rattle.paraid_recover.specs.declared.hearing.Heard.{Heard}
 use Rattle.paraid_recover.specs.declared.hearing.Heard.TheVariants.{Blank, Bad, Formed}
 use Rattle.paraid_recover.specs.HeardSides.{IsHeardAt, IsInForm, side_by}
 use Rattle.paraid_image.specs.Out.{is_out}
-use Rattle.paraid_image.specs.Sides.{Batch, IsSide, LogState, Says, Side}
+use Rattle.paraid_image.specs.Sides.{Batch, IsSide, LogState, Says, Side, log_state}
 use Rattle.paraid_image.specs.Sides.Side.{absent, blank, bad, formed}
 use Rattle.paraid_image.specs.Sound.{Pairing}
 use Rattle.paraid_image.specs.Standing.{Stands, is_first, other_log, standing}
 use Rattle.paraid_image.proofs.SidesLemmas.{Says-same}
 use Rattle.paraid_image.proofs.StandingLemmas.{Stands-same, stands-from_sides}
-use Rattle.paraid_image.specs.Sides.{log_state}
 use Rattle.paraid_recover.specs.declared.mount_fault.MountFault.{MountFault}
 use Rattle.paraid_recover.specs.declared.mount_fault.MountFault.TheVariants.{Worn}
 use Rattle.paraid_recover.specs.Examined.{AreHeard, AreUnpaired, IsRefused, IsRefusedByLogs, IsRefusedBySlots, IsStanding, is_log_parked, logs_of, Logs, side_of, unpaired_fault}

@@ -5,7 +5,7 @@ use Rattle.std.proofs.lemmas.Bool.{false≢true}
 use Rattle.paraid_base.specs.declared.fault.Two.{Two}
 use Rattle.paraid_base.specs.declared.state.Out.{Out}
 use Rattle.paraid_base.specs.declared.state.Out.TheVariants.{No, Gone, Fresh}
-use Rattle.paraid_base.specs.Log.{worn_at}
+use Rattle.paraid_base.specs.Log.{worn_at, map_start}
 use Rattle.paraid_base.specs.Regions.{disk_size, map_count}
 use Rattle.paraid_base.specs.States.{gone_out}
 use Rattle.paraid_base.specs.Told.{HasRisen}
@@ -109,7 +109,7 @@ fit_marked count slot m d epoch fit only range one = record {
 }
 
 -- the log and the map end before the size of a disk
-pub big : (m : Meta) → 99 + map_count m.setup.geometry < disk_size m.setup.geometry
+pub big : (m : Meta) → map_start m.setup.geometry + map_count m.setup.geometry ≤ disk_size m.setup.geometry
 big m = let low = m.setup.geometry.rows_low in omega arith
 
 -- a log disk that is not out is there

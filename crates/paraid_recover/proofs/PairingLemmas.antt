@@ -3,10 +3,9 @@ use Rattle.std.specs.Prelude.{◌≡◌, ◌≢◌, Bool, true, false}
 use Rattle.std.proofs.Common.{refl, sym, ◌∙◌, ap, subst}
 use Rattle.std.proofs.lemmas.Bool.{false≢true, true≢false}
 use Rattle.paraid_record.specs.declared.meta.Meta.{Meta}
-use Rattle.paraid_image.specs.Sides.{Batch, LogState}
+use Rattle.paraid_image.specs.Sides.{Batch, LogState, log_state}
 use Rattle.paraid_image.specs.Sound.{IsAhead, Pairing}
 use Rattle.paraid_image.specs.Sound.Pairing.{alike, first_ahead, first_done, second_ahead, second_done}
-use Rattle.paraid_image.specs.Sides.{log_state}
 
 pub pairing_back : (a b : LogState) → Pairing a b → Pairing b a
 pairing_back a b (alike is) = alike (sym is)

@@ -20,14 +20,13 @@ use Rattle.paraid_recover.specs.declared.hearing.Heard.{Heard}
 use Rattle.paraid_recover.specs.declared.hearing.Heard.TheVariants.{Blank, Bad, Formed}
 use Rattle.paraid_recover.specs.HeardSides.{IsHeardBy, IsInForm, side_by}
 use Rattle.paraid_image.specs.Out.{is_out, named_out}
-use Rattle.paraid_image.specs.Sides.{Batch, LogState, targets}
+use Rattle.paraid_image.specs.Sides.{Batch, LogState, targets, log_state}
 use Rattle.paraid_image.specs.Sides.Side.{formed}
 use Rattle.paraid_image.proofs.NeutralLemmas.{length-targets}
 use Rattle.paraid_txn.specs.Commit.{gone_out}
 use Rattle.paraid_txn.specs.Losses.{CanWrite}
 use Rattle.paraid_txn.specs.Ready.{IsLogReady}
 use Rattle.paraid_txn.specs.Resume.{CanResume}
-use Rattle.paraid_image.specs.Sides.{log_state}
 use Rattle.paraid_image.specs.Batches.{names_disk}
 use Rattle.paraid_image.proofs.BatchesLemmas.{names_disk-at}
 use Rattle.paraid_recover.specs.Examined.{AreHeard, IsAgreed, IsServedAsHeard, Logs, side_of}

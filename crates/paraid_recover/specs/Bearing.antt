@@ -64,12 +64,13 @@ abbrev pub LeavesOpen : Option ℕ → Disks → List Call → Type 0
 LeavesOpen named s cs =
     (x : ℕ) → IsNamedLog named x → is_open (s.block 2 x) ≡ true → LeavePlace 2 x cs
 
--- A witness against the log disk that a meta of version 2 says is gone is not borne again: its place
--- is not written by the calls between these records, where it is open as they begin.
+-- A witness against the log disk that a meta of version 2 says is gone is not borne again: its
+-- place is not written by the calls between these records, where it is open as they begin.
 abbrev pub BearsOnce : Meta → Option Trail → Option Trail → Type 0
 BearsOnce m old new = m.version ≡ 2 → Ran old new (LeavesOpen (gone_out m.out))
 
--- Witness is borne then: it is seen, and what was synced is so. One that is borne is not borne again.
+-- Witness is borne then: it is seen, and what was synced is so. One that is borne is not borne
+-- again.
 pub record HasBorne {R : Type 0}
     {l : _} (g : Ghosts R) (named : Option ℕ) (old new : Store R l) (done : Bool) : Type 0 where
   pub part : IsOnBearer g named old new done

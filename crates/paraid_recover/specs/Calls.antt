@@ -82,8 +82,9 @@ pub record AreMakingCalls (count size : ℕ) (calls : List Call) : Type 0 where
   pub first : AreAttaches size 0 count attaches
   pub second : AreMetaCalls 0 4 writes
 
--- Reads of the heads of the logs, unless they are not asked for; then the calls that make the array.
--- There are such only where no log disk says that it belongs to an array, or where that does not matter.
+-- Reads of the heads of the logs, unless they are not asked for; then the calls that make the
+-- array. There are such only where no log disk says that it belongs to an array, or where that does
+-- not matter.
 pub record AreFormatCalls
     (force : Bool) (count size : ℕ) (start : Disks) (calls : List Call) : Type 0 where
   pub reads : List Call

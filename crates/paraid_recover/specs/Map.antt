@@ -30,7 +30,8 @@ ShowsMap g blocks dirty = (r d : ℕ) → r < g.rows → dirty r d ≡ map_bit g
 -- each log disk that is not out spins and has all blocks of the map
 abbrev pub IsMapReady : Geometry → (ℕ → Slot) → Option ℕ → Type 0
 IsMapReady g slot out = (x : ℕ)
-    → x < 2 → out ≢ Some x → ((slot x).power ≡ Spinning) × (99 + map_count g < (slot x).size)
+    → x < 2 → out ≢ Some x → ((slot x).power ≡ Spinning)
+    × (map_start g + map_count g ≤ (slot x).size)
 
 -- a read of the map of disk `x`
 abbrev pub ReadsMapOf : Geometry → ℕ → Call → Type 0

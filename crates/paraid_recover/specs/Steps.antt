@@ -1,7 +1,7 @@
 -- What a step of a mount asks for, and what it leaves of the store and of what was recovered.
 use Rattle.std.specs.Prelude.{◌≡◌, ℕ, ◌+◌, ◌<◌, ◌≤◌, ◌⊎◌, Bool, List, length, Option, Some, None, Result, OnOk, IfErr}
 use Rattle.paraid_base.specs.declared.fault.Two.{Two}
-use Rattle.paraid_base.specs.Log.{worn_at}
+use Rattle.paraid_base.specs.Log.{batch_room, worn_at}
 use Rattle.paraid_base.specs.Told.{HasRisen}
 use Rattle.paraid_dirty.specs.Table.{is_dirty}
 use Rattle.paraid_rack.specs.declared.call.Power.TheVariants.{Absent}
@@ -125,5 +125,5 @@ pub record HasReadLogs {R : Type 0} (g : Ghosts R) (old new : R) : Type 0 where
   pub powers : OnlyLosesSlots (g.slot old) (g.slot new)
   pub each : AreFailedOrWell (g.slot old) (g.slot new)
   pub reads : Ran (g.told old) (g.told new) (EachCall ReadsLogs)
-  pub few : Ran (g.told old) (g.told new) (AtMost 198)
+  pub few : Ran (g.told old) (g.told new) (AtMost (2 * (batch_room + 3)))
   pub calls : Ran (g.told old) (g.told new) (EachCall (UsesLog None))

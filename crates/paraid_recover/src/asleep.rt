@@ -1,5 +1,5 @@
 //! Parked disks that are to spin.
-ghost use Rattle.std.specs.Prelude.{◌≡◌, ◌<◌, ◌≤◌, ℕ, MatchOption};
+ghost use Rattle.std.specs.Prelude.{◌≡◌, ◌<◌, ◌≤◌, MatchOption};
 ghost use Rattle.paraid_recover.specs.Refusals.{IsLeastDisk, IsNone, is_asleep as is_asleep_of, must_spin as must_spin_of};
 
 use paraid_base::DiskNo;

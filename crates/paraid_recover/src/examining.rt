@@ -2,11 +2,11 @@
 //!
 //! Only reads of the log disks are made, so that a mount that is refused here leaves every image as
 //! it was. The causes are tested in the order of `IsRefused`.
-ghost use Rattle.std.specs.Prelude.{◌≡◌, ℕ, ◌<◌, ◌≤◌, Some, Err, IfErr, IfOk, OnOk, MatchOption};
-ghost use Rattle.paraid_base.specs.Log.{worn_at};
+ghost use Rattle.std.specs.Prelude.{◌≡◌, ℕ, ◌≤◌, Some, Err, IfErr, IfOk, OnOk, MatchOption};
+ghost use Rattle.paraid_base.specs.Log.{batch_room, worn_at};
 ghost use Rattle.paraid_rack.specs.Told.{Ran};
 ghost use Rattle.paraid_rack.specs.Trail.{Trail, now};
-ghost use Rattle.paraid_image.specs.Sides.{LogState};
+ghost use Rattle.paraid_image.specs.Sides.{LogState, log_state};
 ghost use Rattle.paraid_image.specs.Standing.{Stands};
 ghost use Rattle.paraid_recover.specs.Examined.{AreReadable, IsExamined, IsRefused, IsRefusedAsHeard, IsRefusedBySlots, IsServedAsHeard, is_log_parked as is_log_parked_of, logs_of};
 ghost use Rattle.paraid_recover.specs.declared.mount_fault.MountFault.TheVariants.{Worn};
@@ -14,7 +14,6 @@ ghost use Rattle.paraid_record.specs.Range.{meta_wear};
 ghost use Rattle.paraid_recover.specs.HeardSides.{AtMost, IsInForm, IsReadLosing, IsReadOnly, ReadsLogs};
 ghost use Rattle.paraid_txn.specs.Losses.{AreFailedOrWell, OnlyLosesSlots};
 ghost use Rattle.paraid_txn.specs.Resume.{CanResume};
-ghost use Rattle.paraid_image.specs.Sides.{log_state};
 ghost use Rattle.paraid_txn.specs.Uses.{EachCall};
 
 use crate::mount_fault::MountFault;
@@ -85,7 +84,7 @@ pub fn examine<R: Rack>(
     ensures powers { OnlyLosesSlots (R.slot rack.old) (R.slot rack.new) }
     ensures each { AreFailedOrWell (R.slot rack.old) (R.slot rack.new) }
     ensures calls { Ran (R.told rack.old) (R.told rack.new) (EachCall ReadsLogs) }
-    ensures few { Ran (R.told rack.old) (R.told rack.new) (AtMost 198) }
+    ensures few { Ran (R.told rack.old) (R.told rack.new) (AtMost (2 * (batch_room + 3))) }
     ensures quiet { IsReadLosing (R.told rack.old) (R.told rack.new) }
     ensures one { OnOk result (IsReadOnly (R.told rack.old) (R.told rack.new)) }
     ensures refused { IfErr result (IsRefused (R.slot_count rack.old) (R.slot rack.old)

@@ -1,5 +1,5 @@
 //! What one log disk says: its gate, its meta, and the batch that is on its way.
-ghost use Rattle.std.specs.Prelude.{◌≡◌, ◌≢◌, ℕ, ◌<◌, ◌≤◌, true, false, [], length, Some, OnOk, IfOk, AllPairs, get_or, is_ok};
+ghost use Rattle.std.specs.Prelude.{◌≡◌, ◌≢◌, ◌<◌, ◌≤◌, true, false, [], length, Some, OnOk, IfOk, AllPairs, get_or, is_ok};
 ghost use Rattle.paraid_base.specs.Log.{batch_room, body_place};
 ghost use Rattle.paraid_base.specs.Xor.{zero_block};
 ghost use Rattle.paraid_rack.specs.declared.call.Power.TheVariants.{Spinning};
@@ -102,7 +102,7 @@ fn hear_open<R: Rack>(rack: &mut R, disk: DiskNo, batch: &mut Batch) -> Result<H
     requires empty { batch.old ≡ [] }
     requires opened { (t : Trail)
         → R.told rack.old ≡ Some t → is_open (stored_block (now t) disk 0) ≡ true }
-    ensures reads { HasReadLog R.Rack disk 98 rack.old rack.new (is_ok result) }
+    ensures reads { HasReadLog R.Rack disk (batch_room + 2) rack.old rack.new (is_ok result) }
     ensures heard { IfOk result (λ heard. (t : Trail) → R.told rack.new ≡ Some t
         → IsHeard (now t) disk heard batch.new) }
     ensures form { IfOk result (λ heard. IsInForm (Some heard) batch.new) }
@@ -130,7 +130,7 @@ pub fn hear<R: Rack>(rack: &mut R, disk: DiskNo, batch: &mut Batch) -> Result<He
     requires exists { disk < R.slot_count rack.old }
     requires spinning { (R.slot rack.old disk).power ≡ Spinning }
     requires empty { batch.old ≡ [] }
-    ensures reads { HasReadLog R.Rack disk 99 rack.old rack.new (is_ok result) }
+    ensures reads { HasReadLog R.Rack disk (batch_room + 3) rack.old rack.new (is_ok result) }
     ensures heard { IfOk result (λ heard. (t : Trail) → R.told rack.new ≡ Some t
         → IsHeard (now t) disk heard batch.new) }
     ensures form { IfOk result (λ heard. IsInForm (Some heard) batch.new) }

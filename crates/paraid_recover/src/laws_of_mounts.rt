@@ -1,5 +1,5 @@
 //! That the parts of a mount give what a session asks of it.
-ghost use Rattle.std.specs.Prelude.{◌≡◌, ℕ, ◌+◌, ◌<◌, ◌≤◌, ◌⊎◌, ◌++◌, List, drop, length, take, true, false, Option, Some, None};
+ghost use Rattle.std.specs.Prelude.{◌≡◌, ℕ, ◌<◌, ◌≤◌, ◌++◌, List, drop, length, take, true, false, Option, Some, None};
 ghost use Rattle.paraid_base.specs.declared.state.Out.TheVariants.{Gone};
 ghost use Rattle.paraid_base.specs.History.{History};
 ghost use Rattle.paraid_base.specs.States.{gone_out};

@@ -5,7 +5,7 @@ ghost use Rattle.paraid_rack.specs.declared.call.Call.TheVariants.{Park};
 ghost use Rattle.paraid_rack.specs.declared.call.Power.TheVariants.{Spinning};
 ghost use Rattle.paraid_rack.specs.Disks.{Disks, IsImage, is_present, step};
 ghost use Rattle.paraid_recover.specs.HeardSides.{AmongOne};
-ghost use Rattle.paraid_txn.specs.Resume.{IsResumable};
+ghost use Rattle.paraid_txn.specs.Resume.{IsResumable, StandsWhileResumed, EndsResumed};
 ghost use Rattle.paraid_image.specs.Standing.{Stands};
 ghost use Rattle.paraid_record.specs.declared.meta.Meta.{Meta as MetaType};
 ghost use Rattle.paraid_image.specs.HeldAt.{IsHeld};
@@ -19,7 +19,6 @@ ghost use Rattle.paraid_recover.specs.Powers.{IsPowerCall};
 ghost use Rattle.paraid_rack.specs.Told.{CrashTriple, Extends, Ran};
 ghost use Rattle.paraid_txn.specs.Uses.{EachCall};
 ghost use Rattle.paraid_image.specs.Rest.{AreSynced, IsAtRest};
-ghost use Rattle.paraid_txn.specs.Resume.{StandsWhileResumed, EndsResumed};
 ghost use Rattle.paraid_image.specs.Sides.{LogState};
 
 /// What is held stays held while an interrupted commit is ended, in the reads and syncs after it,

@@ -1,5 +1,5 @@
 //! What of both sides refuses a mount, before the meta that stands is looked at.
-ghost use Rattle.std.specs.Prelude.{◌≡◌, ◌≢◌, ◌⊎◌, ◌↔◌, ◌<◌, ℕ, Some, None, IsTrue};
+ghost use Rattle.std.specs.Prelude.{◌≡◌, ◌≢◌, ◌↔◌, ◌<◌, ℕ, Some, None, IsTrue};
 ghost use Rattle.paraid_recover.specs.Faults.{IsFaulty, IsSilent, side_at};
 
 use crate::hearing::Heard;

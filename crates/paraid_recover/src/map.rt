@@ -1,6 +1,6 @@
 //! The dirty map is read into the table.
 ghost use Rattle.std.specs.Prelude.{◌≡◌, ◌≢◌, ℕ, ◌+◌, ◌*◌, ◌<◌, ◌≤◌, [], length, slice_index, Option, Some, None, OnOk, IfOk, IfErr, IsSome, is_ok};
-ghost use Rattle.paraid_base.specs.Log.{log_least};
+ghost use Rattle.paraid_base.specs.Log.{log_least, map_start};
 ghost use Rattle.paraid_base.specs.Regions.{map_count};
 ghost use Rattle.paraid_dirty.specs.Bits.{bit_of};
 ghost use Rattle.paraid_dirty.specs.Table.{is_dirty};
@@ -100,7 +100,8 @@ fn read_map_of<R: Rack>(
     requires exists { disk < R.slot_count (store_rack store.old) }
     requires below { disk < disks_of store.old }
     requires spinning { (R.slot (store_rack store.old) disk).power ≡ Spinning }
-    requires large { 99 + map_count geometry.now < (R.slot (store_rack store.old) disk).size }
+    requires large { map_start geometry.now + map_count geometry.now
+        ≤ (R.slot (store_rack store.old) disk).size }
     requires rows { length table.old ≡ geometry.now.rows }
     requires narrow { IsNarrow (is_dirty table.old) }
     ensures rows { length table.new ≡ length table.old }

@@ -1,5 +1,5 @@
 //! A disk that is absent is marked gone.
-ghost use Rattle.std.specs.Prelude.{◌≡◌, ℕ, ◌+◌, ◌-◌, ◌<◌, [], true, Some, OnOk};
+ghost use Rattle.std.specs.Prelude.{◌≡◌, ℕ, ◌+◌, ◌<◌, [], true, Some, OnOk};
 ghost use Rattle.paraid_rack.specs.declared.call.Power.TheVariants.{Absent};
 ghost use Rattle.paraid_recover.specs.HeldMoments.{KeepsHeld};
 ghost use Rattle.paraid_image.specs.Rest.{IsAtRest};

@@ -5,7 +5,7 @@ ghost use Rattle.paraid_base.specs.declared.fault.Two.{Two as TwoType};
 ghost use Rattle.paraid_base.specs.Log.{worn_at};
 ghost use Rattle.paraid_recover.specs.declared.mount_fault.MountFault.TheVariants.{Two as BothMissing};
 ghost use Rattle.paraid_txn.specs.Resume.{CanResume};
-ghost use Rattle.paraid_image.specs.Sides.{log_state};
+ghost use Rattle.paraid_image.specs.Sides.{log_state, LogState};
 ghost use Rattle.paraid_rack.specs.declared.call.Power.TheVariants.{Absent};
 ghost use Rattle.paraid_rack.specs.Disks.{is_present};
 ghost use Rattle.paraid_record.specs.declared.meta.Meta.{Meta as MetaType};
@@ -13,7 +13,6 @@ ghost use Rattle.paraid_record.specs.Range.{IsInRange};
 ghost use Rattle.paraid_rack.specs.Trail.{Trail};
 ghost use Rattle.paraid_image.specs.Lost.{EndsBySecond};
 ghost use Rattle.paraid_image.specs.Out.{named_out};
-ghost use Rattle.paraid_image.specs.Sides.{LogState};
 ghost use Rattle.paraid_recover.specs.Bearing.{EndsBorne, IsNamedLog};
 ghost use Rattle.paraid_txn.specs.Borne.{IsBorneNow};
 ghost use Rattle.paraid_recover.specs.EndOfMount.{IsMarkAtEnd, IsMarkAtMoment, KeepsDirty};
@@ -141,8 +140,8 @@ fn raise<R: Rack>(
         (R.told (store_rack store.new)) (EachCall (IsPowerCall (with_mark meta.now mark))))) }
     ensures ends { IfOk result (λ m. (standing : MetaType) × (lost : Option ℕ)
         × (m ≡ with_loss_of standing lost) × (standing.setup ≡ meta.now.setup) × ((d : ℕ)
-        → named_out meta.now.out ≡ Some d → named_out standing.out ≡ Some d) × (standing.version ≡ 2)
-        × ((mark : Option ℕ) × (standing ≡ with_mark meta.now mark) × IsMarkAtMoment meta.now mark
+        → named_out meta.now.out ≡ Some d → named_out standing.out ≡ Some d)
+        × (standing.version ≡ 2) × ((mark : Option ℕ) × (standing ≡ with_mark meta.now mark) × IsMarkAtMoment meta.now mark
         (R.told (store_rack store.old)) (R.told (store_rack store.new)))
         × ((slots x : ℕ) (said : LogState) (old : Option Trail)
         → said.meta ≡ meta.now → Recovers slots x said old (R.told (store_rack store.old))

@@ -1,10 +1,9 @@
 //! Whether what both log disks say fits together: it is the same, or one is a step ahead.
 ghost use Rattle.std.specs.Prelude.{◌≡◌, ◌≢◌, ℕ, Bool, true, false, Some};
 ghost use Rattle.paraid_image.specs.Out.{named_out};
-ghost use Rattle.paraid_image.specs.Sides.{Batch as BatchValue};
+ghost use Rattle.paraid_image.specs.Sides.{Batch as BatchValue, log_state};
 ghost use Rattle.paraid_image.specs.Sound.{IsAhead, Pairing};
 ghost use Rattle.paraid_record.specs.Range.{IsInRange, IsSetupInRange};
-ghost use Rattle.paraid_image.specs.Sides.{log_state};
 
 use crate::alike::{is_same_batch, is_same_meta};
 use crate::making::first_meta;

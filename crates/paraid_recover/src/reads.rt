@@ -1,5 +1,5 @@
 //! Reads of the log of a disk.
-ghost use Rattle.std.specs.Prelude.{◌≡◌, ℕ, ◌<◌, Some, OnOk, is_ok};
+ghost use Rattle.std.specs.Prelude.{◌≡◌, ◌<◌, Some, OnOk, is_ok};
 ghost use Rattle.paraid_base.specs.Log.{log_most};
 ghost use Rattle.paraid_rack.specs.declared.call.Power.TheVariants.{Spinning};
 ghost use Rattle.paraid_rack.specs.Trail.{Trail, now};

@@ -1,5 +1,5 @@
 //! Why a mount is refused by the meta that stands.
-ghost use Rattle.std.specs.Prelude.{◌≡◌, ◌<◌, ◌≤◌, ℕ, MatchOption};
+ghost use Rattle.std.specs.Prelude.{◌≡◌, MatchOption};
 ghost use Rattle.paraid_recover.specs.Order.{IsRefusedBy, IsNotRefused, size_found};
 
 use crate::asleep::first_asleep;

@@ -1,6 +1,6 @@
 //! Why a mount is refused by what the log disks said.
-ghost use Rattle.std.specs.Prelude.{◌≡◌, ◌<◌, ◌≤◌, ℕ, MatchOption};
-ghost use Rattle.paraid_recover.specs.Said.{AreSidesFormed, IsRefusedBySides, out_by, said_out as said_out_of, standing_out as standing_out_of};
+ghost use Rattle.std.specs.Prelude.{◌≡◌, MatchOption};
+ghost use Rattle.paraid_recover.specs.Said.{AreSidesFormed, IsRefusedBySides, said_out as said_out_of, standing_out as standing_out_of};
 
 use crate::mount_fault::MountFault;
 use crate::{Heard, Sides, choose, first_faulty, is_unformatted};

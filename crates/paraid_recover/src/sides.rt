@@ -20,7 +20,7 @@ pub fn hear_if_there<R: Rack>(
     requires exists { disk < R.slot_count rack.old }
     requires not_parked { (R.slot rack.old disk).power ≢ Parked }
     requires empty { batch.old ≡ [] }
-    ensures reads { HasReadLog R.Rack disk 99 rack.old rack.new (is_ok result) }
+    ensures reads { HasReadLog R.Rack disk (batch_room + 3) rack.old rack.new (is_ok result) }
     ensures heard { IfOk result (λ heard. (t : Trail) → R.told rack.new ≡ Some t
         → IsHeardAt (now t) disk heard batch.new) }
     ensures form { IfOk result (λ heard. IsInForm heard batch.new) }

@@ -1,5 +1,5 @@
 //! Disks that are too small for the array.
-ghost use Rattle.std.specs.Prelude.{◌≡◌, ◌<◌, ◌≤◌, ℕ, None, MatchOption};
+ghost use Rattle.std.specs.Prelude.{◌≡◌, ◌≤◌, None, MatchOption};
 ghost use Rattle.paraid_recover.specs.Refusals.{IsLeastDisk, IsNone, is_small as is_small_of};
 
 use paraid_base::DiskNo;

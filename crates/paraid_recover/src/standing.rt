@@ -1,13 +1,12 @@
 //! What stands, where the log disks agree.
 ghost use Rattle.std.specs.Prelude.{◌≡◌, ◌≢◌, ◌⊎◌, ◌<◌, Bool, true, false, Some, None, IfSome, IfOk, IfErr, MatchOption};
-ghost use Rattle.paraid_image.specs.Sides.{Batch as BatchValue};
+ghost use Rattle.paraid_image.specs.Sides.{Batch as BatchValue, log_state};
 ghost use Rattle.paraid_image.specs.Standing.{other_log};
 ghost use Rattle.paraid_recover.specs.Examined.{AreUnpaired, IsAgreed, IsRefusedByLogs, IsStanding, batch_at, logs_of, unpaired_fault as unpaired_fault_of};
 ghost use Rattle.paraid_recover.specs.Said.{AreSidesFormed};
 ghost use Rattle.paraid_record.specs.declared.meta.Meta.{Meta as MetaType};
 ghost use Rattle.paraid_recover.specs.declared.hearing.Heard.TheVariants.{Formed};
 ghost use Rattle.paraid_recover.specs.HeardSides.{IsInForm};
-ghost use Rattle.paraid_image.specs.Sides.{log_state};
 
 use crate::mount_fault::MountFault;
 use crate::pairing::fit_together;

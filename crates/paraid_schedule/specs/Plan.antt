@@ -3,7 +3,7 @@ use Rattle.std.specs.Prelude.{◌≡◌, ℕ, ◌+◌, ◌-◌, ◌^◌, ◌<◌
 use Rattle.paraid_record.specs.declared.meta.Setup.{Setup}
 use Rattle.paraid_schedule.specs.declared.plan.PlanFault.{PlanFault}
 use Rattle.paraid_schedule.specs.declared.plan.PlanFault.TheVariants.{NoMemory, Length, Demand}
-use Rattle.paraid_schedule.specs.Schedule.{IsDemand, IsSchedule}
+use Rattle.paraid_schedule.specs.Schedule.{IsDemand, IsSchedule, demand_most}
 use Rattle.paraid_schedule.specs.Cost.{schedule_cost}
 use Rattle.paraid_schedule.specs.Bounds.{bound, AreRight}
 
@@ -42,4 +42,4 @@ IsPlanFault demand (Length long) =
     (long ≡ min (length demand) (2 ^ 32 - 1)) × (1 ≤ length demand → length demand ≤ 1024 → ⊥)
 IsPlanFault demand (Demand at) =
     (length demand ≤ 1024) × (at < length demand)
-    × (1048576 < slice_index demand at) × ((t : ℕ) → t < at → slice_index demand t ≤ 1048576)
+    × (demand_most < slice_index demand at) × ((t : ℕ) → t < at → slice_index demand t ≤ demand_most)

@@ -5,11 +5,15 @@ use Rattle.paraid_base.specs.Sums.{sum_before}
 use Rattle.paraid_record.specs.declared.meta.Setup.{Setup}
 use Rattle.paraid_record.specs.Range.{AreNextGears}
 
--- the number of reads and writes of each period: 1 to 1,024 periods, each with at most 1,048,576
+-- a period has no more reads and writes
+abbrev pub demand_most : ℕ
+demand_most = 1048576
+
+-- the number of reads and writes of each period: 1 to 1,024 periods
 pub record IsDemand (demand : List ℕ) : Type 0 where
   pub some : 1 ≤ length demand
   pub few : length demand ≤ 1024
-  pub small : (t : ℕ) → t < length demand → slice_index demand t ≤ 1048576
+  pub small : (t : ℕ) → t < length demand → slice_index demand t ≤ demand_most
 
 -- gear `a` serves so much: it is the last gear, or the load stays below that of a shift up
 abbrev pub GearServes : Setup → ℕ → ℕ → Type 0

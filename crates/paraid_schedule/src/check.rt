@@ -1,11 +1,11 @@
 //! The check of a plan, which shares no code with the planner: it tests what the plan claims.
 
-ghost use Rattle.std.specs.Prelude.{◌≡◌, ◌↔◌, ℕ, ◌+◌, ◌-◌, ◌*◌, ◌^◌, ◌<◌, ◌≤◌, IsTrue, length, slice_index};
+ghost use Rattle.std.specs.Prelude.{◌≡◌, ◌↔◌, ℕ, ◌+◌, ◌^◌, ◌<◌, ◌≤◌, IsTrue, length, slice_index};
 ghost use Rattle.paraid_base.specs.Regions.{IsGear};
 ghost use Rattle.paraid_record.specs.Range.{AreNextGears};
 ghost use Rattle.paraid_schedule.specs.Schedule.{IsDemand, IsSchedule, IsGearStep, GearServes, rise, rises};
 ghost use Rattle.paraid_schedule.specs.Cost.{period_cost, step_cost, schedule_cost};
-ghost use Rattle.paraid_schedule.specs.Bounds.{no_bound, row_start as row_of, bound_count, gear_count as count_of_gears, rank as rank_of, bound, onward, HasRow, AreRight, IsRightAt};
+ghost use Rattle.paraid_schedule.specs.Bounds.{no_bound, row_start as row_of, bound_count, rank as rank_of, bound, onward, HasRow, AreRight, IsRightAt};
 ghost use Rattle.paraid_schedule.specs.Plan.{IsCertified, IsLeastCost};
 ghost use Rattle.paraid_energy.specs.Account.{HasFigures};
 

@@ -12,4 +12,4 @@ mod planner;
 
 pub use check::check_plan;
 pub use plan::{GearPlan, PlanFault};
-pub use planner::plan_gears;
+pub use planner::{MOST_REQUESTS, plan_gears};

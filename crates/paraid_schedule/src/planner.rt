@@ -1,18 +1,21 @@
 //! The planner: bounds period by period from the last one back, and then the steps that meet them.
 
-ghost use Rattle.std.specs.Prelude.{◌≡◌, ◌↔◌, ◌⊎◌, ℕ, ◌+◌, ◌-◌, ◌*◌, ◌^◌, ◌<◌, ◌≤◌, min, IsTrue, IfOk, IfErr, OnOk, MatchOption, length, slice_index};
+ghost use Rattle.std.specs.Prelude.{◌≡◌, ◌↔◌, ◌⊎◌, ℕ, ◌+◌, ◌^◌, ◌<◌, ◌≤◌, min, IsTrue, IfOk, IfErr, OnOk, MatchOption, length, slice_index};
 ghost use Rattle.paraid_base.specs.Regions.{IsGear};
 ghost use Rattle.paraid_record.specs.Range.{AreNextGears};
-ghost use Rattle.paraid_schedule.specs.Schedule.{IsDemand, IsSchedule, IsGearStep, GearServes, rise, rises};
+ghost use Rattle.paraid_schedule.specs.Schedule.{IsDemand, IsSchedule, IsGearStep, GearServes, rise};
 ghost use Rattle.paraid_schedule.specs.Cost.{period_cost as price_of_period, step_cost as price_of_step, schedule_cost, spin_ups};
-ghost use Rattle.paraid_schedule.specs.Bounds.{no_bound, row_start, bound_count, gear_count, rank, bound, onward, HasRow, AreRight, IsRightAt};
-ghost use Rattle.paraid_schedule.specs.Solved.{AreLoweredBy, IsMetBy, IsSolvedAt, AreSolvedFrom, DifferInRow, AreSameIn, IsWalk};
+ghost use Rattle.paraid_schedule.specs.Bounds.{no_bound, row_start, bound_count, rank, bound, HasRow, AreRight};
+ghost use Rattle.paraid_schedule.specs.Solved.{AreLoweredBy, IsMetBy, IsSolvedAt, AreSolvedFrom, DifferInRow, AreSameIn};
 ghost use Rattle.paraid_schedule.specs.Plan.{AreLowest, IsCertified, IsLeastCost, IsPlanFault};
 
 use crate::{GearPlan, PlanFault};
 use paraid_base::{Geometry, NoMemory};
 use paraid_record::Setup;
 use std::alloc::Global;
+
+/// The most reads and writes of a period.
+pub const MOST_REQUESTS: u32 = 1_048_576;
 
 /// The bound that stands for none.
 const NONE: u64 = 1 << 62;
@@ -56,7 +59,7 @@ fn test_demand(demand: &[u32]) -> Result<(), PlanFault>
         });
     }
     for at in 0..demand.len() {
-        if demand[at] > 1048576 {
+        if demand[at] > MOST_REQUESTS {
             return Err(PlanFault::Demand { at: at as u32 });
         }
     }

@@ -10,8 +10,7 @@ use Rattle.paraid_base.specs.declared.state.Phase.TheVariants.{Steady, Down, Up}
 use Rattle.paraid_base.specs.declared.state.Out.{Out}
 use Rattle.paraid_base.specs.Regions.{IsGear}
 use Rattle.paraid_base.specs.Soft.{stripe_count}
-use Rattle.paraid_base.specs.States.{rebuilt_count}
-use Rattle.paraid_base.specs.States.{phase_to}
+use Rattle.paraid_base.specs.States.{rebuilt_count, phase_to}
 use Rattle.paraid_record.specs.declared.meta.Meta.{Meta}
 use Rattle.paraid_record.specs.Range.{IsInRange, IsPhaseInRange, fill_limit}
 use Rattle.paraid_image.specs.Out.{named_out}

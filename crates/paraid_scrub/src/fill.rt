@@ -1,10 +1,8 @@
 //! Whether a stripe that a shift has filled is false.
-ghost use Rattle.std.specs.Prelude.{◌≡◌, ◌<◌, ◌≤◌, ◌↔◌, ◌⊎◌, ◌+◌, ◌-◌, ℕ, IfOk, IfErr, IsTrue, None};
+ghost use Rattle.std.specs.Prelude.{◌≡◌, ◌<◌, ◌↔◌, ◌⊎◌, ℕ, IfOk, IfErr, IsTrue};
 ghost use Rattle.paraid_base.specs.Regions.{IsGear};
 ghost use Rattle.paraid_base.specs.Soft.{stripe_count};
-ghost use Rattle.paraid_base.specs.States.{phase_to};
 ghost use Rattle.paraid_base.specs.Xor.{xor};
-ghost use Rattle.paraid_image.specs.Out.{named_out};
 ghost use Rattle.paraid_image.specs.Value.{stripe};
 ghost use Rattle.paraid_scrub.specs.Counts.{IsCopyRight, IsFillRight};
 ghost use Rattle.paraid_scrub.specs.Looks.{IsReadable, KeepsView};

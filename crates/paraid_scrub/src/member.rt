@@ -1,5 +1,5 @@
 //! Whether a row, a stripe or a block of the map is false.
-ghost use Rattle.std.specs.Prelude.{◌≡◌, ◌≢◌, ◌<◌, ◌↔◌, ◌+◌, ◌-◌, ℕ, IfOk, IfErr, OnOk, IsTrue, not};
+ghost use Rattle.std.specs.Prelude.{◌≡◌, ◌≢◌, ◌<◌, ◌↔◌, ◌-◌, ℕ, IfOk, IfErr, OnOk, IsTrue};
 ghost use Rattle.paraid_base.specs.Log.{map_block_place};
 ghost use Rattle.paraid_base.specs.Regions.{IsGear, map_count};
 ghost use Rattle.paraid_base.specs.Soft.{stripe_count};

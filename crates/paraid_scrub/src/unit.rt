@@ -1,7 +1,7 @@
 //! Whether a unit that a rebuild has brought back is false.
-ghost use Rattle.std.specs.Prelude.{◌≡◌, ◌≢◌, ◌<◌, ◌≤◌, ◌↔◌, ◌+◌, ◌-◌, ℕ, IfOk, IfErr, IsTrue, true, false, if◌then◌else◌, nat_lt};
+ghost use Rattle.std.specs.Prelude.{◌≡◌, ◌≢◌, ◌<◌, ◌≤◌, ◌↔◌, ℕ, IfOk, IfErr, IsTrue, true, false, if◌then◌else◌, nat_lt};
 ghost use Rattle.paraid_base.specs.declared.state.Out.TheVariants.{Fresh};
-ghost use Rattle.paraid_base.specs.Regions.{IsGear, hard_place_of, map_count};
+ghost use Rattle.paraid_base.specs.Regions.{IsGear, hard_place_of};
 ghost use Rattle.paraid_base.specs.Soft.{stripe_count};
 ghost use Rattle.paraid_base.specs.States.{rebuilt_count};
 ghost use Rattle.paraid_image.specs.Spot.{View};

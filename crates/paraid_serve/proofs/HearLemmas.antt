@@ -11,7 +11,7 @@ use Rattle.paraid_io.specs.declared.line.LineFault.TheVariants.{Source, TooLong}
 use Rattle.paraid_io.proofs.LineLemmas.{lines_of-cut, lines_of-last, whole_lines-cut, whole_lines-rest}
 use Rattle.paraid_trace.specs.LineEvents.{event_of}
 use Rattle.paraid_trace.proofs.LineLemmas.{event_of-long}
-use Rattle.paraid_base.specs.Told.{HasRisen}
+use Rattle.paraid_base.specs.Told.{HasRisen, stream_most}
 use Rattle.paraid_base.specs.declared.event.Event.{Event}
 use Rattle.paraid_base.specs.declared.event.Event.TheVariants.{Bad}
 use Rattle.paraid_serve.specs.Heard.{HearsLine, IsHeardEvent}
@@ -71,7 +71,7 @@ heard_fault {before} {after} {old} {new} {fault} s = heard_from s (Err fault) (w
 
 -- a line that is taken leaves less to take
 pub less_to_take : {before after : Option (List ℕ)} {old new : Reading} {event : Event} → HearsLine before after old new (Ok (Some event))
-    → (2 ^ 40 - new.taken) + length new.rest < (2 ^ 40 - old.taken) + length old.rest
+    → (stream_most - new.taken) + length new.rest < (stream_most - old.taken) + length old.rest
 less_to_take {before} {after} {old} {new} {event} h =
     let shorter = h.says.2.shorter in
     let size = length-append old.rest h.got in
@@ -88,6 +88,6 @@ module _ {A : Type 0} where
   risen_by Source new before now cause is = cause.0
   risen_by (TooLong n) new before now cause is = cc
 
-  pub taken_by : (fault : LineFault) (new : Reading) (before now n : ℕ) → HasCause (Err fault) new before now → ◌≡◌ {A = Result A LineFault} (Err fault) (Err (TooLong n)) → new.taken ≡ 2 ^ 40
+  pub taken_by : (fault : LineFault) (new : Reading) (before now n : ℕ) → HasCause (Err fault) new before now → ◌≡◌ {A = Result A LineFault} (Err fault) (Err (TooLong n)) → new.taken ≡ stream_most
   taken_by Source new before now n cause is = cc
   taken_by (TooLong m) new before now n cause is = cause.1

@@ -7,7 +7,7 @@ use Rattle.paraid_base.specs.declared.event.Answer.TheVariants.{Flushed, Halted}
 use Rattle.paraid_base.specs.declared.event.Event.{Event}
 use Rattle.paraid_base.specs.declared.event.Event.TheVariants.{Flush}
 use Rattle.paraid_base.specs.declared.fault.Halt.{Halt}
-use Rattle.paraid_base.specs.Told.{Gives, GrowsByBytes, AtEnd, told_bytes}
+use Rattle.paraid_base.specs.Told.{Gives, GrowsByBytes, AtEnd, told_bytes, stream_most}
 use Rattle.paraid_base.proofs.ToldLemmas.{Gives-none, Gives-then, GrowsByBytes-none, GrowsByBytes-then}
 use Rattle.paraid_io.specs.declared.line.LineFault.{LineFault}
 use Rattle.paraid_io.specs.Lines.{lines_of, whole_lines}
@@ -52,9 +52,9 @@ pub record Sofar (seen seen_now : Shown) (slots : ℕ) (setup : Setup) (first : 
   pub lines : (more : List ℕ) → (IsTrue reader.ended → more ≡ []) → lines_of (bytes ++ more) ≡ answered ++ lines_of (reader.rest ++ more)
   pub whole : reader.ended ≡ false → (more : List ℕ) → whole_lines (bytes ++ more) ≡ answered ++ whole_lines (reader.rest ++ more)
   pub at_end : IsTrue reader.ended → AtEnd left
-  pub in_time : IsTrue reader.ended → reader.taken < 2 ^ 40
+  pub in_time : IsTrue reader.ended → reader.taken < stream_most
   pub fault : reader.fault ≡ None
-  pub limit : reader.taken ≤ 2 ^ 40
+  pub limit : reader.taken ≤ stream_most
   pub count : reader.taken ≡ length bytes
   pub grows : GrowsByBytes written_before written text
   pub form : HasAnswers seen answered text seen_now
@@ -96,7 +96,7 @@ heard_end {before} {after} {old} {new} {r} h end now = elim (ended_or_not old.en
 ]
 
 -- fewer bytes were taken than may be
-pub heard_in_time : {before after : Option (List ℕ)} {old new : Reading} {r : Result (Option Event) LineFault} → HearsLine before after old new r → (IsTrue old.ended → old.taken < 2 ^ 40) → IsTrue new.ended → new.taken < 2 ^ 40
+pub heard_in_time : {before after : Option (List ℕ)} {old new : Reading} {r : Result (Option Event) LineFault} → HearsLine before after old new r → (IsTrue old.ended → old.taken < stream_most) → IsTrue new.ended → new.taken < stream_most
 heard_in_time {before} {after} {old} {new} {r} h end now = elim (ended_or_not old.ended) [
   | inl e ↦ omega (arith, h.taken, ap length (h.ended_before e), end e)
   | inr f ↦ (h.ended_now now f).1
@@ -207,7 +207,7 @@ module _ {seen seen_now : Shown} {slots : ℕ} {setup : Setup} {first : Point �
       )
 
   -- all of the source was taken
-  all_taken : (h : HearsLine left after old new (Ok None)) → (length (s.bytes ++ h.got) < 2 ^ 40) × AtEnd after
+  all_taken : (h : HearsLine left after old new (Ok None)) → (length (s.bytes ++ h.got) < stream_most) × AtEnd after
   all_taken h = (
     omega (arith, s.count, h.taken, length-append s.bytes h.got, heard_in_time h s.in_time h.says.2),
     heard_end h s.at_end h.says.2,
@@ -258,7 +258,7 @@ module _ {seen seen_now : Shown} {slots : ℕ} {setup : Setup} {first : Point �
     answered = faulted h;
   }
 
-  pub ends_too_long : {a b m n : ℕ} {fault : LineFault} (h : HearsLine left after old new (Err fault)) → new.taken ≡ 2 ^ 40 → ServesSession seen seen_now (span_of slots setup start now) first (streams_of (source_from left_before after a b) (sink_from written_before written m n)) (Err TooLong)
+  pub ends_too_long : {a b m n : ℕ} {fault : LineFault} (h : HearsLine left after old new (Err fault)) → new.taken ≡ stream_most → ServesSession seen seen_now (span_of slots setup start now) first (streams_of (source_from left_before after a b) (sink_from written_before written m n)) (Err TooLong)
   ends_too_long {a} {b} {m} {n} {fault} h full = record {
     bytes = s.bytes ++ h.got;
     text = s.text;

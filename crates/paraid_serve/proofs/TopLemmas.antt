@@ -3,7 +3,7 @@ use Rattle.std.proofs.Common.{◌≡◌, ◌≢◌, ℕ, ◌^◌, ◌<◌, ◌�
 use Rattle.std.proofs.lemmas.List.{take_all}
 use Rattle.paraid_base.specs.declared.fault.Halt.{Halt}
 use Rattle.paraid_base.specs.declared.fault.Halt.TheVariants.{Two as HaltTwo, Worn}
-use Rattle.paraid_base.specs.Told.{AtEnd, GrowsByBytes}
+use Rattle.paraid_base.specs.Told.{AtEnd, GrowsByBytes, stream_most}
 use Rattle.paraid_base.proofs.ToldLemmas.{Gives-none, GrowsByBytes-then}
 use Rattle.paraid_rack.specs.Trail.{Trail}
 use Rattle.paraid_record.specs.declared.meta.Setup.{Setup}
@@ -82,7 +82,7 @@ module _ (seen seen_now : Shown) (span : Span) (stood : Point → Type 0) (sourc
   finish : (result : Result ℕ Stop) (line : List ℕ) (code status : ℕ)
       → GrowsByBytes sink.written_before within.written_before (mount_line writes gear) → (s : ServesSession seen seen_now span stood (streams_of source_is within) result) → EndsWithLine within.written sink.written line code status
       → (IsSome span.now → (p : Point) → stood p → OutputText span p s.bytes code (begins_with p ++ s.text) line)
-      → (code ≡ 10 → length s.bytes ≡ 2 ^ 40) → (IsWholeStatus code → (length s.bytes < 2 ^ 40) × AtEnd source_is.left)
+      → (code ≡ 10 → length s.bytes ≡ stream_most) → (IsWholeStatus code → (length s.bytes < stream_most) × AtEnd source_is.left)
       → OutputForm seen seen_now s.bytes code (first_line seen ++ s.text) line
       → ProgramRun seen seen_now span stood (streams_of source_is sink) status
   finish result line code status head s end out full all form = record {

@@ -237,8 +237,8 @@ read_cleans x b =
 abbrev pub lacks_room : Shown → ℕ → Bool
 lacks_room x targets = nat_lt (batch_room - targets) x.staged
 
--- At most so many targets more are staged than before; or so many in all, where what was staged left
--- no room for them and was committed first.
+-- At most so many targets more are staged than before; or so many in all, where what was staged
+-- left no room for them and was committed first.
 abbrev pub StagesFew : Shown → Shown → ℕ → Type 0
 StagesFew old new targets =
     new.staged ≤ (if lacks_room old targets then 0 else old.staged) + targets

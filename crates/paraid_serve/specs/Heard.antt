@@ -1,6 +1,6 @@
 -- One call that takes the next line and says what it asks for.
 use Rattle.std.specs.Prelude.{◌≡◌, ℕ, ◌+◌, ◌^◌, ◌<◌, ◌≤◌, false, List, [], ◌++◌, length, IsTrue, Option, Some, None, Result, Ok, Err}
-use Rattle.paraid_base.specs.Told.{Gives, AtEnd}
+use Rattle.paraid_base.specs.Told.{Gives, AtEnd, stream_most}
 use Rattle.paraid_io.specs.declared.line.LineFault.{LineFault}
 use Rattle.paraid_io.specs.Lines.{whole_lines}
 use Rattle.paraid_io.specs.Reading.{IsNextLine, Reading}
@@ -29,9 +29,9 @@ pub record HearsLine (before after : Option (List ℕ))
   pub got : List ℕ
   pub given : Gives before after got
   pub taken : new.taken ≡ old.taken + length got
-  pub limit : new.taken ≤ 2 ^ 40
+  pub limit : new.taken ≤ stream_most
   pub held : length new.rest ≤ new.taken
   pub says : IsHeardEvent result (old.rest ++ got) new
   pub ended_before : IsTrue old.ended → got ≡ []
   pub stays_ended : IsTrue old.ended → IsTrue new.ended
-  pub ended_now : IsTrue new.ended → old.ended ≡ false → AtEnd after × (new.taken < 2 ^ 40)
+  pub ended_now : IsTrue new.ended → old.ended ≡ false → AtEnd after × (new.taken < stream_most)

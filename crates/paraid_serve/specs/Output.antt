@@ -4,7 +4,7 @@ use Rattle.paraid_base.specs.declared.event.Answer.TheVariants.{Flushed, Halted}
 use Rattle.paraid_base.specs.declared.event.Event.TheVariants.{Flush}
 use Rattle.paraid_base.specs.declared.fault.Halt.{Halt}
 use Rattle.paraid_base.specs.declared.fault.Halt.TheVariants.{Two as HaltTwo}
-use Rattle.paraid_base.specs.Told.{AtEnd, Gives, GrowsByBytes}
+use Rattle.paraid_base.specs.Told.{AtEnd, Gives, GrowsByBytes, stream_most}
 use Rattle.paraid_serve.specs.Ending.{end_line, halt_line, mount_line, status_of_halt}
 use Rattle.paraid_io.specs.Lines.{lines_of, whole_lines}
 use Rattle.paraid_rack.specs.Trail.{Trail, now}
@@ -54,7 +54,7 @@ pub data OutputText (span : Span) (p : Point) (bytes : List ℕ) : ℕ → List 
   -- a rest without a newline is not answered
   source : (c : Stretch span p (events_in (whole_lines bytes)))
       → OutputText span p bytes status_source (begins_with p ++ replies c.turns) (codes "source\n")
-  too_long : length bytes ≡ 2 ^ 40 → (c : Stretch span p (events_in (whole_lines bytes)))
+  too_long : length bytes ≡ stream_most → (c : Stretch span p (events_in (whole_lines bytes)))
       → OutputText span p bytes status_too_long
       (begins_with p ++ replies c.turns) (codes "toolong\n")
 
@@ -114,8 +114,8 @@ pub record ProgramRun (seen seen_now : Shown)
   pub text : List ℕ
   pub given : Gives streams.source.left_before streams.source.left bytes
   pub grows : GrowsByBytes streams.sink.written_before streams.sink.written text
-  pub full : status ≡ status_too_long → length bytes ≡ 2 ^ 40
-  pub all : IsWholeStatus status → (length bytes < 2 ^ 40) × AtEnd streams.source.left
+  pub full : status ≡ status_too_long → length bytes ≡ stream_most
+  pub all : IsWholeStatus status → (length bytes < stream_most) × AtEnd streams.source.left
   pub form : HasForm seen seen_now bytes status text
   pub wrote : IsSome span.now → (p : Point) → stood p → WritesOutput span p bytes status text
 
@@ -146,8 +146,8 @@ pub record Headline (seen seen_now : Shown)
   pub text : List ℕ
   pub given : Gives streams.source.left_before streams.source.left bytes
   pub grows : GrowsByBytes streams.sink.written_before streams.sink.written text
-  pub full : status ≡ status_too_long → length bytes ≡ 2 ^ 40
-  pub all : IsWholeStatus status → (length bytes < 2 ^ 40) × AtEnd streams.source.left
+  pub full : status ≡ status_too_long → length bytes ≡ stream_most
+  pub all : IsWholeStatus status → (length bytes < stream_most) × AtEnd streams.source.left
   pub form : HasForm seen seen_now bytes status text
   pub said : IsSome span.now → IsMountedFromEach span.slots span.setup began span.start
       (FollowsFromPoint span bytes status text)

@@ -3,7 +3,7 @@ use Rattle.std.specs.Prelude.{◌≡◌, ℕ, ◌^◌, ◌<◌, List, [], ◌∷
 use Rattle.paraid_base.specs.declared.event.Answer.{Answer}
 use Rattle.paraid_base.specs.declared.event.Answer.TheVariants.{Flushed, Halted}
 use Rattle.paraid_base.specs.declared.event.Event.TheVariants.{Flush}
-use Rattle.paraid_base.specs.Told.{AtEnd, Gives, GrowsByBytes}
+use Rattle.paraid_base.specs.Told.{AtEnd, Gives, GrowsByBytes, stream_most}
 use Rattle.paraid_io.specs.Lines.{lines_of, whole_lines}
 use Rattle.paraid_rack.specs.Slots.{Slot}
 use Rattle.paraid_serve.specs.declared.stop.Stop.{Stop}
@@ -59,9 +59,9 @@ HaveLinesForm old (Err Sink) bytes text new = BeginsAnswers old bytes text new
 
 -- how much was taken: all of the source, or all that may be taken
 abbrev pub IsAllTaken : Result ℕ Stop → List ℕ → Option (List ℕ) → Type 0
-IsAllTaken (Ok writes) bytes left = (length bytes < 2 ^ 40) × AtEnd left
-IsAllTaken (Err (Halts halt)) bytes left = (length bytes < 2 ^ 40) × AtEnd left
-IsAllTaken (Err TooLong) bytes left = length bytes ≡ 2 ^ 40
+IsAllTaken (Ok writes) bytes left = (length bytes < stream_most) × AtEnd left
+IsAllTaken (Err (Halts halt)) bytes left = (length bytes < stream_most) × AtEnd left
+IsAllTaken (Err TooLong) bytes left = length bytes ≡ stream_most
 IsAllTaken (Err Source) bytes left = Unit {0}
 IsAllTaken (Err Sink) bytes left = Unit {0}
 

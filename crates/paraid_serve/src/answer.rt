@@ -1,6 +1,6 @@
 //! The answer to one event of a session, and the flush at its end. After a halt no call is made.
 ghost use Rattle.std.specs.Prelude.{◌≡◌, ◌≢◌, ℕ, None, Some, IfErr, OnOk};
-ghost use Rattle.paraid_base.specs.BlockAnswers.{answer_to_flush, flush_halt_of};
+ghost use Rattle.paraid_base.specs.BlockAnswers.{answer_to_flush};
 ghost use Rattle.paraid_base.specs.declared.event.Event.TheVariants.{Flush as FlushEvent, Write as WriteEvent};
 ghost use Rattle.paraid_base.specs.declared.pairs.Pairs.{Pairs as PairsType};
 ghost use Rattle.paraid_rack.specs.Slots.{Slot};

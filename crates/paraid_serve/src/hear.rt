@@ -1,6 +1,6 @@
 //! The next line of a trace, as what it asks for.
-ghost use Rattle.std.specs.Prelude.{◌≡◌, ◌≢◌, ℕ, ◌≤◌, Option, None, OnOk, IsErrOf, ◌^◌};
-ghost use Rattle.paraid_base.specs.Told.{HasRisen};
+ghost use Rattle.std.specs.Prelude.{◌≡◌, ◌≢◌, ℕ, ◌≤◌, Option, None, OnOk, IsErrOf};
+ghost use Rattle.paraid_base.specs.Told.{HasRisen, stream_most};
 ghost use Rattle.paraid_serve.specs.Heard.{HearsLine, heard_event};
 
 use paraid_base::Pairs;
@@ -22,7 +22,7 @@ pub fn hear<S: Source>(
     ensures cause { IsErrOf result LineFault.Source
         → HasRisen (S.faults source.old) (S.faults source.new) }
     ensures too_long { (n : ℕ) → IsErrOf result (LineFault.TooLong n)
-        → reader.new.taken ≡ 2 ^ 40 }
+        → reader.new.taken ≡ stream_most }
 {
     match reader.next(source) {
         Ok(Line::Whole { .. }) => Ok(Some(read_line(reader.line(), pairs))),

@@ -27,13 +27,12 @@ use Rattle.paraid_volume.proofs.OneCallLemmas.{lived_flush}
 use Rattle.paraid_volume_lines.specs.Grammar.{VolLine, bad, flush, init, list}
 use Rattle.paraid_volume_lines.specs.Texts.{begun_text, fault_text}
 use Rattle.paraid_service.specs.declared.shelf.Shelf.TheVariants.{Bare, Held as HeldShelf}
-use Rattle.paraid_service.specs.LineSteps.{KeepsFlush, ServesHeld}
+use Rattle.paraid_service.specs.LineSteps.{KeepsFlush, ServesHeld, KeepsReply}
 use Rattle.paraid_service.specs.Shelves.{OnHeld, OnShelf, OpensShelf, ServesShelf, StepsShelf}
 use Rattle.paraid_service.specs.VolumeLines.{Held, IsEventOf, LineStep}
 use Rattle.paraid_service.specs.VolumeLines.LineStep.{begins, calls}
 use Rattle.paraid_service.specs.VolumeLines.IsCallOf.{flushes}
 use Rattle.paraid_base.specs.Xor.{zero_block}
-use Rattle.paraid_service.specs.LineSteps.{KeepsReply}
 use Rattle.paraid_volume.specs.TableCalls.{AreOfInit, AreRefusedReads, AreTableReads, KeepsThen, table_reads}
 use Rattle.paraid_service.specs.VolumeForms.{AreFirstReads, AreTabled, IsReplyToLine}
 use Rattle.paraid_service.specs.VolumeForms.AreFirstReads.{cut, gave, gave_none, too_small}

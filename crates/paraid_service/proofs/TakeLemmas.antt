@@ -4,7 +4,7 @@ use Rattle.std.proofs.lemmas.List.{append_assoc, append-nil}
 use Rattle.std.proofs.lemmas.Bool.{false≢true}
 use Rattle.paraid_base.specs.declared.block.Block.{Block}
 use Rattle.paraid_base.specs.declared.fault.Halt.{Halt}
-use Rattle.paraid_base.specs.Told.{Gives, GrowsByBytes, AtEnd}
+use Rattle.paraid_base.specs.Told.{Gives, GrowsByBytes, AtEnd, stream_most}
 use Rattle.paraid_base.proofs.ToldLemmas.{Gives-none, Gives-then, GrowsByBytes-none, GrowsByBytes-then}
 use Rattle.paraid_blocks.specs.declared.blocks.Blocks.{Ghosts}
 use Rattle.paraid_io.specs.declared.line.Line.{Line}
@@ -65,9 +65,9 @@ pub record Taken {B : Type 0} (g : Ghosts B) (start : B) (left_before left writt
   pub lines : (more : List ℕ) → (IsTrue reader.ended → more ≡ []) → lines_of (bytes ++ more) ≡ answered ++ lines_of (reader.rest ++ more)
   pub whole : reader.ended ≡ false → (more : List ℕ) → whole_lines (bytes ++ more) ≡ answered ++ whole_lines (reader.rest ++ more)
   pub at_end : IsTrue reader.ended → AtEnd left
-  pub in_time : IsTrue reader.ended → reader.taken < 2 ^ 40
+  pub in_time : IsTrue reader.ended → reader.taken < stream_most
   pub fault : reader.fault ≡ None
-  pub limit : reader.taken ≤ 2 ^ 40
+  pub limit : reader.taken ≤ stream_most
   pub count : reader.taken ≡ length bytes
   pub grows : GrowsByBytes written_before written (front ++ reply)
   pub runs : RunsLines g start answered front reply shelf halt
@@ -192,7 +192,7 @@ module _ {B : Type 0} {g : Ghosts B} {start : B} {left_before left after written
     runs = s.runs;
   }
 
-  pub ends_too_long : {fault : LineFault} → HearsLine left after old new (Err fault) → new.taken ≡ 2 ^ 40 → ServesVolumeLines g start left_before after written_before written shelf halt TooLong
+  pub ends_too_long : {fault : LineFault} → HearsLine left after old new (Err fault) → new.taken ≡ stream_most → ServesVolumeLines g start left_before after written_before written shelf halt TooLong
   ends_too_long h full = record {
     bytes = s.bytes ++ h.got;
     given = Gives-then left_before left after s.bytes h.got s.given h.given;

@@ -9,7 +9,7 @@ use Rattle.paraid_base.specs.declared.fault.Halt.{Halt}
 use Rattle.paraid_base.specs.declared.fault.Halt.TheVariants.{Two as HaltTwo, Worn}
 use Rattle.paraid_base.specs.BlockAnswers.{Answers}
 use Rattle.paraid_base.specs.History.{History}
-use Rattle.paraid_base.specs.Told.{AtEnd, GrowsByBytes, HasRisen}
+use Rattle.paraid_base.specs.Told.{AtEnd, GrowsByBytes, HasRisen, stream_most}
 use Rattle.paraid_base.proofs.ToldLemmas.{Gives-none, GrowsByBytes-then, HasRisen-later, HasRisen-sooner}
 use Rattle.paraid_blocks.specs.declared.blocks.Blocks.{Ghosts as BlocksGhosts}
 use Rattle.paraid_device.specs.declared.device.Device.{Device}
@@ -294,7 +294,7 @@ module _ {A : Type 0} (g : Ghosts A) where
         answers_mid is p at = point_answers (device_in shelf) p s.lines s.front s.reply halt at is (s.runs.halted going) (says_mid is p at)
 
         -- a last line behind the answers
-        ends_line : (final : Option Trail) (now : Shown) (made : Answers) (line : List ℕ) (code status : ℕ) (e : EndsWithLine written x.sink.written line code status) → (status ≡ 10 → length s.bytes ≡ 2 ^ 40) → (IsWholeStatus status → (length s.bytes < 2 ^ 40) × AtEnd x.source.left)
+        ends_line : (final : Option Trail) (now : Shown) (made : Answers) (line : List ℕ) (code status : ℕ) (e : EndsWithLine written x.sink.written line code status) → (status ≡ 10 → length s.bytes ≡ stream_most) → (IsWholeStatus status → (length s.bytes < stream_most) × AtEnd x.source.left)
             → VolumesForm (seen_of first) now s.bytes made code (opening ++ s.told) line → (IsSome final → (p : Point) → g.stands (array_of first) p → Text final p s.bytes code (begins_with p ++ s.told) line) → Run final now x status
         ends_line final now made line code status e full all form text = record {
           bytes = s.bytes;

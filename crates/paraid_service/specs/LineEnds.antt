@@ -3,7 +3,7 @@ use Rattle.std.specs.Prelude.{◌≡◌, ℕ, ◌^◌, ◌<◌, ◌++◌, List, 
 use Rattle.paraid_base.specs.declared.block.Block.{Block}
 use Rattle.paraid_base.specs.declared.event.Event.{Event}
 use Rattle.paraid_base.specs.declared.fault.Halt.{Halt}
-use Rattle.paraid_base.specs.Told.{AtEnd, Gives, GrowsByBytes}
+use Rattle.paraid_base.specs.Told.{AtEnd, Gives, GrowsByBytes, stream_most}
 use Rattle.paraid_blocks.specs.declared.blocks.Blocks.{Ghosts}
 use Rattle.paraid_io.specs.declared.line.LineFault.{LineFault}
 use Rattle.paraid_io.specs.Lines.{lines_of, whole_lines}
@@ -50,11 +50,11 @@ pub record CutsLines
 abbrev pub EndsLines : List ℕ
     → List (List ℕ) → List ℕ → List ℕ → List ℕ → Option (List ℕ) → LinesEnd → Type 0
 EndsLines bytes lines front reply written after Done =
-    (lines ≡ lines_of bytes) × (written ≡ front ++ reply) × (length bytes < 2 ^ 40) × AtEnd after
+    (lines ≡ lines_of bytes) × (written ≡ front ++ reply) × (length bytes < stream_most) × AtEnd after
 EndsLines bytes lines front reply written after Source =
     (lines ≡ whole_lines bytes) × (written ≡ front ++ reply)
 EndsLines bytes lines front reply written after TooLong =
-    (lines ≡ whole_lines bytes) × (written ≡ front ++ reply) × (length bytes ≡ 2 ^ 40)
+    (lines ≡ whole_lines bytes) × (written ≡ front ++ reply) × (length bytes ≡ stream_most)
 EndsLines bytes lines front reply written after Sink = CutsLines bytes lines front reply written
 
 -- Lines of the bytes that were taken were answered on a device.

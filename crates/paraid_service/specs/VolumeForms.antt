@@ -29,6 +29,7 @@ use Rattle.paraid_volume_lines.specs.Grammar.{AsksVolumes, VolLine, bad, create,
 use Rattle.paraid_volume_lines.specs.Lists.{Lists, name_text}
 use Rattle.paraid_volume_lines.specs.Texts.{begun_text, created_text, deleted_text, fault_text, read_text}
 use Rattle.paraid_service.specs.VolumeLines.{IsEventOf, halted_text, named_in}
+use Rattle.paraid_base.specs.Told.{stream_most}
 
 -- the table that the volumes have in memory, or none where there are no volumes
 abbrev pub Tabled : Type 0
@@ -177,7 +178,7 @@ pub data VolumesForm (old new : Shown) (bytes : List ℕ) : Answers
       → VolumesForm old new bytes made status_source
       (first_line old ++ (front ++ reply)) (codes "source\n")
   too_long : (front reply : List ℕ) (made : Answers) (table : Tabled)
-      → length bytes ≡ 2 ^ 40 → FormsLines old (whole_lines bytes) front reply made new table
+      → length bytes ≡ stream_most → FormsLines old (whole_lines bytes) front reply made new table
       → VolumesForm old new bytes made status_too_long
       (first_line old ++ (front ++ reply)) (codes "toolong\n")
 

@@ -1,6 +1,6 @@
 -- What a session of volumes promises.
 use Rattle.std.specs.Prelude.{◌≡◌, ℕ, ◌+◌, ◌<◌, ◌≤◌, ◌^◌, ◌⊎◌, List, [], ◌∷◌, ◌++◌, length, take, codes, Option, Some, None, IsSome}
-use Rattle.paraid_base.specs.Told.{AtEnd, Gives, GrowsByBytes}
+use Rattle.paraid_base.specs.Told.{AtEnd, Gives, GrowsByBytes, stream_most}
 use Rattle.paraid_base.specs.declared.event.Answer.{Answer}
 use Rattle.paraid_base.specs.declared.event.Answer.TheVariants.{Flushed, Halted}
 use Rattle.paraid_base.specs.declared.event.Event.TheVariants.{Flush}
@@ -169,7 +169,7 @@ pub data VolumesText (span : Span) (p : Point) (bytes : List ℕ) : ℕ → List
       → AnswersFromPoint span p (whole_lines bytes) front reply met
       → VolumesText span p bytes status_source
       (begins_with p ++ (front ++ reply)) (codes "source\n")
-  too_long : length bytes ≡ 2 ^ 40 → (met : Option Halt) (front reply : List ℕ)
+  too_long : length bytes ≡ stream_most → (met : Option Halt) (front reply : List ℕ)
       → AnswersFromPoint span p (whole_lines bytes) front reply met
       → VolumesText span p bytes status_too_long
       (begins_with p ++ (front ++ reply)) (codes "toolong\n")
@@ -202,8 +202,8 @@ pub record VolumesRun (seen seen_now : Shown)
   pub text : List ℕ
   pub given : Gives streams.source.left_before streams.source.left bytes
   pub grows : GrowsByBytes streams.sink.written_before streams.sink.written text
-  pub full : status ≡ status_too_long → length bytes ≡ 2 ^ 40
-  pub all : IsWholeStatus status → (length bytes < 2 ^ 40) × AtEnd streams.source.left
+  pub full : status ≡ status_too_long → length bytes ≡ stream_most
+  pub all : IsWholeStatus status → (length bytes < stream_most) × AtEnd streams.source.left
   pub events : Answers
   pub form : HasVolumesForm seen seen_now bytes events status text
   pub wrote : IsSome span.now → (p : Point) → stood p → WritesVolumes span p bytes status text
@@ -229,8 +229,8 @@ pub record VolumesHeadline (seen seen_now : Shown)
   pub text : List ℕ
   pub given : Gives streams.source.left_before streams.source.left bytes
   pub grows : GrowsByBytes streams.sink.written_before streams.sink.written text
-  pub full : status ≡ status_too_long → length bytes ≡ 2 ^ 40
-  pub all : IsWholeStatus status → (length bytes < 2 ^ 40) × AtEnd streams.source.left
+  pub full : status ≡ status_too_long → length bytes ≡ stream_most
+  pub all : IsWholeStatus status → (length bytes < stream_most) × AtEnd streams.source.left
   pub events : Answers
   pub causes : HaveAnswerCauses seen events seen_now
   pub kinds : AreBlockEvents events

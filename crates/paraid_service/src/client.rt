@@ -1,5 +1,5 @@
 //! One client of the network block service over a mounted array.
-ghost use Rattle.std.specs.Prelude.{◌≡◌, ℕ, ◌*◌, None, IsSome};
+ghost use Rattle.std.specs.Prelude.{◌≡◌, ℕ, None};
 ghost use Rattle.paraid_base.specs.BlockAnswers.{Answers};
 ghost use Rattle.paraid_base.specs.Told.{HasRisen};
 ghost use Rattle.paraid_device.specs.declared.device.Device.{Device as DeviceType};

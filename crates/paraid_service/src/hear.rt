@@ -1,6 +1,6 @@
 //! The next line of a session of volumes, as what it asks for.
-ghost use Rattle.std.specs.Prelude.{◌≡◌, ◌≢◌, ℕ, ◌≤◌, None, OnOk, IsErrOf, ◌^◌};
-ghost use Rattle.paraid_base.specs.Told.{HasRisen};
+ghost use Rattle.std.specs.Prelude.{◌≡◌, ◌≢◌, ℕ, ◌≤◌, None, OnOk, IsErrOf};
+ghost use Rattle.paraid_base.specs.Told.{HasRisen, stream_most};
 ghost use Rattle.paraid_service.specs.LineEnds.{HearsVolumes};
 
 use paraid_base::Block;
@@ -22,7 +22,7 @@ pub(crate) fn hear_volumes<S: Source>(
     ensures cause { IsErrOf result LineFault.Source
         → HasRisen (S.faults source.old) (S.faults source.new) }
     ensures too_long { (n : ℕ) → IsErrOf result (LineFault.TooLong n)
-        → reader.new.taken ≡ 2 ^ 40 }
+        → reader.new.taken ≡ stream_most }
 {
     match reader.next(source) {
         Ok(Line::Whole { .. }) => Ok(Some(parse_volume_line(reader.line(), bytes))),

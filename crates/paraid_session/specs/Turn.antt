@@ -166,7 +166,7 @@ abbrev pub awaited_by : Answer → Option ℕ → Option ℕ
 awaited_by (Failed d) awaited = Some d
 awaited_by answer awaited = awaited
 
--- the most commits that one event makes
+-- no event makes more commits than so many
 abbrev pub event_room : ℕ
 event_room = 2 ^ 20
 

@@ -1,5 +1,5 @@
 //! That the definitions fit together. Each law is the contract of a function that does nothing.
-ghost use Rattle.std.specs.Prelude.{◌≡◌, ◌≢◌, ℕ, ◌+◌, ◌<◌, ◌≤◌, ◌++◌, List, Option, Some};
+ghost use Rattle.std.specs.Prelude.{◌≢◌, ℕ, ◌+◌, ◌<◌, ◌≤◌, ◌++◌, List, Option, Some};
 ghost use Rattle.paraid_base.specs.declared.block.Block.{Block as BlockType};
 ghost use Rattle.paraid_base.specs.declared.event.Answer.{Answer as AnswerType};
 ghost use Rattle.paraid_base.specs.declared.event.Answer.TheVariants.{Halted};

@@ -8,7 +8,7 @@ use Rattle.paraid_base.specs.declared.event.Event.TheVariants.{Flush}
 use Rattle.paraid_rack.specs.declared.call.Call.{Call}
 use Rattle.paraid_base.specs.declared.fault.Halt.{Halt}
 use Rattle.paraid_base.specs.declared.fault.Halt.TheVariants.{Two as HaltTwo, Worn}
-use Rattle.paraid_base.specs.Told.{AtEnd, GrowsByBytes}
+use Rattle.paraid_base.specs.Told.{AtEnd, GrowsByBytes, stream_most}
 use Rattle.paraid_base.proofs.ToldLemmas.{Gives-none, GrowsByBytes-then}
 use Rattle.paraid_image.specs.Rest.{AreSynced}
 use Rattle.paraid_rack.specs.Trail.{Trail, now}
@@ -84,7 +84,7 @@ module _ (seen seen_now : Shown) (span : Span) (supply : Supply) (stood : Point 
   finish : (result : Result ℕ Stop) (line : List ℕ) (code status : ℕ)
       → GrowsByBytes sink.written_before within.written_before (mount_line writes gear) → (s : ServesSpared seen seen_now span supply.wait supply.stock stood (streams_of source_is within) pool result) → EndsWithLine within.written sink.written line code status
       → (IsSome span.now → (p : Point) → stood p → SparedText span supply p s.bytes code (begins_with p ++ s.text) line)
-      → (code ≡ 10 → length s.bytes ≡ 2 ^ 40) → (IsWholeStatus code → (length s.bytes < 2 ^ 40) × AtEnd source_is.left)
+      → (code ≡ 10 → length s.bytes ≡ stream_most) → (IsWholeStatus code → (length s.bytes < stream_most) × AtEnd source_is.left)
       → CausedText supply.wait seen supply.stock seen_now s.bytes code (mount_line writes gear ++ s.text) line
       → SparedRun seen seen_now span supply stood (streams_of source_is sink) status
   finish result line code status head s end out full all caused = record {

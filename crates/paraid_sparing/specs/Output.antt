@@ -3,7 +3,7 @@ use Rattle.std.specs.Prelude.{◌≡◌, ℕ, ◌<◌, ◌^◌, List, [], ◌++�
 use Rattle.paraid_base.specs.declared.event.Answer.TheVariants.{Flushed, Halted}
 use Rattle.paraid_base.specs.declared.event.Event.{Event}
 use Rattle.paraid_base.specs.declared.fault.Halt.{Halt}
-use Rattle.paraid_base.specs.Told.{AtEnd, Gives, GrowsByBytes}
+use Rattle.paraid_base.specs.Told.{AtEnd, Gives, GrowsByBytes, stream_most}
 use Rattle.paraid_io.specs.Lines.{lines_of, whole_lines}
 use Rattle.paraid_image.specs.Rest.{AreSynced}
 use Rattle.paraid_rack.specs.Trail.{Trail, now}
@@ -37,7 +37,7 @@ pub data SparedText (span : Span) (supply : Supply) (p : Point) (bytes : List �
   source : (text : List ℕ)
       → Spared span supply.wait p supply.stock (events_in (whole_lines bytes)) text
       → SparedText span supply p bytes status_source (begins_with p ++ text) (codes "source\n")
-  too_long : length bytes ≡ 2 ^ 40 → (text : List ℕ)
+  too_long : length bytes ≡ stream_most → (text : List ℕ)
       → Spared span supply.wait p supply.stock (events_in (whole_lines bytes)) text
       → SparedText span supply p bytes status_too_long (begins_with p ++ text) (codes "toolong\n")
 
@@ -67,8 +67,8 @@ pub record SparedRun (seen seen_now : Shown) (span : Span)
   pub text : List ℕ
   pub given : Gives streams.source.left_before streams.source.left bytes
   pub grows : GrowsByBytes streams.sink.written_before streams.sink.written text
-  pub full : status ≡ status_too_long → length bytes ≡ 2 ^ 40
-  pub all : IsWholeStatus status → (length bytes < 2 ^ 40) × AtEnd streams.source.left
+  pub full : status ≡ status_too_long → length bytes ≡ stream_most
+  pub all : IsWholeStatus status → (length bytes < stream_most) × AtEnd streams.source.left
   pub causes : HasSparedCauses supply.wait seen supply.stock seen_now bytes status text
   pub wrote : IsSome span.now → (p : Point) → stood p → WritesSpared span supply p bytes status text
 
@@ -88,8 +88,8 @@ pub record SparedHeadline (seen seen_now : Shown)
   pub text : List ℕ
   pub given : Gives streams.source.left_before streams.source.left bytes
   pub grows : GrowsByBytes streams.sink.written_before streams.sink.written text
-  pub full : status ≡ status_too_long → length bytes ≡ 2 ^ 40
-  pub all : IsWholeStatus status → (length bytes < 2 ^ 40) × AtEnd streams.source.left
+  pub full : status ≡ status_too_long → length bytes ≡ stream_most
+  pub all : IsWholeStatus status → (length bytes < stream_most) × AtEnd streams.source.left
   pub causes : HasSparedCauses supply.wait seen supply.stock seen_now bytes status text
   pub said : IsSome span.now → IsMountedFromEach span.slots span.setup began span.start
       (FollowsSpared span supply bytes status text)

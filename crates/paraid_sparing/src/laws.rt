@@ -1,5 +1,5 @@
 //! That the numbers of the slots are no less than the spin-ups.
-ghost use Rattle.std.specs.Prelude.{◌≡◌, ◌<◌, ◌≤◌, ℕ, List, min};
+ghost use Rattle.std.specs.Prelude.{◌<◌, ◌≤◌, ℕ, List, min};
 ghost use Rattle.paraid_base.specs.declared.event.Event.{Event as EventType};
 ghost use Rattle.paraid_record.specs.declared.meta.Setup.{Setup};
 ghost use Rattle.paraid_serve.specs.Stretch.{Turn, turn_calls};

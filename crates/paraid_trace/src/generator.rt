@@ -1,5 +1,5 @@
 //! The lines of the trace that a number stands for.
-ghost use Rattle.std.specs.Prelude.{◌≡◌, ◌<◌, ◌*◌, ◌+◌, ◌%◌, ◌^◌};
+ghost use Rattle.std.specs.Prelude.{◌≡◌, ◌<◌};
 ghost use Rattle.paraid_trace.specs.Generated.{event_of_kind as event_of, generated_event, mixed_number as mixed_of};
 
 use crate::hexes::repeated;

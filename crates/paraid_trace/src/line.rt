@@ -1,5 +1,5 @@
 //! A line is read as the event that it asks for.
-ghost use Rattle.std.specs.Prelude.{◌≡◌, ◌≢◌, ℕ, ◌<◌, ◌≤◌, ◌^◌, ◌==◌, length, get_or, IfSome};
+ghost use Rattle.std.specs.Prelude.{◌≡◌, ◌≢◌, ℕ, ◌<◌, ◌≤◌, ◌^◌, length, get_or, IfSome};
 ghost use Rattle.std.specs.Option.{SomeIff};
 ghost use Rattle.std.specs.Char.{digit_value};
 ghost use Rattle.std.specs.Str.Parse.{IsNumeral, digits_value};
@@ -9,7 +9,7 @@ ghost use Rattle.paraid_base.specs.declared.event.Event.TheVariants.{Bad};
 ghost use Rattle.paraid_base.specs.declared.pairs.Pairs.{Pairs as PairsType};
 ghost use Rattle.paraid_base.specs.Xor.{zero_block};
 ghost use Rattle.paraid_trace.specs.Grammar.{IsLineOf};
-ghost use Rattle.paraid_trace.specs.LineEvents.{entry_of, event_at, event_of, fail_of, group_of, is_space, named_event as event_of_name, number_of, read_of, replace_event as event_of_replace, replace_of, word_event as event_of_word, write_of};
+ghost use Rattle.paraid_trace.specs.LineEvents.{entry_of, event_of, fail_of, group_of, is_space, named_event as event_of_name, number_of, read_of, replace_event as event_of_replace, replace_of, word_event as event_of_word, write_of};
 ghost use Rattle.paraid_trace.specs.Asked.{event_with, group_in};
 
 use crate::Asked;

@@ -14,8 +14,7 @@ use Rattle.paraid_record.specs.declared.meta.Meta.{Meta}
 use Rattle.paraid_txn.specs.Commit.{IsEachImage, ImageStandsFor}
 use Rattle.paraid_image.specs.Out.{named_out}
 use Rattle.paraid_txn.specs.Resume.{IsResumable, StandsWhileResumed, LeadsResume, ImageStandsForResumed, HoldsThroughResume, AreDisksSame, EndsResumed, EndsLaid, ShutEnd, HoldsThroughShut}
-use Rattle.paraid_image.specs.Sides.{log_state}
-use Rattle.paraid_image.specs.Sides.{Batch, Says, is_open}
+use Rattle.paraid_image.specs.Sides.{log_state, Batch, Says, is_open}
 use Rattle.paraid_txn.specs.CommitStages.{CloseStage, IsLiveLog, IsSpelled, Job, job}
 use Rattle.paraid_image.specs.Standing.{other_log}
 use Rattle.paraid_txn.proofs.ClosedLemmas.{shut_each, shut_ends, shut_metas, shut_stands}

@@ -1,6 +1,6 @@
 -- The calls by which a witness is set.
 use Rattle.std.specs.Prelude.{◌≡◌, ◌≢◌, ℕ, ◌<◌, ◌⊎◌, ◌++◌, Bool, true, false, List, [], ◌∷◌, Option, Some, None}
-use Rattle.std.proofs.Common.{refl, sym, ◌∙◌, ap, subst, inl, inr, arith}
+use Rattle.std.proofs.Common.{refl, sym, ◌∙◌, ap, subst, inl, inr, arith, Result}
 use Rattle.std.proofs.lemmas.Bool.{cases_Bool, false≢true}
 use Rattle.std.proofs.lemmas.List.{append_cancel_left}
 use Rattle.paraid_base.specs.declared.block.Block.{Block}
@@ -36,7 +36,6 @@ use Rattle.paraid_txn.specs.Witness.SetsBefore.{bears, cannot_close, closes, non
 use Rattle.paraid_txn.specs.declared.bearing.Witness.{Witness}
 use Rattle.paraid_txn.specs.Witness.SetsWitness.{ended, refused}
 use Rattle.paraid_txn.proofs.CommitPartLemmas.{CommitPart_milder, ran_milder}
-use Rattle.std.proofs.Common.{Result}
 
 -- what is told of the same calls twice
 pub told_calls : {Q : Disks → List Call → Type 0} {old new : Option Trail} → Ran old new Q → {t : Trail} → new ≡ Some t

@@ -1,5 +1,5 @@
 //! Blocks that are written together, each with the place where it belongs.
-ghost use Rattle.std.specs.Prelude.{◌≡◌, ◌≢◌, ℕ, ◌+◌, ◌*◌, ◌<◌, ◌≤◌, ◌⊎◌, true, false, [], length, slice_index, get_or, vec_capacity, map, AllPairs, IfOk, IfErr, OnOk, MatchOption, is_ok, ◌||◌, nat_lt, ◌==◌};
+ghost use Rattle.std.specs.Prelude.{◌≡◌, ◌≢◌, ◌+◌, ◌*◌, ◌<◌, ◌≤◌, ◌⊎◌, true, false, [], length, get_or, vec_capacity, map, AllPairs, IfOk, IfErr, OnOk, MatchOption, ◌==◌};
 ghost use Rattle.std.specs.List.{list_any};
 ghost use Rattle.paraid_base.specs.declared.block.Block.{Block as BlockType};
 ghost use Rattle.paraid_base.specs.Log.{batch_room};

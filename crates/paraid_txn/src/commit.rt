@@ -12,9 +12,9 @@
 //! 1. On each log disk the batch is written to places 2 to 99 under the closed gate, and synced.
 //!    Until the next step a stop leaves the old contents.
 //! 2. On each log disk the gate is opened, and synced; first on one that comes in again, whose log
-//!    holds nothing valid until then. An open gate stands before the closed one of the commit before:
-//!    its epoch is greater by one. From here on a stop leaves the new contents, if the open gate is
-//!    kept: the batch is laid over the image.
+//!    holds nothing valid until then. An open gate stands before the closed one of the commit
+//!    before: its epoch is greater by one. From here on a stop leaves the new contents, if the open
+//!    gate is kept: the batch is laid over the image.
 //! 3. Each target is written in place, and each disk that was written is synced. Whatever a stop
 //!    leaves of a target, the batch is laid over it.
 //! 4. On each log disk the meta is written to place 1, and synced. It is not looked at yet.
@@ -27,7 +27,7 @@
 //!
 //! A log disk that the meta names out is left alone, and so are the targets on a disk that is gone.
 //! A disk that fails is left out of the rest.
-ghost use Rattle.std.specs.Prelude.{◌≡◌, ◌≢◌, ◌⊎◌, ℕ, ◌+◌, ◌<◌, ◌≤◌, true, false, length, Some, None, OnOk, IfOk, All, AllPairs, ◌-◌};
+ghost use Rattle.std.specs.Prelude.{◌≡◌, ◌≢◌, ◌⊎◌, ℕ, ◌+◌, ◌<◌, ◌≤◌, true, false, length, Some, None, OnOk, IfOk, All, AllPairs};
 ghost use Rattle.paraid_base.specs.declared.fault.Two.{Two as TwoType};
 ghost use Rattle.paraid_base.specs.Log.{batch_room, log_least};
 ghost use Rattle.paraid_record.specs.declared.targets.Target.{Target as TargetType};

@@ -1,6 +1,6 @@
 //! Whether a commit can be made: a test of its conditions, for who cannot know them.
-ghost use Rattle.std.specs.Prelude.{◌≡◌, ◌≢◌, ℕ, ◌<◌, ◌≤◌, ◌↔◌, true, false, Some, All, IsTrue};
-ghost use Rattle.paraid_record.specs.declared.targets.Target.{Target as TargetType};
+ghost use Rattle.std.specs.Prelude.{◌≢◌, ◌<◌, ◌≤◌, ◌↔◌, true, false, Some, All, IsTrue};
+ghost use Rattle.paraid_base.specs.Log.{log_last};
 ghost use Rattle.paraid_record.specs.Targets.{IsTargetInRange};
 ghost use Rattle.paraid_txn.specs.Losses.{CanWrite};
 ghost use Rattle.paraid_txn.specs.Ready.{AreTargetsReady, CanCommit, IsLogReady};
@@ -8,7 +8,7 @@ ghost use Rattle.paraid_image.specs.Sides.{targets};
 
 use crate::batch::Batch;
 use crate::store::Store;
-use paraid_base::{DiskNo, Geometry, Place};
+use paraid_base::{DiskNo, Geometry, LOG_LAST, Place};
 use paraid_rack::{Power, Rack};
 use paraid_record::{Meta, Target};
 
@@ -27,9 +27,9 @@ fn can_write<R: Rack>(rack: &R, disk: DiskNo, place: Place) -> bool
 // The same, for the log of a log disk that may be skipped.
 fn can_log<R: Rack>(rack: &R, skip: Option<DiskNo>, disk: DiskNo) -> bool
     requires { disk < R.slot_count rack.now }
-    ensures { IsTrue result ↔ (skip ≢ Some disk → CanWrite (R.slot rack.now) disk 99) }
+    ensures { IsTrue result ↔ (skip ≢ Some disk → CanWrite (R.slot rack.now) disk log_last) }
 {
-    skip == Some(disk) || can_write(rack, disk, 99)
+    skip == Some(disk) || can_write(rack, disk, LOG_LAST)
 }
 
 // Whether the log of each log disk that is not skipped can be written.

@@ -9,7 +9,7 @@
 //!   been laid. The meta is written to place 1 of the other one, and its gate is closed.
 //!
 //! A log disk that the meta names out is left alone.
-ghost use Rattle.std.specs.Prelude.{◌≡◌, ◌≢◌, ◌-◌, ◌<◌, ◌≤◌, true, false, length, Some, OnOk, IfErr, IfOk};
+ghost use Rattle.std.specs.Prelude.{◌≡◌, ◌≢◌, ◌<◌, ◌≤◌, true, false, length, Some, OnOk, IfErr, IfOk};
 ghost use Rattle.paraid_base.specs.Log.{batch_room};
 ghost use Rattle.paraid_record.specs.Targets.{AreTargets};
 ghost use Rattle.paraid_txn.specs.Commit.{gone_out};
@@ -19,8 +19,7 @@ ghost use Rattle.paraid_txn.specs.Uses.{Uses, UsesLog};
 ghost use Rattle.paraid_image.specs.Out.{named_out};
 ghost use Rattle.paraid_txn.specs.Ready.{AreTargetsReady, IsLogReady};
 ghost use Rattle.paraid_txn.specs.Resume.{CanResume, StandsWhileResumed, LeadsResume, HoldsThroughResume, AreDisksSame, EndsResumed, EndsLaid, ShutSynced, ShutEnd, HoldsThroughShut};
-ghost use Rattle.paraid_image.specs.Sides.{log_state};
-ghost use Rattle.paraid_image.specs.Sides.{is_open, targets};
+ghost use Rattle.paraid_image.specs.Sides.{log_state, is_open, targets};
 ghost use Rattle.paraid_txn.specs.CommitStages.{CloseStage, IsSpelled, Job, LayIn, job_gone, job_named};
 ghost use Rattle.paraid_image.specs.Standing.{other_log};
 

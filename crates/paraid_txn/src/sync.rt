@@ -2,7 +2,6 @@
 ghost use Rattle.std.specs.Prelude.{◌≡◌, ◌≢◌, ℕ, ◌<◌, ◌≤◌, Some, None, OnOk, IfErr};
 ghost use Rattle.paraid_rack.specs.declared.call.Power.TheVariants.{Spinning};
 ghost use Rattle.paraid_rack.specs.Told.{Ran};
-ghost use Rattle.paraid_image.specs.Lost.{TellsLosses};
 ghost use Rattle.paraid_txn.specs.CommitPart.{CommitPart};
 ghost use Rattle.paraid_txn.specs.Losses.{AreGoneSince, StaySynced, AreFailedOrWell, IsSyncedAt, IsOneOut, IsOutOfCommit, OnlyLosesSlots, AreTwoDownBeside, TellsSecondLoss};
 ghost use Rattle.paraid_txn.specs.Uses.{CanSync, EachCall, UsesSync};

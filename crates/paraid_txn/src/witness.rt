@@ -3,12 +3,11 @@
 //! disk `x` says. They stand on disk 2, which spins in every gear, and not on the log disk, which
 //! may be away as it is taken out.
 ghost use Rattle.std.specs.Prelude.{◌≡◌, ◌≢◌, ℕ, ◌<◌, ◌⊎◌, true, false, Some, None, Ok, IfOk, IfSome};
-ghost use Rattle.paraid_rack.specs.declared.call.Power.TheVariants.{Absent, Spinning};
+ghost use Rattle.paraid_rack.specs.declared.call.Power.TheVariants.{Spinning};
 ghost use Rattle.paraid_rack.specs.Told.{Ran};
 ghost use Rattle.paraid_txn.specs.Borne.{IsBorneNow};
 ghost use Rattle.paraid_txn.specs.Commit.{gone_out};
 ghost use Rattle.paraid_txn.specs.CommitPart.{SyncedPart};
-ghost use Rattle.paraid_txn.specs.Losses.{CanWrite};
 ghost use Rattle.paraid_txn.specs.Uses.{UsesWitness};
 ghost use Rattle.paraid_image.specs.Out.{or_else};
 ghost use Rattle.paraid_image.specs.Sides.{is_open};

@@ -1,5 +1,5 @@
 //! Shifts that are asked for.
-ghost use Rattle.std.specs.Prelude.{◌≡◌, ◌≢◌, ℕ, ◌+◌, ◌<◌, ◌≤◌, Ok, OnOk, IfErr, IfOk};
+ghost use Rattle.std.specs.Prelude.{◌≡◌, ◌≢◌, ℕ, ◌<◌, Ok, OnOk, IfErr, IfOk};
 ghost use Rattle.paraid_base.specs.declared.state.Out.TheVariants.{No};
 ghost use Rattle.paraid_base.specs.declared.state.Phase.TheVariants.{Steady};
 ghost use Rattle.paraid_base.specs.Log.{worn_at};

@@ -1,9 +1,9 @@
 //! The value of a cell, whichever one disk is out.
-ghost use Rattle.std.specs.Prelude.{◌++◌, ◌≡◌, ◌≢◌, ℕ, ◌+◌, ◌<◌, ◌≤◌, Option, Some, None, OnOk, IfOk, IfErr, IsSome, IsTrue, length, ◌↔◌, true, false};
+ghost use Rattle.std.specs.Prelude.{◌++◌, ◌≡◌, ◌≢◌, ℕ, ◌+◌, ◌<◌, ◌≤◌, Option, Some, None, OnOk, IfOk, IfErr, IsSome, IsTrue, length, ◌↔◌, true};
 ghost use Rattle.paraid_base.specs.Sums.{without, xor_upto};
 ghost use Rattle.paraid_rack.specs.Told.{Ran};
 ghost use Rattle.paraid_record.specs.Range.{IsInRange};
-ghost use Rattle.paraid_image.specs.Out.{first_absent, named_out, or_else, out_disk};
+ghost use Rattle.paraid_image.specs.Out.{first_absent, out_disk};
 ghost use Rattle.paraid_image.specs.Spot.{is_hard as hard_in};
 ghost use Rattle.paraid_image.specs.Sound.{AreRowsZero, AreStripesZero};
 ghost use Rattle.paraid_image.specs.Standing.{Contents};

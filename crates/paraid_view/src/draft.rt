@@ -1,6 +1,6 @@
 //! The blocks of a plan that is not yet taken: they are seen by its reads, and dropped where it is
 //! not completed.
-ghost use Rattle.std.specs.Prelude.{◌≡◌, ◌≢◌, ℕ, ◌+◌, ◌<◌, ◌≤◌, ◌∷◌, ◌++◌, [], length, get_or, IfOk, MatchOption};
+ghost use Rattle.std.specs.Prelude.{◌≡◌, ◌≢◌, ℕ, ◌<◌, ◌≤◌, ◌∷◌, ◌++◌, [], length, get_or, IfOk, MatchOption};
 ghost use Rattle.paraid_base.specs.declared.block.Block.{Block as BlockType};
 ghost use Rattle.paraid_base.specs.Xor.{zero_block};
 ghost use Rattle.paraid_image.specs.Sides.{targets};

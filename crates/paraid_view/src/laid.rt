@@ -1,7 +1,6 @@
 //! Reads of one place, and of one stripe, with all that is staged laid over.
-ghost use Rattle.std.specs.Prelude.{◌++◌, ◌≡◌, ◌≢◌, ℕ, ◌+◌, ◌<◌, ◌≤◌, Option, Some, None, MatchOption, OnOk, IfErr, IsSome};
+ghost use Rattle.std.specs.Prelude.{◌++◌, ◌≡◌, ◌≢◌, ℕ, ◌+◌, ◌<◌, ◌≤◌, Option, Some, MatchOption, OnOk, IfErr, IsSome};
 ghost use Rattle.paraid_base.specs.Log.{log_least};
-ghost use Rattle.paraid_base.specs.Regions.{disk_size, soft_place_of};
 ghost use Rattle.paraid_base.specs.Soft.{stripe_count};
 ghost use Rattle.paraid_base.specs.Sums.{without, xor_upto};
 ghost use Rattle.paraid_rack.specs.declared.call.Power.TheVariants.{Spinning};

@@ -1,6 +1,5 @@
 -- Several calls of a device, one after the other.
-use Rattle.std.proofs.Common.{ap}
-use Rattle.std.proofs.Common.{◌≡◌, ℕ, ◌++◌, ◌∷◌, [], Option, Some, None, refl, sym, ◌∙◌, arith, subst, append_assoc}
+use Rattle.std.proofs.Common.{ap, ◌≡◌, ℕ, ◌++◌, ◌∷◌, [], Option, Some, None, refl, sym, ◌∙◌, arith, subst, append_assoc}
 use Rattle.std.specs.Prelude.{Bool, IsTrue, IsSome, IsNone}
 use Rattle.std.proofs.lemmas.Bool.{false≢true}
 use Rattle.std.proofs.lemmas.List.{append-nil}

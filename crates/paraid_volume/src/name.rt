@@ -1,5 +1,5 @@
 //! Names of volumes.
-ghost use Rattle.std.specs.Prelude.{◌≡◌, ℕ, ◌<◌, ◌≤◌, length, slice_index, slice_index_or, IfSome, IfNone};
+ghost use Rattle.std.specs.Prelude.{◌≡◌, ℕ, ◌<◌, length, slice_index, slice_index_or, IfSome, IfNone};
 ghost use Rattle.paraid_volume.specs.Names.{IsName, IsField, is_letter as is_letter_byte};
 
 /// The name of a volume: 1 to 16 letters and digits, kept with zeros after them.

@@ -1,5 +1,5 @@
 //! How a device is cut into extents.
-ghost use Rattle.std.specs.Prelude.{◌≡◌, ◌≤◌, ◌<◌};
+ghost use Rattle.std.specs.Prelude.{◌≡◌, ◌≤◌};
 ghost use Rattle.paraid_volume.specs.Tables.{extent_size as size_of, extent_count as count_of};
 
 /// How many blocks an extent has.

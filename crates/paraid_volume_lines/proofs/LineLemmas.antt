@@ -3,7 +3,7 @@ use Rattle.std.proofs.Common.{◌≡◌, ◌≢◌, ℕ, ◌+◌, ◌<◌, ◌�
 use Rattle.std.specs.Prelude.{codes, if◌then◌else◌, slice_index, slice_index_or}
 use Rattle.paraid_volume.specs.declared.name.Name.{Name}
 use Rattle.paraid_volume_lines.specs.NameWords.{word_of}
-use Rattle.std.specs.List.{list_any, position, position_or_len}
+use Rattle.std.specs.List.{list_any, position, position_or_len, AllPass}
 use Rattle.std.specs.Str.{bytes_eq}
 use Rattle.std.proofs.lemmas.Bool.{cond-false, cond-true, le-ltb, ne_eqb, or_from}
 use Rattle.std.proofs.lemmas.Option.{same_Some}
@@ -22,7 +22,6 @@ use Rattle.paraid_volume_lines.specs.Grammar.{AsksVolumes, IsNamedLine, IsNumber
 use Rattle.paraid_volume_lines.specs.LineValues.{asked_of, bare_line, create_with, delete_of, deletes, is_name, line_at, line_of, named_at, named_line, pair_at, pair_with, read_with, write_with}
 use Rattle.paraid_volume_lines.proofs.NameWordLemmas.{IsName-is_name, is_name-IsName, no_name, word_is}
 use Rattle.std.proofs.lemmas.List.Elements.{All-head, All-tail, All-from_get_or}
-use Rattle.std.specs.List.{AllPass}
 
 -- ---- names have no space
 

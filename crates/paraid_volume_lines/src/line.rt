@@ -1,5 +1,5 @@
 //! The text of a line, and what it asks for.
-ghost use Rattle.std.specs.Prelude.{◌≡◌, ◌≢◌, ◌<◌, ℕ, length, codes};
+ghost use Rattle.std.specs.Prelude.{◌≡◌, ◌≢◌, ◌<◌, length};
 ghost use Rattle.std.specs.List.{position};
 ghost use Rattle.paraid_base.specs.declared.block.Block.{Block as BlockType};
 ghost use Rattle.paraid_trace.specs.LineEvents.{is_space};

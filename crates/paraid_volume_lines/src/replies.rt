@@ -1,5 +1,5 @@
 //! The line of each answer, with its newline.
-ghost use Rattle.std.specs.Prelude.{◌≡◌, ◌+◌, ◌≤◌, ℕ, ◌++◌, [], length, codes, decimal, Result, Ok, Err};
+ghost use Rattle.std.specs.Prelude.{◌≡◌, ◌+◌, ◌≤◌, ◌++◌, length, codes, decimal, Result, Ok, Err};
 ghost use Rattle.paraid_trace.specs.BlockTexts.{block_text};
 ghost use Rattle.paraid_volume_lines.specs.NameWords.{word_of};
 ghost use Rattle.paraid_volume_lines.specs.Texts.{begun_text, created_text, deleted_text, fault_text, flushed_text, read_text, written_text};

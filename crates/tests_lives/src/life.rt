@@ -3,7 +3,7 @@ ghost use Rattle.std.specs.Prelude.{◌≡◌, ◌∷◌, [], map, Some, IfSome,
 ghost use Rattle.std.specs.List.{list_all};
 ghost use Rattle.paraid_recover.specs.Between.{RanBetween};
 ghost use Rattle.paraid_record.specs.declared.meta.Setup.{Setup as SetupType};
-ghost use Rattle.paraid_memrack.specs.Rules.{no_disks, rack_slot_count, told_of};
+ghost use Rattle.paraid_memrack.specs.Rules.{rack_slot_count, told_of};
 ghost use Rattle.paraid_program.specs.Outcome.{BecomesEmpty};
 ghost use Rattle.tests_lives.specs.Life.{RunAnswers, IsLife, is_done_or_on};
 

@@ -1,6 +1,6 @@
 //! Lines of inputs of many lengths, and what sources and sinks do after a fault.
 
-ghost use Rattle.std.specs.Prelude.{◌<◌, None, length};
+ghost use Rattle.std.specs.Prelude.{None, length};
 
 use Want::{Cut, End, Fault, Long};
 use paraid_base::Failed;

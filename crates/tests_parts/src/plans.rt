@@ -1,5 +1,5 @@
 //! Gear plans for days of demand.
-ghost use Rattle.std.specs.Prelude.{◌≡◌, ◌≤◌, IfSome};
+ghost use Rattle.std.specs.Prelude.{◌≡◌, IfSome};
 
 use paraid_base::Geometry;
 use paraid_record::{Mode, Setup};

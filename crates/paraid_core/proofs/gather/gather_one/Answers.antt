@@ -1,11 +1,10 @@
 use Rattle.paraid_txn.specs.Stores.{disks_of}
 use Rattle.paraid_view.proofs.ReadLemmas.{read_none}
-use Rattle.std.proofs.Common.{◌∙◌, None, sym, rules, arith}
+use Rattle.std.proofs.Common.{◌∙◌, None, sym, rules, arith, refl}
 use Rattle.paraid_base.proofs.SumsLemmas.{others_read, others_skip}
 use Rattle.paraid_base.specs.Soft.{soft_parity_disk}
 use Rattle.paraid_moves.specs.MoveMetas.{copies}
 use Rattle.paraid_view.specs.Reads.{seen_by}
-use Rattle.std.proofs.Common.{refl}
 use Rattle.paraid_core.proofs.AfterLemmas.{handed}
 use Rattle.paraid_core.proofs.ErrLemmas.{none_done}
 use Rattle.paraid_core.proofs.gather.gather_one.Goals as goal

@@ -1,14 +1,12 @@
-use Rattle.std.proofs.Common.{◌∙◌, ◌≤◌, sym, ap, inl, arith}
+use Rattle.std.proofs.Common.{◌∙◌, ◌≤◌, sym, ap, inl, arith, ◌≡◌, ◌≢◌, Some, subst}
 use Rattle.std.proofs.lemmas.Bool.{false≢true}
 use Rattle.paraid_base.specs.Regions.{disk_size}
 use Rattle.paraid_plan.proofs.StoredLemmas.{stripe_gone, stripe_there}
 use Rattle.paraid_txn.specs.Stores.{store_rack}
-use Rattle.paraid_view.specs.Reads.{seen_by}
+use Rattle.paraid_view.specs.Reads.{seen_by, CanRead}
 use Rattle.paraid_view.proofs.ReadLemmas.{off_same}
 use Rattle.paraid_view.proofs.ValueLemmas.{ok_map}
-use Rattle.std.proofs.Common.{◌≡◌, ◌≢◌, Some, subst}
 use Rattle.std.proofs.lemmas.Result.{IfErr-weaker}
-use Rattle.paraid_view.specs.Reads.{CanRead}
 use Rattle.paraid_core.proofs.ReadyLemmas.{some_is}
 use Rattle.paraid_core.proofs.plan.read_stripe.Goals as goal
 

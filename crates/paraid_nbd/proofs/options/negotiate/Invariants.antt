@@ -2,6 +2,7 @@ use Rattle.std.proofs.Common.{◌≡◌, ℕ, List, ◌-◌, ◌^◌}
 use Rattle.paraid_nbd.specs.Options.{OptionParts}
 use Rattle.paraid_nbd.specs.Handshake.{IsGreeted}
 use Rattle.paraid_nbd.proofs.options.negotiate.Given as goal
+use Rattle.paraid_base.specs.Told.{stream_most}
 
 abbrev pub invariant-loop : goal.invariant-loop
 invariant-loop g l = record {
@@ -11,4 +12,4 @@ invariant-loop g l = record {
 }
 
 abbrev pub decreases-loop : goal.decreases-loop
-decreases-loop g l = 2 ^ 40 - l.input.taken
+decreases-loop g l = stream_most - l.input.taken

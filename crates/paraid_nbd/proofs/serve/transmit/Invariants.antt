@@ -3,6 +3,7 @@ use Rattle.paraid_nbd.specs.Requests.{RequestParts}
 use Rattle.paraid_nbd.specs.Export.{KeepsOn}
 use Rattle.paraid_nbd.specs.Service.{ServesAll}
 use Rattle.paraid_nbd.proofs.serve.transmit.Given as goal
+use Rattle.paraid_base.specs.Told.{stream_most}
 
 abbrev pub invariant-loop-end : goal.invariant-loop-end
 invariant-loop-end g l =
@@ -19,4 +20,4 @@ invariant-loop-end g l =
     }
 
 abbrev pub decreases-loop-end : goal.decreases-loop-end
-decreases-loop-end g l = 2 ^ 40 - l.input.taken
+decreases-loop-end g l = stream_most - l.input.taken

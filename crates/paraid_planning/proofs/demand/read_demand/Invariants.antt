@@ -1,6 +1,7 @@
 use Rattle.std.proofs.Common.{◌≡◌, ◌+◌, ◌-◌, ◌^◌, length}
 use Rattle.paraid_planning.proofs.GatheredLemmas.{Gathered}
 use Rattle.paraid_planning.proofs.demand.read_demand.Given as goal
+use Rattle.paraid_base.specs.Told.{stream_most}
 
 abbrev pub invariant-lines : goal.invariant-lines
 invariant-lines g l = record {
@@ -9,4 +10,4 @@ invariant-lines g l = record {
 }
 
 abbrev pub decreases-lines : goal.decreases-lines
-decreases-lines g l = (2 ^ 40 - l.reader.taken) + length l.reader.rest
+decreases-lines g l = (stream_most - l.reader.taken) + length l.reader.rest

@@ -1,6 +1,6 @@
-use Rattle.std.specs.Prelude.{ℕ, ◌+◌, Option, Some, None}
-use Rattle.std.proofs.Common.{◌≡◌, ◌∙◌, sym, ap, subst}
-use Rattle.paraid_base.specs.declared.state.Out.TheVariants.{No}
+use Rattle.std.specs.Prelude.{ℕ, ◌+◌, Option, Some, None, ◌<◌, ◌^◌}
+use Rattle.std.proofs.Common.{◌≡◌, ◌∙◌, sym, ap, subst, ℕ}
+use Rattle.paraid_base.specs.declared.state.Out.TheVariants.{No, Fresh}
 use Rattle.paraid_base.specs.States.{gone_out, rebuilt_count}
 use Rattle.paraid_base.specs.Told.{HasRisen}
 use Rattle.paraid_image.specs.Mark.{meta_after_loss}
@@ -13,10 +13,8 @@ use Rattle.paraid_core.specs.Cores.{CoreStandsFor, IsCoreHeldSinceCommit, core_d
 use Rattle.paraid_core.specs.Units.{UnitsRebuilt}
 use Rattle.paraid_core.proofs.AfterLemmas.{handed}
 use Rattle.paraid_shift.specs.Serving.{RestsInShift}
-use Rattle.paraid_shift.proofs.ServingLemmas.{chain, chain_held, lowered, unsynced_still}
+use Rattle.paraid_shift.proofs.ServingLemmas.{chain, chain_held, lowered, unsynced_still, copies_kept}
 use Rattle.paraid_rebuild.proofs.ReplacingLemmas.{all_there, alone_away, alone_failed, back_well, marked_alone, marked_back, serving_again, two_marked}
-use Rattle.std.specs.Prelude.{◌<◌}
-use Rattle.paraid_base.specs.declared.state.Out.TheVariants.{Fresh}
 use Rattle.paraid_moves.specs.MoveMetas.{meta_with_out}
 use Rattle.paraid_record.specs.declared.meta.Setup.{Setup}
 use Rattle.paraid_event.specs.RebuildEnds.{CommitsRejoined}
@@ -24,9 +22,6 @@ use Rattle.paraid_event.specs.Service.{service_of}
 use Rattle.paraid_rebuild.proofs.ReplacementEventLemmas.{commit_told, fresh_stays, marked_told, same_service, still_told}
 use Rattle.paraid_rebuild.proofs.LossLemmas.{LosesBack, join_lost, tells_by}
 use Rattle.paraid_rebuild.proofs.ResultLemmas.{back_is, gone_is}
-use Rattle.std.specs.Prelude.{◌<◌, ◌^◌}
-use Rattle.std.proofs.Common.{ℕ}
-use Rattle.paraid_shift.proofs.ServingLemmas.{copies_kept}
 use Rattle.paraid_rebuild.proofs.ending.come_back.Goals as goal
 use Rattle.paraid_shift.proofs.AnswerLemmas.{none_done, none_done_as}
 

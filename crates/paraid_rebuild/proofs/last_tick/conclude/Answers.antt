@@ -1,32 +1,27 @@
-use Rattle.std.specs.Prelude.{ℕ, ◌+◌}
+use Rattle.std.specs.Prelude.{ℕ, ◌+◌, false, ◌<◌, [], None, Some, List, ◌≤◌, ◌^◌, true, Ok}
 use Rattle.std.proofs.Common.{◌≡◌, ◌∙◌, sym, ap, subst, arith, inl, Ok}
 use Rattle.paraid_base.proofs.ToldLemmas.{HasRisen-sooner}
-use Rattle.paraid_base.specs.declared.state.Out.TheVariants.{No}
-use Rattle.paraid_base.specs.States.{rebuilt_count}
+use Rattle.paraid_base.specs.declared.state.Out.TheVariants.{No, Fresh}
+use Rattle.paraid_base.specs.States.{rebuilt_count, gone_out}
 use Rattle.paraid_image.specs.Mark.{meta_after_loss}
 use Rattle.paraid_image.specs.Out.{named_out}
 use Rattle.paraid_image.specs.Sides.{Batch}
 use Rattle.paraid_record.specs.declared.meta.Meta.{Meta}
 use Rattle.paraid_record.specs.Range.{rebuild_units}
-use Rattle.paraid_rack.specs.Disks.{Disks}
+use Rattle.paraid_rack.specs.Disks.{Disks, is_present}
 use Rattle.paraid_rack.proofs.TrailsLemmas.{weaker}
 use Rattle.paraid_txn.specs.Stores.{named_of, store_rack}
 use Rattle.paraid_view.proofs.TwoLemmas.{spared_then}
 use Rattle.paraid_core.specs.CoreInvariant.{HoldsBetweenCalls}
 use Rattle.paraid_core.specs.Cores.{CoreStandsFor, IsCoreHeldSinceCommit}
-use Rattle.paraid_core.specs.Units.{UnitsRebuilt}
+use Rattle.paraid_core.specs.Units.{UnitsRebuilt, IsRebuilding}
 use Rattle.paraid_core.proofs.AfterLemmas.{handed}
-use Rattle.paraid_core.proofs.StepLemmas.{held_runs_then, runs_then, two_then}
+use Rattle.paraid_core.proofs.StepLemmas.{held_runs_then, runs_then, two_then, marked_from_setup}
 use Rattle.paraid_core.proofs.UnitCopyLemmas.{units_begin}
 use Rattle.paraid_shift.specs.Serving.{RestsInShift}
-use Rattle.std.specs.Prelude.{false, ◌<◌, [], None, Some}
-use Rattle.paraid_base.specs.declared.state.Out.TheVariants.{Fresh}
-use Rattle.paraid_base.specs.States.{gone_out}
-use Rattle.paraid_rack.specs.Disks.{is_present}
 use Rattle.paraid_rack.specs.Trail.{now}
 use Rattle.paraid_record.specs.declared.meta.Setup.{Setup}
-use Rattle.paraid_core.proofs.StepLemmas.{marked_from_setup}
-use Rattle.paraid_event.specs.RebuildEnds.{RejoinsDisk}
+use Rattle.paraid_event.specs.RebuildEnds.{RejoinsDisk, FinishesRebuild}
 use Rattle.paraid_event.specs.RebuildEnds.FinishesRebuild.{committing, copying}
 use Rattle.paraid_event.specs.RebuildEnds.LosesFinishing.{as_committed, as_copied}
 use Rattle.paraid_event.specs.Service.{service_of}
@@ -36,14 +31,9 @@ use Rattle.paraid_rebuild.proofs.LossLemmas.{LosesEnding, copies_lost_steps}
 use Rattle.paraid_rebuild.proofs.ReplacementEventLemmas.{named_there}
 use Rattle.paraid_rebuild.proofs.StepEventLemmas.{copies_both, copies_step, fresh_low, gone_told, same_told}
 use Rattle.paraid_rebuild.proofs.ResultLemmas.{err_map, on_all, on_at, on_both, no_earlier, on_map, one_later}
-use Rattle.std.specs.Prelude.{List}
 use Rattle.paraid_base.specs.History.{History}
 use Rattle.paraid_rack.specs.Told.{CrashTriple, Ran}
-use Rattle.paraid_event.specs.RebuildEnds.{FinishesRebuild}
-use Rattle.std.specs.Prelude.{◌<◌, ◌≤◌, ◌^◌}
-use Rattle.paraid_core.specs.Units.{IsRebuilding}
 use Rattle.paraid_rebuild.proofs.last_tick.conclude.Goals as goal
-use Rattle.std.specs.Prelude.{true, false, Ok}
 use Rattle.paraid_shift.proofs.AnswerLemmas.{none_done, none_done_as}
 
 pub returns-in_err-copied : goal.returns-in_err-copied

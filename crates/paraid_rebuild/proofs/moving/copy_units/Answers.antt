@@ -1,4 +1,4 @@
-use Rattle.std.specs.Prelude.{ℕ, ◌+◌, Option, Some}
+use Rattle.std.specs.Prelude.{ℕ, ◌+◌, Option, Some, ◌<◌, ◌≤◌, true, false, Ok}
 use Rattle.std.proofs.Common.{◌≡◌, ◌∙◌, sym, ap, subst, refl, arith, Ok}
 use Rattle.paraid_base.proofs.ToldLemmas.{HasRisen-sooner}
 use Rattle.paraid_image.specs.Mark.{meta_after_loss}
@@ -20,12 +20,10 @@ use Rattle.paraid_core.proofs.OrderLemmas.{data_out}
 use Rattle.paraid_rebuild.proofs.MovedLemmas.{data_then}
 use Rattle.paraid_image.specs.Lost.{TellsLosses}
 use Rattle.paraid_rebuild.proofs.LossLemmas.{tells_later}
-use Rattle.std.specs.Prelude.{◌<◌, ◌≤◌}
 use Rattle.paraid_base.specs.States.{has_out, rebuilt_count}
 use Rattle.paraid_rack.specs.declared.call.Power.TheVariants.{Spinning}
 use Rattle.paraid_record.specs.Range.{rebuild_units}
 use Rattle.paraid_rebuild.proofs.moving.copy_units.Goals as goal
-use Rattle.std.specs.Prelude.{true, false, Ok}
 use Rattle.paraid_shift.proofs.AnswerLemmas.{none_done, none_done_as}
 
 pub loop-number-init : goal.loop-number-init

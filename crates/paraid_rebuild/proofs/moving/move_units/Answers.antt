@@ -1,5 +1,5 @@
-use Rattle.std.specs.Prelude.{ℕ, ◌<◌}
-use Rattle.std.proofs.Common.{◌≡◌, ◌∙◌, ap, subst, Ok}
+use Rattle.std.specs.Prelude.{ℕ, ◌<◌, true, false, Ok}
+use Rattle.std.proofs.Common.{◌≡◌, ◌∙◌, ap, subst, Ok, Some}
 use Rattle.paraid_base.proofs.ToldLemmas.{HasRisen-later, HasRisen-sooner}
 use Rattle.paraid_base.specs.declared.state.Out.TheVariants.{Fresh}
 use Rattle.paraid_base.specs.History.{History}
@@ -20,7 +20,7 @@ use Rattle.paraid_core.proofs.AfterLemmas.{handed}
 use Rattle.paraid_core.proofs.OrderLemmas.{data_out}
 use Rattle.paraid_core.proofs.StepLemmas.{held_runs_then, leaves_then, marked_from_setup, runs_end, runs_then, two_then}
 use Rattle.paraid_shift.specs.Serving.{IsCoreServing}
-use Rattle.paraid_shift.proofs.ServingLemmas.{serving_left}
+use Rattle.paraid_shift.proofs.ServingLemmas.{serving_left, marked_named}
 use Rattle.paraid_rebuild.proofs.ReplacingLemmas.{back_well, gone_failed, gone_stays, marked_back, marked_lost}
 use Rattle.paraid_txn.specs.Uses.{EachCall}
 use Rattle.paraid_core.specs.Calls.{IsDataCall}
@@ -28,12 +28,9 @@ use Rattle.paraid_rebuild.proofs.MovedLemmas.{data_settled, gone_away, stays_awa
 use Rattle.paraid_rebuild.proofs.moving.move_units.Given.{Over}
 use Rattle.paraid_rebuild.proofs.ResultLemmas.{back_is, gone_is}
 use Rattle.paraid_rebuild.proofs.moving.move_units.Goals as goal
-use Rattle.std.proofs.Common.{Some}
 use Rattle.paraid_image.specs.Lost.{TellsLosses}
-use Rattle.paraid_shift.proofs.ServingLemmas.{marked_named}
 use Rattle.paraid_rebuild.proofs.LossLemmas.{tells_later}
 use Rattle.paraid_rebuild.proofs.moving.move_units.Goals.{In_ok-settle}
-use Rattle.std.specs.Prelude.{true, false, Ok}
 use Rattle.paraid_shift.proofs.AnswerLemmas.{none_done, none_done_as}
 
 pub copy_units-requires : goal.copy_units-requires

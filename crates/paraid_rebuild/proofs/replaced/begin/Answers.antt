@@ -1,34 +1,27 @@
-use Rattle.std.specs.Prelude.{length}
-use Rattle.std.proofs.Common.{◌≡◌, ◌∙◌, ap, sym, ℕ, Option, Some}
+use Rattle.std.specs.Prelude.{length, List, ◌+◌, ◌<◌, ◌^◌}
+use Rattle.std.proofs.Common.{◌≡◌, ◌∙◌, ap, sym, ℕ, Option, Some, inl, inr, subst}
 use Rattle.paraid_base.specs.declared.state.Out.TheVariants.{Fresh, Gone}
 use Rattle.paraid_image.specs.Out.{named_out, or_else}
 use Rattle.paraid_record.specs.declared.meta.Meta.{Meta}
-use Rattle.paraid_txn.specs.Stores.{named_of}
+use Rattle.paraid_txn.specs.Stores.{named_of, store_rack}
 use Rattle.paraid_core.specs.Cores.{CoreStandsFor, IsCoreHeld, core_down}
 use Rattle.paraid_core.specs.Replaced.{CoreCommitted}
-use Rattle.paraid_core.proofs.AfterLemmas.{down_named}
+use Rattle.paraid_core.proofs.AfterLemmas.{down_named, handed}
 use Rattle.paraid_core.proofs.ChainLemmas.{ended, keeps_low}
-use Rattle.paraid_rebuild.proofs.ReplacingLemmas.{after, replaced_then, two_since}
-use Rattle.paraid_txn.specs.Stores.{store_rack}
+use Rattle.paraid_rebuild.proofs.ReplacingLemmas.{after, replaced_then, two_since, but_then}
 use Rattle.paraid_event.specs.Service.{service_of}
-use Rattle.paraid_core.proofs.AfterLemmas.{handed}
 use Rattle.paraid_event.specs.Replacements.LosesReplaced.{second}
 use Rattle.paraid_rebuild.proofs.LossLemmas.{LosesBegun}
 use Rattle.paraid_session.proofs.FaultLemmas.{counts_then, no_fall_counts}
 use Rattle.paraid_rebuild.proofs.ResultLemmas.{err_map, on_map}
-use Rattle.std.specs.Prelude.{List}
 use Rattle.paraid_base.specs.History.{History}
 use Rattle.paraid_rack.specs.Told.{CrashTriple, Ran}
 use Rattle.paraid_event.specs.Replacements.{ReplacesDisk}
-use Rattle.paraid_rebuild.specs.Replacing.{LeavesArrayBut}
+use Rattle.paraid_rebuild.specs.Replacing.{LeavesArrayBut, IsReplacedFrom}
 use Rattle.paraid_rebuild.proofs.replaced.begin.Goals as goal
-use Rattle.std.specs.Prelude.{◌+◌, ◌<◌, ◌^◌}
-use Rattle.std.proofs.Common.{inl, inr, subst}
 use Rattle.paraid_base.proofs.ToldLemmas.{HasRisen-sooner}
 use Rattle.paraid_base.specs.Regions.{disk_size}
 use Rattle.paraid_base.specs.declared.state.Out.{Out}
-use Rattle.paraid_rebuild.specs.Replacing.{IsReplacedFrom}
-use Rattle.paraid_rebuild.proofs.ReplacingLemmas.{but_then}
 use Rattle.paraid_shift.proofs.AnswerLemmas.{none_done, none_done_as}
 
 pub bring_fresh-requires : goal.bring_fresh-requires

@@ -1,4 +1,4 @@
-use Rattle.std.specs.Prelude.{length}
+use Rattle.std.specs.Prelude.{length, false, ◌<◌, true, Ok}
 use Rattle.std.proofs.Common.{◌≡◌, ◌∙◌, ◌+◌, ◌≤◌, ap, subst, sym, refl, arith, ℕ, Option, Some, inl, inr, true}
 use Rattle.std.proofs.lemmas.Bool.{cases_eq}
 use Rattle.paraid_base.specs.declared.state.Out.{Out}
@@ -16,9 +16,8 @@ use Rattle.paraid_core.specs.Replaced.{CoreCommitted}
 use Rattle.paraid_core.proofs.AfterLemmas.{handed}
 use Rattle.paraid_core.proofs.ChainLemmas.{ended}
 use Rattle.paraid_core.proofs.ReadsLemmas.{knows_named}
-use Rattle.paraid_shift.proofs.ServingLemmas.{chain, chain_held, marked_named}
+use Rattle.paraid_shift.proofs.ServingLemmas.{chain, chain_held, marked_named, copies_kept}
 use Rattle.paraid_rebuild.proofs.ReplacingLemmas.{back_well, beside, but_lost, gone_failed, gone_settled, lost_none, marked_back, marked_lost, serving_then, two_since}
-use Rattle.std.specs.Prelude.{false, ◌<◌}
 use Rattle.paraid_moves.specs.MoveMetas.{meta_with_out}
 use Rattle.paraid_rack.specs.Disks.{is_present}
 use Rattle.paraid_record.specs.declared.meta.Setup.{Setup}
@@ -26,14 +25,12 @@ use Rattle.paraid_event.specs.Parts.{ServesEvent}
 use Rattle.paraid_event.specs.Replacements.{AttachesInEvent, CommitsAll, with_fresh}
 use Rattle.paraid_event.specs.Replacements.BringsFresh.{came, failed}
 use Rattle.paraid_event.specs.Service.{Service, service_of}
-use Rattle.paraid_shift.proofs.ServingLemmas.{copies_kept}
 use Rattle.paraid_rebuild.proofs.ReplacementEventLemmas.{attach_told, commit_told, commits_all, fresh_stays, fresh_there, marked_told, same_service}
 use Rattle.paraid_rebuild.proofs.LossLemmas.{LosesBrought, commit_lost_fresh, tells_by}
 use Rattle.paraid_session.proofs.FaultLemmas.{counts_then, no_fall_counts}
 use Rattle.paraid_rebuild.proofs.CountLemmas.{attached_counts, failed_counts}
 use Rattle.paraid_rebuild.proofs.ResultLemmas.{back_is, gone_is}
 use Rattle.paraid_rebuild.proofs.replaced.bring_fresh.Goals as goal
-use Rattle.std.specs.Prelude.{true, false, Ok}
 use Rattle.paraid_shift.proofs.AnswerLemmas.{none_done, none_done_as}
 
 pub returns-then-not-attach : goal.returns-then-not-attach

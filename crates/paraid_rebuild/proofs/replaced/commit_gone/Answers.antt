@@ -1,5 +1,5 @@
-use Rattle.std.specs.Prelude.{length, slice_index, Some}
-use Rattle.std.proofs.Common.{◌≡◌, ◌∙◌, ◌<◌, ap, subst, sym, refl}
+use Rattle.std.specs.Prelude.{length, slice_index, Some, ◌<◌, ◌^◌, List, ◌+◌}
+use Rattle.std.proofs.Common.{◌≡◌, ◌∙◌, ◌<◌, ap, subst, sym, refl, ℕ}
 use Rattle.paraid_base.specs.declared.state.Out.{Out}
 use Rattle.paraid_base.specs.declared.state.Out.TheVariants.{Gone}
 use Rattle.paraid_image.specs.Out.{named_out}
@@ -11,7 +11,7 @@ use Rattle.paraid_core.specs.Replaced.{CoreCommitted}
 use Rattle.paraid_core.proofs.ChainLemmas.{ended}
 use Rattle.paraid_core.proofs.ReadsLemmas.{knows_named}
 use Rattle.paraid_shift.proofs.ServingLemmas.{chain, chain_held, copies_kept, marked_named, unsynced_still}
-use Rattle.paraid_rebuild.proofs.ReplacingLemmas.{away_marked, beside, serving_then}
+use Rattle.paraid_rebuild.proofs.ReplacingLemmas.{away_marked, beside, serving_then, gone_stays, two_marked}
 use Rattle.paraid_record.specs.declared.meta.Setup.{Setup}
 use Rattle.paraid_image.specs.Mark.{meta_after_loss}
 use Rattle.paraid_event.specs.Parts.{ServesEvent}
@@ -22,14 +22,8 @@ use Rattle.paraid_core.proofs.KindLemmas.{gone_named}
 use Rattle.paraid_core.proofs.AfterLemmas.{down_named, handed}
 use Rattle.paraid_event.specs.Replacements.LosesReplaced.{first}
 use Rattle.paraid_rebuild.proofs.LossLemmas.{LosesBegun, commit_lost, tells_by}
-use Rattle.std.specs.Prelude.{◌<◌, ◌^◌}
-use Rattle.std.proofs.Common.{ℕ}
-use Rattle.paraid_shift.proofs.ServingLemmas.{copies_kept}
 use Rattle.paraid_rebuild.proofs.replaced.commit_gone.Goals as goal
-use Rattle.std.specs.Prelude.{List, ◌+◌}
-use Rattle.std.proofs.Common.{ℕ}
 use Rattle.paraid_txn.specs.Losses.{OnlyLosesSlots}
-use Rattle.paraid_rebuild.proofs.ReplacingLemmas.{gone_stays, two_marked}
 use Rattle.paraid_shift.proofs.AnswerLemmas.{none_done}
 
 pub returns-in_err-commit : goal.returns-in_err-commit

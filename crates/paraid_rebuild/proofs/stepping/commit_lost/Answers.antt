@@ -1,5 +1,5 @@
-use Rattle.std.specs.Prelude.{◌+◌, Some}
-use Rattle.std.proofs.Common.{◌≡◌, ◌∙◌, sym, ap, subst}
+use Rattle.std.specs.Prelude.{◌+◌, Some, ◌<◌, ◌^◌}
+use Rattle.std.proofs.Common.{◌≡◌, ◌∙◌, sym, ap, subst, ℕ}
 use Rattle.paraid_base.specs.States.{gone_out}
 use Rattle.paraid_core.proofs.KindLemmas.{gone_named}
 use Rattle.paraid_image.specs.Out.{named_out, or_else}
@@ -9,9 +9,8 @@ use Rattle.paraid_txn.specs.Stores.{named_of, store_rack}
 use Rattle.paraid_core.specs.Cores.{CoreStandsFor, IsCoreHeldSinceCommit, core_down}
 use Rattle.paraid_core.proofs.AfterLemmas.{handed}
 use Rattle.paraid_shift.specs.Serving.{RestsInShift}
-use Rattle.paraid_shift.proofs.ServingLemmas.{chain, chain_held, lowered, marked_named, unsynced_still}
+use Rattle.paraid_shift.proofs.ServingLemmas.{chain, chain_held, lowered, marked_named, unsynced_still, copies_kept}
 use Rattle.paraid_rebuild.proofs.ReplacingLemmas.{away_marked, gone_settled, gone_stays, out_down, serving_then, two_marked}
-use Rattle.std.specs.Prelude.{◌<◌}
 use Rattle.paraid_base.specs.declared.state.Out.TheVariants.{Gone}
 use Rattle.paraid_rack.specs.Told.{Ran}
 use Rattle.paraid_record.specs.declared.meta.Setup.{Setup}
@@ -19,9 +18,6 @@ use Rattle.paraid_event.specs.Service.{Service, service_of}
 use Rattle.paraid_event.specs.Steps.{StepsInEvent}
 use Rattle.paraid_rebuild.proofs.ReplacementEventLemmas.{commit_steps, commit_told, gone_fresh, marked_told, same_service}
 use Rattle.paraid_rebuild.proofs.LossLemmas.{LosesSteps, commit_lost_steps, lost_same, tells_by}
-use Rattle.std.specs.Prelude.{◌<◌, ◌^◌}
-use Rattle.std.proofs.Common.{ℕ}
-use Rattle.paraid_shift.proofs.ServingLemmas.{copies_kept}
 use Rattle.paraid_rebuild.proofs.stepping.commit_lost.Goals as goal
 use Rattle.paraid_shift.proofs.AnswerLemmas.{none_done}
 

@@ -1,38 +1,30 @@
-use Rattle.std.specs.Prelude.{ℕ, false, Some}
-use Rattle.std.proofs.Common.{◌≡◌, ◌∙◌, sym, ap, subst, inl, arith}
-use Rattle.paraid_base.specs.States.{gone_out}
-use Rattle.paraid_image.specs.Out.{named_out}
+use Rattle.std.specs.Prelude.{ℕ, false, Some, ◌<◌, Option, true, Ok}
+use Rattle.std.proofs.Common.{◌≡◌, ◌∙◌, sym, ap, subst, inl, arith, refl}
+use Rattle.paraid_base.specs.States.{gone_out, rebuilt_count}
+use Rattle.paraid_image.specs.Out.{named_out, or_else}
 use Rattle.paraid_image.specs.Sides.{Batch}
 use Rattle.paraid_record.specs.declared.meta.Meta.{Meta}
 use Rattle.paraid_rack.proofs.TrailsLemmas.{weaker}
 use Rattle.paraid_txn.specs.Stores.{named_of, store_rack}
 use Rattle.paraid_core.specs.CellCopies.{KeepsCellCopies}
 use Rattle.paraid_core.specs.CoreInvariant.{HoldsBetweenCalls}
-use Rattle.paraid_core.specs.Cores.{CoreStandsFor, IsCoreHeldSinceCommit}
+use Rattle.paraid_core.specs.Cores.{CoreStandsFor, IsCoreHeldSinceCommit, core_down}
 use Rattle.paraid_core.specs.Steps.{IsNamedOrAbsent}
 use Rattle.paraid_core.proofs.MarkCellLemmas.{stripes_go_on}
 use Rattle.paraid_core.proofs.StepLemmas.{held_none, runs_none}
 use Rattle.paraid_shift.specs.Serving.{RestsInShift, StandsInShift}
 use Rattle.paraid_shift.proofs.ServingLemmas.{lowered, marked_named}
-use Rattle.paraid_rebuild.proofs.ReplacingLemmas.{back_well, gone_failed, marked_back, marked_lost, serving_then}
-use Rattle.std.specs.Prelude.{◌<◌}
+use Rattle.paraid_rebuild.proofs.ReplacingLemmas.{back_well, gone_failed, marked_back, marked_lost, serving_then, lost_none}
 use Rattle.paraid_rack.specs.Disks.{is_present}
-use Rattle.paraid_base.specs.States.{rebuilt_count}
 use Rattle.paraid_record.specs.declared.meta.Setup.{Setup}
 use Rattle.paraid_event.specs.Service.{service_of}
 use Rattle.paraid_rebuild.proofs.ReplacementEventLemmas.{commit_steps, commit_told, fresh_stays, marked_told, named_there, none_steps}
 use Rattle.paraid_rebuild.proofs.MovedLemmas.{gone_away}
-use Rattle.std.specs.Prelude.{Option}
-use Rattle.paraid_image.specs.Out.{or_else}
-use Rattle.std.proofs.Common.{refl}
-use Rattle.paraid_core.specs.Cores.{core_down}
 use Rattle.paraid_core.proofs.AfterLemmas.{handed}
 use Rattle.paraid_rebuild.proofs.LossLemmas.{LosesSteps, commit_lost_steps, tells_by}
 use Rattle.paraid_rebuild.proofs.ResultLemmas.{back_is, gone_is}
 use Rattle.paraid_rebuild.proofs.stepping.commit_staged.Goals as goal
 use Rattle.std.proofs.Math.Nat.{le-add_right, le_refl}
-use Rattle.paraid_rebuild.proofs.ReplacingLemmas.{lost_none}
-use Rattle.std.specs.Prelude.{true, false, Ok}
 use Rattle.paraid_shift.proofs.AnswerLemmas.{none_done, none_done_as}
 
 pub returns-then-is_clear : goal.returns-then-is_clear

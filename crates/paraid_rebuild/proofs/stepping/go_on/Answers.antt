@@ -1,4 +1,4 @@
-use Rattle.std.specs.Prelude.{ℕ, Option}
+use Rattle.std.specs.Prelude.{ℕ, Option, List, ◌<◌, ◌≤◌, ◌+◌, true, false, Ok}
 use Rattle.std.proofs.Math.Nat.{le_trans}
 use Rattle.std.proofs.Common.{◌≡◌, ◌∙◌, sym, ap, subst, arith, Ok}
 use Rattle.paraid_base.proofs.ToldLemmas.{HasRisen-sooner}
@@ -21,16 +21,13 @@ use Rattle.paraid_event.specs.Service.{service_of}
 use Rattle.paraid_rebuild.proofs.StepEventLemmas.{steps_then, steps_within}
 use Rattle.paraid_rebuild.proofs.LossLemmas.{LosesSteps, lost_then, lost_within}
 use Rattle.paraid_rebuild.proofs.ResultLemmas.{err_map, on_map, two_later}
-use Rattle.std.specs.Prelude.{List}
 use Rattle.paraid_base.specs.History.{History}
 use Rattle.paraid_rack.specs.Told.{CrashTriple, Ran}
 use Rattle.paraid_event.specs.Steps.{StepsInEvent}
-use Rattle.std.specs.Prelude.{◌<◌, ◌≤◌, ◌+◌}
 use Rattle.paraid_base.specs.States.{rebuilt_count}
 use Rattle.paraid_core.specs.Units.{IsRebuilding}
 use Rattle.paraid_record.specs.Range.{rebuild_units}
 use Rattle.paraid_rebuild.proofs.stepping.go_on.Goals as goal
-use Rattle.std.specs.Prelude.{true, false, Ok}
 use Rattle.paraid_shift.proofs.AnswerLemmas.{none_done, none_done_as}
 
 pub returns-in_err-there : goal.returns-in_err-there

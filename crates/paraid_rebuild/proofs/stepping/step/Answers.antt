@@ -1,4 +1,4 @@
-use Rattle.std.specs.Prelude.{ℕ, Option}
+use Rattle.std.specs.Prelude.{ℕ, Option, ◌<◌, ◌≤◌, ◌+◌, true, false, Ok}
 use Rattle.std.proofs.Common.{◌≡◌, ◌∙◌, sym, ap, arith, inl, Ok}
 use Rattle.paraid_base.proofs.ToldLemmas.{HasRisen-later}
 use Rattle.paraid_image.specs.Out.{named_out, or_else}
@@ -14,9 +14,7 @@ use Rattle.paraid_event.specs.Service.{service_of}
 use Rattle.paraid_rebuild.proofs.MovedLemmas.{stays_away}
 use Rattle.paraid_rebuild.proofs.StepEventLemmas.{steps_then, steps_within}
 use Rattle.paraid_rebuild.proofs.LossLemmas.{LosesSteps, lost_then, lost_within}
-use Rattle.std.specs.Prelude.{◌<◌, ◌≤◌, ◌+◌}
 use Rattle.paraid_rebuild.proofs.stepping.step.Goals as goal
-use Rattle.std.specs.Prelude.{true, false, Ok}
 use Rattle.paraid_shift.proofs.AnswerLemmas.{none_done, none_done_as}
 
 pub returns-in_err-moved : goal.returns-in_err-moved

@@ -1,7 +1,6 @@
-use Rattle.std.specs.Prelude.{◌≡◌, ◌<◌}
+use Rattle.std.specs.Prelude.{◌≡◌, ◌<◌, get_or}
 use Rattle.std.proofs.Common.{arith, ap, inl, inr, sym, ◌∙◌}
 use Rattle.std.proofs.lemmas.Bool.{cases_lt, false≢true}
-use Rattle.std.specs.Prelude.{get_or}
 use Rattle.paraid_record.proofs.TargetLemmas.{stands_before}
 use Rattle.paraid_record.proofs.targets.are_distinct.Goals as goal
 

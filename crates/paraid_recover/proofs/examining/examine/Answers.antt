@@ -20,6 +20,7 @@ use Rattle.paraid_recover.proofs.ServedLemmas.{can_resume}
 use Rattle.paraid_recover.proofs.examining.examine.Given.{Over}
 use Rattle.paraid_recover.proofs.examining.examine.Goals as goal
 use Rattle.paraid_recover.proofs.examining.examine.Goals.{After-judge}
+use Rattle.paraid_base.specs.Log.{batch_room}
 
 pub returns-in-Err : goal.returns-in-Err
 returns-in-Err g c = record {
@@ -90,7 +91,7 @@ returns-in-Some g c = record {
   powers = nothing_lost _;
   each = nothing_failed _;
   calls = Ran-none (EachCall ReadsLogs) (λ s. tt) (g.R.Rack.told c.args.rack.now);
-  few = most_none 198 _;
+  few = most_none (2 * (batch_room + 3)) _;
   quiet = one_of_two (both_read (unchanged_none (g.R.Rack.told c.args.rack.now)) (unchanged_none (g.R.Rack.told c.args.rack.now)));
   one = tt;
   refused = by_slots c.in-Some.ensures (λ d. refl);

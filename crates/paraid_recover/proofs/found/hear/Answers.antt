@@ -1,6 +1,4 @@
-use Rattle.std.specs.Prelude.{false}
-use Rattle.std.specs.Prelude.{true}
-use Rattle.std.specs.Prelude.{is_ok}
+use Rattle.std.specs.Prelude.{false, true, is_ok}
 use Rattle.std.proofs.Common.{arith, refl, sym, ◌∙◌, ap}
 use Rattle.paraid_rack.specs.Slots.{Slot}
 use Rattle.paraid_image.specs.Sides.{is_open}

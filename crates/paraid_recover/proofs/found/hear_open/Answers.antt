@@ -1,5 +1,4 @@
-use Rattle.std.specs.Prelude.{false}
-use Rattle.std.specs.Prelude.{true}
+use Rattle.std.specs.Prelude.{false, true}
 use Rattle.std.proofs.Common.{arith, refl, ◌∙◌, ap, ◌≡◌, Some}
 use Rattle.paraid_rack.specs.Disks.{Disks}
 use Rattle.paraid_rack.specs.Slots.{Slot}

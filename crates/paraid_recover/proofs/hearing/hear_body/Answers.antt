@@ -1,5 +1,4 @@
-use Rattle.std.specs.Prelude.{false}
-use Rattle.std.specs.Prelude.{true, is_ok}
+use Rattle.std.specs.Prelude.{false, true, is_ok}
 use Rattle.std.proofs.Common.{refl, sym, ◌∙◌, ap, subst, arith, ◌≡◌, ◌+◌, length}
 use Rattle.paraid_base.specs.Log.{batch_room, body_place}
 use Rattle.paraid_rack.specs.Disks.{Disks}

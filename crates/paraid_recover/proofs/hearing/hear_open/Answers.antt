@@ -1,13 +1,11 @@
 use Rattle.std.proofs.lemmas.Bool.{true≢false}
-use Rattle.std.specs.Prelude.{false}
-use Rattle.std.specs.Prelude.{true}
+use Rattle.std.specs.Prelude.{false, true, List}
 use Rattle.std.proofs.Common.{arith, refl, sym, ◌∙◌, ap, subst, ◌≡◌, Some}
 use Rattle.paraid_rack.specs.Disks.{Disks, IsPresent, is_present}
 use Rattle.paraid_rack.specs.Slots.{Slot}
 use Rattle.paraid_rack.specs.Trail.{Trail, now}
 use Rattle.paraid_record.specs.Targets.{AreTargets, targets_of}
 use Rattle.paraid_record.specs.declared.targets.Target.{Target}
-use Rattle.std.specs.Prelude.{List}
 use Rattle.paraid_base.specs.Log.{batch_room}
 use Rattle.paraid_recover.specs.HeardSides.{HasReadLog}
 use Rattle.paraid_image.specs.Sides.{is_open, stored_block}
@@ -22,8 +20,8 @@ use Rattle.paraid_recover.proofs.hearing.hear_open.Goals.{In_ok-read_place-2}
 both : (g : Over) (c : In_ok-read_place-2 g) → HasReadLog g.R.Rack c.args.disk 2 c.args.rack.now c.read_place-2.new.rack true
 both g c = log_then g.R.Rack c.args.disk 1 1 2 (omega arith) c.args.rack.now c.read_place.new.rack c.read_place-2.new.rack true c.in_ok-read_place.ensures.reads c.in_ok-read_place-2.ensures.reads
 
-fits : (g : Over) (c : In_ok-read_place-2 g) → HasReadLog g.R.Rack c.args.disk 98 c.args.rack.now c.read_place-2.new.rack true
-fits g c = log_fits g.R.Rack c.args.disk 2 98 (omega arith) c.args.rack.now c.read_place-2.new.rack true (both g c)
+fits : (g : Over) (c : In_ok-read_place-2 g) → HasReadLog g.R.Rack c.args.disk (batch_room + 2) c.args.rack.now c.read_place-2.new.rack true
+fits g c = log_fits g.R.Rack c.args.disk 2 (batch_room + 2) (omega arith) c.args.rack.now c.read_place-2.new.rack true (both g c)
 
 here : (g : Over) (c : In_ok-read_place-2 g) (t : Trail) → g.R.Rack.told c.read_place-2.new.rack ≡ Some t → IsPresent (now t) c.args.disk
 here g c t tells =
@@ -66,7 +64,7 @@ returns-in_err-read_place g c =
     let r = c.from_residual.result in
     let raised = c.from_residual.ensures.1 in
     record {
-      reads = log_raised g.R.Rack c.args.disk 98 c.args.rack.now c.read_place.new.rack r _ raised (log_fits g.R.Rack c.args.disk 1 98 (omega arith) c.args.rack.now c.read_place.new.rack false c.in_err-read_place.ensures.reads);
+      reads = log_raised g.R.Rack c.args.disk (batch_room + 2) c.args.rack.now c.read_place.new.rack r _ raised (log_fits g.R.Rack c.args.disk 1 (batch_room + 2) (omega arith) c.args.rack.now c.read_place.new.rack false c.in_err-read_place.ensures.reads);
       heard = none_done_if _ r _ raised;
       form = none_done_if _ r _ raised;
     }
@@ -76,8 +74,8 @@ returns-in_err-read_place-2 g c =
     let r = c.from_residual-in_err-read_place-2.result in
     let raised = c.from_residual-in_err-read_place-2.ensures.1 in
     record {
-      reads = log_raised g.R.Rack c.args.disk 98 c.args.rack.now c.read_place-2.new.rack r _ raised
-          (log_then g.R.Rack c.args.disk 1 1 98 (omega arith) c.args.rack.now c.read_place.new.rack c.read_place-2.new.rack false c.in_ok-read_place.ensures.reads c.in_err-read_place-2.ensures.reads);
+      reads = log_raised g.R.Rack c.args.disk (batch_room + 2) c.args.rack.now c.read_place-2.new.rack r _ raised
+          (log_then g.R.Rack c.args.disk 1 1 (batch_room + 2) (omega arith) c.args.rack.now c.read_place.new.rack c.read_place-2.new.rack false c.in_ok-read_place.ensures.reads c.in_err-read_place-2.ensures.reads);
       heard = none_done_if _ r _ raised;
       form = none_done_if _ r _ raised;
     }
@@ -108,8 +106,8 @@ returns-in_err-hear_body g c =
     let r = c.from_residual-in_err-hear_body.result in
     let raised = c.from_residual-in_err-hear_body.ensures.1 in
     record {
-      reads = log_raised g.R.Rack c.args.disk 98 c.args.rack.now c.hear_body.new.rack r _ raised
-          (log_then g.R.Rack c.args.disk 2 batch_room 98 (omega arith) c.args.rack.now c.read_place-2.new.rack c.hear_body.new.rack false (both g at) c.in_err-hear_body.ensures.reads);
+      reads = log_raised g.R.Rack c.args.disk (batch_room + 2) c.args.rack.now c.hear_body.new.rack r _ raised
+          (log_then g.R.Rack c.args.disk 2 batch_room (batch_room + 2) (omega arith) c.args.rack.now c.read_place-2.new.rack c.hear_body.new.rack false (both g at) c.in_err-hear_body.ensures.reads);
       heard = none_done_if _ r _ raised;
       form = none_done_if _ r _ raised;
     }
@@ -118,7 +116,7 @@ pub returns : goal.returns
 returns g c =
     let at = (goal.at.returns g c).In_ok-read_place-2 in
     record {
-      reads = log_then g.R.Rack c.args.disk 2 batch_room 98 (omega arith) c.args.rack.now c.read_place-2.new.rack c.hear_body.new.rack true (both g at) c.in_ok-hear_body.ensures.reads;
+      reads = log_then g.R.Rack c.args.disk 2 batch_room (batch_room + 2) (omega arith) c.args.rack.now c.read_place-2.new.rack c.hear_body.new.rack true (both g at) c.in_ok-hear_body.ensures.reads;
       heard = λ t tells.
           let u = unchanged_now (c.in_ok-hear_body.ensures.reads.unchanged (refl {a = true})) t tells in
           let present = ap (λ (s : Disks). is_present (s.power c.args.disk)) u.2 ∙ here g at u.0 u.1 in

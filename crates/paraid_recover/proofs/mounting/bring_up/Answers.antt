@@ -12,8 +12,7 @@ use Rattle.paraid_image.specs.Lost.{EndsBySecond}
 use Rattle.paraid_image.specs.Out.{IsMissing, first_absent, named_out, or_else, out_disk}
 use Rattle.paraid_txn.proofs.MeansLemmas.{absent_power}
 use Rattle.paraid_recover.proofs.ShownLemmas.{shown}
-use Rattle.paraid_image.specs.Sides.{LogState}
-use Rattle.paraid_image.specs.Sides.{log_state}
+use Rattle.paraid_image.specs.Sides.{LogState, log_state}
 use Rattle.paraid_dirty.specs.Table.{is_dirty}
 use Rattle.paraid_txn.specs.Losses.{AreGoneSince, AreTwoDownBeside, IsOutOfCommit, TellsSecondLoss}
 use Rattle.paraid_txn.specs.Stores.{store_out, store_rack}

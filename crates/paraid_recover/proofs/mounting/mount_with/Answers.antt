@@ -3,7 +3,7 @@ use Rattle.std.proofs.Common.{ap, arith, refl, subst, sym, ◌∙◌}
 use Rattle.paraid_rack.specs.declared.call.Power.TheVariants.{Absent, Spinning}
 use Rattle.paraid_rack.specs.Slots.{Slot}
 use Rattle.paraid_rack.specs.Trail.{Trail, now}
-use Rattle.paraid_image.specs.Sides.{is_open, stored_block}
+use Rattle.paraid_image.specs.Sides.{is_open, stored_block, log_state}
 use Rattle.paraid_image.specs.Standing.{other_log}
 use Rattle.paraid_txn.specs.Losses.{OnlyLosesSlots}
 use Rattle.paraid_recover.specs.Mounted.{IsFit}
@@ -11,7 +11,6 @@ use Rattle.paraid_recover.proofs.FailedLemmas.{calls_then, logs_calls}
 use Rattle.paraid_recover.proofs.WitnessLemmas.{examined_later, read_only_then, slots_later, stands_later, witness_later, witness_refuses, witness_slots}
 use Rattle.paraid_recover.specs.Order.{IsNotRefused}
 use Rattle.paraid_txn.specs.Resume.{CanResume}
-use Rattle.paraid_image.specs.Sides.{log_state}
 use Rattle.paraid_txn.specs.Stores.{store_rack}
 use Rattle.paraid_dirty.specs.Table.{is_dirty}
 use Rattle.paraid_recover.specs.Mount.{HasSettled}

@@ -17,13 +17,12 @@ use Rattle.paraid_txn.specs.Uses.{EachCall, UsesInCommit}
 use Rattle.paraid_txn.proofs.CommitPartLemmas.{EachCall-milder, ran_milder}
 use Rattle.paraid_txn.proofs.SyncLemmas.{raised}
 use Rattle.paraid_recover.specs.Quiet.{IsInLog}
-use Rattle.paraid_recover.specs.RecoveryMark.{to_mark}
+use Rattle.paraid_recover.specs.RecoveryMark.{to_mark, of_version_two, with_mark}
 use Rattle.paraid_recover.proofs.RaisedLemmas.{none_done_if}
 use Rattle.paraid_recover.proofs.OneMarkedLemmas.{in_log}
 use Rattle.paraid_recover.proofs.OpenLemmas.{none_marked, open_never}
 use Rattle.paraid_recover.specs.HeldMoments.{EndsHeld, KeepsHeld, Recovers, RecoversHeld}
 use Rattle.paraid_recover.specs.MountCalls.{OnlyMountCalls}
-use Rattle.paraid_recover.specs.RecoveryMark.{of_version_two, with_mark}
 use Rattle.paraid_recover.proofs.MountCallsLemmas.{mark_calls}
 use Rattle.paraid_recover.specs.StandingMetas.{StandsInMoments}
 use Rattle.paraid_recover.proofs.CommitMetasLemmas.{committed_metas}

@@ -18,7 +18,7 @@ use Rattle.paraid_recover.specs.RecoveryMark.{of_version_two}
 use Rattle.paraid_recover.proofs.SecondLossLemmas.{out_more, tells_same}
 use Rattle.paraid_recover.proofs.RaisedLemmas.{none_done_if}
 use Rattle.paraid_recover.proofs.SyncedLemmas.{nothing_failed, nothing_lost}
-use Rattle.paraid_recover.proofs.RenewLemmas.{renewed_two}
+use Rattle.paraid_recover.proofs.RenewLemmas.{renewed_two, after, next_renewed, one_kept, renew_ends, renew_recovers, renewed_one}
 use Rattle.paraid_rack.proofs.TrailsLemmas.{Ran-none}
 use Rattle.paraid_recover.proofs.FitLemmas.{two_named}
 use Rattle.paraid_recover.proofs.GoneLemmas.{gone_beside, out_named_twice}
@@ -27,7 +27,6 @@ use Rattle.paraid_recover.proofs.OneMarkedLemmas.{in_log}
 use Rattle.paraid_recover.proofs.OpenLemmas.{open_none}
 use Rattle.paraid_recover.specs.StandingMetas.{StandsInMoments}
 use Rattle.paraid_recover.proofs.CommitMetasLemmas.{committed_metas}
-use Rattle.paraid_recover.proofs.RenewLemmas.{after, next_renewed, one_kept, renew_ends, renew_recovers, renewed_one}
 use Rattle.paraid_recover.proofs.recovery.renew.Given.{Over}
 use Rattle.paraid_recover.proofs.recovery.renew.Goals as goal
 use Rattle.paraid_recover.proofs.recovery.renew.Goals.{After-commit}

@@ -1,5 +1,4 @@
-use Rattle.std.specs.Prelude.{true, false}
-use Rattle.std.specs.Prelude.{◌≡◌, ◌≤◌, ℕ, Option, Some, None, Ok, is_ok}
+use Rattle.std.specs.Prelude.{true, false, ◌≡◌, ◌≤◌, ℕ, Option, Some, None, Ok, is_ok}
 use Rattle.paraid_txn.specs.Uses.{UsesLog}
 use Rattle.std.proofs.Common.{refl, sym, ◌∙◌, ap, subst, arith, inl, inr}
 use Rattle.paraid_rack.specs.declared.call.Power.TheVariants.{Absent, Spinning}
@@ -16,6 +15,7 @@ use Rattle.paraid_recover.proofs.FailedLemmas.{calls_then, each_then, failed_aft
 use Rattle.paraid_recover.proofs.sides.hear_both.Given.{Over}
 use Rattle.paraid_recover.proofs.sides.hear_both.Goals as goal
 use Rattle.paraid_recover.proofs.sides.hear_both.Goals.{After-hear_if_there-second}
+use Rattle.paraid_base.specs.Log.{batch_room}
 
 pub hear_if_there-first-requires : goal.hear_if_there-first-requires
 hear_if_there-first-requires g c = record { exists = (let there = c.requires.exists in omega arith); not_parked = c.requires.first; empty = c.requires.first_empty }
@@ -49,7 +49,7 @@ leaves g c =
         powers = spared_then one two;
         each = each_then one two (heard_each _ _ 0 (is_ok c.hear_if_there-first.result) f.same f.others f.failed) (heard_each _ _ 1 (is_ok c.hear_if_there-second.result) s.same s.others s.failed);
         reads = calls_then ReadsLogs (logs_calls (omega arith) f.calls) (logs_calls (omega arith) s.calls);
-        few = most_then 99 99 198 (omega arith) f.few s.few;
+        few = most_then (batch_room + 3) (batch_room + 3) (2 * (batch_room + 3)) (omega arith) f.few s.few;
         calls = calls_then (UsesLog None) (uses_calls (omega arith) f.calls) (uses_calls (omega arith) s.calls);
       };
       kept = f.others 1 (λ e. omega arith);

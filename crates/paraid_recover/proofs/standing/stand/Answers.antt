@@ -1,8 +1,7 @@
 use Rattle.std.specs.Prelude.{◌≡◌}
 use Rattle.std.proofs.Common.{ap, arith, subst, sym, ◌∙◌}
 use Rattle.std.proofs.lemmas.Bool.Decides.{nat_tests}
-use Rattle.paraid_image.specs.Sides.{Batch}
-use Rattle.paraid_image.specs.Sides.{log_state}
+use Rattle.paraid_image.specs.Sides.{Batch, log_state}
 use Rattle.paraid_recover.specs.Examined.{IsAgreed, batch_at, logs_of, side_of}
 use Rattle.paraid_recover.proofs.ExaminedLogLemmas.{standing_low}
 use Rattle.paraid_recover.proofs.standing.stand.Goals as goal

@@ -1,12 +1,11 @@
 use Rattle.paraid_core.proofs.AfterLemmas.{handed}
 use Rattle.paraid_core.proofs.ErrLemmas.{none_done_if}
 use Rattle.paraid_base.specs.Regions.{IsGear}
-use Rattle.paraid_base.specs.Soft.{stripe_count}
+use Rattle.paraid_base.specs.Soft.{stripe_count, soft_disk, soft_parity_disk}
 use Rattle.paraid_record.specs.declared.meta.Meta.{Meta}
 use Rattle.std.proofs.Common.{◌≡◌, ◌≢◌, ◌∙◌, IsTrue, ap, sym, subst, ◌<◌}
 use Rattle.std.specs.Prelude.{◌↔◌}
 use Rattle.paraid_base.specs.Skips.{index_among, skip}
-use Rattle.paraid_base.specs.Soft.{soft_disk, soft_parity_disk}
 use Rattle.paraid_base.proofs.SkipsLemmas.{skip-index_among}
 use Rattle.paraid_image.specs.Value.{stripe}
 use Rattle.paraid_scrub.specs.Counts.{IsCopyRight}

@@ -1,13 +1,10 @@
 use Rattle.paraid_core.proofs.AfterLemmas.{handed}
 use Rattle.paraid_core.proofs.ErrLemmas.{none_done_if}
-use Rattle.paraid_base.specs.Regions.{IsGear}
+use Rattle.paraid_base.specs.Regions.{IsGear, disk_size, soft_place_of}
 use Rattle.paraid_base.specs.Soft.{stripe_count}
-use Rattle.paraid_base.specs.Regions.{disk_size}
 use Rattle.std.proofs.lemmas.Result.{IfErr-weaker, IfOk-weaker}
 use Rattle.std.proofs.Common.{◌≡◌, ◌<◌, ◌∙◌, IsTrue, sym, ap, subst, arith}
 use Rattle.std.specs.Prelude.{◌↔◌}
-use Rattle.paraid_base.specs.Regions.{IsGear, soft_place_of}
-use Rattle.paraid_base.specs.Soft.{stripe_count}
 use Rattle.paraid_base.specs.Xor.{xor}
 use Rattle.paraid_record.specs.declared.meta.Meta.{Meta}
 use Rattle.paraid_image.specs.Value.{stripe}

@@ -1,10 +1,8 @@
 use Rattle.paraid_core.proofs.AfterLemmas.{handed}
 use Rattle.paraid_core.proofs.ErrLemmas.{none_done}
-use Rattle.paraid_base.specs.Regions.{IsGear}
+use Rattle.paraid_base.specs.Regions.{IsGear, disk_size, soft_place_of}
 use Rattle.paraid_base.specs.Soft.{stripe_count}
-use Rattle.paraid_base.specs.Regions.{disk_size}
 use Rattle.std.proofs.Common.{◌≡◌, ◌∙◌, ap, arith, subst, ◌<◌, sym}
-use Rattle.paraid_base.specs.Regions.{soft_place_of}
 use Rattle.paraid_base.specs.Sums.{without}
 use Rattle.paraid_base.specs.Xor.{xor}
 use Rattle.paraid_record.specs.declared.meta.Meta.{Meta}

@@ -1,6 +1,5 @@
-use Rattle.paraid_base.specs.Regions.{IsGear}
+use Rattle.paraid_base.specs.Regions.{IsGear, disk_size}
 use Rattle.paraid_base.specs.Soft.{stripe_count}
-use Rattle.paraid_base.specs.Regions.{disk_size}
 use Rattle.std.proofs.lemmas.Result.{on_ok_weaker}
 use Rattle.std.proofs.Common.{◌≡◌, ◌∙◌, sym, ap, subst, arith, inl, ◌<◌, ◌≤◌}
 use Rattle.paraid_base.specs.Sums.{without, xor_upto}

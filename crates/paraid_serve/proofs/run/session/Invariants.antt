@@ -3,6 +3,7 @@ use Rattle.paraid_rack.specs.Told.{Extends}
 use Rattle.paraid_serve.specs.Lost.{HasServedSince}
 use Rattle.paraid_serve.proofs.Sofar.{Sofar}
 use Rattle.paraid_serve.proofs.run.session.Given as goal
+use Rattle.paraid_base.specs.Told.{stream_most}
 
 abbrev pub invariant-lines : goal.invariant-lines
 invariant-lines g l = record {
@@ -17,4 +18,4 @@ invariant-lines g l = record {
 }
 
 abbrev pub decreases-lines : goal.decreases-lines
-decreases-lines g l = (2 ^ 40 - l.reader.taken) + length l.reader.rest
+decreases-lines g l = (stream_most - l.reader.taken) + length l.reader.rest

@@ -1,7 +1,6 @@
 use Rattle.paraid_volume.proofs.DeviceLemmas.{DeviceGoesOn-none, KeepsMore-none}
 use Rattle.paraid_volume.specs.Faults.{vol_halt_in}
-use Rattle.std.proofs.Common.{ap, ◌∙◌}
-use Rattle.std.proofs.Common.{refl}
+use Rattle.std.proofs.Common.{ap, ◌∙◌, refl}
 use Rattle.paraid_volume_lines.specs.Grammar.{delete as DeleteLine}
 use Rattle.paraid_volume.specs.Values.{volume_table}
 use Rattle.paraid_volume_lines.specs.NameWords.{word_of}

@@ -1,6 +1,7 @@
 use Rattle.std.proofs.Common.{◌≡◌, ◌+◌, ◌-◌, ◌^◌, length}
 use Rattle.paraid_service.proofs.TakeLemmas.{Taken}
 use Rattle.paraid_service.proofs.run.serve_lines.Given as goal
+use Rattle.paraid_base.specs.Told.{stream_most}
 
 abbrev pub invariant-lines : goal.invariant-lines
 invariant-lines g l = record {
@@ -10,4 +11,4 @@ invariant-lines g l = record {
 }
 
 abbrev pub decreases-lines : goal.decreases-lines
-decreases-lines g l = (2 ^ 40 - l.reader.taken) + length l.reader.rest
+decreases-lines g l = (stream_most - l.reader.taken) + length l.reader.rest

@@ -1,25 +1,20 @@
-use Rattle.std.proofs.Common.{sym}
+use Rattle.std.proofs.Common.{sym, ◌∙◌, ap, subst, ℕ}
 use Rattle.paraid_image.specs.Power.{power_by_gear}
 use Rattle.paraid_event.specs.Service.{service_of}
 use Rattle.paraid_event.proofs.ShiftMarkLemmas.{down_mark, down_powers}
 use Rattle.paraid_shift.proofs.StepsLemmas.{commit_is_marked, commit_stands, core_steps_none, marks_committed, marks_wait}
-use Rattle.std.proofs.Common.{◌∙◌, ap, subst}
-use Rattle.std.specs.Prelude.{length}
+use Rattle.std.specs.Prelude.{length, ◌+◌, ◌<◌, ◌^◌}
 use Rattle.paraid_base.specs.States.{gone_out}
 use Rattle.paraid_record.specs.declared.meta.Meta.{Meta}
-use Rattle.std.specs.Prelude.{◌+◌}
 use Rattle.paraid_txn.specs.Losses.{OnlyLosesSlots}
 use Rattle.paraid_core.specs.Steps.{IsMarkedFrom}
 use Rattle.paraid_shift.proofs.AnswerLemmas.{none_done}
 use Rattle.paraid_txn.specs.Stores.{named_of, store_rack}
 use Rattle.paraid_core.specs.Cores.{CoreStandsFor}
 use Rattle.paraid_core.specs.Fills.{Filled}
-use Rattle.paraid_shift.proofs.ServingLemmas.{array_marked, leaves_array_then, marked_version, two_array, chain, chain_held, copies_still, large_then, none_away, none_known, turns_lost, unsynced_still}
+use Rattle.paraid_shift.proofs.ServingLemmas.{array_marked, leaves_array_then, marked_version, two_array, chain, chain_held, copies_still, large_then, none_away, none_known, turns_lost, unsynced_still, copies_kept}
 use Rattle.paraid_shift.proofs.PartLemmas.{spares_failed}
 use Rattle.paraid_shift.proofs.LossLemmas.{commit_is_lost, marks_lost}
-use Rattle.std.specs.Prelude.{◌<◌, ◌^◌}
-use Rattle.std.proofs.Common.{ℕ}
-use Rattle.paraid_shift.proofs.ServingLemmas.{copies_kept}
 use Rattle.paraid_shift.proofs.FitsLemmas.{fits_begun_down}
 use Rattle.paraid_shift.proofs.begin.begin_down.Goals as goal
 

@@ -1,6 +1,6 @@
-use Rattle.paraid_shift.proofs.ServingLemmas.{array_marked, leaves_array_then, marked_version, two_array, turns_lost}
-use Rattle.std.specs.Prelude.{◌+◌, Option}
-use Rattle.std.proofs.Common.{◌≡◌, subst}
+use Rattle.paraid_shift.proofs.ServingLemmas.{array_marked, leaves_array_then, marked_version, two_array, turns_lost, chain, chain_held, copies_still, large_then, lowered, none_away, none_known, unsynced_still, copies_kept}
+use Rattle.std.specs.Prelude.{◌+◌, Option, length, ◌<◌, ◌^◌}
+use Rattle.std.proofs.Common.{◌≡◌, subst, ◌∙◌, ap, sym, ℕ}
 use Rattle.paraid_rack.specs.Told.{Ran}
 use Rattle.paraid_rack.specs.Trail.{Trail, now}
 use Rattle.paraid_base.specs.declared.state.Phase.TheVariants.{Up}
@@ -11,25 +11,17 @@ use Rattle.paraid_event.specs.Stands.{ServiceStandsFor}
 use Rattle.paraid_event.specs.Steps.{ServesMarked}
 use Rattle.paraid_shift.proofs.PowersLemmas.{mark_service}
 use Rattle.paraid_shift.proofs.StepsLemmas.{commit_is_marked, commit_stands, mark_stands}
-use Rattle.std.specs.Prelude.{length}
 use Rattle.paraid_base.specs.declared.state.Out.TheVariants.{No}
-use Rattle.paraid_base.specs.States.{gone_out}
+use Rattle.paraid_base.specs.States.{gone_out, named_out}
 use Rattle.paraid_txn.specs.Losses.{OnlyLosesSlots}
 use Rattle.paraid_shift.proofs.AnswerLemmas.{none_done}
-use Rattle.std.proofs.Common.{◌∙◌, ap}
 use Rattle.paraid_record.specs.declared.meta.Meta.{Meta}
 use Rattle.paraid_txn.specs.Stores.{named_of, store_rack}
 use Rattle.paraid_core.specs.Cores.{CoreStandsFor, IsCoreHeldSinceCommit}
 use Rattle.paraid_core.specs.Fills.{Filled}
-use Rattle.paraid_shift.proofs.ServingLemmas.{chain, chain_held, copies_still, large_then, lowered, none_away, none_known, unsynced_still}
-use Rattle.std.proofs.Common.{sym}
-use Rattle.paraid_base.specs.States.{named_out}
 use Rattle.paraid_shift.proofs.PartLemmas.{spares_failed}
 use Rattle.paraid_shift.proofs.LossLemmas.{commit_is_lost, mark_is_lost}
 use Rattle.paraid_shift.proofs.OutcomeLemmas.{none_named}
-use Rattle.std.specs.Prelude.{◌<◌, ◌^◌}
-use Rattle.std.proofs.Common.{ℕ}
-use Rattle.paraid_shift.proofs.ServingLemmas.{copies_kept}
 use Rattle.paraid_shift.proofs.begin.commit_up.Goals as goal
 
 pub returns-in_err-commit : goal.returns-in_err-commit

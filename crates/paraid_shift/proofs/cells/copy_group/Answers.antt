@@ -1,8 +1,8 @@
-use Rattle.paraid_core.proofs.StepLemmas.{unmarked}
+use Rattle.paraid_core.proofs.StepLemmas.{unmarked, leaves_then, marked_from_setup, two_then}
 use Rattle.paraid_view.proofs.TwoLemmas.{spared_then}
 use Rattle.paraid_txn.specs.Stores.{store_rack}
-use Rattle.paraid_shift.proofs.MovingLemmas.{group_same, out_stays}
-use Rattle.paraid_shift.specs.Units.{IsGroupOf}
+use Rattle.paraid_shift.proofs.MovingLemmas.{group_same, out_stays, some_more}
+use Rattle.paraid_shift.specs.Units.{IsGroupOf, are_copied_before}
 use Rattle.std.proofs.Common.{◌≡◌, ◌<◌, ◌∙◌, sym, subst}
 use Rattle.paraid_base.specs.declared.state.Out.TheVariants.{No}
 use Rattle.paraid_record.specs.declared.meta.Setup.{Setup}
@@ -16,12 +16,9 @@ use Rattle.paraid_shift.proofs.PartLemmas.{spares_done, spares_failed, spares_ra
 use Rattle.paraid_shift.proofs.AnswerLemmas.{none_done, none_done_if, none_more}
 use Rattle.paraid_core.proofs.KindLemmas.{calls_then}
 use Rattle.paraid_core.proofs.LostMarkLemmas.{marks_then}
-use Rattle.paraid_core.proofs.StepLemmas.{leaves_then, marked_from_setup, two_then}
 use Rattle.paraid_shift.specs.Serving.{CopiesFromRest, IsCoreServing, IsHeldFromRest, StandsFromRest}
-use Rattle.paraid_shift.specs.Units.{are_copied_before}
 use Rattle.paraid_shift.specs.declared.cells.Group.{Group}
 use Rattle.paraid_shift.proofs.CopiedLemmas.{copies_then, held_from_then, stands_from_held, stands_from_then, syncs_are_data}
-use Rattle.paraid_shift.proofs.MovingLemmas.{some_more}
 use Rattle.paraid_shift.proofs.ServingLemmas.{serving_left}
 use Rattle.paraid_shift.proofs.cells.copy_group.Given.{Over}
 use Rattle.paraid_shift.proofs.MovedLossLemmas.{copies_tell_then}

@@ -1,36 +1,27 @@
-use Rattle.paraid_shift.proofs.ServingLemmas.{array_marked, leaves_array_then, marked_version, two_array}
-use Rattle.std.specs.Prelude.{Option}
-use Rattle.std.proofs.Common.{◌≡◌}
+use Rattle.paraid_shift.proofs.ServingLemmas.{array_marked, leaves_array_then, marked_version, two_array, chain, chain_held, copies_still, large_then, lowered, marked_steady, none_away, none_known, turns_lost, unsynced_still, copies_kept}
+use Rattle.std.specs.Prelude.{Option, length, ◌+◌, ◌<◌, ◌^◌}
+use Rattle.std.proofs.Common.{◌≡◌, ◌∙◌, ap, subst, refl, sym, ℕ}
 use Rattle.paraid_rack.specs.Told.{Ran}
 use Rattle.paraid_rack.specs.Trail.{Trail, now}
-use Rattle.paraid_base.specs.States.{phase_to}
+use Rattle.paraid_base.specs.States.{phase_to, gone_out}
 use Rattle.paraid_moves.specs.MoveMetas.{meta_flipped_to}
 use Rattle.paraid_event.specs.Service.{Service, service_of}
 use Rattle.paraid_event.specs.Stands.{ServiceStandsFor}
 use Rattle.paraid_event.specs.Steps.{ServesMarked}
 use Rattle.paraid_shift.proofs.PowersLemmas.{mark_service}
 use Rattle.paraid_shift.proofs.StepsLemmas.{commit_is_marked, commit_stands, mark_stands}
-use Rattle.std.specs.Prelude.{length}
-use Rattle.std.proofs.Common.{◌∙◌, ap, subst}
-use Rattle.paraid_base.specs.States.{gone_out}
 use Rattle.paraid_record.specs.declared.meta.Meta.{Meta}
-use Rattle.std.specs.Prelude.{◌+◌}
-use Rattle.std.proofs.Common.{refl, sym}
 use Rattle.paraid_txn.specs.Losses.{OnlyLosesSlots}
 use Rattle.paraid_core.specs.Steps.{IsMarkedFrom}
 use Rattle.paraid_shift.proofs.AnswerLemmas.{none_done}
 use Rattle.paraid_txn.specs.Stores.{named_of, store_rack}
 use Rattle.paraid_core.specs.Cores.{CoreStandsFor, IsCoreHeldSinceCommit}
 use Rattle.paraid_core.specs.Fills.{Filled}
-use Rattle.paraid_shift.proofs.ServingLemmas.{chain, chain_held, copies_still, large_then, lowered, marked_steady, none_away, none_known, turns_lost, unsynced_still}
 use Rattle.paraid_shift.proofs.PartLemmas.{spares_failed}
 use Rattle.paraid_shift.proofs.LossLemmas.{commit_is_lost, mark_is_lost}
 use Rattle.paraid_base.specs.declared.state.Out.TheVariants.{No}
 use Rattle.paraid_image.specs.Out.{named_out}
 use Rattle.paraid_shift.proofs.OutcomeLemmas.{none_named}
-use Rattle.std.specs.Prelude.{◌<◌, ◌^◌}
-use Rattle.std.proofs.Common.{ℕ}
-use Rattle.paraid_shift.proofs.ServingLemmas.{copies_kept}
 use Rattle.paraid_shift.proofs.ending.commit_gear.Goals as goal
 
 pub returns-in_err-commit : goal.returns-in_err-commit

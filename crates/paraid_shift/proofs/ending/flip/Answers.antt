@@ -1,4 +1,4 @@
-use Rattle.std.specs.Prelude.{ℕ, ◌+◌}
+use Rattle.std.specs.Prelude.{ℕ, ◌+◌, ◌≤◌}
 use Rattle.std.proofs.Common.{◌≡◌, ◌∙◌, refl, ap, arith, sym, inl, inr}
 use Rattle.paraid_base.specs.declared.state.Phase.TheVariants.{Steady}
 use Rattle.paraid_base.specs.States.{phase_to}
@@ -15,7 +15,6 @@ use Rattle.paraid_shift.proofs.PartLemmas.{keeps_done, keeps_later, keeps_raised
 use Rattle.paraid_shift.specs.Serving.{RestsInShift}
 use Rattle.paraid_shift.proofs.ServingLemmas.{chain, chain_held, leaves_array_then, marked_gear, marked_steady, marked_then}
 use Rattle.paraid_shift.proofs.LossLemmas.{flip_lost, park_lost, powers_are_lost}
-use Rattle.std.specs.Prelude.{◌≤◌}
 use Rattle.paraid_record.specs.declared.meta.Setup.{Setup}
 use Rattle.paraid_core.proofs.AfterLemmas.{gear_high}
 use Rattle.paraid_shift.proofs.FitsLemmas.{fits_flipped}

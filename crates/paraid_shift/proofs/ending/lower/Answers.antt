@@ -1,4 +1,4 @@
-use Rattle.std.proofs.Common.{ℕ, Ok, ap, inl, inr, refl, subst, sym}
+use Rattle.std.proofs.Common.{ℕ, Ok, ap, inl, inr, refl, subst, sym, ◌∙◌}
 use Rattle.paraid_rack.specs.Told.{CrashTriple, Ran}
 use Rattle.paraid_record.specs.declared.meta.Meta.{Meta}
 use Rattle.paraid_core.specs.Cores.{IsCoreHeldSinceCommit}
@@ -7,7 +7,6 @@ use Rattle.std.proofs.lemmas.Bool.{cases_Bool}
 use Rattle.paraid_image.specs.Out.{named_out}
 use Rattle.paraid_rack.specs.Disks.{is_present}
 use Rattle.paraid_shift.proofs.PowersLemmas.{park_is, power_calls_none, power_calls_one, powered_lost, powered_same}
-use Rattle.std.proofs.Common.{◌∙◌}
 use Rattle.paraid_txn.specs.Stores.{store_rack}
 use Rattle.paraid_core.proofs.StepLemmas.{marked_from_setup, runs_end}
 use Rattle.paraid_shift.specs.Serving.{RestsInShift}

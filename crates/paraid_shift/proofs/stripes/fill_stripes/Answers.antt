@@ -1,5 +1,5 @@
 use Rattle.std.specs.Prelude.{ℕ, ◌+◌, true, false}
-use Rattle.std.proofs.Common.{◌≡◌, ◌∙◌, sym, ap, subst, refl, arith, Ok}
+use Rattle.std.proofs.Common.{◌≡◌, ◌∙◌, sym, ap, subst, refl, arith, Ok, ◌<◌, ◌≤◌}
 use Rattle.paraid_rack.specs.Told.{CrashTriple, Ran}
 use Rattle.paraid_record.specs.declared.meta.Meta.{Meta}
 use Rattle.paraid_rack.proofs.TrailsLemmas.{weaker}
@@ -17,7 +17,6 @@ use Rattle.paraid_core.proofs.StepLemmas.{held_runs_then, leaves_none, leaves_th
 use Rattle.paraid_shift.specs.Serving.{RestsInShift}
 use Rattle.paraid_image.specs.Out.{named_out}
 use Rattle.paraid_shift.proofs.MovedLossLemmas.{copies_tell_then}
-use Rattle.std.proofs.Common.{◌<◌, ◌≤◌}
 use Rattle.paraid_base.specs.Soft.{stripe_count}
 use Rattle.paraid_base.specs.States.{phase_to}
 use Rattle.paraid_shift.proofs.stripes.fill_stripes.Goals as goal

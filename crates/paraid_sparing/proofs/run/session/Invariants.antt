@@ -5,6 +5,7 @@ use Rattle.paraid_spare.specs.Pools.{left_of, wait_of}
 use Rattle.paraid_sparing.specs.Session.{fresh_stock}
 use Rattle.paraid_sparing.proofs.Sofar.{Sofar}
 use Rattle.paraid_sparing.proofs.run.session.Given as goal
+use Rattle.paraid_base.specs.Told.{stream_most}
 
 abbrev pub invariant-lines : goal.invariant-lines
 invariant-lines g l = record {
@@ -19,4 +20,4 @@ invariant-lines g l = record {
 }
 
 abbrev pub decreases-lines : goal.decreases-lines
-decreases-lines g l = (2 ^ 40 - l.reader.taken) + length l.reader.rest
+decreases-lines g l = (stream_most - l.reader.taken) + length l.reader.rest

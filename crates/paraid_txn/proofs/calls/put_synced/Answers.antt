@@ -1,6 +1,5 @@
-use Rattle.std.proofs.Common.{◌∙◌, subst, ℕ, ◌<◌, sym}
+use Rattle.std.proofs.Common.{◌∙◌, subst, ℕ, ◌<◌, sym, arith}
 use Rattle.paraid_txn.proofs.SyncedPartLemmas.{SyncedPart_failed}
-use Rattle.std.proofs.Common.{arith}
 use Rattle.paraid_txn.proofs.ReadyLemmas.{log_can, log_stays_ready}
 use Rattle.paraid_txn.proofs.CommitPartLemmas.{CommitPart_then, logs_sync, logs_write}
 use Rattle.paraid_txn.proofs.CrashSpecificationLemmas.{on_ok}

@@ -1,7 +1,6 @@
-use Rattle.std.proofs.Common.{◌∙◌, subst, ℕ, ◌≤◌, sym}
+use Rattle.std.proofs.Common.{◌∙◌, subst, ℕ, ◌≤◌, sym, ap, inr}
 use Rattle.paraid_txn.proofs.SyncedPartLemmas.{SyncedPart_failed}
 use Rattle.std.specs.Prelude.{◌≡◌, ◌≢◌, length, true, Some}
-use Rattle.std.proofs.Common.{ap, inr}
 use Rattle.paraid_image.specs.Batches.{names_disk}
 use Rattle.paraid_txn.proofs.DownLemmas.{StaySyncedBut-synced}
 use Rattle.paraid_txn.proofs.ReadyLemmas.{targets_stay_ready}

@@ -1,9 +1,8 @@
-use Rattle.std.proofs.Common.{◌∷◌, [], rules}
+use Rattle.std.proofs.Common.{◌∷◌, [], rules, ap, refl}
 use Rattle.paraid_base.specs.Pairs.{single_pair}
 use Rattle.paraid_volume.proofs.ClearLemmas.{cleared_one}
 use Rattle.paraid_volume.proofs.DeviceLemmas.{KeepsMore-one, holds_write}
 use Rattle.paraid_base.proofs.PairsLemmas.{pairs_of-one}
-use Rattle.std.proofs.Common.{ap, refl}
 use Rattle.paraid_base.specs.declared.block.Block.{Block}
 use Rattle.paraid_base.specs.declared.event.Event.TheVariants.{Write}
 use Rattle.paraid_volume.proofs.CallLemmas.{KeepsThen-one}

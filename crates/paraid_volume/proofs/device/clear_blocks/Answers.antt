@@ -1,10 +1,9 @@
 use Rattle.std.proofs.lemmas.Result.{err_from_is_err_and}
-use Rattle.std.proofs.Common.{◌≡◌, ℕ, ◌+◌, ◌++◌, arith, inl, inr, subst}
+use Rattle.std.proofs.Common.{◌≡◌, ℕ, ◌+◌, ◌++◌, arith, inl, inr, subst, ◌-◌}
 use Rattle.std.proofs.lemmas.Bool.{cases_lt}
 use Rattle.paraid_volume.specs.Device.{DeviceHolds, SinceHistory, Between, Clears}
 use Rattle.paraid_volume.proofs.ClearLemmas.{between, cleared_none, cleared_then}
 use Rattle.paraid_volume.proofs.DeviceLemmas.{DeviceGoesOn-none, DeviceGoesOn-then, KeepsMore-none, KeepsMore-then}
-use Rattle.std.proofs.Common.{◌-◌}
 use Rattle.std.specs.List.{range_with_len}
 use Rattle.paraid_volume.specs.TableCalls.{AreZerosTo, KeepsThen}
 use Rattle.paraid_volume.proofs.CallLemmas.{KeepsThen-none, KeepsThen-then, zeros_more, zeros_none}

@@ -1,10 +1,9 @@
 use Rattle.std.proofs.lemmas.Result.{on_ok_weaker}
-use Rattle.std.proofs.Common.{◌∙◌, arith, sym}
+use Rattle.std.proofs.Common.{◌∙◌, arith, sym, ◌+◌, ◌*◌}
 use Rattle.paraid_volume.specs.TableBlocks.{in_table}
 use Rattle.paraid_volume.specs.Tables.{owner_in}
 use Rattle.paraid_volume.proofs.ClearLemmas.{cleared_none, cleared_owned}
 use Rattle.paraid_volume.proofs.DeviceLemmas.{DeviceGoesOn-none, KeepsMore-none}
-use Rattle.std.proofs.Common.{◌+◌, ◌*◌}
 use Rattle.paraid_volume.proofs.CallLemmas.{KeepsThen-none, KeepsThen-weaker, span_size, zeros_other, zeros_owned}
 use Rattle.paraid_volume.proofs.device.clear_extent.Goals as goal
 

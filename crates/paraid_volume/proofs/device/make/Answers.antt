@@ -1,8 +1,7 @@
 use Rattle.std.proofs.lemmas.Result.{err_from_is_err_and, on_ok_weaker}
-use Rattle.std.proofs.Common.{◌++◌}
+use Rattle.std.proofs.Common.{◌++◌, refl}
 use Rattle.paraid_base.specs.Pairs.{pairs_of}
 use Rattle.paraid_volume.proofs.DeviceLemmas.{KeepsMore-then, DeviceGoesOn-then}
-use Rattle.std.proofs.Common.{refl}
 use Rattle.paraid_volume.proofs.CallLemmas.{KeepsThen-then}
 use Rattle.paraid_volume.proofs.device.make.Goals as goal
 

@@ -1,9 +1,8 @@
 use Rattle.paraid_base.specs.declared.block.Block.{Block}
 use Rattle.paraid_base.specs.declared.event.Event.TheVariants.{Read}
 use Rattle.paraid_base.specs.declared.event.Answer.TheVariants.{Value}
-use Rattle.paraid_volume.proofs.DeviceLemmas.{KeepsMore-one}
+use Rattle.paraid_volume.proofs.DeviceLemmas.{KeepsMore-one, holds_same}
 use Rattle.std.proofs.Common.{◌++◌, ◌∷◌, [], refl, rules, subst, sym}
-use Rattle.paraid_volume.proofs.DeviceLemmas.{holds_same}
 use Rattle.paraid_volume.proofs.device.read_block.Goals as goal
 
 pub returns-in-Err-Halt : goal.returns-in-Err-Halt

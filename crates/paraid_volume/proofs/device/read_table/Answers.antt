@@ -1,10 +1,9 @@
 use Rattle.std.proofs.lemmas.Result.{err_from_is_err_and}
-use Rattle.std.proofs.Common.{None, ◌≡◌, ℕ, ◌∙◌, arith}
+use Rattle.std.proofs.Common.{None, ◌≡◌, ℕ, ◌∙◌, arith, ◌++◌, sym, subst}
 use Rattle.paraid_base.specs.History.{after_all}
 use Rattle.paraid_volume.specs.TableBlocks.{in_table}
 use Rattle.paraid_volume.proofs.DeviceLemmas.{DeviceGoesOn-none, DeviceGoesOn-then, KeepsMore-none, KeepsMore-then}
 use Rattle.paraid_volume.proofs.Steps.{below_more}
-use Rattle.std.proofs.Common.{◌++◌, sym, subst}
 use Rattle.std.proofs.lemmas.List.{append-nil}
 use Rattle.paraid_volume.specs.TableCalls.{table_reads}
 use Rattle.paraid_volume.proofs.CallLemmas.{reads_halted, reads_more}

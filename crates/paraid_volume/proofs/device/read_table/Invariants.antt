@@ -1,9 +1,8 @@
 use Rattle.std.proofs.Common.{◌≡◌, ℕ, ◌<◌, None}
-use Rattle.std.specs.Prelude.{IsTrue}
+use Rattle.std.specs.Prelude.{IsTrue, ◌++◌}
 use Rattle.paraid_base.specs.History.{History, after_all}
 use Rattle.paraid_volume.specs.Device.{DeviceGoesOn, DeviceHolds, SinceHistory, KeepsMore, IsReadEvent, KeepsHistories}
 use Rattle.paraid_volume.specs.TableBlocks.{in_table}
-use Rattle.std.specs.Prelude.{◌++◌}
 use Rattle.paraid_base.specs.BlockAnswers.{Answers}
 use Rattle.paraid_volume.specs.TableCalls.{table_reads}
 use Rattle.paraid_volume.proofs.device.read_table.Given as goal

@@ -1,11 +1,9 @@
-use Rattle.std.proofs.Common.{◌≡◌, ◌∙◌, ap, subst, Err, Result, ℕ, rules}
+use Rattle.std.proofs.Common.{◌≡◌, ◌∙◌, ap, subst, Err, Result, ℕ, rules, refl}
 use Rattle.paraid_base.specs.declared.fault.BlockFault.{BlockFault}
 use Rattle.paraid_base.specs.BlockAnswers.{RefusesMany}
 use Rattle.paraid_base.specs.Pairs.{pairs_of}
 use Rattle.paraid_volume.proofs.LaidLemmas.{not_missing}
-use Rattle.paraid_volume.proofs.DeviceLemmas.{KeepsMore-one}
-use Rattle.std.proofs.Common.{refl}
-use Rattle.paraid_volume.proofs.DeviceLemmas.{holds_write}
+use Rattle.paraid_volume.proofs.DeviceLemmas.{KeepsMore-one, holds_write}
 use Rattle.paraid_volume.proofs.CallLemmas.{KeepsThen-one}
 use Rattle.paraid_volume.proofs.device.write_table.Goals as goal
 

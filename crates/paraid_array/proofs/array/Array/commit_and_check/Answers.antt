@@ -1,13 +1,12 @@
 use Rattle.paraid_serve.proofs.QuietLemmas.{used_nothing}
 use Rattle.paraid_array.specs.Laws.{all_synced, gear_going}
-use Rattle.std.proofs.Common.{◌∙◌, sym, ap}
+use Rattle.std.proofs.Common.{◌∙◌, sym, ap, ◌≡◌, refl, Some, true, arith}
 use Rattle.paraid_base.specs.declared.event.Event.TheVariants.{Flush}
 use Rattle.paraid_base.specs.declared.event.Answer.TheVariants.{Flushed}
 use Rattle.paraid_array.specs.Arrays.{shown_of_array}
 use Rattle.paraid_upkeep.proofs.ServiceLemmas.{fits_then}
 use Rattle.paraid_array.proofs.CauseLemmas.{accepted, commits_staged, done_cause, plus_none, takes, two_cause}
 use Rattle.paraid_array.specs.Lasting.{halt_of_end}
-use Rattle.std.proofs.Common.{◌≡◌, refl, Some, true, arith}
 use Rattle.paraid_base.specs.declared.fault.Halt.TheVariants.{Two as HaltTwo}
 use Rattle.paraid_record.specs.declared.meta.Meta.{Meta}
 use Rattle.paraid_dirty.specs.Table.{is_dirty}

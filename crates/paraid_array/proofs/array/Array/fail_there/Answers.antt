@@ -1,10 +1,9 @@
 use Rattle.paraid_serve.proofs.QuietLemmas.{used_nothing}
 use Rattle.paraid_array.specs.Laws.{all_synced, gear_going}
-use Rattle.std.proofs.Common.{Ok, sym, ◌∙◌, ap}
+use Rattle.std.proofs.Common.{Ok, sym, ◌∙◌, ap, ◌≡◌, refl, Some, subst}
 use Rattle.paraid_serve.specs.Causes.{HasCause}
 use Rattle.paraid_array.specs.Arrays.{shown_of_array}
 use Rattle.paraid_array.proofs.CauseLemmas.{shown_with, fail_busy, fail_cause, takes, two_cause}
-use Rattle.std.proofs.Common.{◌≡◌, refl, Some, subst}
 use Rattle.paraid_base.specs.declared.event.Answer.{Answer}
 use Rattle.paraid_base.specs.declared.event.Event.TheVariants.{Bad, Fail}
 use Rattle.paraid_base.specs.declared.fault.Halt.TheVariants.{Two as HaltTwo}

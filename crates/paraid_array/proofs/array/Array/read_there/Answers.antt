@@ -1,6 +1,6 @@
 use Rattle.paraid_serve.proofs.QuietLemmas.{used_nothing}
 use Rattle.paraid_array.specs.Laws.{all_synced, gear_going}
-use Rattle.std.proofs.Common.{◌∙◌, sym, ap}
+use Rattle.std.proofs.Common.{◌∙◌, sym, ap, refl, Some, ◌<◌, arith, subst}
 use Rattle.paraid_base.specs.declared.event.Event.TheVariants.{Read}
 use Rattle.paraid_base.specs.declared.event.Answer.TheVariants.{Value}
 use Rattle.paraid_array.specs.Arrays.{shown_of_array}
@@ -9,7 +9,6 @@ use Rattle.paraid_array.proofs.CauseLemmas.{accepted, commits_to_clean, done_cau
 use Rattle.paraid_record.specs.declared.meta.Setup.{Setup}
 use Rattle.paraid_machine.specs.Machine.{block_count}
 use Rattle.paraid_array.specs.Lasting.{halt_of_end}
-use Rattle.std.proofs.Common.{refl, Some, ◌<◌, arith, subst}
 use Rattle.paraid_base.specs.declared.fault.Halt.TheVariants.{Two as HaltTwo}
 use Rattle.paraid_record.specs.declared.meta.Meta.{Meta}
 use Rattle.paraid_gear.specs.ThreeWindows.{lengths_of, sample_of}

@@ -1,8 +1,7 @@
 use Rattle.paraid_energy.specs.Account.{after_spin_ups}
 use Rattle.paraid_energy.proofs.AccountLemmas.{HasFigures-with_used}
 use Rattle.paraid_array.specs.Laws.{all_synced, gear_going}
-use Rattle.std.proofs.Common.{Option, ◌⊎◌, sym, ◌∙◌, ap}
-use Rattle.std.proofs.Common.{◌≡◌, None, Some}
+use Rattle.std.proofs.Common.{Option, ◌⊎◌, sym, ◌∙◌, ap, ◌≡◌, None, Some, refl, ◌+◌, ◌<◌, ◌≤◌, [], ◌∷◌, ◌++◌, ℕ, min, subst}
 use Rattle.paraid_upkeep.proofs.OutLemmas.{fails_newly}
 use Rattle.paraid_upkeep.specs.Refusals.{IsShiftStateOf}
 use Rattle.paraid_event.specs.Service.{service_of}
@@ -19,7 +18,6 @@ use Rattle.paraid_array.proofs.CauseLemmas.{done_cause, takes, two_cause}
 use Rattle.paraid_array.proofs.TickCauseLemmas.{idle_core, ok_event, ok_moved, out_then, tick_commits, tick_sum, ticked_service, ticked_state, ticks_by}
 use Rattle.paraid_array.proofs.SampleLemmas.{held_own, held_ticked}
 use Rattle.paraid_array.specs.Lasting.{halt_of_end, samples_held}
-use Rattle.std.proofs.Common.{refl, ◌+◌, ◌<◌, ◌≤◌, [], ◌∷◌, ◌++◌, ℕ, min, subst}
 use Rattle.paraid_base.specs.declared.fault.Halt.TheVariants.{Two as HaltTwo}
 use Rattle.paraid_gear.specs.Decision.{decision}
 use Rattle.paraid_gear.specs.ThreeWindows.{HoldLastSamples, lengths_of, sample_of}

@@ -10,7 +10,6 @@ use Rattle.paraid_core.proofs.PlanLemmas.{base_same, desk_same, shows_desk}
 use Rattle.paraid_image.specs.Out.{named_out}
 use Rattle.paraid_view.proofs.ReadLemmas.{off_same}
 use Rattle.paraid_core.proofs.LeadsLemmas.{leads_read, read_serves}
-use Rattle.std.proofs.Common.{refl}
 use Rattle.paraid_core.proofs.plan.CoreWritePlan.stripe.Goals as goal
 
 pub returns : goal.returns

@@ -1,5 +1,5 @@
 use Rattle.std.specs.Prelude.{◌≡◌, ◌<◌, Some}
-use Rattle.std.proofs.Common.{ℕ, ◌∙◌, Option, ap, subst}
+use Rattle.std.proofs.Common.{ℕ, ◌∙◌, Option, ap, subst, None, sym, refl}
 use Rattle.paraid_dirty.specs.Table.{is_dirty}
 use Rattle.paraid_image.specs.Standing.{Contents}
 use Rattle.paraid_plan.specs.WriteTargets.{overlaid_blocks}
@@ -8,11 +8,9 @@ use Rattle.paraid_txn.specs.Stores.{disks_of, store_rack}
 use Rattle.paraid_view.specs.Reads.{seen_by, CanRead}
 use Rattle.paraid_core.specs.Plans.{base_of}
 use Rattle.paraid_core.proofs.PlanLemmas.{base_same, desk_same, shows_desk}
-use Rattle.std.proofs.Common.{None, sym}
 use Rattle.paraid_image.specs.Out.{named_out}
 use Rattle.paraid_view.proofs.ReadLemmas.{off_same}
 use Rattle.paraid_core.proofs.LeadsLemmas.{leads_read, read_serves}
-use Rattle.std.proofs.Common.{refl}
 use Rattle.paraid_core.proofs.plan.CoreWritePlan.value.Goals as goal
 
 pub returns : goal.returns

@@ -1,9 +1,8 @@
 use Rattle.std.proofs.Common.{ℕ, ◌∙◌, sym, ap, refl, arith, inl, inr, rules}
-use Rattle.std.specs.Prelude.{is_ok}
+use Rattle.std.specs.Prelude.{is_ok, Some, false}
 use Rattle.std.proofs.lemmas.Bool.{cases_eq, false≢true, true≢false}
 use Rattle.paraid_txn.specs.Stores.{store_rack}
 use Rattle.paraid_core.proofs.AttachLemmas.{attach_stands}
-use Rattle.std.specs.Prelude.{Some, false}
 use Rattle.paraid_rack.specs.declared.call.Power.TheVariants.{Spinning}
 use Rattle.paraid_rack.specs.Disks.{is_present}
 use Rattle.paraid_rack.specs.Slots.{Slot}

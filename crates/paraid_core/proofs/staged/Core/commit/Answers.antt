@@ -1,22 +1,20 @@
 use Rattle.std.proofs.lemmas.Result.{IfErr-weaker, on_ok_weaker}
-use Rattle.paraid_core.specs.Steps.{IsPutOut}
-use Rattle.std.proofs.Common.{◌≡◌, ℕ, ◌+◌, ◌∙◌, Some, None, sym, ap, subst, Option, ◌<◌, OnOk}
+use Rattle.paraid_core.specs.Steps.{IsPutOut, IsMarkedFrom}
+use Rattle.std.proofs.Common.{◌≡◌, ℕ, ◌+◌, ◌∙◌, Some, None, sym, ap, subst, Option, ◌<◌, OnOk, arith, inl, inr, refl}
 use Rattle.paraid_txn.specs.Stores.{disks_of, epoch_of, named_of, store_rack}
 use Rattle.paraid_record.specs.declared.meta.Meta.{Meta}
 use Rattle.paraid_core.proofs.CommitLemmas.{commit_filled, commit_marked, commit_moments, commit_stands, commit_whole, commit_rests}
 use Rattle.std.specs.Prelude.{◌-◌, ◌^◌, ◌⊎◌, length, false, []}
-use Rattle.std.proofs.Common.{arith, inl, inr, refl}
 use Rattle.paraid_rack.specs.Disks.{is_present}
 use Rattle.paraid_rack.specs.Slots.{Slot}
 use Rattle.paraid_txn.specs.Losses.{AreTwoDown}
-use Rattle.paraid_txn.specs.Losses.IsOutOfCommit.{was_named}
+use Rattle.paraid_txn.specs.Losses.IsOutOfCommit.{was_named, is_named}
 use Rattle.paraid_image.specs.Out.{named_out, or_else}
 use Rattle.paraid_image.specs.Sides.{Batch}
 use Rattle.paraid_core.specs.CoreInvariant.{CanServe, AreSlotsReady, HoldsBetweenCalls, lost_in}
 use Rattle.paraid_base.specs.History.{History}
 use Rattle.paraid_core.specs.Cores.{CoreStandsFor, IsCoreHeld}
 use Rattle.paraid_core.specs.Fills.{KeepsFilled}
-use Rattle.paraid_core.specs.Steps.{IsMarkedFrom}
 use Rattle.paraid_core.proofs.UnsyncedLemmas.{gone_marked, unsynced_kept}
 use Rattle.paraid_core.proofs.AfterLemmas.{commit_lost_only, handed, lost_in_low, lost_in_was, ready_after, ready_moved, marked_setup, marked_writes, ready_next, serve_after, two_down, lost_in_is}
 use Rattle.paraid_core.specs.Cleaning.{is_cleaned}
@@ -26,7 +24,6 @@ use Rattle.paraid_core.proofs.ReadyLemmas.{IsLostOnly, can_bear, some_is}
 use Rattle.paraid_core.proofs.SinceLemmas.{core_since, core_since_end}
 use Rattle.paraid_core.proofs.KindLemmas.{calls_milder, uses_transfer}
 use Rattle.paraid_core.proofs.LostMarkLemmas.{marks_commit}
-use Rattle.paraid_txn.specs.Losses.IsOutOfCommit.{is_named}
 use Rattle.paraid_core.proofs.OrderLemmas.{commit_only}
 use Rattle.paraid_rack.specs.Told.{Ran, CrashTriple}
 use Rattle.paraid_image.specs.Lost.{TellsLosses}

@@ -1,6 +1,5 @@
 use Rattle.std.proofs.lemmas.Result.{IfErr-weaker, IfOk-at_ok, on_ok_weaker}
 use Rattle.paraid_core.specs.Steps.{IsPutOut}
-use Rattle.std.proofs.lemmas.Result.{IfErr-weaker, on_ok_weaker}
 use Rattle.paraid_base.specs.Regions.{IsGear}
 use Rattle.paraid_base.specs.Soft.{stripe_count}
 use Rattle.std.specs.Prelude.{ℕ, ◌+◌, ◌<◌, None}
@@ -18,9 +17,8 @@ use Rattle.paraid_txn.specs.Commit.{gone_out}
 use Rattle.paraid_core.proofs.KindLemmas.{calls_then, calls_whole}
 use Rattle.paraid_core.proofs.LostMarkLemmas.{loses_after, loses_read, marks_read, marks_then}
 use Rattle.paraid_core.proofs.ReadyLemmas.{some_is}
-use Rattle.paraid_core.proofs.OrderLemmas.{tells_unhurt}
+use Rattle.paraid_core.proofs.OrderLemmas.{tells_unhurt, lose_tells}
 use Rattle.paraid_image.specs.Out.{named_out}
-use Rattle.paraid_core.proofs.OrderLemmas.{lose_tells}
 use Rattle.paraid_core.proofs.ErrLemmas.{two_lost}
 use Rattle.paraid_core.proofs.staged.Core.fill_stripe.Goals as goal
 

@@ -1,6 +1,5 @@
-use Rattle.std.proofs.Common.{ap}
+use Rattle.std.proofs.Common.{ap, rules, refl}
 use Rattle.paraid_moves.specs.MoveMetas.{meta_flipped_to}
-use Rattle.std.proofs.Common.{rules, refl}
 use Rattle.paraid_txn.specs.Stores.{store_rack}
 use Rattle.paraid_core.proofs.MarkLemmas.{flip_to}
 use Rattle.paraid_core.proofs.staged.Core.flip.Goals as goal

@@ -1,5 +1,5 @@
 use Rattle.std.proofs.lemmas.Result.{IfErr-weaker, on_ok_weaker}
-use Rattle.std.proofs.Common.{sym, subst, length, arith, ◌+◌, refl, ◌∙◌, ◌≡◌}
+use Rattle.std.proofs.Common.{sym, subst, length, arith, ◌+◌, refl, ◌∙◌, ◌≡◌, Option, ℕ, ◌≤◌, inl}
 use Rattle.std.specs.Prelude.{Bool, if◌then◌else◌}
 use Rattle.paraid_image.specs.Out.{named_out, or_else}
 use Rattle.paraid_rack.specs.Told.{Ran, CrashTriple}
@@ -10,11 +10,9 @@ use Rattle.paraid_core.proofs.ReadsLemmas.{knows_named}
 use Rattle.paraid_core.proofs.KindLemmas.{calls_none, gone_marked, first_true}
 use Rattle.paraid_core.proofs.LostMarkLemmas.{marks_none}
 use Rattle.std.proofs.lemmas.Bool.{false≢true}
-use Rattle.std.proofs.Common.{Option, ℕ}
 use Rattle.paraid_core.proofs.OrderLemmas.{down_is_named}
 use Rattle.paraid_image.specs.Lost.{TellsLosses}
 use Rattle.paraid_core.proofs.AfterLemmas.{down_named}
-use Rattle.std.proofs.Common.{◌≤◌, inl}
 use Rattle.paraid_base.specs.Log.{batch_room}
 use Rattle.paraid_image.specs.Sides.{Batch}
 use Rattle.paraid_core.specs.Room.{commits_first}

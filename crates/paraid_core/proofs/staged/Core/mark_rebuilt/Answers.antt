@@ -1,4 +1,4 @@
-use Rattle.std.proofs.Common.{rules, refl, rules}
+use Rattle.std.proofs.Common.{rules, refl}
 use Rattle.paraid_image.proofs.OutLemmas.{named_below}
 use Rattle.paraid_core.proofs.UnitCopyLemmas.{rebuilding_named}
 use Rattle.paraid_core.proofs.UnitMarkLemmas.{ready_rebuilt, units_mark_stands}

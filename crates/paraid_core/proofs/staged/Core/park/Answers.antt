@@ -1,5 +1,5 @@
 use Rattle.std.proofs.lemmas.Result.{IfErr-weaker, IfOk-at_ok, on_ok_weaker}
-use Rattle.paraid_core.specs.Steps.{IsPutOut}
+use Rattle.paraid_core.specs.Steps.{IsPutOut, IsMarkedFrom}
 use Rattle.std.proofs.Common.{◌≡◌, ℕ, ◌∙◌, ◌<◌, None, Some, sym, ap, subst, refl, false, inl, inr, arith}
 use Rattle.std.specs.Prelude.{Option, is_ok}
 use Rattle.paraid_image.specs.Out.{named_out}
@@ -15,7 +15,6 @@ use Rattle.paraid_core.specs.CoreInvariant.{CanServe, HoldsBetweenCalls, lost_in
 use Rattle.paraid_core.proofs.AfterLemmas.{lost_in_there, ready_after, ready_moved, serve_after}
 use Rattle.paraid_core.proofs.CallLemmas.{call_stands}
 use Rattle.paraid_core.specs.Fills.{KeepsFilled}
-use Rattle.paraid_core.specs.Steps.{IsMarkedFrom}
 use Rattle.paraid_core.proofs.LossShiftLemmas.{call_filled, filled_failed}
 use Rattle.paraid_core.proofs.LostDiskLemmas.{keeps_failed}
 use Rattle.paraid_core.proofs.ParkLemmas.{park_done, park_held, parked_ready, parked_serves}

@@ -1,4 +1,4 @@
-use Rattle.std.proofs.Common.{◌≡◌, ◌∙◌, ℕ, subst, refl, sym, rules}
+use Rattle.std.proofs.Common.{◌≡◌, ◌∙◌, ℕ, subst, refl, sym, rules, arith}
 use Rattle.paraid_image.specs.Mark.{meta_after_loss}
 use Rattle.paraid_txn.specs.Losses.{IsLostNow}
 use Rattle.paraid_core.proofs.ReadyLemmas.{some_is}
@@ -11,7 +11,6 @@ use Rattle.paraid_core.proofs.LostMarkLemmas.{marks_none}
 use Rattle.paraid_core.proofs.ErrLemmas.{done_not_dropped}
 use Rattle.paraid_rack.specs.declared.call.Power.TheVariants.{Spinning}
 use Rattle.paraid_core.proofs.StepLemmas.{leaves_none}
-use Rattle.std.proofs.Common.{arith}
 use Rattle.paraid_core.proofs.staged.Core.rebuild_unit.Goals as goal
 
 pub copy_unit-requires : goal.copy_unit-requires

@@ -1,6 +1,5 @@
 use Rattle.std.proofs.lemmas.Result.{IfErr-weaker, IfOk-at_ok, on_ok_weaker}
 use Rattle.paraid_core.specs.Steps.{IsPutOut}
-use Rattle.std.proofs.lemmas.Result.{IfErr-weaker, on_ok_weaker}
 use Rattle.paraid_txn.specs.Stores.{named_of, store_rack}
 use Rattle.paraid_view.proofs.TwoLemmas.{left_spared, spared_then}
 use Rattle.paraid_core.specs.declared.staged.Core.{Core}
@@ -14,9 +13,8 @@ use Rattle.paraid_txn.specs.Commit.{gone_out}
 use Rattle.paraid_core.proofs.KindLemmas.{calls_then, calls_whole}
 use Rattle.paraid_core.proofs.LostMarkLemmas.{loses_read, lost_after, marks_read, marks_then}
 use Rattle.paraid_core.proofs.ReadyLemmas.{some_is}
-use Rattle.paraid_core.proofs.OrderLemmas.{tells_unhurt}
+use Rattle.paraid_core.proofs.OrderLemmas.{tells_unhurt, lose_tells}
 use Rattle.paraid_image.specs.Out.{named_out}
-use Rattle.paraid_core.proofs.OrderLemmas.{lose_tells}
 use Rattle.paraid_core.proofs.ErrLemmas.{two_lost}
 use Rattle.paraid_core.proofs.staged.Core.sync_cell.Goals as goal
 

@@ -11,7 +11,7 @@ use Rattle.paraid_rack.specs.Disks.{is_present}
 use Rattle.paraid_core.specs.declared.staged.Core.{Core}
 use Rattle.paraid_core.specs.Taken.{IsTakenIn, AreApart}
 use Rattle.paraid_core.proofs.AcceptLemmas.{accepted_ready, accepted_stands}
-use Rattle.paraid_core.proofs.AfterLemmas.{marked_setup, marked_writes}
+use Rattle.paraid_core.proofs.AfterLemmas.{marked_setup, marked_writes, handed}
 use Rattle.paraid_core.proofs.BitsLemmas.{bits_counted}
 use Rattle.paraid_plan.specs.WrittenBits.{bits_after_writes}
 use Rattle.paraid_core.proofs.ChainLemmas.{down_lost, down_same, marked_epoch}
@@ -27,7 +27,6 @@ use Rattle.paraid_core.proofs.OrderLemmas.{lose_tells}
 use Rattle.paraid_rack.specs.Told.{Ran, CrashTriple}
 use Rattle.paraid_image.specs.Lost.{TellsLosses}
 use Rattle.paraid_image.specs.Mark.{meta_with_lost}
-use Rattle.paraid_core.proofs.AfterLemmas.{handed}
 use Rattle.paraid_core.proofs.staged.Core.try_write.Given.{Over}
 use Rattle.paraid_core.proofs.staged.Core.try_write.Goals as goal
 use Rattle.std.proofs.lemmas.Bool.{true≢false}

@@ -1,10 +1,10 @@
-use Rattle.std.proofs.Common.{ℕ, ap, length, ◌+◌, ◌≡◌, ◌∙◌, sym, arith}
-use Rattle.std.specs.Prelude.{Bool, true, List, ◌*◌, ◌∷◌, ◌++◌, [], if◌then◌else◌}
+use Rattle.std.proofs.Common.{ℕ, ap, length, ◌+◌, ◌≡◌, ◌∙◌, sym, arith, subst, ◌-◌, ◌<◌, ◌^◌}
+use Rattle.std.specs.Prelude.{Bool, true, List, ◌*◌, ◌∷◌, ◌++◌, [], if◌then◌else◌, All}
 use Rattle.paraid_base.specs.Pairs.{pairs_of}
 use Rattle.paraid_dirty.specs.Table.{is_dirty}
 use Rattle.paraid_plan.specs.WrittenBits.{bits_after_writes}
 use Rattle.paraid_record.specs.declared.meta.Setup.{Setup}
-use Rattle.paraid_txn.specs.Stores.{named_of}
+use Rattle.paraid_txn.specs.Stores.{named_of, store_rack}
 use Rattle.paraid_core.specs.Cores.{IsCoreHeld, IsCoreHeldSinceCommit, CoreStandsFor, batch_of, core_down, core_rack}
 use Rattle.paraid_core.specs.Room.{commits_first}
 use Rattle.paraid_core.proofs.ChainLemmas.{after_raised, down_both, ended, two_after}
@@ -17,10 +17,7 @@ use Rattle.paraid_core.proofs.RestLemmas.{rest_ran}
 use Rattle.paraid_image.specs.Out.{named_out}
 use Rattle.paraid_core.proofs.OrderLemmas.{core_tells_then, transfer_bears}
 use Rattle.paraid_rack.specs.Told.{Ran, CrashTriple}
-use Rattle.paraid_txn.specs.Stores.{store_rack}
 use Rattle.paraid_image.specs.Lost.{TellsLosses}
-use Rattle.std.proofs.Common.{subst, ◌-◌, ◌<◌, ◌^◌}
-use Rattle.std.specs.Prelude.{All}
 use Rattle.paraid_base.specs.declared.block.Block.{Block as BlockType}
 use Rattle.paraid_view.proofs.TwoLemmas.{spared_then}
 use Rattle.paraid_core.proofs.StepLemmas.{dry_both}

@@ -1,5 +1,5 @@
-use Rattle.std.proofs.Common.{◌≡◌, ℕ, ap, subst, ◌∙◌}
-use Rattle.std.specs.Prelude.{Bool, false, true, ◌∷◌, ◌++◌, [], if◌then◌else◌}
+use Rattle.std.proofs.Common.{◌≡◌, ℕ, ap, subst, ◌∙◌, length, ◌+◌, ◌-◌, ◌*◌, ◌<◌, ◌≤◌, sym, arith}
+use Rattle.std.specs.Prelude.{Bool, false, true, ◌∷◌, ◌++◌, [], if◌then◌else◌, All}
 use Rattle.paraid_base.specs.History.{Entry, History}
 use Rattle.paraid_base.specs.Log.{batch_room}
 use Rattle.paraid_base.specs.Pairs.{pairs_of}
@@ -9,7 +9,7 @@ use Rattle.paraid_record.specs.declared.meta.Setup.{Setup}
 use Rattle.paraid_rack.specs.Told.{Ran, CrashTriple}
 use Rattle.paraid_rack.specs.Disks.{Disks}
 use Rattle.paraid_txn.specs.Losses.{AreTwoDown}
-use Rattle.paraid_txn.specs.Stores.{named_of}
+use Rattle.paraid_txn.specs.Stores.{named_of, store_rack}
 use Rattle.paraid_core.specs.declared.staged.Core.{Core}
 use Rattle.paraid_core.specs.Cores.{IsCoreHeldSinceCommit, CoreStandsFor, core_down, core_rack}
 use Rattle.paraid_core.proofs.AfterLemmas.{handed}
@@ -18,14 +18,11 @@ use Rattle.paraid_core.proofs.ErrLemmas.{none_done}
 use Rattle.paraid_core.proofs.KindLemmas.{calls_then, data_after, none_gone, reads_then}
 use Rattle.paraid_core.proofs.LostMarkLemmas.{marks_then}
 use Rattle.paraid_core.proofs.OrderLemmas.{core_tells_then, data_bears}
-use Rattle.paraid_txn.specs.Stores.{store_rack}
 use Rattle.paraid_image.specs.Out.{named_out}
 use Rattle.paraid_image.specs.Lost.{TellsLosses}
 use Rattle.paraid_core.proofs.UnsyncedLemmas.{gone_lost, unsynced_kept}
 use Rattle.paraid_core.proofs.staged.Core.write_whole.Given.{Over}
 use Rattle.paraid_core.proofs.staged.Core.write_whole.Goals as goal
-use Rattle.std.proofs.Common.{length, ◌+◌, ◌-◌, ◌*◌, ◌<◌, ◌≤◌, sym, arith}
-use Rattle.std.specs.Prelude.{All}
 use Rattle.paraid_base.specs.declared.block.Block.{Block as BlockType}
 use Rattle.paraid_view.proofs.TwoLemmas.{spared_then}
 use Rattle.paraid_core.proofs.StepLemmas.{dry_both}

@@ -2,7 +2,7 @@ use Rattle.std.specs.Prelude.{◌-◌, ◌<◌, [], ◌∷◌, length}
 use Rattle.std.proofs.Common.{arith, ap, ◌∙◌}
 use Rattle.std.proofs.lemmas.List.{length-append}
 use Rattle.std.proofs.lemmas.Nat.{mul-le}
-use Rattle.paraid_gear.specs.Window.{SampleWindow}
+use Rattle.paraid_gear.specs.Window.{SampleWindow, sample_most}
 use Rattle.paraid_gear.proofs.SumLemmas.{all_kept, few_kept, sums-more, sums-small}
 use Rattle.paraid_gear.proofs.window.Window.push.Goals as goal
 
@@ -16,7 +16,7 @@ pub overflow_add-self-2 : goal.overflow_add-self-2
 overflow_add-self-2 c =
     let keeps = c.self-2.invariant in
     let small = sums-small c.self-2.inside.ring.items c.self-2.inside.sum c.self-2.inside.squares keeps.3 (omega (arith, keeps.1, keeps.2)) in
-    omega (arith, small.1, mul-le c.args.sample c.args.sample 1048576 1048576 c.requires c.requires)
+    omega (arith, small.1, mul-le c.args.sample c.args.sample sample_most sample_most c.requires c.requires)
 
 pub invariant_of-self : goal.invariant_of-self
 invariant_of-self c =

@@ -6,6 +6,7 @@ use Rattle.paraid_base.proofs.ToldLemmas.{Gives-none}
 use Rattle.paraid_io.proofs.Midway.{Midway, midway_start, held_dropped, held_same, midway_more, step_cut, step_last, step_fault, needs_a_call, scanned_within, scanned_plain}
 use Rattle.paraid_io.proofs.reader.LineReader.read_line.Goals as goal
 use Rattle.paraid_io.proofs.reader.LineReader.read_line.Goals.{then-held-gt-MAX_LINE, else-held-gt-MAX_LINE, After-room}
+use Rattle.paraid_base.specs.Told.{stream_most}
 
 pub loop-length-init : goal.loop-length-init
 loop-length-init g c = record {
@@ -53,7 +54,7 @@ loop-length-preserved g c =
     let h = held_back g (goal.at.loop-length-preserved g c).After-room in
     let u = unended g (goal.at.loop-length-preserved g c).After-room in
     let e = c.in-Ok.ensures in
-    let short : c.if-held-gt-MAX_LINE.self.taken < 2 ^ 40 = omega (arith, h.0.limit, c.if-room-eq0.false, c.room.ensures) in
+    let short : c.if-held-gt-MAX_LINE.self.taken < stream_most = omega (arith, h.0.limit, c.if-room-eq0.false, c.room.ensures) in
     record {
       midway = midway_more h.0 u short e.got e.ended e.fault;
       within = rw c.held-scanned.ensures (scanned_within e.got);

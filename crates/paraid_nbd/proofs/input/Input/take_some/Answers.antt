@@ -1,6 +1,6 @@
 use Rattle.std.proofs.Common.{◌≡◌, ℕ, ◌+◌, ◌-◌, ◌^◌, ◌≤◌, List, [], ◌++◌, Option, length, take, arith, refl, sym, subst, ◌∙◌}
 use Rattle.std.proofs.lemmas.List.{length-take-le, take-append-le}
-use Rattle.paraid_base.specs.Told.{Gives}
+use Rattle.paraid_base.specs.Told.{Gives, stream_most}
 use Rattle.paraid_nbd.specs.Taking.{Takes, Lacks, IsCut}
 use Rattle.paraid_nbd.specs.declared.ending.NbdEnd.{NbdEnd}
 use Rattle.std.specs.Prelude.{min}
@@ -16,7 +16,7 @@ taken_first {a} {b} {i} {n} {most} got rest few many gives =
 none_taken : {a b : Option (List ℕ)} {i f h : ℕ} {e : NbdEnd} → Gives a b [] → IsCut e b i f h → Lacks a b i i 1 f h e
 none_taken gives cause = record { got = []; takes = record { given = gives; count = omega arith }; few = omega arith; cause = cause }
 
-taken_fits : {taken most n : ℕ} (room : ℕ) → taken ≤ 2 ^ 40 → most ≡ min room (2 ^ 40 - taken) → n ≤ most → taken + n ≤ 2 ^ 40
+taken_fits : {taken most n : ℕ} (room : ℕ) → taken ≤ stream_most → most ≡ min room (stream_most - taken) → n ≤ most → taken + n ≤ stream_most
 taken_fits room limit is few = omega (arith, limit, is, few)
 
 pub returns-then-room-eq0 : goal.returns-then-room-eq0

@@ -1,6 +1,5 @@
-use Rattle.std.proofs.Common.{rules}
+use Rattle.std.proofs.Common.{rules, ◌+◌, ◌∙◌, refl, sym, subst, inl, inr}
 use Rattle.std.specs.Prelude.{◌≡◌, ◌≢◌, ◌<◌, ℕ, Option, Some, Result, Ok, Err, IfErr, OnErr, IsErrAnd}
-use Rattle.std.proofs.Common.{◌+◌, ◌∙◌, refl, sym, subst, inl, inr}
 use Rattle.paraid_base.specs.declared.fault.Two.{Two}
 use Rattle.paraid_record.specs.declared.meta.Meta.{Meta}
 use Rattle.paraid_image.specs.Calls.{disk_of}

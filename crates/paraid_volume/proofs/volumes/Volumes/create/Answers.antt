@@ -1,6 +1,6 @@
 use Rattle.paraid_base.specs.declared.fault.Halt.{Halt}
 use Rattle.paraid_volume.proofs.DeviceLemmas.{DeviceGoesOn-none, KeepsMore-none}
-use Rattle.std.proofs.Common.{◌≡◌, ℕ, ◌+◌, ◌<◌, ◌≤◌, ◌^◌, ◌∙◌, ◌++◌, ◌∷◌, [], length, take, ◌*◌, ◌-◌, refl, sym, ap, subst, arith, Option, Some}
+use Rattle.std.proofs.Common.{◌≡◌, ℕ, ◌+◌, ◌<◌, ◌≤◌, ◌^◌, ◌∙◌, ◌++◌, ◌∷◌, [], length, take, ◌*◌, ◌-◌, refl, sym, ap, subst, arith, Option, Some, None}
 use Rattle.std.proofs.Math.Nat.{mul-div-le}
 use Rattle.std.proofs.lemmas.List.{take_all}
 use Rattle.paraid_base.specs.History.{History, after_all}
@@ -16,7 +16,6 @@ use Rattle.paraid_volume.proofs.CreateLemmas.{inside_moved, shows_new, shows_sti
 use Rattle.paraid_volume.proofs.ExtentLemmas.{back, extents_few, same_live, same_name, same_owned, same_owner, extent_some}
 use Rattle.paraid_volume.proofs.LaidLemmas.{laid_rest, laid_table}
 use Rattle.paraid_volume.specs.NameValues.{letter_of}
-use Rattle.std.proofs.Common.{None}
 use Rattle.paraid_volume.specs.Lives.{create}
 use Rattle.paraid_volume.proofs.OneCallLemmas.{lived_create, lived_refused}
 use Rattle.paraid_volume.proofs.RefusalLemmas.{create_refused, free_is, least_unnamed, unused}

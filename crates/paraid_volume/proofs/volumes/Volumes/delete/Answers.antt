@@ -1,6 +1,6 @@
 use Rattle.paraid_base.specs.declared.fault.Halt.{Halt}
 use Rattle.paraid_volume.proofs.DeviceLemmas.{DeviceGoesOn-none, KeepsMore-none}
-use Rattle.std.proofs.Common.{ℕ, ◌<◌, ◌≤◌, ◌^◌, ◌∙◌, ◌++◌, ◌∷◌, [], sym, ap, subst, ◌≡◌, Option, Some}
+use Rattle.std.proofs.Common.{ℕ, ◌<◌, ◌≤◌, ◌^◌, ◌∙◌, ◌++◌, ◌∷◌, [], sym, ap, subst, ◌≡◌, Option, Some, refl, None}
 use Rattle.paraid_base.specs.History.{after_all}
 use Rattle.paraid_base.specs.Pairs.{pairs_of}
 use Rattle.paraid_volume.specs.Laid.{IsWithout}
@@ -10,7 +10,6 @@ use Rattle.paraid_volume.specs.Values.{device_of}
 use Rattle.paraid_volume.proofs.ChangeLemmas.{shows_without, without_moved, without_table}
 use Rattle.paraid_volume.proofs.ExtentLemmas.{same_live, extents_few}
 use Rattle.paraid_volume.proofs.LaidLemmas.{laid_rest, laid_table}
-use Rattle.std.proofs.Common.{refl, None}
 use Rattle.std.proofs.lemmas.Bool.{false≢true}
 use Rattle.paraid_volume.specs.declared.fault.VolFault.TheVariants.{NoVolume}
 use Rattle.paraid_volume.specs.Lives.{delete}

@@ -1,6 +1,5 @@
 use Rattle.paraid_base.specs.declared.fault.Halt.{Halt}
-use Rattle.std.proofs.Common.{Option, Some, None}
-use Rattle.std.proofs.Common.{◌≡◌, ℕ, ◌<◌, ◌≤◌, ◌^◌, ◌∙◌, ◌++◌, ◌∷◌, [], refl, sym, ap, subst, arith}
+use Rattle.std.proofs.Common.{Option, Some, None, ◌≡◌, ℕ, ◌<◌, ◌≤◌, ◌^◌, ◌∙◌, ◌++◌, ◌∷◌, [], refl, sym, ap, subst, arith}
 use Rattle.std.specs.Prelude.{true}
 use Rattle.paraid_base.specs.History.{after_all}
 use Rattle.paraid_base.specs.Pairs.{pairs_of}

@@ -1,10 +1,9 @@
 use Rattle.paraid_base.specs.declared.fault.Halt.{Halt}
-use Rattle.std.proofs.Common.{arith, ◌≡◌, ◌<◌, ◌≤◌, ◌^◌, None, ap, subst, Option, Some}
+use Rattle.std.proofs.Common.{arith, ◌≡◌, ◌<◌, ◌≤◌, ◌^◌, None, ap, subst, Option, Some, ◌∙◌, sym, ℕ, refl}
 use Rattle.paraid_volume.specs.TableBlocks.{in_table}
 use Rattle.paraid_volume.specs.Tables.{IsVolumeTable, extent_count, extent_size}
 use Rattle.paraid_base.specs.declared.event.Event.TheVariants.{Read}
 use Rattle.paraid_base.specs.declared.event.Answer.TheVariants.{Value}
-use Rattle.std.proofs.Common.{◌∙◌, sym, ℕ}
 use Rattle.paraid_base.specs.History.{after_all}
 use Rattle.std.specs.Prelude.{IfErr}
 use Rattle.std.proofs.lemmas.Result.{IfErr-weaker, err_from_is_err_and}
@@ -13,7 +12,6 @@ use Rattle.paraid_volume.specs.Lives.{read}
 use Rattle.paraid_volume.specs.Values.{device_of, halted_of, volume_table}
 use Rattle.paraid_volume.proofs.ExtentLemmas.{same_place}
 use Rattle.paraid_volume.proofs.DeviceLemmas.{KeepsMore-one, holds_same, holds_stands, DeviceGoesOn-none, KeepsMore-none}
-use Rattle.std.proofs.Common.{refl}
 use Rattle.paraid_volume.proofs.OneCallLemmas.{lived_read, lived_refused}
 use Rattle.paraid_volume.proofs.RefusalLemmas.{block_of, place_served, read_refused}
 use Rattle.paraid_volume.proofs.volumes.Volumes.read.Goals as goal

@@ -1,9 +1,8 @@
 use Rattle.paraid_base.specs.declared.fault.Halt.{Halt}
-use Rattle.std.proofs.Common.{arith, ◌<◌, ◌≤◌, ◌^◌, ap, subst, sym, refl, ◌≡◌, Option, Some, None}
+use Rattle.std.proofs.Common.{arith, ◌<◌, ◌≤◌, ◌^◌, ap, subst, sym, refl, ◌≡◌, Option, Some, None, ◌∙◌, ◌≢◌, ℕ, ◌++◌, ◌∷◌, []}
 use Rattle.paraid_volume.specs.TableBlocks.{in_table}
 use Rattle.paraid_volume.specs.Tables.{IsVolumeTable, extent_count, extent_size}
 use Rattle.paraid_base.specs.Pairs.{single_pair}
-use Rattle.std.proofs.Common.{◌∙◌, ◌≢◌, ℕ, ◌++◌, ◌∷◌, []}
 use Rattle.paraid_base.specs.History.{after_all}
 use Rattle.paraid_base.proofs.HistoryLemmas.{after_all-written, after_all-other}
 use Rattle.std.specs.Prelude.{IfErr}
