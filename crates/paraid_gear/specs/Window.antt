@@ -37,9 +37,9 @@ is_full span samples = nat_le span (length samples)
 abbrev pub is_busy : ℕ → ℕ → List ℕ → Bool
 is_busy load span samples = nat_le (load * span) (100 * sum samples)
 
--- The mean of the samples and their deviation together are at most the load, a percentage. With
--- their sum S and their sum of squares Q: 100 S ≤ load * span, and (100 * span * deviation)^2,
--- which is 10000 (span * Q - S^2), is at most (load * span - 100 S)^2.
+-- The mean of the samples and their standard deviation together are at most the load, in hundredths
+-- of a sample. With their sum S and their sum of squares Q: 100 S ≤ load * span, and the square of
+-- 100 * span * deviation, which is 10000 (span * Q - S^2), is at most (load * span - 100 S)^2.
 abbrev pub is_low_and_even : ℕ → ℕ → List ℕ → Bool
 is_low_and_even load span samples =
     nat_le (100 * sum samples) (load * span)

@@ -122,7 +122,8 @@ impl Window {
         load * self.span as u128 <= 100 * self.sum()
     }
 
-    /// Whether the mean of the samples and their deviation together are at most `load` hundredths.
+    /// Whether the mean of the samples and their standard deviation together are at most `load`
+    /// hundredths.
     pub fn is_quiet(&self, load: u128) -> bool
         requires { load < 2 ^ 48 }
         ensures { result ≡ is_quiet_at load self.now.span self.now.samples }

@@ -22,7 +22,7 @@ energy_at setup None = 0
 abbrev pub tick_energy : Setup → PowerState → ℕ
 tick_energy setup s = sum_before (λ d. energy_at setup (power_of s d)) setup.geometry.disks
 
--- the spin-ups of a shift from one gear to another
+-- the energy of the spin-ups of a shift from one gear to another, 0 where it goes down
 abbrev pub spin_up_energy : Setup → ℕ → ℕ → ℕ
 spin_up_energy setup gear to = setup.spinup_mj * (to - gear)
 
